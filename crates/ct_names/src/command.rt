@@ -1,0 +1,29 @@
+//! What members broadcast.
+
+ghost use Rattle.std.specs.Prelude.{◌≡◌};
+ghost use Rattle.ct_names.specs.Command.{is_good};
+
+/// What a message asks of a table of 16 registers, numbered from 0. The order is that of the variants, then of the
+/// fields in turn.
+#[derive(Clone, Copy, Debug, PartialEq, Eq, PartialOrd, Ord)]
+pub enum Command {
+    /// The register gets the value.
+    Set(u8, u64),
+    /// The register grows by the amount, up to 18446744073709551615.
+    Add(u8, u64),
+    /// The second register gets the value of the first.
+    Copy(u8, u8),
+}
+
+impl Command {
+    /// Whether each register is below 16.
+    pub fn good(&self) -> bool
+        ensures { result ≡ is_good self.now }
+    {
+        match *self {
+            Command::Set(register, _) => register < 16,
+            Command::Add(register, _) => register < 16,
+            Command::Copy(from, to) => from < 16 && to < 16,
+        }
+    }
+}
