@@ -1,0 +1,97 @@
+-- The record without steps.
+use Rattle.std.proofs.Common.{◌≡◌, ℕ, ◌-◌, zero, suc, true, false, [], length, map, refl, ap, sym, ◌∙◌, arith, Some, replicate, get_or}
+use Rattle.std.proofs.lemmas.List.{length-replicate}
+use Rattle.ct_names.specs.Value.{has}
+use Rattle.ct_model.specs.Setting.{Setting}
+use Rattle.ct_model.specs.State.{State, Member, first_state, new_member, member, is_crashed, submissions}
+use Rattle.ct_model.specs.Received.{received, received_by}
+use Rattle.ct_model.specs.Run.{run, run_from}
+use Rattle.ct_model.specs.Waiting.{waiting}
+use Rattle.ct_model.specs.Rehearsal.{empty, state_of, line_of}
+use Rattle.ct_model.specs.Cause.{order, longest, round_of}
+use Rattle.ct_model.specs.Lawful.{IsWithin, IsLawful}
+use Rattle.ct_model.specs.Knowledge.{KnowsMessages}
+
+pub state-first : (s : Setting) (cells : ℕ) → state_of (empty s cells) ≡ first_state s
+unfolding state_of
+state-first s cells = refl
+
+get_or-same : (n i : ℕ) (x : Member) → get_or (replicate n x) i x ≡ x
+get_or-same zero i x = refl
+get_or-same (suc n) zero x = refl
+get_or-same (suc n) (suc i) x = get_or-same n i x
+
+-- each member is new
+pub member-first : (s : Setting) (p : ℕ) → member (first_state s) p ≡ new_member
+unfolding member first_state
+member-first s p = get_or-same s.members (p - 1) new_member
+
+no_batches : (n : ℕ) → longest [] (map (λ (m : Member). m.batches) (replicate n new_member)) ≡ []
+no_batches zero = refl
+no_batches (suc n) = no_batches n
+
+order-first : (s : Setting) → order (first_state s) ≡ []
+unfolding order first_state
+order-first s = no_batches s.members
+
+size-first : (s : Setting) → length (first_state s).members ≡ s.members
+unfolding first_state
+size-first s = length-replicate s.members new_member
+
+pub sent-first : (s : Setting) → (first_state s).sent ≡ []
+unfolding first_state
+sent-first s = refl
+
+pub submissions-first : (s : Setting) (p : ℕ) → submissions (first_state s).submitted p ≡ 0
+unfolding first_state submissions
+submissions-first s p = refl
+
+pub received-first : (s : Setting) (p : ℕ) → received_by (first_state s) p ≡ []
+unfolding received_by received
+received-first s p = ap (λ (m : Member). received m.got) (member-first s p)
+
+pub crashed-first : (s : Setting) (p : ℕ) → is_crashed (first_state s) p ≡ false
+crashed-first s p = ap (λ (m : Member). m.crashed) (member-first s p)
+
+pub line-first : (s : Setting) (cells p : ℕ) → line_of (empty s cells) p ≡ []
+unfolding line_of waiting
+line-first s cells p = refl
+
+within-first : (s : Setting) (cells : ℕ) → IsWithin cells (first_state s) 0
+within-first s cells = record {
+  few_submissions = λ p. let e = submissions-first s p in omega arith;
+  few_instances = λ p. let e = ap (λ (m : Member). m.last) (member-first s p) in omega arith;
+  few_rounds = λ p. let e = ap round_of (member-first s p) in omega arith;
+  few_envelopes = let e = ap length (sent-first s) in omega arith;
+  few_batches = let e = ap length (order-first s) in omega arith;
+  few_steps = omega arith;
+}
+
+runs-first : (s : Setting) (cells : ℕ) → run s [] ≡ Some (state_of (empty s cells))
+unfolding run run_from
+runs-first s cells = ap (λ g. Some g) (sym (state-first s cells))
+
+pub lawful-first : (s : Setting) (cells : ℕ) → IsLawful (empty s cells)
+lawful-first s cells = record {
+  runs = runs-first s cells;
+  size = ap (λ (g : State). length g.members) (state-first s cells) ∙ size-first s;
+  within = rw (state-first s cells) (within-first s cells);
+  unsent = λ p k m. refl;
+  addressed = λ p k m. absurd (let e = rw (line-first s cells p) at m in cc);
+  distinct = λ p. rw (line-first s cells p) refl;
+}
+
+pub knows-first : (s : Setting) → KnowsMessages s (first_state s)
+unfolding first_state
+knows-first s = record {
+  origin = λ m h. absurd (cc);
+  positive = λ m h. absurd (cc);
+  numbered = λ m h. absurd (cc);
+  unique = λ m other h k same number. absurd (cc);
+  sent = λ i e h. absurd (cc);
+  received = λ p m h. absurd (let e : has [] m ≡ true = rw (received-first s p) at h in cc);
+}
+
+pub submitted-first : (s : Setting) → (first_state s).submitted ≡ []
+unfolding first_state
+submitted-first s = refl

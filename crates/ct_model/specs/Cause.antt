@@ -1,0 +1,83 @@
+-- Why a step is refused: the first of its tests that fires.
+use Rattle.std.specs.Prelude.{ℕ, ◌+◌, Bool, not, nat_lt, if◌then◌else◌, List, [], ◌∷◌, Option, Some, None, option_and_then, length, map}
+use Rattle.std.specs.Option.{option_map_or}
+use Rattle.ct_names.specs.declared.limit.Limit.TheVariants.{Submissions, Instances, Rounds, Envelopes, Cells, Steps}
+use Rattle.ct_names.specs.declared.refusal.Refusal.{Refusal}
+use Rattle.ct_names.specs.declared.refusal.Refusal.TheVariants.{NoSuchMember, Crashed, NotWaiting, BadCommand, Full}
+use Rattle.ct_names.specs.Command.{is_good}
+use Rattle.ct_names.specs.Group.{is_member}
+use Rattle.ct_model.specs.declared.step.Step.{Step}
+use Rattle.ct_model.specs.declared.step.Step.TheVariants.{Submit, Receive, Crash, Postpone}
+use Rattle.ct_model.specs.Setting.{Setting}
+use Rattle.ct_model.specs.State.{State, Member, Batch, member, is_crashed, submissions}
+use Rattle.ct_model.specs.Actor.{actor}
+use Rattle.ct_model.specs.Next.{next}
+use Rattle.ct_model.specs.Waiting.{has_serial}
+use Rattle.ct_model.specs.Rehearsal.{Rehearsal, state_of, line_of}
+
+-- a refusal and whether it comes
+pub record Test : Type 0 where
+  pub fires : Bool
+  pub refusal : Refusal
+
+abbrev pub at : Refusal → Bool → Test
+at refusal fires = record { fires = fires; refusal = refusal }
+
+-- the refusal of the first test that fires
+abbrev pub first_fault : List Test → Option Refusal
+first_fault [] = None
+first_fault (test ∷ tests) = if test.fires then Some test.refusal else first_fault tests
+
+-- the tests of every step: its member is there and up
+abbrev pub presence : Setting → State → ℕ → List Test
+presence s g p = at NoSuchMember (not (is_member s.members p)) ∷ at Crashed (is_crashed g p) ∷ []
+
+-- the tests of a step of its own, for its member as it is, whose waiting line this is
+abbrev pub tests : Setting → State → Member → List ℕ → Step → List Test
+tests s g m line (Submit _ c) = at BadCommand (not (is_good c)) ∷ []
+tests s g m line (Receive _ k) = at NotWaiting (not (has_serial k line)) ∷ []
+tests s g m line (Crash _) = []
+tests s g m line (Postpone _ k) = at NotWaiting (not (has_serial k line)) ∷ []
+
+-- the batches of the least member whose list is longest
+abbrev pub longest : List Batch → List (List Batch) → List Batch
+longest best [] = best
+longest best (batches ∷ rest) = if nat_lt (length best) (length batches) then longest batches rest else longest best rest
+
+unfoldable pub order : State → List Batch
+order g = longest [] (map (λ m. m.batches) g.members)
+
+-- the round that the member is in, 0 where no instance is open
+abbrev pub round_of : Member → ℕ
+round_of m = option_map_or (λ c. c.round) m.current 0
+
+-- the limits that a state passes, after a step of p, with this many cells and a record of this length
+abbrev pub limits : ℕ → ℕ → State → ℕ → List Test
+limits cells steps g p =
+    at (Full Submissions) (nat_lt 65535 (submissions g.submitted p))
+    ∷ at (Full Instances) (nat_lt 1024 (member g p).last)
+    ∷ at (Full Rounds) (nat_lt 10000 (round_of (member g p)))
+    ∷ at (Full Envelopes) (nat_lt 1000000 (length g.sent))
+    ∷ at (Full Cells) (nat_lt cells (length (order g)))
+    ∷ at (Full Steps) (nat_lt 1000000 steps)
+    ∷ []
+
+-- the first limit that the state after the step passes
+unfoldable pub limit : Rehearsal → Step → Option Refusal
+limit w step = option_and_then (λ h. first_fault (limits w.cells (length w.steps + 1) h (actor step))) (next w.setting (state_of w) step)
+
+abbrev pub or_else : {A : Type 0} → Option A → Option A → Option A
+or_else None other = other
+or_else (Some x) other = Some x
+
+-- the first refusal of a step after the record, want of memory apart
+unfoldable pub cause : Rehearsal → Step → Option Refusal
+cause w step =
+    let p = actor step in
+    or_else (first_fault (presence w.setting (state_of w) p))
+    (or_else (first_fault (tests w.setting (state_of w) (member (state_of w) p) (line_of w p) step)) (limit w step))
+
+-- the limit that a step passes that sends this many envelopes and comes near no other limit
+unfoldable pub overflow : Rehearsal → ℕ → Option Refusal
+overflow w more =
+    first_fault (at (Full Envelopes) (nat_lt 1000000 (length (state_of w).sent + more)) ∷ at (Full Steps) (nat_lt 1000000 (length w.steps + 1)) ∷ [])

@@ -1,0 +1,56 @@
+-- What is true of every record that a world keeps.
+use Rattle.std.specs.Prelude.{◌≡◌, ℕ, ◌-◌, ◌<◌, ◌≤◌, Bool, true, false, not, ◌&&◌, List, [], ◌∷◌, length, slice_get, Some}
+use Rattle.ct_names.specs.Group.{is_member}
+use Rattle.ct_model.specs.declared.step.Step.{Step}
+use Rattle.ct_model.specs.declared.step.Step.TheVariants.{Receive, Postpone}
+use Rattle.ct_model.specs.AtValue.{Envelope}
+use Rattle.ct_model.specs.State.{State, member, is_crashed, submissions}
+use Rattle.ct_model.specs.Run.{run}
+use Rattle.ct_model.specs.Waiting.{has_serial, is_gone, serials_to}
+use Rattle.ct_model.specs.Rehearsal.{Rehearsal, state_of, line_of}
+use Rattle.ct_model.specs.Cause.{round_of, order}
+
+-- no number stands twice
+abbrev pub is_distinct : List ℕ → Bool
+is_distinct [] = true
+is_distinct (k ∷ line) = not (has_serial k line) && is_distinct line
+
+-- no limit is passed
+pub record IsWithin (cells : ℕ) (g : State) (steps : ℕ) : Type 0 where
+  pub few_submissions : (p : ℕ) → submissions g.submitted p ≤ 65535
+  pub few_instances : (p : ℕ) → (member g p).last ≤ 1024
+  pub few_rounds : (p : ℕ) → round_of (member g p) ≤ 10000
+  pub few_envelopes : length g.sent ≤ 1000000
+  pub few_batches : length (order g) ≤ cells
+  pub few_steps : steps ≤ 1000000
+
+-- the record is a run that ends in its state, within the limits; and what holds of its waiting lines: a serial that
+-- wasn't sent isn't gone, what waits was sent to the member, and waits once
+pub record IsLawful (w : Rehearsal) : Type 0 where
+  pub runs : run w.setting w.steps ≡ Some (state_of w)
+  pub size : length (state_of w).members ≡ w.setting.members
+  pub within : IsWithin w.cells (state_of w) (length w.steps)
+  pub unsent : (p k : ℕ) → length (state_of w).sent < k → is_gone p w.steps k ≡ false
+  pub addressed : (p k : ℕ) → has_serial k (line_of w p) ≡ true → has_serial k (serials_to p 0 (state_of w).sent) ≡ true
+  pub distinct : (p : ℕ) → is_distinct (line_of w p) ≡ true
+
+-- the member is there and up
+pub record IsPresent (w : Rehearsal) (p : ℕ) : Type 0 where
+  pub in_group : is_member w.setting.members p ≡ true
+  pub up : is_crashed (state_of w) p ≡ false
+
+-- the serial is in the member's line
+abbrev pub is_waiting : Rehearsal → ℕ → ℕ → Bool
+is_waiting w p k = has_serial k (line_of w p)
+
+-- a serial that the step takes or moves waits
+abbrev pub NamesWaiting : Rehearsal → Step → Type 0
+NamesWaiting w (Receive p k) = is_waiting w p k ≡ true
+NamesWaiting w (Postpone p k) = is_waiting w p k ≡ true
+NamesWaiting w _ = Unit {0}
+
+-- this is the envelope of a serial, and goes to p
+pub record IsLetter (g : State) (p k : ℕ) (e : Envelope) : Type 0 where
+  pub there : slice_get g.sent (k - 1) ≡ Some e
+  pub to : e.to ≡ p
+  pub positive : 1 ≤ k

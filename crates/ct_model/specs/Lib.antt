@@ -1,0 +1,13 @@
+pub mod Setting
+pub mod Wire
+pub mod State
+pub mod AtValue
+pub mod Received
+pub mod Actor
+pub mod Next
+pub mod Run
+pub mod Waiting
+pub mod Rehearsal
+pub mod Cause
+pub mod Lawful
+pub mod Knowledge

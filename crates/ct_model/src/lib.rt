@@ -1,0 +1,11 @@
+//! Chandra and Toueg's atomic broadcast as definitions over whole states, and laws over these alone. The code here
+//! is the alphabet: steps and phases. What they mean stands in `specs/`.
+#![tactic(auto)]
+
+mod laws;
+mod phase;
+mod step;
+
+pub use laws::law_integrity;
+pub use phase::Phase;
+pub use step::Step;
