@@ -1,0 +1,5 @@
+pub mod Widened
+pub mod Places
+pub mod Lettered
+pub mod Joins
+pub mod Rooms

@@ -1,0 +1,3 @@
+pub mod WaitingLine
+pub mod Seats
+pub mod Letters
