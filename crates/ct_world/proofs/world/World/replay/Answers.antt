@@ -1,0 +1,52 @@
+use Rattle.std.proofs.Common.{◌≡◌, ◌+◌, get_or, Some, None, sym, ap, ◌∙◌, subst, arith, inl, inr, add-one}
+use Rattle.std.specs.Prelude.{slice_get, unwrap_or}
+use Rattle.std.proofs.lemmas.List.{take_more}
+use Rattle.std.proofs.lemmas.Option.{get_or_from_slice_get}
+use Rattle.std.proofs.lemmas.Bool.{cases_lt}
+use Rattle.ct_names.specs.declared.refusal.Refusal.TheVariants.{OutOfMemory}
+use Rattle.ct_model.specs.declared.step.Step.{Step}
+use Rattle.ct_model.specs.declared.step.Step.TheVariants.{Submit}
+use Rattle.ct_names.specs.declared.command.Command.TheVariants.{Set}
+use Rattle.ct_model.specs.Rehearsal.{extended}
+use Rattle.ct_model.specs.Cause.{cause}
+use Rattle.ct_world.specs.Replay.{first_steps}
+use Rattle.ct_world.specs.World.{WorldView}
+use Rattle.ct_world.proofs.world.World.replay.Goals as goal
+
+-- what a place past the end of the list would hold
+abbrev no_step : Step
+no_step = Submit 0 (Set 0 0)
+
+pub returns-in-Err-apply-clause-err : goal.returns-in-Err-apply-clause-err
+returns-in-Err-apply-clause-err c =
+    let h = c.in-Err-apply.ensures in
+    let so_far = c.loop-i.invariant.so_far in
+    let steps = c.args.steps.now in
+    let i = c.loop-i.i in
+    rw add-one (record {
+      within = c.loop-i-test.true;
+      before = c.loop-i.invariant.allowed;
+      refused = λ s e. h.refusal
+          ∙ ap (λ (v : WorldView). unwrap_or (cause v.rehearsal (get_or steps i no_step)) OutOfMemory) so_far
+          ∙ ap (λ t. unwrap_or (cause (first_steps c.args.group c.args.cells steps i) t) OutOfMemory) (get_or_from_slice_get steps i s no_step e);
+    })
+
+pub loop-i-preserved : goal.loop-i-preserved
+loop-i-preserved c =
+    let h = c.in_default.ensures in
+    let so_far = c.loop-i.invariant.so_far in
+    let steps = c.args.steps.now in
+    let i = c.loop-i.i in
+    let here : Step = get_or steps i no_step in
+    let joined : c.apply.new.self.rehearsal ≡ first_steps c.args.group c.args.cells steps (i + 1) =
+    h.ok.joined ∙ ap (λ (v : WorldView). extended v.rehearsal here) so_far ∙ ap (λ l. record (first_steps c.args.group c.args.cells steps i) { steps = l }) (sym (take_more steps i no_step c.loop-i-test.true)) in
+    record {
+      so_far = λ t. record { rehearsal = joined t; prepared = h.none t };
+      allowed = λ j s b e. elim (cases_lt j i) [
+        | inl low ↦ c.loop-i.invariant.allowed j s low e
+        | inr high ↦ (let same : i ≡ j = omega arith in
+            let now : slice_get steps i ≡ Some s = subst (λ m. slice_get steps m ≡ Some s) (sym same) e in
+            subst (λ m. cause (first_steps c.args.group c.args.cells steps m) s ≡ None) same
+            (ap (λ t. cause (first_steps c.args.group c.args.cells steps i) t) (sym (get_or_from_slice_get steps i s no_step now)) ∙ ap (λ (v : WorldView). cause v.rehearsal here) (sym so_far) ∙ h.allowed))
+      ];
+    }

@@ -1,0 +1,15 @@
+//! The world of a rehearsal: a record of steps, and what they lead to. Its type says that the record is a run of the
+//! algorithm that ends in this world.
+#![tactic(auto)]
+
+mod effect;
+mod replay_fault;
+mod world;
+
+pub use ct_lines::{Letter, Wire};
+pub use effect::Effect;
+pub use replay_fault::ReplayFault;
+pub use world::World;
+
+#[cfg(test)]
+mod tests;

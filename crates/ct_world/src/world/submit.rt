@@ -1,0 +1,43 @@
+//! Submit: the member's next message goes to all.
+
+ghost use Rattle.std.specs.Prelude.{◌≡◌, Some, None};
+ghost use Rattle.ct_model.specs.Cause.{cause};
+ghost use Rattle.ct_world.specs.World.{IsDone};
+
+use crate::world::World;
+use ct_lines::{Wire, seats};
+use ct_model::Step;
+use ct_names::{Command, Limit, Member, Message, Refusal};
+
+impl World {
+    pub(super) fn cause_of_submit(&self, member: Member, command: &Command) -> Option<Refusal>
+        ensures { result ≡ cause self.now.rehearsal (Step.Submit member command.now) }
+    {
+        let seat = match self.actor(member) {
+            Ok(seat) => seat,
+            Err(refusal) => return Some(refusal),
+        };
+        if !command.good() {
+            return Some(Refusal::BadCommand);
+        }
+        if seat.submitted() >= 65_535 {
+            return Some(Refusal::Full(Limit::Submissions));
+        }
+        self.overflow(self.seats.len())
+    }
+
+    // Does the prepared step, and says how many envelopes it sent.
+    pub(super) fn commit_submit(&mut self, member: Member, command: Command) -> u32
+        requires { self.old.prepared ≡ Some (Step.Submit member command) }
+        ensures done { IsDone self.old.rehearsal (Step.Submit member command) self.new.rehearsal result }
+        ensures none { self.new.prepared ≡ None }
+    {
+        self.prepared = None;
+        let seat = &mut self.seats[member as usize - 1];
+        let message = Message::new(member, seat.submitted() + 1, command).unwrap();
+        seat.count_submission();
+        seats::send_to_all(&mut self.letters, &mut self.seats, Wire::Data(message));
+        let _ = self.record.push(Step::Submit(member, command));
+        self.seats.len() as u32
+    }
+}
