@@ -1,0 +1,40 @@
+-- What is said of the bytes that were read holds of the input.
+use Rattle.std.proofs.Common.{◌≡◌, ℕ, List, Option, Some, None, Result, Ok, Err, sym, ap, subst, ◌∙◌, arith}
+use Rattle.std.specs.Prelude.{IfSome, IsOkAnd}
+use Rattle.std.specs.Io.KnownBytes.{Appends}
+use Rattle.ct_program.specs.declared.program_fault.ProgramFault.{ProgramFault}
+use Rattle.ct_program.specs.declared.program_fault.ProgramFault.TheVariants.{Replay, Read, Reader, Write, Memory}
+use Rattle.ct_program.specs.Script.{script}
+use Rattle.ct_program.specs.Report.{report_text}
+use Rattle.ct_program.specs.Replay.{IsAllowed, IsReportOf, WritesReport, IsFaultIn, read_part}
+use Rattle.ct_program.proofs.Whole.{script_part}
+
+script_read : (bytes input : List ℕ) → bytes ≡ read_part input → script bytes ≡ script input
+unfolding read_part
+script_read bytes input e = ap script e ∙ script_part 67108865 input (omega arith)
+
+fault_of_input : (fault : ProgramFault) (bytes input : List ℕ) → script bytes ≡ script input → IsFaultIn fault bytes → IsFaultIn fault input
+fault_of_input (Replay at refusal) bytes input e h = rw (← e) h
+fault_of_input (Read fault) bytes input e h = sym e ∙ h
+fault_of_input Reader bytes input e h = tt
+fault_of_input Write bytes input e h = tt
+fault_of_input Memory bytes input e h = tt
+
+pub fault_seen : (fault : ProgramFault) (left : Option (List ℕ)) (bytes seen : List ℕ) → IfSome left (λ input. bytes ≡ read_part input) → seen ≡ bytes → IsFaultIn fault seen → IfSome left (IsFaultIn fault)
+fault_seen fault None bytes seen h same f = tt
+fault_seen fault (Some input) bytes seen h same f = fault_of_input fault bytes input (script_read bytes input h) (subst (IsFaultIn fault) same f)
+
+ok_weaker : {T E : Type 0} (r : Result T E) (P Q : T → Type 0) → ((x : T) → P x → Q x) → IsOkAnd r P → IsOkAnd r Q
+ok_weaker (Ok x) P Q f h = f x h
+ok_weaker (Err e) P Q f h = h
+
+written : (bytes text : List ℕ) (old new : Option (List ℕ)) → IsReportOf bytes text → Appends old new text → WritesReport bytes old new
+written bytes text old new h a =
+    ok_weaker (script bytes) (λ w. IsAllowed w × (text ≡ report_text w)) (λ w. IsAllowed w × Appends old new (report_text w)) (λ w both. (both.0, subst (Appends old new) both.1 a)) h
+
+pub ok_seen : (left : Option (List ℕ)) (bytes seen text out : List ℕ) (old new : Option (List ℕ)) → IfSome left (λ input. bytes ≡ read_part input) → seen ≡ bytes → IsReportOf seen text → out ≡ text → Appends old new out
+    → IfSome left (λ input. WritesReport input old new)
+ok_seen None bytes seen text out old new h same r e a = tt
+ok_seen (Some input) bytes seen text out old new h same r e a =
+    let all : WritesReport bytes old new = written bytes text old new (subst (λ b. IsReportOf b text) same r) (subst (Appends old new) e a) in
+    rw (← script_read bytes input h) all

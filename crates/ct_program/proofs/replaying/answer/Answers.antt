@@ -1,0 +1,11 @@
+use Rattle.ct_program.specs.ProgramFault.{IsOfReplayFault}
+use Rattle.ct_program.specs.Replay.{IsFaultIn}
+use Rattle.ct_program.specs.View.{rehearsal_of}
+use Rattle.ct_program.proofs.Refused.{err_seen, replay_refused}
+use Rattle.ct_program.proofs.replaying.answer.Goals as goal
+
+pub returns-in_err-world-clause-fault : goal.returns-in_err-world-clause-fault
+returns-in_err-world-clause-fault c =
+    err_seen c.from_residual-in_err-world.result (IsOfReplayFault c.in_err-world.field-0.0) (λ fault. IsFaultIn fault c.args.bytes.now)
+    (λ fault. replay_refused c.args.bytes.now (rehearsal_of c.in_ok-script.script) c.deref.result.now c.in_err-world.field-0.0 fault c.in_ok-script.ensures.exact c.deref.ensures.value c.in_err-world.ensures.err)
+    c.from_residual-in_err-world.ensures.1

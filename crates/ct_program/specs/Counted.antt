@@ -1,0 +1,11 @@
+-- What contracts see of a stream whose failures are counted.
+use Rattle.std.specs.Prelude.{ℕ}
+use Rattle.ct_program.specs.declared.counted.Counted.{Counted}
+
+-- the stream
+abbrev pub stream_of : {T : Type 0} → Counted T → T
+stream_of c = c.stream
+
+-- how often it failed
+abbrev pub failures_of : {T : Type 0} → Counted T → ℕ
+failures_of c = c.failures

@@ -1,0 +1,28 @@
+-- The faults of the program: where they come from, and the status that it ends with.
+use Rattle.std.specs.Prelude.{◌≡◌, ◌≢◌, ◌⊎◌, ℕ}
+use Rattle.ct_names.specs.declared.refusal.Refusal.TheVariants.{OutOfMemory}
+use Rattle.ct_world.specs.declared.replay_fault.ReplayFault.{ReplayFault}
+use Rattle.ct_program.specs.declared.read_fault.ReadFault.{ReadFault}
+use Rattle.ct_program.specs.declared.read_fault.ReadFault.TheVariants as read
+use Rattle.ct_program.specs.declared.program_fault.ProgramFault.{ProgramFault}
+use Rattle.ct_program.specs.declared.program_fault.ProgramFault.TheVariants.{Replay, Read, Reader, Write, Memory}
+
+abbrev pub status_of : ProgramFault → ℕ
+status_of (Replay at refusal) = 1
+status_of (Read fault) = 2
+status_of Reader = 4
+status_of Write = 4
+status_of Memory = 5
+
+-- what a fault of reading a record is for the program
+abbrev pub of_read_fault : ReadFault → ProgramFault
+of_read_fault read.TooLong = Read read.TooLong
+of_read_fault read.NotJson = Read read.NotJson
+of_read_fault (read.Shape at) = Read (read.Shape at)
+of_read_fault read.Version = Read read.Version
+of_read_fault read.OutOfMemory = Memory
+
+-- what a fault of a replay is for the program: want of memory, or a refused step
+abbrev pub IsOfReplayFault : ReplayFault → ProgramFault → Type 0
+IsOfReplayFault replay fault =
+    ((replay.refusal ≡ OutOfMemory) × (fault ≡ Memory)) ⊎ ((replay.refusal ≢ OutOfMemory) × (fault ≡ Replay replay.at replay.refusal))

@@ -1,0 +1,41 @@
+-- What a replay answers to its input.
+use Rattle.std.specs.Prelude.{◌≡◌, ◌≢◌, ◌≤◌, ◌-◌, ℕ, List, Option, length, Err, ⊤, IsOkAnd, take}
+use Rattle.std.specs.Io.KnownBytes.{Appends}
+use Rattle.ct_names.specs.declared.refusal.Refusal.{Refusal}
+use Rattle.ct_names.specs.declared.refusal.Refusal.TheVariants.{OutOfMemory}
+use Rattle.ct_model.specs.Rehearsal.{Rehearsal}
+use Rattle.ct_world.specs.Replay.{AllowsFirst, IsRefusedAt}
+use Rattle.ct_program.specs.declared.program_fault.ProgramFault.{ProgramFault}
+use Rattle.ct_program.specs.declared.program_fault.ProgramFault.TheVariants.{Replay, Read, Reader, Write, Memory}
+use Rattle.ct_program.specs.Script.{script}
+use Rattle.ct_program.specs.Report.{report_text}
+
+-- each step of the record is allowed after those before it
+abbrev pub IsAllowed : Rehearsal → Type 0
+IsAllowed w = AllowsFirst w.setting.members w.cells w.steps (length w.steps)
+
+-- step `at`, counted from 1, is refused by its cause, and each before it is allowed
+pub record IsRefused (w : Rehearsal) (at : ℕ) (refusal : Refusal) : Type 0 where
+  pub counted : 1 ≤ at
+  pub refused : IsRefusedAt w.setting.members w.cells w.steps (at - 1) refusal
+  pub not_memory : refusal ≢ OutOfMemory
+
+-- the input is a record that is allowed, and this is its report
+abbrev pub IsReportOf : List ℕ → List ℕ → Type 0
+IsReportOf input text = IsOkAnd (script input) (λ w. IsAllowed w × (text ≡ report_text w))
+
+-- the input is a record that is allowed, and its report, nothing else, was written
+abbrev pub WritesReport : List ℕ → Option (List ℕ) → Option (List ℕ) → Type 0
+WritesReport input old new = IsOkAnd (script input) (λ w. IsAllowed w × Appends old new (report_text w))
+
+-- the fault is the input's: the first of the record, or of its replay. Of streams and of memory nothing is said
+abbrev pub IsFaultIn : ProgramFault → List ℕ → Type 0
+IsFaultIn (Replay at refusal) input = IsOkAnd (script input) (λ w. IsRefused w at refusal)
+IsFaultIn (Read fault) input = script input ≡ Err fault
+IsFaultIn Reader input = ⊤
+IsFaultIn Write input = ⊤
+IsFaultIn Memory input = ⊤
+
+-- what is read of the input: one byte more than a record may have, at most
+unfoldable pub read_part : List ℕ → List ℕ
+read_part input = take 67108865 input

@@ -1,0 +1,34 @@
+//! The program `ct` as a library: it reads a record, replays it and reports where it leads.
+#![tactic(auto)]
+
+mod call;
+mod counted;
+mod failed;
+mod line_fault;
+mod program_fault;
+mod read_fault;
+mod reading;
+mod replaying;
+mod reporting;
+mod script;
+mod separator;
+mod sink;
+mod source;
+mod words;
+
+pub use call::Call;
+pub use counted::Counted;
+pub use failed::Failed;
+pub use line_fault::LineFault;
+pub use program_fault::ProgramFault;
+pub use read_fault::ReadFault;
+pub use reading::read_record;
+pub use replaying::run_replay;
+pub use reporting::report;
+pub use script::Script;
+pub use sink::Sink;
+pub use source::Source;
+pub use words::line;
+
+#[cfg(test)]
+mod tests;

@@ -1,0 +1,23 @@
+//! Why a command line is refused.
+
+use std::alloc::AllocError;
+
+/// Why the words of a command line are refused.
+#[derive(Drop)]
+pub enum LineFault {
+    /// They ask for help or the version, or are none of the program's.
+    Clap(clap::Error),
+    /// Memory was refused.
+    Memory,
+}
+
+impl From<AllocError> for LineFault {
+    ghost use Rattle.std.specs.Prelude.{◌≡◌};
+    ghost use Rattle.ct_program.specs.declared.line_fault.LineFault.TheVariants.{Memory};
+
+    ghost from_gives = { λ _ fault. fault ≡ Memory };
+
+    fn from(_error: AllocError) -> LineFault {
+        LineFault::Memory
+    }
+}

@@ -1,0 +1,199 @@
+//! From the text of a record to what it says.
+
+ghost use Rattle.std.specs.Prelude.{◌≡◌, ◌<◌, ◌≤◌, length, map, option_map, Err, IfSome};
+ghost use Rattle.serde_json.specs.View.{view, members_view};
+ghost use Rattle.ct_program.specs.Gives.{Gives};
+ghost use Rattle.ct_program.specs.View.{rehearsal_of};
+ghost use Rattle.ct_program.specs.Script.{list_in, count_of, whole_of, byte_of, serial_of, value_of, named_command, command_of, short_step, long_step, step_of, steps_of, rehearsal_in, of_value, max_len, script};
+
+use crate::read_fault::ReadFault;
+use crate::script::Script;
+use ct_model::Step;
+use ct_names::{Command, Group, Member, Serial};
+use serde_json::{Map, Value};
+use std::alloc::Global;
+
+// How many bytes a record may have.
+const MAX_LEN: usize = 67_108_864;
+
+// The record as a whole has another shape.
+const ODD: ReadFault = ReadFault::Shape { at: 0 };
+
+/// What the record says, or its first fault.
+#[tactic(auto, unfolding(crate::specs::Script::script))]
+pub fn read_record(alloc: Global, bytes: &[u8]) -> Result<Script, ReadFault>
+    ensures exact { Gives rehearsal_of result (script bytes.now) }
+    // Memory is refused in place of other faults only.
+    ensures too_long { max_len < length bytes.now → result ≡ Err ReadFault.TooLong }
+{
+    if bytes.len() > MAX_LEN {
+        return Err(ReadFault::TooLong);
+    }
+    match Value::from_slice(alloc, bytes) {
+        Ok(value) => value_script(alloc, &value),
+        Err(error) => {
+            if error.is_memory() {
+                Err(ReadFault::OutOfMemory)
+            } else {
+                Err(ReadFault::NotJson)
+            }
+        }
+    }
+}
+
+#[tactic(auto, unfolding(crate::specs::Script::of_value))]
+fn value_script(alloc: Global, value: &Value) -> Result<Script, ReadFault>
+    ensures { Gives rehearsal_of result (of_value (view value.now)) }
+{
+    let members = value.as_object().ok_or(ODD)?;
+    let version = number(value.get("version").ok_or(ODD)?).ok_or(ODD)?;
+    if version != 1 {
+        return Err(ReadFault::Version);
+    }
+    if count(members) != 4 {
+        return Err(ODD);
+    }
+    script_in(alloc, value)
+}
+
+#[tactic(auto, using(crate::proofs::Entries::count_of_members))]
+fn count(members: &Map<String, Value>) -> usize
+    ensures { result ≡ count_of (members_view members.now.entries) }
+{
+    members.len()
+}
+
+#[tactic(auto, unfolding(crate::specs::Script::rehearsal_in))]
+fn script_in(alloc: Global, value: &Value) -> Result<Script, ReadFault>
+    ensures { Gives rehearsal_of result (rehearsal_in (view value.now)) }
+{
+    let n = whole(value.get("n").ok_or(ODD)?, 1, 16).ok_or(ODD)?;
+    let group = Group::new(n as u8).ok_or(ODD)?;
+    let cells = whole(value.get("cells").ok_or(ODD)?, 0, 1024).ok_or(ODD)?;
+    let list = entries(value.get("steps").ok_or(ODD)?).ok_or(ODD)?;
+    let steps = steps(alloc, list)?;
+    Ok(Script {
+        group,
+        cells: cells as u16,
+        steps,
+    })
+}
+
+// The steps, or the fault of the first that is none.
+fn steps(alloc: Global, values: &[Value]) -> Result<Vec<Step>, ReadFault>
+    ensures { Gives (λ steps. steps.items) result (steps_of 1 (map view values.now)) }
+{
+    let mut steps = Vec::new(alloc);
+    for (i, value) in values.iter().enumerate() {
+        let Some(step) = step(value) else {
+            return Err(ReadFault::Shape { at: i + 1 });
+        };
+        steps.push(step)?;
+    }
+    Ok(steps)
+}
+
+#[tactic(auto, using(crate::proofs::Entries::step_parts_short, crate::proofs::Entries::step_parts_long), unfolding(crate::specs::Script::step_of))]
+fn step(value: &Value) -> Option<Step>
+    ensures { result ≡ step_of (view value.now) }
+{
+    match entries(value)? {
+        [name, p] => short(name.as_str()?, byte(p)?),
+        [name, p, last] => long(name.as_str()?, byte(p)?, last),
+        _ => None,
+    }
+}
+
+// The step of a name and a member.
+#[tactic(auto, unfolding(crate::specs::Script::short_step))]
+fn short(name: &str, p: Member) -> Option<Step>
+    ensures { result ≡ short_step name.now p }
+{
+    if name == "crash" {
+        Some(Step::Crash(p))
+    } else {
+        None
+    }
+}
+
+// The step of a name, a member and one more entry.
+#[tactic(auto, unfolding(crate::specs::Script::long_step))]
+fn long(name: &str, p: Member, last: &Value) -> Option<Step>
+    ensures { result ≡ long_step name.now p (view last.now) }
+{
+    if name == "submit" {
+        Some(Step::Submit(p, command(last)?))
+    } else if name == "receive" {
+        Some(Step::Receive(p, serial(last)?))
+    } else if name == "postpone" {
+        Some(Step::Postpone(p, serial(last)?))
+    } else {
+        None
+    }
+}
+
+#[tactic(auto, using(crate::proofs::Entries::command_parts_short, crate::proofs::Entries::command_parts_long), unfolding(crate::specs::Script::command_of))]
+fn command(value: &Value) -> Option<Command>
+    ensures { result ≡ command_of (view value.now) }
+{
+    match entries(value)? {
+        [name, register, last] => named(name.as_str()?, byte(register)?, last),
+        _ => None,
+    }
+}
+
+// The command of a name, a register and one more entry.
+fn named(name: &str, register: u8, last: &Value) -> Option<Command>
+    ensures { result ≡ named_command name.now register (view last.now) }
+{
+    if name == "set" {
+        Some(Command::Set(register, number(last)?))
+    } else if name == "add" {
+        Some(Command::Add(register, number(last)?))
+    } else if name == "copy" {
+        Some(Command::Copy(register, byte(last)?))
+    } else {
+        None
+    }
+}
+
+// The entries of an array.
+#[tactic(auto, using(crate::proofs::Entries::list_of_items))]
+fn entries(value: &Value) -> Option<&[Value]>
+    ensures { option_map (λ list. map view list.now) result ≡ list_in (view value.now) }
+{
+    match value.as_array() {
+        Some(list) => Some(list.as_slice()),
+        None => None,
+    }
+}
+
+fn byte(value: &Value) -> Option<u8>
+    ensures { result ≡ byte_of (view value.now) }
+{
+    let n = whole(value, 0, 255)?;
+    Some(n as u8)
+}
+
+fn serial(value: &Value) -> Option<Serial>
+    ensures { result ≡ serial_of (view value.now) }
+{
+    let n = whole(value, 0, 4_294_967_295)?;
+    Some(n as u32)
+}
+
+fn number(value: &Value) -> Option<u64>
+    ensures { result ≡ value_of (view value.now) }
+{
+    whole(value, 0, u64::MAX)
+}
+
+// The whole number, where it is within the range.
+#[tactic(auto, unfolding(crate::specs::Script::whole_of))]
+fn whole(value: &Value, low: u64, high: u64) -> Option<u64>
+    ensures value { result ≡ whole_of low high (view value.now) }
+    ensures within { IfSome result (λ n. (low ≤ n) × (n ≤ high)) }
+{
+    let n = value.as_u64()?;
+    if low <= n && n <= high { Some(n) } else { None }
+}

@@ -1,0 +1,122 @@
+//! A record in, its report out.
+
+ghost use Rattle.std.specs.Prelude.{◌≡◌, ◌≢◌, ◌⊎◌, ◌+◌, ◌<◌, ◌^◌, length, vec_len, take, Err, OnOk, OnErr, IfOk, IfErr, IfSome};
+ghost use Rattle.std.specs.Io.KnownBytes.{Appends};
+ghost use Rattle.ct_program.specs.Replay.{IsReportOf, WritesReport, IsFaultIn, read_part};
+
+use crate::failed::Failed;
+use crate::program_fault::ProgramFault;
+use crate::reading::read_record;
+use crate::reporting::report;
+use crate::sink::Sink;
+use crate::source::Source;
+use ct_world::World;
+use std::alloc::Global;
+
+// How many bytes are read at most: one more than a record may have.
+const MOST: usize = 67_108_865;
+
+// How many bytes are read at a time.
+const PIECE: usize = 65_536;
+
+/// Reads a record to its end, replays it and writes the report. The whole report is made before the first write. What
+/// the contract says of the input holds where the reader tells its bytes, and what it says of the output where the
+/// writer does.
+pub fn run_replay<R: Source, W: Sink>(
+    alloc: Global,
+    reader: &mut R,
+    writer: &mut W,
+) -> Result<(), ProgramFault>
+    requires reads { R.failures reader.old < 2 ^ 63 }
+    requires writes { W.failures writer.old < 2 ^ 63 }
+    // The input is a record whose steps are all allowed, and what was written is its report.
+    ensures ok { OnOk result (IfSome (R.left reader.old) (λ input. WritesReport input (W.written writer.old) (W.written writer.new))) }
+    ensures fault { IfErr result (λ fault. IfSome (R.left reader.old) (IsFaultIn fault)) }
+    // Only a fault of the writer has written anything.
+    ensures quiet { IfErr result (λ fault. fault ≢ ProgramFault.Write → writer.new ≡ writer.old) }
+    ensures reader { result ≡ Err ProgramFault.Reader → R.failures reader.new ≡ R.failures reader.old + 1 }
+    ensures writer { result ≡ Err ProgramFault.Write → W.failures writer.new ≡ W.failures writer.old + 1 }
+{
+    let bytes = read_all(alloc, reader)?;
+    let text = match answer(alloc, &bytes) {
+        Ok(text) => text,
+        Err(fault) => return Err(fault),
+    };
+    match write_all(writer, &text) {
+        Ok(()) => Ok(()),
+        Err(Failed) => Err(ProgramFault::Write),
+    }
+}
+
+// All that the source has, or its first bytes, one more than a record may have.
+fn read_all<R: Source>(alloc: Global, reader: &mut R) -> Result<Vec<u8>, ProgramFault>
+    requires { R.failures reader.old < 2 ^ 63 }
+    ensures bytes { IfOk result (λ bytes. IfSome (R.left reader.old) (λ input. bytes.items ≡ read_part input)) }
+    ensures err { IfErr result (λ fault. (fault ≡ ProgramFault.Memory) ⊎ ((fault ≡ ProgramFault.Reader) × (R.failures reader.new ≡ R.failures reader.old + 1))) }
+{
+    let mut piece = piece(alloc)?;
+    read_up_to(alloc, reader, &mut piece, MOST)
+}
+
+// Room for one read.
+fn piece(alloc: Global) -> Result<Vec<u8>, ProgramFault>
+    ensures room { IfOk result (λ piece. 0 < vec_len piece) }
+    ensures err { OnErr result (result ≡ Err ProgramFault.Memory) }
+{
+    match vec![in alloc; 0u8; PIECE] {
+        Ok(piece) => Ok(piece),
+        Err(_) => Err(ProgramFault::Memory),
+    }
+}
+
+// What the source has, and no more than the limit.
+fn read_up_to<R: Source>(
+    alloc: Global,
+    reader: &mut R,
+    piece: &mut [u8],
+    limit: usize,
+) -> Result<Vec<u8>, ProgramFault>
+    requires count { R.failures reader.old < 2 ^ 63 }
+    requires room { 0 < length piece.old }
+    ensures bytes { IfOk result (λ bytes. IfSome (R.left reader.old) (λ input. bytes.items ≡ take limit input)) }
+    ensures err { IfErr result (λ fault. (fault ≡ ProgramFault.Memory) ⊎ ((fault ≡ ProgramFault.Reader) × (R.failures reader.new ≡ R.failures reader.old + 1))) }
+{
+    let mut bytes = Vec::new(alloc);
+    while bytes.len() < limit {
+        let room = piece.len().min(limit - bytes.len());
+        let Ok(n) = reader.read(&mut piece[..room]) else {
+            return Err(ProgramFault::Reader);
+        };
+        if n == 0 {
+            return Ok(bytes);
+        }
+        if bytes.extend_from_slice(&piece[..n]).is_err() {
+            return Err(ProgramFault::Memory);
+        }
+    }
+    Ok(bytes)
+}
+
+// The report of the record.
+fn answer(alloc: Global, bytes: &[u8]) -> Result<Vec<u8>, ProgramFault>
+    ensures ok { IfOk result (λ text. IsReportOf bytes.now text.items) }
+    ensures fault { IfErr result (λ fault. IsFaultIn fault bytes.now) }
+    ensures no_stream { IfErr result (λ fault. (fault ≢ ProgramFault.Reader) × (fault ≢ ProgramFault.Write)) }
+{
+    let script = read_record(alloc, bytes)?;
+    let world = World::replay(alloc, script.group, script.cells, &script.steps)?;
+    Ok(report(alloc, &world)?)
+}
+
+fn write_all<W: Sink>(writer: &mut W, bytes: &[u8]) -> Result<(), Failed>
+    requires { W.failures writer.old < 2 ^ 63 }
+    ensures bytes { OnOk result (Appends (W.written writer.old) (W.written writer.new) bytes.now) }
+    ensures err { OnErr result (W.failures writer.new ≡ W.failures writer.old + 1) }
+{
+    let mut rest = bytes;
+    while !rest.is_empty() {
+        let n = writer.write(rest)?;
+        rest = &rest[n..];
+    }
+    Ok(())
+}

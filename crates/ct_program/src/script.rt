@@ -1,0 +1,15 @@
+//! What a record says.
+
+ghost use Rattle.std.specs.Prelude.{◌≤◌};
+
+use ct_model::Step;
+use ct_names::Group;
+
+/// What a record says: the group, the number of cells (1,024 at most) and the steps in order.
+#[derive(Debug, Drop)]
+pub struct Script {
+    pub group: Group,
+    pub cells: u16,
+    pub steps: Vec<Step>,
+    ghost small: { cells ≤ 1024 },
+}

@@ -1,0 +1,20 @@
+//! What stands between the pieces of a list.
+
+ghost use Rattle.std.specs.Prelude.{◌≡◌, ◌<◌, ◌++◌, [], ◌∷◌, if◌then◌else◌, OnOk, string_bytes};
+
+use std::alloc::AllocError;
+
+// The character, which is one of ASCII, where a piece stands before.
+pub(crate) fn push_separator(
+    text: &mut String,
+    separator: char,
+    later: bool,
+) -> Result<(), AllocError>
+    requires { separator < 128 }
+    ensures { OnOk result (string_bytes text.new ≡ string_bytes text.old ++ (if later then separator ∷ [] else [])) }
+{
+    if later {
+        text.push(separator)?;
+    }
+    Ok(())
+}

@@ -1,0 +1,364 @@
+use super::*;
+use clap::error::ErrorKind;
+use ct_names::Refusal;
+use std::alloc::{AllocError, Global};
+use std::test::Fail;
+
+const RECORD: &str =
+    "{\"cells\":4,\"n\":3,\"steps\":[[\"submit\",1,[\"set\",0,7]],[\"receive\",1,1],[\"receive\",2,2]],\"version\":1}";
+
+const REPORT: &str =
+    "group 3 majority 2 cells 4\nsteps 3 sent 6\nmember 1 up\nreceived 1.1\nmember 2 up\nreceived 1.1\nmember 3 up\nreceived -\n";
+
+// ---- readers and writers
+
+// Gives one byte at a time.
+#[derive(Drop)]
+struct OneByOne {
+    bytes: &'static [u8],
+    next: usize,
+}
+
+impl Source for OneByOne {
+    ghost use Rattle.std.specs.Prelude.{None};
+
+    ghost left = { λ _. None };
+
+    ghost failures = { λ _. 0 };
+
+    fn read(&mut self, buffer: &mut [u8]) -> Result<usize, Failed> {
+        if buffer.is_empty() || self.next >= self.bytes.len() {
+            return Ok(0);
+        }
+        buffer[0] = self.bytes[self.next];
+        self.next += 1;
+        Ok(1)
+    }
+}
+
+// Gives ten bytes, and fails then.
+#[derive(Drop)]
+struct TenBytes {
+    given: bool,
+    failures: u64,
+}
+
+impl Source for TenBytes {
+    ghost use Rattle.std.specs.Prelude.{None};
+
+    ghost left = { λ _. None };
+
+    ghost failures = { λ s. s.failures };
+
+    fn read(&mut self, buffer: &mut [u8]) -> Result<usize, Failed> {
+        if self.given || buffer.len() < 10 {
+            self.failures += 1;
+            return Err(Failed);
+        }
+        self.given = true;
+        Ok(10)
+    }
+}
+
+// Takes nothing.
+#[derive(Drop)]
+struct Closed {
+    failures: u64,
+}
+
+impl Sink for Closed {
+    ghost use Rattle.std.specs.Prelude.{None};
+
+    ghost written = { λ _. None };
+
+    ghost failures = { λ s. s.failures };
+
+    fn write(&mut self, _bytes: &[u8]) -> Result<usize, Failed> {
+        self.failures += 1;
+        Err(Failed)
+    }
+}
+
+// ---- replaying
+
+// What a replay answers, and what it writes.
+fn replayed(alloc: Global, record: &[u8]) -> (Result<(), ProgramFault>, Vec<u8>) {
+    let mut reader = Counted::new(record);
+    let mut writer = Counted::new(Vec::new(alloc));
+    let answer = run_replay(alloc, &mut reader, &mut writer);
+    (answer, writer.into_inner())
+}
+
+#[test]
+fn a_record_is_reported(rt: HostRuntime) {
+    let (answer, written) = replayed(rt.alloc(), RECORD.as_bytes());
+    assert_eq!(rt; answer, Ok(()));
+    assert!(rt; written.as_slice() == REPORT.as_bytes());
+}
+
+#[test]
+fn a_record_may_come_byte_by_byte(rt: HostRuntime) {
+    let alloc = rt.alloc();
+    let mut reader = OneByOne {
+        bytes: RECORD.as_bytes(),
+        next: 0,
+    };
+    let mut writer = Counted::new(Vec::new(alloc));
+    let answer = run_replay(alloc, &mut reader, &mut writer);
+    assert_eq!(rt; answer, Ok(()));
+    assert!(rt; writer.into_inner().as_slice() == REPORT.as_bytes());
+}
+
+#[test]
+fn a_reader_may_fail(rt: HostRuntime) {
+    let alloc = rt.alloc();
+    let mut reader = TenBytes {
+        given: false,
+        failures: 0,
+    };
+    let mut writer = Counted::new(Vec::new(alloc));
+    let answer = run_replay(alloc, &mut reader, &mut writer);
+    assert_eq!(rt; answer, Err(ProgramFault::Reader));
+    assert_eq!(rt; reader.failures, 1);
+    assert!(rt; writer.into_inner().is_empty());
+}
+
+#[test]
+fn a_writer_may_fail(rt: HostRuntime) {
+    let mut reader = Counted::new(RECORD.as_bytes());
+    let mut writer = Closed { failures: 0 };
+    let answer = run_replay(rt.alloc(), &mut reader, &mut writer);
+    assert_eq!(rt; answer, Err(ProgramFault::Write));
+    assert_eq!(rt; writer.failures, 1);
+}
+
+#[test]
+fn a_refused_step_is_named(rt: HostRuntime) -> Result<(), Fail> {
+    let alloc = rt.alloc();
+    let record = with_steps(
+        alloc,
+        "[[\"submit\",1,[\"set\",0,7]],[\"receive\",1,1],[\"receive\",2,2],[\"crash\",3],[\"receive\",2,2]]",
+    )?;
+    let (answer, written) = replayed(alloc, record.as_bytes());
+    let fault = ProgramFault::Replay {
+        at: 5,
+        refusal: Refusal::NotWaiting,
+    };
+    assert_eq!(rt; answer, Err(fault));
+    assert!(rt; written.is_empty());
+    Ok(())
+}
+
+#[test]
+fn spaces_and_the_order_of_keys_are_free(rt: HostRuntime) {
+    let record =
+        " {\"version\": 1, \"steps\": [[\"submit\", 1, [\"set\", 0, 7]],\n[\"receive\", 1, 1], [\"receive\", 2, 2]], \"n\": 3, \"cells\": 4}\n";
+    let (answer, written) = replayed(rt.alloc(), record.as_bytes());
+    assert_eq!(rt; answer, Ok(()));
+    assert!(rt; written.as_slice() == REPORT.as_bytes());
+}
+
+#[test]
+fn faults_have_lines_and_statuses(rt: HostRuntime) -> Result<(), Fail> {
+    let alloc = rt.alloc();
+    let refused = ProgramFault::Replay {
+        at: 5,
+        refusal: Refusal::NotWaiting,
+    };
+    let shape = ProgramFault::Read(ReadFault::Shape { at: 2 });
+    let text = format!(in alloc; "{refused}, {shape}, {}", ProgramFault::Memory)?;
+    assert_eq!(rt;
+        text.as_str(),
+        "step 5: NotWaiting, record: shape at 2, out of memory"
+    );
+    assert_eq!(rt; refused.status(), 1);
+    assert_eq!(rt; shape.status(), 2);
+    assert_eq!(rt; ProgramFault::Write.status(), 4);
+    Ok(())
+}
+
+// ---- reading
+
+fn fault_of(alloc: Global, record: &[u8]) -> Option<ReadFault> {
+    match read_record(alloc, record) {
+        Ok(_) => None,
+        Err(fault) => Some(fault),
+    }
+}
+
+// The fault of a record with these steps.
+fn fault_of_steps(alloc: Global, steps: &str) -> Result<Option<ReadFault>, AllocError> {
+    let record = with_steps(alloc, steps)?;
+    Ok(fault_of(alloc, record.as_bytes()))
+}
+
+fn with_steps(alloc: Global, steps: &str) -> Result<String, AllocError> {
+    format!(in alloc; "{{\"cells\":4,\"n\":3,\"steps\":{steps},\"version\":1}}")
+}
+
+fn spaces(alloc: Global, count: usize) -> Result<Vec<u8>, AllocError> {
+    Ok(vec![in alloc; b' '; count]?)
+}
+
+// So many opening brackets, and then as many closing ones.
+fn brackets(alloc: Global, count: usize) -> Result<Vec<u8>, AllocError> {
+    let mut text = Vec::new(alloc);
+    for _ in 0..count {
+        text.push(b'[')?;
+    }
+    for _ in 0..count {
+        text.push(b']')?;
+    }
+    Ok(text)
+}
+
+#[test]
+fn a_record_is_read(rt: HostRuntime) {
+    match read_record(rt.alloc(), RECORD.as_bytes()) {
+        Ok(script) => {
+            assert_eq!(rt; script.group.n(), 3);
+            assert_eq!(rt; script.cells, 4);
+            assert_eq!(rt; script.steps.len(), 3);
+        }
+        Err(fault) => assert!(rt; false, "{fault}"),
+    }
+}
+
+#[test]
+fn a_record_cut_short_is_no_json(rt: HostRuntime) {
+    let record = RECORD.as_bytes();
+    for end in 0..record.len() {
+        let fault = fault_of(rt.alloc(), &record[..end]);
+        assert_eq!(rt; fault, Some(ReadFault::NotJson), "at {end}");
+    }
+}
+
+#[test]
+fn deep_nesting_is_no_json(rt: HostRuntime) -> Result<(), Fail> {
+    let alloc = rt.alloc();
+    let deep = brackets(alloc, 200)?;
+    assert_eq!(rt; fault_of(alloc, &deep), Some(ReadFault::NotJson));
+    let shallow = brackets(alloc, 100)?;
+    assert_eq!(rt; fault_of(alloc, &shallow), Some(ReadFault::Shape { at: 0 }));
+    Ok(())
+}
+
+#[test]
+fn a_long_record_is_refused_unread(rt: HostRuntime) -> Result<(), Fail> {
+    let alloc = rt.alloc();
+    let mut text = spaces(alloc, 67_108_865)?;
+    assert_eq!(rt; fault_of(alloc, &text), Some(ReadFault::TooLong));
+    text.pop();
+    assert_eq!(rt; fault_of(alloc, &text), Some(ReadFault::NotJson));
+    Ok(())
+}
+
+#[test]
+fn the_version_is_tested_first(rt: HostRuntime) {
+    let record = "{\"cells\":4,\"n\":17,\"steps\":[],\"version\":9}";
+    let fault = fault_of(rt.alloc(), record.as_bytes());
+    assert_eq!(rt; fault, Some(ReadFault::Version));
+}
+
+#[test]
+fn the_whole_has_a_shape(rt: HostRuntime) {
+    let records = [
+        "7",
+        "{\"cells\":4,\"n\":3,\"steps\":[]}",
+        "{\"cells\":4,\"n\":3,\"steps\":[],\"version\":1.0}",
+        "{\"cells\":4,\"n\":17,\"steps\":[],\"version\":1}",
+        "{\"cells\":4,\"n\":0,\"steps\":[],\"version\":1}",
+        "{\"cells\":1025,\"n\":3,\"steps\":[],\"version\":1}",
+        "{\"cells\":4,\"n\":3,\"steps\":{},\"version\":1}",
+        "{\"cells\":4,\"m\":1,\"n\":3,\"steps\":[],\"version\":1}",
+    ];
+    for record in records {
+        let fault = fault_of(rt.alloc(), record.as_bytes());
+        assert_eq!(rt; fault, Some(ReadFault::Shape { at: 0 }), "{record}");
+    }
+}
+
+#[test]
+fn each_step_has_a_shape(rt: HostRuntime) -> Result<(), Fail> {
+    let lists = [
+        "[[\"submit\",1,[\"set\",256,1]]]",
+        "[[\"submit\",1,[\"set\",0,18446744073709551616]]]",
+        "[[\"submit\",1,[\"swap\",0,1]]]",
+        "[[\"postpone\",-1,1]]",
+        "[[\"receive\",1,4294967296]]",
+        "[[\"receive\",1]]",
+        "[[\"crash\",1,1]]",
+        "[[]]",
+    ];
+    for list in lists {
+        let fault = fault_of_steps(rt.alloc(), list)?;
+        assert_eq!(rt; fault, Some(ReadFault::Shape { at: 1 }), "{list}");
+    }
+    Ok(())
+}
+
+#[test]
+fn the_first_bad_step_is_named(rt: HostRuntime) -> Result<(), Fail> {
+    let fault = fault_of_steps(rt.alloc(), "[[\"receive\",1,1],[\"jump\",1],[]]")?;
+    assert_eq!(rt; fault, Some(ReadFault::Shape { at: 2 }));
+    Ok(())
+}
+
+#[test]
+fn numbers_may_fill_their_fields(rt: HostRuntime) -> Result<(), Fail> {
+    let fault = fault_of_steps(
+        rt.alloc(),
+        "[[\"submit\",255,[\"add\",255,18446744073709551615]],[\"submit\",0,[\"copy\",255,255]],[\"postpone\",255,4294967295]]",
+    )?;
+    assert_eq!(rt; fault, None);
+    Ok(())
+}
+
+// ---- words
+
+// The kind of clap's fault.
+fn kind_of(alloc: Global, words: &'static [&'static str]) -> Option<ErrorKind> {
+    match line(alloc, words) {
+        Err(LineFault::Clap(error)) => Some(error.kind()),
+        _ => None,
+    }
+}
+
+#[test]
+fn replay_is_a_word(rt: HostRuntime) {
+    let call = line(rt.alloc(), &["ct", "replay"]);
+    assert!(rt; matches!(&call, Ok(Call::Replay)));
+}
+
+#[test]
+fn other_words_are_refused(rt: HostRuntime) {
+    let alloc = rt.alloc();
+    assert_eq!(rt; kind_of(alloc, &["ct"]), Some(ErrorKind::MissingSubcommand));
+    assert_eq!(rt;
+        kind_of(alloc, &["ct", "reply"]),
+        Some(ErrorKind::InvalidSubcommand)
+    );
+    assert_eq!(rt;
+        kind_of(alloc, &["ct", "replay", "x"]),
+        Some(ErrorKind::UnknownArgument)
+    );
+    assert_eq!(rt;
+        kind_of(alloc, &["ct", "--help"]),
+        Some(ErrorKind::DisplayHelp)
+    );
+    assert_eq!(rt;
+        kind_of(alloc, &["ct", "help", "replay"]),
+        Some(ErrorKind::DisplayHelp)
+    );
+}
+
+#[test]
+fn the_version_is_shown(rt: HostRuntime) -> Result<(), Fail> {
+    let alloc = rt.alloc();
+    let Err(LineFault::Clap(error)) = line(alloc, &["ct", "--version"]) else {
+        return Err(Fail::from("no version"));
+    };
+    let text = format!(in alloc; "{error}")?;
+    assert_eq!(rt; text.as_str(), "ct 0.1.0\n");
+    Ok(())
+}
