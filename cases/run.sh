@@ -1,0 +1,154 @@
+#!/usr/bin/env bash
+# Runs the built program `ct` on the cases of table.txt and on the records of ../examples.
+#
+#     cases/run.sh [CT]        CT: the built program; crates/ct/out/ct if left out
+#
+# Prints a line for each failing case and ends with `N passed, M failed`, and with
+# status 0 only where none failed. A run of more than 20 seconds fails. Needs bash 4.4.
+set -u
+export LC_ALL=C
+
+here=$(cd "$(dirname "$0")" && pwd)
+ct=${1:-$here/../crates/ct/out/ct}
+if [[ ! -x $ct || -d $ct ]]; then
+    echo "cases/run.sh: no program at $ct" >&2
+    exit 2
+fi
+ct=$(realpath "$ct")
+cd "$here" || exit 2
+folder=$(mktemp -d)
+trap 'rm -rf "$folder"' EXIT
+empty_record='{"cells":4,"n":3,"steps":[],"version":1}'
+passed=0
+failed=0
+
+# repeat NUMBER TEXT: the text so many times.
+repeat() { yes "$2" | head -n "$1" | tr -d '\n'; }
+
+# record N S P: S submissions and P postponements of serial 1, by member 1 of N.
+record() {
+    local steps
+    steps=$(repeat "$2" '["submit",1,["set",0,7]],' && repeat "$3" '["postpone",1,1],')
+    printf '{"cells":4,"n":%d,"steps":[%s],"version":1}' "$1" "${steps%,}"
+}
+
+# make_input FORM: the input of the form, on standard output.
+make_input() {
+    local form=$1 word first second third
+    read -r word first second third <<<"$form"
+    case $word in
+    @escaped) printf '%b' "${form#@escaped }" ;;
+    @spaces) head -c "$first" /dev/zero | tr '\0' ' ' ;;
+    @padded) printf '%s%*s' "$empty_record" $((first - ${#empty_record})) '' ;;
+    @brackets) repeat "$first" '[' && repeat "$second" ']' ;;
+    @record) record "$first" "$second" "$third" ;;
+    @*) cat "${word#@}" ;;
+    *) printf '%s' "$form" ;;
+    esac
+}
+
+# in_pieces TEXT: the text, its first byte a while ahead of the others.
+in_pieces() { printf '%s' "${1:0:1}" && sleep 0.2 && printf '%s' "${1:1}"; }
+
+# with_input FORM COMMAND..: runs the command on the input of the form.
+with_input() {
+    local form=$1
+    shift
+    case $form in
+    @closed) "$@" <&- ;;
+    @directory) "$@" <"$folder" ;;
+    @zeros) "$@" </dev/zero ;;
+    @piped\ *) "$@" < <(in_pieces "${form#@piped }") ;;
+    *) "$@" <"$folder/input" ;;
+    esac
+}
+
+# with_output FORM COMMAND..: runs the command and keeps its output, where the form has one.
+with_output() {
+    local form=$1 status pipe
+    shift
+    case $form in
+    @closed) "$@" >&- ;;
+    @full) "$@" >/dev/full ;;
+    @unread)
+        exec {pipe}> >(:)
+        wait $!
+        "$@" >&"$pipe"
+        status=$?
+        exec {pipe}>&-
+        return "$status"
+        ;;
+    *) "$@" >"$folder/output" ;;
+    esac
+}
+
+# as_wanted FORM FILE: whether the file holds what the form says.
+as_wanted() {
+    case $1 in
+    '' | @closed | @full | @unread) [[ ! -s $2 ]] ;;
+    some) [[ -s $2 ]] ;;
+    @*) cmp -s "${1#@}" "$2" ;;
+    *) printf '%b\n' "$1" | cmp -s - "$2" ;;
+    esac
+}
+
+# start_of FILE: its first bytes on one line.
+start_of() { head -c 120 "$1" | tr '\n' ' '; }
+
+# check NAME ARGUMENTS STATUS OUTPUT ERROR INPUT: runs one case and counts it.
+check() {
+    local name=$1 words status wrong=''
+    read -ra words <<<"$2"
+    : >"$folder/output"
+    case $6 in
+    @closed | @directory | @zeros | @piped\ *) ;;
+    *) make_input "$6" >"$folder/input" ;;
+    esac
+    with_output "$4" with_input "$6" timeout -k 5 20 "$ct" ${words[@]+"${words[@]}"} 2>"$folder/error"
+    status=$?
+    [[ $status == "$3" ]] || wrong+=" status $status, not $3;"
+    as_wanted "$4" "$folder/output" || wrong+=" output '$(start_of "$folder/output")', not '$4';"
+    as_wanted "$5" "$folder/error" || wrong+=" error '$(start_of "$folder/error")', not '$5';"
+    if [[ -z $wrong ]]; then
+        passed=$((passed + 1))
+    else
+        failed=$((failed + 1))
+        echo "FAILED $name:${wrong%;}"
+    fi
+}
+
+# trim TEXT: leaves the text without outer spaces in $trimmed.
+trim() {
+    trimmed=${1#"${1%%[! ]*}"}
+    trimmed=${trimmed%"${trimmed##*[! ]}"}
+}
+
+while IFS= read -r line <&9; do
+    [[ -n $line && $line != \#* ]] || continue
+    fields=()
+    while [[ ${#fields[@]} -lt 5 && $line == *'|'* ]]; do
+        trim "${line%%|*}"
+        fields+=("$trimmed")
+        line=${line#*|}
+    done
+    trim "$line"
+    if [[ ${#fields[@]} -ne 5 ]]; then
+        failed=$((failed + 1))
+        echo "FAILED a line of table.txt has too few fields: $line"
+        continue
+    fi
+    check "${fields[@]}" "$trimmed"
+done 9<table.txt
+
+for record in ../examples/*.json; do
+    name=${record%.json}
+    if [[ -e $name.report ]]; then
+        check "$name" replay 0 "@$name.report" '' "@$record"
+    else
+        { read -r fault && read -r _ status; } <"$name.fault"
+        check "$name" replay "$status" '' "$fault" "@$record"
+    fi
+done
+
+echo "$passed passed, $failed failed"
+[[ $failed -eq 0 ]]
