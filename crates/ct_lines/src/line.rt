@@ -1,6 +1,6 @@
 //! Waiting lines.
 
-ghost use Rattle.std.specs.Prelude.{◌≡◌, ◌+◌, ◌<◌, ◌≤◌, ◌==◌, [], ◌∷◌, ◌++◌, length, drop, remove, position, filter, not, true, OnOk};
+ghost use Rattle.std.specs.Prelude.{◌≡◌, ◌+◌, ◌<◌, ◌≤◌, ◌==◌, [], ◌∷◌, ◌++◌, length, drop, remove, position, filter, not, true, OnOk, IfOk};
 ghost use Rattle.ct_model.specs.Waiting.{has_serial};
 ghost use Rattle.ct_model.specs.Lawful.{is_distinct};
 
@@ -37,6 +37,14 @@ impl Line {
             kept: Vec::new(alloc),
             start: 0,
         }
+    }
+
+    /// A line in which the same serials wait. Only memory can be refused.
+    pub fn copy(&self, alloc: Global) -> Result<Line, AllocError>
+        ensures { IfOk result (λ line. line.serials ≡ self.now.serials) }
+    {
+        let kept = Vec::from_slice(alloc, self.as_slice())?;
+        Ok(Line { kept, start: 0 })
     }
 
     /// The serials that wait, in order.

@@ -1,9 +1,9 @@
 //! What is kept of one member.
 
-ghost use Rattle.std.specs.Prelude.{◌≡◌, ℕ, ◌+◌, ◌-◌, ◌^◌, ◌<◌, ◌≤◌, ◌==◌, false, true, not, [], ◌∷◌, ◌++◌, filter, position, OnOk, slice_index_or, vec_len};
+ghost use Rattle.std.specs.Prelude.{◌≡◌, ℕ, ◌+◌, ◌-◌, ◌^◌, ◌<◌, ◌≤◌, ◌==◌, false, true, not, [], ◌∷◌, ◌++◌, filter, position, OnOk, slice_index_or, vec_len, IfOk};
 ghost use Rattle.ct_model.specs.Waiting.{has_serial};
 ghost use Rattle.ct_model.specs.Lawful.{is_distinct};
-ghost use Rattle.ct_lines.specs.Seats.{IsRoomy, no_facts, has_id, joined, slot};
+ghost use Rattle.ct_lines.specs.Seats.{IsRoomy, SameSeat, no_facts, has_id, joined, slot};
 
 use crate::line::Line;
 use ct_names::{Message, Serial};
@@ -50,6 +50,19 @@ impl Seat {
             line: Line::new(alloc),
             crashed: false,
         }
+    }
+
+    /// A seat with the same facts. Only memory can be refused.
+    pub fn copy(&self, alloc: Global) -> Result<Seat, AllocError>
+        ensures { IfOk result (SameSeat self.now) }
+    {
+        Ok(Seat {
+            submitted: self.submitted,
+            received: Vec::from_slice(alloc, &self.received)?,
+            seen: Vec::from_slice(alloc, &self.seen)?,
+            line: self.line.copy(alloc)?,
+            crashed: self.crashed,
+        })
     }
 
     /// How many messages the member submitted.

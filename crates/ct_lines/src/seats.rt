@@ -20,6 +20,17 @@ pub fn new_seats(alloc: Global, members: u8) -> Result<Vec<Seat>, AllocError>
     Ok(seats)
 }
 
+/// Seats with the same facts. Only memory can be refused.
+pub fn copy_seats(alloc: Global, seats: &[Seat]) -> Result<Vec<Seat>, AllocError>
+    ensures ok { IfOk result (λ copies. SameSeats seats.now copies.items) }
+{
+    let mut copies = Vec::new(alloc);
+    for i in 0..seats.len() {
+        copies.push(seats[i].copy(alloc)?)?;
+    }
+    Ok(copies)
+}
+
 /// Makes room at each seat for one more serial and one more message, and for the marks of messages that are numbered
 /// up to `number`. Only memory can be refused; the facts then stay too.
 pub fn make_room(seats: &mut Vec<Seat>, number: u32) -> Result<(), AllocError>

@@ -192,6 +192,19 @@ fn a_replay_stops_at_the_first_refused_step(rt: HostRuntime) -> Result<(), Fail>
 }
 
 #[test]
+fn a_copy_goes_its_own_way(rt: HostRuntime) -> Result<(), Fail> {
+    let mut world = relayed_once(&rt, rt.alloc())?;
+    assert_eq!(rt; world.prepare(&Step::Crash(3)), Ok(()));
+    let mut copy = world.copy(rt.alloc())?;
+    assert!(rt; copy.prepared().is_none());
+    assert!(rt; copy.record() == world.record());
+    assert!(rt; copy.waiting(3) == world.waiting(3));
+    assert_eq!(rt; copy.apply(&Step::Receive(3, 6))?.sent, 3);
+    assert_eq!(rt; world.sent(), 6);
+    Ok(())
+}
+
+#[test]
 fn submissions_are_limited(rt: HostRuntime) -> Result<(), Fail> {
     let mut world = World::new(rt.alloc(), group(&rt, 1), 4)?;
     for _ in 0..65_535 {

@@ -18,6 +18,7 @@ use ct_names::{Group, Member, Message, Refusal, Serial};
 use std::alloc::Global;
 use std::marker::Model;
 
+mod copying;
 mod crash;
 mod enabling;
 mod postpone;

@@ -1,0 +1,34 @@
+//! A world once more.
+
+ghost use Rattle.std.specs.Prelude.{◌≡◌, None, IfOk, IfErr};
+
+use crate::world::World;
+use ct_lines::seats;
+use ct_names::Refusal;
+use std::alloc::{AllocError, Global};
+
+impl World {
+    /// A world with the same group, cells and record, in which no step is prepared. Only memory can be refused.
+    pub fn copy(&self, alloc: Global) -> Result<World, Refusal>
+        ensures ok { IfOk result (λ world. world ≡ record self.now { prepared = None }) }
+        ensures err { IfErr result (λ refusal. refusal ≡ Refusal.OutOfMemory) }
+    {
+        match self.copy_fields(alloc) {
+            Ok(world) => Ok(world),
+            Err(_) => Err(Refusal::OutOfMemory),
+        }
+    }
+
+    fn copy_fields(&self, alloc: Global) -> Result<World, AllocError>
+        ensures { IfOk result (λ world. world ≡ record self.now { prepared = None }) }
+    {
+        Ok(World {
+            group: self.group,
+            cells: self.cells,
+            record: Vec::from_slice(alloc, &self.record)?,
+            letters: Vec::from_slice(alloc, &self.letters)?,
+            seats: seats::copy_seats(alloc, &self.seats)?,
+            prepared: None,
+        })
+    }
+}
