@@ -6,3 +6,6 @@ pub mod Fronts
 pub mod Refused
 pub mod Answered
 pub mod Lines
+pub mod Fitting
+pub mod Stored
+pub mod Written

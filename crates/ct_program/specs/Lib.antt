@@ -6,3 +6,5 @@ pub mod Replay
 pub mod ProgramFault
 pub mod Counted
 pub mod Line
+pub mod Text
+pub mod Fits

@@ -1,5 +1,5 @@
 -- What a replay answers to its input.
-use Rattle.std.specs.Prelude.{◌≡◌, ◌≢◌, ◌≤◌, ◌-◌, ℕ, List, Option, length, Err, ⊤, IsOkAnd, take}
+use Rattle.std.specs.Prelude.{◌≡◌, ◌≢◌, ◌⊎◌, ◌+◌, ◌≤◌, ◌-◌, ℕ, List, Option, length, Err, ⊤, IsOkAnd, take}
 use Rattle.std.specs.Io.KnownBytes.{Appends}
 use Rattle.ct_names.specs.declared.refusal.Refusal.{Refusal}
 use Rattle.ct_names.specs.declared.refusal.Refusal.TheVariants.{OutOfMemory}
@@ -35,6 +35,10 @@ IsFaultIn (Read fault) input = script input ≡ Err fault
 IsFaultIn Reader input = ⊤
 IsFaultIn Write input = ⊤
 IsFaultIn Memory input = ⊤
+
+-- reading stopped for want of memory, or because the reader failed once more
+abbrev pub StopsReading : ProgramFault → ℕ → ℕ → Type 0
+StopsReading fault old new = (fault ≡ Memory) ⊎ ((fault ≡ Reader) × (new ≡ old + 1))
 
 -- what is read of the input: one byte more than a record may have, at most
 unfoldable pub read_part : List ℕ → List ℕ

@@ -1,9 +1,10 @@
-//! The program `ct` as a library: it reads a record, replays it and reports where it leads.
+//! The program `ct` as a library: it reads and writes records, replays them and reports where they lead.
 #![tactic(auto)]
 
 mod call;
 mod counted;
 mod failed;
+mod law;
 mod line_fault;
 mod program_fault;
 mod read_fault;
@@ -15,10 +16,12 @@ mod separator;
 mod sink;
 mod source;
 mod words;
+mod writing;
 
 pub use call::Call;
 pub use counted::Counted;
 pub use failed::Failed;
+pub use law::law_round_trip;
 pub use line_fault::LineFault;
 pub use program_fault::ProgramFault;
 pub use read_fault::ReadFault;
@@ -29,6 +32,7 @@ pub use script::Script;
 pub use sink::Sink;
 pub use source::Source;
 pub use words::line;
+pub use writing::write_record;
 
 #[cfg(test)]
 mod tests;

@@ -1,8 +1,8 @@
 //! A record in, its report out.
 
-ghost use Rattle.std.specs.Prelude.{◌≡◌, ◌≢◌, ◌⊎◌, ◌+◌, ◌<◌, ◌^◌, length, vec_len, take, Err, OnOk, OnErr, IfOk, IfErr, IfSome};
+ghost use Rattle.std.specs.Prelude.{◌≡◌, ◌≢◌, ◌+◌, ◌<◌, ◌^◌, length, vec_len, take, Err, OnOk, OnErr, IfOk, IfErr, IfSome};
 ghost use Rattle.std.specs.Io.KnownBytes.{Appends};
-ghost use Rattle.ct_program.specs.Replay.{IsReportOf, WritesReport, IsFaultIn, read_part};
+ghost use Rattle.ct_program.specs.Replay.{IsReportOf, WritesReport, IsFaultIn, StopsReading, read_part};
 
 use crate::failed::Failed;
 use crate::program_fault::ProgramFault;
@@ -30,7 +30,8 @@ pub fn run_replay<R: Source, W: Sink>(
     requires reads { R.failures reader.old < 2 ^ 63 }
     requires writes { W.failures writer.old < 2 ^ 63 }
     // The input is a record whose steps are all allowed, and what was written is its report.
-    ensures ok { OnOk result (IfSome (R.left reader.old) (λ input. WritesReport input (W.written writer.old) (W.written writer.new))) }
+    ensures ok { OnOk result (IfSome (R.left reader.old) (λ input.
+        WritesReport input (W.written writer.old) (W.written writer.new))) }
     ensures fault { IfErr result (λ fault. IfSome (R.left reader.old) (IsFaultIn fault)) }
     // Only a fault of the writer has written anything.
     ensures quiet { IfErr result (λ fault. fault ≢ ProgramFault.Write → writer.new ≡ writer.old) }
@@ -38,10 +39,7 @@ pub fn run_replay<R: Source, W: Sink>(
     ensures writer { result ≡ Err ProgramFault.Write → W.failures writer.new ≡ W.failures writer.old + 1 }
 {
     let bytes = read_all(alloc, reader)?;
-    let text = match answer(alloc, &bytes) {
-        Ok(text) => text,
-        Err(fault) => return Err(fault),
-    };
+    let text = answer(alloc, &bytes)?;
     match write_all(writer, &text) {
         Ok(()) => Ok(()),
         Err(Failed) => Err(ProgramFault::Write),
@@ -52,7 +50,7 @@ pub fn run_replay<R: Source, W: Sink>(
 fn read_all<R: Source>(alloc: Global, reader: &mut R) -> Result<Vec<u8>, ProgramFault>
     requires { R.failures reader.old < 2 ^ 63 }
     ensures bytes { IfOk result (λ bytes. IfSome (R.left reader.old) (λ input. bytes.items ≡ read_part input)) }
-    ensures err { IfErr result (λ fault. (fault ≡ ProgramFault.Memory) ⊎ ((fault ≡ ProgramFault.Reader) × (R.failures reader.new ≡ R.failures reader.old + 1))) }
+    ensures err { IfErr result (λ fault. StopsReading fault (R.failures reader.old) (R.failures reader.new)) }
 {
     let mut piece = piece(alloc)?;
     read_up_to(alloc, reader, &mut piece, MOST)
@@ -79,7 +77,7 @@ fn read_up_to<R: Source>(
     requires count { R.failures reader.old < 2 ^ 63 }
     requires room { 0 < length piece.old }
     ensures bytes { IfOk result (λ bytes. IfSome (R.left reader.old) (λ input. bytes.items ≡ take limit input)) }
-    ensures err { IfErr result (λ fault. (fault ≡ ProgramFault.Memory) ⊎ ((fault ≡ ProgramFault.Reader) × (R.failures reader.new ≡ R.failures reader.old + 1))) }
+    ensures err { IfErr result (λ fault. StopsReading fault (R.failures reader.old) (R.failures reader.new)) }
 {
     let mut bytes = Vec::new(alloc);
     while bytes.len() < limit {

@@ -29,7 +29,8 @@ pub fn report(alloc: Global, world: &World) -> Result<Vec<u8>, AllocError>
 }
 
 fn push_members(text: &mut String, world: &World) -> Result<(), AllocError>
-    ensures { OnOk result (string_bytes text.new ≡ string_bytes text.old ++ first_members world.now.rehearsal world.now.rehearsal.setting.members) }
+    ensures { OnOk result (string_bytes text.new
+        ≡ string_bytes text.old ++ first_members world.now.rehearsal world.now.rehearsal.setting.members) }
 {
     let n = world.group().n();
     for i in 0..n {

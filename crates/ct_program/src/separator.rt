@@ -11,7 +11,8 @@ pub(crate) fn push_separator(
     later: bool,
 ) -> Result<(), AllocError>
     requires { separator < 128 }
-    ensures { OnOk result (string_bytes text.new ≡ string_bytes text.old ++ (if later then separator ∷ [] else [])) }
+    ensures { OnOk result (string_bytes text.new
+        ≡ string_bytes text.old ++ (if later then separator ∷ [] else [])) }
 {
     if later {
         text.push(separator)?;

@@ -1,6 +1,7 @@
 use super::*;
 use clap::error::ErrorKind;
 use ct_names::Refusal;
+use ct_world::World;
 use std::alloc::{AllocError, Global};
 use std::test::Fail;
 
@@ -311,6 +312,40 @@ fn numbers_may_fill_their_fields(rt: HostRuntime) -> Result<(), Fail> {
         "[[\"submit\",255,[\"add\",255,18446744073709551615]],[\"submit\",0,[\"copy\",255,255]],[\"postpone\",255,4294967295]]",
     )?;
     assert_eq!(rt; fault, None);
+    Ok(())
+}
+
+// ---- writing
+
+// What is written of the world that the record leads to.
+fn rewritten(alloc: Global, record: &[u8]) -> Result<Vec<u8>, ProgramFault> {
+    let script = read_record(alloc, record)?;
+    let world = World::replay(alloc, script.group, script.cells, &script.steps)?;
+    Ok(write_record(alloc, &world)?)
+}
+
+#[test]
+fn a_record_is_written_as_it_was(rt: HostRuntime) {
+    let written = rewritten(rt.alloc(), RECORD.as_bytes());
+    assert!(rt; written.is_ok_and(|text| text.as_slice() == RECORD.as_bytes()));
+}
+
+#[test]
+fn an_empty_record_is_written(rt: HostRuntime) {
+    let record = "{\"version\":1,\"steps\":[ ],\"n\":3,\"cells\":4}\n";
+    let text = "{\"cells\":4,\"n\":3,\"steps\":[],\"version\":1}";
+    let written = rewritten(rt.alloc(), record.as_bytes());
+    assert!(rt; written.is_ok_and(|bytes| bytes.as_slice() == text.as_bytes()));
+}
+
+#[test]
+fn each_step_is_written(rt: HostRuntime) -> Result<(), Fail> {
+    let record = with_steps(
+        rt.alloc(),
+        "[[\"submit\",1,[\"add\",15,18446744073709551615]],[\"submit\",2,[\"copy\",3,4]],[\"postpone\",1,1],[\"crash\",2]]",
+    )?;
+    let written = rewritten(rt.alloc(), record.as_bytes());
+    assert!(rt; written.is_ok_and(|text| text.as_slice() == record.as_bytes()));
     Ok(())
 }
 

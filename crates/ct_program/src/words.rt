@@ -1,6 +1,6 @@
 //! The words of a command line.
 
-ghost use Rattle.std.specs.Prelude.{◌≡◌, ℕ, List, [], ◌∷◌, map, codes, IfOk, IfErr, MatchResult};
+ghost use Rattle.std.specs.Prelude.{◌≡◌, ℕ, List, [], ◌∷◌, map, codes, OnOk, IfOk, IfErr};
 ghost use Rattle.clap.specs.Words.{app_of};
 ghost use Rattle.ct_program.specs.Line.{program, faults_of, IsOfKind, IsMemory};
 
@@ -12,7 +12,9 @@ use std::alloc::{AllocError, Global};
 /// What the words ask for, the program's name first: `replay` is the one subcommand. A call for help or for the version
 /// is a fault whose text is the answer.
 pub fn line<'a>(alloc: Global, words: &'a [&'a str]) -> Result<Call, LineFault>
-    ensures exact { MatchResult result (λ _. faults_of (map (λ word. word.now) words.now) ≡ []) (IsOfKind (faults_of (map (λ word. word.now) words.now))) }
+    ensures ok { OnOk result (faults_of (map (λ word. word.now) words.now) ≡ []) }
+    ensures err { IfErr result (IsOfKind (faults_of (map (λ word. word.now) words.now))) }
+    // After the name the one word `replay` is refused for want of memory alone.
     ensures replay { (name : List ℕ) → map (λ word. word.now) words.now ≡ name ∷ codes "replay" ∷ [] → IfErr result IsMemory }
 {
     match command(alloc)?.try_get_matches_from(words) {

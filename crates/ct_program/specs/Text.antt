@@ -1,0 +1,28 @@
+-- The text of a record.
+use Rattle.std.specs.Prelude.{ℕ, List, [], ◌∷◌, codes, decimal, map}
+use Rattle.std.specs.List.{join_with_byte, concat}
+use Rattle.ct_names.specs.declared.command.Command.{Command}
+use Rattle.ct_names.specs.declared.command.Command.TheVariants.{Set, Add, Copy}
+use Rattle.ct_model.specs.declared.step.Step.{Step}
+use Rattle.ct_model.specs.declared.step.Step.TheVariants.{Submit, Receive, Crash, Postpone}
+use Rattle.ct_model.specs.Rehearsal.{Rehearsal}
+
+unfoldable pub command_text : Command → List ℕ
+command_text (Set register value) = concat (codes "[\"set\"," ∷ decimal register ∷ codes "," ∷ decimal value ∷ codes "]" ∷ [])
+command_text (Add register amount) = concat (codes "[\"add\"," ∷ decimal register ∷ codes "," ∷ decimal amount ∷ codes "]" ∷ [])
+command_text (Copy from to) = concat (codes "[\"copy\"," ∷ decimal from ∷ codes "," ∷ decimal to ∷ codes "]" ∷ [])
+
+unfoldable pub step_text : Step → List ℕ
+step_text (Submit p c) = concat (codes "[\"submit\"," ∷ decimal p ∷ codes "," ∷ command_text c ∷ codes "]" ∷ [])
+step_text (Receive p k) = concat (codes "[\"receive\"," ∷ decimal p ∷ codes "," ∷ decimal k ∷ codes "]" ∷ [])
+step_text (Crash p) = concat (codes "[\"crash\"," ∷ decimal p ∷ codes "]" ∷ [])
+step_text (Postpone p k) = concat (codes "[\"postpone\"," ∷ decimal p ∷ codes "," ∷ decimal k ∷ codes "]" ∷ [])
+
+-- with a comma between each two
+abbrev pub steps_text : List Step → List ℕ
+steps_text steps = join_with_byte 44 (map step_text steps)
+
+unfoldable pub record_text : Rehearsal → List ℕ
+record_text w =
+    concat (codes "{\"cells\":" ∷ decimal w.cells ∷ codes ",\"n\":" ∷ decimal w.setting.members
+    ∷ codes ",\"steps\":[" ∷ steps_text w.steps ∷ codes "],\"version\":1}" ∷ [])

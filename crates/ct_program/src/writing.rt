@@ -1,0 +1,76 @@
+//! From a world to the text of its record.
+
+ghost use Rattle.std.specs.Prelude.{◌≡◌, ◌++◌, Ok, OnOk, IfOk, string_bytes};
+ghost use Rattle.ct_program.specs.Fits.{CommandFits, StepFits, AllFit, IsStorable};
+ghost use Rattle.ct_program.specs.Script.{script};
+ghost use Rattle.ct_program.specs.Text.{command_text, step_text, steps_text, record_text};
+
+use crate::separator::push_separator;
+use ct_model::Step;
+use ct_names::Command;
+use ct_world::World;
+use std::alloc::{AllocError, Global};
+
+/// The text of the world's record: compact, its keys in rising order, with no line end. The only error is that memory is
+/// refused.
+pub fn write_record(alloc: Global, world: &World) -> Result<Vec<u8>, AllocError>
+    ensures text { IfOk result (λ bytes. bytes.items ≡ record_text world.now.rehearsal) }
+    ensures reads_back { IfOk result (λ bytes. script bytes.items ≡ Ok world.now.rehearsal) }
+{
+    record_bytes(alloc, world)
+}
+
+// The same, and that the record is one that a text can hold.
+#[tactic(auto, unfolding(crate::specs::Text::record_text))]
+fn record_bytes(alloc: Global, world: &World) -> Result<Vec<u8>, AllocError>
+    ensures text { IfOk result (λ bytes. bytes.items ≡ record_text world.now.rehearsal) }
+    ensures storable { OnOk result (IsStorable world.now.rehearsal) }
+{
+    let mut text = String::new(alloc);
+    let cells = world.cells();
+    let n = world.group().n();
+    write!(text, "{{\"cells\":{cells},\"n\":{n},\"steps\":[")?;
+    push_steps(&mut text, world.record())?;
+    text.push_str("],\"version\":1}")?;
+    Ok(text.into_bytes())
+}
+
+fn push_steps(text: &mut String, steps: &[Step]) -> Result<(), AllocError>
+    ensures text { OnOk result (string_bytes text.new ≡ string_bytes text.old ++ steps_text steps.now) }
+    ensures fit { OnOk result (AllFit steps.now) }
+{
+    for (i, step) in steps.iter().enumerate() {
+        push_separator(text, ',', i > 0)?;
+        push_step(text, *step)?;
+    }
+    Ok(())
+}
+
+#[tactic(auto, unfolding(crate::specs::Text::step_text))]
+fn push_step(text: &mut String, step: Step) -> Result<(), AllocError>
+    ensures text { OnOk result (string_bytes text.new ≡ string_bytes text.old ++ step_text step) }
+    ensures fits { StepFits step }
+{
+    match step {
+        Step::Submit(p, command) => {
+            write!(text, "[\"submit\",{p},")?;
+            push_command(text, command)?;
+            text.push(']')
+        }
+        Step::Receive(p, serial) => write!(text, "[\"receive\",{p},{serial}]"),
+        Step::Crash(p) => write!(text, "[\"crash\",{p}]"),
+        Step::Postpone(p, serial) => write!(text, "[\"postpone\",{p},{serial}]"),
+    }
+}
+
+#[tactic(auto, unfolding(crate::specs::Text::command_text))]
+fn push_command(text: &mut String, command: Command) -> Result<(), AllocError>
+    ensures text { OnOk result (string_bytes text.new ≡ string_bytes text.old ++ command_text command) }
+    ensures fits { CommandFits command }
+{
+    match command {
+        Command::Set(register, value) => write!(text, "[\"set\",{register},{value}]"),
+        Command::Add(register, amount) => write!(text, "[\"add\",{register},{amount}]"),
+        Command::Copy(from, to) => write!(text, "[\"copy\",{from},{to}]"),
+    }
+}
