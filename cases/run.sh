@@ -1,5 +1,5 @@
 #!/usr/bin/env bash
-# Runs the built program `ct` on the cases of table.txt and on the records of ../examples.
+# Runs the built program `ct` on the cases of table.txt, on the records of ../examples, and with little memory.
 #
 #     cases/run.sh [CT]        CT: the built program; crates/ct/out/ct if left out
 #
@@ -123,6 +123,22 @@ trim() {
     trimmed=${trimmed%"${trimmed##*[! ]}"}
 }
 
+# check_memory KIBIBYTES: replays a long record with so little memory; it ends with the whole report or says that memory
+# was refused.
+check_memory() {
+    local status
+    (ulimit -v "$1" && exec timeout -k 5 20 "$ct" replay) <"$folder/long" >"$folder/output" 2>"$folder/error"
+    status=$?
+    if { [[ $status == 0 && ! -s $folder/error ]] && cmp -s "$folder/long_report" "$folder/output"; } ||
+        { [[ $status == 5 && ! -s $folder/output ]] && as_wanted 'out of memory' "$folder/error"; }; then
+        passed=$((passed + 1))
+    else
+        failed=$((failed + 1))
+        echo "FAILED memory of $1 KiB: status $status; output '$(start_of "$folder/output")'; error '$(start_of "$folder/error")'"
+    fi
+    [[ $status != 5 ]] || refused=$((refused + 1))
+}
+
 while IFS= read -r line <&9; do
     [[ -n $line && $line != \#* ]] || continue
     fields=()
@@ -149,6 +165,18 @@ for record in ../examples/*.json; do
         check "$name" replay "$status" '' "$fault" "@$record"
     fi
 done
+
+# Memory refused at different places: at the start, while reading, while replaying.
+record 3 60000 0 >"$folder/long"
+"$ct" replay <"$folder/long" >"$folder/long_report"
+refused=0
+for kibibytes in 6000 8000 12000 16000 20000 24000 28000 32000 40000 64000; do
+    check_memory "$kibibytes"
+done
+if [[ $refused == 0 ]]; then
+    failed=$((failed + 1))
+    echo "FAILED memory: it was never refused"
+fi
 
 echo "$passed passed, $failed failed"
 [[ $failed -eq 0 ]]
