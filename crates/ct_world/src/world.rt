@@ -28,9 +28,9 @@ mod replaying;
 mod submit;
 
 /// A group's network, its members and their crash marks, and the record of the steps that led there. Every world's
-/// record is a run of the algorithm that ends in this world (Chandra and Toueg, sections 4 to 7), whatever was asked of
+/// record is a run of the algorithm that ends in this world (Chandra and Toueg, section 4; consensus and atomic broadcast are to come), whatever was asked of
 /// it; what is not allowed is refused and changes nothing.
-#[derive(Drop)]
+#[derive(Debug, Drop)]
 pub struct World {
     group: Group,
     cells: u16,
@@ -56,7 +56,7 @@ impl Model for World {
 }
 
 impl World {
-    /// A world without steps, for this group, with room for as many batches on its board as `cells`, 0 to 1,024. Only
+    /// A world without steps, for this group, with this many cells for batches, 0 to 1,024. Only
     /// memory can be refused.
     pub fn new(alloc: Global, group: Group, cells: u16) -> Result<World, Refusal>
         requires { cells ≤ 1024 }
