@@ -15,4 +15,15 @@ pub mod Submits
 pub mod Receives
 pub mod Crashes
 pub mod Postpones
+pub mod Counting
+pub mod Turns
+pub mod Facts
+pub mod Sending
+pub mod Readings
+pub mod Posting
+pub mod Making
+pub mod History
+pub mod Relaying
+pub mod Naturality
+pub mod WorkedRounds
 pub mod Worked

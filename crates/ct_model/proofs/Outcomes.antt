@@ -1,6 +1,6 @@
 -- What follows where an optional value is there.
 use Rattle.std.proofs.Common.{◌≡◌, Bool, true, false, Option, Some, None, option_map, option_and_then, refl}
-use Rattle.ct_model.specs.Next.{when}
+use Rattle.ct_model.specs.When.{when}
 
 pub some-same : {A : Type 0} (x y : A) → Some x ≡ Some y → x ≡ y
 some-same x y e = cc

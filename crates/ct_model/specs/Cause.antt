@@ -1,5 +1,5 @@
 -- Why a step is refused: the first of its tests that fires.
-use Rattle.std.specs.Prelude.{ℕ, ◌+◌, Bool, not, nat_lt, if◌then◌else◌, List, [], ◌∷◌, Option, Some, None, option_and_then, length, map}
+use Rattle.std.specs.Prelude.{ℕ, ◌+◌, not, nat_lt, if◌then◌else◌, List, [], ◌∷◌, Option, Some, None, option_and_then, length, map}
 use Rattle.std.specs.Option.{option_map_or}
 use Rattle.ct_names.specs.declared.limit.Limit.TheVariants.{Submissions, Instances, Rounds, Envelopes, Cells, Steps}
 use Rattle.ct_names.specs.declared.refusal.Refusal.{Refusal}
@@ -14,19 +14,7 @@ use Rattle.ct_model.specs.Actor.{actor}
 use Rattle.ct_model.specs.Next.{next}
 use Rattle.ct_model.specs.Waiting.{has_serial}
 use Rattle.ct_model.specs.Rehearsal.{Rehearsal, state_of, line_of}
-
--- a refusal and whether it comes
-pub record Test : Type 0 where
-  pub fires : Bool
-  pub refusal : Refusal
-
-abbrev pub at : Refusal → Bool → Test
-at refusal fires = record { fires = fires; refusal = refusal }
-
--- the refusal of the first test that fires
-abbrev pub first_fault : List Test → Option Refusal
-first_fault [] = None
-first_fault (test ∷ tests) = if test.fires then Some test.refusal else first_fault tests
+pub use Rattle.ct_model.specs.Test.{Test, at, first_fault}
 
 -- the tests of every step: its member is there and up
 abbrev pub presence : Setting → State → ℕ → List Test

@@ -1,19 +1,22 @@
 -- The state after a step.
-use Rattle.std.specs.Prelude.{ℕ, ◌+◌, ◌-◌, Bool, true, false, not, ◌&&◌, ◌==◌, if◌then◌else◌, List, [], ◌∷◌, ◌++◌, Option, Some, None, option_and_then, option_map, slice_set, unwrap_or}
+use Rattle.std.specs.Prelude.{ℕ, ◌+◌, ◌-◌, Bool, true, false, not, ◌&&◌, ◌==◌, if◌then◌else◌, List, [], ◌∷◌, ◌++◌, Option, Some, None, is_none, option_and_then, option_map, slice_set, unwrap_or}
 use Rattle.ct_names.specs.declared.command.Command.{Command}
 use Rattle.ct_names.specs.Command.{is_good}
 use Rattle.ct_names.specs.Group.{is_member, coordinator}
 use Rattle.ct_names.specs.Message.{Message}
-use Rattle.ct_names.specs.Value.{has}
+use Rattle.ct_names.specs.Value.{Value, has, minus, ordered}
+use Rattle.ct_model.specs.declared.phase.Phase.TheVariants.{Rest}
 use Rattle.ct_model.specs.declared.step.Step.{Step}
 use Rattle.ct_model.specs.declared.step.Step.TheVariants.{Submit, Receive, Crash, Postpone}
 use Rattle.ct_model.specs.Setting.{Setting}
+use Rattle.ct_model.specs.When.{when}
 use Rattle.ct_model.specs.Wire.{envelopes}
 use Rattle.ct_model.specs.Wire.Wire.{Data, Dec}
 use Rattle.ct_model.specs.Wire.Mail.{Nobody, All}
-use Rattle.ct_model.specs.State.{Member, Proposal, State, member, is_crashed, submissions, at_serial}
-use Rattle.ct_model.specs.Received.{received, has_decision}
-use Rattle.ct_model.specs.AtValue.{Wire, Envelope, Mail}
+use Rattle.ct_model.specs.State.{Member, Proposal, State, member, delivered, is_crashed, submissions, at_serial}
+use Rattle.ct_model.specs.Received.{Ballots, received, decided, has_decision, ballots}
+use Rattle.ct_model.specs.AtValue.{Wire, Envelope, Mail, Standing, Turn}
+use Rattle.ct_model.specs.Phases.{enter, choose, adopt, suspect, conclude}
 use Rattle.ct_model.specs.Actor.{actor}
 
 -- what a step leaves: its member as it is then, the messages submitted and the values proposed, and
@@ -27,11 +30,6 @@ pub record Outcome : Type 0 where
 -- an outcome that submits and proposes nothing
 abbrev pub plain : Member → Mail → Outcome
 plain m mail = record { member = m; submitted = []; proposals = []; mail = mail }
-
--- the value, if the test passes
-abbrev pub when : {A : Type 0} → Bool → A → Option A
-when true x = Some x
-when false x = None
 
 -- the next message of an origin
 abbrev pub next_message : List Message → ℕ → Command → Message
@@ -61,6 +59,55 @@ is_relayed s p got _ = false
 
 abbrev pub receive : Setting → ℕ → Member → Wire → Outcome
 receive s p m w = plain (record m { got = m.got ++ w ∷ [] }) (if is_relayed s p m.got w then All w else Nobody)
+
+-- what p received and didn't deliver
+unfoldable pub undelivered : Member → Value
+undelivered m = ordered (minus (received m.got) (delivered m))
+
+abbrev pub is_empty : {A : Type 0} → List A → Bool
+is_empty [] = true
+is_empty (x ∷ xs) = false
+
+-- p opens its next instance, and proposes what it didn't deliver
+abbrev pub begin : ℕ → Member → Outcome
+begin p m = record {
+  member = record m { last = m.last + 1; current = Some (record { round = 0; phase = Rest; estimate = undelivered m; ts = 0 }) };
+  submitted = [];
+  proposals = record { member = p; instance = m.last + 1; value = undelivered m } ∷ [];
+  mail = Nobody;
+}
+
+-- the row of that: p has no instance open, and something to propose. None: it isn't enabled
+abbrev pub begin_row : ℕ → Member → Option Outcome
+begin_row p m = when (is_none m.current && not (is_empty (undelivered m))) (begin p m)
+
+-- the member after a step of a round
+abbrev pub turned : Member → Turn → Outcome
+turned m t = plain (record m { current = Some t.after }) t.mail
+
+-- a step of a round, at the member's standing in its open instance. None: no instance is open, or it isn't enabled
+abbrev pub round_row : Member → (Standing → Option Turn) → Option Outcome
+round_row m step = option_map (turned m) (option_and_then step m.current)
+
+-- what p got for its round
+abbrev pub own_ballots : Member → Standing → Ballots Value
+own_ballots m c = ballots m.got m.last c.round
+
+-- the rows of the five steps of a round, for p
+abbrev pub enter_row : Setting → ℕ → Member → Option Outcome
+enter_row s p m = round_row m (enter s.members p m.last (decided m.got m.last))
+
+abbrev pub choose_row : Setting → Member → ℕ → Option Outcome
+choose_row s m from = round_row m (λ c. choose s.members m.last (own_ballots m c) c from)
+
+abbrev pub adopt_row : Setting → ℕ → Member → Option Outcome
+adopt_row s p m = round_row m (λ c. adopt s.members p m.last (own_ballots m c) c)
+
+abbrev pub suspect_row : Setting → ℕ → Member → Option Outcome
+suspect_row s p m = round_row m (λ c. suspect s.members p m.last (own_ballots m c) c)
+
+abbrev pub conclude_row : Setting → Member → Option Outcome
+conclude_row s m = round_row m (λ c. conclude s.members m.last (own_ballots m c) c)
 
 abbrev pub crash : Member → Outcome
 crash m = plain (record m { crashed = true }) Nobody

@@ -1,5 +1,5 @@
 -- The state of the whole group.
-use Rattle.std.specs.Prelude.{ℕ, suc, zero, ◌-◌, ◌==◌, Bool, false, List, [], Option, None, length, filter, flat_map, replicate, slice_get, slice_index_or}
+use Rattle.std.specs.Prelude.{ℕ, suc, zero, ◌-◌, ◌==◌, Bool, false, List, [], Option, None, length, filter, flat_map, map, replicate, slice_get, slice_index_or}
 use Rattle.ct_names.specs.Message.{Message}
 use Rattle.ct_names.specs.Value.{Value}
 use Rattle.ct_model.specs.declared.phase.Phase.{Phase}
@@ -54,6 +54,10 @@ first_state s = record { sent = []; submitted = []; proposals = []; members = re
 
 unfoldable pub member : State → ℕ → Member
 member g p = slice_index_or g.members (p - 1) new_member
+
+-- the wires that were sent, by serial
+abbrev pub wires : State → List (Wire Value)
+wires g = map (λ e. e.wire) g.sent
 
 -- p has its crash mark
 abbrev pub is_crashed : State → ℕ → Bool

@@ -6,6 +6,6 @@ mod laws;
 mod phase;
 mod step;
 
-pub use laws::law_integrity;
+pub use laws::{law_integrity, law_relay};
 pub use phase::Phase;
 pub use step::Step;

@@ -1,0 +1,283 @@
+-- Another type of values changes nothing that is read off the wires, and no step of a round.
+use Rattle.std.proofs.Common.{◌≡◌, ℕ, Bool, true, false, cond, not, ◌&&◌, ◌||◌, ◌==◌, nat_le, List, [], ◌∷◌, filter, filter_map, map, find, Option, Some, None, option_map, option_and_then, is_some, is_none, refl, ap, ◌∙◌}
+use Rattle.std.specs.List.{list_any, list_all, cons_option}
+use Rattle.std.specs.Option.{option_map_or}
+use Rattle.std.proofs.lemmas.List.Elements.{filter_agree}
+use Rattle.ct_names.specs.Group.{members, everyone}
+use Rattle.ct_names.specs.Value as Values
+use Rattle.ct_names.specs.declared.refusal.Refusal.TheVariants.{WrongPhase, TooFew, NotLargest, NoProposal, HasProposal}
+use Rattle.ct_model.specs.Majority.{is_majority}
+use Rattle.ct_model.specs.When.{when}
+use Rattle.ct_model.specs.Wire.{Wire, Mail, envelopes}
+use Rattle.ct_model.specs.Wire.Wire.{Data, Est, Prop, Ack, Nack, Dec}
+use Rattle.ct_model.specs.Wire.Mail.{Nobody, One, All}
+use Rattle.ct_model.specs.State.{Standing, Turn}
+use Rattle.ct_model.specs.Received.{head, message_of, received, decision_of, decided, is_decision, has_decision, Heard, estimate_of, heard_from, proposal_of, proposal, is_ack, has_ack, ackers, is_reply, has_reply, Ballots, ballots, heard, estimate_from, is_largest}
+use Rattle.ct_model.specs.Phases.{is_rest, is_gather, is_wait, is_tally, entered, enter, chosen, choose, adopted, adopt, suspected, suspect, concluded, conclude}
+use Rattle.ct_model.specs.Test.{at}
+use Rattle.ct_model.specs.Faults.{lacks, has_largest, enter_faults, choose_faults, adopt_faults, suspect_faults, conclude_faults}
+use Rattle.ct_model.specs.Mapped.{wire_map, envelope_map, mail_map, heard_map, ballots_map, standing_map, turn_map}
+
+-- lists
+
+any-map : {A B : Type 0} (f : A → B) (t : B → Bool) (s : A → Bool) → ((x : A) → t (f x) ≡ s x) → (xs : List A) → list_any t (map f xs) ≡ list_any s xs
+any-map f t s h [] = refl
+any-map f t s h (x ∷ xs) = ap (λ b. b || list_any t (map f xs)) (h x) ∙ ap (λ b. s x || b) (any-map f t s h xs)
+
+all-map : {A B : Type 0} (f : A → B) (t : B → Bool) (s : A → Bool) → ((x : A) → t (f x) ≡ s x) → (xs : List A) → list_all t (map f xs) ≡ list_all s xs
+all-map f t s h [] = refl
+all-map f t s h (x ∷ xs) = ap (λ b. b && list_all t (map f xs)) (h x) ∙ ap (λ b. s x && b) (all-map f t s h xs)
+
+find-map : {A B : Type 0} (f : A → B) (t : B → Bool) (xs : List A) → find t (map f xs) ≡ option_map f (find (λ x. t (f x)) xs)
+find-map f t [] = refl
+find-map f t (x ∷ xs) = step (t (f x)) (find-map f t xs)
+  where
+    step : (b : Bool) → find t (map f xs) ≡ option_map f (find (λ y. t (f y)) xs) → cond b (Some (f x)) (find t (map f xs)) ≡ option_map f (cond b (Some x) (find (λ y. t (f y)) xs))
+    step true e = refl
+    step false e = e
+
+cons_option-map : {C D : Type 0} (g : C → D) (o : Option C) (xs : List C) → cons_option (option_map g o) (map g xs) ≡ map g (cons_option o xs)
+cons_option-map g None xs = refl
+cons_option-map g (Some x) xs = refl
+
+filter_map-map : {A B C D : Type 0} (f : A → B) (g : C → D) (t : B → Option D) (s : A → Option C) → ((x : A) → t (f x) ≡ option_map g (s x)) → (xs : List A) → filter_map t (map f xs) ≡ map g (filter_map s xs)
+filter_map-map f g t s h [] = refl
+filter_map-map f g t s h (x ∷ xs) =
+    ap (λ o. cons_option o (filter_map t (map f xs))) (h x)
+    ∙ (ap (λ z. cons_option (option_map g (s x)) z) (filter_map-map f g t s h xs) ∙ cons_option-map g (s x) (filter_map s xs))
+
+head-map : {C D : Type 0} (g : C → D) (xs : List C) → head (map g xs) ≡ option_map g (head xs)
+head-map g [] = refl
+head-map g (x ∷ xs) = refl
+
+some-map : {C D : Type 0} (g : C → D) (o : Option C) → is_some (option_map g o) ≡ is_some o
+some-map g None = refl
+some-map g (Some x) = refl
+
+none-map : {C D : Type 0} (g : C → D) (o : Option C) → is_none (option_map g o) ≡ is_none o
+none-map g None = refl
+none-map g (Some x) = refl
+
+when-map : {A B : Type 0} (g : A → B) (b : Bool) (x : A) → when b (g x) ≡ option_map g (when b x)
+when-map g true x = refl
+when-map g false x = refl
+
+picked-map : {A B : Type 0} (g : A → B) (b : Bool) (x : A) → cond b (Some (g x)) None ≡ option_map g (cond b (Some x) None)
+picked-map g true x = refl
+picked-map g false x = refl
+
+then-map : {A B C D : Type 0} (f : A → B) (g : C → D) (t : B → Option D) (s : A → Option C) → ((x : A) → t (f x) ≡ option_map g (s x)) → (o : Option A) → option_and_then t (option_map f o) ≡ option_map g (option_and_then s o)
+then-map f g t s h None = refl
+then-map f g t s h (Some x) = h x
+
+map-id : {A : Type 0} (xs : List A) → map (λ x. x) xs ≡ xs
+map-id [] = refl
+map-id (x ∷ xs) = ap (λ z. x ∷ z) (map-id xs)
+
+option_map-id : {A : Type 0} (o : Option A) → option_map (λ x. x) o ≡ o
+option_map-id None = refl
+option_map-id (Some x) = refl
+
+-- what is read off the wires
+
+message_of-map : {V U : Type 0} (f : V → U) (w : Wire V) → message_of (wire_map f w) ≡ option_map (λ m. m) (message_of w)
+message_of-map f (Data m) = refl
+message_of-map f (Est k r p v t) = refl
+message_of-map f (Prop k r v) = refl
+message_of-map f (Ack k r p) = refl
+message_of-map f (Nack k r p) = refl
+message_of-map f (Dec k r v) = refl
+
+pub received-map : {V U : Type 0} (f : V → U) (got : List (Wire V)) → received (map (wire_map f) got) ≡ received got
+unfolding received
+received-map f got =
+    ap Values.first_occurrences (filter_map-map (wire_map f) (λ m. m) message_of message_of (message_of-map f) got ∙ map-id (filter_map message_of got))
+
+decision_of-map : {V U : Type 0} (f : V → U) (k : ℕ) (w : Wire V) → decision_of k (wire_map f w) ≡ option_map f (decision_of k w)
+decision_of-map f k (Data m) = refl
+decision_of-map f k (Est j r p v t) = refl
+decision_of-map f k (Prop j r v) = refl
+decision_of-map f k (Ack j r p) = refl
+decision_of-map f k (Nack j r p) = refl
+decision_of-map f k (Dec j r v) = picked-map f (j == k) v
+
+pub decided-map : {V U : Type 0} (f : V → U) (got : List (Wire V)) (k : ℕ) → decided (map (wire_map f) got) k ≡ option_map f (decided got k)
+unfolding decided
+decided-map f got k =
+    ap head (filter_map-map (wire_map f) f (decision_of k) (decision_of k) (decision_of-map f k) got) ∙ head-map f (filter_map (decision_of k) got)
+
+is_decision-map : {V U : Type 0} (f : V → U) (k r : ℕ) (w : Wire V) → is_decision k r (wire_map f w) ≡ is_decision k r w
+is_decision-map f k r (Data m) = refl
+is_decision-map f k r (Est j s p v t) = refl
+is_decision-map f k r (Prop j s v) = refl
+is_decision-map f k r (Ack j s p) = refl
+is_decision-map f k r (Nack j s p) = refl
+is_decision-map f k r (Dec j s v) = refl
+
+pub has_decision-map : {V U : Type 0} (f : V → U) (got : List (Wire V)) (k r : ℕ) → has_decision (map (wire_map f) got) k r ≡ has_decision got k r
+has_decision-map f got k r = any-map (wire_map f) (is_decision k r) (is_decision k r) (is_decision-map f k r) got
+
+estimate_of-map : {V U : Type 0} (f : V → U) (k r : ℕ) (w : Wire V) → estimate_of k r (wire_map f w) ≡ option_map (heard_map f) (estimate_of k r w)
+estimate_of-map f k r (Data m) = refl
+estimate_of-map f k r (Est j s p v t) = picked-map (heard_map f) ((j == k) && (s == r)) (record { member = p; value = v; ts = t })
+estimate_of-map f k r (Prop j s v) = refl
+estimate_of-map f k r (Ack j s p) = refl
+estimate_of-map f k r (Nack j s p) = refl
+estimate_of-map f k r (Dec j s v) = refl
+
+proposal_of-map : {V U : Type 0} (f : V → U) (k r : ℕ) (w : Wire V) → proposal_of k r (wire_map f w) ≡ option_map f (proposal_of k r w)
+proposal_of-map f k r (Data m) = refl
+proposal_of-map f k r (Est j s p v t) = refl
+proposal_of-map f k r (Prop j s v) = picked-map f ((j == k) && (s == r)) v
+proposal_of-map f k r (Ack j s p) = refl
+proposal_of-map f k r (Nack j s p) = refl
+proposal_of-map f k r (Dec j s v) = refl
+
+pub proposal-map : {V U : Type 0} (f : V → U) (got : List (Wire V)) (k r : ℕ) → proposal (map (wire_map f) got) k r ≡ option_map f (proposal got k r)
+unfolding proposal
+proposal-map f got k r =
+    ap head (filter_map-map (wire_map f) f (proposal_of k r) (proposal_of k r) (proposal_of-map f k r) got) ∙ head-map f (filter_map (proposal_of k r) got)
+
+is_ack-map : {V U : Type 0} (f : V → U) (k r p : ℕ) (w : Wire V) → is_ack k r p (wire_map f w) ≡ is_ack k r p w
+is_ack-map f k r p (Data m) = refl
+is_ack-map f k r p (Est j s q v t) = refl
+is_ack-map f k r p (Prop j s v) = refl
+is_ack-map f k r p (Ack j s q) = refl
+is_ack-map f k r p (Nack j s q) = refl
+is_ack-map f k r p (Dec j s v) = refl
+
+is_reply-map : {V U : Type 0} (f : V → U) (k r p : ℕ) (w : Wire V) → is_reply k r p (wire_map f w) ≡ is_reply k r p w
+is_reply-map f k r p (Data m) = refl
+is_reply-map f k r p (Est j s q v t) = refl
+is_reply-map f k r p (Prop j s v) = refl
+is_reply-map f k r p (Ack j s q) = refl
+is_reply-map f k r p (Nack j s q) = refl
+is_reply-map f k r p (Dec j s v) = refl
+
+-- the ballots
+
+heard_from-map : {V U : Type 0} (f : V → U) (got : List (Wire V)) (k r p : ℕ) → heard_from (map (wire_map f) got) k r p ≡ option_map (heard_map f) (heard_from got k r p)
+heard_from-map f got k r p =
+    ap (find (λ e. e.member == p)) (filter_map-map (wire_map f) (heard_map f) (estimate_of k r) (estimate_of k r) (estimate_of-map f k r) got)
+    ∙ find-map (heard_map f) (λ e. e.member == p) (filter_map (estimate_of k r) got)
+
+-- what is heard of each
+each-map : {V U : Type 0} (f : V → U) (got : List (Wire V)) (k r : ℕ) (ps : List ℕ) → filter_map (heard_from (map (wire_map f) got) k r) ps ≡ map (heard_map f) (filter_map (heard_from got k r) ps)
+each-map f got k r [] = refl
+each-map f got k r (p ∷ ps) =
+    ap (λ o. cons_option o (filter_map (heard_from (map (wire_map f) got) k r) ps)) (heard_from-map f got k r p)
+    ∙ ap (λ es. cons_option (option_map (heard_map f) (heard_from got k r p)) es) (each-map f got k r ps)
+    ∙ cons_option-map (heard_map f) (heard_from got k r p) (filter_map (heard_from got k r) ps)
+
+pub ackers-map : {V U : Type 0} (f : V → U) (got : List (Wire V)) (k r : ℕ) → ackers (map (wire_map f) got) k r ≡ ackers got k r
+ackers-map f got k r = filter_agree (has_ack (map (wire_map f) got) k r) (has_ack got k r) (λ p. any-map (wire_map f) (is_ack k r p) (is_ack k r p) (is_ack-map f k r p) got) everyone
+
+repliers-map : {V U : Type 0} (f : V → U) (got : List (Wire V)) (k r : ℕ) → filter (has_reply (map (wire_map f) got) k r) everyone ≡ filter (has_reply got k r) everyone
+repliers-map f got k r = filter_agree (has_reply (map (wire_map f) got) k r) (has_reply got k r) (λ p. any-map (wire_map f) (is_reply k r p) (is_reply k r p) (is_reply-map f k r p) got) everyone
+
+pub ballots-map : {V U : Type 0} (f : V → U) (got : List (Wire V)) (k r : ℕ) → ballots (map (wire_map f) got) k r ≡ ballots_map f (ballots got k r)
+unfolding ballots
+ballots-map f got k r =
+    let es = each-map f got k r everyone in
+    let v = proposal-map f got k r in
+    let acks = ackers-map f got k r in
+    let replies = repliers-map f got k r in
+    λ i. record { estimates = es i; proposal = v i; acked = acks i; replied = replies i }
+
+module _ {V U : Type 0} (f : V → U) (t : Ballots V) where
+  pub heard-map : heard (ballots_map f t) ≡ heard t
+  heard-map = go t.estimates
+    where
+      go : (es : List (Heard V)) → map (λ e. e.member) (map (heard_map f) es) ≡ map (λ e. e.member) es
+      go [] = refl
+      go (e ∷ es) = ap (λ ps. e.member ∷ ps) (go es)
+
+  pub estimate_from-map : (p : ℕ) → estimate_from (ballots_map f t) p ≡ option_map (heard_map f) (estimate_from t p)
+  estimate_from-map p = find-map (heard_map f) (λ e. e.member == p) t.estimates
+
+  pub is_largest-map : (ts : ℕ) → is_largest (ballots_map f t) ts ≡ is_largest t ts
+  is_largest-map ts = all-map (heard_map f) (λ e. nat_le e.ts ts) (λ e. nat_le e.ts ts) (λ e. refl) t.estimates
+
+  pub has_largest-map : (from : ℕ) → has_largest (ballots_map f t) from ≡ has_largest t from
+  has_largest-map from = ap (λ o. option_map_or (λ e. is_largest (ballots_map f t) e.ts) o false) (estimate_from-map from) ∙ by (estimate_from t from)
+    where
+      by : (o : Option (Heard V)) → option_map_or (λ e. is_largest (ballots_map f t) e.ts) (option_map (heard_map f) o) false ≡ option_map_or (λ e. is_largest t e.ts) o false
+      by None = refl
+      by (Some e) = is_largest-map e.ts
+
+-- the steps
+
+pub enter-map : {V U : Type 0} (f : V → U) (n me k : ℕ) (decision : Option V) (c : Standing V) → enter n me k (option_map f decision) (standing_map f c) ≡ option_map (turn_map f) (enter n me k decision c)
+unfolding enter
+enter-map f n me k decision c =
+    ap (λ b. when (is_rest c.phase && not b) (turn_map f (entered n me k c))) (some-map f decision)
+    ∙ when-map (turn_map f) (is_rest c.phase && not (is_some decision)) (entered n me k c)
+
+pub choose-map : {V U : Type 0} (f : V → U) (n k : ℕ) (t : Ballots V) (c : Standing V) (from : ℕ) → choose n k (ballots_map f t) (standing_map f c) from ≡ option_map (turn_map f) (choose n k t c from)
+unfolding choose
+choose-map {V} f n k t c from =
+    ap (option_and_then _) (estimate_from-map f t from)
+    ∙ then-map (heard_map f) (turn_map f) _ (λ e. when (is_gather c.phase && is_majority n (heard t) && is_largest t e.ts) (chosen k c e)) one (estimate_from t from)
+  where
+    one : (e : Heard V)
+        → when (is_gather c.phase && is_majority n (heard (ballots_map f t)) && is_largest (ballots_map f t) e.ts) (chosen k (standing_map f c) (heard_map f e))
+        ≡ option_map (turn_map f) (when (is_gather c.phase && is_majority n (heard t) && is_largest t e.ts) (chosen k c e))
+    one e =
+        ap (λ b. when b (chosen k (standing_map f c) (heard_map f e)))
+        (ap (λ set. is_gather c.phase && is_majority n set && is_largest (ballots_map f t) e.ts) (heard-map f t)
+        ∙ ap (λ b. is_gather c.phase && is_majority n (heard t) && b) (is_largest-map f t e.ts))
+        ∙ when-map (turn_map f) _ (chosen k c e)
+
+pub adopt-map : {V U : Type 0} (f : V → U) (n me k : ℕ) (t : Ballots V) (c : Standing V) → adopt n me k (ballots_map f t) (standing_map f c) ≡ option_map (turn_map f) (adopt n me k t c)
+unfolding adopt
+adopt-map f n me k t c =
+    then-map f (turn_map f) _ (λ v. when (is_wait c.phase) (adopted n me k c v)) (λ v. when-map (turn_map f) (is_wait c.phase) (adopted n me k c v)) t.proposal
+
+pub suspect-map : {V U : Type 0} (f : V → U) (n me k : ℕ) (t : Ballots V) (c : Standing V) → suspect n me k (ballots_map f t) (standing_map f c) ≡ option_map (turn_map f) (suspect n me k t c)
+unfolding suspect
+suspect-map f n me k t c =
+    ap (λ b. when (is_wait c.phase && not b) (turn_map f (suspected n me k c))) (some-map f t.proposal)
+    ∙ when-map (turn_map f) (is_wait c.phase && not (is_some t.proposal)) (suspected n me k c)
+
+concluded-map : {V U : Type 0} (f : V → U) (n k : ℕ) (t : Ballots V) (c : Standing V) → concluded n k (ballots_map f t) (standing_map f c) ≡ turn_map f (concluded n k t c)
+concluded-map {V} {U} f n k t c = ap (λ m. let x : Turn U = record { after = (turn_map f (concluded n k t c)).after; mail = m } in x) (go (is_majority n t.acked))
+  where
+    go : (b : Bool) → cond b (All (Dec k c.round (f c.estimate))) Nobody ≡ mail_map f (cond b (All (Dec k c.round c.estimate)) Nobody)
+    go true = refl
+    go false = refl
+
+pub conclude-map : {V U : Type 0} (f : V → U) (n k : ℕ) (t : Ballots V) (c : Standing V) → conclude n k (ballots_map f t) (standing_map f c) ≡ option_map (turn_map f) (conclude n k t c)
+unfolding conclude
+conclude-map f n k t c =
+    ap (when (is_tally c.phase && is_majority n t.replied)) (concluded-map f n k t c)
+    ∙ when-map (turn_map f) (is_tally c.phase && is_majority n t.replied) (concluded n k t c)
+
+-- what is sent
+
+pub envelopes-map : {V U : Type 0} (f : V → U) (n : ℕ) (m : Mail V) → envelopes n (mail_map f m) ≡ map (envelope_map f) (envelopes n m)
+envelopes-map f n Nobody = refl
+envelopes-map f n (One to w) = refl
+envelopes-map {V} f n (All w) = each (members n)
+  where
+    each : (ps : List ℕ) → map (λ to. record { to = to; wire = wire_map f w }) ps ≡ map (envelope_map f) (map (λ to. record { to = to; wire = w }) ps)
+    each [] = refl
+    each (p ∷ ps) = ap (λ z. record { to = p; wire = wire_map f w } ∷ z) (each ps)
+
+-- the refusals
+
+pub enter_faults-map : {V U : Type 0} (f : V → U) (c : Standing V) → enter_faults (standing_map f c) ≡ enter_faults c
+enter_faults-map f c = refl
+
+pub choose_faults-map : {V U : Type 0} (f : V → U) (n : ℕ) (t : Ballots V) (c : Standing V) (from : ℕ) → choose_faults n (ballots_map f t) (standing_map f c) from ≡ choose_faults n t c from
+choose_faults-map {V} {U} f n t c from =
+    ap (λ set. at WrongPhase (not (is_gather c.phase)) ∷ at TooFew (lacks n set) ∷ at NotLargest (not (has_largest (ballots_map f t) from)) ∷ []) (heard-map f t)
+    ∙ ap (λ b. at WrongPhase (not (is_gather c.phase)) ∷ at TooFew (lacks n (heard t)) ∷ at NotLargest (not b) ∷ []) (has_largest-map f t from)
+
+pub adopt_faults-map : {V U : Type 0} (f : V → U) (t : Ballots V) (c : Standing V) → adopt_faults (ballots_map f t) (standing_map f c) ≡ adopt_faults t c
+adopt_faults-map f t c = ap (λ b. at WrongPhase (not (is_wait c.phase)) ∷ at NoProposal b ∷ []) (none-map f t.proposal)
+
+pub suspect_faults-map : {V U : Type 0} (f : V → U) (t : Ballots V) (c : Standing V) → suspect_faults (ballots_map f t) (standing_map f c) ≡ suspect_faults t c
+suspect_faults-map f t c = ap (λ b. at WrongPhase (not (is_wait c.phase)) ∷ at HasProposal b ∷ []) (some-map f t.proposal)
+
+pub conclude_faults-map : {V U : Type 0} (f : V → U) (n : ℕ) (t : Ballots V) (c : Standing V) → conclude_faults n (ballots_map f t) (standing_map f c) ≡ conclude_faults n t c
+conclude_faults-map f n t c = refl
