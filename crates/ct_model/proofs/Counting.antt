@@ -8,76 +8,32 @@ use Rattle.std.proofs.lemmas.List.{append-nil}
 use Rattle.std.proofs.lemmas.List.Elements.{filter_map-append, filter_agree}
 use Rattle.std.proofs.lemmas.List.Folds.{list_any-append, find-append}
 use Rattle.ct_names.specs.Group.{members, everyone, counting, IsMember}
+use Rattle.ct_names.specs.MemberSet.{with_member}
+use Rattle.ct_names.proofs.MemberSets.{with_member-filter}
 use Rattle.ct_model.specs.Wire.{Wire}
 use Rattle.ct_model.specs.Wire.Wire.{Data, Est, Prop, Ack, Nack, Dec}
 use Rattle.ct_model.specs.Received.{Heard, Ballots, ballots, head, estimate_of, heard_from, proposal_of, proposal, is_ack, is_reply}
-use Rattle.ct_model.specs.Counted.{no_ballots, with_member, with_estimate, count_estimate, count_proposal, count_ack, count_nack, count_in, NamesSomebody}
+use Rattle.ct_model.specs.Counted.{no_ballots, with_estimate, count_estimate, count_proposal, count_ack, count_nack, count_in, NamesSomebody}
 use Rattle.ct_model.specs.Mapped.{wire_map, heard_map, ballots_map}
 use Rattle.ct_model.proofs.Tests.{or_false, swapped, same_number}
 
 -- the sets of members
 
--- a member before all the others comes first
-with_member-first : (p : ℕ) (f : ℕ → Bool) (a n : ℕ) → p < a → with_member p (filter f (counting a n)) ≡ p ∷ filter f (counting a n)
-with_member-first p f a zero h = refl
-with_member-first p f a (suc n) h = go (f a) (with_member-first p f (a + 1) n (omega arith))
-  where
-    before : nat_lt p a ≡ true
-    before = grind (arith, nat_tests)
-
-    rest : List ℕ
-    rest = filter f (counting (a + 1) n)
-
-    go : (b : Bool) → with_member p rest ≡ p ∷ rest → with_member p (if b then a ∷ rest else rest) ≡ p ∷ (if b then a ∷ rest else rest)
-    go true ih = rw before refl
-    go false ih = ih
-
--- a test that lets this member through besides is the old one on the others
-others : (p : ℕ) (f : ℕ → Bool) (a n : ℕ) → p < a → filter (λ q. f q || (q == p)) (counting a n) ≡ filter f (counting a n)
-others p f a zero h = refl
-others p f a (suc n) h =
-    let differs : (a == p) ≡ false = grind (arith, nat_tests) in
-    rw (differs, or_false (f a), others p f (a + 1) n (omega arith)) refl
-
--- the member joins those that pass
-pub with_member-filter : (p : ℕ) (f : ℕ → Bool) (a n : ℕ) → a ≤ p → p < a + n → with_member p (filter f (counting a n)) ≡ filter (λ q. f q || (q == p)) (counting a n)
-with_member-filter p f a zero lo hi = absurd (omega arith)
-with_member-filter p f a (suc n) lo hi = go (a == p) (f a) refl (λ above. with_member-filter p f (a + 1) n above (omega arith))
-  where
-    old : List ℕ
-    old = filter f (counting (a + 1) n)
-
-    new : List ℕ
-    new = filter (λ q. f q || (q == p)) (counting (a + 1) n)
-
-    here : (b : Bool) → a ≡ p → with_member p (if b then a ∷ old else old) ≡ (if (b || true) then a ∷ new else new)
-    here true same =
-        let low : nat_lt p a ≡ false = grind (arith, nat_tests) in
-        let eq : (p == a) ≡ true = grind (arith, nat_tests) in
-        rw (low, eq) (ap (λ z. a ∷ z) (sym (others p f (a + 1) n (omega arith))))
-    here false same =
-        with_member-first p f (a + 1) n (omega arith) ∙ ap (λ z. z ∷ old) (sym same) ∙ ap (λ z. a ∷ z) (sym (others p f (a + 1) n (omega arith)))
-
-    go : (e b : Bool) → (a == p) ≡ e → (a + 1 ≤ p → with_member p old ≡ new) → with_member p (if b then a ∷ old else old) ≡ (if (b || e) then a ∷ new else new)
-    go true b is ih = here b (grind (arith, nat_tests))
-    go false true is ih =
-        let low : nat_lt p a ≡ false = grind (arith, nat_tests) in
-        let ne : (p == a) ≡ false = grind (arith, nat_tests) in
-        let above : a + 1 ≤ p = grind (arith, nat_tests) in
-        rw (low, ne) (ap (λ z. a ∷ z) (ih above))
-    go false false is ih = ih (grind (arith, nat_tests))
-
 everyone-is : everyone ≡ counting 1 16
 unfolding members
 everyone-is = refl
 
+or_swapped : (b c : Bool) → (b || c) ≡ (c || b)
+or_swapped true true = refl
+or_swapped true false = refl
+or_swapped false true = refl
+or_swapped false false = refl
+
 -- a set that a test picks, with a member
-picked-with : (p : ℕ) (f g : ℕ → Bool) → IsMember 16 p → ((q : ℕ) → g q ≡ (f q || (p == q))) → filter g everyone ≡ with_member p (filter f everyone)
-picked-with p f g h same =
-    filter_agree g (λ q. f q || (q == p)) (λ q. same q ∙ ap (λ b. f q || b) (swapped p q)) everyone
-    ∙ ap (filter (λ q. f q || (q == p))) everyone-is
-    ∙ sym (with_member-filter p f 1 16 h.0 (let hi : p ≤ 16 = h.1 in omega arith))
-    ∙ ap (λ ps. with_member p (filter f ps)) (sym everyone-is)
+picked-with : (p : ℕ) (f g : ℕ → Bool) → ((q : ℕ) → g q ≡ (f q || (p == q))) → filter g everyone ≡ with_member (filter f everyone) p
+picked-with p f g same =
+    filter_agree g (λ q. (q == p) || f q) (λ q. same q ∙ ap (λ b. f q || b) (swapped p q) ∙ or_swapped (f q) (q == p)) everyone
+    ∙ sym (with_member-filter f p)
 
 -- the estimates
 
@@ -143,14 +99,14 @@ module _ {V : Type 0} (e : Heard V) where
 
 -- the parts of the ballots
 
-set-push : {V : Type 0} (t : ℕ → Wire V → Bool) (got : List (Wire V)) (w : Wire V) (b : Bool) (p : ℕ) → IsMember 16 p → ((q : ℕ) → t q w ≡ (b && (p == q))) → filter (λ q. list_any (t q) (got ++ w ∷ [])) everyone ≡ (if b then with_member p (filter (λ q. list_any (t q) got) everyone) else filter (λ q. list_any (t q) got) everyone)
+set-push : {V : Type 0} (t : ℕ → Wire V → Bool) (got : List (Wire V)) (w : Wire V) (b : Bool) (p : ℕ) → IsMember 16 p → ((q : ℕ) → t q w ≡ (b && (p == q))) → filter (λ q. list_any (t q) (got ++ w ∷ [])) everyone ≡ (if b then with_member (filter (λ q. list_any (t q) got) everyone) p else filter (λ q. list_any (t q) got) everyone)
 set-push t got w b p m same = go b same
   where
     one : (q : ℕ) → list_any (t q) (got ++ w ∷ []) ≡ (list_any (t q) got || t q w)
     one q = list_any-append (t q) got (w ∷ []) ∙ ap (λ c. list_any (t q) got || c) (or_false (t q w))
 
-    go : (b : Bool) → ((q : ℕ) → t q w ≡ (b && (p == q))) → filter (λ q. list_any (t q) (got ++ w ∷ [])) everyone ≡ (if b then with_member p (filter (λ q. list_any (t q) got) everyone) else filter (λ q. list_any (t q) got) everyone)
-    go true same = picked-with p (λ q. list_any (t q) got) (λ q. list_any (t q) (got ++ w ∷ [])) m (λ q. one q ∙ ap (λ c. list_any (t q) got || c) (same q))
+    go : (b : Bool) → ((q : ℕ) → t q w ≡ (b && (p == q))) → filter (λ q. list_any (t q) (got ++ w ∷ [])) everyone ≡ (if b then with_member (filter (λ q. list_any (t q) got) everyone) p else filter (λ q. list_any (t q) got) everyone)
+    go true same = picked-with p (λ q. list_any (t q) got) (λ q. list_any (t q) (got ++ w ∷ [])) (λ q. one q ∙ ap (λ c. list_any (t q) got || c) (same q))
     go false same =
         filter_agree (λ q. list_any (t q) (got ++ w ∷ [])) (λ q. list_any (t q) got) (λ q. one q ∙ ap (λ c. list_any (t q) got || c) (same q) ∙ or_false (list_any (t q) got)) everyone
 
@@ -217,8 +173,8 @@ abbrev counted : {V : Type 0} → Option (Heard V) → Option V → ℕ → Bool
 counted e v p acks replies t = record {
   estimates = joined_estimates e t.estimates;
   proposal = option_or t.proposal v;
-  acked = if acks then with_member p t.acked else t.acked;
-  replied = if replies then with_member p t.replied else t.replied;
+  acked = if acks then with_member t.acked p else t.acked;
+  replied = if replies then with_member t.replied p else t.replied;
 }
 
 ballots-counted : {V : Type 0} (got : List (Wire V)) (k r : ℕ) (w : Wire V) (e : Option (Heard V)) (v : Option V) (p : ℕ) (acks replies : Bool) → IsCounted k r w e v p acks replies → ballots (got ++ w ∷ []) k r ≡ counted e v p acks replies (ballots got k r)
@@ -273,7 +229,7 @@ module _ {V : Type 0} (got : List (Wire V)) (k r j s : ℕ) where
       let t = ballots got k r in
       ballots-counted got k r (Ack j s p) None None p true true
       (record { estimate = refl; from = tt; proposal = refl; member = m; ack = λ q. ap (λ b. b && (p == q)) is; reply = λ q. ap (λ b. b && (p == q)) is })
-      ∙ (λ i. record { estimates = t.estimates; proposal = or_nothing t.proposal i; acked = with_member p t.acked; replied = with_member p t.replied })
+      ∙ (λ i. record { estimates = t.estimates; proposal = or_nothing t.proposal i; acked = with_member t.acked p; replied = with_member t.replied p })
   push-ack p m false is =
       silent got k r (Ack j s p)
       (record { estimate = refl; from = tt; proposal = refl; member = someone; ack = λ q. ap (λ b. b && (p == q)) is; reply = λ q. ap (λ b. b && (p == q)) is })
@@ -283,7 +239,7 @@ module _ {V : Type 0} (got : List (Wire V)) (k r j s : ℕ) where
       let t = ballots got k r in
       ballots-counted got k r (Nack j s p) None None p false true
       (record { estimate = refl; from = tt; proposal = refl; member = m; ack = λ q. refl; reply = λ q. ap (λ b. b && (p == q)) is })
-      ∙ (λ i. record { estimates = t.estimates; proposal = or_nothing t.proposal i; acked = t.acked; replied = with_member p t.replied })
+      ∙ (λ i. record { estimates = t.estimates; proposal = or_nothing t.proposal i; acked = t.acked; replied = with_member t.replied p })
   push-nack p m false is =
       silent got k r (Nack j s p)
       (record { estimate = refl; from = tt; proposal = refl; member = someone; ack = λ q. refl; reply = λ q. ap (λ b. b && (p == q)) is })

@@ -6,7 +6,7 @@ use Rattle.std.proofs.lemmas.List.Elements.{filter_agree}
 use Rattle.ct_names.specs.Group.{members, everyone}
 use Rattle.ct_names.specs.Value as Values
 use Rattle.ct_names.specs.declared.refusal.Refusal.TheVariants.{WrongPhase, TooFew, NotLargest, NoProposal, HasProposal}
-use Rattle.ct_model.specs.Majority.{is_majority}
+use Rattle.ct_names.specs.Group.{is_majority}
 use Rattle.ct_model.specs.When.{when}
 use Rattle.ct_model.specs.Wire.{Wire, Mail, envelopes}
 use Rattle.ct_model.specs.Wire.Wire.{Data, Est, Prop, Ack, Nack, Dec}

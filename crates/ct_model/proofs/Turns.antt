@@ -4,7 +4,7 @@ use Rattle.std.specs.Prelude.{is_some, is_none, option_and_then}
 use Rattle.std.specs.Option.{option_map_or}
 use Rattle.ct_names.specs.declared.refusal.Refusal.{Refusal}
 use Rattle.ct_names.specs.declared.refusal.Refusal.TheVariants.{WrongPhase, TooFew, NotLargest, NoProposal, HasProposal}
-use Rattle.ct_model.specs.Majority.{is_majority}
+use Rattle.ct_names.specs.Group.{is_majority}
 use Rattle.ct_model.specs.When.{when}
 use Rattle.ct_model.specs.State.{Standing}
 use Rattle.ct_model.specs.Received.{Heard, Ballots, heard, estimate_from, is_largest}

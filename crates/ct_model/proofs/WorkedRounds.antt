@@ -55,7 +55,7 @@ one_more : count_in (second two_estimates) 1 2 (Est 1 2 2 9 1) ≡ second (Est 1
 unfolding computing
 one_more = refl
 
-nobody_else : count_in (second two_estimates) 1 2 (Ack 1 2 17) ≡ record { estimates = (second two_estimates).estimates; proposal = None; acked = 17 ∷ []; replied = 17 ∷ [] }
+nobody_else : count_in (second two_estimates) 1 2 (Ack 1 2 17) ≡ record { estimates = (second two_estimates).estimates; proposal = None; acked = []; replied = [] }
 unfolding computing
 nobody_else = refl
 

@@ -2,6 +2,7 @@
 use Rattle.std.specs.Prelude.{ℕ, ◌&&◌, ◌==◌, nat_lt, if◌then◌else◌, List, [], ◌∷◌, Some, None}
 use Rattle.std.specs.Option.{option_or}
 use Rattle.ct_names.specs.Group.{IsMember}
+use Rattle.ct_names.specs.MemberSet.{with_member}
 use Rattle.ct_model.specs.Wire.{Wire}
 use Rattle.ct_model.specs.Wire.Wire.{Est, Prop, Ack, Nack}
 use Rattle.ct_model.specs.Received.{Heard, Ballots}
@@ -9,11 +10,6 @@ use Rattle.ct_model.specs.Received.{Heard, Ballots}
 -- nothing was got
 abbrev pub no_ballots : {V : Type 0} → Ballots V
 no_ballots = record { estimates = []; proposal = None; acked = []; replied = [] }
-
--- the set with the member in it
-abbrev pub with_member : ℕ → List ℕ → List ℕ
-with_member p [] = p ∷ []
-with_member p (q ∷ set) = if nat_lt p q then p ∷ q ∷ set else if p == q then q ∷ set else (q ∷ with_member p set)
 
 -- the estimates, by member, with this one, unless its member was heard
 abbrev pub with_estimate : {V : Type 0} → Heard V → List (Heard V) → List (Heard V)
@@ -29,10 +25,10 @@ abbrev pub count_proposal : {V : Type 0} → V → Ballots V → Ballots V
 count_proposal v t = record t { proposal = option_or t.proposal (Some v) }
 
 abbrev pub count_ack : {V : Type 0} → ℕ → Ballots V → Ballots V
-count_ack p t = record t { acked = with_member p t.acked; replied = with_member p t.replied }
+count_ack p t = record t { acked = with_member t.acked p; replied = with_member t.replied p }
 
 abbrev pub count_nack : {V : Type 0} → ℕ → Ballots V → Ballots V
-count_nack p t = record t { replied = with_member p t.replied }
+count_nack p t = record t { replied = with_member t.replied p }
 
 -- the ballots of a round of the instance with the wire, which counts if it is of that round
 abbrev pub count_in : {V : Type 0} → Ballots V → ℕ → ℕ → Wire V → Ballots V

@@ -3,7 +3,7 @@
 use Rattle.std.specs.Prelude.{ℕ, Bool, false, not, List, [], ◌∷◌, is_some, is_none}
 use Rattle.std.specs.Option.{option_map_or}
 use Rattle.ct_names.specs.declared.refusal.Refusal.TheVariants.{WrongPhase, TooFew, NotLargest, NoProposal, HasProposal}
-use Rattle.ct_model.specs.Majority.{is_majority}
+use Rattle.ct_names.specs.Group.{is_majority}
 use Rattle.ct_model.specs.State.{Standing}
 use Rattle.ct_model.specs.Received.{Ballots, heard, estimate_from, is_largest}
 use Rattle.ct_model.specs.Phases.{is_rest, is_gather, is_wait, is_tally}

@@ -1,6 +1,5 @@
 pub mod Setting
 pub mod When
-pub mod Majority
 pub mod Wire
 pub mod State
 pub mod AtValue

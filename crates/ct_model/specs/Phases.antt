@@ -4,7 +4,7 @@ use Rattle.std.specs.Prelude.{ℕ, ◌+◌, Bool, true, false, not, ◌&&◌, �
 use Rattle.ct_names.specs.Group.{coordinator}
 use Rattle.ct_model.specs.declared.phase.Phase.{Phase}
 use Rattle.ct_model.specs.declared.phase.Phase.TheVariants.{Rest, Gather, Wait, Tally}
-use Rattle.ct_model.specs.Majority.{is_majority}
+use Rattle.ct_names.specs.Group.{is_majority}
 use Rattle.ct_model.specs.When.{when}
 use Rattle.ct_model.specs.Wire.Wire.{Est, Prop, Ack, Nack, Dec}
 use Rattle.ct_model.specs.Wire.Mail.{Nobody, One, All}

@@ -1,3 +1,9 @@
 pub mod Lists
+pub mod Groups
+pub mod MemberSets
 pub mod Values
+pub mod Orders
+pub mod Sets
+pub mod Places
+pub mod Sorting
 pub mod Receipts

@@ -1,5 +1,6 @@
 -- A group of the members 1 to n. A set of members is the list of them, rising.
-use Rattle.std.specs.Prelude.{ℕ, zero, suc, ◌+◌, ◌/◌, ◌%◌, ◌≤◌, Bool, ◌&&◌, nat_le, List, [], ◌∷◌}
+use Rattle.std.specs.Prelude.{ℕ, zero, suc, ◌+◌, ◌/◌, ◌%◌, ◌≤◌, Bool, ◌&&◌, nat_le, List, [], ◌∷◌, length}
+use Rattle.ct_names.specs.Membership.{IsIn, IsWithoutRepeats}
 
 -- this many numbers, from the first on
 abbrev pub counting : ℕ → ℕ → List ℕ
@@ -29,3 +30,22 @@ coordinator n round = round % n + 1
 -- the same, as a fact
 abbrev pub IsMember : ℕ → ℕ → Type 0
 IsMember n p = (1 ≤ p) × (p ≤ n)
+
+-- the set has more than half of the group
+abbrev pub is_majority : ℕ → List ℕ → Bool
+is_majority n set = nat_le (majority n) (length set)
+
+-- the same, as a fact
+abbrev pub IsMajority : ℕ → List ℕ → Type 0
+IsMajority n set = majority n ≤ length set
+
+-- members of the group, each once
+pub record IsSetOf (n : ℕ) (set : List ℕ) : Type 0 where
+  pub once : IsWithoutRepeats set
+  pub within : (p : ℕ) → IsIn p set → IsMember n p
+
+-- a member that is in both sets
+pub record IsShared (n : ℕ) (one other : List ℕ) : Type 0 where
+  pub member : ℕ
+  pub in_one : IsIn member one
+  pub in_other : IsIn member other

@@ -1,6 +1,8 @@
+pub mod Book
 pub mod Group
 pub mod Command
 pub mod Membership
+pub mod MemberSet
 pub mod Message
 pub mod MessageText
 pub mod Order

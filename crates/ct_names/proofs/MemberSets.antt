@@ -1,0 +1,167 @@
+-- Sets of members as filters of all members, and the bits that stand for them.
+use Rattle.std.proofs.Common.{◌≡◌, ◌≢◌, ℕ, zero, suc, ◌+◌, ◌*◌, ◌-◌, ◌/◌, ◌%◌, ◌^◌, ◌≤◌, ◌<◌, Bool, true, false, cond, ◌||◌, ◌==◌, List, [], ◌∷◌, length, filter, map, refl, sym, ap, ◌∙◌, subst, inl, inr, arith, eqb-true, eq-eqb}
+use Rattle.std.specs.Int.{w16, bit_at}
+use Rattle.std.specs.Int.RustNames.{bit_and, bit_or, count_ones}
+use Rattle.std.proofs.Math.Nat.{pow-succ', div-div-eq-div-mul, mul_comm, zero-div}
+use Rattle.std.proofs.lemmas.Bool.{eqb-false}
+use Rattle.std.proofs.lemmas.List.Sums.{length-filter}
+use Rattle.std.proofs.lemmas.Nat.{or_lt}
+use Rattle.std.proofs.lemmas.Nat.Bits.{shr_and_one, bit_at_set_same, bit_at_set_other}
+use Rattle.std.proofs.lemmas.Simd.{ones-mask_l, mask_l-lt}
+use lib.Lanes.{mask_l}
+use Rattle.ct_names.specs.Group.{counting, members, everyone, IsMember}
+use Rattle.ct_names.specs.MemberSet.{has_member, with_member, has_bit, members_of, number_of, bits_of}
+use Rattle.ct_names.specs.Membership.{IsIn}
+use Rattle.ct_names.proofs.Lists
+use Rattle.ct_names.proofs.Groups.{counting-range, in-counting}
+
+-- tests that agree on the elements keep the same elements
+pub filter-agree : {A : Type 0} (p q : A → Bool) (xs : List A) → ((x : A) → IsIn x xs → p x ≡ q x) → filter p xs ≡ filter q xs
+filter-agree p q [] h = refl
+filter-agree p q (x ∷ xs) h =
+    let rest : filter p xs ≡ filter q xs = filter-agree p q xs (λ y i. h y (inr i)) in
+    let here : p x ≡ q x = h x (inl refl) in
+    ap (λ b. cond b (x ∷ filter p xs) (filter p xs)) here ∙ ap (λ ys. cond (q x) (x ∷ ys) ys) rest
+
+map-agree : {A B : Type 0} (f g : A → B) (xs : List A) → ((x : A) → IsIn x xs → f x ≡ g x) → map f xs ≡ map g xs
+map-agree f g [] h = refl
+map-agree f g (x ∷ xs) h =
+    ap (λ y. y ∷ map f xs) (h x (inl refl)) ∙ ap (λ ys. g x ∷ ys) (map-agree f g xs (λ y i. h y (inr i)))
+
+pub in-has_member : (set : List ℕ) (p : ℕ) → has_member set p ≡ true → IsIn p set
+in-has_member set p h =
+    let f = Lists.found-list_any (λ q. q == p) set h in
+    subst (λ z. IsIn z set) (eqb-true f.item p f.passes) f.is_in
+
+pub has_member-in : (set : List ℕ) (p : ℕ) → IsIn p set → has_member set p ≡ true
+has_member-in set p i = Lists.list_any-found (λ q. q == p) p set i (eq-eqb p p refl)
+
+pub has_member-out : (set : List ℕ) (p : ℕ) → (IsIn p set → ⊥) → has_member set p ≡ false
+has_member-out set p out = elim (Lists.true_or_false (has_member set p)) [
+  | inl h ↦ absurd (out (in-has_member set p h))
+  | inr h ↦ h
+]
+
+-- what a filter has is what passes the test
+has_member-kept : (test : ℕ → Bool) (xs : List ℕ) (p : ℕ) (b : Bool) → test p ≡ b → IsIn p xs → has_member (filter test xs) p ≡ b
+has_member-kept test xs p true is i = has_member-in (filter test xs) p (Lists.IsIn-filter test p xs is i)
+has_member-kept test xs p false is i =
+    has_member-out (filter test xs) p (λ k. Lists.contrary (test p) (Lists.IsIn-filter_passes test p xs k) is)
+
+pub has_member-filter : (test : ℕ → Bool) (p : ℕ) → IsIn p everyone → has_member (filter test everyone) p ≡ test p
+has_member-filter test p i = has_member-kept test everyone p (test p) refl i
+
+pub in-everyone : (p : ℕ) → IsMember 16 p → IsIn p everyone
+unfolding members
+in-everyone p h = in-counting 1 16 p h.0 (omega (arith, h.1))
+
+pub everyone-in : (p : ℕ) → IsIn p everyone → IsMember 16 p
+unfolding members
+everyone-in p i = let r = counting-range 1 16 p i in (r.0, omega (arith, r.1))
+
+-- no set has other members
+pub has_member-outside : (test : ℕ → Bool) (p : ℕ) → (IsMember 16 p → ⊥) → has_member (filter test everyone) p ≡ false
+has_member-outside test p out =
+    has_member-out (filter test everyone) p (λ i. out (everyone-in p (Lists.IsIn-filter_from test p everyone i)))
+
+-- a set is the list of its members, rising
+pub filter-has_member : (test : ℕ → Bool) → filter test everyone ≡ filter (has_member (filter test everyone)) everyone
+filter-has_member test = filter-agree test (has_member (filter test everyone)) everyone (λ p i. sym (has_member-filter test p i))
+
+-- one more member of those that pass a test
+pub with_member-filter : (test : ℕ → Bool) (one : ℕ) → with_member (filter test everyone) one ≡ filter (λ p. (p == one) || test p) everyone
+with_member-filter test one =
+    filter-agree (λ p. (p == one) || has_member (filter test everyone) p) (λ p. (p == one) || test p) everyone (λ p i. ap (λ b. (p == one) || b) (has_member-filter test p i))
+
+-- the lowest bit of a number, and the others
+split-number : (c : ℕ) → (cond ((c % 2) == 1) 1 0) + 2 * (c / 2) ≡ c
+split-number c = elim (Lists.true_or_false ((c % 2) == 1)) [
+  | inl h ↦ let e : c % 2 ≡ 1 = eqb-true (c % 2) 1 h in rw h (omega arith)
+  | inr h ↦ let e : c % 2 ≢ 1 = eqb-false (c % 2) 1 h in rw h (omega arith)
+]
+
+shifted : (b first : ℕ) → 1 ≤ first → b / 2 ^ (first + 1 - 1) ≡ b / 2 ^ (first - 1) / 2
+shifted b first h =
+    let e : first + 1 - 1 ≡ suc (first - 1) = omega arith in
+    ap (λ k. b / 2 ^ k) e ∙ (ap (λ z. b / z) (pow-succ' 2 (first - 1) ∙ mul_comm 2 (2 ^ (first - 1))) ∙ sym (div-div-eq-div-mul b (2 ^ (first - 1)) 2))
+
+number_of-bits : (b first n c : ℕ) → 1 ≤ first → b / 2 ^ (first - 1) ≡ c → c < 2 ^ n → number_of (map (has_bit b) (counting first n)) ≡ c
+number_of-bits b first zero c h e low = omega arith
+number_of-bits b first (suc n) c h e low =
+    let next : b / 2 ^ (first + 1 - 1) ≡ c / 2 = shifted b first h ∙ ap (λ z. z / 2) e in
+    let double : 2 ^ suc n ≡ 2 * 2 ^ n = pow-succ' 2 n in
+    let rest : number_of (map (has_bit b) (counting (first + 1) n)) ≡ c / 2 = number_of-bits b (first + 1) n (c / 2) (omega arith) next (omega arith) in
+    ap (λ z. cond ((z % 2) == 1) 1 0 + 2 * number_of (map (has_bit b) (counting (first + 1) n))) e
+    ∙ (ap (λ z. cond ((c % 2) == 1) 1 0 + 2 * z) rest ∙ split-number c)
+
+number_of-has_bit : (b : ℕ) → b < 65536 → number_of (map (has_bit b) everyone) ≡ b
+unfolding members
+number_of-has_bit b low = number_of-bits b 1 16 b (omega arith) (omega arith) low
+
+-- the bits come back from the members
+pub bits_of-members_of : (bits : ℕ) → bits < 65536 → bits_of (members_of bits) ≡ bits
+bits_of-members_of bits low =
+    ap number_of (map-agree (has_member (members_of bits)) (has_bit bits) everyone (has_member-filter (has_bit bits))) ∙ number_of-has_bit bits low
+
+number_of-mask_l : (bits : List Bool) → number_of bits ≡ mask_l bits
+number_of-mask_l [] = refl
+number_of-mask_l (bit ∷ bits) = ap (λ n. cond bit 1 0 + 2 * n) (number_of-mask_l bits)
+
+-- the bits that come back are sixteen
+pub bits_low : (bits : ℕ) → bits_of (members_of bits) ≡ bits → bits < 65536
+unfolding members
+bits_low bits back =
+    let low = mask_l-lt (map (has_member (members_of bits)) everyone) in
+    let e : mask_l (map (has_member (members_of bits)) everyone) ≡ bits = sym (number_of-mask_l (map (has_member (members_of bits)) everyone)) ∙ back in
+    subst (λ n. n < 65536) e low
+
+-- there are as many members as bits are set
+pub length-members_of : (bits : ℕ) → bits_of (members_of bits) ≡ bits → count_ones bits ≡ length (members_of bits)
+length-members_of bits back =
+    let low : bits < 65536 = bits_low bits back in
+    ap count_ones (sym (number_of-has_bit bits low) ∙ number_of-mask_l (map (has_bit bits) everyone))
+    ∙ (ones-mask_l (has_bit bits) everyone ∙ sym (length-filter (has_bit bits) everyone))
+
+-- a member's bit is set
+has_bit-set : (bits one p : ℕ) → IsMember 16 one → 1 ≤ p → has_bit (bit_or bits (1 * 2 ^ (one - 1) % 65536)) p ≡ ((p == one) || has_bit bits p)
+has_bit-set bits one p h from_one = elim (Lists.true_or_false (p == one)) [
+  | inl is ↦
+      let e : p ≡ one = eqb-true p one is in
+      let place : p - 1 ≡ one - 1 = ap (λ z. z - 1) e in
+      let set : bit_at (bit_or bits (1 * 2 ^ (one - 1) % 65536)) (one - 1) ≡ 1 = bit_at_set_same w16 bits (one - 1) (omega (arith, h.0, h.1)) in
+      ap (λ k. bit_at (bit_or bits (1 * 2 ^ (one - 1) % 65536)) k == 1) place ∙ (ap (λ z. z == 1) set ∙ sym (ap (λ b. b || has_bit bits p) is))
+  | inr is ↦
+      let e : p ≢ one = eqb-false p one is in
+      let apart : p - 1 ≢ one - 1 = λ same. e (omega (arith, h.0)) in
+      let kept : bit_at (bit_or bits (1 * 2 ^ (one - 1) % 65536)) (p - 1) ≡ bit_at bits (p - 1) = bit_at_set_other w16 bits (one - 1) (omega (arith, h.0, h.1)) (p - 1) apart in
+      ap (λ z. z == 1) kept ∙ sym (ap (λ b. b || has_bit bits p) is)
+]
+
+pub members_of-insert : (bits one : ℕ) → IsMember 16 one → members_of (bit_or bits (1 * 2 ^ (one - 1) % 65536)) ≡ with_member (members_of bits) one
+members_of-insert bits one h =
+    filter-agree (has_bit (bit_or bits (1 * 2 ^ (one - 1) % 65536))) (λ p. (p == one) || has_bit bits p) everyone (λ p i. has_bit-set bits one p h (everyone-in p i).0)
+    ∙ sym (with_member-filter (has_bit bits) one)
+
+-- the bits stay below 65536
+pub insert-low : (bits one : ℕ) → bits < 65536 → bit_or bits (1 * 2 ^ (one - 1) % 65536) < 65536
+insert-low bits one low = or_lt 16 bits (1 * 2 ^ (one - 1) % 65536) low (omega arith)
+
+-- no bit, no member
+pub members_of-zero : members_of 0 ≡ []
+members_of-zero = nothing everyone
+  where
+    nothing : (xs : List ℕ) → filter (has_bit 0) xs ≡ []
+    nothing [] = refl
+    nothing (x ∷ xs) = ap (λ n. cond ((n % 2) == 1) (x ∷ filter (has_bit 0) xs) (filter (has_bit 0) xs)) (zero-div (2 ^ (x - 1))) ∙ nothing xs
+
+-- what the set has is what its bits say
+pub has_member-bit : (bits one : ℕ) (set : List ℕ) → members_of bits ≡ set → IsMember 16 one → (bit_and (bits / 2 ^ (one - 1)) 1 == 1) ≡ has_member set one
+has_member-bit bits one set is h =
+    ap (λ z. z == 1) (shr_and_one bits (one - 1))
+    ∙ (sym (has_member-filter (has_bit bits) one (in-everyone one h)) ∙ ap (λ s. has_member s one) is)
+
+pub has_member-none : (bits one : ℕ) (set : List ℕ) → members_of bits ≡ set → (IsMember 16 one → ⊥) → false ≡ has_member set one
+has_member-none bits one set is out = sym (has_member-outside (has_bit bits) one out) ∙ ap (λ s. has_member s one) is
+
+pub rising : (bits : ℕ) (set : List ℕ) → members_of bits ≡ set → set ≡ filter (has_member set) everyone
+rising bits set is = subst (λ s. s ≡ filter (has_member s) everyone) is (filter-has_member (has_bit bits))
