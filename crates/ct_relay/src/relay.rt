@@ -1,0 +1,94 @@
+//! The first receipts of a member.
+
+ghost use Rattle.std.specs.Prelude.{◌≡◌, [], false, IsTrue, OnOk, OnErr};
+ghost use Rattle.ct_names.specs.Membership.{IsWithoutRepeats};
+ghost use Rattle.ct_relay.specs.Taken.{is_first, with_id, action_of};
+
+use crate::action::Action;
+use crate::relay_id::RelayId;
+use ct_names::Member;
+use indexmap::IndexSet;
+use std::alloc::{AllocError, Global};
+use std::marker::Model;
+
+/// Which messages and decisions a member has received, each taken at its first receipt (Chandra and Toueg, section 4).
+#[derive(Drop)]
+pub struct Relay {
+    me: Member,
+    ids: IndexSet<RelayId>,
+}
+
+// Contracts see the member, what it took in the order of first receipt, and whether one more fits.
+impl Model for Relay {
+    ghost use Rattle.std.specs.Prelude.{nat_lt};
+    ghost use Rattle.ct_names.specs.Membership.{IsWithoutRepeats};
+    ghost use Rattle.indexmap.specs.IndexSet.{spare};
+    ghost use Rattle.ct_relay.specs.Taken.{Taken};
+
+    ghost Value = { Taken };
+
+    ghost view = { λ relay. record { me = relay.me; ids = relay.ids.keys; has_room = nat_lt 0 (spare relay.ids) } };
+
+    ghost invariant = { λ relay. IsWithoutRepeats relay.ids.keys };
+}
+
+impl Relay {
+    /// The receipts of the member `me`, which has taken nothing yet. Whether there is room for a first one is not said.
+    pub fn new(alloc: Global, me: Member) -> Relay
+        ensures me { result.me ≡ me }
+        ensures ids { result.ids ≡ [] }
+    {
+        Relay {
+            me,
+            ids: IndexSet::new(alloc),
+        }
+    }
+
+    /// The member whose receipts these are.
+    pub fn me(&self) -> Member
+        ensures { result ≡ self.now.me }
+    {
+        self.me
+    }
+
+    /// Whether it was not taken yet.
+    pub fn first(&self, id: RelayId) -> bool
+        ensures value { result ≡ is_first self.now.ids id }
+        ensures once { IsWithoutRepeats self.now.ids }
+    {
+        !self.ids.contains(&id)
+    }
+
+    /// Whether one more can be taken: so it is after a `prepare` that was Ok.
+    pub fn has_room(&self) -> bool
+        ensures { result ≡ self.now.has_room }
+    {
+        self.ids.len() < self.ids.capacity()
+    }
+
+    /// Makes room for one more. Where memory is refused there was no room. Nothing else changes, Ok or not.
+    pub fn prepare(&mut self) -> Result<(), AllocError>
+        ensures me { self.new.me ≡ self.old.me }
+        ensures ids { self.new.ids ≡ self.old.ids }
+        ensures ok { OnOk result (IsTrue self.new.has_room) }
+        ensures room { IsTrue self.old.has_room → IsTrue self.new.has_room }
+        ensures refused { OnErr result (self.old.has_room ≡ false) }
+    {
+        self.ids.reserve(1)
+    }
+
+    /// Takes it, and says what to do with it: at its first receipt it is delivered, and relayed unless this member sent
+    /// it; later nothing is done. It takes no memory. Room for one more has to be prepared anew.
+    pub fn take(&mut self, id: RelayId, sender: Member) -> Action
+        requires { IsTrue self.old.has_room }
+        ensures action { result ≡ action_of self.old id sender }
+        ensures ids { self.new.ids ≡ with_id self.old.ids id }
+        ensures me { self.new.me ≡ self.old.me }
+    {
+        let deliver = self.ids.insert(id).unwrap();
+        Action {
+            relay: deliver && sender != self.me,
+            deliver,
+        }
+    }
+}
