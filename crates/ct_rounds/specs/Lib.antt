@@ -1,0 +1,6 @@
+pub mod Best
+pub mod Inbox
+pub mod Meaning
+pub mod Note
+pub mod Part
+pub mod Tally

@@ -1,0 +1,199 @@
+//! What was got for one round.
+
+ghost use Rattle.std.specs.Prelude.{◌≡◌, option_map};
+ghost use Rattle.ct_names.specs.Group.{IsMember};
+ghost use Rattle.ct_model.specs.Received.{heard, estimate_from};
+ghost use Rattle.ct_model.specs.Faults.{has_largest};
+ghost use Rattle.ct_model.specs.Counted.{no_ballots, count_estimate, count_proposal};
+ghost use Rattle.ct_rounds.specs.Best.{best};
+ghost use Rattle.ct_rounds.specs.Note.{IsOfMember, noted};
+ghost use Rattle.ct_rounds.specs.Tally.{better, heard_as};
+
+use crate::note::Note;
+use ct_names::{Member, MemberSet, Round, ValueId};
+use std::marker::Model;
+
+/// An estimate that was heard: the number of its value, and the round in which its member took that over.
+#[derive(Clone, Copy)]
+pub struct Estimate {
+    pub value: u32,
+    pub ts: Round,
+}
+
+/// Whose estimate is the best so far, and its ts.
+#[derive(Clone, Copy)]
+pub struct Best {
+    pub member: Member,
+    pub ts: Round,
+}
+
+/// What was got for one round.
+#[derive(Drop)]
+pub struct Tally {
+    heard: MemberSet,
+    // By member, of those that were heard. The first entry is nobody's.
+    estimates: [Estimate; 17],
+    // The least member among the heard with the largest ts.
+    best: Option<Best>,
+    proposal: Option<ValueId>,
+    replied: MemberSet,
+    acked: MemberSet,
+}
+
+// Contracts see the ballots of the round, in which values go by their numbers.
+impl Model for Tally {
+    ghost use Rattle.std.specs.Prelude.{ℕ};
+    ghost use Rattle.ct_model.specs.Received.{Ballots};
+
+    ghost Value = { Ballots ℕ };
+
+    ghost use Rattle.ct_rounds.specs.Tally.{ballots_of, IsTally};
+
+    ghost view = { λ t. ballots_of t.heard t.estimates t.proposal t.acked t.replied };
+
+    ghost invariant = { λ t. IsTally t.heard t.estimates t.acked t.replied t.best };
+}
+
+impl Tally {
+    /// Nothing was got.
+    pub fn new() -> Tally
+        ensures { result ≡ no_ballots }
+    {
+        Tally {
+            heard: MemberSet::new(),
+            estimates: [Estimate { value: 0, ts: 0 }; 17],
+            best: None,
+            proposal: None,
+            replied: MemberSet::new(),
+            acked: MemberSet::new(),
+        }
+    }
+
+    /// The members that were heard.
+    pub fn heard(&self) -> MemberSet
+        ensures { result ≡ heard self.now }
+    {
+        self.heard
+    }
+
+    /// The least member among the heard with the largest ts.
+    pub fn best(&self) -> Option<Member>
+        ensures { result ≡ best self.now }
+    {
+        match self.best {
+            Some(best) => Some(best.member),
+            None => None,
+        }
+    }
+
+    /// Whether the member was heard, and nobody with a larger ts.
+    pub fn largest(&self, from: Member) -> bool
+        ensures { result ≡ has_largest self.now from }
+    {
+        match self.best {
+            Some(best) => {
+                self.heard.contains(from) && best.ts <= self.estimates[from as usize].ts
+            }
+            None => false,
+        }
+    }
+
+    /// The value of the member's estimate.
+    pub fn estimate(&self, from: Member) -> Option<ValueId>
+        ensures { result ≡ option_map (λ e. e.value) (estimate_from self.now from) }
+    {
+        if self.heard.contains(from) {
+            Some(ValueId::new(self.estimates[from as usize].value))
+        } else {
+            None
+        }
+    }
+
+    /// The value of the proposal.
+    pub fn proposal(&self) -> Option<ValueId>
+        ensures { result ≡ self.now.proposal }
+    {
+        self.proposal
+    }
+
+    /// The members that replied.
+    pub fn replied(&self) -> MemberSet
+        ensures { result ≡ self.now.replied }
+    {
+        self.replied
+    }
+
+    /// The members that acked.
+    pub fn acked(&self) -> MemberSet
+        ensures { result ≡ self.now.acked }
+    {
+        self.acked
+    }
+
+    /// Counts a note of this round in: the first estimate of each member, and the first proposal.
+    pub fn take(&mut self, note: Note)
+        requires { IsOfMember note }
+        ensures { self.new ≡ noted note self.old }
+    {
+        match note {
+            Note::Est {
+                from,
+                value,
+                ts,
+                ..
+            } => self.hear(
+                from,
+                Estimate {
+                    value: value.number(),
+                    ts,
+                },
+            ),
+            Note::Prop { value, .. } => self.propose(value),
+            Note::Ack { from, .. } => {
+                self.replied.insert(from);
+                self.acked.insert(from);
+            }
+            Note::Nack { from, .. } => self.replied.insert(from),
+        }
+    }
+
+    fn hear(&mut self, from: Member, estimate: Estimate)
+        requires { IsMember 16 from }
+        ensures { self.new ≡ count_estimate (heard_as from estimate) self.old }
+    {
+        if self.heard.contains(from) {
+            return;
+        }
+        self.heard.insert(from);
+        self.estimates[from as usize] = estimate;
+        let new = Best {
+            member: from,
+            ts: estimate.ts,
+        };
+        self.best = Some(better(self.best, new));
+    }
+
+    fn propose(&mut self, value: ValueId)
+        ensures { self.new ≡ count_proposal value self.old }
+    {
+        if self.proposal.is_none() {
+            self.proposal = Some(value);
+        }
+    }
+}
+
+// The one with the larger ts, and of two alike that of the lesser member.
+fn better(best: Option<Best>, new: Best) -> Best
+    ensures { result ≡ better best new }
+{
+    match best {
+        Some(best) => {
+            if best.ts < new.ts || best.ts == new.ts && new.member < best.member {
+                new
+            } else {
+                best
+            }
+        }
+        None => new,
+    }
+}

@@ -1,0 +1,261 @@
+ghost use Rattle.std.specs.Prelude.{◌≡◌, ℕ, IsTrue};
+ghost use Rattle.ct_rounds.specs.Inbox.{has_room};
+
+use super::*;
+use ct_model::Phase;
+use ct_names::{Group, Member, Refusal, Round, ValueId};
+use std::test::Fail;
+
+fn est(round: Round, from: Member, number: u32, ts: Round) -> Note
+    ensures { result ≡ Note.Est round from number ts }
+{
+    let value = ValueId::new(number);
+    Note::Est {
+        round,
+        from,
+        value,
+        ts,
+    }
+}
+
+#[test]
+fn the_best_is_the_least_with_the_largest_ts(rt: HostRuntime) -> Result<(), Fail> {
+    let mut inbox = Inbox::new(rt.alloc());
+    inbox.prepare(3)?;
+    inbox.note(est(3, 4, 40, 0));
+    assert_eq!(rt; inbox.best(3), Some(4));
+    inbox.note(est(3, 3, 30, 2));
+    assert_eq!(rt; inbox.best(3), Some(3));
+    inbox.note(est(3, 2, 20, 2));
+    assert_eq!(rt; inbox.best(3), Some(2));
+    inbox.note(est(3, 1, 10, 1));
+    assert_eq!(rt; inbox.best(3), Some(2));
+    assert!(rt; inbox.largest(3, 3));
+    assert!(rt; inbox.largest(3, 2));
+    assert!(rt; !inbox.largest(3, 1));
+    assert!(rt; !inbox.largest(3, 5));
+    inbox.note(est(3, 2, 21, 9));
+    assert_eq!(rt; inbox.best(3), Some(2));
+    assert!(rt; inbox.largest(3, 3));
+    assert_eq!(rt; inbox.estimate(3, 2), Some(ValueId::new(20)));
+    assert_eq!(rt; inbox.heard(3).len(), 4);
+    Ok(())
+}
+
+#[test]
+fn a_members_first_estimate_counts(rt: HostRuntime) -> Result<(), Fail> {
+    let mut inbox = Inbox::new(rt.alloc());
+    inbox.prepare(3)?;
+    inbox.note(est(3, 3, 30, 2));
+    inbox.note(est(3, 2, 20, 1));
+    inbox.note(est(3, 2, 21, 9));
+    assert_eq!(rt; inbox.best(3), Some(3));
+    assert_eq!(rt; inbox.estimate(3, 2), Some(ValueId::new(20)));
+    assert_eq!(rt; inbox.heard(3).len(), 2);
+    assert!(rt; !inbox.largest(3, 2));
+    Ok(())
+}
+
+#[test]
+fn rounds_are_counted_apart(rt: HostRuntime) -> Result<(), Fail> {
+    let mut inbox = Inbox::new(rt.alloc());
+    assert!(rt; !inbox.has_room(1));
+    inbox.prepare(1)?;
+    inbox.prepare(2)?;
+    assert!(rt; inbox.has_room(1) && inbox.has_room(2) && !inbox.has_room(3));
+    inbox.note(Note::Ack { round: 1, from: 16 });
+    inbox.note(Note::Nack { round: 2, from: 16 });
+    assert_eq!(rt; inbox.replied(1).len(), 1);
+    assert_eq!(rt; inbox.acked(2).len(), 0);
+    assert!(rt; inbox.acked(1).contains(16) && inbox.replied(2).contains(16));
+    assert_eq!(rt; inbox.proposal(1), None);
+    Ok(())
+}
+
+#[test]
+fn a_coordinator_waits_for_a_majority(rt: HostRuntime) -> Result<(), Fail> {
+    let group = Group::new(4).ok_or("four")?;
+    let mut inbox = Inbox::new(rt.alloc());
+    inbox.prepare(1)?;
+    let mut consensus = Consensus::new(group, 2, 7, ValueId::new(20));
+    consensus.enter()?;
+    inbox.note(est(1, 1, 10, 0));
+    inbox.note(est(1, 2, 20, 0));
+    assert_eq!(rt; consensus.choose(&inbox, 1), Err(Refusal::TooFew));
+    inbox.note(est(1, 4, 40, 0));
+    let proposal = Wire::Prop {
+        instance: 7,
+        round: 1,
+        value: ValueId::new(10),
+    };
+    assert_eq!(rt; consensus.choose(&inbox, 1), Ok(Mail::All(proposal)));
+    assert_eq!(rt; consensus.estimate(), ValueId::new(10));
+    assert_eq!(rt; consensus.ts(), 0);
+    Ok(())
+}
+
+#[test]
+fn a_larger_ts_goes_first(rt: HostRuntime) -> Result<(), Fail> {
+    let group = Group::new(3).ok_or("three")?;
+    let mut inbox = Inbox::new(rt.alloc());
+    inbox.prepare(2)?;
+    let mut consensus = Consensus::new(group, 3, 1, ValueId::new(30));
+    consensus.enter()?;
+    consensus.suspect(&inbox)?;
+    assert!(rt; consensus.round() < 10000);
+    consensus.enter()?;
+    inbox.note(est(2, 1, 10, 1));
+    inbox.note(est(2, 3, 30, 0));
+    assert_eq!(rt; consensus.choose(&inbox, 3), Err(Refusal::NotLargest));
+    let proposal = Wire::Prop {
+        instance: 1,
+        round: 2,
+        value: ValueId::new(10),
+    };
+    assert_eq!(rt; consensus.choose(&inbox, 1), Ok(Mail::All(proposal)));
+    Ok(())
+}
+
+// Member 2 coordinates round 1 of a group of three, and heard of members 1 and 2 with equal ts.
+fn gathering(group: Group, inbox: &mut Inbox) -> Consensus
+    requires { IsTrue (has_room inbox.old 1) }
+    ensures { (r : ℕ) → has_room inbox.new r ≡ has_room inbox.old r }
+{
+    let mut consensus = Consensus::new(group, 2, 1, ValueId::new(20));
+    let _ = consensus.enter();
+    inbox.note(est(1, 1, 10, 0));
+    inbox.note(est(1, 2, 20, 0));
+    consensus
+}
+
+#[test]
+fn of_equal_ts_either_may_be_chosen(rt: HostRuntime) -> Result<(), Fail> {
+    let group = Group::new(3).ok_or("three")?;
+    for from in 1..=2 {
+        let mut inbox = Inbox::new(rt.alloc());
+        inbox.prepare(1)?;
+        let mut consensus = gathering(group, &mut inbox);
+        assert_eq!(rt; inbox.best(1), Some(1));
+        assert_eq!(rt; consensus.choose(&inbox, 3), Err(Refusal::NotLargest));
+        let proposal = Wire::Prop {
+            instance: 1,
+            round: 1,
+            value: ValueId::new(if from == 1 { 10 } else { 20 }),
+        };
+        assert_eq!(rt; consensus.choose(&inbox, from), Ok(Mail::All(proposal)));
+        assert_eq!(rt; consensus.choose(&inbox, from), Err(Refusal::WrongPhase));
+    }
+    Ok(())
+}
+
+#[test]
+fn what_a_coordinator_chose_it_keeps_without_its_ts(rt: HostRuntime) -> Result<(), Fail> {
+    let group = Group::new(3).ok_or("three")?;
+    let mut inbox = Inbox::new(rt.alloc());
+    inbox.prepare(1)?;
+    let mut consensus = gathering(group, &mut inbox);
+    consensus.choose(&inbox, 1)?;
+    let nack = Wire::Nack {
+        instance: 1,
+        round: 1,
+        from: 2,
+    };
+    assert_eq!(rt; consensus.suspect(&inbox), Ok(Mail::One(2, nack)));
+    assert!(rt; consensus.round() < 10000);
+    assert_eq!(rt; consensus.enter(), Err(Refusal::WrongPhase));
+    inbox.note(Note::Nack { round: 1, from: 2 });
+    inbox.note(Note::Nack { round: 1, from: 1 });
+    assert_eq!(rt; consensus.conclude(&inbox), Ok(Mail::Nobody));
+    assert!(rt; consensus.round() < 10000);
+    let estimate = Wire::Est {
+        instance: 1,
+        round: 2,
+        from: 2,
+        value: ValueId::new(10),
+        ts: 0,
+    };
+    assert_eq!(rt; consensus.enter(), Ok(Mail::One(3, estimate)));
+    Ok(())
+}
+
+#[test]
+fn a_proposal_is_taken_over(rt: HostRuntime) -> Result<(), Fail> {
+    let group = Group::new(3).ok_or("three")?;
+    let mut inbox = Inbox::new(rt.alloc());
+    inbox.prepare(1)?;
+    let mut consensus = Consensus::new(group, 1, 1, ValueId::new(10));
+    let estimate = Wire::Est {
+        instance: 1,
+        round: 1,
+        from: 1,
+        value: ValueId::new(10),
+        ts: 0,
+    };
+    assert_eq!(rt; consensus.enter(), Ok(Mail::One(2, estimate)));
+    assert_eq!(rt; consensus.adopt(&inbox), Err(Refusal::NoProposal));
+    inbox.note(Note::Prop {
+        round: 1,
+        value: ValueId::new(20),
+    });
+    assert_eq!(rt; consensus.suspect(&inbox), Err(Refusal::HasProposal));
+    let ack = Wire::Ack {
+        instance: 1,
+        round: 1,
+        from: 1,
+    };
+    assert_eq!(rt; consensus.adopt(&inbox), Ok(Mail::One(2, ack)));
+    assert_eq!(rt; consensus.ts(), 1);
+    assert_eq!(rt; consensus.estimate(), ValueId::new(20));
+    assert_eq!(rt; consensus.phase(), Phase::Rest);
+    Ok(())
+}
+
+// Member 2 coordinates round 1 of a group of three, proposed its own estimate and adopted it.
+fn tallying(group: Group, inbox: &mut Inbox) -> Consensus
+    requires { IsTrue (has_room inbox.old 1) }
+    ensures { (r : ℕ) → has_room inbox.new r ≡ has_room inbox.old r }
+{
+    let mut consensus = Consensus::new(group, 2, 5, ValueId::new(20));
+    let _ = consensus.enter();
+    inbox.note(est(1, 1, 10, 0));
+    inbox.note(est(1, 2, 20, 0));
+    let _ = consensus.choose(inbox, 2);
+    inbox.note(Note::Prop {
+        round: 1,
+        value: ValueId::new(20),
+    });
+    let _ = consensus.adopt(inbox);
+    consensus
+}
+
+#[test]
+fn one_ack_of_two_replies_decides_nothing(rt: HostRuntime) -> Result<(), Fail> {
+    let group = Group::new(3).ok_or("three")?;
+    let mut inbox = Inbox::new(rt.alloc());
+    inbox.prepare(1)?;
+    let mut consensus = tallying(group, &mut inbox);
+    inbox.note(Note::Ack { round: 1, from: 2 });
+    assert_eq!(rt; consensus.conclude(&inbox), Err(Refusal::TooFew));
+    inbox.note(Note::Nack { round: 1, from: 1 });
+    assert_eq!(rt; consensus.conclude(&inbox), Ok(Mail::Nobody));
+    assert_eq!(rt; consensus.conclude(&inbox), Err(Refusal::WrongPhase));
+    Ok(())
+}
+
+#[test]
+fn two_acks_of_three_decide(rt: HostRuntime) -> Result<(), Fail> {
+    let group = Group::new(3).ok_or("three")?;
+    let mut inbox = Inbox::new(rt.alloc());
+    inbox.prepare(1)?;
+    let mut consensus = tallying(group, &mut inbox);
+    inbox.note(Note::Ack { round: 1, from: 2 });
+    inbox.note(Note::Ack { round: 1, from: 3 });
+    let decision = Wire::Dec {
+        instance: 5,
+        round: 1,
+        value: ValueId::new(20),
+    };
+    assert_eq!(rt; consensus.conclude(&inbox), Ok(Mail::All(decision)));
+    assert_eq!(rt; consensus.instance(), 5);
+    Ok(())
+}
