@@ -1,0 +1,85 @@
+//! Room for what is to come, the only calls that take memory.
+
+ghost use Rattle.std.specs.Prelude.{◌≡◌, ℕ, IsTrue, OnOk, OnErr};
+ghost use Rattle.ct_model.specs.Wire.{Wire as AnyWire};
+ghost use Rattle.ct_rounds.specs.Meaning.{wire_of};
+ghost use Rattle.ct_instances.specs.Kept.{ballots_of, decision_at, has_room, has_room_of, has_room_open};
+
+use super::Instances;
+use crate::entry::Entry;
+use ct_names::{Instance, Round};
+use ct_rounds::{Inbox, Wire};
+use std::alloc::AllocError;
+
+impl Instances {
+    /// Makes room for the instance to be opened. What was got stays, also where memory is refused.
+    pub fn prepare_open(&mut self, instance: Instance) -> Result<(), AllocError>
+        ensures ok { OnOk result (IsTrue (has_room_open self.new instance)) }
+        ensures err { OnErr result (self.new ≡ self.old) }
+        ensures ballots { (k r : ℕ) → ballots_of self.new k r ≡ ballots_of self.old k r }
+        ensures decisions { (k : ℕ) → decision_at self.new k ≡ decision_at self.old k }
+        ensures rooms_open { (k : ℕ) → IsTrue (has_room_open self.old k) → IsTrue (has_room_open self.new k) }
+        ensures rooms { (k r : ℕ) → IsTrue (has_room_of self.old k r) → IsTrue (has_room_of self.new k r) }
+        ensures rest { self.new ≡ record self.old { entries = self.new.entries } }
+    {
+        if self.entries.contains_key(&instance) {
+            return Ok(());
+        }
+        let entry = Entry {
+            inbox: Inbox::new(self.alloc),
+            decision: None,
+        };
+        self.entries.insert(instance, entry)?;
+        Ok(())
+    }
+
+    /// Makes room for a note of the wire. What was got stays, also where memory is refused.
+    pub fn prepare(&mut self, wire: &Wire) -> Result<(), AllocError>
+        ensures ok { OnOk result (IsTrue (has_room self.new (wire_of wire.now))) }
+        ensures ballots { (k r : ℕ) → ballots_of self.new k r ≡ ballots_of self.old k r }
+        ensures decisions { (k : ℕ) → decision_at self.new k ≡ decision_at self.old k }
+        ensures rooms_open { (k : ℕ) → IsTrue (has_room_open self.old k) → IsTrue (has_room_open self.new k) }
+        ensures rooms { (w : AnyWire ℕ) → IsTrue (has_room self.old w) → IsTrue (has_room self.new w) }
+        ensures rest { self.new ≡ record self.old { entries = self.new.entries } }
+    {
+        match *wire {
+            Wire::Data(_) => Ok(()),
+            Wire::Est {
+                instance,
+                round,
+                ..
+            } => self.prepare_round(instance, round),
+            Wire::Prop {
+                instance,
+                round,
+                ..
+            } => self.prepare_round(instance, round),
+            Wire::Ack {
+                instance,
+                round,
+                ..
+            } => self.prepare_round(instance, round),
+            Wire::Nack {
+                instance,
+                round,
+                ..
+            } => self.prepare_round(instance, round),
+            Wire::Dec { instance, .. } => self.prepare_open(instance),
+        }
+    }
+
+    fn prepare_round(&mut self, instance: Instance, round: Round) -> Result<(), AllocError>
+        ensures ok { OnOk result (IsTrue (has_room_of self.new instance round)) }
+        ensures ballots { (k r : ℕ) → ballots_of self.new k r ≡ ballots_of self.old k r }
+        ensures decisions { (k : ℕ) → decision_at self.new k ≡ decision_at self.old k }
+        ensures rooms_open { (k : ℕ) → IsTrue (has_room_open self.old k) → IsTrue (has_room_open self.new k) }
+        ensures rooms { (k r : ℕ) → IsTrue (has_room_of self.old k r) → IsTrue (has_room_of self.new k r) }
+        ensures rest { self.new ≡ record self.old { entries = self.new.entries } }
+    {
+        self.prepare_open(instance)?;
+        match self.entries.get_mut(&instance) {
+            Some(entry) => entry.inbox.prepare(round),
+            None => unreachable!(),
+        }
+    }
+}
