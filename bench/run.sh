@@ -1,13 +1,26 @@
 #!/usr/bin/env bash
 # Times `ct replay` on generated records and compares its reports with bench/model.py.
 #
-#     bench/run.sh [CT]        CT: the built program; crates/ct/out/ct if left out
+#     bench/run.sh [--whole] [--full] [CT]
+#
+# CT: the built program; crates/ct/out/ct if left out. --whole adds records of the
+# whole algorithm, without and with crashes; --full expects full reports, not short ones.
 #
 # Prints a table row for each record: wall seconds, peak resident memory in MiB, and
 # whether the report is the model's. Ends with status 1 where one is not.
 set -euo pipefail
 
 here=$(cd "$(dirname "$0")" && pwd)
+kinds=(plain)
+form=()
+while [[ ${1-} == --* ]]; do
+    case $1 in
+        --whole) kinds+=(whole crashes) ;;
+        --full) form=(--full) ;;
+        *) echo "bench/run.sh: no option $1" >&2; exit 2 ;;
+    esac
+    shift
+done
 ct=${1:-$here/../crates/ct/out/ct}
 if [[ ! -x $ct || -d $ct ]]; then
     echo "bench/run.sh: no program at $ct" >&2
@@ -37,21 +50,33 @@ measure() {
     fi
 }
 
+# options KIND MEMBERS: the generator's options for such a record, one a line.
+options() {
+    case $1 in
+        plain) ;;
+        whole) echo --whole ;;
+        crashes) printf '%s\n' --whole --crash "$((($2 - 1) / 2))" ;;
+    esac
+}
+
 failed=0
-printf '%8s %9s %9s %9s  %s\n' members steps seconds MiB report
-for members in 5 16; do
-    for steps in 100000 1000000; do
-        record=$folder/record.json
-        python3 "$here/generate.py" --members "$members" --steps "$steps" --seed 1 >"$record"
-        python3 "$here/model.py" <"$record" >"$folder/wanted"
-        outcome="as the model's"
-        measure "$record" "$folder/report" || outcome="ended with status $?"
-        if [[ $outcome == as* ]] && ! cmp -s "$folder/report" "$folder/wanted"; then
-            outcome="another than the model's"
-        fi
-        [[ $outcome == as* ]] || failed=1
-        read -r seconds peak <"$folder/measure"
-        printf '%8d %9d %9s %9d  %s\n' "$members" "$steps" "$seconds" $((peak / 1024)) "$outcome"
+printf '%-8s %8s %9s %9s %9s  %s\n' record members steps seconds MiB report
+for kind in "${kinds[@]}"; do
+    for members in 5 16; do
+        mapfile -t extra < <(options "$kind" "$members")
+        for steps in 100000 1000000; do
+            record=$folder/record.json
+            python3 "$here/generate.py" "${extra[@]}" --members "$members" --steps "$steps" --seed 1 >"$record" 2>"$folder/counts"
+            python3 "$here/model.py" "${form[@]}" <"$record" >"$folder/wanted"
+            outcome="as the model's"
+            measure "$record" "$folder/report" || outcome="ended with status $?"
+            if [[ $outcome == as* ]] && ! cmp -s "$folder/report" "$folder/wanted"; then
+                outcome="another than the model's"
+            fi
+            [[ $outcome == as* ]] || failed=1
+            read -r seconds peak <"$folder/measure"
+            printf '%-8s %8d %9d %9s %9d  %s\n' "$kind" "$members" "$steps" "$seconds" $((peak / 1024)) "$outcome"
+        done
     done
 done
 exit "$failed"

@@ -4,9 +4,11 @@ ghost use Rattle.std.specs.Prelude.{◌≡◌, ◌+◌, [], IsTrue, IsSome, None
 ghost use Rattle.ct_instances.specs.Kept.{has_room_open};
 ghost use Rattle.ct_instances.specs.Steps.{opened};
 
+mod copying;
 mod noting;
 mod preparing;
 mod reading;
+mod refusing;
 mod steps;
 
 use crate::entry::Entry;

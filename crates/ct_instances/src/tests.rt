@@ -236,6 +236,89 @@ fn the_next_instance_opens_after_the_last(rt: HostRuntime) -> Result<(), Fail> {
     Ok(())
 }
 
+#[test]
+fn while_none_is_open_all_is_refused(rt: HostRuntime) -> Result<(), Fail> {
+    let group = Group::new(3).ok_or("three")?;
+    let instances = Instances::new(rt.alloc(), group, 2);
+    assert_eq!(rt; instances.enter_fault(), Some(Refusal::Idle));
+    assert_eq!(rt; instances.choose_fault(1), Some(Refusal::Idle));
+    assert_eq!(rt; instances.adopt_fault(), Some(Refusal::Idle));
+    assert_eq!(rt; instances.suspect_fault(), Some(Refusal::Idle));
+    assert_eq!(rt; instances.conclude_fault(), Some(Refusal::Idle));
+    assert!(rt; !instances.is_acked());
+    Ok(())
+}
+
+#[test]
+fn a_decision_comes_after_the_phase(rt: HostRuntime) -> Result<(), Fail> {
+    let group = Group::new(3).ok_or("three")?;
+    let mut instances = Instances::new(rt.alloc(), group, 1);
+    instances.prepare_open(1)?;
+    instances.open(1, ValueId::new(20));
+    assert_eq!(rt; instances.enter_fault(), None);
+    instances.enter()?;
+    take(&mut instances, &dec(1, 30))?;
+    assert_eq!(rt; instances.enter_fault(), Some(Refusal::WrongPhase));
+    instances.suspect()?;
+    assert_eq!(rt; instances.enter_fault(), Some(Refusal::Decided));
+    Ok(())
+}
+
+#[test]
+fn refusals_are_known_before_the_steps(rt: HostRuntime) -> Result<(), Fail> {
+    let group = Group::new(3).ok_or("three")?;
+    let mut instances = Instances::new(rt.alloc(), group, 2);
+    instances.prepare_open(1)?;
+    instances.open(1, ValueId::new(20));
+    instances.enter()?;
+    take(&mut instances, &est(1, 2, 20))?;
+    assert_eq!(rt; instances.choose_fault(2), Some(Refusal::TooFew));
+    take(&mut instances, &est(1, 1, 10))?;
+    assert_eq!(rt; instances.choose_fault(3), Some(Refusal::NotLargest));
+    assert_eq!(rt; instances.choose_fault(2), None);
+    instances.choose(2)?;
+    assert_eq!(rt; instances.adopt_fault(), Some(Refusal::NoProposal));
+    assert_eq!(rt; instances.suspect_fault(), None);
+    assert_eq!(rt; instances.conclude_fault(), Some(Refusal::WrongPhase));
+    Ok(())
+}
+
+#[test]
+fn acks_of_a_majority_are_known(rt: HostRuntime) -> Result<(), Fail> {
+    let group = Group::new(1).ok_or("one")?;
+    let mut instances = Instances::new(rt.alloc(), group, 1);
+    instances.prepare_open(1)?;
+    instances.open(1, ValueId::new(20));
+    instances.enter()?;
+    assert_eq!(rt; instances.conclude_fault(), Some(Refusal::WrongPhase));
+    assert!(rt; !instances.is_acked());
+    let ack = Wire::Ack {
+        instance: 1,
+        round: 1,
+        from: 1,
+    };
+    take(&mut instances, &ack)?;
+    assert!(rt; instances.is_acked());
+    Ok(())
+}
+
+#[test]
+fn a_copy_goes_its_own_way(rt: HostRuntime) -> Result<(), Fail> {
+    let group = Group::new(3).ok_or("three")?;
+    let mut instances = Instances::new(rt.alloc(), group, 2);
+    instances.prepare_open(1)?;
+    instances.open(1, ValueId::new(20));
+    take(&mut instances, &est(1, 1, 10))?;
+    take(&mut instances, &dec(3, 30))?;
+    let copy = instances.copy(rt.alloc())?;
+    take(&mut instances, &dec(1, 10))?;
+    assert_eq!(rt; copy.last(), 1);
+    assert_eq!(rt; copy.decided(1), None);
+    assert_eq!(rt; copy.decided(3), Some(ValueId::new(30)));
+    assert!(rt; copy.has_room(&est(1, 3, 10)) && !copy.has_room_open(2));
+    Ok(())
+}
+
 // To be run with each allocation refused in turn too, as by `rt try --test --fail-alloc N`.
 #[test]
 fn what_was_got_stays_where_memory_is_refused(rt: HostRuntime) -> Result<(), Fail> {

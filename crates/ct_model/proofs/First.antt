@@ -34,7 +34,7 @@ order-first : (s : Setting) → order (first_state s) ≡ []
 unfolding order first_state
 order-first s = no_batches s.members
 
-size-first : (s : Setting) → length (first_state s).members ≡ s.members
+pub size-first : (s : Setting) → length (first_state s).members ≡ s.members
 unfolding first_state
 size-first s = length-replicate s.members new_member
 

@@ -13,7 +13,7 @@ use Rattle.ct_names.specs.Value.{has}
 use Rattle.ct_names.proofs.Receipts.{has-push}
 use Rattle.ct_names.proofs.Values.{same_message, is_message-refl}
 use Rattle.ct_model.specs.declared.step.Step.{Step}
-use Rattle.ct_model.specs.declared.step.Step.TheVariants.{Submit, Receive, Crash, Postpone}
+use Rattle.ct_model.specs.declared.step.Step.TheVariants.{Submit, Receive, Begin, Enter, Choose, Adopt, Suspect, Conclude, Deliver, Crash, Postpone}
 use Rattle.ct_model.specs.Actor.{actor}
 use Rattle.ct_model.specs.AtValue.{Wire, Envelope, Mail}
 use Rattle.ct_model.specs.Knowledge.{CarriesOne, KnowsMessages}
@@ -22,11 +22,12 @@ use Rattle.ct_model.specs.Wire.{envelopes}
 use Rattle.ct_model.specs.Wire.Wire.{Data, Est, Prop, Ack, Nack, Dec}
 use Rattle.ct_model.specs.Wire.Mail.{Nobody, One, All}
 use Rattle.ct_model.specs.State.{State, Member, member, is_crashed, submissions}
-use Rattle.ct_model.specs.Received.{received, received_by}
+use Rattle.ct_model.specs.Received.{received, received_by, message_of}
 use Rattle.ct_model.specs.Next.{Outcome, plain, row, submit, receive, crash, next_message, is_relayed, wire_to, after, next, can_act}
 use Rattle.ct_model.proofs.Tests.{and_left, or_cases, or_left, or_right, self_number}
 use Rattle.ct_model.proofs.Outcomes.{some-same, some-none, when-is, made-map}
 use Rattle.ct_model.proofs.Frame.{after-sent, after-submitted, after-size, member-same, member-other, at_place, submissions-append}
+use Rattle.ct_model.proofs.Rows.{IsWithoutMessage, IsOfConsensus, row-quiet}
 use Rattle.ct_model.proofs.Letters.{wire_to-sent}
 use Rattle.ct_model.proofs.Receipts.{received-push, joined_by}
 
@@ -188,6 +189,26 @@ joined_known list known (Ack k r p) c old m h = old m h
 joined_known list known (Nack k r p) c old m h = old m h
 joined_known list known (Dec k r v) c old m h = old m h
 
+without_message : (list : List Message) (w : Wire) → message_of w ≡ None → CarriesOne list w
+without_message list (Data m) h = absurd (cc)
+without_message list (Est k r p v t) h = tt
+without_message list (Prop k r v) h = tt
+without_message list (Ack k r p) h = tt
+without_message list (Nack k r p) h = tt
+without_message list (Dec k r v) h = tt
+
+mail_without : (list : List Message) (mail : Mail) → IsWithoutMessage mail → MailCarries list mail
+mail_without list Nobody h = tt
+mail_without list (One to w) h = without_message list w h
+mail_without list (All w) h = without_message list w h
+
+-- a step of consensus
+knows-quiet : (s : Setting) (g : State) (p : ℕ) (step : Step) (o : Outcome) → KnowsMessages s g → length g.members ≡ s.members → is_member s.members p ≡ true → IsOfConsensus step → row s g p (member g p) step ≡ Some o → KnowsMessages s (after s g p o)
+knows-quiet s g p step o k size group is e =
+    let q = row-quiet s g p (member g p) step o is e in
+    knows-silent s g p o k (in_members s g p size group) q.submitted (mail_without g.submitted o.mail q.mail)
+    (λ m h. k.received p m (ap (λ list. has list m) (received-by g p) ∙ ap (λ got. has (received got) m) (sym q.got) ∙ h))
+
 knows-outcome : (s : Setting) (g : State) (step : Step) (o : Outcome) → KnowsMessages s g → length g.members ≡ s.members → is_member s.members (actor step) ≡ true → row s g (actor step) (member g (actor step)) step ≡ Some o → KnowsMessages s (after s g (actor step) o)
 knows-outcome s g (Submit p c) o k size group e =
     let made = when-is (is_good c) (submit g p (member g p) c) o e in
@@ -201,6 +222,13 @@ knows-outcome s g (Receive p i) o k size group e =
     subst (λ x. KnowsMessages s (after s g p x)) made.gives
     (knows-silent s g p (receive s p (member g p) w) k (in_members s g p size group) refl (relay_carries g.submitted (is_relayed s p (member g p).got w) w carries)
     (λ m h. joined_known (received (member g p).got) g.submitted w carries (λ x r. k.received p x (ap (λ list. has list x) (received-by g p) ∙ r)) m (ap (λ list. has list m) (sym (received-push (member g p).got w)) ∙ h)))
+knows-outcome s g (Begin p) o k size group e = knows-quiet s g p (Begin p) o k size group tt e
+knows-outcome s g (Enter p) o k size group e = knows-quiet s g p (Enter p) o k size group tt e
+knows-outcome s g (Choose p from) o k size group e = knows-quiet s g p (Choose p from) o k size group tt e
+knows-outcome s g (Adopt p) o k size group e = knows-quiet s g p (Adopt p) o k size group tt e
+knows-outcome s g (Suspect p) o k size group e = knows-quiet s g p (Suspect p) o k size group tt e
+knows-outcome s g (Conclude p) o k size group e = knows-quiet s g p (Conclude p) o k size group tt e
+knows-outcome s g (Deliver p) o k size group e = knows-quiet s g p (Deliver p) o k size group tt e
 knows-outcome s g (Crash p) o k size group e =
     subst (λ x. KnowsMessages s (after s g p x)) (some-same (crash (member g p)) o e)
     (knows-silent s g p (crash (member g p)) k (in_members s g p size group) refl tt (λ m h. k.received p m (ap (λ list. has list m) (received-by g p) ∙ h)))

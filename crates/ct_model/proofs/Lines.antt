@@ -6,7 +6,7 @@ use Rattle.std.proofs.lemmas.List.Folds.{list_any-append}
 use Rattle.std.proofs.lemmas.List.Elements.{filter-append, filter_agree}
 use Rattle.std.proofs.lemmas.List.Sums.{fold-append}
 use Rattle.ct_model.specs.declared.step.Step.{Step}
-use Rattle.ct_model.specs.declared.step.Step.TheVariants.{Submit, Receive, Crash, Postpone}
+use Rattle.ct_model.specs.declared.step.Step.TheVariants.{Submit, Receive, Begin, Enter, Choose, Adopt, Suspect, Conclude, Deliver, Crash, Postpone}
 use Rattle.ct_model.specs.Setting.{Setting}
 use Rattle.ct_model.specs.State.{State, first_state}
 use Rattle.ct_model.specs.Next.{stepped}
@@ -46,6 +46,13 @@ three false false moves = refl
 stays-step : (p k : ℕ) (gone later : Bool) (step : Step) → (not (gone_after p k gone step) && not (later || has_serial k (moved p step))) ≡ ((not gone && not later) && untouched p step k)
 stays-step p k gone later (Submit q c) = three gone later false
 stays-step p k gone later (Receive q t) = four gone ((q == p) && (t == k)) later false
+stays-step p k gone later (Begin q) = three gone later false
+stays-step p k gone later (Enter q) = three gone later false
+stays-step p k gone later (Choose q from) = three gone later false
+stays-step p k gone later (Adopt q) = three gone later false
+stays-step p k gone later (Suspect q) = three gone later false
+stays-step p k gone later (Conclude q) = three gone later false
+stays-step p k gone later (Deliver q) = three gone later false
 stays-step p k gone later (Crash q) = three gone later false
 stays-step p k gone later (Postpone q t) = three gone later (has_serial k (moved p (Postpone q t)))
 

@@ -1,23 +1,24 @@
 -- What a step sends of messages and decisions, and what it adds to what its member got.
-use Rattle.std.proofs.Common.{◌≡◌, ℕ, Bool, true, false, cond, List, [], ◌∷◌, refl, sym, ap, subst, inl, inr, ◌⊎◌, Some}
-use Rattle.ct_names.specs.declared.command.Command.{Command}
+use Rattle.std.proofs.Common.{◌≡◌, ℕ, cond, List, [], ◌∷◌, refl, sym, ap, subst, inl, inr, ◌⊎◌, Some}
 use Rattle.ct_names.specs.Command.{is_good}
 use Rattle.ct_names.specs.Group.{coordinator, IsMember}
 use Rattle.ct_names.specs.Membership.{IsIn}
-use Rattle.ct_names.specs.Message.{Message}
 use Rattle.ct_names.proofs.Lists
 use Rattle.ct_model.specs.declared.step.Step.{Step}
-use Rattle.ct_model.specs.declared.step.Step.TheVariants.{Submit, Receive, Crash, Postpone}
+use Rattle.ct_model.specs.declared.step.Step.TheVariants.{Submit, Receive, Begin, Enter, Choose, Adopt, Suspect, Conclude, Deliver, Crash, Postpone}
 use Rattle.ct_model.specs.Actor.{actor}
 use Rattle.ct_model.specs.AtValue.{Wire, Mail}
 use Rattle.ct_model.specs.Setting.{Setting}
 use Rattle.ct_model.specs.Wire.Wire.{Data, Est, Prop, Ack, Nack, Dec}
 use Rattle.ct_model.specs.Wire.Mail.{Nobody, All}
-use Rattle.ct_model.specs.State.{State, member}
-use Rattle.ct_model.specs.Next.{Outcome, plain, row, submit, receive, crash, next_message, is_relayed, wire_to}
+use Rattle.ct_model.specs.State.{State, Member, member}
+use Rattle.ct_model.specs.Next.{Outcome, plain, row, submit, receive, crash, is_relayed, wire_to}
 use Rattle.ct_model.proofs.Facts.{Holds}
 use Rattle.ct_model.proofs.Outcomes.{some-same, when-is, made-map}
-use Rattle.ct_model.proofs.Sending.{Sent, Carries, Sent-wire}
+use Rattle.ct_model.proofs.Carrying.{Sent, Carries, Sent-wire}
+use Rattle.ct_model.proofs.Rows.{IsOfConsensus, row-quiet}
+use Rattle.ct_model.proofs.Sends.{IsSending, row-sends}
+use Rattle.ct_model.proofs.Sends.IsSending.{nothing, message, relay, estimate, proposal, ack, nack, decision}
 
 -- a wire that p got in the step; where it is relayed, the step sends it to all
 pub record IsGotNow (s : Setting) (g : State) (p : ℕ) (o : Outcome) (w : Wire) : Type 0 where
@@ -62,64 +63,93 @@ pub record IsMade (s : Setting) (g : State) (p : ℕ) (o : Outcome) : Type 0 whe
   pub owner : (w : Wire) → Carries o.mail w → IsByOwner s g p w
   pub to_all : (w : Wire) → Carries o.mail w → GoesToAll o.mail w
 
--- a step that gets and sends nothing
-made-mute : (s : Setting) (g : State) (p : ℕ) (o : Outcome) → o.member.got ≡ (member g p).got → o.mail ≡ Nobody → IsMade s g p o
-made-mute s g p o same quiet = record {
+goes-carried : (mail : Mail) (w x : Wire) → mail ≡ All x → Carries mail w → GoesToAll mail w
+goes-carried mail w x e c =
+    let same : w ≡ x = subst (λ z. Carries z w) e c in
+    subst (λ z. GoesToAll z w) (sym e) (subst (λ z. GoesToAll (All x) z) (sym same) (goes-all x))
+
+-- a wire that goes to all, or isn't a message and no decision
+sending-to_all : (s : Setting) (g : State) (p : ℕ) (m : Member) (mail : Mail) → IsSending s g p m mail → (w : Wire) → Carries mail w → GoesToAll mail w
+sending-to_all s g p m mail (nothing e) w c = absurd (subst (λ z. Carries z w) e c)
+sending-to_all s g p m mail (message new origin e) w c = goes-carried mail w (Data new) e c
+sending-to_all s g p m mail (relay x sent relayed e) w c = goes-carried mail w x e c
+sending-to_all s g p m mail (estimate k r v ts e) w c = subst (λ z. GoesToAll mail z) (sym (subst (λ z. Carries z w) e c)) tt
+sending-to_all s g p m mail (proposal k r v e) w c = goes-carried mail w (Prop k r v) e c
+sending-to_all s g p m mail (ack k r e) w c = subst (λ z. GoesToAll mail z) (sym (subst (λ z. Carries z w) e c)) tt
+sending-to_all s g p m mail (nack k r e) w c = subst (λ z. GoesToAll mail z) (sym (subst (λ z. Carries z w) e c)) tt
+sending-to_all s g p m mail (decision d at tallies e) w c = goes-carried mail w (Dec m.last d.round d.estimate) e c
+
+sending-owner : (s : Setting) (g : State) (p : ℕ) (mail : Mail) → Holds s g → IsMember s.members p → IsSending s g p (member g p) mail → (w : Wire) → Carries mail w → IsByOwner s g p w
+sending-owner s g p mail holds is (nothing e) w c = absurd (subst (λ z. Carries z w) e c)
+sending-owner s g p mail holds is (message new origin e) w c = subst (λ z. IsByOwner s g p z) (sym (subst (λ z. Carries z w) e c)) (inr origin)
+sending-owner s g p mail holds is (relay x sent relayed e) w c =
+    subst (λ z. IsByOwner s g p z) (sym (subst (λ z. Carries z w) e c)) (by_owner-sent s g p x sent)
+sending-owner s g p mail holds is (estimate k r v ts e) w c = subst (λ z. IsByOwner s g p z) (sym (subst (λ z. Carries z w) e c)) tt
+sending-owner s g p mail holds is (proposal k r v e) w c = subst (λ z. IsByOwner s g p z) (sym (subst (λ z. Carries z w) e c)) tt
+sending-owner s g p mail holds is (ack k r e) w c = subst (λ z. IsByOwner s g p z) (sym (subst (λ z. Carries z w) e c)) tt
+sending-owner s g p mail holds is (nack k r e) w c = subst (λ z. IsByOwner s g p z) (sym (subst (λ z. Carries z w) e c)) tt
+sending-owner s g p mail holds is (decision d at tallies e) w c =
+    subst (λ z. IsByOwner s g p z) (sym (subst (λ z. Carries z w) e c)) (inr ((holds.sound p is d at).tallies tallies))
+
+-- what a step gets
+record IsGetting (s : Setting) (g : State) (p : ℕ) (o : Outcome) : Type 0 where
+  more : (w : Wire) → IsIn w (member g p).got → IsIn w o.member.got
+  got_now : GotNow s g p o
+
+gets-nothing : (s : Setting) (g : State) (p : ℕ) (o : Outcome) → o.member.got ≡ (member g p).got → IsGetting s g p o
+gets-nothing s g p o same = record {
   more = λ w h. subst (λ z. IsIn w z) (sym same) h;
   got_now = λ w h. inl (subst (λ z. IsIn w z) same h);
-  owner = λ w c. absurd (subst (λ z. Carries z w) quiet c);
-  to_all = λ w c. absurd (subst (λ z. Carries z w) quiet c);
 }
 
-carried-if : (b : Bool) (w x : Wire) → Carries (cond b (All w) Nobody) x → (b ≡ true) × (x ≡ w)
-carried-if true w x c = (refl, c)
-carried-if false w x c = absurd c
-
--- what a test sends goes to all
-if-goes : (b : Bool) (w x : Wire) → Carries (cond b (All w) Nobody) x → GoesToAll (cond b (All w) Nobody) x
-if-goes true w x c = subst (λ z. GoesToAll (All w) z) (sym c) (goes-all w)
-if-goes false w x c = absurd c
-
-made-receive : (s : Setting) (g : State) (p : ℕ) (w : Wire) → Sent g w → IsMade s g p (receive s p (member g p) w)
-made-receive s g p w sent =
+gets-one : (s : Setting) (g : State) (p : ℕ) (w : Wire) → Sent g w → IsGetting s g p (receive s p (member g p) w)
+gets-one s g p w sent =
     let got : List Wire = (member g p).got in
-    let b : Bool = is_relayed s p got w in
     record {
       more = λ x h. Lists.IsIn-append_left x got (w ∷ []) h;
       got_now = λ x h. elim (Lists.IsIn-append_cases x got (w ∷ []) h) [
         | inl a ↦ inl a
         | inr c ↦ elim c [
           | inl e ↦
-              let same : cond b (All w) Nobody ≡ cond (is_relayed s p got x) (All x) Nobody =
+              let same : cond (is_relayed s p got w) (All w) Nobody ≡ cond (is_relayed s p got x) (All x) Nobody =
               ap (λ z. cond (is_relayed s p got z) (All z) Nobody) (sym e) in
               inr (record { sent = subst (λ z. Sent g z) (sym e) sent; mail = same })
           | inr never ↦ absurd never
         ]
       ];
-      owner = λ x h.
-          let r = carried-if b w x h in
-          by_owner-sent s g p x (subst (λ z. Sent g z) (sym r.1) sent);
-      to_all = λ x h. if-goes b w x h;
     }
 
-made-submit : (s : Setting) (g : State) (p : ℕ) (c : Command) → IsMade s g p (submit g p (member g p) c)
-made-submit s g p c =
-    let m : Message = next_message g.submitted p c in
-    record {
-      more = λ w h. h;
-      got_now = λ w h. inl h;
-      owner = λ w h. subst (λ z. IsByOwner s g p z) (sym h) (inr refl);
-      to_all = λ w h. subst (λ z. GoesToAll (All (Data m)) z) (sym h) refl;
-    }
+gets-quiet : (s : Setting) (g : State) (p : ℕ) (step : Step) (o : Outcome) → IsOfConsensus step → row s g p (member g p) step ≡ Some o → IsGetting s g p o
+gets-quiet s g p step o is e = gets-nothing s g p o (row-quiet s g p (member g p) step o is e).got
+
+step-gets : (s : Setting) (g : State) (p : ℕ) (step : Step) (o : Outcome) → row s g p (member g p) step ≡ Some o → IsGetting s g p o
+step-gets s g p (Submit _ c) o e =
+    subst (λ z. IsGetting s g p z) (when-is (is_good c) (submit g p (member g p) c) o e).1
+    (gets-nothing s g p (submit g p (member g p) c) refl)
+step-gets s g p (Receive _ k) o e =
+    let made = made-map (receive s p (member g p)) (wire_to g p k) o e in
+    subst (λ z. IsGetting s g p z) made.gives (gets-one s g p made.from (Sent-wire g p k made.from made.is))
+step-gets s g p (Begin q) o e = gets-quiet s g p (Begin q) o tt e
+step-gets s g p (Enter q) o e = gets-quiet s g p (Enter q) o tt e
+step-gets s g p (Choose q from) o e = gets-quiet s g p (Choose q from) o tt e
+step-gets s g p (Adopt q) o e = gets-quiet s g p (Adopt q) o tt e
+step-gets s g p (Suspect q) o e = gets-quiet s g p (Suspect q) o tt e
+step-gets s g p (Conclude q) o e = gets-quiet s g p (Conclude q) o tt e
+step-gets s g p (Deliver q) o e = gets-quiet s g p (Deliver q) o tt e
+step-gets s g p (Crash _) o e =
+    subst (λ z. IsGetting s g p z) (some-same (crash (member g p)) o e) (gets-nothing s g p (crash (member g p)) refl)
+step-gets s g p (Postpone _ k) o e =
+    let made = made-map (λ (w : Wire). plain (member g p) Nobody) (wire_to g p k) o e in
+    subst (λ z. IsGetting s g p z) made.gives (gets-nothing s g p (plain (member g p) Nobody) refl)
 
 pub made-step : (s : Setting) (g : State) (step : Step) (o : Outcome) → Holds s g → IsMember s.members (actor step) → row s g (actor step) (member g (actor step)) step ≡ Some o → IsMade s g (actor step) o
-made-step s g (Submit p c) o holds is e =
-    subst (λ z. IsMade s g p z) (when-is (is_good c) (submit g p (member g p) c) o e).1 (made-submit s g p c)
-made-step s g (Receive p k) o holds is e =
-    let made = made-map (receive s p (member g p)) (wire_to g p k) o e in
-    subst (λ z. IsMade s g p z) made.gives (made-receive s g p made.from (Sent-wire g p k made.from made.is))
-made-step s g (Crash p) o holds is e =
-    subst (λ z. IsMade s g p z) (some-same (crash (member g p)) o e) (made-mute s g p (crash (member g p)) refl refl)
-made-step s g (Postpone p k) o holds is e =
-    let made = made-map (λ (w : Wire). plain (member g p) Nobody) (wire_to g p k) o e in
-    subst (λ z. IsMade s g p z) made.gives (made-mute s g p (plain (member g p) Nobody) refl refl)
+made-step s g step o holds is e =
+    let p : ℕ = actor step in
+    let gets = step-gets s g p step o e in
+    let sends = row-sends s g p (member g p) step o e in
+    record {
+      more = gets.more;
+      got_now = gets.got_now;
+      owner = sending-owner s g p o.mail holds is sends;
+      to_all = sending-to_all s g p (member g p) o.mail sends;
+    }

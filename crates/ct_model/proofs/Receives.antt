@@ -31,7 +31,7 @@ pub receive_outcome-is : (w : Rehearsal) (p : ℕ) (x : Wire) → receive_outcom
 unfolding receive_outcome
 receive_outcome-is w p x = refl
 
-either_number : (n : ℕ) (x : Wire) (b : Bool) → length (envelopes n (if b then All x else Nobody)) ≡ (if b then n else 0)
+pub either_number : (n : ℕ) (x : Wire) (b : Bool) → length (envelopes n (if b then All x else Nobody)) ≡ (if b then n else 0)
 either_number n x true = length-all n x
 either_number n x false = refl
 

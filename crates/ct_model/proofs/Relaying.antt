@@ -15,7 +15,7 @@ use Rattle.ct_model.specs.Next.{Outcome, after, next}
 use Rattle.ct_model.specs.Run.{run, run_from}
 use Rattle.ct_model.specs.Senders.{senders, senders_from}
 use Rattle.ct_model.specs.Relayed.{IsArrived, HasCaughtUp}
-use Rattle.ct_model.proofs.Facts.{Holds, Holds-first, Holds-next, member_is}
+use Rattle.ct_model.proofs.Facts.{Holds, member_is}
 use Rattle.ct_model.proofs.First.{member-first}
 use Rattle.ct_model.proofs.History.{IsHistory, history_kept}
 use Rattle.ct_model.proofs.Knowing.{next-is}
@@ -23,6 +23,7 @@ use Rattle.ct_model.proofs.Making.{IsMade, made-step}
 use Rattle.ct_model.proofs.Outcomes.{some-same, made-then}
 use Rattle.ct_model.proofs.Posting.{IsPosted, letter}
 use Rattle.ct_model.proofs.Readings
+use Rattle.ct_model.proofs.Running.{Holds-first, Holds-next}
 
 history-first : (s : Setting) → IsHistory s [] [] (first_state s)
 unfolding first_state

@@ -6,7 +6,7 @@ use Rattle.std.proofs.lemmas.List.{drop_at, length_push}
 use Rattle.std.proofs.lemmas.Bool.Decides.{nat_tests}
 use Rattle.ct_names.specs.Group.{is_member}
 use Rattle.ct_model.specs.declared.step.Step.{Step}
-use Rattle.ct_model.specs.declared.step.Step.TheVariants.{Submit, Receive, Crash, Postpone}
+use Rattle.ct_model.specs.declared.step.Step.TheVariants.{Submit, Receive, Begin, Enter, Choose, Adopt, Suspect, Conclude, Deliver, Crash, Postpone}
 use Rattle.ct_model.specs.Actor.{actor}
 use Rattle.ct_model.specs.AtValue.{Envelope}
 use Rattle.ct_model.specs.Setting.{Setting}
@@ -61,6 +61,13 @@ not_taken w law (Receive q i) names p k m =
     let b : i ≤ length (state_of w).sent = waiting_within w law q i names in
     let differs : (i == k) ≡ false = grind (arith, nat_tests) in
     rw differs (and_false (q == p))
+not_taken w law (Begin q) names p k m = refl
+not_taken w law (Enter q) names p k m = refl
+not_taken w law (Choose q from) names p k m = refl
+not_taken w law (Adopt q) names p k m = refl
+not_taken w law (Suspect q) names p k m = refl
+not_taken w law (Conclude q) names p k m = refl
+not_taken w law (Deliver q) names p k m = refl
 not_taken w law (Crash q) names p k m = refl
 not_taken w law (Postpone q i) names p k m = refl
 
@@ -68,6 +75,13 @@ not_taken w law (Postpone q i) names p k m = refl
 moved_waits : (w : Rehearsal) (step : Step) → NamesWaiting w step → (p k : ℕ) → has_serial k (moved p step) ≡ true → (gone_after p k false step ≡ false) × (has_serial k (line_of w p) ≡ true)
 moved_waits w (Submit q c) names p k m = absurd (cc)
 moved_waits w (Receive q i) names p k m = absurd (cc)
+moved_waits w (Begin q) names p k m = absurd (cc)
+moved_waits w (Enter q) names p k m = absurd (cc)
+moved_waits w (Choose q from) names p k m = absurd (cc)
+moved_waits w (Adopt q) names p k m = absurd (cc)
+moved_waits w (Suspect q) names p k m = absurd (cc)
+moved_waits w (Conclude q) names p k m = absurd (cc)
+moved_waits w (Deliver q) names p k m = absurd (cc)
 moved_waits w (Crash q) names p k m = absurd (cc)
 moved_waits w (Postpone q i) names p k m = go (q == p) refl m
   where
@@ -87,6 +101,13 @@ filter_all f (k ∷ ks) h =
 one_moved : (p : ℕ) (step : Step) → is_distinct (moved p step) ≡ true
 one_moved p (Submit q c) = refl
 one_moved p (Receive q i) = refl
+one_moved p (Begin q) = refl
+one_moved p (Enter q) = refl
+one_moved p (Choose q from) = refl
+one_moved p (Adopt q) = refl
+one_moved p (Suspect q) = refl
+one_moved p (Conclude q) = refl
+one_moved p (Deliver q) = refl
 one_moved p (Crash q) = refl
 one_moved p (Postpone q i) = go (q == p)
   where

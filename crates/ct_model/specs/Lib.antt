@@ -14,6 +14,7 @@ pub mod Next
 pub mod Run
 pub mod Senders
 pub mod Relayed
+pub mod Safe
 pub mod Waiting
 pub mod Rehearsal
 pub mod Cause

@@ -7,7 +7,7 @@ use Rattle.ct_names.specs.Message.{Message}
 use Rattle.ct_names.specs.Value.{Value, has, minus, ordered}
 use Rattle.ct_model.specs.declared.phase.Phase.TheVariants.{Rest}
 use Rattle.ct_model.specs.declared.step.Step.{Step}
-use Rattle.ct_model.specs.declared.step.Step.TheVariants.{Submit, Receive, Crash, Postpone}
+use Rattle.ct_model.specs.declared.step.Step.TheVariants.{Submit, Receive, Begin, Enter, Choose, Adopt, Suspect, Conclude, Deliver, Crash, Postpone}
 use Rattle.ct_model.specs.Setting.{Setting}
 use Rattle.ct_model.specs.When.{when}
 use Rattle.ct_model.specs.Wire.{envelopes}
@@ -109,6 +109,21 @@ suspect_row s p m = round_row m (λ c. suspect s.members p m.last (own_ballots m
 abbrev pub conclude_row : Setting → Member → Option Outcome
 conclude_row s m = round_row m (λ c. conclude s.members m.last (own_ballots m c) c)
 
+-- what is delivered of a decision: what the member didn't deliver yet, in order
+unfoldable pub batch_of : Member → Value → List Message
+batch_of m v = ordered (minus v (delivered m))
+
+-- the open instance is closed, and its decision is delivered
+abbrev pub deliver : Member → Value → Outcome
+deliver m v = plain (record m {
+  current = None;
+  batches = m.batches ++ record { instance = m.last; messages = batch_of m v } ∷ [];
+}) Nobody
+
+-- the row of that: an instance is open, and its decision was got. None: it isn't enabled
+abbrev pub deliver_row : Member → Option Outcome
+deliver_row m = option_and_then (λ c. option_map (deliver m) (decided m.got m.last)) m.current
+
 abbrev pub crash : Member → Outcome
 crash m = plain (record m { crashed = true }) Nobody
 
@@ -116,6 +131,13 @@ crash m = plain (record m { crashed = true }) Nobody
 abbrev pub row : Setting → State → ℕ → Member → Step → Option Outcome
 row s g p m (Submit _ c) = when (is_good c) (submit g p m c)
 row s g p m (Receive _ k) = option_map (receive s p m) (wire_to g p k)
+row s g p m (Begin _) = begin_row p m
+row s g p m (Enter _) = enter_row s p m
+row s g p m (Choose _ from) = choose_row s m from
+row s g p m (Adopt _) = adopt_row s p m
+row s g p m (Suspect _) = suspect_row s p m
+row s g p m (Conclude _) = conclude_row s m
+row s g p m (Deliver _) = deliver_row m
 row s g p m (Crash _) = Some (crash m)
 row s g p m (Postpone _ k) = option_map (λ w. plain m Nobody) (wire_to g p k)
 

@@ -7,14 +7,14 @@ use Rattle.ct_model.specs.declared.step.Step.TheVariants.{Receive, Postpone}
 use Rattle.ct_model.specs.Setting.{Setting}
 use Rattle.ct_model.specs.State.{State, first_state}
 use Rattle.ct_model.specs.Next.{stepped}
-use Rattle.ct_model.specs.AtValue.{Envelope}
+use Rattle.ct_model.specs.Wire.{Envelope}
 
 -- the serial is in the list
 abbrev pub has_serial : ℕ → List ℕ → Bool
 has_serial k line = list_any (λ other. other == k) line
 
 -- the serials of those envelopes that go to p; this many were sent before them
-abbrev pub serials_to : ℕ → ℕ → List Envelope → List ℕ
+abbrev pub serials_to : {V : Type 0} → ℕ → ℕ → List (Envelope V) → List ℕ
 serials_to p before [] = []
 serials_to p before (e ∷ es) = (if e.to == p then (before + 1) ∷ [] else []) ++ serials_to p (before + 1) es
 

@@ -1,14 +1,17 @@
 //! Laws over the definitions alone, for every group and every list of steps that has a run.
 
-ghost use Rattle.std.specs.Prelude.{◌≡◌, ℕ, List, Some};
+ghost use Rattle.std.specs.Prelude.{◌≡◌, ◌⊎◌, ℕ, ◌≤◌, List, Some};
 ghost use Rattle.ct_names.specs.Group.{IsMember};
 ghost use Rattle.ct_names.specs.Membership.{IsIn, IsWithoutRepeats};
 ghost use Rattle.ct_names.specs.Message.{Message};
+ghost use Rattle.ct_names.specs.Value.{Value};
 ghost use Rattle.ct_model.specs.Received.{received_by};
-ghost use Rattle.ct_model.specs.Relayed.{IsArrived, HasCaughtUp};
+ghost use Rattle.ct_model.specs.Relayed.{HasDecided, IsArrived, HasCaughtUp};
 ghost use Rattle.ct_model.specs.Run.{run};
 ghost use Rattle.ct_model.specs.Setting.{Setting};
-ghost use Rattle.ct_model.specs.State.{State};
+ghost use Rattle.ct_model.specs.Safe.{IsLocked, IsProposed, IsPrefix, delivered_by};
+ghost use Rattle.ct_model.specs.State.{State, member, wires};
+ghost use Rattle.ct_model.specs.Wire.Wire.{Prop};
 ghost use Rattle.ct_model.specs.declared.step.Step.{Step};
 
 /// Uniform integrity of reliable broadcast (Chandra and Toueg, section 4): a member receives a message at most once,
@@ -22,4 +25,31 @@ pub fn law_integrity()
 /// that another sent to it has received each message, and has a decision for each instance, that the other has.
 pub fn law_relay()
     ensures { (s : Setting) (steps : List Step) (g : State) → run s steps ≡ Some g → (p q : ℕ) → IsMember s.members p → IsMember s.members q → IsArrived s steps g p q → HasCaughtUp g p q }
+{}
+
+/// The locked value (Chandra and Toueg, section 6.2): once a majority acked a round's proposal, the proposal of every
+/// later round of the instance is the same.
+pub fn law_locked()
+    ensures { (s : Setting) (steps : List Step) (g : State) → run s steps ≡ Some g → (instance round later : ℕ) (v w : Value) → IsLocked s g instance round v → round ≤ later → IsIn (Prop instance later w) (wires g) → w ≡ v }
+{}
+
+/// Uniform agreement of consensus (Chandra and Toueg, section 6): two decisions of one instance are equal, also those
+/// of members that crashed.
+pub fn law_agreement()
+    ensures { (s : Setting) (steps : List Step) (g : State) → run s steps ≡ Some g → (p q instance : ℕ) (v w : Value) → IsMember s.members p → IsMember s.members q → HasDecided g p instance v → HasDecided g q instance w → v ≡ w }
+{}
+
+/// Uniform validity of consensus (Chandra and Toueg, section 6), and integrity of atomic broadcast (section 7): a
+/// decision was proposed for its instance, and what a member delivered was submitted.
+pub fn law_validity()
+    ensures proposed { (s : Setting) (steps : List Step) (g : State) → run s steps ≡ Some g → (p instance : ℕ) (v : Value) → IsMember s.members p → HasDecided g p instance v → IsProposed g instance v }
+    ensures submitted { (s : Setting) (steps : List Step) (g : State) → run s steps ≡ Some g → (p : ℕ) (m : Message) → IsMember s.members p → IsIn m (delivered_by g p) → IsIn m g.submitted }
+{}
+
+/// Uniform total order of atomic broadcast (Chandra and Toueg, section 7): of two delivered sequences one begins the
+/// other, and so it is with the batches; no message stands twice in one.
+pub fn law_prefix()
+    ensures delivered { (s : Setting) (steps : List Step) (g : State) → run s steps ≡ Some g → (p q : ℕ) → IsMember s.members p → IsMember s.members q → IsPrefix (delivered_by g p) (delivered_by g q) ⊎ IsPrefix (delivered_by g q) (delivered_by g p) }
+    ensures once { (s : Setting) (steps : List Step) (g : State) → run s steps ≡ Some g → (p : ℕ) → IsMember s.members p → IsWithoutRepeats (delivered_by g p) }
+    ensures batches { (s : Setting) (steps : List Step) (g : State) → run s steps ≡ Some g → (p q : ℕ) → IsMember s.members p → IsMember s.members q → IsPrefix (member g p).batches (member g q).batches ⊎ IsPrefix (member g q).batches (member g p).batches }
 {}

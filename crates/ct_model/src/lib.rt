@@ -6,6 +6,6 @@ mod laws;
 mod phase;
 mod step;
 
-pub use laws::{law_integrity, law_relay};
+pub use laws::{law_agreement, law_integrity, law_locked, law_prefix, law_relay, law_validity};
 pub use phase::Phase;
 pub use step::Step;

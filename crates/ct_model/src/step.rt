@@ -13,6 +13,20 @@ pub enum Step {
     Submit(Member, Command),
     /// The member receives the envelope of this serial, and relays what it receives for the first time.
     Receive(Member, Serial),
+    /// The member opens its next instance, and proposes what it received and didn't deliver.
+    Begin(Member),
+    /// The member enters the next round: its estimate goes to the round's coordinator.
+    Enter(Member),
+    /// The coordinator proposes the estimate of the second member, which has the largest ts that it heard.
+    Choose(Member, Member),
+    /// The member takes the coordinator's proposal over, and acks it.
+    Adopt(Member),
+    /// The member takes the coordinator for crashed, and sends it a nack.
+    Suspect(Member),
+    /// The coordinator ends its round: where a majority acked, its estimate is the decision, which goes to all.
+    Conclude(Member),
+    /// The member delivers the decision of its open instance, and closes it.
+    Deliver(Member),
     /// The member stops for good.
     Crash(Member),
     /// The serial moves to the end of the member's waiting line.
@@ -27,6 +41,13 @@ impl Step {
         match *self {
             Step::Submit(member, _) => member,
             Step::Receive(member, _) => member,
+            Step::Begin(member) => member,
+            Step::Enter(member) => member,
+            Step::Choose(member, _) => member,
+            Step::Adopt(member) => member,
+            Step::Suspect(member) => member,
+            Step::Conclude(member) => member,
+            Step::Deliver(member) => member,
             Step::Crash(member) => member,
             Step::Postpone(member, _) => member,
         }

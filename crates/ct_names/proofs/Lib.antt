@@ -1,4 +1,5 @@
 pub mod Lists
+pub mod Distinct
 pub mod Groups
 pub mod MemberSets
 pub mod Values

@@ -34,6 +34,18 @@ impl Book {
         }
     }
 
+    /// A book of the same sets by the same numbers, or the error where memory is refused. Whether the copy has room is
+    /// not said.
+    pub fn copy(&self, alloc: Global) -> Result<Book, AllocError>
+        ensures { IfOk result (λ book. book.values ≡ self.now.values) }
+    {
+        let mut sets = Vec::new(alloc);
+        for set in &self.sets {
+            sets.push(set.copy(alloc)?)?;
+        }
+        Ok(Book { sets })
+    }
+
     /// Whether one more set can be added without memory.
     pub fn has_room(&self) -> bool
         ensures { result ≡ nat_lt 0 self.now.room }

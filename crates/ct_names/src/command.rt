@@ -5,7 +5,7 @@ ghost use Rattle.ct_names.specs.Command.{is_good};
 
 /// What a message asks of a table of 16 registers, numbered from 0. The order is that of the variants, then of the
 /// fields in turn.
-#[derive(Clone, Copy, Debug, PartialEq, Eq, PartialOrd, Ord)]
+#[derive(Clone, Copy, Debug, PartialEq, Eq, PartialOrd, Ord, Hash)]
 pub enum Command {
     /// The register gets the value.
     Set(u8, u64),

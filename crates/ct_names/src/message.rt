@@ -11,7 +11,7 @@ use std::marker::Model;
 
 /// The number-th command that a member broadcasts, counted from 1. Its registers are good: no message has others.
 /// Messages are ordered by origin, then number, then command, and shown as `origin.number`.
-#[derive(Clone, Copy, Debug, PartialEq, Eq, PartialOrd, Ord)]
+#[derive(Clone, Copy, Debug, PartialEq, Eq, PartialOrd, Ord, Hash)]
 pub struct Message {
     origin: Member,
     number: u32,

@@ -90,5 +90,11 @@ fn a_book_numbers_its_sets(rt: HostRuntime) -> Result<(), Fail> {
     assert_eq!(rt; book.len(), 2);
     assert!(rt; book.get(one).is_some_and(|set| set.contains(&message)));
     assert!(rt; book.get(ValueId::new(2)).is_none());
+    let copy = book.copy(alloc)?;
+    book.prepare()?;
+    book.add(MsgSet::new(alloc)).map_err(|_| "room")?;
+    assert_eq!(rt; copy.len(), 2);
+    assert!(rt; copy.get(empty).is_some_and(|set| set.is_empty()));
+    assert!(rt; copy.get(one).is_some_and(|set| set.contains(&message)));
     Ok(())
 }

@@ -18,7 +18,7 @@ use Rattle.serde_json.proofs.Texts.{print-outline}
 use Rattle.ct_names.specs.declared.command.Command.{Command}
 use Rattle.ct_names.specs.declared.command.Command.TheVariants.{Set, Add, Copy}
 use Rattle.ct_model.specs.declared.step.Step.{Step}
-use Rattle.ct_model.specs.declared.step.Step.TheVariants.{Submit, Receive, Crash, Postpone}
+use Rattle.ct_model.specs.declared.step.Step.TheVariants.{Submit, Receive, Begin, Enter, Choose, Adopt, Suspect, Conclude, Deliver, Crash, Postpone}
 use Rattle.ct_model.specs.Rehearsal.{Rehearsal}
 use Rattle.ct_program.specs.Fits.{CommandFits, StepFits, AllFit}
 use Rattle.ct_program.specs.Text.{command_text, step_text, steps_text, record_text}
@@ -40,6 +40,13 @@ command_data (Copy a b) = word_and_two (codes "copy") (num a) (num b)
 abbrev pub step_data : Step → Data
 step_data (Submit p c) = word_and_two (codes "submit") (num p) (command_data c)
 step_data (Receive p s) = word_and_two (codes "receive") (num p) (num s)
+step_data (Begin p) = word_and_one (codes "begin") (num p)
+step_data (Enter p) = word_and_one (codes "enter") (num p)
+step_data (Choose p from) = word_and_two (codes "choose") (num p) (num from)
+step_data (Adopt p) = word_and_one (codes "adopt") (num p)
+step_data (Suspect p) = word_and_one (codes "suspect") (num p)
+step_data (Conclude p) = word_and_one (codes "conclude") (num p)
+step_data (Deliver p) = word_and_one (codes "deliver") (num p)
 step_data (Crash p) = word_and_one (codes "crash") (num p)
 step_data (Postpone p s) = word_and_two (codes "postpone") (num p) (num s)
 
@@ -63,6 +70,13 @@ step_compact : (s : Step) → compact_text (step_data s) ≡ step_text s
 unfolding step_text json_on_literals
 step_compact (Submit p c) = ap (λ t. codes "[\"submit\"," ++ (decimal p ++ 44 ∷ (t ++ 93 ∷ []))) (command_compact c)
 step_compact (Receive p s) = refl
+step_compact (Begin p) = refl
+step_compact (Enter p) = refl
+step_compact (Choose p from) = refl
+step_compact (Adopt p) = refl
+step_compact (Suspect p) = refl
+step_compact (Conclude p) = refl
+step_compact (Deliver p) = refl
 step_compact (Crash p) = refl
 step_compact (Postpone p s) = refl
 
@@ -99,6 +113,13 @@ command_again (Copy a b) h = two_again _ _ _ (number_again a (omega arith)) (num
 step_again : (s : Step) → StepFits s → of_json (outline (step_data s)) ≡ Some (step_data s)
 step_again (Submit p c) h = two_again _ _ _ (number_again p (omega arith)) (command_again c h.1)
 step_again (Receive p s) h = two_again _ _ _ (number_again p (omega arith)) (number_again s (omega arith))
+step_again (Begin p) h = one_again _ _ (number_again p (omega arith))
+step_again (Enter p) h = one_again _ _ (number_again p (omega arith))
+step_again (Choose p from) h = two_again _ _ _ (number_again p (omega arith)) (number_again from (omega arith))
+step_again (Adopt p) h = one_again _ _ (number_again p (omega arith))
+step_again (Suspect p) h = one_again _ _ (number_again p (omega arith))
+step_again (Conclude p) h = one_again _ _ (number_again p (omega arith))
+step_again (Deliver p) h = one_again _ _ (number_again p (omega arith))
 step_again (Crash p) h = one_again _ _ (number_again p (omega arith))
 step_again (Postpone p s) h = two_again _ _ _ (number_again p (omega arith)) (number_again s (omega arith))
 
@@ -128,6 +149,13 @@ command_is (Copy a b) h = two_is (codes "copy") (num a) (num b) (number_is a (om
 step_is : (s : Step) → StepFits s → tree.HasNumbers (outline (step_data s))
 step_is (Submit p c) h = two_is (codes "submit") (num p) (command_data c) (number_is p (omega arith)) (command_is c h.1)
 step_is (Receive p s) h = two_is (codes "receive") (num p) (num s) (number_is p (omega arith)) (number_is s (omega arith))
+step_is (Begin p) h = one_is (codes "begin") (num p) (number_is p (omega arith))
+step_is (Enter p) h = one_is (codes "enter") (num p) (number_is p (omega arith))
+step_is (Choose p from) h = two_is (codes "choose") (num p) (num from) (number_is p (omega arith)) (number_is from (omega arith))
+step_is (Adopt p) h = one_is (codes "adopt") (num p) (number_is p (omega arith))
+step_is (Suspect p) h = one_is (codes "suspect") (num p) (number_is p (omega arith))
+step_is (Conclude p) h = one_is (codes "conclude") (num p) (number_is p (omega arith))
+step_is (Deliver p) h = one_is (codes "deliver") (num p) (number_is p (omega arith))
 step_is (Crash p) h = one_is (codes "crash") (num p) (number_is p (omega arith))
 step_is (Postpone p s) h = two_is (codes "postpone") (num p) (num s) (number_is p (omega arith)) (number_is s (omega arith))
 
@@ -143,6 +171,13 @@ step_shallow (Submit p (Set r v)) = omega arith
 step_shallow (Submit p (Add r v)) = omega arith
 step_shallow (Submit p (Copy a b)) = omega arith
 step_shallow (Receive p s) = omega arith
+step_shallow (Begin p) = omega arith
+step_shallow (Enter p) = omega arith
+step_shallow (Choose p from) = omega arith
+step_shallow (Adopt p) = omega arith
+step_shallow (Suspect p) = omega arith
+step_shallow (Conclude p) = omega arith
+step_shallow (Deliver p) = omega arith
 step_shallow (Crash p) = omega arith
 step_shallow (Postpone p s) = omega arith
 

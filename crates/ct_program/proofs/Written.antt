@@ -10,7 +10,7 @@ use Rattle.serde_json.specs.Data.{number, unsigned}
 use Rattle.ct_names.specs.declared.command.Command.{Command}
 use Rattle.ct_names.specs.declared.command.Command.TheVariants.{Set, Add, Copy}
 use Rattle.ct_model.specs.declared.step.Step.{Step}
-use Rattle.ct_model.specs.declared.step.Step.TheVariants.{Submit, Receive, Crash, Postpone}
+use Rattle.ct_model.specs.declared.step.Step.TheVariants.{Submit, Receive, Begin, Enter, Choose, Adopt, Suspect, Conclude, Deliver, Crash, Postpone}
 use Rattle.ct_model.specs.Rehearsal.{Rehearsal}
 use Rattle.ct_program.specs.Fits.{CommandFits, StepFits, AllFit, IsStorable}
 use Rattle.ct_program.specs.Text.{command_text, step_text, steps_text, record_text}
@@ -64,6 +64,13 @@ step_short : (s : Step) → StepFits s → Text (step_text s) 48
 unfolding step_text
 step_short (Submit p c) h = weaker _ 48 48 (two (codes "[\"submit\",") (decimal p) (command_text c) 10 3 33 refl (omega arith) (byte p h.0) (command_short c h.1)) (omega arith)
 step_short (Receive p s) h = weaker _ 26 48 (two (codes "[\"receive\",") (decimal p) (decimal s) 11 3 10 refl (omega arith) (byte p h.0) (serial s h.1)) (omega arith)
+step_short (Begin p) h = weaker _ 13 48 (one (codes "[\"begin\",") (decimal p) 9 3 refl (omega arith) (byte p h)) (omega arith)
+step_short (Enter p) h = weaker _ 13 48 (one (codes "[\"enter\",") (decimal p) 9 3 refl (omega arith) (byte p h)) (omega arith)
+step_short (Choose p from) h = weaker _ 18 48 (two (codes "[\"choose\",") (decimal p) (decimal from) 10 3 3 refl (omega arith) (byte p h.0) (byte from h.1)) (omega arith)
+step_short (Adopt p) h = weaker _ 13 48 (one (codes "[\"adopt\",") (decimal p) 9 3 refl (omega arith) (byte p h)) (omega arith)
+step_short (Suspect p) h = weaker _ 15 48 (one (codes "[\"suspect\",") (decimal p) 11 3 refl (omega arith) (byte p h)) (omega arith)
+step_short (Conclude p) h = weaker _ 16 48 (one (codes "[\"conclude\",") (decimal p) 12 3 refl (omega arith) (byte p h)) (omega arith)
+step_short (Deliver p) h = weaker _ 15 48 (one (codes "[\"deliver\",") (decimal p) 11 3 refl (omega arith) (byte p h)) (omega arith)
 step_short (Crash p) h = weaker _ 13 48 (one (codes "[\"crash\",") (decimal p) 9 3 refl (omega arith) (byte p h)) (omega arith)
 step_short (Postpone p s) h = weaker _ 27 48 (two (codes "[\"postpone\",") (decimal p) (decimal s) 12 3 10 refl (omega arith) (byte p h.0) (serial s h.1)) (omega arith)
 
@@ -97,6 +104,13 @@ step_is : (s : Step) → StepFits s → step_of (step_data s) ≡ Some s
 unfolding step_of short_step long_step
 step_is (Submit p c) h = rw (whole_is 0 255 p (omega arith) (omega arith), command_is c h.1) refl
 step_is (Receive p s) h = rw (whole_is 0 255 p (omega arith) (omega arith), whole_is 0 4294967295 s (omega arith) (omega arith)) refl
+step_is (Begin p) h = rw (whole_is 0 255 p (omega arith) (omega arith)) refl
+step_is (Enter p) h = rw (whole_is 0 255 p (omega arith) (omega arith)) refl
+step_is (Choose p from) h = rw (whole_is 0 255 p (omega arith) (omega arith), whole_is 0 255 from (omega arith) (omega arith)) refl
+step_is (Adopt p) h = rw (whole_is 0 255 p (omega arith) (omega arith)) refl
+step_is (Suspect p) h = rw (whole_is 0 255 p (omega arith) (omega arith)) refl
+step_is (Conclude p) h = rw (whole_is 0 255 p (omega arith) (omega arith)) refl
+step_is (Deliver p) h = rw (whole_is 0 255 p (omega arith) (omega arith)) refl
 step_is (Crash p) h = rw (whole_is 0 255 p (omega arith) (omega arith)) refl
 step_is (Postpone p s) h = rw (whole_is 0 255 p (omega arith) (omega arith), whole_is 0 4294967295 s (omega arith) (omega arith)) refl
 

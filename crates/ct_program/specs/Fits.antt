@@ -3,7 +3,7 @@ use Rattle.std.specs.Prelude.{List, [], ◌∷◌, ◌<◌, ◌≤◌, length, �
 use Rattle.ct_names.specs.declared.command.Command.{Command}
 use Rattle.ct_names.specs.declared.command.Command.TheVariants.{Set, Add, Copy}
 use Rattle.ct_model.specs.declared.step.Step.{Step}
-use Rattle.ct_model.specs.declared.step.Step.TheVariants.{Submit, Receive, Crash, Postpone}
+use Rattle.ct_model.specs.declared.step.Step.TheVariants.{Submit, Receive, Begin, Enter, Choose, Adopt, Suspect, Conclude, Deliver, Crash, Postpone}
 use Rattle.ct_model.specs.Rehearsal.{Rehearsal}
 
 -- registers below 256, values and amounts below 2 ^ 64
@@ -16,6 +16,13 @@ CommandFits (Copy from to) = (from < 256) × (to < 256)
 abbrev pub StepFits : Step → Type 0
 StepFits (Submit p c) = (p < 256) × CommandFits c
 StepFits (Receive p k) = (p < 256) × (k < 4294967296)
+StepFits (Begin p) = p < 256
+StepFits (Enter p) = p < 256
+StepFits (Choose p from) = (p < 256) × (from < 256)
+StepFits (Adopt p) = p < 256
+StepFits (Suspect p) = p < 256
+StepFits (Conclude p) = p < 256
+StepFits (Deliver p) = p < 256
 StepFits (Crash p) = p < 256
 StepFits (Postpone p k) = (p < 256) × (k < 4294967296)
 

@@ -7,7 +7,7 @@ use Rattle.serde_json.specs.Find.{get, as_number, as_u64, as_str, as_array, as_o
 use Rattle.ct_names.specs.declared.command.Command.{Command}
 use Rattle.ct_names.specs.declared.command.Command.TheVariants.{Set, Add, Copy}
 use Rattle.ct_model.specs.declared.step.Step.{Step}
-use Rattle.ct_model.specs.declared.step.Step.TheVariants.{Submit, Receive, Crash, Postpone}
+use Rattle.ct_model.specs.declared.step.Step.TheVariants.{Submit, Receive, Begin, Enter, Choose, Adopt, Suspect, Conclude, Deliver, Crash, Postpone}
 use Rattle.ct_model.specs.Rehearsal.{Rehearsal}
 use Rattle.ct_program.specs.declared.read_fault.ReadFault.{ReadFault}
 use Rattle.ct_program.specs.declared.read_fault.ReadFault.TheVariants.{TooLong, NotJson, Shape, Version}
@@ -69,14 +69,21 @@ command_of d = option_and_then command_parts (list_in d)
 -- the step of a name and a member
 unfoldable pub short_step : List ℕ → ℕ → Option Step
 short_step name p =
-    if bytes_eq name (codes "crash") then Some (Crash p) else None
+    if bytes_eq name (codes "begin") then Some (Begin p) else
+    (if bytes_eq name (codes "enter") then Some (Enter p) else
+    (if bytes_eq name (codes "adopt") then Some (Adopt p) else
+    (if bytes_eq name (codes "suspect") then Some (Suspect p) else
+    (if bytes_eq name (codes "conclude") then Some (Conclude p) else
+    (if bytes_eq name (codes "deliver") then Some (Deliver p) else
+    (if bytes_eq name (codes "crash") then Some (Crash p) else None))))))
 
 -- the step of a name, a member and one more entry
 unfoldable pub long_step : List ℕ → ℕ → Data → Option Step
 long_step name p d =
     if bytes_eq name (codes "submit") then option_map (Submit p) (command_of d) else
     (if bytes_eq name (codes "receive") then option_map (Receive p) (serial_of d) else
-    (if bytes_eq name (codes "postpone") then option_map (Postpone p) (serial_of d) else None))
+    (if bytes_eq name (codes "choose") then option_map (Choose p) (byte_of d) else
+    (if bytes_eq name (codes "postpone") then option_map (Postpone p) (serial_of d) else None)))
 
 abbrev pub step_parts : List Data → Option Step
 step_parts [] = None

@@ -109,10 +109,15 @@ fn step(value: &Value) -> Option<Step>
 fn short(name: &str, p: Member) -> Option<Step>
     ensures { result ≡ short_step name.now p }
 {
-    if name == "crash" {
-        Some(Step::Crash(p))
-    } else {
-        None
+    match name {
+        "begin" => Some(Step::Begin(p)),
+        "enter" => Some(Step::Enter(p)),
+        "adopt" => Some(Step::Adopt(p)),
+        "suspect" => Some(Step::Suspect(p)),
+        "conclude" => Some(Step::Conclude(p)),
+        "deliver" => Some(Step::Deliver(p)),
+        "crash" => Some(Step::Crash(p)),
+        _ => None,
     }
 }
 
@@ -121,14 +126,12 @@ fn short(name: &str, p: Member) -> Option<Step>
 fn long(name: &str, p: Member, last: &Value) -> Option<Step>
     ensures { result ≡ long_step name.now p (view last.now) }
 {
-    if name == "submit" {
-        Some(Step::Submit(p, command(last)?))
-    } else if name == "receive" {
-        Some(Step::Receive(p, serial(last)?))
-    } else if name == "postpone" {
-        Some(Step::Postpone(p, serial(last)?))
-    } else {
-        None
+    match name {
+        "submit" => Some(Step::Submit(p, command(last)?)),
+        "receive" => Some(Step::Receive(p, serial(last)?)),
+        "choose" => Some(Step::Choose(p, byte(last)?)),
+        "postpone" => Some(Step::Postpone(p, serial(last)?)),
+        _ => None,
     }
 }
 
@@ -146,14 +149,11 @@ fn command(value: &Value) -> Option<Command>
 fn named(name: &str, register: u8, last: &Value) -> Option<Command>
     ensures { result ≡ named_command name.now register (view last.now) }
 {
-    if name == "set" {
-        Some(Command::Set(register, number(last)?))
-    } else if name == "add" {
-        Some(Command::Add(register, number(last)?))
-    } else if name == "copy" {
-        Some(Command::Copy(register, byte(last)?))
-    } else {
-        None
+    match name {
+        "set" => Some(Command::Set(register, number(last)?)),
+        "add" => Some(Command::Add(register, number(last)?)),
+        "copy" => Some(Command::Copy(register, byte(last)?)),
+        _ => None,
     }
 }
 

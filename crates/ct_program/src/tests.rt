@@ -1,6 +1,8 @@
 use super::*;
+use crate::writing::push_steps;
 use clap::error::ErrorKind;
-use ct_names::Refusal;
+use ct_model::Step;
+use ct_names::{Command, Refusal};
 use ct_world::World;
 use std::alloc::{AllocError, Global};
 use std::test::Fail;
@@ -10,6 +12,10 @@ const RECORD: &str =
 
 const REPORT: &str =
     "group 3 majority 2 cells 4\nsteps 3 sent 6\nmember 1 up\nreceived 1.1\nmember 2 up\nreceived 1.1\nmember 3 up\nreceived -\n";
+
+// One step of each kind, as a record has them.
+const EACH_STEP: &str =
+    "[\"submit\",1,[\"set\",0,7]],[\"receive\",2,3],[\"begin\",4],[\"enter\",5],[\"choose\",6,7],[\"adopt\",8],[\"suspect\",9],[\"conclude\",10],[\"deliver\",11],[\"crash\",12],[\"postpone\",13,14]";
 
 // ---- readers and writers
 
@@ -299,6 +305,27 @@ fn each_step_has_a_shape(rt: HostRuntime) -> Result<(), Fail> {
 }
 
 #[test]
+fn steps_of_a_round_have_a_shape(rt: HostRuntime) -> Result<(), Fail> {
+    let alloc = rt.alloc();
+    let odd = [
+        "[\"enter\",-1]",
+        "[\"enter\",1,1]",
+        "[\"jump\",1]",
+        "[\"choose\",1]",
+        "[\"choose\",1,256]",
+        "[\"deliver\",256]",
+        "[\"Begin\",1]",
+        "[\"begin\"]",
+    ];
+    for step in odd {
+        let list = format!(in alloc; "[[\"begin\",1],[\"choose\",1,2],{step}]")?;
+        let fault = fault_of_steps(alloc, &list)?;
+        assert_eq!(rt; fault, Some(ReadFault::Shape { at: 3 }), "{step}");
+    }
+    Ok(())
+}
+
+#[test]
 fn the_first_bad_step_is_named(rt: HostRuntime) -> Result<(), Fail> {
     let fault = fault_of_steps(rt.alloc(), "[[\"receive\",1,1],[\"jump\",1],[]]")?;
     assert_eq!(rt; fault, Some(ReadFault::Shape { at: 2 }));
@@ -309,7 +336,7 @@ fn the_first_bad_step_is_named(rt: HostRuntime) -> Result<(), Fail> {
 fn numbers_may_fill_their_fields(rt: HostRuntime) -> Result<(), Fail> {
     let fault = fault_of_steps(
         rt.alloc(),
-        "[[\"submit\",255,[\"add\",255,18446744073709551615]],[\"submit\",0,[\"copy\",255,255]],[\"postpone\",255,4294967295]]",
+        "[[\"submit\",255,[\"add\",255,18446744073709551615]],[\"submit\",0,[\"copy\",255,255]],[\"postpone\",255,4294967295],[\"choose\",255,255],[\"choose\",0,0],[\"conclude\",255],[\"adopt\",0]]",
     )?;
     assert_eq!(rt; fault, None);
     Ok(())
@@ -336,6 +363,38 @@ fn an_empty_record_is_written(rt: HostRuntime) {
     let text = "{\"cells\":4,\"n\":3,\"steps\":[],\"version\":1}";
     let written = rewritten(rt.alloc(), record.as_bytes());
     assert!(rt; written.is_ok_and(|bytes| bytes.as_slice() == text.as_bytes()));
+}
+
+#[test]
+fn each_step_is_read_and_written_again(rt: HostRuntime) -> Result<(), Fail> {
+    let alloc = rt.alloc();
+    let steps = [
+        Step::Submit(1, Command::Set(0, 7)),
+        Step::Receive(2, 3),
+        Step::Begin(4),
+        Step::Enter(5),
+        Step::Choose(6, 7),
+        Step::Adopt(8),
+        Step::Suspect(9),
+        Step::Conclude(10),
+        Step::Deliver(11),
+        Step::Crash(12),
+        Step::Postpone(13, 14),
+    ];
+    let list = format!(in alloc; "[{EACH_STEP}]")?;
+    let record = with_steps(alloc, &list)?;
+    let script = read_record(alloc, record.as_bytes())?;
+    assert!(rt; script.steps.as_slice() == steps.as_slice());
+    let mut text = String::new(alloc);
+    push_steps(&mut text, &script.steps)?;
+    assert_eq!(rt; text.as_str(), EACH_STEP);
+    let list = format!(in alloc; "[{text}]")?;
+    let again = with_steps(alloc, &list)?;
+    assert!(rt;
+        read_record(alloc, again.as_bytes()).is_ok_and(|script| script.steps.as_slice()
+            == steps.as_slice())
+    );
+    Ok(())
 }
 
 #[test]

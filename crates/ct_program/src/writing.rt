@@ -35,7 +35,7 @@ fn record_bytes(alloc: Global, world: &World) -> Result<Vec<u8>, AllocError>
     Ok(text.into_bytes())
 }
 
-fn push_steps(text: &mut String, steps: &[Step]) -> Result<(), AllocError>
+pub(crate) fn push_steps(text: &mut String, steps: &[Step]) -> Result<(), AllocError>
     ensures text { OnOk result (string_bytes text.new ≡ string_bytes text.old ++ steps_text steps.now) }
     ensures fit { OnOk result (AllFit steps.now) }
 {
@@ -58,6 +58,13 @@ fn push_step(text: &mut String, step: Step) -> Result<(), AllocError>
             text.push(']')
         }
         Step::Receive(p, serial) => write!(text, "[\"receive\",{p},{serial}]"),
+        Step::Begin(p) => write!(text, "[\"begin\",{p}]"),
+        Step::Enter(p) => write!(text, "[\"enter\",{p}]"),
+        Step::Choose(p, from) => write!(text, "[\"choose\",{p},{from}]"),
+        Step::Adopt(p) => write!(text, "[\"adopt\",{p}]"),
+        Step::Suspect(p) => write!(text, "[\"suspect\",{p}]"),
+        Step::Conclude(p) => write!(text, "[\"conclude\",{p}]"),
+        Step::Deliver(p) => write!(text, "[\"deliver\",{p}]"),
         Step::Crash(p) => write!(text, "[\"crash\",{p}]"),
         Step::Postpone(p, serial) => write!(text, "[\"postpone\",{p},{serial}]"),
     }

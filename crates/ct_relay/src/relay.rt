@@ -1,6 +1,6 @@
 //! The first receipts of a member.
 
-ghost use Rattle.std.specs.Prelude.{◌≡◌, [], false, IsTrue, OnOk, OnErr};
+ghost use Rattle.std.specs.Prelude.{◌≡◌, [], false, IsTrue, IfOk, OnOk, OnErr};
 ghost use Rattle.ct_names.specs.Membership.{IsWithoutRepeats};
 ghost use Rattle.ct_relay.specs.Taken.{is_first, with_id, action_of};
 
@@ -42,6 +42,16 @@ impl Relay {
             me,
             ids: IndexSet::new(alloc),
         }
+    }
+
+    /// The same receipts of the same member, or the error where memory is refused. Whether the copy has room is not said.
+    pub fn copy(&self, alloc: Global) -> Result<Relay, AllocError>
+        ensures me { IfOk result (λ relay. relay.me ≡ self.now.me) }
+        ensures ids { IfOk result (λ relay. relay.ids ≡ self.now.ids) }
+    {
+        let mut ids = IndexSet::new(alloc);
+        ids.extend(&self.ids)?;
+        Ok(Relay { me: self.me, ids })
     }
 
     /// The member whose receipts these are.

@@ -60,6 +60,34 @@ fn only_first_receipts_from_others_are_relayed(rt: HostRuntime) -> Result<(), Fa
     Ok(())
 }
 
+#[test]
+fn a_copy_goes_its_own_way(rt: HostRuntime) -> Result<(), Fail> {
+    let mut relay = Relay::new(rt.alloc(), ME);
+    for number in 1..=20 {
+        let id = RelayId::Data {
+            origin: OTHER,
+            number,
+        };
+        receive(&mut relay, id, OTHER)?;
+    }
+    let copy = relay.copy(rt.alloc())?;
+    assert_eq!(rt; copy.me(), ME);
+    let next = RelayId::Data {
+        origin: OTHER,
+        number: 21,
+    };
+    receive(&mut relay, next, OTHER)?;
+    assert!(rt; copy.first(next) && !relay.first(next));
+    for number in 1..=20 {
+        let id = RelayId::Data {
+            origin: OTHER,
+            number,
+        };
+        assert!(rt; !copy.first(id), "at {number}");
+    }
+    Ok(())
+}
+
 // With `rt try --test --fail-alloc N` the Nth allocation is refused, for N from 1 on in turn.
 #[test]
 fn refused_memory_changes_nothing(rt: HostRuntime) -> Result<(), Fail> {

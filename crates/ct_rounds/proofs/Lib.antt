@@ -1,3 +1,4 @@
+pub mod Copies
 pub mod Rising
 pub mod Picks
 pub mod Estimates

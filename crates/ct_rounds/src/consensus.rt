@@ -9,6 +9,8 @@ ghost use Rattle.ct_model.specs.Test.{first_fault};
 ghost use Rattle.ct_rounds.specs.Meaning.{mail_of};
 ghost use Rattle.ct_rounds.specs.Part.{IsTurn, enter_row, choose_row, adopt_row, suspect_row, conclude_row, enter_tests, choose_tests, adopt_tests, suspect_tests, conclude_tests};
 
+mod refusing;
+
 use crate::inbox::Inbox;
 use crate::wire::{Mail, Wire};
 use ct_model::Phase;
@@ -16,7 +18,7 @@ use ct_names::{Group, Instance, Member, MemberSet, Refusal, Round, ValueId};
 use std::marker::Model;
 
 /// A member's part in one instance (Chandra and Toueg, section 6.2). No step takes memory.
-#[derive(Drop)]
+#[derive(Clone, Copy)]
 pub struct Consensus {
     group: Group,
     me: Member,
@@ -33,6 +35,8 @@ impl Model for Consensus {
     ghost Value = { Part };
 
     ghost view = { λ c. record { members = c.group; me = c.me; instance = c.instance; standing = record { round = c.round; phase = c.phase; estimate = c.estimate; ts = c.ts } } };
+
+    ghost inverse = { λ p. record { group = p.members; me = p.me; instance = p.instance; round = p.standing.round; phase = p.standing.phase; estimate = p.standing.estimate; ts = p.standing.ts } };
 }
 
 impl Consensus {
@@ -95,8 +99,8 @@ impl Consensus {
         ensures turn { IfOk result (λ mail. IsTurn (enter_row self.old) self.old self.new (mail_of mail)) }
         ensures kept { OnErr result (self.new ≡ self.old) }
     {
-        if self.phase != Phase::Rest {
-            return Err(Refusal::WrongPhase);
+        if let Some(refusal) = self.enter_fault() {
+            return Err(refusal);
         }
         let round = self.round + 1;
         let coordinator = self.group.coordinator(round);
@@ -121,14 +125,8 @@ impl Consensus {
         ensures turn { IfOk result (λ mail. IsTurn (choose_row self.old inbox.now from) self.old self.new (mail_of mail)) }
         ensures kept { OnErr result (self.new ≡ self.old) }
     {
-        if self.phase != Phase::Gather {
-            return Err(Refusal::WrongPhase);
-        }
-        if !self.is_majority(inbox.heard(self.round)) {
-            return Err(Refusal::TooFew);
-        }
-        if !inbox.largest(self.round, from) {
-            return Err(Refusal::NotLargest);
+        if let Some(refusal) = self.choose_fault(inbox, from) {
+            return Err(refusal);
         }
         match inbox.estimate(self.round, from) {
             Some(value) => {
@@ -140,7 +138,7 @@ impl Consensus {
                     value,
                 }))
             }
-            None => Err(Refusal::NotLargest),
+            None => unreachable!(),
         }
     }
 
@@ -152,8 +150,8 @@ impl Consensus {
         ensures turn { IfOk result (λ mail. IsTurn (adopt_row self.old inbox.now) self.old self.new (mail_of mail)) }
         ensures kept { OnErr result (self.new ≡ self.old) }
     {
-        if self.phase != Phase::Wait {
-            return Err(Refusal::WrongPhase);
+        if let Some(refusal) = self.adopt_fault(inbox) {
+            return Err(refusal);
         }
         match inbox.proposal(self.round) {
             Some(value) => {
@@ -169,7 +167,7 @@ impl Consensus {
                 };
                 Ok(Mail::One(coordinator, wire))
             }
-            None => Err(Refusal::NoProposal),
+            None => unreachable!(),
         }
     }
 
@@ -181,11 +179,8 @@ impl Consensus {
         ensures turn { IfOk result (λ mail. IsTurn (suspect_row self.old inbox.now) self.old self.new (mail_of mail)) }
         ensures kept { OnErr result (self.new ≡ self.old) }
     {
-        if self.phase != Phase::Wait {
-            return Err(Refusal::WrongPhase);
-        }
-        if inbox.proposal(self.round).is_some() {
-            return Err(Refusal::HasProposal);
+        if let Some(refusal) = self.suspect_fault(inbox) {
+            return Err(refusal);
         }
         let coordinator = self.group.coordinator(self.round);
         self.phase = self.replied_phase();
@@ -205,14 +200,11 @@ impl Consensus {
         ensures turn { IfOk result (λ mail. IsTurn (conclude_row self.old inbox.now) self.old self.new (mail_of mail)) }
         ensures kept { OnErr result (self.new ≡ self.old) }
     {
-        if self.phase != Phase::Tally {
-            return Err(Refusal::WrongPhase);
-        }
-        if !self.is_majority(inbox.replied(self.round)) {
-            return Err(Refusal::TooFew);
+        if let Some(refusal) = self.conclude_fault(inbox) {
+            return Err(refusal);
         }
         self.phase = Phase::Rest;
-        if self.is_majority(inbox.acked(self.round)) {
+        if self.is_acked(inbox) {
             Ok(Mail::All(Wire::Dec {
                 instance: self.instance,
                 round: self.round,

@@ -1,6 +1,6 @@
 //! The inbox of one member for one instance.
 
-ghost use Rattle.std.specs.Prelude.{◌≡◌, ℕ, [], IsTrue, OnOk, OnErr, option_map};
+ghost use Rattle.std.specs.Prelude.{◌≡◌, ℕ, [], IsTrue, IfOk, OnOk, OnErr, option_map};
 ghost use Rattle.ct_model.specs.Received.{heard, estimate_from};
 ghost use Rattle.ct_model.specs.Faults.{has_largest};
 ghost use Rattle.ct_model.specs.Counted.{count_in};
@@ -38,6 +38,18 @@ impl Inbox {
         Inbox {
             tallies: IndexMap::new(alloc),
         }
+    }
+
+    /// An inbox of the same notes, or the error where memory is refused.
+    pub fn copy(&self, alloc: Global) -> Result<Inbox, AllocError>
+        ensures { IfOk result (λ inbox. inbox ≡ self.now) }
+    {
+        let mut tallies = IndexMap::new(alloc);
+        tallies.reserve(self.tallies.len())?;
+        for (round, tally) in &self.tallies {
+            tallies.insert(*round, tally.copy())?;
+        }
+        Ok(Inbox { tallies })
     }
 
     /// Makes room for notes of the round. What was got stays; where memory is refused nothing changes.

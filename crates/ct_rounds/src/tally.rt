@@ -69,6 +69,20 @@ impl Tally {
         }
     }
 
+    /// A tally of the same notes.
+    pub fn copy(&self) -> Tally
+        ensures { result ≡ self.now }
+    {
+        Tally {
+            heard: self.heard,
+            estimates: self.estimates,
+            best: self.best,
+            proposal: self.proposal,
+            replied: self.replied,
+            acked: self.acked,
+        }
+    }
+
     /// The members that were heard.
     pub fn heard(&self) -> MemberSet
         ensures { result ≡ heard self.now }

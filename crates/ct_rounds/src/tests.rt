@@ -3,7 +3,7 @@ ghost use Rattle.ct_rounds.specs.Inbox.{has_room};
 
 use super::*;
 use ct_model::Phase;
-use ct_names::{Group, Member, Refusal, Round, ValueId};
+use ct_names::{Command, Group, Member, Message, Refusal, Round, ValueId};
 use std::test::Fail;
 
 fn est(round: Round, from: Member, number: u32, ts: Round) -> Note
@@ -78,11 +78,23 @@ fn a_coordinator_waits_for_a_majority(rt: HostRuntime) -> Result<(), Fail> {
     let mut inbox = Inbox::new(rt.alloc());
     inbox.prepare(1)?;
     let mut consensus = Consensus::new(group, 2, 7, ValueId::new(20));
+    assert_eq!(rt; consensus.enter_fault(), None);
+    assert_eq!(rt;
+        consensus.choose_fault(&inbox, 1),
+        Some(Refusal::WrongPhase)
+    );
     consensus.enter()?;
+    assert_eq!(rt; consensus.enter_fault(), Some(Refusal::WrongPhase));
     inbox.note(est(1, 1, 10, 0));
     inbox.note(est(1, 2, 20, 0));
+    assert_eq!(rt; consensus.choose_fault(&inbox, 1), Some(Refusal::TooFew));
     assert_eq!(rt; consensus.choose(&inbox, 1), Err(Refusal::TooFew));
     inbox.note(est(1, 4, 40, 0));
+    assert_eq!(rt;
+        consensus.choose_fault(&inbox, 3),
+        Some(Refusal::NotLargest)
+    );
+    assert_eq!(rt; consensus.choose_fault(&inbox, 1), None);
     let proposal = Wire::Prop {
         instance: 7,
         round: 1,
@@ -191,12 +203,18 @@ fn a_proposal_is_taken_over(rt: HostRuntime) -> Result<(), Fail> {
         value: ValueId::new(10),
         ts: 0,
     };
+    assert_eq!(rt; consensus.adopt_fault(&inbox), Some(Refusal::WrongPhase));
+    assert_eq!(rt; consensus.suspect_fault(&inbox), Some(Refusal::WrongPhase));
     assert_eq!(rt; consensus.enter(), Ok(Mail::One(2, estimate)));
+    assert_eq!(rt; consensus.adopt_fault(&inbox), Some(Refusal::NoProposal));
+    assert_eq!(rt; consensus.suspect_fault(&inbox), None);
     assert_eq!(rt; consensus.adopt(&inbox), Err(Refusal::NoProposal));
     inbox.note(Note::Prop {
         round: 1,
         value: ValueId::new(20),
     });
+    assert_eq!(rt; consensus.adopt_fault(&inbox), None);
+    assert_eq!(rt; consensus.suspect_fault(&inbox), Some(Refusal::HasProposal));
     assert_eq!(rt; consensus.suspect(&inbox), Err(Refusal::HasProposal));
     let ack = Wire::Ack {
         instance: 1,
@@ -235,9 +253,13 @@ fn one_ack_of_two_replies_decides_nothing(rt: HostRuntime) -> Result<(), Fail> {
     inbox.prepare(1)?;
     let mut consensus = tallying(group, &mut inbox);
     inbox.note(Note::Ack { round: 1, from: 2 });
+    assert_eq!(rt; consensus.conclude_fault(&inbox), Some(Refusal::TooFew));
     assert_eq!(rt; consensus.conclude(&inbox), Err(Refusal::TooFew));
     inbox.note(Note::Nack { round: 1, from: 1 });
+    assert_eq!(rt; consensus.conclude_fault(&inbox), None);
+    assert!(rt; !consensus.is_acked(&inbox));
     assert_eq!(rt; consensus.conclude(&inbox), Ok(Mail::Nobody));
+    assert_eq!(rt; consensus.conclude_fault(&inbox), Some(Refusal::WrongPhase));
     assert_eq!(rt; consensus.conclude(&inbox), Err(Refusal::WrongPhase));
     Ok(())
 }
@@ -250,6 +272,7 @@ fn two_acks_of_three_decide(rt: HostRuntime) -> Result<(), Fail> {
     let mut consensus = tallying(group, &mut inbox);
     inbox.note(Note::Ack { round: 1, from: 2 });
     inbox.note(Note::Ack { round: 1, from: 3 });
+    assert!(rt; consensus.is_acked(&inbox));
     let decision = Wire::Dec {
         instance: 5,
         round: 1,
@@ -257,5 +280,74 @@ fn two_acks_of_three_decide(rt: HostRuntime) -> Result<(), Fail> {
     };
     assert_eq!(rt; consensus.conclude(&inbox), Ok(Mail::All(decision)));
     assert_eq!(rt; consensus.instance(), 5);
+    Ok(())
+}
+
+#[test]
+fn copies_go_their_own_way(rt: HostRuntime) -> Result<(), Fail> {
+    let group = Group::new(3).ok_or("three")?;
+    let mut inbox = Inbox::new(rt.alloc());
+    inbox.prepare(1)?;
+    inbox.prepare(2)?;
+    let mut consensus = tallying(group, &mut inbox);
+    let copy = inbox.copy(rt.alloc())?;
+    let before = consensus;
+    assert!(rt; copy.has_room(1) && copy.has_room(2) && !copy.has_room(3));
+    assert_eq!(rt; copy.best(1), Some(1));
+    assert_eq!(rt; copy.estimate(1, 2), Some(ValueId::new(20)));
+    assert_eq!(rt; copy.proposal(1), Some(ValueId::new(20)));
+    inbox.note(Note::Ack { round: 1, from: 2 });
+    inbox.note(Note::Ack { round: 1, from: 3 });
+    let decision = Wire::Dec {
+        instance: 5,
+        round: 1,
+        value: ValueId::new(20),
+    };
+    assert_eq!(rt; consensus.conclude(&inbox), Ok(Mail::All(decision)));
+    assert_eq!(rt; copy.replied(1).len(), 0);
+    assert_eq!(rt; before.phase(), Phase::Tally);
+    assert_eq!(rt; before.conclude_fault(&copy), Some(Refusal::TooFew));
+    Ok(())
+}
+
+#[test]
+fn estimates_proposals_and_decisions_carry_values(rt: HostRuntime) -> Result<(), Fail> {
+    let value = ValueId::new(20);
+    let estimate = Wire::Est {
+        instance: 1,
+        round: 2,
+        from: 3,
+        value,
+        ts: 4,
+    };
+    let proposal = Wire::Prop {
+        instance: 1,
+        round: 2,
+        value,
+    };
+    let decision = Wire::Dec {
+        instance: 1,
+        round: 2,
+        value,
+    };
+    let message = Message::new(1, 1, Command::Set(0, 7)).ok_or("good")?;
+    assert_eq!(rt; estimate.value(), Some(value));
+    assert_eq!(rt; proposal.value(), Some(value));
+    assert_eq!(rt; decision.value(), Some(value));
+    assert_eq!(rt; Wire::Data(message).value(), None);
+    for wire in [
+        Wire::Ack {
+            instance: 1,
+            round: 2,
+            from: 3,
+        },
+        Wire::Nack {
+            instance: 1,
+            round: 2,
+            from: 3,
+        },
+    ] {
+        assert_eq!(rt; wire.value(), None);
+    }
     Ok(())
 }

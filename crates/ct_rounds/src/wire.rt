@@ -1,5 +1,9 @@
 //! What members send one another.
 
+ghost use Rattle.std.specs.Prelude.{◌≡◌};
+ghost use Rattle.ct_model.specs.Wire.{value_of};
+ghost use Rattle.ct_rounds.specs.Meaning.{wire_of};
+
 use ct_names::{Instance, Member, Message, Round, ValueId};
 
 /// What members send one another (Chandra and Toueg, section 6.2). Values of consensus go by their numbers.
@@ -39,6 +43,22 @@ pub enum Wire {
         round: Round,
         value: ValueId,
     },
+}
+
+impl Wire {
+    /// The value of consensus that it carries.
+    pub fn value(&self) -> Option<ValueId>
+        ensures { result ≡ value_of (wire_of self.now) }
+    {
+        match *self {
+            Wire::Est { value, .. } => Some(value),
+            Wire::Prop { value, .. } => Some(value),
+            Wire::Dec { value, .. } => Some(value),
+            Wire::Data(_) => None,
+            Wire::Ack { .. } => None,
+            Wire::Nack { .. } => None,
+        }
+    }
 }
 
 /// What a step sends.

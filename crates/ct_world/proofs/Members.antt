@@ -4,7 +4,7 @@ use Rattle.std.specs.Prelude.{nat_le}
 use Rattle.std.proofs.lemmas.Bool.Decides.{nat_tests}
 use Rattle.std.proofs.lemmas.List.{get_or_default, get_or-set_same, get_or-set_other}
 use Rattle.ct_names.specs.Group.{is_member}
-use Rattle.ct_lines.specs.Seats.{SeatView}
+use Rattle.ct_world.specs.declared.seat.Seat.{Seat}
 use Rattle.ct_world.specs.Kept.{no_seat, seat_of}
 use Rattle.ct_model.proofs.Tests.{and_left, and_right}
 
@@ -25,12 +25,12 @@ pub place : (n p : ℕ) → is_member n p ≡ true → p - 1 < n
 place n p m = let a = member_low n p m in let b = member_high n p m in omega arith
 
 -- the seat that an index gives
-pub seat_found : (seats : List SeatView) (p : ℕ) (s : SeatView) → p - 1 < length seats → s ≡ get_or seats (p - 1) s → s ≡ seat_of seats p
+pub seat_found : (seats : List Seat) (p : ℕ) (s : Seat) → p - 1 < length seats → s ≡ get_or seats (p - 1) s → s ≡ seat_of seats p
 seat_found seats p s within e = e ∙ get_or_default seats (p - 1) s no_seat within
 
 -- after a change of one seat
-pub seat-same : (seats : List SeatView) (p : ℕ) (new : SeatView) → p - 1 < length seats → seat_of (set seats (p - 1) new) p ≡ new
+pub seat-same : (seats : List Seat) (p : ℕ) (new : Seat) → p - 1 < length seats → seat_of (set seats (p - 1) new) p ≡ new
 seat-same seats p new within = get_or-set_same seats (p - 1) new no_seat within
 
-pub seat-other : (seats : List SeatView) (p q : ℕ) (new : SeatView) → q - 1 ≢ p - 1 → seat_of (set seats (p - 1) new) q ≡ seat_of seats q
+pub seat-other : (seats : List Seat) (p q : ℕ) (new : Seat) → q - 1 ≢ p - 1 → seat_of (set seats (p - 1) new) q ≡ seat_of seats q
 seat-other seats p q new ne = get_or-set_other seats (p - 1) (q - 1) new no_seat ne

@@ -1,240 +1,150 @@
 -- The fields after a step are those of the longer record.
-use Rattle.std.proofs.Common.{◌≡◌, ◌≢◌, ℕ, ◌+◌, ◌-◌, ◌<◌, ◌≤◌, true, false, List, [], ◌∷◌, ◌++◌, length, map, set, refl, ap, sym, ◌∙◌, subst, arith, inl, inr, ◌⊎◌}
-use Rattle.std.specs.Prelude.{filter, ◌==◌}
+use Rattle.std.proofs.Common.{◌≡◌, ℕ, ◌+◌, ◌-◌, ◌<◌, true, List, ◌++◌, length, map, set, ap, sym, ◌∙◌, subst, arith, inl, inr}
+use Rattle.std.specs.Prelude.{filter, not}
 use Rattle.std.proofs.lemmas.Bool.{cases_eq}
-use Rattle.std.proofs.lemmas.List.{map-append, append-nil, length-set}
-use Rattle.std.proofs.Common.{append_assoc}
-use Rattle.std.proofs.lemmas.List.Elements.{filter_agree}
-use Rattle.std.proofs.lemmas.List.Folds.{list_any-append}
+use Rattle.std.proofs.lemmas.List.{map-append, length-set}
 use Rattle.ct_names.specs.Group.{is_member}
-use Rattle.ct_names.specs.Message.{Message}
-use Rattle.ct_names.specs.Order.{is_message}
-use Rattle.ct_names.specs.Value.{has}
+use Rattle.ct_names.specs.Value.{Value}
 use Rattle.ct_model.specs.declared.step.Step.{Step}
-use Rattle.ct_model.specs.declared.step.Step.TheVariants.{Submit, Receive, Crash, Postpone}
 use Rattle.ct_model.specs.Actor.{actor}
-use Rattle.ct_model.specs.Wire.{envelopes}
-use Rattle.ct_model.specs.Wire.Mail.{Nobody, All}
-use Rattle.ct_model.specs.State.{State, Member, member, is_crashed, submissions}
-use Rattle.ct_model.specs.Received.{received, received_by}
+use Rattle.ct_model.specs.Wire.{envelopes, Envelope as AnyEnvelope}
+use Rattle.ct_model.specs.State.{State, Member, Batch, Proposal, member, submissions}
+use Rattle.ct_model.specs.Received.{received}
+use Rattle.ct_relay.specs.Taken.{Taken, is_first}
+use Rattle.ct_abcast.specs.Cast.{Cast}
+use Rattle.ct_instances.specs.Keeping.{KeepsInstances}
 use Rattle.ct_model.specs.Next.{Outcome, after}
 use Rattle.ct_model.specs.Waiting.{moved, serials_to}
 use Rattle.ct_model.specs.Rehearsal.{Rehearsal, state_of, line_of, extended}
-use Rattle.ct_model.specs.Lawful.{IsLawful}
-use Rattle.ct_model.proofs.Tests.{number_other, or_cases}
-use Rattle.ct_model.proofs.Frame.{after-sent, after-submitted, member-same, member-other, submissions-append, submissions-none}
-use Rattle.ct_model.proofs.Knowing.{knows-next, in_members, received-by}
+use Rattle.ct_model.proofs.Frame.{after-sent, after-submitted, member-same, member-other, submissions-append}
+use Rattle.ct_model.proofs.Knowing.{knows-next, in_members}
 use Rattle.ct_model.proofs.Lines.{untouched}
-use Rattle.ct_model.proofs.Serials.{serials_to-all}
+use Rattle.ct_model.proofs.Limits.{row-submits}
 use Rattle.ct_model.proofs.Taken.{IsTaken, next-step, state-step, line-step, lawful-step}
-use Rattle.ct_lines.specs.declared.letter.Letter.{Letter}
-use Rattle.ct_lines.specs.declared.wire.Wire.{Wire as CodeWire}
-use Rattle.ct_lines.specs.Letters.{envelope_of, meant, letters_to_all}
-use Rattle.ct_lines.specs.Seats.{Facts, SeatView, HaveJoined, slot}
-use Rattle.ct_lines.proofs.Lettered.{envelopes_to_all}
-use Rattle.ct_world.specs.Kept.{IsWorld, facts_of, seat_of, no_seat}
-use Rattle.ct_world.proofs.Members.{member_low, member_high, apart, place, seat-same, seat-other}
-use Rattle.ct_world.proofs.Fields.{letters_sent, member_within}
+use Rattle.ct_network.specs.Network.{line_at}
+use Rattle.ct_instances.specs.Named.{NamesEnvelopes}
+use Rattle.ct_instances.proofs.Named.{grows_envelopes, named_append, named_length, named_serials}
+use Rattle.ct_instances.proofs.Keeping.{keeps-grown}
+use Rattle.ct_world.specs.declared.seat.Seat.{Seat}
+use Rattle.ct_world.specs.Seats.{Keeps, was_got}
+use Rattle.ct_world.specs.Kept.{Fields, IsWorld, values_of, seat_of}
+use Rattle.ct_world.proofs.Members.{apart, place, seat-same, seat-other}
 
--- the facts with these serials at the end of the line
-abbrev pub with_serials : Facts → List ℕ → Facts
-with_serials f more = record f { line = f.line ++ more }
+-- what a step makes of the fields: what is proposed joins the values, what is sent joins the envelopes and the lines,
+-- and the seat of the actor keeps what the outcome says of it
+pub record IsStepped (w : Rehearsal) (step : Step) (o : Outcome) (f new : Fields) : Type 0 where
+  pub posts : List (AnyEnvelope ℕ)
+  pub seat : Seat
+  pub values : new.book.values ≡ f.book.values ++ map (λ x. x.value) o.proposals
+  pub posted : NamesEnvelopes new.book.values posts (envelopes w.setting.members o.mail)
+  pub sent : new.network.sent ≡ f.network.sent ++ posts
+  pub lined : length new.network.lines ≡ length f.network.lines
+  pub line : (q : ℕ) → is_member w.setting.members q ≡ true → line_at new.network.lines q ≡ filter (untouched q step) (line_at f.network.lines q) ++ (moved q step ++ serials_to q (length f.network.sent) posts)
+  pub seats : new.seats ≡ set f.seats (actor step - 1) seat
+  pub keeps : Keeps w.setting.members new.book.values (actor step) o.member seat
+  pub submitted : seat.submitted ≡ submissions (state_of w).submitted (actor step) + submissions o.submitted (actor step)
 
--- the actor's facts after a step, before what it sends arrives
-abbrev pub own_facts : Rehearsal → Step → Outcome → Facts
-own_facts w step o = record {
-  submitted = submissions ((state_of w).submitted ++ o.submitted) (actor step);
-  received = received o.member.got;
-  line = filter (untouched (actor step) step) (line_of w (actor step)) ++ moved (actor step) step;
-  crashed = o.member.crashed;
+-- one value more leaves what is kept
+pub seat-grown : (n : ℕ) (values more : List Value) (p : ℕ) (m : Member) (seat : Seat) → Keeps n values p m seat → Keeps n (values ++ more) p m seat
+seat-grown n values more p m seat k = record {
+  crashed = k.crashed;
+  me = k.me;
+  taken = k.taken;
+  received = k.received;
+  batches = k.batches;
+  begun = k.begun;
+  instances = keeps-grown n values more p m seat.instances k.instances;
 }
 
-pub filter_true : (ks : List ℕ) → filter (λ k. true) ks ≡ ks
-filter_true [] = refl
-filter_true (k ∷ ks) = ap (λ r. k ∷ r) (filter_true ks)
+-- the seat of a member that got, delivered and began nothing meanwhile
+pub seat-kept : (n : ℕ) (values : List Value) (p : ℕ) (m m' : Member) (seat seat' : Seat) → Keeps n values p m seat → seat'.crashed ≡ m'.crashed → seat'.relay ≡ seat.relay → seat'.caster ≡ seat.caster → m'.got ≡ m.got → m'.batches ≡ m.batches → m'.last ≡ m.last → KeepsInstances n values p m' seat'.instances → Keeps n values p m' seat'
+seat-kept n values p m m' seat seat' k crashed relay caster got batches last instances = record {
+  crashed = crashed;
+  me = ap (λ (r : Taken). r.me) relay ∙ k.me;
+  taken = λ name. ap (λ (r : Taken). is_first r.ids name) relay ∙ k.taken name ∙ ap (λ list. not (was_got list name)) (sym got);
+  received = ap (λ (c : Cast). c.received) caster ∙ k.received ∙ ap received (sym got);
+  batches = ap (λ (c : Cast). c.batches) caster ∙ k.batches ∙ ap (map (λ (b : Batch). b.messages)) (sym batches);
+  begun = ap (λ (c : Cast). c.instance) caster ∙ k.begun ∙ sym last;
+  instances = instances;
+}
 
--- a step takes and moves nothing of another
-untouched-other : (step : Step) (q : ℕ) → (actor step == q) ≡ false → (k : ℕ) → untouched q step k ≡ true
-untouched-other (Submit p c) q e k = refl
-untouched-other (Receive p i) q e k = rw e refl
-untouched-other (Crash p) q e k = refl
-untouched-other (Postpone p i) q e k = rw e refl
+after-proposals : (w : Rehearsal) (p : ℕ) (o : Outcome) → values_of (after w.setting (state_of w) p o) ≡ values_of (state_of w) ++ map (λ (x : Proposal). x.value) o.proposals
+unfolding after
+after-proposals w p o = map-append (λ (x : Proposal). x.value) (state_of w).proposals o.proposals
 
-moved-other : (step : Step) (q : ℕ) → (actor step == q) ≡ false → moved q step ≡ []
-moved-other (Submit p c) q e = refl
-moved-other (Receive p i) q e = refl
-moved-other (Crash p) q e = refl
-moved-other (Postpone p i) q e = rw e refl
+module _ (w : Rehearsal) (step : Step) (o : Outcome) (f new : Fields) (world : IsWorld w f) (taken : IsTaken w step o) (s : IsStepped w step o f new) where
+  n : ℕ
+  n = w.setting.members
 
-crashed_is : (g : State) (q : ℕ) → is_crashed g q ≡ (member g q).crashed
-crashed_is g q = refl
-
-module _ (w : Rehearsal) (step : Step) (o : Outcome) (law : IsLawful w) (taken : IsTaken w step o) where
   h : State
   h = after w.setting (state_of w) (actor step) o
 
-  more : ℕ → List ℕ
-  more q = serials_to q (length (state_of w).sent) (envelopes w.setting.members o.mail)
-
   state_is : state_of (extended w step) ≡ h
   unfolding h
-  state_is = state-step w step o law taken
+  state_is = state-step w step o world.lawful taken
 
   there : actor step - 1 < length (state_of w).members
-  there = in_members w.setting (state_of w) (actor step) law.size taken.present.in_group
+  there = in_members w.setting (state_of w) (actor step) world.lawful.size taken.present.in_group
 
-  own_member : member h (actor step) ≡ o.member
+  within : actor step - 1 < length f.seats
+  within = let a = place w.setting.members (actor step) taken.present.in_group in omega (arith, world.seated)
+
+  values : new.book.values ≡ values_of h
   unfolding h
-  own_member = member-same w.setting (state_of w) (actor step) o there
+  values = s.values ∙ ap (λ vs. vs ++ map (λ (x : Proposal). x.value) o.proposals) world.values ∙ sym (after-proposals w (actor step) o)
 
-  submitted_is : h.submitted ≡ (state_of w).submitted ++ o.submitted
+  sent : NamesEnvelopes new.book.values new.network.sent h.sent
   unfolding h
-  submitted_is = after-submitted w.setting (state_of w) (actor step) o
+  sent =
+      let grown : NamesEnvelopes new.book.values f.network.sent (state_of w).sent = subst (λ vs. NamesEnvelopes vs f.network.sent (state_of w).sent) (sym s.values) (grows_envelopes f.book.values (map (λ (x : Proposal). x.value) o.proposals) f.network.sent (state_of w).sent world.sent) in
+      let both : NamesEnvelopes new.book.values (f.network.sent ++ s.posts) ((state_of w).sent ++ envelopes w.setting.members o.mail) = named_append new.book.values f.network.sent s.posts (state_of w).sent (envelopes w.setting.members o.mail) grown s.posted in
+      rw (s.sent, after-sent w.setting (state_of w) (actor step) o) both
 
-  pub facts-own : facts_of (extended w step) (actor step) ≡ with_serials (own_facts w step o) (serials_to (actor step) (length (state_of w).sent) (envelopes w.setting.members o.mail))
-  unfolding more
-  facts-own = λ i. record {
-    submitted = (ap (λ (g : State). submissions g.submitted (actor step)) state_is ∙ ap (λ list. submissions list (actor step)) submitted_is) i;
-    received = (ap (λ g. received_by g (actor step)) state_is ∙ received-by h (actor step) ∙ ap (λ (m : Member). received m.got) own_member) i;
-    line = (line-step w step o law taken (actor step) ∙ regroup (filter (untouched (actor step) step) (line_of w (actor step))) (moved (actor step) step) (more (actor step))) i;
-    crashed = (ap (λ g. is_crashed g (actor step)) state_is ∙ ap (λ (m : Member). m.crashed) own_member) i;
+  line : (q : ℕ) → is_member w.setting.members q ≡ true → line_at new.network.lines q ≡ line_of (extended w step) q
+  line q group =
+      s.line q group
+      ∙ ap (λ ks. filter (untouched q step) ks ++ (moved q step ++ serials_to q (length f.network.sent) s.posts)) (world.line q group)
+      ∙ ap (λ ks. filter (untouched q step) (line_of w q) ++ (moved q step ++ ks))
+      (ap (λ k. serials_to q k s.posts) (named_length f.book.values f.network.sent (state_of w).sent world.sent) ∙ named_serials new.book.values s.posts (envelopes w.setting.members o.mail) q (length (state_of w).sent) s.posted)
+      ∙ sym (line-step w step o world.lawful taken q)
+
+  grown_other : (q : ℕ) → is_member w.setting.members q ≡ true → Keeps w.setting.members new.book.values q (member (state_of w) q) (seat_of f.seats q)
+  grown_other q group = subst (λ vs. Keeps w.setting.members vs q (member (state_of w) q) (seat_of f.seats q)) (sym s.values) (seat-grown w.setting.members f.book.values (map (λ (x : Proposal). x.value) o.proposals) q (member (state_of w) q) (seat_of f.seats q) (world.seat q group))
+
+  seat : (q : ℕ) → is_member w.setting.members q ≡ true → Keeps w.setting.members new.book.values q (member h q) (seat_of new.seats q)
+  unfolding h
+  seat q group = rw s.seats (elim (cases_eq q (actor step)) [
+    | inl e ↦ subst (λ r. Keeps w.setting.members new.book.values r (member (after w.setting (state_of w) (actor step) o) r) (seat_of (set f.seats (actor step - 1) s.seat) r)) (sym e)
+        (rw (seat-same f.seats (actor step) s.seat within, member-same w.setting (state_of w) (actor step) o there) s.keeps)
+    | inr ne ↦
+        let away = apart w.setting.members (actor step) q taken.present.in_group group ne in
+        rw (seat-other f.seats (actor step) q s.seat away, member-other w.setting (state_of w) (actor step) q o away) (grown_other q group)
+  ])
+
+  submitted : (q : ℕ) → is_member w.setting.members q ≡ true → (seat_of new.seats q).submitted ≡ submissions h.submitted q
+  unfolding h
+  submitted q group = rw (s.seats, after-submitted w.setting (state_of w) (actor step) o, submissions-append (state_of w).submitted o.submitted q) (elim (cases_eq q (actor step)) [
+    | inl e ↦ subst (λ r. (seat_of (set f.seats (actor step - 1) s.seat) r).submitted ≡ submissions (state_of w).submitted r + submissions o.submitted r) (sym e)
+        (rw (seat-same f.seats (actor step) s.seat within) s.submitted)
+    | inr ne ↦
+        let away = apart w.setting.members (actor step) q taken.present.in_group group ne in
+        let none = row-submits w.setting (state_of w) (actor step) (member (state_of w) (actor step)) step o taken.row q ne in
+        let was = world.submitted q group in
+        rw (seat-other f.seats (actor step) q s.seat away) (omega (arith, none, was))
+  ])
+
+  pub refined : IsWorld (extended w step) new
+  unfolding h
+  refined = record {
+    lawful = lawful-step w step o world.lawful taken;
+    messages = rw state_is (knows-next w.setting (state_of w) step (after w.setting (state_of w) (actor step) o) (next-step w step o world.lawful taken) world.lawful.size world.messages);
+    few_members = world.few_members;
+    few_cells = world.few_cells;
+    values = rw state_is values;
+    sent = rw state_is sent;
+    lined = s.lined ∙ world.lined;
+    line = line;
+    seated = ap length s.seats ∙ length-set f.seats (actor step - 1) s.seat ∙ world.seated;
+    seat = λ q group. rw state_is (seat q group);
+    submitted = λ q group. rw state_is (submitted q group);
   }
-    where
-      regroup : (a b c : List ℕ) → a ++ (b ++ c) ≡ (a ++ b) ++ c
-      regroup a b c = sym (append_assoc a b c)
-
-  pub facts-other : (q : ℕ) → is_member w.setting.members q ≡ true → q ≢ actor step → submissions o.submitted q ≡ 0 → facts_of (extended w step) q ≡ with_serials (facts_of w q) (serials_to q (length (state_of w).sent) (envelopes w.setting.members o.mail))
-  unfolding more h
-  facts-other q group ne none =
-      let away : q - 1 ≢ actor step - 1 = apart w.setting.members (actor step) q taken.present.in_group group ne in
-      let other : (actor step == q) ≡ false = number_other (actor step) q (λ e. ne (sym e)) in
-      let same : member h q ≡ member (state_of w) q = member-other w.setting (state_of w) (actor step) q o away in
-      let as_many : submissions (state_of w).submitted q + submissions o.submitted q ≡ submissions (state_of w).submitted q = omega (arith, none) in
-      λ i. record {
-        submitted = (ap (λ (g : State). submissions g.submitted q) state_is ∙ ap (λ list. submissions list q) submitted_is ∙ submissions-append (state_of w).submitted o.submitted q ∙ as_many) i;
-        received = (ap (λ g. received_by g q) state_is ∙ received-by h q ∙ ap (λ (m : Member). received m.got) same ∙ sym (received-by (state_of w) q)) i;
-        line = (line-step w step o law taken q ∙ ap (λ ks. ks ++ (moved q step ++ more q)) (filter_agree (untouched q step) (λ k. true) (untouched-other step q other) (line_of w q) ∙ filter_true (line_of w q)) ∙ ap (λ ks. line_of w q ++ (ks ++ more q)) (moved-other step q other)) i;
-        crashed = (ap (λ g. is_crashed g q) state_is ∙ ap (λ (m : Member). m.crashed) same) i;
-      }
-
--- a message that the longer list has is in one of its parts
-has-parts : (xs ys : List Message) (m : Message) → has (xs ++ ys) m ≡ true → (has xs m ≡ true) ⊎ (has ys m ≡ true)
-has-parts xs ys m e = or_cases (has xs m) (has ys m) (sym (list_any-append (λ other. is_message other m) xs ys) ∙ e)
-
--- seats that have what the longer record says, and tables that are no shorter and have a place for what was submitted
-pub record IsStepped (w : Rehearsal) (step : Step) (o : Outcome) (before after : List SeatView) : Type 0 where
-  pub seated : length after ≡ w.setting.members
-  pub each : (q : ℕ) → is_member w.setting.members q ≡ true → (seat_of after q).facts ≡ facts_of (extended w step) q
-  pub tables : (q : ℕ) → is_member w.setting.members q ≡ true → (seat_of before q).table ≤ (seat_of after q).table
-  pub covered : (q : ℕ) (m : Message) → is_member w.setting.members q ≡ true → has o.submitted m ≡ true → slot m.origin m.number < (seat_of after q).table
-
-pub refined : (w : Rehearsal) (step : Step) (o : Outcome) (letters new : List Letter) (before after' : List SeatView) → IsWorld w letters before → IsTaken w step o → map envelope_of new ≡ envelopes w.setting.members o.mail → IsStepped w step o before after' → IsWorld (extended w step) (letters ++ new) after'
-refined w step o letters new before after' world taken sends stepped =
-    let is : state_of (extended w step) ≡ after w.setting (state_of w) (actor step) o = state-step w step o world.lawful taken in
-    record {
-      lawful = lawful-step w step o world.lawful taken;
-      messages = rw is (knows-next w.setting (state_of w) step (after w.setting (state_of w) (actor step) o) (next-step w step o world.lawful taken) world.lawful.size world.messages);
-      few_members = world.few_members;
-      few_cells = world.few_cells;
-      sent = map-append envelope_of letters new ∙ ap (λ es. es ++ map envelope_of new) world.sent ∙ ap (λ es. (state_of w).sent ++ es) sends ∙ sym (after-sent w.setting (state_of w) (actor step) o) ∙ ap (λ (g : State). g.sent) (sym is);
-      seated = stepped.seated;
-      each = stepped.each;
-      covered = λ q m group submitted. elim (has-parts (state_of w).submitted o.submitted m (rw (is, after-submitted w.setting (state_of w) (actor step) o) at submitted)) [
-        | inl old ↦ (let a = world.covered q m group old in let b = stepped.tables q group in omega arith)
-        | inr fresh ↦ stepped.covered q m group fresh
-      ];
-    }
-
-facts_same : (old new : SeatView) → new ≡ old → new.facts ≡ old.facts
-facts_same old new e = ap (λ (s : SeatView). s.facts) e
-
-no_more : (f : Facts) → with_serials f [] ≡ f
-no_more f = ap (λ ks. record f { line = ks }) (append-nil f.line)
-
--- the step of one member that sends nothing
-pub refined-quiet : (w : Rehearsal) (step : Step) (o : Outcome) (letters : List Letter) (seats : List SeatView) (new : SeatView) → IsWorld w letters seats → IsTaken w step o → o.mail ≡ Nobody → o.submitted ≡ [] → new.facts ≡ own_facts w step o → (seat_of seats (actor step)).table ≤ new.table → IsWorld (extended w step) letters (set seats (actor step - 1) new)
-refined-quiet w step o letters seats new world taken nobody none is longer =
-    subst (λ ls. IsWorld (extended w step) ls (set seats (actor step - 1) new)) (append-nil letters)
-    (refined w step o letters [] seats (set seats (actor step - 1) new) world taken (sym (ap (λ mail. envelopes w.setting.members mail) nobody)) (record {
-      seated = length-set seats (actor step - 1) new ∙ world.seated;
-      each = each;
-      tables = tables;
-      covered = λ q m group h. absurd (let e = rw none at h in cc);
-    }))
-  where
-    p : ℕ
-    p = actor step
-
-    within : p - 1 < length seats
-    within = member_within w letters seats p world taken.present.in_group
-
-    nothing : (q : ℕ) → serials_to q (length (state_of w).sent) (envelopes w.setting.members o.mail) ≡ []
-    nothing q = ap (λ mail. serials_to q (length (state_of w).sent) (envelopes w.setting.members mail)) nobody
-
-    each : (q : ℕ) → is_member w.setting.members q ≡ true → (seat_of (set seats (p - 1) new) q).facts ≡ facts_of (extended w step) q
-    each q group = elim (cases_eq q p) [
-      | inl e ↦ subst (λ r. (seat_of (set seats (p - 1) new) r).facts ≡ facts_of (extended w step) r) (sym e)
-          (facts_same new (seat_of (set seats (p - 1) new) p) (seat-same seats p new within) ∙ is ∙ sym (no_more (own_facts w step o)) ∙ ap (with_serials (own_facts w step o)) (sym (nothing p)) ∙ sym (facts-own w step o world.lawful taken))
-      | inr ne ↦ facts_same (seat_of seats q) (seat_of (set seats (p - 1) new) q) (seat-other seats p q new (apart w.setting.members p q taken.present.in_group group ne))
-          ∙ world.each q group ∙ sym (no_more (facts_of w q)) ∙ ap (with_serials (facts_of w q)) (sym (nothing q))
-          ∙ sym (facts-other w step o world.lawful taken q group ne (ap (λ list. submissions list q) none ∙ submissions-none q))
-    ]
-
-    tables : (q : ℕ) → is_member w.setting.members q ≡ true → (seat_of seats q).table ≤ (seat_of (set seats (p - 1) new) q).table
-    tables q group = elim (cases_eq q p) [
-      | inl e ↦ subst (λ r. (seat_of seats r).table ≤ (seat_of (set seats (p - 1) new) r).table) (sym e) (rw (seat-same seats p new within) longer)
-      | inr ne ↦ rw (seat-other seats p q new (apart w.setting.members p q taken.present.in_group group ne)) (omega arith)
-    ]
-
--- the step of one member that sends a wire to all
-pub refined-all : (w : Rehearsal) (step : Step) (o : Outcome) (letters : List Letter) (seats after' : List SeatView) (new : SeatView) (x : CodeWire) → IsWorld w letters seats → IsTaken w step o → o.mail ≡ All (meant x) → ((q : ℕ) → q ≢ actor step → submissions o.submitted q ≡ 0) → new.facts ≡ own_facts w step o → (seat_of seats (actor step)).table ≤ new.table → length after' ≡ length (set seats (actor step - 1) new) → HaveJoined (set seats (actor step - 1) new) after' (length letters) (length (set seats (actor step - 1) new))
-    → ((q : ℕ) (m : Message) → is_member w.setting.members q ≡ true → has o.submitted m ≡ true → slot m.origin m.number < (seat_of (set seats (actor step - 1) new) q).table)
-    → IsWorld (extended w step) (letters ++ letters_to_all (length seats) x) after'
-refined-all w step o letters seats after' new x world taken all others is longer seated joins covered =
-    rw world.seated (refined w step o letters (letters_to_all w.setting.members x) seats after' world taken (envelopes_to_all w.setting.members x ∙ ap (λ mail. envelopes w.setting.members mail) (sym all)) (record {
-      seated = seated ∙ size;
-      each = each;
-      tables = λ q group. rw (table_is q group) (tables q group);
-      covered = λ q m group h. rw (table_is q group) (covered q m group h);
-    }))
-  where
-    p : ℕ
-    p = actor step
-
-    changed : List SeatView
-    changed = set seats (p - 1) new
-
-    size : length changed ≡ w.setting.members
-    size = length-set seats (p - 1) new ∙ world.seated
-
-    within : p - 1 < length seats
-    within = member_within w letters seats p world taken.present.in_group
-
-    one : (q : ℕ) → is_member w.setting.members q ≡ true → serials_to q (length (state_of w).sent) (envelopes w.setting.members o.mail) ≡ (length (state_of w).sent + q) ∷ []
-    one q group = ap (λ mail. serials_to q (length (state_of w).sent) (envelopes w.setting.members mail)) all ∙ serials_to-all w.setting.members q (length (state_of w).sent) (meant x) (member_low w.setting.members q group) (member_high w.setting.members q group)
-
-    number : (q : ℕ) → is_member w.setting.members q ≡ true → length letters + (q - 1) + 1 ≡ length (state_of w).sent + q
-    number q group = let low = member_low w.setting.members q group in let e = letters_sent w letters seats world in omega arith
-
-    table_is : (q : ℕ) → is_member w.setting.members q ≡ true → (seat_of after' q).table ≡ (seat_of changed q).table
-    table_is q group = joins.tables (q - 1) no_seat (let a = place w.setting.members q group in omega (arith, size))
-
-    got : (q : ℕ) → is_member w.setting.members q ≡ true → (seat_of after' q).facts ≡ with_serials (seat_of changed q).facts (serials_to q (length (state_of w).sent) (envelopes w.setting.members o.mail))
-    got q group =
-        joins.facts (q - 1) no_seat (let a = place w.setting.members q group in omega (arith, size))
-        ∙ ap (λ k. with_serials (seat_of changed q).facts (k ∷ [])) (number q group)
-        ∙ ap (with_serials (seat_of changed q).facts) (sym (one q group))
-
-    each : (q : ℕ) → is_member w.setting.members q ≡ true → (seat_of after' q).facts ≡ facts_of (extended w step) q
-    each q group = got q group ∙ elim (cases_eq q p) [
-      | inl e ↦ subst (λ r. with_serials (seat_of changed r).facts (serials_to r (length (state_of w).sent) (envelopes w.setting.members o.mail)) ≡ facts_of (extended w step) r) (sym e)
-          (ap (λ f. with_serials f (serials_to p (length (state_of w).sent) (envelopes w.setting.members o.mail))) (facts_same new (seat_of changed p) (seat-same seats p new within) ∙ is) ∙ sym (facts-own w step o world.lawful taken))
-      | inr ne ↦ ap (λ f. with_serials f (serials_to q (length (state_of w).sent) (envelopes w.setting.members o.mail))) (facts_same (seat_of seats q) (seat_of changed q) (seat-other seats p q new (apart w.setting.members p q taken.present.in_group group ne)) ∙ world.each q group)
-          ∙ sym (facts-other w step o world.lawful taken q group ne (others q ne))
-    ]
-
-    tables : (q : ℕ) → is_member w.setting.members q ≡ true → (seat_of seats q).table ≤ (seat_of changed q).table
-    tables q group = elim (cases_eq q p) [
-      | inl e ↦ subst (λ r. (seat_of seats r).table ≤ (seat_of changed r).table) (sym e) (rw (seat-same seats p new within) longer)
-      | inr ne ↦ rw (seat-other seats p q new (apart w.setting.members p q taken.present.in_group group ne)) (omega arith)
-    ]

@@ -1,26 +1,72 @@
 -- A world without steps.
-use Rattle.std.proofs.Common.{◌≡◌, ℕ, ◌≤◌, ◌-◌, List, [], ap, sym, ◌∙◌}
+use Rattle.std.proofs.Common.{◌≡◌, ℕ, ◌+◌, ◌-◌, ◌≤◌, true, List, [], length, replicate, refl, ap, sym, ◌∙◌, subst, arith}
+use Rattle.std.proofs.lemmas.List.{length-replicate, get_or-replicate}
+use Rattle.ct_names.specs.Group.{is_member}
+use Rattle.ct_names.specs.Value.{Value}
 use Rattle.ct_model.specs.declared.step.Step.{Step}
 use Rattle.ct_model.specs.Setting.{Setting}
-use Rattle.ct_model.specs.State.{State}
-use Rattle.ct_model.proofs.First.{state-first, lawful-first, knows-first, received-first, submissions-first, crashed-first, line-first, sent-first, submitted-first}
-use Rattle.ct_lines.specs.declared.letter.Letter.{Letter}
-use Rattle.ct_lines.specs.Seats.{SeatView, AreNew}
-use Rattle.ct_world.specs.Kept.{IsWorld, no_seat}
-use Rattle.ct_world.proofs.Members.{place}
+use Rattle.ct_model.specs.State.{new_member, first_state}
+use Rattle.ct_model.specs.Received.{received}
+use Rattle.ct_model.proofs.First.{state-first, member-first, sent-first, submissions-first, line-first, lawful-first, knows-first}
+use Rattle.ct_network.specs.Network.{line_at}
+use Rattle.ct_relay.specs.Taken.{is_first}
+use Rattle.ct_relay.specs.declared.relay_id.RelayId.{RelayId}
+use Rattle.ct_instances.specs.Kept.{Kept}
+use Rattle.ct_instances.specs.Keeping.{KeepsInstances}
+use Rattle.ct_instances.proofs.Keeping.{keeps-new}
+use Rattle.ct_world.specs.declared.seat.Seat.{Seat}
+use Rattle.ct_world.specs.Seats.{Keeps, IsNewSeat, AreNewSeats}
+use Rattle.ct_world.specs.Kept.{Fields, IsWorld, values_of, no_seat, seat_of}
+use Rattle.ct_world.proofs.Members.{member_low, place}
 
--- no letters and new seats are the world of a record without steps
-pub world-first : (n cells : ℕ) (steps : List Step) (letters : List Letter) (seats : List SeatView) → n ≤ 16 → cells ≤ 1024 → steps ≡ [] → letters ≡ [] → AreNew seats n → IsWorld (record { setting = record { members = n }; cells = cells; steps = steps }) letters seats
-world-first n cells steps letters seats small few es el new =
-    let s : Setting = record { members = n } in
-    rw (es, el) (record {
-      lawful = lawful-first s cells;
-      messages = rw (state-first s cells) (knows-first s);
-      few_members = small;
-      few_cells = few;
-      sent = sym (ap (λ (g : State). g.sent) (state-first s cells) ∙ sent-first s);
-      seated = new.seated;
-      each = λ p group.
-          rw (state-first s cells, received-first s p, submissions-first s p, crashed-first s p, line-first s cells p) (new.each (p - 1) no_seat (place n p group));
-      covered = λ p m group h. absurd (let e = rw (state-first s cells, submitted-first s) at h in cc);
-    })
+received-none : received {V = Value} [] ≡ []
+unfolding received
+received-none = refl
+
+proposals-first : (s : Setting) → values_of (first_state s) ≡ []
+unfolding first_state
+proposals-first s = refl
+
+-- a new seat is that of a new member
+new_keeps : (n : ℕ) (values : List Value) (p : ℕ) (seat : Seat) → IsNewSeat n p seat → Keeps n values p new_member seat
+new_keeps n values p seat h = record {
+  crashed = h.crashed;
+  me = h.me;
+  taken = λ name. ap (λ (ids : List RelayId). is_first ids name) h.ids;
+  received = h.received ∙ sym received-none;
+  batches = h.batches;
+  begun = h.begun;
+  instances = subst (λ (k : Kept). KeepsInstances n values p new_member k) (sym h.instances) (keeps-new n values p);
+}
+
+module _ (n cells : ℕ) (f : Fields) (new : AreNewSeats n n f.seats) where
+  s : Setting
+  s = record { members = n }
+
+  seat_new : (p : ℕ) → is_member n p ≡ true → IsNewSeat n p (seat_of f.seats p)
+  seat_new p group =
+      let low = member_low n p group in
+      let at : p - 1 + 1 ≡ p = omega arith in
+      subst (λ q. IsNewSeat n q (seat_of f.seats p)) at (new.each (p - 1) no_seat (place n p group))
+
+  -- nothing sent, nothing proposed and new seats are the world of a record without steps
+  pub world-empty : n ≤ 16 → cells ≤ 1024 → f.network.sent ≡ [] → f.network.lines ≡ replicate n [] → f.book.values ≡ [] → IsWorld (record { setting = record { members = n }; cells = cells; steps = [] }) f
+  unfolding s
+  world-empty small few sent lines values = record {
+    lawful = lawful-first (record { members = n }) cells;
+    messages = rw (state-first (record { members = n }) cells) (knows-first (record { members = n }));
+    few_members = small;
+    few_cells = few;
+    values = values ∙ sym (ap values_of (state-first (record { members = n }) cells) ∙ proposals-first (record { members = n }));
+    sent = rw (sent, state-first (record { members = n }) cells, sent-first (record { members = n })) refl;
+    lined = ap length lines ∙ length-replicate n [];
+    line = λ p group. ap (λ ls. line_at ls p) lines ∙ get_or-replicate n (p - 1) [] [] (place n p group) ∙ sym (line-first (record { members = n }) cells p);
+    seated = new.seated;
+    seat = λ p group. rw (state-first (record { members = n }) cells, member-first (record { members = n }) p) (new_keeps n f.book.values p (seat_of f.seats p) (seat_new p group));
+    submitted = λ p group. rw (state-first (record { members = n }) cells, submissions-first (record { members = n }) p) (seat_new p group).submitted;
+  }
+
+-- the same where the steps are known to be none
+pub world-first : (n cells : ℕ) (steps : List Step) (f : Fields) → n ≤ 16 → cells ≤ 1024 → steps ≡ [] → f.network.sent ≡ [] → f.network.lines ≡ replicate n [] → f.book.values ≡ [] → AreNewSeats n n f.seats → IsWorld (record { setting = record { members = n }; cells = cells; steps = steps }) f
+world-first n cells steps f small few none sent lines values new =
+    subst (λ ss. IsWorld (record { setting = record { members = n }; cells = cells; steps = ss }) f) (sym none) (world-empty n cells f new small few sent lines values)

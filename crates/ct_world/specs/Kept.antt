@@ -1,73 +1,119 @@
 -- What a world keeps, and how it follows from the record.
-use Rattle.std.specs.Prelude.{◌≡◌, ℕ, ◌+◌, ◌-◌, ◌<◌, ◌≤◌, true, List, length, map, Option, Some, None, slice_index_or}
+use Rattle.std.specs.Prelude.{◌≡◌, ℕ, ◌+◌, ◌-◌, ◌<◌, ◌≤◌, true, false, List, [], length, map, Option, Some, None, slice_index_or}
 use Rattle.ct_names.specs.Group.{is_member}
-use Rattle.ct_names.specs.Message.{Message}
-use Rattle.ct_names.specs.Value.{has}
+use Rattle.ct_names.specs.Book.{Contents}
+use Rattle.ct_names.specs.Value.{Value}
 use Rattle.ct_names.specs.declared.refusal.Refusal.{Refusal}
 use Rattle.ct_model.specs.declared.step.Step.{Step}
-use Rattle.ct_model.specs.Actor.{actor}
-use Rattle.ct_model.specs.State.{is_crashed, submissions}
-use Rattle.ct_model.specs.Received.{received_by}
+use Rattle.ct_model.specs.declared.step.Step.TheVariants.{Receive, Begin, Deliver}
+use Rattle.ct_model.specs.Wire.{Envelope as AnyEnvelope}
+use Rattle.ct_model.specs.State.{State, member, submissions, at_serial}
 use Rattle.ct_model.specs.Rehearsal.{Rehearsal, state_of, line_of}
 use Rattle.ct_model.specs.Cause.{cause, presence, first_fault}
-use Rattle.ct_model.specs.Lawful.{IsLawful, IsPresent, IsLetter}
+use Rattle.ct_model.specs.Lawful.{IsLawful, IsPresent}
 use Rattle.ct_model.specs.Knowledge.{KnowsMessages}
-use Rattle.ct_model.specs.Wire.Wire.{Data}
-use Rattle.ct_lines.specs.declared.letter.Letter.{Letter}
-use Rattle.ct_lines.specs.Letters.{envelope_of}
-use Rattle.ct_lines.specs.Seats.{Facts, SeatView, HaveRoom, slot, no_facts}
+use Rattle.ct_network.specs.Network.{NetworkView, line_at}
+use Rattle.ct_abcast.specs.Cast.{undelivered}
+use Rattle.ct_instances.specs.Kept.{decision_at, has_room_open}
+use Rattle.ct_instances.specs.Named.{value_at, NamesEnvelopes}
+use Rattle.ct_world.specs.declared.seat.Seat.{Seat}
+use Rattle.ct_world.specs.Seats.{Keeps, CanReceive}
 
--- what the record says of a member
-abbrev pub facts_of : Rehearsal → ℕ → Facts
-facts_of w p = record {
-  submitted = submissions (state_of w).submitted p;
-  received = received_by (state_of w) p;
-  line = line_of w p;
-  crashed = is_crashed (state_of w) p;
+-- the fields of a world besides its record: the network, the values by number, the seats, the proposal that a prepared
+-- Begin makes, and how many more steps there is room for
+pub record Fields : Type 0 where
+  pub network : NetworkView
+  pub book : Contents
+  pub seats : List Seat
+  pub proposal : Option Value
+  pub spare_steps : ℕ
+
+-- the values proposed, in order
+abbrev pub values_of : State → List Value
+values_of g = map (λ x. x.value) g.proposals
+
+abbrev pub no_seat : Seat
+no_seat = record {
+  submitted = 0;
+  crashed = false;
+  relay = record { me = 0; ids = []; has_room = false };
+  instances = record { members = 0; me = 0; last = 0; part = None; entries = [] };
+  caster = record { received = []; batches = []; instance = 0; room = 0; fits_batch = false };
 }
 
-abbrev pub no_seat : SeatView
-no_seat = record { facts = no_facts; room = 0; space = 0; table = 0 }
-
 -- the seat of member p
-abbrev pub seat_of : List SeatView → ℕ → SeatView
+abbrev pub seat_of : List Seat → ℕ → Seat
 seat_of seats p = slice_index_or seats (p - 1) no_seat
 
--- letters and seats are those of the record, which is lawful; each table has a place for each message submitted
-pub record IsWorld (w : Rehearsal) (letters : List Letter) (seats : List SeatView) : Type 0 where
+-- the fields are those of the record, which is lawful
+pub record IsWorld (w : Rehearsal) (f : Fields) : Type 0 where
   pub lawful : IsLawful w
   pub messages : KnowsMessages w.setting (state_of w)
   pub few_members : w.setting.members ≤ 16
   pub few_cells : w.cells ≤ 1024
-  pub sent : map envelope_of letters ≡ (state_of w).sent
-  pub seated : length seats ≡ w.setting.members
-  pub each : (p : ℕ) → is_member w.setting.members p ≡ true → (seat_of seats p).facts ≡ facts_of w p
-  pub covered : (p : ℕ) (m : Message) → is_member w.setting.members p ≡ true → has (state_of w).submitted m ≡ true → slot m.origin m.number < (seat_of seats p).table
+  pub values : f.book.values ≡ values_of (state_of w)
+  pub sent : NamesEnvelopes f.book.values f.network.sent (state_of w).sent
+  pub lined : length f.network.lines ≡ w.setting.members
+  pub line : (p : ℕ) → is_member w.setting.members p ≡ true → line_at f.network.lines p ≡ line_of w p
+  pub seated : length f.seats ≡ w.setting.members
+  pub seat : (p : ℕ) → is_member w.setting.members p ≡ true → Keeps w.setting.members f.book.values p (member (state_of w) p) (seat_of f.seats p)
+  pub submitted : (p : ℕ) → is_member w.setting.members p ≡ true → (seat_of f.seats p).submitted ≡ submissions (state_of w).submitted p
 
--- the step is allowed, and there is room for whatever it does: these are the spare places of the record and of the
--- letters, and each seat has room of its own
-pub record IsReady (w : Rehearsal) (step : Step) (seats : List SeatView) (spare_steps spare_letters : ℕ) : Type 0 where
+-- the wire of the serial can be received by p
+abbrev pub HasReceiveRoom : Fields → ℕ → ℕ → Type 0
+HasReceiveRoom f p k = (x : AnyEnvelope ℕ) → at_serial f.network.sent k ≡ Some x → CanReceive (seat_of f.seats p) x.wire
+
+-- p can begin its next instance, with the proposal that was made
+pub record HasBeginRoom (f : Fields) (p : ℕ) : Type 0 where
+  pub book : 0 < f.book.room
+  pub entry : has_room_open (seat_of f.seats p).instances ((seat_of f.seats p).instances.last + 1) ≡ true
+  pub proposal : f.proposal ≡ Some (undelivered (seat_of f.seats p).caster)
+
+-- p can deliver the decision of its last instance
+pub record HasDeliverRoom (f : Fields) (p : ℕ) : Type 0 where
+  pub batch : (seat_of f.seats p).caster.fits_batch ≡ true
+  pub messages : (id : ℕ) (v : Value) → decision_at (seat_of f.seats p).instances (seat_of f.seats p).instances.last ≡ Some id → value_at f.book.values id ≡ Some v → length v ≤ (seat_of f.seats p).caster.room
+
+-- the room that only this step needs
+abbrev pub HasOwnRoom : Fields → Step → Type 0
+HasOwnRoom f (Receive p k) = HasReceiveRoom f p k
+HasOwnRoom f (Begin p) = HasBeginRoom f p
+HasOwnRoom f (Deliver p) = HasDeliverRoom f p
+HasOwnRoom f _ = Unit {0}
+
+-- the step needs no such room
+abbrev pub NeedsNoRoom : Step → Type 0
+NeedsNoRoom (Receive p k) = ⊥
+NeedsNoRoom (Begin p) = ⊥
+NeedsNoRoom (Deliver p) = ⊥
+NeedsNoRoom _ = Unit {0}
+
+-- the step is allowed, and there is room for what it does
+pub record IsReady (w : Rehearsal) (step : Step) (f : Fields) : Type 0 where
   pub allowed : cause w step ≡ None
-  pub for_step : 0 < spare_steps
-  pub for_letters : w.setting.members ≤ spare_letters
-  pub for_seats : HaveRoom seats (submissions (state_of w).submitted (actor step) + 1)
+  pub for_step : 0 < f.spare_steps
+  pub for_sending : f.network.has_room ≡ true
+  pub for_itself : HasOwnRoom f step
 
 -- the fields of a world
-pub record IsKept (w : Rehearsal) (prepared : Option Step) (letters : List Letter) (seats : List SeatView) (spare_steps spare_letters : ℕ) : Type 0 where
-  pub world : IsWorld w letters seats
-  pub ready : (step : Step) → prepared ≡ Some step → IsReady w step seats spare_steps spare_letters
+pub record IsKept (w : Rehearsal) (prepared : Option Step) (f : Fields) : Type 0 where
+  pub world : IsWorld w f
+  pub ready : (step : Step) → prepared ≡ Some step → IsReady w step f
 
--- the member may take steps, and this is what is kept of it
-pub record IsActor (w : Rehearsal) (p : ℕ) (facts : Facts) : Type 0 where
+-- this is the seat of a member of the group
+pub record IsSeatOf (w : Rehearsal) (p : ℕ) (seat : Seat) : Type 0 where
+  pub in_group : is_member w.setting.members p ≡ true
+  pub keeps : Keeps w.setting.members (values_of (state_of w)) p (member (state_of w) p) seat
+  pub submitted : seat.submitted ≡ submissions (state_of w).submitted p
+
+-- the member may take steps, and this is its seat
+pub record IsActor (w : Rehearsal) (p : ℕ) (seat : Seat) : Type 0 where
   pub lawful : IsLawful w
+  pub messages : KnowsMessages w.setting (state_of w)
+  pub few_members : w.setting.members ≤ 16
   pub present : IsPresent w p
-  pub same : facts ≡ facts_of w p
+  pub sits : IsSeatOf w p seat
 
 -- the refusal keeps the member from any step
 abbrev pub IsAbsent : Rehearsal → ℕ → Refusal → Type 0
 IsAbsent w p refusal = first_fault (presence w.setting (state_of w) p) ≡ Some refusal
-
--- the serial carries this message to the member, and the message was submitted
-pub record Carries (w : Rehearsal) (p k : ℕ) (m : Message) : Type 0 where
-  pub letter : IsLetter (state_of w) p k (record { to = p; wire = Data m })
-  pub submitted : has (state_of w).submitted m ≡ true

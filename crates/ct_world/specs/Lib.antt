@@ -1,3 +1,5 @@
 pub mod World
+pub mod Letters
+pub mod Seats
 pub mod Kept
 pub mod Replay

@@ -3,11 +3,14 @@
 #![tactic(auto)]
 
 mod effect;
+mod letter;
 mod replay_fault;
+mod seat;
+mod seats;
 mod world;
 
-pub use ct_lines::{Letter, Wire};
 pub use effect::Effect;
+pub use letter::{Letter, Wire};
 pub use replay_fault::ReplayFault;
 pub use world::World;
 

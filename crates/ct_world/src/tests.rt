@@ -1,9 +1,14 @@
 use super::*;
 use ct_model::Step;
-use ct_names::{Command, Group, Limit, Message, Refusal};
+use ct_names::{Command, Group, Message};
 use std::alloc::Global;
 use std::process::Abort;
-use std::test::Fail;
+
+mod instances;
+mod limits;
+mod network;
+mod refusals;
+mod rounds;
 
 const SEVEN: Command = Command::Set(0, 7);
 
@@ -11,230 +16,90 @@ fn group(rt: &impl Abort, n: u8) -> Group {
     Group::new(n).expect(rt, "a group")
 }
 
-// Three members: one submission, received by its origin, and by another that relays it.
-fn relayed_once(rt: &impl Abort, alloc: Global) -> Result<World, Refusal> {
-    let mut world = World::new(alloc, group(rt, 3), 4)?;
-    world.apply(&Step::Submit(1, SEVEN))?;
-    world.apply(&Step::Receive(1, 1))?;
-    world.apply(&Step::Receive(2, 2))?;
-    Ok(world)
+// The world after these steps, with four cells.
+fn world_of(rt: &impl Abort, alloc: Global, n: u8, steps: &[Step]) -> World {
+    World::replay(alloc, group(rt, n), 4, steps).expect(rt, "steps that are allowed")
 }
 
-#[test]
-fn a_new_world_is_empty(rt: HostRuntime) -> Result<(), Fail> {
-    let world = World::new(rt.alloc(), group(&rt, 3), 4)?;
-    assert_eq!(rt; world.group(), group(&rt, 3));
-    assert_eq!(rt; world.cells(), 4);
-    assert_eq!(rt; world.sent(), 0);
-    assert!(rt; world.record().is_empty());
-    assert!(rt; world.waiting(3).is_some_and(|line| line.is_empty()));
-    assert!(rt; world.waiting(4).is_none());
-    assert!(rt; world.received(0).is_none());
-    Ok(())
+fn message(rt: &impl Abort, origin: u8, number: u32, command: Command) -> Message {
+    Message::new(origin, number, command).expect(rt, "a good command")
 }
 
-#[test]
-fn what_is_received_first_is_relayed(rt: HostRuntime) -> Result<(), Fail> {
-    let mut world = World::new(rt.alloc(), group(&rt, 3), 4)?;
-    assert_eq!(rt; world.apply(&Step::Submit(1, SEVEN))?.sent, 3);
-    assert_eq!(rt; world.apply(&Step::Receive(1, 1))?.sent, 0);
-    assert_eq!(rt; world.apply(&Step::Receive(2, 2))?.sent, 3);
-    assert_eq!(rt; world.sent(), 6);
-    Ok(())
+// Whether the list is there, with one message.
+fn is_one(list: Option<&[Message]>, message: Message) -> bool {
+    list.is_some_and(|list| list == [message].as_slice())
 }
 
-#[test]
-fn what_is_received_again_is_not(rt: HostRuntime) -> Result<(), Fail> {
-    let mut world = relayed_once(&rt, rt.alloc())?;
-    assert_eq!(rt; world.apply(&Step::Receive(1, 4))?.sent, 0);
-    assert_eq!(rt; world.apply(&Step::Receive(2, 5))?.sent, 0);
-    let message = Message::new(1, 1, SEVEN).ok_or("good")?;
-    assert!(rt;
-        world
-            .received(1)
-            .is_some_and(|list| list == [message].as_slice())
-    );
-    assert!(rt;
-        world
-            .received(2)
-            .is_some_and(|list| list == [message].as_slice())
-    );
-    assert!(rt; world.received(3).is_some_and(|list| list.is_empty()));
-    Ok(())
-}
-
-#[test]
-fn letters_say_where_they_go(rt: HostRuntime) -> Result<(), Fail> {
-    let world = relayed_once(&rt, rt.alloc())?;
-    let message = Message::new(1, 1, SEVEN).ok_or("good")?;
-    let wanted = Letter {
-        to: 3,
-        wire: Wire::Data(message),
-    };
-    assert_eq!(rt; world.letter(6), Some(wanted));
-    assert!(rt; world.letter(0).is_none() && world.letter(7).is_none());
-    Ok(())
-}
-
-#[test]
-fn a_postponed_serial_waits_last(rt: HostRuntime) -> Result<(), Fail> {
-    let mut world = relayed_once(&rt, rt.alloc())?;
-    assert!(rt;
-        world
-            .waiting(3)
-            .is_some_and(|line| line == [3, 6].as_slice())
-    );
-    assert_eq!(rt; world.apply(&Step::Postpone(3, 3))?.sent, 0);
-    assert!(rt;
-        world
-            .waiting(3)
-            .is_some_and(|line| line == [6, 3].as_slice())
-    );
-    Ok(())
-}
-
-#[test]
-fn a_crashed_member_takes_no_step(rt: HostRuntime) -> Result<(), Fail> {
-    let mut world = relayed_once(&rt, rt.alloc())?;
-    assert!(rt; !world.crashed(3));
-    world.apply(&Step::Crash(3))?;
-    assert!(rt; world.crashed(3) && !world.crashed(4));
-    for step in [
-        Step::Submit(3, Command::Set(16, 7)),
-        Step::Receive(3, 3),
-        Step::Crash(3),
-        Step::Postpone(3, 99),
-    ] {
-        assert_eq!(rt; world.apply(&step), Err(Refusal::Crashed));
-    }
-    assert!(rt;
-        world
-            .waiting(3)
-            .is_some_and(|line| line == [3, 6].as_slice())
-    );
-    assert_eq!(rt; world.record().len(), 4);
-    Ok(())
-}
-
-#[test]
-fn a_stranger_takes_no_step(rt: HostRuntime) -> Result<(), Fail> {
-    let mut world = relayed_once(&rt, rt.alloc())?;
-    for step in [
-        Step::Submit(4, Command::Set(16, 7)),
-        Step::Receive(0, 3),
-        Step::Crash(4),
-        Step::Postpone(255, 3),
-    ] {
-        assert_eq!(rt; world.enabled(&step), Err(Refusal::NoSuchMember));
-        assert_eq!(rt; world.apply(&step), Err(Refusal::NoSuchMember));
-    }
-    Ok(())
-}
-
-#[test]
-fn what_does_not_wait_is_neither_received_nor_postponed(rt: HostRuntime) -> Result<(), Fail> {
-    let mut world = relayed_once(&rt, rt.alloc())?;
-    for serial in [0, 2, 3, 7] {
-        assert_eq!(rt;
-            world.apply(&Step::Receive(2, serial)),
-            Err(Refusal::NotWaiting)
-        );
-        assert_eq!(rt;
-            world.apply(&Step::Postpone(2, serial)),
-            Err(Refusal::NotWaiting)
-        );
-    }
-    assert_eq!(rt;
-        world.apply(&Step::Submit(2, Command::Copy(0, 16))),
-        Err(Refusal::BadCommand)
-    );
-    assert_eq!(rt; world.record().len(), 3);
-    Ok(())
-}
-
-#[test]
-fn a_prepared_step_is_committed(rt: HostRuntime) -> Result<(), Fail> {
-    let mut world = relayed_once(&rt, rt.alloc())?;
-    assert!(rt; world.prepared().is_none());
-    assert_eq!(rt; world.prepare(&Step::Receive(3, 6)), Ok(()));
-    assert_eq!(rt; world.prepared(), Some(Step::Receive(3, 6)));
-    assert_eq!(rt; world.record().len(), 3);
-    let ready = world.prepared().is_some();
-    assert!(rt; ready);
-    assert_eq!(rt; world.commit().sent, 3);
-    assert!(rt; world.prepared().is_none());
-    assert_eq!(rt; world.record().len(), 4);
-    assert_eq!(rt;
-        world.prepare(&Step::Receive(3, 6)),
-        Err(Refusal::NotWaiting)
-    );
-    assert!(rt; world.prepared().is_none());
-    Ok(())
-}
-
-#[test]
-fn a_replay_stops_at_the_first_refused_step(rt: HostRuntime) -> Result<(), Fail> {
-    let steps = [
+// Three members, of which one crashes: the others decide in one round, and deliver.
+fn one_round() -> [Step; 22] {
+    [
         Step::Submit(1, SEVEN),
+        Step::Receive(1, 1),
         Step::Receive(2, 2),
-        Step::Receive(2, 2),
-        Step::Crash(9),
-    ];
-    let replayed = World::replay(rt.alloc(), group(&rt, 3), 4, &steps);
-    let wanted = ReplayFault {
-        at: 3,
-        refusal: Refusal::NotWaiting,
-    };
-    assert_eq!(rt; replayed.err(), Some(wanted));
-    let world = World::replay(rt.alloc(), group(&rt, 3), 4, &steps[..2]);
-    assert!(rt; world.is_ok_and(|world| world.sent() == 6));
-    Ok(())
+        Step::Crash(3),
+        Step::Begin(1),
+        Step::Begin(2),
+        Step::Enter(1),
+        Step::Enter(2),
+        Step::Receive(2, 7),
+        Step::Receive(2, 8),
+        Step::Choose(2, 1),
+        Step::Receive(1, 9),
+        Step::Adopt(1),
+        Step::Receive(2, 10),
+        Step::Adopt(2),
+        Step::Receive(2, 12),
+        Step::Receive(2, 13),
+        Step::Conclude(2),
+        Step::Receive(2, 15),
+        Step::Deliver(2),
+        Step::Receive(1, 14),
+        Step::Deliver(1),
+    ]
 }
 
-#[test]
-fn a_copy_goes_its_own_way(rt: HostRuntime) -> Result<(), Fail> {
-    let mut world = relayed_once(&rt, rt.alloc())?;
-    assert_eq!(rt; world.prepare(&Step::Crash(3)), Ok(()));
-    let mut copy = world.copy(rt.alloc())?;
-    assert!(rt; copy.prepared().is_none());
-    assert!(rt; copy.record() == world.record());
-    assert!(rt; copy.waiting(3) == world.waiting(3));
-    assert_eq!(rt; copy.apply(&Step::Receive(3, 6))?.sent, 3);
-    assert_eq!(rt; world.sent(), 6);
-    Ok(())
+// Three members, of which two propose different messages; the coordinator heard both.
+fn two_proposals() -> [Step; 10] {
+    [
+        Step::Submit(1, Command::Set(0, 1)),
+        Step::Submit(2, Command::Set(0, 2)),
+        Step::Receive(1, 1),
+        Step::Receive(2, 5),
+        Step::Begin(1),
+        Step::Begin(2),
+        Step::Enter(1),
+        Step::Enter(2),
+        Step::Receive(2, 7),
+        Step::Receive(2, 8),
+    ]
 }
 
-#[test]
-fn submissions_are_limited(rt: HostRuntime) -> Result<(), Fail> {
-    let mut world = World::new(rt.alloc(), group(&rt, 1), 4)?;
-    for _ in 0..65_535 {
-        world.apply(&Step::Submit(1, SEVEN))?;
-    }
-    let refusal = world.apply(&Step::Submit(1, SEVEN));
-    assert_eq!(rt; refusal, Err(Refusal::Full(Limit::Submissions)));
-    Ok(())
-}
-
-#[test]
-fn envelopes_are_limited(rt: HostRuntime) -> Result<(), Fail> {
-    let mut world = World::new(rt.alloc(), group(&rt, 16), 4)?;
-    for _ in 0..62_500 {
-        world.apply(&Step::Submit(1, SEVEN))?;
-    }
-    assert_eq!(rt; world.sent(), 1_000_000);
-    let refusal = world.apply(&Step::Submit(1, SEVEN));
-    assert_eq!(rt; refusal, Err(Refusal::Full(Limit::Envelopes)));
-    Ok(())
-}
-
-#[test]
-fn steps_are_limited(rt: HostRuntime) -> Result<(), Fail> {
-    let mut world = World::new(rt.alloc(), group(&rt, 1), 4)?;
-    world.apply(&Step::Submit(1, SEVEN))?;
-    for _ in 1..1_000_000 {
-        world.apply(&Step::Postpone(1, 1))?;
-    }
-    let refusal = world.apply(&Step::Postpone(1, 1));
-    assert_eq!(rt; refusal, Err(Refusal::Full(Limit::Steps)));
-    Ok(())
+// One member delivers its second message before its first, in two instances.
+fn two_instances() -> [Step; 24] {
+    [
+        Step::Submit(1, Command::Copy(0, 1)),
+        Step::Submit(1, Command::Set(0, 5)),
+        Step::Receive(1, 2),
+        Step::Begin(1),
+        Step::Enter(1),
+        Step::Receive(1, 3),
+        Step::Choose(1, 1),
+        Step::Receive(1, 4),
+        Step::Adopt(1),
+        Step::Receive(1, 5),
+        Step::Conclude(1),
+        Step::Receive(1, 6),
+        Step::Deliver(1),
+        Step::Receive(1, 1),
+        Step::Begin(1),
+        Step::Enter(1),
+        Step::Receive(1, 7),
+        Step::Choose(1, 1),
+        Step::Receive(1, 8),
+        Step::Adopt(1),
+        Step::Receive(1, 9),
+        Step::Conclude(1),
+        Step::Receive(1, 10),
+        Step::Deliver(1),
+    ]
 }

@@ -7,7 +7,6 @@ ghost use Rattle.ct_rounds.specs.Meaning.{mail_of};
 ghost use Rattle.ct_instances.specs.Steps.{enter_tests, choose_tests, adopt_tests, suspect_tests, conclude_tests, enter_step, choose_step, adopt_step, suspect_step, conclude_step};
 
 use super::Instances;
-use ct_model::Phase;
 use ct_names::{Member, Refusal};
 use ct_rounds::Mail;
 
@@ -19,18 +18,12 @@ impl Instances {
         ensures turn { IfOk result (λ mail. enter_step self.old ≡ Some (record { after = self.new; mail = mail_of mail })) }
         ensures kept { OnErr result (self.new ≡ self.old) }
     {
-        let decided = self.decided(self.last).is_some();
+        if let Some(refusal) = self.enter_fault() {
+            return Err(refusal);
+        }
         match &mut self.part {
-            None => Err(Refusal::Idle),
-            Some(consensus) => {
-                if consensus.phase() != Phase::Rest {
-                    return Err(Refusal::WrongPhase);
-                }
-                if decided {
-                    return Err(Refusal::Decided);
-                }
-                consensus.enter()
-            }
+            None => unreachable!(),
+            Some(consensus) => consensus.enter(),
         }
     }
 

@@ -2,8 +2,8 @@
 
 ghost use Rattle.std.specs.Prelude.{◌≡◌, None, IfOk, IfErr};
 
+use crate::seats;
 use crate::world::World;
-use ct_lines::seats;
 use ct_names::Refusal;
 use std::alloc::{AllocError, Global};
 
@@ -26,9 +26,12 @@ impl World {
             group: self.group,
             cells: self.cells,
             record: Vec::from_slice(alloc, &self.record)?,
-            letters: Vec::from_slice(alloc, &self.letters)?,
+            network: self.network.copy(alloc)?,
+            book: self.book.copy(alloc)?,
             seats: seats::copy_seats(alloc, &self.seats)?,
             prepared: None,
+            proposal: None,
+            alloc,
         })
     }
 }

@@ -26,7 +26,7 @@ impl World {
     {
         self.prepared = None;
         let seat = &mut self.seats[member as usize - 1];
-        seat.crash();
+        seat.crashed = true;
         let _ = self.record.push(Step::Crash(member));
     }
 }

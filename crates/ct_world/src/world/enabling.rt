@@ -5,8 +5,8 @@ ghost use Rattle.ct_model.specs.Cause.{cause, overflow};
 ghost use Rattle.ct_world.specs.Kept.{IsActor, IsAbsent};
 ghost use Rattle.ct_world.specs.World.{verdict};
 
+use crate::seat::Seat;
 use crate::world::World;
-use ct_lines::Seat;
 use ct_model::Step;
 use ct_names::{Limit, Member, Refusal};
 
@@ -27,6 +27,13 @@ impl World {
         match step {
             Step::Submit(member, command) => self.cause_of_submit(*member, command),
             Step::Receive(member, serial) => self.cause_of_receive(*member, *serial),
+            Step::Begin(member) => self.cause_of_begin(*member),
+            Step::Enter(member) => self.cause_of_enter(*member),
+            Step::Choose(member, from) => self.cause_of_choose(*member, *from),
+            Step::Adopt(member) => self.cause_of_adopt(*member),
+            Step::Suspect(member) => self.cause_of_suspect(*member),
+            Step::Conclude(member) => self.cause_of_conclude(*member),
+            Step::Deliver(member) => self.cause_of_deliver(*member),
             Step::Crash(member) => self.cause_of_crash(*member),
             Step::Postpone(member, serial) => self.cause_of_postpone(*member, *serial),
         }
@@ -34,13 +41,13 @@ impl World {
 
     // What is kept of the member whose step it is.
     pub(super) fn actor(&self, member: Member) -> Result<&Seat, Refusal>
-        ensures { MatchResult result (λ seat. IsActor self.now.rehearsal member seat.now.facts) (λ refusal. IsAbsent self.now.rehearsal member refusal) }
+        ensures { MatchResult result (λ seat. IsActor self.now.rehearsal member seat.now) (λ refusal. IsAbsent self.now.rehearsal member refusal) }
     {
         let _ = &self.seats;
         match self.seat(member) {
             None => Err(Refusal::NoSuchMember),
             Some(seat) => {
-                if seat.crashed() {
+                if seat.crashed {
                     Err(Refusal::Crashed)
                 } else {
                     Ok(seat)
@@ -54,7 +61,7 @@ impl World {
         requires { more ≤ 16 }
         ensures { result ≡ overflow self.now.rehearsal more }
     {
-        if self.letters.len() + more > 1_000_000 {
+        if self.network.sent() + more > 1_000_000 {
             Some(Refusal::Full(Limit::Envelopes))
         } else if self.record.len() + 1 > 1_000_000 {
             Some(Refusal::Full(Limit::Steps))

@@ -12,11 +12,10 @@ impl World {
     pub(super) fn cause_of_postpone(&self, member: Member, serial: Serial) -> Option<Refusal>
         ensures { result ≡ cause self.now.rehearsal (Step.Postpone member serial) }
     {
-        let seat = match self.actor(member) {
-            Ok(seat) => seat,
-            Err(refusal) => return Some(refusal),
-        };
-        if seat.find(serial).is_none() {
+        if let Err(refusal) = self.actor(member) {
+            return Some(refusal);
+        }
+        if !self.network.waits(member, serial) {
             return Some(Refusal::NotWaiting);
         }
         self.overflow(0)
@@ -29,9 +28,7 @@ impl World {
         ensures none { self.new.prepared ≡ None }
     {
         self.prepared = None;
-        let seat = &mut self.seats[member as usize - 1];
-        seat.leave(serial);
-        seat.join(serial);
+        self.network.postpone(member, serial);
         let _ = self.record.push(Step::Postpone(member, serial));
     }
 }

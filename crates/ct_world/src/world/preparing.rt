@@ -1,15 +1,17 @@
 //! A step in two halves: what may be refused, and then what cannot fail.
 
-ghost use Rattle.std.specs.Prelude.{◌≡◌, ◌+◌, ◌<◌, ◌≤◌, length, vec_len, vec_capacity, IsSome, IfSome, Some, None, OnOk, OnErr, IfOk, IfErr, unwrap_or};
-ghost use Rattle.ct_lines.specs.Seats.{SameSeats, HaveRoom};
+ghost use Rattle.std.specs.Prelude.{◌≡◌, ◌<◌, true, vec_len, vec_capacity, IsSome, IfSome, Some, None, OnOk, OnErr, IfOk, IfErr, unwrap_or};
 ghost use Rattle.ct_model.specs.Cause.{cause};
+ghost use Rattle.ct_model.specs.Rehearsal.{state_of};
+ghost use Rattle.ct_model.specs.Safe.{IsSafe};
+ghost use Rattle.ct_world.specs.Kept.{NeedsNoRoom};
 ghost use Rattle.ct_world.specs.World.{IsDone};
 
 use crate::effect::Effect;
 use crate::world::World;
-use ct_lines::{Letter, Seat, seats};
 use ct_model::Step;
 use ct_names::Refusal;
+use ct_network::Network;
 use std::alloc::AllocError;
 
 impl World {
@@ -22,28 +24,42 @@ impl World {
         ensures err { OnErr result (self.new ≡ record self.old { prepared = None }) }
     {
         self.prepared = None;
+        self.proposal = None;
         if let Some(refusal) = self.cause(step) {
             return Err(refusal);
         }
-        self.make_room(step)
+        match self.make_room(step) {
+            Ok(()) => Ok(()),
+            Err(_) => Err(Refusal::OutOfMemory),
+        }
     }
 
-    // The room for a step that is allowed: the same for every step.
-    fn make_room(&mut self, step: &Step) -> Result<(), Refusal>
+    // The room for a step that is allowed.
+    fn make_room(&mut self, step: &Step) -> Result<(), AllocError>
         requires allowed { cause self.old.rehearsal step.now ≡ None }
         requires none { self.old.prepared ≡ None }
         ensures ok { OnOk result (self.new ≡ record self.old { prepared = Some step.now }) }
-        ensures refusal { IfErr result (λ refusal. refusal ≡ Refusal.OutOfMemory) }
         ensures err { OnErr result (self.new ≡ self.old) }
     {
-        let number = self.seats[step.member() as usize - 1].submitted() + 1;
-        match reserve(&mut self.record, &mut self.letters, &mut self.seats, number) {
-            Ok(()) => {
-                self.prepared = Some(*step);
-                Ok(())
-            }
-            Err(_) => Err(Refusal::OutOfMemory),
+        match *step {
+            Step::Receive(member, serial) => self.prepare_receive(member, serial),
+            Step::Begin(member) => self.prepare_begin(member),
+            Step::Deliver(member) => self.prepare_deliver(member),
+            step => self.prepare_other(step),
         }
+    }
+
+    // The room for a step that needs none of its own.
+    fn prepare_other(&mut self, step: Step) -> Result<(), AllocError>
+        requires allowed { cause self.old.rehearsal step ≡ None }
+        requires none { self.old.prepared ≡ None }
+        requires plain { NeedsNoRoom step }
+        ensures ok { OnOk result (self.new ≡ record self.old { prepared = Some step }) }
+        ensures err { OnErr result (self.new ≡ self.old) }
+    {
+        reserve(&mut self.record, &mut self.network)?;
+        self.prepared = Some(step);
+        Ok(())
     }
 
     /// Does the prepared step, of which none is left. Takes no memory and cannot fail.
@@ -59,6 +75,29 @@ impl World {
             Step::Receive(member, serial) => Effect {
                 sent: self.commit_receive(member, serial),
             },
+            Step::Begin(member) => {
+                self.commit_begin(member);
+                Effect { sent: 0 }
+            }
+            Step::Enter(member) => Effect {
+                sent: self.commit_enter(member),
+            },
+            Step::Choose(member, from) => Effect {
+                sent: self.commit_choose(member, from),
+            },
+            Step::Adopt(member) => Effect {
+                sent: self.commit_adopt(member),
+            },
+            Step::Suspect(member) => Effect {
+                sent: self.commit_suspect(member),
+            },
+            Step::Conclude(member) => Effect {
+                sent: self.commit_conclude(member),
+            },
+            Step::Deliver(member) => {
+                self.commit_deliver(member);
+                Effect { sent: 0 }
+            }
             Step::Crash(member) => {
                 self.commit_crash(member);
                 Effect { sent: 0 }
@@ -71,34 +110,32 @@ impl World {
     }
 
     /// Does the step: `prepare`, then `commit`. It refuses as `enabled`, or with OutOfMemory, and then changes nothing but
-    /// that no step is prepared.
+    /// that no step is prepared. Done or refused, the state is safe, as `record` says.
     pub fn apply(&mut self, step: &Step) -> Result<Effect, Refusal>
         ensures allowed { OnOk result (cause self.old.rehearsal step.now ≡ None) }
         ensures ok { IfOk result (λ effect. IsDone self.old.rehearsal step.now self.new.rehearsal effect.sent) }
         ensures refusal { IfErr result (λ refusal. refusal ≡ unwrap_or (cause self.old.rehearsal step.now) Refusal.OutOfMemory) }
         ensures err { OnErr result (self.new.rehearsal ≡ self.old.rehearsal) }
         ensures none { self.new.prepared ≡ None }
+        ensures safe { IsSafe self.new.rehearsal.setting (state_of self.new.rehearsal) }
     {
-        self.prepare(step)?;
-        Ok(self.commit())
+        let prepared = self.prepare(step);
+        let _ = self.record();
+        prepared?;
+        let effect = self.commit();
+        let _ = self.record();
+        Ok(effect)
     }
 }
 
-// Room for one more step, for a letter to each member, and at each seat for messages numbered up to this.
-fn reserve(
-    steps: &mut Vec<Step>,
-    letters: &mut Vec<Letter>,
-    seats: &mut Vec<Seat>,
-    number: u32,
-) -> Result<(), AllocError>
+// Room for one more step, and for what a step may send.
+pub(super) fn reserve(steps: &mut Vec<Step>, network: &mut Network) -> Result<(), AllocError>
     ensures record { steps.new.items ≡ steps.old.items }
-    ensures letters { letters.new.items ≡ letters.old.items }
-    ensures seats { SameSeats seats.old.items seats.new.items }
+    ensures sent { network.new.sent ≡ network.old.sent }
+    ensures lines { network.new.lines ≡ network.old.lines }
     ensures for_step { OnOk result (vec_len steps.new < vec_capacity steps.new) }
-    ensures for_letters { OnOk result (vec_len letters.new + length seats.old.items ≤ vec_capacity letters.new) }
-    ensures for_seats { OnOk result (HaveRoom seats.new.items number) }
+    ensures for_sending { OnOk result (network.new.has_room ≡ true) }
 {
     steps.reserve(1)?;
-    letters.reserve(seats.len())?;
-    seats::make_room(seats, number)
+    network.prepare()
 }

@@ -3,6 +3,7 @@
 ghost use Rattle.std.specs.Prelude.{◌≡◌, ◌≤◌, length, OnOk, IfOk, IfErr, Some};
 ghost use Rattle.ct_model.specs.Rehearsal.{state_of};
 ghost use Rattle.ct_model.specs.Run.{run};
+ghost use Rattle.ct_model.specs.Safe.{IsSafe};
 ghost use Rattle.ct_world.specs.Replay.{world_after, AllowsFirst, IsFaultOf};
 
 use crate::replay_fault::ReplayFault;
@@ -23,6 +24,7 @@ impl World {
         ensures ok { IfOk result (λ world. world ≡ world_after group cells steps.now) }
         ensures allowed { OnOk result (AllowsFirst group cells steps.now (length steps.now)) }
         ensures runs { IfOk result (λ world. run world.rehearsal.setting world.rehearsal.steps ≡ Some (state_of world.rehearsal)) }
+        ensures safe { IfOk result (λ world. IsSafe world.rehearsal.setting (state_of world.rehearsal)) }
         ensures err { IfErr result (λ fault. IsFaultOf group cells steps.now fault.at fault.refusal) }
     {
         let mut world = match World::new(alloc, group, cells) {

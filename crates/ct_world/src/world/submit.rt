@@ -5,9 +5,9 @@ ghost use Rattle.ct_model.specs.Cause.{cause};
 ghost use Rattle.ct_world.specs.World.{IsDone};
 
 use crate::world::World;
-use ct_lines::{Wire, seats};
 use ct_model::Step;
 use ct_names::{Command, Limit, Member, Message, Refusal};
+use ct_rounds::{Mail, Wire};
 
 impl World {
     pub(super) fn cause_of_submit(&self, member: Member, command: &Command) -> Option<Refusal>
@@ -20,7 +20,7 @@ impl World {
         if !command.good() {
             return Some(Refusal::BadCommand);
         }
-        if seat.submitted() >= 65_535 {
+        if seat.submitted >= 65_535 {
             return Some(Refusal::Full(Limit::Submissions));
         }
         self.overflow(self.seats.len())
@@ -34,10 +34,10 @@ impl World {
     {
         self.prepared = None;
         let seat = &mut self.seats[member as usize - 1];
-        let message = Message::new(member, seat.submitted() + 1, command).unwrap();
-        seat.count_submission();
-        seats::send_to_all(&mut self.letters, &mut self.seats, Wire::Data(message));
+        seat.submitted += 1;
+        let message = Message::new(member, seat.submitted, command).unwrap();
+        let sent = self.network.post(Mail::All(Wire::Data(message)));
         let _ = self.record.push(Step::Submit(member, command));
-        self.seats.len() as u32
+        sent
     }
 }

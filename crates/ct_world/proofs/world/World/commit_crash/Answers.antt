@@ -1,10 +1,10 @@
-use Rattle.std.proofs.Common.{◌≡◌, ◌-◌, ◌++◌, ◌∷◌, [], true, set, refl, ap, ◌∙◌, arith}
-use Rattle.std.specs.Prelude.{is_ok, vec_len, vec_capacity}
+use Rattle.std.proofs.Common.{◌≡◌, ◌-◌, ◌++◌, ◌∷◌, [], true, set, refl, ap, arith}
+use Rattle.std.specs.Prelude.{is_ok}
 use Rattle.ct_model.specs.declared.step.Step.TheVariants.{Crash}
 use Rattle.ct_model.proofs.Crashes.{crash_outcome, crash_taken}
-use Rattle.ct_lines.specs.Seats.{SeatView}
-use Rattle.ct_world.proofs.Commits.{crash_refines}
-use Rattle.ct_world.proofs.Insides.{rehearsal_in, IsPreparedIn, prepared_in, within_in, seat_in, done_in, kept_in}
+use Rattle.ct_world.specs.declared.seat.Seat.{Seat}
+use Rattle.ct_world.proofs.Insides.{rehearsal_in, IsPreparedIn, prepared_in, within_in, seat_in, done_in, kept_in, fields_in}
+use Rattle.ct_world.proofs.Steps.{crash_mail, crash_steps}
 use Rattle.ct_world.proofs.world.World.commit_crash.Goals as goal
 use Rattle.ct_world.proofs.world.World.commit_crash.Goals.{After-push}
 
@@ -26,13 +26,13 @@ pub invariant_of-self : goal.invariant_of-self
 invariant_of-self c =
     let p = before c in
     let here = seat_in c.self.inside (Crash c.args.member) c.index_mut-seat.result.now p c.index_mut-seat.ensures.value in
-    kept_in c.self.inside (Crash c.args.member) c.push.new.self.items c.self.inside.letters.items (set c.self.inside.seats.items (c.args.member - 1) c.crash.new.self) (vec_capacity c.push.new.self - vec_len c.push.new.self) (vec_capacity c.self.inside.letters - vec_len c.self.inside.letters) (pushed c)
-    (crash_refines (rehearsal_in c.self.inside) c.self.inside.letters.items c.self.inside.seats.items c.args.member c.crash.new.self p.world p.ready.allowed
-    (c.crash.ensures.facts ∙ ap (λ (s : SeatView). record s.facts { crashed = true }) here)
-    (c.crash.ensures.table ∙ ap (λ (s : SeatView). s.table) here))
+    let marked = ap (λ (s : Seat). set c.self.inside.seats.items (c.args.member - 1) (record s { crashed = true })) here in
+    kept_in c.self.inside (Crash c.args.member) c.push.new.self.items _ (pushed c)
+    (crash_steps (rehearsal_in c.self.inside) c.args.member (fields_in c.self.inside) _ p marked refl refl refl)
 
 pub returns-clause-done : goal.returns-clause-done
-unfolding crash_outcome
 returns-clause-done c =
     let p = before c in
-    done_in c.self.inside c.args.self.now (Crash c.args.member) (crash_outcome (rehearsal_in c.self.inside) c.args.member) c.push.new.self.items 0 c.self.view_is p (pushed c) (crash_taken (rehearsal_in c.self.inside) c.args.member p.world.lawful p.ready.allowed) refl
+    done_in c.self.inside c.args.self.now (Crash c.args.member) (crash_outcome (rehearsal_in c.self.inside) c.args.member) c.push.new.self.items 0 c.self.view_is p (pushed c)
+    (crash_taken (rehearsal_in c.self.inside) c.args.member p.world.lawful p.ready.allowed)
+    (crash_mail (rehearsal_in c.self.inside) c.args.member)

@@ -1,25 +1,30 @@
-use Rattle.std.proofs.Common.{ap, sym, ◌∙◌, arith}
-use Rattle.ct_model.specs.Rehearsal.{Rehearsal}
+use Rattle.std.proofs.Common.{◌≡◌, length, ap, sym, ◌∙◌, arith}
 use Rattle.ct_model.specs.Cause.{overflow}
+use Rattle.ct_model.specs.Rehearsal.{state_of}
 use Rattle.ct_model.proofs.Causes.{overflow-sent, overflow-steps, overflow-no}
+use Rattle.ct_instances.proofs.Named.{named_length}
+use Rattle.ct_world.specs.declared.world.World.TheInside.{Inside}
 use Rattle.ct_world.specs.World.{WorldView}
-use Rattle.ct_world.proofs.Fields.{letters_sent}
+use Rattle.ct_world.proofs.Insides.{rehearsal_in, IsKeptIn}
 use Rattle.ct_world.proofs.world.World.overflow.Goals as goal
 
-pub returns-then-len-more-gt1000000 : goal.returns-then-len-more-gt1000000
-returns-then-len-more-gt1000000 c =
-    let w : Rehearsal = record { setting = record { members = c.self.inside.group }; cells = c.self.inside.cells; steps = c.self.inside.record.items } in
-    let e = letters_sent w c.self.inside.letters.items c.self.inside.seats.items c.self.invariant.world in
-    sym (ap (λ (v : WorldView). overflow v.rehearsal c.args.more) (sym c.self.view_is) ∙ overflow-sent w c.args.more (omega (arith, c.self.inside.letters.ok.0)))
+as_many : (a : Inside) → IsKeptIn a → length a.network.sent ≡ length (state_of (rehearsal_in a)).sent
+as_many a kept = named_length a.book.values a.network.sent (state_of (rehearsal_in a)).sent kept.world.sent
+
+pub returns-then-sent-more-gt1000000 : goal.returns-then-sent-more-gt1000000
+returns-then-sent-more-gt1000000 c =
+    let e = as_many c.self.inside c.self.invariant in
+    sym (ap (λ (v : WorldView). overflow v.rehearsal c.args.more) (sym c.self.view_is)
+    ∙ overflow-sent (rehearsal_in c.self.inside) c.args.more (omega (arith, c.sent.ensures, c.if-sent-more-gt1000000.true)))
 
 pub returns-then-len-gt1000000 : goal.returns-then-len-gt1000000
 returns-then-len-gt1000000 c =
-    let w : Rehearsal = record { setting = record { members = c.self.inside.group }; cells = c.self.inside.cells; steps = c.self.inside.record.items } in
-    let e = letters_sent w c.self.inside.letters.items c.self.inside.seats.items c.self.invariant.world in
-    sym (ap (λ (v : WorldView). overflow v.rehearsal c.args.more) (sym c.self.view_is) ∙ overflow-steps w c.args.more (omega (arith, c.self.inside.letters.ok.0)) (omega (arith, c.self.inside.record.ok.0)))
+    let e = as_many c.self.inside c.self.invariant in
+    sym (ap (λ (v : WorldView). overflow v.rehearsal c.args.more) (sym c.self.view_is)
+    ∙ overflow-steps (rehearsal_in c.self.inside) c.args.more (omega (arith, c.sent.ensures, c.if-sent-more-gt1000000.false)) (omega (arith, c.len.ensures, c.if-len-gt1000000.true, c.self.inside.record.ok.0)))
 
 pub returns-else-len-gt1000000 : goal.returns-else-len-gt1000000
 returns-else-len-gt1000000 c =
-    let w : Rehearsal = record { setting = record { members = c.self.inside.group }; cells = c.self.inside.cells; steps = c.self.inside.record.items } in
-    let e = letters_sent w c.self.inside.letters.items c.self.inside.seats.items c.self.invariant.world in
-    sym (ap (λ (v : WorldView). overflow v.rehearsal c.args.more) (sym c.self.view_is) ∙ overflow-no w c.args.more (omega (arith, c.self.inside.letters.ok.0)) (omega (arith, c.self.inside.record.ok.0)))
+    let e = as_many c.self.inside c.self.invariant in
+    sym (ap (λ (v : WorldView). overflow v.rehearsal c.args.more) (sym c.self.view_is)
+    ∙ overflow-no (rehearsal_in c.self.inside) c.args.more (omega (arith, c.sent.ensures, c.if-sent-more-gt1000000.false)) (omega (arith, c.len.ensures, c.if-len-gt1000000.false, c.self.inside.record.ok.0)))

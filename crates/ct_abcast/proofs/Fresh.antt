@@ -1,0 +1,108 @@
+-- The messages of a set that a list doesn't have join the list in turn.
+use Rattle.std.proofs.Common.{◌≡◌, ℕ, zero, suc, ◌+◌, ◌<◌, Bool, true, false, cond, not, ◌||◌, List, [], ◌∷◌, ◌++◌, length, get_or, take, nat_lt, refl, sym, ap, ◌∙◌, subst, inl, inr, arith, append_assoc, ◌==◌}
+use Rattle.std.specs.List.{list_any}
+use Rattle.std.proofs.lemmas.Bool.Decides.{nat_tests}
+use Rattle.std.proofs.lemmas.List.{append-nil}
+use Rattle.std.proofs.lemmas.List.Folds.{list_any-append}
+use Rattle.std.proofs.lemmas.Grind.{flat_map-append}
+use Rattle.indexmap.specs.IndexSet.{insert_key}
+use Rattle.ct_names.specs.contracts.message.MessagePartialEq.TheImpl.{ghosts as equal}
+use Rattle.ct_names.specs.Membership.{IsIn, IsWithoutRepeats}
+use Rattle.ct_names.specs.Message.{Message}
+use Rattle.ct_names.specs.Order.{is_message}
+use Rattle.ct_names.specs.Value.{has, minus, ordered}
+use Rattle.ct_names.proofs.Orders.{same_eq}
+use Rattle.ct_names.proofs.Places.{minus-more}
+use Rattle.ct_names.proofs.Sets.{same_test, ordered-in, set-nil}
+use Rattle.ct_names.proofs.Values.{same_message, is_message-refl, in-has, minus-from}
+use Rattle.ct_abcast.specs.Batches.{joined}
+
+same_way : (a b : Message) → is_message a b ≡ true → is_message b a ≡ true
+same_way a b h = subst (λ z. is_message z a ≡ true) (same_message a b h) (is_message-refl a)
+
+is_message-sym : (a b : Message) → is_message a b ≡ is_message b a
+is_message-sym a b = same_test (is_message a b) (is_message b a) (same_way a b) (same_way b a)
+
+-- the set of keys has what the list has
+pub keys-has : (list : List Message) (m : Message) → list_any (equal.eq m) list ≡ has list m
+keys-has list m =
+    let same : equal.eq m ≡ (λ other. is_message other m) = λ i. λ other. (same_eq m other ∙ is_message-sym m other) i in
+    ap (λ test. list_any test list) same
+
+in-at : (items : List Message) (i : ℕ) (m : Message) → i < length items → m ≡ get_or items i m → IsIn m items
+in-at [] i m low is = absurd (omega arith)
+in-at (x ∷ items) zero m low is = inl is
+in-at (x ∷ items) (suc i) m low is = inr (in-at items i m (omega arith) is)
+
+-- what stands in a list without repeats does not stand before
+fresh : (items : List Message) (i : ℕ) (m : Message) → IsWithoutRepeats items → i < length items → m ≡ get_or items i m → IsIn m (take i items) → ⊥
+fresh [] i m once low is h = absurd (omega arith)
+fresh (x ∷ items) zero m once low is h = h
+fresh (x ∷ items) (suc i) m once low is (inl e) = once.0 (subst (λ z. IsIn z items) e (in-at items i m (omega arith) is))
+fresh (x ∷ items) (suc i) m once low is (inr h) = fresh items i m once.1 (omega arith) is h
+
+absent : (list : List Message) (m : Message) → (IsIn m list → ⊥) → has list m ≡ false
+absent list m out = at (has list m) refl
+  where
+    at : (b : Bool) → has list m ≡ b → b ≡ false
+    at true is = absurd (out (in-has list m is))
+    at false is = refl
+
+or-nothing : (a b : Bool) → b ≡ false → (a || b) ≡ a
+or-nothing true b h = refl
+or-nothing false b h = h
+
+-- the next message of the set is inserted where the list doesn't have it
+pub insert-more : (list items : List Message) (i : ℕ) (m : Message) → IsWithoutRepeats items → i < length items → m ≡ get_or items i m → insert_key equal.eq (list ++ minus (take i items) list) m ≡ list ++ minus (take (i + 1) items) list
+insert-more list items i m once low is =
+    ap (λ b. cond b (list ++ kept) ((list ++ kept) ++ m ∷ [])) there
+    ∙ (at (has list m)
+    ∙ ap (λ zs. list ++ zs) (sym (minus-more items list i m (has list m) low is refl)))
+  where
+    kept : List Message
+    kept = minus (take i items) list
+
+    there : list_any (equal.eq m) (list ++ kept) ≡ has list m
+    there =
+        keys-has (list ++ kept) m
+        ∙ (list_any-append (λ other. is_message other m) list kept
+        ∙ or-nothing (has list m) (has kept m) (absent kept m (λ h. fresh items i m once low is (minus-from (take i items) list m h))))
+
+    at : (b : Bool) → cond b (list ++ kept) ((list ++ kept) ++ m ∷ []) ≡ list ++ (kept ++ cond b [] (m ∷ []))
+    at true = ap (λ zs. list ++ zs) (sym (append-nil kept))
+    at false = append_assoc list kept (m ∷ [])
+
+some-suc : (n : ℕ) → nat_lt 0 (suc n) ≡ true
+some-suc n = grind (arith, nat_tests)
+
+-- the set of a list has a message where the list has
+pub some-ordered : (list : List Message) → nat_lt 0 (length (ordered list)) ≡ nat_lt 0 (length list)
+some-ordered [] = ap (λ zs. nat_lt 0 (length zs)) set-nil
+some-ordered (m ∷ list) = at (ordered (m ∷ list)) (ordered-in (m ∷ list) m (inl refl))
+  where
+    at : (zs : List Message) → IsIn m zs → nat_lt 0 (length zs) ≡ nat_lt 0 (suc (length list))
+    at [] h = absurd h
+    at (z ∷ zs) h = some-suc (length zs) ∙ sym (some-suc (length list))
+
+pub some-length : (n : ℕ) → not (n == 0) ≡ nat_lt 0 n
+some-length n = grind (arith, nat_tests)
+
+-- what was left out once stays out
+minus-rest : (list old more : List Message) → minus (minus list old) (old ++ more) ≡ minus list (old ++ more)
+minus-rest [] old more = refl
+minus-rest (x ∷ list) old more = at (has old x) refl (minus-rest list old more)
+  where
+    all : List Message
+    all = old ++ more
+
+    at : (b : Bool) → has old x ≡ b → minus (minus list old) all ≡ minus list all → minus (cond (not b) (x ∷ minus list old) (minus list old)) all ≡ minus (x ∷ list) all
+    at true is ih =
+        let there : has all x ≡ true = list_any-append (λ other. is_message other x) old more ∙ ap (λ b. b || has more x) is in
+        ih ∙ ap (λ b. cond (not b) (x ∷ minus list all) (minus list all)) (sym there)
+    at false is ih = ap (λ rest. cond (not (has all x)) (x ∷ rest) rest) ih
+
+-- what stays undelivered after one more batch
+pub minus-delivered : (list : List Message) (old new : List (List Message)) (more : List Message) → new ≡ old ++ more ∷ [] → minus (minus list (joined old)) (joined new) ≡ minus list (joined new)
+minus-delivered list old new more is =
+    let all : joined new ≡ joined old ++ more = ap joined is ∙ (flat_map-append (λ b. b) old (more ∷ []) ∙ ap (λ zs. joined old ++ zs) (append-nil more)) in
+    ap (λ zs. minus (minus list (joined old)) zs) all ∙ (minus-rest list (joined old) more ∙ ap (λ zs. minus list zs) (sym all))

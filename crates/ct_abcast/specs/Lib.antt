@@ -1,0 +1,4 @@
+pub mod Batch
+pub mod Batches
+pub mod Cast
+pub mod Ends

@@ -1,0 +1,45 @@
+//! What one decision delivers.
+
+ghost use Rattle.std.specs.Prelude.{◌≡◌};
+
+use ct_names::{Instance, Message};
+use std::marker::Model;
+
+/// The messages that a member delivers for the decision of an instance, in their order.
+#[derive(Debug, Drop)]
+pub struct Batch {
+    instance: Instance,
+    messages: Vec<Message>,
+}
+
+impl Model for Batch {
+    ghost use Rattle.ct_abcast.specs.Batch.{Batch as Plain};
+
+    ghost Value = { Plain };
+
+    ghost view = { λ batch. record { instance = batch.instance; messages = batch.messages.items } };
+}
+
+impl Batch {
+    // The batch of the instance with these messages.
+    pub(crate) fn of(instance: Instance, messages: Vec<Message>) -> Batch
+        ensures instance { result.instance ≡ instance }
+        ensures messages { result.messages ≡ messages.items }
+    {
+        Batch { instance, messages }
+    }
+
+    /// The instance that was decided.
+    pub fn instance(&self) -> Instance
+        ensures { result ≡ self.now.instance }
+    {
+        self.instance
+    }
+
+    /// The messages, in the order of delivery.
+    pub fn messages(&self) -> &[Message]
+        ensures { result.now ≡ self.now.messages }
+    {
+        &self.messages
+    }
+}

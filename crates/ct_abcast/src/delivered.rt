@@ -1,0 +1,133 @@
+//! What a member delivered.
+
+ghost use Rattle.std.specs.Prelude.{◌≡◌, ℕ, ◌+◌, ◌≤◌, ◌++◌, ◌∷◌, [], ◌&&◌, false, length, nat_le, slice_get, option_map, IsTrue, IfOk, OnOk, OnErr};
+ghost use Rattle.ct_names.specs.Value.{has};
+ghost use Rattle.ct_abcast.specs.Batches.{joined, batch_after};
+
+use ct_names::{Message, MsgSet};
+use indexmap::IndexSet;
+use std::alloc::{AllocError, Global};
+use std::marker::Model;
+
+/// The batches that a member delivered. No message is delivered twice.
+#[derive(Drop)]
+pub struct Delivered {
+    // All that was delivered, in order.
+    messages: IndexSet<Message>,
+    // Where each batch ends in it.
+    ends: Vec<usize>,
+}
+
+// Contracts see the batches and the room for more.
+impl Model for Delivered {
+    ghost use Rattle.std.specs.Prelude.{nat_lt, length};
+    ghost use Rattle.std.specs.Vec.{vec_len, vec_capacity};
+    ghost use Rattle.indexmap.specs.IndexSet.{spare};
+    ghost use Rattle.ct_abcast.specs.Batches.{Batches};
+    ghost use Rattle.ct_abcast.specs.Ends.{parts, AreEnds};
+
+    ghost Value = { Batches };
+
+    ghost view = { λ d. record { batches = parts 0 d.ends.items d.messages.keys; room = spare d.messages; fits_batch = nat_lt (vec_len d.ends) (vec_capacity d.ends) } };
+
+    ghost invariant = { λ d. AreEnds 0 d.ends.items (length d.messages.keys) };
+}
+
+impl Delivered {
+    // Nothing was delivered.
+    pub fn new(alloc: Global) -> Delivered
+        ensures { result.batches ≡ [] }
+    {
+        Delivered {
+            messages: IndexSet::new(alloc),
+            ends: Vec::new(alloc),
+        }
+    }
+
+    // The messages of all batches.
+    pub fn messages(&self) -> &[Message]
+        ensures { result.now ≡ joined self.now.batches }
+    {
+        self.messages.as_slice()
+    }
+
+    // Whether the message was delivered.
+    pub fn contains(&self, message: &Message) -> bool
+        ensures { result ≡ has (joined self.now.batches) message.now }
+    {
+        self.messages.contains(message)
+    }
+
+    // How many batches there are.
+    pub fn len(&self) -> usize
+        ensures { result ≡ length self.now.batches }
+    {
+        self.ends.len()
+    }
+
+    // The batch at the place, from 0.
+    pub fn get(&self, place: usize) -> Option<&[Message]>
+        ensures { option_map (λ list. list.now) result ≡ slice_get self.now.batches place }
+    {
+        let end = *self.ends.get(place)?;
+        let start = if place == 0 { 0 } else { self.ends[place - 1] };
+        self.messages().get(start..end)
+    }
+
+    // Whether a batch of so many messages can be delivered without memory.
+    pub fn has_room(&self, more: usize) -> bool
+        ensures { result ≡ (nat_le more self.now.room && self.now.fits_batch) }
+    {
+        more <= self.messages.capacity() - self.messages.len()
+            && self.ends.len() < self.ends.capacity()
+    }
+
+    // Makes room for a batch of so many messages.
+    pub fn prepare(&mut self, more: usize) -> Result<(), AllocError>
+        ensures batches { self.new.batches ≡ self.old.batches }
+        ensures room { self.old.room ≤ self.new.room }
+        ensures fits { IsTrue self.old.fits_batch → IsTrue self.new.fits_batch }
+        ensures ok_room { OnOk result (more ≤ self.new.room) }
+        ensures ok_fits { OnOk result (IsTrue self.new.fits_batch) }
+        ensures refused { OnErr result ((nat_le more self.old.room && self.old.fits_batch) ≡ false) }
+    {
+        self.messages.reserve(more)?;
+        self.ends.reserve(1)
+    }
+
+    // The messages of the set that were not delivered.
+    pub fn rest(&self, alloc: Global, set: &MsgSet) -> Result<Vec<Message>, AllocError>
+        ensures { IfOk result (λ list. list.items ≡ batch_after self.now.batches set.now) }
+    {
+        let mut rest = Vec::new(alloc);
+        for message in set.items() {
+            if !self.contains(message) {
+                rest.push(*message)?;
+            }
+        }
+        Ok(rest)
+    }
+
+    // Delivers the messages of the set that were not delivered, as a batch.
+    pub fn deliver(&mut self, set: &MsgSet)
+        requires room { length set.now ≤ self.old.room }
+        requires fits { IsTrue self.old.fits_batch }
+        ensures batches { self.new.batches ≡ self.old.batches ++ batch_after self.old.batches set.now ∷ [] }
+        ensures room { self.old.room ≤ self.new.room + length set.now }
+    {
+        for message in set.items() {
+            self.messages.insert(*message).unwrap();
+        }
+        self.ends.push(self.messages.len()).unwrap();
+    }
+
+    // The same batches once more.
+    pub fn copy(&self, alloc: Global) -> Result<Delivered, AllocError>
+        ensures { IfOk result (λ copy. copy.batches ≡ self.now.batches) }
+    {
+        Ok(Delivered {
+            messages: self.messages.clone()?,
+            ends: Vec::from_slice(alloc, &self.ends)?,
+        })
+    }
+}

@@ -1,0 +1,13 @@
+//! Atomic broadcast by consensus (Chandra and Toueg, section 7): what one member received, and what it delivered, a batch
+//! for each decision.
+#![tactic(auto)]
+
+mod batch;
+mod caster;
+mod delivered;
+
+pub use batch::Batch;
+pub use caster::Caster;
+
+#[cfg(test)]
+mod tests;

@@ -1,5 +1,0 @@
-pub mod Widened
-pub mod Places
-pub mod Lettered
-pub mod Joins
-pub mod Rooms

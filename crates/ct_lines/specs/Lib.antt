@@ -1,3 +1,0 @@
-pub mod WaitingLine
-pub mod Seats
-pub mod Letters

@@ -1,0 +1,103 @@
+-- The messages that are proposed were submitted.
+use Rattle.std.proofs.Common.{◌≡◌, ℕ, List, Option, Some, sym, ap, subst, inl, inr, ◌⊎◌, length}
+use Rattle.ct_names.specs.Command.{is_good}
+use Rattle.ct_names.specs.Membership.{IsIn}
+use Rattle.ct_names.specs.Message.{Message}
+use Rattle.ct_names.specs.Value.{minus}
+use Rattle.ct_names.proofs.Lists
+use Rattle.ct_names.proofs.Values
+use Rattle.ct_model.specs.declared.step.Step.{Step}
+use Rattle.ct_model.specs.declared.step.Step.TheVariants.{Submit, Receive, Begin, Enter, Choose, Adopt, Suspect, Conclude, Deliver, Crash, Postpone}
+use Rattle.ct_model.specs.Actor.{actor}
+use Rattle.ct_model.specs.AtValue.{Wire, Standing, Turn}
+use Rattle.ct_model.specs.Knowledge.{KnowsMessages}
+use Rattle.ct_model.specs.Setting.{Setting}
+use Rattle.ct_model.specs.Wire.Mail.{Nobody}
+use Rattle.ct_model.specs.State.{State, Member, Proposal, member, delivered, first_state}
+use Rattle.ct_model.specs.Received.{received, decided}
+use Rattle.ct_model.specs.Phases.{enter, choose, adopt, suspect, conclude}
+use Rattle.ct_model.specs.Next.{Outcome, plain, row, round_row, own_ballots, submit, receive, crash, undelivered, wire_to, after, next}
+use Rattle.ct_model.specs.Run.{run}
+use Rattle.ct_model.proofs.First.{knows-first, size-first}
+use Rattle.ct_model.proofs.Frame.{after-submitted}
+use Rattle.ct_model.proofs.Knowing.{next-is, received-by, knows-next, size-next}
+use Rattle.ct_model.proofs.Outcomes.{some-same, when-is, made-map}
+use Rattle.ct_model.proofs.Rows.{round_row-is, begin_row-is, deliver_row-is}
+use Rattle.ct_model.proofs.Runs.{kept-run}
+
+-- each message of a proposal was submitted
+abbrev pub ProposesSubmitted : State → Type 0
+ProposesSubmitted g = (x : Proposal) → IsIn x g.proposals → (m : Message) → IsIn m x.value → IsIn m g.submitted
+
+-- what a member received and didn't deliver was submitted
+undelivered-submitted : (s : Setting) (g : State) (p : ℕ) (m : Message) → KnowsMessages s g → IsIn m (undelivered (member g p)) → IsIn m g.submitted
+unfolding undelivered
+undelivered-submitted s g p m k h =
+    let rest : List Message = minus (received (member g p).got) (delivered (member g p)) in
+    let inside : IsIn m (received (member g p).got) = Values.minus-from (received (member g p).got) (delivered (member g p)) m (Values.ordered-from rest m h) in
+    Values.in-has g.submitted m (k.received p m (Values.has-in _ m (subst (λ list. IsIn m list) (sym (received-by g p)) inside)))
+
+-- what a step proposes is what its member didn't deliver
+abbrev ProposesUndelivered : Member → Outcome → Type 0
+ProposesUndelivered m o = (x : Proposal) → IsIn x o.proposals → x.value ≡ undelivered m
+
+proposes-round : (m : Member) (step : Standing → Option Turn) (o : Outcome) → round_row m step ≡ Some o → ProposesUndelivered m o
+proposes-round m step o e = subst (λ z. ProposesUndelivered m z) (round_row-is m step o e).gives (λ x h. absurd h)
+
+proposes-row : (s : Setting) (g : State) (p : ℕ) (m : Member) (step : Step) (o : Outcome) → row s g p m step ≡ Some o → ProposesUndelivered m o
+proposes-row s g p m (Submit _ c) o e = subst (λ z. ProposesUndelivered m z) (when-is (is_good c) (submit g p m c) o e).1 (λ x h. absurd h)
+proposes-row s g p m (Receive _ k) o e =
+    subst (λ z. ProposesUndelivered m z) (made-map (receive s p m) (wire_to g p k) o e).gives (λ x h. absurd h)
+proposes-row s g p m (Begin _) o e =
+    subst (λ z. ProposesUndelivered m z) (begin_row-is p m o e).gives
+    (λ x h. elim h [ inl same ↦ ap (λ y. y.value) same | inr never ↦ absurd never ])
+proposes-row s g p m (Enter _) o e = proposes-round m (enter s.members p m.last (decided m.got m.last)) o e
+proposes-row s g p m (Choose _ from) o e = proposes-round m (λ c. choose s.members m.last (own_ballots m c) c from) o e
+proposes-row s g p m (Adopt _) o e = proposes-round m (λ c. adopt s.members p m.last (own_ballots m c) c) o e
+proposes-row s g p m (Suspect _) o e = proposes-round m (λ c. suspect s.members p m.last (own_ballots m c) c) o e
+proposes-row s g p m (Conclude _) o e = proposes-round m (λ c. conclude s.members m.last (own_ballots m c) c) o e
+proposes-row s g p m (Deliver _) o e = subst (λ z. ProposesUndelivered m z) (deliver_row-is m o e).gives (λ x h. absurd h)
+proposes-row s g p m (Crash _) o e = subst (λ z. ProposesUndelivered m z) (some-same (crash m) o e) (λ x h. absurd h)
+proposes-row s g p m (Postpone _ k) o e =
+    subst (λ z. ProposesUndelivered m z) (made-map (λ (w : Wire). plain m Nobody) (wire_to g p k) o e).gives (λ x h. absurd h)
+
+proposals-cases : (s : Setting) (g : State) (p : ℕ) (o : Outcome) (x : Proposal) → IsIn x (after s g p o).proposals → IsIn x g.proposals ⊎ IsIn x o.proposals
+unfolding after
+proposals-cases s g p o x h = Lists.IsIn-append_cases x g.proposals o.proposals h
+
+submitted-old : (s : Setting) (g : State) (p : ℕ) (o : Outcome) (m : Message) → IsIn m g.submitted → IsIn m (after s g p o).submitted
+submitted-old s g p o m h =
+    subst (λ list. IsIn m list) (sym (after-submitted s g p o)) (Lists.IsIn-append_left m g.submitted o.submitted h)
+
+proposes-after : (s : Setting) (g : State) (p : ℕ) (o : Outcome) → KnowsMessages s g → ProposesUndelivered (member g p) o → ProposesSubmitted g → ProposesSubmitted (after s g p o)
+proposes-after s g p o k new old x is m inside = elim (proposals-cases s g p o x is) [
+  | inl a ↦ submitted-old s g p o m (old x a m inside)
+  | inr b ↦ submitted-old s g p o m (undelivered-submitted s g p m k (subst (λ v. IsIn m v) (new x b) inside))
+]
+
+proposes-next : (s : Setting) (g : State) (step : Step) (h : State) → next s g step ≡ Some h → KnowsMessages s g → ProposesSubmitted g → ProposesSubmitted h
+proposes-next s g step h e k old =
+    let t = next-is s g step h e in
+    let p : ℕ = actor step in
+    subst (λ x. ProposesSubmitted x) t.gives
+    (proposes-after s g p t.outcome k (proposes-row s g p (member g p) step t.outcome t.row) old)
+
+proposes-first : (s : Setting) → ProposesSubmitted (first_state s)
+unfolding first_state
+proposes-first s x h m inside = absurd h
+
+record KnowsProposals (s : Setting) (g : State) : Type 0 where
+  size : length g.members ≡ s.members
+  messages : KnowsMessages s g
+  proposals : ProposesSubmitted g
+
+knows_proposals-run : (s : Setting) (steps : List Step) (g : State) → run s steps ≡ Some g → KnowsProposals s g
+knows_proposals-run s = kept-run (KnowsProposals s) s (record { size = size-first s; messages = knows-first s; proposals = proposes-first s })
+    (λ g step h e k. record {
+      size = size-next s g step h e k.size;
+      messages = knows-next s g step h e k.size k.messages;
+      proposals = proposes-next s g step h e k.messages k.proposals;
+    })
+
+pub proposes-run : (s : Setting) (steps : List Step) (g : State) → run s steps ≡ Some g → ProposesSubmitted g
+proposes-run s steps g e = (knows_proposals-run s steps g e).proposals

@@ -1,0 +1,5 @@
+use Rattle.ct_model.proofs.Locking.{locked}
+use Rattle.ct_model.proofs.laws.law_locked.Goals as goal
+
+pub returns : goal.returns
+returns c = locked

@@ -1,0 +1,42 @@
+-- What is safe in every state of a run.
+use Rattle.std.specs.Prelude.{◌≡◌, ◌⊎◌, ℕ, List, ◌++◌}
+use Rattle.ct_names.specs.Group.{IsMember, IsMajority}
+use Rattle.ct_names.specs.Message.{Message}
+use Rattle.ct_names.specs.Membership.{IsIn, IsWithoutRepeats}
+use Rattle.ct_names.specs.Value.{Value}
+use Rattle.ct_model.specs.Setting.{Setting}
+use Rattle.ct_model.specs.Wire.Wire.{Prop}
+use Rattle.ct_model.specs.State.{State, member, delivered, wires}
+use Rattle.ct_model.specs.Received.{ackers}
+use Rattle.ct_model.specs.Relayed.{HasDecided}
+
+-- the value was proposed in this round, and a majority acked it
+pub record IsLocked (s : Setting) (g : State) (instance round : ℕ) (value : Value) : Type 0 where
+  pub proposed : IsIn (Prop instance round value) (wires g)
+  pub acked : IsMajority s.members (ackers (wires g) instance round)
+
+-- some member proposed the value for the instance
+pub record IsProposed (g : State) (instance : ℕ) (value : Value) : Type 0 where
+  pub by : ℕ
+  pub is_in : IsIn (record { member = by; instance = instance; value = value }) g.proposals
+
+-- the list begins the other
+abbrev pub IsPrefix : {A : Type 0} → List A → List A → Type 0
+IsPrefix {A} xs ys = (rest : List A) × (xs ++ rest ≡ ys)
+
+abbrev pub delivered_by : State → ℕ → List Message
+delivered_by g p = delivered (member g p)
+
+-- two decisions of one instance are equal, and a decision was proposed for its instance
+pub record IsAgreed (s : Setting) (g : State) : Type 0 where
+  pub agreed : (p q instance : ℕ) (v w : Value) → IsMember s.members p → IsMember s.members q → HasDecided g p instance v → HasDecided g q instance w → v ≡ w
+  pub proposed : (p instance : ℕ) (v : Value) → IsMember s.members p → HasDecided g p instance v → IsProposed g instance v
+
+-- what is safe: decisions are agreed on and were proposed; of two delivered sequences one begins the other, also batch
+-- by batch, no message stands twice in one, and each was submitted
+pub record IsSafe (s : Setting) (g : State) : Type 0 where
+  pub decisions : IsAgreed s g
+  pub one_order : (p q : ℕ) → IsMember s.members p → IsMember s.members q → IsPrefix (delivered_by g p) (delivered_by g q) ⊎ IsPrefix (delivered_by g q) (delivered_by g p)
+  pub batches : (p q : ℕ) → IsMember s.members p → IsMember s.members q → IsPrefix (member g p).batches (member g q).batches ⊎ IsPrefix (member g q).batches (member g p).batches
+  pub once : (p : ℕ) → IsMember s.members p → IsWithoutRepeats (delivered_by g p)
+  pub submitted : (p : ℕ) (m : Message) → IsMember s.members p → IsIn m (delivered_by g p) → IsIn m g.submitted

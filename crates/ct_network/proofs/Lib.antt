@@ -1,0 +1,5 @@
+pub mod Places
+pub mod Posts
+pub mod Waiting
+pub mod Joins
+pub mod Readings

@@ -1,0 +1,4 @@
+pub mod WaitingLine
+pub mod Envelopes
+pub mod Network
+pub mod Lines

@@ -1,0 +1,13 @@
+//! The network of a group: every envelope that was sent, and what waits at each member.
+#![tactic(auto)]
+
+mod envelope;
+mod line;
+mod lines;
+mod network;
+
+pub use envelope::Envelope;
+pub use network::Network;
+
+#[cfg(test)]
+mod tests;

@@ -1,0 +1,134 @@
+//! Waiting lines.
+
+ghost use Rattle.std.specs.Prelude.{◌≡◌, ◌+◌, ◌<◌, ◌≤◌, ◌==◌, [], ◌∷◌, ◌++◌, length, drop, remove, position, filter, not, true, OnOk, IfOk};
+ghost use Rattle.ct_model.specs.Waiting.{has_serial};
+ghost use Rattle.ct_model.specs.Lawful.{is_distinct};
+ghost use Rattle.ct_network.specs.WaitingLine.{is_roomy};
+
+use ct_names::Serial;
+use std::alloc::{AllocError, Global};
+use std::marker::Model;
+
+/// The serials that wait at a member, in order and in one piece. What leaves near the front costs little: a leave takes
+/// time by the place in the line.
+#[derive(Debug, Drop)]
+pub struct Line {
+    kept: Vec<Serial>,
+    start: usize,
+}
+
+// Contracts see the serials that wait, and for how many more there is room. What stands before `start` is gone.
+impl Model for Line {
+    ghost use Rattle.std.specs.Prelude.{◌-◌, ◌≤◌, drop, vec_len, vec_capacity};
+    ghost use Rattle.ct_network.specs.WaitingLine.{WaitingLine};
+
+    ghost Value = { WaitingLine };
+
+    ghost view = { λ a. record { serials = drop a.start a.kept.items; room = vec_capacity a.kept - vec_len a.kept } };
+
+    ghost invariant = { λ a. a.start ≤ vec_len a.kept };
+}
+
+impl Line {
+    /// A line in which nothing waits.
+    pub fn new(alloc: Global) -> Line
+        ensures { result.serials ≡ [] }
+    {
+        Line {
+            kept: Vec::new(alloc),
+            start: 0,
+        }
+    }
+
+    /// A line in which the same serials wait. Only memory can be refused.
+    pub fn copy(&self, alloc: Global) -> Result<Line, AllocError>
+        ensures { IfOk result (λ line. line.serials ≡ self.now.serials) }
+    {
+        let kept = Vec::from_slice(alloc, self.as_slice())?;
+        Ok(Line { kept, start: 0 })
+    }
+
+    /// The serials that wait, in order.
+    pub fn as_slice(&self) -> &[Serial]
+        ensures { result.now ≡ self.now.serials }
+    {
+        &self.kept[self.start..]
+    }
+
+    /// The first place of the serial, counted from 0.
+    pub fn find(&self, serial: Serial) -> Option<usize>
+        ensures { result ≡ position (λ other. other == serial) self.now.serials }
+    {
+        self.as_slice().iter().position(|other| *other == serial)
+    }
+
+    /// Whether one more serial can join without memory.
+    pub fn has_room(&self) -> bool
+        ensures { result ≡ is_roomy self.now }
+    {
+        self.kept.len() < self.kept.capacity()
+    }
+
+    /// Makes room for one more serial. A full line first takes back the places of the serials that left, where those are
+    /// more than half. Only memory can be refused.
+    pub fn make_room(&mut self) -> Result<(), AllocError>
+        ensures same { self.new.serials ≡ self.old.serials }
+        ensures room { self.old.room ≤ self.new.room }
+        ensures ok { OnOk result (0 < self.new.room) }
+    {
+        if self.kept.len() == self.kept.capacity() && self.start > self.kept.len() / 2 {
+            self.reclaim();
+        }
+        self.kept.reserve(1)
+    }
+
+    /// The serial comes to the end.
+    pub fn join(&mut self, serial: Serial)
+        requires { 0 < self.old.room }
+        ensures serials { self.new.serials ≡ self.old.serials ++ serial ∷ [] }
+        ensures room { self.old.room ≤ self.new.room + 1 }
+    {
+        let _ = self.kept.push(serial);
+    }
+
+    /// The serial leaves; the others stay in order.
+    pub fn leave(&mut self, serial: Serial)
+        requires there { has_serial serial self.old.serials ≡ true }
+        requires once { is_distinct self.old.serials ≡ true }
+        ensures serials { self.new.serials ≡ filter (λ other. not (other == serial)) self.old.serials }
+        ensures room { self.new.room ≡ self.old.room }
+    {
+        let at = self.find(serial).unwrap();
+        self.leave_at(at);
+    }
+
+    // The serial at this place leaves.
+    fn leave_at(&mut self, at: usize)
+        requires { at < length self.old.serials }
+        ensures serials { self.new.serials ≡ remove self.old.serials at }
+        ensures room { self.new.room ≡ self.old.room }
+    {
+        take_out(&mut self.kept, self.start, at);
+        self.start += 1;
+    }
+
+    // The places of the serials that left become room.
+    fn reclaim(&mut self)
+        ensures serials { self.new.serials ≡ self.old.serials }
+        ensures room { self.old.room ≤ self.new.room }
+    {
+        let waiting = self.kept.len() - self.start;
+        self.kept.rotate_left(self.start);
+        self.kept.truncate(waiting);
+        self.start = 0;
+    }
+}
+
+// Removes the item at this place from `start` on, and leaves the rest one place further on.
+fn take_out(kept: &mut [Serial], start: usize, at: usize)
+    requires { start + at < length kept.old }
+    ensures { drop (start + 1) kept.new ≡ remove (drop start kept.old) at }
+{
+    let front = &mut kept[start..start + at + 1];
+    front.rotate_right(1);
+}

@@ -1,0 +1,105 @@
+//! Networks.
+
+ghost use Rattle.std.specs.Prelude.{◌≡◌, ◌&&◌, true, [], length, replicate, if◌then◌else◌, Some, None, IfOk, option_copied, option_map};
+ghost use Rattle.ct_names.specs.Group.{is_member};
+ghost use Rattle.ct_model.specs.State.{at_serial};
+ghost use Rattle.ct_model.specs.Waiting.{has_serial};
+ghost use Rattle.ct_network.specs.Envelopes.{envelope_of};
+ghost use Rattle.ct_network.specs.Network.{line_at};
+
+mod moving;
+mod preparing;
+mod sending;
+
+use crate::envelope::Envelope;
+use crate::line::Line;
+use crate::lines;
+use ct_names::{Member, Serial};
+use std::alloc::{AllocError, Global};
+use std::marker::Model;
+
+/// The network of a group: every envelope that was sent, and the serials that wait at each member.
+#[derive(Drop)]
+pub struct Network {
+    envelopes: Vec<Envelope>,
+    lines: Vec<Line>,
+}
+
+impl Model for Network {
+    ghost use Rattle.std.specs.Prelude.{◌-◌, ◌&&◌, nat_le, length, vec_len, vec_capacity};
+    ghost use Rattle.ct_network.specs.Envelopes.{envelopes_of};
+    ghost use Rattle.ct_network.specs.Lines.{serials_of, are_roomy};
+    ghost use Rattle.ct_network.specs.Network.{NetworkView};
+
+    ghost Value = { NetworkView };
+
+    ghost view = { λ a. record {
+      sent = envelopes_of a.envelopes.items;
+      lines = serials_of a.lines.items;
+      has_room = nat_le (length a.lines.items) (vec_capacity a.envelopes - vec_len a.envelopes) && are_roomy a.lines.items;
+    } };
+}
+
+impl Network {
+    /// The network of so many members: nothing was sent. Only memory can be refused.
+    pub fn new(alloc: Global, members: u8) -> Result<Network, AllocError>
+        ensures sent { IfOk result (λ network. network.sent ≡ []) }
+        ensures lines { IfOk result (λ network. network.lines ≡ replicate members []) }
+    {
+        Ok(Network {
+            envelopes: Vec::new(alloc),
+            lines: lines::new_lines(alloc, members)?,
+        })
+    }
+
+    /// A network with the same envelopes and lines. Only memory can be refused.
+    pub fn copy(&self, alloc: Global) -> Result<Network, AllocError>
+        ensures sent { IfOk result (λ network. network.sent ≡ self.now.sent) }
+        ensures lines { IfOk result (λ network. network.lines ≡ self.now.lines) }
+    {
+        Ok(Network {
+            envelopes: Vec::from_slice(alloc, &self.envelopes)?,
+            lines: lines::copy_lines(alloc, &self.lines)?,
+        })
+    }
+
+    /// How many envelopes were sent.
+    pub fn sent(&self) -> usize
+        ensures { result ≡ length self.now.sent }
+    {
+        self.envelopes.len()
+    }
+
+    /// How many members there are.
+    pub fn members(&self) -> usize
+        ensures { result ≡ length self.now.lines }
+    {
+        self.lines.len()
+    }
+
+    /// The envelope with this serial. None where none was sent.
+    pub fn envelope(&self, serial: Serial) -> Option<Envelope>
+        ensures { option_map envelope_of result ≡ at_serial self.now.sent serial }
+    {
+        let at = (serial as usize).checked_sub(1)?;
+        self.envelopes.get(at).copied()
+    }
+
+    /// The serials that wait at the member, in order. None where there is no such member.
+    pub fn line(&self, member: Member) -> Option<&[Serial]>
+        ensures { option_copied result ≡ (if is_member (length self.now.lines) member then Some (line_at self.now.lines member) else None) }
+    {
+        let at = (member as usize).checked_sub(1)?;
+        Some(self.lines.get(at)?.as_slice())
+    }
+
+    /// Whether the serial waits at the member.
+    pub fn waits(&self, member: Member, serial: Serial) -> bool
+        ensures { result ≡ (is_member (length self.now.lines) member && has_serial serial (line_at self.now.lines member)) }
+    {
+        match self.line(member) {
+            Some(line) => line.contains(&serial),
+            None => false,
+        }
+    }
+}

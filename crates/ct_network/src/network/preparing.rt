@@ -1,0 +1,29 @@
+//! Room for what a step sends.
+
+ghost use Rattle.std.specs.Prelude.{◌≡◌, IsTrue, OnOk};
+
+use crate::lines;
+use crate::network::Network;
+use std::alloc::AllocError;
+
+impl Network {
+    /// Whether what one step sends can be sent without memory.
+    pub fn has_room(&self) -> bool
+        ensures { result ≡ self.now.has_room }
+    {
+        self.envelopes.capacity() - self.envelopes.len() >= self.lines.len()
+            && lines::are_roomy(&self.lines)
+    }
+
+    /// Makes room for what one step sends. Only memory can be refused; what was sent and what waits stays, and so does
+    /// room.
+    pub fn prepare(&mut self) -> Result<(), AllocError>
+        ensures ok { OnOk result (IsTrue self.new.has_room) }
+        ensures room { IsTrue self.old.has_room → IsTrue self.new.has_room }
+        ensures sent { self.new.sent ≡ self.old.sent }
+        ensures lines { self.new.lines ≡ self.old.lines }
+    {
+        self.envelopes.reserve(self.lines.len())?;
+        lines::make_room(&mut self.lines)
+    }
+}

@@ -1,0 +1,80 @@
+//! Mail is sent: its envelopes get the next serials, and these come to the ends of the lines.
+
+ghost use Rattle.std.specs.Prelude.{◌≡◌, ℕ, ◌+◌, ◌<◌, ◌≤◌, ◌++◌, true, length, IsTrue, vec_len, vec_capacity};
+ghost use Rattle.ct_names.specs.Group.{is_member};
+ghost use Rattle.ct_model.specs.Waiting.{serials_to};
+ghost use Rattle.ct_model.specs.Wire.{envelopes};
+ghost use Rattle.ct_model.specs.Wire.Mail.{One, All};
+ghost use Rattle.ct_rounds.specs.Meaning.{mail_of, wire_of};
+ghost use Rattle.ct_network.specs.Envelopes.{envelopes_of};
+ghost use Rattle.ct_network.specs.Lines.{serials_of, are_roomy};
+ghost use Rattle.ct_network.specs.Network.{line_at, IsAddressed};
+
+use crate::envelope::Envelope;
+use crate::line::Line;
+use crate::network::Network;
+use ct_names::Member;
+use ct_rounds::{Mail, Wire};
+
+impl Network {
+    /// Sends the mail, and answers how many envelopes that were. Takes no memory.
+    pub fn post(&mut self, mail: Mail) -> u32
+        requires room { IsTrue self.old.has_room }
+        requires to { IsAddressed (length self.old.lines) (mail_of mail) }
+        requires few { length self.old.sent + length (envelopes (length self.old.lines) (mail_of mail)) ≤ 1000000 }
+        requires small { length self.old.lines ≤ 16 }
+        ensures sent { self.new.sent ≡ self.old.sent ++ envelopes (length self.old.lines) (mail_of mail) }
+        ensures members { length self.new.lines ≡ length self.old.lines }
+        ensures joined { (q : ℕ) → is_member (length self.old.lines) q ≡ true → line_at self.new.lines q ≡ line_at self.old.lines q ++ serials_to q (length self.old.sent) (envelopes (length self.old.lines) (mail_of mail)) }
+        ensures number { result ≡ length (envelopes (length self.old.lines) (mail_of mail)) }
+    {
+        match mail {
+            Mail::Nobody => 0,
+            Mail::One(to, wire) => {
+                send_one(&mut self.envelopes, &mut self.lines, to, wire);
+                1
+            }
+            Mail::All(wire) => {
+                send_to_all(&mut self.envelopes, &mut self.lines, wire);
+                self.lines.len() as u32
+            }
+        }
+    }
+}
+
+// The wire goes to this member: an envelope is sent, and its serial joins the member's line.
+fn send_one(sent: &mut Vec<Envelope>, lines: &mut Vec<Line>, to: Member, wire: Wire)
+    requires room { IsTrue (are_roomy lines.old.items) }
+    requires capacity { vec_len sent.old < vec_capacity sent.old }
+    requires to { is_member (length lines.old.items) to ≡ true }
+    requires few { vec_len sent.old < 1000000 }
+    ensures sent { envelopes_of sent.new.items ≡ envelopes_of sent.old.items ++ envelopes (length lines.old.items) (One to (wire_of wire)) }
+    ensures members { length lines.new.items ≡ length lines.old.items }
+    ensures joined { (q : ℕ) → is_member (length lines.old.items) q ≡ true → line_at (serials_of lines.new.items) q ≡ line_at (serials_of lines.old.items) q ++ serials_to q (length sent.old.items) (envelopes (length lines.old.items) (One to (wire_of wire))) }
+{
+    let _ = sent.push(Envelope { to, wire });
+    let line = &mut lines[to as usize - 1];
+    line.join(sent.len() as u32);
+}
+
+// The wire goes to each member in turn: an envelope is sent, and its serial joins the member's line.
+fn send_to_all(sent: &mut Vec<Envelope>, lines: &mut Vec<Line>, wire: Wire)
+    requires room { IsTrue (are_roomy lines.old.items) }
+    requires capacity { vec_len sent.old + length lines.old.items ≤ vec_capacity sent.old }
+    requires few { vec_len sent.old + length lines.old.items ≤ 1000000 }
+    requires small { length lines.old.items ≤ 16 }
+    ensures sent { envelopes_of sent.new.items ≡ envelopes_of sent.old.items ++ envelopes (length lines.old.items) (All (wire_of wire)) }
+    ensures members { length lines.new.items ≡ length lines.old.items }
+    ensures joined { (q : ℕ) → is_member (length lines.old.items) q ≡ true → line_at (serials_of lines.new.items) q ≡ line_at (serials_of lines.old.items) q ++ serials_to q (length sent.old.items) (envelopes (length lines.old.items) (All (wire_of wire))) }
+{
+    // Each envelope gets a copy.
+    let wire = &wire;
+    for i in 0..lines.len() {
+        let _ = sent.push(Envelope {
+            to: i as u8 + 1,
+            wire: *wire,
+        });
+        let line = &mut lines[i];
+        line.join(sent.len() as u32);
+    }
+}

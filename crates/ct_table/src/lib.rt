@@ -1,0 +1,9 @@
+//! The table of registers that a member's delivered messages make.
+#![tactic(auto)]
+
+mod table;
+
+pub use table::Table;
+
+#[cfg(test)]
+mod tests;

@@ -1,0 +1,175 @@
+-- Deliver: why it is refused, by the seat, and the seat after it.
+use Rattle.std.proofs.Common.{◌≡◌, ℕ, ◌+◌, ◌-◌, ◌≤◌, ◌<◌, Bool, true, false, not, List, [], ◌∷◌, ◌++◌, length, set, refl, ap, sym, ◌∙◌, subst, arith, append-nil, slice_get, Option, Some, None, Bor}
+use Rattle.std.specs.Prelude.{option_copied, nat_lt, is_some, is_none}
+use Rattle.std.specs.Option.{option_map_or}
+use Rattle.std.proofs.lemmas.Bool.Decides.{nat_tests}
+use Rattle.std.proofs.lemmas.List.{length-map, map-append}
+use Rattle.ct_names.specs.declared.refusal.Refusal.TheVariants.{Idle, Undecided, Full}
+use Rattle.ct_names.specs.declared.limit.Limit.TheVariants.{Cells}
+use Rattle.ct_names.specs.Value.{Value, minus, ordered}
+use Rattle.ct_model.specs.declared.step.Step.TheVariants.{Deliver}
+use Rattle.ct_model.specs.AtValue.{Standing}
+use Rattle.ct_model.specs.Received.{decided}
+use Rattle.ct_model.specs.State.{Member, Batch, member, submissions}
+use Rattle.ct_model.specs.Next.{deliver, batch_of}
+use Rattle.ct_model.specs.Rehearsal.{Rehearsal, state_of, extended}
+use Rattle.ct_model.specs.Cause.{at, first_fault, or_else, cause, overflow}
+use Rattle.ct_model.proofs.Causes.{own_tests}
+use Rattle.ct_model.proofs.Delivers.{tests-deliver, cause-deliver, IsDeliverStep, deliver_taken}
+use Rattle.ct_model.proofs.Frame.{submissions-none}
+use Rattle.ct_model.proofs.Limits.{own_tests-is, cause-tested}
+use Rattle.ct_model.proofs.Outcomes.{some-same}
+use Rattle.ct_abcast.specs.Cast.{Cast, batch_of as cast_batch}
+use Rattle.ct_instances.specs.Kept.{Kept, decision_at}
+use Rattle.ct_instances.specs.Named.{value_at, NamesDecision}
+use Rattle.ct_instances.proofs.Keeping.{keeps-closed}
+use Rattle.ct_instances.proofs.Named.{named_some, named_is_some}
+use Rattle.ct_world.specs.declared.seat.Seat.{Seat}
+use Rattle.ct_world.specs.Seats.{Keeps, IsSameSeat}
+use Rattle.ct_world.specs.Kept.{Fields, IsWorld, IsActor, HasDeliverRoom, seat_of, values_of}
+use Rattle.ct_world.proofs.Insides.{IsPrepared}
+use Rattle.ct_world.proofs.Members.{seat-same}
+use Rattle.ct_world.proofs.Preparing.{IsAllowed}
+use Rattle.ct_world.proofs.Posts.{LeavesLines, stepped-quiet}
+use Rattle.ct_world.proofs.Proposing.{copied-some, open-same, delivered-same}
+use Rattle.ct_world.proofs.Refines.{refined}
+
+-- the decision of the last instance, by number and by value
+pub decision-same : (n : ℕ) (values : List Value) (p : ℕ) (m : Member) (seat : Seat) → Keeps n values p m seat → NamesDecision values (decision_at seat.instances seat.instances.last) (decided m.got m.last)
+decision-same n values p m seat k = subst (λ i. NamesDecision values (decision_at seat.instances seat.instances.last) (decided m.got i)) k.instances.last (k.instances.decisions seat.instances.last)
+
+pub batch-same : (n : ℕ) (values : List Value) (p : ℕ) (m : Member) (seat : Seat) (v : Value) → Keeps n values p m seat → cast_batch seat.caster v ≡ batch_of m v
+unfolding batch_of
+batch-same n values p m seat v k = ap (λ list. ordered (minus v list)) (delivered-same n values p m seat k)
+
+some-none-test : {A : Type 0} (o : Option A) → is_none o ≡ not (is_some o)
+some-none-test None = refl
+some-none-test (Some x) = refl
+
+standing-there : (o : Option Standing) → is_some o ≡ true → (c : Standing) × (o ≡ Some c)
+standing-there None e = absurd (cc)
+standing-there (Some c) e = (c, refl)
+
+module _ (w : Rehearsal) (p : ℕ) (seat : Seat) (a : IsActor w p seat) where
+  open_is : is_some seat.instances.part ≡ is_some (member (state_of w) p).current
+  open_is = open-same w.setting.members (values_of (state_of w)) p (member (state_of w) p) seat a.sits.keeps
+
+  pub deliver_idle : is_some seat.instances.part ≡ false → cause w (Deliver p) ≡ Some Idle
+  deliver_idle e =
+      let none : is_none (member (state_of w) p).current ≡ true = some-none-test (member (state_of w) p).current ∙ ap not (sym open_is ∙ e) in
+      cause-tested w (Deliver p) Idle a.present (ap first_fault (own_tests-is w (Deliver p)) ∙ ap (λ b. first_fault (at Idle b ∷ option_map_or (λ (c : Standing). at Undecided (is_none (decided (member (state_of w) p).got (member (state_of w) p).last)) ∷ []) (member (state_of w) p).current [])) none)
+
+  decision_is : is_some (decision_at seat.instances seat.instances.last) ≡ is_some (decided (member (state_of w) p).got (member (state_of w) p).last)
+  decision_is = named_is_some (values_of (state_of w)) (decision_at seat.instances seat.instances.last) (decided (member (state_of w) p).got (member (state_of w) p).last) (decision-same w.setting.members (values_of (state_of w)) p (member (state_of w) p) seat a.sits.keeps)
+
+  tests-by : (b : Bool) → is_some seat.instances.part ≡ true → is_some (decision_at seat.instances seat.instances.last) ≡ b → first_fault (own_tests w (Deliver p)) ≡ first_fault (at Undecided (not b) ∷ [])
+  tests-by b e f =
+      let c = standing-there (member (state_of w) p).current (sym open_is ∙ e) in
+      tests-deliver w p c.0 c.1 ∙ ap (λ b. first_fault (at Undecided b ∷ [])) (some-none-test (decided (member (state_of w) p).got (member (state_of w) p).last) ∙ ap not (sym decision_is ∙ f))
+
+  pub deliver_undecided : is_some seat.instances.part ≡ true → is_some (decision_at seat.instances seat.instances.last) ≡ false → cause w (Deliver p) ≡ Some Undecided
+  deliver_undecided e f = cause-tested w (Deliver p) Undecided a.present (tests-by false e f)
+
+  batches_are : length seat.caster.batches ≡ length (member (state_of w) p).batches
+  batches_are = ap length a.sits.keeps.batches ∙ length-map (member (state_of w) p).batches (λ (b : Batch). b.messages)
+
+  pub deliver_full : is_some seat.instances.part ≡ true → is_some (decision_at seat.instances seat.instances.last) ≡ true → w.cells ≤ length seat.caster.batches → cause w (Deliver p) ≡ Some (Full Cells)
+  deliver_full e f many =
+      let number = batches_are in
+      let t : nat_lt w.cells (length (member (state_of w) p).batches + 1) ≡ true = grind (arith, nat_tests) in
+      cause-deliver w p a.lawful a.present (tests-by true e f) ∙ ap (λ b. or_else (first_fault (at (Full Cells) b ∷ [])) (overflow w 0)) t
+
+  pub deliver_free : is_some seat.instances.part ≡ true → is_some (decision_at seat.instances seat.instances.last) ≡ true → length seat.caster.batches < w.cells → cause w (Deliver p) ≡ overflow w 0
+  deliver_free e f few =
+      let number = batches_are in
+      let t : nat_lt w.cells (length (member (state_of w) p).batches + 1) ≡ false = grind (arith, nat_tests) in
+      cause-deliver w p a.lawful a.present (tests-by true e f) ∙ ap (λ b. or_else (first_fault (at (Full Cells) b ∷ [])) (overflow w 0)) t
+
+deliver-leaves : (p : ℕ) → LeavesLines (Deliver p)
+deliver-leaves p = record { untouched = λ q k. refl; unmoved = λ q. refl }
+
+none_more : (k p : ℕ) → k ≡ k + submissions [] p
+none_more k p = let e = submissions-none p in omega arith
+
+-- what the caster has after it delivered the value
+pub record HasDelivered (old : Cast) (v : Value) (new : Cast) : Type 0 where
+  pub received : new.received ≡ old.received
+  pub batches : new.batches ≡ old.batches ++ cast_batch old v ∷ []
+  pub begun : new.instance ≡ old.instance
+
+-- the seat after its open instance was closed
+abbrev pub closed : Seat → Cast → Seat
+closed seat cast = record seat { instances = record seat.instances { part = None }; caster = cast }
+
+closed_keeps : (n : ℕ) (values : List Value) (p : ℕ) (m : Member) (seat : Seat) (cast : Cast) (v : Value) → Keeps n values p m seat → HasDelivered seat.caster v cast → Keeps n values p (deliver m v).member (closed seat cast)
+closed_keeps n values p m seat cast v k d = record {
+  crashed = k.crashed;
+  me = k.me;
+  taken = k.taken;
+  received = d.received ∙ k.received;
+  batches =
+      d.batches
+      ∙ ap (λ batch. seat.caster.batches ++ batch ∷ []) (batch-same n values p m seat v k)
+      ∙ ap (λ list. list ++ batch_of m v ∷ []) k.batches
+      ∙ sym (map-append (λ (b : Batch). b.messages) m.batches (record { instance = m.last; messages = batch_of m v } ∷ []));
+  begun = d.begun ∙ k.begun;
+  instances = keeps-closed n values p m seat.instances (m.batches ++ record { instance = m.last; messages = batch_of m v } ∷ []) k.instances;
+}
+
+-- what is due at the seat: an instance is open, and the number of its decision has this value
+pub record IsDueAt (w : Rehearsal) (p : ℕ) (values : List Value) (seat : Seat) : Type 0 where
+  pub is_open : is_some seat.instances.part ≡ true
+  pub decided_there : is_some (decision_at seat.instances seat.instances.last) ≡ true
+  pub value : (id : ℕ) → decision_at seat.instances seat.instances.last ≡ Some id → (v : Value) × (decided (member (state_of w) p).got (member (state_of w) p).last ≡ Some v) × (value_at values id ≡ Some v)
+
+pub due : (w : Rehearsal) (p : ℕ) (values : List Value) (seat : Seat) → IsDeliverStep w p → Keeps w.setting.members values p (member (state_of w) p) seat → IsDueAt w p values seat
+due w p values seat step k =
+    let same = decision-same w.setting.members values p (member (state_of w) p) seat k in
+    record {
+      is_open = open-same w.setting.members values p (member (state_of w) p) seat k ∙ ap is_some step.is_open;
+      decided_there = named_is_some values (decision_at seat.instances seat.instances.last) (decided (member (state_of w) p).got (member (state_of w) p).last) same ∙ ap is_some step.decision;
+      value = λ id e. named_some values id (decision_at seat.instances seat.instances.last) (decided (member (state_of w) p).got (member (state_of w) p).last) same e;
+    }
+
+-- a Deliver delivers the decision and closes the instance
+pub deliver_steps : (w : Rehearsal) (p : ℕ) (f new : Fields) (id : ℕ) (v : Value) (cast : Cast) → IsPrepared w (Deliver p) f → decision_at (seat_of f.seats p).instances (seat_of f.seats p).instances.last ≡ Some id → value_at f.book.values id ≡ Some v → HasDelivered (seat_of f.seats p).caster v cast → new.seats ≡ set f.seats (p - 1) (closed (seat_of f.seats p) cast) → new.network.sent ≡ f.network.sent → new.network.lines ≡ f.network.lines → new.book.values ≡ f.book.values → IsWorld (extended w (Deliver p)) new
+deliver_steps w p f new id v cast ready number value delivered seats sent lines values =
+    let keeps = ready.world.seat p ready.in_group in
+    let step = deliver_taken w p ready.world.lawful ready.ready.allowed in
+    let found = (due w p f.book.values (seat_of f.seats p) step keeps).value id number in
+    let same : v ≡ step.value = some-same v step.value (sym value ∙ found.2 ∙ sym found.1 ∙ step.decision) in
+    refined w (Deliver p) (deliver (member (state_of w) p) step.value) f new ready.world step.taken
+    (stepped-quiet w (Deliver p) (deliver (member (state_of w) p) step.value) f new (closed (seat_of f.seats p) cast) ready.world (deliver-leaves p) (record {
+      values = values ∙ sym (append-nil f.book.values);
+      seats = seats;
+      keeps = rw values (closed_keeps w.setting.members f.book.values p (member (state_of w) p) (seat_of f.seats p) cast step.value keeps (subst (λ x. HasDelivered (seat_of f.seats p).caster x cast) same delivered));
+      submitted = ready.world.submitted p ready.in_group ∙ none_more (submissions (state_of w).submitted p) p;
+    }) refl sent lines)
+
+-- the decision of the last instance at a seat, as it is read there
+pub number_at : (old s : Seat) (k : ℕ) (d : Option ℕ) → s ≡ old → k ≡ s.instances.last → d ≡ decision_at s.instances k → d ≡ decision_at old.instances old.instances.last
+number_at old s k d here last number = number ∙ ap (decision_at s.instances) last ∙ ap (λ (x : Seat). decision_at x.instances x.instances.last) here
+
+-- what is due where a Deliver is allowed
+pub due_at : (w : Rehearsal) (p : ℕ) (f : Fields) → IsAllowed w (Deliver p) f → IsDueAt w p f.book.values (seat_of f.seats p)
+due_at w p f a = due w p f.book.values (seat_of f.seats p) (deliver_taken w p a.world.lawful a.allowed) (a.world.seat p a.in_group)
+
+pub prepared_due : (w : Rehearsal) (p : ℕ) (f : Fields) → IsPrepared w (Deliver p) f → IsDueAt w p f.book.values (seat_of f.seats p)
+prepared_due w p f r = due w p f.book.values (seat_of f.seats p) (deliver_taken w p r.world.lawful r.ready.allowed) (r.world.seat p r.in_group)
+
+-- the number that a call gives has a value
+pub value_there : (w : Rehearsal) (p : ℕ) (values : List Value) (seat : Seat) (id : ℕ) (r : Option (Bor Value)) → IsDueAt w p values seat → decision_at seat.instances seat.instances.last ≡ Some id → option_copied r ≡ slice_get values id → is_some r ≡ true
+value_there w p values seat id r d number got = sym (copied-some r (slice_get values id) got) ∙ ap is_some (d.value id number).2
+
+-- the room that was made for a Deliver
+pub deliver_room : (f : Fields) (p : ℕ) (old seat : Seat) (id : ℕ) (v : Value) (new : Fields) → p - 1 < length f.seats → old ≡ seat_of f.seats p → IsSameSeat old seat → new.seats ≡ set f.seats (p - 1) seat → new.book.values ≡ f.book.values → decision_at old.instances old.instances.last ≡ Some id → value_at f.book.values id ≡ Some v → seat.caster.fits_batch ≡ true → length v ≤ seat.caster.room → HasDeliverRoom new p
+deliver_room f p old seat id v new within here same set_is values number value fits room =
+    let there : seat_of new.seats p ≡ seat = ap (λ list. seat_of list p) set_is ∙ seat-same f.seats p seat within in
+    let last : seat.instances.last ≡ old.instances.last = ap (λ (k : Kept). k.last) same.instances in
+    record {
+      batch = rw there fits;
+      messages = rw there (λ other u is has.
+          let id_is : id ≡ other = some-same id other (sym number ∙ sym (same.decisions old.instances.last) ∙ ap (decision_at seat.instances) (sym last) ∙ is) in
+          let v_is : v ≡ u = some-same v u (sym value ∙ ap (value_at f.book.values) id_is ∙ ap (λ list. value_at list other) (sym values) ∙ has) in
+          subst (λ x. length x ≤ seat.caster.room) v_is room);
+    }

@@ -1,0 +1,80 @@
+-- What a step that takes and moves no serial makes of the network.
+use Rattle.std.proofs.Common.{◌≡◌, ℕ, ◌+◌, ◌-◌, true, List, [], ◌∷◌, ◌++◌, length, map, set, refl, ap, sym, ◌∙◌, append-nil, Some}
+use Rattle.std.specs.Prelude.{filter}
+use Rattle.std.proofs.lemmas.List.Elements.{filter_agree}
+use Rattle.ct_names.specs.Group.{is_member}
+use Rattle.ct_model.specs.declared.step.Step.{Step}
+use Rattle.ct_model.specs.Actor.{actor}
+use Rattle.ct_model.specs.Wire.{envelopes, Mail as AnyMail}
+use Rattle.ct_model.specs.Wire.Mail.{Nobody}
+use Rattle.ct_model.specs.Mapped.{envelope_map}
+use Rattle.ct_model.specs.Next.{Outcome}
+use Rattle.ct_model.specs.State.{submissions}
+use Rattle.ct_model.specs.Waiting.{moved, serials_to}
+use Rattle.ct_model.specs.Rehearsal.{Rehearsal, state_of}
+use Rattle.ct_model.proofs.Lines.{untouched}
+use Rattle.ct_network.specs.Network.{NetworkView, line_at}
+use Rattle.ct_instances.specs.Named.{NamesMail}
+use Rattle.ct_instances.proofs.Named.{named_posts}
+use Rattle.ct_world.specs.declared.seat.Seat.{Seat}
+use Rattle.ct_world.specs.Seats.{Keeps}
+use Rattle.ct_world.specs.Kept.{Fields, IsWorld}
+use Rattle.ct_world.proofs.Refines.{IsStepped}
+
+pub filter_true : (ks : List ℕ) → filter (λ k. true) ks ≡ ks
+filter_true [] = refl
+filter_true (k ∷ ks) = ap (λ r. k ∷ r) (filter_true ks)
+
+-- the step leaves what waits
+pub record LeavesLines (step : Step) : Type 0 where
+  pub untouched : (q k : ℕ) → untouched q step k ≡ true
+  pub unmoved : (q : ℕ) → moved q step ≡ []
+
+plain_line : (step : Step) (q : ℕ) (ks more : List ℕ) → LeavesLines step → filter (untouched q step) ks ++ (moved q step ++ more) ≡ ks ++ more
+plain_line step q ks more plain =
+    ap (λ r. r ++ (moved q step ++ more)) (filter_agree (untouched q step) (λ k. true) (λ k. plain.untouched q k) ks ∙ filter_true ks)
+    ∙ ap (λ r. ks ++ (r ++ more)) (plain.unmoved q)
+
+-- what the network's post did
+pub record IsPosted (old new : NetworkView) (mail : AnyMail ℕ) : Type 0 where
+  pub sent : new.sent ≡ old.sent ++ envelopes (length old.lines) mail
+  pub lined : length new.lines ≡ length old.lines
+  pub joined : (q : ℕ) → is_member (length old.lines) q ≡ true → line_at new.lines q ≡ line_at old.lines q ++ serials_to q (length old.sent) (envelopes (length old.lines) mail)
+
+-- what the step does besides to its member
+pub record IsTurnedInto (w : Rehearsal) (step : Step) (o : Outcome) (f new : Fields) (seat : Seat) : Type 0 where
+  pub values : new.book.values ≡ f.book.values ++ map (λ x. x.value) o.proposals
+  pub seats : new.seats ≡ set f.seats (actor step - 1) seat
+  pub keeps : Keeps w.setting.members new.book.values (actor step) o.member seat
+  pub submitted : seat.submitted ≡ submissions (state_of w).submitted (actor step) + submissions o.submitted (actor step)
+
+pub stepped-sending : (w : Rehearsal) (step : Step) (o : Outcome) (f new : Fields) (seat : Seat) (mail : AnyMail ℕ) → IsWorld w f → LeavesLines step → IsTurnedInto w step o f new seat → NamesMail new.book.values mail o.mail → IsPosted f.network new.network mail → IsStepped w step o f new
+stepped-sending w step o f new seat mail world plain turned named posted = record {
+  posts = envelopes w.setting.members mail;
+  seat = seat;
+  values = turned.values;
+  posted = named_posts new.book.values w.setting.members mail o.mail named;
+  sent = posted.sent ∙ ap (λ n. f.network.sent ++ envelopes n mail) world.lined;
+  lined = posted.lined;
+  line = λ q group.
+      posted.joined q (ap (λ n. is_member n q) world.lined ∙ group)
+      ∙ ap (λ n. line_at f.network.lines q ++ serials_to q (length f.network.sent) (envelopes n mail)) world.lined
+      ∙ sym (plain_line step q (line_at f.network.lines q) (serials_to q (length f.network.sent) (envelopes w.setting.members mail)) plain);
+  seats = turned.seats;
+  keeps = turned.keeps;
+  submitted = turned.submitted;
+}
+
+pub stepped-quiet : (w : Rehearsal) (step : Step) (o : Outcome) (f new : Fields) (seat : Seat) → IsWorld w f → LeavesLines step → IsTurnedInto w step o f new seat → o.mail ≡ Nobody → new.network.sent ≡ f.network.sent → new.network.lines ≡ f.network.lines → IsStepped w step o f new
+stepped-quiet w step o f new seat world plain turned nobody sent lines = record {
+  posts = [];
+  seat = seat;
+  values = turned.values;
+  posted = ap (λ mail. map (envelope_map Some) (envelopes w.setting.members mail)) (sym nobody);
+  sent = sent ∙ sym (append-nil f.network.sent);
+  lined = ap length lines;
+  line = λ q group. ap (λ ls. line_at ls q) lines ∙ sym (append-nil (line_at f.network.lines q)) ∙ sym (plain_line step q (line_at f.network.lines q) [] plain);
+  seats = turned.seats;
+  keeps = turned.keeps;
+  submitted = turned.submitted;
+}

@@ -1,0 +1,79 @@
+-- A step proposes one value at most, so there are no more values than steps.
+use Rattle.std.proofs.Common.{◌≡◌, ℕ, ◌+◌, ◌≤◌, List, [], ◌∷◌, length, refl, ap, sym, ◌∙◌, subst, arith, true, Option, Some}
+use Rattle.std.proofs.lemmas.List.{length-append, length-map}
+use Rattle.ct_names.specs.Command.{is_good}
+use Rattle.ct_model.specs.declared.step.Step.{Step}
+use Rattle.ct_model.specs.declared.step.Step.TheVariants.{Submit, Receive, Begin, Enter, Choose, Adopt, Suspect, Conclude, Deliver, Crash, Postpone}
+use Rattle.ct_model.specs.Actor.{actor}
+use Rattle.ct_model.specs.AtValue.{Wire, Standing, Turn}
+use Rattle.ct_model.specs.Setting.{Setting}
+use Rattle.ct_model.specs.State.{State, Member, Proposal, member, first_state}
+use Rattle.ct_model.specs.Received.{decided}
+use Rattle.ct_model.specs.Wire.Mail.{Nobody}
+use Rattle.ct_model.specs.Phases.{enter, choose, adopt, suspect, conclude}
+use Rattle.ct_model.specs.Next.{Outcome, plain, submit, receive, wire_to, own_ballots, round_row, row, after, next}
+use Rattle.ct_model.specs.Run.{run, run_from}
+use Rattle.ct_model.specs.Rehearsal.{Rehearsal, state_of}
+use Rattle.ct_model.specs.Lawful.{IsLawful}
+use Rattle.ct_model.proofs.Knowing.{next-is}
+use Rattle.ct_model.proofs.Outcomes.{when-is, made-map, made-then, some-same}
+use Rattle.ct_model.proofs.Rows.{begin_row-is, deliver_row-is, round_row-is}
+use Rattle.ct_world.specs.Kept.{values_of}
+
+abbrev AtMostOne : Outcome → Type 0
+AtMostOne o = length o.proposals ≤ 1
+
+round-none : (m : Member) (step : Standing → Option Turn) (o : Outcome) → round_row m step ≡ Some o → AtMostOne o
+round-none m step o e = subst AtMostOne (round_row-is m step o e).gives (omega arith)
+
+row-proposes : (s : Setting) (g : State) (p : ℕ) (m : Member) (step : Step) (o : Outcome) → row s g p m step ≡ Some o → AtMostOne o
+row-proposes s g p m (Submit _ c) o e = subst AtMostOne (when-is (is_good c) (submit g p m c) o e).1 (omega arith)
+row-proposes s g p m (Receive _ k) o e = subst AtMostOne (made-map (receive s p m) (wire_to g p k) o e).gives (omega arith)
+row-proposes s g p m (Begin _) o e = subst AtMostOne (begin_row-is p m o e).gives (omega arith)
+row-proposes s g p m (Enter _) o e = round-none m (enter s.members p m.last (decided m.got m.last)) o e
+row-proposes s g p m (Choose _ from) o e = round-none m (λ c. choose s.members m.last (own_ballots m c) c from) o e
+row-proposes s g p m (Adopt _) o e = round-none m (λ c. adopt s.members p m.last (own_ballots m c) c) o e
+row-proposes s g p m (Suspect _) o e = round-none m (λ c. suspect s.members p m.last (own_ballots m c) c) o e
+row-proposes s g p m (Conclude _) o e = round-none m (λ c. conclude s.members m.last (own_ballots m c) c) o e
+row-proposes s g p m (Deliver _) o e = subst AtMostOne (deliver_row-is m o e).gives (omega arith)
+row-proposes s g p m (Crash _) o e = subst AtMostOne (some-same (record { member = record m { crashed = true }; submitted = []; proposals = []; mail = Nobody }) o e) (omega arith)
+row-proposes s g p m (Postpone _ k) o e = subst AtMostOne (made-map (λ (w : Wire). plain m Nobody) (wire_to g p k) o e).gives (omega arith)
+
+after-number : (s : Setting) (g : State) (p : ℕ) (o : Outcome) → length (after s g p o).proposals ≡ length g.proposals + length o.proposals
+unfolding after
+after-number s g p o = length-append g.proposals o.proposals
+
+next-number : (s : Setting) (g : State) (step : Step) (h : State) → next s g step ≡ Some h → length h.proposals ≤ length g.proposals + 1
+next-number s g step h e =
+    let made = next-is s g step h e in
+    let one = row-proposes s g (actor step) (member g (actor step)) step made.outcome made.row in
+    let number : length h.proposals ≡ length g.proposals + length made.outcome.proposals = ap (λ (x : State). length x.proposals) (sym made.gives) ∙ after-number s g (actor step) made.outcome in
+    omega arith
+
+run-number : (s : Setting) (g : State) (steps : List Step) (h : State) → run_from s g steps ≡ Some h → length h.proposals ≤ length g.proposals + length steps
+unfolding run_from
+run-number s g [] h e = let same : g ≡ h = some-same g h e in subst (λ x. length x.proposals ≤ length g.proposals + 0) same (omega arith)
+run-number s g (step ∷ steps) h e =
+    let mid = made-then (λ k. run_from s k steps) (next s g step) h e in
+    let one = next-number s g step mid.from mid.is in
+    let rest = run-number s mid.from steps h mid.gives in
+    omega arith
+
+first-number : (s : Setting) → length (first_state s).proposals ≡ 0
+unfolding first_state
+first-number s = refl
+
+-- there are no more proposals than steps
+pub few-proposals : (s : Setting) (steps : List Step) (h : State) → run s steps ≡ Some h → length h.proposals ≤ length steps
+unfolding run
+few-proposals s steps h e =
+    let all = run-number s (first_state s) steps h e in
+    let none = first-number s in
+    omega arith
+
+pub few-values : (w : Rehearsal) → IsLawful w → length (values_of (state_of w)) ≤ 1000000
+few-values w law =
+    let number : length (values_of (state_of w)) ≡ length (state_of w).proposals = length-map (state_of w).proposals (λ (x : Proposal). x.value) in
+    let all = few-proposals w.setting w.steps (state_of w) law.runs in
+    let few = law.within.few_steps in
+    omega arith

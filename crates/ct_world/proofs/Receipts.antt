@@ -1,0 +1,270 @@
+-- A member that got a wire: what is kept of it afterwards, and whether it passes the wire on.
+use Rattle.std.proofs.Common.{◌≡◌, ℕ, Bool, true, false, not, List, [], ◌∷◌, ◌++◌, refl, ap, sym, ◌∙◌, subst, arith, Some, None}
+use Rattle.std.specs.Prelude.{◌&&◌, ◌||◌, ◌==◌, if◌then◌else◌}
+use Rattle.std.specs.List.{list_any}
+use Rattle.std.proofs.lemmas.Bool.Decides.{nat_tests}
+use Rattle.std.proofs.lemmas.List.Folds.{list_any-append}
+use Rattle.ct_names.specs.Group.{coordinator}
+use Rattle.ct_names.specs.Membership.{IsIn}
+use Rattle.ct_names.specs.Message.{Message}
+use Rattle.ct_names.specs.Value.{Value, has}
+use Rattle.ct_names.proofs.Lists.{found-list_any, list_any-found}
+use Rattle.ct_names.proofs.Values.{in-has, has-in}
+use Rattle.ct_model.specs.AtValue.{Wire}
+use Rattle.ct_model.specs.Wire.{Wire as AnyWire}
+use Rattle.ct_model.specs.Wire.Wire.{Data, Est, Prop, Ack, Nack, Dec}
+use Rattle.ct_model.specs.Setting.{Setting}
+use Rattle.ct_model.specs.State.{State, Member, member}
+use Rattle.ct_model.specs.Received.{received, is_decision, has_decision, message_of}
+use Rattle.ct_model.specs.Counted.{NamesSomebody}
+use Rattle.ct_model.specs.Knowledge.{KnowsMessages}
+use Rattle.ct_model.specs.Mapped.{wire_map}
+use Rattle.ct_model.specs.Next.{is_relayed}
+use Rattle.ct_model.proofs.Knowing.{received-by}
+use Rattle.ct_model.proofs.Readings.{received-got, got-received}
+use Rattle.ct_model.proofs.Receipts.{received-push}
+use Rattle.ct_model.proofs.Tests.{and_left, and_right, same_number}
+use Rattle.ct_relay.specs.Taken.{is_id, is_first, with_id}
+use Rattle.ct_relay.specs.declared.relay_id.RelayId.{RelayId}
+use Rattle.ct_relay.specs.declared.relay_id.RelayId.TheVariants as id
+use Rattle.ct_instances.specs.Named.{value_at, NamesWire}
+use Rattle.ct_instances.proofs.Named.{named_data, named_decision_name, named_message}
+use Rattle.ct_instances.proofs.Keeping.{keeps-noted}
+use Rattle.ct_world.specs.declared.seat.Seat.{Seat}
+use Rattle.ct_world.specs.Seats.{has_name, was_got, Keeps, HasReceived, ids_with, received_with, is_passed_on}
+
+-- a message of this origin and number was got exactly where the message itself was received, if no other such was
+module _ (got : List Wire) (m : Message) (only : (x : Message) → has (received got) x ≡ true → x.origin ≡ m.origin → x.number ≡ m.number → x ≡ m) where
+  named : RelayId
+  named = id.Data m.origin m.number
+
+  name_of_one : (w : Wire) → IsIn w got → has_name (id.Data m.origin m.number) w ≡ true → IsIn m (received got)
+  name_of_one (Data x) there e =
+      let heard : IsIn x (received got) = got-received got x there in
+      let same : x ≡ m = only x (has-in (received got) x heard) (same_number x.origin m.origin (and_left (x.origin == m.origin) (x.number == m.number) e)) (same_number x.number m.number (and_right (x.origin == m.origin) (x.number == m.number) e)) in
+      subst (λ y. IsIn y (received got)) same heard
+  name_of_one (Est k r p v t) there e = absurd (cc)
+  name_of_one (Prop k r v) there e = absurd (cc)
+  name_of_one (Ack k r p) there e = absurd (cc)
+  name_of_one (Nack k r p) there e = absurd (cc)
+  name_of_one (Dec k r v) there e = absurd (cc)
+
+  self_name : has_name {V = Value} (id.Data m.origin m.number) (Data m) ≡ true
+  self_name = grind (arith, nat_tests)
+
+  from_name : was_got got (id.Data m.origin m.number) ≡ true → has (received got) m ≡ true
+  from_name e =
+      let f = found-list_any (has_name (id.Data m.origin m.number)) got e in
+      has-in (received got) m (name_of_one f.item f.is_in f.passes)
+
+  to_name : has (received got) m ≡ true → was_got got (id.Data m.origin m.number) ≡ true
+  to_name e = list_any-found (has_name (id.Data m.origin m.number)) (Data m) got (received-got got m (in-has (received got) m e)) self_name
+
+  pub got_by_name : was_got got (id.Data m.origin m.number) ≡ has (received got) m
+  got_by_name = same_tests (was_got got (id.Data m.origin m.number)) (has (received got) m) from_name to_name
+    where
+      same_tests : (a b : Bool) → (a ≡ true → b ≡ true) → (b ≡ true → a ≡ true) → a ≡ b
+      same_tests true b f g = sym (f refl)
+      same_tests false true f g = g refl
+      same_tests false false f g = refl
+
+-- what is known of messages gives that
+pub known_name : (s : Setting) (g : State) (p : ℕ) (m : Message) → KnowsMessages s g → has g.submitted m ≡ true → was_got (member g p).got (id.Data m.origin m.number) ≡ has (received (member g p).got) m
+known_name s g p m k submitted = got_by_name (member g p).got m (λ x h origin number. k.unique x m (k.received p x (ap (λ list. has list x) (received-by g p) ∙ h)) submitted origin number)
+
+-- the names taken
+
+first-push : (ids : List RelayId) (name other : RelayId) → is_first (ids ++ name ∷ []) other ≡ (is_first ids other && not (is_id other name))
+first-push ids name other = ap not (list_any-append (is_id other) ids (name ∷ [])) ∙ de_morgan (list_any (is_id other) ids) (is_id other name)
+  where
+    de_morgan : (a b : Bool) → not (a || (b || false)) ≡ (not a && not b)
+    de_morgan true b = refl
+    de_morgan false true = refl
+    de_morgan false false = refl
+
+number-swap : (a b : ℕ) → (a == b) ≡ (b == a)
+number-swap a b = grind (arith, nat_tests)
+
+-- names that are alike have the same place
+alike : (name other : RelayId) → is_id other name ≡ true → other ≡ name
+alike (id.Data o n) (id.Data x y) e =
+    let a = same_number x o (and_left (x == o) (y == n) e) in
+    let b = same_number y n (and_right (x == o) (y == n) e) in
+    ap (λ z. id.Data z y) a ∙ ap (id.Data o) b
+alike (id.Data o n) (id.Dec x y) e = absurd (cc)
+alike (id.Dec o n) (id.Data x y) e = absurd (cc)
+alike (id.Dec o n) (id.Dec x y) e =
+    let a = same_number x o (and_left (x == o) (y == n) e) in
+    let b = same_number y n (and_right (x == o) (y == n) e) in
+    ap (λ z. id.Dec z y) a ∙ ap (id.Dec o) b
+
+first-with : (ids : List RelayId) (name other : RelayId) → is_first (with_id ids name) other ≡ (is_first ids other && not (is_id other name))
+first-with ids name other = go (is_first ids name) refl (is_id other name) refl
+  where
+    and_nothing : (b : Bool) → (b && false) ≡ false
+    and_nothing true = refl
+    and_nothing false = refl
+
+    and_all : (b : Bool) → (b && true) ≡ b
+    and_all true = refl
+    and_all false = refl
+
+    go : (b : Bool) → is_first ids name ≡ b → (t : Bool) → is_id other name ≡ t → is_first (if is_first ids name then (ids ++ name ∷ []) else ids) other ≡ (is_first ids other && not (is_id other name))
+    go true e t f = ap (λ c. is_first (if c then (ids ++ name ∷ []) else ids) other) e ∙ first-push ids name other
+    go false e true f =
+        ap (λ c. is_first (if c then (ids ++ name ∷ []) else ids) other) e
+        ∙ ap (is_first ids) (alike name other f) ∙ e ∙ sym (ap (λ c. is_first ids other && not c) f ∙ and_nothing (is_first ids other))
+    go false e false f =
+        ap (λ c. is_first (if c then (ids ++ name ∷ []) else ids) other) e
+        ∙ sym (ap (λ c. is_first ids other && not c) f ∙ and_all (is_first ids other))
+
+both_swapped : (a b c d : ℕ) → ((a == b) && (c == d)) ≡ ((b == a) && (d == c))
+both_swapped a b c d = grind (arith, nat_tests)
+
+-- other wires have no name
+no_name : (other : RelayId) (x : AnyWire ℕ) → ((k r : ℕ) → is_decision k r x ≡ false) → ((o n : ℕ) → has_name (id.Data o n) x ≡ false) → has_name other x ≡ false
+no_name (id.Data o n) x dec data_ = data_ o n
+no_name (id.Dec k r) x dec data_ = dec k r
+
+still : (ids : List RelayId) (x : AnyWire ℕ) (other : RelayId) → has_name other x ≡ false → is_first ids other ≡ (is_first ids other && not (has_name other x))
+still ids x other e = all (is_first ids other) ∙ ap (λ b. is_first ids other && not b) (sym e)
+  where
+    all : (b : Bool) → b ≡ (b && true)
+    all true = refl
+    all false = refl
+
+-- the names taken after a receipt
+first-received : (ids : List RelayId) (x : AnyWire ℕ) (other : RelayId) → is_first (ids_with ids x) other ≡ (is_first ids other && not (has_name other x))
+first-received ids (Data m) (id.Data o n) = first-with ids (id.Data m.origin m.number) (id.Data o n) ∙ ap (λ b. is_first ids (id.Data o n) && not b) (both_swapped o m.origin n m.number)
+first-received ids (Data m) (id.Dec k r) = first-with ids (id.Data m.origin m.number) (id.Dec k r)
+first-received ids (Dec k r v) (id.Data o n) = first-with ids (id.Dec k r) (id.Data o n)
+first-received ids (Dec k r v) (id.Dec j q) = first-with ids (id.Dec k r) (id.Dec j q) ∙ ap (λ b. is_first ids (id.Dec j q) && not b) (both_swapped j k q r)
+first-received ids (Est k r p v t) other = still ids (Est k r p v t) other (no_name other (Est k r p v t) (λ k r. refl) (λ o n. refl))
+first-received ids (Prop k r v) other = still ids (Prop k r v) other (no_name other (Prop k r v) (λ k r. refl) (λ o n. refl))
+first-received ids (Ack k r p) other = still ids (Ack k r p) other (no_name other (Ack k r p) (λ k r. refl) (λ o n. refl))
+first-received ids (Nack k r p) other = still ids (Nack k r p) other (no_name other (Nack k r p) (λ k r. refl) (λ o n. refl))
+
+-- wires of one meaning have the same names
+same_name : (values : List Value) (name : RelayId) (x : AnyWire ℕ) (w : Wire) → NamesWire values x w → has_name name x ≡ has_name name w
+same_name values (id.Dec k r) x w e = named_decision_name values k r x w e
+same_name values (id.Data o n) x w e = sym (name_mapped (value_at values) o n x) ∙ ap (has_name (id.Data o n)) e ∙ name_mapped Some o n w
+  where
+    name_mapped : {V U : Type 0} (f : V → U) (o n : ℕ) (w : AnyWire V) → has_name (id.Data o n) (wire_map f w) ≡ has_name (id.Data o n) w
+    name_mapped f o n (Data m) = refl
+    name_mapped f o n (Est k r p v t) = refl
+    name_mapped f o n (Prop k r v) = refl
+    name_mapped f o n (Ack k r p) = refl
+    name_mapped f o n (Nack k r p) = refl
+    name_mapped f o n (Dec k r v) = refl
+
+-- a wire of a round is passed on by nobody
+abbrev of_round : {V : Type 0} → AnyWire V → Bool
+of_round (Data m) = false
+of_round (Dec k r v) = false
+of_round _ = true
+
+of_round-named : (values : List Value) (x : AnyWire ℕ) (w : Wire) → NamesWire values x w → of_round x ≡ of_round w
+of_round-named values x w e = sym (of_round-mapped (value_at values) x) ∙ ap of_round e ∙ of_round-mapped Some w
+  where
+    of_round-mapped : {V U : Type 0} (f : V → U) (w : AnyWire V) → of_round (wire_map f w) ≡ of_round w
+    of_round-mapped f (Data m) = refl
+    of_round-mapped f (Est k r p v t) = refl
+    of_round-mapped f (Prop k r v) = refl
+    of_round-mapped f (Ack k r p) = refl
+    of_round-mapped f (Nack k r p) = refl
+    of_round-mapped f (Dec k r v) = refl
+
+kept_back : (s : Setting) (p : ℕ) (got : List Wire) (w : Wire) → true ≡ of_round w → is_relayed s p got w ≡ false
+unfolding is_relayed
+kept_back s p got (Data m) e = absurd (cc)
+kept_back s p got (Est k r q v t) e = refl
+kept_back s p got (Prop k r v) e = refl
+kept_back s p got (Ack k r q) e = refl
+kept_back s p got (Nack k r q) e = refl
+kept_back s p got (Dec k r v) e = absurd (cc)
+
+-- what is known of a message that the wire carries
+abbrev pub IsKnown : List Wire → Wire → Type 0
+IsKnown got (Data m) = was_got got (id.Data m.origin m.number) ≡ has (received got) m
+IsKnown got _ = Unit {0}
+
+module _ (n : ℕ) (values : List Value) (p : ℕ) (m : Member) (seat : Seat) (k : Keeps n values p m seat) where
+  first_is : (msg : Message) → IsKnown m.got (Data msg) → is_first seat.relay.ids (id.Data msg.origin msg.number) ≡ not (has (received m.got) msg)
+  first_is msg known = k.taken (id.Data msg.origin msg.number) ∙ ap not known
+
+  received_silent : (w : Wire) → message_of w ≡ None → received (m.got ++ w ∷ []) ≡ received m.got
+  received_silent (Data msg) e = absurd (cc)
+  received_silent (Est j r q v t) e = received-push m.got (Est j r q v t)
+  received_silent (Prop j r v) e = received-push m.got (Prop j r v)
+  received_silent (Ack j r q) e = received-push m.got (Ack j r q)
+  received_silent (Nack j r q) e = received-push m.got (Nack j r q)
+  received_silent (Dec j r v) e = received-push m.got (Dec j r v)
+
+  received_push : (x : AnyWire ℕ) (w : Wire) → NamesWire values x w → IsKnown m.got w → received_with seat.relay.ids seat.caster.received x ≡ received (m.got ++ w ∷ [])
+  received_push (Data msg) w e known =
+      let is : w ≡ Data msg = named_data values msg w e in
+      subst (λ y. received_with seat.relay.ids seat.caster.received (Data msg) ≡ received (m.got ++ y ∷ [])) (sym is)
+      (ap (λ b. if b then (seat.caster.received ++ msg ∷ []) else seat.caster.received) (first_is msg (subst (λ y. IsKnown m.got y) is known))
+      ∙ ap (λ list. if not (has (received m.got) msg) then (list ++ msg ∷ []) else list) k.received
+      ∙ turned_test (has (received m.got) msg) (received m.got) (received m.got ++ msg ∷ [])
+      ∙ sym (received-push m.got (Data msg)))
+    where
+      turned_test : (b : Bool) (old new : List Message) → (if not b then new else old) ≡ (if b then old else new)
+      turned_test true old new = refl
+      turned_test false old new = refl
+  received_push (Est j r q v t) w e known = k.received ∙ sym (received_silent w (sym (named_message values (Est j r q v t) w e)))
+  received_push (Prop j r v) w e known = k.received ∙ sym (received_silent w (sym (named_message values (Prop j r v) w e)))
+  received_push (Ack j r q) w e known = k.received ∙ sym (received_silent w (sym (named_message values (Ack j r q) w e)))
+  received_push (Nack j r q) w e known = k.received ∙ sym (received_silent w (sym (named_message values (Nack j r q) w e)))
+  received_push (Dec j r v) w e known = k.received ∙ sym (received_silent w (sym (named_message values (Dec j r v) w e)))
+
+  -- the seat keeps what the member is after it got the wire
+  pub receive_keeps : (new : Seat) (x : AnyWire ℕ) (w : Wire) → NamesWire values x w → NamesSomebody w → IsKnown m.got w → HasReceived seat x new → Keeps n values p (record m { got = m.got ++ w ∷ [] }) new
+  receive_keeps new x w e somebody known h = record {
+    crashed = h.crashed ∙ k.crashed;
+    me = h.me ∙ k.me;
+    taken = λ name.
+        ap (λ ids. is_first ids name) h.ids ∙ first-received seat.relay.ids x name
+        ∙ ap (λ b. b && not (has_name name x)) (k.taken name)
+        ∙ ap (λ b. not (was_got m.got name) && not b) (same_name values name x w e)
+        ∙ de_morgan (was_got m.got name) (has_name name w)
+        ∙ sym (ap not (list_any-append (has_name name) m.got (w ∷ [])));
+    received = h.received ∙ received_push x w e known;
+    batches = h.batches ∙ k.batches;
+    begun = h.begun ∙ k.begun;
+    instances = keeps-noted n values p m x w seat.instances new.instances k.instances e somebody h.ballots h.decisions h.instances;
+  }
+    where
+      de_morgan : (a b : Bool) → (not a && not b) ≡ not (a || (b || false))
+      de_morgan true b = refl
+      de_morgan false true = refl
+      de_morgan false false = refl
+
+  -- whether it is passed on
+  pub passes : (s : Setting) (x : AnyWire ℕ) (w : Wire) → s.members ≡ n → NamesWire values x w → IsKnown m.got w → is_passed_on n seat.relay x ≡ is_relayed s p m.got w
+  unfolding is_relayed
+  passes s (Data msg) w same e known =
+      let is : w ≡ Data msg = named_data values msg w e in
+      subst (λ y. is_passed_on n seat.relay (Data msg) ≡ is_relayed s p m.got y) (sym is)
+      (ap (λ b. b && not (msg.origin == seat.relay.me)) (first_is msg (subst (λ y. IsKnown m.got y) is known))
+      ∙ ap (λ q. not (has (received m.got) msg) && not (msg.origin == q)) k.me)
+  passes s (Dec j r v) w same e known = other w e
+    where
+      other : (w : Wire) → NamesWire values (Dec j r v) w → is_passed_on n seat.relay (Dec j r v) ≡ is_relayed s p m.got w
+      other (Dec i q u) f =
+          let a : j ≡ i = cc in
+          let b : r ≡ q = cc in
+          ap (λ z. z && not (coordinator n r == seat.relay.me)) (k.taken (id.Dec j r))
+          ∙ ap (λ z. not (has_decision m.got j r) && not (coordinator n r == z)) k.me
+          ∙ ap (λ z. not (has_decision m.got j r) && not (coordinator z r == p)) (sym same)
+          ∙ ap (λ z. not (has_decision m.got z r) && not (coordinator s.members r == p)) a
+          ∙ ap (λ z. not (has_decision m.got i z) && not (coordinator s.members z == p)) b
+      other (Data msg) f = absurd (cc)
+      other (Est i q z u t) f = absurd (cc)
+      other (Prop i q u) f = absurd (cc)
+      other (Ack i q z) f = absurd (cc)
+      other (Nack i q z) f = absurd (cc)
+  passes s (Est j r q v t) w same e known = sym (kept_back s p m.got w ((of_round-named values (Est j r q v t) w e)))
+  passes s (Prop j r v) w same e known = sym (kept_back s p m.got w ((of_round-named values (Prop j r v) w e)))
+  passes s (Ack j r q) w same e known = sym (kept_back s p m.got w ((of_round-named values (Ack j r q) w e)))
+  passes s (Nack j r q) w same e known = sym (kept_back s p m.got w ((of_round-named values (Nack j r q) w e)))

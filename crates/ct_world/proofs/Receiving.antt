@@ -1,0 +1,154 @@
+-- Receive.
+use Rattle.std.proofs.Common.{◌≡◌, ℕ, ◌+◌, ◌-◌, ◌≤◌, Bool, true, false, not, ◌&&◌, List, [], ◌++◌, length, set, filter, Some, refl, ap, sym, ◌∙◌, subst, arith, append-nil, inl, inr}
+use Rattle.std.specs.Prelude.{◌==◌, if◌then◌else◌}
+use Rattle.std.proofs.lemmas.Bool.{cases_eq}
+use Rattle.std.proofs.lemmas.List.{length-set, get_or-set_same, get_or-set_other}
+use Rattle.std.proofs.lemmas.List.Elements.{filter_agree}
+use Rattle.ct_names.specs.Group.{is_member}
+use Rattle.ct_model.specs.declared.step.Step.TheVariants.{Receive}
+use Rattle.ct_model.specs.Cause.{cause, overflow}
+use Rattle.ct_model.specs.Lawful.{is_waiting}
+use Rattle.ct_model.specs.Next.{receive, is_relayed}
+use Rattle.ct_model.specs.Rehearsal.{Rehearsal, state_of, extended}
+use Rattle.ct_model.specs.State.{Member, member, submissions, at_serial}
+use Rattle.ct_model.specs.Waiting.{serials_to}
+use Rattle.ct_model.specs.Wire.{envelopes, Envelope as AnyEnvelope, Mail as AnyMail}
+use Rattle.ct_model.specs.Wire.Mail.{Nobody, All}
+use Rattle.ct_model.proofs.Frame.{length-after-sent, submissions-none}
+use Rattle.ct_model.proofs.Lines.{untouched}
+use Rattle.ct_model.proofs.Outcomes.{some-same}
+use Rattle.ct_model.proofs.Receives.{receive_outcome, receive_outcome-is, receive_taken, receivable, cause-receive}
+use Rattle.ct_model.proofs.Taken.{IsTaken}
+use Rattle.ct_model.proofs.Tests.{and_true, swapped, self_number, number_other}
+use Rattle.ct_network.specs.Network.{NetworkView, line_at}
+use Rattle.ct_instances.specs.Named.{NamesWire, NamesMail}
+use Rattle.ct_instances.proofs.Named.{named_all, named_wire, named_posts, named_length}
+use Rattle.ct_world.specs.declared.seat.Seat.{Seat}
+use Rattle.ct_world.specs.declared.world.World.TheInside.{Inside}
+use Rattle.ct_world.specs.Seats.{Keeps, HasReceived, CanReceive, is_passed_on, passed_on}
+use Rattle.ct_world.specs.Kept.{Fields, IsWorld, IsActor, HasReceiveRoom, values_of, seat_of}
+use Rattle.ct_world.proofs.Insides.{IsPrepared, IsPreparedIn, rehearsal_in, fields_in}
+use Rattle.ct_world.proofs.Members.{apart, place}
+use Rattle.ct_world.proofs.Posts.{IsPosted, filter_true}
+use Rattle.ct_world.proofs.Receipts.{receive_keeps, passes}
+use Rattle.ct_world.proofs.Refines.{IsStepped, refined}
+use Rattle.ct_world.proofs.SeatRooms.{HasMoreRoom, roomy_seat}
+use Rattle.ct_world.proofs.Waits.{IsAwaited, awaited-is}
+
+-- why it is refused
+
+pub cause_by : (w : Rehearsal) (f : Fields) (p k n : ℕ) (seat : Seat) (x : AnyEnvelope ℕ) (b : Bool) → IsWorld w f → IsActor w p seat → n ≡ w.setting.members → is_waiting w p k ≡ true → Some x ≡ at_serial f.network.sent k → is_passed_on n seat.relay x.wire ≡ b → cause w (Receive p k) ≡ overflow w (if b then w.setting.members else 0)
+cause_by w f p k n seat x b world actor members waits is passed =
+    let a = awaited-is w f p k x world waits is in
+    let names : NamesWire (values_of (state_of w)) x.wire a.envelope.wire = subst (λ vs. NamesWire vs x.wire a.envelope.wire) world.values (named_wire f.book.values x a.envelope a.names) in
+    let same = passes w.setting.members (values_of (state_of w)) p (member (state_of w) p) seat actor.sits.keeps w.setting x.wire a.envelope.wire refl names a.known in
+    cause-receive w p k a.envelope world.lawful actor.present a.letter waits
+    ∙ ap (λ t. overflow w (if t then w.setting.members else 0)) (sym same ∙ ap (λ j. is_passed_on j seat.relay x.wire) (sym members) ∙ passed)
+
+-- the line of each member without what p took
+
+taken_line : (lines : List (List ℕ)) (n p k q : ℕ) → length lines ≡ n → is_member n p ≡ true → is_member n q ≡ true → line_at (set lines (p - 1) (filter (λ other. not (other == k)) (line_at lines p))) q ≡ filter (untouched q (Receive p k)) (line_at lines q)
+taken_line lines n p k q lined here there = elim (cases_eq q p) [
+  | inl e ↦ subst (λ r. line_at (set lines (p - 1) (filter (λ other. not (other == k)) (line_at lines p))) r ≡ filter (untouched r (Receive p k)) (line_at lines r)) (sym e)
+      (get_or-set_same lines (p - 1) (filter (λ other. not (other == k)) (line_at lines p)) [] (let a = place n p here in omega arith)
+      ∙ filter_agree (λ other. not (other == k)) (untouched p (Receive p k)) (λ j. ap not (swapped j k ∙ ap (λ b. b && (k == j)) (sym (self_number p))) ∙ sym (and_true (not ((p == p) && (k == j))))) (line_at lines p))
+  | inr ne ↦
+      get_or-set_other lines (p - 1) (q - 1) (filter (λ other. not (other == k)) (line_at lines p)) [] (apart n p q here there ne)
+      ∙ sym (filter_agree (untouched q (Receive p k)) (λ j. true) (λ j. other (p == q) (number_other p q (λ e. ne (sym e))) j) (line_at lines q) ∙ filter_true (line_at lines q))
+]
+  where
+    other : (b : Bool) → b ≡ false → (j : ℕ) → (not (b && (k == j)) && true) ≡ true
+    other true e j = absurd (cc)
+    other false e j = refl
+
+-- the envelope of a prepared Receive
+
+pub awaited_in : (a : Inside) (p k : ℕ) (x : AnyEnvelope ℕ) → IsPreparedIn a (Receive p k) → Some x ≡ at_serial a.network.sent k → IsAwaited (rehearsal_in a) (fields_in a) p k x
+awaited_in a p k x ready is = awaited-is (rehearsal_in a) (fields_in a) p k x ready.world (receivable (rehearsal_in a) p k ready.ready.allowed).waits is
+
+pub left_lined : (lines left : List (List ℕ)) (n i : ℕ) (line : List ℕ) → left ≡ set lines i line → length lines ≡ n → length left ≡ n
+left_lined lines left n i line is lined = ap length is ∙ length-set lines i line ∙ lined
+
+-- what the step does to the fields
+pub record HasTaken (n p k : ℕ) (f new : Fields) (x : AnyEnvelope ℕ) (seat : Seat) (mail : AnyMail ℕ) (left : NetworkView) : Type 0 where
+  pub received : HasReceived (seat_of f.seats p) x.wire seat
+  pub mail_is : mail ≡ passed_on n (seat_of f.seats p).relay x.wire
+  pub lines : left.lines ≡ set f.network.lines (p - 1) (filter (λ other. not (other == k)) (line_at f.network.lines p))
+  pub sent : left.sent ≡ f.network.sent
+  pub posted : IsPosted left new.network mail
+  pub seats : new.seats ≡ set f.seats (p - 1) seat
+  pub values : new.book.values ≡ f.book.values
+
+module _ (w : Rehearsal) (p k : ℕ) (f : Fields) (x : AnyEnvelope ℕ) (ready : IsPrepared w (Receive p k) f) (a : IsAwaited w f p k x) where
+  m : Member
+  m = member (state_of w) p
+
+  keeps : Keeps w.setting.members f.book.values p (member (state_of w) p) (seat_of f.seats p)
+  keeps = ready.world.seat p ready.in_group
+
+  names : NamesWire f.book.values x.wire a.envelope.wire
+  names = named_wire f.book.values x a.envelope a.names
+
+  pub received_taken : IsTaken w (Receive p k) (receive_outcome w p a.envelope.wire)
+  received_taken = receive_taken w p k a.envelope ready.world.lawful ready.ready.allowed a.letter
+
+  -- the mail
+  named_mail : (mail : AnyMail ℕ) → mail ≡ passed_on w.setting.members (seat_of f.seats p).relay x.wire → NamesMail f.book.values mail (receive_outcome w p a.envelope.wire).mail
+  named_mail mail is =
+      let passed = passes w.setting.members f.book.values p (member (state_of w) p) (seat_of f.seats p) keeps w.setting x.wire a.envelope.wire refl names a.known in
+      let b : Bool = is_relayed w.setting p (member (state_of w) p).got a.envelope.wire in
+      rw (receive_outcome-is w p a.envelope.wire) (subst (λ z. NamesMail f.book.values z (if b then All a.envelope.wire else Nobody)) (sym (is ∙ ap (λ t. if t then All x.wire else Nobody) passed))
+      (named_all f.book.values b x.wire a.envelope.wire names))
+
+  pub number_posted : (mail : AnyMail ℕ) (n : ℕ) → mail ≡ passed_on w.setting.members (seat_of f.seats p).relay x.wire → n ≡ w.setting.members → length (envelopes w.setting.members (receive_outcome w p a.envelope.wire).mail) ≡ length (envelopes n mail)
+  number_posted mail n is members =
+      let mo = (receive_outcome w p a.envelope.wire).mail in
+      sym (named_length f.book.values (envelopes w.setting.members mail) (envelopes w.setting.members mo) (named_posts f.book.values w.setting.members mail mo (named_mail mail is)))
+      ∙ ap (λ j. length (envelopes j mail)) (sym members)
+
+  pub few_posted : (mail : AnyMail ℕ) (n : ℕ) (sent : List (AnyEnvelope ℕ)) → mail ≡ passed_on w.setting.members (seat_of f.seats p).relay x.wire → n ≡ w.setting.members → sent ≡ f.network.sent → length sent + length (envelopes n mail) ≤ 1000000
+  few_posted mail n sent is members same =
+      let few = received_taken.within.few_envelopes in
+      let all = length-after-sent w.setting (state_of w) p (receive_outcome w p a.envelope.wire) in
+      let number = number_posted mail n is members in
+      let was = named_length f.book.values f.network.sent (state_of w).sent ready.world.sent in
+      let as_many = ap length same in
+      omega arith
+
+  module _ (new : Fields) (seat : Seat) (mail : AnyMail ℕ) (left : NetworkView) (t : HasTaken w.setting.members p k f new x seat mail left) where
+    lined : length left.lines ≡ w.setting.members
+    lined = left_lined f.network.lines left.lines w.setting.members (p - 1) (filter (λ other. not (other == k)) (line_at f.network.lines p)) t.lines ready.world.lined
+
+    line : (q : ℕ) → is_member w.setting.members q ≡ true → line_at new.network.lines q ≡ filter (untouched q (Receive p k)) (line_at f.network.lines q) ++ serials_to q (length f.network.sent) (envelopes w.setting.members mail)
+    line q group =
+        t.posted.joined q (ap (λ n. is_member n q) lined ∙ group)
+        ∙ ap (λ n. line_at left.lines q ++ serials_to q (length left.sent) (envelopes n mail)) lined
+        ∙ ap (λ (es : List (AnyEnvelope ℕ)). line_at left.lines q ++ serials_to q (length es) (envelopes w.setting.members mail)) t.sent
+        ∙ ap (λ ks. ks ++ serials_to q (length f.network.sent) (envelopes w.setting.members mail))
+        (ap (λ ls. line_at ls q) t.lines ∙ taken_line f.network.lines w.setting.members p k q ready.world.lined ready.in_group group)
+
+    stepped : IsStepped w (Receive p k) (receive w.setting p (member (state_of w) p) a.envelope.wire) f new
+    stepped = record {
+      posts = envelopes w.setting.members mail;
+      seat = seat;
+      values = t.values ∙ sym (append-nil f.book.values);
+      posted = rw t.values (named_posts f.book.values w.setting.members mail (receive w.setting p (member (state_of w) p) a.envelope.wire).mail (rw (receive_outcome-is w p a.envelope.wire) at (named_mail mail t.mail_is)));
+      sent = t.posted.sent ∙ ap (λ n. left.sent ++ envelopes n mail) lined ∙ ap (λ es. es ++ envelopes w.setting.members mail) t.sent;
+      lined = t.posted.lined ∙ lined ∙ sym ready.world.lined;
+      line = line;
+      seats = t.seats;
+      keeps = rw t.values (receive_keeps w.setting.members f.book.values p (member (state_of w) p) (seat_of f.seats p) keeps seat x.wire a.envelope.wire names a.somebody a.known t.received);
+      submitted = t.received.submitted ∙ ready.world.submitted p ready.in_group ∙ none_more (submissions (state_of w).submitted p);
+    }
+      where
+        none_more : (j : ℕ) → j ≡ j + submissions [] p
+        none_more j = let e = submissions-none p in omega arith
+
+    pub receive_steps : IsWorld (extended w (Receive p k)) new
+    receive_steps = refined w (Receive p k) (receive_outcome w p a.envelope.wire) f new ready.world received_taken (rw (receive_outcome-is w p a.envelope.wire) stepped)
+
+-- room for it
+
+pub receive_room : (w : Rehearsal) (f new : Fields) (p k : ℕ) (seat : Seat) (x : AnyEnvelope ℕ) → IsWorld w f → is_member w.setting.members p ≡ true → HasMoreRoom f new p seat → Some x ≡ at_serial new.network.sent k → CanReceive seat x.wire → HasReceiveRoom new p k
+receive_room w f new p k seat x world group more is can y e =
+    subst (λ (z : AnyEnvelope ℕ). CanReceive (seat_of new.seats p) z.wire) (some-same x y (is ∙ e)) (subst (λ (s : Seat). CanReceive s x.wire) (sym (roomy_seat w f new p seat world group more)) can)

@@ -1,0 +1,104 @@
+-- Room for a step: a world whose seats keep the same, and whose network and book have the same, is a world still.
+use Rattle.std.proofs.Common.{◌≡◌, ℕ, ◌-◌, true, length, set, refl, ap, sym, ◌∙◌, subst, arith, Option, Some, None, inl, inr}
+use Rattle.std.proofs.lemmas.Bool.{cases_eq}
+use Rattle.std.proofs.lemmas.List.{length-set}
+use Rattle.ct_names.specs.Group.{is_member}
+use Rattle.ct_names.specs.Value.{Value}
+use Rattle.std.specs.Prelude.{List}
+use Rattle.ct_model.specs.declared.step.Step.{Step}
+use Rattle.ct_model.specs.State.{Member}
+use Rattle.ct_model.specs.Rehearsal.{Rehearsal}
+use Rattle.ct_model.proofs.Outcomes.{some-same, some-none}
+use Rattle.ct_relay.specs.Taken.{is_first}
+use Rattle.ct_instances.proofs.Keeping.{keeps-prepared}
+use Rattle.ct_network.specs.Network.{line_at}
+use Rattle.ct_world.specs.declared.seat.Seat.{Seat}
+use Rattle.ct_world.specs.Seats.{Keeps, IsSameSeat}
+use Rattle.ct_world.specs.Kept.{Fields, IsWorld, IsReady, IsKept, seat_of}
+use Rattle.ct_world.proofs.Members.{apart, place, seat-same, seat-other}
+
+pub same_seat-refl : (seat : Seat) → IsSameSeat seat seat
+same_seat-refl seat = record {
+  submitted = refl;
+  crashed = refl;
+  me = refl;
+  ids = refl;
+  received = refl;
+  batches = refl;
+  begun = refl;
+  ballots = λ k r. refl;
+  decisions = λ k. refl;
+  instances = refl;
+}
+
+-- a seat that keeps the same keeps the member's state
+pub keeps-roomier : (n : ℕ) (values : List Value) (p : ℕ) (m : Member) (old new : Seat) → IsSameSeat old new → Keeps n values p m old → Keeps n values p m new
+keeps-roomier n values p m old new s k = record {
+  crashed = s.crashed ∙ k.crashed;
+  me = s.me ∙ k.me;
+  taken = λ name. ap (λ ids. is_first ids name) s.ids ∙ k.taken name;
+  received = s.received ∙ k.received;
+  batches = s.batches ∙ k.batches;
+  begun = s.begun ∙ k.begun;
+  instances = keeps-prepared n values p m old.instances new.instances k.instances s.ballots s.decisions s.instances;
+}
+
+-- other fields that keep the same
+pub record IsRoomier (w : Rehearsal) (f new : Fields) : Type 0 where
+  pub values : new.book.values ≡ f.book.values
+  pub sent : new.network.sent ≡ f.network.sent
+  pub lines : new.network.lines ≡ f.network.lines
+  pub seated : length new.seats ≡ length f.seats
+  pub each : (q : ℕ) → is_member w.setting.members q ≡ true → IsSameSeat (seat_of f.seats q) (seat_of new.seats q)
+
+pub world-roomier : (w : Rehearsal) (f new : Fields) → IsWorld w f → IsRoomier w f new → IsWorld w new
+world-roomier w f new world r = record {
+  lawful = world.lawful;
+  messages = world.messages;
+  few_members = world.few_members;
+  few_cells = world.few_cells;
+  values = r.values ∙ world.values;
+  sent = rw (r.values, r.sent) world.sent;
+  lined = ap length r.lines ∙ world.lined;
+  line = λ q group. ap (λ lines. line_at lines q) r.lines ∙ world.line q group;
+  seated = r.seated ∙ world.seated;
+  seat = λ q group. rw r.values (keeps-roomier w.setting.members f.book.values q _ (seat_of f.seats q) (seat_of new.seats q) (r.each q group) (world.seat q group));
+  submitted = λ q group. (r.each q group).submitted ∙ world.submitted q group;
+}
+
+-- the seats stay
+pub roomier-network : (w : Rehearsal) (f new : Fields) → new.book.values ≡ f.book.values → new.network.sent ≡ f.network.sent → new.network.lines ≡ f.network.lines → new.seats ≡ f.seats → IsRoomier w f new
+roomier-network w f new values sent lines seats = record {
+  values = values;
+  sent = sent;
+  lines = lines;
+  seated = ap length seats;
+  each = λ q group. subst (λ list. IsSameSeat (seat_of f.seats q) (seat_of list q)) (sym seats) (same_seat-refl (seat_of f.seats q));
+}
+
+-- the seat of one member was exchanged
+pub roomier-seat : (w : Rehearsal) (f new : Fields) (p : ℕ) (seat : Seat) → IsWorld w f → is_member w.setting.members p ≡ true → new.book.values ≡ f.book.values → new.network.sent ≡ f.network.sent → new.network.lines ≡ f.network.lines → new.seats ≡ set f.seats (p - 1) seat → IsSameSeat (seat_of f.seats p) seat → IsRoomier w f new
+roomier-seat w f new p seat world member values sent lines seats same = record {
+  values = values;
+  sent = sent;
+  lines = lines;
+  seated = ap length seats ∙ length-set f.seats (p - 1) seat;
+  each = λ q group. rw seats (elim (cases_eq q p) [
+    | inl e ↦ subst (λ r. IsSameSeat (seat_of f.seats r) (seat_of (set f.seats (p - 1) seat) r)) (sym e) (rw (seat-same f.seats p seat (let a = place w.setting.members p member in omega (arith, world.seated))) same)
+    | inr ne ↦ rw (seat-other f.seats p q seat (apart w.setting.members p q member group ne)) (same_seat-refl (seat_of f.seats q))
+  ]);
+}
+
+-- kept with no step prepared
+pub kept-unprepared : (w : Rehearsal) (prepared : Option Step) (f : Fields) → prepared ≡ None → IsWorld w f → IsKept w prepared f
+kept-unprepared w prepared f none world = record {
+  world = world;
+  ready = λ step e. some-none step (sym none ∙ e);
+}
+
+-- kept with a step prepared
+pub kept-ready : (w : Rehearsal) (step : Step) (f : Fields) → IsWorld w f → IsReady w step f → IsKept w (Some step) f
+kept-ready w step f world ready = record {
+  world = world;
+  ready = λ other e. subst (λ x. IsReady w x f) (some-same step other e) ready;
+}

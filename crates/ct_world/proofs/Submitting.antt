@@ -1,0 +1,84 @@
+-- Submit: the message that goes to all, and the seat after it.
+use Rattle.std.proofs.Common.{◌≡◌, ℕ, ◌+◌, ◌-◌, ◌≤◌, true, List, [], ◌∷◌, length, set, refl, ap, sym, ◌∙◌, subst, arith, append-nil, Option, Some, None}
+use Rattle.std.specs.Prelude.{if◌then◌else◌, IsSome}
+use Rattle.ct_names.specs.declared.command.Command.{Command}
+use Rattle.ct_names.specs.Command.{is_good}
+use Rattle.ct_names.specs.Message.{Message}
+use Rattle.ct_names.specs.Value.{Value}
+use Rattle.ct_model.specs.declared.step.Step.TheVariants.{Submit}
+use Rattle.ct_model.specs.Wire.{Wire as AnyWire, Mail as AnyMail, envelopes}
+use Rattle.ct_model.specs.Wire.Wire.{Data}
+use Rattle.ct_model.specs.Wire.Mail.{All}
+use Rattle.ct_model.specs.State.{Member, member, submissions}
+use Rattle.ct_model.specs.Next.{submit, next_message, after}
+use Rattle.ct_model.specs.Rehearsal.{Rehearsal, state_of, extended}
+use Rattle.ct_model.proofs.Frame.{length-after-sent}
+use Rattle.ct_model.proofs.Outcomes.{some-same}
+use Rattle.ct_model.proofs.Serials.{length-all}
+use Rattle.ct_model.proofs.Submits.{submit_outcome, submit_outcome-is, submissions-next, submit_taken}
+use Rattle.ct_model.proofs.Tests.{self_number}
+use Rattle.ct_model.specs.Mapped.{wire_map}
+use Rattle.ct_network.proofs.Posts.{length-envelopes-map}
+use Rattle.ct_instances.specs.Named.{NamesMail}
+use Rattle.ct_instances.proofs.Named.{named_length}
+use Rattle.ct_world.specs.Kept.{Fields, IsWorld, seat_of}
+use Rattle.ct_world.proofs.Insides.{IsPrepared}
+use Rattle.ct_world.proofs.Posts.{LeavesLines, IsPosted, stepped-sending}
+use Rattle.ct_world.proofs.Refines.{refined, seat-kept}
+
+submit-leaves : (p : ℕ) (c : Command) → LeavesLines (Submit p c)
+submit-leaves p c = record { untouched = λ q k. refl; unmoved = λ q. refl }
+
+-- the message that is made is the next one
+pub next_made : (r : Option Message) (m : Message) (p k : ℕ) (c : Command) (list : List Message) → r ≡ (if is_good c then Some (record { origin = p; number = k + 1; command = c }) else None) → is_good c ≡ true → r ≡ Some m → k ≡ submissions list p → m ≡ next_message list p c
+next_made r m p k c list made good is count =
+    let n : k + 1 ≡ 1 + submissions list p = omega arith in
+    some-same m (next_message list p c) (sym is ∙ made ∙ ap (λ b. if b then Some (record { origin = p; number = k + 1; command = c }) else None) good ∙ ap (λ i. Some (record { origin = p; number = i; command = c })) n)
+
+pub good_made : (r : Option Message) (m : Message) (c : Command) → r ≡ (if is_good c then Some m else None) → is_good c ≡ true → IsSome r
+good_made r m c made good = subst (λ x. IsSome x) (sym (made ∙ ap (λ b. if b then Some m else None) good)) refl
+
+one_more : (w : Rehearsal) (p : ℕ) (c : Command) (k : ℕ) → k ≡ submissions (state_of w).submitted p → k + 1 ≡ submissions (state_of w).submitted p + submissions (next_message (state_of w).submitted p c ∷ []) p
+one_more w p c k count =
+    let one : submissions (next_message (state_of w).submitted p c ∷ []) p ≡ 1 = submissions-next (state_of w).submitted p p c ∙ ap (λ b. if b then 1 else 0) (self_number p) in
+    omega arith
+
+no_value : Value
+no_value = []
+
+-- each member gets one envelope
+number-all : (n : ℕ) (x : AnyWire ℕ) → length (envelopes n (All x)) ≡ n
+number-all n x = sym (length-envelopes-map (λ id. no_value) n (All x)) ∙ length-all n (wire_map (λ id. no_value) x)
+
+-- as many envelopes are sent as there are members
+pub submit_number : (w : Rehearsal) (p : ℕ) (c : Command) → length (envelopes w.setting.members (submit_outcome w p c).mail) ≡ w.setting.members
+submit_number w p c = rw (submit_outcome-is w p c) (length-all w.setting.members (Data (next_message (state_of w).submitted p c)))
+
+-- the mail fits
+pub submit_few : (w : Rehearsal) (p : ℕ) (c : Command) (f : Fields) (x : AnyWire ℕ) → IsPrepared w (Submit p c) f → length f.network.sent + length (envelopes (length f.network.lines) (All x)) ≤ 1000000
+submit_few w p c f x ready =
+    let taken = (submit_taken w p c ready.world.lawful ready.ready.allowed).taken in
+    let few = taken.within.few_envelopes in
+    let sent : length f.network.sent ≡ length (state_of w).sent = named_length f.book.values f.network.sent (state_of w).sent ready.world.sent in
+    let after_is : length (after w.setting (state_of w) p (submit_outcome w p c)).sent ≡ length (state_of w).sent + length (envelopes w.setting.members (submit_outcome w p c).mail) = length-after-sent w.setting (state_of w) p (submit_outcome w p c) in
+    let mail : length (envelopes w.setting.members (submit_outcome w p c).mail) ≡ w.setting.members = submit_number w p c in
+    let number : length (envelopes (length f.network.lines) (All x)) ≡ w.setting.members = number-all (length f.network.lines) x ∙ ready.world.lined in
+    omega arith
+
+pub submit_mail : (w : Rehearsal) (p : ℕ) (c : Command) (f : Fields) (x : AnyWire ℕ) (k : ℕ) → IsPrepared w (Submit p c) f → k ≡ length (envelopes (length f.network.lines) (All x)) → length (envelopes w.setting.members (submit_outcome w p c).mail) ≡ k
+submit_mail w p c f x k ready number = submit_number w p c ∙ sym (number ∙ number-all (length f.network.lines) x ∙ ready.world.lined)
+
+-- a Submit sends the next message to all
+pub submit_steps : (w : Rehearsal) (p : ℕ) (c : Command) (f new : Fields) (m : Message) → IsPrepared w (Submit p c) f → m ≡ next_message (state_of w).submitted p c → new.seats ≡ set f.seats (p - 1) (record (seat_of f.seats p) { submitted = (seat_of f.seats p).submitted + 1 }) → new.book.values ≡ f.book.values → IsPosted f.network new.network (All (Data m)) → IsWorld (extended w (Submit p c)) new
+submit_steps w p c f new m ready made seats values posted =
+    let keeps = ready.world.seat p ready.in_group in
+    let taken = (submit_taken w p c ready.world.lawful ready.ready.allowed).taken in
+    let who : Member = member (state_of w) p in
+    let named : NamesMail new.book.values (All (Data m)) (All (Data (next_message (state_of w).submitted p c))) = ap (λ x. let mail : AnyMail (Option Value) = All (Data x) in mail) made in
+    refined w (Submit p c) (submit_outcome w p c) f new ready.world taken
+    (rw (submit_outcome-is w p c) (stepped-sending w (Submit p c) (submit (state_of w) p (member (state_of w) p) c) f new (record (seat_of f.seats p) { submitted = (seat_of f.seats p).submitted + 1 }) (All (Data m)) ready.world (submit-leaves p c) (record {
+      values = values ∙ sym (append-nil f.book.values);
+      seats = seats;
+      keeps = rw values (seat-kept w.setting.members f.book.values p who who (seat_of f.seats p) (record (seat_of f.seats p) { submitted = (seat_of f.seats p).submitted + 1 }) keeps keeps.crashed refl refl refl refl refl keeps.instances);
+      submitted = one_more w p c (seat_of f.seats p).submitted (ready.world.submitted p ready.in_group);
+    }) named posted))

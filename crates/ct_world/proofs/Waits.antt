@@ -1,0 +1,102 @@
+-- What waits at a member: its envelope, in the record and in the network.
+use Rattle.std.proofs.Common.{◌≡◌, ℕ, zero, suc, ◌-◌, ◌≤◌, true, ◌&&◌, List, [], ◌∷◌, length, slice_get, Some, None, option_map, ap, sym, ◌∙◌, subst, arith, inl, inr}
+use Rattle.std.proofs.lemmas.Option.{slice_get-map}
+use Rattle.ct_names.specs.Group.{is_member}
+use Rattle.ct_names.specs.Membership.{IsIn}
+use Rattle.ct_model.specs.AtValue.{Wire, Envelope}
+use Rattle.ct_model.specs.Wire.{Envelope as AnyEnvelope}
+use Rattle.ct_model.specs.Wire.Wire.{Data, Est, Prop, Ack, Nack, Dec}
+use Rattle.ct_model.specs.Counted.{NamesSomebody}
+use Rattle.ct_model.specs.Knowledge.{KnowsMessages, CarriesOne}
+use Rattle.ct_model.specs.Lawful.{IsLetter, is_waiting, is_distinct}
+use Rattle.ct_model.specs.Rehearsal.{Rehearsal, state_of}
+use Rattle.ct_model.specs.Setting.{Setting}
+use Rattle.ct_model.specs.State.{State, member, wires, at_serial}
+use Rattle.ct_model.specs.Waiting.{has_serial}
+use Rattle.ct_model.proofs.Letters.{waiting_letter}
+use Rattle.ct_model.proofs.Outcomes.{some-same, some-none}
+use Rattle.ct_network.specs.Network.{line_at}
+use Rattle.ct_instances.specs.Named.{NamesEnvelope}
+use Rattle.ct_instances.proofs.Named.{named_back}
+use Rattle.ct_world.specs.Kept.{Fields, IsWorld}
+use Rattle.ct_world.specs.World.{WorldView}
+use Rattle.ct_world.specs.declared.world.World.TheInside.{Inside}
+use Rattle.ct_model.proofs.Naming.{sender_named}
+use Rattle.ct_world.proofs.Insides.{IsKeptIn, view_in, fields_in}
+use Rattle.ct_world.proofs.Receipts.{IsKnown, known_name}
+
+-- the member's line
+pub lined_member : (w : Rehearsal) (f : Fields) (p : ℕ) → IsWorld w f → is_member w.setting.members p ≡ true → is_member (length f.network.lines) p ≡ true
+lined_member w f p world group = ap (λ n. is_member n p) world.lined ∙ group
+
+pub line_waits : (w : Rehearsal) (f : Fields) (p k : ℕ) → IsWorld w f → is_member w.setting.members p ≡ true → has_serial k (line_at f.network.lines p) ≡ is_waiting w p k
+line_waits w f p k world group = ap (has_serial k) (world.line p group)
+
+pub line_once : (w : Rehearsal) (f : Fields) (p : ℕ) → IsWorld w f → is_member w.setting.members p ≡ true → is_distinct (line_at f.network.lines p) ≡ true
+line_once w f p world group = ap is_distinct (world.line p group) ∙ world.lawful.distinct p
+
+-- an envelope at its serial
+serial_of : {A : Type 0} (list : List A) (k : ℕ) (x : A) → 1 ≤ k → slice_get list (k - 1) ≡ Some x → at_serial list k ≡ Some x
+serial_of list zero x low e = absurd (omega arith)
+serial_of list (suc i) x low e = subst (λ j. slice_get list j ≡ Some x) (let back : suc i - 1 ≡ i = omega arith in back) e
+
+found : {A : Type 0} (list : List A) (i : ℕ) (x : A) → slice_get list i ≡ Some x → IsIn x list
+found [] i x e = some-none x e
+found (y ∷ list) zero x e = inl (sym (some-same y x e))
+found (y ∷ list) (suc i) x e = inr (found list i x e)
+
+-- its wire is among those that were sent
+wire_sent : (g : State) (i : ℕ) (e : Envelope) → slice_get g.sent i ≡ Some e → IsIn e.wire (wires g)
+wire_sent g i e there = found (wires g) i e.wire (slice_get-map (λ (z : Envelope). z.wire) g.sent i ∙ ap (option_map (λ (z : Envelope). z.wire)) there)
+
+-- a message that it carries was submitted
+known_wire : (s : Setting) (g : State) (p : ℕ) (w : Wire) → KnowsMessages s g → CarriesOne g.submitted w → IsKnown (member g p).got w
+known_wire s g p (Data m) k submitted = known_name s g p m k submitted
+known_wire s g p (Est i r q v t) k submitted = tt
+known_wire s g p (Prop i r v) k submitted = tt
+known_wire s g p (Ack i r q) k submitted = tt
+known_wire s g p (Nack i r q) k submitted = tt
+known_wire s g p (Dec i r v) k submitted = tt
+
+-- the envelope x of the network waits at p
+pub record IsAwaited (w : Rehearsal) (f : Fields) (p k : ℕ) (x : AnyEnvelope ℕ) : Type 0 where
+  pub there : at_serial f.network.sent k ≡ Some x
+  pub envelope : Envelope
+  pub letter : IsLetter (state_of w) p k envelope
+  pub names : NamesEnvelope f.book.values x envelope
+  pub somebody : NamesSomebody envelope.wire
+  pub known : IsKnown (member (state_of w) p).got envelope.wire
+
+-- what waits has its envelope
+pub awaited : (w : Rehearsal) (f : Fields) (p k : ℕ) → IsWorld w f → is_waiting w p k ≡ true → (x : AnyEnvelope ℕ) × IsAwaited w f p k x
+awaited w f p k world waits =
+    let e = waiting_letter w p k world.lawful waits in
+    let back = named_back f.book.values f.network.sent (state_of w).sent k e.0 world.sent (serial_of (state_of w).sent k e.0 e.1.positive e.1.there) in (
+      back.0,
+      record {
+        there = back.1;
+        envelope = e.0;
+        letter = e.1;
+        names = back.2;
+        somebody = sender_named w.setting w.steps (state_of w) world.few_members world.lawful.runs e.0.wire (wire_sent (state_of w) (k - 1) e.0 e.1.there);
+        known = known_wire w.setting (state_of w) p e.0.wire world.messages (world.messages.sent (k - 1) e.0 e.1.there);
+      },
+    )
+
+-- so the network has one
+pub awaited-some : (w : Rehearsal) (f : Fields) (p k : ℕ) → IsWorld w f → is_waiting w p k ≡ true → None ≡ at_serial f.network.sent k → ⊥
+awaited-some w f p k world waits none = let a = awaited w f p k world waits in some-none a.0 (none ∙ a.1.there)
+
+-- and the one that it has is that
+pub awaited-is : (w : Rehearsal) (f : Fields) (p k : ℕ) (x : AnyEnvelope ℕ) → IsWorld w f → is_waiting w p k ≡ true → Some x ≡ at_serial f.network.sent k → IsAwaited w f p k x
+awaited-is w f p k x world waits is =
+    let a = awaited w f p k world waits in
+    subst (λ y. IsAwaited w f p k y) (some-same a.0 x (sym a.1.there ∙ sym is)) a.1
+
+-- whether the serial waits, as the network tells
+pub waits_is : (w : Rehearsal) (f : Fields) (p k : ℕ) → IsWorld w f → is_member w.setting.members p ≡ true → (is_member (length f.network.lines) p && has_serial k (line_at f.network.lines p)) ≡ is_waiting w p k
+waits_is w f p k world group = ap (λ b. b && has_serial k (line_at f.network.lines p)) (lined_member w f p world group) ∙ line_waits w f p k world group
+
+-- the world that a call sees
+pub world_seen : (a : Inside) (v : WorldView) → view_in a ≡ v → IsKeptIn a → IsWorld v.rehearsal (fields_in a)
+world_seen a v view kept = subst (λ (x : WorldView). IsWorld x.rehearsal (fields_in a)) view kept.world

@@ -1,0 +1,15 @@
+use Rattle.std.proofs.Common.{◌+◌, sym, subst, arith}
+use Rattle.ct_world.specs.Seats.{AreNewSeats}
+use Rattle.ct_world.proofs.SeatLists.{new-none, new-more, new-all}
+use Rattle.ct_world.proofs.seats.new_seats.Goals as goal
+
+pub loop-i-init : goal.loop-i-init
+loop-i-init c = subst (λ seats. AreNewSeats c.args.group 0 seats) (sym c.new-seats.ensures.items) (new-none c.args.group)
+
+pub loop-i-preserved : goal.loop-i-preserved
+loop-i-preserved c =
+    subst (λ seats. AreNewSeats c.args.group (c.loop-i.i + 1) seats) (sym c.in_ok-push.ensures.items)
+    (new-more c.args.group c.loop-i.i c.loop-i.seats.items c.new.result c.loop-i.invariant c.new.ensures)
+
+pub returns : goal.returns
+returns c = new-all c.args.group c.loop-i.i c.loop-i.seats.items (omega (arith, c.n-i-end.ensures.value, c.loop-i-test.false, c.loop-i.auto.i-end)) c.loop-i.invariant

@@ -1,0 +1,97 @@
+use Rattle.std.proofs.Common.{◌≡◌, ◌-◌, ◌≤◌, ◌++◌, ◌∷◌, [], true, set, refl, ap, sym, ◌∙◌, subst, arith, length, Some}
+use Rattle.std.specs.Prelude.{is_ok, is_some, option_copied}
+use Rattle.ct_model.specs.declared.step.Step.TheVariants.{Deliver}
+use Rattle.ct_model.specs.State.{member}
+use Rattle.ct_model.specs.Next.{deliver}
+use Rattle.ct_model.specs.Rehearsal.{state_of}
+use Rattle.ct_model.proofs.Delivers.{deliver_taken}
+use Rattle.ct_instances.specs.Kept.{Kept, decision_at}
+use Rattle.ct_instances.specs.Named.{value_at}
+use Rattle.ct_world.specs.declared.seat.Seat.{Seat}
+use Rattle.ct_world.specs.Kept.{seat_of}
+use Rattle.ct_world.proofs.Insides.{rehearsal_in, IsPreparedIn, prepared_in, within_in, seat_in, done_in, kept_in, fields_in}
+use Rattle.ct_world.proofs.Delivering.{HasDelivered, closed, number_at, prepared_due, value_there, deliver_steps}
+use Rattle.ct_world.proofs.world.World.commit_deliver.Goals as goal
+use Rattle.ct_world.proofs.world.World.commit_deliver.Goals.{After-push}
+
+pub overflow_sub-member : goal.overflow_sub-member
+overflow_sub-member c = (prepared_in c.self.inside c.args.self.now (Deliver c.args.member) c.self.view_is c.self.invariant c.requires).low
+
+pub index_mut-seat-requires : goal.index_mut-seat-requires
+index_mut-seat-requires c = within_in c.self.inside (Deliver c.args.member) (prepared_in c.self.inside c.args.self.now (Deliver c.args.member) c.self.view_is c.self.invariant c.requires)
+
+pub unwrap-value-requires : goal.unwrap-value-requires
+unwrap-value-requires c =
+    let p = (prepared_in c.self.inside c.args.self.now (Deliver c.args.member) c.self.view_is c.self.invariant c.requires) in
+    let here = seat_in c.self.inside (Deliver c.args.member) c.index_mut-seat.result.now p c.index_mut-seat.ensures.value in
+    ap is_some (number_at (seat_of c.self.inside.seats.items c.args.member) c.index_mut-seat.result.now c.last.result c.decided.result here c.last.ensures c.decided.ensures)
+    ∙ (prepared_due (rehearsal_in c.self.inside) c.args.member (fields_in c.self.inside) p).decided_there
+
+pub unwrap-requires : goal.unwrap-requires
+unwrap-requires c =
+    let p = (prepared_in c.self.inside c.args.self.now (Deliver c.args.member) c.self.view_is c.self.invariant c.requires) in
+    let here = seat_in c.self.inside (Deliver c.args.member) c.index_mut-seat.result.now p c.index_mut-seat.ensures.value in
+    let number = sym (number_at (seat_of c.self.inside.seats.items c.args.member) c.index_mut-seat.result.now c.last.result c.decided.result here c.last.ensures c.decided.ensures) ∙ c.unwrap-value.ensures in
+    value_there (rehearsal_in c.self.inside) c.args.member c.self.inside.book.values (seat_of c.self.inside.seats.items c.args.member) c.unwrap-value.result c.get.result
+    (prepared_due (rehearsal_in c.self.inside) c.args.member (fields_in c.self.inside) p) number c.get.ensures
+
+pub deliver-requires-clause-room : goal.deliver-requires-clause-room
+deliver-requires-clause-room c =
+    let p = (prepared_in c.self.inside c.args.self.now (Deliver c.args.member) c.self.view_is c.self.invariant c.requires) in
+    let here = seat_in c.self.inside (Deliver c.args.member) c.index_mut-seat.result.now p c.index_mut-seat.ensures.value in
+    let number = sym (number_at (seat_of c.self.inside.seats.items c.args.member) c.index_mut-seat.result.now c.last.result c.decided.result here c.last.ensures c.decided.ensures) ∙ c.unwrap-value.ensures in
+    let value = sym c.get.ensures ∙ ap option_copied c.unwrap.ensures in
+    subst (λ (s : Seat). length c.unwrap.result.now ≤ s.caster.room) (sym here) (p.ready.for_itself.messages c.unwrap-value.result c.unwrap.result.now number value)
+
+pub deliver-requires-clause-fits : goal.deliver-requires-clause-fits
+deliver-requires-clause-fits c =
+    let p = (prepared_in c.self.inside c.args.self.now (Deliver c.args.member) c.self.view_is c.self.invariant c.requires) in
+    let here = seat_in c.self.inside (Deliver c.args.member) c.index_mut-seat.result.now p c.index_mut-seat.ensures.value in
+    ap (λ (s : Seat). s.caster.fits_batch) here ∙ p.ready.for_itself.batch
+
+pub close-requires : goal.close-requires
+close-requires c =
+    let p = (prepared_in c.self.inside c.args.self.now (Deliver c.args.member) c.self.view_is c.self.invariant c.requires) in
+    let here = seat_in c.self.inside (Deliver c.args.member) c.index_mut-seat.result.now p c.index_mut-seat.ensures.value in
+    ap (λ (s : Seat). is_some s.instances.part) here ∙ (prepared_due (rehearsal_in c.self.inside) c.args.member (fields_in c.self.inside) p).is_open
+
+-- when the step has joined the record
+
+before : (c : After-push) → IsPreparedIn c.self.inside (Deliver c.args.member)
+before c = (prepared_in c.self.inside c.args.self.now (Deliver c.args.member) c.self.view_is c.self.invariant c.requires)
+
+here : (c : After-push) → c.index_mut-seat.result.now ≡ seat_of c.self.inside.seats.items c.args.member
+here c = seat_in c.self.inside (Deliver c.args.member) c.index_mut-seat.result.now (before c) c.index_mut-seat.ensures.value
+
+number : (c : After-push) → decision_at (seat_of c.self.inside.seats.items c.args.member).instances (seat_of c.self.inside.seats.items c.args.member).instances.last ≡ Some c.unwrap-value.result
+number c = sym (number_at (seat_of c.self.inside.seats.items c.args.member) c.index_mut-seat.result.now c.last.result c.decided.result (here c) c.last.ensures c.decided.ensures) ∙ c.unwrap-value.ensures
+
+value : (c : After-push) → value_at c.self.inside.book.values c.unwrap-value.result ≡ Some c.unwrap.result.now
+value c = sym c.get.ensures ∙ ap option_copied c.unwrap.ensures
+
+delivered : (c : After-push) → HasDelivered (seat_of c.self.inside.seats.items c.args.member).caster c.unwrap.result.now c.deliver.new.self
+delivered c = subst (λ (s : Seat). HasDelivered s.caster c.unwrap.result.now c.deliver.new.self) (here c) (record {
+  received = c.deliver.ensures.received;
+  batches = c.deliver.ensures.batches;
+  begun = c.deliver.ensures.instance;
+})
+
+pushed : (c : After-push) → c.push.new.self.items ≡ c.self.inside.record.items ++ Deliver c.args.member ∷ []
+pushed c =
+    let ok : is_ok c.push.result ≡ true = c.push.ensures.succeeds (omega (arith, (before c).ready.for_step)) in
+    rw ok at c.push.ensures.items
+
+pub invariant_of-self : goal.invariant_of-self
+invariant_of-self c =
+    let s = c.index_mut-seat.result.now in
+    let seats =
+    ap (λ (i : Kept). set c.self.inside.seats.items (c.args.member - 1) (record s { instances = i; caster = c.deliver.new.self })) c.close.ensures
+    ∙ ap (λ (x : Seat). set c.self.inside.seats.items (c.args.member - 1) (closed x c.deliver.new.self)) (here c) in
+    kept_in c.self.inside (Deliver c.args.member) c.push.new.self.items _ (pushed c)
+    (deliver_steps (rehearsal_in c.self.inside) c.args.member (fields_in c.self.inside) _ c.unwrap-value.result c.unwrap.result.now c.deliver.new.self (before c) (number c) (value c) (delivered c) seats refl refl refl)
+
+pub returns-clause-done : goal.returns-clause-done
+returns-clause-done c =
+    let p = before c in
+    let step = deliver_taken (rehearsal_in c.self.inside) c.args.member p.world.lawful p.ready.allowed in
+    done_in c.self.inside c.args.self.now (Deliver c.args.member) (deliver (member (state_of (rehearsal_in c.self.inside)) c.args.member) step.value) c.push.new.self.items 0 c.self.view_is p (pushed c) step.taken refl

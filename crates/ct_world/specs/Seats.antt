@@ -1,0 +1,121 @@
+-- What is kept of a member, how it follows from the member's state, and what a receipt does to it.
+use Rattle.std.specs.Prelude.{◌≡◌, ℕ, ◌+◌, ◌<◌, ◌≤◌, ◌&&◌, ◌==◌, Bool, true, false, not, if◌then◌else◌, List, [], ◌∷◌, ◌++◌, None, length, map, slice_index_or}
+use Rattle.std.specs.List.{list_any}
+use Rattle.std.specs.Option.{option_or}
+use Rattle.ct_names.specs.Group.{coordinator}
+use Rattle.ct_names.specs.Message.{Message}
+use Rattle.ct_names.specs.Value.{Value}
+use Rattle.ct_model.specs.Wire.{Wire as AnyWire, Mail as AnyMail}
+use Rattle.ct_model.specs.Wire.Wire.{Data, Dec}
+use Rattle.ct_model.specs.Wire.Mail.{Nobody, All}
+use Rattle.ct_model.specs.State.{Member}
+use Rattle.ct_model.specs.Received.{received, is_decision, decision_of}
+use Rattle.ct_model.specs.Counted.{count_in}
+use Rattle.ct_relay.specs.Taken.{Taken, is_first, with_id}
+use Rattle.ct_relay.specs.declared.relay_id.RelayId.{RelayId}
+use Rattle.ct_relay.specs.declared.relay_id.RelayId.TheVariants as id
+use Rattle.ct_instances.specs.Kept.{ballots_of, decision_at, has_room}
+use Rattle.ct_instances.specs.Keeping.{KeepsInstances}
+use Rattle.ct_world.specs.declared.seat.Seat.{Seat}
+
+-- the wire is a message, or a decision, of this name
+abbrev pub has_name : {V : Type 0} → RelayId → AnyWire V → Bool
+has_name (id.Data origin number) (Data m) = (m.origin == origin) && (m.number == number)
+has_name (id.Data origin number) _ = false
+has_name (id.Dec instance round) w = is_decision instance round w
+
+-- one such was got
+abbrev pub was_got : {V : Type 0} → List (AnyWire V) → RelayId → Bool
+was_got got name = list_any (has_name name) got
+
+-- the seat has what the member's state says, but for the messages that it submitted; values go by number
+pub record Keeps (n : ℕ) (values : List Value) (p : ℕ) (m : Member) (seat : Seat) : Type 0 where
+  pub crashed : seat.crashed ≡ m.crashed
+  pub me : seat.relay.me ≡ p
+  pub taken : (name : RelayId) → is_first seat.relay.ids name ≡ not (was_got m.got name)
+  pub received : seat.caster.received ≡ received m.got
+  pub batches : seat.caster.batches ≡ map (λ b. b.messages) m.batches
+  pub begun : seat.caster.instance ≡ m.last
+  pub instances : KeepsInstances n values p m seat.instances
+
+-- the seat of a member that has done nothing
+pub record IsNewSeat (n p : ℕ) (seat : Seat) : Type 0 where
+  pub submitted : seat.submitted ≡ 0
+  pub crashed : seat.crashed ≡ false
+  pub me : seat.relay.me ≡ p
+  pub ids : seat.relay.ids ≡ []
+  pub received : seat.caster.received ≡ []
+  pub batches : seat.caster.batches ≡ []
+  pub begun : seat.caster.instance ≡ 0
+  pub instances : seat.instances ≡ record { members = n; me = p; last = 0; part = None; entries = [] }
+
+-- the first k seats of a group of n, in which nothing was done
+pub record AreNewSeats (n k : ℕ) (seats : List Seat) : Type 0 where
+  pub seated : length seats ≡ k
+  pub each : (i : ℕ) (d : Seat) → i < k → IsNewSeat n (i + 1) (slice_index_or seats i d)
+
+-- a seat that keeps the same, whatever room it has
+pub record IsSameSeat (old new : Seat) : Type 0 where
+  pub submitted : new.submitted ≡ old.submitted
+  pub crashed : new.crashed ≡ old.crashed
+  pub me : new.relay.me ≡ old.relay.me
+  pub ids : new.relay.ids ≡ old.relay.ids
+  pub received : new.caster.received ≡ old.caster.received
+  pub batches : new.caster.batches ≡ old.caster.batches
+  pub begun : new.caster.instance ≡ old.caster.instance
+  pub ballots : (k r : ℕ) → ballots_of new.instances k r ≡ ballots_of old.instances k r
+  pub decisions : (k : ℕ) → decision_at new.instances k ≡ decision_at old.instances k
+  pub instances : new.instances ≡ record old.instances { entries = new.instances.entries }
+
+pub record AreSameSeats (old new : List Seat) : Type 0 where
+  pub seated : length new ≡ length old
+  pub each : (i : ℕ) (d : Seat) → i < length old → IsSameSeat (slice_index_or old i d) (slice_index_or new i d)
+
+-- room to receive the wire
+pub record CanReceive (seat : Seat) (x : AnyWire ℕ) : Type 0 where
+  pub relay : seat.relay.has_room ≡ true
+  pub message : 1 ≤ seat.caster.room
+  pub note : has_room seat.instances x ≡ true
+
+-- whether the member passes the wire on: it gets it for the first time, and didn't send it to all before
+abbrev pub is_passed_on : ℕ → Taken → AnyWire ℕ → Bool
+is_passed_on n taken (Data m) = is_first taken.ids (id.Data m.origin m.number) && not (m.origin == taken.me)
+is_passed_on n taken (Dec k r v) = is_first taken.ids (id.Dec k r) && not (coordinator n r == taken.me)
+is_passed_on n taken _ = false
+
+-- what it then sends
+abbrev pub passed_on : ℕ → Taken → AnyWire ℕ → AnyMail ℕ
+passed_on n taken x = if is_passed_on n taken x then All x else Nobody
+
+-- the names taken after the receipt
+abbrev pub ids_with : List RelayId → AnyWire ℕ → List RelayId
+ids_with ids (Data m) = with_id ids (id.Data m.origin m.number)
+ids_with ids (Dec k r v) = with_id ids (id.Dec k r)
+ids_with ids _ = ids
+
+-- the messages received after the receipt
+abbrev pub received_with : List RelayId → List Message → AnyWire ℕ → List Message
+received_with ids list (Data m) = if is_first ids (id.Data m.origin m.number) then (list ++ m ∷ []) else list
+received_with ids list _ = list
+
+-- the seat before and after it got the wire
+pub record HasReceived (old : Seat) (x : AnyWire ℕ) (new : Seat) : Type 0 where
+  pub submitted : new.submitted ≡ old.submitted
+  pub crashed : new.crashed ≡ old.crashed
+  pub me : new.relay.me ≡ old.relay.me
+  pub ids : new.relay.ids ≡ ids_with old.relay.ids x
+  pub received : new.caster.received ≡ received_with old.relay.ids old.caster.received x
+  pub batches : new.caster.batches ≡ old.caster.batches
+  pub begun : new.caster.instance ≡ old.caster.instance
+  pub ballots : (k r : ℕ) → ballots_of new.instances k r ≡ count_in (ballots_of old.instances k r) k r x
+  pub decisions : (k : ℕ) → decision_at new.instances k ≡ option_or (decision_at old.instances k) (decision_of k x)
+  pub instances : new.instances ≡ record old.instances { entries = new.instances.entries }
+
+-- all but the names taken and the messages received is the same
+pub record HasSameRest (old new : Seat) : Type 0 where
+  pub submitted : new.submitted ≡ old.submitted
+  pub crashed : new.crashed ≡ old.crashed
+  pub me : new.relay.me ≡ old.relay.me
+  pub batches : new.caster.batches ≡ old.caster.batches
+  pub begun : new.caster.instance ≡ old.caster.instance
+  pub instances : new.instances ≡ old.instances

@@ -1,0 +1,56 @@
+//! What is kept of one member.
+
+ghost use Rattle.std.specs.Prelude.{◌≡◌, [], false, IfOk};
+ghost use Rattle.ct_world.specs.Seats.{IsNewSeat, IsSameSeat};
+
+use ct_abcast::Caster;
+use ct_instances::Instances;
+use ct_names::{Group, Member};
+use ct_relay::Relay;
+use std::alloc::{AllocError, Global};
+
+mod preparing;
+mod receiving;
+
+/// What is kept of one member, apart from its waiting line.
+#[derive(Drop)]
+pub struct Seat {
+    /// How many messages it submitted.
+    pub submitted: u32,
+    /// Whether it crashed.
+    pub crashed: bool,
+    /// Which messages and decisions it received.
+    pub relay: Relay,
+    /// What it got for each instance of consensus, and the one that it has open.
+    pub instances: Instances,
+    /// What it received and delivered.
+    pub caster: Caster,
+}
+
+impl Seat {
+    /// A member that has done nothing.
+    pub fn new(alloc: Global, group: Group, me: Member) -> Seat
+        ensures { IsNewSeat group me result }
+    {
+        Seat {
+            submitted: 0,
+            crashed: false,
+            relay: Relay::new(alloc, me),
+            instances: Instances::new(alloc, group, me),
+            caster: Caster::new(alloc),
+        }
+    }
+
+    /// A seat that keeps the same. Only memory can be refused.
+    pub fn copy(&self, alloc: Global) -> Result<Seat, AllocError>
+        ensures { IfOk result (IsSameSeat self.now) }
+    {
+        Ok(Seat {
+            submitted: self.submitted,
+            crashed: self.crashed,
+            relay: self.relay.copy(alloc)?,
+            instances: self.instances.copy(alloc)?,
+            caster: self.caster.copy(alloc)?,
+        })
+    }
+}

@@ -1,0 +1,41 @@
+//! Room at a seat, the only calls that take memory. What is kept stays, also where memory is refused.
+
+ghost use Rattle.std.specs.Prelude.{◌≡◌, ◌+◌, ◌≤◌, true, length, OnOk};
+ghost use Rattle.ct_rounds.specs.Meaning.{wire_of};
+ghost use Rattle.ct_instances.specs.Kept.{has_room_open};
+ghost use Rattle.ct_world.specs.Seats.{IsSameSeat, CanReceive};
+
+use crate::seat::Seat;
+use ct_rounds::Wire;
+use std::alloc::AllocError;
+
+impl Seat {
+    /// Room to receive the wire.
+    pub fn prepare_receive(&mut self, wire: &Wire) -> Result<(), AllocError>
+        ensures same { IsSameSeat self.old self.new }
+        ensures ok { OnOk result (CanReceive self.new (wire_of wire.now)) }
+    {
+        self.relay.prepare()?;
+        self.caster.prepare(1)?;
+        self.instances.prepare(wire)
+    }
+
+    /// Room to begin the next instance.
+    pub fn prepare_begin(&mut self) -> Result<(), AllocError>
+        requires few { self.old.instances.last ≤ 1024 }
+        ensures same { IsSameSeat self.old self.new }
+        ensures ok { OnOk result (has_room_open self.new.instances (self.new.instances.last + 1) ≡ true) }
+    {
+        let next = self.instances.last() + 1;
+        self.instances.prepare_open(next)
+    }
+
+    /// Room to deliver so many messages.
+    pub fn prepare_deliver(&mut self, more: usize) -> Result<(), AllocError>
+        ensures same { IsSameSeat self.old self.new }
+        ensures batch { OnOk result (self.new.caster.fits_batch ≡ true) }
+        ensures messages { OnOk result (more ≤ self.new.caster.room) }
+    {
+        self.caster.prepare(more)
+    }
+}

@@ -1,0 +1,94 @@
+//! What a member gets.
+
+ghost use Rattle.std.specs.Prelude.{◌≡◌, ◌≤◌, true};
+ghost use Rattle.ct_model.specs.Wire.Wire.{Data, Dec};
+ghost use Rattle.ct_relay.specs.Taken.{with_id};
+ghost use Rattle.ct_model.specs.Counted.{NamesSomebody};
+ghost use Rattle.ct_rounds.specs.Meaning.{wire_of, mail_of};
+ghost use Rattle.ct_world.specs.Seats.{CanReceive, HasReceived, HasSameRest, ids_with, is_passed_on, passed_on, received_with};
+
+use crate::seat::Seat;
+use ct_names::{Group, Instance, Message, Round};
+use ct_relay::RelayId;
+use ct_rounds::{Mail, Wire};
+
+impl Seat {
+    /// Whether the member passes the wire on: it gets it for the first time, and didn't send it to all before.
+    pub fn passes_on(&self, group: Group, wire: &Wire) -> bool
+        ensures { result ≡ is_passed_on group self.now.relay (wire_of wire.now) }
+    {
+        match *wire {
+            Wire::Data(message) => self.relay.first(name_of(&message))
+                && message.origin() != self.relay.me(),
+            Wire::Dec {
+                instance,
+                round,
+                ..
+            } => {
+                self.relay.first(RelayId::Dec { instance, round })
+                    && group.coordinator(round) != self.relay.me()
+            }
+            _ => false,
+        }
+    }
+
+    /// The member gets the wire, and answers what it sends.
+    pub fn receive(&mut self, group: Group, wire: Wire) -> Mail
+        requires room { CanReceive self.old (wire_of wire) }
+        requires sender { NamesSomebody (wire_of wire) }
+        ensures received { HasReceived self.old (wire_of wire) self.new }
+        ensures mail { mail_of result ≡ passed_on group self.old.relay (wire_of wire) }
+    {
+        self.instances.note(&wire);
+        let relay = match wire {
+            Wire::Data(message) => self.receive_message(message),
+            Wire::Dec {
+                instance,
+                round,
+                ..
+            } => self.receive_decision(group, instance, round),
+            _ => false,
+        };
+        if relay { Mail::All(wire) } else { Mail::Nobody }
+    }
+
+    // The message is received where it comes for the first time. Whether it is passed on.
+    fn receive_message(&mut self, message: Message) -> bool
+        requires relay { self.old.relay.has_room ≡ true }
+        requires room { 1 ≤ self.old.caster.room }
+        ensures ids { self.new.relay.ids ≡ ids_with self.old.relay.ids (Data message) }
+        ensures received { self.new.caster.received ≡ received_with self.old.relay.ids self.old.caster.received (Data message) }
+        ensures rest { HasSameRest self.old self.new }
+        ensures relayed { result ≡ is_passed_on 0 self.old.relay (Data message) }
+    {
+        let action = self.relay.take(name_of(&message), message.origin());
+        if action.deliver {
+            self.caster.receive(message);
+        }
+        action.relay
+    }
+
+    // The decision is taken. Whether it is passed on.
+    fn receive_decision(&mut self, group: Group, instance: Instance, round: Round) -> bool
+        requires relay { self.old.relay.has_room ≡ true }
+        ensures ids { self.new.relay.ids ≡ with_id self.old.relay.ids (RelayId.Dec instance round) }
+        ensures received { self.new.caster ≡ self.old.caster }
+        ensures rest { HasSameRest self.old self.new }
+        ensures relayed { result ≡ is_passed_on group self.old.relay (Dec instance round 0) }
+    {
+        let action = self
+            .relay
+            .take(RelayId::Dec { instance, round }, group.coordinator(round));
+        action.relay
+    }
+}
+
+// The name of a message.
+fn name_of(message: &Message) -> RelayId
+    ensures { result ≡ RelayId.Data message.now.origin message.now.number }
+{
+    RelayId::Data {
+        origin: message.origin(),
+        number: message.number(),
+    }
+}

@@ -1,0 +1,64 @@
+//! Begin: the member opens its next instance, and proposes what it received and didn't deliver.
+
+ghost use Rattle.std.specs.Prelude.{◌≡◌, Some, None, OnOk, OnErr};
+ghost use Rattle.ct_model.specs.Cause.{cause};
+ghost use Rattle.ct_world.specs.World.{IsDone};
+
+use super::preparing::reserve;
+use crate::world::World;
+use ct_model::Step;
+use ct_names::{Limit, Member, Refusal};
+use std::alloc::AllocError;
+
+impl World {
+    pub(super) fn cause_of_begin(&self, member: Member) -> Option<Refusal>
+        ensures { result ≡ cause self.now.rehearsal (Step.Begin member) }
+    {
+        let seat = match self.actor(member) {
+            Ok(seat) => seat,
+            Err(refusal) => return Some(refusal),
+        };
+        if seat.instances.current().is_some() {
+            return Some(Refusal::Busy);
+        }
+        if !seat.caster.has_undelivered() {
+            return Some(Refusal::Nothing);
+        }
+        if seat.instances.last() >= 1024 {
+            return Some(Refusal::Full(Limit::Instances));
+        }
+        self.overflow(0)
+    }
+
+    // Makes the room for the step, and its proposal, and prepares it.
+    pub(super) fn prepare_begin(&mut self, member: Member) -> Result<(), AllocError>
+        requires allowed { cause self.old.rehearsal (Step.Begin member) ≡ None }
+        requires none { self.old.prepared ≡ None }
+        ensures ok { OnOk result (self.new ≡ record self.old { prepared = Some (Step.Begin member) }) }
+        ensures err { OnErr result (self.new ≡ self.old) }
+    {
+        reserve(&mut self.record, &mut self.network)?;
+        self.book.prepare()?;
+        let seat = &mut self.seats[member as usize - 1];
+        seat.prepare_begin()?;
+        self.proposal = Some(seat.caster.undelivered(self.alloc)?);
+        self.prepared = Some(Step::Begin(member));
+        Ok(())
+    }
+
+    // Does the prepared step.
+    pub(super) fn commit_begin(&mut self, member: Member)
+        requires { self.old.prepared ≡ Some (Step.Begin member) }
+        ensures done { IsDone self.old.rehearsal (Step.Begin member) self.new.rehearsal 0 }
+        ensures none { self.new.prepared ≡ None }
+    {
+        self.prepared = None;
+        let proposal = self.proposal.take().unwrap();
+        let value = self.book.add(proposal).unwrap();
+        let seat = &mut self.seats[member as usize - 1];
+        let next = seat.instances.last() + 1;
+        seat.instances.open(next, value);
+        seat.caster.begin();
+        let _ = self.record.push(Step::Begin(member));
+    }
+}

@@ -1,0 +1,44 @@
+//! Conclude: the round is over, and where a majority acked the decision goes to all.
+
+ghost use Rattle.std.specs.Prelude.{◌≡◌, Some, None};
+ghost use Rattle.ct_model.specs.Cause.{cause};
+ghost use Rattle.ct_world.specs.World.{IsDone};
+
+use crate::world::World;
+use ct_model::Step;
+use ct_names::{Member, Refusal};
+
+impl World {
+    pub(super) fn cause_of_conclude(&self, member: Member) -> Option<Refusal>
+        ensures { result ≡ cause self.now.rehearsal (Step.Conclude member) }
+    {
+        let seat = match self.actor(member) {
+            Ok(seat) => seat,
+            Err(refusal) => return Some(refusal),
+        };
+        if let Some(refusal) = seat.instances.conclude_fault() {
+            return Some(refusal);
+        }
+        if seat.instances.is_acked() {
+            self.overflow(self.seats.len())
+        } else {
+            self.overflow(0)
+        }
+    }
+
+    // Does the prepared step, and says how many envelopes it sent.
+    pub(super) fn commit_conclude(&mut self, member: Member) -> u32
+        requires { self.old.prepared ≡ Some (Step.Conclude member) }
+        ensures done { IsDone self.old.rehearsal (Step.Conclude member) self.new.rehearsal result }
+        ensures none { self.new.prepared ≡ None }
+    {
+        self.prepared = None;
+        let seat = &mut self.seats[member as usize - 1];
+        let sent = match seat.instances.conclude() {
+            Ok(mail) => self.network.post(mail),
+            Err(_) => unreachable!(),
+        };
+        let _ = self.record.push(Step::Conclude(member));
+        sent
+    }
+}

@@ -1,0 +1,146 @@
+//! What is known of a world. No call takes memory.
+
+ghost use Rattle.std.specs.Prelude.{◌≡◌, ◌≤◌, ◌&&◌, length, map, is_some, IfSome, option_and_then, option_map};
+ghost use Rattle.ct_names.specs.Group.{is_member};
+ghost use Rattle.ct_model.specs.Cause.{order};
+ghost use Rattle.ct_model.specs.Received.{decided, received_by};
+ghost use Rattle.ct_model.specs.Rehearsal.{state_of, line_of};
+ghost use Rattle.ct_model.specs.State.{is_crashed, delivered, at_serial};
+ghost use Rattle.ct_model.specs.Wire.{value_of};
+ghost use Rattle.ct_world.specs.Kept.{IsSeatOf};
+ghost use Rattle.ct_world.specs.Letters.{bare, bare_letter};
+ghost use Rattle.ct_world.specs.World.{member_of, of_member, if_member};
+
+use crate::letter::Letter;
+use crate::seat::Seat;
+use crate::world::World;
+use ct_model::Phase;
+use ct_names::{Instance, Member, Message, Round, Serial};
+
+impl World {
+    /// How many envelopes were sent.
+    pub fn sent(&self) -> u32
+        ensures { result ≡ length (state_of self.now.rehearsal).sent }
+    {
+        self.network.sent() as u32
+    }
+
+    /// The envelope of a serial, without its value; None where that was not sent.
+    pub fn letter(&self, serial: Serial) -> Option<Letter>
+        ensures { option_map bare_letter result ≡ option_map bare (at_serial (state_of self.now.rehearsal).sent serial) }
+    {
+        match self.network.envelope(serial) {
+            Some(envelope) => Some(Letter::of(envelope)),
+            None => None,
+        }
+    }
+
+    /// The value that the envelope of a serial carries, in the order of messages; None where that was not sent, or
+    /// carries none.
+    pub fn value(&self, serial: Serial) -> Option<&[Message]>
+        ensures { option_map (λ list. list.now) result ≡ option_and_then (λ e. value_of e.wire) (at_serial (state_of self.now.rehearsal).sent serial) }
+    {
+        let envelope = self.network.envelope(serial)?;
+        let set = self.book.get(envelope.wire.value()?)?;
+        Some(set.items())
+    }
+
+    /// The serials that wait at a member, in the order of its line; None for no member of the group.
+    pub fn waiting(&self, member: Member) -> Option<&[Serial]>
+        ensures { option_map (λ line. line.now) result ≡ of_member self.now.rehearsal member (line_of self.now.rehearsal member) }
+    {
+        self.network.line(member)
+    }
+
+    /// The messages that a member received, in order of first receipt; None for no member of the group.
+    pub fn received(&self, member: Member) -> Option<&[Message]>
+        ensures { option_map (λ list. list.now) result ≡ of_member self.now.rehearsal member (received_by (state_of self.now.rehearsal) member) }
+    {
+        let seat = self.seat(member)?;
+        Some(seat.caster.received())
+    }
+
+    /// The messages that a member delivered, in order; None for no member of the group.
+    pub fn delivered(&self, member: Member) -> Option<&[Message]>
+        ensures { option_map (λ list. list.now) result ≡ of_member self.now.rehearsal member (delivered (member_of self.now.rehearsal member)) }
+    {
+        let seat = self.seat(member)?;
+        Some(seat.caster.delivered())
+    }
+
+    /// The decision that a member got for an instance, begun or not, in the order of messages; None for no member of
+    /// the group, and where it got none.
+    pub fn decided(&self, member: Member, instance: Instance) -> Option<&[Message]>
+        ensures { option_map (λ list. list.now) result ≡ if_member self.now.rehearsal member (decided (member_of self.now.rehearsal member).got instance) }
+    {
+        let seat = self.seat(member)?;
+        let set = self.book.get(seat.instances.decided(instance)?)?;
+        Some(set.items())
+    }
+
+    /// Whether the member is one of the group and has crashed.
+    pub fn crashed(&self, member: Member) -> bool
+        ensures { result ≡ (is_member self.now.rehearsal.setting.members member && is_crashed (state_of self.now.rehearsal) member) }
+    {
+        match self.seat(member) {
+            Some(seat) => seat.crashed,
+            None => false,
+        }
+    }
+
+    /// The last instance that a member began, 0 before the first, and whether it is open; None for no member of the
+    /// group.
+    pub fn instance(&self, member: Member) -> Option<(Instance, bool)>
+        ensures { result ≡ of_member self.now.rehearsal member ((member_of self.now.rehearsal member).last, is_some (member_of self.now.rehearsal member).current) }
+    {
+        let seat = self.seat(member)?;
+        Some((seat.instances.last(), seat.instances.current().is_some()))
+    }
+
+    /// The round of a member's open instance and its phase; None for no member of the group, and where none is open.
+    pub fn round(&self, member: Member) -> Option<(Round, Phase)>
+        ensures { result ≡ if_member self.now.rehearsal member (option_map (λ c. (c.round, c.phase)) (member_of self.now.rehearsal member).current) }
+    {
+        let seat = self.seat(member)?;
+        let part = seat.instances.current()?;
+        Some((part.round(), part.phase()))
+    }
+
+    /// How many batches were posted: as many as the members that delivered most have.
+    pub fn posted(&self) -> u16
+        ensures { result ≡ length (order (state_of self.now.rehearsal)) }
+    {
+        self.foremost().caster.batches() as u16
+    }
+
+    /// The batch of an instance: what its first Deliver delivered; None where there was none.
+    pub fn batch(&self, instance: Instance) -> Option<&[Message]>
+        ensures { option_map (λ list. list.now) result ≡ option_map (λ b. b.messages) (at_serial (order (state_of self.now.rehearsal)) instance) }
+    {
+        let place = (instance as usize).checked_sub(1)?;
+        self.foremost().caster.batch_at(place)
+    }
+
+    // What is kept of a member.
+    pub(super) fn seat(&self, member: Member) -> Option<&Seat>
+        ensures there { is_some result ≡ is_member self.now.rehearsal.setting.members member }
+        ensures seat { IfSome result (λ seat. IsSeatOf self.now.rehearsal member seat.now) }
+    {
+        let place = (member as usize).checked_sub(1)?;
+        self.seats.get(place)
+    }
+
+    // The seat of the least of the members that delivered most batches.
+    fn foremost(&self) -> &Seat
+        ensures value { result.now.caster.batches ≡ map (λ b. b.messages) (order (state_of self.now.rehearsal)) }
+        ensures few { length result.now.caster.batches ≤ 1024 }
+    {
+        let mut best = 0;
+        for i in 1..usize::from(self.group.n()) {
+            if self.seats[best].caster.batches() < self.seats[i].caster.batches() {
+                best = i;
+            }
+        }
+        &self.seats[best]
+    }
+}
