@@ -12,7 +12,7 @@ use Rattle.ct_relay.specs.declared.relay_id.RelayId.TheVariants.{Data, Dec}
 use Rattle.ct_relay.specs.contracts.relay_id.RelayIdPartialEq.TheImpl.{ghosts as equal}
 
 -- an iterator that ran to its end gave the whole list
-pub drained : {X : Type 0} (s : List X) (xs : List (Bor X)) → Drains (TakesFirst (deref {X = X})) s xs → map deref xs ≡ s
+drained : {X : Type 0} (s : List X) (xs : List (Bor X)) → Drains (TakesFirst (deref {X = X})) s xs → map deref xs ≡ s
 drained s [] ran = sym (ran.1.1 ∙ ran.1.2.0)
 drained s (x ∷ xs) ran =
     let step = ran.1.1 in
@@ -33,6 +33,7 @@ same-symm (Data origin number) (Dec k r) = refl
 same-symm (Dec instance round) (Data other n) = refl
 same-symm (Dec instance round) (Dec k r) = ap₂ (λ a b. a && b) (eq-symm instance k) (eq-symm round r)
 
--- distinct ids, taken in from the beginning
-pub ids_copied : (ids : List RelayId) → IsDistinct equal.eq ids → insert_all equal.eq [] ids ≡ ids
-ids_copied ids distinct = insert_all-distinct equal.eq same-symm [] ids distinct
+-- the list is taken in from one that iterates over distinct ids
+pub taken-in : (ids old new s : List RelayId) (xs : List (Bor RelayId)) → IsDistinct equal.eq ids → old ≡ [] → s ≡ ids → Drains (TakesFirst (deref {X = RelayId})) s xs → new ≡ insert_all equal.eq old (map deref xs) → new ≡ ids
+taken-in ids old new s xs distinct empty whole ran inserted =
+    inserted ∙ ap₂ (insert_all equal.eq) empty (drained s xs ran ∙ whole) ∙ insert_all-distinct equal.eq same-symm [] ids distinct

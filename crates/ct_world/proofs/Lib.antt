@@ -7,7 +7,6 @@ pub mod Receipts
 pub mod Turns
 pub mod Rounds
 pub mod Waits
-pub mod SeatRooms
 pub mod Receiving
 pub mod Postponing
 pub mod Rooms

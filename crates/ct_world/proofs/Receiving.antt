@@ -1,5 +1,5 @@
 -- Receive.
-use Rattle.std.proofs.Common.{◌≡◌, ℕ, ◌+◌, ◌-◌, ◌≤◌, Bool, true, false, not, ◌&&◌, List, [], ◌++◌, length, set, filter, Some, refl, ap, sym, ◌∙◌, subst, arith, append-nil, inl, inr}
+use Rattle.std.proofs.Common.{◌≡◌, ℕ, ◌+◌, ◌-◌, ◌<◌, ◌≤◌, Bool, true, false, not, ◌&&◌, List, [], ◌++◌, length, set, filter, Some, refl, ap, sym, ◌∙◌, subst, arith, append-nil, inl, inr}
 use Rattle.std.specs.Prelude.{◌==◌, if◌then◌else◌}
 use Rattle.std.proofs.lemmas.Bool.{cases_eq}
 use Rattle.std.proofs.lemmas.List.{length-set, get_or-set_same, get_or-set_other}
@@ -28,11 +28,10 @@ use Rattle.ct_world.specs.declared.world.World.TheInside.{Inside}
 use Rattle.ct_world.specs.Seats.{Keeps, HasReceived, CanReceive, is_passed_on, passed_on}
 use Rattle.ct_world.specs.Kept.{Fields, IsWorld, IsActor, HasReceiveRoom, values_of, seat_of}
 use Rattle.ct_world.proofs.Insides.{IsPrepared, IsPreparedIn, rehearsal_in, fields_in}
-use Rattle.ct_world.proofs.Members.{apart, place}
+use Rattle.ct_world.proofs.Members.{apart, place, seat-same}
 use Rattle.ct_world.proofs.Posts.{IsPosted, filter_true}
 use Rattle.ct_world.proofs.Receipts.{receive_keeps, passes}
 use Rattle.ct_world.proofs.Refines.{IsStepped, refined}
-use Rattle.ct_world.proofs.SeatRooms.{HasMoreRoom, roomy_seat}
 use Rattle.ct_world.proofs.Waits.{IsAwaited, awaited-is}
 
 -- why it is refused
@@ -149,6 +148,7 @@ module _ (w : Rehearsal) (p k : ℕ) (f : Fields) (x : AnyEnvelope ℕ) (ready :
 
 -- room for it
 
-pub receive_room : (w : Rehearsal) (f new : Fields) (p k : ℕ) (seat : Seat) (x : AnyEnvelope ℕ) → IsWorld w f → is_member w.setting.members p ≡ true → HasMoreRoom f new p seat → Some x ≡ at_serial new.network.sent k → CanReceive seat x.wire → HasReceiveRoom new p k
-receive_room w f new p k seat x world group more is can y e =
-    subst (λ (z : AnyEnvelope ℕ). CanReceive (seat_of new.seats p) z.wire) (some-same x y (is ∙ e)) (subst (λ (s : Seat). CanReceive s x.wire) (sym (roomy_seat w f new p seat world group more)) can)
+pub receive_room : (f new : Fields) (p k : ℕ) (seat : Seat) (x : AnyEnvelope ℕ) → p - 1 < length f.seats → new.seats ≡ set f.seats (p - 1) seat → Some x ≡ at_serial new.network.sent k → CanReceive seat x.wire → HasReceiveRoom new p k
+receive_room f new p k seat x within seats is can y e =
+    let here : seat_of new.seats p ≡ seat = ap (λ list. seat_of list p) seats ∙ seat-same f.seats p seat within in
+    subst (λ (z : AnyEnvelope ℕ). CanReceive (seat_of new.seats p) z.wire) (some-same x y (is ∙ e)) (subst (λ (s : Seat). CanReceive s x.wire) (sym here) can)
