@@ -104,12 +104,12 @@ fn instances_are_limited(rt: HostRuntime) -> Result<(), Fail> {
 
 #[test]
 fn cells_are_limited(rt: HostRuntime) -> Result<(), Fail> {
-    let steps = two_instances();
-    let mut world = World::replay(rt.alloc(), group(&rt, 1), 1, &steps[..23])
-        .ok()
-        .ok_or("steps")?;
-    let refusal = world.apply(&steps[23]);
-    assert_eq!(rt; refusal, Err(Refusal::Full(Limit::Cells)));
+    let mut world = World::new(rt.alloc(), group(&rt, 1), 1)?;
+    for step in two_instances() {
+        if let Err(refusal) = world.apply(&step) {
+            assert_eq!(rt; refusal, Refusal::Full(Limit::Cells));
+        }
+    }
     assert_eq!(rt; world.record().len(), 23);
     assert_eq!(rt; world.posted(), 1);
     Ok(())
