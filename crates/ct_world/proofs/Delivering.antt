@@ -4,13 +4,15 @@ use Rattle.std.specs.Prelude.{option_copied, nat_lt, is_some, is_none}
 use Rattle.std.specs.Option.{option_map_or}
 use Rattle.std.proofs.lemmas.Bool.Decides.{nat_tests}
 use Rattle.std.proofs.lemmas.List.{length-map, map-append}
+use Rattle.std.proofs.lemmas.List.Concat.{flat_map-append}
+use Rattle.std.proofs.lemmas.List.Sums.{fold-append}
 use Rattle.ct_names.specs.declared.refusal.Refusal.TheVariants.{Idle, Undecided, Full}
 use Rattle.ct_names.specs.declared.limit.Limit.TheVariants.{Cells}
 use Rattle.ct_names.specs.Value.{Value, minus, ordered}
 use Rattle.ct_model.specs.declared.step.Step.TheVariants.{Deliver}
 use Rattle.ct_model.specs.AtValue.{Standing}
 use Rattle.ct_model.specs.Received.{decided}
-use Rattle.ct_model.specs.State.{Member, Batch, member, submissions}
+use Rattle.ct_model.specs.State.{Member, Batch, member, submissions, joined}
 use Rattle.ct_model.specs.Next.{deliver, batch_of}
 use Rattle.ct_model.specs.Rehearsal.{Rehearsal, state_of, extended}
 use Rattle.ct_model.specs.Cause.{at, first_fault, or_else, cause, overflow}
@@ -19,13 +21,16 @@ use Rattle.ct_model.proofs.Delivers.{tests-deliver, cause-deliver, IsDeliverStep
 use Rattle.ct_model.proofs.Frame.{submissions-none}
 use Rattle.ct_model.proofs.Limits.{own_tests-is, cause-tested}
 use Rattle.ct_model.proofs.Outcomes.{some-same}
-use Rattle.ct_abcast.specs.Cast.{Cast, batch_of as cast_batch}
+use Rattle.ct_abcast.specs.Cast.{batch_of as cast_batch}
 use Rattle.ct_instances.specs.Kept.{Kept, decision_at}
 use Rattle.ct_instances.specs.Named.{value_at, NamesDecision}
+use Rattle.ct_instances.specs.Keeping.{KeepsInstances}
 use Rattle.ct_instances.proofs.Keeping.{keeps-closed}
 use Rattle.ct_instances.proofs.Named.{named_some, named_is_some}
+use Rattle.ct_table.specs.Table.{zeros, applied, applied_all, table}
+use Rattle.ct_relay.specs.Taken.{Taken, is_first}
 use Rattle.ct_world.specs.declared.seat.Seat.{Seat}
-use Rattle.ct_world.specs.Seats.{Keeps, IsSameSeat}
+use Rattle.ct_world.specs.Seats.{Keeps, IsSameSeat, HasDelivered}
 use Rattle.ct_world.specs.Kept.{Fields, IsWorld, IsActor, HasDeliverRoom, seat_of, values_of}
 use Rattle.ct_world.proofs.Insides.{IsPrepared}
 use Rattle.ct_world.proofs.Members.{seat-same}
@@ -91,30 +96,37 @@ deliver-leaves p = record { untouched = λ q k. refl; unmoved = λ q. refl }
 none_more : (k p : ℕ) → k ≡ k + submissions [] p
 none_more k p = let e = submissions-none p in omega arith
 
--- what the caster has after it delivered the value
-pub record HasDelivered (old : Cast) (v : Value) (new : Cast) : Type 0 where
-  pub received : new.received ≡ old.received
-  pub batches : new.batches ≡ old.batches ++ cast_batch old v ∷ []
-  pub begun : new.instance ≡ old.instance
+-- the table that one batch more makes
+table-more : (batches : List Batch) (b : Batch) → table (joined (batches ++ b ∷ [])) ≡ applied_all (table (joined batches)) b.messages
+table-more batches b =
+    ap table (flat_map-append (λ (x : Batch). x.messages) batches (b ∷ []) ∙ ap (λ list. joined batches ++ list) (append-nil b.messages))
+    ∙ fold-append (λ so_far m. applied so_far m.command) zeros (joined batches) b.messages
 
--- the seat after its open instance was closed
-abbrev pub closed : Seat → Cast → Seat
-closed seat cast = record seat { instances = record seat.instances { part = None }; caster = cast }
-
-closed_keeps : (n : ℕ) (values : List Value) (p : ℕ) (m : Member) (seat : Seat) (cast : Cast) (v : Value) → Keeps n values p m seat → HasDelivered seat.caster v cast → Keeps n values p (deliver m v).member (closed seat cast)
-closed_keeps n values p m seat cast v k d = record {
-  crashed = k.crashed;
-  me = k.me;
-  taken = k.taken;
+delivered_keeps : (n : ℕ) (values : List Value) (p : ℕ) (m : Member) (seat new : Seat) (v : Value) → Keeps n values p m seat → HasDelivered seat v new → Keeps n values p (deliver m v).member new
+delivered_keeps n values p m seat new v k d = record {
+  crashed = d.crashed ∙ k.crashed;
+  me = ap (λ (r : Taken). r.me) d.relay ∙ k.me;
+  taken = λ name. ap (λ (r : Taken). is_first r.ids name) d.relay ∙ k.taken name;
   received = d.received ∙ k.received;
   batches =
       d.batches
-      ∙ ap (λ batch. seat.caster.batches ++ batch ∷ []) (batch-same n values p m seat v k)
+      ∙ ap (λ batch. seat.caster.batches ++ batch ∷ []) same
       ∙ ap (λ list. list ++ batch_of m v ∷ []) k.batches
-      ∙ sym (map-append (λ (b : Batch). b.messages) m.batches (record { instance = m.last; messages = batch_of m v } ∷ []));
+      ∙ sym (map-append (λ (b : Batch). b.messages) m.batches (added ∷ []));
+  table =
+      d.table
+      ∙ ap (applied_all seat.table) same
+      ∙ ap (λ values. applied_all values (batch_of m v)) k.table
+      ∙ sym (table-more m.batches added);
   begun = d.begun ∙ k.begun;
-  instances = keeps-closed n values p m seat.instances (m.batches ++ record { instance = m.last; messages = batch_of m v } ∷ []) k.instances;
+  instances = subst (λ (i : Kept). KeepsInstances n values p (deliver m v).member i) (sym d.instances) (keeps-closed n values p m seat.instances (m.batches ++ added ∷ []) k.instances);
 }
+  where
+    added : Batch
+    added = record { instance = m.last; messages = batch_of m v }
+
+    same : cast_batch seat.caster v ≡ batch_of m v
+    same = batch-same n values p m seat v k
 
 -- what is due at the seat: an instance is open, and the number of its decision has this value
 pub record IsDueAt (w : Rehearsal) (p : ℕ) (values : List Value) (seat : Seat) : Type 0 where
@@ -132,18 +144,18 @@ due w p values seat step k =
     }
 
 -- a Deliver delivers the decision and closes the instance
-pub deliver_steps : (w : Rehearsal) (p : ℕ) (f new : Fields) (id : ℕ) (v : Value) (cast : Cast) → IsPrepared w (Deliver p) f → decision_at (seat_of f.seats p).instances (seat_of f.seats p).instances.last ≡ Some id → value_at f.book.values id ≡ Some v → HasDelivered (seat_of f.seats p).caster v cast → new.seats ≡ set f.seats (p - 1) (closed (seat_of f.seats p) cast) → new.network.sent ≡ f.network.sent → new.network.lines ≡ f.network.lines → new.book.values ≡ f.book.values → IsWorld (extended w (Deliver p)) new
-deliver_steps w p f new id v cast ready number value delivered seats sent lines values =
+pub deliver_steps : (w : Rehearsal) (p : ℕ) (f new : Fields) (id : ℕ) (v : Value) (seat : Seat) → IsPrepared w (Deliver p) f → decision_at (seat_of f.seats p).instances (seat_of f.seats p).instances.last ≡ Some id → value_at f.book.values id ≡ Some v → HasDelivered (seat_of f.seats p) v seat → new.seats ≡ set f.seats (p - 1) seat → new.network.sent ≡ f.network.sent → new.network.lines ≡ f.network.lines → new.book.values ≡ f.book.values → IsWorld (extended w (Deliver p)) new
+deliver_steps w p f new id v seat ready number value delivered seats sent lines values =
     let keeps = ready.world.seat p ready.in_group in
     let step = deliver_taken w p ready.world.lawful ready.ready.allowed in
     let found = (due w p f.book.values (seat_of f.seats p) step keeps).value id number in
     let same : v ≡ step.value = some-same v step.value (sym value ∙ found.2 ∙ sym found.1 ∙ step.decision) in
     refined w (Deliver p) (deliver (member (state_of w) p) step.value) f new ready.world step.taken
-    (stepped-quiet w (Deliver p) (deliver (member (state_of w) p) step.value) f new (closed (seat_of f.seats p) cast) ready.world (deliver-leaves p) (record {
+    (stepped-quiet w (Deliver p) (deliver (member (state_of w) p) step.value) f new seat ready.world (deliver-leaves p) (record {
       values = values ∙ sym (append-nil f.book.values);
       seats = seats;
-      keeps = rw values (closed_keeps w.setting.members f.book.values p (member (state_of w) p) (seat_of f.seats p) cast step.value keeps (subst (λ x. HasDelivered (seat_of f.seats p).caster x cast) same delivered));
-      submitted = ready.world.submitted p ready.in_group ∙ none_more (submissions (state_of w).submitted p) p;
+      keeps = rw values (delivered_keeps w.setting.members f.book.values p (member (state_of w) p) (seat_of f.seats p) seat step.value keeps (subst (λ x. HasDelivered (seat_of f.seats p) x seat) same delivered));
+      submitted = delivered.submitted ∙ ready.world.submitted p ready.in_group ∙ none_more (submissions (state_of w).submitted p) p;
     }) refl sent lines)
 
 -- the decision of the last instance at a seat, as it is read there

@@ -20,3 +20,4 @@ pub mod Foremost
 pub mod SeatLists
 pub mod Shown
 pub mod Starts
+pub mod Driving

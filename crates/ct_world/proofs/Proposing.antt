@@ -117,6 +117,7 @@ begun_keeps n values p m seat k = record {
   taken = k.taken;
   received = k.received;
   batches = k.batches;
+  table = k.table;
   begun = ap (λ i. i + 1) k.begun;
   instances = keeps-opened n values p m seat.instances (undelivered m) k.instances;
 }

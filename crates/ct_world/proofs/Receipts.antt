@@ -231,6 +231,7 @@ module _ (n : ℕ) (values : List Value) (p : ℕ) (m : Member) (seat : Seat) (k
         ∙ sym (ap not (list_any-append (has_name name) m.got (w ∷ [])));
     received = h.received ∙ received_push x w e known;
     batches = h.batches ∙ k.batches;
+    table = h.table ∙ k.table;
     begun = h.begun ∙ k.begun;
     instances = keeps-noted n values p m x w seat.instances new.instances k.instances e somebody h.ballots h.decisions h.instances;
   }

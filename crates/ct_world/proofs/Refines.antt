@@ -8,7 +8,7 @@ use Rattle.ct_names.specs.Value.{Value}
 use Rattle.ct_model.specs.declared.step.Step.{Step}
 use Rattle.ct_model.specs.Actor.{actor}
 use Rattle.ct_model.specs.Wire.{envelopes, Envelope as AnyEnvelope}
-use Rattle.ct_model.specs.State.{State, Member, Batch, Proposal, member, submissions}
+use Rattle.ct_model.specs.State.{joined, State, Member, Batch, Proposal, member, submissions}
 use Rattle.ct_model.specs.Received.{received}
 use Rattle.ct_relay.specs.Taken.{Taken, is_first}
 use Rattle.ct_abcast.specs.Cast.{Cast}
@@ -25,6 +25,7 @@ use Rattle.ct_network.specs.Network.{line_at}
 use Rattle.ct_instances.specs.Named.{NamesEnvelopes}
 use Rattle.ct_instances.proofs.Named.{grows_envelopes, named_append, named_length, named_serials}
 use Rattle.ct_instances.proofs.Keeping.{keeps-grown}
+use Rattle.ct_table.specs.Table.{table}
 use Rattle.ct_world.specs.declared.seat.Seat.{Seat}
 use Rattle.ct_world.specs.Seats.{Keeps, was_got}
 use Rattle.ct_world.specs.Kept.{Fields, IsWorld, values_of, seat_of}
@@ -52,18 +53,20 @@ seat-grown n values more p m seat k = record {
   taken = k.taken;
   received = k.received;
   batches = k.batches;
+  table = k.table;
   begun = k.begun;
   instances = keeps-grown n values more p m seat.instances k.instances;
 }
 
 -- the seat of a member that got, delivered and began nothing meanwhile
-pub seat-kept : (n : ℕ) (values : List Value) (p : ℕ) (m m' : Member) (seat seat' : Seat) → Keeps n values p m seat → seat'.crashed ≡ m'.crashed → seat'.relay ≡ seat.relay → seat'.caster ≡ seat.caster → m'.got ≡ m.got → m'.batches ≡ m.batches → m'.last ≡ m.last → KeepsInstances n values p m' seat'.instances → Keeps n values p m' seat'
-seat-kept n values p m m' seat seat' k crashed relay caster got batches last instances = record {
+pub seat-kept : (n : ℕ) (values : List Value) (p : ℕ) (m m' : Member) (seat seat' : Seat) → Keeps n values p m seat → seat'.crashed ≡ m'.crashed → seat'.relay ≡ seat.relay → seat'.caster ≡ seat.caster → seat'.table ≡ seat.table → m'.got ≡ m.got → m'.batches ≡ m.batches → m'.last ≡ m.last → KeepsInstances n values p m' seat'.instances → Keeps n values p m' seat'
+seat-kept n values p m m' seat seat' k crashed relay caster same_table got batches last instances = record {
   crashed = crashed;
   me = ap (λ (r : Taken). r.me) relay ∙ k.me;
   taken = λ name. ap (λ (r : Taken). is_first r.ids name) relay ∙ k.taken name ∙ ap (λ list. not (was_got list name)) (sym got);
   received = ap (λ (c : Cast). c.received) caster ∙ k.received ∙ ap received (sym got);
   batches = ap (λ (c : Cast). c.batches) caster ∙ k.batches ∙ ap (map (λ (b : Batch). b.messages)) (sym batches);
+  table = same_table ∙ k.table ∙ ap (λ (list : List Batch). table (joined list)) (sym batches);
   begun = ap (λ (c : Cast). c.instance) caster ∙ k.begun ∙ sym last;
   instances = instances;
 }

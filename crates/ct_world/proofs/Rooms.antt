@@ -25,6 +25,7 @@ same_seat-refl seat = record {
   ids = refl;
   received = refl;
   batches = refl;
+  table = refl;
   begun = refl;
   ballots = λ k r. refl;
   decisions = λ k. refl;
@@ -39,6 +40,7 @@ keeps-roomier n values p m old new s k = record {
   taken = λ name. ap (λ ids. is_first ids name) s.ids ∙ k.taken name;
   received = s.received ∙ k.received;
   batches = s.batches ∙ k.batches;
+  table = s.table ∙ k.table;
   begun = s.begun ∙ k.begun;
   instances = keeps-prepared n values p m old.instances new.instances k.instances s.ballots s.decisions s.instances;
 }

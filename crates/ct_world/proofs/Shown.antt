@@ -9,6 +9,7 @@ use Rattle.ct_model.specs.State.{Batch, at_serial, delivered}
 use Rattle.ct_model.specs.Received.{received_by}
 use Rattle.ct_model.specs.Rehearsal.{Rehearsal, state_of}
 use Rattle.ct_abcast.specs.Batches.{joined}
+use Rattle.ct_table.specs.Table.{table}
 use Rattle.ct_instances.specs.Named.{NamesEnvelopes, NamesEnvelope, NamesDecision}
 use Rattle.ct_instances.proofs.Named.{bare, named_bare, named_at, named_value, named_wire, named_some, named_none}
 use Rattle.ct_world.specs.declared.seat.Seat.{Seat}
@@ -66,6 +67,9 @@ module _ (w : Rehearsal) (p : ℕ) (seat : Seat) (sits : IsSeatOf w p seat) wher
       go : (bs : List Batch) → joined (map (λ b. b.messages) bs) ≡ (flat_map (λ b. b.messages) bs)
       go [] = refl
       go (b ∷ bs) = ap (λ ms. b.messages ++ ms) (go bs)
+
+  pub table_is : seat.table ≡ table (delivered (member_of w p))
+  table_is = sits.keeps.table
 
 -- what stands at a serial
 pub serial_at : {A B : Type 0} (f : A → B) (xs : List A) (k i : ℕ) (got : Option B) (list : List B) → 1 ≤ k → i ≡ k - 1 → list ≡ map f xs → got ≡ slice_get list i → got ≡ option_map f (at_serial xs k)

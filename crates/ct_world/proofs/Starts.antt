@@ -35,6 +35,7 @@ new_keeps n values p seat h = record {
   taken = λ name. ap (λ (ids : List RelayId). is_first ids name) h.ids;
   received = h.received ∙ sym received-none;
   batches = h.batches;
+  table = h.table;
   begun = h.begun;
   instances = subst (λ (k : Kept). KeepsInstances n values p new_member k) (sym h.instances) (keeps-new n values p);
 }

@@ -29,7 +29,7 @@ crash_steps w p f new ready seats sent lines values =
     (rw (crash_outcome-is w p) (stepped-quiet w (Crash p) (crash (member (state_of w) p)) f new (record (seat_of f.seats p) { crashed = true }) ready.world (crash-leaves p) (record {
       values = values ∙ sym (append-nil f.book.values);
       seats = seats;
-      keeps = rw values (seat-kept w.setting.members f.book.values p m (record m { crashed = true }) (seat_of f.seats p) (record (seat_of f.seats p) { crashed = true }) keeps refl refl refl refl refl refl
+      keeps = rw values (seat-kept w.setting.members f.book.values p m (record m { crashed = true }) (seat_of f.seats p) (record (seat_of f.seats p) { crashed = true }) keeps refl refl refl refl refl refl refl
           (keeps-same w.setting.members f.book.values p m (record m { crashed = true }) (seat_of f.seats p).instances refl refl refl keeps.instances));
       submitted = ready.world.submitted p ready.in_group ∙ none_more (submissions (state_of w).submitted p) p;
     }) refl sent lines))

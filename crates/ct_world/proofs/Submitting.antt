@@ -79,6 +79,6 @@ submit_steps w p c f new m ready made seats values posted =
     (rw (submit_outcome-is w p c) (stepped-sending w (Submit p c) (submit (state_of w) p (member (state_of w) p) c) f new (record (seat_of f.seats p) { submitted = (seat_of f.seats p).submitted + 1 }) (All (Data m)) ready.world (submit-leaves p c) (record {
       values = values ∙ sym (append-nil f.book.values);
       seats = seats;
-      keeps = rw values (seat-kept w.setting.members f.book.values p who who (seat_of f.seats p) (record (seat_of f.seats p) { submitted = (seat_of f.seats p).submitted + 1 }) keeps keeps.crashed refl refl refl refl refl keeps.instances);
+      keeps = rw values (seat-kept w.setting.members f.book.values p who who (seat_of f.seats p) (record (seat_of f.seats p) { submitted = (seat_of f.seats p).submitted + 1 }) keeps keeps.crashed refl refl refl refl refl refl keeps.instances);
       submitted = one_more w p c (seat_of f.seats p).submitted (ready.world.submitted p ready.in_group);
     }) named posted))

@@ -104,7 +104,7 @@ module _ (w : Rehearsal) (step : Step) (f : Fields) (kept : Kept) (mail : AnyMai
       let m' : Member = record (member (state_of w) (actor step)) { current = Some t.turn.after } in
       let keeps : Keeps w.setting.members f.book.values (actor step) m' seat =
       seat-kept w.setting.members f.book.values (actor step) (member (state_of w) (actor step)) m' (seat_of f.seats (actor step)) seat (ready.world.seat (actor step) ready.in_group)
-      (ready.world.seat (actor step) ready.in_group).crashed refl refl refl refl refl t.keeps in
+      (ready.world.seat (actor step) ready.in_group).crashed refl refl refl refl refl refl t.keeps in
       let into : IsTurnedInto w step (turned (member (state_of w) (actor step)) t.turn) f new seat = record {
         values = values ∙ sym (append-nil f.book.values);
         seats = seats;

@@ -14,6 +14,7 @@ use Rattle.ct_model.specs.Lawful.{IsLawful, IsPresent}
 use Rattle.ct_model.specs.Knowledge.{KnowsMessages}
 use Rattle.ct_network.specs.Network.{NetworkView, line_at}
 use Rattle.ct_abcast.specs.Cast.{undelivered}
+use Rattle.ct_table.specs.Table.{zeros}
 use Rattle.ct_instances.specs.Kept.{decision_at, has_room_open}
 use Rattle.ct_instances.specs.Named.{value_at, NamesEnvelopes}
 use Rattle.ct_world.specs.declared.seat.Seat.{Seat}
@@ -39,6 +40,7 @@ no_seat = record {
   relay = record { me = 0; ids = []; has_room = false };
   instances = record { members = 0; me = 0; last = 0; part = None; entries = [] };
   caster = record { received = []; batches = []; instance = 0; room = 0; fits_batch = false };
+  table = zeros;
 }
 
 -- the seat of member p

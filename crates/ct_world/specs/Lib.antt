@@ -3,3 +3,4 @@ pub mod Letters
 pub mod Seats
 pub mod Kept
 pub mod Replay
+pub mod Driving

@@ -8,12 +8,14 @@ use Rattle.ct_names.specs.Value.{Value}
 use Rattle.ct_model.specs.Wire.{Wire as AnyWire, Mail as AnyMail}
 use Rattle.ct_model.specs.Wire.Wire.{Data, Dec}
 use Rattle.ct_model.specs.Wire.Mail.{Nobody, All}
-use Rattle.ct_model.specs.State.{Member}
+use Rattle.ct_model.specs.State.{Member, delivered}
 use Rattle.ct_model.specs.Received.{received, is_decision, decision_of}
 use Rattle.ct_model.specs.Counted.{count_in}
 use Rattle.ct_relay.specs.Taken.{Taken, is_first, with_id}
 use Rattle.ct_relay.specs.declared.relay_id.RelayId.{RelayId}
 use Rattle.ct_relay.specs.declared.relay_id.RelayId.TheVariants as id
+use Rattle.ct_abcast.specs.Cast.{batch_of}
+use Rattle.ct_table.specs.Table.{zeros, applied_all, table}
 use Rattle.ct_instances.specs.Kept.{ballots_of, decision_at, has_room}
 use Rattle.ct_instances.specs.Keeping.{KeepsInstances}
 use Rattle.ct_world.specs.declared.seat.Seat.{Seat}
@@ -35,6 +37,7 @@ pub record Keeps (n : ℕ) (values : List Value) (p : ℕ) (m : Member) (seat : 
   pub taken : (name : RelayId) → is_first seat.relay.ids name ≡ not (was_got m.got name)
   pub received : seat.caster.received ≡ received m.got
   pub batches : seat.caster.batches ≡ map (λ b. b.messages) m.batches
+  pub table : seat.table ≡ table (delivered m)
   pub begun : seat.caster.instance ≡ m.last
   pub instances : KeepsInstances n values p m seat.instances
 
@@ -46,6 +49,7 @@ pub record IsNewSeat (n p : ℕ) (seat : Seat) : Type 0 where
   pub ids : seat.relay.ids ≡ []
   pub received : seat.caster.received ≡ []
   pub batches : seat.caster.batches ≡ []
+  pub table : seat.table ≡ zeros
   pub begun : seat.caster.instance ≡ 0
   pub instances : seat.instances ≡ record { members = n; me = p; last = 0; part = None; entries = [] }
 
@@ -62,6 +66,7 @@ pub record IsSameSeat (old new : Seat) : Type 0 where
   pub ids : new.relay.ids ≡ old.relay.ids
   pub received : new.caster.received ≡ old.caster.received
   pub batches : new.caster.batches ≡ old.caster.batches
+  pub table : new.table ≡ old.table
   pub begun : new.caster.instance ≡ old.caster.instance
   pub ballots : (k r : ℕ) → ballots_of new.instances k r ≡ ballots_of old.instances k r
   pub decisions : (k : ℕ) → decision_at new.instances k ≡ decision_at old.instances k
@@ -106,6 +111,7 @@ pub record HasReceived (old : Seat) (x : AnyWire ℕ) (new : Seat) : Type 0 wher
   pub ids : new.relay.ids ≡ ids_with old.relay.ids x
   pub received : new.caster.received ≡ received_with old.relay.ids old.caster.received x
   pub batches : new.caster.batches ≡ old.caster.batches
+  pub table : new.table ≡ old.table
   pub begun : new.caster.instance ≡ old.caster.instance
   pub ballots : (k r : ℕ) → ballots_of new.instances k r ≡ count_in (ballots_of old.instances k r) k r x
   pub decisions : (k : ℕ) → decision_at new.instances k ≡ option_or (decision_at old.instances k) (decision_of k x)
@@ -117,5 +123,17 @@ pub record HasSameRest (old new : Seat) : Type 0 where
   pub crashed : new.crashed ≡ old.crashed
   pub me : new.relay.me ≡ old.relay.me
   pub batches : new.caster.batches ≡ old.caster.batches
+  pub table : new.table ≡ old.table
   pub begun : new.caster.instance ≡ old.caster.instance
   pub instances : new.instances ≡ old.instances
+
+-- the seat before and after it delivered the value for its open instance, which is closed
+pub record HasDelivered (old : Seat) (v : Value) (new : Seat) : Type 0 where
+  pub submitted : new.submitted ≡ old.submitted
+  pub crashed : new.crashed ≡ old.crashed
+  pub relay : new.relay ≡ old.relay
+  pub received : new.caster.received ≡ old.caster.received
+  pub batches : new.caster.batches ≡ old.caster.batches ++ batch_of old.caster v ∷ []
+  pub table : new.table ≡ applied_all old.table (batch_of old.caster v)
+  pub begun : new.caster.instance ≡ old.caster.instance
+  pub instances : new.instances ≡ record old.instances { part = None }

@@ -4,6 +4,7 @@
 
 mod effect;
 mod letter;
+mod outcome;
 mod replay_fault;
 mod seat;
 mod seats;
@@ -11,6 +12,7 @@ mod world;
 
 pub use effect::Effect;
 pub use letter::{Letter, Wire};
+pub use outcome::Outcome;
 pub use replay_fault::ReplayFault;
 pub use world::World;
 

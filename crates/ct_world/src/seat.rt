@@ -7,8 +7,10 @@ use ct_abcast::Caster;
 use ct_instances::Instances;
 use ct_names::{Group, Member};
 use ct_relay::Relay;
+use ct_table::Table;
 use std::alloc::{AllocError, Global};
 
+mod delivering;
 mod preparing;
 mod receiving;
 
@@ -25,6 +27,8 @@ pub struct Seat {
     pub instances: Instances,
     /// What it received and delivered.
     pub caster: Caster,
+    /// The registers after what it delivered.
+    pub table: Table,
 }
 
 impl Seat {
@@ -38,6 +42,7 @@ impl Seat {
             relay: Relay::new(alloc, me),
             instances: Instances::new(alloc, group, me),
             caster: Caster::new(alloc),
+            table: Table::new(),
         }
     }
 
@@ -51,6 +56,7 @@ impl Seat {
             relay: self.relay.copy(alloc)?,
             instances: self.instances.copy(alloc)?,
             caster: self.caster.copy(alloc)?,
+            table: self.table,
         })
     }
 }

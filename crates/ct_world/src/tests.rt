@@ -4,11 +4,13 @@ use ct_names::{Command, Group, Message};
 use std::alloc::Global;
 use std::process::Abort;
 
+mod driving;
 mod instances;
 mod limits;
 mod network;
 mod refusals;
 mod rounds;
+mod tables;
 
 const SEVEN: Command = Command::Set(0, 7);
 

@@ -23,6 +23,8 @@ mod crash;
 mod deliver;
 mod enabling;
 mod enter;
+mod next_local;
+mod outcome;
 mod postpone;
 mod preparing;
 mod reading;

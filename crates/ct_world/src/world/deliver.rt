@@ -55,8 +55,7 @@ impl World {
         self.prepared = None;
         let seat = &mut self.seats[member as usize - 1];
         let value = seat.instances.decided(seat.instances.last()).unwrap();
-        seat.caster.deliver(self.book.get(value).unwrap());
-        seat.instances.close();
+        seat.deliver(self.book.get(value).unwrap());
         let _ = self.record.push(Step::Deliver(member));
     }
 }

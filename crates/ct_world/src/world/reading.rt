@@ -7,6 +7,7 @@ ghost use Rattle.ct_model.specs.Received.{decided, received_by};
 ghost use Rattle.ct_model.specs.Rehearsal.{state_of, line_of};
 ghost use Rattle.ct_model.specs.State.{is_crashed, delivered, at_serial};
 ghost use Rattle.ct_model.specs.Wire.{value_of};
+ghost use Rattle.ct_table.specs.Table.{table};
 ghost use Rattle.ct_world.specs.Kept.{IsSeatOf};
 ghost use Rattle.ct_world.specs.Letters.{bare, bare_letter};
 ghost use Rattle.ct_world.specs.World.{member_of, of_member, if_member};
@@ -16,6 +17,7 @@ use crate::seat::Seat;
 use crate::world::World;
 use ct_model::Phase;
 use ct_names::{Instance, Member, Message, Round, Serial};
+use ct_table::Table;
 
 impl World {
     /// How many envelopes were sent.
@@ -66,6 +68,14 @@ impl World {
     {
         let seat = self.seat(member)?;
         Some(seat.caster.delivered())
+    }
+
+    /// The registers after the commands of what a member delivered, in order; None for no member of the group.
+    pub fn table(&self, member: Member) -> Option<&Table>
+        ensures { option_map (λ table. table.now) result ≡ of_member self.now.rehearsal member (table (delivered (member_of self.now.rehearsal member))) }
+    {
+        let seat = self.seat(member)?;
+        Some(&seat.table)
     }
 
     /// The decision that a member got for an instance, begun or not, in the order of messages; None for no member of

@@ -1,16 +1,17 @@
-use Rattle.std.proofs.Common.{◌≡◌, ◌-◌, ◌≤◌, ◌++◌, ◌∷◌, [], true, set, refl, ap, sym, ◌∙◌, subst, arith, length, Some}
+use Rattle.std.proofs.Common.{◌≡◌, ◌≤◌, ◌++◌, ◌∷◌, [], true, refl, ap, sym, ◌∙◌, subst, arith, length, Some}
 use Rattle.std.specs.Prelude.{is_ok, is_some, option_copied}
 use Rattle.ct_model.specs.declared.step.Step.TheVariants.{Deliver}
 use Rattle.ct_model.specs.State.{member}
 use Rattle.ct_model.specs.Next.{deliver}
 use Rattle.ct_model.specs.Rehearsal.{state_of}
 use Rattle.ct_model.proofs.Delivers.{deliver_taken}
-use Rattle.ct_instances.specs.Kept.{Kept, decision_at}
+use Rattle.ct_instances.specs.Kept.{decision_at}
 use Rattle.ct_instances.specs.Named.{value_at}
 use Rattle.ct_world.specs.declared.seat.Seat.{Seat}
 use Rattle.ct_world.specs.Kept.{seat_of}
 use Rattle.ct_world.proofs.Insides.{rehearsal_in, IsPreparedIn, prepared_in, within_in, seat_in, done_in, kept_in, fields_in}
-use Rattle.ct_world.proofs.Delivering.{HasDelivered, closed, number_at, prepared_due, value_there, deliver_steps}
+use Rattle.ct_world.specs.Seats.{HasDelivered}
+use Rattle.ct_world.proofs.Delivering.{number_at, prepared_due, value_there, deliver_steps}
 use Rattle.ct_world.proofs.world.World.commit_deliver.Goals as goal
 use Rattle.ct_world.proofs.world.World.commit_deliver.Goals.{After-push}
 
@@ -49,8 +50,8 @@ deliver-requires-clause-fits c =
     let here = seat_in c.self.inside (Deliver c.args.member) c.index_mut-seat.result.now p c.index_mut-seat.ensures.value in
     ap (λ (s : Seat). s.caster.fits_batch) here ∙ p.ready.for_itself.batch
 
-pub close-requires : goal.close-requires
-close-requires c =
+pub deliver-requires-clause-open : goal.deliver-requires-clause-open
+deliver-requires-clause-open c =
     let p = (prepared_in c.self.inside c.args.self.now (Deliver c.args.member) c.self.view_is c.self.invariant c.requires) in
     let here = seat_in c.self.inside (Deliver c.args.member) c.index_mut-seat.result.now p c.index_mut-seat.ensures.value in
     ap (λ (s : Seat). is_some s.instances.part) here ∙ (prepared_due (rehearsal_in c.self.inside) c.args.member (fields_in c.self.inside) p).is_open
@@ -69,12 +70,8 @@ number c = sym (number_at (seat_of c.self.inside.seats.items c.args.member) c.in
 value : (c : After-push) → value_at c.self.inside.book.values c.unwrap-value.result ≡ Some c.unwrap.result.now
 value c = sym c.get.ensures ∙ ap option_copied c.unwrap.ensures
 
-delivered : (c : After-push) → HasDelivered (seat_of c.self.inside.seats.items c.args.member).caster c.unwrap.result.now c.deliver.new.self
-delivered c = subst (λ (s : Seat). HasDelivered s.caster c.unwrap.result.now c.deliver.new.self) (here c) (record {
-  received = c.deliver.ensures.received;
-  batches = c.deliver.ensures.batches;
-  begun = c.deliver.ensures.instance;
-})
+delivered : (c : After-push) → HasDelivered (seat_of c.self.inside.seats.items c.args.member) c.unwrap.result.now c.deliver.new.self
+delivered c = subst (λ (s : Seat). HasDelivered s c.unwrap.result.now c.deliver.new.self) (here c) c.deliver.ensures
 
 pushed : (c : After-push) → c.push.new.self.items ≡ c.self.inside.record.items ++ Deliver c.args.member ∷ []
 pushed c =
@@ -83,12 +80,8 @@ pushed c =
 
 pub invariant_of-self : goal.invariant_of-self
 invariant_of-self c =
-    let s = c.index_mut-seat.result.now in
-    let seats =
-    ap (λ (i : Kept). set c.self.inside.seats.items (c.args.member - 1) (record s { instances = i; caster = c.deliver.new.self })) c.close.ensures
-    ∙ ap (λ (x : Seat). set c.self.inside.seats.items (c.args.member - 1) (closed x c.deliver.new.self)) (here c) in
     kept_in c.self.inside (Deliver c.args.member) c.push.new.self.items _ (pushed c)
-    (deliver_steps (rehearsal_in c.self.inside) c.args.member (fields_in c.self.inside) _ c.unwrap-value.result c.unwrap.result.now c.deliver.new.self (before c) (number c) (value c) (delivered c) seats refl refl refl)
+    (deliver_steps (rehearsal_in c.self.inside) c.args.member (fields_in c.self.inside) _ c.unwrap-value.result c.unwrap.result.now c.deliver.new.self (before c) (number c) (value c) (delivered c) refl refl refl refl)
 
 pub returns-clause-done : goal.returns-clause-done
 returns-clause-done c =

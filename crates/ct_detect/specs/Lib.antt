@@ -1,0 +1,3 @@
+pub mod EveryNth
+pub mod Listed
+pub mod Seeded
