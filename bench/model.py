@@ -2,15 +2,13 @@
 """A small reference of `ct replay` for all steps: reliable broadcast, consensus and
 atomic broadcast.
 
-Reads a record on standard input and prints the short report, or with --full the full
-one, or on standard error `step <at>: <Name>` for the first refused step, with status 1.
-It is written from the rules alone, to be compared with the proved program. The record
-must be well formed: what is wrong with a record's text is the program's to say, and
-here it is status 2.
+Reads a record on standard input and prints its report, or on standard error
+`step <at>: <Name>` for the first refused step, with status 1. It is written from the
+rules alone, to be compared with the proved program. The record must be well formed:
+what is wrong with a record's text is the program's to say, and here it is status 2.
 
-    python3 model.py [--full] < record.json
+    python3 model.py < record.json
 """
-import argparse
 import json
 import sys
 
@@ -277,25 +275,21 @@ def names(messages, joint):
     return joint.join(f"{origin}.{number}" for origin, number in messages)
 
 
-def report(world, full):
+def report(world):
     yield f"group {world.n} majority {world.majority} cells {world.cells}"
-    yield f"steps {world.steps} sent {world.sent()}" + (f" posted {world.posted()}" if full else "")
+    yield f"steps {world.steps} sent {world.sent()} posted {world.posted()}"
     for p, member in world.members.items():
-        instance = f" instance {member.last} {'open' if member.open else 'idle'}" if full else ""
-        yield f"member {p} {'up' if member.up else 'crashed'}{instance}"
+        state = "up" if member.up else "crashed"
+        yield f"member {p} {state} instance {member.last} {'open' if member.open else 'idle'}"
         yield f"received {names(member.received, ' ') or '-'}"
-        if full:
-            decided = (f"{k}:{names(value, ',')}" for k, value in sorted(member.decisions.items()))
-            yield f"decided {' '.join(decided) or '-'}"
-            yield f"delivered {names(member.delivered, ' ') or '-'}"
-            registers = enumerate(table(world.commands[message] for message in member.delivered))
-            yield f"table {' '.join(f'{place}={value}' for place, value in registers if value) or '-'}"
+        decided = (f"{k}:{names(value, ',')}" for k, value in sorted(member.decisions.items()))
+        yield f"decided {' '.join(decided) or '-'}"
+        yield f"delivered {names(member.delivered, ' ') or '-'}"
+        registers = enumerate(table(world.commands[message] for message in member.delivered))
+        yield f"table {' '.join(f'{place}={value}' for place, value in registers if value) or '-'}"
 
 
 def main():
-    parser = argparse.ArgumentParser(description="Replay the record on standard input and print its report.")
-    parser.add_argument("--full", action="store_true", help="print the full report, not the short one")
-    full = parser.parse_args().full
     try:
         record = json.load(sys.stdin)
         world = World(record["n"], record["cells"])
@@ -305,7 +299,7 @@ def main():
             except Refused as refusal:
                 print(f"step {at}: {refusal}", file=sys.stderr)
                 return 1
-        print("\n".join(report(world, full)))
+        print("\n".join(report(world)))
         return 0
     except (KeyError, TypeError, ValueError) as fault:
         print(f"model: no record: {fault!r}", file=sys.stderr)

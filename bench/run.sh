@@ -1,10 +1,10 @@
 #!/usr/bin/env bash
 # Times `ct replay` on generated records and compares its reports with bench/model.py.
 #
-#     bench/run.sh [--whole] [--full] [CT]
+#     bench/run.sh [--whole] [CT]
 #
 # CT: the built program; crates/ct/out/ct if left out. --whole adds records of the
-# whole algorithm, without and with crashes; --full expects full reports, not short ones.
+# whole algorithm, without and with crashes.
 #
 # Prints a table row for each record: wall seconds, peak resident memory in MiB, and
 # whether the report is the model's. Ends with status 1 where one is not.
@@ -12,11 +12,9 @@ set -euo pipefail
 
 here=$(cd "$(dirname "$0")" && pwd)
 kinds=(plain)
-form=()
 while [[ ${1-} == --* ]]; do
     case $1 in
         --whole) kinds+=(whole crashes) ;;
-        --full) form=(--full) ;;
         *) echo "bench/run.sh: no option $1" >&2; exit 2 ;;
     esac
     shift
@@ -67,7 +65,7 @@ for kind in "${kinds[@]}"; do
         for steps in 100000 1000000; do
             record=$folder/record.json
             python3 "$here/generate.py" "${extra[@]}" --members "$members" --steps "$steps" --seed 1 >"$record" 2>"$folder/counts"
-            python3 "$here/model.py" "${form[@]}" <"$record" >"$folder/wanted"
+            python3 "$here/model.py" <"$record" >"$folder/wanted"
             outcome="as the model's"
             measure "$record" "$folder/report" || outcome="ended with status $?"
             if [[ $outcome == as* ]] && ! cmp -s "$folder/report" "$folder/wanted"; then

@@ -1,4 +1,5 @@
 pub mod Kept
+pub mod Decided
 pub mod Opened
 pub mod Steps
 pub mod Named

@@ -5,6 +5,7 @@ ghost use Rattle.ct_instances.specs.Kept.{has_room_open};
 ghost use Rattle.ct_instances.specs.Steps.{opened};
 
 mod copying;
+mod deciding;
 mod noting;
 mod preparing;
 mod reading;

@@ -126,6 +126,18 @@ fn the_first_decision_stays(rt: HostRuntime) -> Result<(), Fail> {
 }
 
 #[test]
+fn the_last_decided_instance_is_the_largest(rt: HostRuntime) -> Result<(), Fail> {
+    let group = Group::new(3).ok_or("three")?;
+    let mut instances = Instances::new(rt.alloc(), group, 2);
+    take(&mut instances, &est(9, 3, 30))?;
+    assert_eq!(rt; instances.last_decided(), None);
+    take(&mut instances, &dec(7, 10))?;
+    take(&mut instances, &dec(2, 20))?;
+    assert_eq!(rt; instances.last_decided(), Some(7));
+    Ok(())
+}
+
+#[test]
 fn no_round_begins_in_a_decided_instance(rt: HostRuntime) -> Result<(), Fail> {
     let group = Group::new(3).ok_or("three")?;
     let mut instances = Instances::new(rt.alloc(), group, 1);

@@ -7,11 +7,13 @@ use ct_world::World;
 use std::alloc::{AllocError, Global};
 use std::test::Fail;
 
+mod reports;
+
 const RECORD: &str =
     "{\"cells\":4,\"n\":3,\"steps\":[[\"submit\",1,[\"set\",0,7]],[\"receive\",1,1],[\"receive\",2,2]],\"version\":1}";
 
 const REPORT: &str =
-    "group 3 majority 2 cells 4\nsteps 3 sent 6\nmember 1 up\nreceived 1.1\nmember 2 up\nreceived 1.1\nmember 3 up\nreceived -\n";
+    "group 3 majority 2 cells 4\nsteps 3 sent 6 posted 0\nmember 1 up instance 0 idle\nreceived 1.1\ndecided -\ndelivered -\ntable -\nmember 2 up instance 0 idle\nreceived 1.1\ndecided -\ndelivered -\ntable -\nmember 3 up instance 0 idle\nreceived -\ndecided -\ndelivered -\ntable -\n";
 
 // One step of each kind, as a record has them.
 const EACH_STEP: &str =

@@ -21,3 +21,4 @@ pub mod SeatLists
 pub mod Shown
 pub mod Starts
 pub mod Driving
+pub mod Decisions

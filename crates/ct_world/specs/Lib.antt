@@ -4,3 +4,4 @@ pub mod Seats
 pub mod Kept
 pub mod Replay
 pub mod Driving
+pub mod Decided

@@ -20,6 +20,7 @@ mod choose;
 mod conclude;
 mod copying;
 mod crash;
+mod deciding;
 mod deliver;
 mod enabling;
 mod enter;

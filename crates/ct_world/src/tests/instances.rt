@@ -44,6 +44,16 @@ fn a_decision_is_kept_for_an_instance_to_come(rt: HostRuntime) -> Result<(), Fai
 }
 
 #[test]
+fn the_last_decided_instance_is_told(rt: HostRuntime) {
+    let alone = world_of(&rt, rt.alloc(), 1, &two_instances());
+    assert_eq!(rt; alone.last_decided(1), Some(2));
+    assert_eq!(rt; alone.last_decided(2), None);
+    let world = world_of(&rt, rt.alloc(), 3, &one_round());
+    assert_eq!(rt; world.last_decided(1), Some(1));
+    assert_eq!(rt; world.last_decided(3), None);
+}
+
+#[test]
 fn what_was_delivered_is_not_delivered_again(rt: HostRuntime) -> Result<(), Fail> {
     let steps = one_round();
     let mut world = world_of(&rt, rt.alloc(), 3, &steps);
