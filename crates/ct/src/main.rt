@@ -1,10 +1,18 @@
-//! The program `ct`: it replays a record from standard input and reports where it leads on standard output.
+//! The program `ct`: it replays a record from standard input and reports where it leads on standard output, or runs a group
+//! freely and writes the record of the run.
 #![tactic(auto)]
 
-use ct_program::{Call, Counted, LineFault, line, run_replay};
+ghost use Rattle.std.specs.Prelude.{◌≡◌, IfOk, vec_len};
+ghost use Rattle.ct_program.specs.FreeOptions.{FreeInRange, InRange};
+
+use ct_detect::{Detector, Seeded};
+use ct_program::{Call, Counted, FreeOptions, LineFault, free, line, run_replay};
+use std::alloc::{AllocError, Global};
 use std::fmt::Display;
 use std::io;
 use std::process::ExitCode;
+use std::sync::Wait;
+use std::thread::Threads;
 
 // The words of the command line were refused.
 const WORDS_REFUSED: u8 = 3;
@@ -16,34 +24,39 @@ const STREAM_FAILED: u8 = 4;
 const NO_MEMORY: u8 = 5;
 
 fn main(rt: HostRuntime) -> ExitCode {
-    match words(&rt) {
-        Ok(words) => call(&rt, &words),
-        Err(error) => {
-            if error.kind() == io::ErrorKind::OutOfMemory {
-                fail(&rt, "out of memory", NO_MEMORY)
-            } else {
-                fail(&rt, "arguments", WORDS_REFUSED)
-            }
+    match asked(&rt) {
+        Ok(Call::Replay) => replay(&rt),
+        Ok(Call::Free(options)) => run(&rt, &rt, &options),
+        Err(status) => status,
+    }
+}
+
+// What the command line asks for, or the status where that was answered.
+fn asked(rt: &HostRuntime) -> Result<Call, ExitCode>
+    ensures { IfOk result FreeInRange }
+{
+    let words = match words(rt) {
+        Ok(words) => words,
+        Err(error) if error.kind() == io::ErrorKind::OutOfMemory => {
+            return Err(fail(rt, "out of memory", NO_MEMORY));
         }
+        Err(_) => return Err(fail(rt, "arguments", WORDS_REFUSED)),
+    };
+    let mut texts: Vec<&str> = Vec::new(rt.alloc());
+    for word in &words {
+        if texts.push(word.as_str()).is_err() {
+            return Err(fail(rt, "out of memory", NO_MEMORY));
+        }
+    }
+    match line(rt.alloc(), texts.as_slice()) {
+        Ok(call) => Ok(call),
+        Err(fault) => Err(refuse(rt, &fault)),
     }
 }
 
 // The words of the command line, the program's name first.
 fn words(rt: &HostRuntime) -> io::Result<Vec<String>> {
     Ok(std::env::args(rt)?.collect(rt.alloc())?)
-}
-
-fn call(rt: &HostRuntime, words: &[String]) -> ExitCode {
-    let mut texts: Vec<&str> = Vec::new(rt.alloc());
-    for word in words {
-        if texts.push(word.as_str()).is_err() {
-            return fail(rt, "out of memory", NO_MEMORY);
-        }
-    }
-    match line(rt.alloc(), texts.as_slice()) {
-        Ok(Call::Replay) => replay(rt),
-        Err(fault) => refuse(rt, &fault),
-    }
 }
 
 fn replay(rt: &HostRuntime) -> ExitCode {
@@ -53,6 +66,33 @@ fn replay(rt: &HostRuntime) -> ExitCode {
         Ok(()) => ExitCode::SUCCESS,
         Err(fault) => fail(rt, fault, fault.status()),
     }
+}
+
+// Only `main` may hand the runtime on as one that starts threads.
+fn run<T: Threads + Wait + Sync>(rt: &HostRuntime, threads: &T, options: &FreeOptions) -> ExitCode
+    requires { InRange options.now }
+{
+    let Ok(detectors) = detectors(rt.alloc(), options) else {
+        return fail(rt, "out of memory", NO_MEMORY);
+    };
+    let mut writer = Counted::new(io::writer(rt));
+    match free(threads, rt.alloc(), options, detectors, &mut writer) {
+        Ok(()) => ExitCode::SUCCESS,
+        Err(fault) => fail(rt, fault, fault.status()),
+    }
+}
+
+// A detector for each member, that of member m with the seed and m.
+fn detectors(alloc: Global, options: &FreeOptions) -> Result<Vec<Box<dyn Detector>>, AllocError>
+    requires { InRange options.now }
+    ensures { IfOk result (λ detectors. vec_len detectors ≡ options.now.members) }
+{
+    let mut detectors: Vec<Box<dyn Detector>> = Vec::new(alloc);
+    for i in 0..options.members {
+        let seed = u64::from(options.seed) + u64::from(i) + 1;
+        detectors.push(Box::new(alloc, Seeded::new(seed, options.rate))?)?;
+    }
+    Ok(detectors)
 }
 
 // A call for help or for the version is answered on standard output.
@@ -68,6 +108,7 @@ fn refuse(rt: &HostRuntime, fault: &LineFault) -> ExitCode {
                 fail(rt, "write failed", STREAM_FAILED)
             }
         }
+        LineFault::Range => fail(rt, "out of range", WORDS_REFUSED),
         LineFault::Memory => fail(rt, "out of memory", NO_MEMORY),
     }
 }

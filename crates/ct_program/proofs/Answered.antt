@@ -3,7 +3,7 @@ use Rattle.std.proofs.Common.{◌≡◌, ℕ, List, Option, Some, None, Result, 
 use Rattle.std.specs.Prelude.{IfSome, IsOkAnd}
 use Rattle.std.specs.Io.KnownBytes.{Appends}
 use Rattle.ct_program.specs.declared.program_fault.ProgramFault.{ProgramFault}
-use Rattle.ct_program.specs.declared.program_fault.ProgramFault.TheVariants.{Replay, Read, Reader, Write, Memory}
+use Rattle.ct_program.specs.declared.program_fault.ProgramFault.TheVariants.{Replay, Read, Reader, Write, Memory, Start, Exchanged}
 use Rattle.ct_program.specs.Script.{script}
 use Rattle.ct_program.specs.Report.{report_text}
 use Rattle.ct_program.specs.Replay.{IsAllowed, IsReportOf, WritesReport, IsFaultIn, read_part}
@@ -19,6 +19,8 @@ fault_of_input (Read fault) bytes input e h = sym e ∙ h
 fault_of_input Reader bytes input e h = tt
 fault_of_input Write bytes input e h = tt
 fault_of_input Memory bytes input e h = tt
+fault_of_input Start bytes input e h = absurd h
+fault_of_input Exchanged bytes input e h = absurd h
 
 pub fault_seen : (fault : ProgramFault) (left : Option (List ℕ)) (bytes seen : List ℕ) → IfSome left (λ input. bytes ≡ read_part input) → seen ≡ bytes → IsFaultIn fault seen → IfSome left (IsFaultIn fault)
 fault_seen fault None bytes seen h same f = tt

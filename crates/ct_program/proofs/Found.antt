@@ -1,7 +1,6 @@
 -- One more register, and one more instance, of those that a report goes through.
-use Rattle.std.proofs.Common.{◌≡◌, ◌≢◌, ℕ, ◌+◌, Bool, true, cond, List, [], ◌∷◌, ◌++◌, Option, Some, None, Result, refl, ap, subst, ◌∙◌, add-one, append-nil, ne_eqb}
-use Rattle.std.specs.Prelude.{IsTrue, OnOk, slice_get, slice_index, unwrap_or}
-use Rattle.std.proofs.lemmas.Option.{unwrap_or-slice_get}
+use Rattle.std.proofs.Common.{◌≡◌, ℕ, ◌+◌, Bool, true, cond, List, [], ◌∷◌, ◌++◌, Option, Some, None, Result, refl, ap, subst, ◌∙◌, add-one, append-nil}
+use Rattle.std.specs.Prelude.{IsTrue, OnOk, slice_index, unwrap_or}
 use Rattle.ct_names.specs.Group.{is_member}
 use Rattle.ct_names.specs.Value.{Value}
 use Rattle.ct_model.specs.AtValue.{Wire}
@@ -9,28 +8,22 @@ use Rattle.ct_model.specs.Received.{decided}
 use Rattle.ct_model.specs.Rehearsal.{Rehearsal}
 use Rattle.ct_world.specs.Decided.{last_decided}
 use Rattle.ct_world.specs.World.{if_member}
-use Rattle.ct_program.specs.Report.{decision_text, decision_texts, first_decisions, decisions_text, register_text, register_texts, first_registers, table_text}
+use Rattle.ct_program.specs.Report.{decision_text, decision_texts, first_decisions, decisions_text, nonzero, register_text, register_texts, first_registers, table_text}
 use Rattle.ct_program.proofs.Pieces.{HasWritten, written_more, written_all}
 
 -- registers
 
-read : (values : List ℕ) (i value : ℕ) (got : Option ℕ) → got ≡ slice_get values i → value ≡ unwrap_or got 0 → value ≡ slice_index values i
-read values i value got is e = e ∙ ap (λ o. unwrap_or o 0) is ∙ unwrap_or-slice_get values i 0
+registers-more : (values : List ℕ) (i : ℕ) (o : Option ℕ) → o ≡ nonzero (slice_index values i) → first_registers values (i + 1) ≡ first_registers values i ++ register_texts i o
+registers-more values i o e = rw (e, add-one) refl
 
-registers-more : (values : List ℕ) (i value : ℕ) → value ≡ slice_index values i → first_registers values (i + 1) ≡ first_registers values i ++ register_texts i value
-registers-more values i value e = rw (add-one, e) refl
-
-pub register_taken : (values : List ℕ) (i value : ℕ) (got : Option ℕ) (old mid new end : List ℕ) (later : Bool) → HasWritten 32 (first_registers values i) old new later → got ≡ slice_get values i → value ≡ unwrap_or got 0 → value ≢ 0
+pub register_taken : (values : List ℕ) (i value : ℕ) (old mid new end : List ℕ) (later : Bool) → HasWritten 32 (first_registers values i) old new later → Some value ≡ nonzero (slice_index values i)
     → mid ≡ new ++ cond later (32 ∷ []) [] → end ≡ mid ++ register_text i value → HasWritten 32 (first_registers values (i + 1)) old end true
-register_taken values i value got old mid new end later h is e some first second =
-    let one : register_texts i value ≡ register_text i value ∷ [] = rw (ne_eqb value 0 some) refl in
-    rw (registers-more values i value (read values i value got is e), one) (written_more 32 (first_registers values i) (register_text i value) old mid new end later h first second)
+register_taken values i value old mid new end later h is first second =
+    rw (registers-more values i (Some value) is) (written_more 32 (first_registers values i) (register_text i value) old mid new end later h first second)
 
-pub register_passed : (values : List ℕ) (i value : ℕ) (got : Option ℕ) (old new : List ℕ) (later : Bool) → HasWritten 32 (first_registers values i) old new later → got ≡ slice_get values i → value ≡ unwrap_or got 0 → value ≡ 0
+pub register_passed : (values : List ℕ) (i : ℕ) (old new : List ℕ) (later : Bool) → HasWritten 32 (first_registers values i) old new later → None ≡ nonzero (slice_index values i)
     → HasWritten 32 (first_registers values (i + 1)) old new later
-register_passed values i value got old new later h is e none =
-    let nothing : register_texts i value ≡ [] = rw none refl in
-    rw (registers-more values i value (read values i value got is e), nothing, append-nil) h
+register_passed values i old new later h is = rw (registers-more values i None is, append-nil) h
 
 pub table_written : {T E : Type 0} (r : Result T E) (values : List ℕ) (i : ℕ) (old new end : List ℕ) (later : Bool) → i ≡ 16 → HasWritten 32 (first_registers values i) old new later → OnOk r (end ≡ new ++ cond later [] (45 ∷ [])) → OnOk r (end ≡ old ++ table_text values)
 unfolding table_text

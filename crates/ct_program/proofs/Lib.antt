@@ -7,7 +7,9 @@ pub mod Whole
 pub mod Fronts
 pub mod Refused
 pub mod Answered
+pub mod Subcommands
 pub mod Lines
+pub mod Numbers
 pub mod Fitting
 pub mod Stored
 pub mod Written

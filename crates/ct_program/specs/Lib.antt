@@ -5,6 +5,9 @@ pub mod Report
 pub mod Replay
 pub mod ProgramFault
 pub mod Counted
+pub mod FreeOptions
 pub mod Line
+pub mod Planning
+pub mod FreeRun
 pub mod Text
 pub mod Fits

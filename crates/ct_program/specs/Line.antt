@@ -1,25 +1,101 @@
 -- How the program's command line is read. `clap` gives what its commands make of words.
-use Rattle.std.specs.Prelude.{◌≡◌, true, List, codes, ⊤}
-use Rattle.clap.specs.Words.{App, Kinds, HasKind, Text, fault_of, kind_of, new_app, with_subcommand}
+use Rattle.std.specs.Prelude.{◌≡◌, ◌&&◌, ℕ, true, List, [], ◌∷◌, codes, Option, Some, None, option_map, option_and_then, nat_le, if◌then◌else◌, ⊤}
+use Rattle.std.specs.Str.{bytes_eq}
+use Rattle.std.specs.Str.Parse.{digits_value, without_leading_plus}
+use Rattle.clap.specs.Words.{App, Kinds, HasKind, Row, Rule, Text, fault_of, first_of, kind_of, new_app, new_rule, subcommand_of, with_subcommand}
 use Rattle.clap.specs.Simple.{new_shape, on_top}
+use Rattle.clap.specs.ValueTests.{is_numeral}
+use Rattle.clap.specs.declared.builder.action.ArgAction.TheVariants.{Set}
 use Rattle.clap.specs.declared.error.kind.ErrorKind.TheVariants.{OutOfMemory}
+use Rattle.ct_program.specs.declared.call.Call.{Call}
+use Rattle.ct_program.specs.declared.call.Call.TheVariants.{Replay, Free}
+use Rattle.ct_program.specs.declared.free_options.FreeOptions.{FreeOptions}
 use Rattle.ct_program.specs.declared.line_fault.LineFault.{LineFault}
-use Rattle.ct_program.specs.declared.line_fault.LineFault.TheVariants.{Clap, Memory}
+use Rattle.ct_program.specs.declared.line_fault.LineFault.TheVariants.{Clap, Range, Memory}
 
--- the program has a version and one subcommand, `replay`, which has to be given
+-- ---- what clap reads
+
+-- an option that has to be given, with one value
+abbrev pub required_rule : Text → Rule
+required_rule name = record (new_rule name) { long = Some name; action = Some Set; required = true }
+
+-- an option with one value, which is `default` where none is given
+abbrev pub option_rule : Text → Text → Rule
+option_rule name default = record (new_rule name) { long = Some name; action = Some Set; defaults = default ∷ [] }
+
+abbrev pub free_rules : List Rule
+free_rules =
+    required_rule (codes "members") ∷ option_rule (codes "turns") (codes "1000") ∷ option_rule (codes "seed") (codes "0")
+    ∷ option_rule (codes "rate") (codes "64") ∷ option_rule (codes "cells") (codes "64") ∷ option_rule (codes "submit") (codes "8")
+    ∷ option_rule (codes "crash") (codes "0") ∷ option_rule (codes "postpone") (codes "0") ∷ []
+
+-- the subcommand `free`
+abbrev pub free_app : App
+free_app = on_top (λ s. record s { rules = free_rules }) (new_app (codes "free"))
+
+-- the program has a version and two subcommands, `replay` and `free`, of which one has to be given
 abbrev pub program : App
-program = with_subcommand (on_top (λ s. record s { has_version = true; subcommand_required = true }) (new_app (codes "ct"))) (new_shape (codes "replay"))
+program = with_subcommand (with_subcommand (on_top (λ s. record s { has_version = true; subcommand_required = true }) (new_app (codes "ct"))) (new_shape (codes "replay"))) free_app.top
 
--- the kinds of fault that the words may have, the program's name first; none where they call for the replay
+-- the kinds of fault that the words may have, the program's name first; none where clap accepts them
 unfoldable pub faults_of : List Text → Kinds
 faults_of words = fault_of program words
 
--- the fault is of one of these kinds, or want of memory
+-- ---- what the words ask for
+
+infixl 10 ◌>>=◌
+abbrev pub ◌>>=◌ : {A B : Type 0} → Option A → (A → Option B) → Option B
+o >>= f = option_and_then f o
+
+-- the number that std's `parse` reads: decimal digits, where a plus may stand first
+abbrev pub number_of : Text → Option ℕ
+number_of text =
+    let ds = without_leading_plus text in
+    if is_numeral ds then Some (digits_value 10 ds) else None
+
+-- the text's whole number, where it has one from low to high
+unfoldable pub whole_in : ℕ → ℕ → Text → Option ℕ
+whole_in low high text = do
+  n ← number_of text
+  if nat_le low n && nat_le n high then Some n else None
+
+-- the value of the option, where it is a whole number from low to high
+abbrev pub option_in : List Row → Text → ℕ → ℕ → Option ℕ
+option_in rows name low high = first_of name rows >>= whole_in low high
+
+-- the options of a free run, where each value is a whole number of its range
+unfoldable pub options_of : List Row → Option FreeOptions
+options_of rows = do
+  members ← option_in rows (codes "members") 1 16
+  turns ← option_in rows (codes "turns") 0 100000
+  seed ← option_in rows (codes "seed") 0 4294967295
+  rate ← option_in rows (codes "rate") 0 256
+  cells ← option_in rows (codes "cells") 0 1024
+  submit ← option_in rows (codes "submit") 0 1000
+  crash ← option_in rows (codes "crash") 0 16
+  postpone ← option_in rows (codes "postpone") 0 1000
+  Some (record { members = members; turns = turns; seed = seed; rate = rate; cells = cells; submit = submit; crash = crash; postpone = postpone })
+
+-- the call of a subcommand, by its name and what clap found for its options
+abbrev pub call_at : Text → List Row → Option Call
+call_at name rows =
+    if bytes_eq name (codes "replay") then Some Replay else
+    (if bytes_eq name (codes "free") then option_map Free (options_of rows) else None)
+
+-- what the words ask for, where clap accepts them; None where a value isn't of its option's range
+unfoldable pub call_of : List Text → Option Call
+call_of words = option_and_then (λ found. call_at found.0 found.1) (subcommand_of program words)
+
+-- ---- faults
+
+-- the fault is of one of these kinds, want of memory, or of a value where clap accepts the words
 abbrev pub IsOfKind : Kinds → LineFault → Type 0
 IsOfKind kinds (Clap error) = HasKind kinds error
+IsOfKind kinds Range = kinds ≡ []
 IsOfKind kinds Memory = ⊤
 
 -- memory was refused, while clap read the words or before
 abbrev pub IsMemory : LineFault → Type 0
 IsMemory (Clap error) = kind_of error ≡ OutOfMemory
+IsMemory Range = ⊥
 IsMemory Memory = ⊤

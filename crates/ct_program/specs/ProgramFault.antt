@@ -1,11 +1,13 @@
 -- The faults of the program: where they come from, and the status that it ends with.
 use Rattle.std.specs.Prelude.{◌≡◌, ◌≢◌, ◌⊎◌, ℕ}
 use Rattle.ct_names.specs.declared.refusal.Refusal.TheVariants.{OutOfMemory}
+use Rattle.ct_rehearse.specs.declared.run_fault.RunFault.{RunFault}
+use Rattle.ct_rehearse.specs.declared.run_fault.RunFault.TheVariants as run
 use Rattle.ct_world.specs.declared.replay_fault.ReplayFault.{ReplayFault}
 use Rattle.ct_program.specs.declared.read_fault.ReadFault.{ReadFault}
 use Rattle.ct_program.specs.declared.read_fault.ReadFault.TheVariants as read
 use Rattle.ct_program.specs.declared.program_fault.ProgramFault.{ProgramFault}
-use Rattle.ct_program.specs.declared.program_fault.ProgramFault.TheVariants.{Replay, Read, Reader, Write, Memory}
+use Rattle.ct_program.specs.declared.program_fault.ProgramFault.TheVariants.{Replay, Read, Reader, Write, Memory, Start, Exchanged}
 
 abbrev pub status_of : ProgramFault → ℕ
 status_of (Replay at refusal) = 1
@@ -13,6 +15,8 @@ status_of (Read fault) = 2
 status_of Reader = 4
 status_of Write = 4
 status_of Memory = 5
+status_of Start = 5
+status_of Exchanged = 5
 
 -- what a fault of reading a record is for the program
 abbrev pub of_read_fault : ReadFault → ProgramFault
@@ -26,3 +30,8 @@ of_read_fault read.OutOfMemory = Memory
 abbrev pub IsOfReplayFault : ReplayFault → ProgramFault → Type 0
 IsOfReplayFault replay fault =
     ((replay.refusal ≡ OutOfMemory) × (fault ≡ Memory)) ⊎ ((replay.refusal ≢ OutOfMemory) × (fault ≡ Replay replay.at replay.refusal))
+
+-- what a fault of a run of threads is for the program
+abbrev pub of_run_fault : RunFault → ProgramFault
+of_run_fault run.Memory = Memory
+of_run_fault run.Start = Start

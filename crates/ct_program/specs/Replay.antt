@@ -6,7 +6,7 @@ use Rattle.ct_names.specs.declared.refusal.Refusal.TheVariants.{OutOfMemory}
 use Rattle.ct_model.specs.Rehearsal.{Rehearsal}
 use Rattle.ct_world.specs.Replay.{AllowsFirst, IsRefusedAt}
 use Rattle.ct_program.specs.declared.program_fault.ProgramFault.{ProgramFault}
-use Rattle.ct_program.specs.declared.program_fault.ProgramFault.TheVariants.{Replay, Read, Reader, Write, Memory}
+use Rattle.ct_program.specs.declared.program_fault.ProgramFault.TheVariants.{Replay, Read, Reader, Write, Memory, Start, Exchanged}
 use Rattle.ct_program.specs.Script.{script}
 use Rattle.ct_program.specs.Report.{report_text}
 
@@ -28,13 +28,16 @@ IsReportOf input text = IsOkAnd (script input) (λ w. IsAllowed w × (text ≡ r
 abbrev pub WritesReport : List ℕ → Option (List ℕ) → Option (List ℕ) → Type 0
 WritesReport input old new = IsOkAnd (script input) (λ w. IsAllowed w × Appends old new (report_text w))
 
--- the fault is the input's: the first of the record, or of its replay. Of streams and of memory nothing is said
+-- the fault is the input's: the first of the record, or of its replay. Of streams and of memory nothing is said, and
+-- a replay has no faults of free runs
 abbrev pub IsFaultIn : ProgramFault → List ℕ → Type 0
 IsFaultIn (Replay at refusal) input = IsOkAnd (script input) (λ w. IsRefused w at refusal)
 IsFaultIn (Read fault) input = script input ≡ Err fault
 IsFaultIn Reader input = ⊤
 IsFaultIn Write input = ⊤
 IsFaultIn Memory input = ⊤
+IsFaultIn Start input = ⊥
+IsFaultIn Exchanged input = ⊥
 
 -- reading stopped for want of memory, or because the reader failed once more
 abbrev pub StopsReading : ProgramFault → ℕ → ℕ → Type 0

@@ -44,14 +44,19 @@ decisions_text got = list_text 32 (first_decisions got (unwrap_or (last_decided 
 unfoldable pub register_text : ℕ → ℕ → List ℕ
 register_text register value = concat (decimal register ∷ codes "=" ∷ decimal value ∷ [])
 
--- the same where the value is not 0
-abbrev pub register_texts : ℕ → ℕ → List (List ℕ)
-register_texts register value = if value == 0 then [] else register_text register value ∷ []
+-- the value, where it is not 0
+abbrev pub nonzero : ℕ → Option ℕ
+nonzero value = if value == 0 then None else Some value
 
--- the first registers of a table
+-- a register, where it has such a value
+abbrev pub register_texts : ℕ → Option ℕ → List (List ℕ)
+register_texts register None = []
+register_texts register (Some value) = register_text register value ∷ []
+
+-- those of the first registers of a table
 abbrev pub first_registers : List ℕ → ℕ → List (List ℕ)
 first_registers values zero = []
-first_registers values (suc k) = first_registers values k ++ register_texts k (slice_index values k)
+first_registers values (suc k) = first_registers values k ++ register_texts k (nonzero (slice_index values k))
 
 -- all 16 of them
 unfoldable pub table_text : List ℕ → List ℕ

@@ -7,6 +7,8 @@ use std::alloc::AllocError;
 pub enum LineFault {
     /// They ask for help or the version, or are none of the program's.
     Clap(clap::Error),
+    /// An option's value is no whole number of its range.
+    Range,
     /// Memory was refused.
     Memory,
 }

@@ -1,11 +1,12 @@
 //! Why the program stops.
 
 ghost use Rattle.std.specs.Prelude.{◌≡◌};
-ghost use Rattle.ct_program.specs.ProgramFault.{status_of, of_read_fault, IsOfReplayFault};
+ghost use Rattle.ct_program.specs.ProgramFault.{status_of, of_read_fault, of_run_fault, IsOfReplayFault};
 ghost use Rattle.ct_program.specs.declared.program_fault.ProgramFault.TheVariants.{Memory};
 
 use crate::read_fault::ReadFault;
 use ct_names::Refusal;
+use ct_rehearse::RunFault;
 use ct_world::ReplayFault;
 use std::alloc::AllocError;
 use thiserror::Error;
@@ -28,10 +29,17 @@ pub enum ProgramFault {
     /// Memory was refused.
     #[error("out of memory")]
     Memory,
+    /// A thread of a free run could not be started.
+    #[error("no thread")]
+    Start,
+    /// A free run ended in a world of other members or cells than it began with.
+    #[error("world exchanged")]
+    Exchanged,
 }
 
 impl ProgramFault {
-    /// The status that the program ends with: 1 for a refused step, 2 for a record, 4 for a stream, 5 for memory.
+    /// The status that the program ends with: 1 for a refused step, 2 for a record, 4 for a stream, 5 for
+    /// memory, threads and an exchanged world.
     pub fn status(&self) -> u8
         ensures { result ≡ status_of self.now }
     {
@@ -39,7 +47,7 @@ impl ProgramFault {
             ProgramFault::Replay { .. } => 1,
             ProgramFault::Read(_) => 2,
             ProgramFault::Reader | ProgramFault::Write => 4,
-            ProgramFault::Memory => 5,
+            ProgramFault::Memory | ProgramFault::Start | ProgramFault::Exchanged => 5,
         }
     }
 }
@@ -65,6 +73,17 @@ impl From<ReplayFault> for ProgramFault {
                 at: fault.at,
                 refusal,
             },
+        }
+    }
+}
+
+impl From<RunFault> for ProgramFault {
+    ghost from_gives = { λ fault e. e ≡ of_run_fault fault };
+
+    fn from(fault: RunFault) -> ProgramFault {
+        match fault {
+            RunFault::Memory => ProgramFault::Memory,
+            RunFault::Start => ProgramFault::Start,
         }
     }
 }

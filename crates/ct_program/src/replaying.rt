@@ -106,7 +106,7 @@ fn answer(alloc: Global, bytes: &[u8]) -> Result<Vec<u8>, ProgramFault>
     Ok(report(alloc, &world)?)
 }
 
-fn write_all<W: Sink>(writer: &mut W, bytes: &[u8]) -> Result<(), Failed>
+pub(crate) fn write_all<W: Sink>(writer: &mut W, bytes: &[u8]) -> Result<(), Failed>
     requires { W.failures writer.old < 2 ^ 63 }
     ensures bytes { OnOk result (Appends (W.written writer.old) (W.written writer.new) bytes.now) }
     ensures err { OnErr result (W.failures writer.new ≡ W.failures writer.old + 1) }

@@ -1,9 +1,9 @@
 //! From a world to its report.
 
-ghost use Rattle.std.specs.Prelude.{◌≡◌, ◌++◌, ◌<◌, [], ◌∷◌, codes, if◌then◌else◌, OnOk, IfOk, IsTrue, string_bytes};
+ghost use Rattle.std.specs.Prelude.{◌≡◌, ◌++◌, ◌<◌, [], ◌∷◌, codes, if◌then◌else◌, OnOk, IfOk, IsTrue, string_bytes, slice_index};
 ghost use Rattle.ct_names.specs.Group.{is_member};
 ghost use Rattle.ct_model.specs.State.{delivered};
-ghost use Rattle.ct_program.specs.Report.{line_text, messages_text, decision_text, decisions_text, register_text, table_text, standing_text, member_text, first_members, report_text};
+ghost use Rattle.ct_program.specs.Report.{line_text, messages_text, decision_text, decisions_text, nonzero, register_text, table_text, standing_text, member_text, first_members, report_text};
 ghost use Rattle.ct_table.specs.Table.{table};
 ghost use Rattle.ct_world.specs.World.{member_of};
 
@@ -154,14 +154,21 @@ fn push_table(text: &mut String, table: &Table) -> Result<(), AllocError>
 {
     let mut later = false;
     for register in 0..16u8 {
-        let value = table.get(register).unwrap_or(0);
-        if value != 0 {
+        if let Some(value) = value_of(table, register) {
             push_separator(text, ' ', later)?;
             push_register(text, register, value)?;
             later = true;
         }
     }
     push_dash(text, later)
+}
+
+// What the register holds, where that is not 0.
+fn value_of(table: &Table, register: u8) -> Option<u64>
+    ensures { result ≡ nonzero (slice_index table.now register) }
+{
+    let value = table.get(register).unwrap_or(0);
+    (value != 0).then_some(value)
 }
 
 #[tactic(auto, unfolding(crate::specs::Report::register_text))]

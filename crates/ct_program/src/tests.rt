@@ -7,6 +7,7 @@ use ct_world::World;
 use std::alloc::{AllocError, Global};
 use std::test::Fail;
 
+mod free;
 mod reports;
 
 const RECORD: &str =
@@ -456,5 +457,144 @@ fn the_version_is_shown(rt: HostRuntime) -> Result<(), Fail> {
     };
     let text = format!(in alloc; "{error}")?;
     assert_eq!(rt; text.as_str(), "ct 0.1.0\n");
+    Ok(())
+}
+
+// Whether the words are refused for a value alone.
+fn is_out_of_range(alloc: Global, words: &'static [&'static str]) -> bool {
+    matches!(&line(alloc, words), Err(LineFault::Range))
+}
+
+#[test]
+fn free_takes_options(rt: HostRuntime) {
+    let call = line(
+        rt.alloc(),
+        &[
+            "ct",
+            "free",
+            "--members",
+            "2",
+            "--turns",
+            "0",
+            "--submit",
+            "3",
+            "--crash",
+            "2",
+        ],
+    );
+    let options = FreeOptions {
+        members: 2,
+        turns: 0,
+        seed: 0,
+        rate: 64,
+        cells: 64,
+        submit: 3,
+        crash: 2,
+        postpone: 0,
+    };
+    assert!(rt; matches!(&call, Ok(Call::Free(found)) if *found == options));
+}
+
+#[test]
+fn free_has_defaults(rt: HostRuntime) {
+    let call = line(rt.alloc(), &["ct", "free", "--members=1"]);
+    let options = FreeOptions {
+        members: 1,
+        turns: 1000,
+        seed: 0,
+        rate: 64,
+        cells: 64,
+        submit: 8,
+        crash: 0,
+        postpone: 0,
+    };
+    assert!(rt; matches!(&call, Ok(Call::Free(found)) if *found == options));
+}
+
+#[test]
+fn values_may_be_the_greatest_of_their_ranges(rt: HostRuntime) {
+    let call = line(
+        rt.alloc(),
+        &[
+            "ct",
+            "free",
+            "--members=16",
+            "--turns=100000",
+            "--seed=4294967295",
+            "--rate=256",
+            "--cells=1024",
+            "--submit=1000",
+            "--crash=16",
+            "--postpone=1000",
+        ],
+    );
+    let options = FreeOptions {
+        members: 16,
+        turns: 100_000,
+        seed: 4_294_967_295,
+        rate: 256,
+        cells: 1024,
+        submit: 1000,
+        crash: 16,
+        postpone: 1000,
+    };
+    assert!(rt; matches!(&call, Ok(Call::Free(found)) if *found == options));
+}
+
+#[test]
+fn members_have_a_range(rt: HostRuntime) {
+    let alloc = rt.alloc();
+    assert!(rt; is_out_of_range(alloc, &["ct", "free", "--members", "0"]));
+    assert!(rt; is_out_of_range(alloc, &["ct", "free", "--members", "17"]));
+    assert!(rt; is_out_of_range(alloc, &["ct", "free", "--members", "two"]));
+    assert!(rt; is_out_of_range(alloc, &["ct", "free", "--members="]));
+}
+
+#[test]
+fn other_values_have_ranges(rt: HostRuntime) {
+    let alloc = rt.alloc();
+    assert!(rt; is_out_of_range(alloc, &["ct", "free", "--members=2", "--turns=100001"]));
+    assert!(rt; is_out_of_range(alloc, &["ct", "free", "--members=2", "--seed=4294967296"]));
+    assert!(rt; is_out_of_range(alloc, &["ct", "free", "--members=2", "--rate=257"]));
+    assert!(rt; is_out_of_range(alloc, &["ct", "free", "--members=2", "--cells=1025"]));
+    assert!(rt; is_out_of_range(alloc, &["ct", "free", "--members=2", "--submit=1001"]));
+    assert!(rt; is_out_of_range(alloc, &["ct", "free", "--members=2", "--crash=17"]));
+    assert!(rt; is_out_of_range(alloc, &["ct", "free", "--members=2", "--postpone=1001"]));
+}
+
+#[test]
+fn a_free_run_in_other_words_is_refused(rt: HostRuntime) {
+    let alloc = rt.alloc();
+    assert_eq!(rt;
+        kind_of(alloc, &["ct", "free", "--turns", "0"]),
+        Some(ErrorKind::MissingRequiredArgument)
+    );
+    assert_eq!(rt;
+        kind_of(alloc, &["ct", "free", "--members"]),
+        Some(ErrorKind::InvalidValue)
+    );
+    assert_eq!(rt;
+        kind_of(alloc, &["ct", "free", "--members=2", "--members=3"]),
+        Some(ErrorKind::ArgumentConflict)
+    );
+    assert_eq!(rt;
+        kind_of(alloc, &["ct", "free", "--members=2", "--speed=1"]),
+        Some(ErrorKind::UnknownArgument)
+    );
+    assert_eq!(rt;
+        kind_of(alloc, &["ct", "replay", "--members=2"]),
+        Some(ErrorKind::UnknownArgument)
+    );
+}
+
+#[test]
+fn the_help_of_a_free_run_has_defaults(rt: HostRuntime) -> Result<(), Fail> {
+    let alloc = rt.alloc();
+    let Err(LineFault::Clap(error)) = line(alloc, &["ct", "free", "--help"]) else {
+        return Err(Fail::from("no help"));
+    };
+    let text = format!(in alloc; "{error}")?;
+    assert!(rt; text.contains("--members <members>"), "{text}");
+    assert!(rt; text.contains("0 to 100000 [default: 1000]"), "{text}");
     Ok(())
 }

@@ -1,25 +1,75 @@
 //! The words of a command line.
 
-ghost use Rattle.std.specs.Prelude.{◌≡◌, ℕ, List, [], ◌∷◌, map, codes, OnOk, IfOk, IfErr};
-ghost use Rattle.clap.specs.Words.{app_of};
-ghost use Rattle.ct_program.specs.Line.{program, faults_of, IsOfKind, IsMemory};
+ghost use Rattle.std.specs.Prelude.{◌≡◌, ◌≤◌, ℕ, List, [], ◌∷◌, false, map, codes, Some, None, Err, OnOk, IfOk, IfErr, IfSome};
+ghost use Rattle.clap.specs.Words.{app_of, found_of, rows_of, rule_of};
+ghost use Rattle.ct_program.specs.FreeOptions.{FreeInRange, InRange};
+ghost use Rattle.ct_program.specs.Line.{program, free_app, option_rule, required_rule, faults_of, call_of, option_in, options_of, whole_in, IsOfKind, IsMemory};
 
 use crate::call::Call;
+use crate::free_options::FreeOptions;
 use crate::line_fault::LineFault;
-use clap::Command;
+use clap::{Arg, ArgAction, ArgMatches, Command};
 use std::alloc::{AllocError, Global};
 
-/// What the words ask for, the program's name first: `replay` is the one subcommand. A call for help or for the version
-/// is a fault whose text is the answer.
+/// What the words ask for, the program's name first: the subcommand `replay`, or `free` with its options. A call for help
+/// or for the version is a fault whose text is the answer.
 pub fn line<'a>(alloc: Global, words: &'a [&'a str]) -> Result<Call, LineFault>
     ensures ok { OnOk result (faults_of (map (λ word. word.now) words.now) ≡ []) }
+    ensures call { IfOk result (λ call. call_of (map (λ word. word.now) words.now) ≡ Some call) }
+    ensures in_range { IfOk result FreeInRange }
     ensures err { IfErr result (IsOfKind (faults_of (map (λ word. word.now) words.now))) }
+    ensures range { result ≡ Err LineFault.Range → call_of (map (λ word. word.now) words.now) ≡ None }
     // After the name the one word `replay` is refused for want of memory alone.
     ensures replay { (name : List ℕ) → map (λ word. word.now) words.now ≡ name ∷ codes "replay" ∷ [] → IfErr result IsMemory }
 {
-    match command(alloc)?.try_get_matches_from(words) {
-        Ok(_) => Ok(Call::Replay),
-        Err(error) => Err(LineFault::Clap(error)),
+    let matches = match command(alloc)?.try_get_matches_from(words) {
+        Ok(matches) => matches,
+        Err(error) => return Err(LineFault::Clap(error)),
+    };
+    match matches.subcommand_matches("free") {
+        None => Ok(Call::Replay),
+        Some(found) => match options(found) {
+            Some(options) => Ok(Call::Free(options)),
+            None => Err(LineFault::Range),
+        },
+    }
+}
+
+// The options that clap found; None where a value is no whole number of its option's range.
+#[tactic(auto, unfolding(crate::specs::Line::options_of))]
+fn options(found: &ArgMatches<'_>) -> Option<FreeOptions>
+    ensures exact { result ≡ options_of (rows_of (found_of found.now)) }
+    ensures range { IfSome result InRange }
+{
+    Some(FreeOptions {
+        members: number(found, "members", 1, 16)? as u8,
+        turns: number(found, "turns", 0, 100_000)?,
+        seed: number(found, "seed", 0, u32::MAX)?,
+        rate: number(found, "rate", 0, 256)? as u16,
+        cells: number(found, "cells", 0, 1024)? as u16,
+        submit: number(found, "submit", 0, 1000)? as u16,
+        crash: number(found, "crash", 0, 16)? as u8,
+        postpone: number(found, "postpone", 0, 1000)? as u16,
+    })
+}
+
+// The option's value; None where it is no whole number from `low` to `high`.
+fn number(found: &ArgMatches<'_>, name: &str, low: u32, high: u32) -> Option<u32>
+    ensures value { result ≡ option_in (rows_of (found_of found.now)) name.now low high }
+    ensures range { IfSome result (λ n. (low ≤ n) × (n ≤ high)) }
+{
+    let text = found.get_str(name)?;
+    whole(text, low, high)
+}
+
+// The whole number of the text; None where it has none from `low` to `high`.
+fn whole(text: &str, low: u32, high: u32) -> Option<u32>
+    ensures value { result ≡ whole_in low high text.now }
+    ensures range { IfSome result (λ n. (low ≤ n) × (n ≤ high)) }
+{
+    match text.parse::<u32>() {
+        Ok(n) if low <= n && n <= high => Some(n),
+        _ => None,
     }
 }
 
@@ -33,5 +83,82 @@ fn command<'a>(alloc: Global) -> Result<Command<'a>, AllocError>
         .version("0.1.0")
         .about("Rehearses a group of members that broadcast commands to one another")
         .subcommand_required(true)
-        .subcommand(replay)
+        .subcommand(replay)?
+        .subcommand(free(alloc)?)
+}
+
+fn free<'a>(alloc: Global) -> Result<Command<'a>, AllocError>
+    ensures { IfOk result (λ command. app_of command ≡ free_app) }
+{
+    Command::new(alloc, "free")
+        .about(
+            "Runs a group of members under threads, with failure detectors that answer at random, and writes the record of the run to standard output",
+        )
+        .arg(required(alloc, "members", "The number of members, 1 to 16"))?
+        .arg(option(
+            alloc,
+            "turns",
+            "1000",
+            "How many turns the thread of each member takes, 0 to 100000",
+        ))?
+        .arg(option(
+            alloc,
+            "seed",
+            "0",
+            "Where the random answers come from, 0 to 4294967295: the failure detector of member m is seeded with this number plus m",
+        ))?
+        .arg(option(
+            alloc,
+            "rate",
+            "64",
+            "How many of 256 answers of a failure detector suspect the coordinator, 0 to 256",
+        ))?
+        .arg(option(
+            alloc,
+            "cells",
+            "64",
+            "How many batches of messages there is room for, 0 to 1024",
+        ))?
+        .arg(option(
+            alloc,
+            "submit",
+            "8",
+            "How many commands are submitted, 0 to 1000, by the members in turn",
+        ))?
+        .arg(option(
+            alloc,
+            "crash",
+            "0",
+            "The member that crashes after the submissions, 1 to 16, or 0 for none",
+        ))?
+        .arg(option(
+            alloc,
+            "postpone",
+            "0",
+            "How many times a waiting envelope is postponed, 0 to 1000, at the members in turn",
+        ))
+}
+
+// An option that has to be given.
+fn required<'a>(alloc: Global, name: &'a str, help: &'a str) -> Arg<'a>
+    ensures rule { rule_of result ≡ required_rule name.entry.now }
+    ensures local { result.global ≡ false }
+{
+    Arg::new(alloc, name)
+        .long(name)
+        .action(ArgAction::Set)
+        .required(true)
+        .help(help)
+}
+
+// An option that has the value `default` where none is given.
+fn option<'a>(alloc: Global, name: &'a str, default: &'a str, help: &'a str) -> Arg<'a>
+    ensures rule { rule_of result ≡ option_rule name.entry.now default.entry.now }
+    ensures local { result.global ≡ false }
+{
+    Arg::new(alloc, name)
+        .long(name)
+        .action(ArgAction::Set)
+        .default_value(default)
+        .help(help)
 }

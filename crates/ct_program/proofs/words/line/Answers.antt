@@ -1,14 +1,44 @@
-use Rattle.ct_program.proofs.Lines.{free_app, no_faults, has_kind, replay_passes}
+use Rattle.std.proofs.Common.{ap, is_some, option_map, sym, true≢false, false, ◌∙◌, ◌≡◌}
+use Rattle.ct_program.specs.declared.call.Call.TheVariants.{Free}
+use Rattle.ct_program.proofs.Lines.{exact_app, free_called, has_kind, no_faults, replay_called, replay_only, replay_passes}
 use Rattle.ct_program.proofs.words.line.Goals as goal
 
-pub returns-in-Ok-clause-ok : goal.returns-in-Ok-clause-ok
-returns-in-Ok-clause-ok c =
-    no_faults _ _ c.in_ok-command.ensures (c.in-Ok.ensures.kinds (free_app _ c.in_ok-command.ensures))
+pub returns-in-Err-clause-err : goal.returns-in-Err-clause-err
+returns-in-Err-clause-err c =
+    has_kind _ _ c.in-Err.error c.in_ok-command.ensures (c.in-Err.ensures.kinds (exact_app _ c.in_ok-command.ensures))
+
+pub returns-in-Err-clause-replay : goal.returns-in-Err-clause-replay
+returns-in-Err-clause-replay c = λ name e.
+    replay_passes _ name c.in-Err.error (has_kind _ _ c.in-Err.error c.in_ok-command.ensures (c.in-Err.ensures.kinds (exact_app _ c.in_ok-command.ensures))) e
+
+pub returns-in-None-clause-ok : goal.returns-in-None-clause-ok
+returns-in-None-clause-ok c = no_faults _ _ c.in_ok-command.ensures (c.in-Ok.ensures.kinds (exact_app _ c.in_ok-command.ensures))
+
+pub returns-in-None-clause-call : goal.returns-in-None-clause-call
+returns-in-None-clause-call c =
+    let none : is_some c.subcommand_matches.result ≡ false = ap is_some c.in-None.is in
+    replay_called _ _ _ c.in_ok-command.ensures c.in-Ok.ensures.matches (c.in-Ok.ensures.kinds (exact_app _ c.in_ok-command.ensures))
+    (λ named. true≢false (sym (c.subcommand_matches.ensures.found.1 named) ∙ none))
+
+pub returns-in-Some-options-clause-ok : goal.returns-in-Some-options-clause-ok
+returns-in-Some-options-clause-ok c = no_faults _ _ c.in_ok-command.ensures (c.in-Ok.ensures.kinds (exact_app _ c.in_ok-command.ensures))
+
+pub returns-in-Some-options-clause-call : goal.returns-in-Some-options-clause-call
+returns-in-Some-options-clause-call c =
+    free_called _ _ _ _ c.in_ok-command.ensures c.in-Ok.ensures.matches (c.subcommand_matches.ensures.found.0 (ap is_some c.in-Some.is)) c.in-Some.ensures.rows
+    ∙ ap (option_map Free) (sym c.options.ensures.exact ∙ c.in-Some-options.is)
+
+pub returns-in-Some-options-clause-in_range : goal.returns-in-Some-options-clause-in_range
+returns-in-Some-options-clause-in_range c = c.in-Some-options.ensures.range
 
 pub returns-clause-err : goal.returns-clause-err
-returns-clause-err c =
-    has_kind _ _ c.in-Err.error c.in_ok-command.ensures (c.in-Err.ensures.kinds (free_app _ c.in_ok-command.ensures))
+returns-clause-err c = no_faults _ _ c.in_ok-command.ensures (c.in-Ok.ensures.kinds (exact_app _ c.in_ok-command.ensures))
+
+pub returns-clause-range : goal.returns-clause-range
+returns-clause-range c = λ _.
+    free_called _ _ _ _ c.in_ok-command.ensures c.in-Ok.ensures.matches (c.subcommand_matches.ensures.found.0 (ap is_some c.in-Some.is)) c.in-Some.ensures.rows
+    ∙ ap (option_map Free) (sym c.options.ensures.exact ∙ c.in-None-options.is)
 
 pub returns-clause-replay : goal.returns-clause-replay
 returns-clause-replay c = λ name e.
-    replay_passes _ name c.in-Err.error (has_kind _ _ c.in-Err.error c.in_ok-command.ensures (c.in-Err.ensures.kinds (free_app _ c.in_ok-command.ensures))) e
+    replay_only _ _ _ name c.in_ok-command.ensures c.in-Ok.ensures.matches e (c.subcommand_matches.ensures.found.0 (ap is_some c.in-Some.is))

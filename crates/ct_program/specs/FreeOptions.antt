@@ -1,0 +1,21 @@
+-- The ranges of the options of a free run.
+use Rattle.std.specs.Prelude.{◌≤◌, ⊤}
+use Rattle.ct_program.specs.declared.free_options.FreeOptions.{FreeOptions}
+use Rattle.ct_program.specs.declared.call.Call.{Call}
+use Rattle.ct_program.specs.declared.call.Call.TheVariants.{Replay, Free}
+
+-- each option is in its range
+pub record InRange (o : FreeOptions) : Type 0 where
+  pub members : (1 ≤ o.members) × (o.members ≤ 16)
+  pub turns : o.turns ≤ 100000
+  pub seed : o.seed ≤ 4294967295
+  pub rate : o.rate ≤ 256
+  pub cells : o.cells ≤ 1024
+  pub submit : o.submit ≤ 1000
+  pub crash : o.crash ≤ 16
+  pub postpone : o.postpone ≤ 1000
+
+-- a free run is asked for with each option in its range
+abbrev pub FreeInRange : Call → Type 0
+FreeInRange Replay = ⊤
+FreeInRange (Free o) = InRange o

@@ -1,0 +1,24 @@
+//! What a free run is started with.
+
+/// The options of a free run, each under its name.
+#[derive(Clone, Copy, Debug, Drop, PartialEq, Eq)]
+pub struct FreeOptions {
+    /// The number of members, from 1 to 16.
+    pub members: u8,
+    /// How many turns each driver takes, up to 100,000.
+    pub turns: u32,
+    /// Member m's failure detector starts from the seed `seed` + m.
+    pub seed: u32,
+    /// How many of 256 random answers of a failure detector suspect the coordinator, up to 256.
+    pub rate: u16,
+    /// How many cells there are for batches, up to 1024.
+    pub cells: u16,
+    /// How many submissions the first script makes, up to 1000. Submission i, from 1, is `Add((i - 1) mod 16, i)` by
+    /// member `((i - 1) mod members) + 1`.
+    pub submit: u16,
+    /// The member that the first script crashes at its end, up to 16; 0 for none.
+    pub crash: u8,
+    /// How many postponements the second script makes, up to 1000. Postponement j, from 1, is at member
+    /// `((j - 1) mod members) + 1`.
+    pub postpone: u16,
+}

@@ -1,0 +1,109 @@
+//! A free run, and the record of it.
+
+ghost use Rattle.std.specs.Prelude.{◌≡◌, ◌≢◌, ◌⊎◌, ◌+◌, ◌^◌, ◌<◌, [], Err, OnOk, IfOk, IfErr, vec_len};
+ghost use Rattle.ct_world.specs.Replay.{world_after};
+ghost use Rattle.ct_program.specs.FreeOptions.{InRange};
+ghost use Rattle.ct_program.specs.FreeRun.{IsLineOfRun, WritesRun, IsFreeFault};
+
+use crate::failed::Failed;
+use crate::free_options::FreeOptions;
+use crate::planning::plan;
+use crate::program_fault::ProgramFault;
+use crate::replaying::write_all;
+use crate::sink::Sink;
+use crate::writing::write_record;
+use ct_detect::Detector;
+use ct_names::Group;
+use ct_rehearse::{Hall, NoGate};
+use ct_world::World;
+use std::alloc::Global;
+use std::marker::Brand;
+use std::sync::Wait;
+use std::sync::ledger::{Blank, Ledger};
+use std::thread::Threads;
+
+/// Runs a group freely: each member makes its turns in a thread of its own, with its detector, the first detector being
+/// member 1's, beside a thread of submissions with the crash and one of postponements. Then it writes the record of the
+/// run and a line feed. A run is not the same each time: the threads take their turns in any order. What the contract
+/// says of the output holds where the writer tells its bytes.
+pub fn free<R: Threads + Wait + Sync, W: Sink>(
+    rt: &R,
+    alloc: Global,
+    options: &FreeOptions,
+    detectors: Vec<Box<dyn Detector>>,
+    writer: &mut W,
+) -> Result<(), ProgramFault>
+    requires range { InRange options.now }
+    requires detectors { vec_len detectors ≡ options.now.members }
+    requires writes { W.failures writer.old < 2 ^ 63 }
+    // What was written is the record of a run of these many members and cells, and a line feed.
+    ensures ok { OnOk result (WritesRun options.now (W.written writer.old) (W.written writer.new)) }
+    ensures fault { IfErr result IsFreeFault }
+    // Only a fault of the writer has written anything.
+    ensures quiet { IfErr result (λ fault. fault ≢ ProgramFault.Write → writer.new ≡ writer.old) }
+    ensures writer { result ≡ Err ProgramFault.Write → W.failures writer.new ≡ W.failures writer.old + 1 }
+{
+    let blank = Blank::new(1000);
+    let world = settled::<Brand, R>(rt, alloc, blank, options, detectors)?;
+    let text = line_of(alloc, options, &world)?;
+    match write_all(writer, &text) {
+        Ok(()) => Ok(()),
+        Err(Failed) => Err(ProgramFault::Write),
+    }
+}
+
+// The world after the run. No lock is held when it is handed out.
+fn settled<L: Ledger + Send + Sync, R: Threads + Wait + Sync>(
+    rt: &R,
+    alloc: Global,
+    blank: Blank,
+    options: &FreeOptions,
+    detectors: Vec<Box<dyn Detector>>,
+) -> Result<World, ProgramFault>
+    requires name { blank.name ≡ L.name }
+    requires parts { blank.parts ≡ L.parts }
+    requires whole { L.parts ≡ 1000 }
+    requires range { InRange options.now }
+    requires detectors { vec_len detectors ≡ options.now.members }
+    ensures { IfErr result (λ fault. (fault ≡ ProgramFault.Memory) ⊎ (fault ≡ ProgramFault.Start)) }
+{
+    let plan = plan(alloc, options)?;
+    let world = first_world(alloc, options)?;
+    let (hall, mut share) = Hall::<L>::new(blank, world);
+    hall.run_free(rt, alloc, &plan, detectors, &NoGate, &mut share)?;
+    match hall.settled(rt, alloc, &mut share) {
+        Ok(world) => Ok(world),
+        Err(_) => Err(ProgramFault::Memory),
+    }
+}
+
+// The world before the run.
+fn first_world(alloc: Global, options: &FreeOptions) -> Result<World, ProgramFault>
+    requires { InRange options.now }
+    ensures ok { IfOk result (λ world. world ≡ world_after options.now.members options.now.cells []) }
+    ensures err { IfErr result (λ fault. fault ≡ ProgramFault.Memory) }
+{
+    let Some(group) = Group::new(options.members) else {
+        unreachable!()
+    };
+    match World::new(alloc, group, options.cells) {
+        Ok(world) => Ok(world),
+        Err(_) => Err(ProgramFault::Memory),
+    }
+}
+
+// The record of the world and a line feed, where the world has these many members and cells.
+fn line_of(alloc: Global, options: &FreeOptions, world: &World) -> Result<Vec<u8>, ProgramFault>
+    ensures ok { IfOk result (λ text. IsLineOfRun options.now text.items) }
+    ensures err { IfErr result (λ fault. (fault ≡ ProgramFault.Memory) ⊎ (fault ≡ ProgramFault.Exchanged)) }
+{
+    if world.group().n() != options.members || world.cells() != options.cells {
+        return Err(ProgramFault::Exchanged);
+    }
+    let _ = world.record();
+    let mut text = write_record(alloc, world)?;
+    if text.push(b'\n').is_err() {
+        return Err(ProgramFault::Memory);
+    }
+    Ok(text)
+}

@@ -1,0 +1,4 @@
+pub mod Shares
+pub mod Choices
+pub mod Turns
+pub mod Plans

@@ -1,0 +1,107 @@
+//! What turns of members, and entries of scripts, try.
+
+ghost use Rattle.std.specs.Prelude.{◌≡◌, Some};
+ghost use Rattle.ct_world.specs.Driving.{next_local};
+ghost use Rattle.ct_rehearse.specs.Choices.{HasAsked, ask_of, chosen, entry_step, first_waiting, instance_of, receives, round_of, said, tried};
+
+use crate::disturbance::Disturbance;
+use ct_detect::{Ask, Detector};
+use ct_model::Step;
+use ct_names::{Instance, Member, Round, Serial};
+use ct_world::World;
+
+// What a turn of the member tries. The detector is asked where a suspicion comes next.
+#[tactic(auto, unfolding(crate::specs::Choices::tried))]
+pub(crate) fn tried(world: &World, member: Member, detector: &mut dyn Detector) -> Option<Step>
+    ensures tried { result ≡ tried world.now.rehearsal member (last detector.new) }
+    ensures asked { HasAsked (next_local world.now.rehearsal member) (ask_of world.now.rehearsal member) (last detector.old) (last detector.new) }
+{
+    let step = chosen(world, member, world.next_local(member), detector);
+    if world.crashed(member) { None } else { step }
+}
+
+// What is tried where this step comes next.
+fn chosen(
+    world: &World,
+    member: Member,
+    next: Option<Step>,
+    detector: &mut dyn Detector,
+) -> Option<Step>
+    ensures chosen { result ≡ chosen member (first_waiting world.now.rehearsal member) (said (last detector.new)) next }
+    ensures asked { HasAsked next (ask_of world.now.rehearsal member) (last detector.old) (last detector.new) }
+{
+    match next {
+        Some(Step::Suspect(suspecting)) => {
+            if suspects(world, member, detector) {
+                Some(Step::Suspect(suspecting))
+            } else {
+                receipt(world, member)
+            }
+        }
+        Some(step) => Some(step),
+        None => receipt(world, member),
+    }
+}
+
+// Asks the detector.
+#[tactic(auto, unfolding(crate::specs::Choices::ask_of))]
+fn suspects(world: &World, member: Member, detector: &mut dyn Detector) -> bool
+    ensures { last detector.new ≡ Some (ask_of world.now.rehearsal member, result) }
+{
+    let round = round_of(world, member);
+    detector.suspects(Ask {
+        member,
+        coordinator: world.group().coordinator(round),
+        instance: instance_of(world, member),
+        round,
+    })
+}
+
+#[tactic(auto, unfolding(crate::specs::Choices::instance_of))]
+fn instance_of(world: &World, member: Member) -> Instance
+    ensures { result ≡ instance_of world.now.rehearsal member }
+{
+    match world.instance(member) {
+        Some((instance, _)) => instance,
+        None => 0,
+    }
+}
+
+#[tactic(auto, unfolding(crate::specs::Choices::round_of))]
+fn round_of(world: &World, member: Member) -> Round
+    ensures { result ≡ round_of world.now.rehearsal member }
+{
+    match world.round(member) {
+        Some((round, _)) => round,
+        None => 0,
+    }
+}
+
+#[tactic(auto, unfolding(crate::specs::Choices::first_waiting))]
+fn first_waiting(world: &World, member: Member) -> Option<Serial>
+    ensures { result ≡ first_waiting world.now.rehearsal member }
+{
+    world.waiting(member)?.first().copied()
+}
+
+fn receipt(world: &World, member: Member) -> Option<Step>
+    ensures { result ≡ receives member (first_waiting world.now.rehearsal member) }
+{
+    let serial = first_waiting(world, member)?;
+    Some(Step::Receive(member, serial))
+}
+
+// What an entry of a script tries.
+#[tactic(auto, unfolding(crate::specs::Choices::entry_step))]
+pub(crate) fn entry_step(world: &World, entry: &Disturbance) -> Option<Step>
+    ensures { result ≡ entry_step world.now.rehearsal entry.now }
+{
+    match *entry {
+        Disturbance::Submit(member, command) => Some(Step::Submit(member, command)),
+        Disturbance::Crash(member) => Some(Step::Crash(member)),
+        Disturbance::Postpone(member) => match first_waiting(world, member) {
+            None => None,
+            Some(serial) => Some(Step::Postpone(member, serial)),
+        },
+    }
+}

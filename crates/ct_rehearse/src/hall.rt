@@ -1,0 +1,121 @@
+//! A desk that threads share.
+
+ghost use Rattle.std.specs.Prelude.{◌≡◌, ◌+◌, ◌^◌, ◌<◌, None, IfOk, IfErr, length};
+ghost use Rattle.ct_model.specs.Rehearsal.{state_of};
+ghost use Rattle.ct_model.specs.Safe.{IsSafe};
+ghost use Rattle.ct_rehearse.specs.Shares.{whole_share};
+ghost use Rattle.ct_rehearse.specs.Turns.{share_after_turn};
+
+mod run;
+
+use crate::desk::Desk;
+use crate::disturbance::Disturbance;
+use crate::outcome::Turn;
+use crate::share::Share;
+use crate::turns;
+use ct_detect::Detector;
+use ct_names::{Group, Member, Refusal};
+use ct_world::World;
+use std::alloc::Global;
+use std::marker::Model;
+use std::sync::ledger::{Blank, Ledger};
+use std::sync::{Mutex, Wait};
+
+/// A desk under a lock, which threads share. Whoever takes the lock finds a world, so a run of the algorithm in a safe
+/// state. What happened to the locked world between two calls is known by shares alone: no clause names it.
+#[derive(Drop)]
+pub struct Hall<L: Ledger> {
+    desk: Mutex<Desk<L>>,
+    group: Group,
+}
+
+// Contracts see the number of members.
+impl<L: Ledger> Model for Hall<L> {
+    ghost use Rattle.std.specs.Prelude.{ℕ};
+
+    ghost Value = { ℕ };
+
+    ghost view = { λ h. h.group };
+}
+
+impl<L: Ledger> Hall<L> {
+    /// A hall for this world, and the whole share, which has the steps that the world's record has already. The blank is
+    /// that of a new ledger with 1,000 parts.
+    pub fn new(blank: Blank, world: World) -> (Hall<L>, Share<L>)
+        requires name { blank.name ≡ L.name }
+        requires parts { blank.parts ≡ L.parts }
+        requires whole { L.parts ≡ 1000 }
+        ensures hall { result.0 ≡ world.rehearsal.setting.members }
+        ensures share { result.1 ≡ whole_share (length world.rehearsal.steps) }
+    {
+        let group = world.group();
+        let (desk, share) = Desk::new(blank, world);
+        (
+            Hall {
+                desk: Mutex::new(desk),
+                group,
+            },
+            share,
+        )
+    }
+
+    /// The group of the world that was handed in.
+    pub fn group(&self) -> Group
+        ensures { result ≡ self.now }
+    {
+        self.group
+    }
+
+    /// A copy of the world as it stands at some moment of the call. Only memory can be refused.
+    pub fn snapshot<R: Wait>(&self, rt: &R, alloc: Global) -> Result<World, Refusal>
+        ensures safe { IfOk result (λ world. IsSafe world.rehearsal.setting (state_of world.rehearsal)) }
+        ensures none { IfOk result (λ world. world.prepared ≡ None) }
+        ensures err { IfErr result (λ refusal. refusal ≡ Refusal.OutOfMemory) }
+    {
+        let copy = self.desk.lock(rt).world().copy(alloc)?;
+        let _ = copy.record();
+        Ok(copy)
+    }
+
+    /// A copy of the world after all that was counted: its record has the share's number of steps. Asks the whole share.
+    /// Only memory can be refused.
+    pub fn settled<R: Wait>(
+        &self,
+        rt: &R,
+        alloc: Global,
+        share: &mut Share<L>,
+    ) -> Result<World, Refusal>
+        requires { share.old.parts ≡ L.parts }
+        ensures steps { IfOk result (λ world. length world.rehearsal.steps ≡ share.old.steps) }
+        ensures safe { IfOk result (λ world. IsSafe world.rehearsal.setting (state_of world.rehearsal)) }
+        ensures none { IfOk result (λ world. world.prepared ≡ None) }
+        ensures err { IfErr result (λ refusal. refusal ≡ Refusal.OutOfMemory) }
+        ensures share { share.new ≡ share.old }
+    {
+        let copy = self.desk.lock(rt).settled(alloc, share)?;
+        let _ = copy.record();
+        Ok(copy)
+    }
+
+    // A turn of a member, under the lock.
+    pub(crate) fn turn<R: Wait>(
+        &self,
+        rt: &R,
+        share: &mut Share<L>,
+        member: Member,
+        detector: &mut dyn Detector,
+    ) -> Turn
+        requires { share.old.steps + 1 < 2 ^ 64 }
+        ensures { share.new ≡ share_after_turn share.old result }
+    {
+        turns::turn(&mut *self.desk.lock(rt), share, member, detector)
+    }
+
+    // An entry of a script, under the lock.
+    pub(crate) fn disturb<R: Wait>(&self, rt: &R, share: &mut Share<L>, entry: &Disturbance) -> Turn
+        requires { share.old.steps + 1 < 2 ^ 64 }
+        ensures { share.new ≡ share_after_turn share.old result }
+    {
+        turns::disturb(&mut *self.desk.lock(rt), share, entry)
+    }
+}

@@ -1,0 +1,33 @@
+//! A world under a lock, and the turns that threads make on it.
+#![tactic(auto)]
+
+mod choosing;
+mod desk;
+mod disturbance;
+mod gate;
+mod hall;
+mod made;
+mod outcome;
+mod plan;
+mod pool;
+mod run_fault;
+mod running;
+mod share;
+mod starting;
+mod turns;
+mod worked;
+mod working;
+
+pub use desk::Desk;
+pub use disturbance::Disturbance;
+pub use gate::{Gate, NoGate};
+pub use hall::Hall;
+pub use made::Made;
+pub use outcome::Turn;
+pub use plan::Plan;
+pub use run_fault::RunFault;
+pub use share::Share;
+pub use turns::{disturb, turn};
+
+#[cfg(test)]
+mod tests;

@@ -1,0 +1,100 @@
+ghost use Rattle.std.specs.Prelude.{◌≡◌, ◌≤◌, IfOk, vec_len};
+ghost use Rattle.ct_rehearse.specs.Plans.{IsWithin, entries};
+
+use super::*;
+use ct_detect::{Detector, Never};
+use std::alloc::AllocError;
+use std::sync::{Mutex, Wait};
+use std::thread::Threads;
+
+// It counts its calls.
+#[derive(Drop)]
+struct Counting {
+    calls: Mutex<(u32, u32)>,
+}
+
+impl Gate for Counting {
+    fn before<R: Wait>(&self, rt: &R, _worker: u32, _turn: u32) {
+        let mut calls = self.calls.lock(rt);
+        calls.0 = calls.0.saturating_add(1);
+    }
+
+    fn after<R: Wait>(&self, rt: &R, _worker: u32, _turn: u32) {
+        let mut calls = self.calls.lock(rt);
+        calls.1 = calls.1.saturating_add(1);
+    }
+}
+
+// No turns of members, and a script of submissions, of which one is refused, and a crash.
+fn scripted(alloc: Global) -> Result<Plan, AllocError>
+    ensures within { IfOk result (λ plan. IsWithin plan) }
+    ensures scripts { IfOk result (λ plan. vec_len plan.scripts ≡ 1) }
+    ensures turns { IfOk result (λ plan. plan.turns ≡ 0) }
+    ensures entries { IfOk result (λ plan. entries plan ≤ 100000) }
+{
+    let script = vec![in alloc;
+        Disturbance::Submit(2, SEVEN),
+        Disturbance::Submit(3, SEVEN),
+        Disturbance::Postpone(2),
+        Disturbance::Crash(2),
+    ]?;
+    let mut scripts = Vec::new(alloc);
+    scripts.push(script)?;
+    Ok(Plan { turns: 0, scripts })
+}
+
+// Two members and a script.
+fn disturbed<L: Ledger + Send + Sync, R: Threads + Wait + Sync>(
+    rt: &R,
+    alloc: Global,
+    blank: Blank,
+) -> Result<(Made, World, (u32, u32)), Fail>
+    requires name { blank.name ≡ L.name }
+    requires parts { blank.parts ≡ L.parts }
+    requires whole { L.parts ≡ 1000 }
+{
+    let (hall, mut share) = Hall::<L>::new(blank, submitted(alloc, 2)?);
+    let mut detectors: Vec<Box<dyn Detector>> = Vec::new(alloc);
+    detectors.push(Box::new(alloc, Never::new())?)?;
+    detectors.push(Box::new(alloc, Never::new())?)?;
+    if usize::from(hall.group().n()) != detectors.len() {
+        return Err(Fail::from("two members"));
+    }
+    let plan = scripted(alloc)?;
+    let gate = Counting {
+        calls: Mutex::new((0, 0)),
+    };
+    let Ok(made) = hall.run_free(rt, alloc, &plan, detectors, &gate, &mut share) else {
+        return Err(Fail::from("run"));
+    };
+    let settled = hall.settled(rt, alloc, &mut share)?;
+    let Counting { calls } = gate;
+    Ok((made, settled, calls.into_inner()))
+}
+
+#[test]
+fn a_script_is_followed_in_order(rt: HostRuntime) -> Result<(), Fail> {
+    let (made, settled, calls) = disturbed::<Brand, _>(&rt, rt.alloc(), Blank::new(1000))?;
+    assert_eq!(rt; (made.steps, made.resting, made.refused), (3, 0, 1));
+    assert_eq!(rt; calls, (4, 4));
+    let steps = [
+        Step::Submit(1, SEVEN),
+        Step::Submit(2, SEVEN),
+        Step::Postpone(2, 2),
+        Step::Crash(2),
+    ];
+    assert!(rt; settled.record() == steps.as_slice());
+    Ok(())
+}
+
+#[test]
+fn runs_fail_for_memory_or_threads_alone(rt: HostRuntime) -> Result<(), Fail> {
+    for fault in [RunFault::Memory, RunFault::Start] {
+        let cause = match fault {
+            RunFault::Memory => "memory",
+            RunFault::Start => "threads",
+        };
+        assert_eq!(rt; cause == "memory", fault == RunFault::Memory);
+    }
+    Ok(())
+}

@@ -1,0 +1,68 @@
+ghost use Rattle.std.specs.Prelude.{◌≡◌};
+
+use super::*;
+use ct_detect::{Detector, Never};
+use ct_names::Message;
+use std::sync::Wait;
+use std::thread::Threads;
+
+// Steps that are made, and worlds that are shown.
+#[derive(Drop)]
+struct Shown {
+    made: Made,
+    settled: World,
+    snapshot: World,
+}
+
+// One member, one submission, 100 turns.
+fn one_member<L: Ledger + Send + Sync, R: Threads + Wait + Sync>(
+    rt: &R,
+    alloc: Global,
+    blank: Blank,
+) -> Result<Shown, Fail>
+    requires name { blank.name ≡ L.name }
+    requires parts { blank.parts ≡ L.parts }
+    requires whole { L.parts ≡ 1000 }
+{
+    let (hall, mut share) = Hall::<L>::new(blank, submitted(alloc, 1)?);
+    let mut detectors: Vec<Box<dyn Detector>> = Vec::new(alloc);
+    detectors.push(Box::new(alloc, Never::new())?)?;
+    if usize::from(hall.group().n()) != detectors.len() {
+        return Err(Fail::from("one member"));
+    }
+    let plan = Plan {
+        turns: 100,
+        scripts: Vec::new(alloc),
+    };
+    let Ok(made) = hall.run_free(rt, alloc, &plan, detectors, &NoGate, &mut share) else {
+        return Err(Fail::from("run"));
+    };
+    let settled = hall.settled(rt, alloc, &mut share)?;
+    let snapshot = hall.snapshot(rt, alloc)?;
+    Ok(Shown {
+        made,
+        settled,
+        snapshot,
+    })
+}
+
+#[test]
+fn one_member_delivers(rt: HostRuntime) -> Result<(), Fail> {
+    let shown = one_member::<Brand, _>(&rt, rt.alloc(), Blank::new(1000))?;
+    let made = Made {
+        steps: 13,
+        resting: 87,
+        refused: 0,
+    };
+    assert_eq!(rt; shown.made, made);
+    assert_eq!(rt; shown.settled.record().len(), 14);
+    assert_eq!(rt; shown.snapshot.record(), shown.settled.record());
+    let message = Message::new(1, 1, SEVEN).ok_or("good")?;
+    assert!(rt;
+        shown
+            .settled
+            .delivered(1)
+            .is_some_and(|list| list == [message].as_slice())
+    );
+    Ok(())
+}

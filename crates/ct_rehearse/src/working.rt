@@ -1,0 +1,64 @@
+//! What workers do.
+
+ghost use Rattle.std.specs.Prelude.{◌≡◌, ◌≤◌, length};
+ghost use Rattle.ct_rehearse.specs.Plans.{turns_made};
+
+use crate::disturbance::Disturbance;
+use crate::gate::Gate;
+use crate::hall::Hall;
+use crate::made::Made;
+use crate::share::Share;
+use crate::worked::Worked;
+use ct_detect::Detector;
+use ct_names::Member;
+use std::sync::Wait;
+use std::sync::ledger::Ledger;
+
+// Makes turns of one member.
+pub(crate) fn drive<L: Ledger, R: Wait, G: Gate>(
+    hall: &Hall<L>,
+    rt: &R,
+    gate: &G,
+    member: Member,
+    turns: u32,
+    mut detector: Box<dyn Detector>,
+    mut share: Share<L>,
+) -> Worked<L>
+    requires { share ≡ record { parts = 1; steps = 0 } }
+    ensures { turns_made result.made ≡ turns }
+{
+    let worker = u32::from(member);
+    let mut made = Made::none();
+    for number in 0..turns {
+        gate.before(rt, worker, number + 1);
+        let outcome = hall.turn(rt, &mut share, member, &mut *detector);
+        gate.after(rt, worker, number + 1);
+        made.count(&outcome);
+    }
+    Worked::new(made, share)
+}
+
+// Makes the entries of one script.
+pub(crate) fn follow<L: Ledger, R: Wait, G: Gate>(
+    hall: &Hall<L>,
+    rt: &R,
+    gate: &G,
+    worker: u32,
+    script: &[Disturbance],
+    mut share: Share<L>,
+) -> Worked<L>
+    requires share { share ≡ record { parts = 1; steps = 0 } }
+    requires short { length script.now ≤ 100000 }
+    ensures { turns_made result.made ≡ length script.now }
+{
+    let mut made = Made::none();
+    let mut number = 0;
+    for entry in script {
+        number += 1;
+        gate.before(rt, worker, number);
+        let outcome = hall.disturb(rt, &mut share, entry);
+        gate.after(rt, worker, number);
+        made.count(&outcome);
+    }
+    Worked::new(made, share)
+}
