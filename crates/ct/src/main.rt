@@ -2,12 +2,11 @@
 //! freely and writes the record of the run.
 #![tactic(auto)]
 
-ghost use Rattle.std.specs.Prelude.{◌≡◌, IfOk, vec_len};
+ghost use Rattle.std.specs.Prelude.{IfOk};
 ghost use Rattle.ct_program.specs.FreeOptions.{FreeInRange, InRange};
 
 use ct_detect::{Detector, Seeded};
 use ct_program::{Call, Counted, FreeOptions, LineFault, free, line, run_replay};
-use std::alloc::{AllocError, Global};
 use std::fmt::Display;
 use std::io;
 use std::process::ExitCode;
@@ -68,31 +67,25 @@ fn replay(rt: &HostRuntime) -> ExitCode {
     }
 }
 
-// Only `main` may hand the runtime on as one that starts threads.
+// Only `main` may hand the runtime on as one that starts threads. The detector of member m has the seed and m.
 fn run<T: Threads + Wait + Sync>(rt: &HostRuntime, threads: &T, options: &FreeOptions) -> ExitCode
     requires { InRange options.now }
 {
-    let Ok(detectors) = detectors(rt.alloc(), options) else {
-        return fail(rt, "out of memory", NO_MEMORY);
-    };
+    let mut detectors: Vec<Box<dyn Detector>> = Vec::new(rt.alloc());
+    for i in 0..options.members {
+        let seed = u64::from(options.seed) + u64::from(i) + 1;
+        let Ok(detector) = Box::new(rt.alloc(), Seeded::new(seed, options.rate)) else {
+            return fail(rt, "out of memory", NO_MEMORY);
+        };
+        if detectors.push(detector).is_err() {
+            return fail(rt, "out of memory", NO_MEMORY);
+        }
+    }
     let mut writer = Counted::new(io::writer(rt));
     match free(threads, rt.alloc(), options, detectors, &mut writer) {
         Ok(()) => ExitCode::SUCCESS,
         Err(fault) => fail(rt, fault, fault.status()),
     }
-}
-
-// A detector for each member, that of member m with the seed and m.
-fn detectors(alloc: Global, options: &FreeOptions) -> Result<Vec<Box<dyn Detector>>, AllocError>
-    requires { InRange options.now }
-    ensures { IfOk result (λ detectors. vec_len detectors ≡ options.now.members) }
-{
-    let mut detectors: Vec<Box<dyn Detector>> = Vec::new(alloc);
-    for i in 0..options.members {
-        let seed = u64::from(options.seed) + u64::from(i) + 1;
-        detectors.push(Box::new(alloc, Seeded::new(seed, options.rate))?)?;
-    }
-    Ok(detectors)
 }
 
 // A call for help or for the version is answered on standard output.

@@ -78,7 +78,19 @@ fn rehearse<L: Ledger + Send + Sync, R: Threads + Wait + Sync>(
     let group = Group::new(3)?;
     let world = World::new(alloc, group, 16).ok()?;
     let (hall, mut share) = Hall::<L>::new(blank, world);
-    let detectors = detectors(alloc).ok()?;
+    let mut detectors: Vec<Box<dyn Detector>> = Vec::new(alloc);
+    detectors
+        .push(Box::new(alloc, FirstRound { last: None }).ok()?)
+        .ok()?;
+    detectors
+        .push(Box::new(alloc, FirstRound { last: None }).ok()?)
+        .ok()?;
+    detectors
+        .push(Box::new(alloc, FirstRound { last: None }).ok()?)
+        .ok()?;
+    if detectors.len() != usize::from(hall.group().n()) {
+        return None;
+    }
     let plan = plan(alloc).ok()?;
     let gate = Counter {
         turns: Mutex::new(0),
@@ -88,16 +100,6 @@ fn rehearse<L: Ledger + Send + Sync, R: Threads + Wait + Sync>(
     let world = hall.settled(rt, alloc, &mut share).ok()?;
     let Counter { turns } = gate;
     Some((world, turns.into_inner()))
-}
-
-fn detectors(alloc: Global) -> Result<Vec<Box<dyn Detector>>, AllocError>
-    ensures { IfOk result (λ detectors. vec_len detectors ≡ 3) }
-{
-    let mut detectors: Vec<Box<dyn Detector>> = Vec::new(alloc);
-    detectors.push(Box::new(alloc, FirstRound { last: None })?)?;
-    detectors.push(Box::new(alloc, FirstRound { last: None })?)?;
-    detectors.push(Box::new(alloc, FirstRound { last: None })?)?;
-    Ok(detectors)
 }
 
 fn plan(alloc: Global) -> Result<Plan, AllocError>
