@@ -1,6 +1,6 @@
 //! What one decision delivers.
 
-ghost use Rattle.std.specs.Prelude.{◌≡◌};
+ghost use Rattle.std.specs.Prelude.{◌≡◌, ◌↔◌, IsTrue};
 
 use ct_names::{Instance, Message};
 use std::marker::Model;
@@ -41,5 +41,12 @@ impl Batch {
         ensures { result.now ≡ self.now.messages }
     {
         &self.messages
+    }
+
+    /// Whether it is the batch of the instance with these messages, in this order.
+    pub fn is_same(&self, instance: Instance, messages: &[Message]) -> bool
+        ensures { IsTrue result ↔ (self.now ≡ record { instance = instance; messages = messages.now }) }
+    {
+        instance == self.instance && self.messages() == messages
     }
 }

@@ -100,6 +100,18 @@ fn a_set_that_was_delivered_gives_an_empty_batch(rt: HostRuntime) -> Result<(), 
     Ok(())
 }
 
+#[test]
+fn a_batch_is_compared_with_its_messages(rt: HostRuntime) -> Result<(), Fail> {
+    let alloc = rt.alloc();
+    let one = message(2, 1)?;
+    let mut caster = Caster::new(alloc);
+    caster.begin();
+    let batch = caster.batch(alloc, &MsgSet::of(alloc, &[one])?)?;
+    assert!(rt; batch.is_same(1, &[one]));
+    assert!(rt; !batch.is_same(2, &[one]) && !batch.is_same(1, &[]));
+    Ok(())
+}
+
 // With `rt try --test --fail-alloc N` the Nth allocation is refused, for N from 1 on in turn.
 #[test]
 fn refused_memory_changes_nothing(rt: HostRuntime) -> Result<(), Fail> {

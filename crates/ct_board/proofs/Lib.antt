@@ -1,0 +1,4 @@
+pub mod Looks
+pub mod Meeting
+pub mod Reading
+pub mod Somes
