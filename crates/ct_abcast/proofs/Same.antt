@@ -8,7 +8,7 @@ use Rattle.ct_names.specs.Message.{Message}
 use Rattle.ct_names.specs.Order.{is_message}
 use Rattle.ct_names.proofs.Orders.{same_eq}
 use Rattle.ct_names.proofs.Values.{same_message, is_message-refl}
-use Rattle.ct_abcast.specs.Batch.{Batch}
+use Rattle.ct_names.specs.Batch.{Batch}
 
 eq-Decides : (a b : Message) → Decides (equal.eq a b) (a ≡ b)
 eq-Decides a b =

@@ -1,4 +1,3 @@
-pub mod Batch
 pub mod Batches
 pub mod Cast
 pub mod Ends

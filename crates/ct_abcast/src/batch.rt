@@ -13,7 +13,7 @@ pub struct Batch {
 }
 
 impl Model for Batch {
-    ghost use Rattle.ct_abcast.specs.Batch.{Batch as Plain};
+    ghost use Rattle.ct_names.specs.Batch.{Batch as Plain};
 
     ghost Value = { Plain };
 

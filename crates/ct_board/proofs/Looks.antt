@@ -8,7 +8,7 @@ use Rattle.std.proofs.lemmas.Option.{slice_get_within, get_or_from_slice_get}
 use Rattle.std.proofs.lemmas.Bool.{cases_eq}
 use Rattle.once_cell.specs.Once.{Agrees}
 use Rattle.once_cell.specs.declared.race.note.Note.{Note}
-use Rattle.ct_abcast.specs.Batch.{Batch}
+use Rattle.ct_names.specs.Batch.{Batch}
 use Rattle.ct_board.specs.Known.{Knows, Keeps}
 use Rattle.ct_board.specs.Notes.{cells_of, known_of}
 

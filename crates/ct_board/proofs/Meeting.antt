@@ -3,9 +3,9 @@ use Rattle.std.proofs.Common.{◌≡◌, ℕ, ◌+◌, ◌<◌, ◌≤◌, List,
 use Rattle.std.specs.Prelude.{slice_get}
 use Rattle.std.proofs.lemmas.Bool.{cases_eq}
 use Rattle.std.proofs.lemmas.Option.{slice_get_within}
-use Rattle.ct_abcast.specs.Batch.{Batch}
+use Rattle.ct_names.specs.Batch.{Batch}
 use Rattle.ct_board.specs.Known.{somes, Knows, Keeps}
-use Rattle.ct_board.specs.Prefix.{IsPrefix}
+use Rattle.ct_names.specs.Prefix.{IsPrefix}
 use Rattle.ct_board.specs.Watched.{Watched, batches_read, batches_told}
 use Rattle.ct_board.proofs.Somes.{somes_are, somes_begin}
 

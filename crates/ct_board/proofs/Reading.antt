@@ -4,7 +4,7 @@ use Rattle.std.specs.Prelude.{slice_get}
 use Rattle.std.proofs.lemmas.List.{length-map}
 use Rattle.once_cell.specs.declared.race.note.Note.{Note}
 use Rattle.ct_names.specs.Message.{Message}
-use Rattle.ct_abcast.specs.Batch.{Batch}
+use Rattle.ct_names.specs.Batch.{Batch}
 use Rattle.ct_table.specs.Table.{applied_all, table}
 use Rattle.ct_board.specs.Known.{Knows, Keeps}
 use Rattle.ct_board.specs.Notes.{cells_of, known_of}

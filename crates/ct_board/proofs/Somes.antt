@@ -2,7 +2,7 @@
 use Rattle.std.proofs.Common.{◌≡◌, ℕ, ◌+◌, ◌<◌, ◌≤◌, zero, suc, List, [], ◌∷◌, ◌++◌, Option, Some, None, All, IsSome, take, length, get_or, false, true, refl, sym, ◌∙◌, ap, subst, arith, inl, inr}
 use Rattle.std.specs.Prelude.{slice_get}
 use Rattle.ct_board.specs.Known.{somes, Knows, Keeps, SameWhereKnown}
-use Rattle.ct_board.specs.Prefix.{IsPrefix, OneBegins}
+use Rattle.ct_names.specs.Prefix.{IsPrefix, OneBegins}
 
 module _ {A : Type 0} where
   none_known : (rest : List (Option A)) → All IsSome (None ∷ rest) → ⊥

@@ -1,6 +1,5 @@
 pub mod Board
 pub mod Known
 pub mod Notes
-pub mod Prefix
 pub mod Watched
 pub mod Watching

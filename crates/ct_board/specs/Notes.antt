@@ -1,7 +1,7 @@
 -- What a list of notes is of, and what it knows.
 use Rattle.std.specs.Prelude.{ℕ, List, Option, map}
 use Rattle.once_cell.specs.declared.race.note.Note.{Note}
-use Rattle.ct_abcast.specs.Batch.{Batch}
+use Rattle.ct_names.specs.Batch.{Batch}
 
 -- the names of the cells that the notes are of
 abbrev pub cells_of : List (Note Batch) → List ℕ

@@ -1,7 +1,7 @@
 -- What contracts see of a watcher.
 use Rattle.std.specs.Prelude.{◌≡◌, ◌≤◌, ℕ, List, Option, IsSome, All, flat_map, length, take}
 use Rattle.ct_names.specs.Message.{Message}
-use Rattle.ct_abcast.specs.Batch.{Batch}
+use Rattle.ct_names.specs.Batch.{Batch}
 use Rattle.ct_board.specs.Known.{somes}
 
 -- the names of its board's cells, what its note of each cell knows, and how many batches it read and was told of, both

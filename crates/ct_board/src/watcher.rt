@@ -1,10 +1,10 @@
 //! Watchers.
 
 ghost use Rattle.std.specs.Prelude.{◌≡◌, ◌+◌, ◌<◌, ◌≤◌, ◌++◌, ◌∷◌, [], All, None, Some, length, replicate, slice_get, slice_set, take, IfOk, IfNone, IfSome, IsSome, IsSomeAnd};
-ghost use Rattle.ct_abcast.specs.Batch.{Batch as Plain};
+ghost use Rattle.ct_names.specs.Batch.{Batch as Plain};
 ghost use Rattle.ct_table.specs.Table.{table as table_of};
 ghost use Rattle.ct_board.specs.Known.{Keeps, Knows};
-ghost use Rattle.ct_board.specs.Prefix.{IsPrefix, OneBegins};
+ghost use Rattle.ct_names.specs.Prefix.{IsPrefix, OneBegins};
 ghost use Rattle.ct_board.specs.Watched.{batches_read, batches_told, messages_of};
 
 use crate::board::Board;

@@ -8,7 +8,8 @@ use Rattle.ct_names.specs.Value.{Value}
 use Rattle.ct_model.specs.declared.phase.Phase.TheVariants.{Rest}
 use Rattle.ct_model.specs.Wire.{Wire as AnyWire}
 use Rattle.ct_model.specs.AtValue.{Wire}
-use Rattle.ct_model.specs.State.{Standing as AnyStanding, Member, Batch, new_member}
+use Rattle.ct_model.specs.State.{Standing as AnyStanding, Member, new_member}
+use Rattle.ct_names.specs.Batch.{Batch}
 use Rattle.ct_model.specs.Received.{Ballots, head, decision_of, decided, ballots}
 use Rattle.ct_model.specs.Counted.{count_in, NamesSomebody}
 use Rattle.ct_model.specs.Mapped.{wire_map, standing_map, ballots_map}

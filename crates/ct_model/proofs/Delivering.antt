@@ -11,7 +11,8 @@ use Rattle.ct_model.specs.Actor.{actor}
 use Rattle.ct_model.specs.AtValue.{Wire, Standing, Turn}
 use Rattle.ct_model.specs.Setting.{Setting}
 use Rattle.ct_model.specs.Wire.Mail.{Nobody}
-use Rattle.ct_model.specs.State.{State, Member, Batch, joined, member, new_member, first_state}
+use Rattle.ct_model.specs.State.{State, Member, joined, member, new_member, first_state}
+use Rattle.ct_names.specs.Batch.{Batch}
 use Rattle.ct_model.specs.Received.{head, decision_of, decided}
 use Rattle.ct_model.specs.Phases.{enter, choose, adopt, suspect, conclude}
 use Rattle.ct_model.specs.Next.{Outcome, plain, row, turned, round_row, own_ballots, submit, receive, begin, deliver, batch_of, crash, wire_to, after, next}

@@ -46,6 +46,7 @@ pub mod Submitting
 pub mod OneOrder
 pub mod Prefixes
 pub mod Safety
+pub mod Ordering
 pub mod Posting
 pub mod Making
 pub mod History

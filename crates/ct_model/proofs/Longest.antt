@@ -4,7 +4,8 @@ use Rattle.std.specs.Prelude.{nat_lt, fold, if◌then◌else◌, slice_index_or}
 use Rattle.std.proofs.lemmas.Bool.{cases_eq}
 use Rattle.std.proofs.lemmas.Bool.Decides.{nat_tests}
 use Rattle.ct_model.specs.Setting.{Setting}
-use Rattle.ct_model.specs.State.{State, Member, Batch, member, new_member}
+use Rattle.ct_model.specs.State.{State, Member, member, new_member}
+use Rattle.ct_names.specs.Batch.{Batch}
 use Rattle.ct_model.specs.Next.{Outcome, after}
 use Rattle.ct_model.specs.Cause.{order, longest}
 use Rattle.ct_model.proofs.Frame.{after-size, member-same, member-other, at_place}

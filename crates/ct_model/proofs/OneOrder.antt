@@ -4,8 +4,8 @@ use Rattle.std.specs.Prelude.{nat_lt}
 use Rattle.std.proofs.lemmas.Bool.Decides.{nat_tests}
 use Rattle.ct_names.specs.Membership.{IsIn}
 use Rattle.ct_model.specs.Cause.{longest}
-use Rattle.ct_model.specs.Safe.{IsPrefix}
-use Rattle.ct_model.specs.State.{Batch}
+use Rattle.ct_names.specs.Prefix.{IsPrefix}
+use Rattle.ct_names.specs.Batch.{Batch}
 
 prefix-trans : {A : Type 0} (xs ys zs : List A) → IsPrefix xs ys → IsPrefix ys zs → IsPrefix xs zs
 prefix-trans xs ys zs a b = (a.0 ++ b.0, sym (append_assoc xs a.0 b.0) ∙ ap (λ z. z ++ b.0) a.1 ∙ b.1)

@@ -10,10 +10,12 @@ use Rattle.ct_names.proofs.Values
 use Rattle.ct_model.specs.declared.step.Step.{Step}
 use Rattle.ct_model.specs.AtValue.{Wire}
 use Rattle.ct_model.specs.Setting.{Setting}
-use Rattle.ct_model.specs.State.{State, Member, Batch, joined, member, new_member}
+use Rattle.ct_model.specs.State.{State, Member, joined, member, new_member}
+use Rattle.ct_names.specs.Batch.{Batch}
 use Rattle.ct_model.specs.Run.{run}
 use Rattle.ct_model.specs.Cause.{order}
-use Rattle.ct_model.specs.Safe.{IsAgreed, IsPrefix, IsProposed, delivered_by}
+use Rattle.ct_model.specs.Safe.{IsAgreed, IsProposed, delivered_by}
+use Rattle.ct_names.specs.Prefix.{IsPrefix}
 use Rattle.ct_model.proofs.Delivering.{deliveries, deliveries-same, decision, decision-is, HasDecision, HasClosed, HaveClosed, closed-run}
 use Rattle.ct_model.proofs.OneOrder.{InOneOrder, longest-prefix, longest-in}
 use Rattle.ct_model.proofs.Outcomes.{some-same, some-none}

@@ -18,5 +18,6 @@ pub mod Safe
 pub mod Waiting
 pub mod Rehearsal
 pub mod Cause
+pub mod Order
 pub mod Lawful
 pub mod Knowledge

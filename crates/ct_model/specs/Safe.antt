@@ -1,8 +1,9 @@
 -- What is safe in every state of a run.
-use Rattle.std.specs.Prelude.{◌≡◌, ◌⊎◌, ℕ, List, ◌++◌}
+use Rattle.std.specs.Prelude.{◌≡◌, ℕ, List}
 use Rattle.ct_names.specs.Group.{IsMember, IsMajority}
 use Rattle.ct_names.specs.Message.{Message}
 use Rattle.ct_names.specs.Membership.{IsIn, IsWithoutRepeats}
+use Rattle.ct_names.specs.Prefix.{OneBegins}
 use Rattle.ct_names.specs.Value.{Value}
 use Rattle.ct_model.specs.Setting.{Setting}
 use Rattle.ct_model.specs.Wire.Wire.{Prop}
@@ -20,10 +21,6 @@ pub record IsProposed (g : State) (instance : ℕ) (value : Value) : Type 0 wher
   pub by : ℕ
   pub is_in : IsIn (record { member = by; instance = instance; value = value }) g.proposals
 
--- the list begins the other
-abbrev pub IsPrefix : {A : Type 0} → List A → List A → Type 0
-IsPrefix {A} xs ys = (rest : List A) × (xs ++ rest ≡ ys)
-
 abbrev pub delivered_by : State → ℕ → List Message
 delivered_by g p = delivered (member g p)
 
@@ -36,7 +33,7 @@ pub record IsAgreed (s : Setting) (g : State) : Type 0 where
 -- by batch, no message stands twice in one, and each was submitted
 pub record IsSafe (s : Setting) (g : State) : Type 0 where
   pub decisions : IsAgreed s g
-  pub one_order : (p q : ℕ) → IsMember s.members p → IsMember s.members q → IsPrefix (delivered_by g p) (delivered_by g q) ⊎ IsPrefix (delivered_by g q) (delivered_by g p)
-  pub batches : (p q : ℕ) → IsMember s.members p → IsMember s.members q → IsPrefix (member g p).batches (member g q).batches ⊎ IsPrefix (member g q).batches (member g p).batches
+  pub one_order : (p q : ℕ) → IsMember s.members p → IsMember s.members q → OneBegins (delivered_by g p) (delivered_by g q)
+  pub batches : (p q : ℕ) → IsMember s.members p → IsMember s.members q → OneBegins (member g p).batches (member g q).batches
   pub once : (p : ℕ) → IsMember s.members p → IsWithoutRepeats (delivered_by g p)
   pub submitted : (p : ℕ) (m : Message) → IsMember s.members p → IsIn m (delivered_by g p) → IsIn m g.submitted

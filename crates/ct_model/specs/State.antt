@@ -1,5 +1,6 @@
 -- The state of the whole group.
 use Rattle.std.specs.Prelude.{ℕ, suc, zero, ◌-◌, ◌==◌, Bool, false, List, [], Option, None, length, filter, flat_map, map, replicate, slice_get, slice_index_or}
+use Rattle.ct_names.specs.Batch.{Batch}
 use Rattle.ct_names.specs.Message.{Message}
 use Rattle.ct_names.specs.Value.{Value}
 use Rattle.ct_model.specs.declared.phase.Phase.{Phase}
@@ -17,11 +18,6 @@ pub record Standing (V : Type 0) : Type 0 where
 pub record Turn (V : Type 0) : Type 0 where
   pub after : Standing V
   pub mail : Mail V
-
--- what a member delivered for an instance
-pub record Batch : Type 0 where
-  pub instance : ℕ
-  pub messages : List Message
 
 -- a member: its crash mark, the wires that it got, in order, the last instance that it began,
 -- where it stands in that instance while it is open, and what it delivered

@@ -1,3 +1,4 @@
+pub mod Batch
 pub mod Book
 pub mod Group
 pub mod Command
@@ -6,5 +7,6 @@ pub mod MemberSet
 pub mod Message
 pub mod MessageText
 pub mod Order
+pub mod Prefix
 pub mod RefusalText
 pub mod Value

@@ -4,7 +4,7 @@ use Rattle.std.specs.List.{concat}
 use Rattle.ct_names.specs.declared.limit.Limit.{Limit}
 use Rattle.ct_names.specs.declared.limit.Limit.TheVariants.{Submissions, Instances, Rounds, Envelopes, Cells, Steps}
 use Rattle.ct_names.specs.declared.refusal.Refusal.{Refusal}
-use Rattle.ct_names.specs.declared.refusal.Refusal.TheVariants.{NoSuchMember, Crashed, NotWaiting, Busy, Nothing, Idle, WrongPhase, Decided, TooFew, NotLargest, NoProposal, HasProposal, Undecided, BadCommand, Full, OutOfMemory}
+use Rattle.ct_names.specs.declared.refusal.Refusal.TheVariants.{NoSuchMember, Crashed, NotWaiting, Busy, Nothing, Idle, WrongPhase, Decided, TooFew, NotLargest, NoProposal, HasProposal, Undecided, BadCommand, Full, OutOfMemory, Board}
 
 abbrev pub limit_text : Limit → List ℕ
 limit_text Submissions = codes "Submissions"
@@ -31,3 +31,4 @@ refusal_text Undecided = codes "Undecided"
 refusal_text BadCommand = codes "BadCommand"
 refusal_text (Full limit) = concat (codes "Full(" ∷ limit_text limit ∷ codes ")" ∷ [])
 refusal_text OutOfMemory = codes "OutOfMemory"
+refusal_text Board = codes "Board"

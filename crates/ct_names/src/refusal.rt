@@ -41,6 +41,9 @@ pub enum Refusal {
     Full(Limit),
     /// Memory was refused.
     OutOfMemory,
+    /// The board is not the one that the world was given so far: the cell of a new batch is not there or set already,
+    /// or a cell that was set has no batch or another.
+    Board,
 }
 
 impl fmt::Display for Refusal {
@@ -64,6 +67,7 @@ impl fmt::Display for Refusal {
             Refusal::BadCommand => f.write_str("BadCommand"),
             Refusal::Full(limit) => write!(f, "Full({limit})"),
             Refusal::OutOfMemory => f.write_str("OutOfMemory"),
+            Refusal::Board => f.write_str("Board"),
         }
     }
 }

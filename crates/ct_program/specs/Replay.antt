@@ -14,7 +14,7 @@ use Rattle.ct_program.specs.Report.{report_text}
 abbrev pub IsAllowed : Rehearsal → Type 0
 IsAllowed w = AllowsFirst w.setting.members w.cells w.steps (length w.steps)
 
--- step `at`, counted from 1, is refused by its cause, and each before it is allowed
+-- step `at`, counted from 1, is refused, but not for want of memory, and each before it is allowed
 pub record IsRefused (w : Rehearsal) (at : ℕ) (refusal : Refusal) : Type 0 where
   pub counted : 1 ≤ at
   pub refused : IsRefusedAt w.setting.members w.cells w.steps (at - 1) refusal

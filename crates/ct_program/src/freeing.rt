@@ -12,6 +12,7 @@ use crate::program_fault::ProgramFault;
 use crate::replaying::write_all;
 use crate::sink::Sink;
 use crate::writing::write_record;
+use ct_board::Board;
 use ct_detect::Detector;
 use ct_names::Group;
 use ct_rehearse::{Hall, NoGate};
@@ -69,7 +70,10 @@ fn settled<L: Ledger + Send + Sync, R: Threads + Wait + Sync>(
 {
     let plan = plan(alloc, options)?;
     let world = first_world(alloc, options)?;
-    let (hall, mut share) = Hall::<L>::new(blank, world);
+    let Ok(board) = Board::new(alloc, usize::from(options.cells)) else {
+        return Err(ProgramFault::Memory);
+    };
+    let (hall, mut share) = Hall::<L>::new(blank, world, board);
     hall.run_free(rt, alloc, &plan, detectors, &NoGate, &mut share)?;
     match hall.settled(rt, alloc, &mut share) {
         Ok(world) => Ok(world),

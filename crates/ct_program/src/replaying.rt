@@ -102,7 +102,7 @@ fn answer(alloc: Global, bytes: &[u8]) -> Result<Vec<u8>, ProgramFault>
     ensures no_stream { IfErr result (λ fault. (fault ≢ ProgramFault.Reader) × (fault ≢ ProgramFault.Write)) }
 {
     let script = read_record(alloc, bytes)?;
-    let world = World::replay(alloc, script.group, script.cells, &script.steps)?;
+    let (world, _board) = World::replay(alloc, script.group, script.cells, &script.steps)?;
     Ok(report(alloc, &world)?)
 }
 

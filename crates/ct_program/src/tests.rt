@@ -350,7 +350,7 @@ fn numbers_may_fill_their_fields(rt: HostRuntime) -> Result<(), Fail> {
 // What is written of the world that the record leads to.
 fn rewritten(alloc: Global, record: &[u8]) -> Result<Vec<u8>, ProgramFault> {
     let script = read_record(alloc, record)?;
-    let world = World::replay(alloc, script.group, script.cells, &script.steps)?;
+    let (world, _board) = World::replay(alloc, script.group, script.cells, &script.steps)?;
     Ok(write_record(alloc, &world)?)
 }
 

@@ -1,11 +1,13 @@
 //! A world and the count of its steps.
 
-ghost use Rattle.std.specs.Prelude.{◌≡◌, ◌+◌, ◌^◌, ◌<◌, None, IfOk, IfErr, OnErr, OnOk, length, unwrap_or};
+ghost use Rattle.std.specs.Prelude.{◌≡◌, ◌+◌, ◌^◌, ◌<◌, None, IfOk, IfErr, OnErr, OnOk, length};
 ghost use Rattle.ct_model.specs.Cause.{cause};
 ghost use Rattle.ct_rehearse.specs.Shares.{whole_share, risen_by};
+ghost use Rattle.ct_world.specs.Posting.{HasPosted, IsRefusal};
 ghost use Rattle.ct_world.specs.World.{IsDone};
 
 use crate::share::Share;
+use ct_board::Board;
 use ct_model::Step;
 use ct_names::Refusal;
 use ct_world::{Effect, World};
@@ -56,17 +58,23 @@ impl<L: Ledger> Desk<L> {
     }
 
     // Does the step, and counts it.
-    pub(crate) fn apply(&mut self, share: &mut Share<L>, step: &Step) -> Result<Effect, Refusal>
+    pub(crate) fn apply(
+        &mut self,
+        share: &mut Share<L>,
+        board: &Board,
+        step: &Step,
+    ) -> Result<Effect, Refusal>
         requires { share.old.steps + 1 < 2 ^ 64 }
         ensures allowed { OnOk result (cause self.old.rehearsal step.now ≡ None) }
         ensures ok { IfOk result (λ effect. IsDone self.old.rehearsal step.now self.new.rehearsal effect.sent) }
+        ensures posted { IfOk result (λ effect. HasPosted board.now self.old.rehearsal self.new.rehearsal effect.receipt) }
         ensures counted { OnOk result (share.new ≡ risen_by share.old 1) }
-        ensures refusal { IfErr result (λ refusal. refusal ≡ unwrap_or (cause self.old.rehearsal step.now) Refusal.OutOfMemory) }
+        ensures refusal { IfErr result (λ refusal. IsRefusal self.old.rehearsal step.now refusal) }
         ensures world { OnErr result (self.new.rehearsal ≡ self.old.rehearsal) }
         ensures share { OnErr result (share.new ≡ share.old) }
         ensures none { self.new.prepared ≡ None }
     {
-        let effect = self.world.apply(step)?;
+        let effect = self.world.apply(board, step)?;
         share.count(&mut self.total);
         Ok(effect)
     }

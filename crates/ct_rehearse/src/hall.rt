@@ -1,8 +1,10 @@
-//! A desk that threads share.
+//! A desk and its board that threads share.
 
-ghost use Rattle.std.specs.Prelude.{◌≡◌, ◌+◌, ◌^◌, ◌<◌, None, IfOk, IfErr, length};
+ghost use Rattle.std.specs.Prelude.{◌≡◌, ◌+◌, ◌^◌, ◌<◌, None, IfOk, IfErr, OnErr, OnOk, length};
 ghost use Rattle.ct_model.specs.Rehearsal.{state_of};
 ghost use Rattle.ct_model.specs.Safe.{IsSafe};
+ghost use Rattle.ct_board.specs.Watched.{batches_read, batches_told};
+ghost use Rattle.ct_rehearse.specs.Halls.{HasMet};
 ghost use Rattle.ct_rehearse.specs.Shares.{whole_share};
 ghost use Rattle.ct_rehearse.specs.Turns.{share_after_turn};
 
@@ -13,6 +15,7 @@ use crate::disturbance::Disturbance;
 use crate::outcome::Turn;
 use crate::share::Share;
 use crate::turns;
+use ct_board::{Board, Watcher};
 use ct_detect::Detector;
 use ct_names::{Group, Member, Refusal};
 use ct_world::World;
@@ -21,31 +24,33 @@ use std::marker::Model;
 use std::sync::ledger::{Blank, Ledger};
 use std::sync::{Mutex, Wait};
 
-/// A desk under a lock, which threads share. Whoever takes the lock finds a world, so a run of the algorithm in a safe
-/// state. What happened to the locked world between two calls is known by shares alone: no clause names it.
+/// A desk under a lock, and the world's board, which needs none; threads share both. Whoever takes the lock finds a world,
+/// so a run of the algorithm in a safe state. What happened to the locked world between two calls is known by shares alone:
+/// no clause names it.
 #[derive(Drop)]
 pub struct Hall<L: Ledger> {
     desk: Mutex<Desk<L>>,
+    board: Board,
     group: Group,
 }
 
-// Contracts see the number of members.
+// Contracts see the number of members, and the names of the board's cells.
 impl<L: Ledger> Model for Hall<L> {
-    ghost use Rattle.std.specs.Prelude.{ℕ};
+    ghost use Rattle.ct_rehearse.specs.Halls.{HallView};
 
-    ghost Value = { ℕ };
+    ghost Value = { HallView };
 
-    ghost view = { λ h. h.group };
+    ghost view = { λ h. record { members = h.group; cells = h.board } };
 }
 
 impl<L: Ledger> Hall<L> {
-    /// A hall for this world, and the whole share, which has the steps that the world's record has already. The blank is
-    /// that of a new ledger with 1,000 parts.
-    pub fn new(blank: Blank, world: World) -> (Hall<L>, Share<L>)
+    /// A hall for this world and its board, and the whole share, which has the steps that the world's record has already.
+    /// The blank is that of a new ledger with 1,000 parts.
+    pub fn new(blank: Blank, world: World, board: Board) -> (Hall<L>, Share<L>)
         requires name { blank.name ≡ L.name }
         requires parts { blank.parts ≡ L.parts }
         requires whole { L.parts ≡ 1000 }
-        ensures hall { result.0 ≡ world.rehearsal.setting.members }
+        ensures hall { result.0 ≡ record { members = world.rehearsal.setting.members; cells = board } }
         ensures share { result.1 ≡ whole_share (length world.rehearsal.steps) }
     {
         let group = world.group();
@@ -53,6 +58,7 @@ impl<L: Ledger> Hall<L> {
         (
             Hall {
                 desk: Mutex::new(desk),
+                board,
                 group,
             },
             share,
@@ -61,9 +67,32 @@ impl<L: Ledger> Hall<L> {
 
     /// The group of the world that was handed in.
     pub fn group(&self) -> Group
-        ensures { result ≡ self.now }
+        ensures { result ≡ self.now.members }
     {
         self.group
+    }
+
+    /// The board that was handed in, for watchers.
+    pub fn board(&self) -> &Board
+        ensures { result.now ≡ self.now.cells }
+    {
+        &self.board
+    }
+
+    /// Tells the watcher how many batches were posted, as `World::meet` does, by the world as it stands at some moment of
+    /// the call.
+    pub fn meet<R: Wait>(&self, rt: &R, watcher: &mut Watcher) -> Result<(), Refusal>
+        requires { self.now.cells ≡ watcher.old.cells }
+        ensures met { OnOk result (HasMet watcher.old watcher.new) }
+        ensures reads { batches_read watcher.new ≡ batches_read watcher.old }
+        ensures cells { watcher.new.cells ≡ watcher.old.cells }
+        ensures err { OnErr result (batches_told watcher.new ≡ batches_told watcher.old) }
+        ensures refusal { IfErr result (λ refusal. refusal ≡ Refusal.Board) }
+    {
+        let desk = self.desk.lock(rt);
+        let world = desk.world();
+        let _ = world.record();
+        world.meet(&self.board, watcher)
     }
 
     /// A copy of the world as it stands at some moment of the call. Only memory can be refused.
@@ -108,7 +137,13 @@ impl<L: Ledger> Hall<L> {
         requires { share.old.steps + 1 < 2 ^ 64 }
         ensures { share.new ≡ share_after_turn share.old result }
     {
-        turns::turn(&mut *self.desk.lock(rt), share, member, detector)
+        turns::turn(
+            &mut *self.desk.lock(rt),
+            share,
+            &self.board,
+            member,
+            detector,
+        )
     }
 
     // An entry of a script, under the lock.
@@ -116,6 +151,6 @@ impl<L: Ledger> Hall<L> {
         requires { share.old.steps + 1 < 2 ^ 64 }
         ensures { share.new ≡ share_after_turn share.old result }
     {
-        turns::disturb(&mut *self.desk.lock(rt), share, entry)
+        turns::disturb(&mut *self.desk.lock(rt), share, &self.board, entry)
     }
 }

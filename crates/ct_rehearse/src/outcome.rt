@@ -5,7 +5,7 @@ use ct_names::Refusal;
 use ct_world::Effect;
 
 /// What a turn came to.
-#[derive(Clone, Copy, Debug, PartialEq, Eq)]
+#[derive(Drop)]
 pub enum Turn {
     /// The world did this step, with this effect.
     Stepped(Step, Effect),

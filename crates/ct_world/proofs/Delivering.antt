@@ -8,18 +8,22 @@ use Rattle.std.proofs.lemmas.List.Concat.{flat_map-append}
 use Rattle.std.proofs.lemmas.List.Sums.{fold-append}
 use Rattle.ct_names.specs.declared.refusal.Refusal.TheVariants.{Idle, Undecided, Full}
 use Rattle.ct_names.specs.declared.limit.Limit.TheVariants.{Cells}
+use Rattle.ct_names.specs.Message.{Message}
 use Rattle.ct_names.specs.Value.{Value, minus, ordered}
 use Rattle.ct_model.specs.declared.step.Step.TheVariants.{Deliver}
 use Rattle.ct_model.specs.AtValue.{Standing}
 use Rattle.ct_model.specs.Received.{decided}
-use Rattle.ct_model.specs.State.{Member, Batch, member, submissions, joined}
+use Rattle.ct_model.specs.State.{Member, member, submissions, joined}
+use Rattle.ct_names.specs.Batch.{Batch}
 use Rattle.ct_model.specs.Next.{deliver, batch_of}
 use Rattle.ct_model.specs.Rehearsal.{Rehearsal, state_of, extended}
-use Rattle.ct_model.specs.Cause.{at, first_fault, or_else, cause, overflow}
+use Rattle.ct_model.specs.Cause.{at, first_fault, or_else, cause, overflow, order}
+use Rattle.ct_model.specs.Order.{Joins}
 use Rattle.ct_model.proofs.Causes.{own_tests}
 use Rattle.ct_model.proofs.Delivers.{tests-deliver, cause-deliver, IsDeliverStep, deliver_taken}
 use Rattle.ct_model.proofs.Frame.{submissions-none}
 use Rattle.ct_model.proofs.Limits.{own_tests-is, cause-tested}
+use Rattle.ct_model.proofs.Ordering.{order-ahead, order-behind}
 use Rattle.ct_model.proofs.Outcomes.{some-same}
 use Rattle.ct_abcast.specs.Cast.{batch_of as cast_batch}
 use Rattle.ct_instances.specs.Kept.{Kept, decision_at}
@@ -174,8 +178,8 @@ pub value_there : (w : Rehearsal) (p : ℕ) (values : List Value) (seat : Seat) 
 value_there w p values seat id r d number got = sym (copied-some r (slice_get values id) got) ∙ ap is_some (d.value id number).2
 
 -- the room that was made for a Deliver
-pub deliver_room : (f : Fields) (p : ℕ) (old seat : Seat) (id : ℕ) (v : Value) (new : Fields) → p - 1 < length f.seats → old ≡ seat_of f.seats p → IsSameSeat old seat → new.seats ≡ set f.seats (p - 1) seat → new.book.values ≡ f.book.values → decision_at old.instances old.instances.last ≡ Some id → value_at f.book.values id ≡ Some v → seat.caster.fits_batch ≡ true → length v ≤ seat.caster.room → HasDeliverRoom new p
-deliver_room f p old seat id v new within here same set_is values number value fits room =
+pub deliver_room : (w : Rehearsal) (f : Fields) (p : ℕ) (old seat : Seat) (id : ℕ) (v : Value) (new : Fields) → p - 1 < length f.seats → old ≡ seat_of f.seats p → IsSameSeat old seat → new.seats ≡ set f.seats (p - 1) seat → new.book.values ≡ f.book.values → decision_at old.instances old.instances.last ≡ Some id → value_at f.book.values id ≡ Some v → seat.caster.fits_batch ≡ true → length v ≤ seat.caster.room → Joins (order (state_of w)) (order (state_of (extended w (Deliver p)))) new.posting → HasDeliverRoom w new p
+deliver_room w f p old seat id v new within here same set_is values number value fits room joins =
     let there : seat_of new.seats p ≡ seat = ap (λ list. seat_of list p) set_is ∙ seat-same f.seats p seat within in
     let last : seat.instances.last ≡ old.instances.last = ap (λ (k : Kept). k.last) same.instances in
     record {
@@ -184,4 +188,33 @@ deliver_room f p old seat id v new within here same set_is values number value f
           let id_is : id ≡ other = some-same id other (sym number ∙ sym (same.decisions old.instances.last) ∙ ap (decision_at seat.instances) (sym last) ∙ is) in
           let v_is : v ≡ u = some-same v u (sym value ∙ ap (value_at f.book.values) id_is ∙ ap (λ list. value_at list other) (sym values) ∙ has) in
           subst (λ x. length x ≤ seat.caster.room) v_is room);
+      posting = joins;
     }
+
+-- whether the step posts: by how many batches its seat has
+
+module _ (w : Rehearsal) (p : ℕ) (f : Fields) (seat : Seat) (a : IsAllowed w (Deliver p) f) (here : seat ≡ seat_of f.seats p) where
+  step : IsDeliverStep w p
+  step = deliver_taken w p a.world.lawful a.allowed
+
+  keeps : Keeps w.setting.members f.book.values p (member (state_of w) p) seat
+  keeps = rw here (a.world.seat p a.in_group)
+
+  batches_there : length seat.caster.batches ≡ length (member (state_of w) p).batches
+  batches_there = ap length keeps.batches ∙ length-map (member (state_of w) p).batches (λ (b : Batch). b.messages)
+
+  pub joins_behind : length seat.caster.batches < length (order (state_of w)) → Joins (order (state_of w)) (order (state_of (extended w (Deliver p)))) None
+  joins_behind few = let number = batches_there in order-behind w p a.world.lawful step (omega arith)
+
+  pub joins_ahead : (id : ℕ) (v : Value) (batch : Batch) → decision_at seat.instances seat.instances.last ≡ Some id → value_at f.book.values id ≡ Some v → batch.instance ≡ seat.caster.instance → batch.messages ≡ cast_batch seat.caster v → length (order (state_of w)) ≤ length seat.caster.batches → Joins (order (state_of w)) (order (state_of (extended w (Deliver p)))) (Some batch)
+  joins_ahead id v batch number value instance messages many =
+      let count = batches_there in
+      let found = (due w p f.book.values seat step keeps).value id number in
+      let same : v ≡ step.value = some-same v step.value (sym value ∙ found.2 ∙ sym found.1 ∙ step.decision) in
+      let its_instance : batch.instance ≡ (member (state_of w) p).last = instance ∙ keeps.begun in
+      let its_messages : batch.messages ≡ batch_of (member (state_of w) p) step.value = messages ∙ batch-same w.setting.members f.book.values p (member (state_of w) p) seat v keeps ∙ ap (batch_of (member (state_of w) p)) same in
+      order-ahead w p a.world.lawful step (omega arith)
+      ∙ ap (λ (x : Batch). order (state_of w) ++ x ∷ []) (batch_is batch (member (state_of w) p).last (batch_of (member (state_of w) p) step.value) its_instance its_messages)
+    where
+      batch_is : (b : Batch) (i : ℕ) (list : List Message) → b.instance ≡ i → b.messages ≡ list → record { instance = i; messages = list } ≡ b
+      batch_is b i list e f = rw (sym e, sym f) refl

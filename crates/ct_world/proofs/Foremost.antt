@@ -5,7 +5,8 @@ use Rattle.std.proofs.lemmas.Bool.Decides.{nat_tests}
 use Rattle.std.proofs.lemmas.List.{length-map, map_more, take_all, get_or-map, get_or_read, same_lists}
 use Rattle.ct_names.specs.Group.{is_member}
 use Rattle.ct_names.specs.Message.{Message}
-use Rattle.ct_model.specs.State.{Member, Batch, member, new_member}
+use Rattle.ct_model.specs.State.{Member, member, new_member}
+use Rattle.ct_names.specs.Batch.{Batch}
 use Rattle.ct_model.specs.Rehearsal.{Rehearsal, state_of}
 use Rattle.ct_model.specs.Cause.{order, longest}
 use Rattle.ct_world.specs.declared.seat.Seat.{Seat}

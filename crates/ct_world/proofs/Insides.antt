@@ -1,6 +1,6 @@
 -- The fields of a world, taken together.
 use Rattle.std.proofs.Common.{◌≡◌, ℕ, ◌+◌, ◌-◌, ◌<◌, ◌≤◌, true, List, [], ◌∷◌, ◌++◌, length, get_or, ap, ◌∙◌, sym, subst, Some, None, Option, arith}
-use Rattle.std.specs.Prelude.{vec_len, vec_capacity}
+use Rattle.std.specs.Prelude.{option_map, vec_len, vec_capacity}
 use Rattle.ct_names.specs.Group.{is_member}
 use Rattle.ct_model.specs.declared.step.Step.{Step}
 use Rattle.ct_model.specs.Actor.{actor}
@@ -26,7 +26,7 @@ abbrev pub view_in : Inside → WorldView
 view_in a = record { rehearsal = rehearsal_in a; prepared = a.prepared }
 
 abbrev pub fields_in : Inside → Fields
-fields_in a = record { network = a.network; book = a.book; seats = a.seats.items; proposal = a.proposal; spare_steps = vec_capacity a.record - vec_len a.record }
+fields_in a = record { network = a.network; book = a.book; seats = a.seats.items; proposal = a.proposal; posting = option_map (λ b. b.value) a.posting; spare_steps = vec_capacity a.record - vec_len a.record }
 
 abbrev pub IsKeptIn : Inside → Type 0
 IsKeptIn a = IsKept (rehearsal_in a) a.prepared (fields_in a)

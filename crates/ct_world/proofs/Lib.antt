@@ -1,5 +1,7 @@
 pub mod Members
 pub mod Refines
+pub mod Posting
+pub mod Meetings
 pub mod Posts
 pub mod Insides
 pub mod Steps

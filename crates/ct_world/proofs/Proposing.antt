@@ -7,7 +7,8 @@ use Rattle.ct_names.specs.declared.limit.Limit.TheVariants.{Instances}
 use Rattle.ct_names.specs.Value.{Value, minus, ordered}
 use Rattle.ct_model.specs.declared.step.Step.TheVariants.{Begin}
 use Rattle.ct_model.specs.Received.{received}
-use Rattle.ct_model.specs.State.{Member, Batch, member, submissions, joined as model_joined}
+use Rattle.ct_model.specs.State.{Member, member, submissions, joined as model_joined}
+use Rattle.ct_names.specs.Batch.{Batch}
 use Rattle.ct_model.specs.Next.{begin, undelivered, is_empty}
 use Rattle.ct_model.specs.Rehearsal.{Rehearsal, state_of, extended}
 use Rattle.ct_model.specs.Cause.{at, first_fault, or_else, cause, overflow}

@@ -8,7 +8,8 @@ use Rattle.ct_names.specs.Value.{Value}
 use Rattle.ct_model.specs.declared.step.Step.{Step}
 use Rattle.ct_model.specs.Actor.{actor}
 use Rattle.ct_model.specs.Wire.{envelopes, Envelope as AnyEnvelope}
-use Rattle.ct_model.specs.State.{joined, State, Member, Batch, Proposal, member, submissions}
+use Rattle.ct_model.specs.State.{joined, State, Member, Proposal, member, submissions}
+use Rattle.ct_names.specs.Batch.{Batch}
 use Rattle.ct_model.specs.Received.{received}
 use Rattle.ct_relay.specs.Taken.{Taken, is_first}
 use Rattle.ct_abcast.specs.Cast.{Cast}

@@ -5,7 +5,8 @@ use Rattle.std.proofs.lemmas.Option.{slice_get-map}
 use Rattle.ct_names.specs.Value.{Value}
 use Rattle.ct_model.specs.AtValue.{Envelope}
 use Rattle.ct_model.specs.Wire.{Envelope as AnyEnvelope, value_of}
-use Rattle.ct_model.specs.State.{Batch, at_serial, delivered}
+use Rattle.ct_model.specs.State.{at_serial, delivered}
+use Rattle.ct_names.specs.Batch.{Batch}
 use Rattle.ct_model.specs.Received.{received_by}
 use Rattle.ct_model.specs.Rehearsal.{Rehearsal, state_of}
 use Rattle.ct_abcast.specs.Batches.{joined}

@@ -1,6 +1,7 @@
 -- What a world keeps, and how it follows from the record.
 use Rattle.std.specs.Prelude.{◌≡◌, ℕ, ◌+◌, ◌-◌, ◌<◌, ◌≤◌, true, false, List, [], length, map, Option, Some, None, slice_index_or}
 use Rattle.ct_names.specs.Group.{is_member}
+use Rattle.ct_names.specs.Batch.{Batch}
 use Rattle.ct_names.specs.Book.{Contents}
 use Rattle.ct_names.specs.Value.{Value}
 use Rattle.ct_names.specs.declared.refusal.Refusal.{Refusal}
@@ -8,9 +9,10 @@ use Rattle.ct_model.specs.declared.step.Step.{Step}
 use Rattle.ct_model.specs.declared.step.Step.TheVariants.{Receive, Begin, Deliver}
 use Rattle.ct_model.specs.Wire.{Envelope as AnyEnvelope}
 use Rattle.ct_model.specs.State.{State, member, submissions, at_serial}
-use Rattle.ct_model.specs.Rehearsal.{Rehearsal, state_of, line_of}
-use Rattle.ct_model.specs.Cause.{cause, presence, first_fault}
+use Rattle.ct_model.specs.Rehearsal.{Rehearsal, state_of, line_of, extended}
+use Rattle.ct_model.specs.Cause.{cause, presence, first_fault, order}
 use Rattle.ct_model.specs.Lawful.{IsLawful, IsPresent}
+use Rattle.ct_model.specs.Order.{Joins}
 use Rattle.ct_model.specs.Knowledge.{KnowsMessages}
 use Rattle.ct_network.specs.Network.{NetworkView, line_at}
 use Rattle.ct_abcast.specs.Cast.{undelivered}
@@ -21,12 +23,13 @@ use Rattle.ct_world.specs.declared.seat.Seat.{Seat}
 use Rattle.ct_world.specs.Seats.{Keeps, CanReceive}
 
 -- the fields of a world besides its record: the network, the values by number, the seats, the proposal that a prepared
--- Begin makes, and how many more steps there is room for
+-- Begin makes, the batch that a prepared Deliver posts, and how many more steps there is room for
 pub record Fields : Type 0 where
   pub network : NetworkView
   pub book : Contents
   pub seats : List Seat
   pub proposal : Option Value
+  pub posting : Option Batch
   pub spare_steps : ℕ
 
 -- the values proposed, in order
@@ -71,17 +74,18 @@ pub record HasBeginRoom (f : Fields) (p : ℕ) : Type 0 where
   pub entry : has_room_open (seat_of f.seats p).instances ((seat_of f.seats p).instances.last + 1) ≡ true
   pub proposal : f.proposal ≡ Some (undelivered (seat_of f.seats p).caster)
 
--- p can deliver the decision of its last instance
-pub record HasDeliverRoom (f : Fields) (p : ℕ) : Type 0 where
+-- p can deliver the decision of its last instance, and the batch that it posts, if it posts one, is made
+pub record HasDeliverRoom (w : Rehearsal) (f : Fields) (p : ℕ) : Type 0 where
   pub batch : (seat_of f.seats p).caster.fits_batch ≡ true
   pub messages : (id : ℕ) (v : Value) → decision_at (seat_of f.seats p).instances (seat_of f.seats p).instances.last ≡ Some id → value_at f.book.values id ≡ Some v → length v ≤ (seat_of f.seats p).caster.room
+  pub posting : Joins (order (state_of w)) (order (state_of (extended w (Deliver p)))) f.posting
 
 -- the room that only this step needs
-abbrev pub HasOwnRoom : Fields → Step → Type 0
-HasOwnRoom f (Receive p k) = HasReceiveRoom f p k
-HasOwnRoom f (Begin p) = HasBeginRoom f p
-HasOwnRoom f (Deliver p) = HasDeliverRoom f p
-HasOwnRoom f _ = Unit {0}
+abbrev pub HasOwnRoom : Rehearsal → Fields → Step → Type 0
+HasOwnRoom w f (Receive p k) = HasReceiveRoom f p k
+HasOwnRoom w f (Begin p) = HasBeginRoom f p
+HasOwnRoom w f (Deliver p) = HasDeliverRoom w f p
+HasOwnRoom w f _ = Unit {0}
 
 -- the step needs no such room
 abbrev pub NeedsNoRoom : Step → Type 0
@@ -95,7 +99,7 @@ pub record IsReady (w : Rehearsal) (step : Step) (f : Fields) : Type 0 where
   pub allowed : cause w step ≡ None
   pub for_step : 0 < f.spare_steps
   pub for_sending : f.network.has_room ≡ true
-  pub for_itself : HasOwnRoom f step
+  pub for_itself : HasOwnRoom w f step
 
 -- the fields of a world
 pub record IsKept (w : Rehearsal) (prepared : Option Step) (f : Fields) : Type 0 where

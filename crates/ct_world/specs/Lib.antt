@@ -2,6 +2,7 @@ pub mod World
 pub mod Letters
 pub mod Seats
 pub mod Kept
+pub mod Posting
 pub mod Replay
 pub mod Driving
 pub mod Decided

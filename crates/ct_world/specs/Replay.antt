@@ -1,10 +1,11 @@
 -- What a replay answers.
-use Rattle.std.specs.Prelude.{◌≡◌, ℕ, zero, suc, ◌<◌, List, length, take, slice_get, Some, None, unwrap_or}
+use Rattle.std.specs.Prelude.{◌≡◌, ℕ, zero, suc, ◌<◌, List, length, take, slice_get, Some, None}
 use Rattle.ct_names.specs.declared.refusal.Refusal.{Refusal}
 use Rattle.ct_names.specs.declared.refusal.Refusal.TheVariants.{OutOfMemory}
 use Rattle.ct_model.specs.declared.step.Step.{Step}
 use Rattle.ct_model.specs.Rehearsal.{Rehearsal}
 use Rattle.ct_model.specs.Cause.{cause}
+use Rattle.ct_world.specs.Posting.{IsRefusal}
 use Rattle.ct_world.specs.World.{WorldView}
 
 -- a world of this group and this many cells after the steps, with nothing prepared
@@ -19,11 +20,11 @@ first_steps n cells steps k = record { setting = record { members = n }; cells =
 abbrev pub AllowsFirst : ℕ → ℕ → List Step → ℕ → Type 0
 AllowsFirst n cells steps count = (k : ℕ) (step : Step) → k < count → slice_get steps k ≡ Some step → cause (first_steps n cells steps k) step ≡ None
 
--- step i, counted from 0, is refused, by its cause or for want of memory, and each before it is allowed
+-- step i, counted from 0, is refused, and each before it is allowed
 pub record IsRefusedAt (n cells : ℕ) (steps : List Step) (i : ℕ) (refusal : Refusal) : Type 0 where
   pub within : i < length steps
   pub before : AllowsFirst n cells steps i
-  pub refused : (step : Step) → slice_get steps i ≡ Some step → refusal ≡ unwrap_or (cause (first_steps n cells steps i) step) OutOfMemory
+  pub refused : (step : Step) → slice_get steps i ≡ Some step → IsRefusal (first_steps n cells steps i) step refusal
 
 -- what a replay answers where it fails: at counts from 1, and is 0 where the world could not be made
 abbrev pub IsFaultOf : ℕ → ℕ → List Step → ℕ → Refusal → Type 0

@@ -1,8 +1,12 @@
 //! What a step does besides its state.
 
+use ct_board::Receipt;
+
 /// What a step did.
-#[derive(Clone, Copy, Debug, PartialEq, Eq)]
+#[derive(Drop)]
 pub struct Effect {
     /// How many envelopes it sent.
     pub sent: u32,
+    /// Where its batch was posted, if it was the first Deliver of an instance: at the place of that number, less 1.
+    pub receipt: Option<Receipt>,
 }

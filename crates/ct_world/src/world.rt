@@ -8,6 +8,7 @@ ghost use Rattle.ct_world.specs.Replay.{world_after};
 
 use crate::seat::Seat;
 use crate::seats;
+use ct_abcast::Batch;
 use ct_model::Step;
 use ct_names::{Book, Group, MsgSet, Refusal};
 use ct_network::Network;
@@ -24,6 +25,7 @@ mod deciding;
 mod deliver;
 mod enabling;
 mod enter;
+mod meeting;
 mod next_local;
 mod outcome;
 mod postpone;
@@ -49,12 +51,14 @@ pub struct World {
     prepared: Option<Step>,
     // What a prepared Begin proposes.
     proposal: Option<MsgSet>,
+    // What a prepared Deliver posts, where it posts a batch.
+    posting: Option<Box<Batch>>,
     alloc: Global,
 }
 
 // Contracts see what is fixed, the record of steps, and the prepared step. All else follows from the record.
 impl Model for World {
-    ghost use Rattle.std.specs.Prelude.{◌-◌, vec_len, vec_capacity};
+    ghost use Rattle.std.specs.Prelude.{◌-◌, option_map, vec_len, vec_capacity};
     ghost use Rattle.ct_world.specs.World.{WorldView};
 
     ghost Value = { WorldView };
@@ -64,7 +68,7 @@ impl Model for World {
     ghost view = { λ a. record { rehearsal = record { setting = record { members = a.group }; cells = a.cells; steps = a.record.items }; prepared = a.prepared } };
 
     ghost invariant = { λ a. IsKept (record { setting = record { members = a.group }; cells = a.cells; steps = a.record.items }) a.prepared
-        (record { network = a.network; book = a.book; seats = a.seats.items; proposal = a.proposal; spare_steps = vec_capacity a.record - vec_len a.record }) };
+        (record { network = a.network; book = a.book; seats = a.seats.items; proposal = a.proposal; posting = option_map (λ b. b.value) a.posting; spare_steps = vec_capacity a.record - vec_len a.record }) };
 }
 
 impl World {
@@ -90,6 +94,7 @@ impl World {
             seats,
             prepared: None,
             proposal: None,
+            posting: None,
             alloc,
         })
     }

@@ -39,7 +39,7 @@ fn is_replayed<R: Threads + Wait + Sync>(
 ) -> Result<bool, Fail> {
     let text = written(rt, alloc, words)?;
     let script = read_record(alloc, &text)?;
-    let world = World::replay(alloc, script.group, script.cells, &script.steps)?;
+    let (world, _board) = World::replay(alloc, script.group, script.cells, &script.steps)?;
     Ok(
         script.group.n() == members
             && script.cells == cells

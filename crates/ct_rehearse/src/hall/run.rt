@@ -39,14 +39,14 @@ impl<L: Ledger + Send + Sync> Hall<L> {
         share: &mut Share<L>,
     ) -> Result<Made, RunFault>
         requires plan { IsWithin plan.now }
-        requires detectors { vec_len detectors ≡ self.now }
-        requires parts { workers self.now plan.now < share.old.parts }
-        requires steps { share.old.steps + turns_planned self.now plan.now < 2 ^ 64 }
-        ensures made { IfOk result (λ made. turns_made made ≡ turns_planned self.now plan.now) }
+        requires detectors { vec_len detectors ≡ self.now.members }
+        requires parts { workers self.now.members plan.now < share.old.parts }
+        requires steps { share.old.steps + turns_planned self.now.members plan.now < 2 ^ 64 }
+        ensures made { IfOk result (λ made. turns_made made ≡ turns_planned self.now.members plan.now) }
         ensures share { IfOk result (λ made. share.new ≡ risen_by share.old made.steps) }
         ensures memory { result ≡ Err RunFault.Memory → share.new ≡ share.old }
-        ensures steps { OnErr result (HasRisen share.old.steps share.new.steps (turns_planned self.now plan.now)) }
-        ensures parts { OnErr result (HasRisen share.new.parts share.old.parts (workers self.now plan.now)) }
+        ensures steps { OnErr result (HasRisen share.old.steps share.new.steps (turns_planned self.now.members plan.now)) }
+        ensures parts { OnErr result (HasRisen share.new.parts share.old.parts (workers self.now.members plan.now)) }
     {
         let _ = self.group.n();
         let count = detectors.len() + plan.scripts.len();

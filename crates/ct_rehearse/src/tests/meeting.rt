@@ -108,7 +108,8 @@ fn two_members<L: Ledger + Send + Sync, R: Threads + Wait + Sync>(
     requires parts { blank.parts ≡ L.parts }
     requires whole { L.parts ≡ 1000 }
 {
-    let (hall, mut share) = Hall::<L>::new(blank, submitted(alloc, 2)?);
+    let (world, board) = submitted(alloc, 2)?;
+    let (hall, mut share) = Hall::<L>::new(blank, world, board);
     let mut detectors: Vec<Box<dyn Detector>> = Vec::new(alloc);
     detectors.push(Box::new(alloc, Never::new())?)?;
     detectors.push(Box::new(alloc, Never::new())?)?;

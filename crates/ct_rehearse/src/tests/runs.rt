@@ -1,17 +1,19 @@
 ghost use Rattle.std.specs.Prelude.{◌≡◌};
 
+use super::following::Followed;
 use super::*;
 use ct_detect::{Detector, Never};
 use ct_names::Message;
 use std::sync::Wait;
 use std::thread::Threads;
 
-// Steps that are made, and worlds that are shown.
+// Steps that are made, worlds that are shown, and a watcher that follows.
 #[derive(Drop)]
 struct Shown {
     made: Made,
     settled: World,
     snapshot: World,
+    followed: Followed,
 }
 
 // One member, one submission, 100 turns.
@@ -24,7 +26,8 @@ fn one_member<L: Ledger + Send + Sync, R: Threads + Wait + Sync>(
     requires parts { blank.parts ≡ L.parts }
     requires whole { L.parts ≡ 1000 }
 {
-    let (hall, mut share) = Hall::<L>::new(blank, submitted(alloc, 1)?);
+    let (world, board) = submitted(alloc, 1)?;
+    let (hall, mut share) = Hall::<L>::new(blank, world, board);
     let mut detectors: Vec<Box<dyn Detector>> = Vec::new(alloc);
     detectors.push(Box::new(alloc, Never::new())?)?;
     if usize::from(hall.group().n()) != detectors.len() {
@@ -39,10 +42,12 @@ fn one_member<L: Ledger + Send + Sync, R: Threads + Wait + Sync>(
     };
     let settled = hall.settled(rt, alloc, &mut share)?;
     let snapshot = hall.snapshot(rt, alloc)?;
+    let followed = Followed::of(rt, alloc, &hall)?;
     Ok(Shown {
         made,
         settled,
         snapshot,
+        followed,
     })
 }
 
@@ -64,5 +69,7 @@ fn one_member_delivers(rt: HostRuntime) -> Result<(), Fail> {
             .delivered(1)
             .is_some_and(|list| list == [message].as_slice())
     );
+    assert_eq!(rt; shown.followed.told_and_read(), (1, 1));
+    assert!(rt; shown.followed.messages() == [message].as_slice());
     Ok(())
 }

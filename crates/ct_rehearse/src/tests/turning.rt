@@ -2,8 +2,23 @@ ghost use Rattle.std.specs.Prelude.{◌≡◌};
 
 use super::*;
 use ct_detect::Always;
-use ct_names::Refusal;
+use ct_names::{Member, Refusal};
 use ct_world::Effect;
+
+// Makes a turn of the member, where the share has at most 1,000,000 steps; answers whether it did.
+fn turned<L: Ledger>(
+    desk: &mut Desk<L>,
+    share: &mut Share<L>,
+    board: &Board,
+    member: Member,
+    detector: &mut Always,
+) -> bool {
+    if share.steps() > 1_000_000 {
+        return false;
+    }
+    let _ = turn(desk, share, board, member, detector);
+    true
+}
 
 // Two members, one submission, detectors that suspect always, 500 turns of each.
 fn suspecting<L: Ledger>(alloc: Global, blank: Blank) -> Result<World, Fail>
@@ -11,15 +26,16 @@ fn suspecting<L: Ledger>(alloc: Global, blank: Blank) -> Result<World, Fail>
     requires parts { blank.parts ≡ L.parts }
     requires whole { L.parts ≡ 1000 }
 {
-    let (mut desk, mut share) = Desk::<L>::new(blank, submitted(alloc, 2)?);
+    let (world, board) = submitted(alloc, 2)?;
+    let (mut desk, mut share) = Desk::<L>::new(blank, world);
     let mut one = Always::new();
     let mut two = Always::new();
     for _ in 0..500u32 {
-        if share.steps() > 1_000_000 {
+        let first = turned(&mut desk, &mut share, &board, 1, &mut one);
+        let second = turned(&mut desk, &mut share, &board, 2, &mut two);
+        if !first || !second {
             return Err(Fail::from("more steps than turns"));
         }
-        let _ = turn(&mut desk, &mut share, 1, &mut one);
-        let _ = turn(&mut desk, &mut share, 2, &mut two);
     }
     Ok(desk.world().copy(alloc)?)
 }
@@ -35,28 +51,53 @@ fn nobody_decides_where_all_suspect(rt: HostRuntime) -> Result<(), Fail> {
     Ok(())
 }
 
+// What came of a turn: the step with the number of envelopes that it sent and the place where it posted a batch, None for
+// a rest, or the refusal.
+type Came = Result<Option<(Step, u32, Option<usize>)>, Refusal>;
+
+fn place_of(effect: &Effect) -> Option<usize> {
+    match &effect.receipt {
+        Some(receipt) => Some(receipt.place()),
+        None => None,
+    }
+}
+
+fn came_of(turn: &Turn) -> Came {
+    match turn {
+        Turn::Stepped(step, effect) => Ok(Some((*step, effect.sent, place_of(effect)))),
+        Turn::Resting => Ok(None),
+        Turn::Refused(refusal) => Err(*refusal),
+    }
+}
+
 // Tries the entry, where the share can still count.
-fn tried<L: Ledger>(desk: &mut Desk<L>, share: &mut Share<L>, entry: Disturbance) -> Option<Turn> {
+fn tried<L: Ledger>(
+    desk: &mut Desk<L>,
+    share: &mut Share<L>,
+    board: &Board,
+    entry: Disturbance,
+) -> Option<Came> {
     if share.steps() == u64::MAX {
         return None;
     }
-    Some(disturb(desk, share, &entry))
+    let turn = disturb(desk, share, board, &entry);
+    Some(came_of(&turn))
 }
 
 // What comes of a postponement and a crash of a member for which nothing waits, and of a submission by nobody; and the
 // steps that were counted on a part of the share.
-fn disturbances<L: Ledger>(alloc: Global, blank: Blank) -> Result<([Option<Turn>; 3], u64), Fail>
+fn disturbances<L: Ledger>(alloc: Global, blank: Blank) -> Result<([Option<Came>; 3], u64), Fail>
     requires name { blank.name ≡ L.name }
     requires parts { blank.parts ≡ L.parts }
     requires whole { L.parts ≡ 1000 }
 {
-    let group = Group::new(1).ok_or("a group")?;
-    let (mut desk, mut whole) = Desk::<L>::new(blank, World::new(alloc, group, 4)?);
+    let (world, board) = started(alloc, 1)?;
+    let (mut desk, mut whole) = Desk::<L>::new(blank, world);
     let mut part = whole.split();
     let turns = [
-        tried(&mut desk, &mut part, Disturbance::Postpone(1)),
-        tried(&mut desk, &mut part, Disturbance::Crash(1)),
-        tried(&mut desk, &mut part, Disturbance::Submit(2, SEVEN)),
+        tried(&mut desk, &mut part, &board, Disturbance::Postpone(1)),
+        tried(&mut desk, &mut part, &board, Disturbance::Crash(1)),
+        tried(&mut desk, &mut part, &board, Disturbance::Submit(2, SEVEN)),
     ];
     Ok((turns, part.steps()))
 }
@@ -64,10 +105,9 @@ fn disturbances<L: Ledger>(alloc: Global, blank: Blank) -> Result<([Option<Turn>
 #[test]
 fn turns_say_what_came_of_them(rt: HostRuntime) -> Result<(), Fail> {
     let (turns, steps) = disturbances::<Brand>(rt.alloc(), Blank::new(1000))?;
-    let crashed = Turn::Stepped(Step::Crash(1), Effect { sent: 0 });
-    assert_eq!(rt; turns[0], Some(Turn::Resting));
-    assert_eq!(rt; turns[1], Some(crashed));
-    assert_eq!(rt; turns[2], Some(Turn::Refused(Refusal::NoSuchMember)));
+    assert_eq!(rt; turns[0], Some(Ok(None)));
+    assert_eq!(rt; turns[1], Some(Ok(Some((Step::Crash(1), 0, None)))));
+    assert_eq!(rt; turns[2], Some(Err(Refusal::NoSuchMember)));
     assert_eq!(rt; steps, 1);
     Ok(())
 }
@@ -78,7 +118,8 @@ fn parted<L: Ledger>(alloc: Global, blank: Blank) -> Result<[(u64, u64); 3], Fai
     requires parts { blank.parts ≡ L.parts }
     requires whole { L.parts ≡ 1000 }
 {
-    let (_desk, mut share) = Desk::<L>::new(blank, submitted(alloc, 1)?);
+    let (world, _board) = submitted(alloc, 1)?;
+    let (_desk, mut share) = Desk::<L>::new(blank, world);
     let part = share.split();
     let first = (part.parts(), part.steps());
     let rest = (share.parts(), share.steps());

@@ -1,95 +1,108 @@
 use super::*;
-use std::test::Fail;
 
 #[test]
-fn one_member_is_led_to_its_delivery(rt: HostRuntime) -> Result<(), Fail> {
-    let mut world = world_of(&rt, rt.alloc(), 1, &[]);
-    assert_eq!(rt; world.next_local(1), None);
-    for (step, next) in [
-        (Step::Submit(1, Command::Add(3, 4)), None),
-        (Step::Receive(1, 1), Some(Step::Begin(1))),
-        (Step::Begin(1), Some(Step::Enter(1))),
-        (Step::Enter(1), None),
-        (Step::Receive(1, 2), Some(Step::Choose(1, 1))),
-        (Step::Choose(1, 1), Some(Step::Suspect(1))),
-        (Step::Receive(1, 3), Some(Step::Adopt(1))),
-        (Step::Adopt(1), None),
-        (Step::Receive(1, 4), Some(Step::Conclude(1))),
-        (Step::Conclude(1), Some(Step::Enter(1))),
-        (Step::Receive(1, 5), Some(Step::Deliver(1))),
-        (Step::Deliver(1), None),
-    ] {
-        world.apply(&step)?;
-        assert_eq!(rt; world.next_local(1), next);
-    }
-    Ok(())
+fn one_member_is_led_to_its_delivery(rt: HostRuntime) {
+    Trial::new(&rt, rt.alloc(), 1, 4).shows(
+        &rt,
+        &[
+            Fact::Next(1, None),
+            Fact::Done(Step::Submit(1, Command::Add(3, 4))),
+            Fact::Next(1, None),
+            Fact::Done(Step::Receive(1, 1)),
+            Fact::Next(1, Some(Step::Begin(1))),
+            Fact::Done(Step::Begin(1)),
+            Fact::Next(1, Some(Step::Enter(1))),
+            Fact::Done(Step::Enter(1)),
+            Fact::Next(1, None),
+            Fact::Done(Step::Receive(1, 2)),
+            Fact::Next(1, Some(Step::Choose(1, 1))),
+            Fact::Done(Step::Choose(1, 1)),
+            Fact::Next(1, Some(Step::Suspect(1))),
+            Fact::Done(Step::Receive(1, 3)),
+            Fact::Next(1, Some(Step::Adopt(1))),
+            Fact::Done(Step::Adopt(1)),
+            Fact::Next(1, None),
+            Fact::Done(Step::Receive(1, 4)),
+            Fact::Next(1, Some(Step::Conclude(1))),
+            Fact::Done(Step::Conclude(1)),
+            Fact::Next(1, Some(Step::Enter(1))),
+            Fact::Done(Step::Receive(1, 5)),
+            Fact::Next(1, Some(Step::Deliver(1))),
+            Fact::Done(Step::Deliver(1)),
+            Fact::Next(1, None),
+        ],
+    );
 }
 
 #[test]
-fn a_member_that_waits_suspects(rt: HostRuntime) -> Result<(), Fail> {
-    let mut world = world_of(&rt, rt.alloc(), 3, &two_proposals());
-    assert_eq!(rt; world.next_local(1), Some(Step::Suspect(1)));
-    assert_eq!(rt; world.next_local(2), Some(Step::Choose(2, 1)));
-    assert_eq!(rt; world.next_local(3), None);
-    world.apply(&Step::Choose(2, 2))?;
-    assert_eq!(rt; world.next_local(1), Some(Step::Suspect(1)));
-    world.apply(&Step::Receive(1, 9))?;
-    assert_eq!(rt; world.next_local(1), Some(Step::Adopt(1)));
-    Ok(())
+fn a_member_that_waits_suspects(rt: HostRuntime) {
+    Trial::of(&rt, rt.alloc(), 3, 4, &TWO_PROPOSALS).shows(
+        &rt,
+        &[
+            Fact::Next(1, Some(Step::Suspect(1))),
+            Fact::Next(2, Some(Step::Choose(2, 1))),
+            Fact::Next(3, None),
+            Fact::Done(Step::Choose(2, 2)),
+            Fact::Next(1, Some(Step::Suspect(1))),
+            Fact::Done(Step::Receive(1, 9)),
+            Fact::Next(1, Some(Step::Adopt(1))),
+        ],
+    );
 }
 
 #[test]
-fn a_delivery_comes_before_a_suspicion(rt: HostRuntime) -> Result<(), Fail> {
-    let steps = one_round();
-    let mut world = world_of(&rt, rt.alloc(), 3, &steps[..6]);
-    for step in &steps[6..18] {
-        world.apply(step)?;
-    }
-    world.apply(&Step::Enter(1))?;
-    assert_eq!(rt; world.next_local(1), Some(Step::Suspect(1)));
-    world.apply(&Step::Receive(1, 14))?;
-    assert_eq!(rt; world.enabled(&Step::Suspect(1)), Ok(()));
-    assert_eq!(rt; world.next_local(1), Some(Step::Deliver(1)));
-    Ok(())
+fn a_delivery_comes_before_a_suspicion(rt: HostRuntime) {
+    Trial::of(&rt, rt.alloc(), 3, 4, &ONE_ROUND[..18]).shows(
+        &rt,
+        &[
+            Fact::Done(Step::Enter(1)),
+            Fact::Next(1, Some(Step::Suspect(1))),
+            Fact::Done(Step::Receive(1, 14)),
+            Fact::Allowed(Step::Suspect(1)),
+            Fact::Next(1, Some(Step::Deliver(1))),
+        ],
+    );
 }
 
 #[test]
-fn the_largest_ts_is_chosen(rt: HostRuntime) -> Result<(), Fail> {
-    let mut world = world_of(&rt, rt.alloc(), 3, &two_proposals());
-    for step in [
-        Step::Choose(2, 1),
-        Step::Receive(2, 10),
-        Step::Adopt(2),
-        Step::Suspect(1),
-        Step::Receive(2, 12),
-        Step::Receive(2, 13),
-        Step::Conclude(2),
-        Step::Enter(2),
-        Step::Enter(1),
-        Step::Receive(3, 6),
-        Step::Begin(3),
-        Step::Enter(3),
-        Step::Suspect(3),
-        Step::Enter(3),
-        Step::Receive(3, 15),
-    ] {
-        world.apply(&step)?;
-    }
-    assert_eq!(rt; world.next_local(3), None);
-    world.apply(&Step::Receive(3, 14))?;
-    assert_eq!(rt; world.next_local(3), Some(Step::Choose(3, 2)));
-    Ok(())
+fn the_largest_ts_is_chosen(rt: HostRuntime) {
+    Trial::of(&rt, rt.alloc(), 3, 4, &TWO_PROPOSALS).shows(
+        &rt,
+        &[
+            Fact::Done(Step::Choose(2, 1)),
+            Fact::Done(Step::Receive(2, 10)),
+            Fact::Done(Step::Adopt(2)),
+            Fact::Done(Step::Suspect(1)),
+            Fact::Done(Step::Receive(2, 12)),
+            Fact::Done(Step::Receive(2, 13)),
+            Fact::Done(Step::Conclude(2)),
+            Fact::Done(Step::Enter(2)),
+            Fact::Done(Step::Enter(1)),
+            Fact::Done(Step::Receive(3, 6)),
+            Fact::Done(Step::Begin(3)),
+            Fact::Done(Step::Enter(3)),
+            Fact::Done(Step::Suspect(3)),
+            Fact::Done(Step::Enter(3)),
+            Fact::Done(Step::Receive(3, 15)),
+            Fact::Next(3, None),
+            Fact::Done(Step::Receive(3, 14)),
+            Fact::Next(3, Some(Step::Choose(3, 2))),
+        ],
+    );
 }
 
 #[test]
-fn who_takes_no_step_has_none_next(rt: HostRuntime) -> Result<(), Fail> {
-    let steps = one_round();
-    let mut world = world_of(&rt, rt.alloc(), 3, &steps[..6]);
-    for member in [0, 3, 4, 255] {
-        assert_eq!(rt; world.next_local(member), None);
-    }
-    assert_eq!(rt; world.next_local(1), Some(Step::Enter(1)));
-    world.apply(&Step::Crash(1))?;
-    assert_eq!(rt; world.next_local(1), None);
-    Ok(())
+fn who_takes_no_step_has_none_next(rt: HostRuntime) {
+    Trial::of(&rt, rt.alloc(), 3, 4, &ONE_ROUND[..6]).shows(
+        &rt,
+        &[
+            Fact::Next(0, None),
+            Fact::Next(3, None),
+            Fact::Next(4, None),
+            Fact::Next(255, None),
+            Fact::Next(1, Some(Step::Enter(1))),
+            Fact::Done(Step::Crash(1)),
+            Fact::Next(1, None),
+        ],
+    );
 }

@@ -1,116 +1,124 @@
+ghost use Rattle.std.specs.Prelude.{◌<◌};
+
 use super::*;
-use ct_names::{Limit, Refusal};
-use std::test::Fail;
 
 #[test]
-fn submissions_are_limited(rt: HostRuntime) -> Result<(), Fail> {
-    let mut world = World::new(rt.alloc(), group(&rt, 1), 4)?;
-    for _ in 0..65_535 {
-        world.apply(&Step::Submit(1, SEVEN))?;
-    }
-    let refusal = world.apply(&Step::Submit(1, SEVEN));
-    assert_eq!(rt; refusal, Err(Refusal::Full(Limit::Submissions)));
-    Ok(())
+fn submissions_are_limited(rt: HostRuntime) {
+    let step = Step::Submit(1, SEVEN);
+    let mut trial = Trial::new(&rt, rt.alloc(), 1, 4);
+    trial.repeat(&rt, 65_535, &step);
+    trial.shows(
+        &rt,
+        &[Fact::Refused(step, Refusal::Full(Limit::Submissions))],
+    );
 }
 
 #[test]
-fn envelopes_are_limited(rt: HostRuntime) -> Result<(), Fail> {
-    let mut world = World::new(rt.alloc(), group(&rt, 16), 4)?;
-    for _ in 0..62_500 {
-        world.apply(&Step::Submit(1, SEVEN))?;
-    }
-    assert_eq!(rt; world.sent(), 1_000_000);
-    let refusal = world.apply(&Step::Submit(1, SEVEN));
-    assert_eq!(rt; refusal, Err(Refusal::Full(Limit::Envelopes)));
-    Ok(())
+fn envelopes_are_limited(rt: HostRuntime) {
+    let step = Step::Submit(1, SEVEN);
+    let mut trial = Trial::new(&rt, rt.alloc(), 16, 4);
+    trial.repeat(&rt, 62_500, &step);
+    trial.shows(
+        &rt,
+        &[
+            Fact::Counts(62_500, 1_000_000, 0),
+            Fact::Refused(step, Refusal::Full(Limit::Envelopes)),
+        ],
+    );
 }
 
 #[test]
-fn steps_are_limited(rt: HostRuntime) -> Result<(), Fail> {
-    let mut world = World::new(rt.alloc(), group(&rt, 1), 4)?;
-    world.apply(&Step::Submit(1, SEVEN))?;
-    for _ in 1..1_000_000 {
-        world.apply(&Step::Postpone(1, 1))?;
+fn steps_are_limited(rt: HostRuntime) {
+    let step = Step::Postpone(1, 1);
+    let mut trial = Trial::of(&rt, rt.alloc(), 1, 4, &[Step::Submit(1, SEVEN)]);
+    trial.repeat(&rt, 999_999, &step);
+    trial.shows(&rt, &[Fact::Refused(step, Refusal::Full(Limit::Steps))]);
+}
+
+// A round that one member alone ends without a decision, after so many envelopes. The proposal comes too late.
+fn vain_round(sent: Serial) -> [Step; 7]
+    requires { sent < 1000000 }
+{
+    [
+        Step::Enter(1),
+        Step::Receive(1, sent + 1),
+        Step::Choose(1, 1),
+        Step::Suspect(1),
+        Step::Receive(1, sent + 3),
+        Step::Conclude(1),
+        Step::Receive(1, sent + 2),
+    ]
+}
+
+fn try_vain_rounds(rt: &impl Abort, trial: &mut Trial) {
+    for round in 0..10_000 {
+        trial.run(rt, &vain_round(3 * round + 1));
     }
-    let refusal = world.apply(&Step::Postpone(1, 1));
-    assert_eq!(rt; refusal, Err(Refusal::Full(Limit::Steps)));
-    Ok(())
 }
 
 #[test]
-fn rounds_are_limited(rt: HostRuntime) -> Result<(), Fail> {
-    let mut world = World::new(rt.alloc(), group(&rt, 1), 4)?;
-    world.apply(&Step::Submit(1, SEVEN))?;
-    world.apply(&Step::Receive(1, 1))?;
-    world.apply(&Step::Begin(1))?;
-    for _ in 0..10_000 {
-        world.apply(&Step::Enter(1))?;
-        let estimate = world.sent();
-        world.apply(&Step::Receive(1, estimate))?;
-        world.apply(&Step::Choose(1, 1))?;
-        let proposal = world.sent();
-        world.apply(&Step::Suspect(1))?;
-        let nack = world.sent();
-        world.apply(&Step::Receive(1, nack))?;
-        world.apply(&Step::Conclude(1))?;
-        // The proposal comes too late.
-        world.apply(&Step::Receive(1, proposal))?;
-    }
-    assert_eq!(rt; world.record().len(), 70_003);
-    assert_eq!(rt; world.sent(), 30_001);
-    let refusal = world.apply(&Step::Enter(1));
-    assert_eq!(rt; refusal, Err(Refusal::Full(Limit::Rounds)));
-    Ok(())
+fn rounds_are_limited(rt: HostRuntime) {
+    let steps = [Step::Submit(1, SEVEN), Step::Receive(1, 1), Step::Begin(1)];
+    let mut trial = Trial::of(&rt, rt.alloc(), 1, 4, &steps);
+    try_vain_rounds(&rt, &mut trial);
+    trial.shows(
+        &rt,
+        &[
+            Fact::Counts(70_003, 30_001, 0),
+            Fact::Refused(Step::Enter(1), Refusal::Full(Limit::Rounds)),
+        ],
+    );
 }
 
-// One member alone decides what it submits, in twelve steps.
-fn decide_alone(world: &mut World) -> Result<(), Refusal> {
-    world.apply(&Step::Submit(1, SEVEN))?;
-    let data = world.sent();
-    world.apply(&Step::Receive(1, data))?;
-    world.apply(&Step::Begin(1))?;
-    world.apply(&Step::Enter(1))?;
-    let estimate = world.sent();
-    world.apply(&Step::Receive(1, estimate))?;
-    world.apply(&Step::Choose(1, 1))?;
-    let proposal = world.sent();
-    world.apply(&Step::Receive(1, proposal))?;
-    world.apply(&Step::Adopt(1))?;
-    let ack = world.sent();
-    world.apply(&Step::Receive(1, ack))?;
-    world.apply(&Step::Conclude(1))?;
-    let decision = world.sent();
-    world.apply(&Step::Receive(1, decision))?;
-    world.apply(&Step::Deliver(1))?;
-    Ok(())
+// One member alone decides what it submits, after so many envelopes.
+fn decided_alone(sent: Serial) -> [Step; 12]
+    requires { sent < 1000000 }
+{
+    [
+        Step::Submit(1, SEVEN),
+        Step::Receive(1, sent + 1),
+        Step::Begin(1),
+        Step::Enter(1),
+        Step::Receive(1, sent + 2),
+        Step::Choose(1, 1),
+        Step::Receive(1, sent + 3),
+        Step::Adopt(1),
+        Step::Receive(1, sent + 4),
+        Step::Conclude(1),
+        Step::Receive(1, sent + 5),
+        Step::Deliver(1),
+    ]
+}
+
+fn decide_alone(rt: &impl Abort, trial: &mut Trial) {
+    for instance in 0..1024 {
+        trial.run(rt, &decided_alone(5 * instance));
+    }
 }
 
 #[test]
-fn instances_are_limited(rt: HostRuntime) -> Result<(), Fail> {
-    let mut world = World::new(rt.alloc(), group(&rt, 1), 1024)?;
-    for _ in 0..1024 {
-        decide_alone(&mut world)?;
-    }
-    assert_eq!(rt; world.posted(), 1024);
-    world.apply(&Step::Submit(1, SEVEN))?;
-    let data = world.sent();
-    world.apply(&Step::Receive(1, data))?;
-    assert_eq!(rt; world.record().len(), 12_290);
-    assert_eq!(rt; world.sent(), 5_121);
-    let refusal = world.apply(&Step::Begin(1));
-    assert_eq!(rt; refusal, Err(Refusal::Full(Limit::Instances)));
-    Ok(())
+fn instances_are_limited(rt: HostRuntime) {
+    let mut trial = Trial::new(&rt, rt.alloc(), 1, 1024);
+    decide_alone(&rt, &mut trial);
+    trial.shows(
+        &rt,
+        &[
+            Fact::Counts(12_288, 5_120, 1024),
+            Fact::Done(Step::Submit(1, SEVEN)),
+            Fact::Done(Step::Receive(1, 5_121)),
+            Fact::Counts(12_290, 5_121, 1024),
+            Fact::Refused(Step::Begin(1), Refusal::Full(Limit::Instances)),
+        ],
+    );
 }
 
 #[test]
-fn cells_are_limited(rt: HostRuntime) -> Result<(), Fail> {
-    let mut world = World::new(rt.alloc(), group(&rt, 1), 1)?;
-    for step in two_instances() {
-        if let Err(refusal) = world.apply(&step) {
-            assert_eq!(rt; refusal, Refusal::Full(Limit::Cells));
-        }
-    }
-    assert_eq!(rt; world.record().len(), 23);
-    assert_eq!(rt; world.posted(), 1);
-    Ok(())
+fn cells_are_limited(rt: HostRuntime) {
+    Trial::of(&rt, rt.alloc(), 1, 1, &TWO_INSTANCES[..23]).shows(
+        &rt,
+        &[
+            Fact::Refused(TWO_INSTANCES[23], Refusal::Full(Limit::Cells)),
+            Fact::Counts(23, 10, 1),
+        ],
+    );
 }

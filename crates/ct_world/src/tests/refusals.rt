@@ -1,6 +1,4 @@
 use super::*;
-use ct_names::{Member, Refusal};
-use std::test::Fail;
 
 // Each of the eleven steps at a member.
 fn every_step(member: Member) -> [Step; 11] {
@@ -19,68 +17,60 @@ fn every_step(member: Member) -> [Step; 11] {
     ]
 }
 
-#[test]
-fn a_crashed_member_takes_no_step(rt: HostRuntime) -> Result<(), Fail> {
-    let mut world = world_of(&rt, rt.alloc(), 3, &one_round());
-    for step in every_step(3) {
-        assert_eq!(rt; world.enabled(&step), Err(Refusal::Crashed));
-        assert_eq!(rt; world.apply(&step), Err(Refusal::Crashed));
+// Each step of the member is refused so, after `ONE_ROUND`.
+fn takes_no_step(rt: &impl Abort, alloc: Global, member: Member, refusal: Refusal) {
+    let mut trial = Trial::of(rt, alloc, 3, 4, &ONE_ROUND);
+    for step in every_step(member) {
+        assert!(rt; Fact::Refused(step, refusal).holds(&mut trial), "{step:?}");
     }
-    assert_eq!(rt; world.record().len(), 22);
-    Ok(())
+    trial.shows(rt, &[Fact::Counts(22, 19, 1)]);
 }
 
 #[test]
-fn a_stranger_takes_no_step(rt: HostRuntime) -> Result<(), Fail> {
-    let mut world = world_of(&rt, rt.alloc(), 3, &one_round());
+fn a_crashed_member_takes_no_step(rt: HostRuntime) {
+    takes_no_step(&rt, rt.alloc(), 3, Refusal::Crashed);
+}
+
+#[test]
+fn a_stranger_takes_no_step(rt: HostRuntime) {
     for member in [0, 4, 255] {
-        for step in every_step(member) {
-            assert_eq!(rt; world.enabled(&step), Err(Refusal::NoSuchMember));
-            assert_eq!(rt; world.apply(&step), Err(Refusal::NoSuchMember));
-        }
+        takes_no_step(&rt, rt.alloc(), member, Refusal::NoSuchMember);
     }
-    assert_eq!(rt; world.record().len(), 22);
-    Ok(())
 }
 
 #[test]
-fn steps_of_a_round_are_refused_in_other_phases(rt: HostRuntime) -> Result<(), Fail> {
-    let steps = one_round();
-    let mut world = world_of(&rt, rt.alloc(), 3, &steps[..8]);
-    assert_eq!(rt; world.apply(&Step::Enter(1)), Err(Refusal::WrongPhase));
-    assert_eq!(rt; world.apply(&Step::Choose(1, 1)), Err(Refusal::WrongPhase));
-    assert_eq!(rt; world.apply(&Step::Adopt(1)), Err(Refusal::NoProposal));
-    assert_eq!(rt; world.apply(&Step::Conclude(1)), Err(Refusal::WrongPhase));
-    assert_eq!(rt; world.apply(&Step::Adopt(2)), Err(Refusal::WrongPhase));
-    assert_eq!(rt; world.apply(&Step::Suspect(2)), Err(Refusal::WrongPhase));
-    assert_eq!(rt; world.apply(&Step::Enter(3)), Err(Refusal::Crashed));
-    for step in &steps[8..15] {
-        world.apply(step)?;
+fn steps_of_a_round_are_refused_in_other_phases(rt: HostRuntime) {
+    let mut trial = Trial::of(&rt, rt.alloc(), 3, 4, &ONE_ROUND[..8]);
+    for (step, refusal) in [
+        (Step::Enter(1), Refusal::WrongPhase),
+        (Step::Choose(1, 1), Refusal::WrongPhase),
+        (Step::Adopt(1), Refusal::NoProposal),
+        (Step::Conclude(1), Refusal::WrongPhase),
+        (Step::Adopt(2), Refusal::WrongPhase),
+        (Step::Suspect(2), Refusal::WrongPhase),
+        (Step::Enter(3), Refusal::Crashed),
+    ] {
+        assert!(rt; Fact::Refused(step, refusal).holds(&mut trial), "{step:?}");
     }
-    assert_eq!(rt; world.apply(&Step::Conclude(2)), Err(Refusal::TooFew));
-    Ok(())
+    trial.run(&rt, &ONE_ROUND[8..15]);
+    trial.shows(&rt, &[Fact::Refused(Step::Conclude(2), Refusal::TooFew)]);
 }
 
-// Where a growth is refused nothing changes, and the step is done once memory is there. With ample memory the first
-// try does it; the allocations are refused in turn by `rt try --test --fail-alloc N`.
-#[test]
-fn a_step_refused_for_memory_changes_nothing(rt: HostRuntime) -> Result<(), Fail> {
-    let steps = one_round();
-    let mut world = World::new(rt.alloc(), group(&rt, 3), 4)?;
-    for (i, step) in steps.iter().enumerate() {
-        let sent = world.sent();
-        match world.apply(step) {
-            Ok(_) => {}
-            Err(refusal) => {
-                assert_eq!(rt; refusal, Refusal::OutOfMemory);
-                assert_eq!(rt; world.record().len(), i);
-                assert_eq!(rt; world.sent(), sent);
-                world.apply(step)?;
-            }
-        }
+// Where a growth is refused nothing changes, and the step is done once memory is there.
+fn do_at_last(rt: &impl Abort, trial: &mut Trial, step: &Step) {
+    let counts = trial.counts();
+    if let Err(refusal) = trial.apply(step) {
+        assert_eq!(rt; refusal, Refusal::OutOfMemory);
+        assert!(rt; trial.counts() == counts && trial.apply(step).is_ok());
     }
-    assert_eq!(rt; world.record().len(), 22);
-    assert_eq!(rt; world.sent(), 19);
-    assert_eq!(rt; world.posted(), 1);
-    Ok(())
+}
+
+// With ample memory the first try does each step; the allocations are refused in turn by `rt try --test --fail-alloc N`.
+#[test]
+fn a_step_refused_for_memory_changes_nothing(rt: HostRuntime) {
+    let mut trial = Trial::new(&rt, rt.alloc(), 3, 4);
+    for step in &ONE_ROUND {
+        do_at_last(&rt, &mut trial, step);
+    }
+    trial.shows(&rt, &[Fact::Counts(22, 19, 1)]);
 }

@@ -1,14 +1,7 @@
 use super::*;
-use ct_names::{Member, Refusal};
-use std::test::Fail;
-
-// The value of a member's register.
-fn register(world: &World, member: Member, register: u8) -> Option<u64> {
-    world.table(member)?.get(register)
-}
 
 #[test]
-fn a_table_is_changed_by_what_is_delivered(rt: HostRuntime) -> Result<(), Fail> {
+fn a_table_is_changed_by_what_is_delivered(rt: HostRuntime) {
     let steps = [
         Step::Submit(1, Command::Add(3, 4)),
         Step::Receive(1, 1),
@@ -23,44 +16,51 @@ fn a_table_is_changed_by_what_is_delivered(rt: HostRuntime) -> Result<(), Fail> 
         Step::Receive(1, 5),
         Step::Deliver(1),
     ];
-    let world = world_of(&rt, rt.alloc(), 1, &steps);
-    assert_eq!(rt; world.sent(), 5);
-    assert_eq!(rt; register(&world, 1, 3), Some(4));
-    assert_eq!(rt; register(&world, 1, 4), Some(0));
-    Ok(())
+    Trial::of(&rt, rt.alloc(), 1, 4, &steps).shows(
+        &rt,
+        &[
+            Fact::Counts(12, 5, 1),
+            Fact::Register(1, 3, 4),
+            Fact::Register(1, 4, 0),
+        ],
+    );
 }
 
 #[test]
-fn tables_follow_the_order_of_delivery(rt: HostRuntime) -> Result<(), Fail> {
-    let world = world_of(&rt, rt.alloc(), 1, &two_instances());
-    assert_eq!(rt; register(&world, 1, 0), Some(5));
-    assert_eq!(rt; register(&world, 1, 1), Some(5));
-    assert!(rt; world.table(2).is_none() && world.table(0).is_none());
-    Ok(())
+fn tables_follow_the_order_of_delivery(rt: HostRuntime) {
+    Trial::of(&rt, rt.alloc(), 1, 4, &TWO_INSTANCES).shows(
+        &rt,
+        &[
+            Fact::Register(1, 0, 5),
+            Fact::Register(1, 1, 5),
+            Fact::Stranger(2),
+            Fact::Stranger(0),
+        ],
+    );
 }
 
 #[test]
-fn members_that_delivered_the_same_have_equal_tables(rt: HostRuntime) -> Result<(), Fail> {
-    let world = world_of(&rt, rt.alloc(), 3, &one_round());
-    assert_eq!(rt; register(&world, 1, 0), Some(7));
-    assert_eq!(rt; register(&world, 2, 0), Some(7));
-    assert_eq!(rt; register(&world, 3, 0), Some(0));
-    Ok(())
+fn members_that_delivered_the_same_have_equal_tables(rt: HostRuntime) {
+    Trial::of(&rt, rt.alloc(), 3, 4, &ONE_ROUND).shows(
+        &rt,
+        &[
+            Fact::Register(1, 0, 7),
+            Fact::Register(2, 0, 7),
+            Fact::Register(3, 0, 0),
+        ],
+    );
 }
 
 #[test]
-fn an_outcome_shows_a_member_at_the_end_of_the_record(rt: HostRuntime) -> Result<(), Fail> {
-    let world = world_of(&rt, rt.alloc(), 3, &one_round());
-    let outcome = world.outcome(1).ok_or("a member")?;
-    assert_eq!(rt; outcome.record.len(), 22);
-    assert!(rt; is_one(Some(outcome.delivered), message(&rt, 1, 1, SEVEN)));
-    assert_eq!(rt; outcome.table.get(0), Some(7));
-    assert!(rt; world.outcome(4).is_none());
-    Ok(())
+fn an_outcome_shows_a_member_at_the_end_of_the_record(rt: HostRuntime) {
+    Trial::of(&rt, rt.alloc(), 3, 4, &ONE_ROUND).shows(
+        &rt,
+        &[Fact::Outcome(1, 22, &[FIRST], 7), Fact::Stranger(4)],
+    );
 }
 
 #[test]
-fn a_batch_stands_in_the_order_of_messages(rt: HostRuntime) -> Result<(), Fail> {
+fn a_batch_stands_in_the_order_of_messages(rt: HostRuntime) {
     let set = Command::Set(0, 18446744073709551610);
     let add = Command::Add(0, 10);
     let steps = [
@@ -79,15 +79,12 @@ fn a_batch_stands_in_the_order_of_messages(rt: HostRuntime) -> Result<(), Fail> 
         Step::Receive(1, 6),
         Step::Deliver(1),
     ];
-    let mut world = world_of(&rt, rt.alloc(), 1, &steps);
-    let both = [message(&rt, 1, 1, set), message(&rt, 1, 2, add)];
-    assert!(rt;
-        world
-            .delivered(1)
-            .is_some_and(|list| list == both.as_slice())
+    Trial::of(&rt, rt.alloc(), 1, 4, &steps).shows(
+        &rt,
+        &[
+            Fact::Delivered(1, &[(1, 1, set), (1, 2, add)]),
+            Fact::Register(1, 0, u64::MAX),
+            Fact::Refused(Step::Submit(1, Command::Set(16, 1)), Refusal::BadCommand),
+        ],
     );
-    assert_eq!(rt; register(&world, 1, 0), Some(u64::MAX));
-    let bad = Step::Submit(1, Command::Set(16, 1));
-    assert_eq!(rt; world.apply(&bad), Err(Refusal::BadCommand));
-    Ok(())
 }

@@ -31,6 +31,7 @@ impl World {
             seats: seats::copy_seats(alloc, &self.seats)?,
             prepared: None,
             proposal: None,
+            posting: None,
             alloc,
         })
     }

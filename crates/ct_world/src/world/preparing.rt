@@ -2,13 +2,16 @@
 
 ghost use Rattle.std.specs.Prelude.{◌≡◌, ◌<◌, true, vec_len, vec_capacity, IsSome, IfSome, Some, None, OnOk, OnErr, IfOk, IfErr, unwrap_or};
 ghost use Rattle.ct_model.specs.Cause.{cause};
+ghost use Rattle.ct_model.specs.Order.{DeliversNothing};
 ghost use Rattle.ct_model.specs.Rehearsal.{state_of};
 ghost use Rattle.ct_model.specs.Safe.{IsSafe};
 ghost use Rattle.ct_world.specs.Kept.{NeedsNoRoom};
+ghost use Rattle.ct_world.specs.Posting.{HasPosted, IsRefusal, IsRefusedByBoard};
 ghost use Rattle.ct_world.specs.World.{IsDone};
 
 use crate::effect::Effect;
 use crate::world::World;
+use ct_board::Board;
 use ct_model::Step;
 use ct_names::Refusal;
 use ct_network::Network;
@@ -25,6 +28,7 @@ impl World {
     {
         self.prepared = None;
         self.proposal = None;
+        self.posting = None;
         if let Some(refusal) = self.cause(step) {
             return Err(refusal);
         }
@@ -62,59 +66,70 @@ impl World {
         Ok(())
     }
 
-    /// Does the prepared step, of which none is left. Takes no memory and cannot fail.
-    pub fn commit(&mut self) -> Effect
+    /// Does the prepared step; none is prepared then. The first Deliver of an instance sets the board's cell at the number
+    /// of the instance less 1 to its batch, and answers the receipt. Takes no memory. It is refused only by the board,
+    /// where the step would set a cell that is not there or refuses the batch; then nothing else changes.
+    pub fn commit(&mut self, board: &Board) -> Result<Effect, Refusal>
         requires { IsSome self.old.prepared }
-        ensures done { IfSome self.old.prepared (λ step. IsDone self.old.rehearsal step self.new.rehearsal result.sent) }
+        ensures done { IfOk result (λ effect. IfSome self.old.prepared (λ step. IsDone self.old.rehearsal step self.new.rehearsal effect.sent)) }
+        ensures posted { IfOk result (λ effect. HasPosted board.now self.old.rehearsal self.new.rehearsal effect.receipt) }
+        ensures refusal { IfErr result (λ refusal. IfSome self.old.prepared (λ step. IsRefusedByBoard self.old.rehearsal step refusal)) }
+        ensures err { OnErr result (self.new.rehearsal ≡ self.old.rehearsal) }
         ensures none { self.new.prepared ≡ None }
     {
         match self.prepared.unwrap() {
-            Step::Submit(member, command) => Effect {
-                sent: self.commit_submit(member, command),
-            },
-            Step::Receive(member, serial) => Effect {
-                sent: self.commit_receive(member, serial),
-            },
-            Step::Begin(member) => {
-                self.commit_begin(member);
-                Effect { sent: 0 }
-            }
-            Step::Enter(member) => Effect {
-                sent: self.commit_enter(member),
-            },
-            Step::Choose(member, from) => Effect {
-                sent: self.commit_choose(member, from),
-            },
-            Step::Adopt(member) => Effect {
-                sent: self.commit_adopt(member),
-            },
-            Step::Suspect(member) => Effect {
-                sent: self.commit_suspect(member),
-            },
-            Step::Conclude(member) => Effect {
-                sent: self.commit_conclude(member),
-            },
             Step::Deliver(member) => {
-                self.commit_deliver(member);
-                Effect { sent: 0 }
+                let receipt = self.commit_deliver(board, member)?;
+                Ok(Effect { sent: 0, receipt })
             }
-            Step::Crash(member) => {
-                self.commit_crash(member);
-                Effect { sent: 0 }
-            }
-            Step::Postpone(member, serial) => {
-                self.commit_postpone(member, serial);
-                Effect { sent: 0 }
+            step => {
+                let sent = self.commit_other(step);
+                Ok(Effect {
+                    sent,
+                    receipt: None,
+                })
             }
         }
     }
 
-    /// Does the step: `prepare`, then `commit`. It refuses as `enabled`, or with OutOfMemory, and then changes nothing but
-    /// that no step is prepared. Done or refused, the state is safe, as `record` says.
-    pub fn apply(&mut self, step: &Step) -> Result<Effect, Refusal>
+    // Does the prepared step, which is no Deliver, and answers how many envelopes it sent.
+    fn commit_other(&mut self, step: Step) -> u32
+        requires prepared { self.old.prepared ≡ Some step }
+        requires plain { DeliversNothing step }
+        ensures done { IsDone self.old.rehearsal step self.new.rehearsal result }
+        ensures none { self.new.prepared ≡ None }
+    {
+        match step {
+            Step::Submit(member, command) => self.commit_submit(member, command),
+            Step::Receive(member, serial) => self.commit_receive(member, serial),
+            Step::Begin(member) => {
+                self.commit_begin(member);
+                0
+            }
+            Step::Enter(member) => self.commit_enter(member),
+            Step::Choose(member, from) => self.commit_choose(member, from),
+            Step::Adopt(member) => self.commit_adopt(member),
+            Step::Suspect(member) => self.commit_suspect(member),
+            Step::Conclude(member) => self.commit_conclude(member),
+            Step::Deliver(_) => unreachable!(),
+            Step::Crash(member) => {
+                self.commit_crash(member);
+                0
+            }
+            Step::Postpone(member, serial) => {
+                self.commit_postpone(member, serial);
+                0
+            }
+        }
+    }
+
+    /// Does the step: `prepare`, then `commit`. It refuses as `enabled`, with OutOfMemory, or as `commit` with Board, and
+    /// then changes nothing but that no step is prepared. Done or refused, the state is safe, as `record` says.
+    pub fn apply(&mut self, board: &Board, step: &Step) -> Result<Effect, Refusal>
         ensures allowed { OnOk result (cause self.old.rehearsal step.now ≡ None) }
         ensures ok { IfOk result (λ effect. IsDone self.old.rehearsal step.now self.new.rehearsal effect.sent) }
-        ensures refusal { IfErr result (λ refusal. refusal ≡ unwrap_or (cause self.old.rehearsal step.now) Refusal.OutOfMemory) }
+        ensures posted { IfOk result (λ effect. HasPosted board.now self.old.rehearsal self.new.rehearsal effect.receipt) }
+        ensures refusal { IfErr result (λ refusal. IsRefusal self.old.rehearsal step.now refusal) }
         ensures err { OnErr result (self.new.rehearsal ≡ self.old.rehearsal) }
         ensures none { self.new.prepared ≡ None }
         ensures safe { IsSafe self.new.rehearsal.setting (state_of self.new.rehearsal) }
@@ -122,9 +137,9 @@ impl World {
         let prepared = self.prepare(step);
         let _ = self.record();
         prepared?;
-        let effect = self.commit();
+        let done = self.commit(board);
         let _ = self.record();
-        Ok(effect)
+        done
     }
 }
 

@@ -141,7 +141,7 @@ impl World {
     }
 
     // The seat of the least of the members that delivered most batches.
-    fn foremost(&self) -> &Seat
+    pub(super) fn foremost(&self) -> &Seat
         ensures value { result.now.caster.batches ≡ map (λ b. b.messages) (order (state_of self.now.rehearsal)) }
         ensures few { length result.now.caster.batches ≤ 1024 }
     {

@@ -8,35 +8,44 @@ ghost use Rattle.ct_world.specs.Replay.{world_after, AllowsFirst, IsFaultOf};
 
 use crate::replay_fault::ReplayFault;
 use crate::world::World;
+use ct_board::Board;
 use ct_model::Step;
-use ct_names::Group;
+use ct_names::{Group, Refusal};
 use std::alloc::Global;
 
 impl World {
-    /// The world that these steps lead to, or the first of them that is refused.
+    /// The world that these steps lead to and the board with their batches, or the first of the steps that is refused.
+    /// Both are made for them; the board has as many cells as the world.
     pub fn replay(
         alloc: Global,
         group: Group,
         cells: u16,
         steps: &[Step],
-    ) -> Result<World, ReplayFault>
+    ) -> Result<(World, Board), ReplayFault>
         requires { cells ≤ 1024 }
-        ensures ok { IfOk result (λ world. world ≡ world_after group cells steps.now) }
+        ensures ok { IfOk result (λ both. both.0 ≡ world_after group cells steps.now) }
+        ensures board { IfOk result (λ both. length both.1 ≡ cells) }
         ensures allowed { OnOk result (AllowsFirst group cells steps.now (length steps.now)) }
-        ensures runs { IfOk result (λ world. run world.rehearsal.setting world.rehearsal.steps ≡ Some (state_of world.rehearsal)) }
-        ensures safe { IfOk result (λ world. IsSafe world.rehearsal.setting (state_of world.rehearsal)) }
+        ensures runs { IfOk result (λ both. run both.0.rehearsal.setting both.0.rehearsal.steps ≡ Some (state_of both.0.rehearsal)) }
+        ensures safe { IfOk result (λ both. IsSafe both.0.rehearsal.setting (state_of both.0.rehearsal)) }
         ensures err { IfErr result (λ fault. IsFaultOf group cells steps.now fault.at fault.refusal) }
     {
         let mut world = match World::new(alloc, group, cells) {
             Ok(world) => world,
             Err(refusal) => return Err(ReplayFault { at: 0, refusal }),
         };
+        let Ok(board) = Board::new(alloc, usize::from(cells)) else {
+            return Err(ReplayFault {
+                at: 0,
+                refusal: Refusal::OutOfMemory,
+            });
+        };
         for (i, step) in steps.iter().enumerate() {
-            if let Err(refusal) = world.apply(step) {
+            if let Err(refusal) = world.apply(&board, step) {
                 return Err(ReplayFault { at: i + 1, refusal });
             }
         }
         let _ = world.record();
-        Ok(world)
+        Ok((world, board))
     }
 }

@@ -2,7 +2,7 @@ use Rattle.std.proofs.Common.{◌<◌, ◌∙◌, ap, sym, length, get_or, arith
 use Rattle.std.proofs.lemmas.List.{set-get_or}
 use Rattle.once_cell.specs.Once.{Agrees}
 use Rattle.once_cell.specs.declared.race.note.Note.{Note}
-use Rattle.ct_abcast.specs.Batch.{Batch}
+use Rattle.ct_names.specs.Batch.{Batch}
 use Rattle.ct_board.specs.Notes.{cells_of}
 use Rattle.ct_board.proofs.Looks.{one_cell, same_more}
 use Rattle.ct_board.proofs.notes.compare_all.Goals as goal

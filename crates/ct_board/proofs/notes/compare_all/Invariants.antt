@@ -1,5 +1,5 @@
 use Rattle.std.proofs.Common.{◌≡◌, ◌<◌, ℕ}
-use Rattle.ct_abcast.specs.Batch.{Batch}
+use Rattle.ct_names.specs.Batch.{Batch}
 use Rattle.ct_board.specs.Known.{Knows}
 use Rattle.ct_board.specs.Notes.{known_of}
 use Rattle.ct_board.proofs.notes.compare_all.Given as goal

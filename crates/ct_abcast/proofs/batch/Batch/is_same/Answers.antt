@@ -1,5 +1,5 @@
 use Rattle.std.proofs.Common.{◌≡◌, ◌∙◌, ap, sym}
-use Rattle.ct_abcast.specs.Batch.{Batch}
+use Rattle.ct_names.specs.Batch.{Batch}
 use Rattle.ct_abcast.proofs.Same.{messages-Decides, same_batch}
 use Rattle.ct_abcast.proofs.batch.Batch.is_same.Goals as goal
 

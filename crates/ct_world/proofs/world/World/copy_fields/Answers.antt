@@ -14,6 +14,7 @@ copied c = record {
   book = c.in_ok-copy-2.field-0;
   seats = c.in_ok-copy_seats.field-0.items;
   proposal = None;
+  posting = None;
   spare_steps = vec_capacity c.in_ok-from_slice.field-0 - vec_len c.in_ok-from_slice.field-0;
 }
 

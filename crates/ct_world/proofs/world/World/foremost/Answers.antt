@@ -2,7 +2,7 @@ use Rattle.std.proofs.Common.{◌≡◌, ◌+◌, ◌<◌, ◌≤◌, length, ma
 use Rattle.std.proofs.lemmas.List.{get_or_read}
 use Rattle.ct_model.specs.Cause.{order}
 use Rattle.ct_model.specs.Rehearsal.{state_of}
-use Rattle.ct_model.specs.State.{Batch}
+use Rattle.ct_names.specs.Batch.{Batch}
 use Rattle.ct_world.specs.declared.seat.Seat.{Seat}
 use Rattle.ct_world.specs.Kept.{no_seat}
 use Rattle.ct_world.specs.World.{WorldView}

@@ -1,8 +1,12 @@
 use Rattle.std.proofs.Common.{◌≡◌, ◌≤◌, length, refl, ap, sym, ◌∙◌, subst, arith, Some}
-use Rattle.std.specs.Prelude.{is_some, option_copied}
+use Rattle.std.specs.Prelude.{is_some, option_copied, option_map}
 use Rattle.ct_model.specs.declared.step.Step.TheVariants.{Deliver}
 use Rattle.ct_instances.specs.Kept.{decision_at}
+use Rattle.ct_model.specs.Cause.{order}
+use Rattle.ct_model.specs.Order.{Joins}
+use Rattle.ct_model.specs.Rehearsal.{state_of, extended}
 use Rattle.ct_world.specs.Kept.{seat_of}
+use Rattle.ct_world.specs.World.{WorldView}
 use Rattle.ct_world.proofs.Insides.{rehearsal_in, fields_in}
 use Rattle.ct_world.proofs.Preparing.{allowed_in, in_vec, seat_at, roomier_in, unprepared_in, ready_in}
 use Rattle.ct_world.proofs.Delivering.{number_at, due_at, value_there, deliver_room}
@@ -49,5 +53,6 @@ invariant_of-self-2 c =
       allowed = p.allowed;
       for_step = omega (arith, c.in_ok-reserve.ensures.for_step);
       for_sending = c.in_ok-reserve.ensures.for_sending;
-      for_itself = deliver_room (fields_in c.self.inside) c.args.member c.index_mut-seat.result.now c.prepare_deliver.new.self c.unwrap-value.result c.unwrap.result.now _ p.within here c.in_ok-prepare_deliver.ensures.same refl refl number value c.in_ok-prepare_deliver.ensures.batch room;
+      for_itself = deliver_room (rehearsal_in c.self.inside) (fields_in c.self.inside) c.args.member c.index_mut-seat.result.now c.prepare_deliver.new.self c.unwrap-value.result c.unwrap.result.now _ p.within here c.in_ok-prepare_deliver.ensures.same refl refl number value c.in_ok-prepare_deliver.ensures.batch room
+          (subst (λ (x : WorldView). Joins (order (state_of x.rehearsal)) (order (state_of (extended x.rehearsal (Deliver c.args.member)))) (option_map (λ b. b.value) c.in_ok-posting.posting)) (sym c.self.view_is) c.in_ok-posting.ensures);
     })

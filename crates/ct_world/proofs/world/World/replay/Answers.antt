@@ -1,14 +1,14 @@
 use Rattle.std.proofs.Common.{◌≡◌, ◌+◌, get_or, Some, None, sym, ap, ◌∙◌, subst, arith, inl, inr, add-one}
-use Rattle.std.specs.Prelude.{slice_get, unwrap_or}
+use Rattle.std.specs.Prelude.{slice_get}
 use Rattle.std.proofs.lemmas.List.{take_more}
 use Rattle.std.proofs.lemmas.Option.{get_or_from_slice_get}
 use Rattle.std.proofs.lemmas.Bool.{cases_lt}
-use Rattle.ct_names.specs.declared.refusal.Refusal.TheVariants.{OutOfMemory}
 use Rattle.ct_model.specs.declared.step.Step.{Step}
 use Rattle.ct_model.specs.declared.step.Step.TheVariants.{Submit}
 use Rattle.ct_names.specs.declared.command.Command.TheVariants.{Set}
 use Rattle.ct_model.specs.Rehearsal.{extended}
 use Rattle.ct_model.specs.Cause.{cause}
+use Rattle.ct_world.specs.Posting.{IsRefusal}
 use Rattle.ct_world.specs.Replay.{first_steps}
 use Rattle.ct_world.specs.World.{WorldView}
 use Rattle.ct_world.proofs.world.World.replay.Goals as goal
@@ -26,14 +26,14 @@ returns-in-Err-apply-clause-err c =
     rw add-one (record {
       within = c.loop-i-test.true;
       before = c.loop-i.invariant.allowed;
-      refused = λ s e. h.refusal
-          ∙ ap (λ (v : WorldView). unwrap_or (cause v.rehearsal (get_or steps i no_step)) OutOfMemory) so_far
-          ∙ ap (λ t. unwrap_or (cause (first_steps c.args.group c.args.cells steps i) t) OutOfMemory) (get_or_from_slice_get steps i s no_step e);
+      refused = λ s e.
+          subst (λ t. IsRefusal (first_steps c.args.group c.args.cells steps i) t c.in-Err-apply.refusal) (get_or_from_slice_get steps i s no_step e)
+          (subst (λ (v : WorldView). IsRefusal v.rehearsal (get_or steps i no_step) c.in-Err-apply.refusal) so_far h.refusal);
     })
 
 pub loop-i-preserved : goal.loop-i-preserved
 loop-i-preserved c =
-    let h = c.in_default.ensures in
+    let h = c.in_default-apply.ensures in
     let so_far = c.loop-i.invariant.so_far in
     let steps = c.args.steps.now in
     let i = c.loop-i.i in

@@ -1,4 +1,4 @@
--- What contracts see of a batch.
+-- What is delivered for a decision.
 use Rattle.std.specs.Prelude.{ℕ, List}
 use Rattle.ct_names.specs.Message.{Message}
 

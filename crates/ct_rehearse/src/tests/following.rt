@@ -1,0 +1,62 @@
+use super::*;
+use ct_board::Watcher;
+use ct_names::{Member, Message};
+use std::sync::Wait;
+
+// A watcher that met a hall's world, and the messages of the batches that it read.
+#[derive(Drop)]
+pub(super) struct Followed {
+    watcher: Watcher,
+    messages: Vec<Message>,
+}
+
+impl Followed {
+    // A new watcher of the hall's board meets the hall's world, and reads until no batch is left.
+    pub(super) fn of<L: Ledger, R: Wait>(
+        rt: &R,
+        alloc: Global,
+        hall: &Hall<L>,
+    ) -> Result<Followed, Fail> {
+        let board = hall.board();
+        let mut watcher = Watcher::new(alloc, board)?;
+        hall.meet(rt, &mut watcher)?;
+        let mut messages = Vec::new(alloc);
+        for _ in 0..board.cells() {
+            match watcher.next(board) {
+                Some(batch) => messages.extend_from_slice(batch.messages())?,
+                None => break,
+            }
+        }
+        Ok(Followed { watcher, messages })
+    }
+
+    // How many batches it was told of, and how many it read.
+    pub(super) fn told_and_read(&self) -> (usize, usize) {
+        (self.watcher.told(), self.watcher.read())
+    }
+
+    pub(super) fn messages(&self) -> &[Message] {
+        &self.messages
+    }
+
+    // The least of the members that delivered as many messages as were read.
+    pub(super) fn level_with(&self, world: &World) -> Option<Member> {
+        for member in 1..=world.group().n() {
+            let delivered = world.delivered(member)?;
+            if delivered.len() == self.messages.len() {
+                return Some(member);
+            }
+        }
+        None
+    }
+
+    // Whether the member delivered what was read, and has the watcher's table.
+    pub(super) fn agrees(&self, world: &World, member: Member) -> bool {
+        match (world.delivered(member), world.table(member)) {
+            (Some(delivered), Some(table)) => {
+                delivered == self.messages() && table == self.watcher.table()
+            }
+            _ => false,
+        }
+    }
+}
