@@ -67,13 +67,13 @@ pub record IsKept (old new : Member) : Type 0 where
   pub current : new.current ≡ old.current
   pub batches : new.batches ≡ old.batches
 
-low : (bound k : ℕ) → k ≤ bound → nat_lt bound k ≡ false
+pub low : (bound k : ℕ) → k ≤ bound → nat_lt bound k ≡ false
 low bound k h = grind (arith, nat_tests)
 
-high : (bound k : ℕ) → bound < k → nat_lt bound k ≡ true
+pub high : (bound k : ℕ) → bound < k → nat_lt bound k ≡ true
 high bound k h = grind (arith, nat_tests)
 
-under : (bound k : ℕ) → nat_lt bound k ≡ false → k ≤ bound
+pub under : (bound k : ℕ) → nat_lt bound k ≡ false → k ≤ bound
 under bound k h = grind (arith, nat_tests)
 
 module _ (w : Rehearsal) (step : Step) (o : Outcome) (law : IsLawful w) (there : actor step - 1 < length (state_of w).members) (keeps : IsKept (member (state_of w) (actor step)) o.member) where

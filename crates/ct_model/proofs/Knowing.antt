@@ -24,7 +24,7 @@ use Rattle.ct_model.specs.Wire.Mail.{Nobody, One, All}
 use Rattle.ct_model.specs.State.{State, Member, member, is_crashed, submissions}
 use Rattle.ct_model.specs.Received.{received, received_by, message_of}
 use Rattle.ct_model.specs.Next.{Outcome, plain, row, submit, receive, crash, next_message, is_relayed, wire_to, after, next, can_act}
-use Rattle.ct_model.proofs.Tests.{and_left, or_cases, or_left, or_right, self_number}
+use Rattle.ct_model.proofs.Tests.{and_left, and_right, true_not, or_cases, or_left, or_right, self_number}
 use Rattle.ct_model.proofs.Outcomes.{some-same, some-none, when-is, made-map}
 use Rattle.ct_model.proofs.Frame.{after-sent, after-submitted, after-size, member-same, member-other, at_place, submissions-append}
 use Rattle.ct_model.proofs.Rows.{IsWithoutMessage, IsOfConsensus, row-quiet}
@@ -155,6 +155,7 @@ module _ (s : Setting) (g : State) (p : ℕ) (o : Outcome) (k : KnowsMessages s 
 pub record IsStep (s : Setting) (g : State) (step : Step) (h : State) : Type 0 where
   pub outcome : Outcome
   pub in_group : is_member s.members (actor step) ≡ true
+  pub up : is_crashed g (actor step) ≡ false
   pub row : row s g (actor step) (member g (actor step)) step ≡ Some outcome
   pub gives : after s g (actor step) outcome ≡ h
 
@@ -168,7 +169,13 @@ next-is s g step h e =
     let r : Option Outcome = row s g (actor step) (member g (actor step)) step in
     let a = acting (can_act s g (actor step)) (option_map (after s g (actor step)) r) h e in
     let made = made-map (after s g (actor step)) r h a.1 in
-    record { outcome = made.from; in_group = and_left (is_member s.members (actor step)) (not (is_crashed g (actor step))) a.0; row = made.is; gives = made.gives }
+    record {
+      outcome = made.from;
+      in_group = and_left (is_member s.members (actor step)) (not (is_crashed g (actor step))) a.0;
+      up = true_not (is_crashed g (actor step)) (and_right (is_member s.members (actor step)) (not (is_crashed g (actor step))) a.0);
+      row = made.is;
+      gives = made.gives;
+    }
 
 pub in_members : (s : Setting) (g : State) (p : ℕ) → length g.members ≡ s.members → is_member s.members p ≡ true → p - 1 < length g.members
 in_members s g p size group = grind (arith, nat_tests)

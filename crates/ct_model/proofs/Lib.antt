@@ -24,6 +24,7 @@ pub mod Begins
 pub mod Turns
 pub mod Rounds
 pub mod Delivers
+pub mod Allowing
 pub mod Carrying
 pub mod Sends
 pub mod Naming

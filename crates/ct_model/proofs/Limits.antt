@@ -25,7 +25,7 @@ use Rattle.ct_model.proofs.Tests.{number_other}
 use Rattle.ct_model.proofs.Outcomes.{when-is, made-map}
 use Rattle.ct_model.proofs.Frame.{after-submitted, length-after-sent, member-same, member-other, at_place, submissions-append, submissions-none}
 use Rattle.ct_model.proofs.Rows.{row-quiet}
-use Rattle.ct_model.proofs.Causes.{own_tests, cause-present, cause-none, first_fault-none}
+use Rattle.ct_model.proofs.Causes.{own_tests, cause-present, cause-none, first_fault-none, low, under}
 use Rattle.ct_model.proofs.Taken.{IsTaken, next-row}
 use Rattle.ct_model.proofs.Knowing.{in_members}
 use Rattle.ct_model.proofs.Submits.{submissions-next}
@@ -97,12 +97,6 @@ pub record IsUnder (cells steps : ℕ) (g : State) (p : ℕ) : Type 0 where
   pub few_envelopes : length g.sent ≤ 1000000
   pub few_batches : length (order g) ≤ cells
   pub few_steps : steps ≤ 1000000
-
-low : (bound k : ℕ) → k ≤ bound → nat_lt bound k ≡ false
-low bound k h = grind (arith, nat_tests)
-
-under : (bound k : ℕ) → nat_lt bound k ≡ false → k ≤ bound
-under bound k h = grind (arith, nat_tests)
 
 pub limits-none : (cells steps : ℕ) (g : State) (p : ℕ) → first_fault (limits cells steps g p) ≡ None → IsUnder cells steps g p
 limits-none cells steps g p h =

@@ -20,4 +20,5 @@ pub mod Rehearsal
 pub mod Cause
 pub mod Order
 pub mod Lawful
+pub mod Allowed
 pub mod Knowledge

@@ -1,17 +1,23 @@
-//! Laws over the definitions alone, for every group and every list of steps that has a run.
+//! Laws over the definitions alone: of every group and every list of steps that has a run, of causes, and of ballots.
 
-ghost use Rattle.std.specs.Prelude.{◌≡◌, ◌⊎◌, ℕ, ◌≤◌, List, Some};
+ghost use Rattle.std.specs.Prelude.{◌≡◌, ◌⊎◌, ℕ, ◌≤◌, ◌++◌, ◌∷◌, [], List, None, Some};
 ghost use Rattle.ct_names.specs.Group.{IsMember};
 ghost use Rattle.ct_names.specs.Membership.{IsIn, IsWithoutRepeats};
 ghost use Rattle.ct_names.specs.Message.{Message};
 ghost use Rattle.ct_names.specs.Value.{Value};
-ghost use Rattle.ct_model.specs.Received.{received_by};
+ghost use Rattle.ct_model.specs.Allowed.{IsAllowed};
+ghost use Rattle.ct_model.specs.Cause.{cause};
+ghost use Rattle.ct_model.specs.Counted.{NamesSomebody, count_in, no_ballots};
+ghost use Rattle.ct_model.specs.Lawful.{IsLawful};
+ghost use Rattle.ct_model.specs.Received.{ballots, received_by};
+ghost use Rattle.ct_model.specs.Rehearsal.{Rehearsal};
 ghost use Rattle.ct_model.specs.Relayed.{HasDecided, IsArrived, HasCaughtUp};
 ghost use Rattle.ct_model.specs.Run.{run};
 ghost use Rattle.ct_model.specs.Setting.{Setting};
 ghost use Rattle.ct_model.specs.Safe.{IsLocked, IsProposed, delivered_by};
 ghost use Rattle.ct_names.specs.Prefix.{IsPrefix};
 ghost use Rattle.ct_model.specs.State.{State, member, wires};
+ghost use Rattle.ct_model.specs.Wire.{Wire};
 ghost use Rattle.ct_model.specs.Wire.Wire.{Prop};
 ghost use Rattle.ct_model.specs.declared.step.Step.{Step};
 
@@ -53,4 +59,18 @@ pub fn law_prefix()
     ensures delivered { (s : Setting) (steps : List Step) (g : State) → run s steps ≡ Some g → (p q : ℕ) → IsMember s.members p → IsMember s.members q → IsPrefix (delivered_by g p) (delivered_by g q) ⊎ IsPrefix (delivered_by g q) (delivered_by g p) }
     ensures once { (s : Setting) (steps : List Step) (g : State) → run s steps ≡ Some g → (p : ℕ) → IsMember s.members p → IsWithoutRepeats (delivered_by g p) }
     ensures batches { (s : Setting) (steps : List Step) (g : State) → run s steps ≡ Some g → (p q : ℕ) → IsMember s.members p → IsMember s.members q → IsPrefix (member g p).batches (member g q).batches ⊎ IsPrefix (member g q).batches (member g p).batches }
+{}
+
+/// The tests of a step and the rows of the next state say the same, after any record that a world can keep: a step has no
+/// cause exactly where it is enabled, a serial that it takes or moves waits, and no limit is passed.
+pub fn law_cause()
+    ensures allowed { (w : Rehearsal) (step : Step) → IsLawful w → cause w step ≡ None → IsAllowed w step }
+    ensures free { (w : Rehearsal) (step : Step) → IsAllowed w step → cause w step ≡ None }
+{}
+
+/// Ballots that are counted wire by wire are those that are read off all the wires, for any type of values: without
+/// wires there are none, and one more wire counts as it is read.
+pub fn law_count<V>()
+    ensures none { (instance round : ℕ) → ballots {V = V} [] instance round ≡ no_ballots }
+    ensures more { (got : List (Wire V)) (instance round : ℕ) (w : Wire V) → NamesSomebody w → ballots (got ++ w ∷ []) instance round ≡ count_in (ballots got instance round) instance round w }
 {}

@@ -6,6 +6,9 @@ mod laws;
 mod phase;
 mod step;
 
-pub use laws::{law_agreement, law_integrity, law_locked, law_prefix, law_relay, law_validity};
+pub use laws::{
+    law_agreement, law_cause, law_count, law_integrity, law_locked, law_prefix, law_relay,
+    law_validity,
+};
 pub use phase::Phase;
 pub use step::Step;
