@@ -1,29 +1,26 @@
 -- A step has no cause exactly where it is allowed.
-use Rattle.std.proofs.Common.{◌≡◌, ℕ, ◌+◌, Bool, true, false, not, [], ◌∷◌, length, refl, ap, sym, ◌∙◌, Option, Some, None}
-use Rattle.std.specs.Prelude.{◌++◌, nat_lt, is_some, is_none, option_and_then, option_map}
+use Rattle.std.proofs.Common.{◌≡◌, ℕ, ◌+◌, Bool, true, false, not, [], ◌∷◌, length, refl, ap, sym, ◌∙◌, subst, Option, Some, None}
+use Rattle.std.specs.Prelude.{is_some, is_none, option_and_then}
 use Rattle.std.specs.Option.{option_map_or}
 use Rattle.ct_names.specs.declared.refusal.Refusal.{Refusal}
-use Rattle.ct_names.specs.declared.refusal.Refusal.TheVariants.{NotWaiting, Busy, Nothing, WrongPhase, TooFew, NotLargest, NoProposal, HasProposal, Decided, Undecided, BadCommand, Full}
-use Rattle.ct_names.specs.declared.limit.Limit.TheVariants.{Submissions, Instances, Rounds, Envelopes, Cells, Steps}
+use Rattle.ct_names.specs.declared.refusal.Refusal.TheVariants.{NotWaiting, Busy, Nothing, WrongPhase, TooFew, NotLargest, NoProposal, HasProposal, Decided, Undecided, BadCommand}
 use Rattle.ct_names.specs.Value.{Value}
 use Rattle.ct_names.specs.Command.{is_good}
-use Rattle.ct_names.specs.Group.{is_majority}
 use Rattle.ct_model.specs.declared.step.Step.{Step}
 use Rattle.ct_model.specs.declared.step.Step.TheVariants.{Submit, Receive, Begin, Enter, Choose, Adopt, Suspect, Conclude, Deliver, Crash, Postpone}
 use Rattle.ct_model.specs.Actor.{actor}
-use Rattle.ct_model.specs.AtValue.{Standing}
-use Rattle.ct_model.specs.State.{State, Member, member, submissions}
+use Rattle.ct_model.specs.State.{State, member, submissions}
 use Rattle.ct_model.specs.Received.{Heard, decided, heard, is_largest}
 use Rattle.ct_model.specs.Phases.{is_rest, is_gather, is_wait, is_tally, enter, choose, adopt, suspect, conclude}
 use Rattle.ct_model.specs.Faults.{lacks, has_largest}
 use Rattle.ct_model.specs.Next.{Outcome, row, begin, deliver, turned, submit, undelivered, is_empty, own_ballots, after, next}
-use Rattle.ct_model.specs.Rehearsal.{Rehearsal, state_of, line_of}
+use Rattle.ct_model.specs.Rehearsal.{Rehearsal, state_of, extended}
 use Rattle.ct_model.specs.Cause.{at, first_fault, limits, limit, or_else, cause, order, round_of}
 use Rattle.ct_model.specs.Lawful.{IsLawful, IsWithin, IsPresent, NamesWaiting, is_waiting}
 use Rattle.ct_model.specs.Allowed.{IsAllowed}
 use Rattle.ct_model.proofs.Outcomes.{when-is}
 use Rattle.ct_model.proofs.Causes.{own_tests, cause-present, low}
-use Rattle.ct_model.proofs.Taken.{IsTaken, next-step}
+use Rattle.ct_model.proofs.Taken.{IsTaken, next-step, lawful-step}
 use Rattle.ct_model.proofs.Letters.{waiting_letter}
 use Rattle.ct_model.proofs.Knowing.{next-is}
 use Rattle.ct_model.proofs.Limits.{own_tests-is}
@@ -139,7 +136,7 @@ within-free cells steps g p within =
       low 10000 (round_of (member g p)) (within.few_rounds p),
       low 1000000 (length g.sent) within.few_envelopes,
       low cells (length (order g)) within.few_batches,
-      low 1000000 steps within.few_steps
+      low 1000000 steps within.few_steps,
     ) refl
 
 limit-free : (w : Rehearsal) (step : Step) (h : State) → next w.setting (state_of w) step ≡ Some h → IsWithin w.cells h (length w.steps + 1) → limit w step ≡ None
@@ -156,3 +153,15 @@ allowed-free w step allowed =
     cause-present w step present
     ∙ ap (λ o. or_else o (limit w step)) (row-free w step s.outcome s.row allowed.waits)
     ∙ limit-free w step allowed.after allowed.enabled allowed.within
+
+-- and a lawful record with it is lawful
+pub allowed-lawful : (w : Rehearsal) (step : Step) → IsLawful w → IsAllowed w step → IsLawful (extended w step)
+allowed-lawful w step law allowed =
+    let s = next-is w.setting (state_of w) step allowed.after allowed.enabled in
+    lawful-step w step s.outcome law
+    (record {
+      present = record { in_group = s.in_group; up = s.up };
+      row = s.row;
+      names = allowed.waits;
+      within = subst (λ g. IsWithin w.cells g (length w.steps + 1)) (sym s.gives) allowed.within;
+    })

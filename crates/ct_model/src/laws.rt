@@ -10,7 +10,7 @@ ghost use Rattle.ct_model.specs.Cause.{cause};
 ghost use Rattle.ct_model.specs.Counted.{NamesSomebody, count_in, no_ballots};
 ghost use Rattle.ct_model.specs.Lawful.{IsLawful};
 ghost use Rattle.ct_model.specs.Received.{ballots, received_by};
-ghost use Rattle.ct_model.specs.Rehearsal.{Rehearsal};
+ghost use Rattle.ct_model.specs.Rehearsal.{Rehearsal, empty, extended};
 ghost use Rattle.ct_model.specs.Relayed.{HasDecided, IsArrived, HasCaughtUp};
 ghost use Rattle.ct_model.specs.Run.{run};
 ghost use Rattle.ct_model.specs.Setting.{Setting};
@@ -62,8 +62,11 @@ pub fn law_prefix()
 {}
 
 /// The tests of a step and the rows of the next state say the same, after any record that a world can keep: a step has no
-/// cause exactly where it is enabled, a serial that it takes or moves waits, and no limit is passed.
+/// cause exactly where it is enabled, a serial that it takes or moves waits, and no limit is passed. A world can keep the
+/// record without steps, and any that such a step makes of one that it can keep.
 pub fn law_cause()
+    ensures first { (s : Setting) (cells : ℕ) → IsLawful (empty s cells) }
+    ensures longer { (w : Rehearsal) (step : Step) → IsLawful w → IsAllowed w step → IsLawful (extended w step) }
     ensures allowed { (w : Rehearsal) (step : Step) → IsLawful w → cause w step ≡ None → IsAllowed w step }
     ensures free { (w : Rehearsal) (step : Step) → IsAllowed w step → cause w step ≡ None }
 {}
