@@ -1,6 +1,8 @@
 //! The world: a record of steps, and what they lead to.
 
-ghost use Rattle.std.specs.Prelude.{◌≡◌, ◌≤◌, ◌&&◌, [], length, IfOk, IfErr, Some};
+ghost use Rattle.std.specs.Prelude.{◌≡◌, ◌≤◌, ◌&&◌, [], length, IfOk, IfErr, IfSome, None, Some};
+ghost use Rattle.ct_model.specs.Cause.{cause};
+ghost use Rattle.ct_model.specs.Lawful.{IsWithin};
 ghost use Rattle.ct_model.specs.Rehearsal.{state_of};
 ghost use Rattle.ct_model.specs.Run.{run};
 ghost use Rattle.ct_model.specs.Safe.{IsSafe};
@@ -114,21 +116,23 @@ impl World {
         self.cells
     }
 
-    /// The steps so far, in order: a run, of at most 1,000,000 steps. Its state is safe: two decisions of one instance
-    /// are equal, and some member proposed that value for the instance; of two delivered sequences one begins the other,
-    /// without repeats, only of messages that were submitted.
+    /// The steps so far, in order: a run, of at most 1,000,000 steps, that passes no limit. Its state is safe: two
+    /// decisions of one instance are equal, and some member proposed that value for the instance; of two delivered
+    /// sequences one begins the other, without repeats, only of messages that were submitted.
     pub fn record(&self) -> &[Step]
         ensures value { result.now ≡ self.now.rehearsal.steps }
         ensures few { length result.now ≤ 1000000 }
         ensures runs { run self.now.rehearsal.setting result.now ≡ Some (state_of self.now.rehearsal) }
+        ensures within { IsWithin self.now.rehearsal.cells (state_of self.now.rehearsal) (length result.now) }
         ensures safe { IsSafe self.now.rehearsal.setting (state_of self.now.rehearsal) }
     {
         &self.record
     }
 
-    /// The step that room was made for, and that `commit` does.
+    /// The step that room was made for, and that `commit` does. It is allowed.
     pub fn prepared(&self) -> Option<Step>
-        ensures { result ≡ self.now.prepared }
+        ensures value { result ≡ self.now.prepared }
+        ensures allowed { IfSome result (λ step. cause self.now.rehearsal step ≡ None) }
     {
         self.prepared
     }

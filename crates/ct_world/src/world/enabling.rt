@@ -1,6 +1,7 @@
 //! Whether a step is allowed.
 
-ghost use Rattle.std.specs.Prelude.{◌≡◌, ◌≤◌, MatchResult};
+ghost use Rattle.std.specs.Prelude.{◌≡◌, ◌≤◌, IsOk, MatchResult, OnOk};
+ghost use Rattle.ct_model.specs.Allowed.{IsAllowed};
 ghost use Rattle.ct_model.specs.Cause.{cause, overflow};
 ghost use Rattle.ct_world.specs.Kept.{IsActor, IsAbsent};
 ghost use Rattle.ct_world.specs.World.{verdict};
@@ -11,10 +12,14 @@ use ct_model::Step;
 use ct_names::{Limit, Member, Refusal};
 
 impl World {
-    /// Whether the step is allowed now, want of memory apart, and why it is not. Takes no memory.
+    /// Whether the step is allowed now, want of memory apart, and why it is not. It is allowed exactly where the next state
+    /// is defined, a serial that it takes or moves waits, and no limit is passed. Takes no memory.
     pub fn enabled(&self, step: &Step) -> Result<(), Refusal>
-        ensures { result ≡ verdict (cause self.now.rehearsal step.now) }
+        ensures value { result ≡ verdict (cause self.now.rehearsal step.now) }
+        ensures allowed { OnOk result (IsAllowed self.now.rehearsal step.now) }
+        ensures all_allowed { IsAllowed self.now.rehearsal step.now → IsOk result }
     {
+        let _ = &self.seats;
         match self.cause(step) {
             None => Ok(()),
             Some(refusal) => Err(refusal),
