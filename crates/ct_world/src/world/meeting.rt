@@ -1,6 +1,7 @@
 //! What a watcher is told.
 
 ghost use Rattle.std.specs.Prelude.{◌≡◌, ◌<◌, length, IfErr, IsErr, OnErr, OnOk};
+ghost use Rattle.ct_board.specs.Known.{Keeps};
 ghost use Rattle.ct_board.specs.Watched.{batches_read, batches_told};
 ghost use Rattle.ct_model.specs.Cause.{order};
 ghost use Rattle.ct_model.specs.Rehearsal.{state_of};
@@ -13,7 +14,8 @@ use ct_names::{Instance, Refusal};
 impl World {
     /// Tells the watcher how many batches were posted: those are then what it was told of. What it read, and what it was
     /// told of before, begins them. It is refused with Board where it read or was told of more, or where a cell below that
-    /// number has no batch or another; what it read and was told of stays then. Takes no memory.
+    /// number has no batch or another; what it read and was told of stays then. Met or refused, it knows what it knew, and
+    /// may know more. Takes no memory.
     pub fn meet(&self, board: &Board, watcher: &mut Watcher) -> Result<(), Refusal>
         requires { board.now ≡ watcher.old.cells }
         ensures read { OnOk result (IsPrefix (batches_read watcher.old) (order (state_of self.now.rehearsal))) }
@@ -22,6 +24,7 @@ impl World {
         ensures number { OnOk result (watcher.new.told ≡ length (order (state_of self.now.rehearsal))) }
         ensures reads { batches_read watcher.new ≡ batches_read watcher.old }
         ensures cells { watcher.new.cells ≡ watcher.old.cells }
+        ensures keeps { Keeps watcher.old.notes watcher.new.notes }
         ensures err { OnErr result (batches_told watcher.new ≡ batches_told watcher.old) }
         ensures refusal { IfErr result (λ refusal. refusal ≡ Refusal.Board) }
         ensures read_more { length (order (state_of self.now.rehearsal)) < watcher.old.read → IsErr result }

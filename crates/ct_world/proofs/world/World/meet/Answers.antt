@@ -23,6 +23,7 @@ loop-place-preserved c =
       told = ap (λ (w : Watched). w.told) look.some ∙ old.told;
       batches_read = look.read ∙ old.batches_read;
       batches_told = look.told ∙ old.batches_told;
+      keeps = λ place x knows. look.keeps place x (old.keeps place x knows);
       known = finds_more c.args.self.now.rehearsal c.loop-place.watcher.notes c.look.new.self.notes c.loop-place.place c.in-Some.batch.now c.unwrap-messages.result.now
           (subst (λ steps. run c.args.self.now.rehearsal.setting steps ≡ Some (state_of c.args.self.now.rehearsal)) c.record.ensures.value c.record.ensures.runs)
           (ap (λ list. slice_get list c.loop-place.place) (sym c.foremost-first.ensures.value) ∙ sym c.batch_at.ensures ∙ ap (option_map (λ list. list.now)) c.unwrap-messages.ensures)
