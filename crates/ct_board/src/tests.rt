@@ -1,7 +1,10 @@
+ghost use Rattle.std.specs.Prelude.{◌≡◌};
+
 use super::*;
 use ct_abcast::{Batch, Caster};
 use ct_names::{Command, Message, MsgSet};
 use std::alloc::Global;
+use std::process::Abort;
 use std::test::Fail;
 
 // The message of member 1 with this number, which sets register 3 to it.
@@ -97,5 +100,64 @@ fn two_watchers_share(rt: HostRuntime) -> Result<(), Fail> {
     watcher.share(&mut other);
     assert!(rt; watcher.read() == 1 && other.read() == 0);
     assert!(rt; other.next(&board).is_some());
+    Ok(())
+}
+
+// A board, and a watcher of it that is told of nothing.
+#[derive(Drop)]
+struct Reader<'b> {
+    board: &'b Board,
+    watcher: Watcher,
+    ghost own: { watcher.cells ≡ board.now },
+}
+
+impl Reader<'_> {
+    // Whether the next batch is the one with that message.
+    fn reads(&mut self, number: u32) -> Result<bool, Fail> {
+        match self.watcher.next(self.board) {
+            Some(batch) => is_of(batch, number),
+            None => Ok(false),
+        }
+    }
+
+    // Whether it read so many, and finds no more.
+    fn is_done(&mut self, read: usize) -> bool {
+        self.watcher.next(self.board).is_none()
+            && self.watcher.read() == read
+            && self.watcher.told() == 0
+    }
+}
+
+// Sets each of the first cells, so many, to the batch with the message of its place and 1.
+fn fill(rt: &impl Abort, alloc: Global, board: &Board, cells: u32) -> Result<(), Fail> {
+    for place in 0..cells {
+        match board.post(place as usize, batch(alloc, place + 1)?) {
+            Ok(receipt) => assert_eq!(rt; receipt.place(), place as usize),
+            Err(_) => assert!(rt; false, "at {place}"),
+        }
+    }
+    Ok(())
+}
+
+// A board of so many cells takes a batch at each place, and a watcher that was told of none reads all of them.
+fn fill_and_read(rt: &impl Abort, alloc: Global, cells: u32) -> Result<(), Fail> {
+    let board = Board::new(alloc, cells as usize)?;
+    let watcher = Watcher::new(alloc, &board)?;
+    let mut reader = Reader {
+        board: &board,
+        watcher,
+    };
+    fill(rt, alloc, &board, cells)?;
+    for place in 0..cells {
+        assert!(rt; reader.reads(place + 1)?, "at {place}");
+    }
+    assert!(rt; reader.is_done(cells as usize));
+    Ok(())
+}
+
+#[test]
+fn a_board_is_filled_and_read(rt: HostRuntime) -> Result<(), Fail> {
+    fill_and_read(&rt, rt.alloc(), 3)?;
+    fill_and_read(&rt, rt.alloc(), 1024)?;
     Ok(())
 }
