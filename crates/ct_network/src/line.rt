@@ -1,6 +1,6 @@
 //! Waiting lines.
 
-ghost use Rattle.std.specs.Prelude.{◌≡◌, ◌+◌, ◌<◌, ◌≤◌, ◌==◌, [], ◌∷◌, ◌++◌, length, drop, remove, position, filter, not, true, OnOk, IfOk};
+ghost use Rattle.std.specs.Prelude.{◌≡◌, ◌+◌, ◌<◌, ◌≤◌, ◌==◌, [], ◌∷◌, ◌++◌, length, drop, remove, position, filter, not, true, false, OnOk, OnErr, IfOk};
 ghost use Rattle.ct_model.specs.Waiting.{has_serial};
 ghost use Rattle.ct_model.specs.Lawful.{is_distinct};
 ghost use Rattle.ct_network.specs.WaitingLine.{is_roomy};
@@ -70,11 +70,12 @@ impl Line {
     }
 
     /// Makes room for one more serial. A full line first takes back the places of the serials that left, where those are
-    /// more than half. Only memory can be refused.
+    /// more than half. Where memory is refused that room was missing.
     pub fn make_room(&mut self) -> Result<(), AllocError>
         ensures same { self.new.serials ≡ self.old.serials }
         ensures room { self.old.room ≤ self.new.room }
         ensures ok { OnOk result (0 < self.new.room) }
+        ensures refused { OnErr result (is_roomy self.old ≡ false) }
     {
         if self.kept.len() == self.kept.capacity() && self.start > self.kept.len() / 2 {
             self.reclaim();

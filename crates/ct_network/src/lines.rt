@@ -1,6 +1,6 @@
 //! The waiting lines of all members.
 
-ghost use Rattle.std.specs.Prelude.{◌≡◌, [], IsTrue, IfOk, OnOk, replicate};
+ghost use Rattle.std.specs.Prelude.{◌≡◌, [], false, IsTrue, IfOk, OnOk, OnErr, replicate};
 ghost use Rattle.ct_network.specs.Lines.{serials_of, are_roomy};
 
 use crate::line::Line;
@@ -35,10 +35,12 @@ pub fn are_roomy(lines: &[Line]) -> bool
     lines.iter().all(|line| line.has_room())
 }
 
-/// Makes room in each line for one more serial. Only memory can be refused; what waits stays, and so does room.
+/// Makes room in each line for one more serial. Where memory is refused that room was missing. What waits stays, and so
+/// does room.
 pub fn make_room(lines: &mut Vec<Line>) -> Result<(), AllocError>
     ensures same { serials_of lines.new.items ≡ serials_of lines.old.items }
     ensures ok { OnOk result (IsTrue (are_roomy lines.new.items)) }
+    ensures refused { OnErr result (are_roomy lines.old.items ≡ false) }
     ensures room { IsTrue (are_roomy lines.old.items) → IsTrue (are_roomy lines.new.items) }
 {
     for i in 0..lines.len() {

@@ -1,6 +1,6 @@
 //! The inbox of one member for one instance.
 
-ghost use Rattle.std.specs.Prelude.{◌≡◌, ℕ, [], IsTrue, IfOk, OnOk, OnErr, option_map};
+ghost use Rattle.std.specs.Prelude.{◌≡◌, ℕ, [], false, IsTrue, IfOk, OnOk, OnErr, option_map};
 ghost use Rattle.ct_model.specs.Received.{heard, estimate_from};
 ghost use Rattle.ct_model.specs.Faults.{has_largest};
 ghost use Rattle.ct_model.specs.Counted.{count_in};
@@ -52,10 +52,12 @@ impl Inbox {
         Ok(Inbox { tallies })
     }
 
-    /// Makes room for notes of the round. What was got stays; where memory is refused nothing changes.
+    /// Makes room for notes of the round. What was got stays; where memory is refused that room was missing, and nothing
+    /// changes.
     pub fn prepare(&mut self, round: Round) -> Result<(), AllocError>
         ensures ok { OnOk result (IsTrue (has_room self.new round)) }
         ensures err { OnErr result (self.new ≡ self.old) }
+        ensures refused { OnErr result (has_room self.old round ≡ false) }
         ensures ballots { (r : ℕ) → ballots_at self.new r ≡ ballots_at self.old r }
         ensures rooms { (r : ℕ) → IsTrue (has_room self.old r) → IsTrue (has_room self.new r) }
     {

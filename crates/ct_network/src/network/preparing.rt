@@ -1,6 +1,6 @@
 //! Room for what a step sends.
 
-ghost use Rattle.std.specs.Prelude.{◌≡◌, IsTrue, OnOk};
+ghost use Rattle.std.specs.Prelude.{◌≡◌, false, IsTrue, OnOk, OnErr};
 
 use crate::lines;
 use crate::network::Network;
@@ -15,10 +15,11 @@ impl Network {
             && lines::are_roomy(&self.lines)
     }
 
-    /// Makes room for what one step sends. Only memory can be refused; what was sent and what waits stays, and so does
-    /// room.
+    /// Makes room for what one step sends. Where memory is refused that room was missing. What was sent and what waits
+    /// stays, Ok or not, and so does room.
     pub fn prepare(&mut self) -> Result<(), AllocError>
         ensures ok { OnOk result (IsTrue self.new.has_room) }
+        ensures refused { OnErr result (self.old.has_room ≡ false) }
         ensures room { IsTrue self.old.has_room → IsTrue self.new.has_room }
         ensures sent { self.new.sent ≡ self.old.sent }
         ensures lines { self.new.lines ≡ self.old.lines }
