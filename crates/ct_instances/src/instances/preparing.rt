@@ -1,6 +1,6 @@
 //! Room for what is to come, the only calls that take memory.
 
-ghost use Rattle.std.specs.Prelude.{◌≡◌, ℕ, IsTrue, OnOk, OnErr};
+ghost use Rattle.std.specs.Prelude.{◌≡◌, ℕ, false, IsTrue, OnOk, OnErr};
 ghost use Rattle.ct_model.specs.Wire.{Wire as AnyWire};
 ghost use Rattle.ct_rounds.specs.Meaning.{wire_of};
 ghost use Rattle.ct_instances.specs.Kept.{ballots_of, decision_at, has_room, has_room_of, has_room_open};
@@ -12,10 +12,11 @@ use ct_rounds::{Inbox, Wire};
 use std::alloc::AllocError;
 
 impl Instances {
-    /// Makes room for the instance to be opened. What was got stays, also where memory is refused.
+    /// Makes room for the instance to be opened. Where memory is refused that room was missing, and nothing changes.
     pub fn prepare_open(&mut self, instance: Instance) -> Result<(), AllocError>
         ensures ok { OnOk result (IsTrue (has_room_open self.new instance)) }
         ensures err { OnErr result (self.new ≡ self.old) }
+        ensures refused { OnErr result (has_room_open self.old instance ≡ false) }
         ensures ballots { (k r : ℕ) → ballots_of self.new k r ≡ ballots_of self.old k r }
         ensures decisions { (k : ℕ) → decision_at self.new k ≡ decision_at self.old k }
         ensures rooms_open { (k : ℕ) → IsTrue (has_room_open self.old k) → IsTrue (has_room_open self.new k) }
@@ -33,9 +34,10 @@ impl Instances {
         Ok(())
     }
 
-    /// Makes room for a note of the wire. What was got stays, also where memory is refused.
+    /// Makes room for a note of the wire. Where memory is refused that room was missing. What was got stays, Ok or not.
     pub fn prepare(&mut self, wire: &Wire) -> Result<(), AllocError>
         ensures ok { OnOk result (IsTrue (has_room self.new (wire_of wire.now))) }
+        ensures refused { OnErr result (has_room self.old (wire_of wire.now) ≡ false) }
         ensures ballots { (k r : ℕ) → ballots_of self.new k r ≡ ballots_of self.old k r }
         ensures decisions { (k : ℕ) → decision_at self.new k ≡ decision_at self.old k }
         ensures rooms_open { (k : ℕ) → IsTrue (has_room_open self.old k) → IsTrue (has_room_open self.new k) }
@@ -70,6 +72,7 @@ impl Instances {
 
     fn prepare_round(&mut self, instance: Instance, round: Round) -> Result<(), AllocError>
         ensures ok { OnOk result (IsTrue (has_room_of self.new instance round)) }
+        ensures refused { OnErr result (has_room_of self.old instance round ≡ false) }
         ensures ballots { (k r : ℕ) → ballots_of self.new k r ≡ ballots_of self.old k r }
         ensures decisions { (k : ℕ) → decision_at self.new k ≡ decision_at self.old k }
         ensures rooms_open { (k : ℕ) → IsTrue (has_room_open self.old k) → IsTrue (has_room_open self.new k) }
