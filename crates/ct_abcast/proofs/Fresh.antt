@@ -4,7 +4,6 @@ use Rattle.std.specs.List.{list_any}
 use Rattle.std.proofs.lemmas.Bool.Decides.{nat_tests}
 use Rattle.std.proofs.lemmas.List.{append-nil}
 use Rattle.std.proofs.lemmas.List.Folds.{list_any-append}
-use Rattle.std.proofs.lemmas.Grind.{flat_map-append}
 use Rattle.indexmap.specs.IndexSet.{insert_key}
 use Rattle.ct_names.specs.contracts.message.MessagePartialEq.TheImpl.{ghosts as equal}
 use Rattle.ct_names.specs.Membership.{IsIn, IsWithoutRepeats}
@@ -15,7 +14,6 @@ use Rattle.ct_names.proofs.Orders.{same_eq}
 use Rattle.ct_names.proofs.Places.{minus-more}
 use Rattle.ct_names.proofs.Sets.{same_test, ordered-in, set-nil}
 use Rattle.ct_names.proofs.Values.{same_message, is_message-refl, in-has, minus-from}
-use Rattle.ct_abcast.specs.Batches.{joined}
 
 same_way : (a b : Message) → is_message a b ≡ true → is_message b a ≡ true
 same_way a b h = subst (λ z. is_message z a ≡ true) (same_message a b h) (is_message-refl a)
@@ -41,14 +39,15 @@ fresh (x ∷ items) zero m once low is h = h
 fresh (x ∷ items) (suc i) m once low is (inl e) = once.0 (subst (λ z. IsIn z items) e (in-at items i m (omega arith) is))
 fresh (x ∷ items) (suc i) m once low is (inr h) = fresh items i m once.1 (omega arith) is h
 
-absent : (list : List Message) (m : Message) → (IsIn m list → ⊥) → has list m ≡ false
+-- what is not in the list
+pub absent : (list : List Message) (m : Message) → (IsIn m list → ⊥) → has list m ≡ false
 absent list m out = at (has list m) refl
   where
     at : (b : Bool) → has list m ≡ b → b ≡ false
     at true is = absurd (out (in-has list m is))
     at false is = refl
 
-or-nothing : (a b : Bool) → b ≡ false → (a || b) ≡ a
+pub or-nothing : (a b : Bool) → b ≡ false → (a || b) ≡ a
 or-nothing true b h = refl
 or-nothing false b h = h
 
@@ -86,23 +85,3 @@ some-ordered (m ∷ list) = at (ordered (m ∷ list)) (ordered-in (m ∷ list) m
 
 pub some-length : (n : ℕ) → not (n == 0) ≡ nat_lt 0 n
 some-length n = grind (arith, nat_tests)
-
--- what was left out once stays out
-minus-rest : (list old more : List Message) → minus (minus list old) (old ++ more) ≡ minus list (old ++ more)
-minus-rest [] old more = refl
-minus-rest (x ∷ list) old more = at (has old x) refl (minus-rest list old more)
-  where
-    all : List Message
-    all = old ++ more
-
-    at : (b : Bool) → has old x ≡ b → minus (minus list old) all ≡ minus list all → minus (cond (not b) (x ∷ minus list old) (minus list old)) all ≡ minus (x ∷ list) all
-    at true is ih =
-        let there : has all x ≡ true = list_any-append (λ other. is_message other x) old more ∙ ap (λ b. b || has more x) is in
-        ih ∙ ap (λ b. cond (not b) (x ∷ minus list all) (minus list all)) (sym there)
-    at false is ih = ap (λ rest. cond (not (has all x)) (x ∷ rest) rest) ih
-
--- what stays undelivered after one more batch
-pub minus-delivered : (list : List Message) (old new : List (List Message)) (more : List Message) → new ≡ old ++ more ∷ [] → minus (minus list (joined old)) (joined new) ≡ minus list (joined new)
-minus-delivered list old new more is =
-    let all : joined new ≡ joined old ++ more = ap joined is ∙ (flat_map-append (λ b. b) old (more ∷ []) ∙ ap (λ zs. joined old ++ zs) (append-nil more)) in
-    ap (λ zs. minus (minus list (joined old)) zs) all ∙ (minus-rest list (joined old) more ∙ ap (λ zs. minus list zs) (sym all))

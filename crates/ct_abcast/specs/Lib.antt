@@ -1,3 +1,4 @@
 pub mod Batches
 pub mod Cast
 pub mod Ends
+pub mod Pending

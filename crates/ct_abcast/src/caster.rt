@@ -1,11 +1,15 @@
 //! What a member received and delivered.
 
-ghost use Rattle.std.specs.Prelude.{◌≡◌, ℕ, ◌+◌, ◌<◌, ◌≤◌, ◌++◌, ◌∷◌, [], false, length, nat_lt, slice_get, option_map, IsTrue, IfOk, OnOk, OnErr};
+ghost use Rattle.std.specs.Prelude.{◌≡◌, ℕ, ◌+◌, ◌<◌, ◌≤◌, ◌&&◌, ◌++◌, ◌∷◌, [], false, not, length, nat_lt, slice_get, option_map, IsTrue, IfOk, OnOk, OnErr};
+ghost use Rattle.indexmap.specs.IndexSet.{spare};
+ghost use Rattle.ct_names.specs.Message.{Message as Plain};
+ghost use Rattle.ct_names.specs.Value.{has};
 ghost use Rattle.ct_abcast.specs.Cast.{delivered, undelivered, batch_of, has_room};
 
 use crate::batch::Batch;
 use crate::delivered::Delivered;
 use ct_names::{Instance, Message, MsgSet};
+use indexmap::IndexSet;
 use std::alloc::{AllocError, Global};
 use std::marker::Model;
 
@@ -14,8 +18,8 @@ use std::marker::Model;
 #[derive(Drop)]
 pub struct Caster {
     received: Vec<Message>,
-    // What was received and not delivered.
-    pending: Vec<Message>,
+    // What was received and not delivered, in no order.
+    pending: IndexSet<Message>,
     delivered: Delivered,
     instance: Instance,
 }
@@ -23,15 +27,16 @@ pub struct Caster {
 impl Model for Caster {
     ghost use Rattle.std.specs.Prelude.{◌≡◌, ◌-◌, min};
     ghost use Rattle.std.specs.Vec.{vec_len, vec_capacity};
-    ghost use Rattle.ct_names.specs.Value.{minus};
+    ghost use Rattle.indexmap.specs.IndexSet.{spare};
     ghost use Rattle.ct_abcast.specs.Batches.{joined};
     ghost use Rattle.ct_abcast.specs.Cast.{Cast, least};
+    ghost use Rattle.ct_abcast.specs.Pending.{IsPending};
 
     ghost Value = { Cast };
 
-    ghost view = { λ c. record { received = c.received.items; batches = c.delivered.batches; instance = c.instance; room = least (vec_capacity c.received - vec_len c.received) (vec_capacity c.pending - vec_len c.pending) c.delivered.room; fits_batch = c.delivered.fits_batch } };
+    ghost view = { λ c. record { received = c.received.items; batches = c.delivered.batches; instance = c.instance; room = least (vec_capacity c.received - vec_len c.received) (spare c.pending) c.delivered.room; fits_batch = c.delivered.fits_batch } };
 
-    ghost invariant = { λ c. c.pending.items ≡ minus c.received.items (joined c.delivered.batches) };
+    ghost invariant = { λ c. IsPending c.pending.keys c.received.items (joined c.delivered.batches) };
 }
 
 impl Caster {
@@ -43,7 +48,7 @@ impl Caster {
     {
         Caster {
             received: Vec::new(alloc),
-            pending: Vec::new(alloc),
+            pending: IndexSet::new(alloc),
             delivered: Delivered::new(alloc),
             instance: 0,
         }
@@ -96,7 +101,7 @@ impl Caster {
     pub fn undelivered(&self, alloc: Global) -> Result<MsgSet, AllocError>
         ensures { IfOk result (λ set. set ≡ undelivered self.now) }
     {
-        MsgSet::of(alloc, &self.pending)
+        MsgSet::of(alloc, self.pending.as_slice())
     }
 
     /// Whether so many messages can be received, and one batch of so many delivered, without memory.
@@ -136,7 +141,7 @@ impl Caster {
     {
         self.received.push(message).unwrap();
         if !self.delivered.contains(&message) {
-            self.pending.push(message).unwrap();
+            self.pending.insert(message).unwrap();
         }
     }
 
@@ -149,7 +154,8 @@ impl Caster {
     }
 
     /// Delivers the messages of the decision that were not delivered, as one batch, in their order: none of them has to be
-    /// received. It takes no memory. Room for another batch has to be prepared anew.
+    /// received. It takes no memory, and its cost is that of the decision, whatever else is pending. Room for another batch has
+    /// to be prepared anew.
     pub fn deliver(&mut self, set: &MsgSet)
         requires room { length set.now ≤ self.old.room }
         requires fits { IsTrue self.old.fits_batch }
@@ -159,8 +165,7 @@ impl Caster {
         ensures room { self.old.room ≤ self.new.room + length set.now }
     {
         self.delivered.deliver(set);
-        let delivered = &self.delivered;
-        self.pending.retain(|message| !delivered.contains(message));
+        take_out(&mut self.pending, set.items());
     }
 
     /// What the decision of the last instance delivers, if it is that set, or the error where memory is refused.
@@ -181,9 +186,19 @@ impl Caster {
     {
         Ok(Caster {
             received: Vec::from_slice(alloc, &self.received)?,
-            pending: Vec::from_slice(alloc, &self.pending)?,
+            pending: self.pending.clone()?,
             delivered: self.delivered.copy(alloc)?,
             instance: self.instance,
         })
+    }
+}
+
+// Takes the messages out of the pending ones.
+fn take_out(pending: &mut IndexSet<Message>, messages: &[Message])
+    ensures left { (m : Plain) → has pending.new.keys m ≡ (has pending.old.keys m && not (has messages.now m)) }
+    ensures room { spare pending.old ≤ spare pending.new }
+{
+    for message in messages {
+        pending.swap_remove(message);
     }
 }
