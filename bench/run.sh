@@ -1,51 +1,92 @@
 #!/usr/bin/env bash
 # Times `ct replay` on generated records and compares its reports with bench/model.py.
 #
-#     bench/run.sh [--whole] [CT]
+#     bench/run.sh [--whole] [--beside PROGRAM] [CT]
 #
 # CT: the built program; crates/ct/out/ct if left out. --whole adds records of the
-# whole algorithm, without and with crashes.
+# whole algorithm, without and with crashes. --beside: a program that replays the
+# record on its standard input too, run in turn with CT.
 #
-# Prints a table row for each record: wall seconds, peak resident memory in MiB, and
-# whether the report is the model's. Ends with status 1 where one is not.
+# Prints a table row for each record: processor seconds (user and system, the least
+# of three runs), peak resident memory in MiB, and whether the report is the model's;
+# with --beside the same of that program, and CT's seconds and MiB over its. Ends with
+# status 1 where a report is another.
 set -euo pipefail
 
 here=$(cd "$(dirname "$0")" && pwd)
+
+# program PATH: its full path, where there is such a program.
+program() {
+    if [[ ! -x $1 || -d $1 ]]; then
+        echo "bench/run.sh: no program at $1" >&2
+        exit 2
+    fi
+    realpath "$1"
+}
+
 kinds=(plain)
+names=(ct)
 while [[ ${1-} == --* ]]; do
     case $1 in
         --whole) kinds+=(whole crashes) ;;
+        --beside) beside=$(program "${2-}"); names+=(beside); shift ;;
         *) echo "bench/run.sh: no option $1" >&2; exit 2 ;;
     esac
     shift
 done
-ct=${1:-$here/../crates/ct/out/ct}
-if [[ ! -x $ct || -d $ct ]]; then
-    echo "bench/run.sh: no program at $ct" >&2
-    exit 2
-fi
-ct=$(realpath "$ct")
+ct=$(program "${1:-$here/../crates/ct/out/ct}")
 folder=$(mktemp -d)
 trap 'rm -rf "$folder"' EXIT
+record=$folder/record.json
 
-# Prints `<seconds> <KiB>` of one replay and ends with its status; stands in where
-# there is no GNU time. Python's own memory before the start counts as a floor.
+# Appends `<user> <system> <KiB>` of one run to a file and ends with its status; stands in
+# where there is no GNU time. Python's own memory before the start counts as a floor.
 stand_in='
-import resource, subprocess, sys, time
-start = time.monotonic()
-status = subprocess.run([sys.argv[1], "replay"]).returncode
-seconds = time.monotonic() - start
-peak = resource.getrusage(resource.RUSAGE_CHILDREN).ru_maxrss
-print(f"{seconds:.2f} {peak}", file=open(sys.argv[2], "w"))
+import resource, subprocess, sys
+status = subprocess.run(sys.argv[2:]).returncode
+used = resource.getrusage(resource.RUSAGE_CHILDREN)
+print(used.ru_utime, used.ru_stime, used.ru_maxrss, file=open(sys.argv[1], "a"))
 sys.exit(status)'
+if /usr/bin/time -q -f '%U %S %M' true >"$folder/probe" 2>&1; then
+    timed=(/usr/bin/time -q -a -f '%U %S %M' -o)
+else
+    timed=(python3 -c "$stand_in")
+fi
 
-# measure RECORD REPORT: one replay; leaves `<seconds> <KiB>` in $folder/measure.
-measure() {
-    if /usr/bin/time -q -f '%e %M' true >"$folder/probe" 2>&1; then
-        /usr/bin/time -q -f '%e %M' -o "$folder/measure" "$ct" replay <"$1" >"$2"
-    else
-        python3 -c "$stand_in" "$ct" "$folder/measure" <"$1" >"$2"
-    fi
+# run NAME: one run of ct or of the program beside it; adds to $folder/NAME.costs.
+run() {
+    local words=("$ct" replay)
+    [[ $1 == ct ]] || words=("$beside")
+    "${timed[@]}" "$folder/$1.costs" "${words[@]}" <"$record" >"$folder/report"
+}
+
+# outcome: runs all in turn, three times, and says how their reports are.
+outcome() {
+    local name
+    rm -f "$folder"/*.costs
+    for name in "${names[@]}" "${names[@]}" "${names[@]}"; do
+        if ! run "$name"; then
+            echo "$name failed"
+            return
+        elif ! cmp -s "$folder/report" "$folder/wanted"; then
+            echo "$name: another than the model's"
+            return
+        fi
+    done
+    echo "as the model's"
+}
+
+# columns: the least seconds and the greatest MiB of each, and the ratios.
+columns() {
+    local costs=("${names[@]/#/$folder/}")
+    awk '
+        FNR == 1 { i++ }
+        FNR == 1 || $1 + $2 < seconds[i] { seconds[i] = $1 + $2 }
+        $3 > peak[i] { peak[i] = $3 }
+        END {
+            for (j = 1; j <= i; j++) printf " %8.2f %6d", seconds[j], peak[j] / 1024
+            if (i == 2 && seconds[2] && peak[2]) printf " %8.2f %6.2f", seconds[1] / seconds[2], peak[1] / peak[2]
+        }' "${costs[@]/%/.costs}"
 }
 
 # options KIND MEMBERS: the generator's options for such a record, one a line.
@@ -58,22 +99,20 @@ options() {
 }
 
 failed=0
-printf '%-8s %8s %9s %9s %9s  %s\n' record members steps seconds MiB report
+printf '%-8s %8s %9s' record members steps
+printf ' %8s %6s' seconds MiB
+[[ ${#names[@]} == 1 ]] || printf ' %8s %6s %8s %6s' beside MiB ratio ratio
+printf '  %s\n' report
 for kind in "${kinds[@]}"; do
-    for members in 5 16; do
+    for members in 1 5 16; do
+        [[ $kind$members != crashes1 ]] || continue
         mapfile -t extra < <(options "$kind" "$members")
         for steps in 100000 1000000; do
-            record=$folder/record.json
             python3 "$here/generate.py" "${extra[@]}" --members "$members" --steps "$steps" --seed 1 >"$record" 2>"$folder/counts"
             python3 "$here/model.py" <"$record" >"$folder/wanted"
-            outcome="as the model's"
-            measure "$record" "$folder/report" || outcome="ended with status $?"
-            if [[ $outcome == as* ]] && ! cmp -s "$folder/report" "$folder/wanted"; then
-                outcome="another than the model's"
-            fi
-            [[ $outcome == as* ]] || failed=1
-            read -r seconds peak <"$folder/measure"
-            printf '%-8s %8d %9d %9s %9d  %s\n' "$kind" "$members" "$steps" "$seconds" $((peak / 1024)) "$outcome"
+            said=$(outcome)
+            [[ $said == as* ]] || failed=1
+            printf '%-8s %8d %9d%s  %s\n' "$kind" "$members" "$steps" "$(columns)" "$said"
         done
     done
 done

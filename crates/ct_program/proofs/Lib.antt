@@ -13,3 +13,4 @@ pub mod Numbers
 pub mod Fitting
 pub mod Stored
 pub mod Written
+pub mod Taking

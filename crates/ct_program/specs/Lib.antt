@@ -11,3 +11,4 @@ pub mod Planning
 pub mod FreeRun
 pub mod Text
 pub mod Fits
+pub mod Plain

@@ -4,8 +4,10 @@ ghost use Rattle.std.specs.Prelude.{◌≡◌, ◌<◌, ◌≤◌, length, map, 
 ghost use Rattle.serde_json.specs.View.{view, members_view};
 ghost use Rattle.ct_program.specs.Gives.{Gives};
 ghost use Rattle.ct_program.specs.View.{rehearsal_of};
-ghost use Rattle.ct_program.specs.Script.{list_in, count_of, whole_of, byte_of, serial_of, value_of, named_command, command_of, short_step, long_step, step_of, steps_of, rehearsal_in, of_value, max_len, script};
+ghost use Rattle.ct_program.specs.Script.{list_in, count_of, whole_of, byte_of, serial_of, value_of, named_command, command_of, long_step, step_of, steps_of, rehearsal_in, of_value, max_len, script};
 
+use crate::naming::short;
+use crate::quick::plain;
 use crate::read_fault::ReadFault;
 use crate::script::Script;
 use ct_model::Step;
@@ -28,6 +30,9 @@ pub fn read_record(alloc: Global, bytes: &[u8]) -> Result<Script, ReadFault>
 {
     if bytes.len() > MAX_LEN {
         return Err(ReadFault::TooLong);
+    }
+    if let Some(script) = plain(alloc, bytes)? {
+        return Ok(script);
     }
     match Value::from_slice(alloc, bytes) {
         Ok(value) => value_script(alloc, &value),
@@ -100,23 +105,6 @@ fn step(value: &Value) -> Option<Step>
     match entries(value)? {
         [name, p] => short(name.as_str()?, byte(p)?),
         [name, p, last] => long(name.as_str()?, byte(p)?, last),
-        _ => None,
-    }
-}
-
-// The step of a name and a member.
-#[tactic(auto, unfolding(crate::specs::Script::short_step))]
-fn short(name: &str, p: Member) -> Option<Step>
-    ensures { result ≡ short_step name.now p }
-{
-    match name {
-        "begin" => Some(Step::Begin(p)),
-        "enter" => Some(Step::Enter(p)),
-        "adopt" => Some(Step::Adopt(p)),
-        "suspect" => Some(Step::Suspect(p)),
-        "conclude" => Some(Step::Conclude(p)),
-        "deliver" => Some(Step::Deliver(p)),
-        "crash" => Some(Step::Crash(p)),
         _ => None,
     }
 }

@@ -8,6 +8,7 @@ use std::alloc::{AllocError, Global};
 use std::test::Fail;
 
 mod free;
+mod quick;
 mod reports;
 
 const RECORD: &str =
