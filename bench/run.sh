@@ -85,7 +85,7 @@ columns() {
         $3 > peak[i] { peak[i] = $3 }
         END {
             for (j = 1; j <= i; j++) printf " %8.2f %6d", seconds[j], peak[j] / 1024
-            if (i == 2 && seconds[2] && peak[2]) printf " %8.2f %6.2f", seconds[1] / seconds[2], peak[1] / peak[2]
+            if (i == 2) printf " %8s %6.2f", seconds[2] ? sprintf("%.2f", seconds[1] / seconds[2]) : "-", peak[1] / peak[2]
         }' "${costs[@]/%/.costs}"
 }
 
