@@ -22,3 +22,4 @@ pub mod Order
 pub mod Lawful
 pub mod Allowed
 pub mod Knowledge
+pub mod StepText

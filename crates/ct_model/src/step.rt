@@ -1,12 +1,14 @@
 //! The atomic steps of a rehearsal.
 
-ghost use Rattle.std.specs.Prelude.{◌≡◌};
+ghost use Rattle.std.specs.Prelude.{◌≡◌, Some};
 ghost use Rattle.ct_model.specs.Actor.{actor};
+ghost use Rattle.ct_model.specs.StepText.{step_text};
 
 use ct_names::{Command, Member, Serial};
+use std::fmt;
 
 /// One atomic step of a member, which comes first. The numbers are plain: a step may name what isn't there, and is then
-/// refused.
+/// refused. It is shown as a record has it, as `["submit",1,["set",0,7]]`.
 #[derive(Clone, Copy, Debug, PartialEq, Eq)]
 pub enum Step {
     /// The member broadcasts its next message, with this command.
@@ -50,6 +52,35 @@ impl Step {
             Step::Deliver(member) => member,
             Step::Crash(member) => member,
             Step::Postpone(member, _) => member,
+        }
+    }
+}
+
+impl fmt::Display for Step {
+    ghost output = { λ step. Some (step_text step) };
+
+    #[tactic(auto, unfolding(crate::specs::StepText::step_text, crate::specs::StepText::command_text))]
+    fn fmt<W: fmt::Write>(&self, f: &mut fmt::Formatter<W>) -> fmt::Result {
+        match *self {
+            Step::Submit(p, Command::Set(to, value)) => {
+                write!(f, "[\"submit\",{p},[\"set\",{to},{value}]]")
+            }
+            Step::Submit(p, Command::Add(to, amount)) => {
+                write!(f, "[\"submit\",{p},[\"add\",{to},{amount}]]")
+            }
+            Step::Submit(p, Command::Copy(from, to)) => {
+                write!(f, "[\"submit\",{p},[\"copy\",{from},{to}]]")
+            }
+            Step::Receive(p, serial) => write!(f, "[\"receive\",{p},{serial}]"),
+            Step::Begin(p) => write!(f, "[\"begin\",{p}]"),
+            Step::Enter(p) => write!(f, "[\"enter\",{p}]"),
+            Step::Choose(p, from) => write!(f, "[\"choose\",{p},{from}]"),
+            Step::Adopt(p) => write!(f, "[\"adopt\",{p}]"),
+            Step::Suspect(p) => write!(f, "[\"suspect\",{p}]"),
+            Step::Conclude(p) => write!(f, "[\"conclude\",{p}]"),
+            Step::Deliver(p) => write!(f, "[\"deliver\",{p}]"),
+            Step::Crash(p) => write!(f, "[\"crash\",{p}]"),
+            Step::Postpone(p, serial) => write!(f, "[\"postpone\",{p},{serial}]"),
         }
     }
 }
