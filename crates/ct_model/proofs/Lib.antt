@@ -56,3 +56,4 @@ pub mod Naturality
 pub mod WorkedRounds
 pub mod Worked
 pub mod WorkedRuns
+pub mod Passing

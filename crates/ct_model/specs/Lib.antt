@@ -18,6 +18,7 @@ pub mod Safe
 pub mod Waiting
 pub mod Rehearsal
 pub mod Cause
+pub mod Passed
 pub mod Order
 pub mod Lawful
 pub mod Allowed

@@ -7,6 +7,7 @@ use ct_world::World;
 use std::alloc::{AllocError, Global};
 use std::test::Fail;
 
+mod crashes;
 mod free;
 mod quick;
 mod reports;

@@ -1,5 +1,6 @@
 pub mod Shares
 pub mod Choices
 pub mod Turns
+pub mod Plays
 pub mod Plans
 pub mod Halls

@@ -11,6 +11,7 @@ use std::test::Fail;
 mod following;
 mod meeting;
 mod plans;
+mod playing;
 mod runs;
 mod turning;
 mod watching;

@@ -59,7 +59,12 @@ pub fn disturb<L: Ledger>(
 }
 
 // Tries the step.
-fn attempt<L: Ledger>(desk: &mut Desk<L>, share: &mut Share<L>, board: &Board, step: &Step) -> Turn
+pub(crate) fn attempt<L: Ledger>(
+    desk: &mut Desk<L>,
+    share: &mut Share<L>,
+    board: &Board,
+    step: &Step,
+) -> Turn
     requires { share.old.steps + 1 < 2 ^ 64 }
     ensures made { Answers board.now desk.old.rehearsal step.now desk.new.rehearsal result }
     ensures world { desk.new ≡ world_after_turn desk.old result }
