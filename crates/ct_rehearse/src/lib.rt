@@ -8,6 +8,7 @@ mod gate;
 mod hall;
 mod made;
 mod outcome;
+mod pace;
 mod plan;
 mod plays;
 mod pool;

@@ -1,11 +1,12 @@
 //! Workers in threads of their own.
 
-ghost use Rattle.std.specs.Prelude.{◌≡◌, ◌≤◌, IfOk, IfErr, vec_len};
+ghost use Rattle.std.specs.Prelude.{◌≡◌, ◌<◌, ◌≤◌, IfOk, IfErr, vec_len};
 ghost use Rattle.ct_rehearse.specs.Plans.{turns_made};
 
 use crate::disturbance::Disturbance;
 use crate::gate::Gate;
 use crate::hall::Hall;
+use crate::pace::Pace;
 use crate::run_fault::RunFault;
 use crate::share::Share;
 use crate::worked::Worked;
@@ -49,21 +50,26 @@ pub(crate) fn start_driver<'s, E, L: Ledger + Send + Sync, R: Wait + Sync, G: Ga
     hall: &'s Hall<L>,
     rt: &'s R,
     gate: &'s G,
+    pace: &'s Pace,
     member: Member,
     turns: u32,
     detector: Box<dyn Detector>,
     share: Share<L>,
 ) -> Result<Running<L>, RunFault>
-    requires { share ≡ record { parts = 1; steps = 0 } }
+    requires share { share ≡ record { parts = 1; steps = 0 } }
+    requires member { 0 < member }
     ensures ok { IfOk result (λ r. r.turns ≡ turns) }
     ensures err { IfErr result (λ f. f ≡ RunFault.Start) }
 {
     let job = move || -> Worked<L>
-        requires { share ≡ record { parts = 1; steps = 0 } }
+        requires { (share ≡ record { parts = 1; steps = 0 }) × (0 < member) }
         ensures { turns_made result.made ≡ turns }
-    { drive(hall, rt, gate, member, turns, detector, share) };
+    { drive(hall, rt, gate, pace, member, turns, detector, share) };
     match scope.spawn_with(Turns(u64::from(turns)), job) {
-        Ok(handle) => Ok(Running::new(handle, u64::from(turns))),
+        Ok(handle) => {
+            pace.admit(u32::from(member));
+            Ok(Running::new(handle, u64::from(turns)))
+        }
         Err(_refused) => Err(RunFault::Start),
     }
 }
@@ -74,22 +80,27 @@ pub(crate) fn start_script<'s, E, L: Ledger + Send + Sync, R: Wait + Sync, G: Ga
     hall: &'s Hall<L>,
     rt: &'s R,
     gate: &'s G,
+    pace: &'s Pace,
     worker: u32,
     script: &'s Vec<Disturbance>,
     share: Share<L>,
 ) -> Result<Running<L>, RunFault>
     requires share { share ≡ record { parts = 1; steps = 0 } }
     requires short { vec_len script.now ≤ 100000 }
+    requires worker { 0 < worker }
     ensures ok { IfOk result (λ r. r.turns ≡ vec_len script.now) }
     ensures err { IfErr result (λ f. f ≡ RunFault.Start) }
 {
     let turns = script.len() as u64;
     let job = move || -> Worked<L>
-        requires { (share ≡ record { parts = 1; steps = 0 }) × (vec_len script.now ≤ 100000) }
+        requires { (share ≡ record { parts = 1; steps = 0 }) × (vec_len script.now ≤ 100000) × (0 < worker) }
         ensures { turns_made result.made ≡ vec_len script.entry.now }
-    { follow(hall, rt, gate, worker, script.as_slice(), share) };
+    { follow(hall, rt, gate, pace, worker, script.as_slice(), share) };
     match scope.spawn_with(Turns(turns), job) {
-        Ok(handle) => Ok(Running::new(handle, turns)),
+        Ok(handle) => {
+            pace.admit(worker);
+            Ok(Running::new(handle, turns))
+        }
         Err(_refused) => Err(RunFault::Start),
     }
 }

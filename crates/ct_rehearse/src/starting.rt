@@ -7,6 +7,7 @@ use crate::disturbance::Disturbance;
 use crate::gate::Gate;
 use crate::hall::Hall;
 use crate::made::Made;
+use crate::pace::Pace;
 use crate::plan::Plan;
 use crate::pool::Pool;
 use crate::run_fault::RunFault;
@@ -22,6 +23,7 @@ pub(crate) fn start_all<'s, E, L: Ledger + Send + Sync, R: Wait + Sync, G: Gate>
     hall: &'s Hall<L>,
     rt: &'s R,
     gate: &'s G,
+    pace: &'s Pace,
     plan: &'s Plan,
     detectors: Vec<Box<dyn Detector>>,
     pool: &mut Pool<L>,
@@ -41,9 +43,11 @@ pub(crate) fn start_all<'s, E, L: Ledger + Send + Sync, R: Wait + Sync, G: Gate>
     ensures lost { OnErr result (pool.new.parts + vec_len all.new + 1 ≡ pool.old.parts) }
 {
     let members = detectors.len() as u32;
-    start_drivers(scope, hall, rt, gate, plan.turns, detectors, pool, all)?;
+    start_drivers(
+        scope, hall, rt, gate, pace, plan.turns, detectors, pool, all,
+    )?;
     let scripts = plan.scripts.as_slice();
-    start_scripts(scope, hall, rt, gate, members, scripts, pool, all)
+    start_scripts(scope, hall, rt, gate, pace, members, scripts, pool, all)
 }
 
 // Starts a worker for each member, the last one first, until one cannot be started.
@@ -52,6 +56,7 @@ fn start_drivers<'s, E, L: Ledger + Send + Sync, R: Wait + Sync, G: Gate>(
     hall: &'s Hall<L>,
     rt: &'s R,
     gate: &'s G,
+    pace: &'s Pace,
     turns: u32,
     mut detectors: Vec<Box<dyn Detector>>,
     pool: &mut Pool<L>,
@@ -74,7 +79,7 @@ fn start_drivers<'s, E, L: Ledger + Send + Sync, R: Wait + Sync, G: Gate>(
     while let Some(detector) = detectors.pop() {
         let member = detectors.len() as u8 + 1;
         let part = pool.split();
-        let one = start_driver(scope, hall, rt, gate, member, turns, detector, part)?;
+        let one = start_driver(scope, hall, rt, gate, pace, member, turns, detector, part)?;
         put(all, one);
     }
     Ok(())
@@ -86,6 +91,7 @@ fn start_scripts<'s, E, L: Ledger + Send + Sync, R: Wait + Sync, G: Gate>(
     hall: &'s Hall<L>,
     rt: &'s R,
     gate: &'s G,
+    pace: &'s Pace,
     members: u32,
     scripts: &'s [Vec<Disturbance>],
     pool: &mut Pool<L>,
@@ -110,7 +116,7 @@ fn start_scripts<'s, E, L: Ledger + Send + Sync, R: Wait + Sync, G: Gate>(
     for script in scripts {
         worker += 1;
         let part = pool.split();
-        let one = start_script(scope, hall, rt, gate, worker, script, part)?;
+        let one = start_script(scope, hall, rt, gate, pace, worker, script, part)?;
         put(all, one);
     }
     Ok(())

@@ -1,12 +1,13 @@
 //! What workers do.
 
-ghost use Rattle.std.specs.Prelude.{◌≡◌, ◌≤◌, length};
+ghost use Rattle.std.specs.Prelude.{◌≡◌, ◌<◌, ◌≤◌, length};
 ghost use Rattle.ct_rehearse.specs.Plans.{turns_made};
 
 use crate::disturbance::Disturbance;
 use crate::gate::Gate;
 use crate::hall::Hall;
 use crate::made::Made;
+use crate::pace::{Pace, Stride};
 use crate::share::Share;
 use crate::worked::Worked;
 use ct_detect::Detector;
@@ -19,22 +20,28 @@ pub(crate) fn drive<L: Ledger, R: Wait, G: Gate>(
     hall: &Hall<L>,
     rt: &R,
     gate: &G,
+    pace: &Pace,
     member: Member,
     turns: u32,
     mut detector: Box<dyn Detector>,
     mut share: Share<L>,
 ) -> Worked<L>
-    requires { share ≡ record { parts = 1; steps = 0 } }
+    requires share { share ≡ record { parts = 1; steps = 0 } }
+    requires member { 0 < member }
     ensures { turns_made result.made ≡ turns }
 {
     let worker = u32::from(member);
+    let mut stride = Stride::begin(rt, pace, worker);
     let mut made = Made::none();
     for number in 0..turns {
+        stride.give_way(number);
         gate.before(rt, worker, number + 1);
         let outcome = hall.turn(rt, &mut share, member, &mut *detector);
         gate.after(rt, worker, number + 1);
+        stride.count(number + 1, &outcome);
         made.count(&outcome);
     }
+    stride.end();
     Worked::new(made, share)
 }
 
@@ -43,22 +50,28 @@ pub(crate) fn follow<L: Ledger, R: Wait, G: Gate>(
     hall: &Hall<L>,
     rt: &R,
     gate: &G,
+    pace: &Pace,
     worker: u32,
     script: &[Disturbance],
     mut share: Share<L>,
 ) -> Worked<L>
     requires share { share ≡ record { parts = 1; steps = 0 } }
     requires short { length script.now ≤ 100000 }
+    requires worker { 0 < worker }
     ensures { turns_made result.made ≡ length script.now }
 {
+    let mut stride = Stride::begin(rt, pace, worker);
     let mut made = Made::none();
     let mut number = 0;
     for entry in script {
+        stride.give_way(number);
         number += 1;
         gate.before(rt, worker, number);
         let outcome = hall.disturb(rt, &mut share, entry);
         gate.after(rt, worker, number);
+        stride.count(number, &outcome);
         made.count(&outcome);
     }
+    stride.end();
     Worked::new(made, share)
 }

@@ -7,6 +7,7 @@ ghost use Rattle.ct_rehearse.specs.Shares.{risen_by};
 use crate::gate::Gate;
 use crate::hall::Hall;
 use crate::made::Made;
+use crate::pace::Pace;
 use crate::plan::Plan;
 use crate::pool::Pool;
 use crate::run_fault::RunFault;
@@ -53,6 +54,10 @@ impl<L: Ledger + Send + Sync> Hall<L> {
         let Ok(all) = Vec::with_capacity(alloc, count) else {
             return Err(RunFault::Memory);
         };
+        let Ok(pace) = Pace::new(alloc, count) else {
+            return Err(RunFault::Memory);
+        };
+        let pace = &pace;
         let pool = share.lend(count as u64);
         let (made, pool) = thread::scope(
             thread::scope_env(),
@@ -65,7 +70,7 @@ impl<L: Ledger + Send + Sync> Hall<L> {
                 requires empty { vec_len all ≡ 0 }
                 requires room { workers (vec_len detectors) plan.now ≤ vec_capacity all }
                 ensures { HasRun (vec_len detectors) plan.entry.now result.0 result.1 }
-            { run_workers(scope, self, rt, gate, plan, detectors, pool, all) },
+            { run_workers(scope, self, rt, gate, pace, plan, detectors, pool, all) },
         );
         share.restore(pool);
         made
@@ -78,6 +83,7 @@ fn run_workers<'s, E, L: Ledger + Send + Sync, R: Threads + Wait + Sync, G: Gate
     hall: &'s Hall<L>,
     rt: &'s R,
     gate: &'s G,
+    pace: &'s Pace,
     plan: &'s Plan,
     detectors: Vec<Box<dyn Detector>>,
     mut pool: Pool<L>,
@@ -91,7 +97,10 @@ fn run_workers<'s, E, L: Ledger + Send + Sync, R: Threads + Wait + Sync, G: Gate
     requires room { workers (vec_len detectors) plan.now ≤ vec_capacity all }
     ensures { HasRun (vec_len detectors) plan.now result.0 result.1 }
 {
-    let started = start_all(scope, hall, rt, gate, plan, detectors, &mut pool, &mut all);
+    let started = start_all(
+        scope, hall, rt, gate, pace, plan, detectors, &mut pool, &mut all,
+    );
+    pace.begin(rt);
     let made = join_all(rt, all, &mut pool);
     match started {
         Ok(()) => (Ok(made), pool),
