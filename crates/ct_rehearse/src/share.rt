@@ -63,11 +63,13 @@ impl<L: Ledger> Share<L> {
     /// Takes the parts and the steps of another share of the same total.
     pub fn join(&mut self, other: Share<L>)
         requires steps { self.old.steps + other.steps < 2 ^ 64 }
-        requires parts { self.old.parts + other.parts ≤ 1000 }
+        requires whole { L.parts ≡ 1000 }
         ensures parts { self.new.parts ≡ self.old.parts + other.parts }
         ensures steps { self.new.steps ≡ self.old.steps + other.steps }
     {
-        let (parts, steps, token) = other.into_parts();
+        let (parts, steps, mut token) = other.into_parts();
+        // It gives nothing; two shares of one total have no more than all its parts.
+        token.give(&mut self.token, 0, 0);
         self.gain(parts, steps, token);
     }
 
@@ -177,6 +179,7 @@ impl<L: Ledger> Share<L> {
     // Its parts, its steps and the token that has both.
     pub(crate) fn into_parts(self) -> (u64, u64, ledger::Share<L>)
         ensures parts { result.0 ≡ self.parts }
+        ensures some { 0 < result.0 }
         ensures steps { result.1 ≡ self.steps }
         ensures token_parts { result.2.parts ≡ self.parts }
         ensures token_steps { result.2.amount ≡ self.steps }

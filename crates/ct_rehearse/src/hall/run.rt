@@ -29,7 +29,7 @@ impl<L: Ledger + Send + Sync> Hall<L> {
     ///
     /// The memory of the run itself is taken before the first thread starts; memory that is refused in a turn refuses
     /// that turn. On every exit the share has risen by the steps that the workers made, no thread is left, and
-    /// the detectors are dropped. After `Start` the parts of workers that were not started may be lost; they have no steps.
+    /// the detectors are dropped. After `Start` one part is lost, that of the worker that could not be started; it has no steps.
     pub fn run_free<R: Threads + Wait + Sync, G: Gate>(
         &self,
         rt: &R,
@@ -47,7 +47,7 @@ impl<L: Ledger + Send + Sync> Hall<L> {
         ensures share { IfOk result (λ made. share.new ≡ risen_by share.old made.steps) }
         ensures memory { result ≡ Err RunFault.Memory → share.new ≡ share.old }
         ensures steps { OnErr result (HasRisen share.old.steps share.new.steps (turns_planned self.now.members plan.now)) }
-        ensures parts { OnErr result (HasRisen share.new.parts share.old.parts (workers self.now.members plan.now)) }
+        ensures parts { result ≡ Err RunFault.Start → share.new.parts + 1 ≡ share.old.parts }
     {
         let _ = self.group.n();
         let count = detectors.len() + plan.scripts.len();
