@@ -1,29 +1,27 @@
 -- The steps of the open instance: with values by number they are refused and taken as with the values themselves.
-use Rattle.std.proofs.Common.{◌≡◌, ℕ, false, List, [], ◌∷◌, ◌++◌, Option, Some, None, is_some, is_none, option_map, option_and_then, refl, ap, sym, ◌∙◌, subst}
+use Rattle.std.proofs.Common.{◌≡◌, ℕ, false, List, [], ◌∷◌, ◌+◌, Option, Some, None, is_some, is_none, option_map, option_and_then, refl, ap, sym, ◌∙◌, subst}
+use Rattle.std.specs.Prelude.{nat_lt, ◌&&◌}
 use Rattle.std.specs.Option.{option_map_or}
-use Rattle.ct_names.specs.declared.refusal.Refusal.TheVariants.{Idle, Decided}
-use Rattle.ct_names.specs.Group.{is_majority}
+use Rattle.ct_names.specs.declared.refusal.Refusal.TheVariants.{Idle}
 use Rattle.ct_names.specs.Value.{Value}
 use Rattle.ct_model.specs.declared.phase.Phase.{Phase}
-use Rattle.ct_model.specs.declared.step.Step.TheVariants.{Enter, Choose, Adopt, Suspect, Conclude}
+use Rattle.ct_model.specs.declared.moves.Move.{Move}
 use Rattle.ct_model.specs.Setting.{Setting}
 use Rattle.ct_model.specs.State.{State, Member, Standing as AnyStanding, Turn as AnyTurn}
 use Rattle.ct_model.specs.AtValue.{Standing, Turn}
 use Rattle.ct_model.specs.Received.{Ballots, ballots, decided}
-use Rattle.ct_model.specs.Phases.{enter, choose, adopt, suspect, conclude}
-use Rattle.ct_model.specs.Faults.{enter_faults, choose_faults, adopt_faults, suspect_faults, conclude_faults}
+use Rattle.ct_model.specs.Moves.{step_of, turn_of, faults_of, turn_at, faults_at, sent_by, is_enter}
 use Rattle.ct_model.specs.Mapped.{ballots_map, standing_map, turn_map}
 use Rattle.ct_model.specs.Next.{own_ballots, round_row, turned}
 use Rattle.ct_model.specs.Cause.{Test, at, first_fault, open_tests, tests}
-use Rattle.ct_model.proofs.Naturality.{enter-map, choose-map, adopt-map, suspect-map, conclude-map, choose_faults-map, adopt_faults-map, suspect_faults-map}
+use Rattle.ct_model.proofs.RoundSteps.{turn-map, faults-map, tests-move}
 use Rattle.ct_model.proofs.Outcomes.{some-same, made-map, made-then}
 use Rattle.ct_rounds.specs.Part.{Part, got}
-use Rattle.ct_rounds.specs.Part as rounds
 use Rattle.ct_instances.specs.Kept.{Kept}
 use Rattle.ct_instances.specs.Keeping.{IsPartOf, KeepsInstances}
 use Rattle.ct_instances.specs.Named.{value_at, NamesMail, NamesStanding, NamesBallots, NamesDecision}
-use Rattle.ct_instances.specs.Steps.{Stepped, open_rounds, open_decision, tests_by, enter_tests, choose_tests, adopt_tests, suspect_tests, conclude_tests, with_standing, step_by, enter_step, choose_step, adopt_step, suspect_step, conclude_step}
-use Rattle.ct_instances.proofs.Named.{mate, named_is_some, standing_some, standing_round}
+use Rattle.ct_instances.specs.Steps.{Stepped, open_rounds, open_decision, tests_by, faults, with_standing, step_by, taken, sent, passes_rounds}
+use Rattle.ct_instances.proofs.Named.{mate, standing_some, standing_round}
 
 -- a step of the open instance was taken, by its row at the values themselves
 pub record IsTurnedBy (m : Member) (values : List Value) (step : Standing → Option Turn) (n p : ℕ) (stepped : Stepped) : Type 0 where
@@ -88,13 +86,6 @@ module _ (s : Setting) (values : List Value) (p : ℕ) (m : Member) (kept : Kept
       met (option_map {U = ℕ × Phase} (λ c. (c.standing.round, c.standing.phase))) (option_map {U = ℕ × Phase} (λ c. (c.round, c.phase))) refl
       (λ c x is e. ap (λ (z : AnyStanding (Option Value)). let pair : ℕ × Phase = (z.round, z.phase) in Some pair) e)
 
-  pub keeps-acked : option_map_or (λ c. is_majority c.members (got (open_rounds kept) c).acked) kept.part false ≡ option_map_or (λ c. is_majority s.members (own_ballots m c).acked) m.current false
-  keeps-acked =
-      met (λ o. option_map_or (λ c. is_majority c.members (got (open_rounds kept) c).acked) o false) (λ u. option_map_or (λ c. is_majority s.members (own_ballots m c).acked) u false) refl
-      (λ c x is e.
-      ap (λ n. is_majority n (got (open_rounds kept) c).acked) (h.part c is).members_is
-      ∙ ap (λ (t : Ballots (Option Value)). is_majority s.members t.acked) (own c x e))
-
   -- the tests
 
   tests-same : (a : Part → List Test) (b : Standing → List Test) → ((c : Part) (x : Standing) → kept.part ≡ Some c → Names c x → a c ≡ b x) → first_fault (tests_by a kept) ≡ first_fault (open_tests m b)
@@ -102,49 +93,31 @@ module _ (s : Setting) (values : List Value) (p : ℕ) (m : Member) (kept : Kept
       met (λ o. first_fault (at Idle (is_none o) ∷ option_map_or a o [])) (λ u. first_fault (at Idle (is_none u) ∷ option_map_or b u [])) refl
       (λ c x is e. ap first_fault (same c x is e))
 
-  pub enter-tests : (g : State) (line : List ℕ) → first_fault (enter_tests kept) ≡ first_fault (tests s g m line (Enter p))
-  enter-tests g line =
-      tests-same (λ c. rounds.enter_tests c ++ at Decided (is_some (open_decision kept)) ∷ []) (λ x. enter_faults x ++ at Decided (is_some (decided m.got m.last)) ∷ [])
-      (λ c x is e.
-      ap (λ (z : AnyStanding (Option Value)). enter_faults z ++ at Decided (is_some (open_decision kept)) ∷ []) e
-      ∙ ap (λ b. enter_faults x ++ at Decided b ∷ []) (named_is_some values (open_decision kept) (decided m.got m.last) own-decision))
-
-  pub choose-tests : (g : State) (line : List ℕ) (from : ℕ) → first_fault (choose_tests kept from) ≡ first_fault (tests s g m line (Choose p from))
-  choose-tests g line from =
-      tests-same (λ c. rounds.choose_tests c (open_rounds kept) from) (λ x. choose_faults s.members (own_ballots m x) x from)
+  pub action-tests : (g : State) (line : List ℕ) (q : ℕ) (a : Move) → first_fault (faults kept a) ≡ first_fault (tests s g m line (step_of q a))
+  action-tests g line q a =
+      tests-same (λ c. faults_of c.members (open_decision kept) (got (open_rounds kept) c) c.standing a) (faults_at s.members m a)
       (λ c x is e.
       let t = got (open_rounds kept) c in
-      ap (λ n. choose_faults n t c.standing from) (h.part c is).members_is
-      ∙ sym (choose_faults-map (value_at values) s.members t c.standing from)
-      ∙ ap (λ z. choose_faults s.members z (standing_map (value_at values) c.standing) from) (own c x e)
-      ∙ ap (λ z. choose_faults s.members (ballots_map Some (own_ballots m x)) z from) e
-      ∙ choose_faults-map Some s.members (own_ballots m x) x from)
+      ap (λ n. faults_of n (open_decision kept) t c.standing a) (h.part c is).members_is
+      ∙ sym (faults-map (value_at values) s.members (open_decision kept) t c.standing a)
+      ∙ ap (λ d. faults_of s.members d (ballots_map (value_at values) t) (standing_map (value_at values) c.standing) a) own-decision
+      ∙ ap (λ z. faults_of s.members (option_map Some (decided m.got m.last)) z (standing_map (value_at values) c.standing) a) (own c x e)
+      ∙ ap (λ z. faults_of s.members (option_map Some (decided m.got m.last)) (ballots_map Some (own_ballots m x)) z a) e
+      ∙ faults-map Some s.members (decided m.got m.last) (own_ballots m x) x a)
+      ∙ ap first_fault (sym (tests-move s g m line q a))
 
-  pub adopt-tests : (g : State) (line : List ℕ) → first_fault (adopt_tests kept) ≡ first_fault (tests s g m line (Adopt p))
-  adopt-tests g line =
-      tests-same (λ c. rounds.adopt_tests c (open_rounds kept)) (λ x. adopt_faults (own_ballots m x) x)
+  pub action-sent : (a : Move) → sent kept a ≡ option_map_or (λ x. sent_by s.members (own_ballots m x).acked a) m.current 0
+  action-sent a =
+      met (λ o. option_map_or (λ c. sent_by c.members (got (open_rounds kept) c).acked a) o 0) (λ u. option_map_or (λ x. sent_by s.members (own_ballots m x).acked a) u 0) refl
       (λ c x is e.
-      sym (adopt_faults-map (value_at values) (got (open_rounds kept) c) c.standing)
-      ∙ ap (λ z. adopt_faults z (standing_map (value_at values) c.standing)) (own c x e)
-      ∙ ap (adopt_faults (ballots_map Some (own_ballots m x))) e
-      ∙ adopt_faults-map Some (own_ballots m x) x)
+      ap (λ n. sent_by n (got (open_rounds kept) c).acked a) (h.part c is).members_is
+      ∙ ap (λ (t : Ballots (Option Value)). sent_by s.members t.acked a) (own c x e))
 
-  pub suspect-tests : (g : State) (line : List ℕ) → first_fault (suspect_tests kept) ≡ first_fault (tests s g m line (Suspect p))
-  suspect-tests g line =
-      tests-same (λ c. rounds.suspect_tests c (open_rounds kept)) (λ x. suspect_faults (own_ballots m x) x)
-      (λ c x is e.
-      sym (suspect_faults-map (value_at values) (got (open_rounds kept) c) c.standing)
-      ∙ ap (λ z. suspect_faults z (standing_map (value_at values) c.standing)) (own c x e)
-      ∙ ap (suspect_faults (ballots_map Some (own_ballots m x))) e
-      ∙ suspect_faults-map Some (own_ballots m x) x)
-
-  pub conclude-tests : (g : State) (line : List ℕ) → first_fault (conclude_tests kept) ≡ first_fault (tests s g m line (Conclude p))
-  conclude-tests g line =
-      tests-same (λ c. rounds.conclude_tests c (open_rounds kept)) (λ x. conclude_faults s.members (own_ballots m x) x)
-      (λ c x is e.
-      ap (λ n. conclude_faults n (got (open_rounds kept) c) c.standing) (h.part c is).members_is
-      ∙ ap (λ (z : Ballots (Option Value)). conclude_faults s.members z (standing_map (value_at values) c.standing)) (own c x e)
-      ∙ ap (λ (z : AnyStanding (Option Value)). conclude_faults s.members (ballots_map Some (own_ballots m x)) z) e)
+  pub action-passes : (a : Move) → passes_rounds kept a ≡ (is_enter a && option_map_or (λ x. nat_lt 10000 (x.round + 1)) m.current false)
+  action-passes a =
+      ap (λ b. is_enter a && b)
+      (met (λ o. option_map_or (λ c. nat_lt 10000 (c.standing.round + 1)) o false) (λ u. option_map_or (λ x. nat_lt 10000 (x.round + 1)) u false) refl
+      (λ c x is e. ap (λ (z : AnyStanding (Option Value)). nat_lt 10000 (z.round + 1)) e))
 
   -- the turns
 
@@ -186,61 +159,15 @@ module _ (s : Setting) (values : List Value) (p : ℕ) (m : Member) (kept : Kept
         keeps = keeps-turned a.from b.from t.0 a.is t.2;
       })
 
-  pub enter-turn : (stepped : Stepped) → enter_step kept ≡ Some stepped → IsTurnedBy m values (enter s.members p m.last (decided m.got m.last)) s.members p stepped
-  enter-turn stepped taken =
-      turned-by (λ c. enter c.members c.me c.instance (open_decision kept) c.standing) (enter s.members p m.last (decided m.got m.last)) stepped
-      (λ c x is e.
-      ap (option_map (turn_map (value_at values))) (whose (λ n q k. enter n q k (open_decision kept) c.standing) c is)
-      ∙ sym (enter-map (value_at values) s.members p m.last (open_decision kept) c.standing)
-      ∙ ap (λ d. enter s.members p m.last d (standing_map (value_at values) c.standing)) own-decision
-      ∙ ap (enter s.members p m.last (option_map Some (decided m.got m.last))) e
-      ∙ enter-map Some s.members p m.last (decided m.got m.last) x)
-      taken
-
-  pub choose-turn : (from : ℕ) (stepped : Stepped) → choose_step kept from ≡ Some stepped → IsTurnedBy m values (λ x. choose s.members m.last (own_ballots m x) x from) s.members p stepped
-  choose-turn from stepped taken =
-      turned-by (λ c. rounds.choose_row c (open_rounds kept) from) (λ x. choose s.members m.last (own_ballots m x) x from) stepped
+  pub action-turn : (a : Move) (stepped : Stepped) → taken kept a ≡ Some stepped → IsTurnedBy m values (turn_at s.members p m a) s.members p stepped
+  action-turn a stepped is =
+      turned-by (λ c. turn_of c.members c.me c.instance (open_decision kept) (got (open_rounds kept) c) c.standing a) (turn_at s.members p m a) stepped
       (λ c x is e.
       let t = got (open_rounds kept) c in
-      ap (option_map (turn_map (value_at values))) (whose (λ n q k. choose n k t c.standing from) c is)
-      ∙ sym (choose-map (value_at values) s.members m.last t c.standing from)
-      ∙ ap (λ z. choose s.members m.last z (standing_map (value_at values) c.standing) from) (own c x e)
-      ∙ ap (λ z. choose s.members m.last (ballots_map Some (own_ballots m x)) z from) e
-      ∙ choose-map Some s.members m.last (own_ballots m x) x from)
-      taken
-
-  pub adopt-turn : (stepped : Stepped) → adopt_step kept ≡ Some stepped → IsTurnedBy m values (λ x. adopt s.members p m.last (own_ballots m x) x) s.members p stepped
-  adopt-turn stepped taken =
-      turned-by (λ c. rounds.adopt_row c (open_rounds kept)) (λ x. adopt s.members p m.last (own_ballots m x) x) stepped
-      (λ c x is e.
-      let t = got (open_rounds kept) c in
-      ap (option_map (turn_map (value_at values))) (whose (λ n q k. adopt n q k t c.standing) c is)
-      ∙ sym (adopt-map (value_at values) s.members p m.last t c.standing)
-      ∙ ap (λ z. adopt s.members p m.last z (standing_map (value_at values) c.standing)) (own c x e)
-      ∙ ap (adopt s.members p m.last (ballots_map Some (own_ballots m x))) e
-      ∙ adopt-map Some s.members p m.last (own_ballots m x) x)
-      taken
-
-  pub suspect-turn : (stepped : Stepped) → suspect_step kept ≡ Some stepped → IsTurnedBy m values (λ x. suspect s.members p m.last (own_ballots m x) x) s.members p stepped
-  suspect-turn stepped taken =
-      turned-by (λ c. rounds.suspect_row c (open_rounds kept)) (λ x. suspect s.members p m.last (own_ballots m x) x) stepped
-      (λ c x is e.
-      let t = got (open_rounds kept) c in
-      ap (option_map (turn_map (value_at values))) (whose (λ n q k. suspect n q k t c.standing) c is)
-      ∙ sym (suspect-map (value_at values) s.members p m.last t c.standing)
-      ∙ ap (λ z. suspect s.members p m.last z (standing_map (value_at values) c.standing)) (own c x e)
-      ∙ ap (suspect s.members p m.last (ballots_map Some (own_ballots m x))) e
-      ∙ suspect-map Some s.members p m.last (own_ballots m x) x)
-      taken
-
-  pub conclude-turn : (stepped : Stepped) → conclude_step kept ≡ Some stepped → IsTurnedBy m values (λ x. conclude s.members m.last (own_ballots m x) x) s.members p stepped
-  conclude-turn stepped taken =
-      turned-by (λ c. rounds.conclude_row c (open_rounds kept)) (λ x. conclude s.members m.last (own_ballots m x) x) stepped
-      (λ c x is e.
-      let t = got (open_rounds kept) c in
-      ap (option_map (turn_map (value_at values))) (whose (λ n q k. conclude n k t c.standing) c is)
-      ∙ sym (conclude-map (value_at values) s.members m.last t c.standing)
-      ∙ ap (λ z. conclude s.members m.last z (standing_map (value_at values) c.standing)) (own c x e)
-      ∙ ap (conclude s.members m.last (ballots_map Some (own_ballots m x))) e
-      ∙ conclude-map Some s.members m.last (own_ballots m x) x)
-      taken
+      ap (option_map (turn_map (value_at values))) (whose (λ n q k. turn_of n q k (open_decision kept) t c.standing a) c is)
+      ∙ sym (turn-map (value_at values) s.members p m.last (open_decision kept) t c.standing a)
+      ∙ ap (λ d. turn_of s.members p m.last d (ballots_map (value_at values) t) (standing_map (value_at values) c.standing) a) own-decision
+      ∙ ap (λ z. turn_of s.members p m.last (option_map Some (decided m.got m.last)) z (standing_map (value_at values) c.standing) a) (own c x e)
+      ∙ ap (λ z. turn_of s.members p m.last (option_map Some (decided m.got m.last)) (ballots_map Some (own_ballots m x)) z a) e
+      ∙ turn-map Some s.members p m.last (decided m.got m.last) (own_ballots m x) x a)
+      is

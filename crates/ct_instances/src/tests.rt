@@ -4,7 +4,7 @@ ghost use Rattle.ct_model.specs.Counted.{NamesSomebody};
 ghost use Rattle.ct_rounds.specs.Meaning.{wire_of};
 
 use super::*;
-use ct_model::Phase;
+use ct_model::{Move, Phase};
 use ct_names::{Command, Group, Instance, Member, Message, Refusal, Round, ValueId};
 use ct_rounds::{Mail, Wire};
 use std::alloc::AllocError;
@@ -252,12 +252,12 @@ fn the_next_instance_opens_after_the_last(rt: HostRuntime) -> Result<(), Fail> {
 fn while_none_is_open_all_is_refused(rt: HostRuntime) -> Result<(), Fail> {
     let group = Group::new(3).ok_or("three")?;
     let instances = Instances::new(rt.alloc(), group, 2);
-    assert_eq!(rt; instances.enter_fault(), Some(Refusal::Idle));
-    assert_eq!(rt; instances.choose_fault(1), Some(Refusal::Idle));
-    assert_eq!(rt; instances.adopt_fault(), Some(Refusal::Idle));
-    assert_eq!(rt; instances.suspect_fault(), Some(Refusal::Idle));
-    assert_eq!(rt; instances.conclude_fault(), Some(Refusal::Idle));
-    assert!(rt; !instances.is_acked());
+    assert_eq!(rt; instances.fault(Move::Enter), Some(Refusal::Idle));
+    assert_eq!(rt; instances.fault(Move::Choose(1)), Some(Refusal::Idle));
+    assert_eq!(rt; instances.fault(Move::Adopt), Some(Refusal::Idle));
+    assert_eq!(rt; instances.fault(Move::Suspect), Some(Refusal::Idle));
+    assert_eq!(rt; instances.fault(Move::Conclude), Some(Refusal::Idle));
+    assert_eq!(rt; instances.sent(Move::Enter), 0);
     Ok(())
 }
 
@@ -267,12 +267,12 @@ fn a_decision_comes_after_the_phase(rt: HostRuntime) -> Result<(), Fail> {
     let mut instances = Instances::new(rt.alloc(), group, 1);
     instances.prepare_open(1)?;
     instances.open(1, ValueId::new(20));
-    assert_eq!(rt; instances.enter_fault(), None);
+    assert_eq!(rt; instances.fault(Move::Enter), None);
     instances.enter()?;
     take(&mut instances, &dec(1, 30))?;
-    assert_eq!(rt; instances.enter_fault(), Some(Refusal::WrongPhase));
+    assert_eq!(rt; instances.fault(Move::Enter), Some(Refusal::WrongPhase));
     instances.suspect()?;
-    assert_eq!(rt; instances.enter_fault(), Some(Refusal::Decided));
+    assert_eq!(rt; instances.fault(Move::Enter), Some(Refusal::Decided));
     Ok(())
 }
 
@@ -284,14 +284,14 @@ fn refusals_are_known_before_the_steps(rt: HostRuntime) -> Result<(), Fail> {
     instances.open(1, ValueId::new(20));
     instances.enter()?;
     take(&mut instances, &est(1, 2, 20))?;
-    assert_eq!(rt; instances.choose_fault(2), Some(Refusal::TooFew));
+    assert_eq!(rt; instances.fault(Move::Choose(2)), Some(Refusal::TooFew));
     take(&mut instances, &est(1, 1, 10))?;
-    assert_eq!(rt; instances.choose_fault(3), Some(Refusal::NotLargest));
-    assert_eq!(rt; instances.choose_fault(2), None);
+    assert_eq!(rt; instances.fault(Move::Choose(3)), Some(Refusal::NotLargest));
+    assert_eq!(rt; instances.fault(Move::Choose(2)), None);
     instances.choose(2)?;
-    assert_eq!(rt; instances.adopt_fault(), Some(Refusal::NoProposal));
-    assert_eq!(rt; instances.suspect_fault(), None);
-    assert_eq!(rt; instances.conclude_fault(), Some(Refusal::WrongPhase));
+    assert_eq!(rt; instances.fault(Move::Adopt), Some(Refusal::NoProposal));
+    assert_eq!(rt; instances.fault(Move::Suspect), None);
+    assert_eq!(rt; instances.fault(Move::Conclude), Some(Refusal::WrongPhase));
     Ok(())
 }
 
@@ -302,15 +302,15 @@ fn acks_of_a_majority_are_known(rt: HostRuntime) -> Result<(), Fail> {
     instances.prepare_open(1)?;
     instances.open(1, ValueId::new(20));
     instances.enter()?;
-    assert_eq!(rt; instances.conclude_fault(), Some(Refusal::WrongPhase));
-    assert!(rt; !instances.is_acked());
+    assert_eq!(rt; instances.fault(Move::Conclude), Some(Refusal::WrongPhase));
+    assert_eq!(rt; instances.sent(Move::Conclude), 0);
     let ack = Wire::Ack {
         instance: 1,
         round: 1,
         from: 1,
     };
     take(&mut instances, &ack)?;
-    assert!(rt; instances.is_acked());
+    assert_eq!(rt; instances.sent(Move::Conclude), 1);
     Ok(())
 }
 

@@ -57,3 +57,4 @@ pub mod WorkedRounds
 pub mod Worked
 pub mod WorkedRuns
 pub mod Passing
+pub mod RoundSteps

@@ -24,3 +24,4 @@ pub mod Lawful
 pub mod Allowed
 pub mod Knowledge
 pub mod StepText
+pub mod Moves

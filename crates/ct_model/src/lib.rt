@@ -3,6 +3,7 @@
 #![tactic(auto)]
 
 mod laws;
+mod moves;
 mod phase;
 mod step;
 
@@ -10,5 +11,7 @@ pub use laws::{
     law_agreement, law_cause, law_count, law_integrity, law_locked, law_prefix, law_relay,
     law_validity,
 };
+pub use laws::{law_agreement, law_integrity, law_locked, law_prefix, law_relay, law_validity};
+pub use moves::Move;
 pub use phase::Phase;
 pub use step::Step;

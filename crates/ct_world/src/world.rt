@@ -17,16 +17,12 @@ use ct_network::Network;
 use std::alloc::Global;
 use std::marker::Model;
 
-mod adopt;
 mod begin;
-mod choose;
-mod conclude;
 mod copying;
 mod crash;
 mod deciding;
 mod deliver;
 mod enabling;
-mod enter;
 mod meeting;
 mod next_local;
 mod outcome;
@@ -35,8 +31,8 @@ mod preparing;
 mod reading;
 mod receive;
 mod replaying;
+mod round;
 mod submit;
-mod suspect;
 
 /// A group's network, its members and their crash marks, and the record of the steps that led there. Every world's
 /// record is a run of the algorithm that ends in this world (Chandra and Toueg, sections 4, 6.2 and 7), whatever was

@@ -1,93 +1,105 @@
 //! The steps of the open instance. No step takes memory, and a refused one changes nothing.
 
-ghost use Rattle.std.specs.Prelude.{◌≡◌, ◌<◌, Some, IfOk, IfSome, OnErr};
+ghost use Rattle.std.specs.Prelude.{◌≡◌, ◌<◌, false, Some, None, IfOk, IfSome, OnErr};
 ghost use Rattle.std.specs.Result.{result_err};
+ghost use Rattle.ct_model.specs.declared.moves.Move.TheVariants.{Enter, Choose, Adopt, Suspect, Conclude};
 ghost use Rattle.ct_model.specs.Test.{first_fault};
 ghost use Rattle.ct_rounds.specs.Meaning.{mail_of};
-ghost use Rattle.ct_instances.specs.Steps.{enter_tests, choose_tests, adopt_tests, suspect_tests, conclude_tests, enter_step, choose_step, adopt_step, suspect_step, conclude_step};
+ghost use Rattle.ct_instances.specs.Steps.{faults, taken, passes_rounds};
 
 use super::Instances;
+use ct_model::Move;
 use ct_names::{Member, Refusal};
 use ct_rounds::Mail;
 
 impl Instances {
+    /// Takes a step that `fault` allows, and that begins no round beyond the limit.
+    pub fn take(&mut self, action: Move) -> Mail
+        requires allowed { first_fault (faults self.old action) ≡ None }
+        requires rounds { passes_rounds self.old action ≡ false }
+        ensures { taken self.old action ≡ Some (record { after = self.new; mail = mail_of result }) }
+    {
+        match &mut self.part {
+            None => unreachable!(),
+            Some(consensus) => match self.entries.get(&self.last) {
+                None => unreachable!(),
+                Some(entry) => {
+                    let taken = match action {
+                        Move::Enter => consensus.enter(),
+                        Move::Choose(from) => consensus.choose(&entry.inbox, from),
+                        Move::Adopt => consensus.adopt(&entry.inbox),
+                        Move::Suspect => consensus.suspect(&entry.inbox),
+                        Move::Conclude => consensus.conclude(&entry.inbox),
+                    };
+                    match taken {
+                        Ok(mail) => mail,
+                        Err(_) => unreachable!(),
+                    }
+                }
+            },
+        }
+    }
+
     /// The next round begins: its coordinator gets the estimate. Refused by `Idle`, `WrongPhase`, `Decided`.
     pub fn enter(&mut self) -> Result<Mail, Refusal>
         requires { IfSome self.old.part (λ c. c.standing.round < 10000) }
-        ensures fault { result_err result ≡ first_fault (enter_tests self.old) }
-        ensures turn { IfOk result (λ mail. enter_step self.old ≡ Some (record { after = self.new; mail = mail_of mail })) }
+        ensures fault { result_err result ≡ first_fault (faults self.old Enter) }
+        ensures turn { IfOk result (λ mail. taken self.old Enter ≡ Some (record { after = self.new; mail = mail_of mail })) }
         ensures kept { OnErr result (self.new ≡ self.old) }
     {
-        if let Some(refusal) = self.enter_fault() {
-            return Err(refusal);
-        }
-        match &mut self.part {
-            None => unreachable!(),
-            Some(consensus) => consensus.enter(),
-        }
+        self.try_take(Move::Enter)
     }
 
     /// A majority was heard, and nobody with a larger ts than `from`: the coordinator proposes its value.
     /// Refused by `Idle`, `WrongPhase`, `TooFew`, `NotLargest`.
     pub fn choose(&mut self, from: Member) -> Result<Mail, Refusal>
-        ensures fault { result_err result ≡ first_fault (choose_tests self.old from) }
-        ensures turn { IfOk result (λ mail. choose_step self.old from ≡ Some (record { after = self.new; mail = mail_of mail })) }
+        ensures fault { result_err result ≡ first_fault (faults self.old (Choose from)) }
+        ensures turn { IfOk result (λ mail. taken self.old (Choose from) ≡ Some (record { after = self.new; mail = mail_of mail })) }
         ensures kept { OnErr result (self.new ≡ self.old) }
     {
-        match &mut self.part {
-            None => Err(Refusal::Idle),
-            Some(consensus) => match self.entries.get(&self.last) {
-                Some(entry) => consensus.choose(&entry.inbox, from),
-                None => unreachable!(),
-            },
-        }
+        self.try_take(Move::Choose(from))
     }
 
     /// The coordinator's proposal came: the member takes it over, and acks it. Refused by `Idle`, `WrongPhase`,
     /// `NoProposal`.
     pub fn adopt(&mut self) -> Result<Mail, Refusal>
-        ensures fault { result_err result ≡ first_fault (adopt_tests self.old) }
-        ensures turn { IfOk result (λ mail. adopt_step self.old ≡ Some (record { after = self.new; mail = mail_of mail })) }
+        ensures fault { result_err result ≡ first_fault (faults self.old Adopt) }
+        ensures turn { IfOk result (λ mail. taken self.old Adopt ≡ Some (record { after = self.new; mail = mail_of mail })) }
         ensures kept { OnErr result (self.new ≡ self.old) }
     {
-        match &mut self.part {
-            None => Err(Refusal::Idle),
-            Some(consensus) => match self.entries.get(&self.last) {
-                Some(entry) => consensus.adopt(&entry.inbox),
-                None => unreachable!(),
-            },
-        }
+        self.try_take(Move::Adopt)
     }
 
     /// No proposal came and the coordinator is taken for crashed: it gets a nack. Refused by `Idle`, `WrongPhase`,
     /// `HasProposal`.
     pub fn suspect(&mut self) -> Result<Mail, Refusal>
-        ensures fault { result_err result ≡ first_fault (suspect_tests self.old) }
-        ensures turn { IfOk result (λ mail. suspect_step self.old ≡ Some (record { after = self.new; mail = mail_of mail })) }
+        ensures fault { result_err result ≡ first_fault (faults self.old Suspect) }
+        ensures turn { IfOk result (λ mail. taken self.old Suspect ≡ Some (record { after = self.new; mail = mail_of mail })) }
         ensures kept { OnErr result (self.new ≡ self.old) }
     {
-        match &mut self.part {
-            None => Err(Refusal::Idle),
-            Some(consensus) => match self.entries.get(&self.last) {
-                Some(entry) => consensus.suspect(&entry.inbox),
-                None => unreachable!(),
-            },
-        }
+        self.try_take(Move::Suspect)
     }
 
     /// A majority replied and the round is over: where a majority acked, the estimate is the decision. Refused by
     /// `Idle`, `WrongPhase`, `TooFew`.
     pub fn conclude(&mut self) -> Result<Mail, Refusal>
-        ensures fault { result_err result ≡ first_fault (conclude_tests self.old) }
-        ensures turn { IfOk result (λ mail. conclude_step self.old ≡ Some (record { after = self.new; mail = mail_of mail })) }
+        ensures fault { result_err result ≡ first_fault (faults self.old Conclude) }
+        ensures turn { IfOk result (λ mail. taken self.old Conclude ≡ Some (record { after = self.new; mail = mail_of mail })) }
         ensures kept { OnErr result (self.new ≡ self.old) }
     {
-        match &mut self.part {
-            None => Err(Refusal::Idle),
-            Some(consensus) => match self.entries.get(&self.last) {
-                Some(entry) => consensus.conclude(&entry.inbox),
-                None => unreachable!(),
-            },
+        self.try_take(Move::Conclude)
+    }
+
+    // Takes the step where it is allowed.
+    fn try_take(&mut self, action: Move) -> Result<Mail, Refusal>
+        requires { passes_rounds self.old action ≡ false }
+        ensures fault { result_err result ≡ first_fault (faults self.old action) }
+        ensures turn { IfOk result (λ mail. taken self.old action ≡ Some (record { after = self.new; mail = mail_of mail })) }
+        ensures kept { OnErr result (self.new ≡ self.old) }
+    {
+        match self.fault(action) {
+            Some(refusal) => Err(refusal),
+            None => Ok(self.take(action)),
         }
     }
 }

@@ -8,7 +8,7 @@ ghost use Rattle.ct_world.specs.World.{verdict};
 
 use crate::seat::Seat;
 use crate::world::World;
-use ct_model::Step;
+use ct_model::{Move, Step};
 use ct_names::{Limit, Member, Refusal};
 
 impl World {
@@ -33,11 +33,11 @@ impl World {
             Step::Submit(member, command) => self.cause_of_submit(*member, command),
             Step::Receive(member, serial) => self.cause_of_receive(*member, *serial),
             Step::Begin(member) => self.cause_of_begin(*member),
-            Step::Enter(member) => self.cause_of_enter(*member),
-            Step::Choose(member, from) => self.cause_of_choose(*member, *from),
-            Step::Adopt(member) => self.cause_of_adopt(*member),
-            Step::Suspect(member) => self.cause_of_suspect(*member),
-            Step::Conclude(member) => self.cause_of_conclude(*member),
+            Step::Enter(member) => self.cause_of_round(*member, Move::Enter),
+            Step::Choose(member, from) => self.cause_of_round(*member, Move::Choose(*from)),
+            Step::Adopt(member) => self.cause_of_round(*member, Move::Adopt),
+            Step::Suspect(member) => self.cause_of_round(*member, Move::Suspect),
+            Step::Conclude(member) => self.cause_of_round(*member, Move::Conclude),
             Step::Deliver(member) => self.cause_of_deliver(*member),
             Step::Crash(member) => self.cause_of_crash(*member),
             Step::Postpone(member, serial) => self.cause_of_postpone(*member, *serial),

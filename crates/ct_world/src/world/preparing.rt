@@ -12,7 +12,7 @@ ghost use Rattle.ct_world.specs.World.{IsDone};
 use crate::effect::Effect;
 use crate::world::World;
 use ct_board::Board;
-use ct_model::Step;
+use ct_model::{Move, Step};
 use ct_names::Refusal;
 use ct_network::Network;
 use std::alloc::AllocError;
@@ -106,11 +106,11 @@ impl World {
                 self.commit_begin(member);
                 0
             }
-            Step::Enter(member) => self.commit_enter(member),
-            Step::Choose(member, from) => self.commit_choose(member, from),
-            Step::Adopt(member) => self.commit_adopt(member),
-            Step::Suspect(member) => self.commit_suspect(member),
-            Step::Conclude(member) => self.commit_conclude(member),
+            Step::Enter(member) => self.commit_round(member, Move::Enter),
+            Step::Choose(member, from) => self.commit_round(member, Move::Choose(from)),
+            Step::Adopt(member) => self.commit_round(member, Move::Adopt),
+            Step::Suspect(member) => self.commit_round(member, Move::Suspect),
+            Step::Conclude(member) => self.commit_round(member, Move::Conclude),
             Step::Deliver(_) => unreachable!(),
             Step::Crash(member) => {
                 self.commit_crash(member);
