@@ -5,13 +5,14 @@ use Rattle.ct_names.specs.Membership.{IsIn}
 use Rattle.ct_names.specs.Value.{Value}
 use Rattle.ct_names.proofs.Groups.{majority_of}
 use Rattle.ct_names.proofs.Lists
+use Rattle.ct_model.specs.declared.moves.Move.TheVariants as moves
 use Rattle.ct_model.specs.AtValue.{Standing, Turn}
 use Rattle.ct_model.specs.Setting.{Setting}
 use Rattle.ct_model.specs.Wire.Wire.{Est, Prop}
 use Rattle.ct_model.specs.State.{State, Member, member}
 use Rattle.ct_model.specs.Received.{Heard, Ballots, heard, is_largest}
 use Rattle.ct_model.specs.Phases.{is_gather, choose, chosen}
-use Rattle.ct_model.specs.Next.{Outcome, choose_row, own_ballots, turned, after}
+use Rattle.ct_model.specs.Next.{Outcome, round_row, turn_at, own_ballots, turned, after}
 use Rattle.ct_model.specs.Safe.{IsProposed}
 use Rattle.ct_model.proofs.Carrying.{Sent, Sent-old, Sent-new}
 use Rattle.ct_model.proofs.Facts.{Reached, HasChosen, IsHeard, IsFoundedProp, IsFounded, IsSound, Holds}
@@ -127,7 +128,7 @@ module _ (s : Setting) (g : State) (p : ℕ) (holds : Holds s g) (is : IsMember 
         (λ w same. subst (λ z. IsFounded s h z) (sym same) (proposal majority largest))
         first (λ j r later q v ts same sent lt. cc) (λ j r later q v ts same sent lt. cc)
 
-pub allowed-choose : (s : Setting) (g : State) (p : ℕ) (o : Outcome) → Holds s g → IsMember s.members p → (from : ℕ) → choose_row s (member g p) from ≡ Some o → IsAllowed s g p o
+pub allowed-choose : (s : Setting) (g : State) (p : ℕ) (o : Outcome) → Holds s g → IsMember s.members p → (from : ℕ) → round_row (member g p) (turn_at s.members p (member g p) (moves.Choose from)) ≡ Some o → IsAllowed s g p o
 allowed-choose s g p o holds is from e =
     let m : Member = member g p in
     round-allowed s g p (λ c. choose s.members m.last (own_ballots m c) c from) o

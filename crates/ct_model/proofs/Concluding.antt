@@ -2,6 +2,7 @@
 use Rattle.std.proofs.Common.{◌≡◌, ℕ, ◌+◌, true, Some, refl, sym, subst, inl, inr, arith, true≢false}
 use Rattle.ct_names.specs.Group.{IsMember, IsMajority, is_majority}
 use Rattle.ct_names.proofs.Groups.{majority_of}
+use Rattle.ct_model.specs.declared.moves.Move.TheVariants as moves
 use Rattle.ct_model.specs.AtValue.{Wire, Standing, Turn}
 use Rattle.ct_names.specs.Value.{Value}
 use Rattle.ct_model.specs.Setting.{Setting}
@@ -9,7 +10,7 @@ use Rattle.ct_model.specs.Wire.Wire.{Est, Prop, Ack, Dec}
 use Rattle.ct_model.specs.State.{State, Member, member, wires}
 use Rattle.ct_model.specs.Received.{Ballots, has_ack}
 use Rattle.ct_model.specs.Phases.{is_tally, conclude, concluded}
-use Rattle.ct_model.specs.Next.{Outcome, conclude_row, own_ballots, turned, after}
+use Rattle.ct_model.specs.Next.{Outcome, round_row, turn_at, own_ballots, turned, after}
 use Rattle.ct_model.specs.Safe.{IsLocked}
 use Rattle.ct_model.proofs.Carrying.{Carries}
 use Rattle.ct_model.proofs.Facts.{IsFounded, IsSound, Holds}
@@ -85,7 +86,7 @@ module _ (s : Setting) (g : State) (p : ℕ) (holds : Holds s g) (is : IsMember 
       (λ j r later q v ts x sent lt. let e : Est j later q v ts ≡ decision = (carried (Est j later q v ts) x).1 in cc)
       (λ j r later q v ts x sent lt. let e : Ack j r q ≡ decision = (carried (Ack j r q) x).1 in cc)
 
-pub allowed-conclude : (s : Setting) (g : State) (p : ℕ) (o : Outcome) → Holds s g → IsMember s.members p → conclude_row s (member g p) ≡ Some o → IsAllowed s g p o
+pub allowed-conclude : (s : Setting) (g : State) (p : ℕ) (o : Outcome) → Holds s g → IsMember s.members p → round_row (member g p) (turn_at s.members p (member g p) moves.Conclude) ≡ Some o → IsAllowed s g p o
 allowed-conclude s g p o holds is e =
     let m : Member = member g p in
     round-allowed s g p (λ c. conclude s.members m.last (own_ballots m c) c) o

@@ -14,8 +14,7 @@ use Rattle.ct_model.specs.Wire.Mail.{Nobody}
 use Rattle.ct_model.specs.State.{State, Member, joined, member, new_member, first_state}
 use Rattle.ct_names.specs.Batch.{Batch}
 use Rattle.ct_model.specs.Received.{head, decision_of, decided}
-use Rattle.ct_model.specs.Phases.{enter, choose, adopt, suspect, conclude}
-use Rattle.ct_model.specs.Next.{Outcome, plain, row, turned, round_row, own_ballots, submit, receive, begin, deliver, batch_of, crash, wire_to, after, next}
+use Rattle.ct_model.specs.Next.{Outcome, plain, row, turned, round_row, submit, receive, begin, deliver, batch_of, crash, wire_to, after, next}
 use Rattle.ct_model.specs.Run.{run}
 use Rattle.ct_model.proofs.First.{member-first, size-first}
 use Rattle.ct_model.proofs.Frame.{member-same, member-other, at_place}
@@ -147,11 +146,11 @@ closed-row s g p m (Receive _ k) o e f =
 closed-row s g p m (Begin _) o e f =
     let b = begin_row-is p m o e in
     subst (λ x. HasClosed x.member) b.gives (closed-begin p m b.idle f)
-closed-row s g p m (Enter _) o e f = closed-round m (enter s.members p m.last (decided m.got m.last)) o e f
-closed-row s g p m (Choose _ from) o e f = closed-round m (λ c. choose s.members m.last (own_ballots m c) c from) o e f
-closed-row s g p m (Adopt _) o e f = closed-round m (λ c. adopt s.members p m.last (own_ballots m c) c) o e f
-closed-row s g p m (Suspect _) o e f = closed-round m (λ c. suspect s.members p m.last (own_ballots m c) c) o e f
-closed-row s g p m (Conclude _) o e f = closed-round m (λ c. conclude s.members m.last (own_ballots m c) c) o e f
+closed-row s g p m (Enter _) o e f = closed-round m _ o e f
+closed-row s g p m (Choose _ from) o e f = closed-round m _ o e f
+closed-row s g p m (Adopt _) o e f = closed-round m _ o e f
+closed-row s g p m (Suspect _) o e f = closed-round m _ o e f
+closed-row s g p m (Conclude _) o e f = closed-round m _ o e f
 closed-row s g p m (Deliver _) o e f =
     let d = deliver_row-is m o e in
     subst (λ x. HasClosed x.member) d.gives (closed-deliver m d.standing d.value d.is_open d.decision f)

@@ -3,13 +3,14 @@ use Rattle.std.proofs.Common.{◌≡◌, ℕ, ◌+◌, ◌≤◌, ◌<◌, ◌==
 use Rattle.ct_names.specs.Group.{coordinator, IsMember}
 use Rattle.ct_names.specs.Value.{Value}
 use Rattle.ct_names.proofs.Lists
+use Rattle.ct_model.specs.declared.moves.Move.TheVariants as moves
 use Rattle.ct_model.specs.AtValue.{Standing, Turn}
 use Rattle.ct_model.specs.Setting.{Setting}
 use Rattle.ct_model.specs.Wire.Wire.{Est, Ack}
 use Rattle.ct_model.specs.State.{State, member}
 use Rattle.ct_model.specs.Received.{decided}
 use Rattle.ct_model.specs.Phases.{is_tally, enter, entered}
-use Rattle.ct_model.specs.Next.{Outcome, enter_row, turned, after}
+use Rattle.ct_model.specs.Next.{Outcome, round_row, turn_at, turned, after}
 use Rattle.ct_model.proofs.Carrying.{Sent}
 use Rattle.ct_model.proofs.Facts.{Reached, HasRound, HasTs, IsCarried, IsFoundedEst, IsFounded, IsSound, Holds}
 use Rattle.ct_model.proofs.Growth.{IsOnward, Grows, IsProposed-grows, IsCarried-grows}
@@ -82,7 +83,7 @@ module _ (s : Setting) (g : State) (p : ℕ) (holds : Holds s g) (is : IsMember 
       turn-allowed s g p holds is c open_at t onward sound (λ w same. subst (λ z. IsFounded s h z) (sym same) estimate)
       (λ j r v w same sent. cc) after_ack (λ j r later q v ts same sent lt. cc)
 
-pub allowed-enter : (s : Setting) (g : State) (p : ℕ) (o : Outcome) → Holds s g → IsMember s.members p → enter_row s p (member g p) ≡ Some o → IsAllowed s g p o
+pub allowed-enter : (s : Setting) (g : State) (p : ℕ) (o : Outcome) → Holds s g → IsMember s.members p → round_row (member g p) (turn_at s.members p (member g p) moves.Enter) ≡ Some o → IsAllowed s g p o
 allowed-enter s g p o holds is e =
     let k : ℕ = (member g p).last in
     round-allowed s g p (enter s.members p k (decided (member g p).got k)) o

@@ -12,10 +12,8 @@ use Rattle.ct_model.specs.Actor.{actor}
 use Rattle.ct_model.specs.AtValue.{Wire, Standing, Turn}
 use Rattle.ct_model.specs.Setting.{Setting}
 use Rattle.ct_model.specs.State.{State, Member, member}
-use Rattle.ct_model.specs.Received.{decided}
-use Rattle.ct_model.specs.Phases.{enter, choose, adopt, suspect, conclude}
 use Rattle.ct_model.specs.Wire.Mail.{Nobody}
-use Rattle.ct_model.specs.Next.{Outcome, row, after, next, plain, submit, receive, wire_to, own_ballots, round_row, crash, deliver, batch_of}
+use Rattle.ct_model.specs.Next.{Outcome, row, after, next, plain, submit, receive, wire_to, round_row, crash, deliver, batch_of}
 use Rattle.ct_model.specs.Rehearsal.{Rehearsal, state_of, extended}
 use Rattle.ct_model.specs.Cause.{order}
 use Rattle.ct_model.specs.Lawful.{IsLawful}
@@ -37,11 +35,11 @@ batches-row : (s : Setting) (g : State) (p : ℕ) (m : Member) (step : Step) (o 
 batches-row s g p m (Submit _ c) o d e = ap (λ (x : Outcome). x.member.batches) (sym (when-is (is_good c) (submit g p m c) o e).1)
 batches-row s g p m (Receive _ k) o d e = ap (λ (x : Outcome). x.member.batches) (sym (made-map (receive s p m) (wire_to g p k) o e).gives)
 batches-row s g p m (Begin _) o d e = ap (λ (x : Outcome). x.member.batches) (sym (begin_row-is p m o e).gives)
-batches-row s g p m (Enter _) o d e = batches-round m (enter s.members p m.last (decided m.got m.last)) o e
-batches-row s g p m (Choose _ from) o d e = batches-round m (λ c. choose s.members m.last (own_ballots m c) c from) o e
-batches-row s g p m (Adopt _) o d e = batches-round m (λ c. adopt s.members p m.last (own_ballots m c) c) o e
-batches-row s g p m (Suspect _) o d e = batches-round m (λ c. suspect s.members p m.last (own_ballots m c) c) o e
-batches-row s g p m (Conclude _) o d e = batches-round m (λ c. conclude s.members m.last (own_ballots m c) c) o e
+batches-row s g p m (Enter _) o d e = batches-round m _ o e
+batches-row s g p m (Choose _ from) o d e = batches-round m _ o e
+batches-row s g p m (Adopt _) o d e = batches-round m _ o e
+batches-row s g p m (Suspect _) o d e = batches-round m _ o e
+batches-row s g p m (Conclude _) o d e = batches-round m _ o e
 batches-row s g p m (Deliver _) o d e = absurd d
 batches-row s g p m (Crash _) o d e = ap (λ (x : Outcome). x.member.batches) (sym (some-same (crash m) o e))
 batches-row s g p m (Postpone _ k) o d e = ap (λ (x : Outcome). x.member.batches) (sym (made-map (λ (w : Wire). plain m Nobody) (wire_to g p k) o e).gives)

@@ -4,12 +4,13 @@ use Rattle.ct_names.specs.Group.{coordinator, IsMember}
 use Rattle.ct_names.specs.Membership.{IsIn}
 use Rattle.ct_names.specs.Value.{Value}
 use Rattle.ct_names.proofs.Lists
+use Rattle.ct_model.specs.declared.moves.Move.TheVariants as moves
 use Rattle.ct_model.specs.AtValue.{Standing, Turn}
 use Rattle.ct_model.specs.Setting.{Setting}
 use Rattle.ct_model.specs.Wire.Wire.{Est, Prop, Ack}
 use Rattle.ct_model.specs.State.{State, Member, member}
 use Rattle.ct_model.specs.Phases.{is_gather, is_wait, adopt, adopted, suspect, suspected}
-use Rattle.ct_model.specs.Next.{Outcome, adopt_row, suspect_row, own_ballots, turned, after}
+use Rattle.ct_model.specs.Next.{Outcome, round_row, turn_at, own_ballots, turned, after}
 use Rattle.ct_model.proofs.Carrying.{Sent, Carries, Sent-old}
 use Rattle.ct_model.proofs.Facts.{Reached, HasRound, HasTs, IsFoundedAck, IsFounded, IsSound, Holds}
 use Rattle.ct_model.proofs.Growth.{IsOnward, Grows, IsProposed-grows, IsCarried-grows}
@@ -130,7 +131,7 @@ module _ (s : Setting) (g : State) (p : ℕ) (holds : Holds s g) (is : IsMember 
       turn-allowed s g p holds is c open_at u nack_onward nack_sound (λ w same. subst (λ z. IsFounded s after_nack z) (sym same) tt)
       (λ j r x w same sent. cc) (λ j r later q w ts same sent lt. cc) (λ j r later q w ts same sent lt. cc)
 
-pub allowed-adopt : (s : Setting) (g : State) (p : ℕ) (o : Outcome) → Holds s g → IsMember s.members p → adopt_row s p (member g p) ≡ Some o → IsAllowed s g p o
+pub allowed-adopt : (s : Setting) (g : State) (p : ℕ) (o : Outcome) → Holds s g → IsMember s.members p → round_row (member g p) (turn_at s.members p (member g p) moves.Adopt) ≡ Some o → IsAllowed s g p o
 allowed-adopt s g p o holds is e =
     let m : Member = member g p in
     round-allowed s g p (λ c. adopt s.members p m.last (own_ballots m c) c) o
@@ -139,7 +140,7 @@ allowed-adopt s g p o holds is e =
     subst (λ z. IsAllowed s g p (turned (member g p) z)) f.gives
     (adopt_allowed s g p holds is c at f.waits f.value (Readings.proposal-got m.got m.last c.round f.value f.proposal_is))) e
 
-pub allowed-suspect : (s : Setting) (g : State) (p : ℕ) (o : Outcome) → Holds s g → IsMember s.members p → suspect_row s p (member g p) ≡ Some o → IsAllowed s g p o
+pub allowed-suspect : (s : Setting) (g : State) (p : ℕ) (o : Outcome) → Holds s g → IsMember s.members p → round_row (member g p) (turn_at s.members p (member g p) moves.Suspect) ≡ Some o → IsAllowed s g p o
 allowed-suspect s g p o holds is e =
     let m : Member = member g p in
     round-allowed s g p (λ c. suspect s.members p m.last (own_ballots m c) c) o

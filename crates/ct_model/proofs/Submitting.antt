@@ -14,9 +14,8 @@ use Rattle.ct_model.specs.Knowledge.{KnowsMessages}
 use Rattle.ct_model.specs.Setting.{Setting}
 use Rattle.ct_model.specs.Wire.Mail.{Nobody}
 use Rattle.ct_model.specs.State.{State, Member, Proposal, member, delivered, first_state}
-use Rattle.ct_model.specs.Received.{received, decided}
-use Rattle.ct_model.specs.Phases.{enter, choose, adopt, suspect, conclude}
-use Rattle.ct_model.specs.Next.{Outcome, plain, row, round_row, own_ballots, submit, receive, crash, undelivered, wire_to, after, next}
+use Rattle.ct_model.specs.Received.{received}
+use Rattle.ct_model.specs.Next.{Outcome, plain, row, round_row, submit, receive, crash, undelivered, wire_to, after, next}
 use Rattle.ct_model.specs.Run.{run}
 use Rattle.ct_model.proofs.First.{knows-first, size-first}
 use Rattle.ct_model.proofs.Frame.{after-submitted}
@@ -51,11 +50,11 @@ proposes-row s g p m (Receive _ k) o e =
 proposes-row s g p m (Begin _) o e =
     subst (λ z. ProposesUndelivered m z) (begin_row-is p m o e).gives
     (λ x h. elim h [ inl same ↦ ap (λ y. y.value) same | inr never ↦ absurd never ])
-proposes-row s g p m (Enter _) o e = proposes-round m (enter s.members p m.last (decided m.got m.last)) o e
-proposes-row s g p m (Choose _ from) o e = proposes-round m (λ c. choose s.members m.last (own_ballots m c) c from) o e
-proposes-row s g p m (Adopt _) o e = proposes-round m (λ c. adopt s.members p m.last (own_ballots m c) c) o e
-proposes-row s g p m (Suspect _) o e = proposes-round m (λ c. suspect s.members p m.last (own_ballots m c) c) o e
-proposes-row s g p m (Conclude _) o e = proposes-round m (λ c. conclude s.members m.last (own_ballots m c) c) o e
+proposes-row s g p m (Enter _) o e = proposes-round m _ o e
+proposes-row s g p m (Choose _ from) o e = proposes-round m _ o e
+proposes-row s g p m (Adopt _) o e = proposes-round m _ o e
+proposes-row s g p m (Suspect _) o e = proposes-round m _ o e
+proposes-row s g p m (Conclude _) o e = proposes-round m _ o e
 proposes-row s g p m (Deliver _) o e = subst (λ z. ProposesUndelivered m z) (deliver_row-is m o e).gives (λ x h. absurd h)
 proposes-row s g p m (Crash _) o e = subst (λ z. ProposesUndelivered m z) (some-same (crash m) o e) (λ x h. absurd h)
 proposes-row s g p m (Postpone _ k) o e =

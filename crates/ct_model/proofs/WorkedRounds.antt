@@ -1,12 +1,14 @@
 -- Worked steps of rounds, computed: the ballots of a round, what each step leaves, and why steps are refused. Values
 -- are numbers. The group has three members, so member 2 coordinates round 1, and member 3 round 2.
-use Rattle.std.proofs.Common.{◌≡◌, ℕ, List, [], ◌∷◌, Some, None, map, option_map, refl}
+use Rattle.std.proofs.Common.{◌≡◌, ℕ, List, [], ◌∷◌, Option, Some, None, map, option_map, refl}
 use Rattle.ct_names.specs.declared.command.Command.TheVariants.{Set}
 use Rattle.ct_names.specs.declared.refusal.Refusal.TheVariants.{WrongPhase, TooFew, NotLargest, NoProposal, HasProposal}
 use Rattle.ct_names.specs.Group.{members}
 use Rattle.ct_names.specs.Message.{Message}
 use Rattle.ct_names.specs.Order.{is_before, is_message}
 use Rattle.ct_names.specs.Value.{Value, ordered}
+use Rattle.ct_model.specs.declared.moves.Move.{Move}
+use Rattle.ct_model.specs.declared.moves.Move.TheVariants.{Enter, Choose, Adopt, Suspect, Conclude}
 use Rattle.ct_model.specs.declared.phase.Phase.{Phase}
 use Rattle.ct_model.specs.declared.phase.Phase.TheVariants.{Rest, Gather, Wait, Tally}
 use Rattle.ct_model.specs.Setting.{Setting}
@@ -19,7 +21,7 @@ use Rattle.ct_model.specs.Counted.{count_in}
 use Rattle.ct_model.specs.Phases.{enter, choose, adopt, suspect, conclude}
 use Rattle.ct_model.specs.Test.{first_fault}
 use Rattle.ct_model.specs.Faults.{enter_faults, choose_faults, adopt_faults, suspect_faults, conclude_faults}
-use Rattle.ct_model.specs.Next.{undelivered, begin, begin_row, turned, enter_row, choose_row, adopt_row, suspect_row, conclude_row}
+use Rattle.ct_model.specs.Next.{undelivered, begin, begin_row, Outcome, turned, round_row, turn_at}
 
 abbrev stands : ℕ → Phase → ℕ → ℕ → Standing ℕ
 stands r phase estimate ts = record { round = r; phase = phase; estimate = estimate; ts = ts }
@@ -182,16 +184,20 @@ group = record { members = 3 }
 begun : Member
 begun = (begin 3 with_three).member
 
-enters_its_instance : enter_row group 3 begun ≡ Some (turned begun (record { after = record { round = 1; phase = Wait; estimate = message 1 2 ∷ message 2 1 ∷ []; ts = 0 }; mail = One 2 (Est 2 1 3 (message 1 2 ∷ message 2 1 ∷ []) 0) }))
+-- a step of a round, which member 3 takes
+abbrev taken : Member → Move → Option Outcome
+taken m action = round_row m (turn_at group.members 3 m action)
+
+enters_its_instance : taken begun Enter ≡ Some (turned begun (record { after = record { round = 1; phase = Wait; estimate = message 1 2 ∷ message 2 1 ∷ []; ts = 0 }; mail = One 2 (Est 2 1 3 (message 1 2 ∷ message 2 1 ∷ []) 0) }))
 unfolding computing message with_three group begun decided
 enters_its_instance = refl
 
 -- the decision of another instance doesn't keep it from entering, that of its own does
-enters_undecided : map (λ k. option_map (λ o. o.mail) (enter_row group 3 (record begun { got = Dec k 1 [] ∷ [] }))) (1 ∷ 2 ∷ []) ≡ Some (One 2 (Est 2 1 3 (message 1 2 ∷ message 2 1 ∷ []) 0)) ∷ None ∷ []
+enters_undecided : map (λ k. option_map (λ o. o.mail) (taken (record begun { got = Dec k 1 [] ∷ [] }) Enter)) (1 ∷ 2 ∷ []) ≡ Some (One 2 (Est 2 1 3 (message 1 2 ∷ message 2 1 ∷ []) 0)) ∷ None ∷ []
 unfolding computing message with_three group begun decided
 enters_undecided = refl
 
-idle : enter_row group 3 with_three ∷ choose_row group with_three 1 ∷ adopt_row group 3 with_three ∷ suspect_row group 3 with_three ∷ conclude_row group with_three ∷ [] ≡ None ∷ None ∷ None ∷ None ∷ None ∷ []
+idle : map (taken with_three) (Enter ∷ Choose 1 ∷ Adopt ∷ Suspect ∷ Conclude ∷ []) ≡ None ∷ None ∷ None ∷ None ∷ None ∷ []
 unfolding computing with_three group
 idle = refl
 
@@ -199,18 +205,18 @@ idle = refl
 entered_member : List (Wire Value) → Phase → Member
 entered_member got phase = record new_member { got = got; last = 2; current = Some (record { round = 1; phase = phase; estimate = []; ts = 0 }) }
 
-adopts_of_its_round : map (λ r. option_map (λ o. o.mail) (adopt_row group 3 (entered_member (Prop 2 r [] ∷ []) Wait))) (1 ∷ 2 ∷ []) ≡ Some (One 2 (Ack 2 1 3)) ∷ None ∷ []
+adopts_of_its_round : map (λ r. option_map (λ o. o.mail) (taken (entered_member (Prop 2 r [] ∷ []) Wait) Adopt)) (1 ∷ 2 ∷ []) ≡ Some (One 2 (Ack 2 1 3)) ∷ None ∷ []
 unfolding computing group entered_member
 adopts_of_its_round = refl
 
-suspects_in_its_round : map (λ r. option_map (λ o. o.mail) (suspect_row group 3 (entered_member (Prop 2 r [] ∷ []) Wait))) (1 ∷ 2 ∷ []) ≡ None ∷ Some (One 2 (Nack 2 1 3)) ∷ []
+suspects_in_its_round : map (λ r. option_map (λ o. o.mail) (taken (entered_member (Prop 2 r [] ∷ []) Wait) Suspect)) (1 ∷ 2 ∷ []) ≡ None ∷ Some (One 2 (Nack 2 1 3)) ∷ []
 unfolding computing group entered_member
 suspects_in_its_round = refl
 
-chooses_in_its_instance : map (λ k. option_map (λ o. o.mail) (choose_row group (entered_member (Est k 1 1 (message 1 1 ∷ []) 0 ∷ Est k 1 3 [] 0 ∷ []) Gather) 1)) (1 ∷ 2 ∷ []) ≡ None ∷ Some (All (Prop 2 1 (message 1 1 ∷ []))) ∷ []
+chooses_in_its_instance : map (λ k. option_map (λ o. o.mail) (taken (entered_member (Est k 1 1 (message 1 1 ∷ []) 0 ∷ Est k 1 3 [] 0 ∷ []) Gather) (Choose 1))) (1 ∷ 2 ∷ []) ≡ None ∷ Some (All (Prop 2 1 (message 1 1 ∷ []))) ∷ []
 unfolding computing group entered_member message
 chooses_in_its_instance = refl
 
-concludes_its_round : map (λ r. option_map (λ o. o.mail) (conclude_row group (entered_member (Ack 2 r 1 ∷ Ack 2 r 3 ∷ []) Tally))) (1 ∷ 2 ∷ []) ≡ Some (All (Dec 2 1 [])) ∷ None ∷ []
+concludes_its_round : map (λ r. option_map (λ o. o.mail) (taken (entered_member (Ack 2 r 1 ∷ Ack 2 r 3 ∷ []) Tally) Conclude)) (1 ∷ 2 ∷ []) ≡ Some (All (Dec 2 1 [])) ∷ None ∷ []
 unfolding computing group entered_member
 concludes_its_round = refl

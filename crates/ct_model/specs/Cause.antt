@@ -1,11 +1,13 @@
 -- Why a step is refused: the first of its tests that fires.
-use Rattle.std.specs.Prelude.{ℕ, ◌+◌, not, nat_lt, if◌then◌else◌, List, [], ◌∷◌, ◌++◌, Option, Some, None, is_some, is_none, option_and_then, length, map}
+use Rattle.std.specs.Prelude.{ℕ, ◌+◌, not, nat_lt, if◌then◌else◌, List, [], ◌∷◌, Option, Some, None, is_some, is_none, option_and_then, length, map}
 use Rattle.std.specs.Option.{option_map_or}
 use Rattle.ct_names.specs.declared.limit.Limit.TheVariants.{Submissions, Instances, Rounds, Envelopes, Cells, Steps}
 use Rattle.ct_names.specs.declared.refusal.Refusal.{Refusal}
-use Rattle.ct_names.specs.declared.refusal.Refusal.TheVariants.{NoSuchMember, Crashed, NotWaiting, Busy, Nothing, Idle, Decided, Undecided, BadCommand, Full}
+use Rattle.ct_names.specs.declared.refusal.Refusal.TheVariants.{NoSuchMember, Crashed, NotWaiting, Busy, Nothing, Idle, Undecided, BadCommand, Full}
 use Rattle.ct_names.specs.Command.{is_good}
 use Rattle.ct_names.specs.Group.{is_member}
+use Rattle.ct_model.specs.declared.moves.Move.{Move}
+use Rattle.ct_model.specs.declared.moves.Move.TheVariants as moves
 use Rattle.ct_model.specs.declared.step.Step.{Step}
 use Rattle.ct_model.specs.declared.step.Step.TheVariants.{Submit, Receive, Begin, Enter, Choose, Adopt, Suspect, Conclude, Deliver, Crash, Postpone}
 use Rattle.ct_model.specs.Setting.{Setting}
@@ -14,7 +16,7 @@ use Rattle.ct_names.specs.Batch.{Batch}
 use Rattle.ct_model.specs.Actor.{actor}
 use Rattle.ct_model.specs.AtValue.{Standing}
 use Rattle.ct_model.specs.Received.{decided}
-use Rattle.ct_model.specs.Faults.{enter_faults, choose_faults, adopt_faults, suspect_faults, conclude_faults}
+use Rattle.ct_model.specs.Moves.{faults_of}
 use Rattle.ct_model.specs.Next.{next, undelivered, is_empty, own_ballots}
 use Rattle.ct_model.specs.Waiting.{has_serial}
 use Rattle.ct_model.specs.Rehearsal.{Rehearsal, state_of, line_of}
@@ -28,16 +30,20 @@ presence s g p = at NoSuchMember (not (is_member s.members p)) ∷ at Crashed (i
 abbrev pub open_tests : Member → (Standing → List Test) → List Test
 open_tests m tests = at Idle (is_none m.current) ∷ option_map_or tests m.current []
 
+-- the tests of a step of a round, for the member m of a group of n
+abbrev pub faults_at : ℕ → Member → Move → Standing → List Test
+faults_at n m action c = faults_of n (decided m.got m.last) (own_ballots m c) c action
+
 -- the tests of a step of its own, for its member as it is, whose waiting line this is
 abbrev pub tests : Setting → State → Member → List ℕ → Step → List Test
 tests s g m line (Submit _ c) = at BadCommand (not (is_good c)) ∷ []
 tests s g m line (Receive _ k) = at NotWaiting (not (has_serial k line)) ∷ []
 tests s g m line (Begin _) = at Busy (is_some m.current) ∷ at Nothing (is_empty (undelivered m)) ∷ []
-tests s g m line (Enter _) = open_tests m (λ c. enter_faults c ++ at Decided (is_some (decided m.got m.last)) ∷ [])
-tests s g m line (Choose _ from) = open_tests m (λ c. choose_faults s.members (own_ballots m c) c from)
-tests s g m line (Adopt _) = open_tests m (λ c. adopt_faults (own_ballots m c) c)
-tests s g m line (Suspect _) = open_tests m (λ c. suspect_faults (own_ballots m c) c)
-tests s g m line (Conclude _) = open_tests m (λ c. conclude_faults s.members (own_ballots m c) c)
+tests s g m line (Enter _) = open_tests m (faults_at s.members m moves.Enter)
+tests s g m line (Choose _ from) = open_tests m (faults_at s.members m (moves.Choose from))
+tests s g m line (Adopt _) = open_tests m (faults_at s.members m moves.Adopt)
+tests s g m line (Suspect _) = open_tests m (faults_at s.members m moves.Suspect)
+tests s g m line (Conclude _) = open_tests m (faults_at s.members m moves.Conclude)
 tests s g m line (Deliver _) = open_tests m (λ c. at Undecided (is_none (decided m.got m.last)) ∷ [])
 tests s g m line (Crash _) = []
 tests s g m line (Postpone _ k) = at NotWaiting (not (has_serial k line)) ∷ []

@@ -8,6 +8,7 @@ pub mod Counted
 pub mod Phases
 pub mod Test
 pub mod Faults
+pub mod Moves
 pub mod Mapped
 pub mod Actor
 pub mod Next

@@ -5,6 +5,8 @@ use Rattle.ct_names.specs.Command.{is_good}
 use Rattle.ct_names.specs.Group.{is_member, coordinator}
 use Rattle.ct_names.specs.Message.{Message}
 use Rattle.ct_names.specs.Value.{Value, has, minus, ordered}
+use Rattle.ct_model.specs.declared.moves.Move.{Move}
+use Rattle.ct_model.specs.declared.moves.Move.TheVariants as moves
 use Rattle.ct_model.specs.declared.phase.Phase.TheVariants.{Rest}
 use Rattle.ct_model.specs.declared.step.Step.{Step}
 use Rattle.ct_model.specs.declared.step.Step.TheVariants.{Submit, Receive, Begin, Enter, Choose, Adopt, Suspect, Conclude, Deliver, Crash, Postpone}
@@ -16,7 +18,7 @@ use Rattle.ct_model.specs.Wire.Mail.{Nobody, All}
 use Rattle.ct_model.specs.State.{Member, Proposal, State, member, delivered, is_crashed, submissions, at_serial}
 use Rattle.ct_model.specs.Received.{Ballots, received, decided, has_decision, ballots}
 use Rattle.ct_model.specs.AtValue.{Wire, Envelope, Mail, Standing, Turn}
-use Rattle.ct_model.specs.Phases.{enter, choose, adopt, suspect, conclude}
+use Rattle.ct_model.specs.Moves.{turn_of}
 use Rattle.ct_model.specs.Actor.{actor}
 
 -- what a step leaves: its member as it is then, the messages submitted and the values proposed, and
@@ -93,21 +95,9 @@ round_row m step = option_map (turned m) (option_and_then step m.current)
 abbrev pub own_ballots : Member → Standing → Ballots Value
 own_ballots m c = ballots m.got m.last c.round
 
--- the rows of the five steps of a round, for p
-abbrev pub enter_row : Setting → ℕ → Member → Option Outcome
-enter_row s p m = round_row m (enter s.members p m.last (decided m.got m.last))
-
-abbrev pub choose_row : Setting → Member → ℕ → Option Outcome
-choose_row s m from = round_row m (λ c. choose s.members m.last (own_ballots m c) c from)
-
-abbrev pub adopt_row : Setting → ℕ → Member → Option Outcome
-adopt_row s p m = round_row m (λ c. adopt s.members p m.last (own_ballots m c) c)
-
-abbrev pub suspect_row : Setting → ℕ → Member → Option Outcome
-suspect_row s p m = round_row m (λ c. suspect s.members p m.last (own_ballots m c) c)
-
-abbrev pub conclude_row : Setting → Member → Option Outcome
-conclude_row s m = round_row m (λ c. conclude s.members m.last (own_ballots m c) c)
+-- the turn of a step of a round, for p, the member m of a group of n. None: it isn't enabled
+abbrev pub turn_at : ℕ → ℕ → Member → Move → Standing → Option Turn
+turn_at n p m action c = turn_of n p m.last (decided m.got m.last) (own_ballots m c) c action
 
 -- what is delivered of a decision: what the member didn't deliver yet, in order
 unfoldable pub batch_of : Member → Value → List Message
@@ -132,11 +122,11 @@ abbrev pub row : Setting → State → ℕ → Member → Step → Option Outcom
 row s g p m (Submit _ c) = when (is_good c) (submit g p m c)
 row s g p m (Receive _ k) = option_map (receive s p m) (wire_to g p k)
 row s g p m (Begin _) = begin_row p m
-row s g p m (Enter _) = enter_row s p m
-row s g p m (Choose _ from) = choose_row s m from
-row s g p m (Adopt _) = adopt_row s p m
-row s g p m (Suspect _) = suspect_row s p m
-row s g p m (Conclude _) = conclude_row s m
+row s g p m (Enter _) = round_row m (turn_at s.members p m moves.Enter)
+row s g p m (Choose _ from) = round_row m (turn_at s.members p m (moves.Choose from))
+row s g p m (Adopt _) = round_row m (turn_at s.members p m moves.Adopt)
+row s g p m (Suspect _) = round_row m (turn_at s.members p m moves.Suspect)
+row s g p m (Conclude _) = round_row m (turn_at s.members p m moves.Conclude)
 row s g p m (Deliver _) = deliver_row m
 row s g p m (Crash _) = Some (crash m)
 row s g p m (Postpone _ k) = option_map (λ w. plain m Nobody) (wire_to g p k)

@@ -30,11 +30,11 @@ row-proposes : (s : Setting) (g : State) (p : ℕ) (m : Member) (step : Step) (o
 row-proposes s g p m (Submit _ c) o e = subst AtMostOne (when-is (is_good c) (submit g p m c) o e).1 (omega arith)
 row-proposes s g p m (Receive _ k) o e = subst AtMostOne (made-map (receive s p m) (wire_to g p k) o e).gives (omega arith)
 row-proposes s g p m (Begin _) o e = subst AtMostOne (begin_row-is p m o e).gives (omega arith)
-row-proposes s g p m (Enter _) o e = round-none m (enter s.members p m.last (decided m.got m.last)) o e
-row-proposes s g p m (Choose _ from) o e = round-none m (λ c. choose s.members m.last (own_ballots m c) c from) o e
-row-proposes s g p m (Adopt _) o e = round-none m (λ c. adopt s.members p m.last (own_ballots m c) c) o e
-row-proposes s g p m (Suspect _) o e = round-none m (λ c. suspect s.members p m.last (own_ballots m c) c) o e
-row-proposes s g p m (Conclude _) o e = round-none m (λ c. conclude s.members m.last (own_ballots m c) c) o e
+row-proposes s g p m (Enter _) o e = round-none m _ o e
+row-proposes s g p m (Choose _ from) o e = round-none m _ o e
+row-proposes s g p m (Adopt _) o e = round-none m _ o e
+row-proposes s g p m (Suspect _) o e = round-none m _ o e
+row-proposes s g p m (Conclude _) o e = round-none m _ o e
 row-proposes s g p m (Deliver _) o e = subst AtMostOne (deliver_row-is m o e).gives (omega arith)
 row-proposes s g p m (Crash _) o e = subst AtMostOne (some-same (record { member = record m { crashed = true }; submitted = []; proposals = []; mail = Nobody }) o e) (omega arith)
 row-proposes s g p m (Postpone _ k) o e = subst AtMostOne (made-map (λ (w : Wire). plain m Nobody) (wire_to g p k) o e).gives (omega arith)
