@@ -10,10 +10,10 @@ use Rattle.ct_model.specs.Setting.{Setting}
 use Rattle.ct_model.specs.State.{State, Member, Standing as AnyStanding, Turn as AnyTurn}
 use Rattle.ct_model.specs.AtValue.{Standing, Turn}
 use Rattle.ct_model.specs.Received.{Ballots, ballots, decided}
-use Rattle.ct_model.specs.Moves.{step_of, turn_of, faults_of, turn_at, faults_at, sent_by, is_enter}
+use Rattle.ct_model.specs.Moves.{step_of, turn_of, faults_of, sent_by, is_enter}
 use Rattle.ct_model.specs.Mapped.{ballots_map, standing_map, turn_map}
-use Rattle.ct_model.specs.Next.{own_ballots, round_row, turned}
-use Rattle.ct_model.specs.Cause.{Test, at, first_fault, open_tests, tests}
+use Rattle.ct_model.specs.Next.{own_ballots, turn_at, round_row, turned}
+use Rattle.ct_model.specs.Cause.{Test, at, first_fault, open_tests, faults_at, tests}
 use Rattle.ct_model.proofs.RoundSteps.{turn-map, faults-map, tests-move}
 use Rattle.ct_model.proofs.Outcomes.{some-same, made-map, made-then}
 use Rattle.ct_rounds.specs.Part.{Part, got}

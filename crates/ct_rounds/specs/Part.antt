@@ -1,5 +1,7 @@
 -- What contracts see of a member's part in an instance, and its steps there.
 use Rattle.std.specs.Prelude.{◌≡◌, ℕ, List, Option, Some, None}
+use Rattle.ct_model.specs.declared.moves.Move.{Move}
+use Rattle.ct_model.specs.Moves.{turn_of, faults_of}
 use Rattle.ct_model.specs.Wire.{Mail}
 use Rattle.ct_model.specs.State.{Standing, Turn}
 use Rattle.ct_model.specs.Received.{Ballots}
@@ -55,3 +57,10 @@ conclude_tests c rounds = conclude_faults c.members (got rounds c) c.standing
 pub record IsTurn (row : Option (Turn ℕ)) (old new : Part) (mail : Mail ℕ) : Type 0 where
   pub row_is : row ≡ Some (record { after = new.standing; mail = mail })
   pub rest_stays : new ≡ record old { standing = new.standing }
+
+-- the row and the tests of a step by its name
+abbrev pub row : Part → Rounds → Move → Option (Turn ℕ)
+row c rounds action = turn_of c.members c.me c.instance None (got rounds c) c.standing action
+
+abbrev pub tests : Part → Rounds → Move → List Test
+tests c rounds action = faults_of c.members None (got rounds c) c.standing action

@@ -10,9 +10,10 @@ ghost use Rattle.ct_rounds.specs.Meaning.{mail_of};
 ghost use Rattle.ct_rounds.specs.Part.{IsTurn, enter_row, choose_row, adopt_row, suspect_row, conclude_row, enter_tests, choose_tests, adopt_tests, suspect_tests, conclude_tests};
 
 mod refusing;
+mod taking;
 
 use crate::inbox::Inbox;
-use crate::wire::{Mail, Wire};
+use crate::wire::Mail;
 use ct_model::Phase;
 use ct_names::{Group, Instance, Member, MemberSet, Refusal, Round, ValueId};
 use std::marker::Model;
@@ -92,126 +93,67 @@ impl Consensus {
 
     /// The next round begins: its coordinator gets the estimate. Refused as WrongPhase while a round is running.
     /// Whether the instance is decided is not tested here.
-    #[tactic(auto, unfolding(ct_model::specs::Phases::enter))]
     pub fn enter(&mut self) -> Result<Mail, Refusal>
         requires { self.old.standing.round < 10000 }
         ensures fault { result_err result ≡ first_fault (enter_tests self.old) }
         ensures turn { IfOk result (λ mail. IsTurn (enter_row self.old) self.old self.new (mail_of mail)) }
         ensures kept { OnErr result (self.new ≡ self.old) }
     {
-        if let Some(refusal) = self.enter_fault() {
-            return Err(refusal);
+        match self.enter_fault() {
+            Some(refusal) => Err(refusal),
+            None => Ok(self.take_enter()),
         }
-        let round = self.round + 1;
-        let coordinator = self.group.coordinator(round);
-        let phase = self.first_phase(round);
-        self.round = round;
-        self.phase = phase;
-        let wire = Wire::Est {
-            instance: self.instance,
-            round,
-            from: self.me,
-            value: self.estimate,
-            ts: self.ts,
-        };
-        Ok(Mail::One(coordinator, wire))
     }
 
     /// A majority was heard, and nobody with a larger ts than `from`: the coordinator proposes its value. Refused, in
     /// this order, as WrongPhase unless it gathers estimates, TooFew below a majority, and NotLargest.
-    #[tactic(auto, unfolding(ct_model::specs::Phases::choose))]
     pub fn choose(&mut self, inbox: &Inbox, from: Member) -> Result<Mail, Refusal>
         ensures fault { result_err result ≡ first_fault (choose_tests self.old inbox.now from) }
         ensures turn { IfOk result (λ mail. IsTurn (choose_row self.old inbox.now from) self.old self.new (mail_of mail)) }
         ensures kept { OnErr result (self.new ≡ self.old) }
     {
-        if let Some(refusal) = self.choose_fault(inbox, from) {
-            return Err(refusal);
-        }
-        match inbox.estimate(self.round, from) {
-            Some(value) => {
-                self.estimate = value;
-                self.phase = Phase::Wait;
-                Ok(Mail::All(Wire::Prop {
-                    instance: self.instance,
-                    round: self.round,
-                    value,
-                }))
-            }
-            None => unreachable!(),
+        match self.choose_fault(inbox, from) {
+            Some(refusal) => Err(refusal),
+            None => Ok(self.take_choose(inbox, from)),
         }
     }
 
     /// The coordinator's proposal came: the member takes it over, and acks it. Refused as WrongPhase unless the member
     /// waits for it, and as NoProposal.
-    #[tactic(auto, unfolding(ct_model::specs::Phases::adopt))]
     pub fn adopt(&mut self, inbox: &Inbox) -> Result<Mail, Refusal>
         ensures fault { result_err result ≡ first_fault (adopt_tests self.old inbox.now) }
         ensures turn { IfOk result (λ mail. IsTurn (adopt_row self.old inbox.now) self.old self.new (mail_of mail)) }
         ensures kept { OnErr result (self.new ≡ self.old) }
     {
-        if let Some(refusal) = self.adopt_fault(inbox) {
-            return Err(refusal);
-        }
-        match inbox.proposal(self.round) {
-            Some(value) => {
-                let coordinator = self.group.coordinator(self.round);
-                let phase = self.replied_phase();
-                self.estimate = value;
-                self.ts = self.round;
-                self.phase = phase;
-                let wire = Wire::Ack {
-                    instance: self.instance,
-                    round: self.round,
-                    from: self.me,
-                };
-                Ok(Mail::One(coordinator, wire))
-            }
-            None => unreachable!(),
+        match self.adopt_fault(inbox) {
+            Some(refusal) => Err(refusal),
+            None => Ok(self.take_adopt(inbox)),
         }
     }
 
     /// No proposal came and the coordinator is taken for crashed: it gets a nack. Refused as WrongPhase unless the
     /// member waits for the proposal, and as HasProposal.
-    #[tactic(auto, unfolding(ct_model::specs::Phases::suspect))]
     pub fn suspect(&mut self, inbox: &Inbox) -> Result<Mail, Refusal>
         ensures fault { result_err result ≡ first_fault (suspect_tests self.old inbox.now) }
         ensures turn { IfOk result (λ mail. IsTurn (suspect_row self.old inbox.now) self.old self.new (mail_of mail)) }
         ensures kept { OnErr result (self.new ≡ self.old) }
     {
-        if let Some(refusal) = self.suspect_fault(inbox) {
-            return Err(refusal);
+        match self.suspect_fault(inbox) {
+            Some(refusal) => Err(refusal),
+            None => Ok(self.take_suspect(inbox)),
         }
-        let coordinator = self.group.coordinator(self.round);
-        self.phase = self.replied_phase();
-        let wire = Wire::Nack {
-            instance: self.instance,
-            round: self.round,
-            from: self.me,
-        };
-        Ok(Mail::One(coordinator, wire))
     }
 
     /// A majority replied and the round is over: where a majority acked, the estimate is the decision. Refused as
     /// WrongPhase unless the coordinator tallies replies, and as TooFew below a majority.
-    #[tactic(auto, unfolding(ct_model::specs::Phases::conclude))]
     pub fn conclude(&mut self, inbox: &Inbox) -> Result<Mail, Refusal>
         ensures fault { result_err result ≡ first_fault (conclude_tests self.old inbox.now) }
         ensures turn { IfOk result (λ mail. IsTurn (conclude_row self.old inbox.now) self.old self.new (mail_of mail)) }
         ensures kept { OnErr result (self.new ≡ self.old) }
     {
-        if let Some(refusal) = self.conclude_fault(inbox) {
-            return Err(refusal);
-        }
-        self.phase = Phase::Rest;
-        if self.is_acked(inbox) {
-            Ok(Mail::All(Wire::Dec {
-                instance: self.instance,
-                round: self.round,
-                value: self.estimate,
-            }))
-        } else {
-            Ok(Mail::Nobody)
+        match self.conclude_fault(inbox) {
+            Some(refusal) => Err(refusal),
+            None => Ok(self.take_conclude(inbox)),
         }
     }
 

@@ -23,19 +23,7 @@ impl Instances {
             None => unreachable!(),
             Some(consensus) => match self.entries.get(&self.last) {
                 None => unreachable!(),
-                Some(entry) => {
-                    let taken = match action {
-                        Move::Enter => consensus.enter(),
-                        Move::Choose(from) => consensus.choose(&entry.inbox, from),
-                        Move::Adopt => consensus.adopt(&entry.inbox),
-                        Move::Suspect => consensus.suspect(&entry.inbox),
-                        Move::Conclude => consensus.conclude(&entry.inbox),
-                    };
-                    match taken {
-                        Ok(mail) => mail,
-                        Err(_) => unreachable!(),
-                    }
-                }
+                Some(entry) => consensus.take(&entry.inbox, action),
             },
         }
     }

@@ -1,0 +1,125 @@
+//! The steps of a round, where none of their tests refuses them.
+
+ghost use Rattle.std.specs.Prelude.{◌≡◌, ◌<◌, false, ◌&&◌, nat_lt, ◌+◌, None};
+ghost use Rattle.ct_model.specs.Moves.{is_enter};
+ghost use Rattle.ct_model.specs.Test.{first_fault};
+ghost use Rattle.ct_rounds.specs.Meaning.{mail_of};
+ghost use Rattle.ct_rounds.specs.Part.{IsTurn, row, tests, enter_row, choose_row, adopt_row, suspect_row, conclude_row, enter_tests, choose_tests, adopt_tests, suspect_tests, conclude_tests};
+
+use super::Consensus;
+use crate::inbox::Inbox;
+use crate::wire::{Mail, Wire};
+use ct_model::{Move, Phase};
+use ct_names::Member;
+
+impl Consensus {
+    /// Takes a step that its fault allows, and that begins no round beyond the limit.
+    pub fn take(&mut self, inbox: &Inbox, action: Move) -> Mail
+        requires allowed { first_fault (tests self.old inbox.now action) ≡ None }
+        requires rounds { (is_enter action && nat_lt 10000 (self.old.standing.round + 1)) ≡ false }
+        ensures { IsTurn (row self.old inbox.now action) self.old self.new (mail_of result) }
+    {
+        match action {
+            Move::Enter => self.take_enter(),
+            Move::Choose(from) => self.take_choose(inbox, from),
+            Move::Adopt => self.take_adopt(inbox),
+            Move::Suspect => self.take_suspect(inbox),
+            Move::Conclude => self.take_conclude(inbox),
+        }
+    }
+
+    #[tactic(auto, unfolding(ct_model::specs::Phases::enter))]
+    pub(super) fn take_enter(&mut self) -> Mail
+        requires allowed { first_fault (enter_tests self.old) ≡ None }
+        requires rounds { self.old.standing.round < 10000 }
+        ensures { IsTurn (enter_row self.old) self.old self.new (mail_of result) }
+    {
+        let round = self.round + 1;
+        let coordinator = self.group.coordinator(round);
+        let phase = self.first_phase(round);
+        self.round = round;
+        self.phase = phase;
+        let wire = Wire::Est {
+            instance: self.instance,
+            round,
+            from: self.me,
+            value: self.estimate,
+            ts: self.ts,
+        };
+        Mail::One(coordinator, wire)
+    }
+
+    #[tactic(auto, unfolding(ct_model::specs::Phases::choose))]
+    pub(super) fn take_choose(&mut self, inbox: &Inbox, from: Member) -> Mail
+        requires { first_fault (choose_tests self.old inbox.now from) ≡ None }
+        ensures { IsTurn (choose_row self.old inbox.now from) self.old self.new (mail_of result) }
+    {
+        match inbox.estimate(self.round, from) {
+            Some(value) => {
+                self.estimate = value;
+                self.phase = Phase::Wait;
+                Mail::All(Wire::Prop {
+                    instance: self.instance,
+                    round: self.round,
+                    value,
+                })
+            }
+            None => unreachable!(),
+        }
+    }
+
+    #[tactic(auto, unfolding(ct_model::specs::Phases::adopt))]
+    pub(super) fn take_adopt(&mut self, inbox: &Inbox) -> Mail
+        requires { first_fault (adopt_tests self.old inbox.now) ≡ None }
+        ensures { IsTurn (adopt_row self.old inbox.now) self.old self.new (mail_of result) }
+    {
+        match inbox.proposal(self.round) {
+            Some(value) => {
+                let coordinator = self.group.coordinator(self.round);
+                let phase = self.replied_phase();
+                self.estimate = value;
+                self.ts = self.round;
+                self.phase = phase;
+                let wire = Wire::Ack {
+                    instance: self.instance,
+                    round: self.round,
+                    from: self.me,
+                };
+                Mail::One(coordinator, wire)
+            }
+            None => unreachable!(),
+        }
+    }
+
+    #[tactic(auto, unfolding(ct_model::specs::Phases::suspect))]
+    pub(super) fn take_suspect(&mut self, inbox: &Inbox) -> Mail
+        requires { first_fault (suspect_tests self.old inbox.now) ≡ None }
+        ensures { IsTurn (suspect_row self.old inbox.now) self.old self.new (mail_of result) }
+    {
+        let coordinator = self.group.coordinator(self.round);
+        self.phase = self.replied_phase();
+        let wire = Wire::Nack {
+            instance: self.instance,
+            round: self.round,
+            from: self.me,
+        };
+        Mail::One(coordinator, wire)
+    }
+
+    #[tactic(auto, unfolding(ct_model::specs::Phases::conclude))]
+    pub(super) fn take_conclude(&mut self, inbox: &Inbox) -> Mail
+        requires { first_fault (conclude_tests self.old inbox.now) ≡ None }
+        ensures { IsTurn (conclude_row self.old inbox.now) self.old self.new (mail_of result) }
+    {
+        self.phase = Phase::Rest;
+        if self.is_acked(inbox) {
+            Mail::All(Wire::Dec {
+                instance: self.instance,
+                round: self.round,
+                value: self.estimate,
+            })
+        } else {
+            Mail::Nobody
+        }
+    }
+}
