@@ -6,8 +6,8 @@ use Rattle.ct_model.specs.Wire.{Mail}
 use Rattle.ct_model.specs.State.{Standing, Turn}
 use Rattle.ct_model.specs.Received.{Ballots}
 use Rattle.ct_model.specs.Test.{Test}
-use Rattle.ct_model.specs.Phases.{enter, choose, adopt, suspect, conclude}
-use Rattle.ct_model.specs.Faults.{enter_faults, choose_faults, adopt_faults, suspect_faults, conclude_faults}
+use Rattle.ct_model.specs.Phases.{enter}
+use Rattle.ct_model.specs.Faults.{enter_faults}
 use Rattle.ct_rounds.specs.Inbox.{Rounds, ballots_at}
 
 -- the member `me` of a group, in an instance that it has open
@@ -21,46 +21,22 @@ pub record Part : Type 0 where
 abbrev pub got : Rounds → Part → Ballots ℕ
 got rounds c = ballots_at rounds c.standing.round
 
--- the row of each step. None: it isn't enabled. Whether the instance is decided is for others to know
+-- the row of a step. None: it isn't enabled. Whether the instance is decided is for others to know
+abbrev pub row : Part → Rounds → Move → Option (Turn ℕ)
+row c rounds action = turn_of c.members c.me c.instance None (got rounds c) c.standing action
+
+-- that of Enter needs nothing that was got
 abbrev pub enter_row : Part → Option (Turn ℕ)
 enter_row c = enter c.members c.me c.instance None c.standing
 
-abbrev pub choose_row : Part → Rounds → ℕ → Option (Turn ℕ)
-choose_row c rounds from = choose c.members c.instance (got rounds c) c.standing from
+-- the tests of a step, in order
+abbrev pub tests : Part → Rounds → Move → List Test
+tests c rounds action = faults_of c.members None (got rounds c) c.standing action
 
-abbrev pub adopt_row : Part → Rounds → Option (Turn ℕ)
-adopt_row c rounds = adopt c.members c.me c.instance (got rounds c) c.standing
-
-abbrev pub suspect_row : Part → Rounds → Option (Turn ℕ)
-suspect_row c rounds = suspect c.members c.me c.instance (got rounds c) c.standing
-
-abbrev pub conclude_row : Part → Rounds → Option (Turn ℕ)
-conclude_row c rounds = conclude c.members c.instance (got rounds c) c.standing
-
--- the tests of each step, in order
 abbrev pub enter_tests : Part → List Test
 enter_tests c = enter_faults c.standing
-
-abbrev pub choose_tests : Part → Rounds → ℕ → List Test
-choose_tests c rounds from = choose_faults c.members (got rounds c) c.standing from
-
-abbrev pub adopt_tests : Part → Rounds → List Test
-adopt_tests c rounds = adopt_faults (got rounds c) c.standing
-
-abbrev pub suspect_tests : Part → Rounds → List Test
-suspect_tests c rounds = suspect_faults (got rounds c) c.standing
-
-abbrev pub conclude_tests : Part → Rounds → List Test
-conclude_tests c rounds = conclude_faults c.members (got rounds c) c.standing
 
 -- the row gives the new part's standing and this mail, and the rest of the part stays
 pub record IsTurn (row : Option (Turn ℕ)) (old new : Part) (mail : Mail ℕ) : Type 0 where
   pub row_is : row ≡ Some (record { after = new.standing; mail = mail })
   pub rest_stays : new ≡ record old { standing = new.standing }
-
--- the row and the tests of a step by its name
-abbrev pub row : Part → Rounds → Move → Option (Turn ℕ)
-row c rounds action = turn_of c.members c.me c.instance None (got rounds c) c.standing action
-
-abbrev pub tests : Part → Rounds → Move → List Test
-tests c rounds action = faults_of c.members None (got rounds c) c.standing action

@@ -5,9 +5,10 @@ ghost use Rattle.std.specs.Result.{result_err};
 ghost use Rattle.ct_model.specs.declared.phase.Phase.TheVariants.{Rest};
 ghost use Rattle.ct_names.specs.Group.{is_majority};
 ghost use Rattle.ct_model.specs.Phases.{first_phase, replied_phase};
+ghost use Rattle.ct_model.specs.declared.moves.Move.TheVariants.{Choose, Adopt, Suspect, Conclude};
 ghost use Rattle.ct_model.specs.Test.{first_fault};
 ghost use Rattle.ct_rounds.specs.Meaning.{mail_of};
-ghost use Rattle.ct_rounds.specs.Part.{IsTurn, enter_row, choose_row, adopt_row, suspect_row, conclude_row, enter_tests, choose_tests, adopt_tests, suspect_tests, conclude_tests};
+ghost use Rattle.ct_rounds.specs.Part.{IsTurn, row, tests, enter_row, enter_tests};
 
 mod refusing;
 mod taking;
@@ -108,8 +109,8 @@ impl Consensus {
     /// A majority was heard, and nobody with a larger ts than `from`: the coordinator proposes its value. Refused, in
     /// this order, as WrongPhase unless it gathers estimates, TooFew below a majority, and NotLargest.
     pub fn choose(&mut self, inbox: &Inbox, from: Member) -> Result<Mail, Refusal>
-        ensures fault { result_err result ≡ first_fault (choose_tests self.old inbox.now from) }
-        ensures turn { IfOk result (λ mail. IsTurn (choose_row self.old inbox.now from) self.old self.new (mail_of mail)) }
+        ensures fault { result_err result ≡ first_fault (tests self.old inbox.now (Choose from)) }
+        ensures turn { IfOk result (λ mail. IsTurn (row self.old inbox.now (Choose from)) self.old self.new (mail_of mail)) }
         ensures kept { OnErr result (self.new ≡ self.old) }
     {
         match self.choose_fault(inbox, from) {
@@ -121,8 +122,8 @@ impl Consensus {
     /// The coordinator's proposal came: the member takes it over, and acks it. Refused as WrongPhase unless the member
     /// waits for it, and as NoProposal.
     pub fn adopt(&mut self, inbox: &Inbox) -> Result<Mail, Refusal>
-        ensures fault { result_err result ≡ first_fault (adopt_tests self.old inbox.now) }
-        ensures turn { IfOk result (λ mail. IsTurn (adopt_row self.old inbox.now) self.old self.new (mail_of mail)) }
+        ensures fault { result_err result ≡ first_fault (tests self.old inbox.now Adopt) }
+        ensures turn { IfOk result (λ mail. IsTurn (row self.old inbox.now Adopt) self.old self.new (mail_of mail)) }
         ensures kept { OnErr result (self.new ≡ self.old) }
     {
         match self.adopt_fault(inbox) {
@@ -134,8 +135,8 @@ impl Consensus {
     /// No proposal came and the coordinator is taken for crashed: it gets a nack. Refused as WrongPhase unless the
     /// member waits for the proposal, and as HasProposal.
     pub fn suspect(&mut self, inbox: &Inbox) -> Result<Mail, Refusal>
-        ensures fault { result_err result ≡ first_fault (suspect_tests self.old inbox.now) }
-        ensures turn { IfOk result (λ mail. IsTurn (suspect_row self.old inbox.now) self.old self.new (mail_of mail)) }
+        ensures fault { result_err result ≡ first_fault (tests self.old inbox.now Suspect) }
+        ensures turn { IfOk result (λ mail. IsTurn (row self.old inbox.now Suspect) self.old self.new (mail_of mail)) }
         ensures kept { OnErr result (self.new ≡ self.old) }
     {
         match self.suspect_fault(inbox) {
@@ -147,8 +148,8 @@ impl Consensus {
     /// A majority replied and the round is over: where a majority acked, the estimate is the decision. Refused as
     /// WrongPhase unless the coordinator tallies replies, and as TooFew below a majority.
     pub fn conclude(&mut self, inbox: &Inbox) -> Result<Mail, Refusal>
-        ensures fault { result_err result ≡ first_fault (conclude_tests self.old inbox.now) }
-        ensures turn { IfOk result (λ mail. IsTurn (conclude_row self.old inbox.now) self.old self.new (mail_of mail)) }
+        ensures fault { result_err result ≡ first_fault (tests self.old inbox.now Conclude) }
+        ensures turn { IfOk result (λ mail. IsTurn (row self.old inbox.now Conclude) self.old self.new (mail_of mail)) }
         ensures kept { OnErr result (self.new ≡ self.old) }
     {
         match self.conclude_fault(inbox) {

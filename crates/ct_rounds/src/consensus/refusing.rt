@@ -2,8 +2,9 @@
 
 ghost use Rattle.std.specs.Prelude.{◌≡◌};
 ghost use Rattle.ct_names.specs.Group.{is_majority};
+ghost use Rattle.ct_model.specs.declared.moves.Move.TheVariants.{Choose, Adopt, Suspect, Conclude};
 ghost use Rattle.ct_model.specs.Test.{first_fault};
-ghost use Rattle.ct_rounds.specs.Part.{got, enter_tests, choose_tests, adopt_tests, suspect_tests, conclude_tests};
+ghost use Rattle.ct_rounds.specs.Part.{got, tests, enter_tests};
 
 use super::Consensus;
 use crate::inbox::Inbox;
@@ -24,7 +25,7 @@ impl Consensus {
 
     /// The refusal of `choose`, None where it is allowed.
     pub fn choose_fault(&self, inbox: &Inbox, from: Member) -> Option<Refusal>
-        ensures { result ≡ first_fault (choose_tests self.now inbox.now from) }
+        ensures { result ≡ first_fault (tests self.now inbox.now (Choose from)) }
     {
         if self.phase != Phase::Gather {
             Some(Refusal::WrongPhase)
@@ -39,7 +40,7 @@ impl Consensus {
 
     /// The refusal of `adopt`, None where it is allowed.
     pub fn adopt_fault(&self, inbox: &Inbox) -> Option<Refusal>
-        ensures { result ≡ first_fault (adopt_tests self.now inbox.now) }
+        ensures { result ≡ first_fault (tests self.now inbox.now Adopt) }
     {
         if self.phase != Phase::Wait {
             Some(Refusal::WrongPhase)
@@ -52,7 +53,7 @@ impl Consensus {
 
     /// The refusal of `suspect`, None where it is allowed.
     pub fn suspect_fault(&self, inbox: &Inbox) -> Option<Refusal>
-        ensures { result ≡ first_fault (suspect_tests self.now inbox.now) }
+        ensures { result ≡ first_fault (tests self.now inbox.now Suspect) }
     {
         if self.phase != Phase::Wait {
             Some(Refusal::WrongPhase)
@@ -65,7 +66,7 @@ impl Consensus {
 
     /// The refusal of `conclude`, None where it is allowed.
     pub fn conclude_fault(&self, inbox: &Inbox) -> Option<Refusal>
-        ensures { result ≡ first_fault (conclude_tests self.now inbox.now) }
+        ensures { result ≡ first_fault (tests self.now inbox.now Conclude) }
     {
         if self.phase != Phase::Tally {
             Some(Refusal::WrongPhase)

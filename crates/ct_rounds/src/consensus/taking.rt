@@ -2,9 +2,10 @@
 
 ghost use Rattle.std.specs.Prelude.{◌≡◌, ◌<◌, false, ◌&&◌, nat_lt, ◌+◌, None};
 ghost use Rattle.ct_model.specs.Moves.{is_enter};
+ghost use Rattle.ct_model.specs.declared.moves.Move.TheVariants.{Choose, Adopt, Suspect, Conclude};
 ghost use Rattle.ct_model.specs.Test.{first_fault};
 ghost use Rattle.ct_rounds.specs.Meaning.{mail_of};
-ghost use Rattle.ct_rounds.specs.Part.{IsTurn, row, tests, enter_row, choose_row, adopt_row, suspect_row, conclude_row, enter_tests, choose_tests, adopt_tests, suspect_tests, conclude_tests};
+ghost use Rattle.ct_rounds.specs.Part.{IsTurn, row, tests, enter_row, enter_tests};
 
 use super::Consensus;
 use crate::inbox::Inbox;
@@ -51,8 +52,8 @@ impl Consensus {
 
     #[tactic(auto, unfolding(ct_model::specs::Phases::choose))]
     pub(super) fn take_choose(&mut self, inbox: &Inbox, from: Member) -> Mail
-        requires { first_fault (choose_tests self.old inbox.now from) ≡ None }
-        ensures { IsTurn (choose_row self.old inbox.now from) self.old self.new (mail_of result) }
+        requires { first_fault (tests self.old inbox.now (Choose from)) ≡ None }
+        ensures { IsTurn (row self.old inbox.now (Choose from)) self.old self.new (mail_of result) }
     {
         match inbox.estimate(self.round, from) {
             Some(value) => {
@@ -70,8 +71,8 @@ impl Consensus {
 
     #[tactic(auto, unfolding(ct_model::specs::Phases::adopt))]
     pub(super) fn take_adopt(&mut self, inbox: &Inbox) -> Mail
-        requires { first_fault (adopt_tests self.old inbox.now) ≡ None }
-        ensures { IsTurn (adopt_row self.old inbox.now) self.old self.new (mail_of result) }
+        requires { first_fault (tests self.old inbox.now Adopt) ≡ None }
+        ensures { IsTurn (row self.old inbox.now Adopt) self.old self.new (mail_of result) }
     {
         match inbox.proposal(self.round) {
             Some(value) => {
@@ -93,8 +94,8 @@ impl Consensus {
 
     #[tactic(auto, unfolding(ct_model::specs::Phases::suspect))]
     pub(super) fn take_suspect(&mut self, inbox: &Inbox) -> Mail
-        requires { first_fault (suspect_tests self.old inbox.now) ≡ None }
-        ensures { IsTurn (suspect_row self.old inbox.now) self.old self.new (mail_of result) }
+        requires { first_fault (tests self.old inbox.now Suspect) ≡ None }
+        ensures { IsTurn (row self.old inbox.now Suspect) self.old self.new (mail_of result) }
     {
         let coordinator = self.group.coordinator(self.round);
         self.phase = self.replied_phase();
@@ -108,8 +109,8 @@ impl Consensus {
 
     #[tactic(auto, unfolding(ct_model::specs::Phases::conclude))]
     pub(super) fn take_conclude(&mut self, inbox: &Inbox) -> Mail
-        requires { first_fault (conclude_tests self.old inbox.now) ≡ None }
-        ensures { IsTurn (conclude_row self.old inbox.now) self.old self.new (mail_of result) }
+        requires { first_fault (tests self.old inbox.now Conclude) ≡ None }
+        ensures { IsTurn (row self.old inbox.now Conclude) self.old self.new (mail_of result) }
     {
         self.phase = Phase::Rest;
         if self.is_acked(inbox) {
