@@ -6,29 +6,34 @@ use Rattle.ct_names.specs.declared.refusal.Refusal.{Refusal}
 use Rattle.ct_names.specs.declared.refusal.Refusal.TheVariants.{NotWaiting, Busy, Nothing, WrongPhase, TooFew, NotLargest, NoProposal, HasProposal, Decided, Undecided, BadCommand}
 use Rattle.ct_names.specs.Value.{Value}
 use Rattle.ct_names.specs.Command.{is_good}
+use Rattle.ct_model.specs.declared.moves.Move.{Move}
+use Rattle.ct_model.specs.declared.moves.Move.TheVariants as moves
 use Rattle.ct_model.specs.declared.step.Step.{Step}
 use Rattle.ct_model.specs.declared.step.Step.TheVariants.{Submit, Receive, Begin, Enter, Choose, Adopt, Suspect, Conclude, Deliver, Crash, Postpone}
 use Rattle.ct_model.specs.Actor.{actor}
 use Rattle.ct_model.specs.State.{State, member, submissions}
-use Rattle.ct_model.specs.Received.{Heard, decided, heard, is_largest}
-use Rattle.ct_model.specs.Phases.{is_rest, is_gather, is_wait, is_tally, enter, choose, adopt, suspect, conclude}
+use Rattle.ct_model.specs.AtValue.{Standing, Turn}
+use Rattle.ct_model.specs.Received.{Ballots, Heard, decided, heard, is_largest}
+use Rattle.ct_model.specs.Moves.{step_of, turn_of, faults_of}
+use Rattle.ct_model.specs.Phases.{is_rest, is_gather, is_wait, is_tally}
 use Rattle.ct_model.specs.Faults.{lacks, has_largest}
-use Rattle.ct_model.specs.Next.{Outcome, row, begin, deliver, turned, submit, undelivered, is_empty, own_ballots, after, next}
-use Rattle.ct_model.specs.Rehearsal.{Rehearsal, state_of, extended}
-use Rattle.ct_model.specs.Cause.{at, first_fault, limits, limit, or_else, cause, order, round_of}
+use Rattle.ct_model.specs.Next.{Outcome, row, begin, deliver, turned, turn_at, submit, undelivered, is_empty, own_ballots, after, next}
+use Rattle.ct_model.specs.Rehearsal.{Rehearsal, state_of, line_of, extended}
+use Rattle.ct_model.specs.Cause.{at, first_fault, faults_at, limits, limit, or_else, cause, order, round_of}
 use Rattle.ct_model.specs.Lawful.{IsLawful, IsWithin, IsPresent, NamesWaiting, is_waiting}
 use Rattle.ct_model.specs.Allowed.{IsAllowed}
 use Rattle.ct_model.proofs.Outcomes.{when-is}
-use Rattle.ct_model.proofs.Causes.{own_tests, cause-present, low}
+use Rattle.ct_model.proofs.Causes.{own_tests, cause-none, cause-present, low}
 use Rattle.ct_model.proofs.Taken.{IsTaken, next-step, lawful-step}
 use Rattle.ct_model.proofs.Letters.{waiting_letter}
 use Rattle.ct_model.proofs.Knowing.{next-is}
-use Rattle.ct_model.proofs.Limits.{own_tests-is}
+use Rattle.ct_model.proofs.Limits.{own_tests-is, taken_of}
 use Rattle.ct_model.proofs.Submits.{submit_outcome, submit_taken}
 use Rattle.ct_model.proofs.Receives.{receive_outcome, receivable, receive_taken}
 use Rattle.ct_model.proofs.Begins.{begin_taken}
 use Rattle.ct_model.proofs.Rows.{round_row-is, begin_row-is, deliver_row-is, enter-is, choose-is, adopt-is, suspect-is, conclude-is}
-use Rattle.ct_model.proofs.Rounds.{tests-enter, tests-choose, tests-adopt, tests-suspect, tests-conclude, enter_taken, choose_taken, adopt_taken, suspect_taken, conclude_taken}
+use Rattle.ct_model.proofs.Rounds.{open-at, open-standing, round_row-some}
+use Rattle.ct_model.proofs.RoundSteps.{row-move, tests-move, turn-free}
 use Rattle.ct_model.proofs.Delivers.{tests-deliver, deliver_taken}
 use Rattle.ct_model.proofs.Crashes.{crash_outcome, crash_taken}
 use Rattle.ct_model.proofs.Postpones.{postpone_outcome, postpone_taken}
@@ -43,22 +48,30 @@ taken-allowed w step o law taken = record {
   within = taken.within;
 }
 
+-- a step of a round
+move-allowed : (w : Rehearsal) (p : ℕ) (a : Move) → IsLawful w → cause w (step_of p a) ≡ None → IsAllowed w (step_of p a)
+move-allowed w p a law none =
+    let q = actor (step_of p a) in
+    let m = member (state_of w) q in
+    let n = w.setting.members in
+    let free = cause-none w (step_of p a) none in
+    let tested = ap first_fault (own_tests-is w (step_of p a) ∙ tests-move w.setting (state_of w) m (line_of w q) p a) in
+    let s = open-standing m (faults_at n m a) (sym tested ∙ free.tested) in
+    let f = turn-free n q m.last (decided m.got m.last) (own_ballots m s.0) s.0 a s.2 in
+    let is = row-move w.setting (state_of w) p q m a ∙ round_row-some m (turn_at n q m a) s.0 f.turn s.1 f.turns in
+    taken-allowed w (step_of p a) (turned m f.turn) law (taken_of w (step_of p a) (turned m f.turn) law none is)
+
 pub cause-allowed : (w : Rehearsal) (step : Step) → IsLawful w → cause w step ≡ None → IsAllowed w step
 cause-allowed w (Submit p c) law none = taken-allowed w (Submit p c) (submit_outcome w p c) law (submit_taken w p c law none).taken
 cause-allowed w (Receive p k) law none =
     let l = waiting_letter w p k law (receivable w p k none).waits in
     taken-allowed w (Receive p k) (receive_outcome w p l.0.wire) law (receive_taken w p k l.0 law none l.1)
 cause-allowed w (Begin p) law none = taken-allowed w (Begin p) (begin p (member (state_of w) p)) law (begin_taken w p law none).taken
-cause-allowed w (Enter p) law none =
-    let s = (enter_taken w p law none).step in taken-allowed w (Enter p) (turned (member (state_of w) p) s.turn) law s.taken
-cause-allowed w (Choose p from) law none =
-    let s = choose_taken w p from law none in taken-allowed w (Choose p from) (turned (member (state_of w) p) s.turn) law s.taken
-cause-allowed w (Adopt p) law none =
-    let s = adopt_taken w p law none in taken-allowed w (Adopt p) (turned (member (state_of w) p) s.turn) law s.taken
-cause-allowed w (Suspect p) law none =
-    let s = suspect_taken w p law none in taken-allowed w (Suspect p) (turned (member (state_of w) p) s.turn) law s.taken
-cause-allowed w (Conclude p) law none =
-    let s = conclude_taken w p law none in taken-allowed w (Conclude p) (turned (member (state_of w) p) s.turn) law s.taken
+cause-allowed w (Enter p) law none = move-allowed w p moves.Enter law none
+cause-allowed w (Choose p from) law none = move-allowed w p (moves.Choose from) law none
+cause-allowed w (Adopt p) law none = move-allowed w p moves.Adopt law none
+cause-allowed w (Suspect p) law none = move-allowed w p moves.Suspect law none
+cause-allowed w (Conclude p) law none = move-allowed w p moves.Conclude law none
 cause-allowed w (Deliver p) law none =
     let d = deliver_taken w p law none in taken-allowed w (Deliver p) (deliver (member (state_of w) p) d.value) law d.taken
 cause-allowed w (Crash p) law none = taken-allowed w (Crash p) (crash_outcome w p) law (crash_taken w p law none)
@@ -79,6 +92,39 @@ none-some : {A : Type 0} (o : Option A) → is_none o ≡ true → is_some o ≡
 none-some None e = refl
 none-some (Some x) e = absurd (cc)
 
+-- the tests of a step of a round that is taken
+turn-tested : (n p k : ℕ) (d : Option Value) (b : Ballots Value) (c : Standing) (a : Move) (turn : Turn) → turn_of n p k d b c a ≡ Some turn
+    → first_fault (faults_of n d b c a) ≡ None
+turn-tested n p k d b c moves.Enter turn taken =
+    let r = enter-is n p k d c turn taken in
+    none-two (not (is_rest c.phase)) (is_some d) WrongPhase Decided (ap not r.rests) r.undecided
+turn-tested n p k d b c (moves.Choose from) turn taken =
+    let r = choose-is n k b c from turn taken in
+    let largest : has_largest b from ≡ true = ap (λ e. option_map_or (λ (x : Heard Value). is_largest b x.ts) e false) r.from_is ∙ r.largest in
+    none-three (not (is_gather c.phase)) (lacks n (heard b)) (not (has_largest b from)) WrongPhase TooFew NotLargest
+    (ap not r.gathers) (ap not r.majority) (ap not largest)
+turn-tested n p k d b c moves.Adopt turn taken =
+    let r = adopt-is n p k b c turn taken in
+    none-two (not (is_wait c.phase)) (is_none b.proposal) WrongPhase NoProposal (ap not r.waits) (ap is_none r.proposal_is)
+turn-tested n p k d b c moves.Suspect turn taken =
+    let r = suspect-is n p k b c turn taken in
+    none-two (not (is_wait c.phase)) (is_some b.proposal) WrongPhase HasProposal (ap not r.waits) r.no_proposal
+turn-tested n p k d b c moves.Conclude turn taken =
+    let r = conclude-is n k b c turn taken in
+    none-two (not (is_tally c.phase)) (lacks n b.replied) WrongPhase TooFew (ap not r.tallies) (ap not r.majority)
+
+move-free : (w : Rehearsal) (p : ℕ) (a : Move) (o : Outcome)
+    → row w.setting (state_of w) (actor (step_of p a)) (member (state_of w) (actor (step_of p a))) (step_of p a) ≡ Some o
+    → first_fault (own_tests w (step_of p a)) ≡ None
+move-free w p a o is =
+    let q = actor (step_of p a) in
+    let m = member (state_of w) q in
+    let n = w.setting.members in
+    let t = round_row-is m (turn_at n q m a) o (sym (row-move w.setting (state_of w) p q m a) ∙ is) in
+    ap first_fault (own_tests-is w (step_of p a) ∙ tests-move w.setting (state_of w) m (line_of w q) p a)
+    ∙ open-at m (faults_at n m a) t.standing t.is_open
+    ∙ turn-tested n q m.last (decided m.got m.last) (own_ballots m t.standing) t.standing a t.turn t.taken
+
 row-free : (w : Rehearsal) (step : Step) (o : Outcome) → row w.setting (state_of w) (actor step) (member (state_of w) (actor step)) step ≡ Some o → NamesWaiting w step → first_fault (own_tests w step) ≡ None
 row-free w (Submit p c) o is names =
     let good = (when-is (is_good c) (submit (state_of w) p (member (state_of w) p) c) o is).0 in
@@ -87,39 +133,11 @@ row-free w (Receive p k) o is names = ap first_fault (own_tests-is w (Receive p 
 row-free w (Begin p) o is names =
     let r = begin_row-is p (member (state_of w) p) o is in
     ap first_fault (own_tests-is w (Begin p)) ∙ none-two (is_some (member (state_of w) p).current) (is_empty (undelivered (member (state_of w) p))) Busy Nothing (none-some (member (state_of w) p).current r.idle) r.something
-row-free w (Enter p) o is names =
-    let m = member (state_of w) p in
-    let t = round_row-is m (enter w.setting.members p m.last (decided m.got m.last)) o is in
-    let r = enter-is w.setting.members p m.last (decided m.got m.last) t.standing t.turn t.taken in
-    tests-enter w p t.standing t.is_open ∙ none-two (not (is_rest t.standing.phase)) (is_some (decided m.got m.last)) WrongPhase Decided (ap not r.rests) r.undecided
-row-free w (Choose p from) o is names =
-    let m = member (state_of w) p in
-    let n = w.setting.members in
-    let t = round_row-is m (λ c. choose n m.last (own_ballots m c) c from) o is in
-    let b = own_ballots m t.standing in
-    let r = choose-is n m.last b t.standing from t.turn t.taken in
-    let largest : has_largest b from ≡ true = ap (λ e. option_map_or (λ (x : Heard Value). is_largest b x.ts) e false) r.from_is ∙ r.largest in
-    tests-choose w p t.standing t.is_open from
-    ∙ none-three (not (is_gather t.standing.phase)) (lacks n (heard b)) (not (has_largest b from)) WrongPhase TooFew NotLargest (ap not r.gathers) (ap not r.majority) (ap not largest)
-row-free w (Adopt p) o is names =
-    let m = member (state_of w) p in
-    let t = round_row-is m (λ c. adopt w.setting.members p m.last (own_ballots m c) c) o is in
-    let b = own_ballots m t.standing in
-    let r = adopt-is w.setting.members p m.last b t.standing t.turn t.taken in
-    tests-adopt w p t.standing t.is_open ∙ none-two (not (is_wait t.standing.phase)) (is_none b.proposal) WrongPhase NoProposal (ap not r.waits) (ap is_none r.proposal_is)
-row-free w (Suspect p) o is names =
-    let m = member (state_of w) p in
-    let t = round_row-is m (λ c. suspect w.setting.members p m.last (own_ballots m c) c) o is in
-    let b = own_ballots m t.standing in
-    let r = suspect-is w.setting.members p m.last b t.standing t.turn t.taken in
-    tests-suspect w p t.standing t.is_open ∙ none-two (not (is_wait t.standing.phase)) (is_some b.proposal) WrongPhase HasProposal (ap not r.waits) r.no_proposal
-row-free w (Conclude p) o is names =
-    let m = member (state_of w) p in
-    let n = w.setting.members in
-    let t = round_row-is m (λ c. conclude n m.last (own_ballots m c) c) o is in
-    let b = own_ballots m t.standing in
-    let r = conclude-is n m.last b t.standing t.turn t.taken in
-    tests-conclude w p t.standing t.is_open ∙ none-two (not (is_tally t.standing.phase)) (lacks n b.replied) WrongPhase TooFew (ap not r.tallies) (ap not r.majority)
+row-free w (Enter p) o is names = move-free w p moves.Enter o is
+row-free w (Choose p from) o is names = move-free w p (moves.Choose from) o is
+row-free w (Adopt p) o is names = move-free w p moves.Adopt o is
+row-free w (Suspect p) o is names = move-free w p moves.Suspect o is
+row-free w (Conclude p) o is names = move-free w p moves.Conclude o is
 row-free w (Deliver p) o is names =
     let m = member (state_of w) p in
     let d = deliver_row-is m o is in
