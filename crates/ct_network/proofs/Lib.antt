@@ -1,4 +1,3 @@
-pub mod Places
 pub mod Posts
 pub mod Waiting
 pub mod Joins

@@ -10,6 +10,7 @@ use Rattle.ct_names.proofs.Groups.{member_from_one, member_to_n}
 use Rattle.ct_names.proofs.Lists.{both, both-left, both-right}
 use Rattle.ct_network.specs.WaitingLine.{WaitingLine, is_roomy}
 use Rattle.ct_network.specs.Lines.{serials_of, are_roomy}
+use Rattle.ct_network.specs.Network.{line_at}
 
 pub all-at : {A : Type 0} (p : A → Bool) (xs : List A) (i : ℕ) (d : A) → i < length xs → list_all p xs ≡ true → p (get_or xs i d) ≡ true
 all-at p [] i d h all = absurd (omega arith)
@@ -30,6 +31,13 @@ all-same p (x ∷ xs) (suc i) y d e = ap (λ b. p x && b) (all-same p xs i y d e
 -- what waits at one member
 pub line_there : (lines : List WaitingLine) (i : ℕ) (line : WaitingLine) → i < length lines → line ≡ get_or lines i line → line.serials ≡ get_or (serials_of lines) i []
 line_there lines i line within is = ap (λ (l : WaitingLine). l.serials) is ∙ sym (get_or-map (λ l. l.serials) lines i line [] within)
+
+-- a place of what waits at a member is one of its line
+pub waiting_there : (lines : List WaitingLine) (seen : List (List ℕ)) (p i : ℕ) (line : WaitingLine) → p - 1 < length lines → serials_of lines ≡ seen → line ≡ get_or lines (p - 1) line → i < length (line_at seen p) → i < length line.serials
+waiting_there lines seen p i line within is at h =
+    let same : line.serials ≡ line_at seen p = line_there lines (p - 1) line within at ∙ ap (λ ls. line_at ls p) is in
+    let as_many = ap length same in
+    omega arith
 
 pub serials-set : (lines : List WaitingLine) (i : ℕ) (new : WaitingLine) → serials_of (set lines i new) ≡ set (serials_of lines) i new.serials
 serials-set lines i new = map-set (λ l. l.serials) lines i new

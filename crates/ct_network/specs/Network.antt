@@ -1,5 +1,5 @@
 -- What contracts see of a network.
-use Rattle.std.specs.Prelude.{◌≡◌, ℕ, ◌-◌, Bool, true, List, [], slice_index_or}
+use Rattle.std.specs.Prelude.{◌≡◌, ℕ, ◌-◌, ◌==◌, Bool, true, List, [], ◌∷◌, ◌++◌, Option, position, remove, slice_index_or}
 use Rattle.ct_names.specs.Group.{is_member}
 use Rattle.ct_model.specs.Wire.{Envelope as AnyEnvelope, Mail as AnyMail}
 use Rattle.ct_model.specs.Wire.Mail.{Nobody, One, All}
@@ -14,6 +14,14 @@ pub record NetworkView : Type 0 where
 -- the serials that wait at member p
 abbrev pub line_at : List (List ℕ) → ℕ → List ℕ
 line_at lines p = slice_index_or lines (p - 1) []
+
+-- the first place of the serial in a line, from 0
+abbrev pub place_of : ℕ → List ℕ → Option ℕ
+place_of k line = position (λ other. other == k) line
+
+-- the line with the serial at this place moved to its end
+abbrev pub put_last : List ℕ → ℕ → List ℕ
+put_last line i = remove line i ++ slice_index_or line i 0 ∷ []
 
 -- mail to one member goes to a member of a group of n
 abbrev pub IsAddressed : ℕ → AnyMail ℕ → Type 0

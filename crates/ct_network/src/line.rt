@@ -1,8 +1,7 @@
 //! Waiting lines.
 
-ghost use Rattle.std.specs.Prelude.{◌≡◌, ◌+◌, ◌<◌, ◌≤◌, ◌==◌, [], ◌∷◌, ◌++◌, length, drop, remove, position, filter, not, true, false, OnOk, OnErr, IfOk};
-ghost use Rattle.ct_model.specs.Waiting.{has_serial};
-ghost use Rattle.ct_model.specs.Lawful.{is_distinct};
+ghost use Rattle.std.specs.Prelude.{◌≡◌, ◌+◌, ◌<◌, ◌≤◌, [], ◌∷◌, ◌++◌, length, drop, remove, false, OnOk, OnErr, IfOk};
+ghost use Rattle.ct_network.specs.Network.{place_of};
 ghost use Rattle.ct_network.specs.WaitingLine.{is_roomy};
 
 use ct_names::Serial;
@@ -57,7 +56,7 @@ impl Line {
 
     /// The first place of the serial, counted from 0.
     pub fn find(&self, serial: Serial) -> Option<usize>
-        ensures { result ≡ position (λ other. other == serial) self.now.serials }
+        ensures { result ≡ place_of serial self.now.serials }
     {
         self.as_slice().iter().position(|other| *other == serial)
     }
@@ -92,19 +91,8 @@ impl Line {
         let _ = self.kept.push(serial);
     }
 
-    /// The serial leaves; the others stay in order.
-    pub fn leave(&mut self, serial: Serial)
-        requires there { has_serial serial self.old.serials ≡ true }
-        requires once { is_distinct self.old.serials ≡ true }
-        ensures serials { self.new.serials ≡ filter (λ other. not (other == serial)) self.old.serials }
-        ensures room { self.new.room ≡ self.old.room }
-    {
-        let at = self.find(serial).unwrap();
-        self.leave_at(at);
-    }
-
-    // The serial at this place leaves.
-    fn leave_at(&mut self, at: usize)
+    /// The serial at this place, counted from 0, leaves; the others stay in order.
+    pub fn leave(&mut self, at: usize)
         requires { at < length self.old.serials }
         ensures serials { self.new.serials ≡ remove self.old.serials at }
         ensures room { self.new.room ≡ self.old.room }

@@ -1,11 +1,10 @@
 //! Networks.
 
-ghost use Rattle.std.specs.Prelude.{◌≡◌, ◌&&◌, true, [], length, replicate, if◌then◌else◌, Some, None, IfOk, option_copied, option_map};
+ghost use Rattle.std.specs.Prelude.{◌≡◌, true, [], length, replicate, if◌then◌else◌, Some, None, IfOk, option_copied, option_map};
 ghost use Rattle.ct_names.specs.Group.{is_member};
 ghost use Rattle.ct_model.specs.State.{at_serial};
-ghost use Rattle.ct_model.specs.Waiting.{has_serial};
 ghost use Rattle.ct_network.specs.Envelopes.{envelope_of};
-ghost use Rattle.ct_network.specs.Network.{line_at};
+ghost use Rattle.ct_network.specs.Network.{line_at, place_of};
 
 mod moving;
 mod preparing;
@@ -93,13 +92,11 @@ impl Network {
         Some(self.lines.get(at)?.as_slice())
     }
 
-    /// Whether the serial waits at the member.
-    pub fn waits(&self, member: Member, serial: Serial) -> bool
-        ensures { result ≡ (is_member (length self.now.lines) member && has_serial serial (line_at self.now.lines member)) }
+    /// The place of the serial in the member's line, counted from 0. None where it doesn't wait there.
+    pub fn find(&self, member: Member, serial: Serial) -> Option<usize>
+        ensures { result ≡ (if is_member (length self.now.lines) member then place_of serial (line_at self.now.lines member) else None) }
     {
-        match self.line(member) {
-            Some(line) => line.contains(&serial),
-            None => false,
-        }
+        let at = (member as usize).checked_sub(1)?;
+        self.lines.get(at)?.find(serial)
     }
 }

@@ -69,7 +69,9 @@ fn mail_goes_to_all_and_to_one(rt: HostRuntime) -> Result<(), Fail> {
     assert!(rt; is_line(&network, 3, &[3]));
     assert_eq!(rt; network.line(0), None);
     assert_eq!(rt; network.line(4), None);
-    assert!(rt; network.waits(2, 4) && !network.waits(3, 4) && !network.waits(4, 4));
+    assert_eq!(rt; network.find(2, 4), Some(1));
+    assert_eq!(rt; network.find(3, 4), None);
+    assert_eq!(rt; network.find(4, 4), None);
     Ok(())
 }
 
@@ -80,10 +82,10 @@ fn serials_leave_and_move_to_the_end(rt: HostRuntime) -> Result<(), Fail> {
     send(&mut network, 2, ack())?;
     network.prepare()?;
     assert!(rt; is_line(&network, 2, &[1, 2]));
-    network.postpone(2, 1);
+    network.postpone(2, 0);
     assert!(rt; is_line(&network, 2, &[2, 1]));
     let copy = network.copy(rt.alloc())?;
-    network.leave(2, 2);
+    network.leave(2, 0);
     assert!(rt; is_line(&network, 2, &[1]));
     assert!(rt; is_line(&copy, 2, &[2, 1]));
     assert_eq!(rt; copy.sent(), 2);
@@ -95,10 +97,10 @@ fn a_line_takes_up_the_places_of_what_left(rt: HostRuntime) -> Result<(), Fail> 
     let mut line = Line::new(rt.alloc());
     line.make_room()?;
     line.join(1);
-    line.leave(1);
+    line.leave(0);
     line.make_room()?;
     line.join(2);
-    line.leave(2);
+    line.leave(0);
     line.make_room()?;
     line.join(3);
     line.leave(3);

@@ -26,7 +26,7 @@ abbrev pub view_in : Inside → WorldView
 view_in a = record { rehearsal = rehearsal_in a; prepared = a.prepared }
 
 abbrev pub fields_in : Inside → Fields
-fields_in a = record { network = a.network; book = a.book; seats = a.seats.items; proposal = a.proposal; posting = option_map (λ b. b.value) a.posting; spare_steps = vec_capacity a.record - vec_len a.record }
+fields_in a = record { network = a.network; book = a.book; seats = a.seats.items; proposal = a.proposal; posting = option_map (λ b. b.value) a.posting; place = a.place; spare_steps = vec_capacity a.record - vec_len a.record }
 
 abbrev pub IsKeptIn : Inside → Type 0
 IsKeptIn a = IsKept (rehearsal_in a) a.prepared (fields_in a)

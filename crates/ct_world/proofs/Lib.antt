@@ -9,6 +9,7 @@ pub mod Receipts
 pub mod Turns
 pub mod Rounds
 pub mod Waits
+pub mod Places
 pub mod Receiving
 pub mod Postponing
 pub mod Rooms

@@ -29,12 +29,6 @@ use Rattle.ct_world.proofs.Receipts.{IsKnown, known_name}
 pub lined_member : (w : Rehearsal) (f : Fields) (p : ℕ) → IsWorld w f → is_member w.setting.members p ≡ true → is_member (length f.network.lines) p ≡ true
 lined_member w f p world group = ap (λ n. is_member n p) world.lined ∙ group
 
-pub line_waits : (w : Rehearsal) (f : Fields) (p k : ℕ) → IsWorld w f → is_member w.setting.members p ≡ true → has_serial k (line_at f.network.lines p) ≡ is_waiting w p k
-line_waits w f p k world group = ap (has_serial k) (world.line p group)
-
-pub line_once : (w : Rehearsal) (f : Fields) (p : ℕ) → IsWorld w f → is_member w.setting.members p ≡ true → is_distinct (line_at f.network.lines p) ≡ true
-line_once w f p world group = ap is_distinct (world.line p group) ∙ world.lawful.distinct p
-
 -- an envelope at its serial
 serial_of : {A : Type 0} (list : List A) (k : ℕ) (x : A) → 1 ≤ k → slice_get list (k - 1) ≡ Some x → at_serial list k ≡ Some x
 serial_of list zero x low e = absurd (omega arith)
@@ -92,10 +86,6 @@ pub awaited-is : (w : Rehearsal) (f : Fields) (p k : ℕ) (x : AnyEnvelope ℕ) 
 awaited-is w f p k x world waits is =
     let a = awaited w f p k world waits in
     subst (λ y. IsAwaited w f p k y) (some-same a.0 x (sym a.1.there ∙ sym is)) a.1
-
--- whether the serial waits, as the network tells
-pub waits_is : (w : Rehearsal) (f : Fields) (p k : ℕ) → IsWorld w f → is_member w.setting.members p ≡ true → (is_member (length f.network.lines) p && has_serial k (line_at f.network.lines p)) ≡ is_waiting w p k
-waits_is w f p k world group = ap (λ b. b && has_serial k (line_at f.network.lines p)) (lined_member w f p world group) ∙ line_waits w f p k world group
 
 -- the world that a call sees
 pub world_seen : (a : Inside) (v : WorldView) → view_in a ≡ v → IsKeptIn a → IsWorld v.rehearsal (fields_in a)

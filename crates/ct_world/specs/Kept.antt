@@ -1,12 +1,12 @@
 -- What a world keeps, and how it follows from the record.
-use Rattle.std.specs.Prelude.{◌≡◌, ℕ, ◌+◌, ◌-◌, ◌<◌, ◌≤◌, true, false, List, [], length, map, Option, Some, None, slice_index_or}
+use Rattle.std.specs.Prelude.{◌≡◌, ℕ, ◌+◌, ◌-◌, ◌<◌, ◌≤◌, true, false, List, [], length, map, Option, Some, None, Result, MatchResult, slice_index_or}
 use Rattle.ct_names.specs.Group.{is_member}
 use Rattle.ct_names.specs.Batch.{Batch}
 use Rattle.ct_names.specs.Book.{Contents}
 use Rattle.ct_names.specs.Value.{Value}
 use Rattle.ct_names.specs.declared.refusal.Refusal.{Refusal}
 use Rattle.ct_model.specs.declared.step.Step.{Step}
-use Rattle.ct_model.specs.declared.step.Step.TheVariants.{Receive, Begin, Deliver}
+use Rattle.ct_model.specs.declared.step.Step.TheVariants.{Receive, Begin, Deliver, Postpone}
 use Rattle.ct_model.specs.Wire.{Envelope as AnyEnvelope}
 use Rattle.ct_model.specs.State.{State, member, submissions, at_serial}
 use Rattle.ct_model.specs.Rehearsal.{Rehearsal, state_of, line_of, extended}
@@ -14,7 +14,7 @@ use Rattle.ct_model.specs.Cause.{cause, presence, first_fault, order}
 use Rattle.ct_model.specs.Lawful.{IsLawful, IsPresent}
 use Rattle.ct_model.specs.Order.{Joins}
 use Rattle.ct_model.specs.Knowledge.{KnowsMessages}
-use Rattle.ct_network.specs.Network.{NetworkView, line_at}
+use Rattle.ct_network.specs.Network.{NetworkView, line_at, place_of}
 use Rattle.ct_abcast.specs.Cast.{undelivered}
 use Rattle.ct_table.specs.Table.{zeros}
 use Rattle.ct_instances.specs.Kept.{decision_at, has_room_open}
@@ -23,13 +23,15 @@ use Rattle.ct_world.specs.declared.seat.Seat.{Seat}
 use Rattle.ct_world.specs.Seats.{Keeps, CanReceive}
 
 -- the fields of a world besides its record: the network, the values by number, the seats, the proposal that a prepared
--- Begin makes, the batch that a prepared Deliver posts, and how many more steps there is room for
+-- Begin makes, the batch that a prepared Deliver posts, the place in its line of the serial that a prepared Receive or
+-- Postpone names, and how many more steps there is room for
 pub record Fields : Type 0 where
   pub network : NetworkView
   pub book : Contents
   pub seats : List Seat
   pub proposal : Option Value
   pub posting : Option Batch
+  pub place : ℕ
   pub spare_steps : ℕ
 
 -- the values proposed, in order
@@ -64,6 +66,29 @@ pub record IsWorld (w : Rehearsal) (f : Fields) : Type 0 where
   pub seat : (p : ℕ) → is_member w.setting.members p ≡ true → Keeps w.setting.members f.book.values p (member (state_of w) p) (seat_of f.seats p)
   pub submitted : (p : ℕ) → is_member w.setting.members p ≡ true → (seat_of f.seats p).submitted ≡ submissions (state_of w).submitted p
 
+-- the serial stands at this place of p's line
+abbrev pub StandsAt : Rehearsal → ℕ → ℕ → ℕ → Type 0
+StandsAt w p k i = place_of k (line_of w p) ≡ Some i
+
+-- and so does the serial that the step names, if it names one
+abbrev pub IsPlaced : Rehearsal → Step → ℕ → Type 0
+IsPlaced w (Receive p k) i = StandsAt w p k i
+IsPlaced w (Postpone p k) i = StandsAt w p k i
+IsPlaced w _ i = Unit {0}
+
+-- the step is allowed, and its serial, if it names one, stands at this place of its line
+pub record IsAllowedAt (w : Rehearsal) (step : Step) (place : ℕ) : Type 0 where
+  pub allowed : cause w step ≡ None
+  pub placed : IsPlaced w step place
+
+-- the place where the step is allowed, or why it isn't
+abbrev pub IsFound : Rehearsal → Step → Result ℕ Refusal → Type 0
+IsFound w step found = MatchResult found (λ place. IsAllowedAt w step place) (λ refusal. cause w step ≡ Some refusal)
+
+-- the place, unless there is a refusal
+abbrev pub IsUnless : Option Refusal → ℕ → Result ℕ Refusal → Type 0
+IsUnless fault place found = MatchResult found (λ i. (i ≡ place) × (fault ≡ None)) (λ refusal. fault ≡ Some refusal)
+
 -- the wire of the serial can be received by p
 abbrev pub HasReceiveRoom : Fields → ℕ → ℕ → Type 0
 HasReceiveRoom f p k = (x : AnyEnvelope ℕ) → at_serial f.network.sent k ≡ Some x → CanReceive (seat_of f.seats p) x.wire
@@ -87,11 +112,12 @@ HasOwnRoom w f (Begin p) = HasBeginRoom f p
 HasOwnRoom w f (Deliver p) = HasDeliverRoom w f p
 HasOwnRoom w f _ = Unit {0}
 
--- the step needs no such room
+-- the step needs no such room, and names no serial
 abbrev pub NeedsNoRoom : Step → Type 0
 NeedsNoRoom (Receive p k) = ⊥
 NeedsNoRoom (Begin p) = ⊥
 NeedsNoRoom (Deliver p) = ⊥
+NeedsNoRoom (Postpone p k) = ⊥
 NeedsNoRoom _ = Unit {0}
 
 -- the step is allowed, and there is room for what it does
@@ -100,6 +126,7 @@ pub record IsReady (w : Rehearsal) (step : Step) (f : Fields) : Type 0 where
   pub for_step : 0 < f.spare_steps
   pub for_sending : f.network.has_room ≡ true
   pub for_itself : HasOwnRoom w f step
+  pub placed : IsPlaced w step f.place
 
 -- the fields of a world
 pub record IsKept (w : Rehearsal) (prepared : Option Step) (f : Fields) : Type 0 where

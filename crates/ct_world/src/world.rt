@@ -51,6 +51,8 @@ pub struct World {
     proposal: Option<MsgSet>,
     // What a prepared Deliver posts, where it posts a batch.
     posting: Option<Box<Batch>>,
+    // Where the serial that a prepared Receive or Postpone names stands in its line.
+    place: usize,
     alloc: Global,
 }
 
@@ -66,7 +68,7 @@ impl Model for World {
     ghost view = { λ a. record { rehearsal = record { setting = record { members = a.group }; cells = a.cells; steps = a.record.items }; prepared = a.prepared } };
 
     ghost invariant = { λ a. IsKept (record { setting = record { members = a.group }; cells = a.cells; steps = a.record.items }) a.prepared
-        (record { network = a.network; book = a.book; seats = a.seats.items; proposal = a.proposal; posting = option_map (λ b. b.value) a.posting; spare_steps = vec_capacity a.record - vec_len a.record }) };
+        (record { network = a.network; book = a.book; seats = a.seats.items; proposal = a.proposal; posting = option_map (λ b. b.value) a.posting; place = a.place; spare_steps = vec_capacity a.record - vec_len a.record }) };
 }
 
 impl World {
@@ -93,6 +95,7 @@ impl World {
             prepared: None,
             proposal: None,
             posting: None,
+            place: 0,
             alloc,
         })
     }

@@ -1,38 +1,36 @@
 //! Serials that leave a line, or move to its end.
 
-ghost use Rattle.std.specs.Prelude.{◌≡◌, ◌-◌, ◌==◌, not, true, [], ◌∷◌, ◌++◌, length, filter, slice_set, IsTrue};
+ghost use Rattle.std.specs.Prelude.{◌≡◌, ◌-◌, ◌<◌, true, length, remove, slice_set, IsTrue};
 ghost use Rattle.ct_names.specs.Group.{is_member};
-ghost use Rattle.ct_model.specs.Lawful.{is_distinct};
-ghost use Rattle.ct_model.specs.Waiting.{has_serial};
-ghost use Rattle.ct_network.specs.Network.{line_at};
+ghost use Rattle.ct_network.specs.Network.{line_at, put_last};
 
 use crate::network::Network;
-use ct_names::{Member, Serial};
+use ct_names::Member;
 
 impl Network {
-    /// The serial leaves the member's line; the others stay in order.
-    pub fn leave(&mut self, member: Member, serial: Serial)
+    /// The serial at this place of the member's line, which `find` answers, leaves; the others stay in order.
+    pub fn leave(&mut self, member: Member, place: usize)
         requires member { is_member (length self.old.lines) member ≡ true }
-        requires there { has_serial serial (line_at self.old.lines member) ≡ true }
-        requires once { is_distinct (line_at self.old.lines member) ≡ true }
-        ensures lines { self.new.lines ≡ slice_set self.old.lines (member - 1) (filter (λ other. not (other == serial)) (line_at self.old.lines member)) }
+        requires there { place < length (line_at self.old.lines member) }
+        ensures lines { self.new.lines ≡ slice_set self.old.lines (member - 1) (remove (line_at self.old.lines member) place) }
         ensures sent { self.new.sent ≡ self.old.sent }
         ensures room { self.new.has_room ≡ self.old.has_room }
     {
-        self.lines[member as usize - 1].leave(serial);
+        self.lines[member as usize - 1].leave(place);
     }
 
-    /// The serial moves to the end of the member's line; the others stay in order. Takes no memory.
-    pub fn postpone(&mut self, member: Member, serial: Serial)
+    /// The serial at this place of the member's line, which `find` answers, moves to the end; the others stay in order.
+    /// Takes no memory.
+    pub fn postpone(&mut self, member: Member, place: usize)
         requires room { IsTrue self.old.has_room }
         requires member { is_member (length self.old.lines) member ≡ true }
-        requires there { has_serial serial (line_at self.old.lines member) ≡ true }
-        requires once { is_distinct (line_at self.old.lines member) ≡ true }
-        ensures lines { self.new.lines ≡ slice_set self.old.lines (member - 1) (filter (λ other. not (other == serial)) (line_at self.old.lines member) ++ serial ∷ []) }
+        requires there { place < length (line_at self.old.lines member) }
+        ensures lines { self.new.lines ≡ slice_set self.old.lines (member - 1) (put_last (line_at self.old.lines member) place) }
         ensures sent { self.new.sent ≡ self.old.sent }
     {
         let line = &mut self.lines[member as usize - 1];
-        line.leave(serial);
+        let serial = line.as_slice()[place];
+        line.leave(place);
         line.join(serial);
     }
 }

@@ -32,6 +32,7 @@ impl World {
             prepared: None,
             proposal: None,
             posting: None,
+            place: 0,
             alloc,
         })
     }

@@ -3,7 +3,7 @@
 ghost use Rattle.std.specs.Prelude.{◌≡◌, ◌≤◌, IsOk, MatchResult, OnOk};
 ghost use Rattle.ct_model.specs.Allowed.{IsAllowed};
 ghost use Rattle.ct_model.specs.Cause.{cause, overflow};
-ghost use Rattle.ct_world.specs.Kept.{IsActor, IsAbsent};
+ghost use Rattle.ct_world.specs.Kept.{IsActor, IsAbsent, IsFound, IsUnless};
 ghost use Rattle.ct_world.specs.World.{verdict};
 
 use crate::seat::Seat;
@@ -29,18 +29,30 @@ impl World {
     pub(super) fn cause(&self, step: &Step) -> Option<Refusal>
         ensures { result ≡ cause self.now.rehearsal step.now }
     {
+        match self.find_place(step) {
+            Ok(_) => None,
+            Err(refusal) => Some(refusal),
+        }
+    }
+
+    // Where the serial that the step names stands in its line, 0 where it names none, or why the step is not allowed.
+    pub(super) fn find_place(&self, step: &Step) -> Result<usize, Refusal>
+        ensures { IsFound self.now.rehearsal step.now result }
+    {
         match step {
-            Step::Submit(member, command) => self.cause_of_submit(*member, command),
-            Step::Receive(member, serial) => self.cause_of_receive(*member, *serial),
-            Step::Begin(member) => self.cause_of_begin(*member),
-            Step::Enter(member) => self.cause_of_round(*member, Move::Enter),
-            Step::Choose(member, from) => self.cause_of_round(*member, Move::Choose(*from)),
-            Step::Adopt(member) => self.cause_of_round(*member, Move::Adopt),
-            Step::Suspect(member) => self.cause_of_round(*member, Move::Suspect),
-            Step::Conclude(member) => self.cause_of_round(*member, Move::Conclude),
-            Step::Deliver(member) => self.cause_of_deliver(*member),
-            Step::Crash(member) => self.cause_of_crash(*member),
-            Step::Postpone(member, serial) => self.cause_of_postpone(*member, *serial),
+            Step::Submit(member, command) => unless(self.cause_of_submit(*member, command), 0),
+            Step::Receive(member, serial) => self.find_received(*member, *serial),
+            Step::Begin(member) => unless(self.cause_of_begin(*member), 0),
+            Step::Enter(member) => unless(self.cause_of_round(*member, Move::Enter), 0),
+            Step::Choose(member, from) => {
+                unless(self.cause_of_round(*member, Move::Choose(*from)), 0)
+            }
+            Step::Adopt(member) => unless(self.cause_of_round(*member, Move::Adopt), 0),
+            Step::Suspect(member) => unless(self.cause_of_round(*member, Move::Suspect), 0),
+            Step::Conclude(member) => unless(self.cause_of_round(*member, Move::Conclude), 0),
+            Step::Deliver(member) => unless(self.cause_of_deliver(*member), 0),
+            Step::Crash(member) => unless(self.cause_of_crash(*member), 0),
+            Step::Postpone(member, serial) => self.find_postponed(*member, *serial),
         }
     }
 
@@ -73,5 +85,15 @@ impl World {
         } else {
             None
         }
+    }
+}
+
+// The place, unless there is a cause against the step.
+pub(super) fn unless(cause: Option<Refusal>, place: usize) -> Result<usize, Refusal>
+    ensures { IsUnless cause place result }
+{
+    match cause {
+        None => Ok(place),
+        Some(refusal) => Err(refusal),
     }
 }

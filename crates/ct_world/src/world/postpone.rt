@@ -1,24 +1,48 @@
 //! Postpone: a serial moves to the end of its line.
 
-ghost use Rattle.std.specs.Prelude.{◌≡◌, Some, None};
+ghost use Rattle.std.specs.Prelude.{◌≡◌, Some, None, OnOk, OnErr};
 ghost use Rattle.ct_model.specs.Cause.{cause};
+ghost use Rattle.ct_world.specs.Kept.{StandsAt, IsFound};
 ghost use Rattle.ct_world.specs.World.{IsDone};
 
+use super::enabling::unless;
+use super::preparing::reserve;
 use crate::world::World;
 use ct_model::Step;
 use ct_names::{Member, Refusal, Serial};
+use std::alloc::AllocError;
 
 impl World {
-    pub(super) fn cause_of_postpone(&self, member: Member, serial: Serial) -> Option<Refusal>
-        ensures { result ≡ cause self.now.rehearsal (Step.Postpone member serial) }
+    // Where the serial stands in the member's line, or why the step is not allowed.
+    pub(super) fn find_postponed(&self, member: Member, serial: Serial) -> Result<usize, Refusal>
+        ensures { IsFound self.now.rehearsal (Step.Postpone member serial) result }
     {
         if let Err(refusal) = self.actor(member) {
-            return Some(refusal);
+            return Err(refusal);
         }
-        if !self.network.waits(member, serial) {
-            return Some(Refusal::NotWaiting);
-        }
-        self.overflow(0)
+        let Some(place) = self.network.find(member, serial) else {
+            return Err(Refusal::NotWaiting);
+        };
+        unless(self.overflow(0), place)
+    }
+
+    // Makes the room for the step, and prepares it.
+    pub(super) fn prepare_postpone(
+        &mut self,
+        member: Member,
+        serial: Serial,
+        place: usize,
+    ) -> Result<(), AllocError>
+        requires placed { StandsAt self.old.rehearsal member serial place }
+        requires allowed { cause self.old.rehearsal (Step.Postpone member serial) ≡ None }
+        requires none { self.old.prepared ≡ None }
+        ensures ok { OnOk result (self.new ≡ record self.old { prepared = Some (Step.Postpone member serial) }) }
+        ensures err { OnErr result (self.new ≡ self.old) }
+    {
+        reserve(&mut self.record, &mut self.network)?;
+        self.place = place;
+        self.prepared = Some(Step::Postpone(member, serial));
+        Ok(())
     }
 
     // Does the prepared step.
@@ -28,7 +52,7 @@ impl World {
         ensures none { self.new.prepared ≡ None }
     {
         self.prepared = None;
-        self.network.postpone(member, serial);
+        self.network.postpone(member, self.place);
         let _ = self.record.push(Step::Postpone(member, serial));
     }
 }

@@ -5,7 +5,7 @@ ghost use Rattle.ct_model.specs.Cause.{cause};
 ghost use Rattle.ct_model.specs.Order.{DeliversNothing};
 ghost use Rattle.ct_model.specs.Rehearsal.{state_of};
 ghost use Rattle.ct_model.specs.Safe.{IsSafe};
-ghost use Rattle.ct_world.specs.Kept.{NeedsNoRoom};
+ghost use Rattle.ct_world.specs.Kept.{NeedsNoRoom, IsPlaced};
 ghost use Rattle.ct_world.specs.Posting.{HasPosted, IsRefusal, IsRefusedByBoard};
 ghost use Rattle.ct_world.specs.World.{IsDone};
 
@@ -29,26 +29,29 @@ impl World {
         self.prepared = None;
         self.proposal = None;
         self.posting = None;
-        if let Some(refusal) = self.cause(step) {
-            return Err(refusal);
-        }
-        match self.make_room(step) {
+        let place = match self.find_place(step) {
+            Ok(place) => place,
+            Err(refusal) => return Err(refusal),
+        };
+        match self.make_room(step, place) {
             Ok(()) => Ok(()),
             Err(_) => Err(Refusal::OutOfMemory),
         }
     }
 
-    // The room for a step that is allowed.
-    fn make_room(&mut self, step: &Step) -> Result<(), AllocError>
+    // The room for a step that is allowed, and whose serial, if it names one, stands at the place in its line.
+    fn make_room(&mut self, step: &Step, place: usize) -> Result<(), AllocError>
+        requires placed { IsPlaced self.old.rehearsal step.now place }
         requires allowed { cause self.old.rehearsal step.now ≡ None }
         requires none { self.old.prepared ≡ None }
         ensures ok { OnOk result (self.new ≡ record self.old { prepared = Some step.now }) }
         ensures err { OnErr result (self.new ≡ self.old) }
     {
         match *step {
-            Step::Receive(member, serial) => self.prepare_receive(member, serial),
+            Step::Receive(member, serial) => self.prepare_receive(member, serial, place),
             Step::Begin(member) => self.prepare_begin(member),
             Step::Deliver(member) => self.prepare_deliver(member),
+            Step::Postpone(member, serial) => self.prepare_postpone(member, serial, place),
             step => self.prepare_other(step),
         }
     }

@@ -2,8 +2,10 @@
 
 ghost use Rattle.std.specs.Prelude.{◌≡◌, Some, None, OnOk, OnErr};
 ghost use Rattle.ct_model.specs.Cause.{cause};
+ghost use Rattle.ct_world.specs.Kept.{StandsAt, IsFound};
 ghost use Rattle.ct_world.specs.World.{IsDone};
 
+use super::enabling::unless;
 use super::preparing::reserve;
 use crate::world::World;
 use ct_model::Step;
@@ -11,24 +13,25 @@ use ct_names::{Member, Refusal, Serial};
 use std::alloc::AllocError;
 
 impl World {
-    pub(super) fn cause_of_receive(&self, member: Member, serial: Serial) -> Option<Refusal>
-        ensures { result ≡ cause self.now.rehearsal (Step.Receive member serial) }
+    // Where the serial stands in the member's line, or why the step is not allowed.
+    pub(super) fn find_received(&self, member: Member, serial: Serial) -> Result<usize, Refusal>
+        ensures { IsFound self.now.rehearsal (Step.Receive member serial) result }
     {
         let seat = match self.actor(member) {
             Ok(seat) => seat,
-            Err(refusal) => return Some(refusal),
+            Err(refusal) => return Err(refusal),
         };
-        if !self.network.waits(member, serial) {
-            return Some(Refusal::NotWaiting);
-        }
+        let Some(place) = self.network.find(member, serial) else {
+            return Err(Refusal::NotWaiting);
+        };
         let passes_on = match self.network.envelope(serial) {
             Some(envelope) => seat.passes_on(self.group, &envelope.wire),
             None => unreachable!(),
         };
         if passes_on {
-            self.overflow(self.seats.len())
+            unless(self.overflow(self.seats.len()), place)
         } else {
-            self.overflow(0)
+            unless(self.overflow(0), place)
         }
     }
 
@@ -37,7 +40,9 @@ impl World {
         &mut self,
         member: Member,
         serial: Serial,
+        place: usize,
     ) -> Result<(), AllocError>
+        requires placed { StandsAt self.old.rehearsal member serial place }
         requires allowed { cause self.old.rehearsal (Step.Receive member serial) ≡ None }
         requires none { self.old.prepared ≡ None }
         ensures ok { OnOk result (self.new ≡ record self.old { prepared = Some (Step.Receive member serial) }) }
@@ -49,6 +54,7 @@ impl World {
             Some(envelope) => seat.prepare_receive(&envelope.wire)?,
             None => unreachable!(),
         }
+        self.place = place;
         self.prepared = Some(Step::Receive(member, serial));
         Ok(())
     }
@@ -65,7 +71,7 @@ impl World {
             Some(envelope) => seat.receive(self.group, envelope.wire),
             None => unreachable!(),
         };
-        self.network.leave(member, serial);
+        self.network.leave(member, self.place);
         let sent = self.network.post(mail);
         let _ = self.record.push(Step::Receive(member, serial));
         sent

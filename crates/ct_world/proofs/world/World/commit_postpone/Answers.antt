@@ -1,10 +1,12 @@
-use Rattle.std.proofs.Common.{◌≡◌, ◌++◌, ◌∷◌, [], true, refl, ◌∙◌, arith}
-use Rattle.std.specs.Prelude.{is_ok}
+use Rattle.std.proofs.Common.{◌≡◌, ◌-◌, ◌++◌, ◌∷◌, [], true, not, filter, set, refl, ap, ◌∙◌, arith}
+use Rattle.std.specs.Prelude.{is_ok, ◌==◌}
 use Rattle.ct_model.specs.declared.step.Step.TheVariants.{Postpone}
-use Rattle.ct_model.proofs.Postpones.{postpone_outcome, postpone_taken, postpone_waits}
+use Rattle.ct_model.proofs.Postpones.{postpone_outcome, postpone_taken}
+use Rattle.ct_network.specs.Network.{line_at}
 use Rattle.ct_world.proofs.Insides.{rehearsal_in, IsPreparedIn, prepared_in, done_in, kept_in, fields_in}
 use Rattle.ct_world.proofs.Postponing.{postpone_mail, postpone_steps}
-use Rattle.ct_world.proofs.Waits.{lined_member, line_waits, line_once}
+use Rattle.ct_world.proofs.Waits.{lined_member}
+use Rattle.ct_world.proofs.Places.{placed_in, put-is}
 use Rattle.ct_world.proofs.world.World.commit_postpone.Goals as goal
 use Rattle.ct_world.proofs.world.World.commit_postpone.Goals.{After-push}
 
@@ -17,11 +19,7 @@ postpone-requires-clause-member c = let p = prepared_in c.self.inside c.args.sel
 pub postpone-requires-clause-there : goal.postpone-requires-clause-there
 postpone-requires-clause-there c =
     let p = prepared_in c.self.inside c.args.self.now (Postpone c.args.member c.args.serial) c.self.view_is c.self.invariant c.requires in
-    line_waits (rehearsal_in c.self.inside) (fields_in c.self.inside) c.args.member c.args.serial p.world p.in_group
-    ∙ postpone_waits (rehearsal_in c.self.inside) c.args.member c.args.serial p.ready.allowed
-
-pub postpone-requires-clause-once : goal.postpone-requires-clause-once
-postpone-requires-clause-once c = let p = prepared_in c.self.inside c.args.self.now (Postpone c.args.member c.args.serial) c.self.view_is c.self.invariant c.requires in line_once (rehearsal_in c.self.inside) (fields_in c.self.inside) c.args.member p.world p.in_group
+    (placed_in (rehearsal_in c.self.inside) (fields_in c.self.inside) c.args.member c.args.serial c.self.inside.place p.world p.in_group p.ready.placed).within
 
 before : (c : After-push) → IsPreparedIn c.self.inside (Postpone c.args.member c.args.serial)
 before c = prepared_in c.self.inside c.args.self.now (Postpone c.args.member c.args.serial) c.self.view_is c.self.invariant c.requires
@@ -31,10 +29,17 @@ pushed c =
     let ok : is_ok c.push.result ≡ true = c.push.ensures.succeeds (omega (arith, (before c).ready.for_step)) in
     rw ok at c.push.ensures.items
 
+put_last_in : (c : After-push) → c.postpone.new.self.lines ≡ set c.self.inside.network.lines (c.args.member - 1) (filter (λ other. not (other == c.args.serial)) (line_at c.self.inside.network.lines c.args.member) ++ c.args.serial ∷ [])
+put_last_in c =
+    let p = before c in
+    let line = line_at c.self.inside.network.lines c.args.member in
+    let placed = placed_in (rehearsal_in c.self.inside) (fields_in c.self.inside) c.args.member c.args.serial c.self.inside.place p.world p.in_group p.ready.placed in
+    c.postpone.ensures.lines ∙ ap (set c.self.inside.network.lines (c.args.member - 1)) (put-is c.args.serial c.self.inside.place line placed)
+
 pub invariant_of-self : goal.invariant_of-self
 invariant_of-self c =
     kept_in c.self.inside (Postpone c.args.member c.args.serial) c.push.new.self.items _ (pushed c)
-    (postpone_steps (rehearsal_in c.self.inside) c.args.member c.args.serial (fields_in c.self.inside) _ (before c) refl c.postpone.ensures.sent c.postpone.ensures.lines refl)
+    (postpone_steps (rehearsal_in c.self.inside) c.args.member c.args.serial (fields_in c.self.inside) _ (before c) refl c.postpone.ensures.sent (put_last_in c) refl)
 
 pub returns-clause-done : goal.returns-clause-done
 returns-clause-done c =

@@ -1,5 +1,5 @@
-use Rattle.std.proofs.Common.{◌≡◌, ◌-◌, ◌++◌, ◌∷◌, [], true, not, filter, refl, ap, sym, ◌∙◌, subst, arith}
-use Rattle.std.specs.Prelude.{is_ok, ◌==◌}
+use Rattle.std.proofs.Common.{◌≡◌, ◌-◌, ◌++◌, ◌∷◌, [], true, remove, set, refl, ap, sym, ◌∙◌, subst, arith}
+use Rattle.std.specs.Prelude.{is_ok}
 use Rattle.ct_model.specs.declared.step.Step.TheVariants.{Receive}
 use Rattle.ct_model.proofs.Receives.{receivable, receive_outcome}
 use Rattle.ct_rounds.specs.Meaning.{wire_of, mail_of}
@@ -11,7 +11,8 @@ use Rattle.ct_world.specs.Seats.{CanReceive, HasReceived, passed_on}
 use Rattle.ct_world.specs.Kept.{seat_of}
 use Rattle.ct_world.proofs.Insides.{rehearsal_in, IsPreparedIn, prepared_in, within_in, seat_in, done_in, kept_in, fields_in}
 use Rattle.ct_world.proofs.Receiving.{awaited_in, few_posted, left_lined, number_posted, received_taken, receive_steps}
-use Rattle.ct_world.proofs.Waits.{IsAwaited, awaited-some, lined_member, line_waits, line_once}
+use Rattle.ct_world.proofs.Waits.{IsAwaited, awaited-some, lined_member}
+use Rattle.ct_world.proofs.Places.{IsWithout, placed_in}
 use Rattle.ct_world.proofs.world.World.commit_receive.Goals as goal
 use Rattle.ct_world.proofs.world.World.commit_receive.Goals.{After-push}
 
@@ -46,13 +47,7 @@ leave-requires-clause-member c =
 pub leave-requires-clause-there : goal.leave-requires-clause-there
 leave-requires-clause-there c =
     let p = prepared_in c.self.inside c.args.self.now (Receive c.args.member c.args.serial) c.self.view_is c.self.invariant c.requires in
-    line_waits (rehearsal_in c.self.inside) (fields_in c.self.inside) c.args.member c.args.serial p.world p.in_group
-    ∙ (receivable (rehearsal_in c.self.inside) c.args.member c.args.serial p.ready.allowed).waits
-
-pub leave-requires-clause-once : goal.leave-requires-clause-once
-leave-requires-clause-once c =
-    let p = prepared_in c.self.inside c.args.self.now (Receive c.args.member c.args.serial) c.self.view_is c.self.invariant c.requires in
-    line_once (rehearsal_in c.self.inside) (fields_in c.self.inside) c.args.member p.world p.in_group
+    (placed_in (rehearsal_in c.self.inside) (fields_in c.self.inside) c.args.member c.args.serial c.self.inside.place p.world p.in_group p.ready.placed).within
 
 pub post-sent-requires-clause-room : goal.post-sent-requires-clause-room
 post-sent-requires-clause-room c =
@@ -65,7 +60,8 @@ post-sent-requires-clause-few c =
     let a = awaited_in c.self.inside c.args.member c.args.serial (envelope_of c.in-Some.envelope) p c.in-Some.ensures in
     let here = seat_in c.self.inside (Receive c.args.member c.args.serial) c.index_mut-seat.result.now p c.index_mut-seat.ensures.value in
     let mail = c.receive-mail.ensures.mail ∙ ap (λ (s : Seat). passed_on c.self.inside.group s.relay (wire_of c.in-Some.envelope.wire)) here in
-    let lined = left_lined c.self.inside.network.lines c.leave.new.self.lines c.self.inside.group (c.args.member - 1) (filter (λ other. not (other == c.args.serial)) (line_at c.self.inside.network.lines c.args.member)) c.leave.ensures.lines p.world.lined in
+    let left = remove (line_at c.self.inside.network.lines c.args.member) c.self.inside.place in
+    let lined = left_lined c.self.inside.network.lines c.leave.new.self.lines c.self.inside.group (c.args.member - 1) left c.leave.ensures.lines p.world.lined in
     few_posted (rehearsal_in c.self.inside) c.args.member c.args.serial (fields_in c.self.inside) (envelope_of c.in-Some.envelope) p a (mail_of c.receive-mail.result) _ c.leave.new.self.sent mail lined c.leave.ensures.sent
 
 before : (c : After-push) → IsPreparedIn c.self.inside (Receive c.args.member c.args.serial)
@@ -76,6 +72,9 @@ here c = seat_in c.self.inside (Receive c.args.member c.args.serial) c.index_mut
 
 carried : (c : After-push) → IsAwaited (rehearsal_in c.self.inside) (fields_in c.self.inside) c.args.member c.args.serial (envelope_of c.in-Some.envelope)
 carried c = awaited_in c.self.inside c.args.member c.args.serial (envelope_of c.in-Some.envelope) (before c) c.in-Some.ensures
+
+here_left : (c : After-push) → IsWithout c.args.serial (line_at c.self.inside.network.lines c.args.member) c.self.inside.place
+here_left c = placed_in (rehearsal_in c.self.inside) (fields_in c.self.inside) c.args.member c.args.serial c.self.inside.place (before c).world (before c).in_group (before c).ready.placed
 
 mail_is : (c : After-push) → mail_of c.receive-mail.result ≡ passed_on c.self.inside.group (seat_of c.self.inside.seats.items c.args.member).relay (wire_of c.in-Some.envelope.wire)
 mail_is c = c.receive-mail.ensures.mail ∙ ap (λ (s : Seat). passed_on c.self.inside.group s.relay (wire_of c.in-Some.envelope.wire)) (here c)
@@ -91,7 +90,7 @@ invariant_of-self c =
     (receive_steps (rehearsal_in c.self.inside) c.args.member c.args.serial (fields_in c.self.inside) (envelope_of c.in-Some.envelope) (before c) (carried c) _ c.receive-mail.new.self (mail_of c.receive-mail.result) c.leave.new.self (record {
       received = subst (λ (s : Seat). HasReceived s (wire_of c.in-Some.envelope.wire) c.receive-mail.new.self) (here c) c.receive-mail.ensures.received;
       mail_is = mail_is c;
-      lines = c.leave.ensures.lines;
+      lines = c.leave.ensures.lines ∙ ap (set c.self.inside.network.lines (c.args.member - 1)) (here_left c).rest;
       sent = c.leave.ensures.sent;
       posted = record { sent = c.post-sent.ensures.sent; lined = c.post-sent.ensures.members; joined = c.post-sent.ensures.joined };
       seats = refl;
@@ -103,7 +102,8 @@ returns-clause-done c =
     let p = before c in
     let a = carried c in
     let w = rehearsal_in c.self.inside in
-    let lined = left_lined c.self.inside.network.lines c.leave.new.self.lines c.self.inside.group (c.args.member - 1) (filter (λ other. not (other == c.args.serial)) (line_at c.self.inside.network.lines c.args.member)) c.leave.ensures.lines p.world.lined in
+    let left = remove (line_at c.self.inside.network.lines c.args.member) c.self.inside.place in
+    let lined = left_lined c.self.inside.network.lines c.leave.new.self.lines c.self.inside.group (c.args.member - 1) left c.leave.ensures.lines p.world.lined in
     done_in c.self.inside c.args.self.now (Receive c.args.member c.args.serial) (receive_outcome w c.args.member a.envelope.wire) c.push.new.self.items c.post-sent.result c.self.view_is p (pushed c)
     (received_taken w c.args.member c.args.serial (fields_in c.self.inside) (envelope_of c.in-Some.envelope) p a)
     (number_posted w c.args.member c.args.serial (fields_in c.self.inside) (envelope_of c.in-Some.envelope) p a (mail_of c.receive-mail.result) _ (mail_is c) lined ∙ sym c.post-sent.ensures.number)

@@ -15,6 +15,7 @@ copied c = record {
   seats = c.in_ok-copy_seats.field-0.items;
   proposal = None;
   posting = None;
+  place = 0;
   spare_steps = vec_capacity c.in_ok-from_slice.field-0 - vec_len c.in_ok-from_slice.field-0;
 }
 

@@ -41,4 +41,5 @@ invariant_of-self-2 c =
       for_step = omega (arith, c.in_ok-reserve.ensures.for_step);
       for_sending = c.in_ok-reserve.ensures.for_sending;
       for_itself = begin_room c.self.inside.seats.items c.args.member c.prepare_begin.new.self c.in_ok-undelivered.field-0 _ p.within refl refl c.in_ok-undelivered.ensures c.in_ok-prepare_begin.ensures.ok c.in_ok-prepare.ensures.ok;
+      placed = tt;
     })

@@ -55,4 +55,5 @@ invariant_of-self-2 c =
       for_sending = c.in_ok-reserve.ensures.for_sending;
       for_itself = deliver_room (rehearsal_in c.self.inside) (fields_in c.self.inside) c.args.member c.index_mut-seat.result.now c.prepare_deliver.new.self c.unwrap-value.result c.unwrap.result.now _ p.within here c.in_ok-prepare_deliver.ensures.same refl refl number value c.in_ok-prepare_deliver.ensures.batch room
           (subst (λ (x : WorldView). Joins (order (state_of x.rehearsal)) (order (state_of (extended x.rehearsal (Deliver c.args.member)))) (option_map (λ b. b.value) c.in_ok-posting.posting)) (sym c.self.view_is) c.in_ok-posting.ensures);
+      placed = tt;
     })

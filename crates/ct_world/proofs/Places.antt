@@ -1,0 +1,128 @@
+-- The place of a serial in a line, and the line without it.
+use Rattle.std.proofs.Common.{subst, one-add, ◌≡◌, ℕ, suc, ◌+◌, ◌<◌, Bool, true, false, List, [], ◌∷◌, ◌++◌, length, refl, ap, sym, ◌∙◌, arith, Option, Some, None}
+use Rattle.std.specs.Prelude.{not, ◌==◌, ◌&&◌, ◌||◌, filter, position, remove, nat_lt, if◌then◌else◌, is_some, slice_index_or, Result, Ok, Err}
+use Rattle.std.specs.List.{list_any, position_or_len}
+use Rattle.std.proofs.lemmas.Bool.Decides.{nat_tests}
+use Rattle.ct_names.specs.Group.{is_member}
+use Rattle.ct_names.specs.declared.refusal.Refusal.{Refusal}
+use Rattle.ct_model.specs.declared.step.Step.{Step}
+use Rattle.ct_model.specs.Cause.{cause}
+use Rattle.ct_model.specs.Rehearsal.{Rehearsal, line_of}
+use Rattle.ct_model.specs.Waiting.{has_serial}
+use Rattle.ct_model.specs.Lawful.{is_distinct}
+use Rattle.ct_network.specs.Network.{line_at, place_of, put_last}
+use Rattle.ct_world.specs.Kept.{Fields, IsWorld, StandsAt, IsPlaced, IsFound, IsUnless}
+use Rattle.ct_world.proofs.Waits.{lined_member}
+
+and_true_left : (a b : Bool) → (a && b) ≡ true → a ≡ true
+and_true_left true b h = refl
+and_true_left false b h = h
+
+and_true_right : (a b : Bool) → (a && b) ≡ true → b ≡ true
+and_true_right true b h = h
+and_true_right false b h = absurd (cc)
+
+step_place : (b : Bool) (l len : ℕ) (t : Bool) → nat_lt l len ≡ t → nat_lt (if (not b) then (1 + l) else 0) (suc len) ≡ (b || t)
+step_place true l len t ih = grind (arith, nat_tests)
+step_place false l len true ih = grind (arith, nat_tests)
+step_place false l len false ih = grind (arith, nat_tests)
+
+place_any : {X : Type 0} (p : X → Bool) (xs : List X) → nat_lt (position_or_len p xs) (length xs) ≡ list_any p xs
+place_any p [] = refl
+place_any p (x ∷ xs) = step_place (p x) (position_or_len p xs) (length xs) (list_any p xs) (place_any p xs)
+
+-- a place is found where an element passes
+pub is_some-position : {X : Type 0} (p : X → Bool) (xs : List X) → is_some (position p xs) ≡ list_any p xs
+is_some-position p xs = go (nat_lt (position_or_len p xs) (length xs)) (position_or_len p xs) ∙ place_any p xs
+  where
+    go : (b : Bool) (i : ℕ) → is_some (if b then Some i else None) ≡ b
+    go true i = refl
+    go false i = refl
+
+pub position_is : {X : Type 0} (p : X → Bool) (xs : List X) → list_any p xs ≡ true → position p xs ≡ Some (position_or_len p xs)
+position_is p xs h = rw (place_any p xs, h) refl
+
+none_left : (k : ℕ) (xs : List ℕ) → has_serial k xs ≡ false → filter (λ q. not (q == k)) xs ≡ xs
+none_left k [] h = refl
+none_left k (x ∷ xs) h = go (x == k) h (none_left k xs)
+  where
+    go : (b : Bool) → (b || has_serial k xs) ≡ false → (has_serial k xs ≡ false → filter (λ q. not (q == k)) xs ≡ xs) → (if (not b) then x ∷ filter (λ q. not (q == k)) xs else filter (λ q. not (q == k)) xs) ≡ x ∷ xs
+    go true h ih = absurd (cc)
+    go false h ih = ap (λ r. x ∷ r) (ih h)
+
+-- the first goes, and no other is like it
+same_first : (k x : ℕ) (xs : List ℕ) → true ≡ (x == k) → (not (has_serial x xs) && is_distinct xs) ≡ true → filter (λ q. not (q == k)) (x ∷ xs) ≡ xs
+same_first k x xs is d =
+    let e : x ≡ k = grind (arith, nat_tests) in
+    let away : not (has_serial x xs) ≡ true = and_true_left (not (has_serial x xs)) (is_distinct xs) d in
+    let gone : has_serial k xs ≡ false = subst (λ y. has_serial y xs ≡ false) e (not_true (has_serial x xs) away) in
+    rw (← is) (none_left k xs gone)
+  where
+    not_true : (b : Bool) → not b ≡ true → b ≡ false
+    not_true true h = absurd (cc)
+    not_true false h = refl
+
+kept_first : (k x : ℕ) (xs : List ℕ) → false ≡ (x == k) → x ∷ filter (λ q. not (q == k)) xs ≡ filter (λ q. not (q == k)) (x ∷ xs)
+kept_first k x xs is = rw (← is) refl
+
+later : (x : ℕ) (xs : List ℕ) (i : ℕ) → remove (x ∷ xs) (1 + i) ≡ x ∷ remove xs i
+later x xs i = rw one-add refl
+
+later_item : (x : ℕ) (xs : List ℕ) (i : ℕ) → slice_index_or (x ∷ xs) (1 + i) 0 ≡ slice_index_or xs i 0
+later_item x xs i = rw one-add refl
+
+pub record IsWithout (k : ℕ) (xs : List ℕ) (i : ℕ) : Type 0 where
+  pub within : i < length xs
+  pub rest : remove xs i ≡ filter (λ q. not (q == k)) xs
+  pub item : slice_index_or xs i 0 ≡ k
+
+-- the place of the only k: without it, what is left is all but k
+pub without : (k : ℕ) (xs : List ℕ) → is_distinct xs ≡ true → has_serial k xs ≡ true → IsWithout k xs (position_or_len (λ q. q == k) xs)
+without k [] d h = absurd (cc)
+without k (x ∷ xs) d h = go (x == k) refl h (without k xs (and_true_right (not (has_serial x xs)) (is_distinct xs) d))
+  where
+    go : (b : Bool) → b ≡ (x == k) → (b || has_serial k xs) ≡ true → (has_serial k xs ≡ true → IsWithout k xs (position_or_len (λ q. q == k) xs)) → IsWithout k (x ∷ xs) (if (not b) then (1 + position_or_len (λ q. q == k) xs) else 0)
+    go true is h ih =
+        let e : x ≡ k = grind (arith, nat_tests) in
+        record { within = omega arith; rest = sym (same_first k x xs is d); item = e }
+    go false is h ih =
+        let r = ih h in
+        record { within = omega (arith, r.within); rest = later x xs (position_or_len (λ q. q == k) xs) ∙ ap (λ l. x ∷ l) r.rest ∙ kept_first k x xs is; item = later_item x xs (position_or_len (λ q. q == k) xs) ∙ r.item }
+
+-- a serial that has a place is there
+pub stands-there : (k i : ℕ) (xs : List ℕ) → place_of k xs ≡ Some i → has_serial k xs ≡ true
+stands-there k i xs is = sym (is_some-position (λ q. q == k) xs) ∙ ap is_some is
+
+-- and one that has none is not
+pub stands-nowhere : (k : ℕ) (xs : List ℕ) → None ≡ place_of k xs → has_serial k xs ≡ false
+stands-nowhere k xs is = sym (is_some-position (λ q. q == k) xs) ∙ sym (ap is_some is)
+
+some_same : (x y : ℕ) → Some x ≡ Some y → x ≡ y
+some_same x y h = cc
+
+-- the line without the serial at its place
+pub placed : (k i : ℕ) (xs : List ℕ) → place_of k xs ≡ Some i → is_distinct xs ≡ true → IsWithout k xs i
+placed k i xs is d =
+    let there = stands-there k i xs is in
+    let e : position_or_len (λ q. q == k) xs ≡ i = some_same (position_or_len (λ q. q == k) xs) i (sym (position_is (λ q. q == k) xs there) ∙ is) in
+    subst (λ j. IsWithout k xs j) e (without k xs d there)
+
+-- and with the serial at its end
+pub put-is : (k i : ℕ) (xs : List ℕ) → IsWithout k xs i → put_last xs i ≡ filter (λ q. not (q == k)) xs ++ k ∷ []
+put-is k i xs a = λ j. a.rest j ++ a.item j ∷ []
+
+-- the serial's place in the network's line
+pub placed_in : (w : Rehearsal) (f : Fields) (p k i : ℕ) → IsWorld w f → is_member w.setting.members p ≡ true → StandsAt w p k i → IsWithout k (line_at f.network.lines p) i
+placed_in w f p k i world group is =
+    subst (λ line. IsWithout k line i) (sym (world.line p group)) (placed k i (line_of w p) is (world.lawful.distinct p))
+
+-- which the network finds
+pub found_in : (w : Rehearsal) (f : Fields) (p k : ℕ) → IsWorld w f → is_member w.setting.members p ≡ true → (if is_member (length f.network.lines) p then place_of k (line_at f.network.lines p) else None) ≡ place_of k (line_of w p)
+found_in w f p k world group =
+    ap (λ b. if b then place_of k (line_at f.network.lines p) else None) (lined_member w f p world group)
+    ∙ ap (place_of k) (world.line p group)
+
+-- the step is allowed at the place unless a limit is passed
+pub unless-found : (w : Rehearsal) (step : Step) (fault : Option Refusal) (i : ℕ) (found : Result ℕ Refusal) → cause w step ≡ fault → IsPlaced w step i → IsUnless fault i found → IsFound w step found
+unless-found w step fault i (Ok j) is at h = record { allowed = is ∙ h.1; placed = subst (λ x. IsPlaced w step x) (sym h.0) at }
+unless-found w step fault i (Err refusal) is at h = is ∙ h
