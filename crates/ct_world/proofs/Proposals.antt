@@ -8,10 +8,8 @@ use Rattle.ct_model.specs.Actor.{actor}
 use Rattle.ct_model.specs.AtValue.{Wire, Standing, Turn}
 use Rattle.ct_model.specs.Setting.{Setting}
 use Rattle.ct_model.specs.State.{State, Member, Proposal, member, first_state}
-use Rattle.ct_model.specs.Received.{decided}
 use Rattle.ct_model.specs.Wire.Mail.{Nobody}
-use Rattle.ct_model.specs.Phases.{enter, choose, adopt, suspect, conclude}
-use Rattle.ct_model.specs.Next.{Outcome, plain, submit, receive, wire_to, own_ballots, round_row, row, after, next}
+use Rattle.ct_model.specs.Next.{Outcome, plain, submit, receive, wire_to, round_row, row, after, next}
 use Rattle.ct_model.specs.Run.{run, run_from}
 use Rattle.ct_model.specs.Rehearsal.{Rehearsal, state_of}
 use Rattle.ct_model.specs.Lawful.{IsLawful}
