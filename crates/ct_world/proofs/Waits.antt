@@ -1,5 +1,5 @@
 -- What waits at a member: its envelope, in the record and in the network.
-use Rattle.std.proofs.Common.{◌≡◌, ℕ, zero, suc, ◌-◌, ◌≤◌, true, ◌&&◌, List, [], ◌∷◌, length, slice_get, Some, None, option_map, ap, sym, ◌∙◌, subst, arith, inl, inr}
+use Rattle.std.proofs.Common.{◌≡◌, ℕ, zero, suc, ◌-◌, ◌≤◌, true, List, [], ◌∷◌, length, slice_get, Some, None, option_map, ap, sym, ◌∙◌, subst, arith, inl, inr}
 use Rattle.std.proofs.lemmas.Option.{slice_get-map}
 use Rattle.ct_names.specs.Group.{is_member}
 use Rattle.ct_names.specs.Membership.{IsIn}
@@ -8,14 +8,12 @@ use Rattle.ct_model.specs.Wire.{Envelope as AnyEnvelope}
 use Rattle.ct_model.specs.Wire.Wire.{Data, Est, Prop, Ack, Nack, Dec}
 use Rattle.ct_model.specs.Counted.{NamesSomebody}
 use Rattle.ct_model.specs.Knowledge.{KnowsMessages, CarriesOne}
-use Rattle.ct_model.specs.Lawful.{IsLetter, is_waiting, is_distinct}
+use Rattle.ct_model.specs.Lawful.{IsLetter, is_waiting}
 use Rattle.ct_model.specs.Rehearsal.{Rehearsal, state_of}
 use Rattle.ct_model.specs.Setting.{Setting}
 use Rattle.ct_model.specs.State.{State, member, wires, at_serial}
-use Rattle.ct_model.specs.Waiting.{has_serial}
 use Rattle.ct_model.proofs.Letters.{waiting_letter}
 use Rattle.ct_model.proofs.Outcomes.{some-same, some-none}
-use Rattle.ct_network.specs.Network.{line_at}
 use Rattle.ct_instances.specs.Named.{NamesEnvelope}
 use Rattle.ct_instances.proofs.Named.{named_back}
 use Rattle.ct_world.specs.Kept.{Fields, IsWorld}
