@@ -21,7 +21,8 @@ use Rattle.ct_model.specs.declared.step.Step.{Step}
 use Rattle.ct_model.specs.declared.step.Step.TheVariants.{Submit, Receive, Begin, Enter, Choose, Adopt, Suspect, Conclude, Deliver, Crash, Postpone}
 use Rattle.ct_model.specs.Rehearsal.{Rehearsal}
 use Rattle.ct_program.specs.Fits.{CommandFits, StepFits, AllFit}
-use Rattle.ct_program.specs.Text.{command_text, step_text, steps_text, record_text}
+use Rattle.ct_model.specs.StepText.{command_text, step_text}
+use Rattle.ct_program.specs.Text.{steps_text, record_text}
 
 abbrev num : ℕ → Data
 num n = number (unsigned n)

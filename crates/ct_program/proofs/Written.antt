@@ -13,7 +13,8 @@ use Rattle.ct_model.specs.declared.step.Step.{Step}
 use Rattle.ct_model.specs.declared.step.Step.TheVariants.{Submit, Receive, Begin, Enter, Choose, Adopt, Suspect, Conclude, Deliver, Crash, Postpone}
 use Rattle.ct_model.specs.Rehearsal.{Rehearsal}
 use Rattle.ct_program.specs.Fits.{CommandFits, StepFits, AllFit, IsStorable}
-use Rattle.ct_program.specs.Text.{command_text, step_text, steps_text, record_text}
+use Rattle.ct_model.specs.StepText.{command_text, step_text}
+use Rattle.ct_program.specs.Text.{steps_text, record_text}
 use Rattle.ct_program.specs.Script.{whole_of, command_of, short_step, long_step, step_of, steps_of, rehearsal_in, of_value, list_of, script}
 use Rattle.ct_program.proofs.Stored.{command_data, step_data, steps_data, record_data, record_reads}
 use Rattle.ct_program.proofs.Whole.{script_read}

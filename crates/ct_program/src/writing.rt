@@ -1,13 +1,13 @@
 //! From a world to the text of its record.
 
 ghost use Rattle.std.specs.Prelude.{◌≡◌, ◌++◌, Ok, OnOk, IfOk, string_bytes};
-ghost use Rattle.ct_program.specs.Fits.{CommandFits, StepFits, AllFit, IsStorable};
+ghost use Rattle.ct_model.specs.StepText.{step_text};
+ghost use Rattle.ct_program.specs.Fits.{StepFits, AllFit, IsStorable};
 ghost use Rattle.ct_program.specs.Script.{script};
-ghost use Rattle.ct_program.specs.Text.{command_text, step_text, steps_text, record_text};
+ghost use Rattle.ct_program.specs.Text.{steps_text, record_text};
 
 use crate::separator::push_separator;
 use ct_model::Step;
-use ct_names::Command;
 use ct_world::World;
 use std::alloc::{AllocError, Global};
 
@@ -46,38 +46,9 @@ pub(crate) fn push_steps(text: &mut String, steps: &[Step]) -> Result<(), AllocE
     Ok(())
 }
 
-#[tactic(auto, unfolding(crate::specs::Text::step_text))]
 fn push_step(text: &mut String, step: Step) -> Result<(), AllocError>
     ensures text { OnOk result (string_bytes text.new ≡ string_bytes text.old ++ step_text step) }
     ensures fits { StepFits step }
 {
-    match step {
-        Step::Submit(p, command) => {
-            write!(text, "[\"submit\",{p},")?;
-            push_command(text, command)?;
-            text.push(']')
-        }
-        Step::Receive(p, serial) => write!(text, "[\"receive\",{p},{serial}]"),
-        Step::Begin(p) => write!(text, "[\"begin\",{p}]"),
-        Step::Enter(p) => write!(text, "[\"enter\",{p}]"),
-        Step::Choose(p, from) => write!(text, "[\"choose\",{p},{from}]"),
-        Step::Adopt(p) => write!(text, "[\"adopt\",{p}]"),
-        Step::Suspect(p) => write!(text, "[\"suspect\",{p}]"),
-        Step::Conclude(p) => write!(text, "[\"conclude\",{p}]"),
-        Step::Deliver(p) => write!(text, "[\"deliver\",{p}]"),
-        Step::Crash(p) => write!(text, "[\"crash\",{p}]"),
-        Step::Postpone(p, serial) => write!(text, "[\"postpone\",{p},{serial}]"),
-    }
-}
-
-#[tactic(auto, unfolding(crate::specs::Text::command_text))]
-fn push_command(text: &mut String, command: Command) -> Result<(), AllocError>
-    ensures text { OnOk result (string_bytes text.new ≡ string_bytes text.old ++ command_text command) }
-    ensures fits { CommandFits command }
-{
-    match command {
-        Command::Set(register, value) => write!(text, "[\"set\",{register},{value}]"),
-        Command::Add(register, amount) => write!(text, "[\"add\",{register},{amount}]"),
-        Command::Copy(from, to) => write!(text, "[\"copy\",{from},{to}]"),
-    }
+    write!(text, "{step}")
 }

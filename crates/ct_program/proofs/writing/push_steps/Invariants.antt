@@ -1,7 +1,8 @@
 use Rattle.std.proofs.Common.{◌≡◌, ◌++◌, take}
 use Rattle.std.specs.Prelude.{drop, map, nat_lt, string_bytes}
 use Rattle.ct_program.specs.Fits.{AllFit}
-use Rattle.ct_program.specs.Text.{step_text, steps_text}
+use Rattle.ct_model.specs.StepText.{step_text}
+use Rattle.ct_program.specs.Text.{steps_text}
 use Rattle.ct_program.proofs.Joins.{rest_of}
 use Rattle.ct_program.proofs.writing.push_steps.Given as goal
 
