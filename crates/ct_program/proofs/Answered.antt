@@ -6,7 +6,8 @@ use Rattle.ct_program.specs.declared.program_fault.ProgramFault.{ProgramFault}
 use Rattle.ct_program.specs.declared.program_fault.ProgramFault.TheVariants.{Replay, Read, Reader, Write, Memory, Start, Exchanged}
 use Rattle.ct_program.specs.Script.{script}
 use Rattle.ct_program.specs.Report.{report_text}
-use Rattle.ct_program.specs.Replay.{IsAllowed, IsReportOf, WritesReport, IsFaultIn, read_part}
+use Rattle.ct_program.specs.Replay.{IsReplayed, IsReportOf, WritesReport, WritesReportPart, IsFaultIn, read_part}
+use Rattle.ct_program.specs.Streams.{WritesPart}
 use Rattle.ct_program.proofs.Whole.{script_part}
 
 script_read : (bytes input : List ℕ) → bytes ≡ read_part input → script bytes ≡ script input
@@ -32,11 +33,22 @@ ok_weaker (Err e) P Q f h = h
 
 written : (bytes text : List ℕ) (old new : Option (List ℕ)) → IsReportOf bytes text → Appends old new text → WritesReport bytes old new
 written bytes text old new h a =
-    ok_weaker (script bytes) (λ w. IsAllowed w × (text ≡ report_text w)) (λ w. IsAllowed w × Appends old new (report_text w)) (λ w both. (both.0, subst (Appends old new) both.1 a)) h
+    ok_weaker (script bytes) (λ w. IsReplayed w × (text ≡ report_text w)) (λ w. IsReplayed w × Appends old new (report_text w)) (λ w both. (both.0, subst (Appends old new) both.1 a)) h
+
+part_written : (bytes text : List ℕ) (old new : Option (List ℕ)) → IsReportOf bytes text → WritesPart old new text → WritesReportPart bytes old new
+part_written bytes text old new h a =
+    ok_weaker (script bytes) (λ w. IsReplayed w × (text ≡ report_text w)) (λ w. IsReplayed w × WritesPart old new (report_text w)) (λ w both. (both.0, subst (WritesPart old new) both.1 a)) h
 
 pub ok_seen : (left : Option (List ℕ)) (bytes seen text out : List ℕ) (old new : Option (List ℕ)) → IfSome left (λ input. bytes ≡ read_part input) → seen ≡ bytes → IsReportOf seen text → out ≡ text → Appends old new out
     → IfSome left (λ input. WritesReport input old new)
 ok_seen None bytes seen text out old new h same r e a = tt
 ok_seen (Some input) bytes seen text out old new h same r e a =
     let all : WritesReport bytes old new = written bytes text old new (subst (λ b. IsReportOf b text) same r) (subst (Appends old new) e a) in
+    rw (← script_read bytes input h) all
+
+pub part_seen : (left : Option (List ℕ)) (bytes seen text out : List ℕ) (old new : Option (List ℕ)) → IfSome left (λ input. bytes ≡ read_part input) → seen ≡ bytes → IsReportOf seen text → out ≡ text → WritesPart old new out
+    → IfSome left (λ input. WritesReportPart input old new)
+part_seen None bytes seen text out old new h same r e a = tt
+part_seen (Some input) bytes seen text out old new h same r e a =
+    let all : WritesReportPart bytes old new = part_written bytes text old new (subst (λ b. IsReportOf b text) same r) (subst (WritesPart old new) e a) in
     rw (← script_read bytes input h) all

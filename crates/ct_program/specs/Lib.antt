@@ -3,11 +3,14 @@ pub mod Gives
 pub mod View
 pub mod Report
 pub mod Replay
+pub mod Outcome
+pub mod Streams
 pub mod ProgramFault
 pub mod Counted
 pub mod FreeOptions
 pub mod Line
 pub mod Planning
+pub mod Seeding
 pub mod FreeRun
 pub mod Text
 pub mod Fits

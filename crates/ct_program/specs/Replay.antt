@@ -8,7 +8,9 @@ use Rattle.ct_world.specs.Replay.{AllowsFirst, IsRefusedAt}
 use Rattle.ct_program.specs.declared.program_fault.ProgramFault.{ProgramFault}
 use Rattle.ct_program.specs.declared.program_fault.ProgramFault.TheVariants.{Replay, Read, Reader, Write, Memory, Start, Exchanged}
 use Rattle.ct_program.specs.Script.{script}
+use Rattle.ct_program.specs.Outcome.{IsOutcome}
 use Rattle.ct_program.specs.Report.{report_text}
+use Rattle.ct_program.specs.Streams.{WritesPart}
 
 -- each step of the record is allowed after those before it
 abbrev pub IsAllowed : Rehearsal → Type 0
@@ -20,13 +22,22 @@ pub record IsRefused (w : Rehearsal) (at : ℕ) (refusal : Refusal) : Type 0 whe
   pub refused : IsRefusedAt w.setting.members w.cells w.steps (at - 1) refusal
   pub not_memory : refusal ≢ OutOfMemory
 
--- the input is a record that is allowed, and this is its report
-abbrev pub IsReportOf : List ℕ → List ℕ → Type 0
-IsReportOf input text = IsOkAnd (script input) (λ w. IsAllowed w × (text ≡ report_text w))
+-- the record's steps are all allowed; so they are a run, which ends in a safe state
+pub record IsReplayed (w : Rehearsal) : Type 0 where
+  pub allowed : IsAllowed w
+  pub outcome : IsOutcome w
 
--- the input is a record that is allowed, and its report, nothing else, was written
+-- the input is a record that is replayed, and this is its report
+abbrev pub IsReportOf : List ℕ → List ℕ → Type 0
+IsReportOf input text = IsOkAnd (script input) (λ w. IsReplayed w × (text ≡ report_text w))
+
+-- the input is a record that is replayed, and its report, nothing else, was written
 abbrev pub WritesReport : List ℕ → Option (List ℕ) → Option (List ℕ) → Type 0
-WritesReport input old new = IsOkAnd (script input) (λ w. IsAllowed w × Appends old new (report_text w))
+WritesReport input old new = IsOkAnd (script input) (λ w. IsReplayed w × Appends old new (report_text w))
+
+-- the input is a record that is replayed, and some first bytes of its report, nothing else, were written
+abbrev pub WritesReportPart : List ℕ → Option (List ℕ) → Option (List ℕ) → Type 0
+WritesReportPart input old new = IsOkAnd (script input) (λ w. IsReplayed w × WritesPart old new (report_text w))
 
 -- the fault is the input's: the first of the record, or of its replay. Of streams and of memory nothing is said, and
 -- a replay has no faults of free runs
@@ -39,9 +50,9 @@ IsFaultIn Memory input = ⊤
 IsFaultIn Start input = ⊥
 IsFaultIn Exchanged input = ⊥
 
--- reading stopped for want of memory, or because the reader failed once more
+-- reading stopped for want of memory, and the reader did not fail, or because it failed once more
 abbrev pub StopsReading : ProgramFault → ℕ → ℕ → Type 0
-StopsReading fault old new = (fault ≡ Memory) ⊎ ((fault ≡ Reader) × (new ≡ old + 1))
+StopsReading fault old new = ((fault ≡ Memory) × (new ≡ old)) ⊎ ((fault ≡ Reader) × (new ≡ old + 1))
 
 -- what is read of the input: one byte more than a record may have, at most
 unfoldable pub read_part : List ℕ → List ℕ

@@ -72,14 +72,22 @@ standing_text w p =
 unfoldable pub line_text : List ℕ → List ℕ → List ℕ
 line_text word list = concat (word ∷ codes " " ∷ list ∷ codes "\n" ∷ [])
 
--- five lines of a member: that of its standing, what it received, decided and delivered, and the table that this makes
+-- what is shown as delivered by a member, and as its table
+pub record Shown : Type 0 where
+  pub delivered : List Message
+  pub table : List ℕ
+
+abbrev pub shown : Rehearsal → ℕ → Shown
+shown w p = record { delivered = delivered (member (state_of w) p); table = table (delivered (member (state_of w) p)) }
+
+-- five lines of a member: that of its standing, what it received, decided and delivered, and its table
 unfoldable pub member_text : Rehearsal → ℕ → List ℕ
 member_text w p =
     concat (standing_text w p
     ∷ line_text (codes "received") (messages_text 32 (received_by (state_of w) p))
     ∷ line_text (codes "decided") (decisions_text (member (state_of w) p).got)
-    ∷ line_text (codes "delivered") (messages_text 32 (delivered (member (state_of w) p)))
-    ∷ line_text (codes "table") (table_text (table (delivered (member (state_of w) p))))
+    ∷ line_text (codes "delivered") (messages_text 32 (shown w p).delivered)
+    ∷ line_text (codes "table") (table_text (shown w p).table)
     ∷ [])
 
 -- the lines of the first members

@@ -3,7 +3,7 @@
 ghost use Rattle.std.specs.Prelude.{◌≡◌, ◌≢◌, ◌⊎◌, ◌+◌, ◌^◌, ◌<◌, [], Err, OnOk, IfOk, IfErr, vec_len};
 ghost use Rattle.ct_world.specs.Replay.{world_after};
 ghost use Rattle.ct_program.specs.FreeOptions.{InRange};
-ghost use Rattle.ct_program.specs.FreeRun.{IsLineOfRun, WritesRun, IsFreeFault};
+ghost use Rattle.ct_program.specs.FreeRun.{IsLineOfRun, WritesRun, WritesRunPart, IsFreeFault};
 
 use crate::failed::Failed;
 use crate::free_options::FreeOptions;
@@ -37,12 +37,16 @@ pub fn free<R: Threads + Wait + Sync, W: Sink>(
     requires range { InRange options.now }
     requires detectors { vec_len detectors ≡ options.now.members }
     requires writes { W.failures writer.old < 2 ^ 63 }
-    // What was written is the record of a run of these many members and cells, and a line feed.
+    // What was written is the record of a run of these many members and cells that ends in a safe state, and a line feed.
     ensures ok { OnOk result (WritesRun options.now (W.written writer.old) (W.written writer.new)) }
     ensures fault { IfErr result IsFreeFault }
-    // Only a fault of the writer has written anything.
+    // Only a fault of the writer has written anything: some first bytes of such a line.
     ensures quiet { IfErr result (λ fault. fault ≢ ProgramFault.Write → writer.new ≡ writer.old) }
+    ensures part { result ≡ Err ProgramFault.Write →
+        WritesRunPart options.now (W.written writer.old) (W.written writer.new) }
+    // The writer failed where that is the fault, once, and else not at all.
     ensures writer { result ≡ Err ProgramFault.Write → W.failures writer.new ≡ W.failures writer.old + 1 }
+    ensures no_write { result ≢ Err ProgramFault.Write → W.failures writer.new ≡ W.failures writer.old }
 {
     let blank = Blank::new(1000);
     let world = settled::<Brand, R>(rt, alloc, blank, options, detectors)?;

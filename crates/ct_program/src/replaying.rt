@@ -2,7 +2,8 @@
 
 ghost use Rattle.std.specs.Prelude.{◌≡◌, ◌≢◌, ◌+◌, ◌<◌, ◌^◌, length, vec_len, take, Err, OnOk, OnErr, IfOk, IfErr, IfSome};
 ghost use Rattle.std.specs.Io.KnownBytes.{Appends};
-ghost use Rattle.ct_program.specs.Replay.{IsReportOf, WritesReport, IsFaultIn, StopsReading, read_part};
+ghost use Rattle.ct_program.specs.Replay.{IsReportOf, WritesReport, WritesReportPart, IsFaultIn, StopsReading, read_part};
+ghost use Rattle.ct_program.specs.Streams.{WritesPart};
 
 use crate::failed::Failed;
 use crate::program_fault::ProgramFault;
@@ -29,14 +30,20 @@ pub fn run_replay<R: Source, W: Sink>(
 ) -> Result<(), ProgramFault>
     requires reads { R.failures reader.old < 2 ^ 63 }
     requires writes { W.failures writer.old < 2 ^ 63 }
-    // The input is a record whose steps are all allowed, and what was written is its report.
+    // The input is a record whose steps are all allowed, so a run that ends in a safe state, and what was written is
+    // its report, which shows that state.
     ensures ok { OnOk result (IfSome (R.left reader.old) (λ input.
         WritesReport input (W.written writer.old) (W.written writer.new))) }
     ensures fault { IfErr result (λ fault. IfSome (R.left reader.old) (IsFaultIn fault)) }
-    // Only a fault of the writer has written anything.
+    // Only a fault of the writer has written anything: some first bytes of the report.
     ensures quiet { IfErr result (λ fault. fault ≢ ProgramFault.Write → writer.new ≡ writer.old) }
+    ensures part { result ≡ Err ProgramFault.Write → IfSome (R.left reader.old) (λ input.
+        WritesReportPart input (W.written writer.old) (W.written writer.new)) }
+    // A stream failed where that is the fault, once, and else not at all.
     ensures reader { result ≡ Err ProgramFault.Reader → R.failures reader.new ≡ R.failures reader.old + 1 }
+    ensures no_read { result ≢ Err ProgramFault.Reader → R.failures reader.new ≡ R.failures reader.old }
     ensures writer { result ≡ Err ProgramFault.Write → W.failures writer.new ≡ W.failures writer.old + 1 }
+    ensures no_write { result ≢ Err ProgramFault.Write → W.failures writer.new ≡ W.failures writer.old }
 {
     let bytes = read_all(alloc, reader)?;
     let text = answer(alloc, &bytes)?;
@@ -50,6 +57,7 @@ pub fn run_replay<R: Source, W: Sink>(
 fn read_all<R: Source>(alloc: Global, reader: &mut R) -> Result<Vec<u8>, ProgramFault>
     requires { R.failures reader.old < 2 ^ 63 }
     ensures bytes { IfOk result (λ bytes. IfSome (R.left reader.old) (λ input. bytes.items ≡ read_part input)) }
+    ensures ok { OnOk result (R.failures reader.new ≡ R.failures reader.old) }
     ensures err { IfErr result (λ fault. StopsReading fault (R.failures reader.old) (R.failures reader.new)) }
 {
     let mut piece = piece(alloc)?;
@@ -77,6 +85,7 @@ fn read_up_to<R: Source>(
     requires count { R.failures reader.old < 2 ^ 63 }
     requires room { 0 < length piece.old }
     ensures bytes { IfOk result (λ bytes. IfSome (R.left reader.old) (λ input. bytes.items ≡ take limit input)) }
+    ensures ok { OnOk result (R.failures reader.new ≡ R.failures reader.old) }
     ensures err { IfErr result (λ fault. StopsReading fault (R.failures reader.old) (R.failures reader.new)) }
 {
     let mut bytes = Vec::new(alloc);
@@ -109,6 +118,8 @@ fn answer(alloc: Global, bytes: &[u8]) -> Result<Vec<u8>, ProgramFault>
 pub(crate) fn write_all<W: Sink>(writer: &mut W, bytes: &[u8]) -> Result<(), Failed>
     requires { W.failures writer.old < 2 ^ 63 }
     ensures bytes { OnOk result (Appends (W.written writer.old) (W.written writer.new) bytes.now) }
+    ensures part { OnErr result (WritesPart (W.written writer.old) (W.written writer.new) bytes.now) }
+    ensures ok { OnOk result (W.failures writer.new ≡ W.failures writer.old) }
     ensures err { OnErr result (W.failures writer.new ≡ W.failures writer.old + 1) }
 {
     let mut rest = bytes;

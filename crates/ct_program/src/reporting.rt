@@ -2,9 +2,8 @@
 
 ghost use Rattle.std.specs.Prelude.{◌≡◌, ◌++◌, ◌<◌, [], ◌∷◌, codes, if◌then◌else◌, OnOk, IfOk, IsTrue, string_bytes, slice_index};
 ghost use Rattle.ct_names.specs.Group.{is_member};
-ghost use Rattle.ct_model.specs.State.{delivered};
+ghost use Rattle.ct_program.specs.Outcome.{IsOutcome};
 ghost use Rattle.ct_program.specs.Report.{line_text, messages_text, decision_text, decisions_text, nonzero, register_text, table_text, standing_text, member_text, first_members, report_text};
-ghost use Rattle.ct_table.specs.Table.{table};
 ghost use Rattle.ct_world.specs.World.{member_of};
 
 use crate::separator::push_separator;
@@ -18,14 +17,19 @@ use std::alloc::{AllocError, Global};
 /// and in each member's last decided instance. The only error is that memory is refused.
 #[tactic(auto, unfolding(crate::specs::Report::report_text))]
 pub fn report(alloc: Global, world: &World) -> Result<Vec<u8>, AllocError>
-    ensures { IfOk result (λ bytes. bytes.items ≡ report_text world.now.rehearsal) }
+    ensures text { IfOk result (λ bytes. bytes.items ≡ report_text world.now.rehearsal) }
+    // The record is a run that ends in the state that is shown, that state is safe, and each table is its sequence's.
+    ensures outcome { IsOutcome world.now.rehearsal }
 {
     let mut text = String::new(alloc);
     let group = world.group();
     let n = group.n();
     let majority = group.majority();
     let cells = world.cells();
-    let steps = world.record().len();
+    let Some(first) = world.outcome(1) else {
+        unreachable!()
+    };
+    let steps = first.record.len();
     let sent = world.sent();
     let posted = world.posted();
     write!(text, "group {n} majority {majority} cells {cells}\n")?;
@@ -50,11 +54,14 @@ fn push_member(text: &mut String, world: &World, member: Member) -> Result<(), A
     requires { IsTrue (is_member world.now.rehearsal.setting.members member) }
     ensures { OnOk result (string_bytes text.new ≡ string_bytes text.old ++ member_text world.now.rehearsal member) }
 {
+    let Some(outcome) = world.outcome(member) else {
+        unreachable!()
+    };
     push_standing(text, world, member)?;
     push_message_line(text, "received", world.received(member).unwrap_or(&[]))?;
     push_decision_line(text, world, member)?;
-    push_message_line(text, "delivered", world.delivered(member).unwrap_or(&[]))?;
-    push_table_line(text, world, member)
+    push_message_line(text, "delivered", outcome.delivered)?;
+    push_table_line(text, outcome.table)
 }
 
 #[tactic(auto, unfolding(crate::specs::Report::standing_text))]
@@ -137,15 +144,11 @@ fn push_decision(
 }
 
 #[tactic(auto, unfolding(crate::specs::Report::line_text))]
-fn push_table_line(text: &mut String, world: &World, member: Member) -> Result<(), AllocError>
-    requires { IsTrue (is_member world.now.rehearsal.setting.members member) }
-    ensures { OnOk result (string_bytes text.new ≡ string_bytes text.old ++ line_text (codes "table") (table_text (table (delivered (member_of world.now.rehearsal member))))) }
+fn push_table_line(text: &mut String, table: &Table) -> Result<(), AllocError>
+    ensures { OnOk result (string_bytes text.new ≡ string_bytes text.old ++ line_text (codes "table") (table_text table.now)) }
 {
     text.push_str("table ")?;
-    match world.table(member) {
-        Some(table) => push_table(text, table)?,
-        None => unreachable!(),
-    }
+    push_table(text, table)?;
     text.push('\n')
 }
 

@@ -1,7 +1,7 @@
 use Rattle.std.specs.Prelude.{◌≡◌, IfSome}
 use Rattle.ct_program.specs.Replay.{IsFaultIn}
 use Rattle.ct_program.proofs.Refused.{err_seen}
-use Rattle.ct_program.proofs.Answered.{fault_seen, ok_seen}
+use Rattle.ct_program.proofs.Answered.{fault_seen, ok_seen, part_seen}
 use Rattle.ct_program.proofs.replaying.run_replay.Goals as goal
 
 pub returns-in_err-text-clause-fault : goal.returns-in_err-text-clause-fault
@@ -14,3 +14,7 @@ returns-in_err-text-clause-fault g c =
 pub returns-in-Ok-clause-ok : goal.returns-in-Ok-clause-ok
 returns-in-Ok-clause-ok g c =
     ok_seen (g.R.Source.left c.args.reader.now) _ _ _ _ (g.W.Sink.written c.args.writer.now) _ c.in_ok-bytes.ensures.bytes c.deref.ensures.value c.in_ok-text.ensures.ok c.deref-2.ensures.value c.in-Ok.ensures.bytes
+
+pub returns-clause-part : goal.returns-clause-part
+returns-clause-part g c = λ _.
+    part_seen (g.R.Source.left c.args.reader.now) _ _ _ _ (g.W.Sink.written c.args.writer.now) _ c.in_ok-bytes.ensures.bytes c.deref.ensures.value c.in_ok-text.ensures.ok c.deref-2.ensures.value c.in-Err.ensures.part

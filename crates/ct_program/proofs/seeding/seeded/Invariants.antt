@@ -1,0 +1,6 @@
+use Rattle.std.proofs.Common.{◌≡◌}
+use Rattle.ct_program.specs.Seeding.{first_detectors}
+use Rattle.ct_program.proofs.seeding.seeded.Given as goal
+
+abbrev pub invariant-loop-i : goal.invariant-loop-i
+invariant-loop-i l = (l.detectors.items ≡ first_detectors l.options l.i)
