@@ -73,12 +73,23 @@ fn whole(text: &str, low: u32, high: u32) -> Option<u32>
     }
 }
 
+// What `replay` ends with.
+const STATUSES: &str = "Status:
+  0  the report was written
+  1  a step of the record is refused
+  2  the input is no record
+  3  the words of the command line are refused
+  4  a read of standard input or a write of standard output failed
+  5  memory was refused";
+
 fn command<'a>(alloc: Global) -> Result<Command<'a>, AllocError>
     ensures { IfOk result (λ command. app_of command ≡ program) }
 {
-    let replay = Command::new(alloc, "replay").about(
-        "Reads a record from standard input, replays it and writes the report to standard output",
-    );
+    let replay = Command::new(alloc, "replay")
+        .about(
+            "Reads a record from standard input, replays it and writes the report to standard output",
+        )
+        .after_help(STATUSES);
     Command::new(alloc, "ct")
         .version("0.1.0")
         .about("Rehearses a group of members that broadcast commands to one another")
