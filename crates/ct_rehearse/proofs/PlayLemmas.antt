@@ -17,7 +17,7 @@ use Rattle.ct_model.specs.Rehearsal.{Rehearsal, extended, state_of, line_of}
 use Rattle.ct_model.specs.Cause.{cause, limit, limits, or_else, open_tests, presence, tests}
 use Rattle.ct_model.specs.Passed.{extended_by, passed}
 use Rattle.ct_model.proofs.Passing.{passed-snoc}
-use Rattle.ct_model.proofs.Tests.{and_left, and_right, false_not}
+use Rattle.ct_model.proofs.Tests.{and_left, and_right}
 use Rattle.ct_world.specs.Posting.{IsRefusal}
 use Rattle.ct_world.specs.World.{WorldView}
 use Rattle.ct_rehearse.specs.Shares.{Held, risen_by}
@@ -81,10 +81,14 @@ cause-cause w step =
     or_else-cause _ _ (fault-cause (presence w.setting (state_of w) p) refl)
     (or_else-cause _ _ (fault-cause (tests w.setting (state_of w) (member (state_of w) p) (line_of w p) step) (own-causes w.setting (state_of w) (member (state_of w) p) (line_of w p) step)) (limit-cause w step))
 
+false_of : (b : Bool) → not b ≡ true → b ≡ false
+false_of true h = sym h
+false_of false h = refl
+
 not_short : (o : Option Refusal) (refusal : Refusal) → is_cause o ≡ true → refusal ≡ unwrap_or o OutOfMemory → is_none o ≡ is_short refusal
 unfolding is_cause
 not_short None refusal h e = rw e refl
-not_short (Some first) refusal h e = rw e (sym (false_not (is_short first) h))
+not_short (Some first) refusal h e = rw e (sym (false_of (is_short first) h))
 
 -- a refused step was short exactly where it has no cause
 refused-short : (w : Rehearsal) (step : Step) (refusal : Refusal) → IsRefusal w step refusal → is_none (cause w step) ≡ is_short refusal
@@ -110,7 +114,7 @@ unmarked-snoc w [] [] mark step h = rw append-nil (omega arith)
 unmarked-snoc w [] (s ∷ steps) mark step h = cc
 unmarked-snoc w (b ∷ marks) [] mark step h = cc
 unmarked-snoc w (true ∷ marks) (s ∷ steps) mark step h = rw (append_assoc w.steps (s ∷ []) (marked marks steps)) at (unmarked-snoc (extended w s) marks steps mark step (omega arith))
-unmarked-snoc w (false ∷ marks) (s ∷ steps) mark step h = rw (unmarked-snoc w marks steps mark step (omega arith)) (sym add_assoc)
+unmarked-snoc w (false ∷ marks) (s ∷ steps) mark step h = rw (unmarked-snoc w marks steps mark step (omega arith)) (sym (add_assoc (if is_none (cause w s) then 1 else 0) (allowed_unmarked w marks steps) (allowed_unmarked (extended_by w (marked marks steps)) (mark ∷ []) (step ∷ []))))
 
 -- the steps that joined the record, and those that didn't
 

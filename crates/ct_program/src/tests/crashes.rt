@@ -1,3 +1,5 @@
+ghost use Rattle.std.specs.Prelude.{◌≡◌};
+
 use super::*;
 use ct_board::Board;
 use ct_names::{Group, Member, Message};
@@ -40,7 +42,7 @@ struct Outcome {
 }
 
 // Plays the list in a world of three members and four cells.
-fn outcome<L: Ledger>(alloc: Global, blank: Blank, steps: &[Step]) -> Result<Outcome, Fail>
+fn rehearsed<L: Ledger>(alloc: Global, blank: Blank, steps: &[Step]) -> Result<Outcome, Fail>
     requires name { blank.name ≡ L.name }
     requires parts { blank.parts ≡ L.parts }
     requires whole { L.parts ≡ 1000 }
@@ -67,7 +69,7 @@ fn with_crash(alloc: Global, after: usize, member: Member) -> Result<Vec<Step>, 
 
 fn crashed(alloc: Global, after: usize, member: Member) -> Result<Outcome, Fail> {
     let steps = with_crash(alloc, after, member)?;
-    outcome::<Brand>(alloc, Blank::new(1000), &steps)
+    rehearsed::<Brand>(alloc, Blank::new(1000), &steps)
 }
 
 // What came of all lists with one crash: of each member, before the first step and after each.

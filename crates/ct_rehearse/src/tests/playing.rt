@@ -1,3 +1,5 @@
+ghost use Rattle.std.specs.Prelude.{◌≡◌};
+
 use super::*;
 
 // One member submits a message, decides it and delivers it.
@@ -25,7 +27,7 @@ struct Seen {
 }
 
 // Plays the list in a world of one member and four cells, with this board.
-fn seen<L: Ledger>(
+fn rehearsed<L: Ledger>(
     alloc: Global,
     blank: Blank,
     board: &Board,
@@ -61,7 +63,7 @@ fn a_list_goes_on_after_refusals(rt: HostRuntime) -> Result<(), Fail> {
         Step::Crash(1),
         Step::Enter(1),
     ];
-    let seen = seen::<Brand>(alloc, Blank::new(1000), &board, &steps)?;
+    let seen = rehearsed::<Brand>(alloc, Blank::new(1000), &board, &steps)?;
     let played = Played {
         applied: 4,
         refused: 3,
@@ -84,8 +86,8 @@ fn a_list_goes_on_after_refusals(rt: HostRuntime) -> Result<(), Fail> {
 fn a_batch_that_a_board_refuses_is_short(rt: HostRuntime) -> Result<(), Fail> {
     let alloc = rt.alloc();
     let board = Board::new(alloc, 4)?;
-    let first = seen::<Brand>(alloc, Blank::new(1000), &board, &DELIVERED)?;
-    let second = seen::<Brand>(alloc, Blank::new(1000), &board, &DELIVERED)?;
+    let first = rehearsed::<Brand>(alloc, Blank::new(1000), &board, &DELIVERED)?;
+    let second = rehearsed::<Brand>(alloc, Blank::new(1000), &board, &DELIVERED)?;
     assert_eq!(rt; (first.played.applied, first.played.refused, first.played.short), (12, 0, 0));
     assert_eq!(rt; (second.played.applied, second.played.refused, second.played.short), (11, 0, 1));
     assert_eq!(rt; first.world.posted(), 1);

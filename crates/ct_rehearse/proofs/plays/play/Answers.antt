@@ -1,5 +1,6 @@
 use Rattle.std.proofs.lemmas.List.{take_more}
-use Rattle.ct_model.specs.declared.step.Step.TheVariants.{Begin}
+use Rattle.ct_names.specs.declared.command.Command.TheVariants.{Set}
+use Rattle.ct_model.specs.declared.step.Step.TheVariants.{Submit}
 use Rattle.ct_rehearse.proofs.PlayLemmas.{played-none, played-turn}
 use Rattle.ct_rehearse.proofs.plays.play.Goals as goal
 
@@ -9,4 +10,4 @@ loop-step-init g c = rw c.none-played.ensures (played-none _ _)
 pub loop-step-preserved : goal.loop-step-preserved
 loop-step-preserved g c =
     let more = played-turn _ _ _ _ _ _ _ _ _ _ c.attempt-turn.ensures.made c.loop-step.invariant in
-    rw (take_more c.args.steps.now c.loop-step.step-index (Begin 0) c.loop-step-test.true, c.attempt-turn.ensures.world, c.attempt-turn.ensures.share, c.count.ensures) more
+    rw (take_more c.args.steps.now c.loop-step.step-index (Submit 0 (Set 0 0)) c.loop-step-test.true, c.attempt-turn.ensures.world, c.attempt-turn.ensures.share, c.count.ensures) more
