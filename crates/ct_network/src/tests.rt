@@ -103,7 +103,7 @@ fn a_line_takes_up_the_places_of_what_left(rt: HostRuntime) -> Result<(), Fail> 
     line.leave(0);
     line.make_room()?;
     line.join(3);
-    line.leave(3);
+    line.leave(0);
     line.make_room()?;
     line.join(4);
     line.make_room()?;
