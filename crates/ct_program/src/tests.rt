@@ -10,6 +10,7 @@ use std::test::Fail;
 mod crashes;
 mod free;
 mod quick;
+mod hostile;
 mod reports;
 
 const RECORD: &str =
@@ -17,6 +18,13 @@ const RECORD: &str =
 
 const REPORT: &str =
     "group 3 majority 2 cells 4\nsteps 3 sent 6 posted 0\nmember 1 up instance 0 idle\nreceived 1.1\ndecided -\ndelivered -\ntable -\nmember 2 up instance 0 idle\nreceived 1.1\ndecided -\ndelivered -\ntable -\nmember 3 up instance 0 idle\nreceived -\ndecided -\ndelivered -\ntable -\n";
+
+// Three members, of which one crashes: the others decide in one round, and deliver.
+const ONE_ROUND: &str =
+    "{\"cells\":4,\"n\":3,\"steps\":[[\"submit\",1,[\"set\",0,7]],[\"receive\",1,1],[\"receive\",2,2],[\"crash\",3],[\"begin\",1],[\"begin\",2],[\"enter\",1],[\"enter\",2],[\"receive\",2,7],[\"receive\",2,8],[\"choose\",2,1],[\"receive\",1,9],[\"adopt\",1],[\"receive\",2,10],[\"adopt\",2],[\"receive\",2,12],[\"receive\",2,13],[\"conclude\",2],[\"receive\",2,15],[\"deliver\",2],[\"receive\",1,14],[\"deliver\",1]],\"version\":1}";
+
+const ONE_ROUND_REPORT: &str =
+    "group 3 majority 2 cells 4\nsteps 22 sent 19 posted 1\nmember 1 up instance 1 idle\nreceived 1.1\ndecided 1:1.1\ndelivered 1.1\ntable 0=7\nmember 2 up instance 1 idle\nreceived 1.1\ndecided 1:1.1\ndelivered 1.1\ntable 0=7\nmember 3 crashed instance 0 idle\nreceived -\ndecided -\ndelivered -\ntable -\n";
 
 // One step of each kind, as a record has them.
 const EACH_STEP: &str =
@@ -233,15 +241,6 @@ fn a_record_is_read(rt: HostRuntime) {
             assert_eq!(rt; script.steps.len(), 3);
         }
         Err(fault) => assert!(rt; false, "{fault}"),
-    }
-}
-
-#[test]
-fn a_record_cut_short_is_no_json(rt: HostRuntime) {
-    let record = RECORD.as_bytes();
-    for end in 0..record.len() {
-        let fault = fault_of(rt.alloc(), &record[..end]);
-        assert_eq!(rt; fault, Some(ReadFault::NotJson), "at {end}");
     }
 }
 

@@ -16,11 +16,16 @@ fn nothing_was_done(rt: HostRuntime) {
 
 #[test]
 fn one_instance_is_decided_and_delivered(rt: HostRuntime) {
-    let record =
-        "{\"cells\":4,\"n\":3,\"steps\":[[\"submit\",1,[\"set\",0,7]],[\"receive\",1,1],[\"receive\",2,2],[\"crash\",3],[\"begin\",1],[\"begin\",2],[\"enter\",1],[\"enter\",2],[\"receive\",2,7],[\"receive\",2,8],[\"choose\",2,1],[\"receive\",1,9],[\"adopt\",1],[\"receive\",2,10],[\"adopt\",2],[\"receive\",2,12],[\"receive\",2,13],[\"conclude\",2],[\"receive\",2,15],[\"deliver\",2],[\"receive\",1,14],[\"deliver\",1]],\"version\":1}";
-    let report =
-        "group 3 majority 2 cells 4\nsteps 22 sent 19 posted 1\nmember 1 up instance 1 idle\nreceived 1.1\ndecided 1:1.1\ndelivered 1.1\ntable 0=7\nmember 2 up instance 1 idle\nreceived 1.1\ndecided 1:1.1\ndelivered 1.1\ntable 0=7\nmember 3 crashed instance 0 idle\nreceived -\ndecided -\ndelivered -\ntable -\n";
-    assert!(rt; is_report_of(rt.alloc(), record, report));
+    assert!(rt; is_report_of(rt.alloc(), ONE_ROUND, ONE_ROUND_REPORT));
+}
+
+#[test]
+fn either_of_two_equal_estimates_may_be_chosen(rt: HostRuntime) -> Result<(), Fail> {
+    let alloc = rt.alloc();
+    let record = ONE_ROUND.replace(alloc, "[\"choose\",2,1]", "[\"choose\",2,2]")?;
+    assert!(rt; record.as_str() != ONE_ROUND);
+    assert!(rt; is_report_of(alloc, &record, ONE_ROUND_REPORT));
+    Ok(())
 }
 
 #[test]
