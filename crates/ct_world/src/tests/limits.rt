@@ -35,8 +35,8 @@ fn steps_are_limited(rt: HostRuntime) {
     trial.shows(&rt, &[Fact::Refused(step, Refusal::Full(Limit::Steps))]);
 }
 
-// A round that one member alone ends without a decision, after so many envelopes. The proposal comes too late.
-fn vain_round(sent: Serial) -> [Step; 7]
+// A round that one member alone ends without a decision, after so many envelopes. The proposal is never received.
+fn vain_round(sent: Serial) -> [Step; 6]
     requires { sent < 1000000 }
 {
     [
@@ -46,7 +46,6 @@ fn vain_round(sent: Serial) -> [Step; 7]
         Step::Suspect(1),
         Step::Receive(1, sent + 3),
         Step::Conclude(1),
-        Step::Receive(1, sent + 2),
     ]
 }
 
@@ -64,7 +63,7 @@ fn rounds_are_limited(rt: HostRuntime) {
     trial.shows(
         &rt,
         &[
-            Fact::Counts(70_003, 30_001, 0),
+            Fact::Counts(60_003, 30_001, 0),
             Fact::Refused(Step::Enter(1), Refusal::Full(Limit::Rounds)),
         ],
     );

@@ -56,21 +56,44 @@ fn steps_of_a_round_are_refused_in_other_phases(rt: HostRuntime) {
     trial.shows(&rt, &[Fact::Refused(Step::Conclude(2), Refusal::TooFew)]);
 }
 
-// Where a growth is refused nothing changes, and the step is done once memory is there.
-fn do_at_last(rt: &impl Abort, trial: &mut Trial, step: &Step) {
-    let counts = trial.counts();
+// Whether the two agree in what a step changes: the record, the counts, and the three waiting lines.
+fn is_as(trial: &Trial, other: &Trial) -> bool {
+    trial.counts() == other.counts()
+        && trial.record() == other.record()
+        && (1..=3).all(|member| trial.waiting(member) == other.waiting(member))
+}
+
+// Does the step, at the second try where memory was refused at the first; nothing has changed then.
+fn do_at_last(rt: &impl Abort, alloc: Global, trial: &mut Trial, step: &Step) {
+    let before = trial.copy(rt, alloc);
     if let Err(refusal) = trial.apply(step) {
         assert_eq!(rt; refusal, Refusal::OutOfMemory);
-        assert!(rt; trial.counts() == counts && trial.apply(step).is_ok());
+        assert!(rt;
+            is_as(trial, &before) && trial.prepared().is_none(),
+            "{step:?}"
+        );
+        assert!(rt; trial.apply(step).is_ok(), "{step:?}");
     }
 }
 
-// With ample memory the first try does each step; the allocations are refused in turn by `rt try --test --fail-alloc N`.
+// With ample memory the first try does each step; the program ct_memory does the same while each growth is refused in turn.
 #[test]
 fn a_step_refused_for_memory_changes_nothing(rt: HostRuntime) {
-    let mut trial = Trial::new(&rt, rt.alloc(), 3, 4);
+    let alloc = rt.alloc();
+    let mut trial = Trial::new(&rt, alloc, 3, 4);
     for step in &ONE_ROUND {
-        do_at_last(&rt, &mut trial, step);
+        do_at_last(&rt, alloc, &mut trial, step);
     }
-    trial.shows(&rt, &[Fact::Counts(22, 19, 1)]);
+    assert!(rt; is_as(&trial, &Trial::of(&rt, alloc, 3, 4, &ONE_ROUND)));
+    trial.shows(
+        &rt,
+        &[
+            Fact::Counts(22, 19, 1),
+            Fact::Record(&ONE_ROUND),
+            Fact::Waiting(1, &[4, 17]),
+            Fact::Delivered(1, &[FIRST]),
+            Fact::Delivered(2, &[FIRST]),
+            Fact::Register(2, 0, 7),
+        ],
+    );
 }
