@@ -1,5 +1,5 @@
 #!/usr/bin/env bash
-# Runs the built program `ct` on the cases of table.txt, on the records of ../examples, and with little memory.
+# Runs the built program `ct` on the cases of table.txt, on the records of ../examples, freely, and with little memory.
 #
 #     cases/run.sh [CT]        CT: the built program; crates/ct/out/ct if left out
 #
@@ -139,6 +139,24 @@ check_memory() {
     [[ $status != 5 ]] || refused=$((refused + 1))
 }
 
+# check_free_runs: 20 free runs of three members that suspect nobody. Each is replayed, and at least one posts a batch.
+check_free_runs() {
+    local run posting=0 wrong=''
+    for run in {1..20}; do
+        timeout -k 5 20 "$ct" free --members 3 --rate 0 --seed "$run" >"$folder/output" 2>"$folder/error" &&
+            timeout -k 5 20 "$ct" replay <"$folder/output" >"$folder/report" 2>>"$folder/error" ||
+            wrong+=" run $run is not replayed: '$(start_of "$folder/error")';"
+        [[ ! $(<"$folder/report") =~ ' posted '[1-9] ]] || posting=$((posting + 1))
+    done
+    [[ $posting -gt 0 ]] || wrong+=" none of 20 posts a batch;"
+    if [[ -z $wrong ]]; then
+        passed=$((passed + 1))
+    else
+        failed=$((failed + 1))
+        echo "FAILED free runs:${wrong%;}"
+    fi
+}
+
 while IFS= read -r line <&9; do
     [[ -n $line && $line != \#* ]] || continue
     fields=()
@@ -165,6 +183,8 @@ for record in ../examples/*.json; do
         check "$name" replay "$status" '' "$fault" "@$record"
     fi
 done
+
+check_free_runs
 
 # Memory refused at different places: at the start, while reading, while replaying.
 record 3 60000 0 >"$folder/long"
