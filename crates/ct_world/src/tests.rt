@@ -7,6 +7,7 @@ use std::alloc::Global;
 use std::process::Abort;
 use trial::{Posted, Trial};
 
+mod cells;
 mod driving;
 mod fact;
 mod instances;

@@ -1,4 +1,4 @@
-ghost use Rattle.std.specs.Prelude.{◌<◌};
+ghost use Rattle.std.specs.Prelude.{◌<◌, ◌≤◌};
 
 use super::*;
 
@@ -89,8 +89,11 @@ fn decided_alone(sent: Serial) -> [Step; 12]
     ]
 }
 
-fn decide_alone(rt: &impl Abort, trial: &mut Trial) {
-    for instance in 0..1024 {
+// The same, so many times from the first instance on.
+pub(super) fn decide_alone(rt: &impl Abort, trial: &mut Trial, instances: u32)
+    requires { instances ≤ 1024 }
+{
+    for instance in 0..instances {
         trial.run(rt, &decided_alone(5 * instance));
     }
 }
@@ -98,7 +101,7 @@ fn decide_alone(rt: &impl Abort, trial: &mut Trial) {
 #[test]
 fn instances_are_limited(rt: HostRuntime) {
     let mut trial = Trial::new(&rt, rt.alloc(), 1, 1024);
-    decide_alone(&rt, &mut trial);
+    decide_alone(&rt, &mut trial, 1024);
     trial.shows(
         &rt,
         &[

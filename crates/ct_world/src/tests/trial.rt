@@ -145,6 +145,10 @@ impl Trial {
         )
     }
 
+    pub(super) fn posted(&self) -> u16 {
+        self.world.posted()
+    }
+
     pub(super) fn record(&self) -> &[Step] {
         self.world.record()
     }

@@ -1,5 +1,6 @@
-ghost use Rattle.std.specs.Prelude.{◌≡◌};
+ghost use Rattle.std.specs.Prelude.{◌≡◌, ◌≤◌};
 
+use super::limits::decide_alone;
 use super::*;
 
 // A board and a watcher of it.
@@ -36,6 +37,13 @@ impl<'b> Viewer<'b> {
         }
     }
 
+    // Whether it finds a batch in the cell at the place.
+    fn finds(&mut self, place: usize) -> bool
+        ensures { self.new.board.now ≡ self.old.board.now }
+    {
+        self.watcher.look(self.board, place).is_some()
+    }
+
     // Whether it was told of so many batches.
     fn is_told(&self, told: usize) -> bool {
         self.watcher.told() == told
@@ -67,6 +75,14 @@ fn watch(
         assert!(rt; viewer.reads(Some(*batch)), "{batch:?}");
     }
     assert!(rt; wanted.is_err() || viewer.reads(None));
+}
+
+// A new watcher looks at each cell of the board: the first ones are set, so many, and no other.
+pub(super) fn look_at_all(rt: &impl Abort, alloc: Global, board: &Board, set: usize) {
+    let mut viewer = Viewer::new(rt, alloc, board);
+    for place in 0..board.cells() {
+        assert!(rt; viewer.finds(place) == (place < set), "cell {place}");
+    }
 }
 
 #[test]
@@ -181,4 +197,30 @@ fn the_first_deliver_of_an_instance_has_a_receipt(rt: HostRuntime) {
     post_all(&rt, rt.alloc(), 1, &TWO_INSTANCES, &batches);
     // The other member's Deliver comes later.
     post_all(&rt, rt.alloc(), 3, &ONE_ROUND, &[(19, (0, 1, FIRST))]);
+}
+
+// A new watcher reads the only message of each of the first instances, told of them or not.
+fn read_all(rt: &impl Abort, alloc: Global, trial: &Trial, instances: u32, told: bool)
+    requires { instances ≤ 1024 }
+{
+    let mut viewer = Viewer::new(rt, alloc, &trial.board);
+    if told {
+        assert!(rt; viewer.meets(trial, Ok(()), instances as usize));
+    }
+    for instance in 1..instances + 1 {
+        let message = (1, instance, SEVEN);
+        assert!(rt; viewer.reads(Some((instance, message))), "{instance}");
+    }
+    assert!(rt; viewer.reads(None) && viewer.is_told(0) != told);
+}
+
+#[test]
+fn many_batches_are_met_and_read(rt: HostRuntime) {
+    let mut trial = Trial::new(&rt, rt.alloc(), 1, 40);
+    decide_alone(&rt, &mut trial, 20);
+    trial.finds(&rt, &[Fact::Counts(240, 100, 20)]);
+    read_all(&rt, rt.alloc(), &trial, 20, true);
+    read_all(&rt, rt.alloc(), &trial, 20, false);
+    look_at_all(&rt, rt.alloc(), &trial.board, 20);
+    trial.end();
 }
