@@ -1,6 +1,6 @@
 //! From the text of a record in its plain form to what it says, with no value between.
 
-ghost use Rattle.std.specs.Prelude.{◌≡◌, ◌≤◌, ◌<◌, ◌∷◌, length, Some, Ok, IfOk, IfSome, IsTrue, OnSome};
+ghost use Rattle.std.specs.Prelude.{◌≡◌, ◌≤◌, ◌∷◌, length, Some, Ok, IfOk, IfSome, IsTrue};
 ghost use Rattle.json.specs.Token.{begin_array};
 ghost use Rattle.json.specs.Json.{read_key};
 ghost use Rattle.serde_json.specs.Find.{as_str};
