@@ -1,0 +1,64 @@
+//! The steps of a record, one by one.
+
+use crate::fault::Fault;
+use ct_board::Board;
+use ct_model::Step;
+use ct_names::{Member, Refusal};
+use ct_program::read_record;
+use ct_world::World;
+use std::alloc::Global;
+
+/// Does the steps of the record, each at the second try where memory was refused at the first; the world must then be as
+/// it was before. The world after all steps, and the number of the last step that was refused; 0 where none was.
+pub fn do_one_by_one(alloc: Global, record: &[u8]) -> Result<(World, usize), Fault> {
+    let script = read_record(alloc, record)?;
+    let mut world = World::new(alloc, script.group, script.cells)?;
+    let board = Board::new(alloc, usize::from(script.cells))?;
+    let mut refused = 0;
+    for (i, step) in script.steps.iter().enumerate() {
+        // A copy has no room to spare, so each step has to ask for memory.
+        let mut next = world.copy(alloc)?;
+        if !do_at_last(&world, &mut next, &board, step)? {
+            refused = i + 1;
+        }
+        world = next;
+    }
+    Ok((world, refused))
+}
+
+// Does the step in a copy of the world before it. Whether it was done at the first try.
+fn do_at_last(
+    before: &World,
+    world: &mut World,
+    board: &Board,
+    step: &Step,
+) -> Result<bool, Fault> {
+    match world.apply(board, step) {
+        Ok(_) => return Ok(true),
+        Err(Refusal::OutOfMemory) => {}
+        Err(refusal) => return Err(Fault::from(refusal)),
+    }
+    if !is_same(before, world) {
+        return Err(Fault::Broken("a refused step changed the world"));
+    }
+    match world.apply(board, step) {
+        Ok(_) => Ok(false),
+        Err(_) => Err(Fault::Broken("a step is refused once more")),
+    }
+}
+
+// Whether the worlds agree in what a step changes: the record, the envelopes, the lines and the batches.
+fn is_same(one: &World, other: &World) -> bool {
+    other.prepared().is_none()
+        && one.record() == other.record()
+        && one.sent() == other.sent()
+        && one.posted() == other.posted()
+        && (0..one.group().n()).all(|i| waits_the_same(one, other, i + 1))
+}
+
+fn waits_the_same(one: &World, other: &World, member: Member) -> bool {
+    match (one.waiting(member), other.waiting(member)) {
+        (Some(line), Some(same)) => line == same,
+        _ => false,
+    }
+}
