@@ -1,6 +1,6 @@
 //! The failure detectors of a free run.
 
-ghost use Rattle.std.specs.Prelude.{◌≡◌, IfOk};
+ghost use Rattle.std.specs.Prelude.{◌≡◌, IfOk, vec_len};
 ghost use Rattle.ct_program.specs.FreeOptions.{InRange};
 ghost use Rattle.ct_program.specs.Seeding.{first_detectors};
 
@@ -12,7 +12,8 @@ use std::alloc::{AllocError, Global};
 /// rate, and wasn't asked yet. The only error is that memory is refused.
 pub fn seeded(alloc: Global, options: &FreeOptions) -> Result<Vec<Seeded>, AllocError>
     requires { InRange options.now }
-    ensures { IfOk result (λ detectors. detectors.items ≡ first_detectors options.now options.now.members) }
+    ensures exact { IfOk result (λ detectors. detectors.items ≡ first_detectors options.now options.now.members) }
+    ensures count { IfOk result (λ detectors. vec_len detectors ≡ options.now.members) }
 {
     let mut detectors = Vec::new(alloc);
     for i in 0..options.members {
