@@ -5,8 +5,8 @@
 ghost use Rattle.std.specs.Prelude.{IfOk};
 ghost use Rattle.ct_program.specs.FreeOptions.{FreeInRange, InRange};
 
-use ct_detect::{Detector, Seeded};
-use ct_program::{Call, Counted, FreeOptions, LineFault, free, line, run_replay};
+use ct_detect::Detector;
+use ct_program::{Call, Counted, FreeOptions, LineFault, free, line, run_replay, seeded};
 use std::fmt::Display;
 use std::io;
 use std::process::ExitCode;
@@ -67,14 +67,16 @@ fn replay(rt: &HostRuntime) -> ExitCode {
     }
 }
 
-// Only `main` may hand the runtime on as one that starts threads. The detector of member m has the seed and m.
+// Only `main` may hand the runtime on as one that starts threads.
 fn run<T: Threads + Wait + Sync>(rt: &HostRuntime, threads: &T, options: &FreeOptions) -> ExitCode
     requires { InRange options.now }
 {
+    let Ok(made) = seeded(rt.alloc(), options) else {
+        return fail(rt, "out of memory", NO_MEMORY);
+    };
     let mut detectors: Vec<Box<dyn Detector>> = Vec::new(rt.alloc());
-    for i in 0..options.members {
-        let seed = u64::from(options.seed) + u64::from(i) + 1;
-        let Ok(detector) = Box::new(rt.alloc(), Seeded::new(seed, options.rate)) else {
+    for one in made {
+        let Ok(detector) = Box::new(rt.alloc(), one) else {
             return fail(rt, "out of memory", NO_MEMORY);
         };
         if detectors.push(detector).is_err() {

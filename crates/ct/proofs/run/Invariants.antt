@@ -1,5 +1,6 @@
-use Rattle.std.specs.Prelude.{◌≡◌, vec_len}
+use Rattle.std.specs.Prelude.{◌≡◌, ◌+◌, vec_len}
+use Rattle.std.specs.Vec.Iter.{into_iter_len}
 use Rattle.ct.proofs.run.Given as goal
 
-abbrev pub invariant-loop-i : goal.invariant-loop-i
-invariant-loop-i g l = (vec_len l.detectors ≡ l.i)
+abbrev pub invariant-loop-one : goal.invariant-loop-one
+invariant-loop-one g l = (vec_len l.detectors + into_iter_len l.one-iterator ≡ l.options.members)
