@@ -1,5 +1,4 @@
-use Rattle.std.proofs.Common.{◌≡◌, ◌∙◌, sym, subst}
-use Rattle.ct_model.specs.Cause.{cause}
+use Rattle.std.proofs.Common.{◌∙◌, sym, subst}
 use Rattle.ct_model.specs.Lawful.{IsLawful}
 use Rattle.ct_model.proofs.Allowing.{cause-allowed, allowed-free}
 use Rattle.ct_model.proofs.Outcomes.{some-none}
