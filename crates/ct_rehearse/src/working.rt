@@ -30,15 +30,12 @@ pub(crate) fn drive<L: Ledger, R: Wait, G: Gate>(
     requires member { 0 < member }
     ensures { turns_made result.made ≡ turns }
 {
-    let worker = u32::from(member);
-    let mut stride = Stride::begin(rt, pace, worker);
+    let mut stride = Stride::begin(rt, pace, u32::from(member));
     let mut made = Made::none();
     for number in 0..turns {
-        stride.give_way(number);
-        gate.before(rt, worker, number + 1);
+        stride.before(rt, gate, number + 1);
         let outcome = hall.turn(rt, &mut share, member, &mut *detector);
-        gate.after(rt, worker, number + 1);
-        stride.count(number + 1, &outcome);
+        stride.after(rt, gate, number + 1, &outcome);
         made.count(&outcome);
     }
     stride.end();
@@ -64,12 +61,10 @@ pub(crate) fn follow<L: Ledger, R: Wait, G: Gate>(
     let mut made = Made::none();
     let mut number = 0;
     for entry in script {
-        stride.give_way(number);
         number += 1;
-        gate.before(rt, worker, number);
+        stride.before(rt, gate, number);
         let outcome = hall.disturb(rt, &mut share, entry);
-        gate.after(rt, worker, number);
-        stride.count(number, &outcome);
+        stride.after(rt, gate, number, &outcome);
         made.count(&outcome);
     }
     stride.end();
