@@ -2,6 +2,8 @@
 
 ghost use Rattle.std.specs.Prelude.{◌≡◌, ◌+◌, ◌^◌, ◌<◌, None, IfOk, IfErr, OnErr, OnOk, length};
 ghost use Rattle.ct_model.specs.Cause.{cause};
+ghost use Rattle.ct_model.specs.Rehearsal.{state_of};
+ghost use Rattle.ct_model.specs.Safe.{IsSafe};
 ghost use Rattle.ct_rehearse.specs.Shares.{whole_share, risen_by};
 ghost use Rattle.ct_world.specs.Posting.{HasPosted, IsRefusal};
 ghost use Rattle.ct_world.specs.World.{IsDone};
@@ -88,7 +90,35 @@ impl<L: Ledger> Desk<L> {
         ensures copy { IfOk result (λ world. world ≡ record self.old { prepared = None }) }
         ensures memory { IfErr result (λ refusal. refusal ≡ Refusal.OutOfMemory) }
     {
-        share.audit(&mut self.total);
+        self.audit(share);
         self.world.copy(alloc)
+    }
+
+    // The world has as many steps as the whole share.
+    pub(crate) fn audit(&mut self, share: &mut Share<L>)
+        requires { share.old.parts ≡ L.parts }
+        ensures desk { self.new ≡ self.old }
+        ensures share { share.new ≡ share.old }
+        ensures steps { length self.old.rehearsal.steps ≡ share.old.steps }
+    {
+        share.audit(&mut self.total);
+    }
+
+    // The world, in which no step is prepared. (Nobody's crash is refused, and then none is.)
+    #[tactic(auto, unfolding(ct_model::specs::Cause::cause))]
+    pub(crate) fn into_world(self) -> World
+        ensures rehearsal { result.rehearsal ≡ self.rehearsal }
+        ensures none { result.prepared ≡ None }
+        ensures safe { IsSafe result.rehearsal.setting (state_of result.rehearsal) }
+    {
+        let Desk {
+            mut world,
+            total: _,
+        } = self;
+        if world.prepare(&Step::Crash(0)).is_ok() {
+            unreachable!()
+        }
+        let _ = world.record();
+        world
     }
 }

@@ -126,6 +126,18 @@ impl<L: Ledger> Hall<L> {
         Ok(copy)
     }
 
+    // The desk and the board.
+    pub(crate) fn into_parts(self) -> (Desk<L>, Board)
+        ensures { result.1 ≡ self.cells }
+    {
+        let Hall {
+            desk,
+            board,
+            group: _,
+        } = self;
+        (desk.into_inner(), board)
+    }
+
     // A turn of a member, under the lock.
     pub(crate) fn turn<R: Wait>(
         &self,

@@ -1,0 +1,102 @@
+//! Whole rehearsals, from a world to a world.
+
+ghost use Rattle.std.specs.Prelude.{◌≡◌, ◌+◌, None, IfOk, IfErr, length, vec_len};
+ghost use Rattle.ct_model.specs.Rehearsal.{state_of};
+ghost use Rattle.ct_model.specs.Safe.{IsSafe};
+ghost use Rattle.ct_rehearse.specs.Plans.{turns_made, turns_planned, IsWithin};
+
+use crate::gate::Gate;
+use crate::hall::Hall;
+use crate::plan::Plan;
+use crate::rehearse_fault::RehearseFault;
+use crate::rehearsed::Rehearsed;
+use crate::run_fault::RunFault;
+use ct_board::Board;
+use ct_detect::Detector;
+use ct_world::World;
+use std::alloc::Global;
+use std::marker::Brand;
+use std::sync::Wait;
+use std::sync::ledger::{Blank, Ledger};
+use std::thread::Threads;
+
+/// Makes the turns of a plan on this world, as `Hall::run_free` does, and hands the world out after them, with its board,
+/// on which the run posted its batches. Whoever wants to look at the world during the run makes a `Hall`.
+///
+/// A fault hands world and board out too. After `Memory` no turn was made; after `Start` the turns of those that were
+/// started were.
+pub fn rehearse<R: Threads + Wait + Sync, G: Gate>(
+    rt: &R,
+    alloc: Global,
+    world: World,
+    board: Board,
+    plan: &Plan,
+    detectors: Vec<Box<dyn Detector>>,
+    gate: &G,
+) -> Result<Rehearsed, RehearseFault>
+    requires plan { IsWithin plan.now }
+    requires detectors { vec_len detectors ≡ world.rehearsal.setting.members }
+    ensures made { IfOk result (λ done. turns_made done.made ≡ turns_planned world.rehearsal.setting.members plan.now) }
+    ensures steps { IfOk result (λ done. length done.world.rehearsal.steps ≡ length world.rehearsal.steps + done.made.steps) }
+    ensures safe { IfOk result (λ done. IsSafe done.world.rehearsal.setting (state_of done.world.rehearsal)) }
+    ensures none { IfOk result (λ done. done.world.prepared ≡ None) }
+    ensures board { IfOk result (λ done. done.board ≡ board) }
+    ensures memory { IfErr result (λ fault. fault.cause ≡ RunFault.Memory → length fault.world.rehearsal.steps ≡ length world.rehearsal.steps) }
+    ensures safe_then { IfErr result (λ fault. IsSafe fault.world.rehearsal.setting (state_of fault.world.rehearsal)) }
+    ensures none_then { IfErr result (λ fault. fault.world.prepared ≡ None) }
+    ensures board_then { IfErr result (λ fault. fault.board ≡ board) }
+{
+    let blank = Blank::new(1000);
+    rehearse_in::<Brand, R, G>(rt, alloc, blank, world, board, plan, detectors, gate)
+}
+
+// The rehearsal, in a hall whose ledger is the blank's.
+fn rehearse_in<L: Ledger + Send + Sync, R: Threads + Wait + Sync, G: Gate>(
+    rt: &R,
+    alloc: Global,
+    blank: Blank,
+    world: World,
+    board: Board,
+    plan: &Plan,
+    detectors: Vec<Box<dyn Detector>>,
+    gate: &G,
+) -> Result<Rehearsed, RehearseFault>
+    requires name { blank.name ≡ L.name }
+    requires parts { blank.parts ≡ L.parts }
+    requires whole { L.parts ≡ 1000 }
+    requires plan { IsWithin plan.now }
+    requires detectors { vec_len detectors ≡ world.rehearsal.setting.members }
+    ensures made { IfOk result (λ done. turns_made done.made ≡ turns_planned world.rehearsal.setting.members plan.now) }
+    ensures steps { IfOk result (λ done. length done.world.rehearsal.steps ≡ length world.rehearsal.steps + done.made.steps) }
+    ensures safe { IfOk result (λ done. IsSafe done.world.rehearsal.setting (state_of done.world.rehearsal)) }
+    ensures none { IfOk result (λ done. done.world.prepared ≡ None) }
+    ensures board { IfOk result (λ done. done.board ≡ board) }
+    ensures memory { IfErr result (λ fault. fault.cause ≡ RunFault.Memory → length fault.world.rehearsal.steps ≡ length world.rehearsal.steps) }
+    ensures safe_then { IfErr result (λ fault. IsSafe fault.world.rehearsal.setting (state_of fault.world.rehearsal)) }
+    ensures none_then { IfErr result (λ fault. fault.world.prepared ≡ None) }
+    ensures board_then { IfErr result (λ fault. fault.board ≡ board) }
+{
+    let _ = world.record();
+    let _ = world.group().n();
+    let (hall, mut share) = Hall::<L>::new(blank, world, board);
+    let made = hall.run_free(rt, alloc, plan, detectors, gate, &mut share);
+    let (mut desk, board) = hall.into_parts();
+    match made {
+        Ok(made) => {
+            desk.audit(&mut share);
+            let world = desk.into_world();
+            Ok(Rehearsed { world, board, made })
+        }
+        Err(cause) => {
+            if cause == RunFault::Memory {
+                desk.audit(&mut share);
+            }
+            let world = desk.into_world();
+            Err(RehearseFault {
+                cause,
+                world,
+                board,
+            })
+        }
+    }
+}
