@@ -11,6 +11,9 @@ mod crashes;
 mod free;
 mod quick;
 mod hostile;
+mod faults;
+mod free;
+mod helps;
 mod reports;
 
 const RECORD: &str =

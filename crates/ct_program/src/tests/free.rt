@@ -1,5 +1,8 @@
+ghost use Rattle.std.specs.Prelude.{IfOk};
+ghost use Rattle.ct_program.specs.FreeOptions.{InRange};
+
 use super::*;
-use ct_detect::{Detector, Seeded};
+use ct_detect::{Ask, Detector, Seeded};
 use std::sync::Wait;
 use std::thread::Threads;
 
@@ -7,19 +10,26 @@ use std::thread::Threads;
 const LINE: &str =
     "{\"cells\":64,\"n\":2,\"steps\":[[\"submit\",1,[\"add\",0,1]],[\"submit\",2,[\"add\",1,2]],[\"submit\",1,[\"add\",2,3]],[\"crash\",2]],\"version\":1}\n";
 
-// What a free run of these words writes, with detectors as the program makes them.
+// The options of a free run in these words.
+fn options(alloc: Global, words: &'static [&'static str]) -> Result<FreeOptions, Fail>
+    ensures { IfOk result InRange }
+{
+    match line(alloc, words) {
+        Ok(Call::Free(options)) => Ok(options),
+        _ => Err(Fail::from("words")),
+    }
+}
+
+// What a free run of these words writes.
 fn written<R: Threads + Wait + Sync>(
     rt: &R,
     alloc: Global,
     words: &'static [&'static str],
 ) -> Result<Vec<u8>, Fail> {
-    let Ok(Call::Free(options)) = line(alloc, words) else {
-        return Err(Fail::from("words"));
-    };
+    let options = options(alloc, words)?;
     let mut detectors: Vec<Box<dyn Detector>> = Vec::new(alloc);
-    for i in 0..options.members {
-        let seed = u64::from(options.seed) + u64::from(i) + 1;
-        detectors.push(Box::new(alloc, Seeded::new(seed, options.rate))?)?;
+    for one in seeded(alloc, &options)? {
+        detectors.push(Box::new(alloc, one)?)?;
     }
     if detectors.len() != usize::from(options.members) {
         return Err(Fail::from("detectors"));
@@ -136,5 +146,109 @@ fn a_writer_may_fail_after_a_run(rt: HostRuntime) -> Result<(), Fail> {
     let answer = free(&rt, alloc, &options, one, &mut writer);
     assert_eq!(rt; answer, Err(ProgramFault::Write));
     assert_eq!(rt; writer.failures, 1);
+    Ok(())
+}
+
+// ---- what the options do
+
+// How often a run is tried: threads take their turns in any order.
+const TRIES: usize = 50;
+
+// Whether one of some runs of these words holds a step of this name.
+fn shows<R: Threads + Wait + Sync>(
+    rt: &R,
+    alloc: Global,
+    words: &'static [&'static str],
+    name: &str,
+) -> Result<bool, Fail> {
+    for _ in 0..TRIES {
+        let text = written(rt, alloc, words)?;
+        if str::from_utf8(&text)?.contains(name) {
+            return Ok(true);
+        }
+    }
+    Ok(false)
+}
+
+#[test]
+fn members_receive_in_their_turns(rt: HostRuntime) -> Result<(), Fail> {
+    let words = &["ct", "free", "--members=1", "--turns=100000", "--rate=0"];
+    assert!(rt; shows(&rt, rt.alloc(), words, "[\"receive\",1,")?);
+    Ok(())
+}
+
+#[test]
+fn members_deliver_where_nobody_is_suspected(rt: HostRuntime) -> Result<(), Fail> {
+    let words = &["ct", "free", "--members=1", "--turns=100000", "--rate=0"];
+    assert!(rt; shows(&rt, rt.alloc(), words, "[\"deliver\",1]")?);
+    Ok(())
+}
+
+#[test]
+fn members_postpone_where_they_are_asked_to(rt: HostRuntime) -> Result<(), Fail> {
+    let words = &["ct", "free", "--members=1", "--turns=0", "--postpone=1000"];
+    assert!(rt; shows(&rt, rt.alloc(), words, "[\"postpone\",1,")?);
+    Ok(())
+}
+
+#[test]
+fn members_suspect_at_the_greatest_rate(rt: HostRuntime) -> Result<(), Fail> {
+    let words = &["ct", "free", "--members=2", "--turns=5000", "--rate=256"];
+    assert!(rt; shows(&rt, rt.alloc(), words, "[\"suspect\",")?);
+    Ok(())
+}
+
+// Runs are tried until somebody enters a round, so has a coordinator to ask about.
+#[test]
+fn nobody_is_suspected_at_rate_0(rt: HostRuntime) -> Result<(), Fail> {
+    let alloc = rt.alloc();
+    let words = &["ct", "free", "--members=2", "--turns=5000", "--rate=0"];
+    for _ in 0..TRIES {
+        let text = written(&rt, alloc, words)?;
+        let text = str::from_utf8(&text)?;
+        assert!(rt; !text.contains("suspect"));
+        if text.contains("enter") {
+            return Ok(());
+        }
+    }
+    Err(Fail::from("nobody entered a round"))
+}
+
+// Of 64 asks of the first detector, which it answers with a suspicion, as bits.
+fn suspicions(alloc: Global, words: &'static [&'static str]) -> Result<u64, Fail> {
+    let mut all = seeded(alloc, &options(alloc, words)?)?;
+    let Some(first) = all.first_mut() else {
+        return Err(Fail::from("no detector"));
+    };
+    let mut bits = 0;
+    for round in 1..=64 {
+        let ask = Ask {
+            member: 1,
+            coordinator: 2,
+            instance: 1,
+            round,
+        };
+        bits = bits << 1 | u64::from(first.suspects(ask));
+    }
+    Ok(bits)
+}
+
+#[test]
+fn seeds_give_detectors_of_their_own(rt: HostRuntime) -> Result<(), Fail> {
+    let alloc = rt.alloc();
+    let first = suspicions(alloc, &["ct", "free", "--members=2", "--seed=1"])?;
+    let second = suspicions(alloc, &["ct", "free", "--members=2", "--seed=2"])?;
+    assert!(rt; first != second);
+    assert!(rt; first != 0 && second != 0);
+    Ok(())
+}
+
+#[test]
+fn rates_are_the_shares_of_suspicions(rt: HostRuntime) -> Result<(), Fail> {
+    let alloc = rt.alloc();
+    let none = suspicions(alloc, &["ct", "free", "--members=2", "--rate=0"])?;
+    let all = suspicions(alloc, &["ct", "free", "--members=2", "--rate=256"])?;
+    assert_eq!(rt; none, 0);
+    assert_eq!(rt; all, u64::MAX);
     Ok(())
 }
