@@ -98,7 +98,7 @@ start_of() { head -c 120 "$1" | tr '\n' ' '; }
 # check NAME ARGUMENTS STATUS OUTPUT ERROR INPUT: runs one case and counts it.
 check() {
     local name=$1 words status wrong=''
-    read -ra words <<<"$2"
+    read -ra words < <(printf '%b\n' "$2")
     : >"$folder/output"
     case $6 in
     @closed | @directory | @zeros | @piped\ *) ;;
