@@ -1,7 +1,6 @@
 use super::*;
 use ct_board::Watcher;
 use ct_names::{Member, Message};
-use std::sync::Wait;
 
 // A watcher that met a hall's world, and the messages of the batches that it read.
 #[derive(Drop)]

@@ -1,14 +1,13 @@
-ghost use Rattle.std.specs.Prelude.{◌≡◌};
+ghost use Rattle.std.specs.Prelude.{◌≡◌, ◌<◌, ◌≤◌, IfOk, vec_len};
+ghost use Rattle.ct_rehearse.specs.Plans.{IsWithin, entries};
 
 use super::*;
-use ct_detect::{Detector, Never};
-use std::sync::{Mutex, Wait};
-use std::thread::Threads;
+use std::sync::Mutex;
 
 // Which workers came to their first turn, whether one gave up waiting, and how many found the record that they should.
 #[derive(Drop)]
 struct Marks {
-    came: [bool; 2],
+    came: [bool; 3],
     gave_up: bool,
     right_before: u32,
     right_after: u32,
@@ -17,40 +16,41 @@ struct Marks {
 impl Marks {
     fn none() -> Marks {
         Marks {
-            came: [false, false],
+            came: [false; 3],
             gave_up: false,
             right_before: 0,
             right_after: 0,
         }
     }
 
-    fn come(&mut self, worker: u32) {
-        if worker == 1 {
-            self.came[0] = true;
-        } else {
-            self.came[1] = true;
+    fn come(&mut self, worker: u32)
+        requires { 0 < worker }
+    {
+        if let Some(came) = self.came.get_mut(worker as usize - 1) {
+            *came = true;
         }
     }
 
-    fn all_came(&self) -> bool {
-        self.came[0] && self.came[1]
+    fn all_came(&self, workers: usize) -> bool {
+        self.came.iter().take(workers).all(|came| *came)
     }
 }
 
-// A gate that lets neither of two workers on before the other has come. It looks at the hall's world.
+// A gate that lets none of the workers on before all have come. It looks at the hall's world.
 #[derive(Drop)]
 struct Meeting<'a, L: Ledger> {
     hall: &'a Hall<L>,
     alloc: Global,
+    workers: usize,
     marks: Mutex<Marks>,
 }
 
-// The step that a worker makes in its first turn.
+// The step that a worker makes in its only turn.
 fn own_step(worker: u32) -> Step {
-    if worker == 1 {
-        Step::Receive(1, 1)
-    } else {
-        Step::Receive(2, 2)
+    match worker {
+        1 => Step::Receive(1, 1),
+        2 => Step::Receive(2, 2),
+        _ => Step::Submit(2, SEVEN),
     }
 }
 
@@ -67,10 +67,10 @@ impl<'a, L: Ledger> Meeting<'a, L> {
         }
     }
 
-    // Waits until both came; false where they did not.
+    // Waits until all came; false where they did not.
     fn wait<R: Wait>(&self, rt: &R) -> bool {
         for _ in 0..10_000_000u32 {
-            if self.marks.lock(rt).all_came() {
+            if self.marks.lock(rt).all_came(self.workers) {
                 return true;
             }
         }
@@ -98,35 +98,45 @@ impl<'a, L: Ledger + Send + Sync> Gate for Meeting<'a, L> {
     }
 }
 
-// Two members that wait for each other in their only turn.
-fn two_members<L: Ledger + Send + Sync, R: Threads + Wait + Sync>(
+// One turn of each member, and a script of one submission.
+fn one_script(alloc: Global) -> Result<Plan, AllocError>
+    ensures within { IfOk result IsWithin }
+    ensures scripts { IfOk result (λ plan. vec_len plan.scripts ≡ 1) }
+    ensures turns { IfOk result (λ plan. plan.turns ≡ 1) }
+    ensures entries { IfOk result (λ plan. entries plan ≤ 100000) }
+{
+    let script = vec![in alloc; Disturbance::Submit(2, SEVEN)]?;
+    let scripts = vec![in alloc; script]?;
+    Ok(Plan { turns: 1, scripts })
+}
+
+// Two members and the plan's scripts, which wait for one another in their only turns.
+fn met<L: Ledger + Send + Sync, R: Threads + Wait + Sync>(
     rt: &R,
     alloc: Global,
     blank: Blank,
+    plan: &Plan,
 ) -> Result<(World, Marks), Fail>
     requires name { blank.name ≡ L.name }
     requires parts { blank.parts ≡ L.parts }
     requires whole { L.parts ≡ 1000 }
+    requires plan { IsWithin plan.now }
+    requires entries { entries plan.now ≤ 100000 }
 {
     let (world, board) = submitted(alloc, 2)?;
     let (hall, mut share) = Hall::<L>::new(blank, world, board);
-    let mut detectors: Vec<Box<dyn Detector>> = Vec::new(alloc);
-    detectors.push(Box::new(alloc, Never::new())?)?;
-    detectors.push(Box::new(alloc, Never::new())?)?;
+    let detectors = never(alloc, 2)?;
     if usize::from(hall.group().n()) != detectors.len() {
         return Err(Fail::from("two members"));
     }
-    let plan = Plan {
-        turns: 1,
-        scripts: Vec::new(alloc),
-    };
     let gate = Meeting {
         hall: &hall,
         alloc,
+        workers: detectors.len() + plan.scripts.len(),
         marks: Mutex::new(Marks::none()),
     };
     if hall
-        .run_free(rt, alloc, &plan, detectors, &gate, &mut share)
+        .run_free(rt, alloc, plan, detectors, &gate, &mut share)
         .is_err()
     {
         return Err(Fail::from("run"));
@@ -134,6 +144,7 @@ fn two_members<L: Ledger + Send + Sync, R: Threads + Wait + Sync>(
     let Meeting {
         hall: _,
         alloc: _,
+        workers: _,
         marks,
     } = gate;
     let settled = hall.settled(rt, alloc, &mut share)?;
@@ -142,11 +153,27 @@ fn two_members<L: Ledger + Send + Sync, R: Threads + Wait + Sync>(
 
 #[test]
 fn two_members_run_at_the_same_time(rt: HostRuntime) -> Result<(), Fail> {
-    let (settled, marks) = two_members::<Brand, _>(&rt, rt.alloc(), Blank::new(1000))?;
+    let alloc = rt.alloc();
+    let plan = Plan {
+        turns: 1,
+        scripts: Vec::new(alloc),
+    };
+    let (settled, marks) = met::<Brand, _>(&rt, alloc, Blank::new(1000), &plan)?;
     assert!(rt; !marks.gave_up);
-    assert_eq!(rt; marks.right_before, 2);
-    assert_eq!(rt; marks.right_after, 2);
+    assert_eq!(rt; (marks.right_before, marks.right_after), (2, 2));
     assert_eq!(rt; settled.record().len(), 3);
     assert_eq!(rt; settled.sent(), 4);
+    Ok(())
+}
+
+#[test]
+fn two_members_and_a_script_run_at_the_same_time(rt: HostRuntime) -> Result<(), Fail> {
+    let alloc = rt.alloc();
+    let plan = one_script(alloc)?;
+    let (settled, marks) = met::<Brand, _>(&rt, alloc, Blank::new(1000), &plan)?;
+    assert!(rt; !marks.gave_up);
+    assert_eq!(rt; (marks.right_before, marks.right_after), (3, 3));
+    assert_eq!(rt; settled.record().len(), 4);
+    assert_eq!(rt; settled.sent(), 6);
     Ok(())
 }

@@ -1,29 +1,8 @@
 ghost use Rattle.std.specs.Prelude.{◌≡◌, ◌≤◌, IfOk, vec_len};
 ghost use Rattle.ct_rehearse.specs.Plans.{IsWithin, entries};
 
+use super::counting::Counting;
 use super::*;
-use ct_detect::{Detector, Never};
-use std::alloc::AllocError;
-use std::sync::{Mutex, Wait};
-use std::thread::Threads;
-
-// It counts its calls.
-#[derive(Drop)]
-struct Counting {
-    calls: Mutex<(u32, u32)>,
-}
-
-impl Gate for Counting {
-    fn before<R: Wait>(&self, rt: &R, _worker: u32, _turn: u32) {
-        let mut calls = self.calls.lock(rt);
-        calls.0 = calls.0.saturating_add(1);
-    }
-
-    fn after<R: Wait>(&self, rt: &R, _worker: u32, _turn: u32) {
-        let mut calls = self.calls.lock(rt);
-        calls.1 = calls.1.saturating_add(1);
-    }
-}
 
 // No turns of members, and a script of submissions, of which one is refused, and a crash.
 fn scripted(alloc: Global) -> Result<Plan, AllocError>
@@ -55,22 +34,17 @@ fn disturbed<L: Ledger + Send + Sync, R: Threads + Wait + Sync>(
 {
     let (world, board) = submitted(alloc, 2)?;
     let (hall, mut share) = Hall::<L>::new(blank, world, board);
-    let mut detectors: Vec<Box<dyn Detector>> = Vec::new(alloc);
-    detectors.push(Box::new(alloc, Never::new())?)?;
-    detectors.push(Box::new(alloc, Never::new())?)?;
+    let detectors = never(alloc, 2)?;
     if usize::from(hall.group().n()) != detectors.len() {
         return Err(Fail::from("two members"));
     }
     let plan = scripted(alloc)?;
-    let gate = Counting {
-        calls: Mutex::new((0, 0)),
-    };
+    let gate = Counting::new();
     let Ok(made) = hall.run_free(rt, alloc, &plan, detectors, &gate, &mut share) else {
         return Err(Fail::from("run"));
     };
     let settled = hall.settled(rt, alloc, &mut share)?;
-    let Counting { calls } = gate;
-    Ok((made, settled, calls.into_inner()))
+    Ok((made, settled, gate.into_calls()))
 }
 
 #[test]

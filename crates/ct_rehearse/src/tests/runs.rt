@@ -2,10 +2,7 @@ ghost use Rattle.std.specs.Prelude.{◌≡◌};
 
 use super::following::Followed;
 use super::*;
-use ct_detect::{Detector, Never};
 use ct_names::Message;
-use std::sync::Wait;
-use std::thread::Threads;
 
 // Steps that are made, worlds that are shown, and a watcher that follows.
 #[derive(Drop)]
@@ -28,8 +25,7 @@ fn one_member<L: Ledger + Send + Sync, R: Threads + Wait + Sync>(
 {
     let (world, board) = submitted(alloc, 1)?;
     let (hall, mut share) = Hall::<L>::new(blank, world, board);
-    let mut detectors: Vec<Box<dyn Detector>> = Vec::new(alloc);
-    detectors.push(Box::new(alloc, Never::new())?)?;
+    let detectors = never(alloc, 1)?;
     if usize::from(hall.group().n()) != detectors.len() {
         return Err(Fail::from("one member"));
     }

@@ -1,23 +1,23 @@
 ghost use Rattle.std.specs.Prelude.{◌≡◌};
 
 use super::*;
-use ct_detect::Always;
+use ct_detect::{Always, EveryNth};
 use ct_names::{Member, Refusal};
 use ct_world::Effect;
 
-// Makes a turn of the member, where the share has at most 1,000,000 steps; answers whether it did.
+// Makes a turn of the member, where the share can still count; answers what came of it.
 fn turned<L: Ledger>(
     desk: &mut Desk<L>,
     share: &mut Share<L>,
     board: &Board,
     member: Member,
-    detector: &mut Always,
-) -> bool {
-    if share.steps() > 1_000_000 {
-        return false;
+    detector: &mut dyn Detector,
+) -> Option<Came> {
+    if share.steps() == u64::MAX {
+        return None;
     }
-    let _ = turn(desk, share, board, member, detector);
-    true
+    let turn = turn(desk, share, board, member, detector);
+    Some(came_of(&turn))
 }
 
 // Two members, one submission, detectors that suspect always, 500 turns of each.
@@ -33,7 +33,7 @@ fn suspecting<L: Ledger>(alloc: Global, blank: Blank) -> Result<World, Fail>
     for _ in 0..500u32 {
         let first = turned(&mut desk, &mut share, &board, 1, &mut one);
         let second = turned(&mut desk, &mut share, &board, 2, &mut two);
-        if !first || !second {
+        if first.is_none() || second.is_none() {
             return Err(Fail::from("more steps than turns"));
         }
     }
@@ -46,8 +46,61 @@ fn nobody_decides_where_all_suspect(rt: HostRuntime) -> Result<(), Fail> {
     for member in 1..=2u8 {
         assert!(rt; world.decided(member, 1).is_none());
         assert!(rt; world.delivered(member).is_some_and(|list| list.is_empty()));
+        assert!(rt;
+            world
+                .table(member)
+                .is_some_and(|table| (0..16).all(|at| table.get(at) == Some(0)))
+        );
         assert!(rt; world.round(member).is_some());
     }
+    Ok(())
+}
+
+// The first member entered round 1, and waits for a proposal with nothing in its line.
+fn waiting_in_round_one() -> [Step; 12] {
+    [
+        Step::Submit(1, Command::Set(0, 1)),
+        Step::Submit(2, Command::Set(0, 2)),
+        Step::Receive(1, 1),
+        Step::Receive(2, 5),
+        Step::Begin(1),
+        Step::Begin(2),
+        Step::Enter(1),
+        Step::Enter(2),
+        Step::Receive(2, 7),
+        Step::Receive(2, 8),
+        Step::Receive(1, 4),
+        Step::Receive(1, 9),
+    ]
+}
+
+// What comes of three turns of a member that waits, with a detector that says yes at the third ask.
+fn asking<L: Ledger>(alloc: Global, blank: Blank) -> Result<[Option<Came>; 3], Fail>
+    requires name { blank.name ≡ L.name }
+    requires parts { blank.parts ≡ L.parts }
+    requires whole { L.parts ≡ 1000 }
+{
+    let (mut world, board) = started(alloc, 3)?;
+    for step in waiting_in_round_one() {
+        let _ = world.apply(&board, &step)?;
+    }
+    let (mut desk, mut share) = Desk::<L>::new(blank, world);
+    let mut detector = EveryNth::new(3).ok_or("a number")?;
+    Ok([
+        turned(&mut desk, &mut share, &board, 1, &mut detector),
+        turned(&mut desk, &mut share, &board, 1, &mut detector),
+        turned(&mut desk, &mut share, &board, 1, &mut detector),
+    ])
+}
+
+#[test]
+fn a_turn_asks_its_detector_once(rt: HostRuntime) -> Result<(), Fail> {
+    let turns = asking::<Brand>(rt.alloc(), Blank::new(1000))?;
+    let suspicion = (Step::Suspect(1), 1, None);
+    assert_eq!(rt;
+        turns,
+        [Some(Ok(None)), Some(Ok(None)), Some(Ok(Some(suspicion)))]
+    );
     Ok(())
 }
 

@@ -4,12 +4,8 @@ ghost use Rattle.ct_rehearse.specs.Plans.{IsWithin, entries};
 use super::following::Followed;
 use super::*;
 use ct_board::Watcher;
-use ct_detect::{Detector, Never};
 use ct_names::Message;
-use std::alloc::AllocError;
-use std::sync::Wait;
 use std::thread;
-use std::thread::Threads;
 
 // What a watcher came to: what it read of the first two batches, its first two registers, and how many it was told of.
 #[derive(Clone, Copy, Debug, PartialEq, Eq)]
@@ -111,11 +107,11 @@ fn a_watcher_reads_what_another_thread_posts(rt: HostRuntime) -> Result<(), Fail
     Ok(())
 }
 
-// 400 turns of each member, and a script of two submissions. The registers tell which was delivered first.
+// 2,000 turns of each member, and a script of two submissions. The registers tell which was delivered first.
 fn submissions(alloc: Global) -> Result<Plan, AllocError>
     ensures within { IfOk result (λ plan. IsWithin plan) }
     ensures scripts { IfOk result (λ plan. vec_len plan.scripts ≡ 1) }
-    ensures turns { IfOk result (λ plan. plan.turns ≡ 400) }
+    ensures turns { IfOk result (λ plan. plan.turns ≡ 2000) }
     ensures entries { IfOk result (λ plan. entries plan ≤ 100000) }
 {
     let script = vec![in alloc;
@@ -125,7 +121,7 @@ fn submissions(alloc: Global) -> Result<Plan, AllocError>
     let mut scripts = Vec::new(alloc);
     scripts.push(script)?;
     Ok(Plan {
-        turns: 400,
+        turns: 2_000,
         scripts,
     })
 }
@@ -142,10 +138,7 @@ fn three_members<L: Ledger + Send + Sync, R: Threads + Wait + Sync>(
 {
     let (world, board) = started(alloc, 3)?;
     let (hall, mut share) = Hall::<L>::new(blank, world, board);
-    let mut detectors: Vec<Box<dyn Detector>> = Vec::new(alloc);
-    detectors.push(Box::new(alloc, Never::new())?)?;
-    detectors.push(Box::new(alloc, Never::new())?)?;
-    detectors.push(Box::new(alloc, Never::new())?)?;
+    let detectors = never(alloc, 3)?;
     if usize::from(hall.group().n()) != detectors.len() {
         return Err(Fail::from("three members"));
     }
@@ -165,6 +158,7 @@ fn three_members<L: Ledger + Send + Sync, R: Threads + Wait + Sync>(
 fn a_watcher_follows_three_members(rt: HostRuntime) -> Result<(), Fail> {
     let (followed, settled) = three_members::<Brand, _>(&rt, rt.alloc(), Blank::new(1000))?;
     let posted = usize::from(settled.posted());
+    assert!(rt; posted > 0);
     assert_eq!(rt; followed.told_and_read(), (posted, posted));
     let member = followed.level_with(&settled).ok_or("a member")?;
     assert!(rt; followed.agrees(&settled, member));

@@ -1,0 +1,139 @@
+ghost use Rattle.std.specs.Prelude.{IfOk};
+ghost use Rattle.ct_rehearse.specs.Plans.{IsWithin};
+
+use super::counting::Counting;
+use super::*;
+use ct_detect::{Always, Ask, EveryNth, Listed, Seeded};
+use ct_names::MemberSet;
+
+// A detector that says yes and no by turns.
+#[derive(Drop)]
+struct Alternating {
+    last: Option<(Ask, bool)>,
+}
+
+impl Detector for Alternating {
+    ghost last = { λ detector. detector.last };
+
+    fn suspects(&mut self, ask: Ask) -> bool {
+        let answer = match self.last {
+            Some((_, answer)) => !answer,
+            None => true,
+        };
+        self.last = Some((ask, answer));
+        answer
+    }
+
+    fn last(&self) -> Option<(Ask, bool)> {
+        self.last
+    }
+}
+
+// 200 turns of each member, and a script of four submissions and a crash.
+fn disturbed(alloc: Global) -> Result<Plan, AllocError>
+    ensures { IfOk result IsWithin }
+{
+    let script = vec![in alloc;
+        Disturbance::Submit(1, SEVEN),
+        Disturbance::Submit(2, SEVEN),
+        Disturbance::Submit(3, SEVEN),
+        Disturbance::Submit(2, SEVEN),
+        Disturbance::Crash(1),
+    ]?;
+    let scripts = vec![in alloc; script]?;
+    Ok(Plan {
+        turns: 200,
+        scripts,
+    })
+}
+
+// Whether the world is that after its record, from nothing.
+fn is_replayed(alloc: Global, world: &World) -> bool {
+    match World::replay(alloc, world.group(), world.cells(), world.record()) {
+        Ok((again, _board)) => {
+            again.record() == world.record()
+                && again.sent() == world.sent()
+                && again.posted() == world.posted()
+        }
+        Err(_) => false,
+    }
+}
+
+// Runs three members with these detectors: all 605 turns pass the gate, members take steps, and the record replays.
+fn replays<R: Threads + Wait + Sync>(
+    rt: &R,
+    alloc: Global,
+    detectors: Vec<Box<dyn Detector>>,
+) -> Result<(), Fail> {
+    let plan = disturbed(alloc)?;
+    let gate = Counting::new();
+    let done = ran(rt, alloc, started(alloc, 3)?, &plan, detectors, &gate)?;
+    if gate.into_calls() != (605, 605) {
+        return Err(Fail::from("605 turns"));
+    }
+    if done.made.steps <= 5 {
+        return Err(Fail::from("steps of members"));
+    }
+    if !is_replayed(alloc, &done.world) {
+        return Err(Fail::from("replayed"));
+    }
+    Ok(())
+}
+
+#[test]
+fn a_run_that_suspects_nobody_is_replayed(rt: HostRuntime) -> Result<(), Fail> {
+    let alloc = rt.alloc();
+    replays(&rt, alloc, never(alloc, 3)?)
+}
+
+#[test]
+fn a_run_that_suspects_always_is_replayed(rt: HostRuntime) -> Result<(), Fail> {
+    let alloc = rt.alloc();
+    let mut detectors: Vec<Box<dyn Detector>> = Vec::new(alloc);
+    for _ in 0..3u8 {
+        detectors.push(Box::new(alloc, Always::new())?)?;
+    }
+    replays(&rt, alloc, detectors)
+}
+
+#[test]
+fn a_run_that_suspects_the_listed_is_replayed(rt: HostRuntime) -> Result<(), Fail> {
+    let alloc = rt.alloc();
+    let mut detectors: Vec<Box<dyn Detector>> = Vec::new(alloc);
+    for _ in 0..3u8 {
+        let mut listed = MemberSet::new();
+        listed.insert(2);
+        detectors.push(Box::new(alloc, Listed::new(listed))?)?;
+    }
+    replays(&rt, alloc, detectors)
+}
+
+#[test]
+fn a_run_that_suspects_at_each_third_ask_is_replayed(rt: HostRuntime) -> Result<(), Fail> {
+    let alloc = rt.alloc();
+    let mut detectors: Vec<Box<dyn Detector>> = Vec::new(alloc);
+    for _ in 0..3u8 {
+        detectors.push(Box::new(alloc, EveryNth::new(3).ok_or("a number")?)?)?;
+    }
+    replays(&rt, alloc, detectors)
+}
+
+#[test]
+fn a_run_that_suspects_at_random_is_replayed(rt: HostRuntime) -> Result<(), Fail> {
+    let alloc = rt.alloc();
+    let mut detectors: Vec<Box<dyn Detector>> = Vec::new(alloc);
+    for seed in 1..=3u64 {
+        detectors.push(Box::new(alloc, Seeded::new(seed, 64))?)?;
+    }
+    replays(&rt, alloc, detectors)
+}
+
+#[test]
+fn a_run_that_suspects_by_turns_is_replayed(rt: HostRuntime) -> Result<(), Fail> {
+    let alloc = rt.alloc();
+    let mut detectors: Vec<Box<dyn Detector>> = Vec::new(alloc);
+    for _ in 0..3u8 {
+        detectors.push(Box::new(alloc, Alternating { last: None })?)?;
+    }
+    replays(&rt, alloc, detectors)
+}
