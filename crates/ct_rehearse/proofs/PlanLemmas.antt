@@ -1,6 +1,6 @@
 -- What a plan within its limits comes to at most.
 use Rattle.std.proofs.Common.{◌≡◌, ◌+◌, ◌*◌, ◌^◌, ◌<◌, ◌≤◌, ℕ, arith, length, vec_len}
-use Rattle.std.proofs.Math.Nat.{mul-le-mul_left, mul-le-mul_right}
+use Rattle.std.proofs.Math.Nat.{mul-le-mul_left}
 use Rattle.std.proofs.lemmas.List.Sums.{sum_by-le}
 use Rattle.ct_rehearse.specs.declared.plan.Plan.{Plan}
 use Rattle.ct_rehearse.specs.Plans.{entries, turns_planned, IsWithin}

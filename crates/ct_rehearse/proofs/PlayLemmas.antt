@@ -1,9 +1,9 @@
 -- What one more step of a list comes to.
-use Rattle.std.proofs.Common.{◌≡◌, ◌⊎◌, inl, inr, ℕ, ◌+◌, Bool, true, false, not, ◌&&◌, cond, List, [], ◌∷◌, ◌++◌, length, Option, Some, None, refl, sym, ap, ◌∙◌, append_assoc, append-nil, add-zero, add_assoc, length-append, arith}
+use Rattle.std.proofs.Common.{◌≡◌, inl, inr, ℕ, ◌+◌, Bool, true, false, not, ◌&&◌, List, [], ◌∷◌, ◌++◌, length, Option, Some, None, refl, sym, ap, ◌∙◌, append_assoc, append-nil, add-zero, add_assoc, length-append, arith}
 use Rattle.std.specs.Prelude.{is_none, unwrap_or, option_and_then, if◌then◌else◌}
 use Rattle.std.specs.Option.{option_map_or}
 use Rattle.ct_names.specs.declared.refusal.Refusal.{Refusal}
-use Rattle.ct_names.specs.declared.refusal.Refusal.TheVariants.{OutOfMemory, Board}
+use Rattle.ct_names.specs.declared.refusal.Refusal.TheVariants.{OutOfMemory}
 use Rattle.ct_model.specs.declared.step.Step.{Step}
 use Rattle.ct_model.specs.declared.step.Step.TheVariants.{Enter, Choose, Adopt, Suspect, Conclude, Deliver}
 use Rattle.ct_model.specs.Setting.{Setting}
@@ -14,7 +14,7 @@ use Rattle.ct_model.specs.Actor.{actor}
 use Rattle.ct_model.specs.Next.{next}
 use Rattle.ct_model.specs.State.{member}
 use Rattle.ct_model.specs.Rehearsal.{Rehearsal, extended, state_of, line_of}
-use Rattle.ct_model.specs.Cause.{cause, limit, limits, or_else, open_tests, presence, tests}
+use Rattle.ct_model.specs.Cause.{cause, limit, limits, or_else, presence, tests}
 use Rattle.ct_model.specs.Passed.{extended_by, passed}
 use Rattle.ct_model.proofs.Passing.{passed-snoc}
 use Rattle.ct_model.proofs.Tests.{and_left, and_right}

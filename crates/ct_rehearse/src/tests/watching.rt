@@ -107,11 +107,11 @@ fn a_watcher_reads_what_another_thread_posts(rt: HostRuntime) -> Result<(), Fail
     Ok(())
 }
 
-// 2,000 turns of each member, and a script of two submissions. The registers tell which was delivered first.
+// 400 turns of each member, and a script of two submissions. The registers tell which was delivered first.
 fn submissions(alloc: Global) -> Result<Plan, AllocError>
     ensures within { IfOk result (λ plan. IsWithin plan) }
     ensures scripts { IfOk result (λ plan. vec_len plan.scripts ≡ 1) }
-    ensures turns { IfOk result (λ plan. plan.turns ≡ 2000) }
+    ensures turns { IfOk result (λ plan. plan.turns ≡ 400) }
     ensures entries { IfOk result (λ plan. entries plan ≤ 100000) }
 {
     let script = vec![in alloc;
@@ -121,7 +121,7 @@ fn submissions(alloc: Global) -> Result<Plan, AllocError>
     let mut scripts = Vec::new(alloc);
     scripts.push(script)?;
     Ok(Plan {
-        turns: 2_000,
+        turns: 400,
         scripts,
     })
 }
