@@ -57,7 +57,10 @@ fn main(rt: HostRuntime) -> ExitCode {
     let Some((played, world)) = rehearse::<Brand>(rt.alloc(), Blank::new(1000)) else {
         return ExitCode::FAILURE;
     };
-    let _ = println!(rt; "applied {}, refused {}, short {}", played.applied, played.refused, played.short);
+    let _ = println!(rt;
+        "applied {}, refused {}, short {}",
+        played.applied, played.refused, played.short
+    );
     for member in 1..=world.group().n() {
         match delivered(rt.alloc(), &world, member) {
             Ok(text) => {

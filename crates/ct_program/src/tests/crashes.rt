@@ -84,9 +84,7 @@ fn crashed_everywhere(alloc: Global) -> Result<Vec<Outcome>, Fail> {
 }
 
 fn delivers(world: &World, member: Member) -> bool {
-    world
-        .delivered(member)
-        .is_some_and(|list| !list.is_empty())
+    world.delivered(member).is_some_and(|list| !list.is_empty())
 }
 
 // In how many of the outcomes the member delivered the message.

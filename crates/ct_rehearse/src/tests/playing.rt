@@ -88,8 +88,22 @@ fn a_batch_that_a_board_refuses_is_short(rt: HostRuntime) -> Result<(), Fail> {
     let board = Board::new(alloc, 4)?;
     let first = rehearsed::<Brand>(alloc, Blank::new(1000), &board, &DELIVERED)?;
     let second = rehearsed::<Brand>(alloc, Blank::new(1000), &board, &DELIVERED)?;
-    assert_eq!(rt; (first.played.applied, first.played.refused, first.played.short), (12, 0, 0));
-    assert_eq!(rt; (second.played.applied, second.played.refused, second.played.short), (11, 0, 1));
+    assert_eq!(rt;
+        (
+            first.played.applied,
+            first.played.refused,
+            first.played.short
+        ),
+        (12, 0, 0)
+    );
+    assert_eq!(rt;
+        (
+            second.played.applied,
+            second.played.refused,
+            second.played.short
+        ),
+        (11, 0, 1)
+    );
     assert_eq!(rt; first.world.posted(), 1);
     assert_eq!(rt; second.world.posted(), 0);
     assert_eq!(rt; second.world.record().len(), 11);

@@ -11,9 +11,9 @@ returns-clause-lines c =
     let line = c.index_mut-line.result.now in
     let within : c.args.member - 1 < length lines = place lines c.args.self.now.lines c.args.member (ap (λ (v : NetworkView). v.lines) c.self.view_is) c.requires.member in
     let moved : c.join.new.self.serials ≡ put_last line.serials c.args.place =
-        c.join.ensures.serials
-        ∙ ap (λ ks. ks ++ slice_index_or c.as_slice.result.now c.args.place 0 ∷ []) c.leave.ensures.serials
-        ∙ ap (λ ks. remove line.serials c.args.place ++ slice_index_or ks c.args.place 0 ∷ []) c.as_slice.ensures in
+    c.join.ensures.serials
+    ∙ ap (λ ks. ks ++ slice_index_or c.as_slice.result.now c.args.place 0 ∷ []) c.leave.ensures.serials
+    ∙ ap (λ ks. remove line.serials c.args.place ++ slice_index_or ks c.args.place 0 ∷ []) c.as_slice.ensures in
     serials-set lines (c.args.member - 1) c.join.new.self
     ∙ ap (set (serials_of lines) (c.args.member - 1))
     (moved ∙ ap (λ ks. put_last ks c.args.place) (line_there lines (c.args.member - 1) line within c.index_mut-line.ensures.value))

@@ -29,7 +29,7 @@ unreachable-requires c =
     let w = c.args.self.now.rehearsal in
     let world = world_seen c.self.inside c.args.self.now c.self.view_is c.self.invariant in
     let stands : place_of c.args.serial (line_of w c.args.member) ≡ Some c.in-Some.place =
-        sym (found_in w (fields_in c.self.inside) c.args.member c.args.serial world c.in-Ok.ensures.present.in_group) ∙ sym c.in-Some.ensures in
+    sym (found_in w (fields_in c.self.inside) c.args.member c.args.serial world c.in-Ok.ensures.present.in_group) ∙ sym c.in-Some.ensures in
     awaited-some w (fields_in c.self.inside) c.args.member c.args.serial world (stands-there c.args.serial c.in-Some.place (line_of w c.args.member) stands) c.in-None.ensures
 
 pub returns-then-passes_on : goal.returns-then-passes_on
@@ -38,7 +38,7 @@ returns-then-passes_on c =
     let world = world_seen c.self.inside c.args.self.now c.self.view_is c.self.invariant in
     let actor = c.in-Ok.ensures in
     let stands : place_of c.args.serial (line_of w c.args.member) ≡ Some c.in-Some.place =
-        sym (found_in w (fields_in c.self.inside) c.args.member c.args.serial world actor.present.in_group) ∙ sym c.in-Some.ensures in
+    sym (found_in w (fields_in c.self.inside) c.args.member c.args.serial world actor.present.in_group) ∙ sym c.in-Some.ensures in
     let waits = stands-there c.args.serial c.in-Some.place (line_of w c.args.member) stands in
     let group = ap (λ (v : WorldView). v.rehearsal.setting.members) c.self.view_is in
     let seats : c.len.result ≡ w.setting.members = c.len.ensures ∙ c.self.inside.seats.ok.0 ∙ world.seated in
@@ -53,7 +53,7 @@ returns-else-passes_on c =
     let world = world_seen c.self.inside c.args.self.now c.self.view_is c.self.invariant in
     let actor = c.in-Ok.ensures in
     let stands : place_of c.args.serial (line_of w c.args.member) ≡ Some c.in-Some.place =
-        sym (found_in w (fields_in c.self.inside) c.args.member c.args.serial world actor.present.in_group) ∙ sym c.in-Some.ensures in
+    sym (found_in w (fields_in c.self.inside) c.args.member c.args.serial world actor.present.in_group) ∙ sym c.in-Some.ensures in
     let waits = stands-there c.args.serial c.in-Some.place (line_of w c.args.member) stands in
     let group = ap (λ (v : WorldView). v.rehearsal.setting.members) c.self.view_is in
     unless-found w (Receive c.args.member c.args.serial) c.overflow-else-passes_on.result c.in-Some.place c.unless-else-passes_on.result
