@@ -15,12 +15,10 @@ use crate::writing::write_record;
 use ct_board::Board;
 use ct_detect::Detector;
 use ct_names::Group;
-use ct_rehearse::{Hall, NoGate};
+use ct_rehearse::{NoGate, rehearse};
 use ct_world::World;
 use std::alloc::Global;
-use std::marker::Brand;
 use std::sync::Wait;
-use std::sync::ledger::{Blank, Ledger};
 use std::thread::Threads;
 
 /// Runs a group freely: each member makes its turns in a thread of its own, with its detector, the first detector being
@@ -48,8 +46,7 @@ pub fn free<R: Threads + Wait + Sync, W: Sink>(
     ensures writer { result ≡ Err ProgramFault.Write → W.failures writer.new ≡ W.failures writer.old + 1 }
     ensures no_write { result ≢ Err ProgramFault.Write → W.failures writer.new ≡ W.failures writer.old }
 {
-    let blank = Blank::new(1000);
-    let world = settled::<Brand, R>(rt, alloc, blank, options, detectors)?;
+    let world = rehearsed(rt, alloc, options, detectors)?;
     let text = line_of(alloc, options, &world)?;
     match write_all(writer, &text) {
         Ok(()) => Ok(()),
@@ -57,17 +54,13 @@ pub fn free<R: Threads + Wait + Sync, W: Sink>(
     }
 }
 
-// The world after the run. No lock is held when it is handed out.
-fn settled<L: Ledger + Send + Sync, R: Threads + Wait + Sync>(
+// The world after the run.
+fn rehearsed<R: Threads + Wait + Sync>(
     rt: &R,
     alloc: Global,
-    blank: Blank,
     options: &FreeOptions,
     detectors: Vec<Box<dyn Detector>>,
 ) -> Result<World, ProgramFault>
-    requires name { blank.name ≡ L.name }
-    requires parts { blank.parts ≡ L.parts }
-    requires whole { L.parts ≡ 1000 }
     requires range { InRange options.now }
     requires detectors { vec_len detectors ≡ options.now.members }
     ensures { IfErr result (λ fault. (fault ≡ ProgramFault.Memory) ⊎ (fault ≡ ProgramFault.Start)) }
@@ -77,11 +70,9 @@ fn settled<L: Ledger + Send + Sync, R: Threads + Wait + Sync>(
     let Ok(board) = Board::new(alloc, usize::from(options.cells)) else {
         return Err(ProgramFault::Memory);
     };
-    let (hall, mut share) = Hall::<L>::new(blank, world, board);
-    hall.run_free(rt, alloc, &plan, detectors, &NoGate, &mut share)?;
-    match hall.settled(rt, alloc, &mut share) {
-        Ok(world) => Ok(world),
-        Err(_) => Err(ProgramFault::Memory),
+    match rehearse(rt, alloc, world, board, &plan, detectors, &NoGate) {
+        Ok(done) => Ok(done.world),
+        Err(fault) => Err(ProgramFault::from(fault.cause)),
     }
 }
 
