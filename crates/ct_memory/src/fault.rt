@@ -12,9 +12,30 @@ pub enum Fault {
     /// Memory was refused where nothing is tried.
     #[error("out of memory")]
     Memory,
-    /// What is left is not what was promised.
-    #[error("{0}")]
-    Broken(&'static str),
+    /// Standard input fails.
+    #[error("read failed")]
+    Input,
+    /// The input is no record.
+    #[error("no record")]
+    Record,
+    /// A step is refused for another cause than memory.
+    #[error("a step is refused")]
+    Step,
+    /// A step that was refused for memory changed the world.
+    #[error("a refused step changed the world")]
+    Changed,
+    /// A step is refused for memory once more.
+    #[error("a step is refused twice")]
+    Twice,
+    /// The hall has another group than its world.
+    #[error("another group")]
+    Group,
+    /// The share has other steps than the record.
+    #[error("the share has other steps than the record")]
+    Share,
+    /// The record of the free run leads to another world.
+    #[error("the record leads to another world")]
+    Replay,
 }
 
 impl Fault {
@@ -22,7 +43,7 @@ impl Fault {
     pub fn status(&self) -> u8 {
         match self {
             Fault::Memory => 5,
-            Fault::Broken(_) => 1,
+            _ => 1,
         }
     }
 }
@@ -43,7 +64,7 @@ impl From<Refusal> for Fault {
     fn from(refusal: Refusal) -> Fault {
         match refusal {
             Refusal::OutOfMemory => Fault::Memory,
-            _ => Fault::Broken("a step is refused for another cause than memory"),
+            _ => Fault::Step,
         }
     }
 }
@@ -58,7 +79,7 @@ impl From<ReadFault> for Fault {
     fn from(fault: ReadFault) -> Fault {
         match fault {
             ReadFault::OutOfMemory => Fault::Memory,
-            _ => Fault::Broken("the input is no record"),
+            _ => Fault::Record,
         }
     }
 }

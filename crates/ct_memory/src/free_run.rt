@@ -25,7 +25,9 @@ pub fn free_run<L: Ledger + Send + Sync, R: Threads + Wait + Sync>(
     requires parts { blank.parts ≡ L.parts }
     requires whole { L.parts ≡ 1000 }
 {
-    let group = Group::new(1).ok_or(Fault::Broken("no group of one member"))?;
+    let Some(group) = Group::new(1) else {
+        return Err(Fault::Group);
+    };
     let mut world = World::new(alloc, group, 4)?;
     let board = Board::new(alloc, 4)?;
     let _ = world.apply(&board, &Step::Submit(1, Command::Set(0, 7)))?;
@@ -33,7 +35,7 @@ pub fn free_run<L: Ledger + Send + Sync, R: Threads + Wait + Sync>(
     let mut detectors: Vec<Box<dyn Detector>> = Vec::new(alloc);
     detectors.push(Box::new(alloc, Never::new())?)?;
     if detectors.len() != usize::from(hall.group().n()) {
-        return Err(Fault::Broken("another group"));
+        return Err(Fault::Group);
     }
     let plan = Plan {
         turns: 100,
@@ -50,12 +52,12 @@ pub fn free_run<L: Ledger + Send + Sync, R: Threads + Wait + Sync>(
 // The world has so many steps, and they lead to it.
 fn replay_again(alloc: Global, world: &World, steps: u64) -> Result<(), Fault> {
     if world.record().len() as u64 != steps {
-        return Err(Fault::Broken("the share has other steps than the record"));
+        return Err(Fault::Share);
     }
     let (again, _board) = World::replay(alloc, world.group(), world.cells(), world.record())?;
     if again.record() == world.record() {
         Ok(())
     } else {
-        Err(Fault::Broken("the record leads to another world"))
+        Err(Fault::Replay)
     }
 }

@@ -66,6 +66,6 @@ fn input(rt: &HostRuntime) -> Result<Vec<u8>, Fault> {
     match rt.reader().read_to_end(&mut bytes) {
         Ok(_) => Ok(bytes),
         Err(error) if error.kind() == io::ErrorKind::OutOfMemory => Err(Fault::Memory),
-        Err(_) => Err(Fault::Broken("the input fails")),
+        Err(_) => Err(Fault::Input),
     }
 }

@@ -39,11 +39,11 @@ fn do_at_last(
         Err(refusal) => return Err(Fault::from(refusal)),
     }
     if !is_same(before, world) {
-        return Err(Fault::Broken("a refused step changed the world"));
+        return Err(Fault::Changed);
     }
     match world.apply(board, step) {
         Ok(_) => Ok(false),
-        Err(_) => Err(Fault::Broken("a step is refused once more")),
+        Err(_) => Err(Fault::Twice),
     }
 }
 
