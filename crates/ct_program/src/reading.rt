@@ -16,7 +16,7 @@ use serde_json::{Map, Value};
 use std::alloc::Global;
 
 // How many bytes a record may have.
-const MAX_LEN: usize = 67_108_864;
+pub(crate) const MAX_LEN: usize = 67_108_864;
 
 // The record as a whole has another shape.
 const ODD: ReadFault = ReadFault::Shape { at: 0 };

@@ -1,5 +1,6 @@
 use super::*;
 use crate::quick::plain;
+use crate::reading::MAX_LEN;
 
 // A run with steps of each kind, but none that is refused.
 const RUN: &str =
@@ -7,6 +8,9 @@ const RUN: &str =
 
 // How many steps the quick way takes from the record, where it takes them all.
 fn taken(alloc: Global, record: &[u8]) -> Result<Option<usize>, AllocError> {
+    if record.len() > MAX_LEN {
+        return Ok(None);
+    }
     Ok(plain(alloc, record)?.map(|script| script.steps.len()))
 }
 
