@@ -1,4 +1,4 @@
 use Rattle.ct_schedule.proofs.main.Given as goal
 
 abbrev pub ghosts-rehearse : goal.ghosts-rehearse
-ghosts-rehearse g a = record { name = a.blank.name; parts = a.blank.parts }
+ghosts-rehearse a = record { name = a.blank.name; parts = a.blank.parts }
