@@ -25,4 +25,3 @@ pub mod Lawful
 pub mod Allowed
 pub mod Knowledge
 pub mod StepText
-pub mod Moves

@@ -11,7 +11,6 @@ pub use laws::{
     law_agreement, law_cause, law_count, law_integrity, law_locked, law_prefix, law_relay,
     law_validity,
 };
-pub use laws::{law_agreement, law_integrity, law_locked, law_prefix, law_relay, law_validity};
 pub use moves::Move;
 pub use phase::Phase;
 pub use step::Step;

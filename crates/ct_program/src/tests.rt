@@ -8,12 +8,11 @@ use std::alloc::{AllocError, Global};
 use std::test::Fail;
 
 mod crashes;
-mod free;
-mod quick;
-mod hostile;
 mod faults;
 mod free;
 mod helps;
+mod hostile;
+mod quick;
 mod reports;
 
 const RECORD: &str =
