@@ -8,7 +8,7 @@ ghost use Rattle.ct_abcast.specs.Cast.{delivered, undelivered, batch_of, has_roo
 
 use crate::batch::Batch;
 use crate::delivered::Delivered;
-use ct_names::{Instance, Message, MsgSet};
+use ct_names::{Instance, MAX_INSTANCES, Message, MsgSet};
 use indexmap::IndexSet;
 use std::alloc::{AllocError, Global};
 use std::marker::Model;
@@ -147,7 +147,7 @@ impl Caster {
 
     /// Begins the next instance.
     pub fn begin(&mut self)
-        requires { self.old.instance < 1024 }
+        requires { self.old.instance < MAX_INSTANCES }
         ensures { self.new ≡ record self.old { instance = self.old.instance + 1 } }
     {
         self.instance += 1;

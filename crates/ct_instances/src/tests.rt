@@ -5,13 +5,13 @@ ghost use Rattle.ct_rounds.specs.Meaning.{wire_of};
 
 use super::*;
 use ct_model::{Move, Phase};
-use ct_names::{Command, Group, Instance, Member, Message, Refusal, Round, ValueId};
+use ct_names::{Command, Group, Instance, MAX_MEMBERS, Member, Message, Refusal, Round, ValueId};
 use ct_rounds::{Mail, Wire};
 use std::alloc::AllocError;
 use std::test::Fail;
 
 fn est(instance: Instance, from: Member, number: u32) -> Wire
-    requires { IsMember 16 from }
+    requires { IsMember MAX_MEMBERS from }
     ensures { NamesSomebody (wire_of result) }
 {
     let value = ValueId::new(number);

@@ -1,6 +1,7 @@
 -- Why a step is refused: the first of its tests that fires.
 use Rattle.std.specs.Prelude.{ℕ, ◌+◌, not, nat_lt, if◌then◌else◌, List, [], ◌∷◌, Option, Some, None, is_some, is_none, option_and_then, length, map}
 use Rattle.std.specs.Option.{option_map_or}
+use Rattle.ct_names.specs.declared.limit.TheConstants.{MAX_SUBMISSIONS, MAX_INSTANCES, MAX_ROUNDS, MAX_ENVELOPES, MAX_STEPS}
 use Rattle.ct_names.specs.declared.limit.Limit.TheVariants.{Submissions, Instances, Rounds, Envelopes, Cells, Steps}
 use Rattle.ct_names.specs.declared.refusal.Refusal.{Refusal}
 use Rattle.ct_names.specs.declared.refusal.Refusal.TheVariants.{NoSuchMember, Crashed, NotWaiting, Busy, Nothing, Idle, Undecided, BadCommand, Full}
@@ -64,12 +65,12 @@ round_of m = option_map_or (λ c. c.round) m.current 0
 -- the limits that a state passes, after a step of p, with this many cells and a record of this length
 abbrev pub limits : ℕ → ℕ → State → ℕ → List Test
 limits cells steps g p =
-    at (Full Submissions) (nat_lt 65535 (submissions g.submitted p))
-    ∷ at (Full Instances) (nat_lt 1024 (member g p).last)
-    ∷ at (Full Rounds) (nat_lt 10000 (round_of (member g p)))
-    ∷ at (Full Envelopes) (nat_lt 1000000 (length g.sent))
+    at (Full Submissions) (nat_lt MAX_SUBMISSIONS (submissions g.submitted p))
+    ∷ at (Full Instances) (nat_lt MAX_INSTANCES (member g p).last)
+    ∷ at (Full Rounds) (nat_lt MAX_ROUNDS (round_of (member g p)))
+    ∷ at (Full Envelopes) (nat_lt MAX_ENVELOPES (length g.sent))
     ∷ at (Full Cells) (nat_lt cells (length (order g)))
-    ∷ at (Full Steps) (nat_lt 1000000 steps)
+    ∷ at (Full Steps) (nat_lt MAX_STEPS steps)
     ∷ []
 
 -- the first limit that the state after the step passes
@@ -90,4 +91,4 @@ cause w step =
 -- the limit that a step passes that sends this many envelopes and comes near no other limit
 unfoldable pub overflow : Rehearsal → ℕ → Option Refusal
 overflow w more =
-    first_fault (at (Full Envelopes) (nat_lt 1000000 (length (state_of w).sent + more)) ∷ at (Full Steps) (nat_lt 1000000 (length w.steps + 1)) ∷ [])
+    first_fault (at (Full Envelopes) (nat_lt MAX_ENVELOPES (length (state_of w).sent + more)) ∷ at (Full Steps) (nat_lt MAX_STEPS (length w.steps + 1)) ∷ [])

@@ -1,5 +1,6 @@
 -- What is true of every record that a world keeps.
 use Rattle.std.specs.Prelude.{◌≡◌, ℕ, ◌-◌, ◌<◌, ◌≤◌, Bool, true, false, not, ◌&&◌, List, [], ◌∷◌, length, slice_get, Some}
+use Rattle.ct_names.specs.declared.limit.TheConstants.{MAX_ENVELOPES, MAX_INSTANCES, MAX_ROUNDS, MAX_STEPS, MAX_SUBMISSIONS}
 use Rattle.ct_names.specs.Group.{is_member}
 use Rattle.ct_model.specs.declared.step.Step.{Step}
 use Rattle.ct_model.specs.declared.step.Step.TheVariants.{Receive, Postpone}
@@ -17,12 +18,12 @@ is_distinct (k ∷ line) = not (has_serial k line) && is_distinct line
 
 -- no limit is passed
 pub record IsWithin (cells : ℕ) (g : State) (steps : ℕ) : Type 0 where
-  pub few_submissions : (p : ℕ) → submissions g.submitted p ≤ 65535
-  pub few_instances : (p : ℕ) → (member g p).last ≤ 1024
-  pub few_rounds : (p : ℕ) → round_of (member g p) ≤ 10000
-  pub few_envelopes : length g.sent ≤ 1000000
+  pub few_submissions : (p : ℕ) → submissions g.submitted p ≤ MAX_SUBMISSIONS
+  pub few_instances : (p : ℕ) → (member g p).last ≤ MAX_INSTANCES
+  pub few_rounds : (p : ℕ) → round_of (member g p) ≤ MAX_ROUNDS
+  pub few_envelopes : length g.sent ≤ MAX_ENVELOPES
   pub few_batches : length (order g) ≤ cells
-  pub few_steps : steps ≤ 1000000
+  pub few_steps : steps ≤ MAX_STEPS
 
 -- the record is a run that ends in its state, within the limits; and what holds of its waiting lines: a serial that
 -- wasn't sent isn't gone, what waits was sent to the member, and waits once

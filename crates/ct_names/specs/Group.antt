@@ -1,5 +1,6 @@
 -- A group of the members 1 to n. A set of members is the list of them, rising.
 use Rattle.std.specs.Prelude.{ℕ, zero, suc, ◌+◌, ◌/◌, ◌%◌, ◌≤◌, Bool, ◌&&◌, nat_le, List, [], ◌∷◌, length}
+use Rattle.ct_names.specs.declared.limit.TheConstants.{MAX_MEMBERS}
 use Rattle.ct_names.specs.Membership.{IsIn, IsWithoutRepeats}
 
 -- this many numbers, from the first on
@@ -13,7 +14,7 @@ members n = counting 1 n
 
 -- the numbers that a member may have
 abbrev pub everyone : List ℕ
-everyone = members 16
+everyone = members MAX_MEMBERS
 
 -- p is one of the group's members
 abbrev pub is_member : ℕ → ℕ → Bool

@@ -3,7 +3,9 @@
 ghost use Rattle.std.specs.Prelude.{◌≡◌};
 ghost use Rattle.ct_names.specs.Command.{is_good};
 
-/// What a message asks of a table of 16 registers, numbered from 0. The order is that of the variants, then of the
+use crate::limit::REGISTERS;
+
+/// What a message asks of a table of [`REGISTERS`] registers, numbered from 0. The order is that of the variants, then of the
 /// fields in turn.
 #[derive(Clone, Copy, Debug, PartialEq, Eq, PartialOrd, Ord, Hash)]
 pub enum Command {
@@ -16,14 +18,14 @@ pub enum Command {
 }
 
 impl Command {
-    /// Whether each register is below 16.
+    /// Whether each register is below [`REGISTERS`].
     pub fn good(&self) -> bool
         ensures { result ≡ is_good self.now }
     {
         match *self {
-            Command::Set(register, _) => register < 16,
-            Command::Add(register, _) => register < 16,
-            Command::Copy(from, to) => from < 16 && to < 16,
+            Command::Set(register, _) => register < REGISTERS,
+            Command::Add(register, _) => register < REGISTERS,
+            Command::Copy(from, to) => from < REGISTERS && to < REGISTERS,
         }
     }
 }

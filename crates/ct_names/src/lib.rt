@@ -18,7 +18,10 @@ pub use book::Book;
 pub use command::Command;
 pub use group::Group;
 pub use laws::law_majorities;
-pub use limit::Limit;
+pub use limit::{
+    Limit, MAX_CELLS, MAX_ENVELOPES, MAX_INSTANCES, MAX_MEMBERS, MAX_ROUNDS, MAX_STEPS,
+    MAX_SUBMISSIONS, REGISTERS,
+};
 pub use member_set::MemberSet;
 pub use message::Message;
 pub use msg_set::MsgSet;

@@ -3,22 +3,47 @@
 ghost use Rattle.std.specs.Prelude.{◌≡◌, Some};
 ghost use Rattle.ct_names.specs.RefusalText.{limit_text};
 
+use crate::{Instance, Round};
 use std::fmt;
+
+/// How many members a group has at most.
+pub const MAX_MEMBERS: u8 = 16;
+
+/// How many registers a table has.
+pub const REGISTERS: u8 = 16;
+
+/// How many messages a member submits at most.
+pub const MAX_SUBMISSIONS: u32 = 65_535;
+
+/// How many instances a member begins at most.
+pub const MAX_INSTANCES: Instance = 1_024;
+
+/// How many rounds an instance has at most.
+pub const MAX_ROUNDS: Round = 10_000;
+
+/// How many envelopes are sent at most.
+pub const MAX_ENVELOPES: usize = 1_000_000;
+
+/// How many cells for batches a world has at most.
+pub const MAX_CELLS: u16 = 1_024;
+
+/// How many steps a record has at most.
+pub const MAX_STEPS: usize = 1_000_000;
 
 /// A limit that a step would pass, in the order of testing.
 #[derive(Clone, Copy, Debug, PartialEq, Eq)]
 pub enum Limit {
-    /// 65,535 submissions of each member.
+    /// [`MAX_SUBMISSIONS`] of each member.
     Submissions,
-    /// 1,024 instances begun by a member.
+    /// [`MAX_INSTANCES`] begun by a member.
     Instances,
-    /// 10,000 rounds of one instance.
+    /// [`MAX_ROUNDS`] of one instance.
     Rounds,
-    /// 1,000,000 envelopes sent.
+    /// [`MAX_ENVELOPES`] sent.
     Envelopes,
     /// As many batches posted as the world has cells.
     Cells,
-    /// 1,000,000 steps in the record.
+    /// [`MAX_STEPS`] in the record.
     Steps,
 }
 

@@ -4,6 +4,7 @@ ghost use Rattle.std.specs.Prelude.{◌≡◌, ◌≤◌, ◌==◌, [], length, 
 ghost use Rattle.ct_names.specs.Group.{everyone, IsMember};
 ghost use Rattle.ct_names.specs.MemberSet.{has_member, with_member};
 
+use crate::limit::MAX_MEMBERS;
 use crate::numbers::Member;
 use std::marker::Model;
 
@@ -40,7 +41,7 @@ impl MemberSet {
 
     /// Adds the member, 1 to 16, if it isn't there.
     pub fn insert(&mut self, member: Member)
-        requires { IsMember 16 member }
+        requires { IsMember MAX_MEMBERS member }
         ensures { self.new ≡ with_member self.old member }
     {
         self.bits |= 1 << (member - 1);
@@ -53,7 +54,7 @@ impl MemberSet {
     {
         let bits = self.bits;
         match member {
-            1..=16 => (bits >> (member - 1)) & 1 == 1,
+            1..=MAX_MEMBERS => (bits >> (member - 1)) & 1 == 1,
             _ => false,
         }
     }
@@ -61,7 +62,7 @@ impl MemberSet {
     /// The number of members, 0 to 16.
     pub fn len(&self) -> u8
         ensures value { result ≡ length self.now }
-        ensures at_most_sixteen { result ≤ 16 }
+        ensures at_most { result ≤ MAX_MEMBERS }
         ensures members { self.now ≡ filter (has_member self.now) everyone }
     {
         self.bits.count_ones() as u8

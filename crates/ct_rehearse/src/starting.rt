@@ -13,6 +13,7 @@ use crate::pool::Pool;
 use crate::run_fault::RunFault;
 use crate::running::{Running, start_driver, start_script};
 use ct_detect::Detector;
+use ct_names::MAX_MEMBERS;
 use std::sync::Wait;
 use std::sync::ledger::Ledger;
 use std::thread::{Scope, Threads};
@@ -30,7 +31,7 @@ pub(crate) fn start_all<'s, E, L: Ledger + Send + Sync, R: Wait + Sync, G: Gate>
     all: &mut Vec<Running<L>>,
 ) -> Result<(), RunFault>
     requires plan { IsWithin plan.now }
-    requires few { vec_len detectors ≤ 16 }
+    requires few { vec_len detectors ≤ MAX_MEMBERS }
     requires none { pool.old.steps ≡ 0 }
     requires parts { workers (vec_len detectors) plan.now ≤ pool.old.parts }
     requires empty { vec_len all.old ≡ 0 }
@@ -62,7 +63,7 @@ fn start_drivers<'s, E, L: Ledger + Send + Sync, R: Wait + Sync, G: Gate>(
     pool: &mut Pool<L>,
     all: &mut Vec<Running<L>>,
 ) -> Result<(), RunFault>
-    requires few { vec_len detectors ≤ 16 }
+    requires few { vec_len detectors ≤ MAX_MEMBERS }
     requires none { pool.old.steps ≡ 0 }
     requires parts { vec_len detectors ≤ pool.old.parts }
     requires room { vec_len all.old + vec_len detectors ≤ vec_capacity all.old }
@@ -97,7 +98,7 @@ fn start_scripts<'s, E, L: Ledger + Send + Sync, R: Wait + Sync, G: Gate>(
     pool: &mut Pool<L>,
     all: &mut Vec<Running<L>>,
 ) -> Result<(), RunFault>
-    requires members { members ≤ 16 }
+    requires members { members ≤ MAX_MEMBERS }
     requires few { length scripts.now ≤ 8 }
     requires short { All (λ s. vec_len s ≤ 100000) scripts.now }
     requires none { pool.old.steps ≡ 0 }

@@ -16,7 +16,7 @@ mod taking;
 use crate::inbox::Inbox;
 use crate::wire::Mail;
 use ct_model::Phase;
-use ct_names::{Group, Instance, Member, MemberSet, Refusal, Round, ValueId};
+use ct_names::{Group, Instance, MAX_ROUNDS, Member, MemberSet, Refusal, Round, ValueId};
 use std::marker::Model;
 
 /// A member's part in one instance (Chandra and Toueg, section 6.2). No step takes memory.
@@ -95,7 +95,7 @@ impl Consensus {
     /// The next round begins: its coordinator gets the estimate. Refused as WrongPhase while a round is running.
     /// Whether the instance is decided is not tested here.
     pub fn enter(&mut self) -> Result<Mail, Refusal>
-        requires { self.old.standing.round < 10000 }
+        requires { self.old.standing.round < MAX_ROUNDS }
         ensures fault { result_err result ≡ first_fault (enter_tests self.old) }
         ensures turn { IfOk result (λ mail. IsTurn (enter_row self.old) self.old self.new (mail_of mail)) }
         ensures kept { OnErr result (self.new ≡ self.old) }

@@ -10,7 +10,7 @@ ghost use Rattle.ct_rounds.specs.Note.{IsOfMember, noted};
 ghost use Rattle.ct_rounds.specs.Tally.{better, heard_as};
 
 use crate::note::Note;
-use ct_names::{Member, MemberSet, Round, ValueId};
+use ct_names::{MAX_MEMBERS, Member, MemberSet, Round, ValueId};
 use std::marker::Model;
 
 /// An estimate that was heard: the number of its value, and the round in which its member took that over.
@@ -172,7 +172,7 @@ impl Tally {
     }
 
     fn hear(&mut self, from: Member, estimate: Estimate)
-        requires { IsMember 16 from }
+        requires { IsMember MAX_MEMBERS from }
         ensures { self.new ≡ count_estimate (heard_as from estimate) self.old }
     {
         if self.heard.contains(from) {

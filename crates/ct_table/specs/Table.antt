@@ -1,12 +1,13 @@
--- A table of 16 registers, as the list of their values.
+-- A table of REGISTERS registers, as the list of their values.
 use Rattle.std.specs.Prelude.{ℕ, ◌+◌, List, fold, min, replicate, slice_index, slice_set}
 use Rattle.ct_names.specs.declared.command.Command.{Command}
+use Rattle.ct_names.specs.declared.limit.TheConstants.{REGISTERS}
 use Rattle.ct_names.specs.declared.command.Command.TheVariants.{Set, Add, Copy}
 use Rattle.ct_names.specs.Message.{Message}
 
 -- the table at first
 abbrev pub zeros : List ℕ
-zeros = replicate 16 0
+zeros = replicate REGISTERS 0
 
 -- the table after a command
 abbrev pub applied : List ℕ → Command → List ℕ

@@ -1,16 +1,16 @@
-//! Sixteen registers.
+//! The registers of a table.
 
 ghost use Rattle.std.specs.Prelude.{◌≡◌, ◌↔◌, ◌<◌, slice_get, IsTrue, IsSome};
 ghost use Rattle.ct_names.specs.Command.{is_good};
 ghost use Rattle.ct_table.specs.Table.{zeros, applied, applied_all};
 
-use ct_names::{Command, Message};
+use ct_names::{Command, Message, REGISTERS};
 use std::marker::Model;
 
-/// Sixteen registers, numbered from 0. They hold 0 at first, and commands change them. Nothing takes memory.
+/// [`REGISTERS`] registers, numbered from 0. They hold 0 at first, and commands change them. Nothing takes memory.
 #[derive(Clone, Copy, Debug, PartialEq, Eq)]
 pub struct Table {
-    registers: [u64; 16],
+    registers: [u64; REGISTERS as usize],
 }
 
 // Contracts see the list of their values.
@@ -29,7 +29,9 @@ impl Table {
     pub fn new() -> Table
         ensures { result ≡ zeros }
     {
-        Table { registers: [0; 16] }
+        Table {
+            registers: [0; REGISTERS as usize],
+        }
     }
 
     /// The table after the command. Its registers have to be good.
@@ -58,10 +60,10 @@ impl Table {
         }
     }
 
-    /// The value of the register, or None from 16 on.
+    /// The value of the register, or None from [`REGISTERS`] on.
     pub fn get(&self, register: u8) -> Option<u64>
         ensures value { result ≡ slice_get self.now register }
-        ensures within { IsSome result ↔ (register < 16) }
+        ensures within { IsSome result ↔ (register < REGISTERS) }
     {
         self.registers.get(register as usize).copied()
     }

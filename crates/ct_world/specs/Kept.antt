@@ -1,5 +1,6 @@
 -- What a world keeps, and how it follows from the record.
 use Rattle.std.specs.Prelude.{◌≡◌, ℕ, ◌+◌, ◌-◌, ◌<◌, ◌≤◌, true, false, List, [], length, map, Option, Some, None, Result, MatchResult, slice_index_or}
+use Rattle.ct_names.specs.declared.limit.TheConstants.{MAX_CELLS, MAX_MEMBERS}
 use Rattle.ct_names.specs.Group.{is_member}
 use Rattle.ct_names.specs.Batch.{Batch}
 use Rattle.ct_names.specs.Book.{Contents}
@@ -56,8 +57,8 @@ seat_of seats p = slice_index_or seats (p - 1) no_seat
 pub record IsWorld (w : Rehearsal) (f : Fields) : Type 0 where
   pub lawful : IsLawful w
   pub messages : KnowsMessages w.setting (state_of w)
-  pub few_members : w.setting.members ≤ 16
-  pub few_cells : w.cells ≤ 1024
+  pub few_members : w.setting.members ≤ MAX_MEMBERS
+  pub few_cells : w.cells ≤ MAX_CELLS
   pub values : f.book.values ≡ values_of (state_of w)
   pub sent : NamesEnvelopes f.book.values f.network.sent (state_of w).sent
   pub lined : length f.network.lines ≡ w.setting.members
@@ -143,7 +144,7 @@ pub record IsSeatOf (w : Rehearsal) (p : ℕ) (seat : Seat) : Type 0 where
 pub record IsActor (w : Rehearsal) (p : ℕ) (seat : Seat) : Type 0 where
   pub lawful : IsLawful w
   pub messages : KnowsMessages w.setting (state_of w)
-  pub few_members : w.setting.members ≤ 16
+  pub few_members : w.setting.members ≤ MAX_MEMBERS
   pub present : IsPresent w p
   pub sits : IsSeatOf w p seat
 

@@ -12,7 +12,7 @@ use crate::seat::Seat;
 use crate::seats;
 use ct_abcast::Batch;
 use ct_model::Step;
-use ct_names::{Book, Group, MsgSet, Refusal};
+use ct_names::{Book, Group, MAX_CELLS, MAX_STEPS, MsgSet, Refusal};
 use ct_network::Network;
 use std::alloc::Global;
 use std::marker::Model;
@@ -75,7 +75,7 @@ impl World {
     /// A world without steps, for this group, with this many cells for batches, 0 to 1,024. Only
     /// memory can be refused.
     pub fn new(alloc: Global, group: Group, cells: u16) -> Result<World, Refusal>
-        requires { cells ≤ 1024 }
+        requires { cells ≤ MAX_CELLS }
         ensures ok { IfOk result (λ world. world ≡ world_after group cells []) }
         ensures err { IfErr result (λ refusal. refusal ≡ Refusal.OutOfMemory) }
     {
@@ -110,7 +110,7 @@ impl World {
     /// The number of cells for batches.
     pub fn cells(&self) -> u16
         ensures value { result ≡ self.now.rehearsal.cells }
-        ensures few { result ≤ 1024 }
+        ensures few { result ≤ MAX_CELLS }
     {
         self.cells
     }
@@ -120,7 +120,7 @@ impl World {
     /// sequences one begins the other, without repeats, only of messages that were submitted.
     pub fn record(&self) -> &[Step]
         ensures value { result.now ≡ self.now.rehearsal.steps }
-        ensures few { length result.now ≤ 1000000 }
+        ensures few { length result.now ≤ MAX_STEPS }
         ensures runs { run self.now.rehearsal.setting result.now ≡ Some (state_of self.now.rehearsal) }
         ensures within { IsWithin self.now.rehearsal.cells (state_of self.now.rehearsal) (length result.now) }
         ensures safe { IsSafe self.now.rehearsal.setting (state_of self.now.rehearsal) }

@@ -9,7 +9,7 @@ ghost use Rattle.ct_instances.specs.Steps.{faults, taken, passes_rounds};
 
 use super::Instances;
 use ct_model::Move;
-use ct_names::{Member, Refusal};
+use ct_names::{MAX_ROUNDS, Member, Refusal};
 use ct_rounds::Mail;
 
 impl Instances {
@@ -30,7 +30,7 @@ impl Instances {
 
     /// The next round begins: its coordinator gets the estimate. Refused by `Idle`, `WrongPhase`, `Decided`.
     pub fn enter(&mut self) -> Result<Mail, Refusal>
-        requires { IfSome self.old.part (λ c. c.standing.round < 10000) }
+        requires { IfSome self.old.part (λ c. c.standing.round < MAX_ROUNDS) }
         ensures fault { result_err result ≡ first_fault (faults self.old Enter) }
         ensures turn { IfOk result (λ mail. taken self.old Enter ≡ Some (record { after = self.new; mail = mail_of mail })) }
         ensures kept { OnErr result (self.new ≡ self.old) }

@@ -13,7 +13,7 @@ ghost use Rattle.ct_network.specs.Network.{line_at, IsAddressed};
 use crate::envelope::Envelope;
 use crate::line::Line;
 use crate::network::Network;
-use ct_names::Member;
+use ct_names::{MAX_ENVELOPES, MAX_MEMBERS, Member};
 use ct_rounds::{Mail, Wire};
 
 impl Network {
@@ -21,8 +21,8 @@ impl Network {
     pub fn post(&mut self, mail: Mail) -> u32
         requires room { IsTrue self.old.has_room }
         requires to { IsAddressed (length self.old.lines) (mail_of mail) }
-        requires few { length self.old.sent + length (envelopes (length self.old.lines) (mail_of mail)) ≤ 1000000 }
-        requires small { length self.old.lines ≤ 16 }
+        requires few { length self.old.sent + length (envelopes (length self.old.lines) (mail_of mail)) ≤ MAX_ENVELOPES }
+        requires small { length self.old.lines ≤ MAX_MEMBERS }
         ensures sent { self.new.sent ≡ self.old.sent ++ envelopes (length self.old.lines) (mail_of mail) }
         ensures members { length self.new.lines ≡ length self.old.lines }
         ensures joined { (q : ℕ) → is_member (length self.old.lines) q ≡ true → line_at self.new.lines q ≡ line_at self.old.lines q ++ serials_to q (length self.old.sent) (envelopes (length self.old.lines) (mail_of mail)) }
@@ -47,7 +47,7 @@ fn send_one(sent: &mut Vec<Envelope>, lines: &mut Vec<Line>, to: Member, wire: W
     requires room { IsTrue (are_roomy lines.old.items) }
     requires capacity { vec_len sent.old < vec_capacity sent.old }
     requires to { is_member (length lines.old.items) to ≡ true }
-    requires few { vec_len sent.old < 1000000 }
+    requires few { vec_len sent.old < MAX_ENVELOPES }
     ensures sent { envelopes_of sent.new.items ≡ envelopes_of sent.old.items ++ envelopes (length lines.old.items) (One to (wire_of wire)) }
     ensures members { length lines.new.items ≡ length lines.old.items }
     ensures joined { (q : ℕ) → is_member (length lines.old.items) q ≡ true → line_at (serials_of lines.new.items) q ≡ line_at (serials_of lines.old.items) q ++ serials_to q (length sent.old.items) (envelopes (length lines.old.items) (One to (wire_of wire))) }
@@ -61,8 +61,8 @@ fn send_one(sent: &mut Vec<Envelope>, lines: &mut Vec<Line>, to: Member, wire: W
 fn send_to_all(sent: &mut Vec<Envelope>, lines: &mut Vec<Line>, wire: Wire)
     requires room { IsTrue (are_roomy lines.old.items) }
     requires capacity { vec_len sent.old + length lines.old.items ≤ vec_capacity sent.old }
-    requires few { vec_len sent.old + length lines.old.items ≤ 1000000 }
-    requires small { length lines.old.items ≤ 16 }
+    requires few { vec_len sent.old + length lines.old.items ≤ MAX_ENVELOPES }
+    requires small { length lines.old.items ≤ MAX_MEMBERS }
     ensures sent { envelopes_of sent.new.items ≡ envelopes_of sent.old.items ++ envelopes (length lines.old.items) (All (wire_of wire)) }
     ensures members { length lines.new.items ≡ length lines.old.items }
     ensures joined { (q : ℕ) → is_member (length lines.old.items) q ≡ true → line_at (serials_of lines.new.items) q ≡ line_at (serials_of lines.old.items) q ++ serials_to q (length sent.old.items) (envelopes (length lines.old.items) (All (wire_of wire))) }

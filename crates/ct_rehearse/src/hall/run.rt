@@ -15,6 +15,7 @@ use crate::running::Running;
 use crate::share::Share;
 use crate::starting::{join_all, start_all};
 use ct_detect::Detector;
+use ct_names::MAX_MEMBERS;
 use std::alloc::Global;
 use std::sync::Wait;
 use std::sync::ledger::Ledger;
@@ -64,7 +65,7 @@ impl<L: Ledger + Send + Sync> Hall<L> {
             rt,
             |scope| -> (Result<Made, RunFault>, Pool<L>)
                 requires plan { IsWithin plan.now }
-                requires few { vec_len detectors ≤ 16 }
+                requires few { vec_len detectors ≤ MAX_MEMBERS }
                 requires pool { pool ≡ record { parts = workers (vec_len detectors) plan.now; steps = 0 } }
                 requires steps { turns_planned (vec_len detectors) plan.now < 2 ^ 64 }
                 requires empty { vec_len all ≡ 0 }
@@ -90,7 +91,7 @@ fn run_workers<'s, E, L: Ledger + Send + Sync, R: Threads + Wait + Sync, G: Gate
     mut all: Vec<Running<L>>,
 ) -> (Result<Made, RunFault>, Pool<L>)
     requires plan { IsWithin plan.now }
-    requires few { vec_len detectors ≤ 16 }
+    requires few { vec_len detectors ≤ MAX_MEMBERS }
     requires pool { pool ≡ record { parts = workers (vec_len detectors) plan.now; steps = 0 } }
     requires steps { turns_planned (vec_len detectors) plan.now < 2 ^ 64 }
     requires empty { vec_len all ≡ 0 }

@@ -11,13 +11,13 @@ use super::Consensus;
 use crate::inbox::Inbox;
 use crate::wire::{Mail, Wire};
 use ct_model::{Move, Phase};
-use ct_names::Member;
+use ct_names::{MAX_ROUNDS, Member};
 
 impl Consensus {
     /// Takes a step that its fault allows, and that begins no round beyond the limit.
     pub fn take(&mut self, inbox: &Inbox, action: Move) -> Mail
         requires allowed { first_fault (tests self.old inbox.now action) ≡ None }
-        requires rounds { (is_enter action && nat_lt 10000 (self.old.standing.round + 1)) ≡ false }
+        requires rounds { (is_enter action && nat_lt MAX_ROUNDS (self.old.standing.round + 1)) ≡ false }
         ensures { IsTurn (row self.old inbox.now action) self.old self.new (mail_of result) }
     {
         match action {
@@ -32,7 +32,7 @@ impl Consensus {
     #[tactic(auto, unfolding(ct_model::specs::Phases::enter))]
     pub(super) fn take_enter(&mut self) -> Mail
         requires allowed { first_fault (enter_tests self.old) ≡ None }
-        requires rounds { self.old.standing.round < 10000 }
+        requires rounds { self.old.standing.round < MAX_ROUNDS }
         ensures { IsTurn (enter_row self.old) self.old self.new (mail_of result) }
     {
         let round = self.round + 1;

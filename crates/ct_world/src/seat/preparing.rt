@@ -6,6 +6,7 @@ ghost use Rattle.ct_instances.specs.Kept.{has_room_open};
 ghost use Rattle.ct_world.specs.Seats.{IsSameSeat, CanReceive};
 
 use crate::seat::Seat;
+use ct_names::MAX_INSTANCES;
 use ct_rounds::Wire;
 use std::alloc::AllocError;
 
@@ -22,7 +23,7 @@ impl Seat {
 
     /// Room to begin the next instance.
     pub fn prepare_begin(&mut self) -> Result<(), AllocError>
-        requires few { self.old.instances.last ≤ 1024 }
+        requires few { self.old.instances.last ≤ MAX_INSTANCES }
         ensures same { IsSameSeat self.old self.new }
         ensures ok { OnOk result (has_room_open self.new.instances (self.new.instances.last + 1) ≡ true) }
     {

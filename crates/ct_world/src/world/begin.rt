@@ -7,7 +7,7 @@ ghost use Rattle.ct_world.specs.World.{IsDone};
 use super::preparing::reserve;
 use crate::world::World;
 use ct_model::Step;
-use ct_names::{Limit, Member, Refusal};
+use ct_names::{Limit, MAX_INSTANCES, Member, Refusal};
 use std::alloc::AllocError;
 
 impl World {
@@ -24,7 +24,7 @@ impl World {
         if !seat.caster.has_undelivered() {
             return Some(Refusal::Nothing);
         }
-        if seat.instances.last() >= 1024 {
+        if seat.instances.last() >= MAX_INSTANCES {
             return Some(Refusal::Full(Limit::Instances));
         }
         self.overflow(0)

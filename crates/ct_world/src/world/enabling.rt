@@ -9,7 +9,7 @@ ghost use Rattle.ct_world.specs.World.{verdict};
 use crate::seat::Seat;
 use crate::world::World;
 use ct_model::{Move, Step};
-use ct_names::{Limit, Member, Refusal};
+use ct_names::{Limit, MAX_ENVELOPES, MAX_MEMBERS, MAX_STEPS, Member, Refusal};
 
 impl World {
     /// Whether the step is allowed now, want of memory apart, and why it is not. It is allowed exactly where the next state
@@ -75,12 +75,12 @@ impl World {
 
     // The limit that sending this many envelopes would pass, or the step itself.
     pub(super) fn overflow(&self, more: usize) -> Option<Refusal>
-        requires { more ≤ 16 }
+        requires { more ≤ MAX_MEMBERS }
         ensures { result ≡ overflow self.now.rehearsal more }
     {
-        if self.network.sent() + more > 1_000_000 {
+        if self.network.sent() + more > MAX_ENVELOPES {
             Some(Refusal::Full(Limit::Envelopes))
-        } else if self.record.len() + 1 > 1_000_000 {
+        } else if self.record.len() + 1 > MAX_STEPS {
             Some(Refusal::Full(Limit::Steps))
         } else {
             None

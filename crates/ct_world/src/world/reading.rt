@@ -16,7 +16,7 @@ use crate::letter::Letter;
 use crate::seat::Seat;
 use crate::world::World;
 use ct_model::Phase;
-use ct_names::{Instance, Member, Message, Round, Serial};
+use ct_names::{Instance, MAX_CELLS, Member, Message, Round, Serial};
 use ct_table::Table;
 
 impl World {
@@ -143,7 +143,7 @@ impl World {
     // The seat of the least of the members that delivered most batches.
     pub(super) fn foremost(&self) -> &Seat
         ensures value { result.now.caster.batches ≡ map (λ b. b.messages) (order (state_of self.now.rehearsal)) }
-        ensures few { length result.now.caster.batches ≤ 1024 }
+        ensures few { length result.now.caster.batches ≤ MAX_CELLS }
     {
         let mut best = 0;
         for i in 1..usize::from(self.group.n()) {

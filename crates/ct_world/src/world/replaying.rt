@@ -10,7 +10,7 @@ use crate::replay_fault::ReplayFault;
 use crate::world::World;
 use ct_board::Board;
 use ct_model::Step;
-use ct_names::{Group, Refusal};
+use ct_names::{Group, MAX_CELLS, Refusal};
 use std::alloc::Global;
 
 impl World {
@@ -22,7 +22,7 @@ impl World {
         cells: u16,
         steps: &[Step],
     ) -> Result<(World, Board), ReplayFault>
-        requires { cells ≤ 1024 }
+        requires { cells ≤ MAX_CELLS }
         ensures ok { IfOk result (λ both. both.0 ≡ world_after group cells steps.now) }
         ensures board { IfOk result (λ both. length both.1 ≡ cells) }
         ensures allowed { OnOk result (AllowsFirst group cells steps.now (length steps.now)) }

@@ -6,7 +6,7 @@ ghost use Rattle.ct_world.specs.World.{IsDone};
 
 use crate::world::World;
 use ct_model::Step;
-use ct_names::{Command, Limit, Member, Message, Refusal};
+use ct_names::{Command, Limit, MAX_SUBMISSIONS, Member, Message, Refusal};
 use ct_rounds::{Mail, Wire};
 
 impl World {
@@ -20,7 +20,7 @@ impl World {
         if !command.good() {
             return Some(Refusal::BadCommand);
         }
-        if seat.submitted >= 65_535 {
+        if seat.submitted >= MAX_SUBMISSIONS {
             return Some(Refusal::Full(Limit::Submissions));
         }
         self.overflow(self.seats.len())

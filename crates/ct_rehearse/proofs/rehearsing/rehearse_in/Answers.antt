@@ -8,6 +8,6 @@ run_free-made-requires-clause-steps g c κs within =
     let steps : c.new-hall.result.1.steps ≡ length c.args.world.rehearsal.steps = ap (λ (s : _). s.steps) c.new-hall.ensures.share in
     let same : length c.record.result.now ≡ length c.args.world.rehearsal.steps = ap length c.record.ensures.value in
     run_fits c.new-hall.result.0.members c.new-hall.result.1.steps c.args.plan.now
-    (omega (arith, members, c.group.ensures, c.n.ensures.value, c.n.ensures.at_most_sixteen))
+    (omega (arith, members, c.group.ensures, c.n.ensures.value, c.n.ensures.at_most))
     (omega (arith, steps, same, c.record.ensures.few))
     c.requires.plan

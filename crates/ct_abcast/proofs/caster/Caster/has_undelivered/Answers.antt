@@ -1,5 +1,4 @@
 use Rattle.std.proofs.Common.{◌≡◌, ◌∙◌, ◌==◌, length, not, nat_lt, sym, ap, rules}
-use Rattle.ct_names.specs.Value.{ordered}
 use Rattle.ct_abcast.specs.Batches.{joined}
 use Rattle.ct_abcast.specs.Cast.{undelivered}
 use Rattle.ct_abcast.proofs.Fresh.{some-ordered, some-length}

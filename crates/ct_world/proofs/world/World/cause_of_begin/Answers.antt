@@ -3,7 +3,7 @@ use Rattle.ct_model.specs.declared.step.Step.TheVariants.{Begin}
 use Rattle.ct_model.proofs.Causes.{cause-absent}
 use Rattle.ct_world.proofs.Proposing.{copied-some, begin_busy, begin_nothing, begin_full, begin_free}
 use Rattle.ct_world.proofs.world.World.cause_of_begin.Goals as goal
-use Rattle.ct_world.proofs.world.World.cause_of_begin.Goals.{Then-not-has_undelivered, Then-last-ge1024, After-overflow}
+use Rattle.ct_world.proofs.world.World.cause_of_begin.Goals.{Then-not-has_undelivered, Then-last-ge-MAX_INSTANCES, After-overflow}
 
 pub returns-in-Err : goal.returns-in-Err
 returns-in-Err c = sym (cause-absent c.args.self.now.rehearsal (Begin c.args.member) c.in-Err.refusal c.in-Err.ensures)
@@ -14,8 +14,8 @@ returns-then-is_some c = sym (begin_busy c.args.self.now.rehearsal c.args.member
 pub returns-then-not-has_undelivered : goal.returns-then-not-has_undelivered
 returns-then-not-has_undelivered c = sym (begin_nothing c.args.self.now.rehearsal c.args.member c.in-Ok.seat.now c.in-Ok.ensures (copied-some c.current.result c.in-Ok.seat.now.instances.part c.current.ensures.value ∙ sym c.is_some.ensures ∙ c.if-is_some.false) (sym c.has_undelivered.ensures ∙ c.if-not-has_undelivered.true))
 
-pub returns-then-last-ge1024 : goal.returns-then-last-ge1024
-returns-then-last-ge1024 c = sym (begin_full c.args.self.now.rehearsal c.args.member c.in-Ok.seat.now c.in-Ok.ensures (copied-some c.current.result c.in-Ok.seat.now.instances.part c.current.ensures.value ∙ sym c.is_some.ensures ∙ c.if-is_some.false) (sym c.has_undelivered.ensures ∙ c.if-not-has_undelivered.false) (omega (arith, c.last.ensures, c.if-last-ge1024.true)))
+pub returns-then-last-ge-MAX_INSTANCES : goal.returns-then-last-ge-MAX_INSTANCES
+returns-then-last-ge-MAX_INSTANCES c = sym (begin_full c.args.self.now.rehearsal c.args.member c.in-Ok.seat.now c.in-Ok.ensures (copied-some c.current.result c.in-Ok.seat.now.instances.part c.current.ensures.value ∙ sym c.is_some.ensures ∙ c.if-is_some.false) (sym c.has_undelivered.ensures ∙ c.if-not-has_undelivered.false) (omega (arith, c.last.ensures, c.if-last-ge-MAX_INSTANCES.true)))
 
 pub returns : goal.returns
-returns c = c.overflow.ensures ∙ sym (begin_free c.args.self.now.rehearsal c.args.member c.in-Ok.seat.now c.in-Ok.ensures (copied-some c.current.result c.in-Ok.seat.now.instances.part c.current.ensures.value ∙ sym c.is_some.ensures ∙ c.if-is_some.false) (sym c.has_undelivered.ensures ∙ c.if-not-has_undelivered.false) (omega (arith, c.last.ensures, c.if-last-ge1024.false)))
+returns c = c.overflow.ensures ∙ sym (begin_free c.args.self.now.rehearsal c.args.member c.in-Ok.seat.now c.in-Ok.ensures (copied-some c.current.result c.in-Ok.seat.now.instances.part c.current.ensures.value ∙ sym c.is_some.ensures ∙ c.if-is_some.false) (sym c.has_undelivered.ensures ∙ c.if-not-has_undelivered.false) (omega (arith, c.last.ensures, c.if-last-ge-MAX_INSTANCES.false)))

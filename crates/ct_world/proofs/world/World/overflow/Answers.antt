@@ -11,20 +11,20 @@ use Rattle.ct_world.proofs.world.World.overflow.Goals as goal
 as_many : (a : Inside) → IsKeptIn a → length a.network.sent ≡ length (state_of (rehearsal_in a)).sent
 as_many a kept = named_length a.book.values a.network.sent (state_of (rehearsal_in a)).sent kept.world.sent
 
-pub returns-then-sent-more-gt1000000 : goal.returns-then-sent-more-gt1000000
-returns-then-sent-more-gt1000000 c =
+pub returns-then-sent-more-gt-MAX_ENVELOPES : goal.returns-then-sent-more-gt-MAX_ENVELOPES
+returns-then-sent-more-gt-MAX_ENVELOPES c =
     let e = as_many c.self.inside c.self.invariant in
     sym (ap (λ (v : WorldView). overflow v.rehearsal c.args.more) (sym c.self.view_is)
-    ∙ overflow-sent (rehearsal_in c.self.inside) c.args.more (omega (arith, c.sent.ensures, c.if-sent-more-gt1000000.true)))
+    ∙ overflow-sent (rehearsal_in c.self.inside) c.args.more (omega (arith, c.sent.ensures, c.if-sent-more-gt-MAX_ENVELOPES.true)))
 
-pub returns-then-len-gt1000000 : goal.returns-then-len-gt1000000
-returns-then-len-gt1000000 c =
+pub returns-then-len-gt-MAX_STEPS : goal.returns-then-len-gt-MAX_STEPS
+returns-then-len-gt-MAX_STEPS c =
     let e = as_many c.self.inside c.self.invariant in
     sym (ap (λ (v : WorldView). overflow v.rehearsal c.args.more) (sym c.self.view_is)
-    ∙ overflow-steps (rehearsal_in c.self.inside) c.args.more (omega (arith, c.sent.ensures, c.if-sent-more-gt1000000.false)) (omega (arith, c.len.ensures, c.if-len-gt1000000.true, c.self.inside.record.ok.0)))
+    ∙ overflow-steps (rehearsal_in c.self.inside) c.args.more (omega (arith, c.sent.ensures, c.if-sent-more-gt-MAX_ENVELOPES.false)) (omega (arith, c.len.ensures, c.if-len-gt-MAX_STEPS.true, c.self.inside.record.ok.0)))
 
-pub returns-else-len-gt1000000 : goal.returns-else-len-gt1000000
-returns-else-len-gt1000000 c =
+pub returns-else-len-gt-MAX_STEPS : goal.returns-else-len-gt-MAX_STEPS
+returns-else-len-gt-MAX_STEPS c =
     let e = as_many c.self.inside c.self.invariant in
     sym (ap (λ (v : WorldView). overflow v.rehearsal c.args.more) (sym c.self.view_is)
-    ∙ overflow-no (rehearsal_in c.self.inside) c.args.more (omega (arith, c.sent.ensures, c.if-sent-more-gt1000000.false)) (omega (arith, c.len.ensures, c.if-len-gt1000000.false, c.self.inside.record.ok.0)))
+    ∙ overflow-no (rehearsal_in c.self.inside) c.args.more (omega (arith, c.sent.ensures, c.if-sent-more-gt-MAX_ENVELOPES.false)) (omega (arith, c.len.ensures, c.if-len-gt-MAX_STEPS.false, c.self.inside.record.ok.0)))
