@@ -6,7 +6,7 @@ use Rattle.std.specs.Option.{option_or}
 use Rattle.std.proofs.lemmas.List.Elements.{filter_map-append}
 use Rattle.ct_names.specs.Value.{Value}
 use Rattle.ct_model.specs.declared.phase.Phase.TheVariants.{Rest}
-use Rattle.ct_model.specs.Wire.{Wire as AnyWire}
+use Rattle.ct_model.specs.declared.wire.Wire.{Wire as AnyWire}
 use Rattle.ct_model.specs.AtValue.{Wire}
 use Rattle.ct_model.specs.State.{Standing as AnyStanding, Member, new_member}
 use Rattle.ct_names.specs.Batch.{Batch}

@@ -6,14 +6,17 @@ use Rattle.std.proofs.lemmas.List.{map-append, length-map}
 use Rattle.std.proofs.lemmas.Option.{slice_get-map}
 use Rattle.ct_names.specs.Message.{Message}
 use Rattle.ct_names.specs.Value.{Value}
-use Rattle.ct_model.specs.Wire.{Wire as AnyWire, Envelope as AnyEnvelope, Mail as AnyMail, value_of, envelopes}
-use Rattle.ct_model.specs.Wire.Wire.{Data, Est, Prop, Ack, Nack, Dec}
-use Rattle.ct_model.specs.Wire.Mail.{Nobody, One, All}
+use Rattle.ct_model.specs.declared.wire.Wire.{Wire as AnyWire}
+use Rattle.ct_model.specs.declared.envelope.Envelope.{Envelope as AnyEnvelope}
+use Rattle.ct_model.specs.declared.mail.Mail.{Mail as AnyMail}
+use Rattle.ct_model.specs.Wire.{value_of, envelopes}
+use Rattle.ct_model.specs.declared.wire.Wire.TheVariants.{Data, Est, Prop, Ack, Nack, Dec}
+use Rattle.ct_model.specs.declared.mail.Mail.TheVariants.{Nobody, One, All}
 use Rattle.ct_model.specs.State.{Standing as AnyStanding, at_serial}
 use Rattle.ct_model.specs.AtValue.{Wire, Envelope, Mail, Standing}
 use Rattle.ct_model.specs.Received.{Heard, Ballots, message_of, decision_of, is_decision}
 use Rattle.ct_model.specs.Counted.{NamesSomebody}
-use Rattle.ct_model.specs.Mapped.{wire_map, envelope_map, mail_map, heard_map, ballots_map, standing_map}
+use Rattle.ct_model.specs.Mapped.{wire_map, envelope_map, without_value, mail_map, heard_map, ballots_map, standing_map}
 use Rattle.ct_model.specs.Waiting.{serials_to}
 use Rattle.ct_model.proofs.Naturality.{envelopes-map}
 use Rattle.ct_model.proofs.Outcomes.{some-same, some-none}
@@ -123,12 +126,9 @@ serials_to-map : {V U : Type 0} (f : V → U) (q k : ℕ) (es : List (AnyEnvelop
 serials_to-map f q k [] = refl
 serials_to-map f q k (e ∷ es) = ap (λ ks. (if e.to == q then (k + 1) ∷ [] else []) ++ ks) (serials_to-map f q (k + 1) es)
 
--- without the values
-abbrev pub bare : {V : Type 0} → AnyEnvelope V → AnyEnvelope (Unit {0})
-bare e = envelope_map (λ _. tt) e
-
-bare-map : {V U : Type 0} (f : V → U) (e : AnyEnvelope V) → bare (envelope_map f e) ≡ bare e
-bare-map {V} {U} f e = ap (λ w. let x : AnyEnvelope (Unit {0}) = record { to = e.to; wire = w } in x) (go e.wire)
+-- without the values, the type of values is all one
+without_value-map : {V U : Type 0} (f : V → U) (e : AnyEnvelope V) → without_value (envelope_map f e) ≡ without_value e
+without_value-map {V} {U} f e = ap (λ w. let x : AnyEnvelope (Unit {0}) = record { to = e.to; wire = w } in x) (go e.wire)
   where
     go : (w : AnyWire V) → wire_map {U = Unit {0}} (λ _. tt) (wire_map f w) ≡ wire_map {U = Unit {0}} (λ _. tt) w
     go (Data m) = refl
@@ -315,10 +315,10 @@ named_posts values n x mail h = sym (envelopes-map (value_at values) n x) ∙ ap
 pub named_serials : (values : List Value) (xs : List (AnyEnvelope ℕ)) (es : List Envelope) (q k : ℕ) → NamesEnvelopes values xs es → serials_to q k xs ≡ serials_to q k es
 named_serials values xs es q k h = sym (serials_to-map (value_at values) q k xs) ∙ ap (serials_to q k) h ∙ serials_to-map Some q k es
 
-pub named_bare : (values : List Value) (xs : List (AnyEnvelope ℕ)) (es : List Envelope) → NamesEnvelopes values xs es → map bare xs ≡ map bare es
-named_bare values xs es h =
-    list-kept (envelope_map (value_at values)) (envelope_map Some) bare bare
-    (λ x e same. sym (bare-map (value_at values) x) ∙ ap bare same ∙ bare-map Some e) xs es h
+pub named_without_value : (values : List Value) (xs : List (AnyEnvelope ℕ)) (es : List Envelope) → NamesEnvelopes values xs es → map without_value xs ≡ map without_value es
+named_without_value values xs es h =
+    list-kept (envelope_map (value_at values)) (envelope_map Some) without_value without_value
+    (λ x e same. sym (without_value-map (value_at values) x) ∙ ap without_value same ∙ without_value-map Some e) xs es h
 
 -- wires
 

@@ -2,8 +2,8 @@
 use Rattle.std.specs.Prelude.{ℕ, Bool, true, List, [], Option, nat_eq, is_some, option_and_then}
 use Rattle.std.specs.Map.{lookup}
 use Rattle.std.specs.Option.{option_map_or}
-use Rattle.ct_model.specs.Wire.{Wire}
-use Rattle.ct_model.specs.Wire.Wire.{Data, Est, Prop, Ack, Nack, Dec}
+use Rattle.ct_model.specs.declared.wire.Wire.{Wire}
+use Rattle.ct_model.specs.declared.wire.Wire.TheVariants.{Data, Est, Prop, Ack, Nack, Dec}
 use Rattle.ct_model.specs.Received.{Ballots}
 use Rattle.ct_rounds.specs.Inbox.{Rounds, ballots_at, has_room as has_room_at}
 use Rattle.ct_rounds.specs.Part.{Part}

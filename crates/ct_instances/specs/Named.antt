@@ -2,7 +2,9 @@
 -- optional values, so that a number stands for a value only where the list has it.
 use Rattle.std.specs.Prelude.{◌≡◌, ℕ, List, Option, Some, option_map, map, slice_get}
 use Rattle.ct_names.specs.Value.{Value}
-use Rattle.ct_model.specs.Wire.{Wire as AnyWire, Envelope as AnyEnvelope, Mail as AnyMail}
+use Rattle.ct_model.specs.declared.wire.Wire.{Wire as AnyWire}
+use Rattle.ct_model.specs.declared.envelope.Envelope.{Envelope as AnyEnvelope}
+use Rattle.ct_model.specs.declared.mail.Mail.{Mail as AnyMail}
 use Rattle.ct_model.specs.State.{Standing as AnyStanding}
 use Rattle.ct_model.specs.Received.{Ballots}
 use Rattle.ct_model.specs.AtValue.{Wire, Envelope, Mail, Standing}

@@ -1,7 +1,6 @@
 ghost use Rattle.std.specs.Prelude.{◌≡◌, IfSome};
 ghost use Rattle.ct_names.specs.Group.{IsMember};
 ghost use Rattle.ct_model.specs.Counted.{NamesSomebody};
-ghost use Rattle.ct_rounds.specs.Meaning.{wire_of};
 
 use super::*;
 use ct_model::{Move, Phase};
@@ -12,7 +11,7 @@ use std::test::Fail;
 
 fn est(instance: Instance, from: Member, number: u32) -> Wire
     requires { IsMember MAX_MEMBERS from }
-    ensures { NamesSomebody (wire_of result) }
+    ensures { NamesSomebody result }
 {
     let value = ValueId::new(number);
     Wire::Est {
@@ -25,7 +24,7 @@ fn est(instance: Instance, from: Member, number: u32) -> Wire
 }
 
 fn dec(instance: Instance, number: u32) -> Wire
-    ensures { NamesSomebody (wire_of result) }
+    ensures { NamesSomebody result }
 {
     let value = ValueId::new(number);
     Wire::Dec {
@@ -37,7 +36,7 @@ fn dec(instance: Instance, number: u32) -> Wire
 
 // Makes room for the wire and notes it.
 fn take(instances: &mut Instances, wire: &Wire) -> Result<(), AllocError>
-    requires { NamesSomebody (wire_of wire.now) }
+    requires { NamesSomebody wire.now }
     ensures { instances.new ≡ record instances.old { entries = instances.new.entries } }
 {
     instances.prepare(wire)?;

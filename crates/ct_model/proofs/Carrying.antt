@@ -8,7 +8,7 @@ use Rattle.ct_names.proofs.Lists
 use Rattle.ct_model.specs.AtValue.{Wire, Envelope, Mail}
 use Rattle.ct_model.specs.Setting.{Setting}
 use Rattle.ct_model.specs.Wire.{envelopes}
-use Rattle.ct_model.specs.Wire.Mail.{Nobody, One, All}
+use Rattle.ct_model.specs.declared.mail.Mail.TheVariants.{Nobody, One, All}
 use Rattle.ct_model.specs.State.{State, wires}
 use Rattle.ct_model.specs.Next.{Outcome, after, wire_to}
 use Rattle.ct_model.proofs.Groups.{some_member}

@@ -8,7 +8,7 @@ use Rattle.ct_names.proofs.Lists
 use Rattle.ct_model.specs.declared.moves.Move.TheVariants as moves
 use Rattle.ct_model.specs.AtValue.{Standing, Turn}
 use Rattle.ct_model.specs.Setting.{Setting}
-use Rattle.ct_model.specs.Wire.Wire.{Est, Prop}
+use Rattle.ct_model.specs.declared.wire.Wire.TheVariants.{Est, Prop}
 use Rattle.ct_model.specs.State.{State, Member, member}
 use Rattle.ct_model.specs.Received.{Heard, Ballots, heard, is_largest}
 use Rattle.ct_model.specs.Phases.{is_gather, choose, chosen}

@@ -6,7 +6,7 @@ use Rattle.ct_model.specs.declared.moves.Move.TheVariants as moves
 use Rattle.ct_model.specs.AtValue.{Wire, Standing, Turn}
 use Rattle.ct_names.specs.Value.{Value}
 use Rattle.ct_model.specs.Setting.{Setting}
-use Rattle.ct_model.specs.Wire.Wire.{Est, Prop, Ack, Dec}
+use Rattle.ct_model.specs.declared.wire.Wire.TheVariants.{Est, Prop, Ack, Dec}
 use Rattle.ct_model.specs.State.{State, Member, member, wires}
 use Rattle.ct_model.specs.Received.{Ballots, has_ack}
 use Rattle.ct_model.specs.Phases.{is_tally, conclude, concluded}

@@ -11,7 +11,7 @@ use Rattle.ct_names.specs.Group.{members, everyone, counting, IsMember}
 use Rattle.ct_names.specs.MemberSet.{with_member}
 use Rattle.ct_names.proofs.MemberSets.{with_member-filter}
 use Rattle.ct_model.specs.Wire.{Wire}
-use Rattle.ct_model.specs.Wire.Wire.{Data, Est, Prop, Ack, Nack, Dec}
+use Rattle.ct_model.specs.declared.wire.Wire.TheVariants.{Data, Est, Prop, Ack, Nack, Dec}
 use Rattle.ct_model.specs.Received.{Heard, Ballots, ballots, head, estimate_of, heard_from, proposal_of, proposal, is_ack, is_reply}
 use Rattle.ct_model.specs.Counted.{no_ballots, with_estimate, count_estimate, count_proposal, count_ack, count_nack, count_in, NamesSomebody}
 use Rattle.ct_model.specs.Mapped.{wire_map, heard_map, ballots_map}

@@ -10,7 +10,7 @@ use Rattle.ct_model.specs.declared.step.Step.TheVariants.{Submit, Receive, Begin
 use Rattle.ct_model.specs.Actor.{actor}
 use Rattle.ct_model.specs.AtValue.{Wire, Standing, Turn}
 use Rattle.ct_model.specs.Setting.{Setting}
-use Rattle.ct_model.specs.Wire.Mail.{Nobody}
+use Rattle.ct_model.specs.declared.mail.Mail.TheVariants.{Nobody}
 use Rattle.ct_model.specs.State.{State, Member, joined, member, new_member, first_state}
 use Rattle.ct_names.specs.Batch.{Batch}
 use Rattle.ct_model.specs.Received.{head, decision_of, decided}

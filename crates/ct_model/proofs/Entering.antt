@@ -6,7 +6,7 @@ use Rattle.ct_names.proofs.Lists
 use Rattle.ct_model.specs.declared.moves.Move.TheVariants as moves
 use Rattle.ct_model.specs.AtValue.{Standing, Turn}
 use Rattle.ct_model.specs.Setting.{Setting}
-use Rattle.ct_model.specs.Wire.Wire.{Est, Ack}
+use Rattle.ct_model.specs.declared.wire.Wire.TheVariants.{Est, Ack}
 use Rattle.ct_model.specs.State.{State, member}
 use Rattle.ct_model.specs.Received.{decided}
 use Rattle.ct_model.specs.Phases.{is_tally, enter, entered}

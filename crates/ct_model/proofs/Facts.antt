@@ -5,7 +5,7 @@ use Rattle.ct_names.specs.Membership.{IsIn, IsWithoutRepeats}
 use Rattle.ct_names.specs.Value.{Value}
 use Rattle.ct_model.specs.AtValue.{Wire, Standing}
 use Rattle.ct_model.specs.Setting.{Setting}
-use Rattle.ct_model.specs.Wire.Wire.{Data, Est, Prop, Ack, Nack, Dec}
+use Rattle.ct_model.specs.declared.wire.Wire.TheVariants.{Data, Est, Prop, Ack, Nack, Dec}
 use Rattle.ct_model.specs.State.{State, Member, member}
 use Rattle.ct_model.specs.Phases.{is_rest, is_gather, is_wait, is_tally}
 use Rattle.ct_model.specs.Safe.{IsLocked, IsProposed}

@@ -6,7 +6,7 @@ use Rattle.ct_names.specs.Value.{Value}
 use Rattle.ct_names.proofs.Lists
 use Rattle.ct_model.specs.AtValue.{Wire, Standing}
 use Rattle.ct_model.specs.Setting.{Setting}
-use Rattle.ct_model.specs.Wire.Wire.{Data, Est, Prop, Ack, Nack, Dec}
+use Rattle.ct_model.specs.declared.wire.Wire.TheVariants.{Data, Est, Prop, Ack, Nack, Dec}
 use Rattle.ct_model.specs.State.{State, Member, Proposal, member, wires}
 use Rattle.ct_model.specs.Received.{has_ack, is_ack}
 use Rattle.ct_model.specs.Safe.{IsLocked, IsProposed}

@@ -13,8 +13,8 @@ use Rattle.ct_model.specs.Actor.{actor}
 use Rattle.ct_model.specs.AtValue.{Wire, Envelope}
 use Rattle.ct_model.specs.Setting.{Setting}
 use Rattle.ct_model.specs.Wire.{envelopes}
-use Rattle.ct_model.specs.Wire.Wire.{Data, Dec}
-use Rattle.ct_model.specs.Wire.Mail.{Nobody, All}
+use Rattle.ct_model.specs.declared.wire.Wire.TheVariants.{Data, Dec}
+use Rattle.ct_model.specs.declared.mail.Mail.TheVariants.{Nobody, All}
 use Rattle.ct_model.specs.State.{State, member, at_serial}
 use Rattle.ct_model.specs.Received.{received, is_decision, has_decision}
 use Rattle.ct_model.specs.Next.{Outcome, row, receive, is_relayed, wire_to, addressed, after}

@@ -6,8 +6,8 @@ use Rattle.ct_names.specs.Value.{Value}
 use Rattle.ct_names.proofs.Lists
 use Rattle.ct_model.specs.AtValue.{Wire, Mail, Standing}
 use Rattle.ct_model.specs.Setting.{Setting}
-use Rattle.ct_model.specs.Wire.Wire.{Est, Prop, Ack}
-use Rattle.ct_model.specs.Wire.Mail.{Nobody, One, All}
+use Rattle.ct_model.specs.declared.wire.Wire.TheVariants.{Est, Prop, Ack}
+use Rattle.ct_model.specs.declared.mail.Mail.TheVariants.{Nobody, One, All}
 use Rattle.ct_model.specs.State.{State, Member, Proposal, member}
 use Rattle.ct_model.specs.Next.{Outcome, after}
 use Rattle.ct_model.proofs.Carrying.{Sent, Carries, Sent-old, Sent-cases}

@@ -19,8 +19,8 @@ use Rattle.ct_model.specs.AtValue.{Wire, Envelope, Mail}
 use Rattle.ct_model.specs.Knowledge.{CarriesOne, KnowsMessages}
 use Rattle.ct_model.specs.Setting.{Setting}
 use Rattle.ct_model.specs.Wire.{envelopes}
-use Rattle.ct_model.specs.Wire.Wire.{Data, Est, Prop, Ack, Nack, Dec}
-use Rattle.ct_model.specs.Wire.Mail.{Nobody, One, All}
+use Rattle.ct_model.specs.declared.wire.Wire.TheVariants.{Data, Est, Prop, Ack, Nack, Dec}
+use Rattle.ct_model.specs.declared.mail.Mail.TheVariants.{Nobody, One, All}
 use Rattle.ct_model.specs.State.{State, Member, member, is_crashed, submissions}
 use Rattle.ct_model.specs.Received.{received, received_by, message_of}
 use Rattle.ct_model.specs.Next.{Outcome, plain, row, submit, receive, crash, next_message, is_relayed, wire_to, after, next, can_act}

@@ -13,7 +13,7 @@ use Rattle.ct_model.specs.declared.step.Step.TheVariants.{Submit, Receive, Begin
 use Rattle.ct_model.specs.Actor.{actor}
 use Rattle.ct_model.specs.AtValue.{Wire}
 use Rattle.ct_model.specs.Setting.{Setting}
-use Rattle.ct_model.specs.Wire.Mail.{Nobody}
+use Rattle.ct_model.specs.declared.mail.Mail.TheVariants.{Nobody}
 use Rattle.ct_model.specs.State.{State, Member, member, submissions}
 use Rattle.ct_model.specs.Next.{Outcome, plain, row, submit, receive, wire_to, after}
 use Rattle.ct_model.specs.Rehearsal.{Rehearsal, state_of, line_of}

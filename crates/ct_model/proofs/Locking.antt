@@ -7,7 +7,7 @@ use Rattle.ct_names.proofs.Groups.{once-everyone, majorities}
 use Rattle.ct_names.proofs.Lists
 use Rattle.ct_model.specs.declared.step.Step.{Step}
 use Rattle.ct_model.specs.Setting.{Setting}
-use Rattle.ct_model.specs.Wire.Wire.{Est, Prop, Ack, Dec}
+use Rattle.ct_model.specs.declared.wire.Wire.TheVariants.{Est, Prop, Ack, Dec}
 use Rattle.ct_model.specs.State.{State, member, wires}
 use Rattle.ct_model.specs.Received.{ackers, has_ack}
 use Rattle.ct_model.specs.Relayed.{HasDecided}

@@ -9,8 +9,8 @@ use Rattle.ct_model.specs.declared.step.Step.TheVariants.{Submit, Receive, Begin
 use Rattle.ct_model.specs.Actor.{actor}
 use Rattle.ct_model.specs.AtValue.{Wire, Mail}
 use Rattle.ct_model.specs.Setting.{Setting}
-use Rattle.ct_model.specs.Wire.Wire.{Data, Est, Prop, Ack, Nack, Dec}
-use Rattle.ct_model.specs.Wire.Mail.{Nobody, All}
+use Rattle.ct_model.specs.declared.wire.Wire.TheVariants.{Data, Est, Prop, Ack, Nack, Dec}
+use Rattle.ct_model.specs.declared.mail.Mail.TheVariants.{Nobody, All}
 use Rattle.ct_model.specs.State.{State, Member, member}
 use Rattle.ct_model.specs.Next.{Outcome, plain, row, submit, receive, crash, is_relayed, wire_to}
 use Rattle.ct_model.proofs.Facts.{Holds}

@@ -7,8 +7,8 @@ use Rattle.ct_model.specs.Actor.{actor}
 use Rattle.ct_model.specs.AtValue.{Wire, Mail}
 use Rattle.ct_model.specs.Counted.{NamesSomebody}
 use Rattle.ct_model.specs.Setting.{Setting}
-use Rattle.ct_model.specs.Wire.Wire.{Data, Est, Prop, Ack, Nack, Dec}
-use Rattle.ct_model.specs.Wire.Mail.{One}
+use Rattle.ct_model.specs.declared.wire.Wire.TheVariants.{Data, Est, Prop, Ack, Nack, Dec}
+use Rattle.ct_model.specs.declared.mail.Mail.TheVariants.{One}
 use Rattle.ct_model.specs.State.{State, Member, member, first_state, wires}
 use Rattle.ct_model.specs.Next.{Outcome, row, next}
 use Rattle.ct_model.specs.Run.{run, run_from}

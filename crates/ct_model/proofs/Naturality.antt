@@ -9,8 +9,8 @@ use Rattle.ct_names.specs.declared.refusal.Refusal.TheVariants.{WrongPhase, TooF
 use Rattle.ct_names.specs.Group.{is_majority}
 use Rattle.ct_model.specs.When.{when}
 use Rattle.ct_model.specs.Wire.{Wire, Mail, envelopes}
-use Rattle.ct_model.specs.Wire.Wire.{Data, Est, Prop, Ack, Nack, Dec}
-use Rattle.ct_model.specs.Wire.Mail.{Nobody, One, All}
+use Rattle.ct_model.specs.declared.wire.Wire.TheVariants.{Data, Est, Prop, Ack, Nack, Dec}
+use Rattle.ct_model.specs.declared.mail.Mail.TheVariants.{Nobody, One, All}
 use Rattle.ct_model.specs.State.{Standing, Turn}
 use Rattle.ct_model.specs.Received.{head, message_of, received, decision_of, decided, is_decision, has_decision, Heard, estimate_of, heard_from, proposal_of, proposal, is_ack, has_ack, ackers, is_reply, has_reply, Ballots, ballots, heard, estimate_from, is_largest}
 use Rattle.ct_model.specs.Phases.{is_rest, is_gather, is_wait, is_tally, entered, enter, chosen, choose, adopted, adopt, suspected, suspect, concluded, conclude}

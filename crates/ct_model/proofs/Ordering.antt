@@ -12,7 +12,7 @@ use Rattle.ct_model.specs.Actor.{actor}
 use Rattle.ct_model.specs.AtValue.{Wire, Standing, Turn}
 use Rattle.ct_model.specs.Setting.{Setting}
 use Rattle.ct_model.specs.State.{State, Member, member}
-use Rattle.ct_model.specs.Wire.Mail.{Nobody}
+use Rattle.ct_model.specs.declared.mail.Mail.TheVariants.{Nobody}
 use Rattle.ct_model.specs.Next.{Outcome, row, after, next, plain, submit, receive, wire_to, round_row, crash, deliver, batch_of}
 use Rattle.ct_model.specs.Rehearsal.{Rehearsal, state_of, extended}
 use Rattle.ct_model.specs.Cause.{order}

@@ -7,8 +7,8 @@ use Rattle.ct_names.specs.Value.{Value}
 use Rattle.ct_names.proofs.Lists
 use Rattle.ct_model.specs.AtValue.{Wire, Envelope}
 use Rattle.ct_model.specs.Wire.{envelopes}
-use Rattle.ct_model.specs.Wire.Wire.{Dec}
-use Rattle.ct_model.specs.Wire.Mail.{All}
+use Rattle.ct_model.specs.declared.wire.Wire.TheVariants.{Dec}
+use Rattle.ct_model.specs.declared.mail.Mail.TheVariants.{All}
 use Rattle.ct_model.specs.State.{at_serial}
 use Rattle.ct_model.proofs.Outcomes.{some-none}
 use Rattle.ct_model.proofs.Sending.{p_or_other}

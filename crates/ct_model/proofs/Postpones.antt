@@ -7,7 +7,7 @@ use Rattle.ct_names.specs.declared.refusal.Refusal.TheVariants.{NotWaiting}
 use Rattle.ct_model.specs.declared.step.Step.TheVariants.{Postpone}
 use Rattle.ct_model.specs.AtValue.{Wire}
 use Rattle.ct_model.specs.State.{member, submissions}
-use Rattle.ct_model.specs.Wire.Mail.{Nobody}
+use Rattle.ct_model.specs.declared.mail.Mail.TheVariants.{Nobody}
 use Rattle.ct_model.specs.Next.{Outcome, plain, after, next, row}
 use Rattle.ct_model.specs.Rehearsal.{Rehearsal, state_of}
 use Rattle.ct_model.specs.Cause.{first_fault, limit, cause, overflow}

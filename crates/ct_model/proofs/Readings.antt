@@ -9,7 +9,7 @@ use Rattle.ct_names.proofs.Groups
 use Rattle.ct_names.proofs.Lists
 use Rattle.ct_names.proofs.Values
 use Rattle.ct_model.specs.AtValue.{Wire}
-use Rattle.ct_model.specs.Wire.Wire.{Data, Est, Prop, Ack, Nack, Dec}
+use Rattle.ct_model.specs.declared.wire.Wire.TheVariants.{Data, Est, Prop, Ack, Nack, Dec}
 use Rattle.ct_model.specs.Received.{head, message_of, received, decision_of, is_decision, decided, Heard, Ballots, ballots, heard, estimate_of, heard_from, estimate_from, is_largest, proposal_of, proposal, is_ack, has_ack, ackers}
 use Rattle.ct_model.proofs.Outcomes.{some-same, some-none}
 

@@ -7,7 +7,7 @@ use Rattle.ct_names.specs.Message.{Message}
 use Rattle.ct_names.specs.Value.{has, first_occurrences}
 use Rattle.ct_names.proofs.Receipts.{first_occurrences-push}
 use Rattle.ct_model.specs.AtValue.{Wire}
-use Rattle.ct_model.specs.Wire.Wire.{Data, Est, Prop, Ack, Nack, Dec}
+use Rattle.ct_model.specs.declared.wire.Wire.TheVariants.{Data, Est, Prop, Ack, Nack, Dec}
 use Rattle.ct_model.specs.Received.{message_of, received}
 
 -- one more message, unless it is there

@@ -8,7 +8,7 @@ use Rattle.ct_model.specs.declared.step.Step.TheVariants.{Receive}
 use Rattle.ct_model.specs.AtValue.{Envelope, Wire}
 use Rattle.ct_model.specs.State.{member, submissions}
 use Rattle.ct_model.specs.Wire.{envelopes}
-use Rattle.ct_model.specs.Wire.Mail.{Nobody, All}
+use Rattle.ct_model.specs.declared.mail.Mail.TheVariants.{Nobody, All}
 use Rattle.ct_model.specs.Next.{Outcome, receive, is_relayed, after, next, row}
 use Rattle.ct_model.specs.Rehearsal.{Rehearsal, state_of}
 use Rattle.ct_model.specs.Cause.{first_fault, limit, cause, overflow}

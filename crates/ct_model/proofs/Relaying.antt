@@ -8,7 +8,7 @@ use Rattle.ct_model.specs.Actor.{actor}
 use Rattle.ct_model.specs.AtValue.{Wire}
 use Rattle.ct_model.specs.Setting.{Setting}
 use Rattle.ct_model.specs.Wire.{envelopes}
-use Rattle.ct_model.specs.Wire.Wire.{Data, Dec}
+use Rattle.ct_model.specs.declared.wire.Wire.TheVariants.{Data, Dec}
 use Rattle.ct_model.specs.State.{State, first_state, member}
 use Rattle.ct_model.specs.Received.{received_by}
 use Rattle.ct_model.specs.Next.{Outcome, after, next}

@@ -7,7 +7,7 @@ use Rattle.ct_names.proofs.Lists
 use Rattle.ct_model.specs.declared.moves.Move.TheVariants as moves
 use Rattle.ct_model.specs.AtValue.{Standing, Turn}
 use Rattle.ct_model.specs.Setting.{Setting}
-use Rattle.ct_model.specs.Wire.Wire.{Est, Prop, Ack}
+use Rattle.ct_model.specs.declared.wire.Wire.TheVariants.{Est, Prop, Ack}
 use Rattle.ct_model.specs.State.{State, Member, member}
 use Rattle.ct_model.specs.Phases.{is_gather, is_wait, adopt, adopted, suspect, suspected}
 use Rattle.ct_model.specs.Next.{Outcome, round_row, turn_at, own_ballots, turned, after}

@@ -10,7 +10,7 @@ use Rattle.ct_model.specs.Setting.{Setting}
 use Rattle.ct_model.specs.AtValue.{Wire, Mail, Standing, Turn}
 use Rattle.ct_model.specs.State.{State, Member}
 use Rattle.ct_model.specs.Received.{Heard, Ballots, heard, estimate_from, is_largest, decided, message_of}
-use Rattle.ct_model.specs.Wire.Mail.{Nobody, One, All}
+use Rattle.ct_model.specs.declared.mail.Mail.TheVariants.{Nobody, One, All}
 use Rattle.ct_model.specs.Phases.{is_rest, is_gather, is_wait, is_tally, entered, enter, chosen, choose, adopted, adopt, suspected, suspect, concluded, conclude}
 use Rattle.ct_model.specs.Next.{Outcome, row, turned, round_row, begin, begin_row, deliver, deliver_row, undelivered, is_empty, own_ballots}
 use Rattle.ct_model.proofs.Tests.{and_left, and_right, true_not}

@@ -7,7 +7,7 @@ use Rattle.ct_model.specs.declared.step.Step.TheVariants.{Submit, Receive, Begin
 use Rattle.ct_model.specs.Actor.{actor}
 use Rattle.ct_model.specs.AtValue.{Wire}
 use Rattle.ct_model.specs.Setting.{Setting}
-use Rattle.ct_model.specs.Wire.Wire.{Prop, Ack}
+use Rattle.ct_model.specs.declared.wire.Wire.TheVariants.{Prop, Ack}
 use Rattle.ct_model.specs.State.{State, Member, member, first_state}
 use Rattle.ct_model.specs.Next.{Outcome, row, next}
 use Rattle.ct_model.specs.Run.{run, run_from}

@@ -7,7 +7,7 @@ use Rattle.std.proofs.lemmas.Bool.Decides.{nat_tests}
 use Rattle.ct_names.specs.Group.{members, counting}
 use Rattle.ct_model.specs.AtValue.{Wire, Envelope}
 use Rattle.ct_model.specs.Wire.{envelopes}
-use Rattle.ct_model.specs.Wire.Mail.{All}
+use Rattle.ct_model.specs.declared.mail.Mail.TheVariants.{All}
 use Rattle.ct_model.specs.Waiting.{has_serial, serials_to}
 use Rattle.ct_model.specs.Lawful.{is_distinct}
 use Rattle.ct_model.proofs.Tests.{or_left, or_right, or_cases, and_right, and_false, not_true, at_equal, same_number, self_number}

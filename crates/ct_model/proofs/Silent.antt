@@ -8,8 +8,8 @@ use Rattle.ct_names.proofs.Lists
 use Rattle.ct_model.specs.declared.step.Step.TheVariants.{Submit, Receive, Crash, Postpone}
 use Rattle.ct_model.specs.AtValue.{Wire}
 use Rattle.ct_model.specs.Setting.{Setting}
-use Rattle.ct_model.specs.Wire.Wire.{Data, Est, Prop, Ack, Nack, Dec}
-use Rattle.ct_model.specs.Wire.Mail.{Nobody}
+use Rattle.ct_model.specs.declared.wire.Wire.TheVariants.{Data, Est, Prop, Ack, Nack, Dec}
+use Rattle.ct_model.specs.declared.mail.Mail.TheVariants.{Nobody}
 use Rattle.ct_model.specs.State.{State, member}
 use Rattle.ct_model.specs.Next.{Outcome, plain, row, submit, receive, crash, is_relayed, wire_to, after}
 use Rattle.ct_model.proofs.Carrying.{Sent, Carries, Sent-wire}

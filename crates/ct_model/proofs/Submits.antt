@@ -10,7 +10,7 @@ use Rattle.ct_names.specs.Message.{Message}
 use Rattle.ct_model.specs.declared.step.Step.TheVariants.{Submit}
 use Rattle.ct_model.specs.State.{member, submissions}
 use Rattle.ct_model.specs.Wire.{envelopes}
-use Rattle.ct_model.specs.Wire.Wire.{Data}
+use Rattle.ct_model.specs.declared.wire.Wire.TheVariants.{Data}
 use Rattle.ct_model.specs.Next.{Outcome, submit, next_message, after, next, row}
 use Rattle.ct_model.specs.Rehearsal.{Rehearsal, state_of}
 use Rattle.ct_model.specs.Cause.{at, first_fault, limit, cause, overflow}

@@ -12,7 +12,7 @@ use Rattle.ct_model.specs.Actor.{actor}
 use Rattle.ct_model.specs.AtValue.{Wire, Standing, Turn}
 use Rattle.ct_model.specs.Knowledge.{KnowsMessages}
 use Rattle.ct_model.specs.Setting.{Setting}
-use Rattle.ct_model.specs.Wire.Mail.{Nobody}
+use Rattle.ct_model.specs.declared.mail.Mail.TheVariants.{Nobody}
 use Rattle.ct_model.specs.State.{State, Member, Proposal, member, delivered, first_state}
 use Rattle.ct_model.specs.Received.{received}
 use Rattle.ct_model.specs.Next.{Outcome, plain, row, round_row, submit, receive, crash, undelivered, wire_to, after, next}

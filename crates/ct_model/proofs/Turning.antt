@@ -6,7 +6,7 @@ use Rattle.ct_model.specs.declared.phase.Phase.{Phase}
 use Rattle.ct_model.specs.declared.phase.Phase.TheVariants.{Rest, Gather, Wait, Tally}
 use Rattle.ct_model.specs.AtValue.{Wire, Standing, Turn}
 use Rattle.ct_model.specs.Setting.{Setting}
-use Rattle.ct_model.specs.Wire.Wire.{Est, Prop, Ack}
+use Rattle.ct_model.specs.declared.wire.Wire.TheVariants.{Est, Prop, Ack}
 use Rattle.ct_model.specs.State.{State, Member, member}
 use Rattle.ct_model.specs.Phases.{is_rest, is_gather, is_wait, is_tally}
 use Rattle.ct_model.specs.Next.{Outcome, round_row, turned, after}

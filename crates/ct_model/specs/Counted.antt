@@ -4,7 +4,7 @@ use Rattle.std.specs.Option.{option_or}
 use Rattle.ct_names.specs.Group.{IsMember}
 use Rattle.ct_names.specs.MemberSet.{with_member}
 use Rattle.ct_model.specs.Wire.{Wire}
-use Rattle.ct_model.specs.Wire.Wire.{Est, Prop, Ack, Nack}
+use Rattle.ct_model.specs.declared.wire.Wire.TheVariants.{Est, Prop, Ack, Nack}
 use Rattle.ct_model.specs.Received.{Heard, Ballots}
 
 -- nothing was got

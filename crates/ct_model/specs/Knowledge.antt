@@ -4,7 +4,7 @@ use Rattle.ct_names.specs.Group.{is_member}
 use Rattle.ct_names.specs.Message.{Message}
 use Rattle.ct_names.specs.Value.{has}
 use Rattle.ct_model.specs.AtValue.{Wire, Envelope}
-use Rattle.ct_model.specs.Wire.Wire.{Data}
+use Rattle.ct_model.specs.declared.wire.Wire.TheVariants.{Data}
 use Rattle.ct_model.specs.Setting.{Setting}
 use Rattle.ct_model.specs.State.{State, submissions}
 use Rattle.ct_model.specs.Received.{received_by}

@@ -1,8 +1,8 @@
 -- The same wires, ballots, standings and turns with another type of values.
 use Rattle.std.specs.Prelude.{map, option_map}
 use Rattle.ct_model.specs.Wire.{Wire, Envelope, Mail}
-use Rattle.ct_model.specs.Wire.Wire.{Data, Est, Prop, Ack, Nack, Dec}
-use Rattle.ct_model.specs.Wire.Mail.{Nobody, One, All}
+use Rattle.ct_model.specs.declared.wire.Wire.TheVariants.{Data, Est, Prop, Ack, Nack, Dec}
+use Rattle.ct_model.specs.declared.mail.Mail.TheVariants.{Nobody, One, All}
 use Rattle.ct_model.specs.State.{Standing, Turn}
 use Rattle.ct_model.specs.Received.{Heard, Ballots}
 
@@ -16,6 +16,10 @@ wire_map f (Dec k r v) = Dec k r (f v)
 
 abbrev pub envelope_map : {V U : Type 0} → (V → U) → Envelope V → Envelope U
 envelope_map f e = record { to = e.to; wire = wire_map f e.wire }
+
+-- the envelope with nothing in place of its value
+abbrev pub without_value : {V : Type 0} → Envelope V → Envelope (Unit {0})
+without_value e = envelope_map (λ _. tt) e
 
 abbrev pub mail_map : {V U : Type 0} → (V → U) → Mail V → Mail U
 mail_map f Nobody = Nobody

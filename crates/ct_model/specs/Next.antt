@@ -13,8 +13,8 @@ use Rattle.ct_model.specs.declared.step.Step.TheVariants.{Submit, Receive, Begin
 use Rattle.ct_model.specs.Setting.{Setting}
 use Rattle.ct_model.specs.When.{when}
 use Rattle.ct_model.specs.Wire.{envelopes}
-use Rattle.ct_model.specs.Wire.Wire.{Data, Dec}
-use Rattle.ct_model.specs.Wire.Mail.{Nobody, All}
+use Rattle.ct_model.specs.declared.wire.Wire.TheVariants.{Data, Dec}
+use Rattle.ct_model.specs.declared.mail.Mail.TheVariants.{Nobody, All}
 use Rattle.ct_model.specs.State.{Member, Proposal, State, member, delivered, is_crashed, submissions, at_serial}
 use Rattle.ct_model.specs.Received.{Ballots, received, decided, has_decision, ballots}
 use Rattle.ct_model.specs.AtValue.{Wire, Envelope, Mail, Standing, Turn}

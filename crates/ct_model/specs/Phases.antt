@@ -6,8 +6,8 @@ use Rattle.ct_model.specs.declared.phase.Phase.{Phase}
 use Rattle.ct_model.specs.declared.phase.Phase.TheVariants.{Rest, Gather, Wait, Tally}
 use Rattle.ct_names.specs.Group.{is_majority}
 use Rattle.ct_model.specs.When.{when}
-use Rattle.ct_model.specs.Wire.Wire.{Est, Prop, Ack, Nack, Dec}
-use Rattle.ct_model.specs.Wire.Mail.{Nobody, One, All}
+use Rattle.ct_model.specs.declared.wire.Wire.TheVariants.{Est, Prop, Ack, Nack, Dec}
+use Rattle.ct_model.specs.declared.mail.Mail.TheVariants.{Nobody, One, All}
 use Rattle.ct_model.specs.State.{Standing, Turn}
 use Rattle.ct_model.specs.Received.{Heard, Ballots, heard, estimate_from, is_largest}
 

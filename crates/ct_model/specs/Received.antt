@@ -5,7 +5,7 @@ use Rattle.ct_names.specs.Group.{everyone}
 use Rattle.ct_names.specs.Message.{Message}
 use Rattle.ct_names.specs.Value.{first_occurrences}
 use Rattle.ct_model.specs.Wire.{Wire}
-use Rattle.ct_model.specs.Wire.Wire.{Data, Est, Prop, Ack, Nack, Dec}
+use Rattle.ct_model.specs.declared.wire.Wire.TheVariants.{Data, Est, Prop, Ack, Nack, Dec}
 use Rattle.ct_model.specs.State.{State, member}
 
 abbrev pub head : {A : Type 0} → List A → Option A

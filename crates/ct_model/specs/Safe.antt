@@ -6,7 +6,7 @@ use Rattle.ct_names.specs.Membership.{IsIn, IsWithoutRepeats}
 use Rattle.ct_names.specs.Prefix.{OneBegins}
 use Rattle.ct_names.specs.Value.{Value}
 use Rattle.ct_model.specs.Setting.{Setting}
-use Rattle.ct_model.specs.Wire.Wire.{Prop}
+use Rattle.ct_model.specs.declared.wire.Wire.TheVariants.{Prop}
 use Rattle.ct_model.specs.State.{State, member, delivered, wires}
 use Rattle.ct_model.specs.Received.{ackers}
 use Rattle.ct_model.specs.Relayed.{HasDecided}

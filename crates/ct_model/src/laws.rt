@@ -18,7 +18,7 @@ ghost use Rattle.ct_model.specs.Safe.{IsLocked, IsProposed, delivered_by};
 ghost use Rattle.ct_names.specs.Prefix.{IsPrefix};
 ghost use Rattle.ct_model.specs.State.{State, member, wires};
 ghost use Rattle.ct_model.specs.Wire.{Wire};
-ghost use Rattle.ct_model.specs.Wire.Wire.{Prop};
+ghost use Rattle.ct_model.specs.declared.wire.Wire.TheVariants.{Prop};
 ghost use Rattle.ct_model.specs.declared.step.Step.{Step};
 
 /// Uniform integrity of reliable broadcast (Chandra and Toueg, section 4): a member receives a message at most once,

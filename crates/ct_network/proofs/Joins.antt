@@ -6,8 +6,9 @@ use Rattle.std.proofs.lemmas.Bool.{cases_lt, eqb-true, eqb-false}
 use Rattle.ct_names.specs.Group.{is_member}
 use Rattle.ct_names.proofs.Groups.{member_from_one, member_to_n}
 use Rattle.ct_model.specs.Waiting.{serials_to}
-use Rattle.ct_model.specs.Wire.{Wire, envelopes}
-use Rattle.ct_model.specs.Wire.Mail.{One, All}
+use Rattle.ct_model.specs.declared.wire.Wire.{Wire}
+use Rattle.ct_model.specs.Wire.{envelopes}
+use Rattle.ct_model.specs.declared.mail.Mail.TheVariants.{One, All}
 use Rattle.ct_network.specs.WaitingLine.{WaitingLine}
 use Rattle.ct_network.specs.Lines.{serials_of}
 use Rattle.ct_network.specs.Network.{line_at}

@@ -5,13 +5,12 @@ use Rattle.std.proofs.lemmas.List.{length-map}
 use Rattle.ct_names.specs.Group.{members, counting}
 use Rattle.ct_names.specs.Value.{Value}
 use Rattle.ct_names.proofs.Groups.{length-counting}
-use Rattle.ct_model.specs.Wire.{Wire, Envelope, Mail, envelopes}
-use Rattle.ct_model.specs.Wire.Mail.{Nobody, One, All}
+use Rattle.ct_model.specs.declared.wire.Wire.{Wire}
+use Rattle.ct_model.specs.declared.envelope.Envelope.{Envelope}
+use Rattle.ct_model.specs.declared.mail.Mail.{Mail}
+use Rattle.ct_model.specs.Wire.{envelopes}
+use Rattle.ct_model.specs.declared.mail.Mail.TheVariants.{Nobody, One, All}
 use Rattle.ct_model.specs.Waiting.{serials_to}
-use Rattle.ct_rounds.specs.Meaning.{mail_of, wire_of}
-use Rattle.ct_rounds.specs.declared.wire.Wire.{Wire as CodedWire}
-use Rattle.ct_rounds.specs.declared.wire.Mail.{Mail as CodedMail}
-use Rattle.ct_rounds.specs.declared.wire.Mail.TheVariants.{All as CodedAll}
 use Rattle.ct_model.specs.Mapped.{wire_map, envelope_map, mail_map}
 use Rattle.ct_model.proofs.Naturality.{envelopes-map}
 use Rattle.ct_model.proofs.Serials
@@ -71,9 +70,9 @@ serials_to-all {V} n q before w low high =
     none : V → Value
     none v = []
 
--- the mail to all, as the code has it
-pub length-all : (n : ℕ) (mail : CodedMail) (w : CodedWire) → mail ≡ CodedAll w → length (envelopes n (mail_of mail)) ≡ n
-length-all n mail w is = ap (λ m. length (envelopes n (mail_of m))) is ∙ length-envelopes n (All (wire_of w))
+-- the mail to all
+pub length-all : {V : Type 0} (n : ℕ) (mail : Mail V) (w : Wire V) → mail ≡ All w → length (envelopes n mail) ≡ n
+length-all n mail w is = ap (λ m. length (envelopes n m)) is ∙ length-envelopes n (All w)
 
 -- as many envelopes to all as members
 pub few-to_all : {V : Type 0} (sent n most : ℕ) (w : Wire V) → sent + n ≤ most → sent + length (envelopes n (All w)) ≤ most

@@ -1,4 +1,3 @@
 pub mod WaitingLine
-pub mod Envelopes
 pub mod Network
 pub mod Lines

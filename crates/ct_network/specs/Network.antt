@@ -1,8 +1,9 @@
 -- What contracts see of a network.
 use Rattle.std.specs.Prelude.{◌≡◌, ℕ, ◌-◌, ◌==◌, Bool, true, List, [], ◌∷◌, ◌++◌, Option, position, remove, slice_index_or}
 use Rattle.ct_names.specs.Group.{is_member}
-use Rattle.ct_model.specs.Wire.{Envelope as AnyEnvelope, Mail as AnyMail}
-use Rattle.ct_model.specs.Wire.Mail.{Nobody, One, All}
+use Rattle.ct_model.specs.declared.envelope.Envelope.{Envelope as AnyEnvelope}
+use Rattle.ct_model.specs.declared.mail.Mail.{Mail as AnyMail}
+use Rattle.ct_model.specs.declared.mail.Mail.TheVariants.{Nobody, One, All}
 
 -- every envelope that was sent, in order; its serial is its place, from 1. The serials that wait at each member, in
 -- order. Whether what one step sends can be sent without memory: an envelope to each member, and a serial in each line

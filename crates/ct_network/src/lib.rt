@@ -1,12 +1,11 @@
 //! The network of a group: every envelope that was sent, and what waits at each member.
 #![tactic(auto)]
 
-mod envelope;
 mod line;
 mod lines;
 mod network;
 
-pub use envelope::Envelope;
+pub use ct_model::Envelope;
 pub use network::Network;
 
 #[cfg(test)]

@@ -1,18 +1,17 @@
 //! Networks.
 
-ghost use Rattle.std.specs.Prelude.{◌≡◌, true, [], length, replicate, if◌then◌else◌, Some, None, IfOk, option_copied, option_map};
+ghost use Rattle.std.specs.Prelude.{◌≡◌, true, [], length, replicate, if◌then◌else◌, Some, None, IfOk, option_copied};
 ghost use Rattle.ct_names.specs.Group.{is_member};
 ghost use Rattle.ct_model.specs.State.{at_serial};
-ghost use Rattle.ct_network.specs.Envelopes.{envelope_of};
 ghost use Rattle.ct_network.specs.Network.{line_at, place_of};
 
 mod moving;
 mod preparing;
 mod sending;
 
-use crate::envelope::Envelope;
 use crate::line::Line;
 use crate::lines;
+use ct_model::Envelope;
 use ct_names::{Member, Serial};
 use std::alloc::{AllocError, Global};
 use std::marker::Model;
@@ -26,14 +25,13 @@ pub struct Network {
 
 impl Model for Network {
     ghost use Rattle.std.specs.Prelude.{◌-◌, ◌&&◌, nat_le, length, vec_len, vec_capacity};
-    ghost use Rattle.ct_network.specs.Envelopes.{envelopes_of};
     ghost use Rattle.ct_network.specs.Lines.{serials_of, are_roomy};
     ghost use Rattle.ct_network.specs.Network.{NetworkView};
 
     ghost Value = { NetworkView };
 
     ghost view = { λ a. record {
-      sent = envelopes_of a.envelopes.items;
+      sent = a.envelopes.items;
       lines = serials_of a.lines.items;
       has_room = nat_le (length a.lines.items) (vec_capacity a.envelopes - vec_len a.envelopes) && are_roomy a.lines.items;
     } };
@@ -78,7 +76,7 @@ impl Network {
 
     /// The envelope with this serial. None where none was sent.
     pub fn envelope(&self, serial: Serial) -> Option<Envelope>
-        ensures { option_map envelope_of result ≡ at_serial self.now.sent serial }
+        ensures { result ≡ at_serial self.now.sent serial }
     {
         let at = (serial as usize).checked_sub(1)?;
         self.envelopes.get(at).copied()

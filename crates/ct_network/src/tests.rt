@@ -4,8 +4,8 @@ ghost use Rattle.ct_network.specs.Network.{line_at};
 
 use super::*;
 use crate::line::Line;
+use ct_model::{Mail, Wire};
 use ct_names::{Command, Member, Message, Serial};
-use ct_rounds::{Mail, Wire};
 use std::test::Fail;
 
 fn ack() -> Wire {

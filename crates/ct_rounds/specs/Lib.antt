@@ -1,6 +1,5 @@
 pub mod Best
 pub mod Inbox
-pub mod Meaning
 pub mod Note
 pub mod Part
 pub mod Tally

@@ -1,8 +1,8 @@
 -- What an inbox notes.
 use Rattle.std.specs.Prelude.{ℕ}
 use Rattle.ct_names.specs.Group.{IsMember}
-use Rattle.ct_model.specs.Wire.{Wire}
-use Rattle.ct_model.specs.Wire.Wire.{Est, Prop, Ack, Nack}
+use Rattle.ct_model.specs.declared.wire.Wire.{Wire}
+use Rattle.ct_model.specs.declared.wire.Wire.TheVariants.{Est, Prop, Ack, Nack}
 use Rattle.ct_model.specs.Received.{Ballots}
 use Rattle.ct_model.specs.Counted.{count_estimate, count_proposal, count_ack, count_nack}
 use Rattle.ct_rounds.specs.declared.note.Note.{Note}

@@ -2,7 +2,7 @@
 use Rattle.std.specs.Prelude.{◌≡◌, ℕ, List, Option, Some, None}
 use Rattle.ct_model.specs.declared.moves.Move.{Move}
 use Rattle.ct_model.specs.Moves.{turn_of, faults_of}
-use Rattle.ct_model.specs.Wire.{Mail}
+use Rattle.ct_model.specs.declared.mail.Mail.{Mail}
 use Rattle.ct_model.specs.State.{Standing, Turn}
 use Rattle.ct_model.specs.Received.{Ballots}
 use Rattle.ct_model.specs.Test.{Test}

@@ -7,15 +7,13 @@ ghost use Rattle.ct_names.specs.Group.{is_majority};
 ghost use Rattle.ct_model.specs.Phases.{first_phase, replied_phase};
 ghost use Rattle.ct_model.specs.declared.moves.Move.TheVariants.{Choose, Adopt, Suspect, Conclude};
 ghost use Rattle.ct_model.specs.Test.{first_fault};
-ghost use Rattle.ct_rounds.specs.Meaning.{mail_of};
 ghost use Rattle.ct_rounds.specs.Part.{IsTurn, row, tests, enter_row, enter_tests};
 
 mod refusing;
 mod taking;
 
 use crate::inbox::Inbox;
-use crate::wire::Mail;
-use ct_model::Phase;
+use ct_model::{Mail, Phase};
 use ct_names::{Group, Instance, MAX_ROUNDS, Member, MemberSet, Refusal, Round, ValueId};
 use std::marker::Model;
 
@@ -97,7 +95,7 @@ impl Consensus {
     pub fn enter(&mut self) -> Result<Mail, Refusal>
         requires { self.old.standing.round < MAX_ROUNDS }
         ensures fault { result_err result ≡ first_fault (enter_tests self.old) }
-        ensures turn { IfOk result (λ mail. IsTurn (enter_row self.old) self.old self.new (mail_of mail)) }
+        ensures turn { IfOk result (λ mail. IsTurn (enter_row self.old) self.old self.new mail) }
         ensures kept { OnErr result (self.new ≡ self.old) }
     {
         match self.enter_fault() {
@@ -110,7 +108,7 @@ impl Consensus {
     /// this order, as WrongPhase unless it gathers estimates, TooFew below a majority, and NotLargest.
     pub fn choose(&mut self, inbox: &Inbox, from: Member) -> Result<Mail, Refusal>
         ensures fault { result_err result ≡ first_fault (tests self.old inbox.now (Choose from)) }
-        ensures turn { IfOk result (λ mail. IsTurn (row self.old inbox.now (Choose from)) self.old self.new (mail_of mail)) }
+        ensures turn { IfOk result (λ mail. IsTurn (row self.old inbox.now (Choose from)) self.old self.new mail) }
         ensures kept { OnErr result (self.new ≡ self.old) }
     {
         match self.choose_fault(inbox, from) {
@@ -123,7 +121,7 @@ impl Consensus {
     /// waits for it, and as NoProposal.
     pub fn adopt(&mut self, inbox: &Inbox) -> Result<Mail, Refusal>
         ensures fault { result_err result ≡ first_fault (tests self.old inbox.now Adopt) }
-        ensures turn { IfOk result (λ mail. IsTurn (row self.old inbox.now Adopt) self.old self.new (mail_of mail)) }
+        ensures turn { IfOk result (λ mail. IsTurn (row self.old inbox.now Adopt) self.old self.new mail) }
         ensures kept { OnErr result (self.new ≡ self.old) }
     {
         match self.adopt_fault(inbox) {
@@ -136,7 +134,7 @@ impl Consensus {
     /// member waits for the proposal, and as HasProposal.
     pub fn suspect(&mut self, inbox: &Inbox) -> Result<Mail, Refusal>
         ensures fault { result_err result ≡ first_fault (tests self.old inbox.now Suspect) }
-        ensures turn { IfOk result (λ mail. IsTurn (row self.old inbox.now Suspect) self.old self.new (mail_of mail)) }
+        ensures turn { IfOk result (λ mail. IsTurn (row self.old inbox.now Suspect) self.old self.new mail) }
         ensures kept { OnErr result (self.new ≡ self.old) }
     {
         match self.suspect_fault(inbox) {
@@ -149,7 +147,7 @@ impl Consensus {
     /// WrongPhase unless the coordinator tallies replies, and as TooFew below a majority.
     pub fn conclude(&mut self, inbox: &Inbox) -> Result<Mail, Refusal>
         ensures fault { result_err result ≡ first_fault (tests self.old inbox.now Conclude) }
-        ensures turn { IfOk result (λ mail. IsTurn (row self.old inbox.now Conclude) self.old self.new (mail_of mail)) }
+        ensures turn { IfOk result (λ mail. IsTurn (row self.old inbox.now Conclude) self.old self.new mail) }
         ensures kept { OnErr result (self.new ≡ self.old) }
     {
         match self.conclude_fault(inbox) {

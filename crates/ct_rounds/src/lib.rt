@@ -5,12 +5,11 @@ mod consensus;
 mod inbox;
 mod note;
 mod tally;
-mod wire;
 
 pub use consensus::Consensus;
+pub use ct_model::{Mail, Wire};
 pub use inbox::Inbox;
 pub use note::Note;
-pub use wire::{Mail, Wire};
 
 #[cfg(test)]
 mod tests;

@@ -11,7 +11,7 @@ use Rattle.ct_names.proofs.Lists.{IsIn-filter, IsIn-filter_passes, IsIn-filter_m
 use Rattle.ct_model.specs.AtValue.{Wire}
 use Rattle.ct_model.specs.Rehearsal.{Rehearsal}
 use Rattle.ct_names.specs.Group.{is_member}
-use Rattle.ct_model.specs.Wire.Wire.{Data, Est, Prop, Ack, Nack, Dec}
+use Rattle.ct_model.specs.declared.wire.Wire.TheVariants.{Data, Est, Prop, Ack, Nack, Dec}
 use Rattle.ct_model.specs.Received.{head, decision_of, decided}
 use Rattle.ct_instances.specs.declared.entry.Entry.{Entry}
 use Rattle.ct_instances.specs.Kept.{Kept, entry_of, decision_at}

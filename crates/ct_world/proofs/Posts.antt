@@ -5,8 +5,9 @@ use Rattle.std.proofs.lemmas.List.Elements.{filter_agree}
 use Rattle.ct_names.specs.Group.{is_member}
 use Rattle.ct_model.specs.declared.step.Step.{Step}
 use Rattle.ct_model.specs.Actor.{actor}
-use Rattle.ct_model.specs.Wire.{envelopes, Mail as AnyMail}
-use Rattle.ct_model.specs.Wire.Mail.{Nobody}
+use Rattle.ct_model.specs.declared.mail.Mail.{Mail as AnyMail}
+use Rattle.ct_model.specs.Wire.{envelopes}
+use Rattle.ct_model.specs.declared.mail.Mail.TheVariants.{Nobody}
 use Rattle.ct_model.specs.Mapped.{envelope_map}
 use Rattle.ct_model.specs.Next.{Outcome}
 use Rattle.ct_model.specs.State.{submissions}

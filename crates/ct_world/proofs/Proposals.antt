@@ -8,7 +8,7 @@ use Rattle.ct_model.specs.Actor.{actor}
 use Rattle.ct_model.specs.AtValue.{Wire, Standing, Turn}
 use Rattle.ct_model.specs.Setting.{Setting}
 use Rattle.ct_model.specs.State.{State, Member, Proposal, member, first_state}
-use Rattle.ct_model.specs.Wire.Mail.{Nobody}
+use Rattle.ct_model.specs.declared.mail.Mail.TheVariants.{Nobody}
 use Rattle.ct_model.specs.Next.{Outcome, plain, submit, receive, wire_to, round_row, row, after, next}
 use Rattle.ct_model.specs.Run.{run, run_from}
 use Rattle.ct_model.specs.Rehearsal.{Rehearsal, state_of}

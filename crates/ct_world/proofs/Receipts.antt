@@ -11,8 +11,8 @@ use Rattle.ct_names.specs.Value.{Value, has}
 use Rattle.ct_names.proofs.Lists.{found-list_any, list_any-found}
 use Rattle.ct_names.proofs.Values.{in-has, has-in}
 use Rattle.ct_model.specs.AtValue.{Wire}
-use Rattle.ct_model.specs.Wire.{Wire as AnyWire}
-use Rattle.ct_model.specs.Wire.Wire.{Data, Est, Prop, Ack, Nack, Dec}
+use Rattle.ct_model.specs.declared.wire.Wire.{Wire as AnyWire}
+use Rattle.ct_model.specs.declared.wire.Wire.TheVariants.{Data, Est, Prop, Ack, Nack, Dec}
 use Rattle.ct_model.specs.Setting.{Setting}
 use Rattle.ct_model.specs.State.{State, Member, member}
 use Rattle.ct_model.specs.Received.{received, is_decision, has_decision, message_of}

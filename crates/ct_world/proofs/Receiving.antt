@@ -12,8 +12,10 @@ use Rattle.ct_model.specs.Next.{receive, is_relayed}
 use Rattle.ct_model.specs.Rehearsal.{Rehearsal, state_of, extended}
 use Rattle.ct_model.specs.State.{Member, member, submissions, at_serial}
 use Rattle.ct_model.specs.Waiting.{serials_to}
-use Rattle.ct_model.specs.Wire.{envelopes, Envelope as AnyEnvelope, Mail as AnyMail}
-use Rattle.ct_model.specs.Wire.Mail.{Nobody, All}
+use Rattle.ct_model.specs.declared.envelope.Envelope.{Envelope as AnyEnvelope}
+use Rattle.ct_model.specs.declared.mail.Mail.{Mail as AnyMail}
+use Rattle.ct_model.specs.Wire.{envelopes}
+use Rattle.ct_model.specs.declared.mail.Mail.TheVariants.{Nobody, All}
 use Rattle.ct_model.proofs.Frame.{length-after-sent, submissions-none}
 use Rattle.ct_model.proofs.Lines.{untouched}
 use Rattle.ct_model.proofs.Outcomes.{some-same}

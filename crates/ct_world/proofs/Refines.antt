@@ -7,7 +7,8 @@ use Rattle.ct_names.specs.Group.{is_member}
 use Rattle.ct_names.specs.Value.{Value}
 use Rattle.ct_model.specs.declared.step.Step.{Step}
 use Rattle.ct_model.specs.Actor.{actor}
-use Rattle.ct_model.specs.Wire.{envelopes, Envelope as AnyEnvelope}
+use Rattle.ct_model.specs.declared.envelope.Envelope.{Envelope as AnyEnvelope}
+use Rattle.ct_model.specs.Wire.{envelopes}
 use Rattle.ct_model.specs.State.{joined, State, Member, Proposal, member, submissions}
 use Rattle.ct_names.specs.Batch.{Batch}
 use Rattle.ct_model.specs.Received.{received}

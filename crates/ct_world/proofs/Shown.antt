@@ -4,7 +4,9 @@ use Rattle.std.specs.Prelude.{option_and_then, flat_map}
 use Rattle.std.proofs.lemmas.Option.{slice_get-map}
 use Rattle.ct_names.specs.Value.{Value}
 use Rattle.ct_model.specs.AtValue.{Envelope}
-use Rattle.ct_model.specs.Wire.{Envelope as AnyEnvelope, value_of}
+use Rattle.ct_model.specs.declared.envelope.Envelope.{Envelope as AnyEnvelope}
+use Rattle.ct_model.specs.Mapped.{without_value}
+use Rattle.ct_model.specs.Wire.{value_of}
 use Rattle.ct_model.specs.State.{at_serial, delivered}
 use Rattle.ct_names.specs.Batch.{Batch}
 use Rattle.ct_model.specs.Received.{received_by}
@@ -12,7 +14,7 @@ use Rattle.ct_model.specs.Rehearsal.{Rehearsal, state_of}
 use Rattle.ct_abcast.specs.Batches.{joined}
 use Rattle.ct_table.specs.Table.{table}
 use Rattle.ct_instances.specs.Named.{NamesEnvelopes, NamesEnvelope, NamesDecision}
-use Rattle.ct_instances.proofs.Named.{bare, named_bare, named_at, named_value, named_wire, named_some, named_none}
+use Rattle.ct_instances.proofs.Named.{named_without_value, named_at, named_value, named_wire, named_some, named_none}
 use Rattle.ct_world.specs.declared.seat.Seat.{Seat}
 use Rattle.ct_world.specs.Kept.{IsSeatOf}
 use Rattle.ct_world.specs.World.{member_of, of_member}
@@ -23,8 +25,8 @@ serial-map : {A B : Type 0} (f : A → B) (xs : List A) (k : ℕ) → at_serial 
 serial-map f xs zero = refl
 serial-map f xs (suc i) = slice_get-map f xs i
 
-pub bare_at : (values : List Value) (xs : List (AnyEnvelope ℕ)) (es : List Envelope) (k : ℕ) → NamesEnvelopes values xs es → option_map bare (at_serial xs k) ≡ option_map bare (at_serial es k)
-bare_at values xs es k h = sym (serial-map bare xs k) ∙ ap (λ zs. at_serial zs k) (named_bare values xs es h) ∙ serial-map bare es k
+pub without_value_at : (values : List Value) (xs : List (AnyEnvelope ℕ)) (es : List Envelope) (k : ℕ) → NamesEnvelopes values xs es → option_map without_value (at_serial xs k) ≡ option_map without_value (at_serial es k)
+without_value_at values xs es k h = sym (serial-map without_value xs k) ∙ ap (λ zs. at_serial zs k) (named_without_value values xs es h) ∙ serial-map without_value es k
 
 -- and the values that they carry
 

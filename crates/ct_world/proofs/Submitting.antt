@@ -6,9 +6,11 @@ use Rattle.ct_names.specs.Command.{is_good}
 use Rattle.ct_names.specs.Message.{Message}
 use Rattle.ct_names.specs.Value.{Value}
 use Rattle.ct_model.specs.declared.step.Step.TheVariants.{Submit}
-use Rattle.ct_model.specs.Wire.{Wire as AnyWire, Mail as AnyMail, envelopes}
-use Rattle.ct_model.specs.Wire.Wire.{Data}
-use Rattle.ct_model.specs.Wire.Mail.{All}
+use Rattle.ct_model.specs.declared.wire.Wire.{Wire as AnyWire}
+use Rattle.ct_model.specs.declared.mail.Mail.{Mail as AnyMail}
+use Rattle.ct_model.specs.Wire.{envelopes}
+use Rattle.ct_model.specs.declared.wire.Wire.TheVariants.{Data}
+use Rattle.ct_model.specs.declared.mail.Mail.TheVariants.{All}
 use Rattle.ct_model.specs.State.{Member, member, submissions}
 use Rattle.ct_model.specs.Next.{submit, next_message, after}
 use Rattle.ct_model.specs.Rehearsal.{Rehearsal, state_of, extended}

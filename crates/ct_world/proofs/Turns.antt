@@ -7,8 +7,9 @@ use Rattle.ct_names.specs.Value.{Value}
 use Rattle.ct_model.specs.declared.step.Step.{Step}
 use Rattle.ct_model.specs.Actor.{actor}
 use Rattle.ct_model.specs.AtValue.{Wire, Mail, Standing, Turn}
-use Rattle.ct_model.specs.Wire.{envelopes, Mail as AnyMail}
-use Rattle.ct_model.specs.Wire.Mail.{Nobody, One, All}
+use Rattle.ct_model.specs.declared.mail.Mail.{Mail as AnyMail}
+use Rattle.ct_model.specs.Wire.{envelopes}
+use Rattle.ct_model.specs.declared.mail.Mail.TheVariants.{Nobody, One, All}
 use Rattle.ct_model.specs.State.{Member, member, submissions}
 use Rattle.ct_model.specs.Next.{row, round_row, turned}
 use Rattle.ct_model.specs.Rehearsal.{Rehearsal, state_of, extended}

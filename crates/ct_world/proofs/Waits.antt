@@ -4,8 +4,8 @@ use Rattle.std.proofs.lemmas.Option.{slice_get-map}
 use Rattle.ct_names.specs.Group.{is_member}
 use Rattle.ct_names.specs.Membership.{IsIn}
 use Rattle.ct_model.specs.AtValue.{Wire, Envelope}
-use Rattle.ct_model.specs.Wire.{Envelope as AnyEnvelope}
-use Rattle.ct_model.specs.Wire.Wire.{Data, Est, Prop, Ack, Nack, Dec}
+use Rattle.ct_model.specs.declared.envelope.Envelope.{Envelope as AnyEnvelope}
+use Rattle.ct_model.specs.declared.wire.Wire.TheVariants.{Data, Est, Prop, Ack, Nack, Dec}
 use Rattle.ct_model.specs.Counted.{NamesSomebody}
 use Rattle.ct_model.specs.Knowledge.{KnowsMessages, CarriesOne}
 use Rattle.ct_model.specs.Lawful.{IsLetter, is_waiting}

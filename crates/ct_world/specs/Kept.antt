@@ -8,7 +8,7 @@ use Rattle.ct_names.specs.Value.{Value}
 use Rattle.ct_names.specs.declared.refusal.Refusal.{Refusal}
 use Rattle.ct_model.specs.declared.step.Step.{Step}
 use Rattle.ct_model.specs.declared.step.Step.TheVariants.{Receive, Begin, Deliver, Postpone}
-use Rattle.ct_model.specs.Wire.{Envelope as AnyEnvelope}
+use Rattle.ct_model.specs.declared.envelope.Envelope.{Envelope as AnyEnvelope}
 use Rattle.ct_model.specs.State.{State, member, submissions, at_serial}
 use Rattle.ct_model.specs.Rehearsal.{Rehearsal, state_of, line_of, extended}
 use Rattle.ct_model.specs.Cause.{cause, presence, first_fault, order}

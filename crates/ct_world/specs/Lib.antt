@@ -1,5 +1,4 @@
 pub mod World
-pub mod Letters
 pub mod Seats
 pub mod Kept
 pub mod Posting

@@ -5,9 +5,10 @@ use Rattle.std.specs.Option.{option_or}
 use Rattle.ct_names.specs.Group.{coordinator}
 use Rattle.ct_names.specs.Message.{Message}
 use Rattle.ct_names.specs.Value.{Value}
-use Rattle.ct_model.specs.Wire.{Wire as AnyWire, Mail as AnyMail}
-use Rattle.ct_model.specs.Wire.Wire.{Data, Dec}
-use Rattle.ct_model.specs.Wire.Mail.{Nobody, All}
+use Rattle.ct_model.specs.declared.wire.Wire.{Wire as AnyWire}
+use Rattle.ct_model.specs.declared.mail.Mail.{Mail as AnyMail}
+use Rattle.ct_model.specs.declared.wire.Wire.TheVariants.{Data, Dec}
+use Rattle.ct_model.specs.declared.mail.Mail.TheVariants.{Nobody, All}
 use Rattle.ct_model.specs.State.{Member, delivered}
 use Rattle.ct_model.specs.Received.{received, is_decision, decision_of}
 use Rattle.ct_model.specs.Counted.{count_in}

@@ -1,8 +1,7 @@
 //! Room for what is to come, the only calls that take memory.
 
 ghost use Rattle.std.specs.Prelude.{◌≡◌, ℕ, false, IsTrue, OnOk, OnErr};
-ghost use Rattle.ct_model.specs.Wire.{Wire as AnyWire};
-ghost use Rattle.ct_rounds.specs.Meaning.{wire_of};
+ghost use Rattle.ct_model.specs.declared.wire.Wire.{Wire as AnyWire};
 ghost use Rattle.ct_instances.specs.Kept.{ballots_of, decision_at, has_room, has_room_of, has_room_open};
 
 use super::Instances;
@@ -36,8 +35,8 @@ impl Instances {
 
     /// Makes room for a note of the wire. Where memory is refused that room was missing. What was got stays, Ok or not.
     pub fn prepare(&mut self, wire: &Wire) -> Result<(), AllocError>
-        ensures ok { OnOk result (IsTrue (has_room self.new (wire_of wire.now))) }
-        ensures refused { OnErr result (has_room self.old (wire_of wire.now) ≡ false) }
+        ensures ok { OnOk result (IsTrue (has_room self.new wire.now)) }
+        ensures refused { OnErr result (has_room self.old wire.now ≡ false) }
         ensures ballots { (k r : ℕ) → ballots_of self.new k r ≡ ballots_of self.old k r }
         ensures decisions { (k : ℕ) → decision_at self.new k ≡ decision_at self.old k }
         ensures rooms_open { (k : ℕ) → IsTrue (has_room_open self.old k) → IsTrue (has_room_open self.new k) }

@@ -1,7 +1,6 @@
 //! What is known of the instances.
 
 ghost use Rattle.std.specs.Prelude.{◌≡◌, IfSome, option_map, option_copied};
-ghost use Rattle.ct_rounds.specs.Meaning.{wire_of};
 ghost use Rattle.ct_instances.specs.Kept.{decision_at, has_room, has_room_of, has_room_open};
 ghost use Rattle.ct_instances.specs.Opened.{IsPart};
 ghost use Rattle.ct_instances.specs.Steps.{open_rounds};
@@ -58,7 +57,7 @@ impl Instances {
 
     /// Whether the wire can be noted without memory; a message always.
     pub fn has_room(&self, wire: &Wire) -> bool
-        ensures { result ≡ has_room self.now (wire_of wire.now) }
+        ensures { result ≡ has_room self.now wire.now }
     {
         match *wire {
             Wire::Data(_) => true,

@@ -4,7 +4,6 @@ ghost use Rattle.std.specs.Prelude.{◌≡◌, ◌<◌, false, Some, None, IfOk,
 ghost use Rattle.std.specs.Result.{result_err};
 ghost use Rattle.ct_model.specs.declared.moves.Move.TheVariants.{Enter, Choose, Adopt, Suspect, Conclude};
 ghost use Rattle.ct_model.specs.Test.{first_fault};
-ghost use Rattle.ct_rounds.specs.Meaning.{mail_of};
 ghost use Rattle.ct_instances.specs.Steps.{faults, taken, passes_rounds};
 
 use super::Instances;
@@ -17,7 +16,7 @@ impl Instances {
     pub fn take(&mut self, action: Move) -> Mail
         requires allowed { first_fault (faults self.old action) ≡ None }
         requires rounds { passes_rounds self.old action ≡ false }
-        ensures { taken self.old action ≡ Some (record { after = self.new; mail = mail_of result }) }
+        ensures { taken self.old action ≡ Some (record { after = self.new; mail = result }) }
     {
         match &mut self.part {
             None => unreachable!(),
@@ -32,7 +31,7 @@ impl Instances {
     pub fn enter(&mut self) -> Result<Mail, Refusal>
         requires { IfSome self.old.part (λ c. c.standing.round < MAX_ROUNDS) }
         ensures fault { result_err result ≡ first_fault (faults self.old Enter) }
-        ensures turn { IfOk result (λ mail. taken self.old Enter ≡ Some (record { after = self.new; mail = mail_of mail })) }
+        ensures turn { IfOk result (λ mail. taken self.old Enter ≡ Some (record { after = self.new; mail = mail })) }
         ensures kept { OnErr result (self.new ≡ self.old) }
     {
         self.try_take(Move::Enter)
@@ -42,7 +41,7 @@ impl Instances {
     /// Refused by `Idle`, `WrongPhase`, `TooFew`, `NotLargest`.
     pub fn choose(&mut self, from: Member) -> Result<Mail, Refusal>
         ensures fault { result_err result ≡ first_fault (faults self.old (Choose from)) }
-        ensures turn { IfOk result (λ mail. taken self.old (Choose from) ≡ Some (record { after = self.new; mail = mail_of mail })) }
+        ensures turn { IfOk result (λ mail. taken self.old (Choose from) ≡ Some (record { after = self.new; mail = mail })) }
         ensures kept { OnErr result (self.new ≡ self.old) }
     {
         self.try_take(Move::Choose(from))
@@ -52,7 +51,7 @@ impl Instances {
     /// `NoProposal`.
     pub fn adopt(&mut self) -> Result<Mail, Refusal>
         ensures fault { result_err result ≡ first_fault (faults self.old Adopt) }
-        ensures turn { IfOk result (λ mail. taken self.old Adopt ≡ Some (record { after = self.new; mail = mail_of mail })) }
+        ensures turn { IfOk result (λ mail. taken self.old Adopt ≡ Some (record { after = self.new; mail = mail })) }
         ensures kept { OnErr result (self.new ≡ self.old) }
     {
         self.try_take(Move::Adopt)
@@ -62,7 +61,7 @@ impl Instances {
     /// `HasProposal`.
     pub fn suspect(&mut self) -> Result<Mail, Refusal>
         ensures fault { result_err result ≡ first_fault (faults self.old Suspect) }
-        ensures turn { IfOk result (λ mail. taken self.old Suspect ≡ Some (record { after = self.new; mail = mail_of mail })) }
+        ensures turn { IfOk result (λ mail. taken self.old Suspect ≡ Some (record { after = self.new; mail = mail })) }
         ensures kept { OnErr result (self.new ≡ self.old) }
     {
         self.try_take(Move::Suspect)
@@ -72,7 +71,7 @@ impl Instances {
     /// `Idle`, `WrongPhase`, `TooFew`.
     pub fn conclude(&mut self) -> Result<Mail, Refusal>
         ensures fault { result_err result ≡ first_fault (faults self.old Conclude) }
-        ensures turn { IfOk result (λ mail. taken self.old Conclude ≡ Some (record { after = self.new; mail = mail_of mail })) }
+        ensures turn { IfOk result (λ mail. taken self.old Conclude ≡ Some (record { after = self.new; mail = mail })) }
         ensures kept { OnErr result (self.new ≡ self.old) }
     {
         self.try_take(Move::Conclude)
@@ -82,7 +81,7 @@ impl Instances {
     fn try_take(&mut self, action: Move) -> Result<Mail, Refusal>
         requires { passes_rounds self.old action ≡ false }
         ensures fault { result_err result ≡ first_fault (faults self.old action) }
-        ensures turn { IfOk result (λ mail. taken self.old action ≡ Some (record { after = self.new; mail = mail_of mail })) }
+        ensures turn { IfOk result (λ mail. taken self.old action ≡ Some (record { after = self.new; mail = mail })) }
         ensures kept { OnErr result (self.new ≡ self.old) }
     {
         match self.fault(action) {

@@ -4,29 +4,26 @@ ghost use Rattle.std.specs.Prelude.{◌≡◌, ℕ, ◌+◌, ◌<◌, ◌≤◌,
 ghost use Rattle.ct_names.specs.Group.{is_member};
 ghost use Rattle.ct_model.specs.Waiting.{serials_to};
 ghost use Rattle.ct_model.specs.Wire.{envelopes};
-ghost use Rattle.ct_model.specs.Wire.Mail.{One, All};
-ghost use Rattle.ct_rounds.specs.Meaning.{mail_of, wire_of};
-ghost use Rattle.ct_network.specs.Envelopes.{envelopes_of};
+ghost use Rattle.ct_model.specs.declared.mail.Mail.TheVariants.{One, All};
 ghost use Rattle.ct_network.specs.Lines.{serials_of, are_roomy};
 ghost use Rattle.ct_network.specs.Network.{line_at, IsAddressed};
 
-use crate::envelope::Envelope;
 use crate::line::Line;
 use crate::network::Network;
+use ct_model::{Envelope, Mail, Wire};
 use ct_names::{MAX_ENVELOPES, MAX_MEMBERS, Member};
-use ct_rounds::{Mail, Wire};
 
 impl Network {
     /// Sends the mail, and answers how many envelopes that were. Takes no memory.
     pub fn post(&mut self, mail: Mail) -> u32
         requires room { IsTrue self.old.has_room }
-        requires to { IsAddressed (length self.old.lines) (mail_of mail) }
-        requires few { length self.old.sent + length (envelopes (length self.old.lines) (mail_of mail)) ≤ MAX_ENVELOPES }
+        requires to { IsAddressed (length self.old.lines) mail }
+        requires few { length self.old.sent + length (envelopes (length self.old.lines) mail) ≤ MAX_ENVELOPES }
         requires small { length self.old.lines ≤ MAX_MEMBERS }
-        ensures sent { self.new.sent ≡ self.old.sent ++ envelopes (length self.old.lines) (mail_of mail) }
+        ensures sent { self.new.sent ≡ self.old.sent ++ envelopes (length self.old.lines) mail }
         ensures members { length self.new.lines ≡ length self.old.lines }
-        ensures joined { (q : ℕ) → is_member (length self.old.lines) q ≡ true → line_at self.new.lines q ≡ line_at self.old.lines q ++ serials_to q (length self.old.sent) (envelopes (length self.old.lines) (mail_of mail)) }
-        ensures number { result ≡ length (envelopes (length self.old.lines) (mail_of mail)) }
+        ensures joined { (q : ℕ) → is_member (length self.old.lines) q ≡ true → line_at self.new.lines q ≡ line_at self.old.lines q ++ serials_to q (length self.old.sent) (envelopes (length self.old.lines) mail) }
+        ensures number { result ≡ length (envelopes (length self.old.lines) mail) }
     {
         match mail {
             Mail::Nobody => 0,
@@ -48,9 +45,9 @@ fn send_one(sent: &mut Vec<Envelope>, lines: &mut Vec<Line>, to: Member, wire: W
     requires capacity { vec_len sent.old < vec_capacity sent.old }
     requires to { is_member (length lines.old.items) to ≡ true }
     requires few { vec_len sent.old < MAX_ENVELOPES }
-    ensures sent { envelopes_of sent.new.items ≡ envelopes_of sent.old.items ++ envelopes (length lines.old.items) (One to (wire_of wire)) }
+    ensures sent { sent.new.items ≡ sent.old.items ++ envelopes (length lines.old.items) (One to wire) }
     ensures members { length lines.new.items ≡ length lines.old.items }
-    ensures joined { (q : ℕ) → is_member (length lines.old.items) q ≡ true → line_at (serials_of lines.new.items) q ≡ line_at (serials_of lines.old.items) q ++ serials_to q (length sent.old.items) (envelopes (length lines.old.items) (One to (wire_of wire))) }
+    ensures joined { (q : ℕ) → is_member (length lines.old.items) q ≡ true → line_at (serials_of lines.new.items) q ≡ line_at (serials_of lines.old.items) q ++ serials_to q (length sent.old.items) (envelopes (length lines.old.items) (One to wire)) }
 {
     let _ = sent.push(Envelope { to, wire });
     let line = &mut lines[to as usize - 1];
@@ -63,9 +60,9 @@ fn send_to_all(sent: &mut Vec<Envelope>, lines: &mut Vec<Line>, wire: Wire)
     requires capacity { vec_len sent.old + length lines.old.items ≤ vec_capacity sent.old }
     requires few { vec_len sent.old + length lines.old.items ≤ MAX_ENVELOPES }
     requires small { length lines.old.items ≤ MAX_MEMBERS }
-    ensures sent { envelopes_of sent.new.items ≡ envelopes_of sent.old.items ++ envelopes (length lines.old.items) (All (wire_of wire)) }
+    ensures sent { sent.new.items ≡ sent.old.items ++ envelopes (length lines.old.items) (All wire) }
     ensures members { length lines.new.items ≡ length lines.old.items }
-    ensures joined { (q : ℕ) → is_member (length lines.old.items) q ≡ true → line_at (serials_of lines.new.items) q ≡ line_at (serials_of lines.old.items) q ++ serials_to q (length sent.old.items) (envelopes (length lines.old.items) (All (wire_of wire))) }
+    ensures joined { (q : ℕ) → is_member (length lines.old.items) q ≡ true → line_at (serials_of lines.new.items) q ≡ line_at (serials_of lines.old.items) q ++ serials_to q (length sent.old.items) (envelopes (length lines.old.items) (All wire)) }
 {
     // Each envelope gets a copy.
     let wire = &wire;

@@ -4,13 +4,11 @@ ghost use Rattle.std.specs.Prelude.{◌≡◌, ◌<◌, false, ◌&&◌, nat_lt,
 ghost use Rattle.ct_model.specs.Moves.{is_enter};
 ghost use Rattle.ct_model.specs.declared.moves.Move.TheVariants.{Choose, Adopt, Suspect, Conclude};
 ghost use Rattle.ct_model.specs.Test.{first_fault};
-ghost use Rattle.ct_rounds.specs.Meaning.{mail_of};
 ghost use Rattle.ct_rounds.specs.Part.{IsTurn, row, tests, enter_row, enter_tests};
 
 use super::Consensus;
 use crate::inbox::Inbox;
-use crate::wire::{Mail, Wire};
-use ct_model::{Move, Phase};
+use ct_model::{Mail, Move, Phase, Wire};
 use ct_names::{MAX_ROUNDS, Member};
 
 impl Consensus {
@@ -18,7 +16,7 @@ impl Consensus {
     pub fn take(&mut self, inbox: &Inbox, action: Move) -> Mail
         requires allowed { first_fault (tests self.old inbox.now action) ≡ None }
         requires rounds { (is_enter action && nat_lt MAX_ROUNDS (self.old.standing.round + 1)) ≡ false }
-        ensures { IsTurn (row self.old inbox.now action) self.old self.new (mail_of result) }
+        ensures { IsTurn (row self.old inbox.now action) self.old self.new result }
     {
         match action {
             Move::Enter => self.take_enter(),
@@ -33,7 +31,7 @@ impl Consensus {
     pub(super) fn take_enter(&mut self) -> Mail
         requires allowed { first_fault (enter_tests self.old) ≡ None }
         requires rounds { self.old.standing.round < MAX_ROUNDS }
-        ensures { IsTurn (enter_row self.old) self.old self.new (mail_of result) }
+        ensures { IsTurn (enter_row self.old) self.old self.new result }
     {
         let round = self.round + 1;
         let coordinator = self.group.coordinator(round);
@@ -53,7 +51,7 @@ impl Consensus {
     #[tactic(auto, unfolding(ct_model::specs::Phases::choose))]
     pub(super) fn take_choose(&mut self, inbox: &Inbox, from: Member) -> Mail
         requires { first_fault (tests self.old inbox.now (Choose from)) ≡ None }
-        ensures { IsTurn (row self.old inbox.now (Choose from)) self.old self.new (mail_of result) }
+        ensures { IsTurn (row self.old inbox.now (Choose from)) self.old self.new result }
     {
         match inbox.estimate(self.round, from) {
             Some(value) => {
@@ -72,7 +70,7 @@ impl Consensus {
     #[tactic(auto, unfolding(ct_model::specs::Phases::adopt))]
     pub(super) fn take_adopt(&mut self, inbox: &Inbox) -> Mail
         requires { first_fault (tests self.old inbox.now Adopt) ≡ None }
-        ensures { IsTurn (row self.old inbox.now Adopt) self.old self.new (mail_of result) }
+        ensures { IsTurn (row self.old inbox.now Adopt) self.old self.new result }
     {
         match inbox.proposal(self.round) {
             Some(value) => {
@@ -95,7 +93,7 @@ impl Consensus {
     #[tactic(auto, unfolding(ct_model::specs::Phases::suspect))]
     pub(super) fn take_suspect(&mut self, inbox: &Inbox) -> Mail
         requires { first_fault (tests self.old inbox.now Suspect) ≡ None }
-        ensures { IsTurn (row self.old inbox.now Suspect) self.old self.new (mail_of result) }
+        ensures { IsTurn (row self.old inbox.now Suspect) self.old self.new result }
     {
         let coordinator = self.group.coordinator(self.round);
         self.phase = self.replied_phase();
@@ -110,7 +108,7 @@ impl Consensus {
     #[tactic(auto, unfolding(ct_model::specs::Phases::conclude))]
     pub(super) fn take_conclude(&mut self, inbox: &Inbox) -> Mail
         requires { first_fault (tests self.old inbox.now Conclude) ≡ None }
-        ensures { IsTurn (row self.old inbox.now Conclude) self.old self.new (mail_of result) }
+        ensures { IsTurn (row self.old inbox.now Conclude) self.old self.new result }
     {
         self.phase = Phase::Rest;
         if self.is_acked(inbox) {

@@ -1,7 +1,6 @@
 //! Room at a seat, the only calls that take memory. What is kept stays, also where memory is refused.
 
 ghost use Rattle.std.specs.Prelude.{◌≡◌, ◌+◌, ◌≤◌, true, length, OnOk};
-ghost use Rattle.ct_rounds.specs.Meaning.{wire_of};
 ghost use Rattle.ct_instances.specs.Kept.{has_room_open};
 ghost use Rattle.ct_world.specs.Seats.{IsSameSeat, CanReceive};
 
@@ -14,7 +13,7 @@ impl Seat {
     /// Room to receive the wire.
     pub fn prepare_receive(&mut self, wire: &Wire) -> Result<(), AllocError>
         ensures same { IsSameSeat self.old self.new }
-        ensures ok { OnOk result (CanReceive self.new (wire_of wire.now)) }
+        ensures ok { OnOk result (CanReceive self.new wire.now) }
     {
         self.relay.prepare()?;
         self.caster.prepare(1)?;

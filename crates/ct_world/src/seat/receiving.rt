@@ -1,10 +1,9 @@
 //! What a member gets.
 
 ghost use Rattle.std.specs.Prelude.{◌≡◌, ◌≤◌, true};
-ghost use Rattle.ct_model.specs.Wire.Wire.{Data, Dec};
+ghost use Rattle.ct_model.specs.declared.wire.Wire.TheVariants.{Data, Dec};
 ghost use Rattle.ct_relay.specs.Taken.{with_id};
 ghost use Rattle.ct_model.specs.Counted.{NamesSomebody};
-ghost use Rattle.ct_rounds.specs.Meaning.{wire_of, mail_of};
 ghost use Rattle.ct_world.specs.Seats.{CanReceive, HasReceived, HasSameRest, ids_with, is_passed_on, passed_on, received_with};
 
 use crate::seat::Seat;
@@ -15,7 +14,7 @@ use ct_rounds::{Mail, Wire};
 impl Seat {
     /// Whether the member passes the wire on: it gets it for the first time, and didn't send it to all before.
     pub fn passes_on(&self, group: Group, wire: &Wire) -> bool
-        ensures { result ≡ is_passed_on group self.now.relay (wire_of wire.now) }
+        ensures { result ≡ is_passed_on group self.now.relay wire.now }
     {
         match *wire {
             Wire::Data(message) => self.relay.first(name_of(&message))
@@ -34,10 +33,10 @@ impl Seat {
 
     /// The member gets the wire, and answers what it sends.
     pub fn receive(&mut self, group: Group, wire: Wire) -> Mail
-        requires room { CanReceive self.old (wire_of wire) }
-        requires sender { NamesSomebody (wire_of wire) }
-        ensures received { HasReceived self.old (wire_of wire) self.new }
-        ensures mail { mail_of result ≡ passed_on group self.old.relay (wire_of wire) }
+        requires room { CanReceive self.old wire }
+        requires sender { NamesSomebody wire }
+        ensures received { HasReceived self.old wire self.new }
+        ensures mail { result ≡ passed_on group self.old.relay wire }
     {
         self.instances.note(&wire);
         let relay = match wire {

@@ -34,8 +34,17 @@ fn letters_and_values_are_shown(rt: HostRuntime) {
         round,
         from: 1,
     };
-    let proposal = Wire::Prop { instance, round };
-    let decision = Wire::Dec { instance, round };
+    let value = ();
+    let proposal = Wire::Prop {
+        instance,
+        round,
+        value,
+    };
+    let decision = Wire::Dec {
+        instance,
+        round,
+        value,
+    };
     Trial::of(&rt, rt.alloc(), 3, 4, &ONE_ROUND).shows(
         &rt,
         &[
@@ -165,6 +174,7 @@ fn a_coordinator_suspects_itself(rt: HostRuntime) {
         instance: 1,
         round: 2,
         from: 2,
+        value: (),
         ts: 0,
     };
     Trial::of(&rt, rt.alloc(), 3, 4, &TWO_PROPOSALS).shows(

@@ -3,13 +3,13 @@
 ghost use Rattle.std.specs.Prelude.{◌≡◌, ◌≤◌, ◌&&◌, length, map, is_some, IfSome, option_and_then, option_map};
 ghost use Rattle.ct_names.specs.Group.{is_member};
 ghost use Rattle.ct_model.specs.Cause.{order};
+ghost use Rattle.ct_model.specs.Mapped.{without_value};
 ghost use Rattle.ct_model.specs.Received.{decided, received_by};
 ghost use Rattle.ct_model.specs.Rehearsal.{state_of, line_of};
 ghost use Rattle.ct_model.specs.State.{is_crashed, delivered, at_serial};
 ghost use Rattle.ct_model.specs.Wire.{value_of};
 ghost use Rattle.ct_table.specs.Table.{table};
 ghost use Rattle.ct_world.specs.Kept.{IsSeatOf};
-ghost use Rattle.ct_world.specs.Letters.{bare, bare_letter};
 ghost use Rattle.ct_world.specs.World.{member_of, of_member, if_member};
 
 use crate::letter::Letter;
@@ -29,10 +29,10 @@ impl World {
 
     /// The envelope of a serial, without its value; None where that was not sent.
     pub fn letter(&self, serial: Serial) -> Option<Letter>
-        ensures { option_map bare_letter result ≡ option_map bare (at_serial (state_of self.now.rehearsal).sent serial) }
+        ensures { result ≡ option_map without_value (at_serial (state_of self.now.rehearsal).sent serial) }
     {
         match self.network.envelope(serial) {
-            Some(envelope) => Some(Letter::of(envelope)),
+            Some(envelope) => Some(envelope.without_value()),
             None => None,
         }
     }

@@ -1,7 +1,6 @@
 use Rattle.std.proofs.Common.{rules, length}
-use Rattle.ct_rounds.specs.Meaning.{wire_of}
 use Rattle.ct_network.proofs.Posts.{few-to_all}
 use Rattle.ct_network.proofs.tests.send_to_all.Goals as goal
 
 pub post-requires-clause-few : goal.post-requires-clause-few
-post-requires-clause-few c = few-to_all (length c.prepare.new.self.sent) (length c.prepare.new.self.lines) 1000000 (wire_of c.args.wire) (search rules)
+post-requires-clause-few c = few-to_all (length c.prepare.new.self.sent) (length c.prepare.new.self.lines) 1000000 c.args.wire (search rules)

@@ -1,17 +1,15 @@
 use Rattle.std.proofs.Common.{true, ◌∷◌, ◌≡◌, ◌+◌, ◌<◌, ◌++◌, [], length, refl, ap, sym, ◌∙◌, arith, append-nil, append_assoc}
-use Rattle.std.proofs.lemmas.List.{length-set, map_push}
+use Rattle.std.proofs.lemmas.List.{length-set}
 use Rattle.std.specs.Prelude.{is_ok, vec_len}
 use Rattle.ct_model.specs.Wire.{envelopes}
-use Rattle.ct_model.specs.Wire.Mail.{All}
-use Rattle.ct_rounds.specs.Meaning.{wire_of}
-use Rattle.ct_network.specs.Envelopes.{envelope_of, envelopes_of}
+use Rattle.ct_model.specs.declared.mail.Mail.TheVariants.{All}
 use Rattle.ct_network.proofs.Joins.{join_more, join_rest, joined_all}
 use Rattle.ct_network.proofs.Posts.{envelopes-none, envelopes-more}
 use Rattle.ct_network.proofs.network.sending.send_to_all.Goals as goal
 
 pub loop-i-init : goal.loop-i-init
 loop-i-init c = record {
-  sent = sym (append-nil (envelopes_of c.args.sent.now.items)) ∙ ap (λ es. envelopes_of c.args.sent.now.items ++ es) (sym (envelopes-none (wire_of c.args.wire)));
+  sent = sym (append-nil c.args.sent.now.items) ∙ ap (λ es. c.args.sent.now.items ++ es) (sym (envelopes-none c.args.wire));
   capacity = omega arith;
   number = omega arith;
   as_many = refl;
@@ -23,7 +21,7 @@ pub loop-i-preserved : goal.loop-i-preserved
 loop-i-preserved c =
     let v = c.loop-i.invariant in
     let i = c.loop-i.i in
-    let w = wire_of c.args.wire in
+    let w = c.args.wire in
     let old = c.args.sent.now.items in
     let lines = c.args.lines.now.items in
     let new = c.join.new.self in
@@ -32,11 +30,10 @@ loop-i-preserved c =
     let within : i < length lines = omega (arith, v.as_many) in
     record {
       sent =
-          ap envelopes_of (rw ok at c.push.ensures.items)
-          ∙ map_push envelope_of c.loop-i.sent.items (record { to = i + 1; wire = c.args.wire })
+          rw ok at c.push.ensures.items
           ∙ ap (λ es. es ++ record { to = i + 1; wire = w } ∷ []) v.sent
-          ∙ append_assoc (envelopes_of old) (envelopes i (All w)) (record { to = i + 1; wire = w } ∷ [])
-          ∙ ap (λ es. envelopes_of old ++ es) (sym (envelopes-more i w));
+          ∙ append_assoc old (envelopes i (All w)) (record { to = i + 1; wire = w } ∷ [])
+          ∙ ap (λ es. old ++ es) (sym (envelopes-more i w));
       capacity = omega (arith, v.capacity, c.push.ensures.capacity);
       number = number;
       as_many = length-set c.loop-i.lines.items i new ∙ v.as_many;
@@ -45,4 +42,4 @@ loop-i-preserved c =
     }
 
 pub returns-clause-joined : goal.returns-clause-joined
-returns-clause-joined c = joined_all c.args.lines.now.items c.loop-i.lines.items (length c.args.sent.now.items) (wire_of c.args.wire) c.loop-i.invariant.as_many (λ k d h. c.loop-i.invariant.done k d (omega arith))
+returns-clause-joined c = joined_all c.args.lines.now.items c.loop-i.lines.items (length c.args.sent.now.items) c.args.wire c.loop-i.invariant.as_many (λ k d h. c.loop-i.invariant.done k d (omega arith))

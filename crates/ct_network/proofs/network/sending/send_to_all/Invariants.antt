@@ -1,16 +1,14 @@
 use Rattle.std.proofs.Common.{◌≡◌, ℕ, ◌+◌, ◌≤◌, ◌++◌, length, get_or, vec_len}
 use Rattle.std.specs.Prelude.{vec_capacity}
 use Rattle.ct_model.specs.Wire.{envelopes}
-use Rattle.ct_model.specs.Wire.Mail.{All}
-use Rattle.ct_rounds.specs.Meaning.{wire_of}
-use Rattle.ct_network.specs.Envelopes.{envelopes_of}
+use Rattle.ct_model.specs.declared.mail.Mail.TheVariants.{All}
 use Rattle.ct_network.specs.WaitingLine.{WaitingLine}
 use Rattle.ct_network.proofs.Joins.{HaveJoined}
 use Rattle.ct_network.proofs.network.sending.send_to_all.Given as goal
 
 abbrev pub invariant-loop-i : goal.invariant-loop-i
 invariant-loop-i l = record {
-  sent : envelopes_of l.sent.items ≡ envelopes_of l.fn.sent.items ++ envelopes l.i (All (wire_of l.wire));
+  sent : l.sent.items ≡ l.fn.sent.items ++ envelopes l.i (All l.wire);
   capacity : vec_capacity l.fn.sent ≤ vec_capacity l.sent;
   number : vec_len l.sent ≡ vec_len l.fn.sent + l.i;
   as_many : length l.lines.items ≡ length l.fn.lines.items;

@@ -2,8 +2,6 @@ use Rattle.std.proofs.Common.{◌≡◌, ◌-◌, ◌++◌, ◌∷◌, [], true,
 use Rattle.std.specs.Prelude.{is_ok}
 use Rattle.ct_model.specs.declared.step.Step.TheVariants.{Receive}
 use Rattle.ct_model.proofs.Receives.{receivable, receive_outcome}
-use Rattle.ct_rounds.specs.Meaning.{wire_of, mail_of}
-use Rattle.ct_network.specs.Envelopes.{envelope_of}
 use Rattle.ct_network.specs.Network.{line_at}
 use Rattle.ct_instances.proofs.Named.{named_sender, named_wire}
 use Rattle.ct_world.specs.declared.seat.Seat.{Seat}
@@ -26,13 +24,13 @@ pub receive-mail-requires-clause-room : goal.receive-mail-requires-clause-room
 receive-mail-requires-clause-room c =
     let p = prepared_in c.self.inside c.args.self.now (Receive c.args.member c.args.serial) c.self.view_is c.self.invariant c.requires in
     let here = seat_in c.self.inside (Receive c.args.member c.args.serial) c.index_mut-seat.result.now p c.index_mut-seat.ensures.value in
-    subst (λ (s : Seat). CanReceive s (wire_of c.in-Some.envelope.wire)) (sym here) (p.ready.for_itself (envelope_of c.in-Some.envelope) (sym c.in-Some.ensures))
+    subst (λ (s : Seat). CanReceive s c.in-Some.envelope.wire) (sym here) (p.ready.for_itself c.in-Some.envelope (sym c.in-Some.ensures))
 
 pub receive-mail-requires-clause-sender : goal.receive-mail-requires-clause-sender
 receive-mail-requires-clause-sender c =
     let p = prepared_in c.self.inside c.args.self.now (Receive c.args.member c.args.serial) c.self.view_is c.self.invariant c.requires in
-    let a = awaited_in c.self.inside c.args.member c.args.serial (envelope_of c.in-Some.envelope) p c.in-Some.ensures in
-    named_sender c.self.inside.book.values (wire_of c.in-Some.envelope.wire) a.envelope.wire (named_wire c.self.inside.book.values (envelope_of c.in-Some.envelope) a.envelope a.names) a.somebody
+    let a = awaited_in c.self.inside c.args.member c.args.serial c.in-Some.envelope p c.in-Some.ensures in
+    named_sender c.self.inside.book.values c.in-Some.envelope.wire a.envelope.wire (named_wire c.self.inside.book.values c.in-Some.envelope a.envelope a.names) a.somebody
 
 pub unreachable-requires : goal.unreachable-requires
 unreachable-requires c =
@@ -57,12 +55,12 @@ post-sent-requires-clause-room c =
 pub post-sent-requires-clause-few : goal.post-sent-requires-clause-few
 post-sent-requires-clause-few c =
     let p = prepared_in c.self.inside c.args.self.now (Receive c.args.member c.args.serial) c.self.view_is c.self.invariant c.requires in
-    let a = awaited_in c.self.inside c.args.member c.args.serial (envelope_of c.in-Some.envelope) p c.in-Some.ensures in
+    let a = awaited_in c.self.inside c.args.member c.args.serial c.in-Some.envelope p c.in-Some.ensures in
     let here = seat_in c.self.inside (Receive c.args.member c.args.serial) c.index_mut-seat.result.now p c.index_mut-seat.ensures.value in
-    let mail = c.receive-mail.ensures.mail ∙ ap (λ (s : Seat). passed_on c.self.inside.group s.relay (wire_of c.in-Some.envelope.wire)) here in
+    let mail = c.receive-mail.ensures.mail ∙ ap (λ (s : Seat). passed_on c.self.inside.group s.relay c.in-Some.envelope.wire) here in
     let left = remove (line_at c.self.inside.network.lines c.args.member) c.self.inside.place in
     let lined = left_lined c.self.inside.network.lines c.leave.new.self.lines c.self.inside.group (c.args.member - 1) left c.leave.ensures.lines p.world.lined in
-    few_posted (rehearsal_in c.self.inside) c.args.member c.args.serial (fields_in c.self.inside) (envelope_of c.in-Some.envelope) p a (mail_of c.receive-mail.result) _ c.leave.new.self.sent mail lined c.leave.ensures.sent
+    few_posted (rehearsal_in c.self.inside) c.args.member c.args.serial (fields_in c.self.inside) c.in-Some.envelope p a c.receive-mail.result _ c.leave.new.self.sent mail lined c.leave.ensures.sent
 
 before : (c : After-push) → IsPreparedIn c.self.inside (Receive c.args.member c.args.serial)
 before c = prepared_in c.self.inside c.args.self.now (Receive c.args.member c.args.serial) c.self.view_is c.self.invariant c.requires
@@ -70,14 +68,14 @@ before c = prepared_in c.self.inside c.args.self.now (Receive c.args.member c.ar
 here : (c : After-push) → c.index_mut-seat.result.now ≡ seat_of c.self.inside.seats.items c.args.member
 here c = seat_in c.self.inside (Receive c.args.member c.args.serial) c.index_mut-seat.result.now (before c) c.index_mut-seat.ensures.value
 
-carried : (c : After-push) → IsAwaited (rehearsal_in c.self.inside) (fields_in c.self.inside) c.args.member c.args.serial (envelope_of c.in-Some.envelope)
-carried c = awaited_in c.self.inside c.args.member c.args.serial (envelope_of c.in-Some.envelope) (before c) c.in-Some.ensures
+carried : (c : After-push) → IsAwaited (rehearsal_in c.self.inside) (fields_in c.self.inside) c.args.member c.args.serial c.in-Some.envelope
+carried c = awaited_in c.self.inside c.args.member c.args.serial c.in-Some.envelope (before c) c.in-Some.ensures
 
 here_left : (c : After-push) → IsWithout c.args.serial (line_at c.self.inside.network.lines c.args.member) c.self.inside.place
 here_left c = placed_in (rehearsal_in c.self.inside) (fields_in c.self.inside) c.args.member c.args.serial c.self.inside.place (before c).world (before c).in_group (before c).ready.placed
 
-mail_is : (c : After-push) → mail_of c.receive-mail.result ≡ passed_on c.self.inside.group (seat_of c.self.inside.seats.items c.args.member).relay (wire_of c.in-Some.envelope.wire)
-mail_is c = c.receive-mail.ensures.mail ∙ ap (λ (s : Seat). passed_on c.self.inside.group s.relay (wire_of c.in-Some.envelope.wire)) (here c)
+mail_is : (c : After-push) → c.receive-mail.result ≡ passed_on c.self.inside.group (seat_of c.self.inside.seats.items c.args.member).relay c.in-Some.envelope.wire
+mail_is c = c.receive-mail.ensures.mail ∙ ap (λ (s : Seat). passed_on c.self.inside.group s.relay c.in-Some.envelope.wire) (here c)
 
 pushed : (c : After-push) → c.push.new.self.items ≡ c.self.inside.record.items ++ Receive c.args.member c.args.serial ∷ []
 pushed c =
@@ -87,8 +85,8 @@ pushed c =
 pub invariant_of-self : goal.invariant_of-self
 invariant_of-self c =
     kept_in c.self.inside (Receive c.args.member c.args.serial) c.push.new.self.items _ (pushed c)
-    (receive_steps (rehearsal_in c.self.inside) c.args.member c.args.serial (fields_in c.self.inside) (envelope_of c.in-Some.envelope) (before c) (carried c) _ c.receive-mail.new.self (mail_of c.receive-mail.result) c.leave.new.self (record {
-      received = subst (λ (s : Seat). HasReceived s (wire_of c.in-Some.envelope.wire) c.receive-mail.new.self) (here c) c.receive-mail.ensures.received;
+    (receive_steps (rehearsal_in c.self.inside) c.args.member c.args.serial (fields_in c.self.inside) c.in-Some.envelope (before c) (carried c) _ c.receive-mail.new.self c.receive-mail.result c.leave.new.self (record {
+      received = subst (λ (s : Seat). HasReceived s c.in-Some.envelope.wire c.receive-mail.new.self) (here c) c.receive-mail.ensures.received;
       mail_is = mail_is c;
       lines = c.leave.ensures.lines ∙ ap (set c.self.inside.network.lines (c.args.member - 1)) (here_left c).rest;
       sent = c.leave.ensures.sent;
@@ -105,5 +103,5 @@ returns-clause-done c =
     let left = remove (line_at c.self.inside.network.lines c.args.member) c.self.inside.place in
     let lined = left_lined c.self.inside.network.lines c.leave.new.self.lines c.self.inside.group (c.args.member - 1) left c.leave.ensures.lines p.world.lined in
     done_in c.self.inside c.args.self.now (Receive c.args.member c.args.serial) (receive_outcome w c.args.member a.envelope.wire) c.push.new.self.items c.post-sent.result c.self.view_is p (pushed c)
-    (received_taken w c.args.member c.args.serial (fields_in c.self.inside) (envelope_of c.in-Some.envelope) p a)
-    (number_posted w c.args.member c.args.serial (fields_in c.self.inside) (envelope_of c.in-Some.envelope) p a (mail_of c.receive-mail.result) _ (mail_is c) lined ∙ sym c.post-sent.ensures.number)
+    (received_taken w c.args.member c.args.serial (fields_in c.self.inside) c.in-Some.envelope p a)
+    (number_posted w c.args.member c.args.serial (fields_in c.self.inside) c.in-Some.envelope p a c.receive-mail.result _ (mail_is c) lined ∙ sym c.post-sent.ensures.number)

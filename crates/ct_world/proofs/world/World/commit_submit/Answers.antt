@@ -3,8 +3,8 @@ use Rattle.std.specs.Prelude.{is_ok}
 use Rattle.ct_model.specs.declared.step.Step.TheVariants.{Submit}
 use Rattle.ct_model.specs.Rehearsal.{state_of}
 use Rattle.ct_model.specs.State.{submissions}
-use Rattle.ct_model.specs.Wire.Wire.{Data}
-use Rattle.ct_model.specs.Wire.Mail.{All}
+use Rattle.ct_model.specs.declared.wire.Wire.TheVariants.{Data}
+use Rattle.ct_model.specs.declared.mail.Mail.TheVariants.{All}
 use Rattle.ct_model.proofs.Submits.{submit_outcome, submit_taken}
 use Rattle.ct_world.specs.declared.seat.Seat.{Seat}
 use Rattle.ct_world.specs.Kept.{seat_of}

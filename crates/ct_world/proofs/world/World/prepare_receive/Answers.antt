@@ -3,7 +3,6 @@ use Rattle.std.specs.Prelude.{vec_len, vec_capacity}
 use Rattle.ct_model.specs.declared.step.Step.TheVariants.{Receive}
 use Rattle.ct_model.specs.State.{at_serial}
 use Rattle.ct_model.proofs.Receives.{receivable}
-use Rattle.ct_network.specs.Envelopes.{envelope_of}
 use Rattle.ct_world.specs.Kept.{Fields, StandsAt}
 use Rattle.ct_world.specs.World.{WorldView}
 use Rattle.ct_world.proofs.Insides.{rehearsal_in, fields_in}
@@ -45,6 +44,6 @@ invariant_of-self-2 c =
       allowed = p.allowed;
       for_step = omega (arith, c.in_ok-reserve.ensures.for_step);
       for_sending = c.in_ok-reserve.ensures.for_sending;
-      for_itself = receive_room (fields_in a) new c.args.member c.args.serial c.prepare_receive.new.self (envelope_of c.in-Some.envelope) p.within refl c.in-Some.ensures c.in_ok-prepare_receive-in-Some.ensures.ok;
+      for_itself = receive_room (fields_in a) new c.args.member c.args.serial c.prepare_receive.new.self c.in-Some.envelope p.within refl c.in-Some.ensures c.in_ok-prepare_receive-in-Some.ensures.ok;
       placed = subst (λ (x : WorldView). StandsAt x.rehearsal c.args.member c.args.serial c.args.place) (sym c.self.view_is) c.requires.placed;
     })
