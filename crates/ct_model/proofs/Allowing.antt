@@ -29,7 +29,7 @@ use Rattle.ct_model.proofs.Letters.{waiting_letter}
 use Rattle.ct_model.proofs.Knowing.{next-is}
 use Rattle.ct_model.proofs.Limits.{own_tests-is, taken_of}
 use Rattle.ct_model.proofs.Submits.{submit_outcome, submit_taken}
-use Rattle.ct_model.proofs.Receives.{receive_outcome, receivable, receive_taken}
+use Rattle.ct_model.proofs.Receives.{receive_outcome, receive_waits, receive_taken}
 use Rattle.ct_model.proofs.Begins.{begin_taken}
 use Rattle.ct_model.proofs.Rows.{round_row-is, begin_row-is, deliver_row-is, enter-is, choose-is, adopt-is, suspect-is, conclude-is}
 use Rattle.ct_model.proofs.Rounds.{open-at, open-standing, round_row-some}
@@ -64,7 +64,7 @@ move-allowed w p a law none =
 pub cause-allowed : (w : Rehearsal) (step : Step) → IsLawful w → cause w step ≡ None → IsAllowed w step
 cause-allowed w (Submit p c) law none = taken-allowed w (Submit p c) (submit_outcome w p c) law (submit_taken w p c law none).taken
 cause-allowed w (Receive p k) law none =
-    let l = waiting_letter w p k law (receivable w p k none).waits in
+    let l = waiting_letter w p k law (receive_waits w p k none) in
     taken-allowed w (Receive p k) (receive_outcome w p l.0.wire) law (receive_taken w p k l.0 law none l.1)
 cause-allowed w (Begin p) law none = taken-allowed w (Begin p) (begin p (member (state_of w) p)) law (begin_taken w p law none).taken
 cause-allowed w (Enter p) law none = move-allowed w p moves.Enter law none

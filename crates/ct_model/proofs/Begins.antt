@@ -1,22 +1,21 @@
 -- Begin.
-use Rattle.std.proofs.Common.{◌≡◌, ℕ, ◌+◌, ◌≤◌, ◌<◌, Bool, true, false, not, [], ◌∷◌, length, refl, ap, sym, ◌∙◌, arith, Option, Some, None}
+use Rattle.std.proofs.Common.{◌≡◌, ℕ, ◌+◌, ◌<◌, Bool, true, false, not, [], ◌∷◌, refl, ap, sym, ◌∙◌, arith, Option, Some, None}
 use Rattle.std.specs.Prelude.{nat_lt, ◌&&◌, is_some, is_none}
-use Rattle.std.proofs.lemmas.Bool.Decides.{nat_tests}
 use Rattle.ct_names.specs.declared.refusal.Refusal.TheVariants.{Busy, Nothing, Full}
-use Rattle.ct_names.specs.declared.limit.Limit.TheVariants.{Instances, Envelopes, Steps}
+use Rattle.ct_names.specs.declared.limit.Limit.TheVariants.{Instances}
 use Rattle.ct_model.specs.declared.step.Step.TheVariants.{Begin}
 use Rattle.ct_model.specs.AtValue.{Standing}
 use Rattle.ct_model.specs.When.{when}
 use Rattle.ct_model.specs.State.{Member, member}
-use Rattle.ct_model.specs.Next.{Outcome, begin, begin_row, undelivered, is_empty, row, after}
+use Rattle.ct_model.specs.Next.{begin, begin_row, undelivered, is_empty, row, after}
 use Rattle.ct_model.specs.Rehearsal.{Rehearsal, state_of}
-use Rattle.ct_model.specs.Cause.{at, first_fault, or_else, limit, cause, overflow, order}
+use Rattle.ct_model.specs.Cause.{at, first_fault, or_else, cause, overflow}
 use Rattle.ct_model.specs.Lawful.{IsLawful, IsPresent}
-use Rattle.ct_model.proofs.Frame.{order-kept, member-same}
-use Rattle.ct_model.proofs.Causes.{own_tests, cause-none, overflow-is}
+use Rattle.ct_model.proofs.Frame.{member-same}
+use Rattle.ct_model.proofs.Causes.{own_tests, cause-none}
 use Rattle.ct_model.proofs.Taken.{IsTaken}
 use Rattle.ct_model.proofs.Knowing.{in_members}
-use Rattle.ct_model.proofs.Limits.{own_tests-is, cause-limited, limit-silent, taken_of, first_fault-or}
+use Rattle.ct_model.proofs.Limits.{own_tests-is, cause-limited, limit-idle, taken_of}
 
 -- what the tests of a Begin say where none fires
 pub record IsReady (m : Member) : Type 0 where
@@ -41,18 +40,10 @@ begin_row-some p m r =
 row-begin : (w : Rehearsal) (p : ℕ) → first_fault (own_tests w (Begin p)) ≡ None → row w.setting (state_of w) p (member (state_of w) p) (Begin p) ≡ Some (begin p (member (state_of w) p))
 row-begin w p h = begin_row-some p (member (state_of w) p) (begin-ready w p h)
 
-limit-begin : (w : Rehearsal) (p : ℕ) → IsLawful w → IsPresent w p → first_fault (own_tests w (Begin p)) ≡ None → limit w (Begin p) ≡ or_else (first_fault (at (Full Instances) (nat_lt 1024 ((member (state_of w) p).last + 1)) ∷ [])) (overflow w 0)
-limit-begin w p law present h =
-    let o : Outcome = begin p (member (state_of w) p) in
-    let kept : order (after w.setting (state_of w) p (begin p (member (state_of w) p))) ≡ order (state_of w) = order-kept w.setting (state_of w) p (begin p (member (state_of w) p)) refl in
-    let few : length (order (state_of w)) ≤ w.cells = law.within.few_batches in
-    let cells : nat_lt w.cells (length (order (state_of w))) ≡ false = grind (arith, nat_tests) in
-    limit-silent w (Begin p) o law present (row-begin w p h) refl
-    ∙ rw (kept, cells) (first_fault-or (at (Full Instances) (nat_lt 1024 ((member (state_of w) p).last + 1))) (at (Full Envelopes) (nat_lt 1000000 (length (state_of w).sent + 0)) ∷ at (Full Steps) (nat_lt 1000000 (length w.steps + 1)) ∷ []))
-    ∙ ap (or_else (first_fault (at (Full Instances) (nat_lt 1024 ((member (state_of w) p).last + 1)) ∷ []))) (sym (overflow-is w 0))
-
-pub cause-begin : (w : Rehearsal) (p : ℕ) → IsLawful w → IsPresent w p → first_fault (own_tests w (Begin p)) ≡ None → cause w (Begin p) ≡ or_else (first_fault (at (Full Instances) (nat_lt 1024 ((member (state_of w) p).last + 1)) ∷ [])) (overflow w 0)
-cause-begin w p law present h = cause-limited w (Begin p) present h ∙ limit-begin w p law present h
+pub cause-begin : (w : Rehearsal) (p : ℕ) → IsLawful w → IsPresent w p → first_fault (own_tests w (Begin p)) ≡ None
+    → cause w (Begin p) ≡ or_else (first_fault (at (Full Instances) (nat_lt 1024 ((member (state_of w) p).last + 1)) ∷ [])) (overflow w 0)
+cause-begin w p law present h =
+    cause-limited w (Begin p) present h ∙ limit-idle w (Begin p) (begin p (member (state_of w) p)) law present (row-begin w p h) refl refl
 
 -- a Begin that is allowed
 pub record IsBeginStep (w : Rehearsal) (p : ℕ) : Type 0 where

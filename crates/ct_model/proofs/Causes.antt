@@ -1,21 +1,18 @@
 -- The first test that fires, and the limits of a step that only sends.
-use Rattle.std.proofs.Common.{◌≡◌, ℕ, ◌+◌, ◌-◌, ◌≤◌, ◌<◌, Bool, true, false, not, List, [], ◌∷◌, length, refl, ap, sym, ◌∙◌, arith, Option, Some, None}
-use Rattle.std.specs.Prelude.{nat_lt, option_and_then, if◌then◌else◌}
+use Rattle.std.proofs.Common.{◌≡◌, ℕ, ◌+◌, ◌≤◌, ◌<◌, Bool, true, false, not, List, [], ◌∷◌, length, refl, ap, sym, ◌∙◌, arith, Option, Some, None}
+use Rattle.std.specs.Prelude.{nat_lt, if◌then◌else◌}
 use Rattle.std.proofs.lemmas.Bool.Decides.{nat_tests}
 use Rattle.ct_names.specs.Group.{is_member}
-use Rattle.ct_names.specs.declared.limit.Limit.TheVariants.{Submissions, Envelopes, Steps}
+use Rattle.ct_names.specs.declared.limit.Limit.TheVariants.{Envelopes, Steps}
 use Rattle.ct_names.specs.declared.refusal.Refusal.{Refusal}
 use Rattle.ct_names.specs.declared.refusal.Refusal.TheVariants.{NoSuchMember, Crashed, Full}
 use Rattle.ct_model.specs.declared.step.Step.{Step}
 use Rattle.ct_model.specs.Actor.{actor}
-use Rattle.ct_model.specs.State.{State, Member, member, is_crashed, submissions}
-use Rattle.ct_model.specs.Next.{Outcome, after, next}
-use Rattle.ct_model.specs.Wire.{envelopes}
+use Rattle.ct_model.specs.State.{Member, member, is_crashed}
 use Rattle.ct_model.specs.Rehearsal.{Rehearsal, state_of, line_of}
-use Rattle.ct_model.specs.Cause.{Test, at, first_fault, presence, tests, limits, limit, or_else, cause, overflow, order, round_of}
-use Rattle.ct_model.specs.Lawful.{IsWithin, IsLawful, IsPresent}
+use Rattle.ct_model.specs.Cause.{Test, at, first_fault, presence, tests, limit, or_else, cause, overflow}
+use Rattle.ct_model.specs.Lawful.{IsPresent}
 use Rattle.ct_model.proofs.Tests.{false_not}
-use Rattle.ct_model.proofs.Frame.{length-after-sent, order-kept, member-kept}
 
 pub or_else-none : (o rest : Option Refusal) → or_else o rest ≡ None → (o ≡ None) × (rest ≡ None)
 or_else-none None rest h = (refl, h)
@@ -76,59 +73,9 @@ high bound k h = grind (arith, nat_tests)
 pub under : (bound k : ℕ) → nat_lt bound k ≡ false → k ≤ bound
 under bound k h = grind (arith, nat_tests)
 
-module _ (w : Rehearsal) (step : Step) (o : Outcome) (law : IsLawful w) (there : actor step - 1 < length (state_of w).members) (keeps : IsKept (member (state_of w) (actor step)) o.member) where
-  h : State
-  h = after w.setting (state_of w) (actor step) o
-
-  instances : (q : ℕ) → (member h q).last ≡ (member (state_of w) q).last
-  unfolding h
-  instances q = member-kept (λ m. m.last) w.setting (state_of w) (actor step) q o there keeps.last
-
-  rounds : (q : ℕ) → round_of (member h q) ≡ round_of (member (state_of w) q)
-  unfolding h
-  rounds q = member-kept round_of w.setting (state_of w) (actor step) q o there (round_kept (member (state_of w) (actor step)) o.member keeps)
-    where
-      round_kept : (old new : Member) → IsKept old new → round_of new ≡ round_of old
-      round_kept old new k = rw k.current refl
-
-  posted : order h ≡ order (state_of w)
-  unfolding h
-  posted = order-kept w.setting (state_of w) (actor step) o keeps.batches
-
-  number_sent : length h.sent ≡ length (state_of w).sent + length (envelopes w.setting.members o.mail)
-  unfolding h
-  number_sent = length-after-sent w.setting (state_of w) (actor step) o
-
-  -- such a step passes only a limit on submissions, or overflows
-  pub limit-kept : next w.setting (state_of w) step ≡ Some (after w.setting (state_of w) (actor step) o) → limit w step ≡ first_fault (at (Full Submissions) (nat_lt 65535 (submissions (after w.setting (state_of w) (actor step) o).submitted (actor step))) ∷ at (Full Envelopes) (nat_lt 1000000 (length (state_of w).sent + length (envelopes w.setting.members o.mail))) ∷ at (Full Steps) (nat_lt 1000000 (length w.steps + 1)) ∷ [])
-  unfolding limit h
-  limit-kept e =
-      let i : nat_lt 1024 (member h (actor step)).last ≡ false = rw (instances (actor step)) (low 1024 (member (state_of w) (actor step)).last (law.within.few_instances (actor step))) in
-      let r : nat_lt 10000 (round_of (member h (actor step))) ≡ false = rw (rounds (actor step)) (low 10000 (round_of (member (state_of w) (actor step))) (law.within.few_rounds (actor step))) in
-      let c : nat_lt w.cells (length (order h)) ≡ false = rw posted (low w.cells (length (order (state_of w))) law.within.few_batches) in
-      ap (λ x. option_and_then (λ h. first_fault (limits w.cells (length w.steps + 1) h (actor step))) x) e
-      ∙ rw (i, r, c, number_sent) refl
-
-  pub within-after : ((q : ℕ) → submissions (after w.setting (state_of w) (actor step) o).submitted q ≤ 65535) → length (state_of w).sent + length (envelopes w.setting.members o.mail) ≤ 1000000 → length w.steps + 1 ≤ 1000000 → IsWithin w.cells (after w.setting (state_of w) (actor step) o) (length w.steps + 1)
-  unfolding h
-  within-after few sent steps = record {
-    few_submissions = few;
-    few_instances = λ q. rw (instances q) (law.within.few_instances q);
-    few_rounds = λ q. rw (rounds q) (law.within.few_rounds q);
-    few_envelopes = rw number_sent sent;
-    few_batches = rw posted law.within.few_batches;
-    few_steps = steps;
-  }
-
 pub overflow-is : (w : Rehearsal) (more : ℕ) → overflow w more ≡ first_fault (at (Full Envelopes) (nat_lt 1000000 (length (state_of w).sent + more)) ∷ at (Full Steps) (nat_lt 1000000 (length w.steps + 1)) ∷ [])
 unfolding overflow
 overflow-is w more = refl
-
-pub overflow-none : (w : Rehearsal) (more : ℕ) → overflow w more ≡ None → (length (state_of w).sent + more ≤ 1000000) × (length w.steps + 1 ≤ 1000000)
-overflow-none w more h =
-    let a = first_fault-none (at (Full Envelopes) (nat_lt 1000000 (length (state_of w).sent + more))) (at (Full Steps) (nat_lt 1000000 (length w.steps + 1)) ∷ []) (sym (overflow-is w more) ∙ h) in
-    let b = first_fault-none (at (Full Steps) (nat_lt 1000000 (length w.steps + 1))) [] a.1 in
-    (under 1000000 (length (state_of w).sent + more) a.0, under 1000000 (length w.steps + 1) b.0)
 
 pub overflow-sent : (w : Rehearsal) (more : ℕ) → 1000000 < length (state_of w).sent + more → overflow w more ≡ Some (Full Envelopes)
 overflow-sent w more many = overflow-is w more ∙ rw (high 1000000 (length (state_of w).sent + more) many) refl

@@ -11,8 +11,8 @@ use Rattle.ct_model.specs.Setting.{Setting}
 use Rattle.ct_model.specs.declared.wire.Wire.TheVariants.{Est, Prop}
 use Rattle.ct_model.specs.State.{State, Member, member}
 use Rattle.ct_model.specs.Received.{Heard, Ballots, heard, is_largest}
-use Rattle.ct_model.specs.Phases.{is_gather, choose, chosen}
-use Rattle.ct_model.specs.Next.{Outcome, round_row, turn_at, own_ballots, turned, after}
+use Rattle.ct_model.specs.Phases.{is_gather, chosen}
+use Rattle.ct_model.specs.Next.{Outcome, turn_at, own_ballots, turned, after}
 use Rattle.ct_model.specs.Safe.{IsProposed}
 use Rattle.ct_model.proofs.Carrying.{Sent, Sent-old, Sent-new}
 use Rattle.ct_model.proofs.Facts.{Reached, HasChosen, IsHeard, IsFoundedProp, IsFounded, IsSound, Holds}
@@ -20,7 +20,7 @@ use Rattle.ct_model.proofs.Growth.{IsOnward, Grows, IsProposed-grows}
 use Rattle.ct_model.proofs.Kept.{IsAllowed}
 use Rattle.ct_model.proofs.Readings
 use Rattle.ct_model.proofs.Rows.{choose-is}
-use Rattle.ct_model.proofs.Turning.{turn-grows, turn-reaches, turn-allowed, round-allowed, standing-reached, gather-no_rest}
+use Rattle.ct_model.proofs.Turning.{turn-grows, turn-reaches, turn-allowed, standing-reached, gather-no_rest}
 
 module _ (s : Setting) (g : State) (p : ℕ) (holds : Holds s g) (is : IsMember s.members p) (c : Standing) (open_at : (member g p).current ≡ Some c) (e : Heard Value) where
   -- the open instance, the ballots of the round, the turn, its outcome, the state after it
@@ -128,11 +128,11 @@ module _ (s : Setting) (g : State) (p : ℕ) (holds : Holds s g) (is : IsMember 
         (λ w same. subst (λ z. IsFounded s h z) (sym same) (proposal majority largest))
         first (λ j r later q v ts same sent lt. cc) (λ j r later q v ts same sent lt. cc)
 
-pub allowed-choose : (s : Setting) (g : State) (p : ℕ) (o : Outcome) → Holds s g → IsMember s.members p → (from : ℕ) → round_row (member g p) (turn_at s.members p (member g p) (moves.Choose from)) ≡ Some o → IsAllowed s g p o
-allowed-choose s g p o holds is from e =
+pub allowed-choose : (s : Setting) (g : State) (p : ℕ) → Holds s g → IsMember s.members p → (from : ℕ) → (c : Standing) (t : Turn)
+    → (member g p).current ≡ Some c
+    → turn_at s.members p (member g p) (moves.Choose from) c ≡ Some t → IsAllowed s g p (turned (member g p) t)
+allowed-choose s g p holds is from c t at x =
     let m : Member = member g p in
-    round-allowed s g p (λ c. choose s.members m.last (own_ballots m c) c from) o
-    (λ c t at x.
     let f = choose-is s.members m.last (own_ballots m c) c from t x in
     subst (λ z. IsAllowed s g p (turned (member g p) z)) f.gives
-    (allowed s g p holds is c at f.best (Readings.estimate_from-in (own_ballots m c) from f.best f.from_is) f.gathers f.majority f.largest)) e
+    (allowed s g p holds is c at f.best (Readings.estimate_from-in (own_ballots m c) from f.best f.from_is) f.gathers f.majority f.largest)

@@ -9,8 +9,8 @@ use Rattle.ct_model.specs.Setting.{Setting}
 use Rattle.ct_model.specs.declared.wire.Wire.TheVariants.{Est, Prop, Ack, Dec}
 use Rattle.ct_model.specs.State.{State, Member, member, wires}
 use Rattle.ct_model.specs.Received.{Ballots, has_ack}
-use Rattle.ct_model.specs.Phases.{is_tally, conclude, concluded}
-use Rattle.ct_model.specs.Next.{Outcome, round_row, turn_at, own_ballots, turned, after}
+use Rattle.ct_model.specs.Phases.{is_tally, concluded}
+use Rattle.ct_model.specs.Next.{turn_at, own_ballots, turned, after}
 use Rattle.ct_model.specs.Safe.{IsLocked}
 use Rattle.ct_model.proofs.Carrying.{Carries}
 use Rattle.ct_model.proofs.Facts.{IsFounded, IsSound, Holds}
@@ -19,7 +19,7 @@ use Rattle.ct_model.proofs.Kept.{IsAllowed}
 use Rattle.ct_model.proofs.Readings
 use Rattle.ct_model.proofs.Rows.{conclude-is}
 use Rattle.ct_model.proofs.Sends.{carried-if}
-use Rattle.ct_model.proofs.Turning.{turn-grows, turn-allowed, round-allowed}
+use Rattle.ct_model.proofs.Turning.{turn-grows, turn-allowed}
 
 module _ (s : Setting) (g : State) (p : ℕ) (holds : Holds s g) (is : IsMember s.members p) (c : Standing) (open_at : (member g p).current ≡ Some c) (tallies : is_tally c.phase ≡ true) where
   -- the open instance, the ballots of the round, the turn, the state after it, the decision
@@ -86,10 +86,10 @@ module _ (s : Setting) (g : State) (p : ℕ) (holds : Holds s g) (is : IsMember 
       (λ j r later q v ts x sent lt. let e : Est j later q v ts ≡ decision = (carried (Est j later q v ts) x).1 in cc)
       (λ j r later q v ts x sent lt. let e : Ack j r q ≡ decision = (carried (Ack j r q) x).1 in cc)
 
-pub allowed-conclude : (s : Setting) (g : State) (p : ℕ) (o : Outcome) → Holds s g → IsMember s.members p → round_row (member g p) (turn_at s.members p (member g p) moves.Conclude) ≡ Some o → IsAllowed s g p o
-allowed-conclude s g p o holds is e =
+pub allowed-conclude : (s : Setting) (g : State) (p : ℕ) → Holds s g → IsMember s.members p → (c : Standing) (t : Turn)
+    → (member g p).current ≡ Some c
+    → turn_at s.members p (member g p) moves.Conclude c ≡ Some t → IsAllowed s g p (turned (member g p) t)
+allowed-conclude s g p holds is c t at x =
     let m : Member = member g p in
-    round-allowed s g p (λ c. conclude s.members m.last (own_ballots m c) c) o
-    (λ c t at x.
     let f = conclude-is s.members m.last (own_ballots m c) c t x in
-    subst (λ z. IsAllowed s g p (turned (member g p) z)) f.gives (allowed s g p holds is c at f.tallies)) e
+    subst (λ z. IsAllowed s g p (turned (member g p) z)) f.gives (allowed s g p holds is c at f.tallies)

@@ -3,24 +3,21 @@ use Rattle.std.proofs.Common.{◌≡◌, ℕ, suc, zero, ◌-◌, ◌<◌, ◌�
 use Rattle.std.specs.Prelude.{is_none}
 use Rattle.std.specs.List.{cons_option}
 use Rattle.std.proofs.lemmas.Bool.{cases_eq}
-use Rattle.ct_names.specs.Command.{is_good}
 use Rattle.ct_names.specs.Value.{Value, ordered, minus}
 use Rattle.ct_model.specs.declared.step.Step.{Step}
-use Rattle.ct_model.specs.declared.step.Step.TheVariants.{Submit, Receive, Begin, Enter, Choose, Adopt, Suspect, Conclude, Deliver, Crash, Postpone}
 use Rattle.ct_model.specs.Actor.{actor}
 use Rattle.ct_model.specs.AtValue.{Wire, Standing, Turn}
 use Rattle.ct_model.specs.Setting.{Setting}
-use Rattle.ct_model.specs.declared.mail.Mail.TheVariants.{Nobody}
 use Rattle.ct_model.specs.State.{State, Member, joined, member, new_member, first_state}
 use Rattle.ct_names.specs.Batch.{Batch}
 use Rattle.ct_model.specs.Received.{head, decision_of, decided}
-use Rattle.ct_model.specs.Next.{Outcome, plain, row, turned, round_row, submit, receive, begin, deliver, batch_of, crash, wire_to, after, next}
+use Rattle.ct_model.specs.Next.{Outcome, row, turned, begin, deliver, batch_of, after, next}
 use Rattle.ct_model.specs.Run.{run}
 use Rattle.ct_model.proofs.First.{member-first, size-first}
 use Rattle.ct_model.proofs.Frame.{member-same, member-other, at_place}
 use Rattle.ct_model.proofs.Knowing.{next-is, in_members, size-next}
-use Rattle.ct_model.proofs.Outcomes.{some-same, some-none, when-is, made-map}
-use Rattle.ct_model.proofs.Rows.{round_row-is, begin_row-is, deliver_row-is}
+use Rattle.ct_model.proofs.Outcomes.{some-none}
+use Rattle.ct_model.proofs.Shapes.{by_shape}
 use Rattle.ct_model.proofs.Runs.{kept-run}
 
 -- the batches that decisions give, up to an instance
@@ -116,11 +113,6 @@ closed-turned m c t open_at f = record {
   decided = f.decided;
 }
 
-closed-round : (m : Member) (step : Standing → Option Turn) (o : Outcome) → round_row m step ≡ Some o → HasClosed m → HasClosed o.member
-closed-round m step o e f =
-    let t = round_row-is m step o e in
-    subst (λ x. HasClosed x.member) t.gives (closed-turned m t.standing t.turn t.is_open f)
-
 closed-deliver : (m : Member) (c : Standing) (v : Value) → m.current ≡ Some c → decided m.got m.last ≡ Some v → HasClosed m → HasClosed (deliver m v).member
 unfolding deliveries batch_of
 closed-deliver m c v open_at has f =
@@ -138,28 +130,16 @@ closed-deliver m c v open_at has f =
       ];
     }
 
-closed-row : (s : Setting) (g : State) (p : ℕ) (m : Member) (step : Step) (o : Outcome) → row s g p m step ≡ Some o → HasClosed m → HasClosed o.member
-closed-row s g p m (Submit _ c) o e f = subst (λ x. HasClosed x.member) (when-is (is_good c) (submit g p m c) o e).1 f
-closed-row s g p m (Receive _ k) o e f =
-    let made = made-map (receive s p m) (wire_to g p k) o e in
-    subst (λ x. HasClosed x.member) made.gives (closed-got m made.from f)
-closed-row s g p m (Begin _) o e f =
-    let b = begin_row-is p m o e in
-    subst (λ x. HasClosed x.member) b.gives (closed-begin p m b.idle f)
-closed-row s g p m (Enter _) o e f = closed-round m _ o e f
-closed-row s g p m (Choose _ from) o e f = closed-round m _ o e f
-closed-row s g p m (Adopt _) o e f = closed-round m _ o e f
-closed-row s g p m (Suspect _) o e f = closed-round m _ o e f
-closed-row s g p m (Conclude _) o e f = closed-round m _ o e f
-closed-row s g p m (Deliver _) o e f =
-    let d = deliver_row-is m o e in
-    subst (λ x. HasClosed x.member) d.gives (closed-deliver m d.standing d.value d.is_open d.decision f)
-closed-row s g p m (Crash _) o e f =
-    subst (λ x. HasClosed x.member) (some-same (crash m) o e)
-    (record { closed = f.closed; idle = f.idle; busy = f.busy; batches = f.batches; decided = f.decided })
-closed-row s g p m (Postpone _ k) o e f =
-    let made = made-map (λ (w : Wire). plain m Nobody) (wire_to g p k) o e in
-    subst (λ x. HasClosed x.member) made.gives f
+closed-row : (s : Setting) (g : State) (p : ℕ) (m : Member) (step : Step) (o : Outcome) → row s g p m step ≡ Some o → HasClosed m
+    → HasClosed o.member
+closed-row s g p m step o e f = by_shape s g p m (λ x. HasClosed x.member) step o (record {
+  submits = λ c good. f;
+  gets = λ k w at. closed-got m w f;
+  opens = λ idle some. closed-begin p m idle f;
+  turns = λ a c t open_at taken. closed-turned m c t open_at f;
+  closes = λ c v open_at has delivers. closed-deliver m c v open_at has f;
+  marks = λ crashed. record { closed = f.closed; idle = f.idle; busy = f.busy; batches = f.batches; decided = f.decided };
+}) e
 
 -- each member did
 abbrev pub HaveClosed : State → Type 0

@@ -1,5 +1,5 @@
 -- Deliver.
-use Rattle.std.proofs.Common.{◌≡◌, ℕ, ◌+◌, ◌-◌, ◌≤◌, ◌<◌, Bool, true, false, [], ◌∷◌, length, refl, ap, sym, ◌∙◌, arith, Option, Some, None}
+use Rattle.std.proofs.Common.{◌≡◌, ℕ, ◌+◌, ◌-◌, ◌≤◌, ◌<◌, Bool, true, false, List, [], ◌∷◌, length, refl, ap, sym, ◌∙◌, arith, Option, Some, None}
 use Rattle.std.specs.Prelude.{nat_lt, is_none, if◌then◌else◌, option_and_then, option_map}
 use Rattle.std.proofs.lemmas.List.{length_push}
 use Rattle.std.proofs.lemmas.Bool.Decides.{nat_tests}
@@ -12,13 +12,13 @@ use Rattle.ct_model.specs.State.{Member, member}
 use Rattle.ct_model.specs.Received.{decided}
 use Rattle.ct_model.specs.Next.{Outcome, deliver, deliver_row, batch_of, row, after}
 use Rattle.ct_model.specs.Rehearsal.{Rehearsal, state_of}
-use Rattle.ct_model.specs.Cause.{at, first_fault, or_else, limit, cause, overflow, order}
+use Rattle.ct_model.specs.Cause.{Test, at, first_fault, or_else, limit, cause, overflow, order}
 use Rattle.ct_model.specs.Lawful.{IsLawful, IsPresent}
-use Rattle.ct_model.proofs.Causes.{own_tests, cause-none, overflow-is}
+use Rattle.ct_model.proofs.Causes.{low, own_tests, cause-none, overflow-is}
 use Rattle.ct_model.proofs.Taken.{IsTaken}
 use Rattle.ct_model.proofs.Knowing.{in_members}
 use Rattle.ct_model.proofs.Longest.{order-grown}
-use Rattle.ct_model.proofs.Limits.{own_tests-is, cause-limited, limit-silent, taken_of, first_fault-or}
+use Rattle.ct_model.proofs.Limits.{own_tests-is, cause-limited, limit-silent, taken_of, first_fault-append}
 use Rattle.ct_model.proofs.Rounds.{open-at, open-standing}
 
 pub tests-deliver : (w : Rehearsal) (p : ℕ) (c : Standing) → (member (state_of w) p).current ≡ Some c → first_fault (own_tests w (Deliver p)) ≡ first_fault (at Undecided (is_none (decided (member (state_of w) p).got (member (state_of w) p).last)) ∷ [])
@@ -68,16 +68,18 @@ module _ (w : Rehearsal) (p : ℕ) (v : Value) (law : IsLawful w) (present : IsP
   limit-deliver : limit w (Deliver p) ≡ or_else (first_fault (at (Full Cells) (nat_lt w.cells (length (member (state_of w) p).batches + 1)) ∷ [])) (overflow w 0)
   limit-deliver =
       let o : Outcome = deliver (member (state_of w) p) v in
-      let cells : nat_lt w.cells (length (order (after w.setting (state_of w) p (deliver (member (state_of w) p) v)))) ≡ nat_lt w.cells (length (member (state_of w) p).batches + 1)
-      = ap (nat_lt w.cells) order-deliver ∙ larger (nat_lt (length (order (state_of w))) (length (member (state_of w) p).batches + 1)) w.cells (length (order (state_of w))) (length (member (state_of w) p).batches + 1) refl law.within.few_batches in
-      let less : (member (state_of w) p).last ≤ 1024 = law.within.few_instances p in
-      let last : nat_lt 1024 (member (state_of w) p).last ≡ false = grind (arith, nat_tests) in
+      let all : ℕ = length (order (state_of w)) in
+      let own : ℕ = length (member (state_of w) p).batches + 1 in
+      let cells : nat_lt w.cells (length (order (after w.setting (state_of w) p (deliver (member (state_of w) p) v)))) ≡ nat_lt w.cells own =
+      ap (nat_lt w.cells) order-deliver ∙ larger (nat_lt all own) w.cells all own refl law.within.few_batches in
       let small : length (state_of w).sent ≤ 1000000 = law.within.few_envelopes in
       let sent : nat_lt 1000000 (length (state_of w).sent + 0) ≡ false = grind (arith, nat_tests) in
+      let last = low 1024 (member (state_of w) p).last (law.within.few_instances p) in
+      let steps : List Test = at (Full Steps) (nat_lt 1000000 (length w.steps + 1)) ∷ [] in
       limit-silent w (Deliver p) o law present is refl
-      ∙ rw (last, sent, cells) (first_fault-or (at (Full Cells) (nat_lt w.cells (length (member (state_of w) p).batches + 1))) (at (Full Steps) (nat_lt 1000000 (length w.steps + 1)) ∷ []))
-      ∙ ap (or_else (first_fault (at (Full Cells) (nat_lt w.cells (length (member (state_of w) p).batches + 1)) ∷ [])))
-      (sym (overflow-is w 0 ∙ ap (λ b. first_fault (at (Full Envelopes) b ∷ at (Full Steps) (nat_lt 1000000 (length w.steps + 1)) ∷ [])) sent))
+      ∙ rw (last, sent, cells) (first_fault-append (at (Full Cells) (nat_lt w.cells own) ∷ []) steps)
+      ∙ ap (or_else (first_fault (at (Full Cells) (nat_lt w.cells own) ∷ [])))
+      (sym (overflow-is w 0 ∙ ap (λ b. first_fault (at (Full Envelopes) b ∷ steps)) sent))
 
 row-deliver : (w : Rehearsal) (p : ℕ) (d : IsDue (member (state_of w) p)) → row w.setting (state_of w) p (member (state_of w) p) (Deliver p) ≡ Some (deliver (member (state_of w) p) d.value)
 row-deliver w p d = deliver_row-some (member (state_of w) p) d.standing d.value d.is_open d.decision

@@ -7,16 +7,16 @@ use Rattle.ct_model.specs.declared.moves.Move.TheVariants as moves
 use Rattle.ct_model.specs.AtValue.{Standing, Turn}
 use Rattle.ct_model.specs.Setting.{Setting}
 use Rattle.ct_model.specs.declared.wire.Wire.TheVariants.{Est, Ack}
-use Rattle.ct_model.specs.State.{State, member}
+use Rattle.ct_model.specs.State.{State, Member, member}
 use Rattle.ct_model.specs.Received.{decided}
-use Rattle.ct_model.specs.Phases.{is_tally, enter, entered}
-use Rattle.ct_model.specs.Next.{Outcome, round_row, turn_at, turned, after}
+use Rattle.ct_model.specs.Phases.{is_tally, entered}
+use Rattle.ct_model.specs.Next.{turn_at, turned, after}
 use Rattle.ct_model.proofs.Carrying.{Sent}
 use Rattle.ct_model.proofs.Facts.{Reached, HasRound, HasTs, IsCarried, IsFoundedEst, IsFounded, IsSound, Holds}
 use Rattle.ct_model.proofs.Growth.{IsOnward, Grows, IsProposed-grows, IsCarried-grows}
 use Rattle.ct_model.proofs.Kept.{IsAllowed}
 use Rattle.ct_model.proofs.Rows.{enter-is}
-use Rattle.ct_model.proofs.Turning.{turn-grows, turn-reaches, turn-allowed, round-allowed, standing-reached, first-gather, first-wait, first-no_tally}
+use Rattle.ct_model.proofs.Turning.{turn-grows, turn-reaches, turn-allowed, standing-reached, first-gather, first-wait, first-no_tally}
 
 module _ (s : Setting) (g : State) (p : ℕ) (holds : Holds s g) (is : IsMember s.members p) (c : Standing) (open_at : (member g p).current ≡ Some c) where
   -- the open instance, the turn, the state after it
@@ -83,10 +83,10 @@ module _ (s : Setting) (g : State) (p : ℕ) (holds : Holds s g) (is : IsMember 
       turn-allowed s g p holds is c open_at t onward sound (λ w same. subst (λ z. IsFounded s h z) (sym same) estimate)
       (λ j r v w same sent. cc) after_ack (λ j r later q v ts same sent lt. cc)
 
-pub allowed-enter : (s : Setting) (g : State) (p : ℕ) (o : Outcome) → Holds s g → IsMember s.members p → round_row (member g p) (turn_at s.members p (member g p) moves.Enter) ≡ Some o → IsAllowed s g p o
-allowed-enter s g p o holds is e =
-    let k : ℕ = (member g p).last in
-    round-allowed s g p (enter s.members p k (decided (member g p).got k)) o
-    (λ c t at x.
-    subst (λ z. IsAllowed s g p (turned (member g p) z)) (enter-is s.members p k (decided (member g p).got k) c t x).gives
-    (allowed s g p holds is c at)) e
+pub allowed-enter : (s : Setting) (g : State) (p : ℕ) → Holds s g → IsMember s.members p → (c : Standing) (t : Turn)
+    → (member g p).current ≡ Some c
+    → turn_at s.members p (member g p) moves.Enter c ≡ Some t → IsAllowed s g p (turned (member g p) t)
+allowed-enter s g p holds is c t at x =
+    let m : Member = member g p in
+    let f = enter-is s.members p m.last (decided m.got m.last) c t x in
+    subst (λ z. IsAllowed s g p (turned (member g p) z)) f.gives (allowed s g p holds is c at)

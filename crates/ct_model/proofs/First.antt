@@ -1,9 +1,9 @@
 -- The record without steps.
-use Rattle.std.proofs.Common.{◌≡◌, ℕ, ◌-◌, zero, suc, true, false, [], length, map, refl, ap, sym, ◌∙◌, arith, Some, replicate, get_or}
+use Rattle.std.proofs.Common.{◌≡◌, ℕ, ◌-◌, zero, suc, true, [], length, map, refl, ap, sym, ◌∙◌, arith, Some, replicate, get_or}
 use Rattle.std.proofs.lemmas.List.{length-replicate}
 use Rattle.ct_names.specs.Value.{has}
 use Rattle.ct_model.specs.Setting.{Setting}
-use Rattle.ct_model.specs.State.{State, Member, first_state, new_member, member, is_crashed, submissions}
+use Rattle.ct_model.specs.State.{State, Member, first_state, new_member, member, submissions}
 use Rattle.ct_model.specs.Received.{received, received_by}
 use Rattle.ct_model.specs.Run.{run, run_from}
 use Rattle.ct_model.specs.Waiting.{waiting}
@@ -50,9 +50,6 @@ pub received-first : (s : Setting) (p : ℕ) → received_by (first_state s) p �
 unfolding received_by received
 received-first s p = ap (λ (m : Member). received m.got) (member-first s p)
 
-pub crashed-first : (s : Setting) (p : ℕ) → is_crashed (first_state s) p ≡ false
-crashed-first s p = ap (λ (m : Member). m.crashed) (member-first s p)
-
 pub line-first : (s : Setting) (cells p : ℕ) → line_of (empty s cells) p ≡ []
 unfolding line_of waiting
 line-first s cells p = refl
@@ -77,7 +74,7 @@ lawful-first s cells = record {
   size = ap (λ (g : State). length g.members) (state-first s cells) ∙ size-first s;
   within = rw (state-first s cells) (within-first s cells);
   unsent = λ p k m. refl;
-  addressed = λ p k m. absurd (let e = rw (line-first s cells p) at m in cc);
+  waits = λ p k. rw (line-first s cells p, state-first s cells, sent-first s) refl;
   distinct = λ p. rw (line-first s cells p) refl;
 }
 
@@ -91,7 +88,3 @@ knows-first s = record {
   sent = λ i e h. absurd (cc);
   received = λ p m h. absurd (let e : has [] m ≡ true = rw (received-first s p) at h in cc);
 }
-
-pub submitted-first : (s : Setting) → (first_state s).submitted ≡ []
-unfolding first_state
-submitted-first s = refl

@@ -1,14 +1,14 @@
 -- What an outcome leaves of the state.
-use Rattle.std.proofs.Common.{◌≡◌, ◌≢◌, ℕ, zero, suc, inl, inr, ◌-◌, ◌+◌, ◌<◌, List, [], ◌∷◌, ◌++◌, length, map, refl, ap, sym, ◌∙◌, set}
-use Rattle.std.specs.Prelude.{filter, ◌==◌, slice_index_or}
+use Rattle.std.proofs.Common.{◌≡◌, ◌≢◌, ℕ, Bool, true, false, zero, suc, ◌-◌, ◌+◌, ◌<◌, List, [], ◌∷◌, ◌++◌, length, map, refl, ap, ◌∙◌, set}
+use Rattle.std.specs.Prelude.{filter, ◌==◌, slice_index_or, if◌then◌else◌}
 use Rattle.std.proofs.lemmas.List.{length-append, length-set, get_or-set_same, get_or-set_other}
-use Rattle.std.proofs.lemmas.Bool.{cases_eq}
 use Rattle.std.proofs.lemmas.List.Elements.{filter-append}
+use Rattle.ct_names.specs.declared.command.Command.{Command}
 use Rattle.ct_names.specs.Message.{Message}
 use Rattle.ct_model.specs.Setting.{Setting}
 use Rattle.ct_model.specs.Wire.{envelopes}
 use Rattle.ct_model.specs.State.{State, Member, member, new_member, submissions}
-use Rattle.ct_model.specs.Next.{Outcome, after}
+use Rattle.ct_model.specs.Next.{Outcome, next_message, after}
 use Rattle.ct_model.specs.Cause.{order, longest}
 
 pub after-sent : (s : Setting) (g : State) (p : ℕ) (o : Outcome) → (after s g p o).sent ≡ g.sent ++ envelopes s.members o.mail
@@ -53,14 +53,16 @@ pub at_place : {A : Type 0} (f : Member → A) (g : State) (q p : ℕ) → q - 1
 unfolding member
 at_place f g q p same = ap (λ i. f (slice_index_or g.members i new_member)) same
 
--- what is the same of the actor is the same of each member
-pub member-kept : {A : Type 0} (f : Member → A) (s : Setting) (g : State) (p q : ℕ) (o : Outcome) → p - 1 < length g.members → f o.member ≡ f (member g p) → f (member (after s g p o) q) ≡ f (member g q)
-member-kept f s g p q o h e =
-    elim (cases_eq (q - 1) (p - 1)) [
-      | inl same ↦ at_place f (after s g p o) q p same ∙ ap f (member-same s g p o h) ∙ e ∙ sym (at_place f g q p same)
-      | inr other ↦ ap f (member-other s g p q o other)
-    ]
-
 pub submissions-none : (p : ℕ) → submissions [] p ≡ 0
 unfolding submissions
 submissions-none p = refl
+
+-- how many submissions of q the next message of p makes
+pub submissions-next : (list : List Message) (p q : ℕ) (c : Command)
+    → submissions (next_message list p c ∷ []) q ≡ (if p == q then 1 else 0)
+unfolding submissions
+submissions-next list p q c = go (p == q)
+  where
+    go : (b : Bool) → length (if b then next_message list p c ∷ [] else []) ≡ (if b then 1 else 0)
+    go true = refl
+    go false = refl

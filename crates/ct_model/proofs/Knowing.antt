@@ -5,7 +5,6 @@ use Rattle.std.proofs.lemmas.Bool.{cases_eq}
 use Rattle.std.proofs.lemmas.Bool.Decides.{nat_tests}
 use Rattle.std.proofs.lemmas.List.{append-nil}
 use Rattle.ct_names.specs.declared.command.Command.{Command}
-use Rattle.ct_names.specs.Command.{is_good}
 use Rattle.ct_names.specs.Group.{is_member, members}
 use Rattle.ct_names.specs.Message.{Message}
 use Rattle.ct_names.specs.Order.{is_message}
@@ -13,21 +12,23 @@ use Rattle.ct_names.specs.Value.{has}
 use Rattle.ct_names.proofs.Receipts.{has-push}
 use Rattle.ct_names.proofs.Values.{same_message, is_message-refl}
 use Rattle.ct_model.specs.declared.step.Step.{Step}
-use Rattle.ct_model.specs.declared.step.Step.TheVariants.{Submit, Receive, Begin, Enter, Choose, Adopt, Suspect, Conclude, Deliver, Crash, Postpone}
+use Rattle.ct_model.specs.declared.moves.Move.{Move}
+use Rattle.ct_model.specs.declared.moves.Move.TheVariants.{Enter, Choose, Adopt, Suspect, Conclude}
 use Rattle.ct_model.specs.Actor.{actor}
-use Rattle.ct_model.specs.AtValue.{Wire, Envelope, Mail}
+use Rattle.ct_model.specs.AtValue.{Wire, Envelope, Mail, Standing, Turn}
 use Rattle.ct_model.specs.Knowledge.{CarriesOne, KnowsMessages}
 use Rattle.ct_model.specs.Setting.{Setting}
 use Rattle.ct_model.specs.Wire.{envelopes}
-use Rattle.ct_model.specs.declared.wire.Wire.TheVariants.{Data, Est, Prop, Ack, Nack, Dec}
+use Rattle.ct_model.specs.declared.wire.Wire.TheVariants.{Data, Dec}
 use Rattle.ct_model.specs.declared.mail.Mail.TheVariants.{Nobody, One, All}
 use Rattle.ct_model.specs.State.{State, Member, member, is_crashed, submissions}
-use Rattle.ct_model.specs.Received.{received, received_by, message_of}
-use Rattle.ct_model.specs.Next.{Outcome, plain, row, submit, receive, crash, next_message, is_relayed, wire_to, after, next, can_act}
+use Rattle.ct_model.specs.Received.{received, received_by, decided}
+use Rattle.ct_model.specs.Next.{Outcome, plain, row, submit, receive, begin, turned, turn_at, own_ballots, deliver, next_message, is_relayed, after, next, can_act}
 use Rattle.ct_model.proofs.Tests.{and_left, and_right, true_not, or_cases, or_left, or_right, self_number}
-use Rattle.ct_model.proofs.Outcomes.{some-same, some-none, when-is, made-map}
+use Rattle.ct_model.proofs.Outcomes.{some-same, some-none, made-map}
 use Rattle.ct_model.proofs.Frame.{after-sent, after-submitted, after-size, member-same, member-other, at_place, submissions-append}
-use Rattle.ct_model.proofs.Rows.{IsWithoutMessage, IsOfConsensus, row-quiet}
+use Rattle.ct_model.proofs.Rows.{enter-is, choose-is, adopt-is, suspect-is, conclude-is}
+use Rattle.ct_model.proofs.Shapes.{by_shape}
 use Rattle.ct_model.proofs.Letters.{wire_to-sent}
 use Rattle.ct_model.proofs.Receipts.{received-push, joined_by}
 
@@ -46,11 +47,7 @@ known_last list x = has-push list x x ∙ or_right (has list x) (is_message x x)
 
 carries_more : (list : List Message) (x : Message) (w : Wire) → CarriesOne list w → CarriesOne (list ++ x ∷ []) w
 carries_more list x (Data m) h = known_more list m x h
-carries_more list x (Est k r p v t) h = tt
-carries_more list x (Prop k r v) h = tt
-carries_more list x (Ack k r p) h = tt
-carries_more list x (Nack k r p) h = tt
-carries_more list x (Dec k r v) h = tt
+carries_more list x _ h = tt
 
 in_either : (xs ys : List Envelope) (i : ℕ) (e : Envelope) → slice_get (xs ++ ys) i ≡ Some e → ((j : ℕ) × (slice_get xs j ≡ Some e)) ⊎ ((j : ℕ) × (slice_get ys j ≡ Some e))
 in_either [] ys i e h = inr (i, h)
@@ -190,64 +187,52 @@ joined_known list known (Data x) c old m h = go (has list x) h
     go : (b : Bool) → has (if b then list else list ++ x ∷ []) m ≡ true → has known m ≡ true
     go true h = old m h
     go false h = elim (known_push list m x h) [ inl a ↦ old m a | inr e ↦ subst (λ y. has known y ≡ true) (sym e) c ]
-joined_known list known (Est k r p v t) c old m h = old m h
-joined_known list known (Prop k r v) c old m h = old m h
-joined_known list known (Ack k r p) c old m h = old m h
-joined_known list known (Nack k r p) c old m h = old m h
-joined_known list known (Dec k r v) c old m h = old m h
+joined_known list known _ c old m h = old m h
 
-without_message : (list : List Message) (w : Wire) → message_of w ≡ None → CarriesOne list w
-without_message list (Data m) h = absurd (cc)
-without_message list (Est k r p v t) h = tt
-without_message list (Prop k r v) h = tt
-without_message list (Ack k r p) h = tt
-without_message list (Nack k r p) h = tt
-without_message list (Dec k r v) h = tt
+-- a turn sends no message
+turn_carries : (list : List Message) (n p : ℕ) (m : Member) (a : Move) (c : Standing) (t : Turn) → turn_at n p m a c ≡ Some t
+    → MailCarries list t.mail
+turn_carries list n p m Enter c t h =
+    subst (λ (x : Turn). MailCarries list x.mail) (enter-is n p m.last (decided m.got m.last) c t h).gives tt
+turn_carries list n p m (Choose from) c t h =
+    subst (λ (x : Turn). MailCarries list x.mail) (choose-is n m.last (own_ballots m c) c from t h).gives tt
+turn_carries list n p m Adopt c t h =
+    subst (λ (x : Turn). MailCarries list x.mail) (adopt-is n p m.last (own_ballots m c) c t h).gives tt
+turn_carries list n p m Suspect c t h =
+    subst (λ (x : Turn). MailCarries list x.mail) (suspect-is n p m.last (own_ballots m c) c t h).gives tt
+turn_carries list n p m Conclude c t h =
+    subst (λ (x : Turn). MailCarries list x.mail) (conclude-is n m.last (own_ballots m c) c t h).gives
+    (relay_carries list _ (Dec m.last c.round c.estimate) tt)
 
-mail_without : (list : List Message) (mail : Mail) → IsWithoutMessage mail → MailCarries list mail
-mail_without list Nobody h = tt
-mail_without list (One to w) h = without_message list w h
-mail_without list (All w) h = without_message list w h
+module _ (s : Setting) (g : State) (p : ℕ) (k : KnowsMessages s g) (there : p - 1 < length g.members) (group : is_member s.members p ≡ true) where
+  abbrev m : Member
+  m = member g p
 
--- a step of consensus
-knows-quiet : (s : Setting) (g : State) (p : ℕ) (step : Step) (o : Outcome) → KnowsMessages s g → length g.members ≡ s.members → is_member s.members p ≡ true → IsOfConsensus step → row s g p (member g p) step ≡ Some o → KnowsMessages s (after s g p o)
-knows-quiet s g p step o k size group is e =
-    let q = row-quiet s g p (member g p) step o is e in
-    knows-silent s g p o k (in_members s g p size group) q.submitted (mail_without g.submitted o.mail q.mail)
-    (λ m h. k.received p m (ap (λ list. has list m) (received-by g p) ∙ ap (λ got. has (received got) m) (sym q.got) ∙ h))
+  -- what the member received before was submitted
+  received_before : (x : Message) → has (received (member g p).got) x ≡ true → has g.submitted x ≡ true
+  received_before x h = k.received p x (ap (λ list. has list x) (received-by g p) ∙ h)
 
-knows-outcome : (s : Setting) (g : State) (step : Step) (o : Outcome) → KnowsMessages s g → length g.members ≡ s.members → is_member s.members (actor step) ≡ true → row s g (actor step) (member g (actor step)) step ≡ Some o → KnowsMessages s (after s g (actor step) o)
-knows-outcome s g (Submit p c) o k size group e =
-    let made = when-is (is_good c) (submit g p (member g p) c) o e in
-    subst (λ x. KnowsMessages s (after s g p x)) made.1
-    (knows-submitting s g p (submit g p (member g p) c) k (in_members s g p size group) c group refl refl refl)
-knows-outcome s g (Receive p i) o k size group e =
-    let made = made-map (receive s p (member g p)) (wire_to g p i) o e in
-    let w : Wire = made.from in
-    let sent = wire_to-sent g p i w made.is in
-    let carries : CarriesOne g.submitted w = subst (λ x. CarriesOne g.submitted x) sent.wire (k.sent sent.place sent.envelope sent.there) in
-    subst (λ x. KnowsMessages s (after s g p x)) made.gives
-    (knows-silent s g p (receive s p (member g p) w) k (in_members s g p size group) refl (relay_carries g.submitted (is_relayed s p (member g p).got w) w carries)
-    (λ m h. joined_known (received (member g p).got) g.submitted w carries (λ x r. k.received p x (ap (λ list. has list x) (received-by g p) ∙ r)) m (ap (λ list. has list m) (sym (received-push (member g p).got w)) ∙ h)))
-knows-outcome s g (Begin p) o k size group e = knows-quiet s g p (Begin p) o k size group tt e
-knows-outcome s g (Enter p) o k size group e = knows-quiet s g p (Enter p) o k size group tt e
-knows-outcome s g (Choose p from) o k size group e = knows-quiet s g p (Choose p from) o k size group tt e
-knows-outcome s g (Adopt p) o k size group e = knows-quiet s g p (Adopt p) o k size group tt e
-knows-outcome s g (Suspect p) o k size group e = knows-quiet s g p (Suspect p) o k size group tt e
-knows-outcome s g (Conclude p) o k size group e = knows-quiet s g p (Conclude p) o k size group tt e
-knows-outcome s g (Deliver p) o k size group e = knows-quiet s g p (Deliver p) o k size group tt e
-knows-outcome s g (Crash p) o k size group e =
-    subst (λ x. KnowsMessages s (after s g p x)) (some-same (crash (member g p)) o e)
-    (knows-silent s g p (crash (member g p)) k (in_members s g p size group) refl tt (λ m h. k.received p m (ap (λ list. has list m) (received-by g p) ∙ h)))
-knows-outcome s g (Postpone p i) o k size group e =
-    let made = made-map (λ (w : Wire). plain (member g p) Nobody) (wire_to g p i) o e in
-    subst (λ x. KnowsMessages s (after s g p x)) made.gives
-    (knows-silent s g p (plain (member g p) Nobody) k (in_members s g p size group) refl tt (λ m h. k.received p m (ap (λ list. has list m) (received-by g p) ∙ h)))
+  knows-outcome : (step : Step) (o : Outcome) → row s g p (member g p) step ≡ Some o → KnowsMessages s (after s g p o)
+  knows-outcome step o = by_shape s g p m (λ x. KnowsMessages s (after s g p x)) step o (record {
+    submits = λ c good. knows-submitting s g p (submit g p m c) k there c group refl refl refl;
+    gets = λ i w at.
+        let sent = wire_to-sent g p i w at in
+        let carries = subst (λ x. CarriesOne g.submitted x) sent.wire (k.sent sent.place sent.envelope sent.there) in
+        knows-silent s g p (receive s p m w) k there refl (relay_carries g.submitted (is_relayed s p m.got w) w carries)
+        (λ x h.
+        joined_known (received m.got) g.submitted w carries received_before x (ap (λ list. has list x) (sym (received-push m.got w)) ∙ h));
+    opens = λ idle some. knows-silent s g p (begin p m) k there refl tt received_before;
+    turns = λ a c t open_at taken.
+        knows-silent s g p (turned m t) k there refl (turn_carries g.submitted s.members p m a c t taken) received_before;
+    closes = λ c v open_at has delivers. knows-silent s g p (deliver m v) k there refl tt received_before;
+    marks = λ crashed. knows-silent s g p (plain (record m { crashed = crashed }) Nobody) k there refl tt received_before;
+  })
 
 pub knows-next : (s : Setting) (g : State) (step : Step) (h : State) → next s g step ≡ Some h → length g.members ≡ s.members → KnowsMessages s g → KnowsMessages s h
 knows-next s g step h e size k =
     let t = next-is s g step h e in
-    subst (λ x. KnowsMessages s x) t.gives (knows-outcome s g step t.outcome k size t.in_group t.row)
+    subst (λ x. KnowsMessages s x) t.gives
+    (knows-outcome s g (actor step) k (in_members s g (actor step) size t.in_group) t.in_group step t.outcome t.row)
 
 pub size-next : (s : Setting) (g : State) (step : Step) (h : State) → next s g step ≡ Some h → length g.members ≡ s.members → length h.members ≡ s.members
 size-next s g step h e size =

@@ -1,5 +1,5 @@
 -- What waits is an envelope to the member.
-use Rattle.std.proofs.Common.{◌≡◌, ℕ, zero, suc, ◌+◌, ◌-◌, Bool, true, false, List, [], ◌∷◌, ◌++◌, refl, sym, subst, arith, Some, inl, inr}
+use Rattle.std.proofs.Common.{◌≡◌, ℕ, zero, suc, ◌+◌, ◌-◌, Bool, true, false, not, List, [], ◌∷◌, ◌++◌, refl, sym, ◌∙◌, subst, arith, Some, inl, inr}
 use Rattle.std.specs.Prelude.{◌==◌, slice_get, if◌then◌else◌, option_and_then}
 use Rattle.std.proofs.lemmas.Bool.Decides.{nat_tests}
 use Rattle.ct_model.specs.AtValue.{Envelope, Wire}
@@ -7,8 +7,8 @@ use Rattle.ct_model.specs.State.{State, at_serial}
 use Rattle.ct_model.specs.Next.{wire_to, addressed}
 use Rattle.ct_model.specs.Waiting.{serials_to, has_serial}
 use Rattle.ct_model.specs.Rehearsal.{Rehearsal, state_of}
-use Rattle.ct_model.specs.Lawful.{IsLawful, IsLetter, is_waiting}
-use Rattle.ct_model.proofs.Tests.{or_cases, number_same}
+use Rattle.ct_model.specs.Lawful.{IsLawful, IsLetter, is_taken, is_waiting}
+use Rattle.ct_model.proofs.Tests.{and_left, or_cases, number_same}
 use Rattle.ct_model.proofs.Outcomes.{made-then, when-is}
 
 -- the i-th envelope goes to p
@@ -33,10 +33,14 @@ serial_at p before k (e ∷ es) h = go (e.to == p) refl (λ m. further (serial_a
         ]
     go false is rest m = rest m
 
--- what waits is an envelope to p
+-- what waits was sent to p
+pub was_sent : (w : Rehearsal) (p k : ℕ) → IsLawful w → is_waiting w p k ≡ true → has_serial k (serials_to p 0 (state_of w).sent) ≡ true
+was_sent w p k law h = and_left (has_serial k (serials_to p 0 (state_of w).sent)) (not (is_taken p w.steps k)) (sym (law.waits p k) ∙ h)
+
+-- and is an envelope to p
 pub waiting_letter : (w : Rehearsal) (p k : ℕ) → IsLawful w → is_waiting w p k ≡ true → (e : Envelope) × IsLetter (state_of w) p k e
 waiting_letter w p k law h =
-    let r = serial_at p 0 k (state_of w).sent (law.addressed p k h) in
+    let r = serial_at p 0 k (state_of w).sent (was_sent w p k law h) in
     let at : k - 1 ≡ r.0 = omega (arith, r.2.place) in (
       r.1,
       record {

@@ -5,6 +5,7 @@ pub mod Runs
 pub mod Serials
 pub mod Lines
 pub mod Rows
+pub mod Shapes
 pub mod Frame
 pub mod Causes
 pub mod Taken

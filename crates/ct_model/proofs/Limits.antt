@@ -1,49 +1,29 @@
 -- The tests and limits of a step, whichever it is.
-use Rattle.std.proofs.Common.{◌≡◌, ◌≢◌, ℕ, ◌+◌, ◌-◌, ◌≤◌, Bool, true, false, List, [], ◌∷◌, length, refl, ap, sym, ◌∙◌, arith, Some, None, inl, inr}
+use Rattle.std.proofs.Common.{◌≡◌, ◌≢◌, ℕ, ◌+◌, ◌-◌, ◌≤◌, Bool, true, false, not, List, [], ◌∷◌, length, refl, ap, sym, ◌∙◌, arith, Some, None, inl, inr}
+use Rattle.std.specs.Option.{option_map_or}
 use Rattle.std.specs.Prelude.{nat_lt, ◌==◌, ◌++◌, option_and_then, if◌then◌else◌}
 use Rattle.std.proofs.lemmas.Bool.{cases_eq}
 use Rattle.std.proofs.lemmas.List.{append-nil}
 use Rattle.ct_names.specs.declared.limit.Limit.TheVariants.{Submissions, Instances, Rounds, Envelopes, Cells, Steps}
 use Rattle.ct_names.specs.declared.refusal.Refusal.{Refusal}
-use Rattle.ct_names.specs.declared.refusal.Refusal.TheVariants.{Full}
-use Rattle.ct_names.specs.Command.{is_good}
-use Rattle.ct_names.specs.Message.{Message}
+use Rattle.ct_names.specs.declared.refusal.Refusal.TheVariants.{NotWaiting, Full}
 use Rattle.ct_model.specs.declared.step.Step.{Step}
-use Rattle.ct_model.specs.declared.step.Step.TheVariants.{Submit, Receive, Begin, Enter, Choose, Adopt, Suspect, Conclude, Deliver, Crash, Postpone}
+use Rattle.ct_model.specs.declared.step.Step.TheVariants.{Receive, Postpone}
 use Rattle.ct_model.specs.Actor.{actor}
-use Rattle.ct_model.specs.AtValue.{Wire}
+use Rattle.ct_model.specs.AtValue.{Standing}
 use Rattle.ct_model.specs.Setting.{Setting}
-use Rattle.ct_model.specs.declared.mail.Mail.TheVariants.{Nobody}
 use Rattle.ct_model.specs.State.{State, Member, member, submissions}
-use Rattle.ct_model.specs.Next.{Outcome, plain, row, submit, receive, wire_to, after}
+use Rattle.ct_model.specs.Next.{Outcome, row, after}
 use Rattle.ct_model.specs.Rehearsal.{Rehearsal, state_of, line_of}
 use Rattle.ct_model.specs.Wire.{envelopes}
-use Rattle.ct_model.specs.Cause.{Test, at, first_fault, tests, limits, limit, or_else, cause, order, round_of}
-use Rattle.ct_model.specs.Lawful.{IsWithin, IsLawful, IsPresent, NamesWaiting}
-use Rattle.ct_model.proofs.Tests.{number_other}
-use Rattle.ct_model.proofs.Outcomes.{when-is, made-map}
-use Rattle.ct_model.proofs.Frame.{after-submitted, length-after-sent, member-same, member-other, at_place, submissions-append, submissions-none}
-use Rattle.ct_model.proofs.Rows.{row-quiet}
-use Rattle.ct_model.proofs.Causes.{own_tests, cause-present, cause-none, first_fault-none, low, under}
+use Rattle.ct_model.specs.Cause.{Test, at, first_fault, tests, limits, limit, or_else, cause, overflow, order, round_of}
+use Rattle.ct_model.specs.Lawful.{IsWithin, IsLawful, IsPresent, NamesWaiting, is_waiting}
+use Rattle.ct_model.proofs.Tests.{false_not, number_other}
+use Rattle.ct_model.proofs.Frame.{after-submitted, length-after-sent, order-kept, member-same, member-other, at_place, submissions-append, submissions-next, submissions-none}
+use Rattle.ct_model.proofs.Shapes.{by_shape}
+use Rattle.ct_model.proofs.Causes.{own_tests, cause-present, cause-none, IsKept, first_fault-none, low, under, overflow-is}
 use Rattle.ct_model.proofs.Taken.{IsTaken, next-row}
 use Rattle.ct_model.proofs.Knowing.{in_members}
-use Rattle.ct_model.proofs.Submits.{submissions-next}
-use Rattle.ct_model.proofs.Receives.{receivable}
-use Rattle.ct_model.proofs.Postpones.{postpone_waits}
-
--- what a step without a cause takes or moves waits
-pub names-free : (w : Rehearsal) (step : Step) → cause w step ≡ None → NamesWaiting w step
-names-free w (Submit p c) none = tt
-names-free w (Receive p k) none = (receivable w p k none).waits
-names-free w (Begin p) none = tt
-names-free w (Enter p) none = tt
-names-free w (Choose p from) none = tt
-names-free w (Adopt p) none = tt
-names-free w (Suspect p) none = tt
-names-free w (Conclude p) none = tt
-names-free w (Deliver p) none = tt
-names-free w (Crash p) none = tt
-names-free w (Postpone p k) none = postpone_waits w p k none
 
 -- the tests of its own that a step has
 pub own_tests-is : (w : Rehearsal) (step : Step) → own_tests w step ≡ tests w.setting (state_of w) (member (state_of w) (actor step)) (line_of w (actor step)) step
@@ -57,6 +37,26 @@ cause-tested w step r present e = cause-present w step present ∙ ap (λ o. or_
 pub cause-limited : (w : Rehearsal) (step : Step) → IsPresent w (actor step) → first_fault (own_tests w step) ≡ None → cause w step ≡ limit w step
 cause-limited w step present e = cause-present w step present ∙ ap (λ o. or_else o (limit w step)) e
 
+-- a step that has one test
+module _ (w : Rehearsal) (step : Step) (r : Refusal) (b : Bool) (one : tests w.setting (state_of w) (member (state_of w) (actor step)) (line_of w (actor step)) step ≡ at r (not b) ∷ []) where
+  first_is : (c : Bool) → b ≡ c → first_fault (own_tests w step) ≡ (if not c then Some r else None)
+  first_is c e = ap first_fault (own_tests-is w step ∙ one) ∙ ap (λ x. if not x then Some r else None) e
+
+  pub cause-failed : IsPresent w (actor step) → b ≡ false → cause w step ≡ Some r
+  cause-failed present e = cause-tested w step r present (first_is false e)
+
+  pub cause-passed : IsPresent w (actor step) → b ≡ true → cause w step ≡ limit w step
+  cause-passed present e = cause-limited w step present (first_is true e)
+
+  pub passed-free : cause w step ≡ None → b ≡ true
+  passed-free none = false_not b (first_fault-none (at r (not b)) [] (sym (first_is b refl) ∙ (cause-none w step none).tested)).0
+
+-- what a step without a cause takes or moves waits
+pub names-free : (w : Rehearsal) (step : Step) → cause w step ≡ None → NamesWaiting w step
+names-free w (Receive p k) none = passed-free w (Receive p k) NotWaiting (is_waiting w p k) refl none
+names-free w (Postpone p k) none = passed-free w (Postpone p k) NotWaiting (is_waiting w p k) refl none
+names-free w _ none = tt
+
 -- the limits of a step with this outcome are tested on the state after it
 pub limit-of : (w : Rehearsal) (step : Step) (o : Outcome) → IsPresent w (actor step) → row w.setting (state_of w) (actor step) (member (state_of w) (actor step)) step ≡ Some o → limit w step ≡ first_fault (limits w.cells (length w.steps + 1) (after w.setting (state_of w) (actor step) o) (actor step))
 unfolding limit
@@ -64,29 +64,18 @@ limit-of w step o present e = ap (λ x. option_and_then (λ h. first_fault (limi
 
 -- nobody submits but the actor
 
-none-other : (ms : List Message) → ms ≡ [] → (q : ℕ) → submissions ms q ≡ 0
-none-other ms e q = ap (λ list. submissions list q) e ∙ submissions-none q
-
-pub row-submits : (s : Setting) (g : State) (p : ℕ) (m : Member) (step : Step) (o : Outcome) → row s g p m step ≡ Some o → (q : ℕ) → q ≢ p → submissions o.submitted q ≡ 0
-row-submits s g p m (Submit _ c) o e q other =
-    let made = when-is (is_good c) (submit g p m c) o e in
-    let differs : (p == q) ≡ false = number_other p q (λ same. other (sym same)) in
-    ap (λ (x : Outcome). submissions x.submitted q) (sym made.1) ∙ submissions-next g.submitted p q c ∙ ap (λ b. if b then 1 else 0) differs
-row-submits s g p m (Receive _ k) o e q other =
-    let made = made-map (receive s p m) (wire_to g p k) o e in
-    none-other o.submitted (ap (λ (x : Outcome). x.submitted) (sym made.gives)) q
-row-submits s g p m (Begin i) o e q other = none-other o.submitted (row-quiet s g p m (Begin i) o tt e).submitted q
-row-submits s g p m (Enter i) o e q other = none-other o.submitted (row-quiet s g p m (Enter i) o tt e).submitted q
-row-submits s g p m (Choose i from) o e q other = none-other o.submitted (row-quiet s g p m (Choose i from) o tt e).submitted q
-row-submits s g p m (Adopt i) o e q other = none-other o.submitted (row-quiet s g p m (Adopt i) o tt e).submitted q
-row-submits s g p m (Suspect i) o e q other = none-other o.submitted (row-quiet s g p m (Suspect i) o tt e).submitted q
-row-submits s g p m (Conclude i) o e q other = none-other o.submitted (row-quiet s g p m (Conclude i) o tt e).submitted q
-row-submits s g p m (Deliver i) o e q other = none-other o.submitted (row-quiet s g p m (Deliver i) o tt e).submitted q
-row-submits s g p m (Crash _) o e q other =
-    let made : o.submitted ≡ [] = cc in none-other o.submitted made q
-row-submits s g p m (Postpone _ k) o e q other =
-    let made = made-map (λ (w : Wire). plain m Nobody) (wire_to g p k) o e in
-    none-other o.submitted (ap (λ (x : Outcome). x.submitted) (sym made.gives)) q
+pub row-submits : (s : Setting) (g : State) (p : ℕ) (m : Member) (step : Step) (o : Outcome) → row s g p m step ≡ Some o → (q : ℕ) → q ≢ p
+    → submissions o.submitted q ≡ 0
+row-submits s g p m step o e q other = by_shape s g p m (λ x. submissions x.submitted q ≡ 0) step o (record {
+  submits = λ c good.
+      let differs : (p == q) ≡ false = number_other p q (λ same. other (sym same)) in
+      submissions-next g.submitted p q c ∙ ap (λ b. if b then 1 else 0) differs;
+  gets = λ k w at. submissions-none q;
+  opens = λ idle some. submissions-none q;
+  turns = λ a c t open_at taken. submissions-none q;
+  closes = λ c v open_at has delivers. submissions-none q;
+  marks = λ crashed. submissions-none q;
+}) e
 
 -- what the limits say of a state and a member where none is passed
 pub record IsUnder (cells steps : ℕ) (g : State) (p : ℕ) : Type 0 where
@@ -157,20 +146,87 @@ taken_of w step o law none is =
       within = within_all w step o law is (limits-none w.cells (length w.steps + 1) (after w.setting (state_of w) (actor step) o) (actor step) (sym (limit-of w step o free.present is) ∙ free.limited));
     }
 
--- the first test that fires is the first one, or the first of the others
-pub first_fault-or : (test : Test) (rest : List Test) → first_fault (test ∷ rest) ≡ or_else (first_fault (test ∷ [])) (first_fault rest)
-first_fault-or test rest = go test.fires
+-- the first test that fires is the first of some, or of the others
+pub first_fault-append : (some rest : List Test) → first_fault (some ++ rest) ≡ or_else (first_fault some) (first_fault rest)
+first_fault-append [] rest = refl
+first_fault-append (test ∷ some) rest = go test.fires (first_fault-append some rest)
   where
-    go : (b : Bool) → (if b then Some test.refusal else first_fault rest) ≡ or_else (if b then Some test.refusal else None) (first_fault rest)
-    go true = refl
-    go false = refl
+    go : (b : Bool) → first_fault (some ++ rest) ≡ or_else (first_fault some) (first_fault rest)
+        → (if b then Some test.refusal else first_fault (some ++ rest)) ≡ or_else (if b then Some test.refusal else first_fault some) (first_fault rest)
+    go true e = refl
+    go false e = e
 
--- the limits of a step that submits nothing
-pub limit-silent : (w : Rehearsal) (step : Step) (o : Outcome) → IsLawful w → IsPresent w (actor step) → row w.setting (state_of w) (actor step) (member (state_of w) (actor step)) step ≡ Some o → o.submitted ≡ [] → limit w step ≡ first_fault (at (Full Instances) (nat_lt 1024 o.member.last) ∷ at (Full Rounds) (nat_lt 10000 (round_of o.member)) ∷ at (Full Envelopes) (nat_lt 1000000 (length (state_of w).sent + length (envelopes w.setting.members o.mail))) ∷ at (Full Cells) (nat_lt w.cells (length (order (after w.setting (state_of w) (actor step) o)))) ∷ at (Full Steps) (nat_lt 1000000 (length w.steps + 1)) ∷ [])
-limit-silent w step o law present is none =
-    let h : State = after w.setting (state_of w) (actor step) o in
-    let there = in_members w.setting (state_of w) (actor step) law.size present.in_group in
-    let m : member h (actor step) ≡ o.member = member-same w.setting (state_of w) (actor step) o there in
-    let same : submissions h.submitted (actor step) ≡ submissions (state_of w).submitted (actor step) = ap (λ ms. submissions ms (actor step)) (after-submitted w.setting (state_of w) (actor step) o ∙ ap (λ ms. (state_of w).submitted ++ ms) none ∙ append-nil (state_of w).submitted) in
-    let few : nat_lt 65535 (submissions h.submitted (actor step)) ≡ false = ap (λ k. nat_lt 65535 k) same ∙ low 65535 (submissions (state_of w).submitted (actor step)) (law.within.few_submissions (actor step)) in
-    limit-of w step o present is ∙ rw (few, m, length-after-sent w.setting (state_of w) (actor step) o) refl
+-- the limits of a step with this outcome, one by one
+module _ (w : Rehearsal) (step : Step) (o : Outcome) (law : IsLawful w) (present : IsPresent w (actor step)) (is : row w.setting (state_of w) (actor step) (member (state_of w) (actor step)) step ≡ Some o) where
+  abbrev g : State
+  g = state_of w
+
+  abbrev p : ℕ
+  p = actor step
+
+  abbrev h : State
+  h = after w.setting (state_of w) (actor step) o
+
+  member_is : member h p ≡ o.member
+  member_is = member-same w.setting g p o (in_members w.setting g p law.size present.in_group)
+
+  few_silent : o.submitted ≡ [] → nat_lt 65535 (submissions h.submitted p) ≡ false
+  few_silent none =
+      let same : h.submitted ≡ g.submitted = after-submitted w.setting g p o ∙ ap (λ ms. g.submitted ++ ms) none ∙ append-nil g.submitted in
+      ap (λ ms. nat_lt 65535 (submissions ms p)) same ∙ low 65535 (submissions g.submitted p) (law.within.few_submissions p)
+
+  -- where it submits nothing
+  pub limit-silent : o.submitted ≡ []
+      → limit w step
+      ≡ first_fault (at (Full Instances) (nat_lt 1024 o.member.last)
+      ∷ at (Full Rounds) (nat_lt 10000 (round_of o.member))
+      ∷ at (Full Envelopes) (nat_lt 1000000 (length (state_of w).sent + length (envelopes w.setting.members o.mail)))
+      ∷ at (Full Cells) (nat_lt w.cells (length (order (after w.setting (state_of w) (actor step) o))))
+      ∷ at (Full Steps) (nat_lt 1000000 (length w.steps + 1))
+      ∷ [])
+  limit-silent none = limit-of w step o present is ∙ rw (few_silent none, member_is, length-after-sent w.setting g p o) refl
+
+  instances_kept : o.member.last ≡ (member g p).last → nat_lt 1024 o.member.last ≡ false
+  instances_kept same = ap (nat_lt 1024) same ∙ low 1024 (member g p).last (law.within.few_instances p)
+
+  rounds_kept : o.member.current ≡ (member g p).current → nat_lt 10000 (round_of o.member) ≡ false
+  rounds_kept same =
+      ap (λ c. nat_lt 10000 (option_map_or (λ (x : Standing). x.round) c 0)) same ∙ low 10000 (round_of (member g p)) (law.within.few_rounds p)
+
+  cells_kept : o.member.batches ≡ (member g p).batches → nat_lt w.cells (length (order h)) ≡ false
+  cells_kept same =
+      ap (λ list. nat_lt w.cells (length list)) (order-kept w.setting g p o same) ∙ low w.cells (length (order g)) law.within.few_batches
+
+  -- where it submits and delivers nothing
+  pub limit-idle : o.submitted ≡ [] → o.member.batches ≡ (member (state_of w) (actor step)).batches
+      → limit w step
+      ≡ or_else (first_fault (at (Full Instances) (nat_lt 1024 o.member.last) ∷ at (Full Rounds) (nat_lt 10000 (round_of o.member)) ∷ []))
+      (overflow w (length (envelopes w.setting.members o.mail)))
+  limit-idle none kept =
+      let own : List Test = at (Full Instances) (nat_lt 1024 o.member.last) ∷ at (Full Rounds) (nat_lt 10000 (round_of o.member)) ∷ [] in
+      let more : ℕ = length (envelopes w.setting.members o.mail) in
+      limit-silent none
+      ∙ rw (cells_kept kept) (first_fault-append own (at (Full Envelopes) (nat_lt 1000000 (length g.sent + more)) ∷ at (Full Steps) (nat_lt 1000000 (length w.steps + 1)) ∷ []))
+      ∙ ap (or_else (first_fault own)) (sym (overflow-is w more))
+
+  -- where its member keeps its instances and batches
+  pub limit-kept : IsKept (member (state_of w) (actor step)) o.member
+      → limit w step
+      ≡ first_fault (at (Full Submissions) (nat_lt 65535 (submissions (after w.setting (state_of w) (actor step) o).submitted (actor step)))
+      ∷ at (Full Envelopes) (nat_lt 1000000 (length (state_of w).sent + length (envelopes w.setting.members o.mail)))
+      ∷ at (Full Steps) (nat_lt 1000000 (length w.steps + 1))
+      ∷ [])
+  limit-kept keeps =
+      limit-of w step o present is
+      ∙ rw (
+        member_is,
+        instances_kept keeps.last,
+        rounds_kept keeps.current,
+        cells_kept keeps.batches,
+        length-after-sent w.setting g p o,
+      ) refl
+
+  -- where both are so
+  pub limit-overflow : o.submitted ≡ [] → IsKept (member (state_of w) (actor step)) o.member
+      → limit w step ≡ overflow w (length (envelopes w.setting.members o.mail))
+  limit-overflow none keeps = limit-idle none keeps.batches ∙ rw (instances_kept keeps.last, rounds_kept keeps.current) refl

@@ -1,82 +1,99 @@
 -- A waiting line after one more step.
-use Rattle.std.proofs.Common.{◌≡◌, ℕ, Bool, true, false, List, [], ◌∷◌, ◌++◌, refl, ap, sym, ◌∙◌, append_assoc, append-nil}
-use Rattle.std.specs.Prelude.{not, ◌&&◌, ◌||◌, ◌==◌, fold, filter, if◌then◌else◌}
-use Rattle.std.specs.List.{list_any}
+use Rattle.std.proofs.Common.{◌≡◌, ℕ, Bool, true, false, not, List, [], ◌∷◌, ◌++◌, refl, ap, sym, ◌∙◌, subst}
+use Rattle.std.specs.Prelude.{◌==◌, ◌&&◌, ◌||◌, fold, if◌then◌else◌}
 use Rattle.std.proofs.lemmas.List.Folds.{list_any-append}
-use Rattle.std.proofs.lemmas.List.Elements.{filter-append, filter_agree}
-use Rattle.std.proofs.lemmas.List.Sums.{fold-append}
 use Rattle.ct_model.specs.declared.step.Step.{Step}
-use Rattle.ct_model.specs.declared.step.Step.TheVariants.{Submit, Receive, Begin, Enter, Choose, Adopt, Suspect, Conclude, Deliver, Crash, Postpone}
 use Rattle.ct_model.specs.Setting.{Setting}
 use Rattle.ct_model.specs.State.{State, first_state}
 use Rattle.ct_model.specs.Next.{stepped}
-use Rattle.ct_model.specs.Waiting.{waiting, line_from, stays, stamped, has_serial, is_gone, gone_after, moved}
-use Rattle.ct_model.proofs.Tests.{and_true, or_false}
+use Rattle.ct_model.specs.Waiting.{LineChange, changed, without, alone, has_serial, line_change, takes, line_after, line_from, waiting}
+use Rattle.ct_model.specs.Waiting.LineChange.{Takes, Defers, Leaves}
+use Rattle.ct_model.specs.Lawful.{is_distinct, is_taken}
+use Rattle.ct_model.proofs.Tests.{and_left, and_right, and_true, and_false, or_false, true_not, same_number, swapped}
+use Rattle.ct_model.proofs.Serials.{has_serial-append, has_serial-filter, is_distinct-append, is_distinct-filter}
 
--- the step neither takes nor moves the serial k of p
-abbrev pub untouched : ℕ → Step → ℕ → Bool
-untouched p step k = not (gone_after p k false step) && not (has_serial k (moved p step))
+line_from-push : (s : Setting) (p : ℕ) (g : State) (line : List ℕ) (steps : List Step) (step : Step)
+    → line_from s p g line (steps ++ step ∷ []) ≡ line_after s p (fold (stepped s) g steps) (line_from s p g line steps) step
+line_from-push s p g line [] step = refl
+line_from-push s p g line (x ∷ later) step = line_from-push s p (stepped s g x) (line_after s p g line x) later step
 
-filter-filter : (u s : ℕ → Bool) (ks : List ℕ) → filter u (filter s ks) ≡ filter (λ k. s k && u k) ks
-filter-filter u s [] = refl
-filter-filter u s (k ∷ ks) = go (s k) (filter-filter u s ks)
-  where
-    go : (b : Bool) → filter u (filter s ks) ≡ filter (λ j. s j && u j) ks → filter u (if b then k ∷ filter s ks else filter s ks) ≡ (if (b && u k) then k ∷ filter (λ j. s j && u j) ks else filter (λ j. s j && u j) ks)
-    go true ih = ap (λ r. if u k then k ∷ r else r) ih
-    go false ih = ih
-
-pub is_gone-push : (p : ℕ) (steps : List Step) (step : Step) (k : ℕ) → is_gone p (steps ++ step ∷ []) k ≡ gone_after p k (is_gone p steps k) step
-is_gone-push p steps step k = fold-append (gone_after p k) false steps (step ∷ [])
-
-four : (gone takes later moves : Bool) → (not (gone || takes) && not (later || moves)) ≡ ((not gone && not later) && (not takes && not moves))
-four true takes later moves = refl
-four false true true moves = refl
-four false true false true = refl
-four false true false false = refl
-four false false true moves = refl
-four false false false true = refl
-four false false false false = refl
-
-three : (gone later moves : Bool) → (not gone && not (later || moves)) ≡ ((not gone && not later) && not moves)
-three true later moves = refl
-three false true moves = refl
-three false false moves = refl
-
--- whether a serial stays, after a step that may take it or move it
-stays-step : (p k : ℕ) (gone later : Bool) (step : Step) → (not (gone_after p k gone step) && not (later || has_serial k (moved p step))) ≡ ((not gone && not later) && untouched p step k)
-stays-step p k gone later (Submit q c) = three gone later false
-stays-step p k gone later (Receive q t) = four gone ((q == p) && (t == k)) later false
-stays-step p k gone later (Begin q) = three gone later false
-stays-step p k gone later (Enter q) = three gone later false
-stays-step p k gone later (Choose q from) = three gone later false
-stays-step p k gone later (Adopt q) = three gone later false
-stays-step p k gone later (Suspect q) = three gone later false
-stays-step p k gone later (Conclude q) = three gone later false
-stays-step p k gone later (Deliver q) = three gone later false
-stays-step p k gone later (Crash q) = three gone later false
-stays-step p k gone later (Postpone q t) = three gone later (has_serial k (moved p (Postpone q t)))
-
-stays-push : (p : ℕ) (all later : List Step) (step : Step) (k : ℕ) → stays p (all ++ step ∷ []) (later ++ step ∷ []) k ≡ (stays p all later k && untouched p step k)
-stays-push p all later step k =
-    ap (λ b. not b && not (list_any (λ x. has_serial k (moved p x)) (later ++ step ∷ []))) (is_gone-push p all step k)
-    ∙ ap (λ b. not (gone_after p k (is_gone p all k) step) && not b)
-    (list_any-append (λ x. has_serial k (moved p x)) later (step ∷ []) ∙ ap (λ b. list_any (λ x. has_serial k (moved p x)) later || b) (or_false (has_serial k (moved p step))))
-    ∙ stays-step p k (is_gone p all k) (list_any (λ x. has_serial k (moved p x)) later) step
-
-line_from-push : (s : Setting) (p : ℕ) (all : List Step) (g : State) (later : List Step) (step : Step) → line_from s p (all ++ step ∷ []) g (later ++ step ∷ []) ≡ filter (untouched p step) (line_from s p all g later) ++ filter (λ k. not (is_gone p (all ++ step ∷ []) k)) (stamped s p (fold (stepped s) g later) step)
-line_from-push s p all g [] step =
-    append-nil (filter (stays p (all ++ step ∷ []) []) (stamped s p g step))
-    ∙ filter_agree (stays p (all ++ step ∷ []) []) (λ k. not (is_gone p (all ++ step ∷ []) k)) (λ k. and_true (not (is_gone p (all ++ step ∷ []) k))) (stamped s p g step)
-line_from-push s p all g (x ∷ later) step =
-    let T : List ℕ = stamped s p g x in
-    let L : List ℕ = line_from s p all (stepped s g x) later in
-    let F : List ℕ = filter (λ k. not (is_gone p (all ++ step ∷ []) k)) (stamped s p (fold (stepped s) (stepped s g x) later) step) in
-    ap (λ r. filter (stays p (all ++ step ∷ []) (later ++ step ∷ [])) T ++ r) (line_from-push s p all (stepped s g x) later step)
-    ∙ ap (λ r. r ++ (filter (untouched p step) L ++ F)) (filter_agree (stays p (all ++ step ∷ []) (later ++ step ∷ [])) (λ k. stays p all later k && untouched p step k) (stays-push p all later step) T ∙ sym (filter-filter (untouched p step) (stays p all later) T))
-    ∙ sym (append_assoc (filter (untouched p step) (filter (stays p all later) T)) (filter (untouched p step) L) F)
-    ∙ ap (λ r. r ++ F) (sym (filter-append (untouched p step) (filter (stays p all later) T) L))
-
--- one more step: what it takes or moves goes, and what it stamps comes to the end
-pub waiting-push : (s : Setting) (p : ℕ) (steps : List Step) (step : Step) → waiting s (steps ++ step ∷ []) p ≡ filter (untouched p step) (waiting s steps p) ++ filter (λ k. not (is_gone p (steps ++ step ∷ []) k)) (stamped s p (fold (stepped s) (first_state s) steps) step)
+pub waiting-push : (s : Setting) (p : ℕ) (steps : List Step) (step : Step)
+    → waiting s (steps ++ step ∷ []) p ≡ line_after s p (fold (stepped s) (first_state s) steps) (waiting s steps p) step
 unfolding waiting
-waiting-push s p steps step = line_from-push s p steps (first_state s) steps step
+waiting-push s p steps step = line_from-push s p (first_state s) [] steps step
+
+-- what waits once still does after a change
+
+parted : (k j : ℕ) (line : List ℕ) → has_serial j (without k line) ≡ true → has_serial j (alone k line) ≡ false
+parted k j line m =
+    let other = and_right (has_serial j line) (not (j == k)) (sym (has_serial-filter (λ i. not (i == k)) j line) ∙ m) in
+    let differs : (j == k) ≡ false = true_not (j == k) other in
+    has_serial-filter (λ i. i == k) j line ∙ ap (λ b. has_serial j line && b) differs ∙ and_false (has_serial j line)
+
+pub changed-distinct : (p : ℕ) (change : LineChange) (line : List ℕ) → is_distinct line ≡ true → is_distinct (changed p change line) ≡ true
+changed-distinct p (Takes q k) line d = go (q == p)
+  where
+    go : (b : Bool) → is_distinct (if b then without k line else line) ≡ true
+    go true = is_distinct-filter (λ i. not (i == k)) line d
+    go false = d
+changed-distinct p (Defers q k) line d = go (q == p)
+  where
+    go : (b : Bool) → is_distinct (if b then without k line ++ alone k line else line) ≡ true
+    go true =
+        is_distinct-append (without k line) (alone k line)
+        (is_distinct-filter (λ i. not (i == k)) line d) (is_distinct-filter (λ i. i == k) line d) (λ j m. parted k j line m)
+    go false = d
+changed-distinct p Leaves line d = d
+
+-- what waits after a change waited before, and isn't taken
+
+both_parts : (l e : Bool) → ((l && not e) || (l && e)) ≡ (l && true)
+both_parts true true = refl
+both_parts true false = refl
+both_parts false e = refl
+
+pub changed-has : (p k : ℕ) (change : LineChange) (line : List ℕ)
+    → has_serial k (changed p change line) ≡ (has_serial k line && not (takes p k change))
+changed-has p k (Takes q i) line = go (q == p)
+  where
+    go : (b : Bool) → has_serial k (if b then without i line else line) ≡ (has_serial k line && not (b && (i == k)))
+    go true = has_serial-filter (λ j. not (j == i)) k line ∙ ap (λ e. has_serial k line && not e) (swapped k i)
+    go false = sym (and_true (has_serial k line))
+changed-has p k (Defers q i) line = go (q == p)
+  where
+    go : (b : Bool) → has_serial k (if b then without i line ++ alone i line else line) ≡ (has_serial k line && true)
+    go true =
+        has_serial-append k (without i line) (alone i line)
+        ∙ rw (has_serial-filter (λ j. not (j == i)) k line, has_serial-filter (λ j. j == i) k line)
+        (both_parts (has_serial k line) (k == i))
+    go false = sym (and_true (has_serial k line))
+changed-has p k Leaves line = sym (and_true (has_serial k line))
+
+pub is_taken-push : (p : ℕ) (steps : List Step) (step : Step) (k : ℕ)
+    → is_taken p (steps ++ step ∷ []) k ≡ (is_taken p steps k || takes p k (line_change step))
+is_taken-push p steps step k =
+    list_any-append (λ x. takes p k (line_change x)) steps (step ∷ [])
+    ∙ ap (λ b. is_taken p steps k || b) (or_false (takes p k (line_change step)))
+
+-- a serial that waits once is one
+
+alone-none : (k : ℕ) (line : List ℕ) → has_serial k line ≡ false → alone k line ≡ []
+alone-none k [] h = refl
+alone-none k (i ∷ line) h = go (i == k) h (alone-none k line)
+  where
+    go : (b : Bool) → (b || has_serial k line) ≡ false → (has_serial k line ≡ false → alone k line ≡ [])
+        → (if b then i ∷ alone k line else alone k line) ≡ []
+    go true h rest = absurd (cc)
+    go false h rest = rest h
+
+pub alone-is : (k : ℕ) (line : List ℕ) → is_distinct line ≡ true → has_serial k line ≡ true → alone k line ≡ k ∷ []
+alone-is k [] d m = absurd (cc)
+alone-is k (i ∷ line) d m = go (i == k) refl m (alone-is k line (and_right (not (has_serial i line)) (is_distinct line) d))
+  where
+    go : (b : Bool) → (i == k) ≡ b → (b || has_serial k line) ≡ true → (has_serial k line ≡ true → alone k line ≡ k ∷ [])
+        → (if b then i ∷ alone k line else alone k line) ≡ k ∷ []
+    go true here m rest =
+        let same : i ≡ k = same_number i k here in
+        let away : has_serial i line ≡ false = true_not (has_serial i line) (and_left (not (has_serial i line)) (is_distinct line) d) in
+        ap (λ ks. i ∷ ks) (alone-none k line (subst (λ j. has_serial j line ≡ false) same away)) ∙ ap (λ j. j ∷ []) same
+    go false here m rest = rest m

@@ -1,6 +1,6 @@
 -- The batches of the least member whose list is longest.
 use Rattle.std.proofs.Common.{◌≡◌, ℕ, zero, suc, ◌-◌, ◌≤◌, ◌<◌, Bool, true, false, List, [], ◌∷◌, length, map, refl, ap, ◌∙◌, arith, ◌⊎◌, inl, inr}
-use Rattle.std.specs.Prelude.{nat_lt, fold, if◌then◌else◌, slice_index_or}
+use Rattle.std.specs.Prelude.{nat_lt, if◌then◌else◌, slice_index_or}
 use Rattle.std.proofs.lemmas.Bool.{cases_eq}
 use Rattle.std.proofs.lemmas.Bool.Decides.{nat_tests}
 use Rattle.ct_model.specs.Setting.{Setting}
@@ -58,20 +58,6 @@ from-one (m ∷ ms) best = go (nat_lt (length best) (length m.batches)) (from-on
 
 longer : ℕ → Member → ℕ
 longer k m = if nat_lt k (length m.batches) then length m.batches else k
-
-longest-length : (ms : List Member) (best : List Batch) → length (longest_of best ms) ≡ fold longer (length best) ms
-unfolding longer
-longest-length [] best = refl
-longest-length (m ∷ ms) best = go (nat_lt (length best) (length m.batches)) (longest-length ms m.batches) (longest-length ms best)
-  where
-    go : (b : Bool) → length (longest_of m.batches ms) ≡ fold longer (length m.batches) ms → length (longest_of best ms) ≡ fold longer (length best) ms → length (if b then longest_of m.batches ms else longest_of best ms) ≡ fold longer (if b then length m.batches else length best) ms
-    go true new old = new
-    go false new old = old
-
--- the order is as long as the most batches of a member
-pub order-length : (g : State) → length (order g) ≡ fold (λ k m. if nat_lt k (length m.batches) then length m.batches else k) 0 g.members
-unfolding order longer
-order-length g = longest-length g.members []
 
 -- no member has more batches than the order
 pub order-longest : (g : State) (q : ℕ) → length (member g q).batches ≤ length (order g)

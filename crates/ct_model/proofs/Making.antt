@@ -1,22 +1,19 @@
 -- What a step sends of messages and decisions, and what it adds to what its member got.
 use Rattle.std.proofs.Common.{◌≡◌, ℕ, cond, List, [], ◌∷◌, refl, sym, ap, subst, inl, inr, ◌⊎◌, Some}
-use Rattle.ct_names.specs.Command.{is_good}
 use Rattle.ct_names.specs.Group.{coordinator, IsMember}
 use Rattle.ct_names.specs.Membership.{IsIn}
 use Rattle.ct_names.proofs.Lists
 use Rattle.ct_model.specs.declared.step.Step.{Step}
-use Rattle.ct_model.specs.declared.step.Step.TheVariants.{Submit, Receive, Begin, Enter, Choose, Adopt, Suspect, Conclude, Deliver, Crash, Postpone}
 use Rattle.ct_model.specs.Actor.{actor}
 use Rattle.ct_model.specs.AtValue.{Wire, Mail}
 use Rattle.ct_model.specs.Setting.{Setting}
-use Rattle.ct_model.specs.declared.wire.Wire.TheVariants.{Data, Est, Prop, Ack, Nack, Dec}
+use Rattle.ct_model.specs.declared.wire.Wire.TheVariants.{Data, Prop, Dec}
 use Rattle.ct_model.specs.declared.mail.Mail.TheVariants.{Nobody, All}
 use Rattle.ct_model.specs.State.{State, Member, member}
-use Rattle.ct_model.specs.Next.{Outcome, plain, row, submit, receive, crash, is_relayed, wire_to}
+use Rattle.ct_model.specs.Next.{Outcome, plain, row, submit, receive, begin, turned, deliver, is_relayed}
 use Rattle.ct_model.proofs.Facts.{Holds}
-use Rattle.ct_model.proofs.Outcomes.{some-same, when-is, made-map}
 use Rattle.ct_model.proofs.Carrying.{Sent, Carries, Sent-wire}
-use Rattle.ct_model.proofs.Rows.{IsOfConsensus, row-quiet}
+use Rattle.ct_model.proofs.Shapes.{by_shape}
 use Rattle.ct_model.proofs.Sends.{IsSending, row-sends}
 use Rattle.ct_model.proofs.Sends.IsSending.{nothing, message, relay, estimate, proposal, ack, nack, decision}
 
@@ -36,11 +33,8 @@ IsByOwner s g p _ = Unit {0}
 
 by_owner-sent : (s : Setting) (g : State) (p : ℕ) (w : Wire) → Sent g w → IsByOwner s g p w
 by_owner-sent s g p (Data m) h = inl h
-by_owner-sent s g p (Est k r q v t) h = tt
-by_owner-sent s g p (Prop k r v) h = tt
-by_owner-sent s g p (Ack k r q) h = tt
-by_owner-sent s g p (Nack k r q) h = tt
 by_owner-sent s g p (Dec k r v) h = inl h
+by_owner-sent s g p _ h = tt
 
 -- messages and decisions go to all
 abbrev pub GoesToAll : Mail → Wire → Type 0
@@ -50,11 +44,8 @@ GoesToAll mail _ = Unit {0}
 
 goes-all : (w : Wire) → GoesToAll (All w) w
 goes-all (Data m) = refl
-goes-all (Est k r q v t) = tt
-goes-all (Prop k r v) = tt
-goes-all (Ack k r q) = tt
-goes-all (Nack k r q) = tt
 goes-all (Dec k r v) = refl
+goes-all _ = tt
 
 -- what a step does to messages and decisions
 pub record IsMade (s : Setting) (g : State) (p : ℕ) (o : Outcome) : Type 0 where
@@ -119,28 +110,15 @@ gets-one s g p w sent =
       ];
     }
 
-gets-quiet : (s : Setting) (g : State) (p : ℕ) (step : Step) (o : Outcome) → IsOfConsensus step → row s g p (member g p) step ≡ Some o → IsGetting s g p o
-gets-quiet s g p step o is e = gets-nothing s g p o (row-quiet s g p (member g p) step o is e).got
-
 step-gets : (s : Setting) (g : State) (p : ℕ) (step : Step) (o : Outcome) → row s g p (member g p) step ≡ Some o → IsGetting s g p o
-step-gets s g p (Submit _ c) o e =
-    subst (λ z. IsGetting s g p z) (when-is (is_good c) (submit g p (member g p) c) o e).1
-    (gets-nothing s g p (submit g p (member g p) c) refl)
-step-gets s g p (Receive _ k) o e =
-    let made = made-map (receive s p (member g p)) (wire_to g p k) o e in
-    subst (λ z. IsGetting s g p z) made.gives (gets-one s g p made.from (Sent-wire g p k made.from made.is))
-step-gets s g p (Begin q) o e = gets-quiet s g p (Begin q) o tt e
-step-gets s g p (Enter q) o e = gets-quiet s g p (Enter q) o tt e
-step-gets s g p (Choose q from) o e = gets-quiet s g p (Choose q from) o tt e
-step-gets s g p (Adopt q) o e = gets-quiet s g p (Adopt q) o tt e
-step-gets s g p (Suspect q) o e = gets-quiet s g p (Suspect q) o tt e
-step-gets s g p (Conclude q) o e = gets-quiet s g p (Conclude q) o tt e
-step-gets s g p (Deliver q) o e = gets-quiet s g p (Deliver q) o tt e
-step-gets s g p (Crash _) o e =
-    subst (λ z. IsGetting s g p z) (some-same (crash (member g p)) o e) (gets-nothing s g p (crash (member g p)) refl)
-step-gets s g p (Postpone _ k) o e =
-    let made = made-map (λ (w : Wire). plain (member g p) Nobody) (wire_to g p k) o e in
-    subst (λ z. IsGetting s g p z) made.gives (gets-nothing s g p (plain (member g p) Nobody) refl)
+step-gets s g p step o = by_shape s g p (member g p) (IsGetting s g p) step o (record {
+  submits = λ c good. gets-nothing s g p (submit g p (member g p) c) refl;
+  gets = λ k w at. gets-one s g p w (Sent-wire g p k w at);
+  opens = λ idle some. gets-nothing s g p (begin p (member g p)) refl;
+  turns = λ a c t open_at taken. gets-nothing s g p (turned (member g p) t) refl;
+  closes = λ c v open_at has delivers. gets-nothing s g p (deliver (member g p) v) refl;
+  marks = λ crashed. gets-nothing s g p (plain (record (member g p) { crashed = crashed }) Nobody) refl;
+})
 
 pub made-step : (s : Setting) (g : State) (step : Step) (o : Outcome) → Holds s g → IsMember s.members (actor step) → row s g (actor step) (member g (actor step)) step ≡ Some o → IsMade s g (actor step) o
 made-step s g step o holds is e =

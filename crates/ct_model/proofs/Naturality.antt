@@ -1,28 +1,22 @@
 -- Another type of values changes nothing that is read off the wires, and no step of a round.
-use Rattle.std.proofs.Common.{◌≡◌, ℕ, Bool, true, false, cond, not, ◌&&◌, ◌||◌, ◌==◌, nat_le, List, [], ◌∷◌, filter, filter_map, map, find, Option, Some, None, option_map, option_and_then, is_some, is_none, refl, ap, ◌∙◌}
-use Rattle.std.specs.List.{list_any, list_all, cons_option}
+use Rattle.std.proofs.Common.{◌≡◌, ℕ, Bool, true, false, cond, not, ◌&&◌, ◌==◌, nat_le, List, [], ◌∷◌, map, find, Option, Some, None, option_map, option_and_then, is_some, is_none, refl, ap, ◌∙◌}
+use Rattle.std.specs.List.{list_all}
 use Rattle.std.specs.Option.{option_map_or}
-use Rattle.std.proofs.lemmas.List.Elements.{filter_agree}
-use Rattle.ct_names.specs.Group.{members, everyone}
-use Rattle.ct_names.specs.Value as Values
+use Rattle.ct_names.specs.Group.{members}
 use Rattle.ct_names.specs.declared.refusal.Refusal.TheVariants.{WrongPhase, TooFew, NotLargest, NoProposal, HasProposal}
 use Rattle.ct_names.specs.Group.{is_majority}
 use Rattle.ct_model.specs.When.{when}
-use Rattle.ct_model.specs.Wire.{Wire, Mail, envelopes}
-use Rattle.ct_model.specs.declared.wire.Wire.TheVariants.{Data, Est, Prop, Ack, Nack, Dec}
+use Rattle.ct_model.specs.Wire.{Mail, envelopes}
+use Rattle.ct_model.specs.declared.wire.Wire.TheVariants.{Dec}
 use Rattle.ct_model.specs.declared.mail.Mail.TheVariants.{Nobody, One, All}
 use Rattle.ct_model.specs.State.{Standing, Turn}
-use Rattle.ct_model.specs.Received.{head, message_of, received, decision_of, decided, is_decision, has_decision, Heard, estimate_of, heard_from, proposal_of, proposal, is_ack, has_ack, ackers, is_reply, has_reply, Ballots, ballots, heard, estimate_from, is_largest}
+use Rattle.ct_model.specs.Received.{Heard, Ballots, heard, estimate_from, is_largest}
 use Rattle.ct_model.specs.Phases.{is_rest, is_gather, is_wait, is_tally, entered, enter, chosen, choose, adopted, adopt, suspected, suspect, concluded, conclude}
 use Rattle.ct_model.specs.Test.{at}
-use Rattle.ct_model.specs.Faults.{lacks, has_largest, enter_faults, choose_faults, adopt_faults, suspect_faults, conclude_faults}
+use Rattle.ct_model.specs.Faults.{lacks, has_largest, choose_faults, adopt_faults, suspect_faults, conclude_faults}
 use Rattle.ct_model.specs.Mapped.{wire_map, envelope_map, mail_map, heard_map, ballots_map, standing_map, turn_map}
 
 -- lists
-
-any-map : {A B : Type 0} (f : A → B) (t : B → Bool) (s : A → Bool) → ((x : A) → t (f x) ≡ s x) → (xs : List A) → list_any t (map f xs) ≡ list_any s xs
-any-map f t s h [] = refl
-any-map f t s h (x ∷ xs) = ap (λ b. b || list_any t (map f xs)) (h x) ∙ ap (λ b. s x || b) (any-map f t s h xs)
 
 all-map : {A B : Type 0} (f : A → B) (t : B → Bool) (s : A → Bool) → ((x : A) → t (f x) ≡ s x) → (xs : List A) → list_all t (map f xs) ≡ list_all s xs
 all-map f t s h [] = refl
@@ -36,20 +30,6 @@ find-map f t (x ∷ xs) = step (t (f x)) (find-map f t xs)
     step true e = refl
     step false e = e
 
-cons_option-map : {C D : Type 0} (g : C → D) (o : Option C) (xs : List C) → cons_option (option_map g o) (map g xs) ≡ map g (cons_option o xs)
-cons_option-map g None xs = refl
-cons_option-map g (Some x) xs = refl
-
-filter_map-map : {A B C D : Type 0} (f : A → B) (g : C → D) (t : B → Option D) (s : A → Option C) → ((x : A) → t (f x) ≡ option_map g (s x)) → (xs : List A) → filter_map t (map f xs) ≡ map g (filter_map s xs)
-filter_map-map f g t s h [] = refl
-filter_map-map f g t s h (x ∷ xs) =
-    ap (λ o. cons_option o (filter_map t (map f xs))) (h x)
-    ∙ (ap (λ z. cons_option (option_map g (s x)) z) (filter_map-map f g t s h xs) ∙ cons_option-map g (s x) (filter_map s xs))
-
-head-map : {C D : Type 0} (g : C → D) (xs : List C) → head (map g xs) ≡ option_map g (head xs)
-head-map g [] = refl
-head-map g (x ∷ xs) = refl
-
 some-map : {C D : Type 0} (g : C → D) (o : Option C) → is_some (option_map g o) ≡ is_some o
 some-map g None = refl
 some-map g (Some x) = refl
@@ -62,127 +42,11 @@ when-map : {A B : Type 0} (g : A → B) (b : Bool) (x : A) → when b (g x) ≡ 
 when-map g true x = refl
 when-map g false x = refl
 
-picked-map : {A B : Type 0} (g : A → B) (b : Bool) (x : A) → cond b (Some (g x)) None ≡ option_map g (cond b (Some x) None)
-picked-map g true x = refl
-picked-map g false x = refl
-
 then-map : {A B C D : Type 0} (f : A → B) (g : C → D) (t : B → Option D) (s : A → Option C) → ((x : A) → t (f x) ≡ option_map g (s x)) → (o : Option A) → option_and_then t (option_map f o) ≡ option_map g (option_and_then s o)
 then-map f g t s h None = refl
 then-map f g t s h (Some x) = h x
 
-map-id : {A : Type 0} (xs : List A) → map (λ x. x) xs ≡ xs
-map-id [] = refl
-map-id (x ∷ xs) = ap (λ z. x ∷ z) (map-id xs)
-
-option_map-id : {A : Type 0} (o : Option A) → option_map (λ x. x) o ≡ o
-option_map-id None = refl
-option_map-id (Some x) = refl
-
--- what is read off the wires
-
-message_of-map : {V U : Type 0} (f : V → U) (w : Wire V) → message_of (wire_map f w) ≡ option_map (λ m. m) (message_of w)
-message_of-map f (Data m) = refl
-message_of-map f (Est k r p v t) = refl
-message_of-map f (Prop k r v) = refl
-message_of-map f (Ack k r p) = refl
-message_of-map f (Nack k r p) = refl
-message_of-map f (Dec k r v) = refl
-
-pub received-map : {V U : Type 0} (f : V → U) (got : List (Wire V)) → received (map (wire_map f) got) ≡ received got
-unfolding received
-received-map f got =
-    ap Values.first_occurrences (filter_map-map (wire_map f) (λ m. m) message_of message_of (message_of-map f) got ∙ map-id (filter_map message_of got))
-
-decision_of-map : {V U : Type 0} (f : V → U) (k : ℕ) (w : Wire V) → decision_of k (wire_map f w) ≡ option_map f (decision_of k w)
-decision_of-map f k (Data m) = refl
-decision_of-map f k (Est j r p v t) = refl
-decision_of-map f k (Prop j r v) = refl
-decision_of-map f k (Ack j r p) = refl
-decision_of-map f k (Nack j r p) = refl
-decision_of-map f k (Dec j r v) = picked-map f (j == k) v
-
-pub decided-map : {V U : Type 0} (f : V → U) (got : List (Wire V)) (k : ℕ) → decided (map (wire_map f) got) k ≡ option_map f (decided got k)
-unfolding decided
-decided-map f got k =
-    ap head (filter_map-map (wire_map f) f (decision_of k) (decision_of k) (decision_of-map f k) got) ∙ head-map f (filter_map (decision_of k) got)
-
-is_decision-map : {V U : Type 0} (f : V → U) (k r : ℕ) (w : Wire V) → is_decision k r (wire_map f w) ≡ is_decision k r w
-is_decision-map f k r (Data m) = refl
-is_decision-map f k r (Est j s p v t) = refl
-is_decision-map f k r (Prop j s v) = refl
-is_decision-map f k r (Ack j s p) = refl
-is_decision-map f k r (Nack j s p) = refl
-is_decision-map f k r (Dec j s v) = refl
-
-pub has_decision-map : {V U : Type 0} (f : V → U) (got : List (Wire V)) (k r : ℕ) → has_decision (map (wire_map f) got) k r ≡ has_decision got k r
-has_decision-map f got k r = any-map (wire_map f) (is_decision k r) (is_decision k r) (is_decision-map f k r) got
-
-estimate_of-map : {V U : Type 0} (f : V → U) (k r : ℕ) (w : Wire V) → estimate_of k r (wire_map f w) ≡ option_map (heard_map f) (estimate_of k r w)
-estimate_of-map f k r (Data m) = refl
-estimate_of-map f k r (Est j s p v t) = picked-map (heard_map f) ((j == k) && (s == r)) (record { member = p; value = v; ts = t })
-estimate_of-map f k r (Prop j s v) = refl
-estimate_of-map f k r (Ack j s p) = refl
-estimate_of-map f k r (Nack j s p) = refl
-estimate_of-map f k r (Dec j s v) = refl
-
-proposal_of-map : {V U : Type 0} (f : V → U) (k r : ℕ) (w : Wire V) → proposal_of k r (wire_map f w) ≡ option_map f (proposal_of k r w)
-proposal_of-map f k r (Data m) = refl
-proposal_of-map f k r (Est j s p v t) = refl
-proposal_of-map f k r (Prop j s v) = picked-map f ((j == k) && (s == r)) v
-proposal_of-map f k r (Ack j s p) = refl
-proposal_of-map f k r (Nack j s p) = refl
-proposal_of-map f k r (Dec j s v) = refl
-
-pub proposal-map : {V U : Type 0} (f : V → U) (got : List (Wire V)) (k r : ℕ) → proposal (map (wire_map f) got) k r ≡ option_map f (proposal got k r)
-unfolding proposal
-proposal-map f got k r =
-    ap head (filter_map-map (wire_map f) f (proposal_of k r) (proposal_of k r) (proposal_of-map f k r) got) ∙ head-map f (filter_map (proposal_of k r) got)
-
-is_ack-map : {V U : Type 0} (f : V → U) (k r p : ℕ) (w : Wire V) → is_ack k r p (wire_map f w) ≡ is_ack k r p w
-is_ack-map f k r p (Data m) = refl
-is_ack-map f k r p (Est j s q v t) = refl
-is_ack-map f k r p (Prop j s v) = refl
-is_ack-map f k r p (Ack j s q) = refl
-is_ack-map f k r p (Nack j s q) = refl
-is_ack-map f k r p (Dec j s v) = refl
-
-is_reply-map : {V U : Type 0} (f : V → U) (k r p : ℕ) (w : Wire V) → is_reply k r p (wire_map f w) ≡ is_reply k r p w
-is_reply-map f k r p (Data m) = refl
-is_reply-map f k r p (Est j s q v t) = refl
-is_reply-map f k r p (Prop j s v) = refl
-is_reply-map f k r p (Ack j s q) = refl
-is_reply-map f k r p (Nack j s q) = refl
-is_reply-map f k r p (Dec j s v) = refl
-
 -- the ballots
-
-heard_from-map : {V U : Type 0} (f : V → U) (got : List (Wire V)) (k r p : ℕ) → heard_from (map (wire_map f) got) k r p ≡ option_map (heard_map f) (heard_from got k r p)
-heard_from-map f got k r p =
-    ap (find (λ e. e.member == p)) (filter_map-map (wire_map f) (heard_map f) (estimate_of k r) (estimate_of k r) (estimate_of-map f k r) got)
-    ∙ find-map (heard_map f) (λ e. e.member == p) (filter_map (estimate_of k r) got)
-
--- what is heard of each
-each-map : {V U : Type 0} (f : V → U) (got : List (Wire V)) (k r : ℕ) (ps : List ℕ) → filter_map (heard_from (map (wire_map f) got) k r) ps ≡ map (heard_map f) (filter_map (heard_from got k r) ps)
-each-map f got k r [] = refl
-each-map f got k r (p ∷ ps) =
-    ap (λ o. cons_option o (filter_map (heard_from (map (wire_map f) got) k r) ps)) (heard_from-map f got k r p)
-    ∙ ap (λ es. cons_option (option_map (heard_map f) (heard_from got k r p)) es) (each-map f got k r ps)
-    ∙ cons_option-map (heard_map f) (heard_from got k r p) (filter_map (heard_from got k r) ps)
-
-pub ackers-map : {V U : Type 0} (f : V → U) (got : List (Wire V)) (k r : ℕ) → ackers (map (wire_map f) got) k r ≡ ackers got k r
-ackers-map f got k r = filter_agree (has_ack (map (wire_map f) got) k r) (has_ack got k r) (λ p. any-map (wire_map f) (is_ack k r p) (is_ack k r p) (is_ack-map f k r p) got) everyone
-
-repliers-map : {V U : Type 0} (f : V → U) (got : List (Wire V)) (k r : ℕ) → filter (has_reply (map (wire_map f) got) k r) everyone ≡ filter (has_reply got k r) everyone
-repliers-map f got k r = filter_agree (has_reply (map (wire_map f) got) k r) (has_reply got k r) (λ p. any-map (wire_map f) (is_reply k r p) (is_reply k r p) (is_reply-map f k r p) got) everyone
-
-pub ballots-map : {V U : Type 0} (f : V → U) (got : List (Wire V)) (k r : ℕ) → ballots (map (wire_map f) got) k r ≡ ballots_map f (ballots got k r)
-unfolding ballots
-ballots-map f got k r =
-    let es = each-map f got k r everyone in
-    let v = proposal-map f got k r in
-    let acks = ackers-map f got k r in
-    let replies = repliers-map f got k r in
-    λ i. record { estimates = es i; proposal = v i; acked = acks i; replied = replies i }
 
 module _ {V U : Type 0} (f : V → U) (t : Ballots V) where
   pub heard-map : heard (ballots_map f t) ≡ heard t
@@ -264,9 +128,6 @@ envelopes-map {V} f n (All w) = each (members n)
     each (p ∷ ps) = ap (λ z. record { to = p; wire = wire_map f w } ∷ z) (each ps)
 
 -- the refusals
-
-pub enter_faults-map : {V U : Type 0} (f : V → U) (c : Standing V) → enter_faults (standing_map f c) ≡ enter_faults c
-enter_faults-map f c = refl
 
 pub choose_faults-map : {V U : Type 0} (f : V → U) (n : ℕ) (t : Ballots V) (c : Standing V) (from : ℕ) → choose_faults n (ballots_map f t) (standing_map f c) from ≡ choose_faults n t c from
 choose_faults-map {V} {U} f n t c from =

@@ -1,5 +1,5 @@
 -- Begin and Deliver keep the facts.
-use Rattle.std.proofs.Common.{◌≡◌, ℕ, ◌+◌, Some, refl, sym, subst, inl, arith, true≢false}
+use Rattle.std.proofs.Common.{ℕ, ◌+◌, refl, sym, subst, inl, arith, true≢false}
 use Rattle.ct_names.specs.Group.{IsMember}
 use Rattle.ct_names.specs.Membership.{IsIn}
 use Rattle.ct_names.specs.Value.{Value}
@@ -8,12 +8,11 @@ use Rattle.ct_model.specs.declared.phase.Phase.TheVariants.{Rest}
 use Rattle.ct_model.specs.AtValue.{Standing}
 use Rattle.ct_model.specs.Setting.{Setting}
 use Rattle.ct_model.specs.State.{State, Member, Proposal, member}
-use Rattle.ct_model.specs.Next.{Outcome, begin, begin_row, deliver, deliver_row, undelivered, after}
+use Rattle.ct_model.specs.Next.{Outcome, begin, deliver, undelivered, after}
 use Rattle.ct_model.proofs.Facts.{IsSound, Holds}
 use Rattle.ct_model.proofs.Growth.Advance.{opens, closes}
 use Rattle.ct_model.proofs.Kept.{IsAllowed}
 use Rattle.ct_model.proofs.Outcomes.{some-same, some-none}
-use Rattle.ct_model.proofs.Rows.{begin_row-is, deliver_row-is}
 
 proposals-new : (s : Setting) (g : State) (p : ℕ) (o : Outcome) (x : Proposal) → IsIn x o.proposals → IsIn x (after s g p o).proposals
 unfolding after
@@ -45,8 +44,8 @@ module _ (s : Setting) (g : State) (p : ℕ) (holds : Holds s g) (is : IsMember 
     tallies_own = λ x. absurd (true≢false (sym x));
   }
 
-  begin_allowed : IsAllowed s g p b
-  begin_allowed = record {
+  pub allowed-begin : IsAllowed s g p b
+  allowed-begin = record {
     advance = opens refl;
     got = λ w x. holds.got p is w x;
     sound = λ d x. subst (λ z. IsSound s (after s g p b) p (m.last + 1) z) (some-same fresh d x) begun_sound;
@@ -56,8 +55,8 @@ module _ (s : Setting) (g : State) (p : ℕ) (holds : Holds s g) (is : IsMember 
     ack_after_estimate = λ j r later q v ts x sent lt. absurd x;
   }
 
-  deliver_allowed : (v : Value) → IsAllowed s g p (deliver m v)
-  deliver_allowed v = record {
+  pub allowed-deliver : (v : Value) → IsAllowed s g p (deliver m v)
+  allowed-deliver v = record {
     advance = closes refl refl;
     got = λ w x. holds.got p is w x;
     sound = λ d x. some-none d x;
@@ -66,12 +65,3 @@ module _ (s : Setting) (g : State) (p : ℕ) (holds : Holds s g) (is : IsMember 
     estimate_after_ack = λ j r later q v ts x sent lt. absurd x;
     ack_after_estimate = λ j r later q v ts x sent lt. absurd x;
   }
-
-pub allowed-begin : (s : Setting) (g : State) (p : ℕ) (o : Outcome) → Holds s g → IsMember s.members p → begin_row p (member g p) ≡ Some o → IsAllowed s g p o
-allowed-begin s g p o holds is e =
-    subst (λ x. IsAllowed s g p x) (begin_row-is p (member g p) o e).gives (begin_allowed s g p holds is)
-
-pub allowed-deliver : (s : Setting) (g : State) (p : ℕ) (o : Outcome) → Holds s g → IsMember s.members p → deliver_row (member g p) ≡ Some o → IsAllowed s g p o
-allowed-deliver s g p o holds is e =
-    let f = deliver_row-is (member g p) o e in
-    subst (λ x. IsAllowed s g p x) f.gives (deliver_allowed s g p holds is f.value)

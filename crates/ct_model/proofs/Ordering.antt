@@ -1,25 +1,21 @@
 -- What a step does to the order of batches: a Deliver of who delivered as many as anyone adds its batch, and any other
 -- step leaves it.
-use Rattle.std.proofs.Common.{◌≡◌, ℕ, ◌+◌, ◌-◌, ◌≤◌, ◌<◌, true, List, [], ◌∷◌, ◌++◌, Option, Some, length, ap, sym, ◌∙◌, subst, arith, append-nil}
+use Rattle.std.proofs.Common.{◌≡◌, ℕ, ◌+◌, ◌-◌, ◌≤◌, ◌<◌, true, List, [], ◌∷◌, ◌++◌, Some, length, refl, ap, sym, ◌∙◌, subst, arith, append-nil}
 use Rattle.std.proofs.lemmas.Bool.Decides.{nat_tests}
 use Rattle.std.proofs.lemmas.List.{length-append, length_push}
-use Rattle.ct_names.specs.Command.{is_good}
 use Rattle.ct_names.specs.Group.{IsMember, is_member}
 use Rattle.ct_names.specs.Prefix.{IsPrefix}
 use Rattle.ct_model.specs.declared.step.Step.{Step}
-use Rattle.ct_model.specs.declared.step.Step.TheVariants.{Submit, Receive, Begin, Enter, Choose, Adopt, Suspect, Conclude, Deliver, Crash, Postpone}
+use Rattle.ct_model.specs.declared.step.Step.TheVariants.{Deliver}
 use Rattle.ct_model.specs.Actor.{actor}
-use Rattle.ct_model.specs.AtValue.{Wire, Standing, Turn}
 use Rattle.ct_model.specs.Setting.{Setting}
 use Rattle.ct_model.specs.State.{State, Member, member}
-use Rattle.ct_model.specs.declared.mail.Mail.TheVariants.{Nobody}
-use Rattle.ct_model.specs.Next.{Outcome, row, after, next, plain, submit, receive, wire_to, round_row, crash, deliver, batch_of}
+use Rattle.ct_model.specs.Next.{Outcome, row, after, next, deliver, batch_of}
 use Rattle.ct_model.specs.Rehearsal.{Rehearsal, state_of, extended}
 use Rattle.ct_model.specs.Cause.{order}
 use Rattle.ct_model.specs.Lawful.{IsLawful}
 use Rattle.ct_model.specs.Order.{DeliversNothing}
-use Rattle.ct_model.proofs.Outcomes.{some-same, when-is, made-map}
-use Rattle.ct_model.proofs.Rows.{round_row-is, begin_row-is}
+use Rattle.ct_model.proofs.Shapes.{by_shape}
 use Rattle.ct_model.proofs.Knowing.{in_members, next-is}
 use Rattle.ct_model.proofs.Frame.{order-kept, at_place, member-other}
 use Rattle.ct_model.proofs.Taken.{state-step, lawful-step}
@@ -28,21 +24,16 @@ use Rattle.ct_model.proofs.Prefixes.{order-prefix}
 use Rattle.ct_model.proofs.Safety.{safe-run}
 use Rattle.ct_model.proofs.Delivers.{IsDeliverStep}
 
-batches-round : (m : Member) (step : Standing → Option Turn) (o : Outcome) → round_row m step ≡ Some o → o.member.batches ≡ m.batches
-batches-round m step o e = ap (λ (x : Outcome). x.member.batches) (sym (round_row-is m step o e).gives)
-
-batches-row : (s : Setting) (g : State) (p : ℕ) (m : Member) (step : Step) (o : Outcome) → DeliversNothing step → row s g p m step ≡ Some o → o.member.batches ≡ m.batches
-batches-row s g p m (Submit _ c) o d e = ap (λ (x : Outcome). x.member.batches) (sym (when-is (is_good c) (submit g p m c) o e).1)
-batches-row s g p m (Receive _ k) o d e = ap (λ (x : Outcome). x.member.batches) (sym (made-map (receive s p m) (wire_to g p k) o e).gives)
-batches-row s g p m (Begin _) o d e = ap (λ (x : Outcome). x.member.batches) (sym (begin_row-is p m o e).gives)
-batches-row s g p m (Enter _) o d e = batches-round m _ o e
-batches-row s g p m (Choose _ from) o d e = batches-round m _ o e
-batches-row s g p m (Adopt _) o d e = batches-round m _ o e
-batches-row s g p m (Suspect _) o d e = batches-round m _ o e
-batches-row s g p m (Conclude _) o d e = batches-round m _ o e
-batches-row s g p m (Deliver _) o d e = absurd d
-batches-row s g p m (Crash _) o d e = ap (λ (x : Outcome). x.member.batches) (sym (some-same (crash m) o e))
-batches-row s g p m (Postpone _ k) o d e = ap (λ (x : Outcome). x.member.batches) (sym (made-map (λ (w : Wire). plain m Nobody) (wire_to g p k) o e).gives)
+batches-row : (s : Setting) (g : State) (p : ℕ) (m : Member) (step : Step) (o : Outcome) → DeliversNothing step
+    → row s g p m step ≡ Some o → o.member.batches ≡ m.batches
+batches-row s g p m step o none = by_shape s g p m (λ x. x.member.batches ≡ m.batches) step o (record {
+  submits = λ c good. refl;
+  gets = λ k w at. refl;
+  opens = λ idle some. refl;
+  turns = λ a c t open_at taken. refl;
+  closes = λ c v open_at has delivers. absurd (delivers none);
+  marks = λ crashed. refl;
+})
 
 -- a step that delivers nothing leaves the order
 pub order-still : (s : Setting) (g h : State) (step : Step) → DeliversNothing step → next s g step ≡ Some h → order h ≡ order g

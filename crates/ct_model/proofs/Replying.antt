@@ -9,15 +9,15 @@ use Rattle.ct_model.specs.AtValue.{Standing, Turn}
 use Rattle.ct_model.specs.Setting.{Setting}
 use Rattle.ct_model.specs.declared.wire.Wire.TheVariants.{Est, Prop, Ack}
 use Rattle.ct_model.specs.State.{State, Member, member}
-use Rattle.ct_model.specs.Phases.{is_gather, is_wait, adopt, adopted, suspect, suspected}
-use Rattle.ct_model.specs.Next.{Outcome, round_row, turn_at, own_ballots, turned, after}
+use Rattle.ct_model.specs.Phases.{is_gather, is_wait, adopted, suspected}
+use Rattle.ct_model.specs.Next.{Outcome, turn_at, own_ballots, turned, after}
 use Rattle.ct_model.proofs.Carrying.{Sent, Carries, Sent-old}
 use Rattle.ct_model.proofs.Facts.{Reached, HasRound, HasTs, IsFoundedAck, IsFounded, IsSound, Holds}
 use Rattle.ct_model.proofs.Growth.{IsOnward, Grows, IsProposed-grows, IsCarried-grows}
 use Rattle.ct_model.proofs.Kept.{IsAllowed}
 use Rattle.ct_model.proofs.Readings
 use Rattle.ct_model.proofs.Rows.{adopt-is, suspect-is}
-use Rattle.ct_model.proofs.Turning.{turn-grows, turn-reaches, turn-allowed, round-allowed, standing-reached, reply-no_gather, reply-no_wait, reply-tally, wait-no_rest}
+use Rattle.ct_model.proofs.Turning.{turn-grows, turn-reaches, turn-allowed, standing-reached, reply-no_gather, reply-no_wait, reply-tally, wait-no_rest}
 
 module _ (s : Setting) (g : State) (p : ℕ) (holds : Holds s g) (is : IsMember s.members p) (c : Standing) (open_at : (member g p).current ≡ Some c) (waits : is_wait c.phase ≡ true) where
   -- the open instance, and whether p coordinates the round
@@ -131,19 +131,19 @@ module _ (s : Setting) (g : State) (p : ℕ) (holds : Holds s g) (is : IsMember 
       turn-allowed s g p holds is c open_at u nack_onward nack_sound (λ w same. subst (λ z. IsFounded s after_nack z) (sym same) tt)
       (λ j r x w same sent. cc) (λ j r later q w ts same sent lt. cc) (λ j r later q w ts same sent lt. cc)
 
-pub allowed-adopt : (s : Setting) (g : State) (p : ℕ) (o : Outcome) → Holds s g → IsMember s.members p → round_row (member g p) (turn_at s.members p (member g p) moves.Adopt) ≡ Some o → IsAllowed s g p o
-allowed-adopt s g p o holds is e =
+pub allowed-adopt : (s : Setting) (g : State) (p : ℕ) → Holds s g → IsMember s.members p → (c : Standing) (t : Turn)
+    → (member g p).current ≡ Some c
+    → turn_at s.members p (member g p) moves.Adopt c ≡ Some t → IsAllowed s g p (turned (member g p) t)
+allowed-adopt s g p holds is c t at x =
     let m : Member = member g p in
-    round-allowed s g p (λ c. adopt s.members p m.last (own_ballots m c) c) o
-    (λ c t at x.
     let f = adopt-is s.members p m.last (own_ballots m c) c t x in
     subst (λ z. IsAllowed s g p (turned (member g p) z)) f.gives
-    (adopt_allowed s g p holds is c at f.waits f.value (Readings.proposal-got m.got m.last c.round f.value f.proposal_is))) e
+    (adopt_allowed s g p holds is c at f.waits f.value (Readings.proposal-got m.got m.last c.round f.value f.proposal_is))
 
-pub allowed-suspect : (s : Setting) (g : State) (p : ℕ) (o : Outcome) → Holds s g → IsMember s.members p → round_row (member g p) (turn_at s.members p (member g p) moves.Suspect) ≡ Some o → IsAllowed s g p o
-allowed-suspect s g p o holds is e =
+pub allowed-suspect : (s : Setting) (g : State) (p : ℕ) → Holds s g → IsMember s.members p → (c : Standing) (t : Turn)
+    → (member g p).current ≡ Some c
+    → turn_at s.members p (member g p) moves.Suspect c ≡ Some t → IsAllowed s g p (turned (member g p) t)
+allowed-suspect s g p holds is c t at x =
     let m : Member = member g p in
-    round-allowed s g p (λ c. suspect s.members p m.last (own_ballots m c) c) o
-    (λ c t at x.
     let f = suspect-is s.members p m.last (own_ballots m c) c t x in
-    subst (λ z. IsAllowed s g p (turned (member g p) z)) f.gives (suspect_allowed s g p holds is c at f.waits)) e
+    subst (λ z. IsAllowed s g p (turned (member g p) z)) f.gives (suspect_allowed s g p holds is c at f.waits)

@@ -1,18 +1,14 @@
 -- What a step of consensus leaves, where its row is there.
-use Rattle.std.proofs.Common.{◌≡◌, ℕ, Bool, true, false, not, [], Option, Some, None, refl, subst}
-use Rattle.std.specs.Prelude.{◌&&◌, if◌then◌else◌, is_some, is_none, option_and_then, option_map}
+use Rattle.std.proofs.Common.{◌≡◌, ℕ, true, false, not, Option, Some}
+use Rattle.std.specs.Prelude.{◌&&◌, is_some, is_none, option_and_then, option_map}
 use Rattle.ct_names.specs.Group.{is_majority}
 use Rattle.ct_names.specs.Value.{Value}
-use Rattle.ct_model.specs.declared.step.Step.{Step}
-use Rattle.ct_model.specs.declared.step.Step.TheVariants.{Submit, Receive, Begin, Enter, Choose, Adopt, Suspect, Conclude, Deliver, Crash, Postpone}
 use Rattle.ct_model.specs.When.{when}
-use Rattle.ct_model.specs.Setting.{Setting}
-use Rattle.ct_model.specs.AtValue.{Wire, Mail, Standing, Turn}
-use Rattle.ct_model.specs.State.{State, Member}
-use Rattle.ct_model.specs.Received.{Heard, Ballots, heard, estimate_from, is_largest, decided, message_of}
-use Rattle.ct_model.specs.declared.mail.Mail.TheVariants.{Nobody, One, All}
+use Rattle.ct_model.specs.AtValue.{Standing, Turn}
+use Rattle.ct_model.specs.State.{Member}
+use Rattle.ct_model.specs.Received.{Heard, Ballots, heard, estimate_from, is_largest, decided}
 use Rattle.ct_model.specs.Phases.{is_rest, is_gather, is_wait, is_tally, entered, enter, chosen, choose, adopted, adopt, suspected, suspect, concluded, conclude}
-use Rattle.ct_model.specs.Next.{Outcome, row, turned, round_row, begin, begin_row, deliver, deliver_row, undelivered, is_empty, own_ballots}
+use Rattle.ct_model.specs.Next.{Outcome, turned, round_row, begin, begin_row, deliver, deliver_row, undelivered, is_empty}
 use Rattle.ct_model.proofs.Tests.{and_left, and_right, true_not}
 use Rattle.ct_model.proofs.Outcomes.{when-is, made-map, made-then}
 
@@ -139,65 +135,3 @@ conclude-is n k t c turn e =
       majority = and_right (is_tally c.phase) (is_majority n t.replied) a.0;
       gives = a.1;
     }
-
--- no step of consensus sends a message by itself, gets a wire, submits or marks a crash
-
-abbrev pub IsWithoutMessage : Mail → Type 0
-IsWithoutMessage Nobody = Unit {0}
-IsWithoutMessage (One to w) = message_of w ≡ None
-IsWithoutMessage (All w) = message_of w ≡ None
-
-pub record IsQuiet (m : Member) (o : Outcome) : Type 0 where
-  pub got : o.member.got ≡ m.got
-  pub crashed : o.member.crashed ≡ m.crashed
-  pub submitted : o.submitted ≡ []
-  pub mail : IsWithoutMessage o.mail
-
-turned-quiet : (m : Member) (t : Turn) → IsWithoutMessage t.mail → IsQuiet m (turned m t)
-turned-quiet m t h = record { got = refl; crashed = refl; submitted = refl; mail = h }
-
-quiet-if : (b : Bool) (w : Wire) → message_of w ≡ None → IsWithoutMessage (if b then All w else Nobody)
-quiet-if true w h = h
-quiet-if false w h = tt
-
-round-quiet : (m : Member) (step : Standing → Option Turn) (o : Outcome) → ((c : Standing) (t : Turn) → step c ≡ Some t → IsWithoutMessage t.mail) → round_row m step ≡ Some o → IsQuiet m o
-round-quiet m step o h e =
-    let t = round_row-is m step o e in
-    subst (λ x. IsQuiet m x) t.gives (turned-quiet m t.turn (h t.standing t.turn t.taken))
-
--- the steps of consensus
-abbrev pub IsOfConsensus : Step → Type 0
-IsOfConsensus (Begin p) = Unit {0}
-IsOfConsensus (Enter p) = Unit {0}
-IsOfConsensus (Choose p from) = Unit {0}
-IsOfConsensus (Adopt p) = Unit {0}
-IsOfConsensus (Suspect p) = Unit {0}
-IsOfConsensus (Conclude p) = Unit {0}
-IsOfConsensus (Deliver p) = Unit {0}
-IsOfConsensus _ = ⊥
-
-pub row-quiet : (s : Setting) (g : State) (p : ℕ) (m : Member) (step : Step) (o : Outcome) → IsOfConsensus step → row s g p m step ≡ Some o → IsQuiet m o
-row-quiet s g p m (Begin _) o is e =
-    subst (λ x. IsQuiet m x) (begin_row-is p m o e).gives (record { got = refl; crashed = refl; submitted = refl; mail = tt })
-row-quiet s g p m (Enter _) o is e =
-    round-quiet m (enter s.members p m.last (decided m.got m.last)) o
-    (λ c t h. subst (λ (x : Turn). IsWithoutMessage x.mail) (enter-is s.members p m.last (decided m.got m.last) c t h).gives refl) e
-row-quiet s g p m (Choose _ from) o is e =
-    round-quiet m (λ c. choose s.members m.last (own_ballots m c) c from) o
-    (λ c t h. subst (λ (x : Turn). IsWithoutMessage x.mail) (choose-is s.members m.last (own_ballots m c) c from t h).gives refl) e
-row-quiet s g p m (Adopt _) o is e =
-    round-quiet m (λ c. adopt s.members p m.last (own_ballots m c) c) o
-    (λ c t h. subst (λ (x : Turn). IsWithoutMessage x.mail) (adopt-is s.members p m.last (own_ballots m c) c t h).gives refl) e
-row-quiet s g p m (Suspect _) o is e =
-    round-quiet m (λ c. suspect s.members p m.last (own_ballots m c) c) o
-    (λ c t h. subst (λ (x : Turn). IsWithoutMessage x.mail) (suspect-is s.members p m.last (own_ballots m c) c t h).gives refl) e
-row-quiet s g p m (Conclude _) o is e =
-    round-quiet m (λ c. conclude s.members m.last (own_ballots m c) c) o
-    (λ c t h. subst (λ (x : Turn). IsWithoutMessage x.mail) (conclude-is s.members m.last (own_ballots m c) c t h).gives
-    (quiet-if _ _ refl)) e
-row-quiet s g p m (Deliver _) o is e =
-    subst (λ x. IsQuiet m x) (deliver_row-is m o e).gives (record { got = refl; crashed = refl; submitted = refl; mail = tt })
-row-quiet s g p m (Submit _ c) o is e = absurd is
-row-quiet s g p m (Receive _ k) o is e = absurd is
-row-quiet s g p m (Crash _) o is e = absurd is
-row-quiet s g p m (Postpone _ k) o is e = absurd is

@@ -1,17 +1,18 @@
 -- The facts hold after every run.
-use Rattle.std.proofs.Common.{◌≡◌, List, [], ◌∷◌, Some, ap, sym, ◌∙◌, subst}
+use Rattle.std.proofs.Common.{◌≡◌, ℕ, List, Some, ap, sym, ◌∙◌, subst}
 use Rattle.ct_names.specs.Group.{IsMember}
 use Rattle.ct_names.specs.Membership.{IsIn}
 use Rattle.ct_model.specs.declared.step.Step.{Step}
-use Rattle.ct_model.specs.declared.step.Step.TheVariants.{Submit, Receive, Begin, Enter, Choose, Adopt, Suspect, Conclude, Deliver, Crash, Postpone}
+use Rattle.ct_model.specs.declared.moves.Move.{Move}
+use Rattle.ct_model.specs.declared.moves.Move.TheVariants.{Enter, Choose, Adopt, Suspect, Conclude}
 use Rattle.ct_model.specs.Actor.{actor}
-use Rattle.ct_model.specs.AtValue.{Wire}
+use Rattle.ct_model.specs.AtValue.{Wire, Standing, Turn}
 use Rattle.ct_model.specs.Setting.{Setting}
 use Rattle.ct_model.specs.declared.wire.Wire.TheVariants.{Prop, Ack}
 use Rattle.ct_model.specs.State.{State, Member, member, first_state}
-use Rattle.ct_model.specs.Next.{Outcome, row, next}
-use Rattle.ct_model.specs.Run.{run, run_from}
-use Rattle.ct_model.proofs.Carrying.{Sent}
+use Rattle.ct_model.specs.Next.{Outcome, row, turn_at, turned, next}
+use Rattle.ct_model.specs.Run.{run}
+use Rattle.ct_model.proofs.Carrying.{Sent, Sent-wire}
 use Rattle.ct_model.proofs.Choosing.{allowed-choose}
 use Rattle.ct_model.proofs.Concluding.{allowed-conclude}
 use Rattle.ct_model.proofs.Entering.{allowed-enter}
@@ -21,28 +22,39 @@ use Rattle.ct_model.proofs.Groups.{member_is}
 use Rattle.ct_model.proofs.Kept.{IsAllowed, kept}
 use Rattle.ct_model.proofs.Knowing.{next-is}
 use Rattle.ct_model.proofs.Opening.{allowed-begin, allowed-deliver}
-use Rattle.ct_model.proofs.Outcomes.{some-same, some-none, made-then}
+use Rattle.ct_model.proofs.Outcomes.{some-none}
+use Rattle.ct_model.proofs.Runs.{kept-run}
 use Rattle.ct_model.proofs.Replying.{allowed-adopt, allowed-suspect}
-use Rattle.ct_model.proofs.Silent.{allowed-submit, allowed-receive, allowed-crash, allowed-postpone}
+use Rattle.ct_model.proofs.Shapes.{by_shape}
+use Rattle.ct_model.proofs.Silent.{allowed-submit, allowed-receive, allowed-mark}
 
-allowed-step : (s : Setting) (g : State) (step : Step) (o : Outcome) → Holds s g → IsMember s.members (actor step) → row s g (actor step) (member g (actor step)) step ≡ Some o → IsAllowed s g (actor step) o
-allowed-step s g (Submit p c) o holds is e = allowed-submit s g p o holds is c e
-allowed-step s g (Receive p k) o holds is e = allowed-receive s g p o holds is k e
-allowed-step s g (Begin p) o holds is e = allowed-begin s g p o holds is e
-allowed-step s g (Enter p) o holds is e = allowed-enter s g p o holds is e
-allowed-step s g (Choose p from) o holds is e = allowed-choose s g p o holds is from e
-allowed-step s g (Adopt p) o holds is e = allowed-adopt s g p o holds is e
-allowed-step s g (Suspect p) o holds is e = allowed-suspect s g p o holds is e
-allowed-step s g (Conclude p) o holds is e = allowed-conclude s g p o holds is e
-allowed-step s g (Deliver p) o holds is e = allowed-deliver s g p o holds is e
-allowed-step s g (Crash p) o holds is e = allowed-crash s g p o holds is e
-allowed-step s g (Postpone p k) o holds is e = allowed-postpone s g p o holds is k e
+module _ (s : Setting) (g : State) (p : ℕ) (holds : Holds s g) (is : IsMember s.members p) where
+  abbrev m : Member
+  m = member g p
+
+  allowed-turn : (a : Move) (c : Standing) (t : Turn) → (member g p).current ≡ Some c → turn_at s.members p (member g p) a c ≡ Some t
+      → IsAllowed s g p (turned (member g p) t)
+  allowed-turn Enter c t at x = allowed-enter s g p holds is c t at x
+  allowed-turn (Choose from) c t at x = allowed-choose s g p holds is from c t at x
+  allowed-turn Adopt c t at x = allowed-adopt s g p holds is c t at x
+  allowed-turn Suspect c t at x = allowed-suspect s g p holds is c t at x
+  allowed-turn Conclude c t at x = allowed-conclude s g p holds is c t at x
+
+  allowed-step : (step : Step) (o : Outcome) → row s g p (member g p) step ≡ Some o → IsAllowed s g p o
+  allowed-step step o = by_shape s g p m (IsAllowed s g p) step o (record {
+    submits = λ c good. allowed-submit s g p holds is c;
+    gets = λ k w at. allowed-receive s g p holds is w (Sent-wire g p k w at);
+    opens = λ idle some. allowed-begin s g p holds is;
+    turns = allowed-turn;
+    closes = λ c v open_at has delivers. allowed-deliver s g p holds is v;
+    marks = λ crashed. allowed-mark s g p holds is crashed;
+  })
 
 pub Holds-next : (s : Setting) (g : State) (step : Step) (h : State) → next s g step ≡ Some h → Holds s g → Holds s h
 Holds-next s g step h e holds =
     let t = next-is s g step h e in
     let is : IsMember s.members (actor step) = member_is s.members (actor step) t.in_group in
-    subst (λ x. Holds s x) t.gives (kept s g (actor step) t.outcome holds is (allowed-step s g step t.outcome holds is t.row))
+    subst (λ x. Holds s x) t.gives (kept s g (actor step) t.outcome holds is (allowed-step s g (actor step) holds is step t.outcome t.row))
 
 nothing_sent : (s : Setting) (w : Wire) → Sent (first_state s) w → ⊥
 unfolding first_state
@@ -58,13 +70,5 @@ Holds-first s = record {
   ts_after_ack = λ k r later q v ts x y lt. absurd (nothing_sent s (Ack k r q) x);
 }
 
-Holds-run_from : (s : Setting) (g h : State) (steps : List Step) → run_from s g steps ≡ Some h → Holds s g → Holds s h
-unfolding run_from
-Holds-run_from s g h [] e holds = subst (λ x. Holds s x) (some-same g h e) holds
-Holds-run_from s g h (step ∷ steps) e holds =
-    let made = made-then (λ mid. run_from s mid steps) (next s g step) h e in
-    Holds-run_from s made.from h steps made.gives (Holds-next s g step made.from made.is holds)
-
 pub Holds-run : (s : Setting) (steps : List Step) (g : State) → run s steps ≡ Some g → Holds s g
-unfolding run
-Holds-run s steps g e = Holds-run_from s (first_state s) g steps e (Holds-first s)
+Holds-run s = kept-run (Holds s) s (Holds-first s) (λ g step h e holds. Holds-next s g step h e holds)

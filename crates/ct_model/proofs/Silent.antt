@@ -1,23 +1,20 @@
--- The steps that leave the open instance alone keep the facts: Submit, Receive, Crash, Postpone.
-use Rattle.std.proofs.Common.{◌≡◌, ℕ, true, List, [], ◌∷◌, ◌++◌, Some, refl, sym, ◌∙◌, subst, inl, inr, true≢false}
+-- The shapes of outcomes that leave the open instance alone keep the facts.
+use Rattle.std.proofs.Common.{◌≡◌, ℕ, Bool, true, List, [], ◌∷◌, ◌++◌, refl, sym, ◌∙◌, subst, inl, inr, true≢false}
 use Rattle.ct_names.specs.declared.command.Command.{Command}
-use Rattle.ct_names.specs.Command.{is_good}
 use Rattle.ct_names.specs.Group.{IsMember}
 use Rattle.ct_names.specs.Membership.{IsIn}
 use Rattle.ct_names.proofs.Lists
-use Rattle.ct_model.specs.declared.step.Step.TheVariants.{Submit, Receive, Crash, Postpone}
 use Rattle.ct_model.specs.AtValue.{Wire}
 use Rattle.ct_model.specs.Setting.{Setting}
 use Rattle.ct_model.specs.declared.wire.Wire.TheVariants.{Data, Est, Prop, Ack, Nack, Dec}
 use Rattle.ct_model.specs.declared.mail.Mail.TheVariants.{Nobody}
 use Rattle.ct_model.specs.State.{State, member}
-use Rattle.ct_model.specs.Next.{Outcome, plain, row, submit, receive, crash, is_relayed, wire_to, after}
-use Rattle.ct_model.proofs.Carrying.{Sent, Carries, Sent-wire}
+use Rattle.ct_model.specs.Next.{Outcome, plain, submit, receive, is_relayed, after}
+use Rattle.ct_model.proofs.Carrying.{Sent, Carries}
 use Rattle.ct_model.proofs.Facts.{IsFounded, IsSound, Holds}
 use Rattle.ct_model.proofs.Growth.{Grows, IsFounded-grows, IsSound-grows}
 use Rattle.ct_model.proofs.Growth.Advance.{stays}
 use Rattle.ct_model.proofs.Kept.{IsAllowed, grows}
-use Rattle.ct_model.proofs.Outcomes.{some-same, when-is, made-map}
 use Rattle.ct_model.proofs.Sends.{carried-if}
 
 -- wires that aren't of a round's votes
@@ -42,13 +39,12 @@ allowed-silent s g p o holds is last current got apart founded =
       ack_after_estimate = λ k r later q v ts x sent lt. absurd (apart (Ack k r q) x);
     }
 
-pub allowed-submit : (s : Setting) (g : State) (p : ℕ) (o : Outcome) → Holds s g → IsMember s.members p → (c : Command) → row s g p (member g p) (Submit p c) ≡ Some o → IsAllowed s g p o
-allowed-submit s g p o holds is c e =
-    let made : Outcome = submit g p (member g p) c in
-    subst (λ x. IsAllowed s g p x) (when-is (is_good c) made o e).1
-    (allowed-silent s g p made holds is refl refl (λ w x. holds.got p is w x)
+pub allowed-submit : (s : Setting) (g : State) (p : ℕ) → Holds s g → IsMember s.members p → (c : Command)
+    → IsAllowed s g p (submit g p (member g p) c)
+allowed-submit s g p holds is c =
+    allowed-silent s g p (submit g p (member g p) c) holds is refl refl (λ w x. holds.got p is w x)
     (λ w same. subst (λ x. IsApart x) (sym same) tt)
-    (λ w same. subst (λ x. IsFounded s (after s g p made) x) (sym same) tt))
+    (λ w same. subst (λ x. IsFounded s (after s g p (submit g p (member g p) c)) x) (sym same) tt)
 
 relayed_apart : (s : Setting) (p : ℕ) (got : List Wire) (w : Wire) → is_relayed s p got w ≡ true → IsApart w
 unfolding is_relayed
@@ -65,15 +61,12 @@ got-more g got w old new x h = elim (Lists.IsIn-append_cases x got (w ∷ []) h)
   | inr b ↦ elim b [ inl e ↦ subst (λ z. Sent g z) (sym e) new | inr never ↦ absurd never ]
 ]
 
-pub allowed-receive : (s : Setting) (g : State) (p : ℕ) (o : Outcome) → Holds s g → IsMember s.members p → (k : ℕ) → row s g p (member g p) (Receive p k) ≡ Some o → IsAllowed s g p o
-allowed-receive s g p o holds is k e =
-    let made = made-map (receive s p (member g p)) (wire_to g p k) o e in
-    let w : Wire = made.from in
-    let sent : Sent g w = Sent-wire g p k w made.is in
+pub allowed-receive : (s : Setting) (g : State) (p : ℕ) → Holds s g → IsMember s.members p → (w : Wire) → Sent g w
+    → IsAllowed s g p (receive s p (member g p) w)
+allowed-receive s g p holds is w sent =
     let u : Outcome = receive s p (member g p) w in
     let up : Grows s g (after s g p u) = grows s g p u holds is (stays refl refl) in
-    subst (λ x. IsAllowed s g p x) made.gives
-    (allowed-silent s g p u holds is refl refl
+    allowed-silent s g p u holds is refl refl
     (got-more g (member g p).got w (λ x h. holds.got p is x h) sent)
     (λ x c.
     let r = carried-if (is_relayed s p (member g p).got w) w x c in
@@ -81,15 +74,10 @@ allowed-receive s g p o holds is k e =
     (λ x c.
     let r = carried-if (is_relayed s p (member g p).got w) w x c in
     subst (λ z. IsFounded s (after s g p u) z) (sym r.1)
-    (IsFounded-grows s g (after s g p u) up w (holds.founded w sent))))
+    (IsFounded-grows s g (after s g p u) up w (holds.founded w sent)))
 
-pub allowed-crash : (s : Setting) (g : State) (p : ℕ) (o : Outcome) → Holds s g → IsMember s.members p → row s g p (member g p) (Crash p) ≡ Some o → IsAllowed s g p o
-allowed-crash s g p o holds is e =
-    subst (λ x. IsAllowed s g p x) (some-same (crash (member g p)) o e)
-    (allowed-silent s g p (crash (member g p)) holds is refl refl (λ w x. holds.got p is w x) (λ w x. absurd x) (λ w x. absurd x))
-
-pub allowed-postpone : (s : Setting) (g : State) (p : ℕ) (o : Outcome) → Holds s g → IsMember s.members p → (k : ℕ) → row s g p (member g p) (Postpone p k) ≡ Some o → IsAllowed s g p o
-allowed-postpone s g p o holds is k e =
-    let made = made-map (λ (w : Wire). plain (member g p) Nobody) (wire_to g p k) o e in
-    subst (λ x. IsAllowed s g p x) made.gives
-    (allowed-silent s g p (plain (member g p) Nobody) holds is refl refl (λ w x. holds.got p is w x) (λ w x. absurd x) (λ w x. absurd x))
+pub allowed-mark : (s : Setting) (g : State) (p : ℕ) → Holds s g → IsMember s.members p → (crashed : Bool)
+    → IsAllowed s g p (plain (record (member g p) { crashed = crashed }) Nobody)
+allowed-mark s g p holds is crashed =
+    allowed-silent s g p (plain (record (member g p) { crashed = crashed }) Nobody) holds is refl refl
+    (λ w x. holds.got p is w x) (λ w x. absurd x) (λ w x. absurd x)

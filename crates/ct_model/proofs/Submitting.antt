@@ -1,27 +1,22 @@
 -- The messages that are proposed were submitted.
-use Rattle.std.proofs.Common.{◌≡◌, ℕ, List, Option, Some, sym, ap, subst, inl, inr, ◌⊎◌, length}
-use Rattle.ct_names.specs.Command.{is_good}
+use Rattle.std.proofs.Common.{◌≡◌, ℕ, List, Some, sym, ap, subst, inl, inr, ◌⊎◌, length}
 use Rattle.ct_names.specs.Membership.{IsIn}
 use Rattle.ct_names.specs.Message.{Message}
 use Rattle.ct_names.specs.Value.{minus}
 use Rattle.ct_names.proofs.Lists
 use Rattle.ct_names.proofs.Values
 use Rattle.ct_model.specs.declared.step.Step.{Step}
-use Rattle.ct_model.specs.declared.step.Step.TheVariants.{Submit, Receive, Begin, Enter, Choose, Adopt, Suspect, Conclude, Deliver, Crash, Postpone}
 use Rattle.ct_model.specs.Actor.{actor}
-use Rattle.ct_model.specs.AtValue.{Wire, Standing, Turn}
 use Rattle.ct_model.specs.Knowledge.{KnowsMessages}
 use Rattle.ct_model.specs.Setting.{Setting}
-use Rattle.ct_model.specs.declared.mail.Mail.TheVariants.{Nobody}
 use Rattle.ct_model.specs.State.{State, Member, Proposal, member, delivered, first_state}
 use Rattle.ct_model.specs.Received.{received}
-use Rattle.ct_model.specs.Next.{Outcome, plain, row, round_row, submit, receive, crash, undelivered, wire_to, after, next}
+use Rattle.ct_model.specs.Next.{Outcome, row, undelivered, after, next}
 use Rattle.ct_model.specs.Run.{run}
 use Rattle.ct_model.proofs.First.{knows-first, size-first}
 use Rattle.ct_model.proofs.Frame.{after-submitted}
 use Rattle.ct_model.proofs.Knowing.{next-is, received-by, knows-next, size-next}
-use Rattle.ct_model.proofs.Outcomes.{some-same, when-is, made-map}
-use Rattle.ct_model.proofs.Rows.{round_row-is, begin_row-is, deliver_row-is}
+use Rattle.ct_model.proofs.Shapes.{by_shape}
 use Rattle.ct_model.proofs.Runs.{kept-run}
 
 -- each message of a proposal was submitted
@@ -40,25 +35,16 @@ undelivered-submitted s g p m k h =
 abbrev ProposesUndelivered : Member → Outcome → Type 0
 ProposesUndelivered m o = (x : Proposal) → IsIn x o.proposals → x.value ≡ undelivered m
 
-proposes-round : (m : Member) (step : Standing → Option Turn) (o : Outcome) → round_row m step ≡ Some o → ProposesUndelivered m o
-proposes-round m step o e = subst (λ z. ProposesUndelivered m z) (round_row-is m step o e).gives (λ x h. absurd h)
-
-proposes-row : (s : Setting) (g : State) (p : ℕ) (m : Member) (step : Step) (o : Outcome) → row s g p m step ≡ Some o → ProposesUndelivered m o
-proposes-row s g p m (Submit _ c) o e = subst (λ z. ProposesUndelivered m z) (when-is (is_good c) (submit g p m c) o e).1 (λ x h. absurd h)
-proposes-row s g p m (Receive _ k) o e =
-    subst (λ z. ProposesUndelivered m z) (made-map (receive s p m) (wire_to g p k) o e).gives (λ x h. absurd h)
-proposes-row s g p m (Begin _) o e =
-    subst (λ z. ProposesUndelivered m z) (begin_row-is p m o e).gives
-    (λ x h. elim h [ inl same ↦ ap (λ y. y.value) same | inr never ↦ absurd never ])
-proposes-row s g p m (Enter _) o e = proposes-round m _ o e
-proposes-row s g p m (Choose _ from) o e = proposes-round m _ o e
-proposes-row s g p m (Adopt _) o e = proposes-round m _ o e
-proposes-row s g p m (Suspect _) o e = proposes-round m _ o e
-proposes-row s g p m (Conclude _) o e = proposes-round m _ o e
-proposes-row s g p m (Deliver _) o e = subst (λ z. ProposesUndelivered m z) (deliver_row-is m o e).gives (λ x h. absurd h)
-proposes-row s g p m (Crash _) o e = subst (λ z. ProposesUndelivered m z) (some-same (crash m) o e) (λ x h. absurd h)
-proposes-row s g p m (Postpone _ k) o e =
-    subst (λ z. ProposesUndelivered m z) (made-map (λ (w : Wire). plain m Nobody) (wire_to g p k) o e).gives (λ x h. absurd h)
+proposes-row : (s : Setting) (g : State) (p : ℕ) (m : Member) (step : Step) (o : Outcome) → row s g p m step ≡ Some o
+    → ProposesUndelivered m o
+proposes-row s g p m step o = by_shape s g p m (ProposesUndelivered m) step o (record {
+  submits = λ c good x h. absurd h;
+  gets = λ k w at x h. absurd h;
+  opens = λ idle some x h. elim h [ inl same ↦ ap (λ y. y.value) same | inr never ↦ absurd never ];
+  turns = λ a c t open_at taken x h. absurd h;
+  closes = λ c v open_at has delivers x h. absurd h;
+  marks = λ crashed x h. absurd h;
+})
 
 proposals-cases : (s : Setting) (g : State) (p : ℕ) (o : Outcome) (x : Proposal) → IsIn x (after s g p o).proposals → IsIn x g.proposals ⊎ IsIn x o.proposals
 unfolding after

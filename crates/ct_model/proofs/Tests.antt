@@ -63,9 +63,6 @@ number_same a b h = grind (arith, nat_tests)
 pub number_other : (a b : ℕ) → (a ≡ b → ⊥) → (a == b) ≡ false
 number_other a b h = not_true (a == b) (λ t. h (same_number a b t))
 
-pub other_number : (a b : ℕ) → (a == b) ≡ false → a ≡ b → ⊥
-other_number a b h e = grind (arith, nat_tests)
-
 -- the two orders of a comparison
 pub swapped : (a b : ℕ) → (a == b) ≡ (b == a)
 swapped a b = go (a == b) (b == a) refl refl

@@ -1,5 +1,5 @@
 -- What the five steps of a round share.
-use Rattle.std.proofs.Common.{◌≡◌, ℕ, ◌≤◌, ◌<◌, Bool, true, false, cond, Option, Some, refl, sym, ap, ◌∙◌, subst, arith}
+use Rattle.std.proofs.Common.{◌≡◌, ℕ, ◌≤◌, ◌<◌, Bool, true, false, cond, Some, refl, sym, ap, ◌∙◌, subst, arith}
 use Rattle.ct_names.specs.Group.{IsMember}
 use Rattle.ct_names.specs.Value.{Value}
 use Rattle.ct_model.specs.declared.phase.Phase.{Phase}
@@ -9,7 +9,7 @@ use Rattle.ct_model.specs.Setting.{Setting}
 use Rattle.ct_model.specs.declared.wire.Wire.TheVariants.{Est, Prop, Ack}
 use Rattle.ct_model.specs.State.{State, Member, member}
 use Rattle.ct_model.specs.Phases.{is_rest, is_gather, is_wait, is_tally}
-use Rattle.ct_model.specs.Next.{Outcome, round_row, turned, after}
+use Rattle.ct_model.specs.Next.{turned, after}
 use Rattle.ct_model.proofs.Carrying.{Sent, Carries}
 use Rattle.ct_model.proofs.Facts.{Reached, IsFounded, IsSound, Holds}
 use Rattle.ct_model.proofs.Facts.Reached.{earlier, now}
@@ -17,7 +17,6 @@ use Rattle.ct_model.proofs.Growth.{IsOnward, Grows}
 use Rattle.ct_model.proofs.Growth.Advance.{turns}
 use Rattle.ct_model.proofs.Kept.{IsAllowed, grows}
 use Rattle.ct_model.proofs.Outcomes.{some-same}
-use Rattle.ct_model.proofs.Rows.{round_row-is}
 use Rattle.ct_model.proofs.Sending.{member-same}
 
 module _ (s : Setting) (g : State) (p : ℕ) (holds : Holds s g) (is : IsMember s.members p) (c : Standing) (open_at : (member g p).current ≡ Some c) (t : Turn) (onward : IsOnward c t.after) where
@@ -48,12 +47,6 @@ module _ (s : Setting) (g : State) (p : ℕ) (holds : Holds s g) (is : IsMember 
     estimate_after_ack = estimate;
     ack_after_estimate = ack;
   }
-
--- a step of a round is allowed where each of its turns is
-pub round-allowed : (s : Setting) (g : State) (p : ℕ) (step : Standing → Option Turn) (o : Outcome) → ((c : Standing) (t : Turn) → (member g p).current ≡ Some c → step c ≡ Some t → IsAllowed s g p (turned (member g p) t)) → round_row (member g p) step ≡ Some o → IsAllowed s g p o
-round-allowed s g p step o each e =
-    let t = round_row-is (member g p) step o e in
-    subst (λ x. IsAllowed s g p x) t.gives (each t.standing t.turn t.is_open t.taken)
 
 -- who has its last instance open stands where it has reached
 pub standing-reached : (m : Member) (k : ℕ) (P : Standing → Type 0) (c : Standing) → k ≡ m.last → m.current ≡ Some c → Reached m k P → P c

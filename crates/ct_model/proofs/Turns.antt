@@ -8,10 +8,10 @@ use Rattle.ct_names.specs.Group.{is_majority}
 use Rattle.ct_model.specs.When.{when}
 use Rattle.ct_model.specs.State.{Standing}
 use Rattle.ct_model.specs.Received.{Heard, Ballots, heard, estimate_from, is_largest}
-use Rattle.ct_model.specs.Phases.{is_rest, is_gather, is_wait, is_tally, entered, enter, chosen, choose, adopted, adopt, suspected, suspect, concluded, conclude}
+use Rattle.ct_model.specs.Phases.{is_gather, is_wait, is_tally, chosen, choose, adopted, adopt, suspected, suspect, concluded, conclude}
 use Rattle.ct_model.specs.Test.{at, first_fault}
-use Rattle.ct_model.specs.Faults.{has_largest, enter_faults, choose_faults, adopt_faults, suspect_faults, conclude_faults}
-use Rattle.ct_model.proofs.Tests.{and_both, and_false}
+use Rattle.ct_model.specs.Faults.{has_largest, choose_faults, adopt_faults, suspect_faults, conclude_faults}
+use Rattle.ct_model.proofs.Tests.{and_both}
 
 -- where two tests guard a value
 
@@ -20,32 +20,7 @@ taken-two true true x r s h = refl
 taken-two true false x r s h = absurd (cc)
 taken-two false b x r s h = absurd (cc)
 
-refused-two : {A : Type 0} (a b : Bool) (x : A) (r s t : Refusal) → first_fault (at r (not a) ∷ at s (not b) ∷ []) ≡ Some t → when (a && b) x ≡ None
-refused-two true true x r s t h = absurd (cc)
-refused-two true false x r s t h = refl
-refused-two false b x r s t h = refl
-
 -- enter
-
-pub enter-taken : {V : Type 0} (n me k : ℕ) (c : Standing V) → first_fault (enter_faults c) ≡ None → enter n me k None c ≡ Some (entered n me k c)
-unfolding enter
-enter-taken n me k c h = go (is_rest c.phase) h
-  where
-    go : (b : Bool) → first_fault (at WrongPhase (not b) ∷ []) ≡ None → when (b && true) (entered n me k c) ≡ Some (entered n me k c)
-    go true h = refl
-    go false h = absurd (cc)
-
-pub enter-refused : {V : Type 0} (n me k : ℕ) (decision : Option V) (c : Standing V) (r : Refusal) → first_fault (enter_faults c) ≡ Some r → enter n me k decision c ≡ None
-unfolding enter
-enter-refused n me k decision c r h = go (is_rest c.phase) h
-  where
-    go : (b : Bool) → first_fault (at WrongPhase (not b) ∷ []) ≡ Some r → when (b && not (is_some decision)) (entered n me k c) ≡ None
-    go true h = absurd (cc)
-    go false h = refl
-
-pub enter-decided : {V : Type 0} (n me k : ℕ) (v : V) (c : Standing V) → enter n me k (Some v) c ≡ None
-unfolding enter
-enter-decided n me k v c = ap (λ b. when b (entered n me k c)) (and_false (is_rest c.phase))
 
 -- choose
 
@@ -75,20 +50,6 @@ module _ {V : Type 0} (n k : ℕ) (t : Ballots V) (c : Standing V) (from : ℕ) 
       ap (option_and_then (λ x. when (is_gather c.phase && is_majority n (heard t) && is_largest t x.ts) (chosen k c x))) is
       ∙ ap (λ b. when b (chosen k c e)) (and_both (is_gather c.phase && is_majority n (heard t)) (is_largest t e.ts) w.0 l)
 
-  refused-three : (o : Option (Heard V)) (a b : Bool) (r : Refusal) → first_fault (at WrongPhase (not a) ∷ at TooFew (not b) ∷ at NotLargest (not (option_map_or (λ e. is_largest t e.ts) o false)) ∷ []) ≡ Some r → option_and_then (λ e. when (a && b && is_largest t e.ts) (chosen k c e)) o ≡ None
-  refused-three None a b r h = refl
-  refused-three (Some e) true true r h = go (is_largest t e.ts) h
-    where
-      go : (l : Bool) → first_fault (at NotLargest (not l) ∷ []) ≡ Some r → when l (chosen k c e) ≡ None
-      go true h = absurd (cc)
-      go false h = refl
-  refused-three (Some e) true false r h = refl
-  refused-three (Some e) false b r h = refl
-
-  pub choose-refused : (r : Refusal) → first_fault (choose_faults n t c from) ≡ Some r → choose n k t c from ≡ None
-  unfolding choose
-  choose-refused r h = refused-three (estimate_from t from) (is_gather c.phase) (is_majority n (heard t)) r h
-
 -- adopt
 
 module _ {V : Type 0} (n me k : ℕ) (t : Ballots V) (c : Standing V) where
@@ -108,15 +69,6 @@ module _ {V : Type 0} (n me k : ℕ) (t : Ballots V) (c : Standing V) where
       go true l h = refl
       go false l h = absurd (cc)
 
-  pub adopt-refused : (r : Refusal) → first_fault (adopt_faults t c) ≡ Some r → adopt n me k t c ≡ None
-  unfolding adopt
-  adopt-refused r h = go (is_wait c.phase) t.proposal h
-    where
-      go : (b : Bool) (o : Option V) → first_fault (at WrongPhase (not b) ∷ at NoProposal (is_none o) ∷ []) ≡ Some r → option_and_then (λ v. when b (adopted n me k c v)) o ≡ None
-      go b None h = refl
-      go true (Some v) h = absurd (cc)
-      go false (Some v) h = refl
-
   -- suspect
 
   pub suspect-taken : first_fault (suspect_faults t c) ≡ None → suspect n me k t c ≡ Some (suspected n me k c)
@@ -128,21 +80,8 @@ module _ {V : Type 0} (n me k : ℕ) (t : Ballots V) (c : Standing V) where
       go true false h = refl
       go false b h = absurd (cc)
 
-  pub suspect-refused : (r : Refusal) → first_fault (suspect_faults t c) ≡ Some r → suspect n me k t c ≡ None
-  unfolding suspect
-  suspect-refused r h = go (is_wait c.phase) (is_some t.proposal) h
-    where
-      go : (a b : Bool) → first_fault (at WrongPhase (not a) ∷ at HasProposal b ∷ []) ≡ Some r → when (a && not b) (suspected n me k c) ≡ None
-      go true true h = refl
-      go true false h = absurd (cc)
-      go false b h = refl
-
 -- conclude
 
 pub conclude-taken : {V : Type 0} (n k : ℕ) (t : Ballots V) (c : Standing V) → first_fault (conclude_faults n t c) ≡ None → conclude n k t c ≡ Some (concluded n k t c)
 unfolding conclude
 conclude-taken n k t c h = taken-two (is_tally c.phase) (is_majority n t.replied) (concluded n k t c) WrongPhase TooFew h
-
-pub conclude-refused : {V : Type 0} (n k : ℕ) (t : Ballots V) (c : Standing V) (r : Refusal) → first_fault (conclude_faults n t c) ≡ Some r → conclude n k t c ≡ None
-unfolding conclude
-conclude-refused n k t c r h = refused-two (is_tally c.phase) (is_majority n t.replied) (concluded n k t c) WrongPhase TooFew r h

@@ -14,7 +14,7 @@ use Rattle.ct_model.specs.State.{State, first_state, member, submissions}
 use Rattle.ct_model.specs.Received.{received, received_by}
 use Rattle.ct_model.specs.Next.{wire_to, is_relayed, after, next, stepped}
 use Rattle.ct_model.specs.Run.{run_from, run}
-use Rattle.ct_model.specs.Waiting.{stamped, waiting}
+use Rattle.ct_model.specs.Waiting.{line_after, waiting}
 use Rattle.ct_model.specs.Rehearsal.{state_of, line_of}
 use Rattle.ct_model.specs.Cause.{order, limit, cause}
 
@@ -40,7 +40,7 @@ relayed_once = Submit 1 (Set 0 7) ∷ Receive 1 1 ∷ Receive 2 2 ∷ []
 
 -- all that these compute with
 computing : Unit {0}
-unfolding members is_before is_message ordered first_state member submissions received received_by wire_to is_relayed after next stepped run_from run stamped waiting state_of line_of order limit cause outcome short after_three relayed_once
+unfolding members is_before is_message ordered first_state member submissions received received_by wire_to is_relayed after next stepped run_from run line_after waiting state_of line_of order limit cause outcome short after_three relayed_once
 computing = tt
 
 nothing_yet : outcome (run (group_of 3) []) ≡ Some (0, ([] ∷ [] ∷ [] ∷ []), (false ∷ false ∷ false ∷ []))

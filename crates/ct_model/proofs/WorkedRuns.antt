@@ -16,7 +16,7 @@ use Rattle.ct_model.specs.Received.{received, decided, proposal, ballots}
 use Rattle.ct_model.specs.Phases.{enter, choose, adopt, suspect, conclude}
 use Rattle.ct_model.specs.Next.{wire_to, is_relayed, undelivered, batch_of, after, next, stepped}
 use Rattle.ct_model.specs.Run.{run_from, run}
-use Rattle.ct_model.specs.Waiting.{stamped, waiting}
+use Rattle.ct_model.specs.Waiting.{line_after, waiting}
 use Rattle.ct_model.specs.Rehearsal.{state_of, line_of}
 use Rattle.ct_model.specs.Cause.{order, limit, cause}
 
@@ -72,7 +72,7 @@ second_instance = Receive 1 1 ∷ Begin 1 ∷ Enter 1 ∷ Receive 1 7 ∷ Choose
 
 -- all that these compute with
 computing : Unit {0}
-unfolding members is_before is_message ordered first_state member submissions received decided proposal ballots enter choose adopt suspect conclude wire_to is_relayed undelivered batch_of after next stepped run_from run stamped waiting state_of line_of order limit cause outcome show short after_in to_crash to_proposal to_decision to_delivery first_instance second_instance
+unfolding members is_before is_message ordered first_state member submissions received decided proposal ballots enter choose adopt suspect conclude wire_to is_relayed undelivered batch_of after next stepped run_from run line_after waiting state_of line_of order limit cause outcome show short after_in to_crash to_proposal to_decision to_delivery first_instance second_instance
 computing = tt
 
 -- the two that are up deliver the message, and the member that is not the coordinator passes the decision on

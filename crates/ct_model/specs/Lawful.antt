@@ -1,13 +1,14 @@
 -- What is true of every record that a world keeps.
 use Rattle.std.specs.Prelude.{◌≡◌, ℕ, ◌-◌, ◌<◌, ◌≤◌, Bool, true, false, not, ◌&&◌, List, [], ◌∷◌, length, slice_get, Some}
+use Rattle.std.specs.List.{list_any}
 use Rattle.ct_names.specs.declared.limit.TheConstants.{MAX_ENVELOPES, MAX_INSTANCES, MAX_ROUNDS, MAX_STEPS, MAX_SUBMISSIONS}
 use Rattle.ct_names.specs.Group.{is_member}
 use Rattle.ct_model.specs.declared.step.Step.{Step}
-use Rattle.ct_model.specs.declared.step.Step.TheVariants.{Receive, Postpone}
 use Rattle.ct_model.specs.AtValue.{Envelope}
 use Rattle.ct_model.specs.State.{State, member, is_crashed, submissions}
 use Rattle.ct_model.specs.Run.{run}
-use Rattle.ct_model.specs.Waiting.{has_serial, is_gone, serials_to}
+use Rattle.ct_model.specs.Waiting.{has_serial, serials_to, LineChange, line_change, takes}
+use Rattle.ct_model.specs.Waiting.LineChange.{Takes, Defers, Leaves}
 use Rattle.ct_model.specs.Rehearsal.{Rehearsal, state_of, line_of}
 use Rattle.ct_model.specs.Cause.{round_of, order}
 
@@ -25,14 +26,18 @@ pub record IsWithin (cells : ℕ) (g : State) (steps : ℕ) : Type 0 where
   pub few_batches : length (order g) ≤ cells
   pub few_steps : steps ≤ MAX_STEPS
 
--- the record is a run that ends in its state, within the limits; and what holds of its waiting lines: a serial that
--- wasn't sent isn't gone, what waits was sent to the member, and waits once
+-- some step takes the serial out of p's line
+abbrev pub is_taken : ℕ → List Step → ℕ → Bool
+is_taken p steps k = list_any (λ step. takes p k (line_change step)) steps
+
+-- the record is a run that ends in its state, within the limits; and what holds of its waiting lines: no step takes a
+-- serial before it is sent; what waits are the serials that were sent to the member and that no step took, each once
 pub record IsLawful (w : Rehearsal) : Type 0 where
   pub runs : run w.setting w.steps ≡ Some (state_of w)
   pub size : length (state_of w).members ≡ w.setting.members
   pub within : IsWithin w.cells (state_of w) (length w.steps)
-  pub unsent : (p k : ℕ) → length (state_of w).sent < k → is_gone p w.steps k ≡ false
-  pub addressed : (p k : ℕ) → has_serial k (line_of w p) ≡ true → has_serial k (serials_to p 0 (state_of w).sent) ≡ true
+  pub unsent : (p k : ℕ) → length (state_of w).sent < k → is_taken p w.steps k ≡ false
+  pub waits : (p k : ℕ) → has_serial k (line_of w p) ≡ (has_serial k (serials_to p 0 (state_of w).sent) && not (is_taken p w.steps k))
   pub distinct : (p : ℕ) → is_distinct (line_of w p) ≡ true
 
 -- the member is there and up
@@ -44,11 +49,15 @@ pub record IsPresent (w : Rehearsal) (p : ℕ) : Type 0 where
 abbrev pub is_waiting : Rehearsal → ℕ → ℕ → Bool
 is_waiting w p k = has_serial k (line_of w p)
 
+-- the serial that is taken or moved waits
+abbrev pub Waits : Rehearsal → LineChange → Type 0
+Waits w (Takes p k) = is_waiting w p k ≡ true
+Waits w (Defers p k) = is_waiting w p k ≡ true
+Waits w Leaves = Unit {0}
+
 -- a serial that the step takes or moves waits
 abbrev pub NamesWaiting : Rehearsal → Step → Type 0
-NamesWaiting w (Receive p k) = is_waiting w p k ≡ true
-NamesWaiting w (Postpone p k) = is_waiting w p k ≡ true
-NamesWaiting w _ = Unit {0}
+NamesWaiting w step = Waits w (line_change step)
 
 -- this is the envelope of a serial, and goes to p
 pub record IsLetter (g : State) (p k : ℕ) (e : Envelope) : Type 0 where

@@ -14,7 +14,6 @@ pub mod Next
 pub mod Run
 pub mod Relayed
 pub mod Safe
-
 -- To believe for refusals: a record with its waiting lines, the tests of each step in their order, and the limits.
 pub mod Waiting
 pub mod Rehearsal
@@ -25,7 +24,6 @@ pub mod Lawful
 pub mod Allowed
 pub mod Passed
 pub mod StepText
-
 -- Devices of contracts and proofs: the same wires with numbers in place of values, wires that are counted one by one, who
 -- sent what, and what holds in every run.
 pub mod Mapped

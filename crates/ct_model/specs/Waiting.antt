@@ -1,6 +1,5 @@
--- The waiting line of a member: the serials sent to it that aren't gone, in the order of their stamps. The stamp of a
--- serial is the place of the last step that sent or postponed it.
-use Rattle.std.specs.Prelude.{ℕ, ◌+◌, Bool, false, not, ◌&&◌, ◌||◌, ◌==◌, if◌then◌else◌, List, [], ◌∷◌, ◌++◌, length, drop, filter, fold}
+-- The waiting line of a member: what a step does to it, and what it is after all the steps.
+use Rattle.std.specs.Prelude.{ℕ, ◌+◌, Bool, false, not, ◌&&◌, ◌==◌, if◌then◌else◌, List, [], ◌∷◌, ◌++◌, length, drop, filter}
 use Rattle.std.specs.List.{list_any}
 use Rattle.ct_model.specs.declared.step.Step.{Step}
 use Rattle.ct_model.specs.declared.step.Step.TheVariants.{Receive, Postpone}
@@ -18,33 +17,45 @@ abbrev pub serials_to : {V : Type 0} → ℕ → ℕ → List (Envelope V) → L
 serials_to p before [] = []
 serials_to p before (e ∷ es) = (if e.to == p then (before + 1) ∷ [] else []) ++ serials_to p (before + 1) es
 
--- whether the serial is gone from p's line after a step, by whether it was before: a Receive takes it
-abbrev pub gone_after : ℕ → ℕ → Bool → Step → Bool
-gone_after p k was (Receive q t) = was || ((q == p) && (t == k))
-gone_after p k was _ = was
+-- what a step does to waiting lines before it sends: it takes a serial out of a member's line, moves one to the end of it,
+-- or leaves them
+pub data LineChange : Type 0 where
+  Takes : (member serial : ℕ) → LineChange
+  Defers : (member serial : ℕ) → LineChange
+  Leaves : LineChange
 
--- whether the steps leave the serial gone from p's line
-abbrev pub is_gone : ℕ → List Step → ℕ → Bool
-is_gone p steps k = fold (gone_after p k) false steps
+abbrev pub line_change : Step → LineChange
+line_change (Receive p k) = Takes p k
+line_change (Postpone p k) = Defers p k
+line_change _ = Leaves
 
--- the serials that a step puts at the end of p's line again
-abbrev pub moved : ℕ → Step → List ℕ
-moved p (Postpone q k) = if q == p then k ∷ [] else []
-moved p _ = []
+-- it takes this serial out of p's line
+abbrev pub takes : ℕ → ℕ → LineChange → Bool
+takes p k (Takes q i) = (q == p) && (i == k)
+takes p k _ = false
 
--- the serials of p that a step stamps: those that it moves, and those that it sends to p
-unfoldable pub stamped : Setting → ℕ → State → Step → List ℕ
-stamped s p g step = moved p step ++ serials_to p (length g.sent) (drop (length g.sent) (stepped s g step).sent)
+-- the line without the serial, and the serial alone where it waits
+abbrev pub without : ℕ → List ℕ → List ℕ
+without k line = filter (λ other. not (other == k)) line
 
--- a stamped serial isn't gone after all the steps, and no later one moves it
-abbrev pub stays : ℕ → List Step → List Step → ℕ → Bool
-stays p all later k = not (is_gone p all k) && not (list_any (λ step. has_serial k (moved p step)) later)
+abbrev pub alone : ℕ → List ℕ → List ℕ
+alone k line = filter (λ other. other == k) line
 
--- the serials that each of the later steps stamps and that stay, from a state on
-abbrev pub line_from : Setting → ℕ → List Step → State → List Step → List ℕ
-line_from s p all g [] = []
-line_from s p all g (step ∷ later) = filter (stays p all later) (stamped s p g step) ++ line_from s p all (stepped s g step) later
+-- p's line after that
+abbrev pub changed : ℕ → LineChange → List ℕ → List ℕ
+changed p (Takes q k) line = if q == p then without k line else line
+changed p (Defers q k) line = if q == p then without k line ++ alone k line else line
+changed p Leaves line = line
+
+-- p's line after a step in state g: what the step sends to p joins the end
+unfoldable pub line_after : Setting → ℕ → State → List ℕ → Step → List ℕ
+line_after s p g line step = changed p (line_change step) line ++ serials_to p (length g.sent) (drop (length g.sent) (stepped s g step).sent)
+
+-- p's line after further steps
+abbrev pub line_from : Setting → ℕ → State → List ℕ → List Step → List ℕ
+line_from s p g line [] = line
+line_from s p g line (step ∷ later) = line_from s p (stepped s g step) (line_after s p g line step) later
 
 -- the waiting line of p after the steps
 unfoldable pub waiting : Setting → List Step → ℕ → List ℕ
-waiting s steps p = line_from s p steps (first_state s) steps
+waiting s steps p = line_from s p (first_state s) [] steps

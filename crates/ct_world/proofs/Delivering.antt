@@ -39,7 +39,7 @@ use Rattle.ct_world.specs.Kept.{Fields, IsWorld, IsActor, HasDeliverRoom, seat_o
 use Rattle.ct_world.proofs.Insides.{IsPrepared}
 use Rattle.ct_world.proofs.Members.{seat-same}
 use Rattle.ct_world.proofs.Preparing.{IsAllowed}
-use Rattle.ct_world.proofs.Posts.{LeavesLines, stepped-quiet}
+use Rattle.ct_world.proofs.Posts.{stepped-quiet}
 use Rattle.ct_world.proofs.Proposing.{copied-some, open-same, delivered-same}
 use Rattle.ct_world.proofs.Refines.{refined}
 
@@ -93,9 +93,6 @@ module _ (w : Rehearsal) (p : ℕ) (seat : Seat) (a : IsActor w p seat) where
       let number = batches_are in
       let t : nat_lt w.cells (length (member (state_of w) p).batches + 1) ≡ false = grind (arith, nat_tests) in
       cause-deliver w p a.lawful a.present (tests-by true e f) ∙ ap (λ b. or_else (first_fault (at (Full Cells) b ∷ [])) (overflow w 0)) t
-
-deliver-leaves : (p : ℕ) → LeavesLines (Deliver p)
-deliver-leaves p = record { untouched = λ q k. refl; unmoved = λ q. refl }
 
 none_more : (k p : ℕ) → k ≡ k + submissions [] p
 none_more k p = let e = submissions-none p in omega arith
@@ -155,7 +152,7 @@ deliver_steps w p f new id v seat ready number value delivered seats sent lines 
     let found = (due w p f.book.values (seat_of f.seats p) step keeps).value id number in
     let same : v ≡ step.value = some-same v step.value (sym value ∙ found.2 ∙ sym found.1 ∙ step.decision) in
     refined w (Deliver p) (deliver (member (state_of w) p) step.value) f new ready.world step.taken
-    (stepped-quiet w (Deliver p) (deliver (member (state_of w) p) step.value) f new seat ready.world (deliver-leaves p) (record {
+    (stepped-quiet w (Deliver p) (deliver (member (state_of w) p) step.value) f new seat ready.world refl (record {
       values = values ∙ sym (append-nil f.book.values);
       seats = seats;
       keeps = rw values (delivered_keeps w.setting.members f.book.values p (member (state_of w) p) (seat_of f.seats p) seat step.value keeps (subst (λ x. HasDelivered (seat_of f.seats p) x seat) same delivered));

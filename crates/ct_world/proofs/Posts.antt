@@ -1,7 +1,8 @@
 -- What a step that takes and moves no serial makes of the network.
-use Rattle.std.proofs.Common.{◌≡◌, ℕ, ◌+◌, ◌-◌, true, List, [], ◌∷◌, ◌++◌, length, map, set, refl, ap, sym, ◌∙◌, append-nil, Some}
-use Rattle.std.specs.Prelude.{filter}
-use Rattle.std.proofs.lemmas.List.Elements.{filter_agree}
+use Rattle.std.proofs.Common.{◌≡◌, ℕ, ◌+◌, ◌-◌, true, List, [], ◌++◌, length, map, set, ap, sym, ◌∙◌, subst, arith, append-nil, Some, inl, inr}
+use Rattle.std.specs.Prelude.{◌==◌, if◌then◌else◌}
+use Rattle.std.proofs.lemmas.Bool.{cases_eq}
+use Rattle.std.proofs.lemmas.List.{get_or-set_same, get_or-set_other}
 use Rattle.ct_names.specs.Group.{is_member}
 use Rattle.ct_model.specs.declared.step.Step.{Step}
 use Rattle.ct_model.specs.Actor.{actor}
@@ -11,30 +12,34 @@ use Rattle.ct_model.specs.declared.mail.Mail.TheVariants.{Nobody}
 use Rattle.ct_model.specs.Mapped.{envelope_map}
 use Rattle.ct_model.specs.Next.{Outcome}
 use Rattle.ct_model.specs.State.{submissions}
-use Rattle.ct_model.specs.Waiting.{moved, serials_to}
+use Rattle.ct_model.specs.Waiting.{line_change, changed, serials_to}
+use Rattle.ct_model.specs.Waiting.LineChange.{Leaves}
 use Rattle.ct_model.specs.Rehearsal.{Rehearsal, state_of}
-use Rattle.ct_model.proofs.Lines.{untouched}
+use Rattle.ct_model.proofs.Tests.{self_number, number_other}
 use Rattle.ct_network.specs.Network.{NetworkView, line_at}
 use Rattle.ct_instances.specs.Named.{NamesMail}
 use Rattle.ct_instances.proofs.Named.{named_posts}
 use Rattle.ct_world.specs.declared.seat.Seat.{Seat}
 use Rattle.ct_world.specs.Seats.{Keeps}
 use Rattle.ct_world.specs.Kept.{Fields, IsWorld}
+use Rattle.ct_world.proofs.Members.{apart, place}
 use Rattle.ct_world.proofs.Refines.{IsStepped}
 
-pub filter_true : (ks : List ℕ) → filter (λ k. true) ks ≡ ks
-filter_true [] = refl
-filter_true (k ∷ ks) = ap (λ r. k ∷ r) (filter_true ks)
-
--- the step leaves what waits
-pub record LeavesLines (step : Step) : Type 0 where
-  pub untouched : (q k : ℕ) → untouched q step k ≡ true
-  pub unmoved : (q : ℕ) → moved q step ≡ []
-
-plain_line : (step : Step) (q : ℕ) (ks more : List ℕ) → LeavesLines step → filter (untouched q step) ks ++ (moved q step ++ more) ≡ ks ++ more
-plain_line step q ks more plain =
-    ap (λ r. r ++ (moved q step ++ more)) (filter_agree (untouched q step) (λ k. true) (λ k. plain.untouched q k) ks ∙ filter_true ks)
-    ∙ ap (λ r. ks ++ (r ++ more)) (plain.unmoved q)
+-- the lines after one of them is changed
+pub changed_line : (lines : List (List ℕ)) (n p q : ℕ) (change : List ℕ → List ℕ)
+    → length lines ≡ n → is_member n p ≡ true → is_member n q ≡ true
+    → line_at (set lines (p - 1) (change (line_at lines p))) q ≡ (if p == q then change (line_at lines q) else line_at lines q)
+changed_line lines n p q change lined here there =
+    elim (cases_eq q p) [
+      | inl e ↦
+          let all : List (List ℕ) = set lines (p - 1) (change (line_at lines p)) in
+          subst (λ r. line_at all r ≡ (if p == r then change (line_at lines r) else line_at lines r)) (sym e)
+          (get_or-set_same lines (p - 1) (change (line_at lines p)) [] (let a = place n p here in omega arith)
+          ∙ ap (λ b. if b then change (line_at lines p) else line_at lines p) (sym (self_number p)))
+      | inr ne ↦
+          get_or-set_other lines (p - 1) (q - 1) (change (line_at lines p)) [] (apart n p q here there ne)
+          ∙ ap (λ b. if b then change (line_at lines q) else line_at lines q) (sym (number_other p q (λ e. ne (sym e))))
+    ]
 
 -- what the network's post did
 pub record IsPosted (old new : NetworkView) (mail : AnyMail ℕ) : Type 0 where
@@ -49,7 +54,7 @@ pub record IsTurnedInto (w : Rehearsal) (step : Step) (o : Outcome) (f new : Fie
   pub keeps : Keeps w.setting.members new.book.values (actor step) o.member seat
   pub submitted : seat.submitted ≡ submissions (state_of w).submitted (actor step) + submissions o.submitted (actor step)
 
-pub stepped-sending : (w : Rehearsal) (step : Step) (o : Outcome) (f new : Fields) (seat : Seat) (mail : AnyMail ℕ) → IsWorld w f → LeavesLines step → IsTurnedInto w step o f new seat → NamesMail new.book.values mail o.mail → IsPosted f.network new.network mail → IsStepped w step o f new
+pub stepped-sending : (w : Rehearsal) (step : Step) (o : Outcome) (f new : Fields) (seat : Seat) (mail : AnyMail ℕ) → IsWorld w f → line_change step ≡ Leaves → IsTurnedInto w step o f new seat → NamesMail new.book.values mail o.mail → IsPosted f.network new.network mail → IsStepped w step o f new
 stepped-sending w step o f new seat mail world plain turned named posted = record {
   posts = envelopes w.setting.members mail;
   seat = seat;
@@ -60,13 +65,14 @@ stepped-sending w step o f new seat mail world plain turned named posted = recor
   line = λ q group.
       posted.joined q (ap (λ n. is_member n q) world.lined ∙ group)
       ∙ ap (λ n. line_at f.network.lines q ++ serials_to q (length f.network.sent) (envelopes n mail)) world.lined
-      ∙ sym (plain_line step q (line_at f.network.lines q) (serials_to q (length f.network.sent) (envelopes w.setting.members mail)) plain);
+      ∙ ap (λ c. changed q c (line_at f.network.lines q) ++ serials_to q (length f.network.sent) (envelopes w.setting.members mail))
+      (sym plain);
   seats = turned.seats;
   keeps = turned.keeps;
   submitted = turned.submitted;
 }
 
-pub stepped-quiet : (w : Rehearsal) (step : Step) (o : Outcome) (f new : Fields) (seat : Seat) → IsWorld w f → LeavesLines step → IsTurnedInto w step o f new seat → o.mail ≡ Nobody → new.network.sent ≡ f.network.sent → new.network.lines ≡ f.network.lines → IsStepped w step o f new
+pub stepped-quiet : (w : Rehearsal) (step : Step) (o : Outcome) (f new : Fields) (seat : Seat) → IsWorld w f → line_change step ≡ Leaves → IsTurnedInto w step o f new seat → o.mail ≡ Nobody → new.network.sent ≡ f.network.sent → new.network.lines ≡ f.network.lines → IsStepped w step o f new
 stepped-quiet w step o f new seat world plain turned nobody sent lines = record {
   posts = [];
   seat = seat;
@@ -74,7 +80,10 @@ stepped-quiet w step o f new seat world plain turned nobody sent lines = record 
   posted = ap (λ mail. map (envelope_map Some) (envelopes w.setting.members mail)) (sym nobody);
   sent = sent ∙ sym (append-nil f.network.sent);
   lined = ap length lines;
-  line = λ q group. ap (λ ls. line_at ls q) lines ∙ sym (append-nil (line_at f.network.lines q)) ∙ sym (plain_line step q (line_at f.network.lines q) [] plain);
+  line = λ q group.
+      ap (λ ls. line_at ls q) lines
+      ∙ sym (append-nil (line_at f.network.lines q))
+      ∙ ap (λ c. changed q c (line_at f.network.lines q) ++ []) (sym plain);
   seats = turned.seats;
   keeps = turned.keeps;
   submitted = turned.submitted;

@@ -1,41 +1,31 @@
 -- A step proposes one value at most, so there are no more values than steps.
-use Rattle.std.proofs.Common.{◌≡◌, ℕ, ◌+◌, ◌≤◌, List, [], ◌∷◌, length, refl, ap, sym, ◌∙◌, subst, arith, true, Option, Some}
+use Rattle.std.proofs.Common.{◌≡◌, ℕ, ◌+◌, ◌≤◌, List, [], ◌∷◌, length, refl, ap, sym, ◌∙◌, subst, arith, Some}
 use Rattle.std.proofs.lemmas.List.{length-append, length-map}
-use Rattle.ct_names.specs.Command.{is_good}
 use Rattle.ct_model.specs.declared.step.Step.{Step}
-use Rattle.ct_model.specs.declared.step.Step.TheVariants.{Submit, Receive, Begin, Enter, Choose, Adopt, Suspect, Conclude, Deliver, Crash, Postpone}
 use Rattle.ct_model.specs.Actor.{actor}
-use Rattle.ct_model.specs.AtValue.{Wire, Standing, Turn}
 use Rattle.ct_model.specs.Setting.{Setting}
 use Rattle.ct_model.specs.State.{State, Member, Proposal, member, first_state}
-use Rattle.ct_model.specs.declared.mail.Mail.TheVariants.{Nobody}
-use Rattle.ct_model.specs.Next.{Outcome, plain, submit, receive, wire_to, round_row, row, after, next}
+use Rattle.ct_model.specs.Next.{Outcome, row, after, next}
 use Rattle.ct_model.specs.Run.{run, run_from}
 use Rattle.ct_model.specs.Rehearsal.{Rehearsal, state_of}
 use Rattle.ct_model.specs.Lawful.{IsLawful}
 use Rattle.ct_model.proofs.Knowing.{next-is}
-use Rattle.ct_model.proofs.Outcomes.{when-is, made-map, made-then, some-same}
-use Rattle.ct_model.proofs.Rows.{begin_row-is, deliver_row-is, round_row-is}
+use Rattle.ct_model.proofs.Outcomes.{made-then, some-same}
+use Rattle.ct_model.proofs.Shapes.{by_shape}
 use Rattle.ct_world.specs.Kept.{values_of}
 
 abbrev AtMostOne : Outcome → Type 0
 AtMostOne o = length o.proposals ≤ 1
 
-round-none : (m : Member) (step : Standing → Option Turn) (o : Outcome) → round_row m step ≡ Some o → AtMostOne o
-round-none m step o e = subst AtMostOne (round_row-is m step o e).gives (omega arith)
-
 row-proposes : (s : Setting) (g : State) (p : ℕ) (m : Member) (step : Step) (o : Outcome) → row s g p m step ≡ Some o → AtMostOne o
-row-proposes s g p m (Submit _ c) o e = subst AtMostOne (when-is (is_good c) (submit g p m c) o e).1 (omega arith)
-row-proposes s g p m (Receive _ k) o e = subst AtMostOne (made-map (receive s p m) (wire_to g p k) o e).gives (omega arith)
-row-proposes s g p m (Begin _) o e = subst AtMostOne (begin_row-is p m o e).gives (omega arith)
-row-proposes s g p m (Enter _) o e = round-none m _ o e
-row-proposes s g p m (Choose _ from) o e = round-none m _ o e
-row-proposes s g p m (Adopt _) o e = round-none m _ o e
-row-proposes s g p m (Suspect _) o e = round-none m _ o e
-row-proposes s g p m (Conclude _) o e = round-none m _ o e
-row-proposes s g p m (Deliver _) o e = subst AtMostOne (deliver_row-is m o e).gives (omega arith)
-row-proposes s g p m (Crash _) o e = subst AtMostOne (some-same (record { member = record m { crashed = true }; submitted = []; proposals = []; mail = Nobody }) o e) (omega arith)
-row-proposes s g p m (Postpone _ k) o e = subst AtMostOne (made-map (λ (w : Wire). plain m Nobody) (wire_to g p k) o e).gives (omega arith)
+row-proposes s g p m step o = by_shape s g p m AtMostOne step o (record {
+  submits = λ c good. omega arith;
+  gets = λ k w at. omega arith;
+  opens = λ idle some. omega arith;
+  turns = λ a c t open_at taken. omega arith;
+  closes = λ c v open_at has delivers. omega arith;
+  marks = λ crashed. omega arith;
+})
 
 after-number : (s : Setting) (g : State) (p : ℕ) (o : Outcome) → length (after s g p o).proposals ≡ length g.proposals + length o.proposals
 unfolding after

@@ -30,7 +30,7 @@ use Rattle.ct_world.proofs.Insides.{IsPrepared}
 use Rattle.ct_world.proofs.Members.{seat-same}
 use Rattle.ct_world.proofs.Preparing.{IsAllowed}
 use Rattle.ct_world.proofs.Proposals.{few-values}
-use Rattle.ct_world.proofs.Posts.{LeavesLines, stepped-quiet}
+use Rattle.ct_world.proofs.Posts.{stepped-quiet}
 use Rattle.ct_world.proofs.Refines.{refined}
 
 some-mapped : {A B : Type 0} (f : A → B) (o : Option A) → is_some (option_map f o) ≡ is_some o
@@ -101,9 +101,6 @@ module _ (w : Rehearsal) (p : ℕ) (seat : Seat) (a : IsActor w p seat) where
       let t : nat_lt 1024 ((member (state_of w) p).last + 1) ≡ false = grind (arith, nat_tests) in
       cause-begin w p a.lawful a.present (tested e f) ∙ ap (λ b. or_else (first_fault (at (Full Instances) b ∷ [])) (overflow w 0)) t
 
-begin-leaves : (p : ℕ) → LeavesLines (Begin p)
-begin-leaves p = record { untouched = λ q k. refl; unmoved = λ q. refl }
-
 none_more : (k p : ℕ) → k ≡ k + submissions [] p
 none_more k p = let e = submissions-none p in omega arith
 
@@ -130,7 +127,7 @@ begin_steps w p f new ready seats sent lines values =
     let step = begin_taken w p ready.world.lawful ready.ready.allowed in
     let grown : new.book.values ≡ f.book.values ++ undelivered (member (state_of w) p) ∷ [] = values ∙ ap (λ v. f.book.values ++ v ∷ []) (undelivered-same w.setting.members f.book.values p (member (state_of w) p) (seat_of f.seats p) keeps) in
     refined w (Begin p) (begin p (member (state_of w) p)) f new ready.world step.taken
-    (stepped-quiet w (Begin p) (begin p (member (state_of w) p)) f new (begun (seat_of f.seats p) (length f.book.values)) ready.world (begin-leaves p) (record {
+    (stepped-quiet w (Begin p) (begin p (member (state_of w) p)) f new (begun (seat_of f.seats p) (length f.book.values)) ready.world refl (record {
       values = grown;
       seats = seats;
       keeps = rw grown (begun_keeps w.setting.members f.book.values p (member (state_of w) p) (seat_of f.seats p) keeps);

@@ -1,9 +1,7 @@
 -- Receive.
-use Rattle.std.proofs.Common.{◌≡◌, ℕ, ◌+◌, ◌-◌, ◌<◌, ◌≤◌, Bool, true, false, not, ◌&&◌, List, [], ◌++◌, length, set, filter, Some, refl, ap, sym, ◌∙◌, subst, arith, append-nil, inl, inr}
+use Rattle.std.proofs.Common.{◌≡◌, ℕ, ◌+◌, ◌-◌, ◌<◌, ◌≤◌, Bool, true, not, List, [], ◌++◌, length, set, filter, Some, refl, ap, sym, ◌∙◌, subst, arith, append-nil}
 use Rattle.std.specs.Prelude.{◌==◌, if◌then◌else◌}
-use Rattle.std.proofs.lemmas.Bool.{cases_eq}
-use Rattle.std.proofs.lemmas.List.{length-set, get_or-set_same, get_or-set_other}
-use Rattle.std.proofs.lemmas.List.Elements.{filter_agree}
+use Rattle.std.proofs.lemmas.List.{length-set}
 use Rattle.ct_names.specs.Group.{is_member}
 use Rattle.ct_model.specs.declared.step.Step.TheVariants.{Receive}
 use Rattle.ct_model.specs.Cause.{cause, overflow}
@@ -11,17 +9,16 @@ use Rattle.ct_model.specs.Lawful.{is_waiting}
 use Rattle.ct_model.specs.Next.{receive, is_relayed}
 use Rattle.ct_model.specs.Rehearsal.{Rehearsal, state_of, extended}
 use Rattle.ct_model.specs.State.{Member, member, submissions, at_serial}
-use Rattle.ct_model.specs.Waiting.{serials_to}
+use Rattle.ct_model.specs.Waiting.{changed, without, serials_to}
+use Rattle.ct_model.specs.Waiting.LineChange.{Takes}
+use Rattle.ct_model.specs.Wire.{envelopes}
 use Rattle.ct_model.specs.declared.envelope.Envelope.{Envelope as AnyEnvelope}
 use Rattle.ct_model.specs.declared.mail.Mail.{Mail as AnyMail}
-use Rattle.ct_model.specs.Wire.{envelopes}
 use Rattle.ct_model.specs.declared.mail.Mail.TheVariants.{Nobody, All}
 use Rattle.ct_model.proofs.Frame.{length-after-sent, submissions-none}
-use Rattle.ct_model.proofs.Lines.{untouched}
 use Rattle.ct_model.proofs.Outcomes.{some-same}
-use Rattle.ct_model.proofs.Receives.{receive_outcome, receive_outcome-is, receive_taken, receivable, cause-receive}
+use Rattle.ct_model.proofs.Receives.{receive_outcome, receive_outcome-is, receive_taken, receive_waits, cause-receive}
 use Rattle.ct_model.proofs.Taken.{IsTaken}
-use Rattle.ct_model.proofs.Tests.{and_true, swapped, self_number, number_other}
 use Rattle.ct_network.specs.Network.{NetworkView, line_at}
 use Rattle.ct_instances.specs.Named.{NamesWire, NamesMail}
 use Rattle.ct_instances.proofs.Named.{named_all, named_wire, named_posts, named_length}
@@ -30,8 +27,8 @@ use Rattle.ct_world.specs.declared.world.World.TheInside.{Inside}
 use Rattle.ct_world.specs.Seats.{Keeps, HasReceived, CanReceive, is_passed_on, passed_on}
 use Rattle.ct_world.specs.Kept.{Fields, IsWorld, IsActor, HasReceiveRoom, values_of, seat_of}
 use Rattle.ct_world.proofs.Insides.{IsPrepared, IsPreparedIn, rehearsal_in, fields_in}
-use Rattle.ct_world.proofs.Members.{apart, place, seat-same}
-use Rattle.ct_world.proofs.Posts.{IsPosted, filter_true}
+use Rattle.ct_world.proofs.Members.{seat-same}
+use Rattle.ct_world.proofs.Posts.{IsPosted, changed_line}
 use Rattle.ct_world.proofs.Receipts.{receive_keeps, passes}
 use Rattle.ct_world.proofs.Refines.{IsStepped, refined}
 use Rattle.ct_world.proofs.Waits.{IsAwaited, awaited-is}
@@ -46,26 +43,10 @@ cause_by w f p k n seat x b world actor members waits is passed =
     cause-receive w p k a.envelope world.lawful actor.present a.letter waits
     ∙ ap (λ t. overflow w (if t then w.setting.members else 0)) (sym same ∙ ap (λ j. is_passed_on j seat.relay x.wire) (sym members) ∙ passed)
 
--- the line of each member without what p took
-
-taken_line : (lines : List (List ℕ)) (n p k q : ℕ) → length lines ≡ n → is_member n p ≡ true → is_member n q ≡ true → line_at (set lines (p - 1) (filter (λ other. not (other == k)) (line_at lines p))) q ≡ filter (untouched q (Receive p k)) (line_at lines q)
-taken_line lines n p k q lined here there = elim (cases_eq q p) [
-  | inl e ↦ subst (λ r. line_at (set lines (p - 1) (filter (λ other. not (other == k)) (line_at lines p))) r ≡ filter (untouched r (Receive p k)) (line_at lines r)) (sym e)
-      (get_or-set_same lines (p - 1) (filter (λ other. not (other == k)) (line_at lines p)) [] (let a = place n p here in omega arith)
-      ∙ filter_agree (λ other. not (other == k)) (untouched p (Receive p k)) (λ j. ap not (swapped j k ∙ ap (λ b. b && (k == j)) (sym (self_number p))) ∙ sym (and_true (not ((p == p) && (k == j))))) (line_at lines p))
-  | inr ne ↦
-      get_or-set_other lines (p - 1) (q - 1) (filter (λ other. not (other == k)) (line_at lines p)) [] (apart n p q here there ne)
-      ∙ sym (filter_agree (untouched q (Receive p k)) (λ j. true) (λ j. other (p == q) (number_other p q (λ e. ne (sym e))) j) (line_at lines q) ∙ filter_true (line_at lines q))
-]
-  where
-    other : (b : Bool) → b ≡ false → (j : ℕ) → (not (b && (k == j)) && true) ≡ true
-    other true e j = absurd (cc)
-    other false e j = refl
-
 -- the envelope of a prepared Receive
 
 pub awaited_in : (a : Inside) (p k : ℕ) (x : AnyEnvelope ℕ) → IsPreparedIn a (Receive p k) → Some x ≡ at_serial a.network.sent k → IsAwaited (rehearsal_in a) (fields_in a) p k x
-awaited_in a p k x ready is = awaited-is (rehearsal_in a) (fields_in a) p k x ready.world (receivable (rehearsal_in a) p k ready.ready.allowed).waits is
+awaited_in a p k x ready is = awaited-is (rehearsal_in a) (fields_in a) p k x ready.world (receive_waits (rehearsal_in a) p k ready.ready.allowed) is
 
 pub left_lined : (lines left : List (List ℕ)) (n i : ℕ) (line : List ℕ) → left ≡ set lines i line → length lines ≡ n → length left ≡ n
 left_lined lines left n i line is lined = ap length is ∙ length-set lines i line ∙ lined
@@ -120,13 +101,14 @@ module _ (w : Rehearsal) (p k : ℕ) (f : Fields) (x : AnyEnvelope ℕ) (ready :
     lined : length left.lines ≡ w.setting.members
     lined = left_lined f.network.lines left.lines w.setting.members (p - 1) (filter (λ other. not (other == k)) (line_at f.network.lines p)) t.lines ready.world.lined
 
-    line : (q : ℕ) → is_member w.setting.members q ≡ true → line_at new.network.lines q ≡ filter (untouched q (Receive p k)) (line_at f.network.lines q) ++ serials_to q (length f.network.sent) (envelopes w.setting.members mail)
+    line : (q : ℕ) → is_member w.setting.members q ≡ true → line_at new.network.lines q ≡ changed q (Takes p k) (line_at f.network.lines q) ++ serials_to q (length f.network.sent) (envelopes w.setting.members mail)
     line q group =
         t.posted.joined q (ap (λ n. is_member n q) lined ∙ group)
         ∙ ap (λ n. line_at left.lines q ++ serials_to q (length left.sent) (envelopes n mail)) lined
         ∙ ap (λ (es : List (AnyEnvelope ℕ)). line_at left.lines q ++ serials_to q (length es) (envelopes w.setting.members mail)) t.sent
         ∙ ap (λ ks. ks ++ serials_to q (length f.network.sent) (envelopes w.setting.members mail))
-        (ap (λ ls. line_at ls q) t.lines ∙ taken_line f.network.lines w.setting.members p k q ready.world.lined ready.in_group group)
+        (ap (λ ls. line_at ls q) t.lines
+        ∙ changed_line f.network.lines w.setting.members p q (without k) ready.world.lined ready.in_group group)
 
     stepped : IsStepped w (Receive p k) (receive w.setting p (member (state_of w) p) a.envelope.wire) f new
     stepped = record {

@@ -1,6 +1,6 @@
 -- The fields after a step are those of the longer record.
 use Rattle.std.proofs.Common.{◌≡◌, ℕ, ◌+◌, ◌-◌, ◌<◌, true, List, ◌++◌, length, map, set, ap, sym, ◌∙◌, subst, arith, inl, inr}
-use Rattle.std.specs.Prelude.{filter, not}
+use Rattle.std.specs.Prelude.{not}
 use Rattle.std.proofs.lemmas.Bool.{cases_eq}
 use Rattle.std.proofs.lemmas.List.{map-append, length-set}
 use Rattle.ct_names.specs.Group.{is_member}
@@ -16,11 +16,10 @@ use Rattle.ct_relay.specs.Taken.{Taken, is_first}
 use Rattle.ct_abcast.specs.Cast.{Cast}
 use Rattle.ct_instances.specs.Keeping.{KeepsInstances}
 use Rattle.ct_model.specs.Next.{Outcome, after}
-use Rattle.ct_model.specs.Waiting.{moved, serials_to}
+use Rattle.ct_model.specs.Waiting.{line_change, changed, serials_to}
 use Rattle.ct_model.specs.Rehearsal.{Rehearsal, state_of, line_of, extended}
 use Rattle.ct_model.proofs.Frame.{after-sent, after-submitted, member-same, member-other, submissions-append}
 use Rattle.ct_model.proofs.Knowing.{knows-next, in_members}
-use Rattle.ct_model.proofs.Lines.{untouched}
 use Rattle.ct_model.proofs.Limits.{row-submits}
 use Rattle.ct_model.proofs.Taken.{IsTaken, next-step, state-step, line-step, lawful-step}
 use Rattle.ct_network.specs.Network.{line_at}
@@ -42,7 +41,7 @@ pub record IsStepped (w : Rehearsal) (step : Step) (o : Outcome) (f new : Fields
   pub posted : NamesEnvelopes new.book.values posts (envelopes w.setting.members o.mail)
   pub sent : new.network.sent ≡ f.network.sent ++ posts
   pub lined : length new.network.lines ≡ length f.network.lines
-  pub line : (q : ℕ) → is_member w.setting.members q ≡ true → line_at new.network.lines q ≡ filter (untouched q step) (line_at f.network.lines q) ++ (moved q step ++ serials_to q (length f.network.sent) posts)
+  pub line : (q : ℕ) → is_member w.setting.members q ≡ true → line_at new.network.lines q ≡ changed q (line_change step) (line_at f.network.lines q) ++ serials_to q (length f.network.sent) posts
   pub seats : new.seats ≡ set f.seats (actor step - 1) seat
   pub keeps : Keeps w.setting.members new.book.values (actor step) o.member seat
   pub submitted : seat.submitted ≡ submissions (state_of w).submitted (actor step) + submissions o.submitted (actor step)
@@ -108,8 +107,8 @@ module _ (w : Rehearsal) (step : Step) (o : Outcome) (f new : Fields) (world : I
   line : (q : ℕ) → is_member w.setting.members q ≡ true → line_at new.network.lines q ≡ line_of (extended w step) q
   line q group =
       s.line q group
-      ∙ ap (λ ks. filter (untouched q step) ks ++ (moved q step ++ serials_to q (length f.network.sent) s.posts)) (world.line q group)
-      ∙ ap (λ ks. filter (untouched q step) (line_of w q) ++ (moved q step ++ ks))
+      ∙ ap (λ ks. changed q (line_change step) ks ++ serials_to q (length f.network.sent) s.posts) (world.line q group)
+      ∙ ap (λ ks. changed q (line_change step) (line_of w q) ++ ks)
       (ap (λ k. serials_to q k s.posts) (named_length f.book.values f.network.sent (state_of w).sent world.sent) ∙ named_serials new.book.values s.posts (envelopes w.setting.members o.mail) q (length (state_of w).sent) s.posted)
       ∙ sym (line-step w step o world.lawful taken q)
 

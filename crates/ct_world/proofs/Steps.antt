@@ -10,14 +10,11 @@ use Rattle.ct_model.proofs.Frame.{submissions-none}
 use Rattle.ct_instances.proofs.Keeping.{keeps-same}
 use Rattle.ct_world.specs.Kept.{Fields, IsWorld, seat_of}
 use Rattle.ct_world.proofs.Insides.{IsPrepared}
-use Rattle.ct_world.proofs.Posts.{LeavesLines, stepped-quiet}
+use Rattle.ct_world.proofs.Posts.{stepped-quiet}
 use Rattle.ct_world.proofs.Refines.{refined, seat-kept}
 
 none_more : (k p : ℕ) → k ≡ k + submissions [] p
 none_more k p = let e = submissions-none p in omega arith
-
-crash-leaves : (p : ℕ) → LeavesLines (Crash p)
-crash-leaves p = record { untouched = λ q k. refl; unmoved = λ q. refl }
 
 -- a Crash marks the seat
 pub crash_steps : (w : Rehearsal) (p : ℕ) (f new : Fields) → IsPrepared w (Crash p) f → new.seats ≡ set f.seats (p - 1) (record (seat_of f.seats p) { crashed = true }) → new.network.sent ≡ f.network.sent → new.network.lines ≡ f.network.lines → new.book.values ≡ f.book.values → IsWorld (extended w (Crash p)) new
@@ -26,7 +23,7 @@ crash_steps w p f new ready seats sent lines values =
     let taken = crash_taken w p ready.world.lawful ready.ready.allowed in
     let m : Member = member (state_of w) p in
     refined w (Crash p) (crash_outcome w p) f new ready.world taken
-    (rw (crash_outcome-is w p) (stepped-quiet w (Crash p) (crash (member (state_of w) p)) f new (record (seat_of f.seats p) { crashed = true }) ready.world (crash-leaves p) (record {
+    (rw (crash_outcome-is w p) (stepped-quiet w (Crash p) (crash (member (state_of w) p)) f new (record (seat_of f.seats p) { crashed = true }) ready.world refl (record {
       values = values ∙ sym (append-nil f.book.values);
       seats = seats;
       keeps = rw values (seat-kept w.setting.members f.book.values p m (record m { crashed = true }) (seat_of f.seats p) (record (seat_of f.seats p) { crashed = true }) keeps refl refl refl refl refl refl refl

@@ -14,10 +14,10 @@ use Rattle.ct_model.specs.declared.mail.Mail.TheVariants.{All}
 use Rattle.ct_model.specs.State.{Member, member, submissions}
 use Rattle.ct_model.specs.Next.{submit, next_message, after}
 use Rattle.ct_model.specs.Rehearsal.{Rehearsal, state_of, extended}
-use Rattle.ct_model.proofs.Frame.{length-after-sent}
+use Rattle.ct_model.proofs.Frame.{length-after-sent, submissions-next}
 use Rattle.ct_model.proofs.Outcomes.{some-same}
 use Rattle.ct_model.proofs.Serials.{length-all}
-use Rattle.ct_model.proofs.Submits.{submit_outcome, submit_outcome-is, submissions-next, submit_taken}
+use Rattle.ct_model.proofs.Submits.{submit_outcome, submit_outcome-is, submit_taken}
 use Rattle.ct_model.proofs.Tests.{self_number}
 use Rattle.ct_model.specs.Mapped.{wire_map}
 use Rattle.ct_network.proofs.Posts.{length-envelopes-map}
@@ -25,11 +25,8 @@ use Rattle.ct_instances.specs.Named.{NamesMail}
 use Rattle.ct_instances.proofs.Named.{named_length}
 use Rattle.ct_world.specs.Kept.{Fields, IsWorld, seat_of}
 use Rattle.ct_world.proofs.Insides.{IsPrepared}
-use Rattle.ct_world.proofs.Posts.{LeavesLines, IsPosted, stepped-sending}
+use Rattle.ct_world.proofs.Posts.{IsPosted, stepped-sending}
 use Rattle.ct_world.proofs.Refines.{refined, seat-kept}
-
-submit-leaves : (p : ℕ) (c : Command) → LeavesLines (Submit p c)
-submit-leaves p c = record { untouched = λ q k. refl; unmoved = λ q. refl }
 
 -- the message that is made is the next one
 pub next_made : (r : Option Message) (m : Message) (p k : ℕ) (c : Command) (list : List Message) → r ≡ (if is_good c then Some (record { origin = p; number = k + 1; command = c }) else None) → is_good c ≡ true → r ≡ Some m → k ≡ submissions list p → m ≡ next_message list p c
@@ -78,7 +75,7 @@ submit_steps w p c f new m ready made seats values posted =
     let who : Member = member (state_of w) p in
     let named : NamesMail new.book.values (All (Data m)) (All (Data (next_message (state_of w).submitted p c))) = ap (λ x. let mail : AnyMail (Option Value) = All (Data x) in mail) made in
     refined w (Submit p c) (submit_outcome w p c) f new ready.world taken
-    (rw (submit_outcome-is w p c) (stepped-sending w (Submit p c) (submit (state_of w) p (member (state_of w) p) c) f new (record (seat_of f.seats p) { submitted = (seat_of f.seats p).submitted + 1 }) (All (Data m)) ready.world (submit-leaves p c) (record {
+    (rw (submit_outcome-is w p c) (stepped-sending w (Submit p c) (submit (state_of w) p (member (state_of w) p) c) f new (record (seat_of f.seats p) { submitted = (seat_of f.seats p).submitted + 1 }) (All (Data m)) ready.world refl (record {
       values = values ∙ sym (append-nil f.book.values);
       seats = seats;
       keeps = rw values (seat-kept w.setting.members f.book.values p who who (seat_of f.seats p) (record (seat_of f.seats p) { submitted = (seat_of f.seats p).submitted + 1 }) keeps keeps.crashed refl refl refl refl refl refl keeps.instances);

@@ -29,7 +29,9 @@ use Rattle.ct_world.specs.Seats.{Keeps}
 use Rattle.ct_world.specs.Kept.{Fields, IsWorld, seat_of}
 use Rattle.ct_model.proofs.Naming.{addressed-step}
 use Rattle.ct_world.proofs.Insides.{IsPrepared}
-use Rattle.ct_world.proofs.Posts.{LeavesLines, IsPosted, IsTurnedInto, stepped-sending}
+use Rattle.ct_model.specs.Waiting.{line_change}
+use Rattle.ct_model.specs.Waiting.LineChange.{Leaves}
+use Rattle.ct_world.proofs.Posts.{IsPosted, IsTurnedInto, stepped-sending}
 use Rattle.ct_world.proofs.Refines.{refined, seat-kept}
 
 -- the member's instances took a step of a round, with this mail; it is the step of the record
@@ -99,7 +101,7 @@ module _ (w : Rehearsal) (step : Step) (f : Fields) (kept : Kept) (mail : AnyMai
   turn_number sent e = sym (e ∙ ap (λ n. length (envelopes n mail)) ready.world.lined ∙ number)
 
   -- after the post the fields are those of the longer record
-  pub turn_steps : (new : Fields) → LeavesLines step → new.seats ≡ set f.seats (actor step - 1) (record (seat_of f.seats (actor step)) { instances = kept }) → new.book.values ≡ f.book.values → IsPosted f.network new.network mail → IsWorld (extended w step) new
+  pub turn_steps : (new : Fields) → line_change step ≡ Leaves → new.seats ≡ set f.seats (actor step - 1) (record (seat_of f.seats (actor step)) { instances = kept }) → new.book.values ≡ f.book.values → IsPosted f.network new.network mail → IsWorld (extended w step) new
   turn_steps new plain seats values posted =
       let seat : Seat = record (seat_of f.seats (actor step)) { instances = kept } in
       let m' : Member = record (member (state_of w) (actor step)) { current = Some t.turn.after } in

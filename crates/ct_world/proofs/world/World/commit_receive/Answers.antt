@@ -1,7 +1,7 @@
 use Rattle.std.proofs.Common.{◌≡◌, ◌-◌, ◌++◌, ◌∷◌, [], true, remove, set, refl, ap, sym, ◌∙◌, subst, arith}
 use Rattle.std.specs.Prelude.{is_ok}
 use Rattle.ct_model.specs.declared.step.Step.TheVariants.{Receive}
-use Rattle.ct_model.proofs.Receives.{receivable, receive_outcome}
+use Rattle.ct_model.proofs.Receives.{receive_waits, receive_outcome}
 use Rattle.ct_network.specs.Network.{line_at}
 use Rattle.ct_instances.proofs.Named.{named_sender, named_wire}
 use Rattle.ct_world.specs.declared.seat.Seat.{Seat}
@@ -35,7 +35,7 @@ receive-mail-requires-clause-sender c =
 pub unreachable-requires : goal.unreachable-requires
 unreachable-requires c =
     let p = prepared_in c.self.inside c.args.self.now (Receive c.args.member c.args.serial) c.self.view_is c.self.invariant c.requires in
-    awaited-some (rehearsal_in c.self.inside) (fields_in c.self.inside) c.args.member c.args.serial p.world (receivable (rehearsal_in c.self.inside) c.args.member c.args.serial p.ready.allowed).waits c.in-None.ensures
+    awaited-some (rehearsal_in c.self.inside) (fields_in c.self.inside) c.args.member c.args.serial p.world (receive_waits (rehearsal_in c.self.inside) c.args.member c.args.serial p.ready.allowed) c.in-None.ensures
 
 pub leave-requires-clause-member : goal.leave-requires-clause-member
 leave-requires-clause-member c =

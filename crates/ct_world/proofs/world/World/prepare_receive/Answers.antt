@@ -2,7 +2,7 @@ use Rattle.std.proofs.Common.{◌-◌, set, ap, sym, subst, ◌∙◌, refl, ari
 use Rattle.std.specs.Prelude.{vec_len, vec_capacity}
 use Rattle.ct_model.specs.declared.step.Step.TheVariants.{Receive}
 use Rattle.ct_model.specs.State.{at_serial}
-use Rattle.ct_model.proofs.Receives.{receivable}
+use Rattle.ct_model.proofs.Receives.{receive_waits}
 use Rattle.ct_world.specs.Kept.{Fields, StandsAt}
 use Rattle.ct_world.specs.World.{WorldView}
 use Rattle.ct_world.proofs.Insides.{rehearsal_in, fields_in}
@@ -22,7 +22,7 @@ pub unreachable-requires : goal.unreachable-requires
 unreachable-requires c =
     let w = rehearsal_in c.self.inside in
     let p = allowed_in c.self.inside c.args.self.now (Receive c.args.member c.args.serial) c.self.view_is c.self.invariant c.requires.allowed in
-    awaited-some w (fields_in c.self.inside) c.args.member c.args.serial p.world (receivable w c.args.member c.args.serial p.allowed).waits
+    awaited-some w (fields_in c.self.inside) c.args.member c.args.serial p.world (receive_waits w c.args.member c.args.serial p.allowed)
     (c.in-None.ensures ∙ ap (λ es. at_serial es c.args.serial) c.reserve.ensures.sent)
 
 pub invariant_of-self-in_err-prepare_receive-in-Some : goal.invariant_of-self-in_err-prepare_receive-in-Some
