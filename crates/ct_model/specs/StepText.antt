@@ -1,27 +1,78 @@
 -- How a step is shown: as an entry of a record's list of steps, in JSON.
-use Rattle.std.specs.Prelude.{ℕ, List, [], ◌∷◌, codes, decimal}
+use Rattle.std.specs.Prelude.{ℕ, List, [], ◌∷◌, ◌++◌, codes, decimal}
 use Rattle.std.specs.List.{concat}
 use Rattle.ct_names.specs.declared.command.Command.{Command}
 use Rattle.ct_names.specs.declared.command.Command.TheVariants.{Set, Add, Copy}
 use Rattle.ct_model.specs.declared.step.Step.{Step}
 use Rattle.ct_model.specs.declared.step.Step.TheVariants.{Submit, Receive, Begin, Enter, Choose, Adopt, Suspect, Conclude, Deliver, Crash, Postpone}
 
--- the command's name and its two numbers
-unfoldable pub command_text : Command → List ℕ
-command_text (Set register value) = concat (codes "[\"set\"," ∷ decimal register ∷ codes "," ∷ decimal value ∷ codes "]" ∷ [])
-command_text (Add register amount) = concat (codes "[\"add\"," ∷ decimal register ∷ codes "," ∷ decimal amount ∷ codes "]" ∷ [])
-command_text (Copy from to) = concat (codes "[\"copy\"," ∷ decimal from ∷ codes "," ∷ decimal to ∷ codes "]" ∷ [])
+-- ---- what an entry has
 
--- the step's name, its member, and what else the step has
+-- a number, by the field that holds it: a member or a register; a serial; a register's value or an amount
+pub data Number : Type 0 where
+  byte : ℕ → Number
+  serial : ℕ → Number
+  value : ℕ → Number
+
+abbrev pub amount : Number → ℕ
+amount (byte n) = n
+amount (serial n) = n
+amount (value n) = n
+
+-- the largest of such a field
+abbrev pub largest : Number → ℕ
+largest (byte n) = 255
+largest (serial n) = 4294967295
+largest (value n) = 18446744073709551615
+
+-- what stands behind a step's member
+pub data Rest : Type 0 where
+  nothing : Rest
+  number : Number → Rest
+  command : Command → Rest
+
+-- a name, a member or a register, and the rest
+pub record Entry (A : Type 0) : Type 0 where
+  pub name : List ℕ
+  pub first : ℕ
+  pub rest : A
+
+abbrev pub entry : {A : Type 0} → List ℕ → ℕ → A → Entry A
+entry name first rest = record { name = name; first = first; rest = rest }
+
+-- ---- the names, and what has them
+
+abbrev pub command_entry : Command → Entry Number
+command_entry (Set register n) = entry (codes "set") register (value n)
+command_entry (Add register n) = entry (codes "add") register (value n)
+command_entry (Copy from to) = entry (codes "copy") from (byte to)
+
+abbrev pub step_entry : Step → Entry Rest
+step_entry (Submit p c) = entry (codes "submit") p (command c)
+step_entry (Receive p k) = entry (codes "receive") p (number (serial k))
+step_entry (Begin p) = entry (codes "begin") p nothing
+step_entry (Enter p) = entry (codes "enter") p nothing
+step_entry (Choose p from) = entry (codes "choose") p (number (byte from))
+step_entry (Adopt p) = entry (codes "adopt") p nothing
+step_entry (Suspect p) = entry (codes "suspect") p nothing
+step_entry (Conclude p) = entry (codes "conclude") p nothing
+step_entry (Deliver p) = entry (codes "deliver") p nothing
+step_entry (Crash p) = entry (codes "crash") p nothing
+step_entry (Postpone p k) = entry (codes "postpone") p (number (serial k))
+
+-- ---- their texts
+
+-- an array of the name, the number and what these texts are
+abbrev pub entry_text : List ℕ → ℕ → List (List ℕ) → List ℕ
+entry_text name first rest = concat (codes "[\"" ∷ name ∷ codes "\"," ∷ decimal first ∷ (rest ++ codes "]" ∷ []))
+
+unfoldable pub command_text : Command → List ℕ
+command_text c = entry_text (command_entry c).name (command_entry c).first (codes "," ∷ decimal (amount (command_entry c).rest) ∷ [])
+
+abbrev pub rest_texts : Rest → List (List ℕ)
+rest_texts nothing = []
+rest_texts (number x) = codes "," ∷ decimal (amount x) ∷ []
+rest_texts (command c) = codes "," ∷ command_text c ∷ []
+
 unfoldable pub step_text : Step → List ℕ
-step_text (Submit p c) = concat (codes "[\"submit\"," ∷ decimal p ∷ codes "," ∷ command_text c ∷ codes "]" ∷ [])
-step_text (Receive p k) = concat (codes "[\"receive\"," ∷ decimal p ∷ codes "," ∷ decimal k ∷ codes "]" ∷ [])
-step_text (Begin p) = concat (codes "[\"begin\"," ∷ decimal p ∷ codes "]" ∷ [])
-step_text (Enter p) = concat (codes "[\"enter\"," ∷ decimal p ∷ codes "]" ∷ [])
-step_text (Choose p from) = concat (codes "[\"choose\"," ∷ decimal p ∷ codes "," ∷ decimal from ∷ codes "]" ∷ [])
-step_text (Adopt p) = concat (codes "[\"adopt\"," ∷ decimal p ∷ codes "]" ∷ [])
-step_text (Suspect p) = concat (codes "[\"suspect\"," ∷ decimal p ∷ codes "]" ∷ [])
-step_text (Conclude p) = concat (codes "[\"conclude\"," ∷ decimal p ∷ codes "]" ∷ [])
-step_text (Deliver p) = concat (codes "[\"deliver\"," ∷ decimal p ∷ codes "]" ∷ [])
-step_text (Crash p) = concat (codes "[\"crash\"," ∷ decimal p ∷ codes "]" ∷ [])
-step_text (Postpone p k) = concat (codes "[\"postpone\"," ∷ decimal p ∷ codes "," ∷ decimal k ∷ codes "]" ∷ [])
+step_text s = entry_text (step_entry s).name (step_entry s).first (rest_texts (step_entry s).rest)

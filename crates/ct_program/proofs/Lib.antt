@@ -11,6 +11,8 @@ pub mod Subcommands
 pub mod Lines
 pub mod Numbers
 pub mod Fitting
+pub mod Lengths
+pub mod Names
 pub mod Stored
 pub mod Written
 pub mod Taking

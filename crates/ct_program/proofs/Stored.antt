@@ -1,8 +1,9 @@
 -- The value that a record is, and that its text reads as that value.
-use Rattle.std.proofs.Common.{◌≡◌, ℕ, ◌^◌, ◌<◌, ◌≤◌, false, List, [], ◌∷◌, ◌++◌, codes, decimal, Some, refl, sym, ap, ap₂, ◌∙◌, arith, append_assoc, append-nil}
+use Rattle.std.proofs.Common.{◌≡◌, ℕ, ◌+◌, ◌*◌, ◌^◌, ◌<◌, ◌≤◌, true, false, List, [], ◌∷◌, ◌++◌, length, codes, decimal, Some, refl, sym, ap, ap₂, ◌∙◌, arith, append_assoc, append-nil}
 use Rattle.std.specs.Prelude.{map, option_map, option_and_then}
-use Rattle.std.specs.List.{join_with_byte}
+use Rattle.std.specs.List.{concat}
 use Rattle.std.specs.Fmt.{digits}
+use Rattle.std.proofs.lemmas.List.Folds.{concat-append}
 use Rattle.json.specs.Json as json
 use Rattle.json.specs.Lex.{tokens}
 use Rattle.json.specs.Tree as tree
@@ -16,40 +17,34 @@ use Rattle.serde_json.specs.Written.{outline, items_outline, compact_text, items
 use Rattle.serde_json.proofs.Numbers.{number_of-decimal}
 use Rattle.serde_json.proofs.Texts.{print-outline}
 use Rattle.ct_names.specs.declared.command.Command.{Command}
-use Rattle.ct_names.specs.declared.command.Command.TheVariants.{Set, Add, Copy}
 use Rattle.ct_model.specs.declared.step.Step.{Step}
-use Rattle.ct_model.specs.declared.step.Step.TheVariants.{Submit, Receive, Begin, Enter, Choose, Adopt, Suspect, Conclude, Deliver, Crash, Postpone}
 use Rattle.ct_model.specs.Rehearsal.{Rehearsal}
-use Rattle.ct_program.specs.Fits.{CommandFits, StepFits, AllFit}
-use Rattle.ct_model.specs.StepText.{command_text, step_text}
+use Rattle.ct_model.specs.StepText as steps
+use Rattle.ct_model.specs.StepText.{Number, byte, serial, value, amount, largest, Rest, nothing, command, command_entry, step_entry, entry_text, command_text, rest_texts, step_text}
+use Rattle.ct_program.specs.Fits.{NumberFits, CommandFits, RestFits, StepFits, AllFit}
 use Rattle.ct_program.specs.Text.{steps_text, record_text}
+use Rattle.ct_program.proofs.Joins.{rest_of, rest_of-join}
+use Rattle.ct_program.proofs.Lengths as lengths
+use Rattle.ct_program.proofs.Lengths.{Text}
+use Rattle.ct_program.proofs.Names.{IsName, command_name, step_name}
 
 abbrev num : ℕ → Data
 num n = number (unsigned n)
 
-abbrev word_and_one : List ℕ → Data → Data
-word_and_one s a = array (item (string s) (item a no_items))
-
-abbrev word_and_two : List ℕ → Data → Data → Data
-word_and_two s a b = array (item (string s) (item a (item b no_items)))
+-- an array of a name, a number and these items
+abbrev pub entry_data : List ℕ → ℕ → Items → Data
+entry_data name first rest = array (item (string name) (item (num first) rest))
 
 abbrev pub command_data : Command → Data
-command_data (Set r v) = word_and_two (codes "set") (num r) (num v)
-command_data (Add r v) = word_and_two (codes "add") (num r) (num v)
-command_data (Copy a b) = word_and_two (codes "copy") (num a) (num b)
+command_data c = entry_data (command_entry c).name (command_entry c).first (item (num (amount (command_entry c).rest)) no_items)
+
+abbrev pub rest_data : Rest → Items
+rest_data nothing = no_items
+rest_data (steps.number x) = item (num (amount x)) no_items
+rest_data (command c) = item (command_data c) no_items
 
 abbrev pub step_data : Step → Data
-step_data (Submit p c) = word_and_two (codes "submit") (num p) (command_data c)
-step_data (Receive p s) = word_and_two (codes "receive") (num p) (num s)
-step_data (Begin p) = word_and_one (codes "begin") (num p)
-step_data (Enter p) = word_and_one (codes "enter") (num p)
-step_data (Choose p from) = word_and_two (codes "choose") (num p) (num from)
-step_data (Adopt p) = word_and_one (codes "adopt") (num p)
-step_data (Suspect p) = word_and_one (codes "suspect") (num p)
-step_data (Conclude p) = word_and_one (codes "conclude") (num p)
-step_data (Deliver p) = word_and_one (codes "deliver") (num p)
-step_data (Crash p) = word_and_one (codes "crash") (num p)
-step_data (Postpone p s) = word_and_two (codes "postpone") (num p) (num s)
+step_data s = entry_data (step_entry s).name (step_entry s).first (rest_data (step_entry s).rest)
 
 abbrev pub steps_data : List Step → Items
 steps_data [] = no_items
@@ -57,146 +52,146 @@ steps_data (s ∷ ss) = item (step_data s) (steps_data ss)
 
 abbrev pub record_data : Rehearsal → Data
 record_data w =
-    object (member (codes "cells") (num w.cells) (member (codes "n") (num w.setting.members) (member (codes "steps") (array (steps_data w.steps)) (member (codes "version") (num 1) no_members))))
+    object (member (codes "cells") (num w.cells) (member (codes "n") (num w.setting.members)
+    (member (codes "steps") (array (steps_data w.steps)) (member (codes "version") (num 1) no_members))))
 
--- ---- its compact text
+-- ---- values that are read as they are written
 
-command_compact : (c : Command) → compact_text (command_data c) ≡ command_text c
-unfolding command_text json_on_literals
-command_compact (Set r v) = refl
-command_compact (Add r v) = refl
-command_compact (Copy a b) = refl
+-- the value is that of its compact text t, which has `wide` bytes at most; it nests `deep` at most
+record IsStored (d : Data) (t : List ℕ) (deep wide : ℕ) : Type 0 where
+  again : of_json (outline d) ≡ Some d
+  numbers : tree.HasNumbers (outline d)
+  shallow : tree.depth (outline d) ≤ deep
+  compact : compact_text d ≡ t
+  text : Text t wide
 
-step_compact : (s : Step) → compact_text (step_data s) ≡ step_text s
-unfolding step_text json_on_literals
-step_compact (Submit p c) = ap (λ t. codes "[\"submit\"," ++ (decimal p ++ 44 ∷ (t ++ 93 ∷ []))) (command_compact c)
-step_compact (Receive p s) = refl
-step_compact (Begin p) = refl
-step_compact (Enter p) = refl
-step_compact (Choose p from) = refl
-step_compact (Adopt p) = refl
-step_compact (Suspect p) = refl
-step_compact (Conclude p) = refl
-step_compact (Deliver p) = refl
-step_compact (Crash p) = refl
-step_compact (Postpone p s) = refl
+-- the same of the entries of an array behind its first, with the commas before them
+record AreStored (ds : Items) (t : List ℕ) (deep wide : ℕ) : Type 0 where
+  again : of_items (items_outline ds) ≡ Some ds
+  numbers : tree.ItemsHaveNumbers (items_outline ds)
+  shallow : tree.items_depth (items_outline ds) ≤ deep
+  compact : items_text true ds ≡ t ++ 93 ∷ []
+  text : Text t wide
 
-more_compact : (s : Step) (ss : List Step) → items_text false (steps_data (s ∷ ss)) ≡ join_with_byte 44 (map step_text (s ∷ ss)) ++ 93 ∷ []
-more_compact s [] = ap (λ t. t ++ 93 ∷ []) (step_compact s)
-more_compact s (t ∷ ss) = ap₂ (λ x y. x ++ 44 ∷ y) (step_compact s) (more_compact t ss) ∙ sym (append_assoc (step_text s) (44 ∷ join_with_byte 44 (map step_text (t ∷ ss))) (93 ∷ []))
+none_stored : (deep : ℕ) → AreStored no_items [] deep 0
+none_stored deep = record { again = refl; numbers = tt; shallow = omega arith; compact = refl; text = lengths.plain [] refl }
 
-steps_compact : (ss : List Step) → items_text false (steps_data ss) ≡ steps_text ss ++ 93 ∷ []
-steps_compact [] = refl
-steps_compact (s ∷ ss) = more_compact s ss
+more_stored : (d : Data) (ds : Items) (t u : List ℕ) (deep j k : ℕ) → IsStored d t deep j → AreStored ds u deep k
+    → AreStored (item d ds) (44 ∷ (t ++ u)) deep (1 + (j + k))
+more_stored d ds t u deep j k h i = record {
+  again = rw (h.again, i.again) refl;
+  numbers = (h.numbers, i.numbers);
+  shallow = omega (arith, h.shallow, i.shallow);
+  compact = ap₂ (λ x y. 44 ∷ (x ++ y)) h.compact i.compact ∙ ap (λ x. 44 ∷ x) (sym (append_assoc t u (93 ∷ [])));
+  text = lengths.then (codes ",") (t ++ u) 1 (j + k) (lengths.plain (codes ",") refl) (lengths.then t u j k h.text i.text);
+}
 
-pub record_compact : (w : Rehearsal) → compact_text (record_data w) ≡ record_text w
-unfolding record_text json_on_literals digits
-record_compact w =
-    let tail : List ℕ = codes ",\"version\":1}" in
-    ap (λ t. codes "{\"cells\":" ++ (decimal w.cells ++ (codes ",\"n\":" ++ (decimal w.setting.members ++ (codes ",\"steps\":[" ++ t))))) (ap (λ t. t ++ tail) (steps_compact w.steps) ∙ append_assoc (steps_text w.steps) (93 ∷ []) tail)
+number_stored : (n deep : ℕ) → n ≤ 18446744073709551615 → IsStored (num n) (decimal n) deep 20
+number_stored n deep h =
+    let fits : n < 2 ^ 64 = omega arith in
+    record { again = ap (option_map number) (number_of-decimal n fits); numbers = IsNumber-decimal n fits; shallow = omega arith; compact = refl; text = lengths.value n h }
 
--- ---- its text, read again
+one_stored : (d : Data) (t : List ℕ) (deep wide : ℕ) → IsStored d t deep wide → AreStored (item d no_items) (concat (codes "," ∷ t ∷ [])) deep (1 + (wide + 0))
+one_stored d t deep wide h = more_stored d no_items t [] deep wide 0 h (none_stored deep)
 
-number_again : (n : ℕ) → n < 2 ^ 64 → of_json (outline (num n)) ≡ Some (num n)
-number_again n h = ap (option_map number) (number_of-decimal n h)
+entry_text_width : (name : List ℕ) (first : ℕ) (rest : List (List ℕ)) (wide : ℕ) → IsName name → first ≤ 255 → Text (concat rest) wide
+    → Text (entry_text name first rest) (2 + (8 + (2 + (3 + (wide + 1)))))
+entry_text_width name first rest wide is few h =
+    let last : Text (concat (rest ++ codes "]" ∷ [])) (wide + 1) = rw concat-append (lengths.then (concat rest) (codes "]") wide 1 h (lengths.plain (codes "]") refl)) in
+    lengths.then (codes "[\"") _ 2 _ (lengths.plain (codes "[\"") refl)
+    (lengths.then name _ 8 _ (lengths.weaker name (length name) 8 (lengths.plain name is.ascii) is.short)
+    (lengths.then (codes "\",") _ 2 _ (lengths.plain (codes "\",") refl) (lengths.then (decimal first) _ 3 _ (lengths.byte first few) last)))
 
-one_again : (s : List ℕ) (a : Data) → of_json (outline a) ≡ Some a → of_json (outline (word_and_one s a)) ≡ Some (word_and_one s a)
-one_again s a h = rw h refl
+entry_compact : (name : List ℕ) (first : ℕ) (items : Items) (rest : List (List ℕ)) → IsName name → items_text true items ≡ concat rest ++ 93 ∷ []
+    → compact_text (entry_data name first items) ≡ entry_text name first rest
+entry_compact name first items rest is h =
+    let after = decimal first ++ (concat rest ++ codes "]") in
+    let before : compact_text (entry_data name first items) ≡ 91 ∷ ((34 ∷ (name ++ 34 ∷ [])) ++ 44 ∷ after) = ap₂ (λ q t. 91 ∷ (q ++ 44 ∷ (decimal first ++ t))) is.plain h in
+    before ∙ ap (λ t. 91 ∷ 34 ∷ t) (append_assoc name (34 ∷ []) (44 ∷ after)) ∙ ap (λ t. codes "[\"" ++ (name ++ (codes "\"," ++ (decimal first ++ t)))) (sym (concat-append rest (codes "]" ∷ [])))
 
-two_again : (s : List ℕ) (a b : Data) → of_json (outline a) ≡ Some a → of_json (outline b) ≡ Some b → of_json (outline (word_and_two s a b)) ≡ Some (word_and_two s a b)
-two_again s a b h k = rw (h, k) refl
+entry_stored : (name : List ℕ) (first : ℕ) (items : Items) (rest : List (List ℕ)) (deep wide : ℕ) → IsName name → first ≤ 255
+    → AreStored items (concat rest) deep wide → IsStored (entry_data name first items) (entry_text name first rest) (1 + deep) (16 + wide)
+entry_stored name first items rest deep wide is few h =
+    let fits : first < 2 ^ 64 = omega arith in
+    record {
+      again = rw (number_of-decimal first fits, h.again) refl;
+      numbers = (tt, (IsNumber-decimal first fits, h.numbers));
+      shallow = omega (arith, h.shallow);
+      compact = entry_compact name first items rest is h.compact;
+      text = lengths.weaker _ (2 + (8 + (2 + (3 + (wide + 1))))) (16 + wide) (entry_text_width name first rest wide is few h.text) (omega arith);
+    }
 
-command_again : (c : Command) → CommandFits c → of_json (outline (command_data c)) ≡ Some (command_data c)
-command_again (Set r v) h = two_again _ _ _ (number_again r (omega arith)) (number_again v (omega arith))
-command_again (Add r v) h = two_again _ _ _ (number_again r (omega arith)) (number_again v (omega arith))
-command_again (Copy a b) h = two_again _ _ _ (number_again a (omega arith)) (number_again b (omega arith))
+-- ---- those of a record
 
-step_again : (s : Step) → StepFits s → of_json (outline (step_data s)) ≡ Some (step_data s)
-step_again (Submit p c) h = two_again _ _ _ (number_again p (omega arith)) (command_again c h.1)
-step_again (Receive p s) h = two_again _ _ _ (number_again p (omega arith)) (number_again s (omega arith))
-step_again (Begin p) h = one_again _ _ (number_again p (omega arith))
-step_again (Enter p) h = one_again _ _ (number_again p (omega arith))
-step_again (Choose p from) h = two_again _ _ _ (number_again p (omega arith)) (number_again from (omega arith))
-step_again (Adopt p) h = one_again _ _ (number_again p (omega arith))
-step_again (Suspect p) h = one_again _ _ (number_again p (omega arith))
-step_again (Conclude p) h = one_again _ _ (number_again p (omega arith))
-step_again (Deliver p) h = one_again _ _ (number_again p (omega arith))
-step_again (Crash p) h = one_again _ _ (number_again p (omega arith))
-step_again (Postpone p s) h = two_again _ _ _ (number_again p (omega arith)) (number_again s (omega arith))
+pub amount_fits : (x : Number) → NumberFits x → amount x ≤ 18446744073709551615
+amount_fits (byte n) h = omega arith
+amount_fits (serial n) h = omega arith
+amount_fits (value n) h = h
 
-steps_again : (ss : List Step) → AllFit ss → of_items (items_outline (steps_data ss)) ≡ Some (steps_data ss)
-steps_again [] h = refl
-steps_again (s ∷ ss) h = rw (step_again s h.0, steps_again ss h.1) refl
+command_stored : (c : Command) → CommandFits c → IsStored (command_data c) (command_text c) 1 37
+unfolding command_text
+command_stored c h =
+    let x = (command_entry c).rest in
+    entry_stored (command_entry c).name (command_entry c).first _ (codes "," ∷ decimal (amount x) ∷ []) 0 21 (command_name c) h.0
+    (one_stored (num (amount x)) (decimal (amount x)) 0 20 (number_stored (amount x) 0 (amount_fits x h.1)))
 
-record_again : (w : Rehearsal) → w.cells < 2 ^ 64 → w.setting.members < 2 ^ 64 → AllFit w.steps → of_json (outline (record_data w)) ≡ Some (record_data w)
-record_again w hc hn h = rw (number_of-decimal w.cells hc, number_of-decimal w.setting.members hn, steps_again w.steps h, number_of-decimal 1 (omega arith)) refl
+wider : (ds : Items) (t : List ℕ) (deep j k : ℕ) → AreStored ds t deep j → j ≤ k → AreStored ds t deep k
+wider ds t deep j k h le = record { again = h.again; numbers = h.numbers; shallow = h.shallow; compact = h.compact; text = lengths.weaker t j k h.text le }
 
--- ---- each number's text is a number, and the value is not deep
+rest_stored : (r : Rest) → RestFits r → AreStored (rest_data r) (concat (rest_texts r)) 1 38
+rest_stored nothing h = wider _ _ 1 0 38 (none_stored 1) (omega arith)
+rest_stored (steps.number x) h = wider _ _ 1 21 38 (one_stored (num (amount x)) (decimal (amount x)) 1 20 (number_stored (amount x) 1 (amount_fits x h))) (omega arith)
+rest_stored (command c) h = one_stored (command_data c) (command_text c) 1 37 (command_stored c h)
 
-number_is : (n : ℕ) → n < 2 ^ 64 → tree.HasNumbers (outline (num n))
-number_is n h = IsNumber-decimal n h
+step_stored : (s : Step) → StepFits s → IsStored (step_data s) (step_text s) 2 54
+unfolding step_text
+step_stored s h = entry_stored (step_entry s).name (step_entry s).first _ (rest_texts (step_entry s).rest) 1 38 (step_name s) h.0 (rest_stored (step_entry s).rest h.1)
 
-one_is : (s : List ℕ) (a : Data) → tree.HasNumbers (outline a) → tree.HasNumbers (outline (word_and_one s a))
-one_is s a h = (tt, (h, tt))
+steps_stored : (ss : List Step) → AllFit ss → AreStored (steps_data ss) (rest_of 44 true (map step_text ss)) 2 (55 * length ss)
+steps_stored [] h = wider _ _ 2 0 _ (none_stored 2) (omega arith)
+steps_stored (s ∷ ss) h = wider _ _ 2 (1 + (54 + 55 * length ss)) _ (more_stored (step_data s) (steps_data ss) (step_text s) _ 2 54 _ (step_stored s h.0) (steps_stored ss h.1)) (omega arith)
 
-two_is : (s : List ℕ) (a b : Data) → tree.HasNumbers (outline a) → tree.HasNumbers (outline b) → tree.HasNumbers (outline (word_and_two s a b))
-two_is s a b h k = (tt, (h, (k, tt)))
+-- the list of the steps begins with no comma
+record IsList (ss : List Step) : Type 0 where
+  compact : items_text false (steps_data ss) ≡ rest_of 44 false (map step_text ss) ++ 93 ∷ []
+  text : Text (rest_of 44 false (map step_text ss)) (55 * length ss)
 
-command_is : (c : Command) → CommandFits c → tree.HasNumbers (outline (command_data c))
-command_is (Set r v) h = two_is (codes "set") (num r) (num v) (number_is r (omega arith)) (number_is v (omega arith))
-command_is (Add r v) h = two_is (codes "add") (num r) (num v) (number_is r (omega arith)) (number_is v (omega arith))
-command_is (Copy a b) h = two_is (codes "copy") (num a) (num b) (number_is a (omega arith)) (number_is b (omega arith))
+list_stored : (ss : List Step) → AllFit ss → IsList ss
+list_stored [] h = record { compact = refl; text = lengths.plain [] refl }
+list_stored (s ∷ ss) h =
+    let first = step_stored s h.0 in
+    let more = steps_stored ss h.1 in
+    let rest = rest_of 44 true (map step_text ss) in
+    record {
+      compact = ap₂ (λ x y. x ++ y) first.compact more.compact ∙ sym (append_assoc (step_text s) rest (93 ∷ []));
+      text = lengths.weaker _ (54 + 55 * length ss) _ (lengths.then (step_text s) rest 54 (55 * length ss) first.text more.text) (omega arith);
+    }
 
-step_is : (s : Step) → StepFits s → tree.HasNumbers (outline (step_data s))
-step_is (Submit p c) h = two_is (codes "submit") (num p) (command_data c) (number_is p (omega arith)) (command_is c h.1)
-step_is (Receive p s) h = two_is (codes "receive") (num p) (num s) (number_is p (omega arith)) (number_is s (omega arith))
-step_is (Begin p) h = one_is (codes "begin") (num p) (number_is p (omega arith))
-step_is (Enter p) h = one_is (codes "enter") (num p) (number_is p (omega arith))
-step_is (Choose p from) h = two_is (codes "choose") (num p) (num from) (number_is p (omega arith)) (number_is from (omega arith))
-step_is (Adopt p) h = one_is (codes "adopt") (num p) (number_is p (omega arith))
-step_is (Suspect p) h = one_is (codes "suspect") (num p) (number_is p (omega arith))
-step_is (Conclude p) h = one_is (codes "conclude") (num p) (number_is p (omega arith))
-step_is (Deliver p) h = one_is (codes "deliver") (num p) (number_is p (omega arith))
-step_is (Crash p) h = one_is (codes "crash") (num p) (number_is p (omega arith))
-step_is (Postpone p s) h = two_is (codes "postpone") (num p) (num s) (number_is p (omega arith)) (number_is s (omega arith))
-
-steps_are : (ss : List Step) → AllFit ss → tree.ItemsHaveNumbers (items_outline (steps_data ss))
-steps_are [] h = tt
-steps_are (s ∷ ss) h = (step_is s h.0, steps_are ss h.1)
-
-record_is : (w : Rehearsal) → w.cells < 2 ^ 64 → w.setting.members < 2 ^ 64 → AllFit w.steps → tree.HasNumbers (outline (record_data w))
-record_is w hc hn h = (number_is w.cells hc, (number_is w.setting.members hn, (steps_are w.steps h, (number_is 1 (omega arith), tt))))
-
-step_shallow : (s : Step) → tree.depth (outline (step_data s)) ≤ 2
-step_shallow (Submit p (Set r v)) = omega arith
-step_shallow (Submit p (Add r v)) = omega arith
-step_shallow (Submit p (Copy a b)) = omega arith
-step_shallow (Receive p s) = omega arith
-step_shallow (Begin p) = omega arith
-step_shallow (Enter p) = omega arith
-step_shallow (Choose p from) = omega arith
-step_shallow (Adopt p) = omega arith
-step_shallow (Suspect p) = omega arith
-step_shallow (Conclude p) = omega arith
-step_shallow (Deliver p) = omega arith
-step_shallow (Crash p) = omega arith
-step_shallow (Postpone p s) = omega arith
-
-steps_shallow : (ss : List Step) → tree.items_depth (items_outline (steps_data ss)) ≤ 2
-steps_shallow [] = omega arith
-steps_shallow (s ∷ ss) = omega (arith, step_shallow s, steps_shallow ss)
-
-record_shallow : (w : Rehearsal) → tree.depth (outline (record_data w)) ≤ 127
-record_shallow w = omega (arith, steps_shallow w.steps)
+pub steps_width : (ss : List Step) → AllFit ss → Text (steps_text ss) (55 * length ss)
+steps_width ss h = rw (← rest_of-join 44 (map step_text ss)) (list_stored ss h).text
 
 -- what stands for a value reads as it
 printed_reads : (d : Data) → of_json (outline d) ≡ Some d → tree.HasNumbers (outline d) → tree.depth (outline d) ≤ 127 → read (compact_text d) ≡ Some d
 printed_reads d again numbers shallow =
     let ts = tree.json_tokens (outline d) in
-    let text : tokens (compact_text d) ≡ ts ++ [] = ap tokens (sym (print-outline d)) ∙ tokens-print ts (ArePrintable-json_tokens (outline d) numbers) ∙ sym (append-nil ts) in
+    let printed = tokens-print ts (ArePrintable-json_tokens (outline d) numbers) in
+    let text : tokens (compact_text d) ≡ ts ++ [] = ap tokens (sym (print-outline d)) ∙ printed ∙ sym (append-nil ts) in
     ap (λ xs. option_and_then of_json (option_and_then (λ p. json.if_last p.0 p.1) (json.value 127 xs))) text
     ∙ ap (λ o. option_and_then of_json (option_and_then (λ p. json.if_last p.0 p.1) o)) (value-json_tokens (outline d) 127 [] shallow)
     ∙ again
 
+record_compact : (w : Rehearsal) → IsList w.steps → compact_text (record_data w) ≡ record_text w
+unfolding record_text json_on_literals digits
+record_compact w h =
+    let tail : List ℕ = codes ",\"version\":1}" in
+    let list = h.compact ∙ ap (λ t. t ++ 93 ∷ []) (rest_of-join 44 (map step_text w.steps)) in
+    ap (λ t. codes "{\"cells\":" ++ (decimal w.cells ++ (codes ",\"n\":" ++ (decimal w.setting.members ++ (codes ",\"steps\":[" ++ t)))))
+    (ap (λ t. t ++ tail) list ∙ append_assoc (steps_text w.steps) (93 ∷ []) tail)
+
 pub record_reads : (w : Rehearsal) → w.cells < 2 ^ 64 → w.setting.members < 2 ^ 64 → AllFit w.steps → read (record_text w) ≡ Some (record_data w)
-record_reads w hc hn h = ap read (sym (record_compact w)) ∙ printed_reads (record_data w) (record_again w hc hn h) (record_is w hc hn h) (record_shallow w)
+record_reads w hc hn h =
+    let steps = steps_stored w.steps h in
+    let one : 1 < 2 ^ 64 = omega arith in
+    let again : of_json (outline (record_data w)) ≡ Some (record_data w) = rw (number_of-decimal w.cells hc, number_of-decimal w.setting.members hn, steps.again, number_of-decimal 1 one) refl in
+    let numbers : tree.HasNumbers (outline (record_data w)) = (IsNumber-decimal w.cells hc, (IsNumber-decimal w.setting.members hn, (steps.numbers, (IsNumber-decimal 1 one, tt)))) in
+    ap read (sym (record_compact w (list_stored w.steps h))) ∙ printed_reads (record_data w) again numbers (omega (arith, steps.shallow))

@@ -1,30 +1,23 @@
 -- Records whose numbers fit their fields.
-use Rattle.std.specs.Prelude.{List, [], ◌∷◌, ◌<◌, ◌≤◌, length, ⊤}
+use Rattle.std.specs.Prelude.{List, [], ◌∷◌, ◌≤◌, length, ⊤}
 use Rattle.ct_names.specs.declared.command.Command.{Command}
-use Rattle.ct_names.specs.declared.command.Command.TheVariants.{Set, Add, Copy}
 use Rattle.ct_model.specs.declared.step.Step.{Step}
-use Rattle.ct_model.specs.declared.step.Step.TheVariants.{Submit, Receive, Begin, Enter, Choose, Adopt, Suspect, Conclude, Deliver, Crash, Postpone}
 use Rattle.ct_model.specs.Rehearsal.{Rehearsal}
+use Rattle.ct_model.specs.StepText.{Number, amount, largest, Rest, nothing, number, command, command_entry, step_entry}
 
--- registers below 256, values and amounts below 2 ^ 64
+abbrev pub NumberFits : Number → Type 0
+NumberFits x = amount x ≤ largest x
+
 abbrev pub CommandFits : Command → Type 0
-CommandFits (Set register value) = (register < 256) × (value < 18446744073709551616)
-CommandFits (Add register amount) = (register < 256) × (amount < 18446744073709551616)
-CommandFits (Copy from to) = (from < 256) × (to < 256)
+CommandFits c = ((command_entry c).first ≤ 255) × NumberFits (command_entry c).rest
 
--- members below 256, serials below 2 ^ 32
+abbrev pub RestFits : Rest → Type 0
+RestFits nothing = ⊤
+RestFits (number x) = NumberFits x
+RestFits (command c) = CommandFits c
+
 abbrev pub StepFits : Step → Type 0
-StepFits (Submit p c) = (p < 256) × CommandFits c
-StepFits (Receive p k) = (p < 256) × (k < 4294967296)
-StepFits (Begin p) = p < 256
-StepFits (Enter p) = p < 256
-StepFits (Choose p from) = (p < 256) × (from < 256)
-StepFits (Adopt p) = p < 256
-StepFits (Suspect p) = p < 256
-StepFits (Conclude p) = p < 256
-StepFits (Deliver p) = p < 256
-StepFits (Crash p) = p < 256
-StepFits (Postpone p k) = (p < 256) × (k < 4294967296)
+StepFits s = ((step_entry s).first ≤ 255) × RestFits (step_entry s).rest
 
 abbrev pub AllFit : List Step → Type 0
 AllFit [] = ⊤

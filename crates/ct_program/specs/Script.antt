@@ -1,5 +1,6 @@
 -- What a record says, or its first fault.
-use Rattle.std.specs.Prelude.{ℕ, suc, ◌+◌, ◌==◌, ◌&&◌, List, [], ◌∷◌, length, codes, nat_le, nat_lt, Option, Some, None, Result, Ok, Err, option_map, option_and_then, ok_or, if◌then◌else◌}
+use Rattle.std.specs.Prelude.{ℕ, suc, Bool, true, ◌+◌, ◌==◌, ◌&&◌, List, [], ◌∷◌, length, codes, nat_le, nat_lt, Option, Some, None, Result, Ok, Err, option_map, option_and_then, ok_or, if◌then◌else◌}
+use Rattle.std.specs.Option.{option_map_or}
 use Rattle.std.specs.Str.{bytes_eq, is_utf8}
 use Rattle.serde_json.specs.Data.{Data, Items, no_items, item, Members, no_members, member}
 use Rattle.serde_json.specs.Read.{read}
@@ -9,6 +10,7 @@ use Rattle.ct_names.specs.declared.command.Command.TheVariants.{Set, Add, Copy}
 use Rattle.ct_model.specs.declared.step.Step.{Step}
 use Rattle.ct_model.specs.declared.step.Step.TheVariants.{Submit, Receive, Begin, Enter, Choose, Adopt, Suspect, Conclude, Deliver, Crash, Postpone}
 use Rattle.ct_model.specs.Rehearsal.{Rehearsal}
+use Rattle.ct_model.specs.StepText.{Number, amount, largest, Rest, nothing, number, command, Entry, command_entry, step_entry}
 use Rattle.ct_program.specs.declared.read_fault.ReadFault.{ReadFault}
 use Rattle.ct_program.specs.declared.read_fault.ReadFault.TheVariants.{TooLong, NotJson, Shape, Version}
 
@@ -40,50 +42,70 @@ whole_of low high d = option_and_then (λ x. if nat_le low x && nat_le x high th
 abbrev pub byte_of : Data → Option ℕ
 byte_of d = whole_of 0 255 d
 
-abbrev pub serial_of : Data → Option ℕ
-serial_of d = whole_of 0 4294967295 d
-
 -- a register's value, or an amount
 abbrev pub value_of : Data → Option ℕ
 value_of d = whole_of 0 18446744073709551615 d
 
 -- ---- commands and steps
 
--- the command of a name, a register and one more entry
-abbrev pub named_command : List ℕ → ℕ → Data → Option Command
-named_command name register d =
-    if bytes_eq name (codes "set") then option_map (Set register) (value_of d) else
-    (if bytes_eq name (codes "add") then option_map (Add register) (value_of d) else
-    (if bytes_eq name (codes "copy") then option_map (Copy register) (byte_of d) else None))
+-- the one that has the name
+abbrev pub named : {A B : Type 0} → (A → Entry B) → List ℕ → List A → Option A
+named shown name [] = None
+named shown name (x ∷ xs) = if bytes_eq name (shown x).name then Some x else named shown name xs
+
+abbrev pub fits : Number → Bool
+fits x = nat_le (amount x) (largest x)
+
+-- the commands of a register and one more number
+abbrev pub commands : ℕ → ℕ → List Command
+commands register n = Set register n ∷ Add register n ∷ Copy register n ∷ []
+
+-- the command of a name, a register and one more number
+unfoldable pub named_command : List ℕ → ℕ → ℕ → Option Command
+named_command name register n =
+    option_and_then (λ c. if fits (command_entry c).rest then Some c else None) (named command_entry name (commands register n))
 
 abbrev pub command_parts : List Data → Option Command
 command_parts [] = None
 command_parts (name ∷ []) = None
 command_parts (name ∷ register ∷ []) = None
-command_parts (name ∷ register ∷ d ∷ []) = option_and_then (λ s. option_and_then (λ r. named_command s r d) (byte_of register)) (as_str name)
+command_parts (name ∷ register ∷ d ∷ []) =
+    option_and_then (λ s. option_and_then (λ r. option_and_then (named_command s r) (value_of d)) (byte_of register)) (as_str name)
 command_parts (name ∷ register ∷ d ∷ e ∷ rest) = None
 
 unfoldable pub command_of : Data → Option Command
 command_of d = option_and_then command_parts (list_in d)
 
+-- the steps that have a member alone, and those that have one more number, or a command
+abbrev pub alone : ℕ → List Step
+alone p = Begin p ∷ Enter p ∷ Adopt p ∷ Suspect p ∷ Conclude p ∷ Deliver p ∷ Crash p ∷ []
+
+abbrev pub with_number : ℕ → ℕ → List Step
+with_number p n = Receive p n ∷ Choose p n ∷ Postpone p n ∷ []
+
+abbrev pub with_command : ℕ → Command → List Step
+with_command p c = Submit p c ∷ []
+
+abbrev pub rest_fits : Rest → Bool
+rest_fits nothing = true
+rest_fits (number x) = fits x
+rest_fits (command c) = true
+
 -- the step of a name and a member
 unfoldable pub short_step : List ℕ → ℕ → Option Step
-short_step name p =
-    if bytes_eq name (codes "begin") then Some (Begin p) else
-    (if bytes_eq name (codes "enter") then Some (Enter p) else
-    (if bytes_eq name (codes "adopt") then Some (Adopt p) else
-    (if bytes_eq name (codes "suspect") then Some (Suspect p) else
-    (if bytes_eq name (codes "conclude") then Some (Conclude p) else
-    (if bytes_eq name (codes "deliver") then Some (Deliver p) else
-    (if bytes_eq name (codes "crash") then Some (Crash p) else None))))))
+short_step name p = named step_entry name (alone p)
 
--- the step of a name, a member and one more entry
+-- the step of a name, a member and a number
+unfoldable pub numbered_step : List ℕ → ℕ → ℕ → Option Step
+numbered_step name p n = option_and_then (λ s. if rest_fits (step_entry s).rest then Some s else None) (named step_entry name (with_number p n))
+
+-- the step of a name, a member and a command
+unfoldable pub commanded_step : List ℕ → ℕ → Command → Option Step
+commanded_step name p c = named step_entry name (with_command p c)
+
+-- the step of a name, a member and one more entry: where that is no number, a command
 unfoldable pub long_step : List ℕ → ℕ → Data → Option Step
-long_step name p d =
-    if bytes_eq name (codes "submit") then option_map (Submit p) (command_of d) else
-    (if bytes_eq name (codes "receive") then option_map (Receive p) (serial_of d) else
-    (if bytes_eq name (codes "choose") then option_map (Choose p) (byte_of d) else
-    (if bytes_eq name (codes "postpone") then option_map (Postpone p) (serial_of d) else None)))
+long_step name p d = option_map_or (numbered_step name p) (value_of d) (option_and_then (commanded_step name p) (command_of d))
 
 abbrev pub step_parts : List Data → Option Step
 step_parts [] = None

@@ -3,16 +3,18 @@
 ghost use Rattle.std.specs.Prelude.{◌≡◌, ◌≤◌, ◌∷◌, length, Some, Ok, IfOk, IfSome, IsTrue};
 ghost use Rattle.json.specs.Token.{begin_array};
 ghost use Rattle.json.specs.Json.{read_key};
+ghost use Rattle.serde_json.specs.Data.{unsigned};
 ghost use Rattle.serde_json.specs.Find.{as_str};
+ghost use Rattle.serde_json.specs.Read.{number_of};
 ghost use Rattle.ct_program.specs.Plain.{Reads, ReadsSteps, Head, Foot};
-ghost use Rattle.ct_program.specs.Script.{whole_of, named_command, command_of, long_step, step_of, max_len, script};
+ghost use Rattle.ct_program.specs.Script.{whole_of, byte_of, command_of, long_step, step_of, max_len, script};
 ghost use Rattle.ct_program.specs.View.{rehearsal_of};
 
-use crate::naming::short;
+use crate::naming::{commanded_step, named_command, numbered_step, short_step};
 use crate::script::Script;
 use ct_model::Step;
 use ct_names::{Command, Group, Member};
-use fast_float::Numeral;
+use fast_float::parse_u64;
 use json::{Reader, Scratch, Token};
 use std::alloc::{AllocError, Global};
 
@@ -99,11 +101,11 @@ fn step(reader: &mut Reader<'_>) -> Option<Step>
         return None;
     }
     let name = word(reader)?;
-    let p = number(reader, 0, 255)? as u8;
+    let p = byte(reader)?;
     if reader.take_end_array() {
-        return short(name, p);
+        return short_step(name, p);
     }
-    let step = long(reader, name, p)?;
+    let step = long_step(reader, name, p)?;
     if reader.take_end_array() {
         Some(step)
     } else {
@@ -112,45 +114,27 @@ fn step(reader: &mut Reader<'_>) -> Option<Step>
 }
 
 // The step of a name, a member and one more entry.
-#[tactic(auto, unfolding(crate::specs::Script::long_step))]
-fn long(reader: &mut Reader<'_>, name: &str, p: Member) -> Option<Step>
+fn long_step(reader: &mut Reader<'_>, name: &str, p: Member) -> Option<Step>
     ensures { IfSome result (λ s. Reads (long_step name.now p) 1 reader.old s reader.new) }
 {
-    match name {
-        "submit" => Some(Step::Submit(p, command(reader)?)),
-        "receive" => Some(Step::Receive(p, number(reader, 0, 4_294_967_295)? as u32)),
-        "choose" => Some(Step::Choose(p, number(reader, 0, 255)? as u8)),
-        "postpone" => Some(Step::Postpone(p, number(reader, 0, 4_294_967_295)? as u32)),
+    match reader.next() {
+        Some(Token::Number(text)) => numbered_step(name, p, digits(text)?),
+        Some(Token::BeginArray) => commanded_step(name, p, command(reader)?),
         _ => None,
     }
 }
 
+// The command behind the bracket that opens it.
 fn command(reader: &mut Reader<'_>) -> Option<Command>
-    ensures { IfSome result (λ c. Reads command_of 1 reader.old c reader.new) }
+    ensures { IfSome result (λ c. Reads command_of 1 (begin_array ∷ reader.old) c reader.new) }
 {
-    if !open(reader) {
+    let name = word(reader)?;
+    let register = byte(reader)?;
+    let n = number(reader, 0, u64::MAX)?;
+    if !reader.take_end_array() {
         return None;
     }
-    let name = word(reader)?;
-    let register = number(reader, 0, 255)? as u8;
-    let command = named(reader, name, register)?;
-    if reader.take_end_array() {
-        Some(command)
-    } else {
-        None
-    }
-}
-
-// The command of a name, a register and one more entry.
-fn named(reader: &mut Reader<'_>, name: &str, register: u8) -> Option<Command>
-    ensures { IfSome result (λ c. Reads (named_command name.now register) 0 reader.old c reader.new) }
-{
-    match name {
-        "set" => Some(Command::Set(register, number(reader, 0, u64::MAX)?)),
-        "add" => Some(Command::Add(register, number(reader, 0, u64::MAX)?)),
-        "copy" => Some(Command::Copy(register, number(reader, 0, 255)? as u8)),
-        _ => None,
-    }
+    named_command(name, register, n)
 }
 
 fn key(reader: &mut Reader<'_>, name: &str) -> bool
@@ -178,6 +162,14 @@ fn word<'a>(reader: &mut Reader<'a>) -> Option<&'a str>
     Some(text)
 }
 
+// The number of a member or of a register.
+fn byte(reader: &mut Reader<'_>) -> Option<u8>
+    ensures { IfSome result (λ n. Reads byte_of 0 reader.old n reader.new) }
+{
+    let n = number(reader, 0, 255)?;
+    Some(n as u8)
+}
+
 // The whole number, where it is within the range.
 fn number(reader: &mut Reader<'_>, low: u64, high: u64) -> Option<u64>
     ensures value { IfSome result (λ n. Reads (whole_of low high) 0 reader.old n reader.new) }
@@ -186,10 +178,17 @@ fn number(reader: &mut Reader<'_>, low: u64, high: u64) -> Option<u64>
     let Some(Token::Number(text)) = reader.next() else {
         return None;
     };
+    let n = digits(text)?;
+    if low <= n && n <= high { Some(n) } else { None }
+}
+
+// The number that the text writes in digits alone.
+fn digits(text: &str) -> Option<u64>
+    ensures { IfSome result (λ n. number_of text.now ≡ Some (unsigned n)) }
+{
     let bytes = text.as_bytes();
-    if bytes.is_empty() || bytes[0] == b'-' {
+    if bytes.is_empty() || bytes[0] == b'+' {
         return None;
     }
-    let n = Numeral::scan(bytes).to_u64()?;
-    if low <= n && n <= high { Some(n) } else { None }
+    parse_u64(bytes).ok()
 }

@@ -4,14 +4,14 @@ ghost use Rattle.std.specs.Prelude.{◌≡◌, ◌<◌, ◌≤◌, length, map, 
 ghost use Rattle.serde_json.specs.View.{view, members_view};
 ghost use Rattle.ct_program.specs.Gives.{Gives};
 ghost use Rattle.ct_program.specs.View.{rehearsal_of};
-ghost use Rattle.ct_program.specs.Script.{list_in, count_of, whole_of, byte_of, serial_of, value_of, named_command, command_of, long_step, step_of, steps_of, rehearsal_in, of_value, max_len, script};
+ghost use Rattle.ct_program.specs.Script.{list_in, count_of, whole_of, byte_of, value_of, command_of, long_step, step_of, steps_of, rehearsal_in, of_value, max_len, script};
 
-use crate::naming::short;
+use crate::naming::{commanded_step, named_command, numbered_step, short_step};
 use crate::quick::plain;
 use crate::read_fault::ReadFault;
 use crate::script::Script;
 use ct_model::Step;
-use ct_names::{Command, Group, Member, Serial};
+use ct_names::{Command, Group, Member};
 use serde_json::{Map, Value};
 use std::alloc::Global;
 
@@ -103,23 +103,20 @@ fn step(value: &Value) -> Option<Step>
     ensures { result ≡ step_of (view value.now) }
 {
     match entries(value)? {
-        [name, p] => short(name.as_str()?, byte(p)?),
-        [name, p, last] => long(name.as_str()?, byte(p)?, last),
+        [name, p] => short_step(name.as_str()?, byte(p)?),
+        [name, p, last] => long_step(name.as_str()?, byte(p)?, last),
         _ => None,
     }
 }
 
 // The step of a name, a member and one more entry.
 #[tactic(auto, unfolding(crate::specs::Script::long_step))]
-fn long(name: &str, p: Member, last: &Value) -> Option<Step>
+fn long_step(name: &str, p: Member, last: &Value) -> Option<Step>
     ensures { result ≡ long_step name.now p (view last.now) }
 {
-    match name {
-        "submit" => Some(Step::Submit(p, command(last)?)),
-        "receive" => Some(Step::Receive(p, serial(last)?)),
-        "choose" => Some(Step::Choose(p, byte(last)?)),
-        "postpone" => Some(Step::Postpone(p, serial(last)?)),
-        _ => None,
+    match number(last) {
+        Some(n) => numbered_step(name, p, n),
+        None => commanded_step(name, p, command(last)?),
     }
 }
 
@@ -128,19 +125,7 @@ fn command(value: &Value) -> Option<Command>
     ensures { result ≡ command_of (view value.now) }
 {
     match entries(value)? {
-        [name, register, last] => named(name.as_str()?, byte(register)?, last),
-        _ => None,
-    }
-}
-
-// The command of a name, a register and one more entry.
-fn named(name: &str, register: u8, last: &Value) -> Option<Command>
-    ensures { result ≡ named_command name.now register (view last.now) }
-{
-    match name {
-        "set" => Some(Command::Set(register, number(last)?)),
-        "add" => Some(Command::Add(register, number(last)?)),
-        "copy" => Some(Command::Copy(register, byte(last)?)),
+        [name, register, last] => named_command(name.as_str()?, byte(register)?, number(last)?),
         _ => None,
     }
 }
@@ -161,13 +146,6 @@ fn byte(value: &Value) -> Option<u8>
 {
     let n = whole(value, 0, 255)?;
     Some(n as u8)
-}
-
-fn serial(value: &Value) -> Option<Serial>
-    ensures { result ≡ serial_of (view value.now) }
-{
-    let n = whole(value, 0, 4_294_967_295)?;
-    Some(n as u32)
 }
 
 fn number(value: &Value) -> Option<u64>

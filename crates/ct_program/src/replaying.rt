@@ -46,7 +46,7 @@ pub fn run_replay<R: Source, W: Sink>(
     ensures no_write { result ≢ Err ProgramFault.Write → W.failures writer.new ≡ W.failures writer.old }
 {
     let bytes = read_all(alloc, reader)?;
-    let text = answer(alloc, &bytes)?;
+    let text = answer(alloc, bytes)?;
     match write_all(writer, &text) {
         Ok(()) => Ok(()),
         Err(Failed) => Err(ProgramFault::Write),
@@ -104,13 +104,14 @@ fn read_up_to<R: Source>(
     Ok(bytes)
 }
 
-// The report of the record.
-fn answer(alloc: Global, bytes: &[u8]) -> Result<Vec<u8>, ProgramFault>
-    ensures ok { IfOk result (λ text. IsReportOf bytes.now text.items) }
-    ensures fault { IfErr result (λ fault. IsFaultIn fault bytes.now) }
+// The report of the record, whose bytes are freed before it is replayed.
+fn answer(alloc: Global, bytes: Vec<u8>) -> Result<Vec<u8>, ProgramFault>
+    ensures ok { IfOk result (λ text. IsReportOf bytes.items text.items) }
+    ensures fault { IfErr result (λ fault. IsFaultIn fault bytes.items) }
     ensures no_stream { IfErr result (λ fault. (fault ≢ ProgramFault.Reader) × (fault ≢ ProgramFault.Write)) }
 {
-    let script = read_record(alloc, bytes)?;
+    let script = read_record(alloc, &bytes)?;
+    drop(bytes);
     let (world, _board) = World::replay(alloc, script.group, script.cells, &script.steps)?;
     Ok(report(alloc, &world)?)
 }
