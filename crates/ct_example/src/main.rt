@@ -50,36 +50,50 @@ impl Gate for Counter {
     }
 }
 
-/// What is printed, the same however the threads take their turns. Each member that is left delivers all four messages.
 fn main(rt: HostRuntime) -> ExitCode {
-    let alloc = rt.alloc();
     let gate = Counter {
         turns: Mutex::new(0),
     };
-    let Some(done) = run(&rt, alloc, &gate) else {
+    let Some(done) = run(&rt, rt.alloc(), &gate) else {
         return ExitCode::FAILURE;
     };
-    let Some((read, told)) = followed(alloc, &done) else {
+    let Some(watcher) = followed(rt.alloc(), &done.world, &done.board) else {
         return ExitCode::FAILURE;
     };
-    let world = done.world;
     let Counter { turns } = gate;
-    let _ = println!(rt; "turns: {}", turns.into_inner());
-    let _ = println!(rt; "member 1 delivered: {}", delivered(&world, 1));
-    let _ = println!(rt; "member 3 delivered: {}", delivered(&world, 3));
-    let _ = println!(rt; "their registers are the same: {}", are_level(&world, 1, 3));
+    print(&rt, turns.into_inner(), &done.world, &watcher);
+    ExitCode::SUCCESS
+}
+
+// What is printed is the same however the threads take their turns. Each member that is left delivers all four messages.
+fn print(rt: &HostRuntime, turns: u32, world: &World, watcher: &Watcher) {
+    let _ = println!(rt; "turns: {turns}");
+    print_members(rt, world);
+    print_batches(rt, watcher);
+    let _ = println!(rt; "replayed: {}", replays(rt.alloc(), world));
+}
+
+fn print_members(rt: &HostRuntime, world: &World) {
+    let _ = println!(rt; "member 1 delivered: {}", delivered(world, 1));
+    let _ = println!(rt; "member 3 delivered: {}", delivered(world, 3));
+    let _ = println!(rt; "their registers are the same: {}", are_level(world, 1, 3));
+}
+
+fn print_batches(rt: &HostRuntime, watcher: &Watcher) {
+    let (read, told) = (watcher.read(), watcher.told());
     let _ = println!(rt; "batches were posted: {}", told > 0);
     let _ = println!(rt; "the watcher read all batches: {}", read == told);
-    let replayed = World::replay(alloc, world.group(), world.cells(), world.record());
-    let _ = println!(rt; "replayed: {}", replayed.is_ok());
-    ExitCode::SUCCESS
+}
+
+// Whether the record leads to a world again.
+fn replays(alloc: Global, world: &World) -> bool {
+    World::replay(alloc, world.group(), world.cells(), world.record()).is_ok()
 }
 
 // Three members make 500 turns each, while a script submits four messages and then crashes member 2, which coordinates the
 // first round of each instance.
 fn run<R: Threads + Wait + Sync>(rt: &R, alloc: Global, gate: &Counter) -> Option<Rehearsed> {
-    let world = World::new(alloc, Group::new(3)?, 16).ok()?;
-    let board = Board::new(alloc, 16).ok()?;
+    let (world, board) = begun(alloc)?;
     let mut detectors: Vec<Box<dyn Detector>> = Vec::new(alloc);
     for _ in 0..3u8 {
         let detector = Box::new(alloc, FirstRound { last: None }).ok()?;
@@ -90,6 +104,13 @@ fn run<R: Threads + Wait + Sync>(rt: &R, alloc: Global, gate: &Counter) -> Optio
     }
     let plan = plan(alloc).ok()?;
     rehearse(rt, alloc, world, board, &plan, detectors, gate).ok()
+}
+
+// A world of three members, and its board.
+fn begun(alloc: Global) -> Option<(World, Board)> {
+    let world = World::new(alloc, Group::new(3)?, 16).ok()?;
+    let board = Board::new(alloc, 16).ok()?;
+    Some((world, board))
 }
 
 fn plan(alloc: Global) -> Result<Plan, AllocError>
@@ -126,13 +147,12 @@ fn are_level(world: &World, one: u8, other: u8) -> bool {
     }
 }
 
-// How many batches a new watcher of the board reads, and of how many the world tells it.
-fn followed(alloc: Global, done: &Rehearsed) -> Option<(usize, usize)> {
-    let mut watcher = Watcher::new(alloc, &done.board).ok()?;
-    done.world.meet(&done.board, &mut watcher).ok()?;
+// A new watcher of the board, which the world tells of the batches and which then reads them.
+fn followed(alloc: Global, world: &World, board: &Board) -> Option<Watcher> {
+    let mut watcher = Watcher::new(alloc, board).ok()?;
+    world.meet(board, &mut watcher).ok()?;
     let told = watcher.told();
-    let watcher = watch(&done.board, watcher, told);
-    Some((watcher.read(), told))
+    Some(watch(board, watcher, told))
 }
 
 // Tries so many times to read the next batch, with neither a lock nor memory. A watcher that was told of a batch finds it;

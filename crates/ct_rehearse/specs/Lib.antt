@@ -4,3 +4,4 @@ pub mod Turns
 pub mod Plays
 pub mod Plans
 pub mod Halls
+pub mod Rehearsals

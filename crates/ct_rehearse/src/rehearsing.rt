@@ -1,9 +1,8 @@
 //! Whole rehearsals, from a world to a world.
 
-ghost use Rattle.std.specs.Prelude.{◌≡◌, ◌+◌, None, IfOk, IfErr, length, vec_len};
-ghost use Rattle.ct_model.specs.Rehearsal.{state_of};
-ghost use Rattle.ct_model.specs.Safe.{IsSafe};
-ghost use Rattle.ct_rehearse.specs.Plans.{turns_made, turns_planned, IsWithin};
+ghost use Rattle.std.specs.Prelude.{◌≡◌, IfOk, IfErr, vec_len};
+ghost use Rattle.ct_rehearse.specs.Plans.{IsWithin};
+ghost use Rattle.ct_rehearse.specs.Rehearsals.{IsHandedBack, IsRehearsed};
 
 use crate::gate::Gate;
 use crate::hall::Hall;
@@ -36,15 +35,8 @@ pub fn rehearse<R: Threads + Wait + Sync, G: Gate>(
 ) -> Result<Rehearsed, RehearseFault>
     requires plan { IsWithin plan.now }
     requires detectors { vec_len detectors ≡ world.rehearsal.setting.members }
-    ensures made { IfOk result (λ done. turns_made done.made ≡ turns_planned world.rehearsal.setting.members plan.now) }
-    ensures steps { IfOk result (λ done. length done.world.rehearsal.steps ≡ length world.rehearsal.steps + done.made.steps) }
-    ensures safe { IfOk result (λ done. IsSafe done.world.rehearsal.setting (state_of done.world.rehearsal)) }
-    ensures none { IfOk result (λ done. done.world.prepared ≡ None) }
-    ensures board { IfOk result (λ done. done.board ≡ board) }
-    ensures memory { IfErr result (λ fault. fault.cause ≡ RunFault.Memory → length fault.world.rehearsal.steps ≡ length world.rehearsal.steps) }
-    ensures safe_then { IfErr result (λ fault. IsSafe fault.world.rehearsal.setting (state_of fault.world.rehearsal)) }
-    ensures none_then { IfErr result (λ fault. fault.world.prepared ≡ None) }
-    ensures board_then { IfErr result (λ fault. fault.board ≡ board) }
+    ensures ok { IfOk result (IsRehearsed world.rehearsal board plan.now) }
+    ensures err { IfErr result (IsHandedBack world.rehearsal board) }
 {
     let blank = Blank::new(1000);
     rehearse_in::<Brand, R, G>(rt, alloc, blank, world, board, plan, detectors, gate)
@@ -66,15 +58,8 @@ fn rehearse_in<L: Ledger + Send + Sync, R: Threads + Wait + Sync, G: Gate>(
     requires whole { L.parts ≡ 1000 }
     requires plan { IsWithin plan.now }
     requires detectors { vec_len detectors ≡ world.rehearsal.setting.members }
-    ensures made { IfOk result (λ done. turns_made done.made ≡ turns_planned world.rehearsal.setting.members plan.now) }
-    ensures steps { IfOk result (λ done. length done.world.rehearsal.steps ≡ length world.rehearsal.steps + done.made.steps) }
-    ensures safe { IfOk result (λ done. IsSafe done.world.rehearsal.setting (state_of done.world.rehearsal)) }
-    ensures none { IfOk result (λ done. done.world.prepared ≡ None) }
-    ensures board { IfOk result (λ done. done.board ≡ board) }
-    ensures memory { IfErr result (λ fault. fault.cause ≡ RunFault.Memory → length fault.world.rehearsal.steps ≡ length world.rehearsal.steps) }
-    ensures safe_then { IfErr result (λ fault. IsSafe fault.world.rehearsal.setting (state_of fault.world.rehearsal)) }
-    ensures none_then { IfErr result (λ fault. fault.world.prepared ≡ None) }
-    ensures board_then { IfErr result (λ fault. fault.board ≡ board) }
+    ensures ok { IfOk result (IsRehearsed world.rehearsal board plan.now) }
+    ensures err { IfErr result (IsHandedBack world.rehearsal board) }
 {
     let _ = world.record();
     let _ = world.group().n();
