@@ -1,6 +1,6 @@
 -- Deliver: why it is refused, by the seat, and the seat after it.
 use Rattle.std.proofs.Common.{◌≡◌, ℕ, ◌+◌, ◌-◌, ◌≤◌, ◌<◌, Bool, true, false, not, List, [], ◌∷◌, ◌++◌, length, set, refl, ap, sym, ◌∙◌, subst, arith, append-nil, slice_get, Option, Some, None, Bor}
-use Rattle.std.specs.Prelude.{option_copied, nat_lt, is_some, is_none}
+use Rattle.std.specs.Prelude.{option_copied, nat_lt, is_some, is_none, if◌then◌else◌}
 use Rattle.std.specs.Option.{option_map_or}
 use Rattle.std.proofs.lemmas.Bool.Decides.{nat_tests}
 use Rattle.std.proofs.lemmas.List.{length-map, map-append}
@@ -8,7 +8,6 @@ use Rattle.std.proofs.lemmas.List.Concat.{flat_map-append}
 use Rattle.std.proofs.lemmas.List.Sums.{fold-append}
 use Rattle.ct_names.specs.declared.refusal.Refusal.TheVariants.{Idle, Undecided, Full}
 use Rattle.ct_names.specs.declared.limit.Limit.TheVariants.{Cells}
-use Rattle.ct_names.specs.Message.{Message}
 use Rattle.ct_names.specs.Value.{Value, minus, ordered}
 use Rattle.ct_model.specs.declared.step.Step.TheVariants.{Deliver}
 use Rattle.ct_model.specs.AtValue.{Standing}
@@ -34,9 +33,12 @@ use Rattle.ct_instances.proofs.Named.{named_some, named_is_some}
 use Rattle.ct_table.specs.Table.{zeros, applied, applied_all, table}
 use Rattle.ct_relay.specs.Taken.{Taken, is_first}
 use Rattle.ct_world.specs.declared.seat.Seat.{Seat}
-use Rattle.ct_world.specs.Seats.{Keeps, IsSameSeat, HasDelivered}
-use Rattle.ct_world.specs.Kept.{Fields, IsWorld, IsActor, HasDeliverRoom, seat_of, values_of}
-use Rattle.ct_world.proofs.Insides.{IsPrepared}
+use Rattle.ct_world.specs.Seats.{Keeps, IsSameSeat, HasDelivered, batch_to_post}
+use Rattle.ct_world.specs.Kept.{Fields, IsWorld, IsActor, HasDeliverRoom, NeedsNoRoom, seat_of, values_of}
+use Rattle.ct_world.specs.Prepared.{batch_in, number_in}
+use Rattle.ct_world.specs.declared.prepared.Prepared.{Prepared}
+use Rattle.ct_world.specs.declared.prepared.Prepared.TheVariants as made
+use Rattle.ct_world.proofs.Insides.{IsPrepared, IsMade}
 use Rattle.ct_world.proofs.Members.{seat-same}
 use Rattle.ct_world.proofs.Preparing.{IsAllowed}
 use Rattle.ct_world.proofs.Posts.{stepped-quiet}
@@ -175,43 +177,77 @@ pub value_there : (w : Rehearsal) (p : ℕ) (values : List Value) (seat : Seat) 
 value_there w p values seat id r d number got = sym (copied-some r (slice_get values id) got) ∙ ap is_some (d.value id number).2
 
 -- the room that was made for a Deliver
-pub deliver_room : (w : Rehearsal) (f : Fields) (p : ℕ) (old seat : Seat) (id : ℕ) (v : Value) (new : Fields) → p - 1 < length f.seats → old ≡ seat_of f.seats p → IsSameSeat old seat → new.seats ≡ set f.seats (p - 1) seat → new.book.values ≡ f.book.values → decision_at old.instances old.instances.last ≡ Some id → value_at f.book.values id ≡ Some v → seat.caster.fits_batch ≡ true → length v ≤ seat.caster.room → Joins (order (state_of w)) (order (state_of (extended w (Deliver p)))) new.posting → HasDeliverRoom w new p
-deliver_room w f p old seat id v new within here same set_is values number value fits room joins =
+pub deliver_room : (w : Rehearsal) (f : Fields) (p : ℕ) (old seat : Seat) (id : ℕ) (v : Value) (posting : Option Batch) (new : Fields)
+    → p - 1 < length f.seats → old ≡ seat_of f.seats p → IsSameSeat old seat
+    → new.seats ≡ set f.seats (p - 1) seat → new.book.values ≡ f.book.values → decision_at old.instances old.instances.last ≡ Some id
+    → value_at f.book.values id ≡ Some v
+    → seat.caster.fits_batch ≡ true → length v ≤ seat.caster.room → Joins (order (state_of w)) (order (state_of (extended w (Deliver p))))
+    posting → HasDeliverRoom w new p id posting
+deliver_room w f p old seat id v posting new within here same set_is values number value fits room joins =
     let there : seat_of new.seats p ≡ seat = ap (λ list. seat_of list p) set_is ∙ seat-same f.seats p seat within in
     let last : seat.instances.last ≡ old.instances.last = ap (λ (k : Kept). k.last) same.instances in
     record {
-      batch = rw there fits;
-      messages = rw there (λ other u is has.
-          let id_is : id ≡ other = some-same id other (sym number ∙ sym (same.decisions old.instances.last) ∙ ap (decision_at seat.instances) (sym last) ∙ is) in
-          let v_is : v ≡ u = some-same v u (sym value ∙ ap (value_at f.book.values) id_is ∙ ap (λ list. value_at list other) (sym values) ∙ has) in
-          subst (λ x. length x ≤ seat.caster.room) v_is room);
+      number = rw there (ap (decision_at seat.instances) last ∙ same.decisions old.instances.last ∙ number);
+      fits = rw there fits;
+      messages = rw there (λ u has. subst (λ x. length x ≤ seat.caster.room)
+          (some-same v u (sym value ∙ ap (λ list. value_at list id) (sym values) ∙ has)) room);
       posting = joins;
     }
 
--- whether the step posts: by how many batches its seat has
+pub deliver_numbered : (w : Rehearsal) (p : ℕ) (f : Fields) (x : Prepared) → IsMade w (Deliver p) f x → is_some (number_in x) ≡ true
+deliver_numbered w p f (made.Deliver q id batch) h = refl
+deliver_numbered w p f (made.Receive q j i) h = absurd (let e = h.is in cc)
+deliver_numbered w p f (made.Postpone q j i) h = absurd (let e = h.is in cc)
+deliver_numbered w p f (made.Begin q v) h = absurd (let e = h.is in cc)
+deliver_numbered w p f (made.Other s) h = absurd (subst NeedsNoRoom h.is h.for_itself)
 
-module _ (w : Rehearsal) (p : ℕ) (f : Fields) (seat : Seat) (a : IsAllowed w (Deliver p) f) (here : seat ≡ seat_of f.seats p) where
-  step : IsDeliverStep w p
-  step = deliver_taken w p a.world.lawful a.allowed
+pub deliver_made : (w : Rehearsal) (p id : ℕ) (f : Fields) (x : Prepared) → IsMade w (Deliver p) f x → number_in x ≡ Some id
+    → HasDeliverRoom w f p id (batch_in x)
+deliver_made w p id f (made.Deliver q number batch) h is =
+    let e = h.is in
+    let member : q ≡ p = cc in
+    let same : number ≡ id = cc in
+    rw (← member, ← same) h.for_itself
+deliver_made w p id f (made.Receive q j i) h is = absurd (let e = h.is in cc)
+deliver_made w p id f (made.Postpone q j i) h is = absurd (let e = h.is in cc)
+deliver_made w p id f (made.Begin q v) h is = absurd (let e = h.is in cc)
+deliver_made w p id f (made.Other s) h is = absurd (subst NeedsNoRoom h.is h.for_itself)
 
-  keeps : Keeps w.setting.members f.book.values p (member (state_of w) p) seat
-  keeps = rw here (a.world.seat p a.in_group)
+-- what the step posts: by how many batches its seat has
+pub joins_posting : (w : Rehearsal) (p : ℕ) (f : Fields) (seat : Seat) (id : ℕ) (v : Value) (posted : ℕ) (posting : Option Batch)
+    → IsAllowed w (Deliver p) f → seat ≡ seat_of f.seats p
+    → decision_at seat.instances seat.instances.last ≡ Some id → value_at f.book.values id ≡ Some v → posted ≡ length (order (state_of w))
+    → posting ≡ batch_to_post seat.caster v posted
+    → Joins (order (state_of w)) (order (state_of (extended w (Deliver p)))) posting
+joins_posting w p f seat id v posted posting a here number value count is =
+    subst (λ o. Joins (order (state_of w)) (order (state_of (extended w (Deliver p)))) o) (sym is)
+    (go (nat_lt (length seat.caster.batches) posted) refl)
+  where
+    step : IsDeliverStep w p
+    step = deliver_taken w p a.world.lawful a.allowed
 
-  batches_there : length seat.caster.batches ≡ length (member (state_of w) p).batches
-  batches_there = ap length keeps.batches ∙ length-map (member (state_of w) p).batches (λ (b : Batch). b.messages)
+    keeps : Keeps w.setting.members f.book.values p (member (state_of w) p) seat
+    keeps = rw here (a.world.seat p a.in_group)
 
-  pub joins_behind : length seat.caster.batches < length (order (state_of w)) → Joins (order (state_of w)) (order (state_of (extended w (Deliver p)))) None
-  joins_behind few = let number = batches_there in order-behind w p a.world.lawful step (omega arith)
+    there : length seat.caster.batches ≡ length (member (state_of w) p).batches
+    there = ap length keeps.batches ∙ length-map (member (state_of w) p).batches (λ (b : Batch). b.messages)
 
-  pub joins_ahead : (id : ℕ) (v : Value) (batch : Batch) → decision_at seat.instances seat.instances.last ≡ Some id → value_at f.book.values id ≡ Some v → batch.instance ≡ seat.caster.instance → batch.messages ≡ cast_batch seat.caster v → length (order (state_of w)) ≤ length seat.caster.batches → Joins (order (state_of w)) (order (state_of (extended w (Deliver p)))) (Some batch)
-  joins_ahead id v batch number value instance messages many =
-      let count = batches_there in
-      let found = (due w p f.book.values seat step keeps).value id number in
-      let same : v ≡ step.value = some-same v step.value (sym value ∙ found.2 ∙ sym found.1 ∙ step.decision) in
-      let its_instance : batch.instance ≡ (member (state_of w) p).last = instance ∙ keeps.begun in
-      let its_messages : batch.messages ≡ batch_of (member (state_of w) p) step.value = messages ∙ batch-same w.setting.members f.book.values p (member (state_of w) p) seat v keeps ∙ ap (batch_of (member (state_of w) p)) same in
-      order-ahead w p a.world.lawful step (omega arith)
-      ∙ ap (λ (x : Batch). order (state_of w) ++ x ∷ []) (batch_is batch (member (state_of w) p).last (batch_of (member (state_of w) p) step.value) its_instance its_messages)
-    where
-      batch_is : (b : Batch) (i : ℕ) (list : List Message) → b.instance ≡ i → b.messages ≡ list → record { instance = i; messages = list } ≡ b
-      batch_is b i list e f = rw (sym e, sym f) refl
+    found : (u : Value) × (decided (member (state_of w) p).got (member (state_of w) p).last ≡ Some u) × (value_at f.book.values id ≡ Some u)
+    found = (due w p f.book.values seat step keeps).value id number
+
+    same : v ≡ step.value
+    same = some-same v step.value (sym value ∙ found.2 ∙ sym found.1 ∙ step.decision)
+
+    delivers : cast_batch seat.caster v ≡ batch_of (member (state_of w) p) step.value
+    delivers = batch-same w.setting.members f.book.values p (member (state_of w) p) seat v keeps
+        ∙ ap (batch_of (member (state_of w) p)) same
+
+    go : (b : Bool) → nat_lt (length seat.caster.batches) posted ≡ b
+        → Joins (order (state_of w)) (order (state_of (extended w (Deliver p))))
+        (if b then None else Some (record { instance = seat.caster.instance; messages = cast_batch seat.caster v }))
+    go true e = order-behind w p a.world.lawful step (let few : length seat.caster.batches < posted = grind (arith, nat_tests) in
+        omega (arith, there))
+    go false e =
+        order-ahead w p a.world.lawful step (let many : posted ≤ length seat.caster.batches = grind (arith, nat_tests) in
+        omega (arith, there))
+        ∙ (λ j. order (state_of w) ++ record { instance = sym keeps.begun j; messages = sym delivers j } ∷ [])

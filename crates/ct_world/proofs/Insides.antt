@@ -1,6 +1,6 @@
 -- The fields of a world, taken together.
-use Rattle.std.proofs.Common.{◌≡◌, ℕ, ◌+◌, ◌-◌, ◌<◌, ◌≤◌, true, List, [], ◌∷◌, ◌++◌, length, get_or, ap, ◌∙◌, sym, subst, Some, None, Option, arith}
-use Rattle.std.specs.Prelude.{option_map, vec_len, vec_capacity}
+use Rattle.std.proofs.Common.{◌≡◌, ℕ, ◌+◌, ◌-◌, ◌<◌, ◌≤◌, true, List, [], ◌∷◌, ◌++◌, length, get_or, refl, ap, ◌∙◌, sym, subst, Some, None, Option, arith}
+use Rattle.std.specs.Prelude.{option_map, is_some, vec_len, vec_capacity}
 use Rattle.ct_names.specs.Group.{is_member}
 use Rattle.ct_model.specs.declared.step.Step.{Step}
 use Rattle.ct_model.specs.Actor.{actor}
@@ -11,11 +11,13 @@ use Rattle.ct_model.specs.Rehearsal.{Rehearsal, state_of, extended}
 use Rattle.ct_model.specs.Cause.{cause}
 use Rattle.ct_model.proofs.Causes.{cause-none}
 use Rattle.ct_model.proofs.Frame.{length-after-sent}
-use Rattle.ct_model.proofs.Outcomes.{some-none}
+use Rattle.ct_model.proofs.Outcomes.{some-same, some-none}
 use Rattle.ct_model.proofs.Taken.{IsTaken, next-step, state-step}
+use Rattle.ct_world.specs.declared.prepared.Prepared.{Prepared}
 use Rattle.ct_world.specs.declared.seat.Seat.{Seat}
+use Rattle.ct_world.specs.Prepared.{step_in}
 use Rattle.ct_world.specs.declared.world.World.TheInside.{Inside}
-use Rattle.ct_world.specs.Kept.{Fields, IsWorld, IsReady, IsKept, seat_of}
+use Rattle.ct_world.specs.Kept.{Fields, IsWorld, IsReady, HasOwnRoom, IsKept, seat_of}
 use Rattle.ct_world.specs.World.{WorldView, IsDone}
 use Rattle.ct_world.proofs.Members.{member_low, place, seat_found}
 
@@ -23,10 +25,10 @@ abbrev pub rehearsal_in : Inside → Rehearsal
 rehearsal_in a = record { setting = record { members = a.group }; cells = a.cells; steps = a.record.items }
 
 abbrev pub view_in : Inside → WorldView
-view_in a = record { rehearsal = rehearsal_in a; prepared = a.prepared }
+view_in a = record { rehearsal = rehearsal_in a; prepared = option_map step_in a.prepared }
 
 abbrev pub fields_in : Inside → Fields
-fields_in a = record { network = a.network; book = a.book; seats = a.seats.items; proposal = a.proposal; posting = option_map (λ b. b.value) a.posting; place = a.place; spare_steps = vec_capacity a.record - vec_len a.record }
+fields_in a = record { network = a.network; book = a.book; seats = a.seats.items; spare_steps = vec_capacity a.record - vec_len a.record }
 
 abbrev pub IsKeptIn : Inside → Type 0
 IsKeptIn a = IsKept (rehearsal_in a) a.prepared (fields_in a)
@@ -54,10 +56,42 @@ prepared_at w step f world ready =
       within = omega (arith, world.seated);
     }
 
+some_mapped : {A B : Type 0} (f : A → B) (o : Option A) (y : B) → option_map f o ≡ Some y → (x : A) × (o ≡ Some x) × (f x ≡ y)
+some_mapped f None y e = some-none y e
+some_mapped f (Some x) y e = (x, refl, some-same (f x) y e)
+
 -- the prepared step, by the fields
 pub prepared_in : (a : Inside) (v : WorldView) (step : Step) → view_in a ≡ v → IsKeptIn a → v.prepared ≡ Some step → IsPreparedIn a step
 prepared_in a v step view kept is =
-    prepared_at (rehearsal_in a) step (fields_in a) kept.world (kept.ready step (ap (λ (x : WorldView). x.prepared) view ∙ is))
+    let x = some_mapped step_in a.prepared step (ap (λ (u : WorldView). u.prepared) view ∙ is) in
+    prepared_at (rehearsal_in a) step (fields_in a) kept.world
+    (subst (λ s. IsReady (rehearsal_in a) s (fields_in a)) x.2 (kept.ready x.0 x.1).ready)
+
+-- what was found and made for a prepared step
+pub record IsMade (w : Rehearsal) (step : Step) (f : Fields) (x : Prepared) : Type 0 where
+  pub is : step_in x ≡ step
+  pub for_itself : HasOwnRoom w f x
+
+abbrev pub IsMadeIn : Inside → Step → Prepared → Type 0
+IsMadeIn a step x = IsMade (rehearsal_in a) step (fields_in a) x
+
+pub made_in : (a : Inside) (v : WorldView) (step : Step) (o : Option Prepared) (x : Prepared) → view_in a ≡ v → IsKeptIn a
+    → v.prepared ≡ Some step → o ≡ a.prepared → o ≡ Some x → IsMadeIn a step x
+made_in a v step o x view kept prepared same is =
+    let here : a.prepared ≡ Some x = sym same ∙ is in
+    record {
+      is = some-same (step_in x) step (sym (ap (option_map step_in) here) ∙ ap (λ (u : WorldView). u.prepared) view ∙ prepared);
+      for_itself = (kept.ready x here).for_itself;
+    }
+
+pub there_in : (a : Inside) (v : WorldView) (step : Step) (o : Option Prepared) → view_in a ≡ v → v.prepared ≡ Some step → o ≡ a.prepared
+    → is_some o ≡ true
+there_in a v step o view prepared same = ap is_some same ∙ sym (mapped_there step_in a.prepared)
+    ∙ ap is_some (ap (λ (u : WorldView). u.prepared) view ∙ prepared)
+  where
+    mapped_there : {A B : Type 0} (f : A → B) (o : Option A) → is_some (option_map f o) ≡ is_some o
+    mapped_there f None = refl
+    mapped_there f (Some x) = refl
 
 pub within_in : (a : Inside) (step : Step) → IsPreparedIn a step → actor step - 1 < vec_len a.seats
 within_in a step p = let within = p.within in omega (arith, a.seats.ok.0)
@@ -77,7 +111,8 @@ done_of w v prepared step o new f more view is world taken number =
 -- the step is done, where the record has it at its end
 pub done_in : (a : Inside) (v : WorldView) (step : Step) (o : Outcome) (steps : List Step) (more : ℕ) → view_in a ≡ v → IsPreparedIn a step → steps ≡ a.record.items ++ step ∷ [] → IsTaken (rehearsal_in a) step o → length (envelopes a.group o.mail) ≡ more → IsDone v.rehearsal step (record (rehearsal_in a) { steps = steps }) more
 done_in a v step o steps more view p pushed taken number =
-    done_of (rehearsal_in a) v a.prepared step o (record (rehearsal_in a) { steps = steps }) (fields_in a) more view (ap (λ ss. record (rehearsal_in a) { steps = ss }) pushed) p.world taken number
+    done_of (rehearsal_in a) v (option_map step_in a.prepared) step o (record (rehearsal_in a) { steps = steps }) (fields_in a) more view
+    (ap (λ ss. record (rehearsal_in a) { steps = ss }) pushed) p.world taken number
 
 -- a world with one step more and none prepared
 pub kept_in : (a : Inside) (step : Step) (steps : List Step) (f : Fields) → steps ≡ a.record.items ++ step ∷ [] → IsWorld (extended (rehearsal_in a) step) f → IsKept (record (rehearsal_in a) { steps = steps }) None f

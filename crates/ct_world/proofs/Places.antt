@@ -123,6 +123,7 @@ found_in w f p k world group =
     ∙ ap (place_of k) (world.line p group)
 
 -- the step is allowed at the place unless a limit is passed
-pub unless-found : (w : Rehearsal) (step : Step) (fault : Option Refusal) (i : ℕ) (found : Result ℕ Refusal) → cause w step ≡ fault → IsPlaced w step i → IsUnless fault i found → IsFound w step found
+pub unless-found : (w : Rehearsal) (step : Step) (fault : Option Refusal) (i : Option ℕ) (found : Result (Option ℕ) Refusal)
+    → cause w step ≡ fault → IsPlaced w step i → IsUnless fault i found → IsFound w step found
 unless-found w step fault i (Ok j) is at h = record { allowed = is ∙ h.1; placed = subst (λ x. IsPlaced w step x) (sym h.0) at }
 unless-found w step fault i (Err refusal) is at h = is ∙ h

@@ -1,6 +1,6 @@
 -- The receipt of a step that posts.
-use Rattle.std.proofs.Common.{◌≡◌, ℕ, ◌+◌, List, [], ◌∷◌, ◌++◌, Option, Some, None, length, refl, ap, sym, ◌∙◌}
-use Rattle.std.specs.Prelude.{slice_get}
+use Rattle.std.proofs.Common.{◌≡◌, ℕ, ◌+◌, ◌≤◌, List, [], ◌∷◌, ◌++◌, Option, Some, None, length, refl, ap, sym, ◌∙◌, subst, arith}
+use Rattle.std.specs.Prelude.{slice_get, option_map, IfSome}
 use Rattle.ct_names.specs.Batch.{Batch}
 use Rattle.ct_model.specs.declared.step.Step.{Step}
 use Rattle.ct_model.specs.Cause.{order}
@@ -9,7 +9,7 @@ use Rattle.ct_model.specs.Order.{Joins}
 use Rattle.ct_model.specs.Rehearsal.{Rehearsal, state_of, extended}
 use Rattle.ct_model.proofs.Prefixes.{order-instance}
 use Rattle.ct_board.specs.Board.{Posted}
-use Rattle.ct_world.specs.Posting.{HasPosted, IsSetAt}
+use Rattle.ct_world.specs.Posting.{HasPosted, IsSet}
 
 last_there : (list : List Batch) (b : Batch) → slice_get (list ++ b ∷ []) (length list) ≡ Some b
 last_there [] b = refl
@@ -20,17 +20,31 @@ joined_instance : (w : Rehearsal) (list : List Batch) (b : Batch) → IsLawful w
 joined_instance w list b law joined =
     order-instance w.setting w.steps (state_of w) law.runs (length list) b (ap (λ all. slice_get all (length list)) joined ∙ last_there list b)
 
+-- so it has a place
+pub posting_low : {A : Type 0} (w : Rehearsal) (step : Step) (f : A → Batch) (o : Option A) (posting : Option Batch)
+    → IsLawful (extended w step)
+    → Joins (order (state_of w)) (order (state_of (extended w step))) posting → option_map f o ≡ posting
+    → IfSome o (λ b. 1 ≤ (f b).instance)
+posting_low w step f None posting law joins is = tt
+posting_low w step f (Some b) posting law joins is =
+    let instance = joined_instance (extended w step) (order (state_of w)) (f b) law
+    (subst (λ o. Joins (order (state_of w)) (order (state_of (extended w step))) o) (sym is) joins) in
+    omega arith
+
 -- what was set is what joins the order
-pub has_posted : (cells : List ℕ) (w : Rehearsal) (step : Step) (place : ℕ) (posting : Option Batch) (receipt : Option Posted) → IsLawful (extended w step) → Joins (order (state_of w)) (order (state_of (extended w step))) posting → place ≡ length (order (state_of w)) → IsSetAt cells place posting receipt → HasPosted cells w (extended w step) receipt
-has_posted cells w step place None None law joins at set = joins
-has_posted cells w step place None (Some r) law joins at set = absurd set
-has_posted cells w step place (Some b) None law joins at set = absurd set
-has_posted cells w step place (Some b) (Some r) law joins at set =
+pub has_posted : (cells : List ℕ) (w : Rehearsal) (step : Step) (posting : Option Batch) (receipt : Option Posted)
+    → IsLawful (extended w step) → Joins (order (state_of w)) (order (state_of (extended w step))) posting
+    → IsSet cells posting receipt → HasPosted cells w (extended w step) receipt
+has_posted cells w step None None law joins set = joins
+has_posted cells w step None (Some r) law joins set = absurd set
+has_posted cells w step (Some b) None law joins set = absurd set
+has_posted cells w step (Some b) (Some r) law joins set =
     let joined : order (state_of (extended w step)) ≡ order (state_of w) ++ r.batch ∷ [] = joins ∙ ap (λ x. order (state_of w) ++ x ∷ []) (sym set.0) in
-    let here : r.place ≡ length (order (state_of w)) = set.1 ∙ at in
+    let instance : b.instance ≡ length (order (state_of w)) + 1 = joined_instance (extended w step) (order (state_of w)) b law joins in
+    let here : r.place ≡ length (order (state_of w)) = set.1 ∙ omega arith in
     record {
       joined = joined;
       place = here;
       instance = joined_instance (extended w step) (order (state_of w)) r.batch law joined ∙ ap (λ k. k + 1) (sym here);
-      cell = ap (slice_get cells) set.1 ∙ set.2;
+      cell = set.2;
     }

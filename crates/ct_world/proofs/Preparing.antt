@@ -1,5 +1,5 @@
 -- A step that is allowed: what is there, and what is kept while room is made for it.
-use Rattle.std.proofs.Common.{◌≡◌, ◌-◌, ◌<◌, ◌≤◌, true, List, length, get_or, set, ap, sym, ◌∙◌, subst, Some, None, arith}
+use Rattle.std.proofs.Common.{◌≡◌, ◌-◌, ◌<◌, ◌≤◌, true, List, length, get_or, set, refl, ap, sym, ◌∙◌, subst, Option, Some, None, option_map, arith}
 use Rattle.std.specs.Prelude.{vec_len}
 use Rattle.ct_names.specs.Group.{is_member}
 use Rattle.ct_model.specs.declared.step.Step.{Step}
@@ -7,10 +7,13 @@ use Rattle.ct_model.specs.Actor.{actor}
 use Rattle.ct_model.specs.Cause.{cause}
 use Rattle.ct_model.specs.Rehearsal.{Rehearsal}
 use Rattle.ct_model.proofs.Causes.{cause-none}
+use Rattle.ct_model.proofs.Outcomes.{some-none}
+use Rattle.ct_world.specs.declared.prepared.Prepared.{Prepared}
 use Rattle.ct_world.specs.declared.seat.Seat.{Seat}
+use Rattle.ct_world.specs.Prepared.{step_in}
 use Rattle.ct_world.specs.declared.world.World.TheInside.{Inside}
 use Rattle.ct_world.specs.Seats.{IsSameSeat}
-use Rattle.ct_world.specs.Kept.{Fields, IsWorld, IsReady, IsKept, seat_of}
+use Rattle.ct_world.specs.Kept.{Fields, IsWorld, HasRoom, IsKept, seat_of}
 use Rattle.ct_world.specs.World.{WorldView}
 use Rattle.ct_world.proofs.Insides.{rehearsal_in, view_in, fields_in, IsKeptIn}
 use Rattle.ct_world.proofs.Members.{member_low, place, seat_found}
@@ -58,9 +61,19 @@ roomier_in a step old seat new p here same values sent lines seats =
 -- still no step is prepared
 pub unprepared_in : (a : Inside) (v : WorldView) (steps : List Step) (new : Fields) → view_in a ≡ v → v.prepared ≡ None → steps ≡ a.record.items → IsWorld (rehearsal_in a) new → IsKept (record (rehearsal_in a) { steps = steps }) a.prepared new
 unprepared_in a v steps new view none same world =
-    kept-unprepared (record (rehearsal_in a) { steps = steps }) a.prepared new (ap (λ (x : WorldView). x.prepared) view ∙ none) (subst (λ ss. IsWorld (record (rehearsal_in a) { steps = ss }) new) (sym same) world)
+    kept-unprepared (record (rehearsal_in a) { steps = steps }) a.prepared new
+    (none_mapped a.prepared (ap (λ (x : WorldView). x.prepared) view ∙ none))
+    (subst (λ ss. IsWorld (record (rehearsal_in a) { steps = ss }) new) (sym same) world)
+  where
+    none_mapped : (o : Option Prepared) → option_map step_in o ≡ None → o ≡ None
+    none_mapped None e = refl
+    none_mapped (Some x) e = some-none (step_in x) (sym e)
 
 -- the step is prepared
-pub ready_in : (a : Inside) (step : Step) (steps : List Step) (new : Fields) → steps ≡ a.record.items → IsWorld (rehearsal_in a) new → IsReady (rehearsal_in a) step new → IsKept (record (rehearsal_in a) { steps = steps }) (Some step) new
-ready_in a step steps new same world ready =
-    kept-ready (record (rehearsal_in a) { steps = steps }) step new (subst (λ ss. IsWorld (record (rehearsal_in a) { steps = ss }) new) (sym same) world) (subst (λ ss. IsReady (record (rehearsal_in a) { steps = ss }) step new) (sym same) ready)
+pub ready_in : (a : Inside) (x : Prepared) (steps : List Step) (new : Fields) → steps ≡ a.record.items → IsWorld (rehearsal_in a) new
+    → HasRoom (rehearsal_in a) x new
+    → IsKept (record (rehearsal_in a) { steps = steps }) (Some x) new
+ready_in a x steps new same world room =
+    kept-ready (record (rehearsal_in a) { steps = steps }) x new
+    (subst (λ ss. IsWorld (record (rehearsal_in a) { steps = ss }) new) (sym same) world)
+    (subst (λ ss. HasRoom (record (rehearsal_in a) { steps = ss }) x new) (sym same) room)

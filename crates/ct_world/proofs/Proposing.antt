@@ -1,5 +1,5 @@
 -- Begin: why it is refused, by the seat, and the seat after it.
-use Rattle.std.proofs.Common.{◌≡◌, ℕ, ◌+◌, ◌-◌, ◌≤◌, ◌<◌, Bool, true, false, not, List, [], ◌∷◌, ◌++◌, length, set, refl, ap, sym, ◌∙◌, arith, Option, Some, None, option_map, Bor}
+use Rattle.std.proofs.Common.{◌≡◌, ℕ, ◌+◌, ◌-◌, ◌≤◌, ◌<◌, Bool, true, false, not, List, [], ◌∷◌, ◌++◌, length, set, refl, ap, sym, ◌∙◌, subst, arith, Option, Some, None, option_map, Bor}
 use Rattle.std.specs.Prelude.{option_copied, nat_lt, is_some, map}
 use Rattle.std.proofs.lemmas.Bool.Decides.{nat_tests}
 use Rattle.ct_names.specs.declared.refusal.Refusal.TheVariants.{Busy, Nothing, Full}
@@ -24,9 +24,12 @@ use Rattle.ct_instances.proofs.Keeping.{keeps-opened}
 use Rattle.ct_instances.proofs.Named.{standing_is_some}
 use Rattle.ct_world.specs.declared.seat.Seat.{Seat}
 use Rattle.ct_world.specs.Seats.{Keeps}
-use Rattle.ct_world.specs.Kept.{Fields, IsWorld, IsActor, HasBeginRoom, seat_of, values_of}
+use Rattle.ct_world.specs.Kept.{Fields, IsWorld, IsActor, HasBeginRoom, NeedsNoRoom, seat_of, values_of}
+use Rattle.ct_world.specs.Prepared.{proposal_in}
+use Rattle.ct_world.specs.declared.prepared.Prepared.{Prepared}
+use Rattle.ct_world.specs.declared.prepared.Prepared.TheVariants as made
 use Rattle.ct_instances.specs.Kept.{has_room_open}
-use Rattle.ct_world.proofs.Insides.{IsPrepared}
+use Rattle.ct_world.proofs.Insides.{IsPrepared, IsMade}
 use Rattle.ct_world.proofs.Members.{seat-same}
 use Rattle.ct_world.proofs.Preparing.{IsAllowed}
 use Rattle.ct_world.proofs.Proposals.{few-values}
@@ -158,13 +161,15 @@ can_begin w p f ready =
     }
 
 -- the room that was made for a Begin
-pub begin_room : (seats : List Seat) (p : ℕ) (seat : Seat) (v : Value) (new : Fields) → p - 1 < length seats → new.seats ≡ set seats (p - 1) seat → new.proposal ≡ Some v → v ≡ cast_undelivered seat.caster → has_room_open seat.instances (seat.instances.last + 1) ≡ true → 0 < new.book.room → HasBeginRoom new p
-begin_room seats p seat v new within set_is proposal value entry room =
+pub begin_room : (seats : List Seat) (p : ℕ) (seat : Seat) (v : Value) (new : Fields) → p - 1 < length seats
+    → new.seats ≡ set seats (p - 1) seat → v ≡ cast_undelivered seat.caster → has_room_open seat.instances
+    (seat.instances.last + 1) ≡ true → 0 < new.book.room → HasBeginRoom new p v
+begin_room seats p seat v new within set_is value entry room =
     let here : seat_of new.seats p ≡ seat = ap (λ list. seat_of list p) set_is ∙ seat-same seats p seat within in
     record {
       book = room;
       entry = rw here entry;
-      proposal = proposal ∙ ap Some value ∙ ap (λ (s : Seat). Some (cast_undelivered s.caster)) (sym here);
+      proposal = value ∙ ap (λ (s : Seat). cast_undelivered s.caster) (sym here);
     }
 
 -- fewer than 1,024 instances began where a Begin is allowed
@@ -180,5 +185,11 @@ begin_number w f world =
     let same : length f.book.values ≡ length (values_of (state_of w)) = ap length world.values in
     omega arith
 
-pub is_there : {A : Type 0} (o : Option A) (x : A) → o ≡ Some x → is_some o ≡ true
-is_there o x e = ap is_some e
+-- the proposal that was made
+pub begin_made : (w : Rehearsal) (p : ℕ) (f : Fields) (x : Prepared) → IsMade w (Begin p) f x
+    → (v : Value) × (proposal_in x ≡ Some v) × HasBeginRoom f p v
+begin_made w p f (made.Begin q v) h = (v, refl, subst (λ r. HasBeginRoom f r v) (let e : q ≡ p = cc in e) h.for_itself)
+begin_made w p f (made.Other s) h = absurd (subst NeedsNoRoom h.is h.for_itself)
+begin_made w p f (made.Receive q k i) h = absurd (cc)
+begin_made w p f (made.Deliver q id batch) h = absurd (cc)
+begin_made w p f (made.Postpone q k i) h = absurd (cc)

@@ -1,7 +1,9 @@
 -- Receive.
-use Rattle.std.proofs.Common.{◌≡◌, ℕ, ◌+◌, ◌-◌, ◌<◌, ◌≤◌, Bool, true, not, List, [], ◌++◌, length, set, filter, Some, refl, ap, sym, ◌∙◌, subst, arith, append-nil}
-use Rattle.std.specs.Prelude.{◌==◌, if◌then◌else◌}
-use Rattle.std.proofs.lemmas.List.{length-set}
+use Rattle.std.proofs.Common.{◌≡◌, ℕ, ◌+◌, ◌-◌, ◌<◌, ◌≤◌, Bool, true, not, List, [], ◌++◌, length, set, filter, Some, refl, ap, sym, ◌∙◌, subst, arith, append-nil, false, ◌&&◌, inl, inr}
+use Rattle.std.specs.Prelude.{◌==◌, if◌then◌else◌, is_some}
+use Rattle.std.proofs.lemmas.List.{length-set, get_or-set_same, get_or-set_other}
+use Rattle.std.proofs.lemmas.Bool.{cases_eq}
+use Rattle.std.proofs.lemmas.List.Elements.{filter_agree}
 use Rattle.ct_names.specs.Group.{is_member}
 use Rattle.ct_model.specs.declared.step.Step.TheVariants.{Receive}
 use Rattle.ct_model.specs.Cause.{cause, overflow}
@@ -25,10 +27,13 @@ use Rattle.ct_instances.proofs.Named.{named_all, named_wire, named_posts, named_
 use Rattle.ct_world.specs.declared.seat.Seat.{Seat}
 use Rattle.ct_world.specs.declared.world.World.TheInside.{Inside}
 use Rattle.ct_world.specs.Seats.{Keeps, HasReceived, CanReceive, is_passed_on, passed_on}
-use Rattle.ct_world.specs.Kept.{Fields, IsWorld, IsActor, HasReceiveRoom, values_of, seat_of}
-use Rattle.ct_world.proofs.Insides.{IsPrepared, IsPreparedIn, rehearsal_in, fields_in}
-use Rattle.ct_world.proofs.Members.{seat-same}
-use Rattle.ct_world.proofs.Posts.{IsPosted, changed_line}
+use Rattle.ct_world.specs.Kept.{Fields, IsWorld, IsActor, HasReceiveRoom, values_of, seat_of, StandsAt, NeedsNoRoom}
+use Rattle.ct_world.proofs.Insides.{IsPrepared, IsPreparedIn, rehearsal_in, fields_in, IsMade}
+use Rattle.ct_world.proofs.Members.{seat-same, apart, place}
+use Rattle.ct_world.proofs.Posts.{IsPosted, changed_line, filter_true}
+use Rattle.ct_world.specs.Prepared.{place_in}
+use Rattle.ct_world.specs.declared.prepared.Prepared.{Prepared}
+use Rattle.ct_world.specs.declared.prepared.Prepared.TheVariants as made
 use Rattle.ct_world.proofs.Receipts.{receive_keeps, passes}
 use Rattle.ct_world.proofs.Refines.{IsStepped, refined}
 use Rattle.ct_world.proofs.Waits.{IsAwaited, awaited-is}
@@ -132,7 +137,33 @@ module _ (w : Rehearsal) (p k : ℕ) (f : Fields) (x : AnyEnvelope ℕ) (ready :
 
 -- room for it
 
-pub receive_room : (f new : Fields) (p k : ℕ) (seat : Seat) (x : AnyEnvelope ℕ) → p - 1 < length f.seats → new.seats ≡ set f.seats (p - 1) seat → Some x ≡ at_serial new.network.sent k → CanReceive seat x.wire → HasReceiveRoom new p k
-receive_room f new p k seat x within seats is can y e =
+pub receive_placed : (w : Rehearsal) (p k : ℕ) (f : Fields) (x : Prepared) → IsMade w (Receive p k) f x → is_some (place_in x) ≡ true
+receive_placed w p k f (made.Receive q j i) h = refl
+receive_placed w p k f (made.Postpone q j i) h = refl
+receive_placed w p k f (made.Begin q v) h = absurd (let e = h.is in cc)
+receive_placed w p k f (made.Deliver q id batch) h = absurd (let e = h.is in cc)
+receive_placed w p k f (made.Other s) h = absurd (subst NeedsNoRoom h.is h.for_itself)
+
+pub receive_made : (w : Rehearsal) (p k i : ℕ) (f : Fields) (x : Prepared) → IsMade w (Receive p k) f x → place_in x ≡ Some i
+    → HasReceiveRoom w f p k i
+receive_made w p k i f (made.Receive q j l) h at =
+    let e = h.is in
+    let member : q ≡ p = cc in
+    let serial : j ≡ k = cc in
+    let place : l ≡ i = cc in
+    rw (← member, ← serial, ← place) h.for_itself
+receive_made w p k i f (made.Postpone q j l) h at = absurd (let e = h.is in cc)
+receive_made w p k i f (made.Begin q v) h at = absurd (let e = h.is in cc)
+receive_made w p k i f (made.Deliver q id batch) h at = absurd (let e = h.is in cc)
+receive_made w p k i f (made.Other s) h at = absurd (subst NeedsNoRoom h.is h.for_itself)
+
+pub receive_room : (w : Rehearsal) (f new : Fields) (p k i : ℕ) (seat : Seat) (x : AnyEnvelope ℕ) → p - 1 < length f.seats
+    → new.seats ≡ set f.seats (p - 1) seat → Some x ≡ at_serial new.network.sent k
+    → CanReceive seat x.wire → StandsAt w p k i → HasReceiveRoom w new p k i
+receive_room w f new p k i seat x within seats is can placed =
     let here : seat_of new.seats p ≡ seat = ap (λ list. seat_of list p) seats ∙ seat-same f.seats p seat within in
-    subst (λ (z : AnyEnvelope ℕ). CanReceive (seat_of new.seats p) z.wire) (some-same x y (is ∙ e)) (subst (λ (s : Seat). CanReceive s x.wire) (sym here) can)
+    record {
+      wire = λ y e. subst (λ (z : AnyEnvelope ℕ). CanReceive (seat_of new.seats p) z.wire) (some-same x y (is ∙ e))
+          (subst (λ (s : Seat). CanReceive s x.wire) (sym here) can);
+      placed = placed;
+    }

@@ -5,16 +5,16 @@ use Rattle.std.proofs.lemmas.List.{length-set}
 use Rattle.ct_names.specs.Group.{is_member}
 use Rattle.ct_names.specs.Value.{Value}
 use Rattle.std.specs.Prelude.{List}
-use Rattle.ct_model.specs.declared.step.Step.{Step}
 use Rattle.ct_model.specs.State.{Member}
 use Rattle.ct_model.specs.Rehearsal.{Rehearsal}
 use Rattle.ct_model.proofs.Outcomes.{some-same, some-none}
 use Rattle.ct_relay.specs.Taken.{is_first}
 use Rattle.ct_instances.proofs.Keeping.{keeps-prepared}
 use Rattle.ct_network.specs.Network.{line_at}
+use Rattle.ct_world.specs.declared.prepared.Prepared.{Prepared}
 use Rattle.ct_world.specs.declared.seat.Seat.{Seat}
 use Rattle.ct_world.specs.Seats.{Keeps, IsSameSeat}
-use Rattle.ct_world.specs.Kept.{Fields, IsWorld, IsReady, IsKept, seat_of}
+use Rattle.ct_world.specs.Kept.{Fields, IsWorld, HasRoom, IsKept, seat_of}
 use Rattle.ct_world.proofs.Members.{apart, place, seat-same, seat-other}
 
 pub same_seat-refl : (seat : Seat) → IsSameSeat seat seat
@@ -92,15 +92,15 @@ roomier-seat w f new p seat world member values sent lines seats same = record {
 }
 
 -- kept with no step prepared
-pub kept-unprepared : (w : Rehearsal) (prepared : Option Step) (f : Fields) → prepared ≡ None → IsWorld w f → IsKept w prepared f
+pub kept-unprepared : (w : Rehearsal) (prepared : Option Prepared) (f : Fields) → prepared ≡ None → IsWorld w f → IsKept w prepared f
 kept-unprepared w prepared f none world = record {
   world = world;
-  ready = λ step e. some-none step (sym none ∙ e);
+  ready = λ x e. some-none x (sym none ∙ e);
 }
 
 -- kept with a step prepared
-pub kept-ready : (w : Rehearsal) (step : Step) (f : Fields) → IsWorld w f → IsReady w step f → IsKept w (Some step) f
-kept-ready w step f world ready = record {
+pub kept-ready : (w : Rehearsal) (x : Prepared) (f : Fields) → IsWorld w f → HasRoom w x f → IsKept w (Some x) f
+kept-ready w x f world room = record {
   world = world;
-  ready = λ other e. subst (λ x. IsReady w x f) (some-same step other e) ready;
+  ready = λ y e. subst (λ z. HasRoom w z f) (some-same x y e) room;
 }

@@ -1,5 +1,5 @@
 -- What a world keeps, and how it follows from the record.
-use Rattle.std.specs.Prelude.{◌≡◌, ℕ, ◌+◌, ◌-◌, ◌<◌, ◌≤◌, true, false, List, [], length, map, Option, Some, None, Result, MatchResult, slice_index_or}
+use Rattle.std.specs.Prelude.{◌≡◌, ℕ, ◌+◌, ◌-◌, ◌<◌, ◌≤◌, true, false, List, [], length, map, Option, Some, None, Result, MatchResult, slice_index_or, option_map}
 use Rattle.ct_names.specs.declared.limit.TheConstants.{MAX_CELLS, MAX_MEMBERS}
 use Rattle.ct_names.specs.Group.{is_member}
 use Rattle.ct_names.specs.Batch.{Batch}
@@ -20,19 +20,18 @@ use Rattle.ct_abcast.specs.Cast.{undelivered}
 use Rattle.ct_table.specs.Table.{zeros}
 use Rattle.ct_instances.specs.Kept.{decision_at, has_room_open}
 use Rattle.ct_instances.specs.Named.{value_at, NamesEnvelopes}
+use Rattle.ct_world.specs.declared.prepared.Prepared.{Prepared}
+use Rattle.ct_world.specs.declared.prepared.Prepared.TheVariants as made
 use Rattle.ct_world.specs.declared.seat.Seat.{Seat}
+use Rattle.ct_world.specs.Prepared.{step_in}
 use Rattle.ct_world.specs.Seats.{Keeps, CanReceive}
 
--- the fields of a world besides its record: the network, the values by number, the seats, the proposal that a prepared
--- Begin makes, the batch that a prepared Deliver posts, the place in its line of the serial that a prepared Receive or
--- Postpone names, and how many more steps there is room for
+-- the fields of a world besides its record: the network, the values by number, the seats, and how many more steps there
+-- is room for
 pub record Fields : Type 0 where
   pub network : NetworkView
   pub book : Contents
   pub seats : List Seat
-  pub proposal : Option Value
-  pub posting : Option Batch
-  pub place : ℕ
   pub spare_steps : ℕ
 
 -- the values proposed, in order
@@ -72,48 +71,45 @@ abbrev pub StandsAt : Rehearsal → ℕ → ℕ → ℕ → Type 0
 StandsAt w p k i = place_of k (line_of w p) ≡ Some i
 
 -- and so does the serial that the step names, if it names one
-abbrev pub IsPlaced : Rehearsal → Step → ℕ → Type 0
-IsPlaced w (Receive p k) i = StandsAt w p k i
-IsPlaced w (Postpone p k) i = StandsAt w p k i
-IsPlaced w _ i = Unit {0}
+abbrev pub IsPlaced : Rehearsal → Step → Option ℕ → Type 0
+IsPlaced w (Receive p k) (Some i) = StandsAt w p k i
+IsPlaced w (Receive p k) None = ⊥
+IsPlaced w (Postpone p k) (Some i) = StandsAt w p k i
+IsPlaced w (Postpone p k) None = ⊥
+IsPlaced w _ place = place ≡ None
 
 -- the step is allowed, and its serial, if it names one, stands at this place of its line
-pub record IsAllowedAt (w : Rehearsal) (step : Step) (place : ℕ) : Type 0 where
+pub record IsAllowedAt (w : Rehearsal) (step : Step) (place : Option ℕ) : Type 0 where
   pub allowed : cause w step ≡ None
   pub placed : IsPlaced w step place
 
 -- the place where the step is allowed, or why it isn't
-abbrev pub IsFound : Rehearsal → Step → Result ℕ Refusal → Type 0
+abbrev pub IsFound : Rehearsal → Step → Result (Option ℕ) Refusal → Type 0
 IsFound w step found = MatchResult found (λ place. IsAllowedAt w step place) (λ refusal. cause w step ≡ Some refusal)
 
 -- the place, unless there is a refusal
-abbrev pub IsUnless : Option Refusal → ℕ → Result ℕ Refusal → Type 0
+abbrev pub IsUnless : Option Refusal → Option ℕ → Result (Option ℕ) Refusal → Type 0
 IsUnless fault place found = MatchResult found (λ i. (i ≡ place) × (fault ≡ None)) (λ refusal. fault ≡ Some refusal)
 
--- the wire of the serial can be received by p
-abbrev pub HasReceiveRoom : Fields → ℕ → ℕ → Type 0
-HasReceiveRoom f p k = (x : AnyEnvelope ℕ) → at_serial f.network.sent k ≡ Some x → CanReceive (seat_of f.seats p) x.wire
+-- the wire of the serial, which stands at this place, can be received by p
+pub record HasReceiveRoom (w : Rehearsal) (f : Fields) (p k i : ℕ) : Type 0 where
+  pub wire : (x : AnyEnvelope ℕ) → at_serial f.network.sent k ≡ Some x → CanReceive (seat_of f.seats p) x.wire
+  pub placed : StandsAt w p k i
 
--- p can begin its next instance, with the proposal that was made
-pub record HasBeginRoom (f : Fields) (p : ℕ) : Type 0 where
+-- p can begin its next instance, with this proposal
+pub record HasBeginRoom (f : Fields) (p : ℕ) (v : Value) : Type 0 where
   pub book : 0 < f.book.room
   pub entry : has_room_open (seat_of f.seats p).instances ((seat_of f.seats p).instances.last + 1) ≡ true
-  pub proposal : f.proposal ≡ Some (undelivered (seat_of f.seats p).caster)
+  pub proposal : v ≡ undelivered (seat_of f.seats p).caster
 
--- p can deliver the decision of its last instance, and the batch that it posts, if it posts one, is made
-pub record HasDeliverRoom (w : Rehearsal) (f : Fields) (p : ℕ) : Type 0 where
-  pub batch : (seat_of f.seats p).caster.fits_batch ≡ true
-  pub messages : (id : ℕ) (v : Value) → decision_at (seat_of f.seats p).instances (seat_of f.seats p).instances.last ≡ Some id → value_at f.book.values id ≡ Some v → length v ≤ (seat_of f.seats p).caster.room
-  pub posting : Joins (order (state_of w)) (order (state_of (extended w (Deliver p)))) f.posting
+-- p can deliver the value of this number, the decision of its last instance, and this batch is the one that it posts
+pub record HasDeliverRoom (w : Rehearsal) (f : Fields) (p id : ℕ) (batch : Option Batch) : Type 0 where
+  pub number : decision_at (seat_of f.seats p).instances (seat_of f.seats p).instances.last ≡ Some id
+  pub fits : (seat_of f.seats p).caster.fits_batch ≡ true
+  pub messages : (v : Value) → value_at f.book.values id ≡ Some v → length v ≤ (seat_of f.seats p).caster.room
+  pub posting : Joins (order (state_of w)) (order (state_of (extended w (Deliver p)))) batch
 
--- the room that only this step needs
-abbrev pub HasOwnRoom : Rehearsal → Fields → Step → Type 0
-HasOwnRoom w f (Receive p k) = HasReceiveRoom f p k
-HasOwnRoom w f (Begin p) = HasBeginRoom f p
-HasOwnRoom w f (Deliver p) = HasDeliverRoom w f p
-HasOwnRoom w f _ = Unit {0}
-
--- the step needs no such room, and names no serial
+-- the step needs no room of its own, and names no serial
 abbrev pub NeedsNoRoom : Step → Type 0
 NeedsNoRoom (Receive p k) = ⊥
 NeedsNoRoom (Begin p) = ⊥
@@ -121,18 +117,29 @@ NeedsNoRoom (Deliver p) = ⊥
 NeedsNoRoom (Postpone p k) = ⊥
 NeedsNoRoom _ = Unit {0}
 
--- the step is allowed, and there is room for what it does
+-- what was found and made for this step alone
+abbrev pub HasOwnRoom : Rehearsal → Fields → Prepared → Type 0
+HasOwnRoom w f (made.Receive p k i) = HasReceiveRoom w f p k i
+HasOwnRoom w f (made.Begin p v) = HasBeginRoom f p v
+HasOwnRoom w f (made.Deliver p id batch) = HasDeliverRoom w f p id (option_map (λ b. b.value) batch)
+HasOwnRoom w f (made.Postpone p k i) = StandsAt w p k i
+HasOwnRoom w f (made.Other step) = NeedsNoRoom step
+
+-- the step is allowed, and there is room for it in the record and for what it may send
 pub record IsReady (w : Rehearsal) (step : Step) (f : Fields) : Type 0 where
   pub allowed : cause w step ≡ None
   pub for_step : 0 < f.spare_steps
   pub for_sending : f.network.has_room ≡ true
-  pub for_itself : HasOwnRoom w f step
-  pub placed : IsPlaced w step f.place
+
+-- and what it alone needs
+pub record HasRoom (w : Rehearsal) (x : Prepared) (f : Fields) : Type 0 where
+  pub ready : IsReady w (step_in x) f
+  pub for_itself : HasOwnRoom w f x
 
 -- the fields of a world
-pub record IsKept (w : Rehearsal) (prepared : Option Step) (f : Fields) : Type 0 where
+pub record IsKept (w : Rehearsal) (prepared : Option Prepared) (f : Fields) : Type 0 where
   pub world : IsWorld w f
-  pub ready : (step : Step) → prepared ≡ Some step → IsReady w step f
+  pub ready : (x : Prepared) → prepared ≡ Some x → HasRoom w x f
 
 -- this is the seat of a member of the group
 pub record IsSeatOf (w : Rehearsal) (p : ℕ) (seat : Seat) : Type 0 where

@@ -1,5 +1,5 @@
 -- What a step posts, and what refuses it.
-use Rattle.std.specs.Prelude.{◌≡◌, ◌⊎◌, ℕ, ◌+◌, List, [], ◌∷◌, ◌++◌, Option, Some, None, length, slice_get, unwrap_or}
+use Rattle.std.specs.Prelude.{◌≡◌, ◌⊎◌, ℕ, ◌+◌, ◌-◌, List, [], ◌∷◌, ◌++◌, Option, Some, None, length, slice_get, unwrap_or}
 use Rattle.ct_names.specs.Batch.{Batch}
 use Rattle.ct_names.specs.declared.refusal.Refusal.{Refusal}
 use Rattle.ct_names.specs.declared.refusal.Refusal.TheVariants.{OutOfMemory, Board}
@@ -22,11 +22,12 @@ abbrev pub HasPosted : List ℕ → Rehearsal → Rehearsal → Option Posted �
 HasPosted cells old new None = order (state_of new) ≡ order (state_of old)
 HasPosted cells old new (Some receipt) = IsReceiptOf cells old new receipt
 
--- the batch, where there is one, was set at the place, and this is its receipt
-abbrev pub IsSetAt : List ℕ → ℕ → Option Batch → Option Posted → Type 0
-IsSetAt cells place None None = Unit {0}
-IsSetAt cells place (Some batch) (Some receipt) = (receipt.batch ≡ batch) × (receipt.place ≡ place) × (slice_get cells place ≡ Some receipt.cell)
-IsSetAt cells place _ _ = ⊥
+-- the batch, where there is one, was set at the number of its instance less 1, and this is its receipt
+abbrev pub IsSet : List ℕ → Option Batch → Option Posted → Type 0
+IsSet cells None None = Unit {0}
+IsSet cells (Some batch) (Some receipt) = (receipt.batch ≡ batch) × (receipt.place ≡ batch.instance - 1) × (slice_get cells
+    receipt.place ≡ Some receipt.cell)
+IsSet cells _ _ = ⊥
 
 -- the step is allowed and would make the order longer, and a cell of the board refused
 pub record IsRefusedByBoard (w : Rehearsal) (step : Step) (refusal : Refusal) : Type 0 where

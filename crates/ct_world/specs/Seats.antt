@@ -1,7 +1,8 @@
 -- What is kept of a member, how it follows from the member's state, and what a receipt does to it.
-use Rattle.std.specs.Prelude.{◌≡◌, ℕ, ◌+◌, ◌<◌, ◌≤◌, ◌&&◌, ◌==◌, Bool, true, false, not, if◌then◌else◌, List, [], ◌∷◌, ◌++◌, None, length, map, slice_index_or}
+use Rattle.std.specs.Prelude.{◌≡◌, ℕ, ◌+◌, ◌<◌, ◌≤◌, ◌&&◌, ◌==◌, Bool, true, false, not, if◌then◌else◌, List, [], ◌∷◌, ◌++◌, Option, Some, None, length, map, nat_lt, slice_index_or}
 use Rattle.std.specs.List.{list_any}
 use Rattle.std.specs.Option.{option_or}
+use Rattle.ct_names.specs.Batch.{Batch}
 use Rattle.ct_names.specs.Group.{coordinator}
 use Rattle.ct_names.specs.Message.{Message}
 use Rattle.ct_names.specs.Value.{Value}
@@ -15,7 +16,7 @@ use Rattle.ct_model.specs.Counted.{count_in}
 use Rattle.ct_relay.specs.Taken.{Taken, is_first, with_id}
 use Rattle.ct_relay.specs.declared.relay_id.RelayId.{RelayId}
 use Rattle.ct_relay.specs.declared.relay_id.RelayId.TheVariants as id
-use Rattle.ct_abcast.specs.Cast.{batch_of}
+use Rattle.ct_abcast.specs.Cast.{Cast, batch_of}
 use Rattle.ct_table.specs.Table.{zeros, applied_all, table}
 use Rattle.ct_instances.specs.Kept.{ballots_of, decision_at, has_room}
 use Rattle.ct_instances.specs.Keeping.{KeepsInstances}
@@ -138,3 +139,8 @@ pub record HasDelivered (old : Seat) (v : Value) (new : Seat) : Type 0 where
   pub table : new.table ≡ applied_all old.table (batch_of old.caster v)
   pub begun : new.caster.instance ≡ old.caster.instance
   pub instances : new.instances ≡ record old.instances { part = None }
+
+-- the batch that the member posts for the value of its last instance, where so many were posted
+abbrev pub batch_to_post : Cast → Value → ℕ → Option Batch
+batch_to_post cast v posted =
+    if nat_lt (length cast.batches) posted then None else Some (record { instance = cast.instance; messages = batch_of cast v })

@@ -5,6 +5,7 @@
 mod effect;
 mod letter;
 mod outcome;
+mod prepared;
 mod replay_fault;
 mod seat;
 mod seats;

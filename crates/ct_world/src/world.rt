@@ -8,11 +8,11 @@ ghost use Rattle.ct_model.specs.Run.{run};
 ghost use Rattle.ct_model.specs.Safe.{IsSafe};
 ghost use Rattle.ct_world.specs.Replay.{world_after};
 
+use crate::prepared::Prepared;
 use crate::seat::Seat;
 use crate::seats;
-use ct_abcast::Batch;
 use ct_model::Step;
-use ct_names::{Book, Group, MAX_CELLS, MAX_STEPS, MsgSet, Refusal};
+use ct_names::{Book, Group, MAX_CELLS, MAX_STEPS, Refusal};
 use ct_network::Network;
 use std::alloc::Global;
 use std::marker::Model;
@@ -46,29 +46,24 @@ pub struct World {
     // The values proposed, in order.
     book: Book,
     seats: Vec<Seat>,
-    prepared: Option<Step>,
-    // What a prepared Begin proposes.
-    proposal: Option<MsgSet>,
-    // What a prepared Deliver posts, where it posts a batch.
-    posting: Option<Box<Batch>>,
-    // Where the serial that a prepared Receive or Postpone names stands in its line.
-    place: usize,
+    prepared: Option<Prepared>,
     alloc: Global,
 }
 
 // Contracts see what is fixed, the record of steps, and the prepared step. All else follows from the record.
 impl Model for World {
     ghost use Rattle.std.specs.Prelude.{◌-◌, option_map, vec_len, vec_capacity};
+    ghost use Rattle.ct_world.specs.Prepared.{step_in};
     ghost use Rattle.ct_world.specs.World.{WorldView};
 
     ghost Value = { WorldView };
 
     ghost use Rattle.ct_world.specs.Kept.{IsKept};
 
-    ghost view = { λ a. record { rehearsal = record { setting = record { members = a.group }; cells = a.cells; steps = a.record.items }; prepared = a.prepared } };
+    ghost view = { λ a. record { rehearsal = record { setting = record { members = a.group }; cells = a.cells; steps = a.record.items }; prepared = option_map step_in a.prepared } };
 
     ghost invariant = { λ a. IsKept (record { setting = record { members = a.group }; cells = a.cells; steps = a.record.items }) a.prepared
-        (record { network = a.network; book = a.book; seats = a.seats.items; proposal = a.proposal; posting = option_map (λ b. b.value) a.posting; place = a.place; spare_steps = vec_capacity a.record - vec_len a.record }) };
+        (record { network = a.network; book = a.book; seats = a.seats.items; spare_steps = vec_capacity a.record - vec_len a.record }) };
 }
 
 impl World {
@@ -93,9 +88,6 @@ impl World {
             book: Book::new(alloc),
             seats,
             prepared: None,
-            proposal: None,
-            posting: None,
-            place: 0,
             alloc,
         })
     }
@@ -133,7 +125,8 @@ impl World {
         ensures value { result ≡ self.now.prepared }
         ensures allowed { IfSome result (λ step. cause self.now.rehearsal step ≡ None) }
     {
-        self.prepared
+        let prepared = self.prepared.as_ref()?;
+        Some(prepared.step())
     }
 }
 

@@ -5,6 +5,7 @@ ghost use Rattle.ct_model.specs.Cause.{cause};
 ghost use Rattle.ct_world.specs.World.{IsDone};
 
 use super::preparing::reserve;
+use crate::prepared::Prepared;
 use crate::world::World;
 use ct_model::Step;
 use ct_names::{Limit, MAX_INSTANCES, Member, Refusal};
@@ -41,8 +42,8 @@ impl World {
         self.book.prepare()?;
         let seat = &mut self.seats[member as usize - 1];
         seat.prepare_begin()?;
-        self.proposal = Some(seat.caster.undelivered(self.alloc)?);
-        self.prepared = Some(Step::Begin(member));
+        let proposal = seat.caster.undelivered(self.alloc)?;
+        self.prepared = Some(Prepared::Begin(member, proposal));
         Ok(())
     }
 
@@ -52,8 +53,8 @@ impl World {
         ensures done { IsDone self.old.rehearsal (Step.Begin member) self.new.rehearsal 0 }
         ensures none { self.new.prepared ≡ None }
     {
-        self.prepared = None;
-        let proposal = self.proposal.take().unwrap();
+        let prepared = self.prepared.take().unwrap();
+        let proposal = prepared.into_proposal().unwrap();
         let value = self.book.add(proposal).unwrap();
         let seat = &mut self.seats[member as usize - 1];
         let next = seat.instances.last() + 1;

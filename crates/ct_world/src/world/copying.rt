@@ -30,9 +30,6 @@ impl World {
             book: self.book.copy(alloc)?,
             seats: seats::copy_seats(alloc, &self.seats)?,
             prepared: None,
-            proposal: None,
-            posting: None,
-            place: 0,
             alloc,
         })
     }

@@ -1,13 +1,12 @@
 //! Deliver: the member delivers the decision of its open instance, and closes it.
 
-ghost use Rattle.std.specs.Prelude.{◌≡◌, Some, None, IfOk, IfErr, IsSome, OnOk, OnErr, option_map};
-ghost use Rattle.ct_model.specs.Cause.{cause, order};
-ghost use Rattle.ct_model.specs.Order.{Joins};
-ghost use Rattle.ct_model.specs.Rehearsal.{extended, state_of};
-ghost use Rattle.ct_world.specs.Posting.{HasPosted, IsRefusedByBoard, IsSetAt};
+ghost use Rattle.std.specs.Prelude.{◌≡◌, ◌≤◌, Some, None, IfOk, IfErr, IfSome, IsSome, OnOk, OnErr, option_map};
+ghost use Rattle.ct_model.specs.Cause.{cause};
+ghost use Rattle.ct_world.specs.Posting.{HasPosted, IsRefusedByBoard, IsSet};
 ghost use Rattle.ct_world.specs.World.{IsDone};
 
 use super::preparing::reserve;
+use crate::prepared::Prepared;
 use crate::world::World;
 use ct_abcast::Batch;
 use ct_board::{Board, Receipt};
@@ -35,22 +34,6 @@ impl World {
         self.overflow(0)
     }
 
-    // The batch that the step posts, if it posts one.
-    fn to_post(&self, member: Member) -> Result<Option<Box<Batch>>, AllocError>
-        requires { cause self.now.rehearsal (Step.Deliver member) ≡ None }
-        ensures { IfOk result (λ batch. Joins (order (state_of self.now.rehearsal)) (order (state_of (extended self.now.rehearsal (Step.Deliver member)))) (option_map (λ b. b.value) batch)) }
-    {
-        let seat = &self.seats[member as usize - 1];
-        if seat.caster.batches() < usize::from(self.posted()) {
-            return Ok(None);
-        }
-        let value = seat.instances.decided(seat.instances.last()).unwrap();
-        let batch = seat
-            .caster
-            .batch(self.alloc, self.book.get(value).unwrap())?;
-        Ok(Some(Box::new(self.alloc, batch)?))
-    }
-
     // Makes the room for the step, and prepares it.
     pub(super) fn prepare_deliver(&mut self, member: Member) -> Result<(), AllocError>
         requires allowed { cause self.old.rehearsal (Step.Deliver member) ≡ None }
@@ -58,14 +41,14 @@ impl World {
         ensures ok { OnOk result (self.new ≡ record self.old { prepared = Some (Step.Deliver member) }) }
         ensures err { OnErr result (self.new ≡ self.old) }
     {
-        let posting = self.to_post(member)?;
+        let posted = usize::from(self.posted());
         reserve(&mut self.record, &mut self.network)?;
         let seat = &mut self.seats[member as usize - 1];
-        let value = seat.instances.decided(seat.instances.last()).unwrap();
-        let more = self.book.get(value).unwrap().len();
-        seat.prepare_deliver(more)?;
-        self.posting = posting;
-        self.prepared = Some(Step::Deliver(member));
+        let number = seat.instances.decided(seat.instances.last()).unwrap();
+        let value = self.book.get(number).unwrap();
+        let batch = seat.batch_to_post(self.alloc, value, posted)?;
+        seat.prepare_deliver(value.len())?;
+        self.prepared = Some(Prepared::Deliver(member, number, batch));
         Ok(())
     }
 
@@ -82,26 +65,27 @@ impl World {
         ensures err { OnErr result (self.new.rehearsal ≡ self.old.rehearsal) }
         ensures none { self.new.prepared ≡ None }
     {
-        let place = usize::from(self.posted());
-        self.prepared = None;
-        let receipt = post(board, place, self.posting.take())?;
+        let prepared = self.prepared.take().unwrap();
+        let number = prepared.number().unwrap();
+        let receipt = post(board, prepared.into_batch())?;
         let seat = &mut self.seats[member as usize - 1];
-        let value = seat.instances.decided(seat.instances.last()).unwrap();
-        seat.deliver(self.book.get(value).unwrap());
+        seat.deliver(self.book.get(number).unwrap());
         let _ = self.record.push(Step::Deliver(member));
         Ok(receipt)
     }
 }
 
-// Sets the cell at the place to the batch, if there is one.
-fn post(board: &Board, place: usize, batch: Option<Box<Batch>>) -> Result<Option<Receipt>, Refusal>
-    ensures ok { IfOk result (λ receipt. IsSetAt board.now place (option_map (λ b. b.value) batch) receipt) }
+// Sets the cell at the number of the batch's instance less 1 to the batch, if there is one.
+fn post(board: &Board, batch: Option<Box<Batch>>) -> Result<Option<Receipt>, Refusal>
+    requires { IfSome batch (λ b. 1 ≤ b.value.instance) }
+    ensures ok { IfOk result (λ receipt. IsSet board.now (option_map (λ b. b.value) batch) receipt) }
     ensures some { OnErr result (IsSome batch) }
     ensures refusal { IfErr result (λ refusal. refusal ≡ Refusal.Board) }
 {
     let Some(batch) = batch else {
         return Ok(None);
     };
+    let place = batch.instance() as usize - 1;
     match board.post(place, batch) {
         Ok(receipt) => Ok(Some(receipt)),
         Err(_) => Err(Refusal::Board),

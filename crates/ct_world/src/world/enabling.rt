@@ -35,23 +35,23 @@ impl World {
         }
     }
 
-    // Where the serial that the step names stands in its line, 0 where it names none, or why the step is not allowed.
-    pub(super) fn find_place(&self, step: &Step) -> Result<usize, Refusal>
+    // Where the serial that the step names stands in its line, if it names one, or why the step is not allowed.
+    pub(super) fn find_place(&self, step: &Step) -> Result<Option<usize>, Refusal>
         ensures { IsFound self.now.rehearsal step.now result }
     {
         match step {
-            Step::Submit(member, command) => unless(self.cause_of_submit(*member, command), 0),
+            Step::Submit(member, command) => unless(self.cause_of_submit(*member, command), None),
             Step::Receive(member, serial) => self.find_received(*member, *serial),
-            Step::Begin(member) => unless(self.cause_of_begin(*member), 0),
-            Step::Enter(member) => unless(self.cause_of_round(*member, Move::Enter), 0),
+            Step::Begin(member) => unless(self.cause_of_begin(*member), None),
+            Step::Enter(member) => unless(self.cause_of_round(*member, Move::Enter), None),
             Step::Choose(member, from) => {
-                unless(self.cause_of_round(*member, Move::Choose(*from)), 0)
+                unless(self.cause_of_round(*member, Move::Choose(*from)), None)
             }
-            Step::Adopt(member) => unless(self.cause_of_round(*member, Move::Adopt), 0),
-            Step::Suspect(member) => unless(self.cause_of_round(*member, Move::Suspect), 0),
-            Step::Conclude(member) => unless(self.cause_of_round(*member, Move::Conclude), 0),
-            Step::Deliver(member) => unless(self.cause_of_deliver(*member), 0),
-            Step::Crash(member) => unless(self.cause_of_crash(*member), 0),
+            Step::Adopt(member) => unless(self.cause_of_round(*member, Move::Adopt), None),
+            Step::Suspect(member) => unless(self.cause_of_round(*member, Move::Suspect), None),
+            Step::Conclude(member) => unless(self.cause_of_round(*member, Move::Conclude), None),
+            Step::Deliver(member) => unless(self.cause_of_deliver(*member), None),
+            Step::Crash(member) => unless(self.cause_of_crash(*member), None),
             Step::Postpone(member, serial) => self.find_postponed(*member, *serial),
         }
     }
@@ -89,7 +89,7 @@ impl World {
 }
 
 // The place, unless there is a cause against the step.
-pub(super) fn unless(cause: Option<Refusal>, place: usize) -> Result<usize, Refusal>
+pub(super) fn unless(cause: Option<Refusal>, place: Option<usize>) -> Result<Option<usize>, Refusal>
     ensures { IsUnless cause place result }
 {
     match cause {

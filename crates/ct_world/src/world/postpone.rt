@@ -7,6 +7,7 @@ ghost use Rattle.ct_world.specs.World.{IsDone};
 
 use super::enabling::unless;
 use super::preparing::reserve;
+use crate::prepared::Prepared;
 use crate::world::World;
 use ct_model::Step;
 use ct_names::{Member, Refusal, Serial};
@@ -14,7 +15,11 @@ use std::alloc::AllocError;
 
 impl World {
     // Where the serial stands in the member's line, or why the step is not allowed.
-    pub(super) fn find_postponed(&self, member: Member, serial: Serial) -> Result<usize, Refusal>
+    pub(super) fn find_postponed(
+        &self,
+        member: Member,
+        serial: Serial,
+    ) -> Result<Option<usize>, Refusal>
         ensures { IsFound self.now.rehearsal (Step.Postpone member serial) result }
     {
         if let Err(refusal) = self.actor(member) {
@@ -23,7 +28,7 @@ impl World {
         let Some(place) = self.network.find(member, serial) else {
             return Err(Refusal::NotWaiting);
         };
-        unless(self.overflow(0), place)
+        unless(self.overflow(0), Some(place))
     }
 
     // Makes the room for the step, and prepares it.
@@ -40,8 +45,7 @@ impl World {
         ensures err { OnErr result (self.new ≡ self.old) }
     {
         reserve(&mut self.record, &mut self.network)?;
-        self.place = place;
-        self.prepared = Some(Step::Postpone(member, serial));
+        self.prepared = Some(Prepared::Postpone(member, serial, place));
         Ok(())
     }
 
@@ -51,8 +55,9 @@ impl World {
         ensures done { IsDone self.old.rehearsal (Step.Postpone member serial) self.new.rehearsal 0 }
         ensures none { self.new.prepared ≡ None }
     {
-        self.prepared = None;
-        self.network.postpone(member, self.place);
+        let prepared = self.prepared.take().unwrap();
+        let place = prepared.into_place().unwrap();
+        self.network.postpone(member, place);
         let _ = self.record.push(Step::Postpone(member, serial));
     }
 }

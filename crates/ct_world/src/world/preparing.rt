@@ -10,6 +10,7 @@ ghost use Rattle.ct_world.specs.Posting.{HasPosted, IsRefusal, IsRefusedByBoard}
 ghost use Rattle.ct_world.specs.World.{IsDone};
 
 use crate::effect::Effect;
+use crate::prepared::Prepared;
 use crate::world::World;
 use ct_board::Board;
 use ct_model::{Move, Step};
@@ -27,8 +28,6 @@ impl World {
         ensures err { OnErr result (self.new ≡ record self.old { prepared = None }) }
     {
         self.prepared = None;
-        self.proposal = None;
-        self.posting = None;
         let place = match self.find_place(step) {
             Ok(place) => place,
             Err(refusal) => return Err(refusal),
@@ -40,7 +39,7 @@ impl World {
     }
 
     // The room for a step that is allowed, and whose serial, if it names one, stands at the place in its line.
-    fn make_room(&mut self, step: &Step, place: usize) -> Result<(), AllocError>
+    fn make_room(&mut self, step: &Step, place: Option<usize>) -> Result<(), AllocError>
         requires placed { IsPlaced self.old.rehearsal step.now place }
         requires allowed { cause self.old.rehearsal step.now ≡ None }
         requires none { self.old.prepared ≡ None }
@@ -48,10 +47,12 @@ impl World {
         ensures err { OnErr result (self.new ≡ self.old) }
     {
         match *step {
-            Step::Receive(member, serial) => self.prepare_receive(member, serial, place),
+            Step::Receive(member, serial) => self.prepare_receive(member, serial, place.unwrap()),
             Step::Begin(member) => self.prepare_begin(member),
             Step::Deliver(member) => self.prepare_deliver(member),
-            Step::Postpone(member, serial) => self.prepare_postpone(member, serial, place),
+            Step::Postpone(member, serial) => {
+                self.prepare_postpone(member, serial, place.unwrap())
+            }
             step => self.prepare_other(step),
         }
     }
@@ -65,7 +66,7 @@ impl World {
         ensures err { OnErr result (self.new ≡ self.old) }
     {
         reserve(&mut self.record, &mut self.network)?;
-        self.prepared = Some(step);
+        self.prepared = Some(Prepared::Other(step));
         Ok(())
     }
 
@@ -80,7 +81,7 @@ impl World {
         ensures err { OnErr result (self.new.rehearsal ≡ self.old.rehearsal) }
         ensures none { self.new.prepared ≡ None }
     {
-        match self.prepared.unwrap() {
+        match self.prepared().unwrap() {
             Step::Deliver(member) => {
                 let receipt = self.commit_deliver(board, member)?;
                 Ok(Effect { sent: 0, receipt })

@@ -7,6 +7,7 @@ ghost use Rattle.ct_world.specs.World.{IsDone};
 
 use super::enabling::unless;
 use super::preparing::reserve;
+use crate::prepared::Prepared;
 use crate::world::World;
 use ct_model::Step;
 use ct_names::{Member, Refusal, Serial};
@@ -14,7 +15,11 @@ use std::alloc::AllocError;
 
 impl World {
     // Where the serial stands in the member's line, or why the step is not allowed.
-    pub(super) fn find_received(&self, member: Member, serial: Serial) -> Result<usize, Refusal>
+    pub(super) fn find_received(
+        &self,
+        member: Member,
+        serial: Serial,
+    ) -> Result<Option<usize>, Refusal>
         ensures { IsFound self.now.rehearsal (Step.Receive member serial) result }
     {
         let seat = match self.actor(member) {
@@ -29,9 +34,9 @@ impl World {
             None => unreachable!(),
         };
         if passes_on {
-            unless(self.overflow(self.seats.len()), place)
+            unless(self.overflow(self.seats.len()), Some(place))
         } else {
-            unless(self.overflow(0), place)
+            unless(self.overflow(0), Some(place))
         }
     }
 
@@ -54,8 +59,7 @@ impl World {
             Some(envelope) => seat.prepare_receive(&envelope.wire)?,
             None => unreachable!(),
         }
-        self.place = place;
-        self.prepared = Some(Step::Receive(member, serial));
+        self.prepared = Some(Prepared::Receive(member, serial, place));
         Ok(())
     }
 
@@ -65,13 +69,14 @@ impl World {
         ensures done { IsDone self.old.rehearsal (Step.Receive member serial) self.new.rehearsal result }
         ensures none { self.new.prepared ≡ None }
     {
-        self.prepared = None;
+        let prepared = self.prepared.take().unwrap();
+        let place = prepared.into_place().unwrap();
         let seat = &mut self.seats[member as usize - 1];
         let mail = match self.network.envelope(serial) {
             Some(envelope) => seat.receive(self.group, envelope.wire),
             None => unreachable!(),
         };
-        self.network.leave(member, self.place);
+        self.network.leave(member, place);
         let sent = self.network.post(mail);
         let _ = self.record.push(Step::Receive(member, serial));
         sent

@@ -1,5 +1,5 @@
 use Rattle.std.proofs.Common.{◌≡◌, ◌+◌, ◌-◌, ◌<◌, ◌++◌, ◌∷◌, [], true, set, refl, ap, sym, ◌∙◌, subst, arith, length}
-use Rattle.std.specs.Prelude.{is_ok}
+use Rattle.std.specs.Prelude.{is_ok, is_some}
 use Rattle.ct_names.specs.Value.{Value}
 use Rattle.ct_model.specs.declared.step.Step.TheVariants.{Begin}
 use Rattle.ct_model.specs.State.{member}
@@ -12,24 +12,32 @@ use Rattle.ct_instances.specs.Kept.{Kept, has_room_open}
 use Rattle.ct_instances.specs.Steps.{opened}
 use Rattle.ct_world.specs.declared.seat.Seat.{Seat}
 use Rattle.ct_world.specs.Kept.{seat_of}
-use Rattle.ct_world.proofs.Insides.{rehearsal_in, IsPreparedIn, prepared_in, within_in, seat_in, done_in, kept_in, fields_in}
-use Rattle.ct_world.proofs.Proposing.{begun, can_begin, begin_number, begin_steps, is_there}
+use Rattle.ct_world.proofs.Insides.{rehearsal_in, IsPreparedIn, prepared_in, made_in, there_in, within_in, seat_in, done_in, kept_in, fields_in}
+use Rattle.ct_world.proofs.Proposing.{begun, can_begin, begin_number, begin_steps, begin_made}
 use Rattle.ct_world.proofs.world.World.commit_begin.Goals as goal
 use Rattle.ct_world.proofs.world.World.commit_begin.Goals.{After-push}
-
-pub unwrap-proposal-requires : goal.unwrap-proposal-requires
-unwrap-proposal-requires c =
-    let p = (prepared_in c.self.inside c.args.self.now (Begin c.args.member) c.self.view_is c.self.invariant c.requires) in
-    is_there c.take.result (undelivered (seat_of c.self.inside.seats.items c.args.member).caster) (c.take.ensures.value ∙ p.ready.for_itself.proposal)
 
 pub add-requires : goal.add-requires
 add-requires c =
     begin_number (rehearsal_in c.self.inside) (fields_in c.self.inside) (prepared_in c.self.inside c.args.self.now (Begin c.args.member) c.self.view_is c.self.invariant c.requires).world
 
+pub unwrap-prepared-requires : goal.unwrap-prepared-requires
+unwrap-prepared-requires c = there_in c.self.inside c.args.self.now (Begin c.args.member) c.take.result c.self.view_is c.requires
+    c.take.ensures.value
+
+pub unwrap-proposal-requires : goal.unwrap-proposal-requires
+unwrap-proposal-requires c =
+    let m = made_in c.self.inside c.args.self.now (Begin c.args.member) c.take.result c.unwrap-prepared.result c.self.view_is
+    c.self.invariant c.requires c.take.ensures.value c.unwrap-prepared.ensures in
+    ap is_some (c.into_proposal.ensures ∙ (begin_made (rehearsal_in c.self.inside) c.args.member (fields_in c.self.inside)
+    c.unwrap-prepared.result m).1)
+
 pub unwrap-value-requires : goal.unwrap-value-requires
 unwrap-value-requires c =
-    let p = (prepared_in c.self.inside c.args.self.now (Begin c.args.member) c.self.view_is c.self.invariant c.requires) in
-    c.add.ensures.succeeds p.ready.for_itself.book
+    let m = made_in c.self.inside c.args.self.now (Begin c.args.member) c.take.result c.unwrap-prepared.result c.self.view_is
+    c.self.invariant c.requires c.take.ensures.value c.unwrap-prepared.ensures in
+    c.add.ensures.succeeds (begin_made (rehearsal_in c.self.inside) c.args.member (fields_in c.self.inside) c.unwrap-prepared.result
+    m).2.book
 
 pub overflow_sub-member : goal.overflow_sub-member
 overflow_sub-member c = (prepared_in c.self.inside c.args.self.now (Begin c.args.member) c.self.view_is c.self.invariant c.requires).low
@@ -55,9 +63,11 @@ pub open-requires-clause-room : goal.open-requires-clause-room
 open-requires-clause-room c =
     let p = (prepared_in c.self.inside c.args.self.now (Begin c.args.member) c.self.view_is c.self.invariant c.requires) in
     let here = seat_in c.self.inside (Begin c.args.member) c.index_mut-seat.result.now p c.index_mut-seat.ensures.value in
+    let m = made_in c.self.inside c.args.self.now (Begin c.args.member) c.take.result c.unwrap-prepared.result c.self.view_is
+    c.self.invariant c.requires c.take.ensures.value c.unwrap-prepared.ensures in
     ap (λ k. has_room_open c.index_mut-seat.result.now.instances (k + 1)) c.last-next.ensures
     ∙ ap (λ (s : Seat). has_room_open s.instances (s.instances.last + 1)) here
-    ∙ p.ready.for_itself.entry
+    ∙ (begin_made (rehearsal_in c.self.inside) c.args.member (fields_in c.self.inside) c.unwrap-prepared.result m).2.entry
 
 pub begin-requires : goal.begin-requires
 begin-requires c =
@@ -79,7 +89,11 @@ pushed c =
     rw ok at c.push.ensures.items
 
 proposed : (c : After-push) → c.unwrap-proposal.result ≡ undelivered (seat_of c.self.inside.seats.items c.args.member).caster
-proposed c = some-same c.unwrap-proposal.result (undelivered (seat_of c.self.inside.seats.items c.args.member).caster) (sym c.unwrap-proposal.ensures ∙ c.take.ensures.value ∙ (before c).ready.for_itself.proposal)
+proposed c =
+    let m = made_in c.self.inside c.args.self.now (Begin c.args.member) c.take.result c.unwrap-prepared.result c.self.view_is
+    c.self.invariant c.requires c.take.ensures.value c.unwrap-prepared.ensures in
+    let made = begin_made (rehearsal_in c.self.inside) c.args.member (fields_in c.self.inside) c.unwrap-prepared.result m in
+    some-same c.unwrap-proposal.result made.0 (sym c.unwrap-proposal.ensures ∙ c.into_proposal.ensures ∙ made.1) ∙ made.2.proposal
 
 number : (c : After-push) → c.unwrap-value.result ≡ length c.self.inside.book.values
 number c = rw c.unwrap-value.ensures at c.add.ensures.number
@@ -95,9 +109,9 @@ invariant_of-self c =
     ap (λ (i : Kept). set c.self.inside.seats.items (c.args.member - 1) (record s { instances = i; caster = c.begin.new.self })) opened_is
     ∙ ap (λ (k : Cast). set c.self.inside.seats.items (c.args.member - 1) (record s { instances = opened s.instances (length c.self.inside.book.values); caster = k })) c.begin.ensures
     ∙ ap (λ (x : Seat). set c.self.inside.seats.items (c.args.member - 1) (begun x (length c.self.inside.book.values))) (here c) in
-    kept_in c.self.inside (Begin c.args.member) c.push.new.self.items _ (pushed c)
+    rw c.take.ensures.after (kept_in c.self.inside (Begin c.args.member) c.push.new.self.items _ (pushed c)
     (begin_steps (rehearsal_in c.self.inside) c.args.member (fields_in c.self.inside) _ (before c) seats refl refl
-    (added c ∙ ap (λ (v : Value). c.self.inside.book.values ++ v ∷ []) (proposed c)))
+    (added c ∙ ap (λ (v : Value). c.self.inside.book.values ++ v ∷ []) (proposed c))))
 
 pub returns-clause-done : goal.returns-clause-done
 returns-clause-done c =

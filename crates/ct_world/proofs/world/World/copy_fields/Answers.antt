@@ -1,4 +1,4 @@
-use Rattle.std.proofs.Common.{◌-◌, None, sym, ◌∙◌, subst}
+use Rattle.std.proofs.Common.{◌-◌, sym, ◌∙◌, subst}
 use Rattle.std.specs.Prelude.{vec_len, vec_capacity}
 use Rattle.ct_model.proofs.Outcomes.{some-none}
 use Rattle.ct_world.specs.Kept.{Fields, IsWorld}
@@ -13,9 +13,6 @@ copied c = record {
   network = c.in_ok-copy.field-0;
   book = c.in_ok-copy-2.field-0;
   seats = c.in_ok-copy_seats.field-0.items;
-  proposal = None;
-  posting = None;
-  place = 0;
   spare_steps = vec_capacity c.in_ok-from_slice.field-0 - vec_len c.in_ok-from_slice.field-0;
 }
 

@@ -28,6 +28,6 @@ returns c =
     let stands : place_of c.args.serial (line_of w c.args.member) ≡ Some c.in-Some.place =
     sym (found_in w (fields_in c.self.inside) c.args.member c.args.serial world actor.present.in_group) ∙ sym c.in-Some.ensures in
     let waits = stands-there c.args.serial c.in-Some.place (line_of w c.args.member) stands in
-    unless-found w (Postpone c.args.member c.args.serial) c.overflow.result c.in-Some.place c.unless.result
+    unless-found w (Postpone c.args.member c.args.serial) c.overflow.result (Some c.in-Some.place) c.unless.result
     (cause-postpone w c.args.member c.args.serial actor.lawful actor.present waits ∙ sym c.overflow.ensures)
     stands c.unless.ensures

@@ -41,7 +41,7 @@ returns-then-passes_on c =
     let waits = stands-there c.args.serial c.in-Some.place (line_of w c.args.member) stands in
     let group = ap (λ (v : WorldView). v.rehearsal.setting.members) c.self.view_is in
     let seats : c.len.result ≡ w.setting.members = c.len.ensures ∙ c.self.inside.seats.ok.0 ∙ world.seated in
-    unless-found w (Receive c.args.member c.args.serial) c.overflow.result c.in-Some.place c.unless.result
+    unless-found w (Receive c.args.member c.args.serial) c.overflow.result (Some c.in-Some.place) c.unless.result
     (cause_by w (fields_in c.self.inside) c.args.member c.args.serial c.self.inside.group c.in-Ok.seat.now c.in-Some-envelope.envelope true world actor group waits c.in-Some-envelope.ensures (sym c.passes_on-passes_on.ensures ∙ c.if-passes_on.true)
     ∙ sym (c.overflow.ensures ∙ ap (overflow w) seats))
     stands c.unless.ensures
@@ -55,7 +55,8 @@ returns-else-passes_on c =
     sym (found_in w (fields_in c.self.inside) c.args.member c.args.serial world actor.present.in_group) ∙ sym c.in-Some.ensures in
     let waits = stands-there c.args.serial c.in-Some.place (line_of w c.args.member) stands in
     let group = ap (λ (v : WorldView). v.rehearsal.setting.members) c.self.view_is in
-    unless-found w (Receive c.args.member c.args.serial) c.overflow-else-passes_on.result c.in-Some.place c.unless-else-passes_on.result
+    unless-found w (Receive c.args.member c.args.serial) c.overflow-else-passes_on.result (Some c.in-Some.place)
+    c.unless-else-passes_on.result
     (cause_by w (fields_in c.self.inside) c.args.member c.args.serial c.self.inside.group c.in-Ok.seat.now c.in-Some-envelope.envelope false world actor group waits c.in-Some-envelope.ensures (sym c.passes_on-passes_on.ensures ∙ c.if-passes_on.false)
     ∙ sym c.overflow-else-passes_on.ensures)
     stands c.unless-else-passes_on.ensures

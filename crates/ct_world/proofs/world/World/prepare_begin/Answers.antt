@@ -1,5 +1,6 @@
 use Rattle.std.proofs.Common.{refl, arith}
 use Rattle.ct_model.specs.declared.step.Step.TheVariants.{Begin}
+use Rattle.ct_world.specs.declared.prepared.Prepared.TheVariants as made
 use Rattle.ct_world.proofs.Insides.{rehearsal_in, fields_in}
 use Rattle.ct_world.proofs.Preparing.{allowed_in, in_vec, seat_at, roomier_in, unprepared_in, ready_in}
 use Rattle.ct_world.proofs.Proposing.{begin_room, low_last}
@@ -23,8 +24,8 @@ invariant_of-self-in_err-prepare_begin c =
     unprepared_in c.self.inside c.args.self.now c.reserve.new.steps.items _ c.self.view_is c.requires.none c.in_ok-reserve.ensures.record
     (roomier_in c.self.inside (Begin c.args.member) c.index_mut-seat.result.now c.prepare_begin.new.self _ p here c.in_err-prepare_begin.ensures.same c.in_ok-prepare.ensures.values c.in_ok-reserve.ensures.sent c.in_ok-reserve.ensures.lines refl)
 
-pub invariant_of-self-in_err-undelivered : goal.invariant_of-self-in_err-undelivered
-invariant_of-self-in_err-undelivered c =
+pub invariant_of-self-in_err-proposal : goal.invariant_of-self-in_err-proposal
+invariant_of-self-in_err-proposal c =
     let p = (allowed_in c.self.inside c.args.self.now (Begin c.args.member) c.self.view_is c.self.invariant c.requires.allowed) in
     let here = seat_at c.self.inside (Begin c.args.member) c.index_mut-seat.result.now p c.index_mut-seat.ensures.value in
     unprepared_in c.self.inside c.args.self.now c.reserve.new.steps.items _ c.self.view_is c.requires.none c.in_ok-reserve.ensures.record
@@ -34,12 +35,14 @@ pub invariant_of-self-2 : goal.invariant_of-self-2
 invariant_of-self-2 c =
     let p = (allowed_in c.self.inside c.args.self.now (Begin c.args.member) c.self.view_is c.self.invariant c.requires.allowed) in
     let here = seat_at c.self.inside (Begin c.args.member) c.index_mut-seat.result.now p c.index_mut-seat.ensures.value in
-    ready_in c.self.inside (Begin c.args.member) c.reserve.new.steps.items _ c.in_ok-reserve.ensures.record
+    ready_in c.self.inside (made.Begin c.args.member c.in_ok-proposal.proposal) c.reserve.new.steps.items _ c.in_ok-reserve.ensures.record
     (roomier_in c.self.inside (Begin c.args.member) c.index_mut-seat.result.now c.prepare_begin.new.self _ p here c.in_ok-prepare_begin.ensures.same c.in_ok-prepare.ensures.values c.in_ok-reserve.ensures.sent c.in_ok-reserve.ensures.lines refl)
     (record {
-      allowed = p.allowed;
-      for_step = omega (arith, c.in_ok-reserve.ensures.for_step);
-      for_sending = c.in_ok-reserve.ensures.for_sending;
-      for_itself = begin_room c.self.inside.seats.items c.args.member c.prepare_begin.new.self c.in_ok-undelivered.field-0 _ p.within refl refl c.in_ok-undelivered.ensures c.in_ok-prepare_begin.ensures.ok c.in_ok-prepare.ensures.ok;
-      placed = tt;
+      ready = record {
+        allowed = p.allowed;
+        for_step = omega (arith, c.in_ok-reserve.ensures.for_step);
+        for_sending = c.in_ok-reserve.ensures.for_sending;
+      };
+      for_itself = begin_room c.self.inside.seats.items c.args.member c.prepare_begin.new.self c.in_ok-proposal.proposal _ p.within refl
+          c.in_ok-proposal.ensures c.in_ok-prepare_begin.ensures.ok c.in_ok-prepare.ensures.ok;
     })

@@ -4,6 +4,7 @@ use Rattle.ct_model.specs.declared.step.Step.TheVariants.{Receive}
 use Rattle.ct_model.specs.State.{at_serial}
 use Rattle.ct_model.proofs.Receives.{receive_waits}
 use Rattle.ct_world.specs.Kept.{Fields, StandsAt}
+use Rattle.ct_world.specs.declared.prepared.Prepared.TheVariants as made
 use Rattle.ct_world.specs.World.{WorldView}
 use Rattle.ct_world.proofs.Insides.{rehearsal_in, fields_in}
 use Rattle.ct_world.proofs.Preparing.{allowed_in, in_vec, seat_at, roomier_in, unprepared_in, ready_in}
@@ -37,13 +38,21 @@ invariant_of-self-2 c =
     let a = c.self.inside in
     let p = allowed_in a c.args.self.now (Receive c.args.member c.args.serial) c.self.view_is c.self.invariant c.requires.allowed in
     let here = seat_at a (Receive c.args.member c.args.serial) c.index_mut-seat.result.now p c.index_mut-seat.ensures.value in
-    let new : Fields = record (fields_in a) { network = c.reserve.new.network; seats = set a.seats.items (c.args.member - 1) c.prepare_receive.new.self; place = c.args.place; spare_steps = vec_capacity c.reserve.new.steps - vec_len c.reserve.new.steps } in
-    ready_in a (Receive c.args.member c.args.serial) c.reserve.new.steps.items new c.reserve.ensures.record
+    let new : Fields = record (fields_in a) {
+      network = c.reserve.new.network;
+      seats = set a.seats.items (c.args.member - 1)
+          c.prepare_receive.new.self;
+      spare_steps = vec_capacity c.reserve.new.steps - vec_len c.reserve.new.steps;
+    } in
+    ready_in a (made.Receive c.args.member c.args.serial c.args.place) c.reserve.new.steps.items new c.reserve.ensures.record
     (roomier_in a (Receive c.args.member c.args.serial) c.index_mut-seat.result.now c.prepare_receive.new.self new p here c.prepare_receive.ensures.same refl c.reserve.ensures.sent c.reserve.ensures.lines refl)
     (record {
-      allowed = p.allowed;
-      for_step = omega (arith, c.in_ok-reserve.ensures.for_step);
-      for_sending = c.in_ok-reserve.ensures.for_sending;
-      for_itself = receive_room (fields_in a) new c.args.member c.args.serial c.prepare_receive.new.self c.in-Some.envelope p.within refl c.in-Some.ensures c.in_ok-prepare_receive-in-Some.ensures.ok;
-      placed = subst (λ (x : WorldView). StandsAt x.rehearsal c.args.member c.args.serial c.args.place) (sym c.self.view_is) c.requires.placed;
+      ready = record {
+        allowed = p.allowed;
+        for_step = omega (arith, c.in_ok-reserve.ensures.for_step);
+        for_sending = c.in_ok-reserve.ensures.for_sending;
+      };
+      for_itself = receive_room (rehearsal_in a) (fields_in a) new c.args.member c.args.serial c.args.place c.prepare_receive.new.self
+          c.in-Some.envelope p.within refl c.in-Some.ensures c.in_ok-prepare_receive-in-Some.ensures.ok
+          (subst (λ (x : WorldView). StandsAt x.rehearsal c.args.member c.args.serial c.args.place) (sym c.self.view_is) c.requires.placed);
     })
