@@ -3,7 +3,7 @@ use Rattle.std.specs.Prelude.{ℕ, Bool, true, List, [], Option, nat_eq, is_some
 use Rattle.std.specs.Map.{lookup}
 use Rattle.std.specs.Option.{option_map_or}
 use Rattle.ct_model.specs.declared.wire.Wire.{Wire}
-use Rattle.ct_model.specs.declared.wire.Wire.TheVariants.{Data, Est, Prop, Ack, Nack, Dec}
+use Rattle.ct_model.specs.Wire.{instance_of, vote_round}
 use Rattle.ct_model.specs.Received.{Ballots}
 use Rattle.ct_rounds.specs.Inbox.{Rounds, ballots_at, has_room as has_room_at}
 use Rattle.ct_rounds.specs.Part.{Part}
@@ -43,9 +43,4 @@ has_room_of kept k r = has_room_at (rounds_at kept k) r
 
 -- the wire can be noted without memory
 abbrev pub has_room : Kept → Wire ℕ → Bool
-has_room kept (Data m) = true
-has_room kept (Est k r p v ts) = has_room_of kept k r
-has_room kept (Prop k r v) = has_room_of kept k r
-has_room kept (Ack k r p) = has_room_of kept k r
-has_room kept (Nack k r p) = has_room_of kept k r
-has_room kept (Dec k r v) = has_room_open kept k
+has_room kept w = option_map_or (λ k. option_map_or (has_room_of kept k) (vote_round w) (has_room_open kept k)) (instance_of w) true

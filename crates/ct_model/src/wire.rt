@@ -2,7 +2,7 @@
 
 ghost use Rattle.std.specs.Prelude.{◌≡◌};
 ghost use Rattle.ct_model.specs.Mapped.{wire_map};
-ghost use Rattle.ct_model.specs.Wire.{value_of};
+ghost use Rattle.ct_model.specs.Wire.{instance_of, vote_round, value_of, decision_value};
 
 use ct_names::{Instance, Member, Message, Round, ValueId};
 
@@ -47,17 +47,52 @@ pub enum Wire<V = ValueId> {
 }
 
 impl<V: Copy> Wire<V> {
+    /// The instance of consensus that it is of, None for a message.
+    pub fn instance(&self) -> Option<Instance>
+        ensures { result ≡ instance_of self.now }
+    {
+        match *self {
+            Wire::Data(_) => None,
+            Wire::Est { instance, .. }
+            | Wire::Prop { instance, .. }
+            | Wire::Ack { instance, .. }
+            | Wire::Nack { instance, .. }
+            | Wire::Dec { instance, .. } => Some(instance),
+        }
+    }
+
+    /// The round that it is a vote of, None for a message and a decision.
+    pub fn vote_round(&self) -> Option<Round>
+        ensures { result ≡ vote_round self.now }
+    {
+        match *self {
+            Wire::Data(_) | Wire::Dec { .. } => None,
+            Wire::Est { round, .. }
+            | Wire::Prop { round, .. }
+            | Wire::Ack { round, .. }
+            | Wire::Nack { round, .. } => Some(round),
+        }
+    }
+
     /// The value of consensus that it carries.
     pub fn value(&self) -> Option<V>
         ensures { result ≡ value_of self.now }
     {
         match *self {
-            Wire::Est { value, .. } => Some(value),
-            Wire::Prop { value, .. } => Some(value),
+            Wire::Est { value, .. } | Wire::Prop { value, .. } | Wire::Dec { value, .. } => {
+                Some(value)
+            }
+            Wire::Data(_) | Wire::Ack { .. } | Wire::Nack { .. } => None,
+        }
+    }
+
+    /// The value that it says is decided, None where it is no decision.
+    pub fn decision(&self) -> Option<V>
+        ensures { result ≡ decision_value self.now }
+    {
+        match *self {
             Wire::Dec { value, .. } => Some(value),
-            Wire::Data(_) => None,
-            Wire::Ack { .. } => None,
-            Wire::Nack { .. } => None,
+            _ => None,
         }
     }
 

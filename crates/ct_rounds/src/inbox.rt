@@ -1,15 +1,15 @@
 //! The inbox of one member for one instance.
 
-ghost use Rattle.std.specs.Prelude.{◌≡◌, ℕ, [], false, IsTrue, IfOk, OnOk, OnErr, option_map};
+ghost use Rattle.std.specs.Prelude.{◌≡◌, ℕ, [], false, IsTrue, IfOk, IfSome, OnOk, OnErr, option_map};
 ghost use Rattle.ct_model.specs.Received.{heard, estimate_from};
 ghost use Rattle.ct_model.specs.Faults.{has_largest};
-ghost use Rattle.ct_model.specs.Counted.{count_in};
+ghost use Rattle.ct_model.specs.Counted.{NamesSomebody, count_at};
+ghost use Rattle.ct_model.specs.Wire.{vote_round};
 ghost use Rattle.ct_rounds.specs.Best.{best};
 ghost use Rattle.ct_rounds.specs.Inbox.{ballots_at, has_room};
-ghost use Rattle.ct_rounds.specs.Note.{round_of, IsOfMember, of_instance};
 
-use crate::note::Note;
 use crate::tally::Tally;
+use ct_model::Wire;
 use ct_names::{Member, MemberSet, Round, ValueId};
 use indexmap::IndexMap;
 use std::alloc::{AllocError, Global};
@@ -75,15 +75,18 @@ impl Inbox {
         self.tallies.contains_key(&round)
     }
 
-    /// Counts the note in, which takes no memory.
-    pub fn note(&mut self, note: Note)
-        requires member { IsOfMember note }
-        requires room { IsTrue (has_room self.old (round_of note)) }
-        ensures ballots { (k r : ℕ) → ballots_at self.new r ≡ count_in (ballots_at self.old r) k r (of_instance k note) }
+    /// Counts the wire in, where it is a vote of a round. Takes no memory.
+    pub fn note(&mut self, wire: &Wire)
+        requires sender { NamesSomebody wire.now }
+        requires room { IfSome (vote_round wire.now) (λ r. IsTrue (has_room self.old r)) }
+        ensures ballots { (r : ℕ) → ballots_at self.new r ≡ count_at (ballots_at self.old r) r wire.now }
         ensures rooms { (r : ℕ) → has_room self.new r ≡ has_room self.old r }
     {
-        match self.tallies.get_mut(&note.round()) {
-            Some(tally) => tally.take(note),
+        let Some(round) = wire.vote_round() else {
+            return;
+        };
+        match self.tallies.get_mut(&round) {
+            Some(tally) => tally.take(wire),
             None => unreachable!(),
         }
     }

@@ -3,13 +3,11 @@
 
 mod consensus;
 mod inbox;
-mod note;
 mod tally;
 
 pub use consensus::Consensus;
 pub use ct_model::{Mail, Wire};
 pub use inbox::Inbox;
-pub use note::Note;
 
 #[cfg(test)]
 mod tests;

@@ -4,12 +4,11 @@ ghost use Rattle.std.specs.Prelude.{◌≡◌, option_map};
 ghost use Rattle.ct_names.specs.Group.{IsMember};
 ghost use Rattle.ct_model.specs.Received.{heard, estimate_from};
 ghost use Rattle.ct_model.specs.Faults.{has_largest};
-ghost use Rattle.ct_model.specs.Counted.{no_ballots, count_estimate, count_proposal};
+ghost use Rattle.ct_model.specs.Counted.{NamesSomebody, no_ballots, count, count_estimate, count_proposal};
 ghost use Rattle.ct_rounds.specs.Best.{best};
-ghost use Rattle.ct_rounds.specs.Note.{IsOfMember, noted};
 ghost use Rattle.ct_rounds.specs.Tally.{better, heard_as};
 
-use crate::note::Note;
+use ct_model::Wire;
 use ct_names::{MAX_MEMBERS, Member, MemberSet, Round, ValueId};
 use std::marker::Model;
 
@@ -144,13 +143,13 @@ impl Tally {
         self.acked
     }
 
-    /// Counts a note of this round in: the first estimate of each member, and the first proposal.
-    pub fn take(&mut self, note: Note)
-        requires { IsOfMember note }
-        ensures { self.new ≡ noted note self.old }
+    /// Counts a vote of this round in: the first estimate of each member, and the first proposal.
+    pub fn take(&mut self, wire: &Wire)
+        requires { NamesSomebody wire.now }
+        ensures { self.new ≡ count wire.now self.old }
     {
-        match note {
-            Note::Est {
+        match *wire {
+            Wire::Est {
                 from,
                 value,
                 ts,
@@ -162,12 +161,13 @@ impl Tally {
                     ts,
                 },
             ),
-            Note::Prop { value, .. } => self.propose(value),
-            Note::Ack { from, .. } => {
+            Wire::Prop { value, .. } => self.propose(value),
+            Wire::Ack { from, .. } => {
                 self.replied.insert(from);
                 self.acked.insert(from);
             }
-            Note::Nack { from, .. } => self.replied.insert(from),
+            Wire::Nack { from, .. } => self.replied.insert(from),
+            Wire::Data(_) | Wire::Dec { .. } => {}
         }
     }
 

@@ -6,11 +6,12 @@ use ct_model::Phase;
 use ct_names::{Command, Group, Member, Message, Refusal, Round, ValueId};
 use std::test::Fail;
 
-fn est(round: Round, from: Member, number: u32, ts: Round) -> Note
-    ensures { result ≡ Note.Est round from number ts }
+fn est(round: Round, from: Member, number: u32, ts: Round) -> Wire
+    ensures { result ≡ Wire.Est 1 round from number ts }
 {
     let value = ValueId::new(number);
-    Note::Est {
+    Wire::Est {
+        instance: 1,
         round,
         from,
         value,
@@ -18,23 +19,43 @@ fn est(round: Round, from: Member, number: u32, ts: Round) -> Note
     }
 }
 
+fn ack(round: Round, from: Member) -> Wire
+    ensures { result ≡ Wire.Ack 1 round from }
+{
+    Wire::Ack {
+        instance: 1,
+        round,
+        from,
+    }
+}
+
+fn nack(round: Round, from: Member) -> Wire
+    ensures { result ≡ Wire.Nack 1 round from }
+{
+    Wire::Nack {
+        instance: 1,
+        round,
+        from,
+    }
+}
+
 #[test]
 fn the_best_is_the_least_with_the_largest_ts(rt: HostRuntime) -> Result<(), Fail> {
     let mut inbox = Inbox::new(rt.alloc());
     inbox.prepare(3)?;
-    inbox.note(est(3, 4, 40, 0));
+    inbox.note(&est(3, 4, 40, 0));
     assert_eq!(rt; inbox.best(3), Some(4));
-    inbox.note(est(3, 3, 30, 2));
+    inbox.note(&est(3, 3, 30, 2));
     assert_eq!(rt; inbox.best(3), Some(3));
-    inbox.note(est(3, 2, 20, 2));
+    inbox.note(&est(3, 2, 20, 2));
     assert_eq!(rt; inbox.best(3), Some(2));
-    inbox.note(est(3, 1, 10, 1));
+    inbox.note(&est(3, 1, 10, 1));
     assert_eq!(rt; inbox.best(3), Some(2));
     assert!(rt; inbox.largest(3, 3));
     assert!(rt; inbox.largest(3, 2));
     assert!(rt; !inbox.largest(3, 1));
     assert!(rt; !inbox.largest(3, 5));
-    inbox.note(est(3, 2, 21, 9));
+    inbox.note(&est(3, 2, 21, 9));
     assert_eq!(rt; inbox.best(3), Some(2));
     assert!(rt; inbox.largest(3, 3));
     assert_eq!(rt; inbox.estimate(3, 2), Some(ValueId::new(20)));
@@ -46,9 +67,9 @@ fn the_best_is_the_least_with_the_largest_ts(rt: HostRuntime) -> Result<(), Fail
 fn a_members_first_estimate_counts(rt: HostRuntime) -> Result<(), Fail> {
     let mut inbox = Inbox::new(rt.alloc());
     inbox.prepare(3)?;
-    inbox.note(est(3, 3, 30, 2));
-    inbox.note(est(3, 2, 20, 1));
-    inbox.note(est(3, 2, 21, 9));
+    inbox.note(&est(3, 3, 30, 2));
+    inbox.note(&est(3, 2, 20, 1));
+    inbox.note(&est(3, 2, 21, 9));
     assert_eq!(rt; inbox.best(3), Some(3));
     assert_eq!(rt; inbox.estimate(3, 2), Some(ValueId::new(20)));
     assert_eq!(rt; inbox.heard(3).len(), 2);
@@ -63,8 +84,8 @@ fn rounds_are_counted_apart(rt: HostRuntime) -> Result<(), Fail> {
     inbox.prepare(1)?;
     inbox.prepare(2)?;
     assert!(rt; inbox.has_room(1) && inbox.has_room(2) && !inbox.has_room(3));
-    inbox.note(Note::Ack { round: 1, from: 16 });
-    inbox.note(Note::Nack { round: 2, from: 16 });
+    inbox.note(&ack(1, 16));
+    inbox.note(&nack(2, 16));
     assert_eq!(rt; inbox.replied(1).len(), 1);
     assert_eq!(rt; inbox.acked(2).len(), 0);
     assert!(rt; inbox.acked(1).contains(16) && inbox.replied(2).contains(16));
@@ -85,11 +106,11 @@ fn a_coordinator_waits_for_a_majority(rt: HostRuntime) -> Result<(), Fail> {
     );
     consensus.enter()?;
     assert_eq!(rt; consensus.enter_fault(), Some(Refusal::WrongPhase));
-    inbox.note(est(1, 1, 10, 0));
-    inbox.note(est(1, 2, 20, 0));
+    inbox.note(&est(1, 1, 10, 0));
+    inbox.note(&est(1, 2, 20, 0));
     assert_eq!(rt; consensus.choose_fault(&inbox, 1), Some(Refusal::TooFew));
     assert_eq!(rt; consensus.choose(&inbox, 1), Err(Refusal::TooFew));
-    inbox.note(est(1, 4, 40, 0));
+    inbox.note(&est(1, 4, 40, 0));
     assert_eq!(rt;
         consensus.choose_fault(&inbox, 3),
         Some(Refusal::NotLargest)
@@ -116,8 +137,8 @@ fn a_larger_ts_goes_first(rt: HostRuntime) -> Result<(), Fail> {
     consensus.suspect(&inbox)?;
     assert!(rt; consensus.round() < 10000);
     consensus.enter()?;
-    inbox.note(est(2, 1, 10, 1));
-    inbox.note(est(2, 3, 30, 0));
+    inbox.note(&est(2, 1, 10, 1));
+    inbox.note(&est(2, 3, 30, 0));
     assert_eq!(rt; consensus.choose(&inbox, 3), Err(Refusal::NotLargest));
     let proposal = Wire::Prop {
         instance: 1,
@@ -135,8 +156,8 @@ fn gathering(group: Group, inbox: &mut Inbox) -> Consensus
 {
     let mut consensus = Consensus::new(group, 2, 1, ValueId::new(20));
     let _ = consensus.enter();
-    inbox.note(est(1, 1, 10, 0));
-    inbox.note(est(1, 2, 20, 0));
+    inbox.note(&est(1, 1, 10, 0));
+    inbox.note(&est(1, 2, 20, 0));
     consensus
 }
 
@@ -175,8 +196,8 @@ fn what_a_coordinator_chose_it_keeps_without_its_ts(rt: HostRuntime) -> Result<(
     assert_eq!(rt; consensus.suspect(&inbox), Ok(Mail::One(2, nack)));
     assert!(rt; consensus.round() < 10000);
     assert_eq!(rt; consensus.enter(), Err(Refusal::WrongPhase));
-    inbox.note(Note::Nack { round: 1, from: 2 });
-    inbox.note(Note::Nack { round: 1, from: 1 });
+    inbox.note(&nack(1, 2));
+    inbox.note(&nack(1, 1));
     assert_eq!(rt; consensus.conclude(&inbox), Ok(Mail::Nobody));
     assert!(rt; consensus.round() < 10000);
     let estimate = Wire::Est {
@@ -209,7 +230,8 @@ fn a_proposal_is_taken_over(rt: HostRuntime) -> Result<(), Fail> {
     assert_eq!(rt; consensus.adopt_fault(&inbox), Some(Refusal::NoProposal));
     assert_eq!(rt; consensus.suspect_fault(&inbox), None);
     assert_eq!(rt; consensus.adopt(&inbox), Err(Refusal::NoProposal));
-    inbox.note(Note::Prop {
+    inbox.note(&Wire::Prop {
+        instance: 1,
         round: 1,
         value: ValueId::new(20),
     });
@@ -235,10 +257,11 @@ fn tallying(group: Group, inbox: &mut Inbox) -> Consensus
 {
     let mut consensus = Consensus::new(group, 2, 5, ValueId::new(20));
     let _ = consensus.enter();
-    inbox.note(est(1, 1, 10, 0));
-    inbox.note(est(1, 2, 20, 0));
+    inbox.note(&est(1, 1, 10, 0));
+    inbox.note(&est(1, 2, 20, 0));
     let _ = consensus.choose(inbox, 2);
-    inbox.note(Note::Prop {
+    inbox.note(&Wire::Prop {
+        instance: 1,
         round: 1,
         value: ValueId::new(20),
     });
@@ -252,10 +275,10 @@ fn one_ack_of_two_replies_decides_nothing(rt: HostRuntime) -> Result<(), Fail> {
     let mut inbox = Inbox::new(rt.alloc());
     inbox.prepare(1)?;
     let mut consensus = tallying(group, &mut inbox);
-    inbox.note(Note::Ack { round: 1, from: 2 });
+    inbox.note(&ack(1, 2));
     assert_eq!(rt; consensus.conclude_fault(&inbox), Some(Refusal::TooFew));
     assert_eq!(rt; consensus.conclude(&inbox), Err(Refusal::TooFew));
-    inbox.note(Note::Nack { round: 1, from: 1 });
+    inbox.note(&nack(1, 1));
     assert_eq!(rt; consensus.conclude_fault(&inbox), None);
     assert!(rt; !consensus.is_acked(&inbox));
     assert_eq!(rt; consensus.conclude(&inbox), Ok(Mail::Nobody));
@@ -270,8 +293,8 @@ fn two_acks_of_three_decide(rt: HostRuntime) -> Result<(), Fail> {
     let mut inbox = Inbox::new(rt.alloc());
     inbox.prepare(1)?;
     let mut consensus = tallying(group, &mut inbox);
-    inbox.note(Note::Ack { round: 1, from: 2 });
-    inbox.note(Note::Ack { round: 1, from: 3 });
+    inbox.note(&ack(1, 2));
+    inbox.note(&ack(1, 3));
     assert!(rt; consensus.is_acked(&inbox));
     let decision = Wire::Dec {
         instance: 5,
@@ -296,8 +319,8 @@ fn copies_go_their_own_way(rt: HostRuntime) -> Result<(), Fail> {
     assert_eq!(rt; copy.best(1), Some(1));
     assert_eq!(rt; copy.estimate(1, 2), Some(ValueId::new(20)));
     assert_eq!(rt; copy.proposal(1), Some(ValueId::new(20)));
-    inbox.note(Note::Ack { round: 1, from: 2 });
-    inbox.note(Note::Ack { round: 1, from: 3 });
+    inbox.note(&ack(1, 2));
+    inbox.note(&ack(1, 3));
     let decision = Wire::Dec {
         instance: 5,
         round: 1,

@@ -43,29 +43,10 @@ impl Instances {
         ensures rooms { (w : AnyWire ℕ) → IsTrue (has_room self.old w) → IsTrue (has_room self.new w) }
         ensures rest { self.new ≡ record self.old { entries = self.new.entries } }
     {
-        match *wire {
-            Wire::Data(_) => Ok(()),
-            Wire::Est {
-                instance,
-                round,
-                ..
-            } => self.prepare_round(instance, round),
-            Wire::Prop {
-                instance,
-                round,
-                ..
-            } => self.prepare_round(instance, round),
-            Wire::Ack {
-                instance,
-                round,
-                ..
-            } => self.prepare_round(instance, round),
-            Wire::Nack {
-                instance,
-                round,
-                ..
-            } => self.prepare_round(instance, round),
-            Wire::Dec { instance, .. } => self.prepare_open(instance),
+        match (wire.instance(), wire.vote_round()) {
+            (None, _) => Ok(()),
+            (Some(instance), None) => self.prepare_open(instance),
+            (Some(instance), Some(round)) => self.prepare_round(instance, round),
         }
     }
 

@@ -59,29 +59,10 @@ impl Instances {
     pub fn has_room(&self, wire: &Wire) -> bool
         ensures { result ≡ has_room self.now wire.now }
     {
-        match *wire {
-            Wire::Data(_) => true,
-            Wire::Est {
-                instance,
-                round,
-                ..
-            } => self.has_room_of(instance, round),
-            Wire::Prop {
-                instance,
-                round,
-                ..
-            } => self.has_room_of(instance, round),
-            Wire::Ack {
-                instance,
-                round,
-                ..
-            } => self.has_room_of(instance, round),
-            Wire::Nack {
-                instance,
-                round,
-                ..
-            } => self.has_room_of(instance, round),
-            Wire::Dec { instance, .. } => self.has_room_open(instance),
+        match (wire.instance(), wire.vote_round()) {
+            (None, _) => true,
+            (Some(instance), None) => self.has_room_open(instance),
+            (Some(instance), Some(round)) => self.has_room_of(instance, round),
         }
     }
 
