@@ -7,7 +7,7 @@ use Rattle.ct_model.specs.Actor.{actor}
 use Rattle.ct_model.specs.AtValue.{Wire, Mail}
 use Rattle.ct_model.specs.Counted.{NamesSomebody}
 use Rattle.ct_model.specs.Setting.{Setting}
-use Rattle.ct_model.specs.declared.wire.Wire.TheVariants.{Data, Est, Prop, Ack, Nack, Dec}
+use Rattle.ct_model.specs.declared.wire.Wire.TheVariants.{Est, Ack, Nack}
 use Rattle.ct_model.specs.declared.mail.Mail.TheVariants.{One}
 use Rattle.ct_model.specs.State.{State, Member, member, first_state, wires}
 use Rattle.ct_model.specs.Next.{Outcome, row, next}
@@ -83,12 +83,10 @@ unfolding run
 named s steps g e w sent = named-run_from s (first_state s) g steps e (named-first s) w sent
 
 names_somebody : (n : ℕ) (w : Wire) → n ≤ 16 → NamesMember n w → NamesSomebody w
-names_somebody n (Data m) few h = tt
 names_somebody n (Est k r p v t) few h = let high : p ≤ n = h.1 in (h.0, omega arith)
-names_somebody n (Prop k r v) few h = tt
 names_somebody n (Ack k r p) few h = let high : p ≤ n = h.1 in (h.0, omega arith)
 names_somebody n (Nack k r p) few h = let high : p ≤ n = h.1 in (h.0, omega arith)
-names_somebody n (Dec k r v) few h = tt
+names_somebody n _ few h = tt
 
 -- in a group of at most 16 it names one of everyone
 pub sender_named : (s : Setting) (steps : List Step) (g : State) → s.members ≤ 16 → run s steps ≡ Some g → (w : Wire) → IsIn w (wires g) → NamesSomebody w

@@ -9,7 +9,7 @@ use Rattle.ct_names.proofs.Groups
 use Rattle.ct_names.proofs.Lists
 use Rattle.ct_names.proofs.Values
 use Rattle.ct_model.specs.AtValue.{Wire}
-use Rattle.ct_model.specs.declared.wire.Wire.TheVariants.{Data, Est, Prop, Ack, Nack, Dec}
+use Rattle.ct_model.specs.declared.wire.Wire.TheVariants.{Data, Est, Prop, Ack, Dec}
 use Rattle.ct_model.specs.Received.{head, message_of, received, decision_of, is_decision, decided, Heard, Ballots, ballots, heard, estimate_of, heard_from, estimate_from, is_largest, proposal_of, proposal, is_ack, has_ack, ackers}
 use Rattle.ct_model.proofs.Outcomes.{some-same, some-none}
 
@@ -24,11 +24,7 @@ picked false x y e = some-none y e
 
 message-wire : (w : Wire) (m : Message) → message_of w ≡ Some m → w ≡ Data m
 message-wire (Data x) m e = ap Data (some-same x m e)
-message-wire (Est k r p v t) m e = some-none m e
-message-wire (Prop k r v) m e = some-none m e
-message-wire (Ack k r p) m e = some-none m e
-message-wire (Nack k r p) m e = some-none m e
-message-wire (Dec k r v) m e = some-none m e
+message-wire _ m e = some-none m e
 
 pub received-got : (got : List Wire) (m : Message) → IsIn m (received got) → IsIn (Data m) got
 unfolding received
@@ -46,16 +42,12 @@ pub record IsDecision (k : ℕ) (v : Value) (w : Wire) : Type 0 where
   pub wire : w ≡ Dec k round v
 
 decision-wire : (k : ℕ) (w : Wire) (v : Value) → decision_of k w ≡ Some v → IsDecision k v w
-decision-wire k (Data x) v e = some-none v e
-decision-wire k (Est j r p x t) v e = some-none v e
-decision-wire k (Prop j r x) v e = some-none v e
-decision-wire k (Ack j r p) v e = some-none v e
-decision-wire k (Nack j r p) v e = some-none v e
 decision-wire k (Dec j r x) v e =
     let p = picked (j == k) x v e in
     let same : j ≡ k = eqb-true j k p.0 in
     let value : x ≡ v = p.1 in
     record { round = r; wire = cc }
+decision-wire k _ v e = some-none v e
 
 -- a decision came with a Dec
 pub record IsDecided (k : ℕ) (v : Value) (got : List Wire) : Type 0 where
@@ -84,31 +76,23 @@ got-decided got k r v h =
 
 -- a wire that is a Dec of the round
 pub is_decision-wire : (k r : ℕ) (w : Wire) → is_decision k r w ≡ true → (v : Value) × (w ≡ Dec k r v)
-is_decision-wire k r (Data m) h = absurd (cc)
-is_decision-wire k r (Est j i q v t) h = absurd (cc)
-is_decision-wire k r (Prop j i v) h = absurd (cc)
-is_decision-wire k r (Ack j i q) h = absurd (cc)
-is_decision-wire k r (Nack j i q) h = absurd (cc)
 is_decision-wire k r (Dec j i v) h =
     let one : j ≡ k = eqb-true j k (Lists.both-left (j == k) (i == r) h) in
     let two : i ≡ r = eqb-true i r (Lists.both-right (j == k) (i == r) h) in
     let e : Dec j i v ≡ Dec k r v = cc in
     (v, e)
+is_decision-wire k r _ h = absurd (cc)
 
 -- the proposal of a round is that of a Prop that was got
 
 proposal-wire : (k r : ℕ) (w : Wire) (v : Value) → proposal_of k r w ≡ Some v → w ≡ Prop k r v
-proposal-wire k r (Data x) v e = some-none v e
-proposal-wire k r (Est j i p x t) v e = some-none v e
 proposal-wire k r (Prop j i x) v e =
     let p = picked ((j == k) && (i == r)) x v e in
     let one : j ≡ k = eqb-true j k (Lists.both-left (j == k) (i == r) p.0) in
     let two : i ≡ r = eqb-true i r (Lists.both-right (j == k) (i == r) p.0) in
     let value : x ≡ v = p.1 in
     cc
-proposal-wire k r (Ack j i p) v e = some-none v e
-proposal-wire k r (Nack j i p) v e = some-none v e
-proposal-wire k r (Dec j i x) v e = some-none v e
+proposal-wire k r _ v e = some-none v e
 
 pub proposal-got : (got : List Wire) (k r : ℕ) (v : Value) → (ballots got k r).proposal ≡ Some v → IsIn (Prop k r v) got
 unfolding ballots proposal
@@ -119,7 +103,6 @@ proposal-got got k r v e =
 -- the estimates of a round are those of Ests that were got, one of each member
 
 estimate-wire : (k r : ℕ) (w : Wire) (e : Heard Value) → estimate_of k r w ≡ Some e → w ≡ Est k r e.member e.value e.ts
-estimate-wire k r (Data x) e is = some-none e is
 estimate-wire k r (Est j i p x t) e is =
     let made : Heard Value = record { member = p; value = x; ts = t } in
     let c = picked ((j == k) && (i == r)) made e is in
@@ -127,10 +110,7 @@ estimate-wire k r (Est j i p x t) e is =
     let two : i ≡ r = eqb-true i r (Lists.both-right (j == k) (i == r) c.0) in
     let wire : Est j i p x t ≡ Est k r p x t = cc in
     wire ∙ ap (λ (h : Heard Value). Est k r h.member h.value h.ts) c.1
-estimate-wire k r (Prop j i x) e is = some-none e is
-estimate-wire k r (Ack j i p) e is = some-none e is
-estimate-wire k r (Nack j i p) e is = some-none e is
-estimate-wire k r (Dec j i x) e is = some-none e is
+estimate-wire k r _ e is = some-none e is
 
 heard_from-got : (got : List Wire) (k r p : ℕ) (e : Heard Value) → heard_from got k r p ≡ Some e → IsIn (Est k r e.member e.value e.ts) got × (e.member ≡ p)
 heard_from-got got k r p e is =
@@ -194,17 +174,13 @@ unfolding ballots
 acked-of got k r = refl
 
 ack-wire : (k r p : ℕ) (w : Wire) → is_ack k r p w ≡ true → w ≡ Ack k r p
-ack-wire k r p (Data m) h = absurd (true≢false (sym h))
-ack-wire k r p (Est j i q v t) h = absurd (true≢false (sym h))
-ack-wire k r p (Prop j i v) h = absurd (true≢false (sym h))
 ack-wire k r p (Ack j i q) h =
     let front = Lists.both-left ((j == k) && (i == r)) (q == p) h in
     let one : j ≡ k = eqb-true j k (Lists.both-left (j == k) (i == r) front) in
     let two : i ≡ r = eqb-true i r (Lists.both-right (j == k) (i == r) front) in
     let three : q ≡ p = eqb-true q p (Lists.both-right ((j == k) && (i == r)) (q == p) h) in
     cc
-ack-wire k r p (Nack j i q) h = absurd (true≢false (sym h))
-ack-wire k r p (Dec j i v) h = absurd (true≢false (sym h))
+ack-wire k r p _ h = absurd (true≢false (sym h))
 
 pub acker-got : (got : List Wire) (k r p : ℕ) → IsIn p (ackers got k r) → IsIn (Ack k r p) got
 acker-got got k r p h =

@@ -6,7 +6,7 @@ use Rattle.ct_names.specs.Membership.{IsIn}
 use Rattle.ct_names.proofs.Lists
 use Rattle.ct_model.specs.AtValue.{Wire}
 use Rattle.ct_model.specs.Setting.{Setting}
-use Rattle.ct_model.specs.declared.wire.Wire.TheVariants.{Data, Est, Prop, Ack, Nack, Dec}
+use Rattle.ct_model.specs.declared.wire.Wire.TheVariants.{Est, Prop, Ack}
 use Rattle.ct_model.specs.declared.mail.Mail.TheVariants.{Nobody}
 use Rattle.ct_model.specs.State.{State, member}
 use Rattle.ct_model.specs.Next.{Outcome, plain, submit, receive, is_relayed, after}
@@ -48,12 +48,10 @@ allowed-submit s g p holds is c =
 
 relayed_apart : (s : Setting) (p : ℕ) (got : List Wire) (w : Wire) → is_relayed s p got w ≡ true → IsApart w
 unfolding is_relayed
-relayed_apart s p got (Data m) h = tt
 relayed_apart s p got (Est k r q v ts) h = true≢false (sym h)
 relayed_apart s p got (Prop k r v) h = true≢false (sym h)
 relayed_apart s p got (Ack k r q) h = true≢false (sym h)
-relayed_apart s p got (Nack k r q) h = tt
-relayed_apart s p got (Dec k r v) h = tt
+relayed_apart s p got _ h = tt
 
 got-more : (g : State) (got : List Wire) (w : Wire) → ((x : Wire) → IsIn x got → Sent g x) → Sent g w → (x : Wire) → IsIn x (got ++ w ∷ []) → Sent g x
 got-more g got w old new x h = elim (Lists.IsIn-append_cases x got (w ∷ []) h) [

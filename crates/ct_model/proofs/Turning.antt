@@ -83,12 +83,8 @@ first-no_tally false = refl
 
 pub wait-no_rest : (f : Phase) → is_wait f ≡ true → is_rest f ≡ false
 wait-no_rest Rest x = sym x
-wait-no_rest Gather x = refl
-wait-no_rest Wait x = refl
-wait-no_rest Tally x = refl
+wait-no_rest _ x = refl
 
 pub gather-no_rest : (f : Phase) → is_gather f ≡ true → is_rest f ≡ false
 gather-no_rest Rest x = sym x
-gather-no_rest Gather x = refl
-gather-no_rest Wait x = refl
-gather-no_rest Tally x = refl
+gather-no_rest _ x = refl

@@ -1,6 +1,7 @@
 -- The ballots of a round after one more wire.
 use Rattle.std.specs.Prelude.{ℕ, Bool, false, Option, ◌&&◌, ◌==◌, nat_lt, if◌then◌else◌, List, [], ◌∷◌, Some, None}
 use Rattle.std.specs.Option.{option_or, option_map_or}
+use Rattle.ct_names.specs.declared.limit.TheConstants.{MAX_MEMBERS}
 use Rattle.ct_names.specs.Group.{IsMember}
 use Rattle.ct_names.specs.MemberSet.{with_member}
 use Rattle.ct_model.specs.Wire.{Wire, instance_of, vote_round}
@@ -56,7 +57,7 @@ count_in t instance round w = if is_vote_in instance round w then count w t else
 
 -- a wire that names its sender names one of everyone
 abbrev pub NamesSomebody : {V : Type 0} → Wire V → Type 0
-NamesSomebody (Est k r p v t) = IsMember 16 p
-NamesSomebody (Ack k r p) = IsMember 16 p
-NamesSomebody (Nack k r p) = IsMember 16 p
+NamesSomebody (Est k r p v t) = IsMember MAX_MEMBERS p
+NamesSomebody (Ack k r p) = IsMember MAX_MEMBERS p
+NamesSomebody (Nack k r p) = IsMember MAX_MEMBERS p
 NamesSomebody _ = Unit {0}
