@@ -25,15 +25,14 @@ use Rattle.ct_model.proofs.Limits.{own_tests-is, cause-tested}
 use Rattle.ct_model.proofs.Ordering.{order-ahead, order-behind}
 use Rattle.ct_model.proofs.Outcomes.{some-same}
 use Rattle.ct_abcast.specs.Cast.{batch_of as cast_batch}
-use Rattle.ct_instances.specs.Kept.{Kept, decision_at}
+use Rattle.ct_instances.specs.Kept.{decision_at}
 use Rattle.ct_instances.specs.Named.{value_at, NamesDecision}
-use Rattle.ct_instances.specs.Keeping.{KeepsInstances}
 use Rattle.ct_instances.proofs.Keeping.{keeps-closed}
 use Rattle.ct_instances.proofs.Named.{named_some, named_is_some}
 use Rattle.ct_table.specs.Table.{zeros, applied, applied_all, table}
-use Rattle.ct_relay.specs.Taken.{Taken, is_first}
 use Rattle.ct_world.specs.declared.seat.Seat.{Seat}
-use Rattle.ct_world.specs.Seats.{Keeps, IsSameSeat, HasDelivered, batch_to_post}
+use Rattle.ct_world.specs.Seats.{Keeps, Content, content, with_delivery, batch_to_post}
+use Rattle.ct_world.proofs.Rooms.{keeps-roomier}
 use Rattle.ct_world.specs.Kept.{Fields, IsWorld, IsActor, HasDeliverRoom, NeedsNoRoom, seat_of, values_of}
 use Rattle.ct_world.specs.Prepared.{batch_in, number_in}
 use Rattle.ct_world.specs.declared.prepared.Prepared.{Prepared}
@@ -105,25 +104,24 @@ table-more batches b =
     ap table (flat_map-append (λ (x : Batch). x.messages) batches (b ∷ []) ∙ ap (λ list. joined batches ++ list) (append-nil b.messages))
     ∙ fold-append (λ so_far m. applied so_far m.command) zeros (joined batches) b.messages
 
-delivered_keeps : (n : ℕ) (values : List Value) (p : ℕ) (m : Member) (seat new : Seat) (v : Value) → Keeps n values p m seat → HasDelivered seat v new → Keeps n values p (deliver m v).member new
-delivered_keeps n values p m seat new v k d = record {
-  crashed = d.crashed ∙ k.crashed;
-  me = ap (λ (r : Taken). r.me) d.relay ∙ k.me;
-  taken = λ name. ap (λ (r : Taken). is_first r.ids name) d.relay ∙ k.taken name;
-  received = d.received ∙ k.received;
+delivered_keeps : (n : ℕ) (values : List Value) (p : ℕ) (m : Member) (seat new : Seat) (v : Value) → Keeps n values p m seat
+    → content new ≡ content (with_delivery seat v) → Keeps n values p (deliver m v).member new
+delivered_keeps n values p m seat new v k d = keeps-roomier n values p (deliver m v).member (with_delivery seat v) new d (record {
+  crashed = k.crashed;
+  me = k.me;
+  taken = k.taken;
+  received = k.received;
   batches =
-      d.batches
-      ∙ ap (λ batch. seat.caster.batches ++ batch ∷ []) same
+      ap (λ batch. seat.caster.batches ++ batch ∷ []) same
       ∙ ap (λ list. list ++ batch_of m v ∷ []) k.batches
       ∙ sym (map-append (λ (b : Batch). b.messages) m.batches (added ∷ []));
   table =
-      d.table
-      ∙ ap (applied_all seat.table) same
+      ap (applied_all seat.table) same
       ∙ ap (λ values. applied_all values (batch_of m v)) k.table
       ∙ sym (table-more m.batches added);
-  begun = d.begun ∙ k.begun;
-  instances = subst (λ (i : Kept). KeepsInstances n values p (deliver m v).member i) (sym d.instances) (keeps-closed n values p m seat.instances (m.batches ++ added ∷ []) k.instances);
-}
+  begun = k.begun;
+  instances = keeps-closed n values p m seat.instances (m.batches ++ added ∷ []) k.instances;
+})
   where
     added : Batch
     added = record { instance = m.last; messages = batch_of m v }
@@ -147,7 +145,11 @@ due w p values seat step k =
     }
 
 -- a Deliver delivers the decision and closes the instance
-pub deliver_steps : (w : Rehearsal) (p : ℕ) (f new : Fields) (id : ℕ) (v : Value) (seat : Seat) → IsPrepared w (Deliver p) f → decision_at (seat_of f.seats p).instances (seat_of f.seats p).instances.last ≡ Some id → value_at f.book.values id ≡ Some v → HasDelivered (seat_of f.seats p) v seat → new.seats ≡ set f.seats (p - 1) seat → new.network.sent ≡ f.network.sent → new.network.lines ≡ f.network.lines → new.book.values ≡ f.book.values → IsWorld (extended w (Deliver p)) new
+pub deliver_steps : (w : Rehearsal) (p : ℕ) (f new : Fields) (id : ℕ) (v : Value) (seat : Seat) → IsPrepared w (Deliver p) f
+    → decision_at (seat_of f.seats p).instances (seat_of f.seats p).instances.last ≡ Some id → value_at f.book.values id ≡ Some v
+    → content seat ≡ content (with_delivery (seat_of f.seats p) v) → new.seats ≡ set f.seats (p - 1) seat
+    → new.network.sent ≡ f.network.sent → new.network.lines ≡ f.network.lines → new.book.values ≡ f.book.values
+    → IsWorld (extended w (Deliver p)) new
 deliver_steps w p f new id v seat ready number value delivered seats sent lines values =
     let keeps = ready.world.seat p ready.in_group in
     let step = deliver_taken w p ready.world.lawful ready.ready.allowed in
@@ -157,8 +159,10 @@ deliver_steps w p f new id v seat ready number value delivered seats sent lines 
     (stepped-quiet w (Deliver p) (deliver (member (state_of w) p) step.value) f new seat ready.world refl (record {
       values = values ∙ sym (append-nil f.book.values);
       seats = seats;
-      keeps = rw values (delivered_keeps w.setting.members f.book.values p (member (state_of w) p) (seat_of f.seats p) seat step.value keeps (subst (λ x. HasDelivered (seat_of f.seats p) x seat) same delivered));
-      submitted = delivered.submitted ∙ ready.world.submitted p ready.in_group ∙ none_more (submissions (state_of w).submitted p) p;
+      keeps = rw values (delivered_keeps w.setting.members f.book.values p (member (state_of w) p) (seat_of f.seats p) seat step.value
+          keeps (subst (λ x. content seat ≡ content (with_delivery (seat_of f.seats p) x)) same delivered));
+      submitted = ap (λ (c : Content). c.seat.submitted) delivered ∙ ready.world.submitted p ready.in_group ∙ none_more
+          (submissions (state_of w).submitted p) p;
     }) refl sent lines)
 
 -- the decision of the last instance at a seat, as it is read there
@@ -178,16 +182,16 @@ value_there w p values seat id r d number got = sym (copied-some r (slice_get va
 
 -- the room that was made for a Deliver
 pub deliver_room : (w : Rehearsal) (f : Fields) (p : ℕ) (old seat : Seat) (id : ℕ) (v : Value) (posting : Option Batch) (new : Fields)
-    → p - 1 < length f.seats → old ≡ seat_of f.seats p → IsSameSeat old seat
+    → p - 1 < length f.seats → old ≡ seat_of f.seats p → content seat ≡ content old
     → new.seats ≡ set f.seats (p - 1) seat → new.book.values ≡ f.book.values → decision_at old.instances old.instances.last ≡ Some id
     → value_at f.book.values id ≡ Some v
     → seat.caster.fits_batch ≡ true → length v ≤ seat.caster.room → Joins (order (state_of w)) (order (state_of (extended w (Deliver p))))
     posting → HasDeliverRoom w new p id posting
 deliver_room w f p old seat id v posting new within here same set_is values number value fits room joins =
     let there : seat_of new.seats p ≡ seat = ap (λ list. seat_of list p) set_is ∙ seat-same f.seats p seat within in
-    let last : seat.instances.last ≡ old.instances.last = ap (λ (k : Kept). k.last) same.instances in
+    let last : seat.instances.last ≡ old.instances.last = ap (λ (c : Content). c.seat.instances.last) same in
     record {
-      number = rw there (ap (decision_at seat.instances) last ∙ same.decisions old.instances.last ∙ number);
+      number = rw there (ap (decision_at seat.instances) last ∙ ap (λ (c : Content). c.decisions old.instances.last) same ∙ number);
       fits = rw there fits;
       messages = rw there (λ u has. subst (λ x. length x ≤ seat.caster.room)
           (some-same v u (sym value ∙ ap (λ list. value_at list id) (sym values) ∙ has)) room);

@@ -12,7 +12,7 @@ use Rattle.ct_world.specs.declared.prepared.Prepared.{Prepared}
 use Rattle.ct_world.specs.declared.seat.Seat.{Seat}
 use Rattle.ct_world.specs.Prepared.{step_in}
 use Rattle.ct_world.specs.declared.world.World.TheInside.{Inside}
-use Rattle.ct_world.specs.Seats.{IsSameSeat}
+use Rattle.ct_world.specs.Seats.{content}
 use Rattle.ct_world.specs.Kept.{Fields, IsWorld, HasRoom, IsKept, seat_of}
 use Rattle.ct_world.specs.World.{WorldView}
 use Rattle.ct_world.proofs.Insides.{rehearsal_in, view_in, fields_in, IsKeptIn}
@@ -53,10 +53,13 @@ pub seat_at : (a : Inside) (step : Step) (s : Seat) → IsAllowedIn a step → s
 seat_at a step s p e = seat_found a.seats.items (actor step) s p.within e
 
 -- the world once room was made at the actor's seat
-pub roomier_in : (a : Inside) (step : Step) (old seat : Seat) (new : Fields) → IsAllowedIn a step → old ≡ seat_of a.seats.items (actor step) → IsSameSeat old seat → new.book.values ≡ a.book.values → new.network.sent ≡ a.network.sent → new.network.lines ≡ a.network.lines → new.seats ≡ set a.seats.items (actor step - 1) seat → IsWorld (rehearsal_in a) new
+pub roomier_in : (a : Inside) (step : Step) (old seat : Seat) (new : Fields) → IsAllowedIn a step → old ≡ seat_of a.seats.items
+    (actor step) → content seat ≡ content old → new.book.values ≡ a.book.values → new.network.sent ≡ a.network.sent
+    → new.network.lines ≡ a.network.lines → new.seats ≡ set a.seats.items (actor step - 1) seat → IsWorld (rehearsal_in a) new
 roomier_in a step old seat new p here same values sent lines seats =
     world-roomier (rehearsal_in a) (fields_in a) new p.world
-    (roomier-seat (rehearsal_in a) (fields_in a) new (actor step) seat p.world p.in_group values sent lines seats (subst (λ s. IsSameSeat s seat) here same))
+    (roomier-seat (rehearsal_in a) (fields_in a) new (actor step) seat p.world p.in_group values sent lines seats
+    (subst (λ s. content seat ≡ content s) here same))
 
 -- still no step is prepared
 pub unprepared_in : (a : Inside) (v : WorldView) (steps : List Step) (new : Fields) → view_in a ≡ v → v.prepared ≡ None → steps ≡ a.record.items → IsWorld (rehearsal_in a) new → IsKept (record (rehearsal_in a) { steps = steps }) a.prepared new

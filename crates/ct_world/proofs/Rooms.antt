@@ -13,36 +13,33 @@ use Rattle.ct_instances.proofs.Keeping.{keeps-prepared}
 use Rattle.ct_network.specs.Network.{line_at}
 use Rattle.ct_world.specs.declared.prepared.Prepared.{Prepared}
 use Rattle.ct_world.specs.declared.seat.Seat.{Seat}
-use Rattle.ct_world.specs.Seats.{Keeps, IsSameSeat}
+use Rattle.ct_world.specs.Seats.{Keeps, Content, content}
 use Rattle.ct_world.specs.Kept.{Fields, IsWorld, HasRoom, IsKept, seat_of}
 use Rattle.ct_world.proofs.Members.{apart, place, seat-same, seat-other}
 
-pub same_seat-refl : (seat : Seat) → IsSameSeat seat seat
-same_seat-refl seat = record {
-  submitted = refl;
-  crashed = refl;
-  me = refl;
-  ids = refl;
-  received = refl;
-  batches = refl;
-  table = refl;
-  begun = refl;
-  ballots = λ k r. refl;
-  decisions = λ k. refl;
-  instances = refl;
+-- the instances of seats that keep the same
+same_instances : (old new : Seat) → content new ≡ content old → new.instances ≡ record old.instances { entries = new.instances.entries }
+same_instances old new e = λ j. record {
+  members = (e j).seat.instances.members;
+  me = (e j).seat.instances.me;
+  last = (e j).seat.instances.last;
+  part = (e j).seat.instances.part;
+  entries = new.instances.entries;
 }
 
 -- a seat that keeps the same keeps the member's state
-pub keeps-roomier : (n : ℕ) (values : List Value) (p : ℕ) (m : Member) (old new : Seat) → IsSameSeat old new → Keeps n values p m old → Keeps n values p m new
+pub keeps-roomier : (n : ℕ) (values : List Value) (p : ℕ) (m : Member) (old new : Seat) → content new ≡ content old
+    → Keeps n values p m old → Keeps n values p m new
 keeps-roomier n values p m old new s k = record {
-  crashed = s.crashed ∙ k.crashed;
-  me = s.me ∙ k.me;
-  taken = λ name. ap (λ ids. is_first ids name) s.ids ∙ k.taken name;
-  received = s.received ∙ k.received;
-  batches = s.batches ∙ k.batches;
-  table = s.table ∙ k.table;
-  begun = s.begun ∙ k.begun;
-  instances = keeps-prepared n values p m old.instances new.instances k.instances s.ballots s.decisions s.instances;
+  crashed = ap (λ (c : Content). c.seat.crashed) s ∙ k.crashed;
+  me = ap (λ (c : Content). c.seat.relay.me) s ∙ k.me;
+  taken = λ name. ap (λ (c : Content). is_first c.seat.relay.ids name) s ∙ k.taken name;
+  received = ap (λ (c : Content). c.seat.caster.received) s ∙ k.received;
+  batches = ap (λ (c : Content). c.seat.caster.batches) s ∙ k.batches;
+  table = ap (λ (c : Content). c.seat.table) s ∙ k.table;
+  begun = ap (λ (c : Content). c.seat.caster.instance) s ∙ k.begun;
+  instances = keeps-prepared n values p m old.instances new.instances k.instances (λ q r. ap (λ (c : Content). c.ballots q r) s)
+      (λ q. ap (λ (c : Content). c.decisions q) s) (same_instances old new s);
 }
 
 -- other fields that keep the same
@@ -51,7 +48,7 @@ pub record IsRoomier (w : Rehearsal) (f new : Fields) : Type 0 where
   pub sent : new.network.sent ≡ f.network.sent
   pub lines : new.network.lines ≡ f.network.lines
   pub seated : length new.seats ≡ length f.seats
-  pub each : (q : ℕ) → is_member w.setting.members q ≡ true → IsSameSeat (seat_of f.seats q) (seat_of new.seats q)
+  pub each : (q : ℕ) → is_member w.setting.members q ≡ true → content (seat_of new.seats q) ≡ content (seat_of f.seats q)
 
 pub world-roomier : (w : Rehearsal) (f new : Fields) → IsWorld w f → IsRoomier w f new → IsWorld w new
 world-roomier w f new world r = record {
@@ -65,7 +62,7 @@ world-roomier w f new world r = record {
   line = λ q group. ap (λ lines. line_at lines q) r.lines ∙ world.line q group;
   seated = r.seated ∙ world.seated;
   seat = λ q group. rw r.values (keeps-roomier w.setting.members f.book.values q _ (seat_of f.seats q) (seat_of new.seats q) (r.each q group) (world.seat q group));
-  submitted = λ q group. (r.each q group).submitted ∙ world.submitted q group;
+  submitted = λ q group. ap (λ (c : Content). c.seat.submitted) (r.each q group) ∙ world.submitted q group;
 }
 
 -- the seats stay
@@ -75,19 +72,22 @@ roomier-network w f new values sent lines seats = record {
   sent = sent;
   lines = lines;
   seated = ap length seats;
-  each = λ q group. subst (λ list. IsSameSeat (seat_of f.seats q) (seat_of list q)) (sym seats) (same_seat-refl (seat_of f.seats q));
+  each = λ q group. ap (λ list. content (seat_of list q)) seats;
 }
 
 -- the seat of one member was exchanged
-pub roomier-seat : (w : Rehearsal) (f new : Fields) (p : ℕ) (seat : Seat) → IsWorld w f → is_member w.setting.members p ≡ true → new.book.values ≡ f.book.values → new.network.sent ≡ f.network.sent → new.network.lines ≡ f.network.lines → new.seats ≡ set f.seats (p - 1) seat → IsSameSeat (seat_of f.seats p) seat → IsRoomier w f new
+pub roomier-seat : (w : Rehearsal) (f new : Fields) (p : ℕ) (seat : Seat) → IsWorld w f → is_member w.setting.members p ≡ true
+    → new.book.values ≡ f.book.values → new.network.sent ≡ f.network.sent → new.network.lines ≡ f.network.lines → new.seats ≡ set f.seats
+    (p - 1) seat → content seat ≡ content (seat_of f.seats p) → IsRoomier w f new
 roomier-seat w f new p seat world member values sent lines seats same = record {
   values = values;
   sent = sent;
   lines = lines;
   seated = ap length seats ∙ length-set f.seats (p - 1) seat;
   each = λ q group. rw seats (elim (cases_eq q p) [
-    | inl e ↦ subst (λ r. IsSameSeat (seat_of f.seats r) (seat_of (set f.seats (p - 1) seat) r)) (sym e) (rw (seat-same f.seats p seat (let a = place w.setting.members p member in omega (arith, world.seated))) same)
-    | inr ne ↦ rw (seat-other f.seats p q seat (apart w.setting.members p q member group ne)) (same_seat-refl (seat_of f.seats q))
+    | inl e ↦ subst (λ r. content (seat_of (set f.seats (p - 1) seat) r) ≡ content (seat_of f.seats r)) (sym e)
+        (rw (seat-same f.seats p seat (let a = place w.setting.members p member in omega (arith, world.seated))) same)
+    | inr ne ↦ rw (seat-other f.seats p q seat (apart w.setting.members p q member group ne)) refl
   ]);
 }
 

@@ -9,13 +9,10 @@ use Rattle.ct_model.specs.State.{new_member, first_state}
 use Rattle.ct_model.specs.Received.{received}
 use Rattle.ct_model.proofs.First.{state-first, member-first, sent-first, submissions-first, line-first, lawful-first, knows-first}
 use Rattle.ct_network.specs.Network.{line_at}
-use Rattle.ct_relay.specs.Taken.{is_first}
-use Rattle.ct_relay.specs.declared.relay_id.RelayId.{RelayId}
-use Rattle.ct_instances.specs.Kept.{Kept}
-use Rattle.ct_instances.specs.Keeping.{KeepsInstances}
 use Rattle.ct_instances.proofs.Keeping.{keeps-new}
 use Rattle.ct_world.specs.declared.seat.Seat.{Seat}
-use Rattle.ct_world.specs.Seats.{Keeps, IsNewSeat, AreNewSeats}
+use Rattle.ct_world.specs.Seats.{Keeps, Content, content, new_seat, AreNewSeats}
+use Rattle.ct_world.proofs.Rooms.{keeps-roomier}
 use Rattle.ct_world.specs.Kept.{Fields, IsWorld, values_of, no_seat, seat_of}
 use Rattle.ct_world.proofs.Members.{member_low, place}
 
@@ -28,27 +25,27 @@ unfolding first_state
 proposals-first s = refl
 
 -- a new seat is that of a new member
-new_keeps : (n : ℕ) (values : List Value) (p : ℕ) (seat : Seat) → IsNewSeat n p seat → Keeps n values p new_member seat
-new_keeps n values p seat h = record {
-  crashed = h.crashed;
-  me = h.me;
-  taken = λ name. ap (λ (ids : List RelayId). is_first ids name) h.ids;
-  received = h.received ∙ sym received-none;
-  batches = h.batches;
-  table = h.table;
-  begun = h.begun;
-  instances = subst (λ (k : Kept). KeepsInstances n values p new_member k) (sym h.instances) (keeps-new n values p);
-}
+new_keeps : (n : ℕ) (values : List Value) (p : ℕ) (seat : Seat) → content seat ≡ content (new_seat n p) → Keeps n values p new_member seat
+new_keeps n values p seat h = keeps-roomier n values p new_member (new_seat n p) seat h (record {
+  crashed = refl;
+  me = refl;
+  taken = λ name. refl;
+  received = sym received-none;
+  batches = refl;
+  table = refl;
+  begun = refl;
+  instances = keeps-new n values p;
+})
 
 module _ (n cells : ℕ) (f : Fields) (new : AreNewSeats n n f.seats) where
   s : Setting
   s = record { members = n }
 
-  seat_new : (p : ℕ) → is_member n p ≡ true → IsNewSeat n p (seat_of f.seats p)
+  seat_new : (p : ℕ) → is_member n p ≡ true → content (seat_of f.seats p) ≡ content (new_seat n p)
   seat_new p group =
       let low = member_low n p group in
       let at : p - 1 + 1 ≡ p = omega arith in
-      subst (λ q. IsNewSeat n q (seat_of f.seats p)) at (new.each (p - 1) no_seat (place n p group))
+      subst (λ q. content (seat_of f.seats p) ≡ content (new_seat n q)) at (new.each (p - 1) no_seat (place n p group))
 
   -- nothing sent, nothing proposed and new seats are the world of a record without steps
   pub world-empty : n ≤ 16 → cells ≤ 1024 → f.network.sent ≡ [] → f.network.lines ≡ replicate n [] → f.book.values ≡ [] → IsWorld (record { setting = record { members = n }; cells = cells; steps = [] }) f
@@ -64,7 +61,8 @@ module _ (n cells : ℕ) (f : Fields) (new : AreNewSeats n n f.seats) where
     line = λ p group. ap (λ ls. line_at ls p) lines ∙ get_or-replicate n (p - 1) [] [] (place n p group) ∙ sym (line-first (record { members = n }) cells p);
     seated = new.seated;
     seat = λ p group. rw (state-first (record { members = n }) cells, member-first (record { members = n }) p) (new_keeps n f.book.values p (seat_of f.seats p) (seat_new p group));
-    submitted = λ p group. rw (state-first (record { members = n }) cells, submissions-first (record { members = n }) p) (seat_new p group).submitted;
+    submitted = λ p group. rw (state-first (record { members = n }) cells, submissions-first (record { members = n }) p)
+        (ap (λ (c : Content). c.seat.submitted) (seat_new p group));
   }
 
 -- the same where the steps are known to be none

@@ -17,14 +17,13 @@ use Rattle.ct_model.specs.Order.{Joins}
 use Rattle.ct_model.specs.Knowledge.{KnowsMessages}
 use Rattle.ct_network.specs.Network.{NetworkView, line_at, place_of}
 use Rattle.ct_abcast.specs.Cast.{undelivered}
-use Rattle.ct_table.specs.Table.{zeros}
 use Rattle.ct_instances.specs.Kept.{decision_at, has_room_open}
 use Rattle.ct_instances.specs.Named.{value_at, NamesEnvelopes}
 use Rattle.ct_world.specs.declared.prepared.Prepared.{Prepared}
 use Rattle.ct_world.specs.declared.prepared.Prepared.TheVariants as made
 use Rattle.ct_world.specs.declared.seat.Seat.{Seat}
 use Rattle.ct_world.specs.Prepared.{step_in}
-use Rattle.ct_world.specs.Seats.{Keeps, CanReceive}
+use Rattle.ct_world.specs.Seats.{Keeps, CanReceive, new_seat}
 
 -- the fields of a world besides its record: the network, the values by number, the seats, and how many more steps there
 -- is room for
@@ -39,14 +38,7 @@ abbrev pub values_of : State → List Value
 values_of g = map (λ x. x.value) g.proposals
 
 abbrev pub no_seat : Seat
-no_seat = record {
-  submitted = 0;
-  crashed = false;
-  relay = record { me = 0; ids = []; has_room = false };
-  instances = record { members = 0; me = 0; last = 0; part = None; entries = [] };
-  caster = record { received = []; batches = []; instance = 0; room = 0; fits_batch = false };
-  table = zeros;
-}
+no_seat = new_seat 0 0
 
 -- the seat of member p
 abbrev pub seat_of : List Seat → ℕ → Seat

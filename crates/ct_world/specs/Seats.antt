@@ -11,7 +11,7 @@ use Rattle.ct_model.specs.declared.mail.Mail.{Mail as AnyMail}
 use Rattle.ct_model.specs.declared.wire.Wire.TheVariants.{Data, Dec}
 use Rattle.ct_model.specs.declared.mail.Mail.TheVariants.{Nobody, All}
 use Rattle.ct_model.specs.State.{Member, delivered}
-use Rattle.ct_model.specs.Received.{received, is_decision, decision_of}
+use Rattle.ct_model.specs.Received.{Ballots, received, is_decision, decision_of}
 use Rattle.ct_model.specs.Counted.{count_in}
 use Rattle.ct_relay.specs.Taken.{Taken, is_first, with_id}
 use Rattle.ct_relay.specs.declared.relay_id.RelayId.{RelayId}
@@ -43,40 +43,42 @@ pub record Keeps (n : ℕ) (values : List Value) (p : ℕ) (m : Member) (seat : 
   pub begun : seat.caster.instance ≡ m.last
   pub instances : KeepsInstances n values p m seat.instances
 
--- the seat of a member that has done nothing
-pub record IsNewSeat (n p : ℕ) (seat : Seat) : Type 0 where
-  pub submitted : seat.submitted ≡ 0
-  pub crashed : seat.crashed ≡ false
-  pub me : seat.relay.me ≡ p
-  pub ids : seat.relay.ids ≡ []
-  pub received : seat.caster.received ≡ []
-  pub batches : seat.caster.batches ≡ []
-  pub table : seat.table ≡ zeros
-  pub begun : seat.caster.instance ≡ 0
-  pub instances : seat.instances ≡ record { members = n; me = p; last = 0; part = None; entries = [] }
+-- the seat of member p of a group of n, which has done nothing
+abbrev pub new_seat : ℕ → ℕ → Seat
+new_seat n p = record {
+  submitted = 0;
+  crashed = false;
+  relay = record { me = p; ids = []; has_room = false };
+  instances = record { members = n; me = p; last = 0; part = None; entries = [] };
+  caster = record { received = []; batches = []; instance = 0; room = 0; fits_batch = false };
+  table = zeros;
+}
+
+-- what is kept at a seat, whatever room there is for more: the seat with no room, and what its instances got
+pub record Content : Type 0 where
+  pub seat : Seat
+  pub ballots : ℕ → ℕ → Ballots ℕ
+  pub decisions : ℕ → Option ℕ
+
+abbrev pub content : Seat → Content
+content seat = record {
+  seat = record seat {
+    relay = record seat.relay { has_room = false };
+    caster = record seat.caster { room = 0; fits_batch = false };
+    instances = record seat.instances { entries = [] };
+  };
+  ballots = λ k r. ballots_of seat.instances k r;
+  decisions = λ k. decision_at seat.instances k;
+}
 
 -- the first k seats of a group of n, in which nothing was done
 pub record AreNewSeats (n k : ℕ) (seats : List Seat) : Type 0 where
   pub seated : length seats ≡ k
-  pub each : (i : ℕ) (d : Seat) → i < k → IsNewSeat n (i + 1) (slice_index_or seats i d)
+  pub each : (i : ℕ) (d : Seat) → i < k → content (slice_index_or seats i d) ≡ content (new_seat n (i + 1))
 
--- a seat that keeps the same, whatever room it has
-pub record IsSameSeat (old new : Seat) : Type 0 where
-  pub submitted : new.submitted ≡ old.submitted
-  pub crashed : new.crashed ≡ old.crashed
-  pub me : new.relay.me ≡ old.relay.me
-  pub ids : new.relay.ids ≡ old.relay.ids
-  pub received : new.caster.received ≡ old.caster.received
-  pub batches : new.caster.batches ≡ old.caster.batches
-  pub table : new.table ≡ old.table
-  pub begun : new.caster.instance ≡ old.caster.instance
-  pub ballots : (k r : ℕ) → ballots_of new.instances k r ≡ ballots_of old.instances k r
-  pub decisions : (k : ℕ) → decision_at new.instances k ≡ decision_at old.instances k
-  pub instances : new.instances ≡ record old.instances { entries = new.instances.entries }
-
-pub record AreSameSeats (old new : List Seat) : Type 0 where
-  pub seated : length new ≡ length old
-  pub each : (i : ℕ) (d : Seat) → i < length old → IsSameSeat (slice_index_or old i d) (slice_index_or new i d)
+-- the seats keep the same, whatever room they have
+abbrev pub AreSameSeats : List Seat → List Seat → Type 0
+AreSameSeats old new = map content new ≡ map content old
 
 -- room to receive the wire
 pub record CanReceive (seat : Seat) (x : AnyWire ℕ) : Type 0 where
@@ -129,16 +131,13 @@ pub record HasSameRest (old new : Seat) : Type 0 where
   pub begun : new.caster.instance ≡ old.caster.instance
   pub instances : new.instances ≡ old.instances
 
--- the seat before and after it delivered the value for its open instance, which is closed
-pub record HasDelivered (old : Seat) (v : Value) (new : Seat) : Type 0 where
-  pub submitted : new.submitted ≡ old.submitted
-  pub crashed : new.crashed ≡ old.crashed
-  pub relay : new.relay ≡ old.relay
-  pub received : new.caster.received ≡ old.caster.received
-  pub batches : new.caster.batches ≡ old.caster.batches ++ batch_of old.caster v ∷ []
-  pub table : new.table ≡ applied_all old.table (batch_of old.caster v)
-  pub begun : new.caster.instance ≡ old.caster.instance
-  pub instances : new.instances ≡ record old.instances { part = None }
+-- the seat after it delivered the value for its open instance, which is closed
+abbrev pub with_delivery : Seat → Value → Seat
+with_delivery seat v = record seat {
+  caster = record seat.caster { batches = seat.caster.batches ++ batch_of seat.caster v ∷ [] };
+  table = applied_all seat.table (batch_of seat.caster v);
+  instances = record seat.instances { part = None };
+}
 
 -- the batch that the member posts for the value of its last instance, where so many were posted
 abbrev pub batch_to_post : Cast → Value → ℕ → Option Batch

@@ -1,7 +1,7 @@
 //! What is kept of one member.
 
-ghost use Rattle.std.specs.Prelude.{◌≡◌, [], false, IfOk};
-ghost use Rattle.ct_world.specs.Seats.{IsNewSeat, IsSameSeat};
+ghost use Rattle.std.specs.Prelude.{◌≡◌, IfOk};
+ghost use Rattle.ct_world.specs.Seats.{content, new_seat};
 
 use ct_abcast::Caster;
 use ct_instances::Instances;
@@ -34,7 +34,7 @@ pub struct Seat {
 impl Seat {
     /// A member that has done nothing.
     pub fn new(alloc: Global, group: Group, me: Member) -> Seat
-        ensures { IsNewSeat group me result }
+        ensures { content result ≡ content (new_seat group me) }
     {
         Seat {
             submitted: 0,
@@ -48,7 +48,7 @@ impl Seat {
 
     /// A seat that keeps the same. Only memory can be refused.
     pub fn copy(&self, alloc: Global) -> Result<Seat, AllocError>
-        ensures { IfOk result (IsSameSeat self.now) }
+        ensures { IfOk result (λ seat. content seat ≡ content self.now) }
     {
         Ok(Seat {
             submitted: self.submitted,

@@ -1,7 +1,7 @@
 //! What a member delivers.
 
 ghost use Rattle.std.specs.Prelude.{◌≡◌, ◌≤◌, true, length, is_some, IfOk, option_map};
-ghost use Rattle.ct_world.specs.Seats.{HasDelivered, batch_to_post};
+ghost use Rattle.ct_world.specs.Seats.{batch_to_post, content, with_delivery};
 
 use crate::seat::Seat;
 use ct_abcast::Batch;
@@ -31,7 +31,7 @@ impl Seat {
         requires open { is_some self.old.instances.part ≡ true }
         requires fits { self.old.caster.fits_batch ≡ true }
         requires room { length value.now ≤ self.old.caster.room }
-        ensures { HasDelivered self.old value.now self.new }
+        ensures { content self.new ≡ content (with_delivery self.old value.now) }
     {
         self.caster.deliver(value);
         let last = self.caster.batches() - 1;

@@ -12,7 +12,7 @@ use Rattle.ct_instances.specs.Named.{value_at}
 use Rattle.ct_world.specs.declared.seat.Seat.{Seat}
 use Rattle.ct_world.specs.Kept.{seat_of, HasDeliverRoom}
 use Rattle.ct_world.proofs.Insides.{rehearsal_in, IsPreparedIn, prepared_in, made_in, there_in, within_in, seat_in, done_in, kept_in, fields_in}
-use Rattle.ct_world.specs.Seats.{HasDelivered}
+use Rattle.ct_world.specs.Seats.{content, with_delivery}
 use Rattle.ct_world.specs.Posting.{HasPosted, IsSet}
 use Rattle.ct_world.specs.Prepared.{batch_in}
 use Rattle.ct_world.specs.World.{WorldView}
@@ -108,8 +108,9 @@ here c = seat_in c.self.inside (Deliver c.args.member) c.index_mut-seat.result.n
 value : (c : After-push) → value_at c.self.inside.book.values c.unwrap-number.result ≡ Some c.unwrap.result.now
 value c = sym c.get.ensures ∙ ap option_copied c.unwrap.ensures
 
-delivered : (c : After-push) → HasDelivered (seat_of c.self.inside.seats.items c.args.member) c.unwrap.result.now c.deliver.new.self
-delivered c = subst (λ (s : Seat). HasDelivered s c.unwrap.result.now c.deliver.new.self) (here c) c.deliver.ensures
+delivered : (c : After-push) → content c.deliver.new.self ≡ content (with_delivery (seat_of c.self.inside.seats.items c.args.member)
+    c.unwrap.result.now)
+delivered c = subst (λ (s : Seat). content c.deliver.new.self ≡ content (with_delivery s c.unwrap.result.now)) (here c) c.deliver.ensures
 
 pushed : (c : After-push) → c.push.new.self.items ≡ c.self.inside.record.items ++ Deliver c.args.member ∷ []
 pushed c =
