@@ -13,8 +13,8 @@ use Rattle.ct_names.specs.Batch.{Batch}
 use Rattle.ct_model.specs.Received.{Ballots, head, decision_of, decided, ballots}
 use Rattle.ct_model.specs.Counted.{count_in, NamesSomebody}
 use Rattle.ct_model.specs.Mapped.{wire_map, standing_map, ballots_map}
-use Rattle.ct_model.proofs.Counting.{ballots-push, ballots-none, count_in-map}
-use Rattle.ct_model.proofs.Outcomes.{some-same, some-none}
+use Rattle.ct_model.proofs.Numbers.Counts.{ballots-push, ballots-none, count_in-map}
+use Rattle.ct_model.proofs.Basics.Options.{some-same, some-none}
 use Rattle.ct_rounds.specs.Part.{Part}
 use Rattle.ct_instances.specs.Kept.{Kept, ballots_of, decision_at}
 use Rattle.ct_instances.specs.Keeping.{IsPartOf, KeepsInstances}

@@ -18,8 +18,8 @@ use Rattle.ct_model.specs.Received.{Heard, Ballots, message_of, decision_of, is_
 use Rattle.ct_model.specs.Counted.{NamesSomebody}
 use Rattle.ct_model.specs.Mapped.{wire_map, envelope_map, without_value, mail_map, heard_map, ballots_map, standing_map}
 use Rattle.ct_model.specs.Waiting.{serials_to}
-use Rattle.ct_model.proofs.Naturality.{envelopes-map}
-use Rattle.ct_model.proofs.Outcomes.{some-same, some-none}
+use Rattle.ct_model.proofs.Numbers.Naturality.{envelopes-map}
+use Rattle.ct_model.proofs.Basics.Options.{some-same, some-none}
 use Rattle.ct_instances.specs.Named.{value_at, NamesWire, NamesMail, NamesEnvelope, NamesEnvelopes, NamesStanding, NamesBallots, NamesDecision}
 
 -- lists and optional values with one image

@@ -14,8 +14,8 @@ use Rattle.ct_model.specs.Moves.{step_of, turn_of, faults_of, sent_by, is_enter}
 use Rattle.ct_model.specs.Mapped.{ballots_map, standing_map, turn_map}
 use Rattle.ct_model.specs.Next.{own_ballots, turn_at, round_row, turned}
 use Rattle.ct_model.specs.Cause.{Test, at, first_fault, open_tests, faults_at, tests}
-use Rattle.ct_model.proofs.RoundSteps.{turn-map, faults-map, tests-move}
-use Rattle.ct_model.proofs.Outcomes.{some-same, made-map, made-then}
+use Rattle.ct_model.proofs.Steps.RoundSteps.{turn-map, faults-map, tests-move}
+use Rattle.ct_model.proofs.Basics.Options.{some-same, made-map, made-then}
 use Rattle.ct_rounds.specs.Part.{Part, got}
 use Rattle.ct_instances.specs.Kept.{Kept}
 use Rattle.ct_instances.specs.Keeping.{IsPartOf, KeepsInstances}

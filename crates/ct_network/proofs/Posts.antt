@@ -12,8 +12,8 @@ use Rattle.ct_model.specs.Wire.{envelopes}
 use Rattle.ct_model.specs.declared.mail.Mail.TheVariants.{Nobody, One, All}
 use Rattle.ct_model.specs.Waiting.{serials_to}
 use Rattle.ct_model.specs.Mapped.{wire_map, envelope_map, mail_map}
-use Rattle.ct_model.proofs.Naturality.{envelopes-map}
-use Rattle.ct_model.proofs.Serials
+use Rattle.ct_model.proofs.Numbers.Naturality.{envelopes-map}
+use Rattle.ct_model.proofs.Basics.Serials
 
 module _ {V : Type 0} where
   -- how many envelopes a mail has

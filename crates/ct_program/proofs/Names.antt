@@ -26,7 +26,8 @@ alike p (command c) = with_command p c
 abbrev IsNamed : Step → Type 0
 IsNamed s =
     let name = (step_entry s).name in
-    (quoted name ≡ 34 ∷ (name ++ 34 ∷ [])) × (are_ascii name ≡ true) × (length name ≤ 8) × (named step_entry name (alike (step_entry s).first (step_entry s).rest) ≡ Some s)
+    (quoted name ≡ 34 ∷ (name ++ 34 ∷ [])) × (are_ascii name ≡ true) × (length name ≤ 8)
+    × (named step_entry name (alike (step_entry s).first (step_entry s).rest) ≡ Some s)
 
 step_named : (s : Step) → IsNamed s
 unfolding json_on_literals
@@ -45,7 +46,8 @@ step_named (Postpone p k) = (refl, refl, omega arith, refl)
 abbrev IsCommandNamed : Command → Type 0
 IsCommandNamed c =
     let name = (command_entry c).name in
-    (quoted name ≡ 34 ∷ (name ++ 34 ∷ [])) × (are_ascii name ≡ true) × (length name ≤ 8) × (named command_entry name (commands (command_entry c).first (amount (command_entry c).rest)) ≡ Some c)
+    (quoted name ≡ 34 ∷ (name ++ 34 ∷ [])) × (are_ascii name ≡ true) × (length name ≤ 8)
+    × (named command_entry name (commands (command_entry c).first (amount (command_entry c).rest)) ≡ Some c)
 
 command_named : (c : Command) → IsCommandNamed c
 unfolding json_on_literals
@@ -62,5 +64,6 @@ step_found s = (step_named s).3
 pub command_name : (c : Command) → IsName (command_entry c).name
 command_name c = let h = command_named c in record { plain = h.0; ascii = h.1; short = h.2 }
 
-pub command_found : (c : Command) → named command_entry (command_entry c).name (commands (command_entry c).first (amount (command_entry c).rest)) ≡ Some c
+pub command_found : (c : Command)
+    → named command_entry (command_entry c).name (commands (command_entry c).first (amount (command_entry c).rest)) ≡ Some c
 command_found c = (command_named c).3

@@ -89,25 +89,36 @@ more_stored d ds t u deep j k h i = record {
 number_stored : (n deep : ℕ) → n ≤ 18446744073709551615 → IsStored (num n) (decimal n) deep 20
 number_stored n deep h =
     let fits : n < 2 ^ 64 = omega arith in
-    record { again = ap (option_map number) (number_of-decimal n fits); numbers = IsNumber-decimal n fits; shallow = omega arith; compact = refl; text = lengths.value n h }
+    record {
+      again = ap (option_map number) (number_of-decimal n fits);
+      numbers = IsNumber-decimal n fits;
+      shallow = omega arith;
+      compact = refl;
+      text = lengths.value n h;
+    }
 
-one_stored : (d : Data) (t : List ℕ) (deep wide : ℕ) → IsStored d t deep wide → AreStored (item d no_items) (concat (codes "," ∷ t ∷ [])) deep (1 + (wide + 0))
+one_stored : (d : Data) (t : List ℕ) (deep wide : ℕ) → IsStored d t deep wide
+    → AreStored (item d no_items) (concat (codes "," ∷ t ∷ [])) deep (1 + (wide + 0))
 one_stored d t deep wide h = more_stored d no_items t [] deep wide 0 h (none_stored deep)
 
 entry_text_width : (name : List ℕ) (first : ℕ) (rest : List (List ℕ)) (wide : ℕ) → IsName name → first ≤ 255 → Text (concat rest) wide
     → Text (entry_text name first rest) (2 + (8 + (2 + (3 + (wide + 1)))))
 entry_text_width name first rest wide is few h =
-    let last : Text (concat (rest ++ codes "]" ∷ [])) (wide + 1) = rw concat-append (lengths.then (concat rest) (codes "]") wide 1 h (lengths.plain (codes "]") refl)) in
+    let last : Text (concat (rest ++ codes "]" ∷ [])) (wide + 1) =
+    rw concat-append (lengths.then (concat rest) (codes "]") wide 1 h (lengths.plain (codes "]") refl)) in
     lengths.then (codes "[\"") _ 2 _ (lengths.plain (codes "[\"") refl)
     (lengths.then name _ 8 _ (lengths.weaker name (length name) 8 (lengths.plain name is.ascii) is.short)
-    (lengths.then (codes "\",") _ 2 _ (lengths.plain (codes "\",") refl) (lengths.then (decimal first) _ 3 _ (lengths.byte first few) last)))
+    (lengths.then (codes "\",") _ 2 _ (lengths.plain (codes "\",") refl)
+    (lengths.then (decimal first) _ 3 _ (lengths.byte first few) last)))
 
 entry_compact : (name : List ℕ) (first : ℕ) (items : Items) (rest : List (List ℕ)) → IsName name → items_text true items ≡ concat rest ++ 93 ∷ []
     → compact_text (entry_data name first items) ≡ entry_text name first rest
 entry_compact name first items rest is h =
     let after = decimal first ++ (concat rest ++ codes "]") in
-    let before : compact_text (entry_data name first items) ≡ 91 ∷ ((34 ∷ (name ++ 34 ∷ [])) ++ 44 ∷ after) = ap₂ (λ q t. 91 ∷ (q ++ 44 ∷ (decimal first ++ t))) is.plain h in
-    before ∙ ap (λ t. 91 ∷ 34 ∷ t) (append_assoc name (34 ∷ []) (44 ∷ after)) ∙ ap (λ t. codes "[\"" ++ (name ++ (codes "\"," ++ (decimal first ++ t)))) (sym (concat-append rest (codes "]" ∷ [])))
+    let before : compact_text (entry_data name first items) ≡ 91 ∷ ((34 ∷ (name ++ 34 ∷ [])) ++ 44 ∷ after) =
+    ap₂ (λ q t. 91 ∷ (q ++ 44 ∷ (decimal first ++ t))) is.plain h in
+    before ∙ ap (λ t. 91 ∷ 34 ∷ t) (append_assoc name (34 ∷ []) (44 ∷ after))
+    ∙ ap (λ t. codes "[\"" ++ (name ++ (codes "\"," ++ (decimal first ++ t)))) (sym (concat-append rest (codes "]" ∷ [])))
 
 entry_stored : (name : List ℕ) (first : ℕ) (items : Items) (rest : List (List ℕ)) (deep wide : ℕ) → IsName name → first ≤ 255
     → AreStored items (concat rest) deep wide → IsStored (entry_data name first items) (entry_text name first rest) (1 + deep) (16 + wide)
@@ -118,7 +129,8 @@ entry_stored name first items rest deep wide is few h =
       numbers = (tt, (IsNumber-decimal first fits, h.numbers));
       shallow = omega (arith, h.shallow);
       compact = entry_compact name first items rest is h.compact;
-      text = lengths.weaker _ (2 + (8 + (2 + (3 + (wide + 1))))) (16 + wide) (entry_text_width name first rest wide is few h.text) (omega arith);
+      text =
+      lengths.weaker _ (2 + (8 + (2 + (3 + (wide + 1))))) (16 + wide) (entry_text_width name first rest wide is few h.text) (omega arith);
     }
 
 -- ---- those of a record
@@ -136,20 +148,25 @@ command_stored c h =
     (one_stored (num (amount x)) (decimal (amount x)) 0 20 (number_stored (amount x) 0 (amount_fits x h.1)))
 
 wider : (ds : Items) (t : List ℕ) (deep j k : ℕ) → AreStored ds t deep j → j ≤ k → AreStored ds t deep k
-wider ds t deep j k h le = record { again = h.again; numbers = h.numbers; shallow = h.shallow; compact = h.compact; text = lengths.weaker t j k h.text le }
+wider ds t deep j k h le =
+    record { again = h.again; numbers = h.numbers; shallow = h.shallow; compact = h.compact; text = lengths.weaker t j k h.text le }
 
 rest_stored : (r : Rest) → RestFits r → AreStored (rest_data r) (concat (rest_texts r)) 1 38
 rest_stored nothing h = wider _ _ 1 0 38 (none_stored 1) (omega arith)
-rest_stored (steps.number x) h = wider _ _ 1 21 38 (one_stored (num (amount x)) (decimal (amount x)) 1 20 (number_stored (amount x) 1 (amount_fits x h))) (omega arith)
+rest_stored (steps.number x) h =
+    wider _ _ 1 21 38 (one_stored (num (amount x)) (decimal (amount x)) 1 20 (number_stored (amount x) 1 (amount_fits x h))) (omega arith)
 rest_stored (command c) h = one_stored (command_data c) (command_text c) 1 37 (command_stored c h)
 
 step_stored : (s : Step) → StepFits s → IsStored (step_data s) (step_text s) 2 54
 unfolding step_text
-step_stored s h = entry_stored (step_entry s).name (step_entry s).first _ (rest_texts (step_entry s).rest) 1 38 (step_name s) h.0 (rest_stored (step_entry s).rest h.1)
+step_stored s h =
+    entry_stored (step_entry s).name (step_entry s).first _ (rest_texts (step_entry s).rest) 1 38 (step_name s) h.0 (rest_stored (step_entry s).rest h.1)
 
 steps_stored : (ss : List Step) → AllFit ss → AreStored (steps_data ss) (rest_of 44 true (map step_text ss)) 2 (55 * length ss)
 steps_stored [] h = wider _ _ 2 0 _ (none_stored 2) (omega arith)
-steps_stored (s ∷ ss) h = wider _ _ 2 (1 + (54 + 55 * length ss)) _ (more_stored (step_data s) (steps_data ss) (step_text s) _ 2 54 _ (step_stored s h.0) (steps_stored ss h.1)) (omega arith)
+steps_stored (s ∷ ss) h =
+    wider _ _ 2 (1 + (54 + 55 * length ss)) _
+    (more_stored (step_data s) (steps_data ss) (step_text s) _ 2 54 _ (step_stored s h.0) (steps_stored ss h.1)) (omega arith)
 
 -- the list of the steps begins with no comma
 record IsList (ss : List Step) : Type 0 where
@@ -164,14 +181,16 @@ list_stored (s ∷ ss) h =
     let rest = rest_of 44 true (map step_text ss) in
     record {
       compact = ap₂ (λ x y. x ++ y) first.compact more.compact ∙ sym (append_assoc (step_text s) rest (93 ∷ []));
-      text = lengths.weaker _ (54 + 55 * length ss) _ (lengths.then (step_text s) rest 54 (55 * length ss) first.text more.text) (omega arith);
+      text =
+      lengths.weaker _ (54 + 55 * length ss) _ (lengths.then (step_text s) rest 54 (55 * length ss) first.text more.text) (omega arith);
     }
 
 pub steps_width : (ss : List Step) → AllFit ss → Text (steps_text ss) (55 * length ss)
 steps_width ss h = rw (← rest_of-join 44 (map step_text ss)) (list_stored ss h).text
 
 -- what stands for a value reads as it
-printed_reads : (d : Data) → of_json (outline d) ≡ Some d → tree.HasNumbers (outline d) → tree.depth (outline d) ≤ 127 → read (compact_text d) ≡ Some d
+printed_reads : (d : Data) → of_json (outline d) ≡ Some d → tree.HasNumbers (outline d) → tree.depth (outline d) ≤ 127
+    → read (compact_text d) ≡ Some d
 printed_reads d again numbers shallow =
     let ts = tree.json_tokens (outline d) in
     let printed = tokens-print ts (ArePrintable-json_tokens (outline d) numbers) in
@@ -188,10 +207,13 @@ record_compact w h =
     ap (λ t. codes "{\"cells\":" ++ (decimal w.cells ++ (codes ",\"n\":" ++ (decimal w.setting.members ++ (codes ",\"steps\":[" ++ t)))))
     (ap (λ t. t ++ tail) list ∙ append_assoc (steps_text w.steps) (93 ∷ []) tail)
 
-pub record_reads : (w : Rehearsal) → w.cells < 2 ^ 64 → w.setting.members < 2 ^ 64 → AllFit w.steps → read (record_text w) ≡ Some (record_data w)
+pub record_reads : (w : Rehearsal) → w.cells < 2 ^ 64 → w.setting.members < 2 ^ 64 → AllFit w.steps
+    → read (record_text w) ≡ Some (record_data w)
 record_reads w hc hn h =
     let steps = steps_stored w.steps h in
     let one : 1 < 2 ^ 64 = omega arith in
-    let again : of_json (outline (record_data w)) ≡ Some (record_data w) = rw (number_of-decimal w.cells hc, number_of-decimal w.setting.members hn, steps.again, number_of-decimal 1 one) refl in
-    let numbers : tree.HasNumbers (outline (record_data w)) = (IsNumber-decimal w.cells hc, (IsNumber-decimal w.setting.members hn, (steps.numbers, (IsNumber-decimal 1 one, tt)))) in
+    let again : of_json (outline (record_data w)) ≡ Some (record_data w) =
+    rw (number_of-decimal w.cells hc, number_of-decimal w.setting.members hn, steps.again, number_of-decimal 1 one) refl in
+    let numbers : tree.HasNumbers (outline (record_data w)) =
+    (IsNumber-decimal w.cells hc, (IsNumber-decimal w.setting.members hn, (steps.numbers, (IsNumber-decimal 1 one, tt)))) in
     ap read (sym (record_compact w (list_stored w.steps h))) ∙ printed_reads (record_data w) again numbers (omega (arith, steps.shallow))

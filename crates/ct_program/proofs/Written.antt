@@ -15,7 +15,8 @@ use Rattle.ct_program.proofs.Names.{alike, step_found, command_found}
 use Rattle.ct_program.proofs.Stored.{entry_data, command_data, rest_data, step_data, steps_data, record_data, record_reads, amount_fits, steps_width}
 use Rattle.ct_program.proofs.Whole.{script_read}
 
-record_width : (w : Rehearsal) → w.cells ≤ 1024 → w.setting.members ≤ 255 → AllFit w.steps → Text (record_text w) (9 + (20 + (5 + (3 + (10 + (55 * length w.steps + 14))))))
+record_width : (w : Rehearsal) → w.cells ≤ 1024 → w.setting.members ≤ 255 → AllFit w.steps
+    → Text (record_text w) (9 + (20 + (5 + (3 + (10 + (55 * length w.steps + 14))))))
 unfolding record_text
 record_width w hc hn h =
     let literal = lengths.plain in
@@ -46,7 +47,8 @@ command_is : (c : Command) → CommandFits c → command_of (command_data c) ≡
 unfolding command_of named_command
 command_is c h =
     let x = (command_entry c).rest in
-    rw (byte_is (command_entry c).first h.0, value_is (amount x) (amount_fits x h.1), command_found c, le-leb (amount x) (largest x) h.1) refl
+    rw (byte_is (command_entry c).first h.0, value_is (amount x) (amount_fits x h.1), command_found c,
+    le-leb (amount x) (largest x) h.1) refl
 
 rest_is : (r : Rest) → RestFits r → rest_fits r ≡ true
 rest_is nothing h = refl
@@ -62,7 +64,8 @@ entry_is name first (steps.number x) s h fit all found = rw (byte_is first h, va
 entry_is name first (command c) s h fit all found = rw (byte_is first h, none_is c, command_is c fit, found) refl
 
 step_is : (s : Step) → StepFits s → step_of (step_data s) ≡ Some s
-step_is s h = entry_is (step_entry s).name (step_entry s).first (step_entry s).rest s h.0 h.1 (rest_is (step_entry s).rest h.1) (step_found s)
+step_is s h =
+    entry_is (step_entry s).name (step_entry s).first (step_entry s).rest s h.0 h.1 (rest_is (step_entry s).rest h.1) (step_found s)
 
 steps_are : (at : ℕ) (ss : List Step) → AllFit ss → steps_of at (list_of (steps_data ss)) ≡ Ok ss
 unfolding steps_of
@@ -72,9 +75,12 @@ steps_are at (s ∷ ss) h = rw (step_is s h.0, steps_are (at + 1) ss h.1) refl
 record_is : (w : Rehearsal) → IsStorable w → of_value (record_data w) ≡ Ok w
 unfolding of_value rehearsal_in
 record_is w h =
-    rw (whole_is 0 18446744073709551615 1 (omega arith) (omega arith), whole_is 1 16 w.setting.members h.some_members h.few_members, whole_is 0 1024 w.cells (omega arith) h.few_cells, steps_are 1 w.steps h.fit) refl
+    let members = whole_is 1 16 w.setting.members h.some_members h.few_members in
+    let cells = whole_is 0 1024 w.cells (omega arith) h.few_cells in
+    rw (value_is 1 (omega arith), members, cells, steps_are 1 w.steps h.fit) refl
 
 pub round_trip : (w : Rehearsal) → IsStorable w → script (record_text w) ≡ Ok w
 round_trip w h =
     let short = record_width w h.few_cells (omega (arith, h.few_members)) h.fit in
-    script_read (record_text w) (record_data w) (omega (arith, short.short, h.few_steps)) short.utf8 (record_reads w (omega (arith, h.few_cells)) (omega (arith, h.few_members)) h.fit) ∙ record_is w h
+    let reads = record_reads w (omega (arith, h.few_cells)) (omega (arith, h.few_members)) h.fit in
+    script_read (record_text w) (record_data w) (omega (arith, short.short, h.few_steps)) short.utf8 reads ∙ record_is w h

@@ -14,7 +14,6 @@ use crate::naming::{commanded_step, named_command, numbered_step, short_step};
 use crate::script::Script;
 use ct_model::Step;
 use ct_names::{Command, Group, Member};
-use fast_float::parse_u64;
 use json::{Reader, Scratch, Token};
 use std::alloc::{AllocError, Global};
 
@@ -183,12 +182,22 @@ fn number(reader: &mut Reader<'_>, low: u64, high: u64) -> Option<u64>
 }
 
 // The number that the text writes in digits alone.
+#[inline(always)]
 fn digits(text: &str) -> Option<u64>
     ensures { IfSome result (λ n. number_of text.now ≡ Some (unsigned n)) }
 {
     let bytes = text.as_bytes();
-    if bytes.is_empty() || bytes[0] == b'+' {
+    if bytes.is_empty() {
         return None;
     }
-    parse_u64(bytes).ok()
+    let mut n = 0u64;
+    for i in 0..bytes.len() {
+        let byte = bytes[i];
+        if byte < b'0' || b'9' < byte {
+            return None;
+        }
+        let tens = n.checked_mul(10)?;
+        n = tens.checked_add((byte - b'0') as u64)?;
+    }
+    Some(n)
 }

@@ -16,8 +16,8 @@ use Rattle.ct_model.specs.State.{member}
 use Rattle.ct_model.specs.Rehearsal.{Rehearsal, extended, state_of, line_of}
 use Rattle.ct_model.specs.Cause.{cause, limit, limits, or_else, presence, tests}
 use Rattle.ct_model.specs.Passed.{extended_by, passed}
-use Rattle.ct_model.proofs.Passing.{passed-snoc}
-use Rattle.ct_model.proofs.Tests.{and_left, and_right}
+use Rattle.ct_model.proofs.Record.Passed.{passed-snoc}
+use Rattle.ct_model.proofs.Basics.Tests.{and_left, and_right}
 use Rattle.ct_world.specs.Posting.{IsRefusal}
 use Rattle.ct_world.specs.World.{WorldView}
 use Rattle.ct_rehearse.specs.Shares.{Held, risen_by}

@@ -6,7 +6,7 @@ use Rattle.ct_names.specs.Group.{counting, members, everyone, IsMember}
 use Rattle.ct_names.specs.MemberSet.{has_member, with_member}
 use Rattle.ct_names.proofs.Lists
 use Rattle.ct_names.proofs.MemberSets.{filter-agree, filter-has_member, in-has_member, everyone-in}
-use Rattle.ct_model.proofs.Tests.{or_false}
+use Rattle.ct_model.proofs.Basics.Tests.{or_false}
 use Rattle.ct_rounds.specs.Tally.{IsSet}
 
 -- each member is larger than those before it, and none is less than a

@@ -18,12 +18,12 @@ use Rattle.ct_model.specs.Next.{deliver, batch_of}
 use Rattle.ct_model.specs.Rehearsal.{Rehearsal, state_of, extended}
 use Rattle.ct_model.specs.Cause.{at, first_fault, or_else, cause, overflow, order}
 use Rattle.ct_model.specs.Order.{Joins}
-use Rattle.ct_model.proofs.Causes.{own_tests}
-use Rattle.ct_model.proofs.Delivers.{tests-deliver, cause-deliver, IsDeliverStep, deliver_taken}
-use Rattle.ct_model.proofs.Frame.{submissions-none}
-use Rattle.ct_model.proofs.Limits.{own_tests-is, cause-tested}
-use Rattle.ct_model.proofs.Ordering.{order-ahead, order-behind}
-use Rattle.ct_model.proofs.Outcomes.{some-same}
+use Rattle.ct_model.proofs.Record.Causes.{own_tests}
+use Rattle.ct_model.proofs.Steps.Deliver.{tests-deliver, cause-deliver, IsDeliverStep, deliver_taken}
+use Rattle.ct_model.proofs.Record.Frame.{submissions-none}
+use Rattle.ct_model.proofs.Record.Limits.{own_tests-is, cause-tested}
+use Rattle.ct_model.proofs.Delivery.Order.{order-ahead, order-behind}
+use Rattle.ct_model.proofs.Basics.Options.{some-same}
 use Rattle.ct_abcast.specs.Cast.{batch_of as cast_batch}
 use Rattle.ct_instances.specs.Kept.{decision_at}
 use Rattle.ct_instances.specs.Named.{value_at, NamesDecision}

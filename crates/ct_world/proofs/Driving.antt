@@ -13,9 +13,9 @@ use Rattle.ct_model.specs.Mapped.{heard_map, ballots_map}
 use Rattle.ct_model.specs.Next.{own_ballots}
 use Rattle.ct_model.specs.Rehearsal.{Rehearsal, state_of}
 use Rattle.ct_model.specs.Cause.{cause}
-use Rattle.ct_model.proofs.Causes.{cause-absent}
-use Rattle.ct_model.proofs.Naturality.{is_largest-map}
-use Rattle.ct_model.proofs.Outcomes.{some-same, some-none}
+use Rattle.ct_model.proofs.Record.Causes.{cause-absent}
+use Rattle.ct_model.proofs.Numbers.Naturality.{is_largest-map}
+use Rattle.ct_model.proofs.Basics.Options.{some-same, some-none}
 use Rattle.ct_rounds.specs.Best.{best}
 use Rattle.ct_rounds.specs.Part.{Part, got}
 use Rattle.ct_instances.specs.Kept.{ballots_of}

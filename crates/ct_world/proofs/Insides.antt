@@ -9,10 +9,10 @@ use Rattle.ct_model.specs.Next.{Outcome}
 use Rattle.ct_model.specs.State.{State}
 use Rattle.ct_model.specs.Rehearsal.{Rehearsal, state_of, extended}
 use Rattle.ct_model.specs.Cause.{cause}
-use Rattle.ct_model.proofs.Causes.{cause-none}
-use Rattle.ct_model.proofs.Frame.{length-after-sent}
-use Rattle.ct_model.proofs.Outcomes.{some-same, some-none}
-use Rattle.ct_model.proofs.Taken.{IsTaken, next-step, state-step}
+use Rattle.ct_model.proofs.Record.Causes.{cause-none}
+use Rattle.ct_model.proofs.Record.Frame.{length-after-sent}
+use Rattle.ct_model.proofs.Basics.Options.{some-same, some-none}
+use Rattle.ct_model.proofs.Record.Taken.{IsTaken, next-step, state-step}
 use Rattle.ct_world.specs.declared.prepared.Prepared.{Prepared}
 use Rattle.ct_world.specs.declared.seat.Seat.{Seat}
 use Rattle.ct_world.specs.Prepared.{step_in}

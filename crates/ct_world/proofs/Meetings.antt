@@ -6,8 +6,8 @@ use Rattle.ct_names.specs.Message.{Message}
 use Rattle.ct_model.specs.Cause.{order}
 use Rattle.ct_model.specs.Rehearsal.{Rehearsal, state_of}
 use Rattle.ct_model.specs.Run.{run}
-use Rattle.ct_model.proofs.Outcomes.{some-same, some-none}
-use Rattle.ct_model.proofs.Prefixes.{order-instance}
+use Rattle.ct_model.proofs.Basics.Options.{some-same, some-none}
+use Rattle.ct_model.proofs.Delivery.Prefixes.{order-instance}
 use Rattle.ct_board.specs.Known.{Keeps, Knows}
 use Rattle.ct_board.specs.Watched.{Watched}
 use Rattle.ct_board.proofs.Meeting.{KnowsBelow, IsMet, knows_more, met}

@@ -6,7 +6,7 @@ use Rattle.std.proofs.lemmas.List.{get_or_default, get_or-set_same, get_or-set_o
 use Rattle.ct_names.specs.Group.{is_member}
 use Rattle.ct_world.specs.declared.seat.Seat.{Seat}
 use Rattle.ct_world.specs.Kept.{no_seat, seat_of}
-use Rattle.ct_model.proofs.Tests.{and_left, and_right}
+use Rattle.ct_model.proofs.Basics.Tests.{and_left, and_right}
 
 pub member_low : (n p : ℕ) → is_member n p ≡ true → 1 ≤ p
 member_low n p m = let a = and_left (nat_le 1 p) (nat_le p n) m in grind (arith, nat_tests)

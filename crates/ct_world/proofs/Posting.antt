@@ -7,7 +7,7 @@ use Rattle.ct_model.specs.Cause.{order}
 use Rattle.ct_model.specs.Lawful.{IsLawful}
 use Rattle.ct_model.specs.Order.{Joins}
 use Rattle.ct_model.specs.Rehearsal.{Rehearsal, state_of, extended}
-use Rattle.ct_model.proofs.Prefixes.{order-instance}
+use Rattle.ct_model.proofs.Delivery.Prefixes.{order-instance}
 use Rattle.ct_board.specs.Board.{Posted}
 use Rattle.ct_world.specs.Posting.{HasPosted, IsSet}
 

@@ -11,10 +11,10 @@ use Rattle.ct_model.specs.State.{submissions}
 use Rattle.ct_model.specs.Waiting.{changed, without, alone}
 use Rattle.ct_model.specs.Waiting.LineChange.{Defers}
 use Rattle.ct_model.specs.Wire.{envelopes}
-use Rattle.ct_model.proofs.Frame.{submissions-none}
-use Rattle.ct_model.proofs.Limits.{names-free}
-use Rattle.ct_model.proofs.Lines.{alone-is}
-use Rattle.ct_model.proofs.Postpones.{postpone_outcome, postpone_taken}
+use Rattle.ct_model.proofs.Record.Frame.{submissions-none}
+use Rattle.ct_model.proofs.Record.Limits.{names-free}
+use Rattle.ct_model.proofs.Record.Lines.{alone-is}
+use Rattle.ct_model.proofs.Steps.Postpone.{postpone_outcome, postpone_taken}
 use Rattle.ct_network.specs.Network.{line_at}
 use Rattle.ct_world.specs.Kept.{Fields, IsWorld, seat_of, no_seat, StandsAt, NeedsNoRoom}
 use Rattle.ct_world.proofs.Insides.{IsPrepared, IsMade}

@@ -15,7 +15,7 @@ use Rattle.ct_model.specs.State.{submissions}
 use Rattle.ct_model.specs.Waiting.{line_change, changed, serials_to}
 use Rattle.ct_model.specs.Waiting.LineChange.{Leaves}
 use Rattle.ct_model.specs.Rehearsal.{Rehearsal, state_of}
-use Rattle.ct_model.proofs.Tests.{self_number, number_other}
+use Rattle.ct_model.proofs.Basics.Tests.{self_number, number_other}
 use Rattle.ct_network.specs.Network.{NetworkView, line_at}
 use Rattle.ct_instances.specs.Named.{NamesMail}
 use Rattle.ct_instances.proofs.Named.{named_posts}

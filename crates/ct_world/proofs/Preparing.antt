@@ -6,8 +6,8 @@ use Rattle.ct_model.specs.declared.step.Step.{Step}
 use Rattle.ct_model.specs.Actor.{actor}
 use Rattle.ct_model.specs.Cause.{cause}
 use Rattle.ct_model.specs.Rehearsal.{Rehearsal}
-use Rattle.ct_model.proofs.Causes.{cause-none}
-use Rattle.ct_model.proofs.Outcomes.{some-none}
+use Rattle.ct_model.proofs.Record.Causes.{cause-none}
+use Rattle.ct_model.proofs.Basics.Options.{some-none}
 use Rattle.ct_world.specs.declared.prepared.Prepared.{Prepared}
 use Rattle.ct_world.specs.declared.seat.Seat.{Seat}
 use Rattle.ct_world.specs.Prepared.{step_in}

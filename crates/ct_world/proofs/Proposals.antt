@@ -9,9 +9,9 @@ use Rattle.ct_model.specs.Next.{Outcome, row, after, next}
 use Rattle.ct_model.specs.Run.{run, run_from}
 use Rattle.ct_model.specs.Rehearsal.{Rehearsal, state_of}
 use Rattle.ct_model.specs.Lawful.{IsLawful}
-use Rattle.ct_model.proofs.Knowing.{next-is}
-use Rattle.ct_model.proofs.Outcomes.{made-then, some-same}
-use Rattle.ct_model.proofs.Shapes.{by_shape}
+use Rattle.ct_model.proofs.Relay.Messages.{next-is}
+use Rattle.ct_model.proofs.Basics.Options.{made-then, some-same}
+use Rattle.ct_model.proofs.Steps.Shapes.{by_shape}
 use Rattle.ct_world.specs.Kept.{values_of}
 
 abbrev AtMostOne : Outcome → Type 0

@@ -12,10 +12,10 @@ use Rattle.ct_names.specs.Batch.{Batch}
 use Rattle.ct_model.specs.Next.{begin, undelivered, is_empty}
 use Rattle.ct_model.specs.Rehearsal.{Rehearsal, state_of, extended}
 use Rattle.ct_model.specs.Cause.{at, first_fault, or_else, cause, overflow}
-use Rattle.ct_model.proofs.Causes.{own_tests}
-use Rattle.ct_model.proofs.Begins.{begin_taken, cause-begin}
-use Rattle.ct_model.proofs.Frame.{submissions-none}
-use Rattle.ct_model.proofs.Limits.{own_tests-is, cause-tested}
+use Rattle.ct_model.proofs.Record.Causes.{own_tests}
+use Rattle.ct_model.proofs.Steps.Begin.{begin_taken, cause-begin}
+use Rattle.ct_model.proofs.Record.Frame.{submissions-none}
+use Rattle.ct_model.proofs.Record.Limits.{own_tests-is, cause-tested}
 use Rattle.ct_abcast.specs.Batches.{joined}
 use Rattle.ct_abcast.specs.Cast.{undelivered as cast_undelivered}
 use Rattle.ct_rounds.specs.Part.{Part}

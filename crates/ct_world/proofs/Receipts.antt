@@ -20,10 +20,10 @@ use Rattle.ct_model.specs.Counted.{NamesSomebody}
 use Rattle.ct_model.specs.Knowledge.{KnowsMessages}
 use Rattle.ct_model.specs.Mapped.{wire_map}
 use Rattle.ct_model.specs.Next.{is_relayed}
-use Rattle.ct_model.proofs.Knowing.{received-by}
-use Rattle.ct_model.proofs.Readings.{received-got, got-received}
-use Rattle.ct_model.proofs.Receipts.{received-push}
-use Rattle.ct_model.proofs.Tests.{and_left, and_right, same_number}
+use Rattle.ct_model.proofs.Relay.Messages.{received-by}
+use Rattle.ct_model.proofs.Consensus.Readings.{received-got, got-received}
+use Rattle.ct_model.proofs.Relay.Receipts.{received-push}
+use Rattle.ct_model.proofs.Basics.Tests.{and_left, and_right, same_number}
 use Rattle.ct_relay.specs.Taken.{is_id, is_first, with_id}
 use Rattle.ct_relay.specs.declared.relay_id.RelayId.{RelayId}
 use Rattle.ct_relay.specs.declared.relay_id.RelayId.TheVariants as id

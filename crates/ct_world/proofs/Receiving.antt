@@ -17,10 +17,10 @@ use Rattle.ct_model.specs.Wire.{envelopes}
 use Rattle.ct_model.specs.declared.envelope.Envelope.{Envelope as AnyEnvelope}
 use Rattle.ct_model.specs.declared.mail.Mail.{Mail as AnyMail}
 use Rattle.ct_model.specs.declared.mail.Mail.TheVariants.{Nobody, All}
-use Rattle.ct_model.proofs.Frame.{length-after-sent, submissions-none}
-use Rattle.ct_model.proofs.Outcomes.{some-same}
-use Rattle.ct_model.proofs.Receives.{receive_outcome, receive_outcome-is, receive_taken, receive_waits, cause-receive}
-use Rattle.ct_model.proofs.Taken.{IsTaken}
+use Rattle.ct_model.proofs.Record.Frame.{length-after-sent, submissions-none}
+use Rattle.ct_model.proofs.Basics.Options.{some-same}
+use Rattle.ct_model.proofs.Steps.Receive.{receive_outcome, receive_outcome-is, receive_taken, receive_waits, cause-receive}
+use Rattle.ct_model.proofs.Record.Taken.{IsTaken}
 use Rattle.ct_network.specs.Network.{NetworkView, line_at}
 use Rattle.ct_instances.specs.Named.{NamesWire, NamesMail}
 use Rattle.ct_instances.proofs.Named.{named_all, named_wire, named_posts, named_length}

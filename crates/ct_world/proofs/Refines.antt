@@ -18,10 +18,10 @@ use Rattle.ct_instances.specs.Keeping.{KeepsInstances}
 use Rattle.ct_model.specs.Next.{Outcome, after}
 use Rattle.ct_model.specs.Waiting.{line_change, changed, serials_to}
 use Rattle.ct_model.specs.Rehearsal.{Rehearsal, state_of, line_of, extended}
-use Rattle.ct_model.proofs.Frame.{after-sent, after-submitted, member-same, member-other, submissions-append}
-use Rattle.ct_model.proofs.Knowing.{knows-next, in_members}
-use Rattle.ct_model.proofs.Limits.{row-submits}
-use Rattle.ct_model.proofs.Taken.{IsTaken, next-step, state-step, line-step, lawful-step}
+use Rattle.ct_model.proofs.Record.Frame.{after-sent, after-submitted, member-same, member-other, submissions-append}
+use Rattle.ct_model.proofs.Relay.Messages.{knows-next, in_members}
+use Rattle.ct_model.proofs.Record.Limits.{row-submits}
+use Rattle.ct_model.proofs.Record.Taken.{IsTaken, next-step, state-step, line-step, lawful-step}
 use Rattle.ct_network.specs.Network.{line_at}
 use Rattle.ct_instances.specs.Named.{NamesEnvelopes}
 use Rattle.ct_instances.proofs.Named.{grows_envelopes, named_append, named_length, named_serials}

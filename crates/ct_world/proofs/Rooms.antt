@@ -7,7 +7,7 @@ use Rattle.ct_names.specs.Value.{Value}
 use Rattle.std.specs.Prelude.{List}
 use Rattle.ct_model.specs.State.{Member}
 use Rattle.ct_model.specs.Rehearsal.{Rehearsal}
-use Rattle.ct_model.proofs.Outcomes.{some-same, some-none}
+use Rattle.ct_model.proofs.Basics.Options.{some-same, some-none}
 use Rattle.ct_relay.specs.Taken.{is_first}
 use Rattle.ct_instances.proofs.Keeping.{keeps-prepared}
 use Rattle.ct_network.specs.Network.{line_at}

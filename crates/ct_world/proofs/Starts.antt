@@ -7,7 +7,7 @@ use Rattle.ct_model.specs.declared.step.Step.{Step}
 use Rattle.ct_model.specs.Setting.{Setting}
 use Rattle.ct_model.specs.State.{new_member, first_state}
 use Rattle.ct_model.specs.Received.{received}
-use Rattle.ct_model.proofs.First.{state-first, member-first, sent-first, submissions-first, line-first, lawful-first, knows-first}
+use Rattle.ct_model.proofs.Record.Start.{state-first, member-first, sent-first, submissions-first, line-first, lawful-first, knows-first}
 use Rattle.ct_network.specs.Network.{line_at}
 use Rattle.ct_instances.proofs.Keeping.{keeps-new}
 use Rattle.ct_world.specs.declared.seat.Seat.{Seat}

@@ -5,8 +5,8 @@ use Rattle.ct_model.specs.Wire.{envelopes}
 use Rattle.ct_model.specs.State.{Member, member, submissions}
 use Rattle.ct_model.specs.Next.{crash}
 use Rattle.ct_model.specs.Rehearsal.{Rehearsal, state_of, extended}
-use Rattle.ct_model.proofs.Crashes.{crash_outcome, crash_outcome-is, crash_taken}
-use Rattle.ct_model.proofs.Frame.{submissions-none}
+use Rattle.ct_model.proofs.Steps.Crash.{crash_outcome, crash_outcome-is, crash_taken}
+use Rattle.ct_model.proofs.Record.Frame.{submissions-none}
 use Rattle.ct_instances.proofs.Keeping.{keeps-same}
 use Rattle.ct_world.specs.Kept.{Fields, IsWorld, seat_of}
 use Rattle.ct_world.proofs.Insides.{IsPrepared}

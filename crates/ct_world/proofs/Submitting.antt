@@ -14,11 +14,11 @@ use Rattle.ct_model.specs.declared.mail.Mail.TheVariants.{All}
 use Rattle.ct_model.specs.State.{Member, member, submissions}
 use Rattle.ct_model.specs.Next.{submit, next_message, after}
 use Rattle.ct_model.specs.Rehearsal.{Rehearsal, state_of, extended}
-use Rattle.ct_model.proofs.Frame.{length-after-sent, submissions-next}
-use Rattle.ct_model.proofs.Outcomes.{some-same}
-use Rattle.ct_model.proofs.Serials.{length-all}
-use Rattle.ct_model.proofs.Submits.{submit_outcome, submit_outcome-is, submit_taken}
-use Rattle.ct_model.proofs.Tests.{self_number}
+use Rattle.ct_model.proofs.Record.Frame.{length-after-sent, submissions-next}
+use Rattle.ct_model.proofs.Basics.Options.{some-same}
+use Rattle.ct_model.proofs.Basics.Serials.{length-all}
+use Rattle.ct_model.proofs.Steps.Submit.{submit_outcome, submit_outcome-is, submit_taken}
+use Rattle.ct_model.proofs.Basics.Tests.{self_number}
 use Rattle.ct_model.specs.Mapped.{wire_map}
 use Rattle.ct_network.proofs.Posts.{length-envelopes-map}
 use Rattle.ct_instances.specs.Named.{NamesMail}

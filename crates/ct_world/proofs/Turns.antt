@@ -13,10 +13,10 @@ use Rattle.ct_model.specs.declared.mail.Mail.TheVariants.{Nobody, One, All}
 use Rattle.ct_model.specs.State.{Member, member, submissions}
 use Rattle.ct_model.specs.Next.{row, round_row, turned}
 use Rattle.ct_model.specs.Rehearsal.{Rehearsal, state_of, extended}
-use Rattle.ct_model.proofs.Frame.{submissions-none, length-after-sent}
-use Rattle.ct_model.proofs.Limits.{taken_of}
-use Rattle.ct_model.proofs.Taken.{IsTaken}
-use Rattle.ct_model.proofs.Tests.{and_both}
+use Rattle.ct_model.proofs.Record.Frame.{submissions-none, length-after-sent}
+use Rattle.ct_model.proofs.Record.Limits.{taken_of}
+use Rattle.ct_model.proofs.Record.Taken.{IsTaken}
+use Rattle.ct_model.proofs.Basics.Tests.{and_both}
 use Rattle.ct_network.specs.Network.{IsAddressed}
 use Rattle.ct_instances.specs.Kept.{Kept}
 use Rattle.ct_instances.specs.Keeping.{KeepsInstances}
@@ -27,7 +27,7 @@ use Rattle.ct_instances.proofs.Turning.{IsTurnedBy, turned-row}
 use Rattle.ct_world.specs.declared.seat.Seat.{Seat}
 use Rattle.ct_world.specs.Seats.{Keeps}
 use Rattle.ct_world.specs.Kept.{Fields, IsWorld, seat_of}
-use Rattle.ct_model.proofs.Naming.{addressed-step}
+use Rattle.ct_model.proofs.Record.Addressees.{addressed-step}
 use Rattle.ct_world.proofs.Insides.{IsPrepared}
 use Rattle.ct_model.specs.Waiting.{line_change}
 use Rattle.ct_model.specs.Waiting.LineChange.{Leaves}

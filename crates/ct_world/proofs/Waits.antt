@@ -12,14 +12,14 @@ use Rattle.ct_model.specs.Lawful.{IsLetter, is_waiting}
 use Rattle.ct_model.specs.Rehearsal.{Rehearsal, state_of}
 use Rattle.ct_model.specs.Setting.{Setting}
 use Rattle.ct_model.specs.State.{State, member, wires, at_serial}
-use Rattle.ct_model.proofs.Letters.{waiting_letter}
-use Rattle.ct_model.proofs.Outcomes.{some-same, some-none}
+use Rattle.ct_model.proofs.Record.Envelopes.{waiting_letter}
+use Rattle.ct_model.proofs.Basics.Options.{some-same, some-none}
 use Rattle.ct_instances.specs.Named.{NamesEnvelope}
 use Rattle.ct_instances.proofs.Named.{named_back}
 use Rattle.ct_world.specs.Kept.{Fields, IsWorld}
 use Rattle.ct_world.specs.World.{WorldView}
 use Rattle.ct_world.specs.declared.world.World.TheInside.{Inside}
-use Rattle.ct_model.proofs.Naming.{sender_named}
+use Rattle.ct_model.proofs.Record.Addressees.{sender_named}
 use Rattle.ct_world.proofs.Insides.{IsKeptIn, view_in, fields_in}
 use Rattle.ct_world.proofs.Receipts.{IsKnown, known_name}
 

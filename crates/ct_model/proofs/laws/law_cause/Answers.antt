@@ -1,5 +1,5 @@
-use Rattle.ct_model.proofs.First.{lawful-first}
-use Rattle.ct_model.proofs.Allowing.{cause-allowed, allowed-free, allowed-lawful}
+use Rattle.ct_model.proofs.Record.Start.{lawful-first}
+use Rattle.ct_model.proofs.Record.Allowed.{cause-allowed, allowed-free, allowed-lawful}
 use Rattle.ct_model.proofs.laws.law_cause.Goals as goal
 
 pub returns-clause-first : goal.returns-clause-first

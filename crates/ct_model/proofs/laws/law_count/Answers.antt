@@ -1,4 +1,4 @@
-use Rattle.ct_model.proofs.Counting.{ballots-none, ballots-push}
+use Rattle.ct_model.proofs.Numbers.Counts.{ballots-none, ballots-push}
 use Rattle.ct_model.proofs.laws.law_count.Goals as goal
 
 pub returns-clause-none : goal.returns-clause-none

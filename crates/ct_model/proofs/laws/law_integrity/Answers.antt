@@ -1,4 +1,4 @@
-use Rattle.ct_model.proofs.Integrity.{received_once, received_submitted}
+use Rattle.ct_model.proofs.Relay.Integrity.{received_once, received_submitted}
 use Rattle.ct_model.proofs.laws.law_integrity.Goals as goal
 
 pub returns-clause-once : goal.returns-clause-once

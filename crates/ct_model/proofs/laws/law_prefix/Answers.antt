@@ -1,5 +1,5 @@
-use Rattle.ct_model.proofs.Locking.{agreed-run}
-use Rattle.ct_model.proofs.Prefixes.{batches-prefix, delivered-prefix, delivered-once}
+use Rattle.ct_model.proofs.Consensus.Locking.{agreed-run}
+use Rattle.ct_model.proofs.Delivery.Prefixes.{batches-prefix, delivered-prefix, delivered-once}
 use Rattle.ct_model.proofs.laws.law_prefix.Goals as goal
 
 pub returns-clause-delivered : goal.returns-clause-delivered

@@ -1,5 +1,5 @@
-use Rattle.ct_model.proofs.Locking.{agreed-run}
-use Rattle.ct_model.proofs.Prefixes.{delivered-submitted}
+use Rattle.ct_model.proofs.Consensus.Locking.{agreed-run}
+use Rattle.ct_model.proofs.Delivery.Prefixes.{delivered-submitted}
 use Rattle.ct_model.proofs.laws.law_validity.Goals as goal
 
 pub returns-clause-proposed : goal.returns-clause-proposed

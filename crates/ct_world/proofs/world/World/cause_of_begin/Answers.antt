@@ -1,6 +1,6 @@
 use Rattle.std.proofs.Common.{sym, ◌∙◌, arith}
 use Rattle.ct_model.specs.declared.step.Step.TheVariants.{Begin}
-use Rattle.ct_model.proofs.Causes.{cause-absent}
+use Rattle.ct_model.proofs.Record.Causes.{cause-absent}
 use Rattle.ct_world.proofs.Proposing.{copied-some, begin_busy, begin_nothing, begin_full, begin_free}
 use Rattle.ct_world.proofs.world.World.cause_of_begin.Goals as goal
 use Rattle.ct_world.proofs.world.World.cause_of_begin.Goals.{Then-not-has_undelivered, Then-last-ge-MAX_INSTANCES, After-overflow}

@@ -1,7 +1,7 @@
 use Rattle.std.proofs.Common.{sym, ◌∙◌}
 use Rattle.ct_model.specs.declared.step.Step.TheVariants.{Crash}
-use Rattle.ct_model.proofs.Causes.{cause-absent}
-use Rattle.ct_model.proofs.Crashes.{cause-crash}
+use Rattle.ct_model.proofs.Record.Causes.{cause-absent}
+use Rattle.ct_model.proofs.Steps.Crash.{cause-crash}
 use Rattle.ct_world.proofs.world.World.cause_of_crash.Goals as goal
 
 pub returns-in-Ok : goal.returns-in-Ok

@@ -1,7 +1,7 @@
 use Rattle.std.proofs.Common.{ap, sym, ◌∙◌, arith}
 use Rattle.std.specs.Prelude.{is_some, not}
 use Rattle.ct_model.specs.declared.step.Step.TheVariants.{Deliver}
-use Rattle.ct_model.proofs.Causes.{cause-absent}
+use Rattle.ct_model.proofs.Record.Causes.{cause-absent}
 use Rattle.ct_instances.specs.Kept.{decision_at}
 use Rattle.ct_world.specs.World.{WorldView}
 use Rattle.ct_world.proofs.Proposing.{copied-some}

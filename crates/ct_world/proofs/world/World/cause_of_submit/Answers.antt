@@ -1,8 +1,8 @@
 use Rattle.std.proofs.Common.{◌≡◌, ap, sym, ◌∙◌, arith}
 use Rattle.ct_model.specs.declared.step.Step.TheVariants.{Submit}
 use Rattle.ct_model.specs.Cause.{overflow}
-use Rattle.ct_model.proofs.Causes.{cause-absent}
-use Rattle.ct_model.proofs.Submits.{cause-submit-bad, cause-submit-full, cause-submit-sends}
+use Rattle.ct_model.proofs.Record.Causes.{cause-absent}
+use Rattle.ct_model.proofs.Steps.Submit.{cause-submit-bad, cause-submit-full, cause-submit-sends}
 use Rattle.ct_world.specs.World.{WorldView}
 use Rattle.ct_world.proofs.world.World.cause_of_submit.Goals as goal
 

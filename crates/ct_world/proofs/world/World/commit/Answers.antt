@@ -1,7 +1,7 @@
 use Rattle.std.proofs.Common.{rules}
 use Rattle.ct_model.specs.Order.{DeliversNothing}
 use Rattle.ct_model.specs.Rehearsal.{state_of}
-use Rattle.ct_model.proofs.Ordering.{order-still}
+use Rattle.ct_model.proofs.Delivery.Order.{order-still}
 use Rattle.ct_world.proofs.world.World.commit.Goals as goal
 
 pub returns-in_default-clause-posted : goal.returns-in_default-clause-posted

@@ -5,8 +5,8 @@ use Rattle.ct_model.specs.declared.step.Step.TheVariants.{Begin}
 use Rattle.ct_model.specs.State.{member}
 use Rattle.ct_model.specs.Next.{begin}
 use Rattle.ct_model.specs.Rehearsal.{state_of}
-use Rattle.ct_model.proofs.Begins.{begin_taken}
-use Rattle.ct_model.proofs.Outcomes.{some-same}
+use Rattle.ct_model.proofs.Steps.Begin.{begin_taken}
+use Rattle.ct_model.proofs.Basics.Options.{some-same}
 use Rattle.ct_abcast.specs.Cast.{Cast, undelivered}
 use Rattle.ct_instances.specs.Kept.{Kept, has_room_open}
 use Rattle.ct_instances.specs.Steps.{opened}

@@ -1,7 +1,7 @@
 use Rattle.std.proofs.Common.{◌≡◌, ◌-◌, ◌++◌, ◌∷◌, [], true, set, refl, ap, arith}
 use Rattle.std.specs.Prelude.{is_ok}
 use Rattle.ct_model.specs.declared.step.Step.TheVariants.{Crash}
-use Rattle.ct_model.proofs.Crashes.{crash_outcome, crash_taken}
+use Rattle.ct_model.proofs.Steps.Crash.{crash_outcome, crash_taken}
 use Rattle.ct_world.specs.declared.seat.Seat.{Seat}
 use Rattle.ct_world.proofs.Insides.{rehearsal_in, IsPreparedIn, prepared_in, within_in, seat_in, done_in, kept_in, fields_in}
 use Rattle.ct_world.proofs.Steps.{crash_mail, crash_steps}

@@ -6,8 +6,8 @@ use Rattle.ct_model.specs.Next.{deliver}
 use Rattle.ct_names.specs.Batch.{Batch}
 use Rattle.std.proofs.Common.{Option}
 use Rattle.ct_model.specs.Rehearsal.{Rehearsal, state_of, extended}
-use Rattle.ct_model.proofs.Delivers.{deliver_taken}
-use Rattle.ct_model.proofs.Taken.{lawful-step}
+use Rattle.ct_model.proofs.Steps.Deliver.{deliver_taken}
+use Rattle.ct_model.proofs.Record.Taken.{lawful-step}
 use Rattle.ct_instances.specs.Named.{value_at}
 use Rattle.ct_world.specs.declared.seat.Seat.{Seat}
 use Rattle.ct_world.specs.Kept.{seat_of, HasDeliverRoom}

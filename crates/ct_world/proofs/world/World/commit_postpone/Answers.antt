@@ -1,7 +1,7 @@
 use Rattle.std.proofs.Common.{◌≡◌, ◌-◌, ◌++◌, ◌∷◌, [], true, not, filter, set, refl, ap, sym, ◌∙◌, arith}
 use Rattle.std.specs.Prelude.{is_ok, is_some, ◌==◌}
 use Rattle.ct_model.specs.declared.step.Step.TheVariants.{Postpone}
-use Rattle.ct_model.proofs.Postpones.{postpone_outcome, postpone_taken}
+use Rattle.ct_model.proofs.Steps.Postpone.{postpone_outcome, postpone_taken}
 use Rattle.ct_network.specs.Network.{line_at}
 use Rattle.ct_world.proofs.Insides.{rehearsal_in, IsPreparedIn, prepared_in, made_in, there_in, done_in, kept_in, fields_in}
 use Rattle.ct_world.proofs.Postponing.{postpone_mail, postpone_steps, postpone_placed, postpone_made}

@@ -1,7 +1,7 @@
 use Rattle.std.proofs.Common.{◌≡◌, ◌-◌, ◌++◌, ◌∷◌, [], true, remove, set, refl, ap, sym, ◌∙◌, subst, arith}
 use Rattle.std.specs.Prelude.{is_ok, is_some}
 use Rattle.ct_model.specs.declared.step.Step.TheVariants.{Receive}
-use Rattle.ct_model.proofs.Receives.{receive_waits, receive_outcome}
+use Rattle.ct_model.proofs.Steps.Receive.{receive_waits, receive_outcome}
 use Rattle.ct_network.specs.Network.{line_at}
 use Rattle.ct_instances.proofs.Named.{named_sender, named_wire}
 use Rattle.ct_world.specs.declared.seat.Seat.{Seat}

@@ -5,7 +5,7 @@ use Rattle.ct_model.specs.Rehearsal.{state_of}
 use Rattle.ct_model.specs.State.{submissions}
 use Rattle.ct_model.specs.declared.wire.Wire.TheVariants.{Data}
 use Rattle.ct_model.specs.declared.mail.Mail.TheVariants.{All}
-use Rattle.ct_model.proofs.Submits.{submit_outcome, submit_taken}
+use Rattle.ct_model.proofs.Steps.Submit.{submit_outcome, submit_taken}
 use Rattle.ct_world.specs.declared.seat.Seat.{Seat}
 use Rattle.ct_world.specs.Kept.{seat_of}
 use Rattle.ct_world.proofs.Insides.{rehearsal_in, IsPreparedIn, prepared_in, within_in, seat_in, done_in, kept_in, fields_in}

@@ -1,6 +1,6 @@
 use Rattle.std.proofs.Common.{◌-◌, sym, ◌∙◌, subst}
 use Rattle.std.specs.Prelude.{vec_len, vec_capacity}
-use Rattle.ct_model.proofs.Outcomes.{some-none}
+use Rattle.ct_model.proofs.Basics.Options.{some-none}
 use Rattle.ct_world.specs.Kept.{Fields, IsWorld}
 use Rattle.ct_world.specs.Seats.{AreSameSeats}
 use Rattle.ct_world.proofs.Copies.{world-copied}

@@ -1,7 +1,7 @@
 use Rattle.std.proofs.Common.{◌∙◌, sym, subst}
 use Rattle.ct_model.specs.Lawful.{IsLawful}
-use Rattle.ct_model.proofs.Allowing.{cause-allowed, allowed-free}
-use Rattle.ct_model.proofs.Outcomes.{some-none}
+use Rattle.ct_model.proofs.Record.Allowed.{cause-allowed, allowed-free}
+use Rattle.ct_model.proofs.Basics.Options.{some-none}
 use Rattle.ct_world.specs.World.{WorldView}
 use Rattle.ct_world.proofs.world.World.enabled.Goals as goal
 

@@ -1,8 +1,8 @@
 use Rattle.std.proofs.Common.{◌≡◌, Some, sym, ◌∙◌}
 use Rattle.ct_model.specs.declared.step.Step.TheVariants.{Postpone}
 use Rattle.ct_model.specs.Rehearsal.{line_of}
-use Rattle.ct_model.proofs.Causes.{cause-absent}
-use Rattle.ct_model.proofs.Postpones.{cause-postpone, cause-postpone-away}
+use Rattle.ct_model.proofs.Record.Causes.{cause-absent}
+use Rattle.ct_model.proofs.Steps.Postpone.{cause-postpone, cause-postpone-away}
 use Rattle.ct_network.specs.Network.{place_of}
 use Rattle.ct_world.proofs.Insides.{fields_in}
 use Rattle.ct_world.proofs.Places.{found_in, stands-there, stands-nowhere, unless-found}

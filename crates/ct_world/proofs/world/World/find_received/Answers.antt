@@ -2,8 +2,8 @@ use Rattle.std.proofs.Common.{◌≡◌, true, false, Some, ap, sym, ◌∙◌}
 use Rattle.ct_model.specs.declared.step.Step.TheVariants.{Receive}
 use Rattle.ct_model.specs.Cause.{overflow}
 use Rattle.ct_model.specs.Rehearsal.{line_of}
-use Rattle.ct_model.proofs.Causes.{cause-absent}
-use Rattle.ct_model.proofs.Receives.{cause-receive-away}
+use Rattle.ct_model.proofs.Record.Causes.{cause-absent}
+use Rattle.ct_model.proofs.Steps.Receive.{cause-receive-away}
 use Rattle.ct_network.specs.Network.{place_of}
 use Rattle.ct_world.specs.World.{WorldView}
 use Rattle.ct_world.proofs.Insides.{fields_in}

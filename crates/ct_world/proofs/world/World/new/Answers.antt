@@ -1,5 +1,5 @@
 use Rattle.std.proofs.Common.{arith}
-use Rattle.ct_model.proofs.Outcomes.{some-none}
+use Rattle.ct_model.proofs.Basics.Options.{some-none}
 use Rattle.ct_world.proofs.Starts.{world-first}
 use Rattle.ct_world.proofs.world.World.new.Goals as goal
 

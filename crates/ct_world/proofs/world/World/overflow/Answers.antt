@@ -1,7 +1,7 @@
 use Rattle.std.proofs.Common.{◌≡◌, length, ap, sym, ◌∙◌, arith}
 use Rattle.ct_model.specs.Cause.{overflow}
 use Rattle.ct_model.specs.Rehearsal.{state_of}
-use Rattle.ct_model.proofs.Causes.{overflow-sent, overflow-steps, overflow-no}
+use Rattle.ct_model.proofs.Record.Causes.{overflow-sent, overflow-steps, overflow-no}
 use Rattle.ct_instances.proofs.Named.{named_length}
 use Rattle.ct_world.specs.declared.world.World.TheInside.{Inside}
 use Rattle.ct_world.specs.World.{WorldView}

@@ -2,7 +2,7 @@ use Rattle.std.proofs.Common.{◌-◌, set, ap, sym, subst, ◌∙◌, refl, ari
 use Rattle.std.specs.Prelude.{vec_len, vec_capacity}
 use Rattle.ct_model.specs.declared.step.Step.TheVariants.{Receive}
 use Rattle.ct_model.specs.State.{at_serial}
-use Rattle.ct_model.proofs.Receives.{receive_waits}
+use Rattle.ct_model.proofs.Steps.Receive.{receive_waits}
 use Rattle.ct_world.specs.Kept.{Fields, StandsAt}
 use Rattle.ct_world.specs.declared.prepared.Prepared.TheVariants as made
 use Rattle.ct_world.specs.World.{WorldView}

@@ -1,4 +1,4 @@
-use Rattle.ct_model.proofs.Safety.{safe-run}
+use Rattle.ct_model.proofs.Delivery.Safety.{safe-run}
 use Rattle.ct_world.proofs.Insides.{rehearsal_in}
 use Rattle.std.proofs.Common.{length, subst, sym}
 use Rattle.ct_model.specs.Lawful.{IsWithin}

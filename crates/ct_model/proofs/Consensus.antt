@@ -1,0 +1,15 @@
+-- The facts of consensus that every step keeps, and what follows: what is locked stays so.
+pub mod Facts
+pub mod Readings
+pub mod Sent
+pub mod Growth
+pub mod Obligations
+pub mod RoundFacts
+pub mod Enter
+pub mod Choose
+pub mod Reply
+pub mod Conclude
+pub mod Opening
+pub mod Others
+pub mod Runs
+pub mod Locking

@@ -1,0 +1,107 @@
+-- What is locked stays so, decisions agree, and a decision was proposed.
+use Rattle.std.proofs.Common.{◌≡◌, ℕ, suc, zero, ◌≤◌, ◌<◌, List, Some, sym, subst, inl, inr, ◌⊎◌, arith}
+use Rattle.ct_names.specs.Group.{everyone, IsMember, IsSetOf, IsShared}
+use Rattle.ct_names.specs.Membership.{IsIn}
+use Rattle.ct_names.specs.Value.{Value}
+use Rattle.ct_names.proofs.Groups.{once-everyone, majorities}
+use Rattle.ct_names.proofs.Lists
+use Rattle.ct_model.specs.declared.step.Step.{Step}
+use Rattle.ct_model.specs.Setting.{Setting}
+use Rattle.ct_model.specs.declared.wire.Wire.TheVariants.{Est, Prop, Ack, Dec}
+use Rattle.ct_model.specs.State.{State, member, wires}
+use Rattle.ct_model.specs.Received.{ackers, has_ack}
+use Rattle.ct_model.specs.Relayed.{HasDecided}
+use Rattle.ct_model.specs.Run.{run}
+use Rattle.ct_model.specs.Safe.{IsAgreed, IsLocked, IsProposed}
+use Rattle.ct_model.proofs.Consensus.Sent.{Sent}
+use Rattle.ct_model.proofs.Consensus.Facts.{IsCarried, IsHeard, IsPicked, IsFoundedEst, IsFoundedProp, IsFoundedAck, Holds}
+use Rattle.ct_model.proofs.Consensus.Readings
+use Rattle.ct_model.proofs.Consensus.Runs.{Holds-run}
+use Rattle.ct_model.proofs.Record.Members.{p_or_other}
+
+ackers-set : (s : Setting) (g : State) (k r : ℕ) → Holds s g → IsSetOf s.members (ackers (wires g) k r)
+ackers-set s g k r holds = record {
+  once = Lists.IsWithoutRepeats-filter (has_ack (wires g) k r) everyone once-everyone;
+  within = λ p h. let f : IsFoundedAck s g k r p = holds.founded (Ack k r p) (Readings.acker-got (wires g) k r p h) in f.sender;
+}
+
+heard-set : (s : Setting) (g : State) (k r : ℕ) (v : Value) → Holds s g → (pick : IsPicked s g k r v) → IsSetOf s.members pick.heard
+heard-set s g k r v holds pick = record {
+  once = pick.once;
+  within = λ p h.
+      let its : IsHeard g k r p pick.ts = pick.others p h in
+      let f : IsFoundedEst s g k r p its.value its.its_ts = holds.founded (Est k r p its.value its.its_ts) its.sent in
+      f.sender;
+}
+
+module _ (s : Setting) (g : State) (holds : Holds s g) (k r : ℕ) (v : Value) (lock : IsLocked s g k r v) where
+  -- a later round's proposal is that of a round between, as a member acked round r and was heard in the later one: its
+  -- ts there was r or more, and so was the largest
+  locked-below : (bound later : ℕ) (w : Value) → later < bound → r ≤ later → Sent g (Prop k later w) → w ≡ v
+  locked-below zero later w lt le h = absurd (omega arith)
+  locked-below (suc bound) later w lt le h =
+      elim (p_or_other r later) [
+        | inl e ↦ holds.one_proposal k later w v h (subst (λ z. Sent g (Prop k z v)) e lock.proposed)
+        | inr ne ↦
+            let prop : IsFoundedProp s g k later w = holds.founded (Prop k later w) h in
+            let pick : IsPicked s g k later w = prop.picked in
+            let both : IsShared s.members (ackers (wires g) k r) pick.heard =
+            majorities s.members (ackers (wires g) k r) pick.heard (ackers-set s g k r holds) (heard-set s g k later w holds pick) lock.acked pick.majority in
+            let ack : Sent g (Ack k r both.member) = Readings.acker-got (wires g) k r both.member both.in_one in
+            let founded_ack : IsFoundedAck s g k r both.member = holds.founded (Ack k r both.member) ack in
+            let its : IsHeard g k later both.member pick.ts = pick.others both.member both.in_other in
+            let low : r ≤ its.its_ts = holds.ts_after_ack k r later both.member its.value its.its_ts ack its.sent (omega arith) in
+            let best : IsFoundedEst s g k later pick.from w pick.ts = holds.founded (Est k later pick.from w pick.ts) pick.best in
+            let most : its.its_ts ≤ pick.ts = its.low in
+            let carried : IsCarried g k pick.ts later w = best.carried (let first : 1 ≤ r = founded_ack.first in omega arith) in
+            let from : pick.ts ≤ carried.round = carried.from_ts in
+            let below : carried.round < later = carried.below in
+            locked-below bound carried.round w (omega arith) (omega arith) carried.sent
+      ]
+
+  locked_for_good : (later : ℕ) (w : Value) → r ≤ later → Sent g (Prop k later w) → w ≡ v
+  locked_for_good later w le h = locked-below (suc later) later w (omega arith) le h
+
+agreed_locks : (s : Setting) (g : State) → Holds s g → (k r other : ℕ) (v w : Value) → IsLocked s g k r v → IsLocked s g k other w → (r ≤ other) ⊎ (other ≤ r) → v ≡ w
+agreed_locks s g holds k r other v w a b (inl le) = sym (locked_for_good s g holds k r v a other w le b.proposed)
+agreed_locks s g holds k r other v w a b (inr le) = locked_for_good s g holds k other w b r v le a.proposed
+
+either_way : (a b : ℕ) → (a ≤ b) ⊎ (b ≤ a)
+either_way a b = grind arith
+
+-- a decision is locked in some round
+pub record IsSettled (s : Setting) (g : State) (k : ℕ) (v : Value) : Type 0 where
+  pub round : ℕ
+  pub lock : IsLocked s g k round v
+
+pub settled : (s : Setting) (g : State) → Holds s g → (p k : ℕ) (v : Value) → IsMember s.members p → HasDecided g p k v → IsSettled s g k v
+settled s g holds p k v is h =
+    let d = Readings.decided-got (member g p).got k v h in
+    record { round = d.round; lock = holds.founded (Dec k d.round v) (holds.got p is (Dec k d.round v) d.is_in) }
+
+pub agreed : (s : Setting) (g : State) → Holds s g → (p q k : ℕ) (v w : Value) → IsMember s.members p → IsMember s.members q → HasDecided g p k v → HasDecided g q k w → v ≡ w
+agreed s g holds p q k v w isp isq a b =
+    let x = settled s g holds p k v isp a in
+    let y = settled s g holds q k w isq b in
+    agreed_locks s g holds k x.round y.round v w x.lock y.lock (either_way x.round y.round)
+
+pub decided_proposed : (s : Setting) (g : State) → Holds s g → (p k : ℕ) (v : Value) → IsMember s.members p → HasDecided g p k v → IsProposed g k v
+decided_proposed s g holds p k v is h =
+    let x = settled s g holds p k v is h in
+    let f : IsFoundedProp s g k x.round v = holds.founded (Prop k x.round v) x.lock.proposed in
+    f.proposed
+
+-- the laws, over whole runs
+
+pub locked : (s : Setting) (steps : List Step) (g : State) → run s steps ≡ Some g → (instance round later : ℕ) (v w : Value) → IsLocked s g instance round v → round ≤ later → IsIn (Prop instance later w) (wires g) → w ≡ v
+locked s steps g e instance round later v w lock le h = locked_for_good s g (Holds-run s steps g e) instance round v lock later w le h
+
+pub agreement : (s : Setting) (steps : List Step) (g : State) → run s steps ≡ Some g → (p q instance : ℕ) (v w : Value) → IsMember s.members p → IsMember s.members q → HasDecided g p instance v → HasDecided g q instance w → v ≡ w
+agreement s steps g e p q instance v w isp isq a b = agreed s g (Holds-run s steps g e) p q instance v w isp isq a b
+
+pub validity : (s : Setting) (steps : List Step) (g : State) → run s steps ≡ Some g → (p instance : ℕ) (v : Value) → IsMember s.members p → HasDecided g p instance v → IsProposed g instance v
+validity s steps g e p instance v is h = decided_proposed s g (Holds-run s steps g e) p instance v is h
+
+-- decisions are agreed on, and were proposed
+pub agreed-run : (s : Setting) (steps : List Step) (g : State) → run s steps ≡ Some g → IsAgreed s g
+agreed-run s steps g e = record { agreed = agreement s steps g e; proposed = validity s steps g e }

@@ -1,0 +1,74 @@
+-- The facts hold after every run.
+use Rattle.std.proofs.Common.{◌≡◌, ℕ, List, Some, ap, sym, ◌∙◌, subst}
+use Rattle.ct_names.specs.Group.{IsMember}
+use Rattle.ct_names.specs.Membership.{IsIn}
+use Rattle.ct_model.specs.declared.step.Step.{Step}
+use Rattle.ct_model.specs.declared.moves.Move.{Move}
+use Rattle.ct_model.specs.declared.moves.Move.TheVariants.{Enter, Choose, Adopt, Suspect, Conclude}
+use Rattle.ct_model.specs.Actor.{actor}
+use Rattle.ct_model.specs.AtValue.{Wire, Standing, Turn}
+use Rattle.ct_model.specs.Setting.{Setting}
+use Rattle.ct_model.specs.declared.wire.Wire.TheVariants.{Prop, Ack}
+use Rattle.ct_model.specs.State.{State, Member, member, first_state}
+use Rattle.ct_model.specs.Next.{Outcome, row, turn_at, turned, next}
+use Rattle.ct_model.specs.Run.{run}
+use Rattle.ct_model.proofs.Consensus.Sent.{Sent, Sent-wire}
+use Rattle.ct_model.proofs.Consensus.Choose.{allowed-choose}
+use Rattle.ct_model.proofs.Consensus.Conclude.{allowed-conclude}
+use Rattle.ct_model.proofs.Consensus.Enter.{allowed-enter}
+use Rattle.ct_model.proofs.Consensus.Facts.{Holds}
+use Rattle.ct_model.proofs.Record.Start.{member-first, size-first}
+use Rattle.ct_model.proofs.Basics.Groups.{member_is}
+use Rattle.ct_model.proofs.Consensus.Obligations.{IsAllowed, kept}
+use Rattle.ct_model.proofs.Relay.Messages.{next-is}
+use Rattle.ct_model.proofs.Consensus.Opening.{allowed-begin, allowed-deliver}
+use Rattle.ct_model.proofs.Basics.Options.{some-none}
+use Rattle.ct_model.proofs.Record.Runs.{kept-run}
+use Rattle.ct_model.proofs.Consensus.Reply.{allowed-adopt, allowed-suspect}
+use Rattle.ct_model.proofs.Steps.Shapes.{by_shape}
+use Rattle.ct_model.proofs.Consensus.Others.{allowed-submit, allowed-receive, allowed-mark}
+
+module _ (s : Setting) (g : State) (p : ℕ) (holds : Holds s g) (is : IsMember s.members p) where
+  abbrev m : Member
+  m = member g p
+
+  allowed-turn : (a : Move) (c : Standing) (t : Turn) → (member g p).current ≡ Some c → turn_at s.members p (member g p) a c ≡ Some t
+      → IsAllowed s g p (turned (member g p) t)
+  allowed-turn Enter c t at x = allowed-enter s g p holds is c t at x
+  allowed-turn (Choose from) c t at x = allowed-choose s g p holds is from c t at x
+  allowed-turn Adopt c t at x = allowed-adopt s g p holds is c t at x
+  allowed-turn Suspect c t at x = allowed-suspect s g p holds is c t at x
+  allowed-turn Conclude c t at x = allowed-conclude s g p holds is c t at x
+
+  allowed-step : (step : Step) (o : Outcome) → row s g p (member g p) step ≡ Some o → IsAllowed s g p o
+  allowed-step step o = by_shape s g p m (IsAllowed s g p) step o (record {
+    submits = λ c good. allowed-submit s g p holds is c;
+    gets = λ k w at. allowed-receive s g p holds is w (Sent-wire g p k w at);
+    opens = λ idle some. allowed-begin s g p holds is;
+    turns = allowed-turn;
+    closes = λ c v open_at has delivers. allowed-deliver s g p holds is v;
+    marks = λ crashed. allowed-mark s g p holds is crashed;
+  })
+
+pub Holds-next : (s : Setting) (g : State) (step : Step) (h : State) → next s g step ≡ Some h → Holds s g → Holds s h
+Holds-next s g step h e holds =
+    let t = next-is s g step h e in
+    let is : IsMember s.members (actor step) = member_is s.members (actor step) t.in_group in
+    subst (λ x. Holds s x) t.gives (kept s g (actor step) t.outcome holds is (allowed-step s g (actor step) holds is step t.outcome t.row))
+
+nothing_sent : (s : Setting) (w : Wire) → Sent (first_state s) w → ⊥
+unfolding first_state
+nothing_sent s w x = x
+
+pub Holds-first : (s : Setting) → Holds s (first_state s)
+Holds-first s = record {
+  size = size-first s;
+  got = λ p is w x. absurd (subst (λ (m : Member). IsIn w m.got) (member-first s p) x);
+  sound = λ p is c x. some-none c (sym (ap (λ (m : Member). m.current) (member-first s p)) ∙ x);
+  founded = λ w x. absurd (nothing_sent s w x);
+  one_proposal = λ k r v w x y. absurd (nothing_sent s (Prop k r v) x);
+  ts_after_ack = λ k r later q v ts x y lt. absurd (nothing_sent s (Ack k r q) x);
+}
+
+pub Holds-run : (s : Setting) (steps : List Step) (g : State) → run s steps ≡ Some g → Holds s g
+Holds-run s = kept-run (Holds s) s (Holds-first s) (λ g step h e holds. Holds-next s g step h e holds)

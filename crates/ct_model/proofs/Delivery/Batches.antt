@@ -1,0 +1,181 @@
+-- A member's batches are what its decisions give: one for each instance that it closed, in order.
+use Rattle.std.proofs.Common.{◌≡◌, ℕ, suc, zero, ◌-◌, ◌<◌, ◌≤◌, true, List, [], ◌∷◌, ◌++◌, Option, Some, None, refl, sym, ap, ◌∙◌, subst, inl, inr, arith, filter_map, unwrap_or, true≢false, length}
+use Rattle.std.specs.Prelude.{is_none}
+use Rattle.std.specs.List.{cons_option}
+use Rattle.std.proofs.lemmas.Bool.{cases_eq}
+use Rattle.ct_names.specs.Value.{Value, ordered, minus}
+use Rattle.ct_model.specs.declared.step.Step.{Step}
+use Rattle.ct_model.specs.Actor.{actor}
+use Rattle.ct_model.specs.AtValue.{Wire, Standing, Turn}
+use Rattle.ct_model.specs.Setting.{Setting}
+use Rattle.ct_model.specs.State.{State, Member, joined, member, new_member, first_state}
+use Rattle.ct_names.specs.Batch.{Batch}
+use Rattle.ct_model.specs.Received.{head, decision_of, decided}
+use Rattle.ct_model.specs.Next.{Outcome, row, turned, begin, deliver, batch_of, after, next}
+use Rattle.ct_model.specs.Run.{run}
+use Rattle.ct_model.proofs.Record.Start.{member-first, size-first}
+use Rattle.ct_model.proofs.Record.Frame.{member-same, member-other, at_place}
+use Rattle.ct_model.proofs.Relay.Messages.{next-is, in_members, size-next}
+use Rattle.ct_model.proofs.Basics.Options.{some-none}
+use Rattle.ct_model.proofs.Steps.Shapes.{by_shape}
+use Rattle.ct_model.proofs.Record.Runs.{kept-run}
+
+-- the batches that decisions give, up to an instance
+unfoldable pub deliveries : (ℕ → Value) → ℕ → List Batch
+deliveries decision zero = []
+deliveries decision (suc k) =
+    deliveries decision k ++ record { instance = suc k; messages = ordered (minus (decision (suc k)) (joined (deliveries decision k))) } ∷ []
+
+-- the same decisions give the same batches
+pub deliveries-same : (f g : ℕ → Value) (c : ℕ) → ((k : ℕ) → 1 ≤ k → k ≤ c → f k ≡ g k) → deliveries f c ≡ deliveries g c
+unfolding deliveries
+deliveries-same f g zero h = refl
+deliveries-same f g (suc c) h =
+    let rest : deliveries f c ≡ deliveries g c = deliveries-same f g c (λ k lo hi. h k lo (omega arith)) in
+    let here : f (suc c) ≡ g (suc c) = h (suc c) (omega arith) (omega arith) in
+    rw (rest, here) refl
+
+-- the decision for an instance, and the empty set where there is none
+pub decision : List Wire → ℕ → Value
+decision got k = unwrap_or (decided got k) []
+
+pub decision-is : (got : List Wire) (k : ℕ) (v : Value) → decided got k ≡ Some v → decision got k ≡ v
+unfolding decision
+decision-is got k v e = ap (λ o. unwrap_or o []) e
+
+-- there is one
+pub record HasDecision (got : List Wire) (k : ℕ) : Type 0 where
+  pub value : Value
+  pub is : decided got k ≡ Some value
+
+-- the member closed this many instances, each by its decision
+pub record HasClosed (m : Member) : Type 0 where
+  pub closed : ℕ
+  pub idle : m.current ≡ None → closed ≡ m.last
+  pub busy : (c : Standing) → m.current ≡ Some c → suc closed ≡ m.last
+  pub batches : m.batches ≡ deliveries (decision m.got) closed
+  pub decided : (k : ℕ) → 1 ≤ k → k ≤ closed → HasDecision m.got k
+
+-- a decision stays as more is got
+
+head-append : {A : Type 0} (xs ys : List A) (x : A) → head xs ≡ Some x → head (xs ++ ys) ≡ Some x
+head-append [] ys x e = some-none x e
+head-append (y ∷ xs) ys x e = e
+
+cons-append : {B : Type 0} (o : Option B) (zs ws : List B) → cons_option o (zs ++ ws) ≡ cons_option o zs ++ ws
+cons-append None zs ws = refl
+cons-append (Some z) zs ws = refl
+
+filter_map-append : {A B : Type 0} (f : A → Option B) (xs ys : List A) → filter_map f (xs ++ ys) ≡ filter_map f xs ++ filter_map f ys
+filter_map-append f [] ys = refl
+filter_map-append f (x ∷ xs) ys = ap (λ z. cons_option (f x) z) (filter_map-append f xs ys) ∙ cons-append (f x) (filter_map f xs) (filter_map f ys)
+
+pub decided-more : (got more : List Wire) (k : ℕ) (v : Value) → decided got k ≡ Some v → decided (got ++ more) k ≡ Some v
+unfolding decided
+decided-more got more k v e =
+    ap head (filter_map-append (decision_of k) got more) ∙ head-append (filter_map (decision_of k) got) (filter_map (decision_of k) more) v e
+
+-- what each step keeps of it
+
+closed-got : (m : Member) (w : Wire) → HasClosed m → HasClosed (record m { got = m.got ++ w ∷ [] })
+closed-got m w f = record {
+  closed = f.closed;
+  idle = f.idle;
+  busy = f.busy;
+  batches = f.batches ∙ deliveries-same (decision m.got) (decision (m.got ++ w ∷ [])) f.closed
+      (λ k lo hi.
+      let d = f.decided k lo hi in
+      decision-is m.got k d.value d.is ∙ sym (decision-is (m.got ++ w ∷ []) k d.value (decided-more m.got (w ∷ []) k d.value d.is)));
+  decided = λ k lo hi.
+      let d = f.decided k lo hi in
+      record { value = d.value; is = decided-more m.got (w ∷ []) k d.value d.is };
+}
+
+none-is : {A : Type 0} (o : Option A) → is_none o ≡ true → o ≡ None
+none-is None h = refl
+none-is (Some x) h = absurd (true≢false (sym h))
+
+closed-begin : (p : ℕ) (m : Member) → is_none m.current ≡ true → HasClosed m → HasClosed (begin p m).member
+closed-begin p m idle f = record {
+  closed = f.closed;
+  idle = λ e. some-none _ (sym e);
+  busy = λ c e. let l : f.closed ≡ m.last = f.idle (none-is m.current idle) in omega arith;
+  batches = f.batches;
+  decided = f.decided;
+}
+
+closed-turned : (m : Member) (c : Standing) (t : Turn) → m.current ≡ Some c → HasClosed m → HasClosed (turned m t).member
+closed-turned m c t open_at f = record {
+  closed = f.closed;
+  idle = λ e. some-none t.after (sym e);
+  busy = λ d e. f.busy c open_at;
+  batches = f.batches;
+  decided = f.decided;
+}
+
+closed-deliver : (m : Member) (c : Standing) (v : Value) → m.current ≡ Some c → decided m.got m.last ≡ Some v → HasClosed m → HasClosed (deliver m v).member
+unfolding deliveries batch_of
+closed-deliver m c v open_at has f =
+    let l : suc f.closed ≡ m.last = f.busy c open_at in
+    record {
+      closed = suc f.closed;
+      idle = λ e. l;
+      busy = λ d e. some-none d e;
+      batches =
+          let at_last : decision m.got (suc f.closed) ≡ v = ap (λ k. decision m.got k) l ∙ decision-is m.got m.last v has in
+          rw (f.batches, at_last, l) refl;
+      decided = λ k lo hi. elim (cases_eq k (suc f.closed)) [
+        | inl e ↦ record { value = v; is = ap (λ j. decided m.got j) (e ∙ l) ∙ has }
+        | inr ne ↦ f.decided k lo (omega arith)
+      ];
+    }
+
+closed-row : (s : Setting) (g : State) (p : ℕ) (m : Member) (step : Step) (o : Outcome) → row s g p m step ≡ Some o → HasClosed m
+    → HasClosed o.member
+closed-row s g p m step o e f = by_shape s g p m (λ x. HasClosed x.member) step o (record {
+  submits = λ c good. f;
+  gets = λ k w at. closed-got m w f;
+  opens = λ idle some. closed-begin p m idle f;
+  turns = λ a c t open_at taken. closed-turned m c t open_at f;
+  closes = λ c v open_at has delivers. closed-deliver m c v open_at has f;
+  marks = λ crashed. record { closed = f.closed; idle = f.idle; busy = f.busy; batches = f.batches; decided = f.decided };
+}) e
+
+-- each member did
+abbrev pub HaveClosed : State → Type 0
+HaveClosed g = (p : ℕ) → HasClosed (member g p)
+
+closed-after : (s : Setting) (g : State) (p : ℕ) (o : Outcome) → p - 1 < length g.members → HasClosed o.member → HaveClosed g → HaveClosed (after s g p o)
+closed-after s g p o there mine all q = elim (cases_eq (q - 1) (p - 1)) [
+  | inl same ↦ subst (λ m. HasClosed m) (sym (at_place (λ m. m) (after s g p o) q p same ∙ member-same s g p o there)) mine
+  | inr other ↦ subst (λ m. HasClosed m) (sym (member-other s g p q o other)) (all q)
+]
+
+closed-next : (s : Setting) (g : State) (step : Step) (h : State) → next s g step ≡ Some h → length g.members ≡ s.members → HaveClosed g → HaveClosed h
+closed-next s g step h e size all =
+    let t = next-is s g step h e in
+    let p : ℕ = actor step in
+    subst (λ x. HaveClosed x) t.gives
+    (closed-after s g p t.outcome (in_members s g p size t.in_group) (closed-row s g p (member g p) step t.outcome t.row (all p)) all)
+
+closed-new : HasClosed new_member
+unfolding deliveries
+closed-new = record {
+  closed = 0;
+  idle = λ e. refl;
+  busy = λ c e. some-none c e;
+  batches = refl;
+  decided = λ k lo hi. absurd (omega arith);
+}
+
+closed-first : (s : Setting) → HaveClosed (first_state s)
+closed-first s p = subst (λ m. HasClosed m) (sym (member-first s p)) closed-new
+
+-- the group has its size, and each member closed its instances
+pub record KnowsInstances (s : Setting) (g : State) : Type 0 where
+  pub size : length g.members ≡ s.members
+  pub closed : HaveClosed g
+
+pub closed-run : (s : Setting) (steps : List Step) (g : State) → run s steps ≡ Some g → KnowsInstances s g
+closed-run s = kept-run (KnowsInstances s) s (record { size = size-first s; closed = closed-first s })
+    (λ g step h e f. record { size = size-next s g step h e f.size; closed = closed-next s g step h e f.size f.closed })

@@ -1,0 +1,237 @@
+-- Of two members' batches one begins the other, and each begins the order of the group; what was delivered was submitted, and delivered once.
+use Rattle.std.proofs.Common.{◌≡◌, ℕ, suc, zero, ◌+◌, ◌-◌, ◌≤◌, ◌<◌, List, [], ◌∷◌, ◌++◌, Some, refl, sym, ap, ◌∙◌, subst, inl, inr, ◌⊎◌, arith, append_assoc, append-nil, length, length-append, map}
+use Rattle.std.specs.Prelude.{slice_get, slice_index_or}
+use Rattle.ct_names.specs.Group.{IsMember}
+use Rattle.ct_names.specs.Membership.{IsIn, IsWithoutRepeats}
+use Rattle.ct_names.specs.Message.{Message}
+use Rattle.ct_names.specs.Value.{Value, ordered, minus}
+use Rattle.ct_names.proofs.Lists
+use Rattle.ct_names.proofs.Values
+use Rattle.ct_model.specs.declared.step.Step.{Step}
+use Rattle.ct_model.specs.AtValue.{Wire}
+use Rattle.ct_model.specs.Setting.{Setting}
+use Rattle.ct_model.specs.State.{State, Member, joined, member, new_member}
+use Rattle.ct_names.specs.Batch.{Batch}
+use Rattle.ct_model.specs.Run.{run}
+use Rattle.ct_model.specs.Cause.{order}
+use Rattle.ct_model.specs.Safe.{IsAgreed, IsProposed, delivered_by}
+use Rattle.ct_names.specs.Prefix.{IsPrefix}
+use Rattle.ct_model.proofs.Delivery.Batches.{deliveries, deliveries-same, decision, decision-is, HasDecision, HasClosed, HaveClosed, closed-run}
+use Rattle.ct_model.proofs.Delivery.Comparable.{InOneOrder, longest-prefix, longest-in}
+use Rattle.ct_model.proofs.Basics.Options.{some-same, some-none}
+use Rattle.ct_model.proofs.Delivery.Proposals.{proposes-run}
+
+joined-append : (xs ys : List Batch) → joined (xs ++ ys) ≡ joined xs ++ joined ys
+joined-append [] ys = refl
+joined-append (x ∷ xs) ys = ap (λ z. x.messages ++ z) (joined-append xs ys) ∙ sym (append_assoc x.messages (joined xs) (joined ys))
+
+joined-prefix : (xs ys : List Batch) → IsPrefix xs ys → IsPrefix (joined xs) (joined ys)
+joined-prefix xs ys r = (joined r.0, sym (joined-append xs r.0) ∙ ap joined r.1)
+
+-- the batches of fewer instances begin those of more
+deliveries-prefix : (f : ℕ → Value) (c more : ℕ) → IsPrefix (deliveries f c) (deliveries f (c + more))
+unfolding deliveries
+deliveries-prefix f c zero = ([], append-nil (deliveries f c) ∙ ap (λ z. deliveries f z) (let e : c ≡ c + 0 = omega arith in e))
+deliveries-prefix f c (suc more) =
+    let r = deliveries-prefix f c more in
+    let last : List Batch = record { instance = suc (c + more); messages = ordered (minus (f (suc (c + more))) (joined (deliveries f (c + more)))) } ∷ [] in
+    let e : c + suc more ≡ suc (c + more) = omega arith in
+    (r.0 ++ last, sym (append_assoc (deliveries f c) r.0 last) ∙ ap (λ z. z ++ last) r.1 ∙ ap (λ z. deliveries f z) (sym e))
+
+joined-deliveries : (f : ℕ → Value) (c : ℕ) → joined (deliveries f (suc c)) ≡ joined (deliveries f c) ++ ordered (minus (f (suc c)) (joined (deliveries f c)))
+unfolding deliveries
+joined-deliveries f c =
+    let b : List Message = ordered (minus (f (suc c)) (joined (deliveries f c))) in
+    joined-append (deliveries f c) (record { instance = suc c; messages = b } ∷ []) ∙ ap (λ z. joined (deliveries f c) ++ z) (append-nil b)
+
+once-deliveries : (f : ℕ → Value) (c : ℕ) → IsWithoutRepeats (joined (deliveries f c))
+once-deliveries f zero = unfold deliveries in tt
+once-deliveries f (suc c) =
+    let d : List Message = joined (deliveries f c) in
+    let new : List Message = minus (f (suc c)) d in
+    subst (λ z. IsWithoutRepeats z) (sym (joined-deliveries f c))
+    (Lists.IsWithoutRepeats-append d (ordered new) (once-deliveries f c) (Values.IsWithoutRepeats-ordered new)
+    (λ x h k. Values.minus-out (f (suc c)) d x (Values.ordered-from new x k) h))
+
+-- the instance whose decision a delivered message comes from
+record IsOfInstance (f : ℕ → Value) (c : ℕ) (m : Message) : Type 0 where
+  instance : ℕ
+  first : 1 ≤ instance
+  closed : instance ≤ c
+  is_in : IsIn m (f instance)
+
+from-deliveries : (f : ℕ → Value) (c : ℕ) (m : Message) → IsIn m (joined (deliveries f c)) → IsOfInstance f c m
+from-deliveries f zero m h = absurd (unfold deliveries in h)
+from-deliveries f (suc c) m h =
+    let d : List Message = joined (deliveries f c) in
+    let new : List Message = minus (f (suc c)) d in
+    elim (Lists.IsIn-append_cases m d (ordered new) (subst (λ z. IsIn m z) (joined-deliveries f c) h)) [
+      | inl a ↦
+          let r = from-deliveries f c m a in
+          let hi : r.instance ≤ c = r.closed in
+          record { instance = r.instance; first = r.first; closed = omega arith; is_in = r.is_in }
+      | inr b ↦
+          record { instance = suc c; first = omega arith; closed = omega arith; is_in = Values.minus-from (f (suc c)) d m (Values.ordered-from new m b) }
+    ]
+
+-- two members
+
+module _ (s : Setting) (g : State) (agree : IsAgreed s g) (all : HaveClosed g) where
+  -- the batches of the member that closed fewer instances begin the other's
+  fewer : (p q : ℕ) → IsMember s.members p → IsMember s.members q → (a : HasClosed (member g p)) (b : HasClosed (member g q)) → a.closed ≤ b.closed → IsPrefix (member g p).batches (member g q).batches
+  fewer p q isp isq a b le =
+      let mine : List Wire = (member g p).got in
+      let its : List Wire = (member g q).got in
+      let same : deliveries (decision mine) a.closed ≡ deliveries (decision its) a.closed =
+      deliveries-same (decision mine) (decision its) a.closed (λ k lo hi.
+      let x : HasDecision mine k = a.decided k lo hi in
+      let y : HasDecision its k = b.decided k lo (omega arith) in
+      decision-is mine k x.value x.is ∙ agree.agreed p q k x.value y.value isp isq x.is y.is ∙ sym (decision-is its k y.value y.is)) in
+      let sum : a.closed + (b.closed - a.closed) ≡ b.closed = omega arith in
+      let front : IsPrefix (deliveries (decision its) a.closed) (deliveries (decision its) b.closed) =
+      subst (λ z. IsPrefix (deliveries (decision its) a.closed) (deliveries (decision its) z)) sum
+      (deliveries-prefix (decision its) a.closed (b.closed - a.closed)) in
+      let two : IsPrefix (member g p).batches (deliveries (decision its) b.closed) =
+      subst (λ z. IsPrefix z (deliveries (decision its) b.closed)) (sym (a.batches ∙ same)) front in
+      subst (λ z. IsPrefix (member g p).batches z) (sym b.batches) two
+
+  either : (i j : ℕ) → (i ≤ j) ⊎ (j ≤ i)
+  either i j = grind arith
+
+  one_order : (p q : ℕ) → IsMember s.members p → IsMember s.members q → IsPrefix (member g p).batches (member g q).batches ⊎ IsPrefix (member g q).batches (member g p).batches
+  one_order p q isp isq = elim (either (all p).closed (all q).closed) [
+    | inl le ↦ inl (fewer p q isp isq (all p) (all q) le)
+    | inr le ↦ inr (fewer q p isq isp (all q) (all p) le)
+  ]
+
+-- the order of the whole group
+
+-- a member's batches
+pub record IsOfMember (s : Setting) (g : State) (batches : List Batch) : Type 0 where
+  pub by : ℕ
+  pub in_group : IsMember s.members by
+  pub is : batches ≡ (member g by).batches
+
+record HasPlace (list : List Member) (batches : List Batch) : Type 0 where
+  place : ℕ
+  below : place < length list
+  is : batches ≡ (slice_index_or list place new_member).batches
+
+in-place : (list : List Member) (batches : List Batch) → IsIn batches (map (λ m. m.batches) list) → HasPlace list batches
+in-place [] batches h = absurd h
+in-place (m ∷ list) batches (inl e) = record { place = 0; below = omega arith; is = e }
+in-place (m ∷ list) batches (inr h) =
+    let f = in-place list batches h in
+    let lt : f.place < length list = f.below in
+    record { place = suc f.place; below = omega arith; is = f.is }
+
+place-in : (list : List Member) (i : ℕ) → i < length list → IsIn (slice_index_or list i new_member).batches (map (λ m. m.batches) list)
+place-in [] i h = absurd (omega arith)
+place-in (m ∷ list) zero h = inl refl
+place-in (m ∷ list) (suc i) h = inr (place-in list i (omega arith))
+
+of_member : (s : Setting) (g : State) → length g.members ≡ s.members → (batches : List Batch) → IsIn batches (map (λ m. m.batches) g.members) → IsOfMember s g batches
+unfolding member
+of_member s g size batches h =
+    let f = in-place g.members batches h in
+    let lt : f.place < length g.members = f.below in
+    let same : f.place ≡ suc f.place - 1 = omega arith in
+    record { by = suc f.place; in_group = (omega arith, omega arith); is = f.is ∙ ap (λ i. (slice_index_or g.members i new_member).batches) same }
+
+member-in : (s : Setting) (g : State) (p : ℕ) → length g.members ≡ s.members → IsMember s.members p → IsIn (member g p).batches (map (λ m. m.batches) g.members)
+unfolding member
+member-in s g p size is = let low : 1 ≤ p = is.0 in let high : p ≤ s.members = is.1 in place-in g.members (p - 1) (omega arith)
+
+in_one_order : (s : Setting) (g : State) → IsAgreed s g → HaveClosed g → length g.members ≡ s.members → InOneOrder ([] ∷ map (λ m. m.batches) g.members)
+in_one_order s g agree all size xs ys (inl e) b = inl (subst (λ z. IsPrefix z ys) (sym e) (ys, refl))
+in_one_order s g agree all size xs ys (inr a) (inl e) = inr (subst (λ z. IsPrefix z xs) (sym e) (xs, refl))
+in_one_order s g agree all size xs ys (inr a) (inr b) =
+    let p = of_member s g size xs a in
+    let q = of_member s g size ys b in
+    rw (p.is, q.is) (one_order s g agree all p.by q.by p.in_group q.in_group)
+
+-- the instance of each batch
+
+length-deliveries : (f : ℕ → Value) (c : ℕ) → length (deliveries f c) ≡ c
+unfolding deliveries
+length-deliveries f zero = refl
+length-deliveries f (suc c) =
+    let b : Batch = record { instance = suc c; messages = ordered (minus (f (suc c)) (joined (deliveries f c))) } in
+    let one = length-append (deliveries f c) (b ∷ []) in
+    let two = length-deliveries f c in
+    omega (arith, one, two)
+
+at_end : (xs : List Batch) (x b : Batch) (i : ℕ) → slice_get (xs ++ x ∷ []) i ≡ Some b → (slice_get xs i ≡ Some b) ⊎ ((i ≡ length xs) × (x ≡ b))
+at_end [] x b zero e = inr (refl, some-same x b e)
+at_end [] x b (suc i) e = some-none b e
+at_end (y ∷ xs) x b zero e = inl e
+at_end (y ∷ xs) x b (suc i) e = elim (at_end xs x b i e) [ inl a ↦ inl a | inr a ↦ inr (ap suc a.0, a.1) ]
+
+deliveries-place : (f : ℕ → Value) (c i : ℕ) (b : Batch) → slice_get (deliveries f c) i ≡ Some b → b.instance ≡ i + 1
+unfolding deliveries
+deliveries-place f zero i b e = some-none b e
+deliveries-place f (suc c) i b e =
+    let last : Batch = record { instance = suc c; messages = ordered (minus (f (suc c)) (joined (deliveries f c))) } in
+    elim (at_end (deliveries f c) last b i e) [
+      | inl a ↦ deliveries-place f c i b a
+      | inr a ↦
+          let place : i ≡ length (deliveries f c) = a.0 in
+          let size : length (deliveries f c) ≡ c = length-deliveries f c in
+          let it : b.instance ≡ suc c = sym (ap (λ (x : Batch). x.instance) a.1) in
+          omega arith
+    ]
+
+-- what holds after every run
+
+module _ (s : Setting) (steps : List Step) (g : State) (runs : run s steps ≡ Some g) where
+  pub batches-prefix : IsAgreed s g → (p q : ℕ) → IsMember s.members p → IsMember s.members q → IsPrefix (member g p).batches (member g q).batches ⊎ IsPrefix (member g q).batches (member g p).batches
+  batches-prefix agree = one_order s g agree (closed-run s steps g runs).closed
+
+  pub delivered-prefix : IsAgreed s g → (p q : ℕ) → IsMember s.members p → IsMember s.members q → IsPrefix (delivered_by g p) (delivered_by g q) ⊎ IsPrefix (delivered_by g q) (delivered_by g p)
+  delivered-prefix agree p q isp isq = elim (batches-prefix agree p q isp isq) [
+    | inl f ↦ inl (joined-prefix (member g p).batches (member g q).batches f)
+    | inr f ↦ inr (joined-prefix (member g q).batches (member g p).batches f)
+  ]
+
+  pub delivered-once : (p : ℕ) → IsWithoutRepeats (delivered_by g p)
+  delivered-once p =
+      let a = (closed-run s steps g runs).closed p in
+      subst (λ z. IsWithoutRepeats (joined z)) (sym a.batches) (once-deliveries (decision (member g p).got) a.closed)
+
+  pub delivered-submitted : IsAgreed s g → (p : ℕ) (m : Message) → IsMember s.members p → IsIn m (delivered_by g p) → IsIn m g.submitted
+  delivered-submitted agree p m is h =
+      let a = (closed-run s steps g runs).closed p in
+      let f : ℕ → Value = decision (member g p).got in
+      let from : IsOfInstance f a.closed m = from-deliveries f a.closed m (subst (λ z. IsIn m (joined z)) a.batches h) in
+      let one : HasDecision (member g p).got from.instance = a.decided from.instance from.first from.closed in
+      let inside : IsIn m one.value = subst (λ v. IsIn m v) (decision-is (member g p).got from.instance one.value one.is) from.is_in in
+      let was : IsProposed g from.instance one.value = agree.proposed p from.instance one.value is one.is in
+      proposes-run s steps g runs (record { member = was.by; instance = from.instance; value = one.value }) was.is_in m inside
+
+  -- each member's batches begin the order of the whole group
+  pub order-prefix : IsAgreed s g → (p : ℕ) → IsMember s.members p → IsPrefix (member g p).batches (order g)
+  unfolding order
+  order-prefix agree p is =
+      let f = closed-run s steps g runs in
+      longest-prefix [] (map (λ m. m.batches) g.members) (in_one_order s g agree f.closed f.size) (member g p).batches (inr (member-in s g p f.size is))
+
+  -- that order is empty, or a member's
+  pub order-of : (order g ≡ []) ⊎ IsOfMember s g (order g)
+  unfolding order
+  order-of = elim (longest-in [] (map (λ m. m.batches) g.members)) [
+    | inl e ↦ inl e
+    | inr h ↦ inr (of_member s g (closed-run s steps g runs).size (order g) h)
+  ]
+
+  -- the batch at a place from 0 is of the instance of that number from 1
+  pub order-place : (p i : ℕ) (b : Batch) → slice_get (member g p).batches i ≡ Some b → b.instance ≡ i + 1
+  order-place p i b e =
+      let a = (closed-run s steps g runs).closed p in
+      deliveries-place (decision (member g p).got) a.closed i b (ap (λ list. slice_get list i) (sym a.batches) ∙ e)
+
+  -- and so in the order of the whole group
+  pub order-instance : (i : ℕ) (b : Batch) → slice_get (order g) i ≡ Some b → b.instance ≡ i + 1
+  order-instance i b e = elim order-of [
+    | inl none ↦ some-none b (ap (λ list. slice_get list i) (sym none) ∙ e)
+    | inr f ↦ order-place f.by i b (ap (λ list. slice_get list i) (sym f.is) ∙ e)
+  ]

@@ -1,0 +1,185 @@
+-- A step has no cause exactly where it is allowed.
+use Rattle.std.proofs.Common.{◌≡◌, ℕ, ◌+◌, Bool, true, false, not, [], ◌∷◌, length, refl, ap, sym, ◌∙◌, subst, Option, Some, None}
+use Rattle.std.specs.Prelude.{is_some, is_none, option_and_then}
+use Rattle.std.specs.Option.{option_map_or}
+use Rattle.ct_names.specs.declared.refusal.Refusal.{Refusal}
+use Rattle.ct_names.specs.declared.refusal.Refusal.TheVariants.{NotWaiting, Busy, Nothing, WrongPhase, TooFew, NotLargest, NoProposal, HasProposal, Decided, Undecided, BadCommand}
+use Rattle.ct_names.specs.Value.{Value}
+use Rattle.ct_names.specs.Command.{is_good}
+use Rattle.ct_model.specs.declared.moves.Move.{Move}
+use Rattle.ct_model.specs.declared.moves.Move.TheVariants as moves
+use Rattle.ct_model.specs.declared.step.Step.{Step}
+use Rattle.ct_model.specs.declared.step.Step.TheVariants.{Submit, Receive, Begin, Enter, Choose, Adopt, Suspect, Conclude, Deliver, Crash, Postpone}
+use Rattle.ct_model.specs.Actor.{actor}
+use Rattle.ct_model.specs.State.{State, member, submissions}
+use Rattle.ct_model.specs.AtValue.{Standing, Turn}
+use Rattle.ct_model.specs.Received.{Ballots, Heard, decided, heard, is_largest}
+use Rattle.ct_model.specs.Moves.{step_of, turn_of, faults_of}
+use Rattle.ct_model.specs.Phases.{is_rest, is_gather, is_wait, is_tally}
+use Rattle.ct_model.specs.Faults.{lacks, has_largest}
+use Rattle.ct_model.specs.Next.{Outcome, row, begin, deliver, turned, turn_at, submit, undelivered, is_empty, own_ballots, after, next}
+use Rattle.ct_model.specs.Rehearsal.{Rehearsal, state_of, line_of, extended}
+use Rattle.ct_model.specs.Cause.{at, first_fault, faults_at, limits, limit, or_else, cause, order, round_of}
+use Rattle.ct_model.specs.Lawful.{IsLawful, IsWithin, IsPresent, NamesWaiting, is_waiting}
+use Rattle.ct_model.specs.Allowed.{IsAllowed}
+use Rattle.ct_model.proofs.Basics.Options.{when-is}
+use Rattle.ct_model.proofs.Record.Causes.{own_tests, cause-none, cause-present, low}
+use Rattle.ct_model.proofs.Record.Taken.{IsTaken, next-step, lawful-step}
+use Rattle.ct_model.proofs.Record.Envelopes.{waiting_letter}
+use Rattle.ct_model.proofs.Relay.Messages.{next-is}
+use Rattle.ct_model.proofs.Record.Limits.{own_tests-is, taken_of}
+use Rattle.ct_model.proofs.Steps.Submit.{submit_outcome, submit_taken}
+use Rattle.ct_model.proofs.Steps.Receive.{receive_outcome, receive_waits, receive_taken}
+use Rattle.ct_model.proofs.Steps.Begin.{begin_taken}
+use Rattle.ct_model.proofs.Steps.Rows.{round_row-is, begin_row-is, deliver_row-is, enter-is, choose-is, adopt-is, suspect-is, conclude-is}
+use Rattle.ct_model.proofs.Steps.Rounds.{open-at, open-standing, round_row-some}
+use Rattle.ct_model.proofs.Steps.RoundSteps.{row-move, tests-move, turn-free}
+use Rattle.ct_model.proofs.Steps.Deliver.{tests-deliver, deliver_taken}
+use Rattle.ct_model.proofs.Steps.Crash.{crash_outcome, crash_taken}
+use Rattle.ct_model.proofs.Steps.Postpone.{postpone_outcome, postpone_taken}
+
+-- what has no cause is allowed
+
+taken-allowed : (w : Rehearsal) (step : Step) (o : Outcome) → IsLawful w → IsTaken w step o → IsAllowed w step
+taken-allowed w step o law taken = record {
+  after = after w.setting (state_of w) (actor step) o;
+  enabled = next-step w step o law taken;
+  waits = taken.names;
+  within = taken.within;
+}
+
+-- a step of a round
+move-allowed : (w : Rehearsal) (p : ℕ) (a : Move) → IsLawful w → cause w (step_of p a) ≡ None → IsAllowed w (step_of p a)
+move-allowed w p a law none =
+    let q = actor (step_of p a) in
+    let m = member (state_of w) q in
+    let n = w.setting.members in
+    let free = cause-none w (step_of p a) none in
+    let tested = ap first_fault (own_tests-is w (step_of p a) ∙ tests-move w.setting (state_of w) m (line_of w q) p a) in
+    let s = open-standing m (faults_at n m a) (sym tested ∙ free.tested) in
+    let f = turn-free n q m.last (decided m.got m.last) (own_ballots m s.0) s.0 a s.2 in
+    let is = row-move w.setting (state_of w) p q m a ∙ round_row-some m (turn_at n q m a) s.0 f.turn s.1 f.turns in
+    taken-allowed w (step_of p a) (turned m f.turn) law (taken_of w (step_of p a) (turned m f.turn) law none is)
+
+pub cause-allowed : (w : Rehearsal) (step : Step) → IsLawful w → cause w step ≡ None → IsAllowed w step
+cause-allowed w (Submit p c) law none = taken-allowed w (Submit p c) (submit_outcome w p c) law (submit_taken w p c law none).taken
+cause-allowed w (Receive p k) law none =
+    let l = waiting_letter w p k law (receive_waits w p k none) in
+    taken-allowed w (Receive p k) (receive_outcome w p l.0.wire) law (receive_taken w p k l.0 law none l.1)
+cause-allowed w (Begin p) law none = taken-allowed w (Begin p) (begin p (member (state_of w) p)) law (begin_taken w p law none).taken
+cause-allowed w (Enter p) law none = move-allowed w p moves.Enter law none
+cause-allowed w (Choose p from) law none = move-allowed w p (moves.Choose from) law none
+cause-allowed w (Adopt p) law none = move-allowed w p moves.Adopt law none
+cause-allowed w (Suspect p) law none = move-allowed w p moves.Suspect law none
+cause-allowed w (Conclude p) law none = move-allowed w p moves.Conclude law none
+cause-allowed w (Deliver p) law none =
+    let d = deliver_taken w p law none in taken-allowed w (Deliver p) (deliver (member (state_of w) p) d.value) law d.taken
+cause-allowed w (Crash p) law none = taken-allowed w (Crash p) (crash_outcome w p) law (crash_taken w p law none)
+cause-allowed w (Postpone p k) law none = taken-allowed w (Postpone p k) (postpone_outcome w p) law (postpone_taken w p k law none)
+
+-- where a row gives an outcome and what the step names waits, no test of its own fires
+
+none-one : (a : Bool) (r : Refusal) → a ≡ false → first_fault (at r a ∷ []) ≡ None
+none-one a r e = rw e refl
+
+none-two : (a b : Bool) (r s : Refusal) → a ≡ false → b ≡ false → first_fault (at r a ∷ at s b ∷ []) ≡ None
+none-two a b r s e f = rw (e, f) refl
+
+none-three : (a b c : Bool) (r s t : Refusal) → a ≡ false → b ≡ false → c ≡ false → first_fault (at r a ∷ at s b ∷ at t c ∷ []) ≡ None
+none-three a b c r s t e f g = rw (e, f, g) refl
+
+none-some : {A : Type 0} (o : Option A) → is_none o ≡ true → is_some o ≡ false
+none-some None e = refl
+none-some (Some x) e = absurd (cc)
+
+-- the tests of a step of a round that is taken
+turn-tested : (n p k : ℕ) (d : Option Value) (b : Ballots Value) (c : Standing) (a : Move) (turn : Turn) → turn_of n p k d b c a ≡ Some turn
+    → first_fault (faults_of n d b c a) ≡ None
+turn-tested n p k d b c moves.Enter turn taken =
+    let r = enter-is n p k d c turn taken in
+    none-two (not (is_rest c.phase)) (is_some d) WrongPhase Decided (ap not r.rests) r.undecided
+turn-tested n p k d b c (moves.Choose from) turn taken =
+    let r = choose-is n k b c from turn taken in
+    let largest : has_largest b from ≡ true = ap (λ e. option_map_or (λ (x : Heard Value). is_largest b x.ts) e false) r.from_is ∙ r.largest in
+    none-three (not (is_gather c.phase)) (lacks n (heard b)) (not (has_largest b from)) WrongPhase TooFew NotLargest
+    (ap not r.gathers) (ap not r.majority) (ap not largest)
+turn-tested n p k d b c moves.Adopt turn taken =
+    let r = adopt-is n p k b c turn taken in
+    none-two (not (is_wait c.phase)) (is_none b.proposal) WrongPhase NoProposal (ap not r.waits) (ap is_none r.proposal_is)
+turn-tested n p k d b c moves.Suspect turn taken =
+    let r = suspect-is n p k b c turn taken in
+    none-two (not (is_wait c.phase)) (is_some b.proposal) WrongPhase HasProposal (ap not r.waits) r.no_proposal
+turn-tested n p k d b c moves.Conclude turn taken =
+    let r = conclude-is n k b c turn taken in
+    none-two (not (is_tally c.phase)) (lacks n b.replied) WrongPhase TooFew (ap not r.tallies) (ap not r.majority)
+
+move-free : (w : Rehearsal) (p : ℕ) (a : Move) (o : Outcome)
+    → row w.setting (state_of w) (actor (step_of p a)) (member (state_of w) (actor (step_of p a))) (step_of p a) ≡ Some o
+    → first_fault (own_tests w (step_of p a)) ≡ None
+move-free w p a o is =
+    let q = actor (step_of p a) in
+    let m = member (state_of w) q in
+    let n = w.setting.members in
+    let t = round_row-is m (turn_at n q m a) o (sym (row-move w.setting (state_of w) p q m a) ∙ is) in
+    ap first_fault (own_tests-is w (step_of p a) ∙ tests-move w.setting (state_of w) m (line_of w q) p a)
+    ∙ open-at m (faults_at n m a) t.standing t.is_open
+    ∙ turn-tested n q m.last (decided m.got m.last) (own_ballots m t.standing) t.standing a t.turn t.taken
+
+row-free : (w : Rehearsal) (step : Step) (o : Outcome) → row w.setting (state_of w) (actor step) (member (state_of w) (actor step)) step ≡ Some o → NamesWaiting w step → first_fault (own_tests w step) ≡ None
+row-free w (Submit p c) o is names =
+    let good = (when-is (is_good c) (submit (state_of w) p (member (state_of w) p) c) o is).0 in
+    ap first_fault (own_tests-is w (Submit p c)) ∙ none-one (not (is_good c)) BadCommand (ap not good)
+row-free w (Receive p k) o is names = ap first_fault (own_tests-is w (Receive p k)) ∙ none-one (not (is_waiting w p k)) NotWaiting (ap not names)
+row-free w (Begin p) o is names =
+    let r = begin_row-is p (member (state_of w) p) o is in
+    ap first_fault (own_tests-is w (Begin p)) ∙ none-two (is_some (member (state_of w) p).current) (is_empty (undelivered (member (state_of w) p))) Busy Nothing (none-some (member (state_of w) p).current r.idle) r.something
+row-free w (Enter p) o is names = move-free w p moves.Enter o is
+row-free w (Choose p from) o is names = move-free w p (moves.Choose from) o is
+row-free w (Adopt p) o is names = move-free w p moves.Adopt o is
+row-free w (Suspect p) o is names = move-free w p moves.Suspect o is
+row-free w (Conclude p) o is names = move-free w p moves.Conclude o is
+row-free w (Deliver p) o is names =
+    let m = member (state_of w) p in
+    let d = deliver_row-is m o is in
+    tests-deliver w p d.standing d.is_open ∙ none-one (is_none (decided m.got m.last)) Undecided (ap is_none d.decision)
+row-free w (Crash p) o is names = ap first_fault (own_tests-is w (Crash p))
+row-free w (Postpone p k) o is names = ap first_fault (own_tests-is w (Postpone p k)) ∙ none-one (not (is_waiting w p k)) NotWaiting (ap not names)
+
+-- where no limit is passed none is the cause
+within-free : (cells steps : ℕ) (g : State) (p : ℕ) → IsWithin cells g steps → first_fault (limits cells steps g p) ≡ None
+within-free cells steps g p within =
+    rw (
+      low 65535 (submissions g.submitted p) (within.few_submissions p),
+      low 1024 (member g p).last (within.few_instances p),
+      low 10000 (round_of (member g p)) (within.few_rounds p),
+      low 1000000 (length g.sent) within.few_envelopes,
+      low cells (length (order g)) within.few_batches,
+      low 1000000 steps within.few_steps,
+    ) refl
+
+limit-free : (w : Rehearsal) (step : Step) (h : State) → next w.setting (state_of w) step ≡ Some h → IsWithin w.cells h (length w.steps + 1) → limit w step ≡ None
+unfolding limit
+limit-free w step h e within =
+    ap (option_and_then (λ g. first_fault (limits w.cells (length w.steps + 1) g (actor step)))) e
+    ∙ within-free w.cells (length w.steps + 1) h (actor step) within
+
+-- what is allowed has no cause
+pub allowed-free : (w : Rehearsal) (step : Step) → IsAllowed w step → cause w step ≡ None
+allowed-free w step allowed =
+    let s = next-is w.setting (state_of w) step allowed.after allowed.enabled in
+    let present : IsPresent w (actor step) = record { in_group = s.in_group; up = s.up } in
+    cause-present w step present
+    ∙ ap (λ o. or_else o (limit w step)) (row-free w step s.outcome s.row allowed.waits)
+    ∙ limit-free w step allowed.after allowed.enabled allowed.within
+
+-- and a lawful record with it is lawful
+pub allowed-lawful : (w : Rehearsal) (step : Step) → IsLawful w → IsAllowed w step → IsLawful (extended w step)
+allowed-lawful w step law allowed =
+    let s = next-is w.setting (state_of w) step allowed.after allowed.enabled in
+    lawful-step w step s.outcome law
+    (record {
+      present = record { in_group = s.in_group; up = s.up };
+      row = s.row;
+      names = allowed.waits;
+      within = subst (λ g. IsWithin w.cells g (length w.steps + 1)) (sym s.gives) allowed.within;
+    })

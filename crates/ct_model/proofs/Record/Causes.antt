@@ -1,0 +1,91 @@
+-- The first test that fires, and the limits of a step that only sends.
+use Rattle.std.proofs.Common.{◌≡◌, ℕ, ◌+◌, ◌≤◌, ◌<◌, Bool, true, false, not, List, [], ◌∷◌, length, refl, ap, sym, ◌∙◌, arith, Option, Some, None}
+use Rattle.std.specs.Prelude.{nat_lt, if◌then◌else◌}
+use Rattle.std.proofs.lemmas.Bool.Decides.{nat_tests}
+use Rattle.ct_names.specs.Group.{is_member}
+use Rattle.ct_names.specs.declared.limit.Limit.TheVariants.{Envelopes, Steps}
+use Rattle.ct_names.specs.declared.refusal.Refusal.{Refusal}
+use Rattle.ct_names.specs.declared.refusal.Refusal.TheVariants.{NoSuchMember, Crashed, Full}
+use Rattle.ct_model.specs.declared.step.Step.{Step}
+use Rattle.ct_model.specs.Actor.{actor}
+use Rattle.ct_model.specs.State.{Member, member, is_crashed}
+use Rattle.ct_model.specs.Rehearsal.{Rehearsal, state_of, line_of}
+use Rattle.ct_model.specs.Cause.{Test, at, first_fault, presence, tests, limit, or_else, cause, overflow}
+use Rattle.ct_model.specs.Lawful.{IsPresent}
+use Rattle.ct_model.proofs.Basics.Tests.{false_not}
+
+pub or_else-none : (o rest : Option Refusal) → or_else o rest ≡ None → (o ≡ None) × (rest ≡ None)
+or_else-none None rest h = (refl, h)
+or_else-none (Some r) rest h = absurd (cc)
+
+-- where no test fires, the first doesn't and no later one does
+pub first_fault-none : (test : Test) (rest : List Test) → first_fault (test ∷ rest) ≡ None → (test.fires ≡ false) × (first_fault rest ≡ None)
+first_fault-none test rest h = go test.fires refl h
+  where
+    go : (b : Bool) → test.fires ≡ b → (if b then Some test.refusal else first_fault rest) ≡ None → (test.fires ≡ false) × (first_fault rest ≡ None)
+    go true e h = absurd (cc)
+    go false e h = (e, h)
+
+pub present-none : (w : Rehearsal) (p : ℕ) → IsPresent w p → first_fault (presence w.setting (state_of w) p) ≡ None
+present-none w p h = rw (h.in_group, h.up) refl
+
+pub none-present : (w : Rehearsal) (p : ℕ) → first_fault (presence w.setting (state_of w) p) ≡ None → IsPresent w p
+none-present w p h =
+    let a = first_fault-none (at NoSuchMember (not (is_member w.setting.members p))) (at Crashed (is_crashed (state_of w) p) ∷ []) h in
+    let b = first_fault-none (at Crashed (is_crashed (state_of w) p)) [] a.1 in
+    record { in_group = false_not (is_member w.setting.members p) a.0; up = b.0 }
+
+-- the tests of its own that a step has
+unfoldable pub own_tests : Rehearsal → Step → List Test
+own_tests w step = tests w.setting (state_of w) (member (state_of w) (actor step)) (line_of w (actor step)) step
+
+pub cause-is : (w : Rehearsal) (step : Step) → cause w step ≡ or_else (first_fault (presence w.setting (state_of w) (actor step))) (or_else (first_fault (own_tests w step)) (limit w step))
+unfolding cause own_tests
+cause-is w step = refl
+
+pub cause-present : (w : Rehearsal) (step : Step) → IsPresent w (actor step) → cause w step ≡ or_else (first_fault (own_tests w step)) (limit w step)
+cause-present w step h = cause-is w step ∙ ap (λ o. or_else o (or_else (first_fault (own_tests w step)) (limit w step))) (present-none w (actor step) h)
+
+-- what no refusal says
+pub record IsFree (w : Rehearsal) (step : Step) : Type 0 where
+  pub present : IsPresent w (actor step)
+  pub tested : first_fault (own_tests w step) ≡ None
+  pub limited : limit w step ≡ None
+
+pub cause-none : (w : Rehearsal) (step : Step) → cause w step ≡ None → IsFree w step
+cause-none w step h =
+    let a = or_else-none (first_fault (presence w.setting (state_of w) (actor step))) (or_else (first_fault (own_tests w step)) (limit w step)) (sym (cause-is w step) ∙ h) in
+    let b = or_else-none (first_fault (own_tests w step)) (limit w step) a.1 in
+    record { present = none-present w (actor step) a.0; tested = b.0; limited = b.1 }
+
+-- the member has the instances and batches that it had
+pub record IsKept (old new : Member) : Type 0 where
+  pub last : new.last ≡ old.last
+  pub current : new.current ≡ old.current
+  pub batches : new.batches ≡ old.batches
+
+pub low : (bound k : ℕ) → k ≤ bound → nat_lt bound k ≡ false
+low bound k h = grind (arith, nat_tests)
+
+pub high : (bound k : ℕ) → bound < k → nat_lt bound k ≡ true
+high bound k h = grind (arith, nat_tests)
+
+pub under : (bound k : ℕ) → nat_lt bound k ≡ false → k ≤ bound
+under bound k h = grind (arith, nat_tests)
+
+pub overflow-is : (w : Rehearsal) (more : ℕ) → overflow w more ≡ first_fault (at (Full Envelopes) (nat_lt 1000000 (length (state_of w).sent + more)) ∷ at (Full Steps) (nat_lt 1000000 (length w.steps + 1)) ∷ [])
+unfolding overflow
+overflow-is w more = refl
+
+pub overflow-sent : (w : Rehearsal) (more : ℕ) → 1000000 < length (state_of w).sent + more → overflow w more ≡ Some (Full Envelopes)
+overflow-sent w more many = overflow-is w more ∙ rw (high 1000000 (length (state_of w).sent + more) many) refl
+
+pub overflow-steps : (w : Rehearsal) (more : ℕ) → length (state_of w).sent + more ≤ 1000000 → 1000000 < length w.steps + 1 → overflow w more ≡ Some (Full Steps)
+overflow-steps w more few many = overflow-is w more ∙ rw (low 1000000 (length (state_of w).sent + more) few, high 1000000 (length w.steps + 1) many) refl
+
+pub overflow-no : (w : Rehearsal) (more : ℕ) → length (state_of w).sent + more ≤ 1000000 → length w.steps + 1 ≤ 1000000 → overflow w more ≡ None
+overflow-no w more few less = overflow-is w more ∙ rw (low 1000000 (length (state_of w).sent + more) few, low 1000000 (length w.steps + 1) less) refl
+
+-- what keeps a member from any step is the cause
+pub cause-absent : (w : Rehearsal) (step : Step) (refusal : Refusal) → first_fault (presence w.setting (state_of w) (actor step)) ≡ Some refusal → cause w step ≡ Some refusal
+cause-absent w step refusal e = cause-is w step ∙ ap (λ o. or_else o (or_else (first_fault (own_tests w step)) (limit w step))) e

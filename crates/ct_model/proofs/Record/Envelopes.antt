@@ -1,0 +1,79 @@
+-- What waits is an envelope to the member.
+use Rattle.std.proofs.Common.{◌≡◌, ℕ, zero, suc, ◌+◌, ◌-◌, Bool, true, false, not, List, [], ◌∷◌, ◌++◌, refl, sym, ◌∙◌, subst, arith, Some, inl, inr}
+use Rattle.std.specs.Prelude.{◌==◌, slice_get, if◌then◌else◌, option_and_then}
+use Rattle.std.proofs.lemmas.Bool.Decides.{nat_tests}
+use Rattle.ct_model.specs.AtValue.{Envelope, Wire}
+use Rattle.ct_model.specs.State.{State, at_serial}
+use Rattle.ct_model.specs.Next.{wire_to, addressed}
+use Rattle.ct_model.specs.Waiting.{serials_to, has_serial}
+use Rattle.ct_model.specs.Rehearsal.{Rehearsal, state_of}
+use Rattle.ct_model.specs.Lawful.{IsLawful, IsLetter, is_taken, is_waiting}
+use Rattle.ct_model.proofs.Basics.Tests.{and_left, or_cases, number_same}
+use Rattle.ct_model.proofs.Basics.Options.{made-then, when-is}
+
+-- the i-th envelope goes to p
+record IsAt (p before k : ℕ) (es : List Envelope) (i : ℕ) (e : Envelope) : Type 0 where
+  place : k ≡ before + 1 + i
+  there : slice_get es i ≡ Some e
+  to : e.to ≡ p
+
+-- a serial that goes to p is an envelope to p
+serial_at : (p before k : ℕ) (es : List Envelope) → has_serial k (serials_to p before es) ≡ true → (i : ℕ) × (e : Envelope) × IsAt p before k es i e
+serial_at p before k [] h = absurd (cc)
+serial_at p before k (e ∷ es) h = go (e.to == p) refl (λ m. further (serial_at p (before + 1) k es m)) h
+  where
+    further : ((i : ℕ) × (x : Envelope) × IsAt p (before + 1) k es i x) → (i : ℕ) × (x : Envelope) × IsAt p before k (e ∷ es) i x
+    further r = (suc r.0, r.1, record { place = omega (arith, r.2.place); there = r.2.there; to = r.2.to })
+
+    go : (b : Bool) → b ≡ (e.to == p) → (has_serial k (serials_to p (before + 1) es) ≡ true → (i : ℕ) × (x : Envelope) × IsAt p before k (e ∷ es) i x) → has_serial k ((if b then (before + 1) ∷ [] else []) ++ serials_to p (before + 1) es) ≡ true → (i : ℕ) × (x : Envelope) × IsAt p before k (e ∷ es) i x
+    go true is rest m =
+        elim (or_cases (before + 1 == k) (has_serial k (serials_to p (before + 1) es)) m) [
+          | inl a ↦ (zero, e, record { place = grind (arith, nat_tests); there = refl; to = grind (arith, nat_tests) })
+          | inr a ↦ rest a
+        ]
+    go false is rest m = rest m
+
+-- what waits was sent to p
+pub was_sent : (w : Rehearsal) (p k : ℕ) → IsLawful w → is_waiting w p k ≡ true → has_serial k (serials_to p 0 (state_of w).sent) ≡ true
+was_sent w p k law h = and_left (has_serial k (serials_to p 0 (state_of w).sent)) (not (is_taken p w.steps k)) (sym (law.waits p k) ∙ h)
+
+-- and is an envelope to p
+pub waiting_letter : (w : Rehearsal) (p k : ℕ) → IsLawful w → is_waiting w p k ≡ true → (e : Envelope) × IsLetter (state_of w) p k e
+waiting_letter w p k law h =
+    let r = serial_at p 0 k (state_of w).sent (was_sent w p k law h) in
+    let at : k - 1 ≡ r.0 = omega (arith, r.2.place) in (
+      r.1,
+      record {
+        there = rw at r.2.there;
+        to = r.2.to;
+        positive = omega (arith, r.2.place);
+      },
+    )
+
+wire_is : (g : State) (p k : ℕ) (e : Envelope) (i : ℕ) → k ≡ suc i → slice_get g.sent i ≡ Some e → e.to ≡ p → wire_to g p k ≡ Some e.wire
+unfolding wire_to
+wire_is g p k e i at there to =
+    let same : (e.to == p) ≡ true = number_same e.to p to in
+    subst (λ j. option_and_then (addressed p) (at_serial g.sent j) ≡ Some e.wire) (sym at) (rw (there, same) refl)
+
+-- its wire is what p gets
+pub letter_wire : (g : State) (p k : ℕ) (e : Envelope) → IsLetter g p k e → wire_to g p k ≡ Some e.wire
+letter_wire g p k e l = let positive = l.positive in wire_is g p k e (k - 1) (omega arith) l.there l.to
+
+-- what p gets was sent
+pub record IsSent (g : State) (w : Wire) : Type 0 where
+  pub place : ℕ
+  pub envelope : Envelope
+  pub there : slice_get g.sent place ≡ Some envelope
+  pub wire : envelope.wire ≡ w
+
+at_place : (es : List Envelope) (k : ℕ) (e : Envelope) → at_serial es k ≡ Some e → (i : ℕ) × (slice_get es i ≡ Some e)
+at_place es zero e h = absurd (cc)
+at_place es (suc i) e h = (i, h)
+
+pub wire_to-sent : (g : State) (p k : ℕ) (w : Wire) → wire_to g p k ≡ Some w → IsSent g w
+unfolding wire_to
+wire_to-sent g p k w h =
+    let made = made-then (addressed p) (at_serial g.sent k) w h in
+    let at = at_place g.sent k made.from made.is in
+    record { place = at.0; envelope = made.from; there = at.1; wire = (when-is (made.from.to == p) made.from.wire w made.gives).1 }

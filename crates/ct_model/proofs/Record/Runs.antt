@@ -1,0 +1,50 @@
+-- A run and one more step.
+use Rattle.std.proofs.Common.{◌≡◌, List, [], ◌∷◌, ◌++◌, Option, Some, None, refl, ap, subst}
+use Rattle.std.specs.Prelude.{option_and_then, unwrap_or}
+use Rattle.std.proofs.lemmas.List.Sums.{fold-append}
+use Rattle.ct_model.specs.declared.step.Step.{Step}
+use Rattle.ct_model.specs.Setting.{Setting}
+use Rattle.ct_model.specs.State.{State, first_state}
+use Rattle.ct_model.specs.Next.{next, stepped}
+use Rattle.ct_model.specs.Run.{run, run_from}
+use Rattle.ct_model.specs.Rehearsal.{Rehearsal, state_of, extended}
+use Rattle.ct_model.proofs.Basics.Options.{some-same, made-then}
+
+pub state_of-push : (w : Rehearsal) (step : Step) → state_of (extended w step) ≡ stepped w.setting (state_of w) step
+unfolding state_of
+state_of-push w step = fold-append (stepped w.setting) (first_state w.setting) w.steps (step ∷ [])
+
+run_from-push : (s : Setting) (g : State) (steps : List Step) (step : Step) → run_from s g (steps ++ step ∷ []) ≡ option_and_then (λ h. next s h step) (run_from s g steps)
+unfolding run_from
+run_from-push s g [] step = at_end (next s g step)
+  where
+    at_end : (o : Option State) → option_and_then (λ h. Some h) o ≡ o
+    at_end None = refl
+    at_end (Some h) = refl
+run_from-push s g (x ∷ steps) step = onwards (next s g x) (λ h. run_from-push s h steps step)
+  where
+    onwards : (o : Option State) → ((h : State) → run_from s h (steps ++ step ∷ []) ≡ option_and_then (λ k. next s k step) (run_from s h steps)) → option_and_then (λ h. run_from s h (steps ++ step ∷ [])) o ≡ option_and_then (λ k. next s k step) (option_and_then (λ h. run_from s h steps) o)
+    onwards None ih = refl
+    onwards (Some h) ih = ih h
+
+-- a run goes on by one step
+pub run-push : (s : Setting) (steps : List Step) (step : Step) → run s (steps ++ step ∷ []) ≡ option_and_then (λ h. next s h step) (run s steps)
+unfolding run
+run-push s steps step = run_from-push s (first_state s) steps step
+
+-- where the next state is defined, that is the state after the step
+pub stepped-next : (s : Setting) (g h : State) (step : Step) → next s g step ≡ Some h → stepped s g step ≡ h
+unfolding stepped
+stepped-next s g h step e = ap (λ o. unwrap_or o g) e
+
+kept-run_from : (P : State → Type 0) (s : Setting) → ((g : State) (step : Step) (h : State) → next s g step ≡ Some h → P g → P h) → (g h : State) (steps : List Step) → run_from s g steps ≡ Some h → P g → P h
+unfolding run_from
+kept-run_from P s keeps g h [] e first = subst P (some-same g h e) first
+kept-run_from P s keeps g h (step ∷ steps) e first =
+    let mid = made-then (λ mid. run_from s mid steps) (next s g step) h e in
+    kept-run_from P s keeps mid.from h steps mid.gives (keeps g step mid.from mid.is first)
+
+-- what holds of the first state and is kept by every step holds after a run
+pub kept-run : (P : State → Type 0) (s : Setting) → P (first_state s) → ((g : State) (step : Step) (h : State) → next s g step ≡ Some h → P g → P h) → (steps : List Step) (g : State) → run s steps ≡ Some g → P g
+unfolding run
+kept-run P s first keeps steps g e = kept-run_from P s keeps (first_state s) g steps e first

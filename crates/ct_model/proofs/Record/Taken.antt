@@ -1,0 +1,151 @@
+-- A step that is taken: what it does to the record, whichever step it is.
+use Rattle.std.proofs.Common.{◌≡◌, ℕ, ◌+◌, ◌<◌, ◌≤◌, Bool, true, false, List, [], ◌∷◌, ◌++◌, length, drop, refl, ap, sym, ◌∙◌, arith, Some}
+use Rattle.std.specs.Prelude.{not, ◌==◌, ◌&&◌, ◌||◌, option_and_then}
+use Rattle.std.proofs.lemmas.Bool.Decides.{nat_tests}
+use Rattle.std.proofs.lemmas.List.{drop_at, length_push}
+use Rattle.ct_names.specs.Group.{is_member}
+use Rattle.ct_model.specs.declared.step.Step.{Step}
+use Rattle.ct_model.specs.Actor.{actor}
+use Rattle.ct_model.specs.AtValue.{Envelope}
+use Rattle.ct_model.specs.Setting.{Setting}
+use Rattle.ct_model.specs.Wire.{envelopes}
+use Rattle.ct_model.specs.State.{State, member, is_crashed}
+use Rattle.ct_model.specs.Next.{Outcome, row, after, next, can_act, stepped}
+use Rattle.ct_model.specs.Run.{run}
+use Rattle.ct_model.specs.Waiting.{LineChange, has_serial, serials_to, line_change, takes, changed, line_after}
+use Rattle.ct_model.specs.Waiting.LineChange.{Takes}
+use Rattle.ct_model.specs.Rehearsal.{Rehearsal, state_of, line_of, extended}
+use Rattle.ct_model.specs.Lawful.{is_distinct, is_taken, Waits, IsWithin, IsLawful, IsPresent, NamesWaiting}
+use Rattle.ct_model.proofs.Basics.Tests.{and_left, and_both, and_false, or_false, not_true}
+use Rattle.ct_model.proofs.Record.Runs.{state_of-push, run-push, stepped-next}
+use Rattle.ct_model.proofs.Record.Envelopes.{was_sent}
+use Rattle.ct_model.proofs.Record.Lines.{waiting-push, changed-distinct, changed-has, is_taken-push}
+use Rattle.ct_model.proofs.Basics.Serials.{has_serial-append, is_distinct-append, serials_to-append, serials_to-within, serials_to-distinct}
+use Rattle.ct_model.proofs.Record.Frame.{after-sent, length-after-sent, after-size}
+
+-- the step is allowed after the record, and this is its outcome
+pub record IsTaken (w : Rehearsal) (step : Step) (o : Outcome) : Type 0 where
+  pub present : IsPresent w (actor step)
+  pub row : row w.setting (state_of w) (actor step) (member (state_of w) (actor step)) step ≡ Some o
+  pub names : NamesWaiting w step
+  pub within : IsWithin w.cells (after w.setting (state_of w) (actor step) o) (length w.steps + 1)
+
+pub next-row : (s : Setting) (g : State) (step : Step) (o : Outcome) → is_member s.members (actor step) ≡ true → is_crashed g (actor step) ≡ false → row s g (actor step) (member g (actor step)) step ≡ Some o → next s g step ≡ Some (after s g (actor step) o)
+unfolding next
+next-row s g step o group up e =
+    let acts : can_act s g (actor step) ≡ true = and_both (is_member s.members (actor step)) (not (is_crashed g (actor step))) group (ap not up) in
+    rw (acts, e) refl
+
+waiting_within : (w : Rehearsal) → IsLawful w → (p k : ℕ) → has_serial k (line_of w p) ≡ true → k ≤ length (state_of w).sent
+waiting_within w law p k m =
+    let b = serials_to-within p 0 k (state_of w).sent (was_sent w p k law m) in omega arith
+
+-- a serial that wasn't sent isn't taken
+not_early : (w : Rehearsal) → IsLawful w → (change : LineChange) → Waits w change → (p k : ℕ) → length (state_of w).sent < k
+    → takes p k change ≡ false
+not_early w law (Takes q i) waits p k m =
+    let b : i ≤ length (state_of w).sent = waiting_within w law q i waits in
+    let differs : (i == k) ≡ false = grind (arith, nat_tests) in
+    rw differs (and_false (q == p))
+not_early w law _ waits p k m = refl
+
+-- of a serial: it was sent before, it was taken before, the step takes it, the step sends it
+taken_or_sent : (old was now new : Bool) → (new ≡ true → (was ≡ false) × (now ≡ false))
+    → (((old && not was) && not now) || new) ≡ ((old || new) && not (was || now))
+taken_or_sent true true now false h = refl
+taken_or_sent true false now false h = or_false (not now)
+taken_or_sent false was now false h = refl
+taken_or_sent true false false true h = refl
+taken_or_sent false false false true h = refl
+taken_or_sent old true now true h = absurd (let e = (h refl).0 in cc)
+taken_or_sent old false true true h = absurd (let e = (h refl).1 in cc)
+
+module _ (w : Rehearsal) (step : Step) (o : Outcome) (law : IsLawful w) (taken : IsTaken w step o) where
+  sends : List Envelope
+  sends = envelopes w.setting.members o.mail
+
+  h : State
+  h = after w.setting (state_of w) (actor step) o
+
+  pub next-step : next w.setting (state_of w) step ≡ Some (after w.setting (state_of w) (actor step) o)
+  next-step = next-row w.setting (state_of w) step o taken.present.in_group taken.present.up taken.row
+
+  pub state-step : state_of (extended w step) ≡ after w.setting (state_of w) (actor step) o
+  state-step = state_of-push w step ∙ stepped-next w.setting (state_of w) (after w.setting (state_of w) (actor step) o) step next-step
+
+  run-step : run w.setting (w.steps ++ step ∷ []) ≡ Some (after w.setting (state_of w) (actor step) o)
+  run-step = run-push w.setting w.steps step ∙ ap (λ x. option_and_then (λ g. next w.setting g step) x) law.runs ∙ next-step
+
+  -- the serials that it sends to p
+  coming : ℕ → List ℕ
+  coming p = serials_to p (length (state_of w).sent) sends
+
+  -- its serial leaves the line or goes to its end, and what it sends comes after
+  pub line-step : (p : ℕ)
+      → line_of (extended w step) p
+      ≡ changed p (line_change step) (line_of w p) ++ serials_to p (length (state_of w).sent) (envelopes w.setting.members o.mail)
+  unfolding line_of state_of line_after
+  line-step p =
+      let old = (state_of w).sent in
+      let new : drop (length old) (stepped w.setting (state_of w) step).sent ≡ envelopes w.setting.members o.mail =
+      ap (λ (g : State). drop (length old) g.sent)
+      (stepped-next w.setting (state_of w) (after w.setting (state_of w) (actor step) o) step next-step)
+      ∙ ap (drop (length old)) (after-sent w.setting (state_of w) (actor step) o)
+      ∙ drop_at old (envelopes w.setting.members o.mail) (length old) refl in
+      waiting-push w.setting p w.steps step ∙ ap (λ es. changed p (line_change step) (line_of w p) ++ serials_to p (length old) es) new
+
+  sent_parts : (p : ℕ) → serials_to p 0 h.sent ≡ serials_to p 0 (state_of w).sent ++ serials_to p (length (state_of w).sent) sends
+  unfolding h sends
+  sent_parts p = ap (serials_to p 0) (after-sent w.setting (state_of w) (actor step) o) ∙ serials_to-append p 0 (state_of w).sent (envelopes w.setting.members o.mail) ∙ ap (λ b. serials_to p 0 (state_of w).sent ++ serials_to p b (envelopes w.setting.members o.mail)) (omega arith)
+
+  -- what it sends was never taken
+  untaken : (p k : ℕ) → length (state_of w).sent < k → (is_taken p w.steps k ≡ false) × (takes p k (line_change step) ≡ false)
+  untaken p k m = (law.unsent p k m, not_early w law (line_change step) taken.names p k m)
+
+  unsent-step : (p k : ℕ) → length h.sent < k → is_taken p (w.steps ++ step ∷ []) k ≡ false
+  unfolding h
+  unsent-step p k m =
+      let grown = length-after-sent w.setting (state_of w) (actor step) o in
+      let f = untaken p k (omega arith) in
+      is_taken-push p w.steps step k ∙ rw (f.0, f.1) refl
+
+  waits-step : (p k : ℕ)
+      → has_serial k (line_of (extended w step) p) ≡ (has_serial k (serials_to p 0 h.sent) && not (is_taken p (w.steps ++ step ∷ []) k))
+  unfolding coming sends
+  waits-step p k =
+      let old : List ℕ = serials_to p 0 (state_of w).sent in
+      let now : Bool = takes p k (line_change step) in
+      ap (has_serial k) (line-step p)
+      ∙ has_serial-append k (changed p (line_change step) (line_of w p)) (coming p)
+      ∙ rw (
+        changed-has p k (line_change step) (line_of w p),
+        law.waits p k,
+        sent_parts p,
+        has_serial-append k old (coming p),
+        is_taken-push p w.steps step k,
+      )
+      (taken_or_sent (has_serial k old) (is_taken p w.steps k) now (has_serial k (coming p))
+      (λ m. untaken p k (serials_to-within p (length (state_of w).sent) k sends m).0))
+
+  distinct-step : (p : ℕ) → is_distinct (line_of (extended w step) p) ≡ true
+  unfolding coming sends
+  distinct-step p = rw (line-step p)
+      (is_distinct-append (changed p (line_change step) (line_of w p)) (coming p)
+      (changed-distinct p (line_change step) (line_of w p) (law.distinct p)) (serials_to-distinct p (length (state_of w).sent) sends)
+      (λ k a. not_true (has_serial k (coming p)) (λ b.
+      let change : LineChange = line_change step in
+      let waited = and_left (has_serial k (line_of w p)) (not (takes p k change)) (sym (changed-has p k change (line_of w p)) ∙ a) in
+      let last = waiting_within w law p k waited in
+      let first = serials_to-within p (length (state_of w).sent) k sends b in
+      omega arith)))
+
+  pub lawful-step : IsLawful (extended w step)
+  unfolding h
+  lawful-step = record {
+    runs = run-step ∙ ap (λ g. Some g) (sym state-step);
+    size = ap (λ (g : State). length g.members) state-step ∙ after-size w.setting (state_of w) (actor step) o ∙ law.size;
+    within = rw (state-step, length_push) taken.within;
+    unsent = λ p k m. unsent-step p k (rw state-step at m);
+    waits = λ p k. rw state-step (waits-step p k);
+    distinct = distinct-step;
+  }

@@ -1,0 +1,13 @@
+-- Each step: its cause in closed form, and its outcome where it has none.
+pub mod Rows
+pub mod Shapes
+pub mod Mail
+pub mod Turns
+pub mod RoundSteps
+pub mod Rounds
+pub mod Submit
+pub mod Receive
+pub mod Begin
+pub mod Deliver
+pub mod Crash
+pub mod Postpone

@@ -1,0 +1,147 @@
+-- What holds of each step of a round alike.
+use Rattle.std.proofs.Common.{◌≡◌, ℕ, ◌+◌, ◌≤◌, Bool, true, false, not, length, subst, arith, List, [], ◌∷◌, ◌++◌, refl, ap, sym, ◌∙◌, Option, Some, None}
+use Rattle.std.specs.Prelude.{nat_lt, ◌&&◌, is_some, option_map, if◌then◌else◌}
+use Rattle.ct_names.specs.declared.limit.Limit.TheVariants.{Rounds}
+use Rattle.ct_names.specs.declared.refusal.Refusal.TheVariants.{WrongPhase, Full, Decided}
+use Rattle.ct_model.specs.declared.moves.Move.{Move}
+use Rattle.ct_model.specs.declared.moves.Move.TheVariants.{Enter, Choose, Adopt, Suspect, Conclude}
+use Rattle.ct_model.specs.Actor.{actor}
+use Rattle.ct_names.specs.Group.{is_majority}
+use Rattle.ct_names.specs.Value.{Value}
+use Rattle.ct_model.specs.AtValue.{Standing as AtSets, Turn}
+use Rattle.ct_model.specs.When.{when}
+use Rattle.ct_model.specs.Wire.{envelopes}
+use Rattle.ct_model.specs.declared.wire.Wire.TheVariants.{Prop, Dec}
+use Rattle.ct_model.specs.Phases.{is_rest, entered, enter, chosen, adopted, suspected, concluded}
+use Rattle.ct_model.specs.Faults.{enter_faults}
+use Rattle.std.specs.Option.{option_map_or}
+use Rattle.std.proofs.lemmas.Bool.Decides.{nat_tests}
+use Rattle.ct_model.specs.Setting.{Setting}
+use Rattle.ct_model.specs.State.{State, Member, Standing, member}
+use Rattle.ct_model.specs.Received.{Ballots, decided}
+use Rattle.ct_model.specs.Mapped.{ballots_map, standing_map, turn_map}
+use Rattle.ct_model.specs.Moves.{step_of, turn_of, faults_of, sent_by, is_enter}
+use Rattle.ct_model.specs.Next.{row, round_row, own_ballots, turn_at}
+use Rattle.ct_model.specs.Rehearsal.{Rehearsal, state_of, line_of}
+use Rattle.ct_model.specs.Cause.{at, first_fault, open_tests, faults_at, round_of, tests, or_else, cause, overflow}
+use Rattle.ct_model.specs.Lawful.{IsLawful, IsPresent}
+use Rattle.ct_model.proofs.Record.Causes.{own_tests}
+use Rattle.ct_model.proofs.Record.Limits.{own_tests-is}
+use Rattle.ct_model.proofs.Steps.Rounds.{open-at, round_row-some, cause-turned}
+use Rattle.ct_model.proofs.Basics.Serials.{length-all}
+use Rattle.ct_model.proofs.Steps.Receive.{either_number}
+use Rattle.ct_model.proofs.Steps.Turns.{choose-heard, choose-taken, adopt-proposed, adopt-taken, suspect-taken, conclude-taken}
+use Rattle.ct_model.proofs.Numbers.Naturality.{enter-map, choose-map, adopt-map, suspect-map, conclude-map, choose_faults-map, adopt_faults-map, suspect_faults-map, conclude_faults-map}
+use Rattle.ct_model.specs.Waiting.{line_change}
+use Rattle.ct_model.specs.Waiting.LineChange.{Leaves}
+
+-- of the step with its member
+
+pub actor-move : (p : ℕ) (a : Move) → actor (step_of p a) ≡ p
+actor-move p Enter = refl
+actor-move p _ = refl
+
+pub line_change-move : (p : ℕ) (a : Move) → line_change (step_of p a) ≡ Leaves
+line_change-move p Enter = refl
+line_change-move p _ = refl
+
+pub row-move : (s : Setting) (g : State) (p q : ℕ) (m : Member) (a : Move) → row s g q m (step_of p a) ≡ round_row m (turn_at s.members q m a)
+row-move s g p q m Enter = refl
+row-move s g p q m _ = refl
+
+pub tests-move : (s : Setting) (g : State) (m : Member) (line : List ℕ) (p : ℕ) (a : Move) → tests s g m line (step_of p a) ≡ open_tests m (faults_at s.members m a)
+tests-move s g m line p Enter = refl
+tests-move s g m line p _ = refl
+
+-- a value is only passed on
+
+pub turn-map : {V U : Type 0} (f : V → U) (n me k : ℕ) (d : Option V) (t : Ballots V) (c : Standing V) (a : Move) → turn_of n me k (option_map f d) (ballots_map f t) (standing_map f c) a ≡ option_map (turn_map f) (turn_of n me k d t c a)
+turn-map f n me k d t c Enter = enter-map f n me k d c
+turn-map f n me k d t c (Choose from) = choose-map f n k t c from
+turn-map f n me k d t c Adopt = adopt-map f n me k t c
+turn-map f n me k d t c Suspect = suspect-map f n me k t c
+turn-map f n me k d t c Conclude = conclude-map f n k t c
+
+pub faults-map : {V U : Type 0} (f : V → U) (n : ℕ) (d : Option V) (t : Ballots V) (c : Standing V) (a : Move) → faults_of n (option_map f d) (ballots_map f t) (standing_map f c) a ≡ faults_of n d t c a
+faults-map f n None t c Enter = refl
+faults-map f n (Some v) t c Enter = refl
+faults-map f n d t c (Choose from) = choose_faults-map f n t c from
+faults-map f n d t c Adopt = adopt_faults-map f t c
+faults-map f n d t c Suspect = suspect_faults-map f t c
+faults-map f n d t c Conclude = conclude_faults-map f n t c
+
+-- where none of its tests fires
+
+enter-free : (n me k : ℕ) (decision : Option Value) (c : AtSets) → first_fault (enter_faults c ++ at Decided (is_some decision) ∷ []) ≡ None → enter n me k decision c ≡ Some (entered n me k c)
+unfolding enter
+enter-free n me k decision c h = go (is_rest c.phase) (is_some decision) h
+  where
+    go : (a b : Bool) → first_fault (at WrongPhase (not a) ∷ at Decided b ∷ []) ≡ None → when (a && not b) (entered n me k c) ≡ Some (entered n me k c)
+    go true true h = absurd (cc)
+    go true false h = refl
+    go false b h = absurd (cc)
+
+-- it is taken: its turn, the round then, and how many envelopes it sends
+pub record IsFree (n p k : ℕ) (d : Option Value) (t : Ballots Value) (c : AtSets) (a : Move) : Type 0 where
+  pub turn : Turn
+  pub turns : turn_of n p k d t c a ≡ Some turn
+  pub round : turn.after.round ≡ (if is_enter a then c.round + 1 else c.round)
+  pub number : length (envelopes n turn.mail) ≡ sent_by n t.acked a
+
+pub turn-free : (n p k : ℕ) (d : Option Value) (t : Ballots Value) (c : AtSets) (a : Move) → first_fault (faults_of n d t c a) ≡ None → IsFree n p k d t c a
+turn-free n p k d t c Enter h = record { turn = entered n p k c; turns = enter-free n p k d c h; round = refl; number = refl }
+turn-free n p k d t c (Choose from) h =
+    let best = choose-heard n k t c from h in
+    record { turn = chosen k c best.0; turns = choose-taken n k t c from best.0 h best.1; round = refl; number = length-all n (Prop k c.round best.0.value) }
+turn-free n p k d t c Adopt h =
+    let v = adopt-proposed n p k t c h in
+    record { turn = adopted n p k c v.0; turns = adopt-taken n p k t c v.0 h v.1; round = refl; number = refl }
+turn-free n p k d t c Suspect h = record { turn = suspected n p k c; turns = suspect-taken n p k t c h; round = refl; number = refl }
+turn-free n p k d t c Conclude h = record { turn = concluded n k t c; turns = conclude-taken n k t c h; round = refl; number = either_number n (Dec k c.round c.estimate) (is_majority n t.acked) }
+
+within-round : (enters : Bool) (after now : ℕ) → after ≡ (if enters then now + 1 else now) → now ≤ 10000 → nat_lt 10000 after ≡ (enters && nat_lt 10000 (now + 1))
+within-round true after now e few = ap (nat_lt 10000) e
+within-round false after now e few = grind (arith, nat_tests)
+
+-- why it is refused then: a limit
+module _ (w : Rehearsal) (p : ℕ) (a : Move) where
+  -- who takes it: p
+  abbrev q : ℕ
+  q = actor (step_of p a)
+
+  abbrev m : Member
+  m = member (state_of w) q
+
+  limit-same : (b c : Bool) (k l : ℕ) → b ≡ c → k ≡ l
+      → or_else (first_fault (at (Full Rounds) b ∷ [])) (overflow w k) ≡ or_else (first_fault (at (Full Rounds) c ∷ [])) (overflow w l)
+  limit-same b c k l e f = rw (e, f) refl
+
+  -- the turn that the tests let it take
+  abbrev Free : AtSets → Type 0
+  Free c = IsFree w.setting.members q m.last (decided m.got m.last) (own_ballots m c) c a
+
+  cause-free : (c : AtSets) → m.current ≡ Some c → Free c → IsLawful w → IsPresent w q → first_fault (own_tests w (step_of p a)) ≡ None
+      → cause w (step_of p a)
+      ≡ or_else (first_fault (at (Full Rounds) (is_enter a && nat_lt 10000 (c.round + 1)) ∷ []))
+      (overflow w (sent_by w.setting.members (own_ballots m c).acked a))
+  cause-free c is_open f law present h =
+      let is = row-move w.setting (state_of w) p q m a ∙ round_row-some m (turn_at w.setting.members q m a) c f.turn is_open f.turns in
+      let few : round_of m ≤ 10000 = law.within.few_rounds q in
+      let now : round_of m ≡ c.round = ap (λ o. option_map_or (λ (x : AtSets). x.round) o 0) is_open in
+      cause-turned w (step_of p a) f.turn law present is h
+      ∙ limit-same _ _ _ _ (within-round (is_enter a) f.turn.after.round c.round f.round (omega (arith, few, now))) f.number
+
+  pub cause-move : (c : AtSets) → (member (state_of w) p).current ≡ Some c → IsLawful w → IsPresent w p
+      → first_fault (own_tests w (step_of p a)) ≡ None
+      → cause w (step_of p a)
+      ≡ or_else (first_fault (at (Full Rounds) (is_enter a && nat_lt 10000 (c.round + 1)) ∷ []))
+      (overflow w (sent_by w.setting.members (own_ballots (member (state_of w) p) c).acked a))
+  cause-move c e law present h =
+      let is_open : m.current ≡ Some c = ap (λ x. (member (state_of w) x).current) (actor-move p a) ∙ e in
+      let tested : first_fault (own_tests w (step_of p a)) ≡ first_fault (faults_at w.setting.members m a c) =
+      ap first_fault (own_tests-is w (step_of p a) ∙ tests-move w.setting (state_of w) m (line_of w q) p a)
+      ∙ open-at m (faults_at w.setting.members m a) c is_open in
+      cause-free c is_open
+      (turn-free w.setting.members q m.last (decided m.got m.last) (own_ballots m c) c a (sym tested ∙ h))
+      law (subst (λ x. IsPresent w x) (sym (actor-move p a)) present) h
+      ∙ limit-same _ _ _ _ refl (ap (λ x. sent_by w.setting.members (own_ballots (member (state_of w) x) c).acked a) (actor-move p a))

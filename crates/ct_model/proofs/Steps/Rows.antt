@@ -1,0 +1,137 @@
+-- What a step of consensus leaves, where its row is there.
+use Rattle.std.proofs.Common.{◌≡◌, ℕ, true, false, not, Option, Some}
+use Rattle.std.specs.Prelude.{◌&&◌, is_some, is_none, option_and_then, option_map}
+use Rattle.ct_names.specs.Group.{is_majority}
+use Rattle.ct_names.specs.Value.{Value}
+use Rattle.ct_model.specs.When.{when}
+use Rattle.ct_model.specs.AtValue.{Standing, Turn}
+use Rattle.ct_model.specs.State.{Member}
+use Rattle.ct_model.specs.Received.{Heard, Ballots, heard, estimate_from, is_largest, decided}
+use Rattle.ct_model.specs.Phases.{is_rest, is_gather, is_wait, is_tally, entered, enter, chosen, choose, adopted, adopt, suspected, suspect, concluded, conclude}
+use Rattle.ct_model.specs.Next.{Outcome, turned, round_row, begin, begin_row, deliver, deliver_row, undelivered, is_empty}
+use Rattle.ct_model.proofs.Basics.Tests.{and_left, and_right, true_not}
+use Rattle.ct_model.proofs.Basics.Options.{when-is, made-map, made-then}
+
+-- a step of a round was taken at this standing, with this turn
+pub record IsTurned (m : Member) (step : Standing → Option Turn) (o : Outcome) : Type 0 where
+  pub standing : Standing
+  pub is_open : m.current ≡ Some standing
+  pub turn : Turn
+  pub taken : step standing ≡ Some turn
+  pub gives : turned m turn ≡ o
+
+pub round_row-is : (m : Member) (step : Standing → Option Turn) (o : Outcome) → round_row m step ≡ Some o → IsTurned m step o
+round_row-is m step o e =
+    let a = made-map (turned m) (option_and_then step m.current) o e in
+    let b = made-then step m.current a.from a.is in
+    record { standing = b.from; is_open = b.is; turn = a.from; taken = b.gives; gives = a.gives }
+
+pub record IsBegun (p : ℕ) (m : Member) (o : Outcome) : Type 0 where
+  pub idle : is_none m.current ≡ true
+  pub something : is_empty (undelivered m) ≡ false
+  pub gives : begin p m ≡ o
+
+pub begin_row-is : (p : ℕ) (m : Member) (o : Outcome) → begin_row p m ≡ Some o → IsBegun p m o
+begin_row-is p m o e =
+    let a = when-is (is_none m.current && not (is_empty (undelivered m))) (begin p m) o e in
+    record {
+      idle = and_left (is_none m.current) (not (is_empty (undelivered m))) a.0;
+      something = true_not (is_empty (undelivered m)) (and_right (is_none m.current) (not (is_empty (undelivered m))) a.0);
+      gives = a.1;
+    }
+
+pub record IsDelivered (m : Member) (o : Outcome) : Type 0 where
+  pub standing : Standing
+  pub is_open : m.current ≡ Some standing
+  pub value : Value
+  pub decision : decided m.got m.last ≡ Some value
+  pub gives : deliver m value ≡ o
+
+pub deliver_row-is : (m : Member) (o : Outcome) → deliver_row m ≡ Some o → IsDelivered m o
+deliver_row-is m o e =
+    let a = made-then (λ (c : Standing). option_map (deliver m) (decided m.got m.last)) m.current o e in
+    let b = made-map (deliver m) (decided m.got m.last) o a.gives in
+    record { standing = a.from; is_open = a.is; value = b.from; decision = b.is; gives = b.gives }
+
+-- the five turns
+
+pub record IsEntered (n me k : ℕ) (decision : Option Value) (c : Standing) (t : Turn) : Type 0 where
+  pub rests : is_rest c.phase ≡ true
+  pub undecided : is_some decision ≡ false
+  pub gives : entered n me k c ≡ t
+
+pub enter-is : (n me k : ℕ) (decision : Option Value) (c : Standing) (t : Turn) → enter n me k decision c ≡ Some t → IsEntered n me k decision c t
+unfolding enter
+enter-is n me k decision c t e =
+    let a = when-is (is_rest c.phase && not (is_some decision)) (entered n me k c) t e in
+    record {
+      rests = and_left (is_rest c.phase) (not (is_some decision)) a.0;
+      undecided = true_not (is_some decision) (and_right (is_rest c.phase) (not (is_some decision)) a.0);
+      gives = a.1;
+    }
+
+pub record IsChosen (n k : ℕ) (t : Ballots Value) (c : Standing) (from : ℕ) (turn : Turn) : Type 0 where
+  pub best : Heard Value
+  pub from_is : estimate_from t from ≡ Some best
+  pub gathers : is_gather c.phase ≡ true
+  pub majority : is_majority n (heard t) ≡ true
+  pub largest : is_largest t best.ts ≡ true
+  pub gives : chosen k c best ≡ turn
+
+pub choose-is : (n k : ℕ) (t : Ballots Value) (c : Standing) (from : ℕ) (turn : Turn) → choose n k t c from ≡ Some turn → IsChosen n k t c from turn
+unfolding choose
+choose-is n k t c from turn e =
+    let a = made-then (λ (h : Heard Value). when (is_gather c.phase && is_majority n (heard t) && is_largest t h.ts) (chosen k c h)) (estimate_from t from) turn e in
+    let b = when-is (is_gather c.phase && is_majority n (heard t) && is_largest t a.from.ts) (chosen k c a.from) turn a.gives in
+    let two = and_left (is_gather c.phase && is_majority n (heard t)) (is_largest t a.from.ts) b.0 in
+    record {
+      best = a.from;
+      from_is = a.is;
+      gathers = and_left (is_gather c.phase) (is_majority n (heard t)) two;
+      majority = and_right (is_gather c.phase) (is_majority n (heard t)) two;
+      largest = and_right (is_gather c.phase && is_majority n (heard t)) (is_largest t a.from.ts) b.0;
+      gives = b.1;
+    }
+
+pub record IsAdopted (n me k : ℕ) (t : Ballots Value) (c : Standing) (turn : Turn) : Type 0 where
+  pub value : Value
+  pub proposal_is : t.proposal ≡ Some value
+  pub waits : is_wait c.phase ≡ true
+  pub gives : adopted n me k c value ≡ turn
+
+pub adopt-is : (n me k : ℕ) (t : Ballots Value) (c : Standing) (turn : Turn) → adopt n me k t c ≡ Some turn → IsAdopted n me k t c turn
+unfolding adopt
+adopt-is n me k t c turn e =
+    let a = made-then (λ (v : Value). when (is_wait c.phase) (adopted n me k c v)) t.proposal turn e in
+    let b = when-is (is_wait c.phase) (adopted n me k c a.from) turn a.gives in
+    record { value = a.from; proposal_is = a.is; waits = b.0; gives = b.1 }
+
+pub record IsSuspected (n me k : ℕ) (t : Ballots Value) (c : Standing) (turn : Turn) : Type 0 where
+  pub waits : is_wait c.phase ≡ true
+  pub no_proposal : is_some t.proposal ≡ false
+  pub gives : suspected n me k c ≡ turn
+
+pub suspect-is : (n me k : ℕ) (t : Ballots Value) (c : Standing) (turn : Turn) → suspect n me k t c ≡ Some turn → IsSuspected n me k t c turn
+unfolding suspect
+suspect-is n me k t c turn e =
+    let a = when-is (is_wait c.phase && not (is_some t.proposal)) (suspected n me k c) turn e in
+    record {
+      waits = and_left (is_wait c.phase) (not (is_some t.proposal)) a.0;
+      no_proposal = true_not (is_some t.proposal) (and_right (is_wait c.phase) (not (is_some t.proposal)) a.0);
+      gives = a.1;
+    }
+
+pub record IsConcluded (n k : ℕ) (t : Ballots Value) (c : Standing) (turn : Turn) : Type 0 where
+  pub tallies : is_tally c.phase ≡ true
+  pub majority : is_majority n t.replied ≡ true
+  pub gives : concluded n k t c ≡ turn
+
+pub conclude-is : (n k : ℕ) (t : Ballots Value) (c : Standing) (turn : Turn) → conclude n k t c ≡ Some turn → IsConcluded n k t c turn
+unfolding conclude
+conclude-is n k t c turn e =
+    let a = when-is (is_tally c.phase && is_majority n t.replied) (concluded n k t c) turn e in
+    record {
+      tallies = and_left (is_tally c.phase) (is_majority n t.replied) a.0;
+      majority = and_right (is_tally c.phase) (is_majority n t.replied) a.0;
+      gives = a.1;
+    }
