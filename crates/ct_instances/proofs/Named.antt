@@ -210,12 +210,6 @@ pub value_at-last : {A : Type 0} (values : List A) (v : A) → slice_get (values
 value_at-last [] v = refl
 value_at-last (x ∷ values) v = value_at-last values v
 
-pub grows_wire : (values more : List Value) (x : AnyWire ℕ) (w : Wire) → NamesWire values x w → NamesWire (values ++ more) x w
-grows_wire values more x w h = wire-kept (value_at values) (value_at (values ++ more)) (value_at-grown values more) x w h
-
-pub grows_mail : (values more : List Value) (x : AnyMail ℕ) (mail : Mail) → NamesMail values x mail → NamesMail (values ++ more) x mail
-grows_mail values more x mail h = mail-kept (value_at values) (value_at (values ++ more)) (value_at-grown values more) x mail h
-
 pub grows_envelope : (values more : List Value) (x : AnyEnvelope ℕ) (e : Envelope) → NamesEnvelope values x e → NamesEnvelope (values ++ more) x e
 grows_envelope values more x e h = envelope-kept (value_at values) (value_at (values ++ more)) (value_at-grown values more) x e h
 
@@ -246,22 +240,13 @@ named_none values o h = mate-none (value_at values) Some o h
 pub named_is_some : (values : List Value) (d : Option ℕ) (o : Option Value) → NamesDecision values d o → is_some d ≡ is_some o
 named_is_some values d o h = mates-some (value_at values) Some d o h
 
-pub named_is_none : (values : List Value) (d : Option ℕ) (o : Option Value) → NamesDecision values d o → is_none d ≡ is_none o
-named_is_none values d o h = mates-none (value_at values) Some d o h
-
 -- standings
 
 pub standing_some : (values : List Value) (x : AnyStanding ℕ) (o : Option Standing) → NamesStanding values (Some x) o → (c : Standing) × (o ≡ Some c) × (standing_map (value_at values) x ≡ standing_map Some c)
 standing_some values x o h = mate (standing_map (value_at values)) (standing_map Some) (Some x) o x h refl
 
-pub standing_back : (values : List Value) (x : Option (AnyStanding ℕ)) (c : Standing) → NamesStanding values x (Some c) → (y : AnyStanding ℕ) × (x ≡ Some y) × (standing_map (value_at values) y ≡ standing_map Some c)
-standing_back values x c h = mate-back (standing_map (value_at values)) (standing_map Some) x (Some c) c h refl
-
 pub standing_is_some : (values : List Value) (x : Option (AnyStanding ℕ)) (o : Option Standing) → NamesStanding values x o → is_some x ≡ is_some o
 standing_is_some values x o h = mates-some (standing_map (value_at values)) (standing_map Some) x o h
-
-pub standing_is_none : (values : List Value) (x : Option (AnyStanding ℕ)) (o : Option Standing) → NamesStanding values x o → is_none x ≡ is_none o
-standing_is_none values x o h = mates-none (standing_map (value_at values)) (standing_map Some) x o h
 
 module _ (values : List Value) (x : AnyStanding ℕ) (c : Standing) (h : standing_map (value_at values) x ≡ standing_map Some c) where
   pub standing_round : x.round ≡ c.round

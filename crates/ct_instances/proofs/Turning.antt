@@ -1,10 +1,10 @@
 -- The steps of the open instance: with values by number they are refused and taken as with the values themselves.
-use Rattle.std.proofs.Common.{◌≡◌, ℕ, false, List, [], ◌∷◌, ◌+◌, Option, Some, None, is_some, is_none, option_map, option_and_then, refl, ap, sym, ◌∙◌, subst}
+use Rattle.std.proofs.Common.{◌≡◌, ℕ, false, List, [], ◌∷◌, ◌+◌, Option, Some, None, is_none, option_map, option_and_then, refl, ap, sym, ◌∙◌, subst}
 use Rattle.std.specs.Prelude.{nat_lt, ◌&&◌}
 use Rattle.std.specs.Option.{option_map_or}
+use Rattle.ct_names.specs.declared.limit.TheConstants.{MAX_ROUNDS}
 use Rattle.ct_names.specs.declared.refusal.Refusal.TheVariants.{Idle}
 use Rattle.ct_names.specs.Value.{Value}
-use Rattle.ct_model.specs.declared.phase.Phase.{Phase}
 use Rattle.ct_model.specs.declared.moves.Move.{Move}
 use Rattle.ct_model.specs.Setting.{Setting}
 use Rattle.ct_model.specs.State.{State, Member, Standing as AnyStanding, Turn as AnyTurn}
@@ -73,18 +73,10 @@ module _ (s : Setting) (values : List Value) (p : ℕ) (m : Member) (kept : Kept
   pub keeps-open : is_none kept.part ≡ is_none m.current
   keeps-open = met is_none is_none refl (λ c x is e. refl)
 
-  pub keeps-some : is_some kept.part ≡ is_some m.current
-  keeps-some = met is_some is_some refl (λ c x is e. refl)
-
   pub keeps-round : option_map (λ c. c.standing.round) kept.part ≡ option_map (λ c. c.round) m.current
   keeps-round =
       met (option_map (λ c. c.standing.round)) (option_map (λ c. c.round)) refl
       (λ c x is e. ap (λ (z : AnyStanding (Option Value)). Some z.round) e)
-
-  pub keeps-round_phase : option_map {U = ℕ × Phase} (λ c. (c.standing.round, c.standing.phase)) kept.part ≡ option_map (λ c. (c.round, c.phase)) m.current
-  keeps-round_phase =
-      met (option_map {U = ℕ × Phase} (λ c. (c.standing.round, c.standing.phase))) (option_map {U = ℕ × Phase} (λ c. (c.round, c.phase))) refl
-      (λ c x is e. ap (λ (z : AnyStanding (Option Value)). let pair : ℕ × Phase = (z.round, z.phase) in Some pair) e)
 
   -- the tests
 
@@ -113,11 +105,11 @@ module _ (s : Setting) (values : List Value) (p : ℕ) (m : Member) (kept : Kept
       ap (λ n. sent_by n (got (open_rounds kept) c).acked a) (h.part c is).members_is
       ∙ ap (λ (t : Ballots (Option Value)). sent_by s.members t.acked a) (own c x e))
 
-  pub action-passes : (a : Move) → passes_rounds kept a ≡ (is_enter a && option_map_or (λ x. nat_lt 10000 (x.round + 1)) m.current false)
+  pub action-passes : (a : Move) → passes_rounds kept a ≡ (is_enter a && option_map_or (λ x. nat_lt MAX_ROUNDS (x.round + 1)) m.current false)
   action-passes a =
       ap (λ b. is_enter a && b)
-      (met (λ o. option_map_or (λ c. nat_lt 10000 (c.standing.round + 1)) o false) (λ u. option_map_or (λ x. nat_lt 10000 (x.round + 1)) u false) refl
-      (λ c x is e. ap (λ (z : AnyStanding (Option Value)). nat_lt 10000 (z.round + 1)) e))
+      (met (λ o. option_map_or (λ c. nat_lt MAX_ROUNDS (c.standing.round + 1)) o false) (λ u. option_map_or (λ x. nat_lt MAX_ROUNDS (x.round + 1)) u false) refl
+      (λ c x is e. ap (λ (z : AnyStanding (Option Value)). nat_lt MAX_ROUNDS (z.round + 1)) e))
 
   -- the turns
 

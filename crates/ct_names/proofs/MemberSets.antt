@@ -8,6 +8,7 @@ use Rattle.std.proofs.lemmas.List.Sums.{length-filter}
 use Rattle.std.proofs.lemmas.Nat.{or_lt}
 use Rattle.std.proofs.lemmas.Nat.Bits.{shr_and_one, bit_at_set_same, bit_at_set_other}
 use Rattle.std.proofs.lemmas.Simd.{ones-mask_l, mask_l-lt}
+use Rattle.ct_names.specs.declared.limit.TheConstants.{MAX_MEMBERS}
 use lib.Lanes.{mask_l}
 use Rattle.ct_names.specs.Group.{counting, members, everyone, IsMember}
 use Rattle.ct_names.specs.MemberSet.{has_member, with_member, has_bit, members_of, number_of, bits_of}
@@ -51,16 +52,16 @@ has_member-kept test xs p false is i =
 pub has_member-filter : (test : ℕ → Bool) (p : ℕ) → IsIn p everyone → has_member (filter test everyone) p ≡ test p
 has_member-filter test p i = has_member-kept test everyone p (test p) refl i
 
-pub in-everyone : (p : ℕ) → IsMember 16 p → IsIn p everyone
+pub in-everyone : (p : ℕ) → IsMember MAX_MEMBERS p → IsIn p everyone
 unfolding members
 in-everyone p h = in-counting 1 16 p h.0 (omega (arith, h.1))
 
-pub everyone-in : (p : ℕ) → IsIn p everyone → IsMember 16 p
+pub everyone-in : (p : ℕ) → IsIn p everyone → IsMember MAX_MEMBERS p
 unfolding members
 everyone-in p i = let r = counting-range 1 16 p i in (r.0, omega (arith, r.1))
 
 -- no set has other members
-pub has_member-outside : (test : ℕ → Bool) (p : ℕ) → (IsMember 16 p → ⊥) → has_member (filter test everyone) p ≡ false
+pub has_member-outside : (test : ℕ → Bool) (p : ℕ) → (IsMember MAX_MEMBERS p → ⊥) → has_member (filter test everyone) p ≡ false
 has_member-outside test p out =
     has_member-out (filter test everyone) p (λ i. out (everyone-in p (Lists.IsIn-filter_from test p everyone i)))
 
@@ -123,7 +124,7 @@ length-members_of bits back =
     ∙ (ones-mask_l (has_bit bits) everyone ∙ sym (length-filter (has_bit bits) everyone))
 
 -- a member's bit is set
-has_bit-set : (bits one p : ℕ) → IsMember 16 one → 1 ≤ p → has_bit (bit_or bits (1 * 2 ^ (one - 1) % 65536)) p ≡ ((p == one) || has_bit bits p)
+has_bit-set : (bits one p : ℕ) → IsMember MAX_MEMBERS one → 1 ≤ p → has_bit (bit_or bits (1 * 2 ^ (one - 1) % 65536)) p ≡ ((p == one) || has_bit bits p)
 has_bit-set bits one p h from_one = elim (Lists.true_or_false (p == one)) [
   | inl is ↦
       let e : p ≡ one = eqb-true p one is in
@@ -137,7 +138,7 @@ has_bit-set bits one p h from_one = elim (Lists.true_or_false (p == one)) [
       ap (λ z. z == 1) kept ∙ sym (ap (λ b. b || has_bit bits p) is)
 ]
 
-pub members_of-insert : (bits one : ℕ) → IsMember 16 one → members_of (bit_or bits (1 * 2 ^ (one - 1) % 65536)) ≡ with_member (members_of bits) one
+pub members_of-insert : (bits one : ℕ) → IsMember MAX_MEMBERS one → members_of (bit_or bits (1 * 2 ^ (one - 1) % 65536)) ≡ with_member (members_of bits) one
 members_of-insert bits one h =
     filter-agree (has_bit (bit_or bits (1 * 2 ^ (one - 1) % 65536))) (λ p. (p == one) || has_bit bits p) everyone (λ p i. has_bit-set bits one p h (everyone-in p i).0)
     ∙ sym (with_member-filter (has_bit bits) one)
@@ -155,12 +156,12 @@ members_of-zero = nothing everyone
     nothing (x ∷ xs) = ap (λ n. cond ((n % 2) == 1) (x ∷ filter (has_bit 0) xs) (filter (has_bit 0) xs)) (zero-div (2 ^ (x - 1))) ∙ nothing xs
 
 -- what the set has is what its bits say
-pub has_member-bit : (bits one : ℕ) (set : List ℕ) → members_of bits ≡ set → IsMember 16 one → (bit_and (bits / 2 ^ (one - 1)) 1 == 1) ≡ has_member set one
+pub has_member-bit : (bits one : ℕ) (set : List ℕ) → members_of bits ≡ set → IsMember MAX_MEMBERS one → (bit_and (bits / 2 ^ (one - 1)) 1 == 1) ≡ has_member set one
 has_member-bit bits one set is h =
     ap (λ z. z == 1) (shr_and_one bits (one - 1))
     ∙ (sym (has_member-filter (has_bit bits) one (in-everyone one h)) ∙ ap (λ s. has_member s one) is)
 
-pub has_member-none : (bits one : ℕ) (set : List ℕ) → members_of bits ≡ set → (IsMember 16 one → ⊥) → false ≡ has_member set one
+pub has_member-none : (bits one : ℕ) (set : List ℕ) → members_of bits ≡ set → (IsMember MAX_MEMBERS one → ⊥) → false ≡ has_member set one
 has_member-none bits one set is out = sym (has_member-outside (has_bit bits) one out) ∙ ap (λ s. has_member s one) is
 
 pub rising : (bits : ℕ) (set : List ℕ) → members_of bits ≡ set → set ≡ filter (has_member set) everyone

@@ -77,9 +77,6 @@ before-trans a b c h k = less-before a c (order_total.trans a b c (before-less a
 pub before-other : (a b : Message) → is_before a b ≡ true → is_message a b ≡ false
 before-other a b h = message-order a b ∙ ap is_eq (before-less a b h)
 
-pub after-other : (a b : Message) → is_before a b ≡ true → is_message b a ≡ false
-after-other a b h = message-order b a ∙ ap is_eq (order_total.antisymm b a ∙ ap ordering_reverse (before-less a b h))
-
 pub before-not_after : (a b : Message) → is_before a b ≡ true → is_before b a ≡ false
 before-not_after a b h = before-order b a ∙ ap is_lt (order_total.antisymm b a ∙ ap ordering_reverse (before-less a b h))
 

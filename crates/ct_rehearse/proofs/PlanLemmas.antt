@@ -2,6 +2,7 @@
 use Rattle.std.proofs.Common.{◌≡◌, ◌+◌, ◌*◌, ◌^◌, ◌<◌, ◌≤◌, ℕ, arith, length, vec_len}
 use Rattle.std.proofs.Math.Nat.{mul-le-mul_left}
 use Rattle.std.proofs.lemmas.List.Sums.{sum_by-le}
+use Rattle.ct_names.specs.declared.limit.TheConstants.{MAX_MEMBERS, MAX_STEPS}
 use Rattle.ct_rehearse.specs.declared.plan.Plan.{Plan}
 use Rattle.ct_rehearse.specs.Plans.{entries, turns_planned, IsWithin}
 
@@ -13,7 +14,7 @@ entries_few plan within =
     omega (arith, all, same, within.scripts)
 
 -- a world's steps, and the turns of its group of at most 16
-pub run_fits : (n steps : ℕ) (plan : Plan) → n ≤ 16 → steps ≤ 1000000 → IsWithin plan → steps + turns_planned n plan < 2 ^ 64
+pub run_fits : (n steps : ℕ) (plan : Plan) → n ≤ MAX_MEMBERS → steps ≤ MAX_STEPS → IsWithin plan → steps + turns_planned n plan < 2 ^ 64
 run_fits n steps plan few short within =
     let scripts = entries_few plan within in
     let turns : n * plan.turns ≤ n * 100000 = mul-le-mul_left n within.turns in

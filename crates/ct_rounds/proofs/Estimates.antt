@@ -4,6 +4,7 @@ use Rattle.std.specs.Prelude.{◌==◌, ◌||◌, nat_lt}
 use Rattle.std.specs.Option.{option_map_or}
 use Rattle.std.proofs.lemmas.Bool.{eqb-false}
 use Rattle.std.proofs.lemmas.Bool.Decides.{nat_tests}
+use Rattle.ct_names.specs.declared.limit.TheConstants.{MAX_MEMBERS}
 use Rattle.ct_names.specs.Group.{IsMember}
 use Rattle.ct_names.specs.MemberSet.{has_member, with_member}
 use Rattle.ct_model.specs.Counted.{with_estimate}
@@ -83,11 +84,11 @@ came arr p e (q ∷ heard) room absent = by (came arr p e heard room) (nat_lt p 
 pub heard-again : (arr : List Estimate) (p : ℕ) (e : Estimate) (heard : List ℕ) → IsSet heard → has_member heard p ≡ true → with_estimate (heard_as p e) (map (heard_at arr) heard) ≡ map (heard_at arr) heard
 heard-again arr p e heard is there = kept arr (heard_as p e) 1 heard (rises-set heard is) there
 
-pub heard-first : (arr : List Estimate) (p : ℕ) (e : Estimate) (heard : List ℕ) → IsSet heard → IsMember 16 p → p < length arr → has_member heard p ≡ false
+pub heard-first : (arr : List Estimate) (p : ℕ) (e : Estimate) (heard : List ℕ) → IsSet heard → IsMember MAX_MEMBERS p → p < length arr → has_member heard p ≡ false
     → map (heard_at (set arr p e)) (with_member heard p) ≡ with_estimate (heard_as p e) (map (heard_at arr) heard)
 heard-first arr p e heard is member room absent = ap (map (heard_at (set arr p e))) (same-insert heard p is member) ∙ sym (came arr p e heard room absent)
 
-pub best-more : (arr : List Estimate) (p : ℕ) (e : Estimate) (heard acked replied : List ℕ) (best : Option Best) → IsTally heard arr acked replied best → IsMember 16 p → p < length arr → has_member heard p ≡ false
+pub best-more : (arr : List Estimate) (p : ℕ) (e : Estimate) (heard acked replied : List ℕ) (best : Option Best) → IsTally heard arr acked replied best → IsMember MAX_MEMBERS p → p < length arr → has_member heard p ≡ false
     → IsTally (with_member heard p) (set arr p e) acked replied (Some (better best (record { member = p; ts = e.ts })))
 best-more arr p e heard acked replied best is member room absent =
     let new : Heard ℕ = heard_as p e in

@@ -2,6 +2,7 @@
 use Rattle.std.proofs.Common.{◌≡◌, ℕ, zero, suc, ◌+◌, ◌≤◌, ◌<◌, Bool, true, false, cond, List, [], ◌∷◌, filter, refl, sym, ap, ◌∙◌, arith, eqb-true}
 use Rattle.std.specs.Prelude.{◌==◌, ◌||◌, nat_lt, if◌then◌else◌}
 use Rattle.std.proofs.lemmas.Bool.Decides.{nat_tests}
+use Rattle.ct_names.specs.declared.limit.TheConstants.{MAX_MEMBERS}
 use Rattle.ct_names.specs.Group.{counting, members, everyone, IsMember}
 use Rattle.ct_names.specs.MemberSet.{has_member, with_member}
 use Rattle.ct_names.proofs.Lists
@@ -46,7 +47,7 @@ pub rises-set : (set : List ℕ) → IsSet set → Rises 1 set
 rises-set set is = along (λ z. Rises 1 z) set (filter (has_member set) everyone) is (rises-everyone (has_member set))
 
 -- a member of a set is 1 to 16
-pub within-set : (set : List ℕ) (p : ℕ) → IsSet set → has_member set p ≡ true → IsMember 16 p
+pub within-set : (set : List ℕ) (p : ℕ) → IsSet set → has_member set p ≡ true → IsMember MAX_MEMBERS p
 within-set set p is h =
     everyone-in p (Lists.IsIn-filter_from (has_member set) p everyone (in-has_member (filter (has_member set) everyone) p (ap (λ z. has_member z p) (sym is) ∙ h)))
 
@@ -123,11 +124,11 @@ swapped set p = filter-agree (λ q. (q == p) || has_member set q) (λ q. has_mem
     by false true = refl
     by false false = refl
 
-placed : (f : ℕ → Bool) (p : ℕ) → IsMember 16 p → inserted p (filter f everyone) ≡ filter (λ q. f q || (q == p)) everyone
+placed : (f : ℕ → Bool) (p : ℕ) → IsMember MAX_MEMBERS p → inserted p (filter f everyone) ≡ filter (λ q. f q || (q == p)) everyone
 unfolding members
 placed f p h = inserted-filter p f 1 16 h.0 (let high = h.1 in omega arith)
 
-pub same-insert : (set : List ℕ) (p : ℕ) → IsSet set → IsMember 16 p → with_member set p ≡ inserted p set
+pub same-insert : (set : List ℕ) (p : ℕ) → IsSet set → IsMember MAX_MEMBERS p → with_member set p ≡ inserted p set
 same-insert set p is h =
     swapped set p ∙ (sym (placed (has_member set) p h) ∙ ap (inserted p) (sym is))
 

@@ -3,6 +3,7 @@ use Rattle.std.proofs.Common.{◌≡◌, ℕ, ◌+◌, ◌-◌, ◌<◌, ◌≤�
 use Rattle.std.specs.Prelude.{nat_lt, if◌then◌else◌}
 use Rattle.std.proofs.lemmas.Bool.Decides.{nat_tests}
 use Rattle.std.proofs.lemmas.List.{length-map, map_more, take_all, get_or-map, get_or_read, same_lists}
+use Rattle.ct_names.specs.declared.limit.TheConstants.{MAX_CELLS}
 use Rattle.ct_names.specs.Group.{is_member}
 use Rattle.ct_names.specs.Message.{Message}
 use Rattle.ct_model.specs.State.{Member, member, new_member}
@@ -111,9 +112,9 @@ module _ (w : Rehearsal) (f : Fields) (world : IsWorld w f) where
         ∙ ap (longest []) batches_are
         ∙ longest-map (λ (b : Batch). b.messages) (map (λ (m : Member). m.batches) (state_of w).members) []
 
-    pub foremost-few : length (batches_at f.seats best) ≤ 1024
+    pub foremost-few : length (batches_at f.seats best) ≤ MAX_CELLS
     foremost-few =
         let same : length (batches_at f.seats best) ≡ length (order (state_of w)) = ap length foremost-order ∙ length-map (order (state_of w)) (λ (b : Batch). b.messages) in
         let few : length (order (state_of w)) ≤ w.cells = world.lawful.within.few_batches in
-        let cells : w.cells ≤ 1024 = world.few_cells in
+        let cells : w.cells ≤ MAX_CELLS = world.few_cells in
         omega arith

@@ -1,6 +1,7 @@
 -- A step proposes one value at most, so there are no more values than steps.
 use Rattle.std.proofs.Common.{◌≡◌, ℕ, ◌+◌, ◌≤◌, List, [], ◌∷◌, length, refl, ap, sym, ◌∙◌, subst, arith, Some}
 use Rattle.std.proofs.lemmas.List.{length-append, length-map}
+use Rattle.ct_names.specs.declared.limit.TheConstants.{MAX_STEPS}
 use Rattle.ct_model.specs.declared.step.Step.{Step}
 use Rattle.ct_model.specs.Actor.{actor}
 use Rattle.ct_model.specs.Setting.{Setting}
@@ -59,7 +60,7 @@ few-proposals s steps h e =
     let none = first-number s in
     omega arith
 
-pub few-values : (w : Rehearsal) → IsLawful w → length (values_of (state_of w)) ≤ 1000000
+pub few-values : (w : Rehearsal) → IsLawful w → length (values_of (state_of w)) ≤ MAX_STEPS
 few-values w law =
     let number : length (values_of (state_of w)) ≡ length (state_of w).proposals = length-map (state_of w).proposals (λ (x : Proposal). x.value) in
     let all = few-proposals w.setting w.steps (state_of w) law.runs in

@@ -2,6 +2,7 @@
 use Rattle.std.proofs.Common.{◌≡◌, ℕ, ◌+◌, ◌-◌, ◌≤◌, ◌<◌, Bool, true, false, not, List, [], ◌∷◌, ◌++◌, length, set, refl, ap, sym, ◌∙◌, subst, arith, Option, Some, None, option_map, Bor}
 use Rattle.std.specs.Prelude.{option_copied, nat_lt, is_some, map}
 use Rattle.std.proofs.lemmas.Bool.Decides.{nat_tests}
+use Rattle.ct_names.specs.declared.limit.TheConstants.{MAX_INSTANCES}
 use Rattle.ct_names.specs.declared.refusal.Refusal.TheVariants.{Busy, Nothing, Full}
 use Rattle.ct_names.specs.declared.limit.Limit.TheVariants.{Instances}
 use Rattle.ct_names.specs.Value.{Value, minus, ordered}
@@ -92,16 +93,16 @@ module _ (w : Rehearsal) (p : ℕ) (seat : Seat) (a : IsActor w p seat) where
   tested : is_some seat.instances.part ≡ false → nat_lt 0 (length (cast_undelivered seat.caster)) ≡ true → first_fault (own_tests w (Begin p)) ≡ None
   tested e f = tests-by false false (sym open_is ∙ e) (empty_is ∙ ap not f)
 
-  pub begin_full : is_some seat.instances.part ≡ false → nat_lt 0 (length (cast_undelivered seat.caster)) ≡ true → 1024 ≤ seat.instances.last → cause w (Begin p) ≡ Some (Full Instances)
+  pub begin_full : is_some seat.instances.part ≡ false → nat_lt 0 (length (cast_undelivered seat.caster)) ≡ true → MAX_INSTANCES ≤ seat.instances.last → cause w (Begin p) ≡ Some (Full Instances)
   begin_full e f many =
       let last : seat.instances.last ≡ (member (state_of w) p).last = a.sits.keeps.instances.last in
-      let t : nat_lt 1024 ((member (state_of w) p).last + 1) ≡ true = grind (arith, nat_tests) in
+      let t : nat_lt MAX_INSTANCES ((member (state_of w) p).last + 1) ≡ true = grind (arith, nat_tests) in
       cause-begin w p a.lawful a.present (tested e f) ∙ ap (λ b. or_else (first_fault (at (Full Instances) b ∷ [])) (overflow w 0)) t
 
-  pub begin_free : is_some seat.instances.part ≡ false → nat_lt 0 (length (cast_undelivered seat.caster)) ≡ true → seat.instances.last < 1024 → cause w (Begin p) ≡ overflow w 0
+  pub begin_free : is_some seat.instances.part ≡ false → nat_lt 0 (length (cast_undelivered seat.caster)) ≡ true → seat.instances.last < MAX_INSTANCES → cause w (Begin p) ≡ overflow w 0
   begin_free e f few =
       let last : seat.instances.last ≡ (member (state_of w) p).last = a.sits.keeps.instances.last in
-      let t : nat_lt 1024 ((member (state_of w) p).last + 1) ≡ false = grind (arith, nat_tests) in
+      let t : nat_lt MAX_INSTANCES ((member (state_of w) p).last + 1) ≡ false = grind (arith, nat_tests) in
       cause-begin w p a.lawful a.present (tested e f) ∙ ap (λ b. or_else (first_fault (at (Full Instances) b ∷ [])) (overflow w 0)) t
 
 none_more : (k p : ℕ) → k ≡ k + submissions [] p
@@ -140,8 +141,8 @@ begin_steps w p f new ready seats sent lines values =
 -- no instance is open at the seat, and fewer than 1,024 began
 pub record CanBegin (w : Rehearsal) (p : ℕ) (seat : Seat) : Type 0 where
   pub idle : seat.instances.part ≡ None
-  pub few : seat.instances.last < 1024
-  pub few_begun : seat.caster.instance < 1024
+  pub few : seat.instances.last < MAX_INSTANCES
+  pub few_begun : seat.caster.instance < MAX_INSTANCES
 
 nothing-some : {A : Type 0} (o : Option A) → is_some o ≡ false → o ≡ None
 nothing-some None e = refl
@@ -173,7 +174,7 @@ begin_room seats p seat v new within set_is value entry room =
     }
 
 -- fewer than 1,024 instances began where a Begin is allowed
-pub low_last : (w : Rehearsal) (p : ℕ) (f : Fields) (s : Seat) → IsAllowed w (Begin p) f → s ≡ seat_of f.seats p → s.instances.last ≤ 1024
+pub low_last : (w : Rehearsal) (p : ℕ) (f : Fields) (s : Seat) → IsAllowed w (Begin p) f → s ≡ seat_of f.seats p → s.instances.last ≤ MAX_INSTANCES
 low_last w p f s a here =
     let last : s.instances.last ≡ (member (state_of w) p).last = ap (λ (x : Seat). x.instances.last) here ∙ (a.world.seat p a.in_group).instances.last in
     let few = a.world.lawful.within.few_instances p in

@@ -82,9 +82,6 @@ first-push ids name other = ap not (list_any-append (is_id other) ids (name ∷ 
     de_morgan false true = refl
     de_morgan false false = refl
 
-number-swap : (a b : ℕ) → (a == b) ≡ (b == a)
-number-swap a b = grind (arith, nat_tests)
-
 -- names that are alike have the same place
 alike : (name other : RelayId) → is_id other name ≡ true → other ≡ name
 alike (id.Data o n) (id.Data x y) e =

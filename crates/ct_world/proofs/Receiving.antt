@@ -4,6 +4,7 @@ use Rattle.std.specs.Prelude.{◌==◌, if◌then◌else◌, is_some}
 use Rattle.std.proofs.lemmas.List.{length-set, get_or-set_same, get_or-set_other}
 use Rattle.std.proofs.lemmas.Bool.{cases_eq}
 use Rattle.std.proofs.lemmas.List.Elements.{filter_agree}
+use Rattle.ct_names.specs.declared.limit.TheConstants.{MAX_ENVELOPES}
 use Rattle.ct_names.specs.Group.{is_member}
 use Rattle.ct_model.specs.declared.step.Step.TheVariants.{Receive}
 use Rattle.ct_model.specs.Cause.{cause, overflow}
@@ -93,7 +94,7 @@ module _ (w : Rehearsal) (p k : ℕ) (f : Fields) (x : AnyEnvelope ℕ) (ready :
       sym (named_length f.book.values (envelopes w.setting.members mail) (envelopes w.setting.members mo) (named_posts f.book.values w.setting.members mail mo (named_mail mail is)))
       ∙ ap (λ j. length (envelopes j mail)) (sym members)
 
-  pub few_posted : (mail : AnyMail ℕ) (n : ℕ) (sent : List (AnyEnvelope ℕ)) → mail ≡ passed_on w.setting.members (seat_of f.seats p).relay x.wire → n ≡ w.setting.members → sent ≡ f.network.sent → length sent + length (envelopes n mail) ≤ 1000000
+  pub few_posted : (mail : AnyMail ℕ) (n : ℕ) (sent : List (AnyEnvelope ℕ)) → mail ≡ passed_on w.setting.members (seat_of f.seats p).relay x.wire → n ≡ w.setting.members → sent ≡ f.network.sent → length sent + length (envelopes n mail) ≤ MAX_ENVELOPES
   few_posted mail n sent is members same =
       let few = received_taken.within.few_envelopes in
       let all = length-after-sent w.setting (state_of w) p (receive_outcome w p a.envelope.wire) in

@@ -1,6 +1,7 @@
 -- A world without steps.
 use Rattle.std.proofs.Common.{◌≡◌, ℕ, ◌+◌, ◌-◌, ◌≤◌, true, List, [], length, replicate, refl, ap, sym, ◌∙◌, subst, arith}
 use Rattle.std.proofs.lemmas.List.{length-replicate, get_or-replicate}
+use Rattle.ct_names.specs.declared.limit.TheConstants.{MAX_CELLS, MAX_MEMBERS}
 use Rattle.ct_names.specs.Group.{is_member}
 use Rattle.ct_names.specs.Value.{Value}
 use Rattle.ct_model.specs.declared.step.Step.{Step}
@@ -48,7 +49,7 @@ module _ (n cells : ℕ) (f : Fields) (new : AreNewSeats n n f.seats) where
       subst (λ q. content (seat_of f.seats p) ≡ content (new_seat n q)) at (new.each (p - 1) no_seat (place n p group))
 
   -- nothing sent, nothing proposed and new seats are the world of a record without steps
-  pub world-empty : n ≤ 16 → cells ≤ 1024 → f.network.sent ≡ [] → f.network.lines ≡ replicate n [] → f.book.values ≡ [] → IsWorld (record { setting = record { members = n }; cells = cells; steps = [] }) f
+  pub world-empty : n ≤ MAX_MEMBERS → cells ≤ MAX_CELLS → f.network.sent ≡ [] → f.network.lines ≡ replicate n [] → f.book.values ≡ [] → IsWorld (record { setting = record { members = n }; cells = cells; steps = [] }) f
   unfolding s
   world-empty small few sent lines values = record {
     lawful = lawful-first (record { members = n }) cells;
@@ -66,6 +67,6 @@ module _ (n cells : ℕ) (f : Fields) (new : AreNewSeats n n f.seats) where
   }
 
 -- the same where the steps are known to be none
-pub world-first : (n cells : ℕ) (steps : List Step) (f : Fields) → n ≤ 16 → cells ≤ 1024 → steps ≡ [] → f.network.sent ≡ [] → f.network.lines ≡ replicate n [] → f.book.values ≡ [] → AreNewSeats n n f.seats → IsWorld (record { setting = record { members = n }; cells = cells; steps = steps }) f
+pub world-first : (n cells : ℕ) (steps : List Step) (f : Fields) → n ≤ MAX_MEMBERS → cells ≤ MAX_CELLS → steps ≡ [] → f.network.sent ≡ [] → f.network.lines ≡ replicate n [] → f.book.values ≡ [] → AreNewSeats n n f.seats → IsWorld (record { setting = record { members = n }; cells = cells; steps = steps }) f
 world-first n cells steps f small few none sent lines values new =
     subst (λ ss. IsWorld (record { setting = record { members = n }; cells = cells; steps = ss }) f) (sym none) (world-empty n cells f new small few sent lines values)

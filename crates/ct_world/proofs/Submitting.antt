@@ -1,6 +1,7 @@
 -- Submit: the message that goes to all, and the seat after it.
 use Rattle.std.proofs.Common.{◌≡◌, ℕ, ◌+◌, ◌-◌, ◌≤◌, true, List, [], ◌∷◌, length, set, refl, ap, sym, ◌∙◌, subst, arith, append-nil, Option, Some, None}
 use Rattle.std.specs.Prelude.{if◌then◌else◌, IsSome}
+use Rattle.ct_names.specs.declared.limit.TheConstants.{MAX_ENVELOPES}
 use Rattle.ct_names.specs.declared.command.Command.{Command}
 use Rattle.ct_names.specs.Command.{is_good}
 use Rattle.ct_names.specs.Message.{Message}
@@ -54,7 +55,7 @@ pub submit_number : (w : Rehearsal) (p : ℕ) (c : Command) → length (envelope
 submit_number w p c = rw (submit_outcome-is w p c) (length-all w.setting.members (Data (next_message (state_of w).submitted p c)))
 
 -- the mail fits
-pub submit_few : (w : Rehearsal) (p : ℕ) (c : Command) (f : Fields) (x : AnyWire ℕ) → IsPrepared w (Submit p c) f → length f.network.sent + length (envelopes (length f.network.lines) (All x)) ≤ 1000000
+pub submit_few : (w : Rehearsal) (p : ℕ) (c : Command) (f : Fields) (x : AnyWire ℕ) → IsPrepared w (Submit p c) f → length f.network.sent + length (envelopes (length f.network.lines) (All x)) ≤ MAX_ENVELOPES
 submit_few w p c f x ready =
     let taken = (submit_taken w p c ready.world.lawful ready.ready.allowed).taken in
     let few = taken.within.few_envelopes in

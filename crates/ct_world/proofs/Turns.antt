@@ -2,6 +2,7 @@
 use Rattle.std.proofs.Common.{◌≡◌, ℕ, ◌+◌, ◌-◌, ◌<◌, ◌≤◌, true, List, [], length, set, refl, ap, sym, ◌∙◌, subst, append-nil, arith, Option, Some}
 use Rattle.std.specs.Prelude.{nat_le}
 use Rattle.std.proofs.lemmas.Bool.Decides.{nat_tests}
+use Rattle.ct_names.specs.declared.limit.TheConstants.{MAX_ENVELOPES}
 use Rattle.ct_names.specs.Group.{is_member, IsMember}
 use Rattle.ct_names.specs.Value.{Value}
 use Rattle.ct_model.specs.declared.step.Step.{Step}
@@ -89,7 +90,7 @@ module _ (w : Rehearsal) (step : Step) (f : Fields) (kept : Kept) (mail : AnyMai
       (named_addressed f.book.values w.setting.members mail t.turn.mail t.named
       (λ to x e. addressed-step w.setting (state_of w) (actor step) (member (state_of w) (actor step)) step (turned (member (state_of w) (actor step)) t.turn) to x some t.taken.row e))
 
-  pub turn_few : length f.network.sent + length (envelopes (length f.network.lines) mail) ≤ 1000000
+  pub turn_few : length f.network.sent + length (envelopes (length f.network.lines) mail) ≤ MAX_ENVELOPES
   turn_few =
       let few = t.taken.within.few_envelopes in
       let grown = length-after-sent w.setting (state_of w) (actor step) (turned (member (state_of w) (actor step)) t.turn) in

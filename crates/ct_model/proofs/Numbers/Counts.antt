@@ -7,6 +7,7 @@ use Rattle.std.proofs.lemmas.Bool.Decides.{nat_tests}
 use Rattle.std.proofs.lemmas.List.{append-nil}
 use Rattle.std.proofs.lemmas.List.Elements.{filter_map-append, filter_agree}
 use Rattle.std.proofs.lemmas.List.Folds.{list_any-append, find-append}
+use Rattle.ct_names.specs.declared.limit.TheConstants.{MAX_MEMBERS}
 use Rattle.ct_names.specs.Group.{members, everyone, counting, IsMember}
 use Rattle.ct_names.specs.MemberSet.{with_member}
 use Rattle.ct_names.proofs.MemberSets.{with_member-filter}
@@ -99,7 +100,7 @@ module _ {V : Type 0} (e : Heard V) where
 
 -- the parts of the ballots
 
-set-push : {V : Type 0} (t : ℕ → Wire V → Bool) (got : List (Wire V)) (w : Wire V) (b : Bool) (p : ℕ) → IsMember 16 p → ((q : ℕ) → t q w ≡ (b && (p == q))) → filter (λ q. list_any (t q) (got ++ w ∷ [])) everyone ≡ (if b then with_member (filter (λ q. list_any (t q) got) everyone) p else filter (λ q. list_any (t q) got) everyone)
+set-push : {V : Type 0} (t : ℕ → Wire V → Bool) (got : List (Wire V)) (w : Wire V) (b : Bool) (p : ℕ) → IsMember MAX_MEMBERS p → ((q : ℕ) → t q w ≡ (b && (p == q))) → filter (λ q. list_any (t q) (got ++ w ∷ [])) everyone ≡ (if b then with_member (filter (λ q. list_any (t q) got) everyone) p else filter (λ q. list_any (t q) got) everyone)
 set-push t got w b p m same = go b same
   where
     one : (q : ℕ) → list_any (t q) (got ++ w ∷ []) ≡ (list_any (t q) got || t q w)
@@ -129,7 +130,7 @@ joined_estimates (Some e) es = with_estimate e es
 
 abbrev IsFromEveryone : {V : Type 0} → Option (Heard V) → Type 0
 IsFromEveryone None = Unit {0}
-IsFromEveryone (Some e) = IsMember 16 e.member
+IsFromEveryone (Some e) = IsMember MAX_MEMBERS e.member
 
 estimates-push : {V : Type 0} (got : List (Wire V)) (k r : ℕ) (w : Wire V) (o : Option (Heard V)) → estimate_of k r w ≡ o → IsFromEveryone o → filter_map (heard_from (got ++ w ∷ []) k r) everyone ≡ joined_estimates o (filter_map (heard_from got k r) everyone)
 estimates-push {V} got k r w o is from = ap (λ es. filter_map (λ p. find (λ e. e.member == p) es) everyone) more ∙ go o from
@@ -164,7 +165,7 @@ record IsCounted {V : Type 0} (k r : ℕ) (w : Wire V) (e : Option (Heard V)) (v
   estimate : estimate_of k r w ≡ e
   from : IsFromEveryone e
   proposal : proposal_of k r w ≡ v
-  member : IsMember 16 p
+  member : IsMember MAX_MEMBERS p
   ack : (q : ℕ) → is_ack k r q w ≡ (acks && (p == q))
   reply : (q : ℕ) → is_reply k r q w ≡ (replies && (p == q))
 
@@ -190,7 +191,7 @@ or_nothing : {A : Type 0} (o : Option A) → option_or o None ≡ o
 or_nothing None = refl
 or_nothing (Some x) = refl
 
-someone : IsMember 16 1
+someone : IsMember MAX_MEMBERS 1
 someone = (omega arith, omega arith)
 
 -- a wire that counts for nothing
@@ -204,7 +205,7 @@ module _ {V : Type 0} (got : List (Wire V)) (k r j s : ℕ) where
   abbrev is_here : Bool
   is_here = (j == k) && (s == r)
 
-  push-est : (p : ℕ) (v : V) (ts : ℕ) → IsMember 16 p → (b : Bool) → is_here ≡ b → ballots (got ++ Est j s p v ts ∷ []) k r ≡ (if b then count_estimate (record { member = p; value = v; ts = ts }) (ballots got k r) else ballots got k r)
+  push-est : (p : ℕ) (v : V) (ts : ℕ) → IsMember MAX_MEMBERS p → (b : Bool) → is_here ≡ b → ballots (got ++ Est j s p v ts ∷ []) k r ≡ (if b then count_estimate (record { member = p; value = v; ts = ts }) (ballots got k r) else ballots got k r)
   push-est p v ts m true is =
       let e : Heard V = record { member = p; value = v; ts = ts } in
       let t = ballots got k r in
@@ -224,7 +225,7 @@ module _ {V : Type 0} (got : List (Wire V)) (k r j s : ℕ) where
       silent got k r (Prop j s v)
       (record { estimate = refl; from = tt; proposal = ap (λ b. if b then Some v else None) is; member = someone; ack = λ q. refl; reply = λ q. refl })
 
-  push-ack : (p : ℕ) → IsMember 16 p → (b : Bool) → is_here ≡ b → ballots (got ++ Ack j s p ∷ []) k r ≡ (if b then count_ack p (ballots got k r) else ballots got k r)
+  push-ack : (p : ℕ) → IsMember MAX_MEMBERS p → (b : Bool) → is_here ≡ b → ballots (got ++ Ack j s p ∷ []) k r ≡ (if b then count_ack p (ballots got k r) else ballots got k r)
   push-ack p m true is =
       let t = ballots got k r in
       ballots-counted got k r (Ack j s p) None None p true true
@@ -234,7 +235,7 @@ module _ {V : Type 0} (got : List (Wire V)) (k r j s : ℕ) where
       silent got k r (Ack j s p)
       (record { estimate = refl; from = tt; proposal = refl; member = someone; ack = λ q. ap (λ b. b && (p == q)) is; reply = λ q. ap (λ b. b && (p == q)) is })
 
-  push-nack : (p : ℕ) → IsMember 16 p → (b : Bool) → is_here ≡ b → ballots (got ++ Nack j s p ∷ []) k r ≡ (if b then count_nack p (ballots got k r) else ballots got k r)
+  push-nack : (p : ℕ) → IsMember MAX_MEMBERS p → (b : Bool) → is_here ≡ b → ballots (got ++ Nack j s p ∷ []) k r ≡ (if b then count_nack p (ballots got k r) else ballots got k r)
   push-nack p m true is =
       let t = ballots got k r in
       ballots-counted got k r (Nack j s p) None None p false true

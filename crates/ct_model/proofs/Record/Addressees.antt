@@ -1,5 +1,6 @@
 -- Who is named is a member: the sender that a wire names, and the one to whom a step sends one envelope.
 use Rattle.std.proofs.Common.{◌≡◌, ℕ, ◌≤◌, ◌<◌, List, [], ◌∷◌, Some, sym, subst, inl, inr, arith}
+use Rattle.ct_names.specs.declared.limit.TheConstants.{MAX_MEMBERS}
 use Rattle.ct_names.specs.Group.{IsMember}
 use Rattle.ct_names.specs.Membership.{IsIn}
 use Rattle.ct_model.specs.declared.step.Step.{Step}
@@ -82,12 +83,12 @@ pub named : (s : Setting) (steps : List Step) (g : State) → run s steps ≡ So
 unfolding run
 named s steps g e w sent = named-run_from s (first_state s) g steps e (named-first s) w sent
 
-names_somebody : (n : ℕ) (w : Wire) → n ≤ 16 → NamesMember n w → NamesSomebody w
+names_somebody : (n : ℕ) (w : Wire) → n ≤ MAX_MEMBERS → NamesMember n w → NamesSomebody w
 names_somebody n (Est k r p v t) few h = let high : p ≤ n = h.1 in (h.0, omega arith)
 names_somebody n (Ack k r p) few h = let high : p ≤ n = h.1 in (h.0, omega arith)
 names_somebody n (Nack k r p) few h = let high : p ≤ n = h.1 in (h.0, omega arith)
 names_somebody n _ few h = tt
 
 -- in a group of at most 16 it names one of everyone
-pub sender_named : (s : Setting) (steps : List Step) (g : State) → s.members ≤ 16 → run s steps ≡ Some g → (w : Wire) → IsIn w (wires g) → NamesSomebody w
+pub sender_named : (s : Setting) (steps : List Step) (g : State) → s.members ≤ MAX_MEMBERS → run s steps ≡ Some g → (w : Wire) → IsIn w (wires g) → NamesSomebody w
 sender_named s steps g few e w sent = names_somebody s.members w few (named s steps g e w sent)

@@ -2,6 +2,7 @@
 use Rattle.std.proofs.Common.{◌≡◌, ℕ, ◌+◌, Bool, true, false, not, [], ◌∷◌, length, refl, ap, sym, ◌∙◌, subst, Option, Some, None}
 use Rattle.std.specs.Prelude.{is_some, is_none, option_and_then}
 use Rattle.std.specs.Option.{option_map_or}
+use Rattle.ct_names.specs.declared.limit.TheConstants.{MAX_ENVELOPES, MAX_INSTANCES, MAX_ROUNDS, MAX_STEPS, MAX_SUBMISSIONS}
 use Rattle.ct_names.specs.declared.refusal.Refusal.{Refusal}
 use Rattle.ct_names.specs.declared.refusal.Refusal.TheVariants.{NotWaiting, Busy, Nothing, WrongPhase, TooFew, NotLargest, NoProposal, HasProposal, Decided, Undecided, BadCommand}
 use Rattle.ct_names.specs.Value.{Value}
@@ -149,12 +150,12 @@ row-free w (Postpone p k) o is names = ap first_fault (own_tests-is w (Postpone 
 within-free : (cells steps : ℕ) (g : State) (p : ℕ) → IsWithin cells g steps → first_fault (limits cells steps g p) ≡ None
 within-free cells steps g p within =
     rw (
-      low 65535 (submissions g.submitted p) (within.few_submissions p),
-      low 1024 (member g p).last (within.few_instances p),
-      low 10000 (round_of (member g p)) (within.few_rounds p),
-      low 1000000 (length g.sent) within.few_envelopes,
+      low MAX_SUBMISSIONS (submissions g.submitted p) (within.few_submissions p),
+      low MAX_INSTANCES (member g p).last (within.few_instances p),
+      low MAX_ROUNDS (round_of (member g p)) (within.few_rounds p),
+      low MAX_ENVELOPES (length g.sent) within.few_envelopes,
       low cells (length (order g)) within.few_batches,
-      low 1000000 steps within.few_steps,
+      low MAX_STEPS steps within.few_steps,
     ) refl
 
 limit-free : (w : Rehearsal) (step : Step) (h : State) → next w.setting (state_of w) step ≡ Some h → IsWithin w.cells h (length w.steps + 1) → limit w step ≡ None

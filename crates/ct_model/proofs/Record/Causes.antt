@@ -2,6 +2,7 @@
 use Rattle.std.proofs.Common.{◌≡◌, ℕ, ◌+◌, ◌≤◌, ◌<◌, Bool, true, false, not, List, [], ◌∷◌, length, refl, ap, sym, ◌∙◌, arith, Option, Some, None}
 use Rattle.std.specs.Prelude.{nat_lt, if◌then◌else◌}
 use Rattle.std.proofs.lemmas.Bool.Decides.{nat_tests}
+use Rattle.ct_names.specs.declared.limit.TheConstants.{MAX_ENVELOPES, MAX_STEPS}
 use Rattle.ct_names.specs.Group.{is_member}
 use Rattle.ct_names.specs.declared.limit.Limit.TheVariants.{Envelopes, Steps}
 use Rattle.ct_names.specs.declared.refusal.Refusal.{Refusal}
@@ -73,18 +74,18 @@ high bound k h = grind (arith, nat_tests)
 pub under : (bound k : ℕ) → nat_lt bound k ≡ false → k ≤ bound
 under bound k h = grind (arith, nat_tests)
 
-pub overflow-is : (w : Rehearsal) (more : ℕ) → overflow w more ≡ first_fault (at (Full Envelopes) (nat_lt 1000000 (length (state_of w).sent + more)) ∷ at (Full Steps) (nat_lt 1000000 (length w.steps + 1)) ∷ [])
+pub overflow-is : (w : Rehearsal) (more : ℕ) → overflow w more ≡ first_fault (at (Full Envelopes) (nat_lt MAX_ENVELOPES (length (state_of w).sent + more)) ∷ at (Full Steps) (nat_lt MAX_STEPS (length w.steps + 1)) ∷ [])
 unfolding overflow
 overflow-is w more = refl
 
-pub overflow-sent : (w : Rehearsal) (more : ℕ) → 1000000 < length (state_of w).sent + more → overflow w more ≡ Some (Full Envelopes)
-overflow-sent w more many = overflow-is w more ∙ rw (high 1000000 (length (state_of w).sent + more) many) refl
+pub overflow-sent : (w : Rehearsal) (more : ℕ) → MAX_ENVELOPES < length (state_of w).sent + more → overflow w more ≡ Some (Full Envelopes)
+overflow-sent w more many = overflow-is w more ∙ rw (high MAX_ENVELOPES (length (state_of w).sent + more) many) refl
 
-pub overflow-steps : (w : Rehearsal) (more : ℕ) → length (state_of w).sent + more ≤ 1000000 → 1000000 < length w.steps + 1 → overflow w more ≡ Some (Full Steps)
-overflow-steps w more few many = overflow-is w more ∙ rw (low 1000000 (length (state_of w).sent + more) few, high 1000000 (length w.steps + 1) many) refl
+pub overflow-steps : (w : Rehearsal) (more : ℕ) → length (state_of w).sent + more ≤ MAX_ENVELOPES → MAX_STEPS < length w.steps + 1 → overflow w more ≡ Some (Full Steps)
+overflow-steps w more few many = overflow-is w more ∙ rw (low MAX_ENVELOPES (length (state_of w).sent + more) few, high MAX_STEPS (length w.steps + 1) many) refl
 
-pub overflow-no : (w : Rehearsal) (more : ℕ) → length (state_of w).sent + more ≤ 1000000 → length w.steps + 1 ≤ 1000000 → overflow w more ≡ None
-overflow-no w more few less = overflow-is w more ∙ rw (low 1000000 (length (state_of w).sent + more) few, low 1000000 (length w.steps + 1) less) refl
+pub overflow-no : (w : Rehearsal) (more : ℕ) → length (state_of w).sent + more ≤ MAX_ENVELOPES → length w.steps + 1 ≤ MAX_STEPS → overflow w more ≡ None
+overflow-no w more few less = overflow-is w more ∙ rw (low MAX_ENVELOPES (length (state_of w).sent + more) few, low MAX_STEPS (length w.steps + 1) less) refl
 
 -- what keeps a member from any step is the cause
 pub cause-absent : (w : Rehearsal) (step : Step) (refusal : Refusal) → first_fault (presence w.setting (state_of w) (actor step)) ≡ Some refusal → cause w step ≡ Some refusal

@@ -4,6 +4,7 @@ use Rattle.std.specs.Option.{option_map_or}
 use Rattle.std.specs.Prelude.{nat_lt, ◌==◌, ◌++◌, option_and_then, if◌then◌else◌}
 use Rattle.std.proofs.lemmas.Bool.{cases_eq}
 use Rattle.std.proofs.lemmas.List.{append-nil}
+use Rattle.ct_names.specs.declared.limit.TheConstants.{MAX_ENVELOPES, MAX_INSTANCES, MAX_ROUNDS, MAX_STEPS, MAX_SUBMISSIONS}
 use Rattle.ct_names.specs.declared.limit.Limit.TheVariants.{Submissions, Instances, Rounds, Envelopes, Cells, Steps}
 use Rattle.ct_names.specs.declared.refusal.Refusal.{Refusal}
 use Rattle.ct_names.specs.declared.refusal.Refusal.TheVariants.{NotWaiting, Full}
@@ -79,33 +80,33 @@ row-submits s g p m step o e q other = by_shape s g p m (λ x. submissions x.sub
 
 -- what the limits say of a state and a member where none is passed
 pub record IsUnder (cells steps : ℕ) (g : State) (p : ℕ) : Type 0 where
-  pub few_submissions : submissions g.submitted p ≤ 65535
-  pub few_instances : (member g p).last ≤ 1024
-  pub few_rounds : round_of (member g p) ≤ 10000
-  pub few_envelopes : length g.sent ≤ 1000000
+  pub few_submissions : submissions g.submitted p ≤ MAX_SUBMISSIONS
+  pub few_instances : (member g p).last ≤ MAX_INSTANCES
+  pub few_rounds : round_of (member g p) ≤ MAX_ROUNDS
+  pub few_envelopes : length g.sent ≤ MAX_ENVELOPES
   pub few_batches : length (order g) ≤ cells
-  pub few_steps : steps ≤ 1000000
+  pub few_steps : steps ≤ MAX_STEPS
 
 pub limits-none : (cells steps : ℕ) (g : State) (p : ℕ) → first_fault (limits cells steps g p) ≡ None → IsUnder cells steps g p
 limits-none cells steps g p h =
-    let t6 : List Test = at (Full Steps) (nat_lt 1000000 steps) ∷ [] in
+    let t6 : List Test = at (Full Steps) (nat_lt MAX_STEPS steps) ∷ [] in
     let t5 : List Test = at (Full Cells) (nat_lt cells (length (order g))) ∷ t6 in
-    let t4 : List Test = at (Full Envelopes) (nat_lt 1000000 (length g.sent)) ∷ t5 in
-    let t3 : List Test = at (Full Rounds) (nat_lt 10000 (round_of (member g p))) ∷ t4 in
-    let t2 : List Test = at (Full Instances) (nat_lt 1024 (member g p).last) ∷ t3 in
-    let a = first_fault-none (at (Full Submissions) (nat_lt 65535 (submissions g.submitted p))) t2 h in
-    let b = first_fault-none (at (Full Instances) (nat_lt 1024 (member g p).last)) t3 a.1 in
-    let c = first_fault-none (at (Full Rounds) (nat_lt 10000 (round_of (member g p)))) t4 b.1 in
-    let d = first_fault-none (at (Full Envelopes) (nat_lt 1000000 (length g.sent))) t5 c.1 in
+    let t4 : List Test = at (Full Envelopes) (nat_lt MAX_ENVELOPES (length g.sent)) ∷ t5 in
+    let t3 : List Test = at (Full Rounds) (nat_lt MAX_ROUNDS (round_of (member g p))) ∷ t4 in
+    let t2 : List Test = at (Full Instances) (nat_lt MAX_INSTANCES (member g p).last) ∷ t3 in
+    let a = first_fault-none (at (Full Submissions) (nat_lt MAX_SUBMISSIONS (submissions g.submitted p))) t2 h in
+    let b = first_fault-none (at (Full Instances) (nat_lt MAX_INSTANCES (member g p).last)) t3 a.1 in
+    let c = first_fault-none (at (Full Rounds) (nat_lt MAX_ROUNDS (round_of (member g p)))) t4 b.1 in
+    let d = first_fault-none (at (Full Envelopes) (nat_lt MAX_ENVELOPES (length g.sent))) t5 c.1 in
     let e = first_fault-none (at (Full Cells) (nat_lt cells (length (order g)))) t6 d.1 in
-    let f = first_fault-none (at (Full Steps) (nat_lt 1000000 steps)) [] e.1 in
+    let f = first_fault-none (at (Full Steps) (nat_lt MAX_STEPS steps)) [] e.1 in
     record {
-      few_submissions = under 65535 (submissions g.submitted p) a.0;
-      few_instances = under 1024 (member g p).last b.0;
-      few_rounds = under 10000 (round_of (member g p)) c.0;
-      few_envelopes = under 1000000 (length g.sent) d.0;
+      few_submissions = under MAX_SUBMISSIONS (submissions g.submitted p) a.0;
+      few_instances = under MAX_INSTANCES (member g p).last b.0;
+      few_rounds = under MAX_ROUNDS (round_of (member g p)) c.0;
+      few_envelopes = under MAX_ENVELOPES (length g.sent) d.0;
       few_batches = under cells (length (order g)) e.0;
-      few_steps = under 1000000 steps f.0;
+      few_steps = under MAX_STEPS steps f.0;
     }
 
 module _ (w : Rehearsal) (step : Step) (o : Outcome) (law : IsLawful w) (is : row w.setting (state_of w) (actor step) (member (state_of w) (actor step)) step ≡ Some o) (under : IsUnder w.cells (length w.steps + 1) (after w.setting (state_of w) (actor step) o) (actor step)) where
@@ -117,7 +118,7 @@ module _ (w : Rehearsal) (step : Step) (o : Outcome) (law : IsLawful w) (is : ro
         | inr other ↦ rw (member-other w.setting (state_of w) (actor step) q o other) (before q)
       ]
 
-  few_each : (q : ℕ) → submissions (after w.setting (state_of w) (actor step) o).submitted q ≤ 65535
+  few_each : (q : ℕ) → submissions (after w.setting (state_of w) (actor step) o).submitted q ≤ MAX_SUBMISSIONS
   few_each q =
       elim (cases_eq q (actor step)) [
         | inl same ↦ rw same under.few_submissions
@@ -128,8 +129,8 @@ module _ (w : Rehearsal) (step : Step) (o : Outcome) (law : IsLawful w) (is : ro
   within_all : IsWithin w.cells (after w.setting (state_of w) (actor step) o) (length w.steps + 1)
   within_all = record {
     few_submissions = few_each;
-    few_instances = for_each (λ m. m.last) 1024 law.within.few_instances under.few_instances;
-    few_rounds = for_each round_of 10000 law.within.few_rounds under.few_rounds;
+    few_instances = for_each (λ m. m.last) MAX_INSTANCES law.within.few_instances under.few_instances;
+    few_rounds = for_each round_of MAX_ROUNDS law.within.few_rounds under.few_rounds;
     few_envelopes = under.few_envelopes;
     few_batches = under.few_batches;
     few_steps = under.few_steps;
@@ -170,28 +171,28 @@ module _ (w : Rehearsal) (step : Step) (o : Outcome) (law : IsLawful w) (present
   member_is : member h p ≡ o.member
   member_is = member-same w.setting g p o (in_members w.setting g p law.size present.in_group)
 
-  few_silent : o.submitted ≡ [] → nat_lt 65535 (submissions h.submitted p) ≡ false
+  few_silent : o.submitted ≡ [] → nat_lt MAX_SUBMISSIONS (submissions h.submitted p) ≡ false
   few_silent none =
       let same : h.submitted ≡ g.submitted = after-submitted w.setting g p o ∙ ap (λ ms. g.submitted ++ ms) none ∙ append-nil g.submitted in
-      ap (λ ms. nat_lt 65535 (submissions ms p)) same ∙ low 65535 (submissions g.submitted p) (law.within.few_submissions p)
+      ap (λ ms. nat_lt MAX_SUBMISSIONS (submissions ms p)) same ∙ low MAX_SUBMISSIONS (submissions g.submitted p) (law.within.few_submissions p)
 
   -- where it submits nothing
   pub limit-silent : o.submitted ≡ []
       → limit w step
-      ≡ first_fault (at (Full Instances) (nat_lt 1024 o.member.last)
-      ∷ at (Full Rounds) (nat_lt 10000 (round_of o.member))
-      ∷ at (Full Envelopes) (nat_lt 1000000 (length (state_of w).sent + length (envelopes w.setting.members o.mail)))
+      ≡ first_fault (at (Full Instances) (nat_lt MAX_INSTANCES o.member.last)
+      ∷ at (Full Rounds) (nat_lt MAX_ROUNDS (round_of o.member))
+      ∷ at (Full Envelopes) (nat_lt MAX_ENVELOPES (length (state_of w).sent + length (envelopes w.setting.members o.mail)))
       ∷ at (Full Cells) (nat_lt w.cells (length (order (after w.setting (state_of w) (actor step) o))))
-      ∷ at (Full Steps) (nat_lt 1000000 (length w.steps + 1))
+      ∷ at (Full Steps) (nat_lt MAX_STEPS (length w.steps + 1))
       ∷ [])
   limit-silent none = limit-of w step o present is ∙ rw (few_silent none, member_is, length-after-sent w.setting g p o) refl
 
-  instances_kept : o.member.last ≡ (member g p).last → nat_lt 1024 o.member.last ≡ false
-  instances_kept same = ap (nat_lt 1024) same ∙ low 1024 (member g p).last (law.within.few_instances p)
+  instances_kept : o.member.last ≡ (member g p).last → nat_lt MAX_INSTANCES o.member.last ≡ false
+  instances_kept same = ap (nat_lt MAX_INSTANCES) same ∙ low MAX_INSTANCES (member g p).last (law.within.few_instances p)
 
-  rounds_kept : o.member.current ≡ (member g p).current → nat_lt 10000 (round_of o.member) ≡ false
+  rounds_kept : o.member.current ≡ (member g p).current → nat_lt MAX_ROUNDS (round_of o.member) ≡ false
   rounds_kept same =
-      ap (λ c. nat_lt 10000 (option_map_or (λ (x : Standing). x.round) c 0)) same ∙ low 10000 (round_of (member g p)) (law.within.few_rounds p)
+      ap (λ c. nat_lt MAX_ROUNDS (option_map_or (λ (x : Standing). x.round) c 0)) same ∙ low MAX_ROUNDS (round_of (member g p)) (law.within.few_rounds p)
 
   cells_kept : o.member.batches ≡ (member g p).batches → nat_lt w.cells (length (order h)) ≡ false
   cells_kept same =
@@ -200,21 +201,21 @@ module _ (w : Rehearsal) (step : Step) (o : Outcome) (law : IsLawful w) (present
   -- where it submits and delivers nothing
   pub limit-idle : o.submitted ≡ [] → o.member.batches ≡ (member (state_of w) (actor step)).batches
       → limit w step
-      ≡ or_else (first_fault (at (Full Instances) (nat_lt 1024 o.member.last) ∷ at (Full Rounds) (nat_lt 10000 (round_of o.member)) ∷ []))
+      ≡ or_else (first_fault (at (Full Instances) (nat_lt MAX_INSTANCES o.member.last) ∷ at (Full Rounds) (nat_lt MAX_ROUNDS (round_of o.member)) ∷ []))
       (overflow w (length (envelopes w.setting.members o.mail)))
   limit-idle none kept =
-      let own : List Test = at (Full Instances) (nat_lt 1024 o.member.last) ∷ at (Full Rounds) (nat_lt 10000 (round_of o.member)) ∷ [] in
+      let own : List Test = at (Full Instances) (nat_lt MAX_INSTANCES o.member.last) ∷ at (Full Rounds) (nat_lt MAX_ROUNDS (round_of o.member)) ∷ [] in
       let more : ℕ = length (envelopes w.setting.members o.mail) in
       limit-silent none
-      ∙ rw (cells_kept kept) (first_fault-append own (at (Full Envelopes) (nat_lt 1000000 (length g.sent + more)) ∷ at (Full Steps) (nat_lt 1000000 (length w.steps + 1)) ∷ []))
+      ∙ rw (cells_kept kept) (first_fault-append own (at (Full Envelopes) (nat_lt MAX_ENVELOPES (length g.sent + more)) ∷ at (Full Steps) (nat_lt MAX_STEPS (length w.steps + 1)) ∷ []))
       ∙ ap (or_else (first_fault own)) (sym (overflow-is w more))
 
   -- where its member keeps its instances and batches
   pub limit-kept : IsKept (member (state_of w) (actor step)) o.member
       → limit w step
-      ≡ first_fault (at (Full Submissions) (nat_lt 65535 (submissions (after w.setting (state_of w) (actor step) o).submitted (actor step)))
-      ∷ at (Full Envelopes) (nat_lt 1000000 (length (state_of w).sent + length (envelopes w.setting.members o.mail)))
-      ∷ at (Full Steps) (nat_lt 1000000 (length w.steps + 1))
+      ≡ first_fault (at (Full Submissions) (nat_lt MAX_SUBMISSIONS (submissions (after w.setting (state_of w) (actor step) o).submitted (actor step)))
+      ∷ at (Full Envelopes) (nat_lt MAX_ENVELOPES (length (state_of w).sent + length (envelopes w.setting.members o.mail)))
+      ∷ at (Full Steps) (nat_lt MAX_STEPS (length w.steps + 1))
       ∷ [])
   limit-kept keeps =
       limit-of w step o present is

@@ -1,6 +1,7 @@
 -- Begin.
 use Rattle.std.proofs.Common.{◌≡◌, ℕ, ◌+◌, ◌<◌, Bool, true, false, not, [], ◌∷◌, refl, ap, sym, ◌∙◌, arith, Option, Some, None}
 use Rattle.std.specs.Prelude.{nat_lt, ◌&&◌, is_some, is_none}
+use Rattle.ct_names.specs.declared.limit.TheConstants.{MAX_INSTANCES}
 use Rattle.ct_names.specs.declared.refusal.Refusal.TheVariants.{Busy, Nothing, Full}
 use Rattle.ct_names.specs.declared.limit.Limit.TheVariants.{Instances}
 use Rattle.ct_model.specs.declared.step.Step.TheVariants.{Begin}
@@ -41,7 +42,7 @@ row-begin : (w : Rehearsal) (p : ℕ) → first_fault (own_tests w (Begin p)) �
 row-begin w p h = begin_row-some p (member (state_of w) p) (begin-ready w p h)
 
 pub cause-begin : (w : Rehearsal) (p : ℕ) → IsLawful w → IsPresent w p → first_fault (own_tests w (Begin p)) ≡ None
-    → cause w (Begin p) ≡ or_else (first_fault (at (Full Instances) (nat_lt 1024 ((member (state_of w) p).last + 1)) ∷ [])) (overflow w 0)
+    → cause w (Begin p) ≡ or_else (first_fault (at (Full Instances) (nat_lt MAX_INSTANCES ((member (state_of w) p).last + 1)) ∷ [])) (overflow w 0)
 cause-begin w p law present h =
     cause-limited w (Begin p) present h ∙ limit-idle w (Begin p) (begin p (member (state_of w) p)) law present (row-begin w p h) refl refl
 
@@ -49,7 +50,7 @@ cause-begin w p law present h =
 pub record IsBeginStep (w : Rehearsal) (p : ℕ) : Type 0 where
   pub idle : (member (state_of w) p).current ≡ None
   pub something : is_empty (undelivered (member (state_of w) p)) ≡ false
-  pub few : (member (state_of w) p).last < 1024
+  pub few : (member (state_of w) p).last < MAX_INSTANCES
   pub taken : IsTaken w (Begin p) (begin p (member (state_of w) p))
 
 pub begin_taken : (w : Rehearsal) (p : ℕ) → IsLawful w → cause w (Begin p) ≡ None → IsBeginStep w p

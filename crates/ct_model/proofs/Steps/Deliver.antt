@@ -3,6 +3,7 @@ use Rattle.std.proofs.Common.{◌≡◌, ℕ, ◌+◌, ◌-◌, ◌≤◌, ◌<�
 use Rattle.std.specs.Prelude.{nat_lt, is_none, if◌then◌else◌, option_and_then, option_map}
 use Rattle.std.proofs.lemmas.List.{length_push}
 use Rattle.std.proofs.lemmas.Bool.Decides.{nat_tests}
+use Rattle.ct_names.specs.declared.limit.TheConstants.{MAX_ENVELOPES, MAX_INSTANCES, MAX_STEPS}
 use Rattle.ct_names.specs.declared.limit.Limit.TheVariants.{Envelopes, Cells, Steps}
 use Rattle.ct_names.specs.declared.refusal.Refusal.TheVariants.{Undecided, Full}
 use Rattle.ct_names.specs.Value.{Value}
@@ -72,10 +73,10 @@ module _ (w : Rehearsal) (p : ℕ) (v : Value) (law : IsLawful w) (present : IsP
       let own : ℕ = length (member (state_of w) p).batches + 1 in
       let cells : nat_lt w.cells (length (order (after w.setting (state_of w) p (deliver (member (state_of w) p) v)))) ≡ nat_lt w.cells own =
       ap (nat_lt w.cells) order-deliver ∙ larger (nat_lt all own) w.cells all own refl law.within.few_batches in
-      let small : length (state_of w).sent ≤ 1000000 = law.within.few_envelopes in
-      let sent : nat_lt 1000000 (length (state_of w).sent + 0) ≡ false = grind (arith, nat_tests) in
-      let last = low 1024 (member (state_of w) p).last (law.within.few_instances p) in
-      let steps : List Test = at (Full Steps) (nat_lt 1000000 (length w.steps + 1)) ∷ [] in
+      let small : length (state_of w).sent ≤ MAX_ENVELOPES = law.within.few_envelopes in
+      let sent : nat_lt MAX_ENVELOPES (length (state_of w).sent + 0) ≡ false = grind (arith, nat_tests) in
+      let last = low MAX_INSTANCES (member (state_of w) p).last (law.within.few_instances p) in
+      let steps : List Test = at (Full Steps) (nat_lt MAX_STEPS (length w.steps + 1)) ∷ [] in
       limit-silent w (Deliver p) o law present is refl
       ∙ rw (last, sent, cells) (first_fault-append (at (Full Cells) (nat_lt w.cells own) ∷ []) steps)
       ∙ ap (or_else (first_fault (at (Full Cells) (nat_lt w.cells own) ∷ [])))

@@ -16,6 +16,7 @@ use Rattle.ct_model.specs.Phases.{is_rest, entered, enter, chosen, adopted, susp
 use Rattle.ct_model.specs.Faults.{enter_faults}
 use Rattle.std.specs.Option.{option_map_or}
 use Rattle.std.proofs.lemmas.Bool.Decides.{nat_tests}
+use Rattle.ct_names.specs.declared.limit.TheConstants.{MAX_ROUNDS}
 use Rattle.ct_model.specs.Setting.{Setting}
 use Rattle.ct_model.specs.State.{State, Member, Standing, member}
 use Rattle.ct_model.specs.Received.{Ballots, decided}
@@ -99,8 +100,8 @@ turn-free n p k d t c Adopt h =
 turn-free n p k d t c Suspect h = record { turn = suspected n p k c; turns = suspect-taken n p k t c h; round = refl; number = refl }
 turn-free n p k d t c Conclude h = record { turn = concluded n k t c; turns = conclude-taken n k t c h; round = refl; number = either_number n (Dec k c.round c.estimate) (is_majority n t.acked) }
 
-within-round : (enters : Bool) (after now : ℕ) → after ≡ (if enters then now + 1 else now) → now ≤ 10000 → nat_lt 10000 after ≡ (enters && nat_lt 10000 (now + 1))
-within-round true after now e few = ap (nat_lt 10000) e
+within-round : (enters : Bool) (after now : ℕ) → after ≡ (if enters then now + 1 else now) → now ≤ MAX_ROUNDS → nat_lt MAX_ROUNDS after ≡ (enters && nat_lt MAX_ROUNDS (now + 1))
+within-round true after now e few = ap (nat_lt MAX_ROUNDS) e
 within-round false after now e few = grind (arith, nat_tests)
 
 -- why it is refused then: a limit
@@ -122,11 +123,11 @@ module _ (w : Rehearsal) (p : ℕ) (a : Move) where
 
   cause-free : (c : AtSets) → m.current ≡ Some c → Free c → IsLawful w → IsPresent w q → first_fault (own_tests w (step_of p a)) ≡ None
       → cause w (step_of p a)
-      ≡ or_else (first_fault (at (Full Rounds) (is_enter a && nat_lt 10000 (c.round + 1)) ∷ []))
+      ≡ or_else (first_fault (at (Full Rounds) (is_enter a && nat_lt MAX_ROUNDS (c.round + 1)) ∷ []))
       (overflow w (sent_by w.setting.members (own_ballots m c).acked a))
   cause-free c is_open f law present h =
       let is = row-move w.setting (state_of w) p q m a ∙ round_row-some m (turn_at w.setting.members q m a) c f.turn is_open f.turns in
-      let few : round_of m ≤ 10000 = law.within.few_rounds q in
+      let few : round_of m ≤ MAX_ROUNDS = law.within.few_rounds q in
       let now : round_of m ≡ c.round = ap (λ o. option_map_or (λ (x : AtSets). x.round) o 0) is_open in
       cause-turned w (step_of p a) f.turn law present is h
       ∙ limit-same _ _ _ _ (within-round (is_enter a) f.turn.after.round c.round f.round (omega (arith, few, now))) f.number
@@ -134,7 +135,7 @@ module _ (w : Rehearsal) (p : ℕ) (a : Move) where
   pub cause-move : (c : AtSets) → (member (state_of w) p).current ≡ Some c → IsLawful w → IsPresent w p
       → first_fault (own_tests w (step_of p a)) ≡ None
       → cause w (step_of p a)
-      ≡ or_else (first_fault (at (Full Rounds) (is_enter a && nat_lt 10000 (c.round + 1)) ∷ []))
+      ≡ or_else (first_fault (at (Full Rounds) (is_enter a && nat_lt MAX_ROUNDS (c.round + 1)) ∷ []))
       (overflow w (sent_by w.setting.members (own_ballots (member (state_of w) p) c).acked a))
   cause-move c e law present h =
       let is_open : m.current ≡ Some c = ap (λ x. (member (state_of w) x).current) (actor-move p a) ∙ e in

@@ -2,6 +2,7 @@
 use Rattle.std.proofs.Common.{◌≡◌, List, [], ◌∷◌, length, refl, ap, ◌∙◌, Option, Some, None}
 use Rattle.std.specs.Prelude.{nat_lt, is_none, option_and_then, option_map}
 use Rattle.std.specs.Option.{option_map_or}
+use Rattle.ct_names.specs.declared.limit.TheConstants.{MAX_INSTANCES, MAX_ROUNDS}
 use Rattle.ct_names.specs.declared.limit.Limit.TheVariants.{Rounds}
 use Rattle.ct_names.specs.declared.refusal.Refusal.TheVariants.{Idle, Full}
 use Rattle.ct_model.specs.declared.step.Step.{Step}
@@ -37,9 +38,9 @@ module _ (w : Rehearsal) (step : Step) (t : Turn) (law : IsLawful w) (present : 
   -- such a step passes only the limit on rounds, or overflows
   pub cause-turned : first_fault (own_tests w step) ≡ None
       → cause w step
-      ≡ or_else (first_fault (at (Full Rounds) (nat_lt 10000 t.after.round) ∷ [])) (overflow w (length (envelopes w.setting.members t.mail)))
+      ≡ or_else (first_fault (at (Full Rounds) (nat_lt MAX_ROUNDS t.after.round) ∷ [])) (overflow w (length (envelopes w.setting.members t.mail)))
   cause-turned h =
       let last = law.within.few_instances (actor step) in
       cause-limited w step present h
       ∙ limit-idle w step (turned (member (state_of w) (actor step)) t) law present is refl refl
-      ∙ rw (low 1024 (member (state_of w) (actor step)).last last) refl
+      ∙ rw (low MAX_INSTANCES (member (state_of w) (actor step)).last last) refl

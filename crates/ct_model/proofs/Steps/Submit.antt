@@ -2,6 +2,7 @@
 use Rattle.std.proofs.Common.{◌≡◌, ℕ, ◌+◌, ◌≤◌, ◌<◌, true, false, [], ◌∷◌, length, refl, ap, sym, ◌∙◌, arith, Some, None}
 use Rattle.std.specs.Prelude.{nat_lt, if◌then◌else◌}
 use Rattle.std.proofs.lemmas.Bool.Decides.{nat_tests}
+use Rattle.ct_names.specs.declared.limit.TheConstants.{MAX_ENVELOPES, MAX_STEPS, MAX_SUBMISSIONS}
 use Rattle.ct_names.specs.declared.command.Command.{Command}
 use Rattle.ct_names.specs.declared.refusal.Refusal.TheVariants.{BadCommand, Full}
 use Rattle.ct_names.specs.declared.limit.Limit.TheVariants.{Submissions, Envelopes, Steps}
@@ -53,9 +54,9 @@ module _ (w : Rehearsal) (p : ℕ) (c : Command) (law : IsLawful w) (present : I
 
   cause-good : is_good c ≡ true
       → cause w (Submit p c)
-      ≡ first_fault (at (Full Submissions) (nat_lt 65535 (submissions (state_of w).submitted p + 1))
-      ∷ at (Full Envelopes) (nat_lt 1000000 (length (state_of w).sent + w.setting.members))
-      ∷ at (Full Steps) (nat_lt 1000000 (length w.steps + 1))
+      ≡ first_fault (at (Full Submissions) (nat_lt MAX_SUBMISSIONS (submissions (state_of w).submitted p + 1))
+      ∷ at (Full Envelopes) (nat_lt MAX_ENVELOPES (length (state_of w).sent + w.setting.members))
+      ∷ at (Full Steps) (nat_lt MAX_STEPS (length w.steps + 1))
       ∷ [])
   cause-good good =
       cause-passed w (Submit p c) BadCommand (is_good c) refl present good
@@ -64,20 +65,20 @@ module _ (w : Rehearsal) (p : ℕ) (c : Command) (law : IsLawful w) (present : I
   pub cause-submit-bad : is_good c ≡ false → cause w (Submit p c) ≡ Some BadCommand
   cause-submit-bad bad = cause-failed w (Submit p c) BadCommand (is_good c) refl present bad
 
-  pub cause-submit-full : is_good c ≡ true → 65535 ≤ submissions (state_of w).submitted p → cause w (Submit p c) ≡ Some (Full Submissions)
+  pub cause-submit-full : is_good c ≡ true → MAX_SUBMISSIONS ≤ submissions (state_of w).submitted p → cause w (Submit p c) ≡ Some (Full Submissions)
   cause-submit-full good many =
-      let t : nat_lt 65535 (submissions (state_of w).submitted p + 1) ≡ true = grind (arith, nat_tests) in
+      let t : nat_lt MAX_SUBMISSIONS (submissions (state_of w).submitted p + 1) ≡ true = grind (arith, nat_tests) in
       cause-good good ∙ rw t refl
 
-  pub cause-submit-sends : is_good c ≡ true → submissions (state_of w).submitted p < 65535 → cause w (Submit p c) ≡ overflow w w.setting.members
+  pub cause-submit-sends : is_good c ≡ true → submissions (state_of w).submitted p < MAX_SUBMISSIONS → cause w (Submit p c) ≡ overflow w w.setting.members
   cause-submit-sends good few =
-      let t : nat_lt 65535 (submissions (state_of w).submitted p + 1) ≡ false = grind (arith, nat_tests) in
+      let t : nat_lt MAX_SUBMISSIONS (submissions (state_of w).submitted p + 1) ≡ false = grind (arith, nat_tests) in
       cause-good good ∙ rw t (sym (overflow-is w w.setting.members))
 
 -- a Submit that is allowed
 pub record IsSubmitted (w : Rehearsal) (p : ℕ) (c : Command) : Type 0 where
   pub good : is_good c ≡ true
-  pub few : submissions (state_of w).submitted p + 1 ≤ 65535
+  pub few : submissions (state_of w).submitted p + 1 ≤ MAX_SUBMISSIONS
   pub taken : IsTaken w (Submit p c) (submit_outcome w p c)
 
 pub submit_taken : (w : Rehearsal) (p : ℕ) (c : Command) → IsLawful w → cause w (Submit p c) ≡ None → IsSubmitted w p c

@@ -1,5 +1,6 @@
 use Rattle.std.proofs.Common.{◌≡◌, ◌+◌, ◌-◌, ◌<◌, ◌++◌, ◌∷◌, [], true, set, refl, ap, sym, ◌∙◌, subst, arith, length}
 use Rattle.std.specs.Prelude.{is_ok, is_some}
+use Rattle.ct_names.specs.declared.limit.TheConstants.{MAX_INSTANCES}
 use Rattle.ct_names.specs.Value.{Value}
 use Rattle.ct_model.specs.declared.step.Step.TheVariants.{Begin}
 use Rattle.ct_model.specs.State.{member}
@@ -73,7 +74,7 @@ pub begin-requires : goal.begin-requires
 begin-requires c =
     let p = (prepared_in c.self.inside c.args.self.now (Begin c.args.member) c.self.view_is c.self.invariant c.requires) in
     let here = seat_in c.self.inside (Begin c.args.member) c.index_mut-seat.result.now p c.index_mut-seat.ensures.value in
-    subst (λ (s : Seat). s.caster.instance < 1024) (sym here) (can_begin (rehearsal_in c.self.inside) c.args.member (fields_in c.self.inside) p).few_begun
+    subst (λ (s : Seat). s.caster.instance < MAX_INSTANCES) (sym here) (can_begin (rehearsal_in c.self.inside) c.args.member (fields_in c.self.inside) p).few_begun
 
 -- when the step has joined the record
 

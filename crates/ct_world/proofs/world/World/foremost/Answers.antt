@@ -1,5 +1,6 @@
 use Rattle.std.proofs.Common.{◌≡◌, ◌+◌, ◌<◌, ◌≤◌, length, map, ap, sym, ◌∙◌, subst, arith}
 use Rattle.std.proofs.lemmas.List.{get_or_read}
+use Rattle.ct_names.specs.declared.limit.TheConstants.{MAX_CELLS}
 use Rattle.ct_model.specs.Cause.{order}
 use Rattle.ct_model.specs.Rehearsal.{state_of}
 use Rattle.ct_names.specs.Batch.{Batch}
@@ -50,6 +51,6 @@ returns-clause-value c =
 
 pub returns-clause-few : goal.returns-clause-few
 returns-clause-few c =
-    let few : length (batches_at c.self.inside.seats.items c.loop-i.best) ≤ 1024 = foremost-few (rehearsal_in c.self.inside) (fields_in c.self.inside) c.self.invariant.world c.loop-i.best (foremost c) in
+    let few : length (batches_at c.self.inside.seats.items c.loop-i.best) ≤ MAX_CELLS = foremost-few (rehearsal_in c.self.inside) (fields_in c.self.inside) c.self.invariant.world c.loop-i.best (foremost c) in
     let e : length c.index-2.result.now.caster.batches ≡ length (batches_at c.self.inside.seats.items c.loop-i.best) = ap length (is c) in
     omega arith
