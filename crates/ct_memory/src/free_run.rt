@@ -1,13 +1,13 @@
 //! A free run of one member.
 
-ghost use Rattle.std.specs.Prelude.{◌≡◌};
+ghost use Rattle.std.specs.Prelude.{◌≡◌, ◌≤◌};
 
 use crate::fault::Fault;
 use ct_board::Board;
 use ct_detect::{Detector, Never};
 use ct_model::Step;
 use ct_names::{Command, Group};
-use ct_rehearse::{Hall, Made, NoGate, Plan, RunFault};
+use ct_rehearse::{Hall, Made, NoGate, Plan, RunFault, Share};
 use ct_world::World;
 use std::alloc::Global;
 use std::sync::Wait;
@@ -25,13 +25,24 @@ pub fn free_run<L: Ledger + Send + Sync, R: Threads + Wait + Sync>(
     requires parts { blank.parts ≡ L.parts }
     requires whole { L.parts ≡ 1000 }
 {
-    let Some(group) = Group::new(1) else {
-        return Err(Fault::Group);
-    };
-    let mut world = World::new(alloc, group, 4)?;
-    let board = Board::new(alloc, 4)?;
-    let _ = world.apply(&board, &Step::Submit(1, Command::Set(0, 7)))?;
+    let (world, board) = submitted(alloc)?;
+    let _ = world.record();
     let (hall, mut share) = Hall::<L>::new(blank, world, board);
+    let made = run_one(rt, alloc, &hall, &mut share)?;
+    settle(rt, alloc, &hall, &mut share)?;
+    Ok(made)
+}
+
+// Makes the one member's turns.
+fn run_one<L: Ledger + Send + Sync, R: Threads + Wait + Sync>(
+    rt: &R,
+    alloc: Global,
+    hall: &Hall<L>,
+    share: &mut Share<L>,
+) -> Result<Result<Made, RunFault>, Fault>
+    requires parts { share.old.parts ≡ 1000 }
+    requires steps { share.old.steps ≤ 1000000 }
+{
     let mut detectors: Vec<Box<dyn Detector>> = Vec::new(alloc);
     detectors.push(Box::new(alloc, Never::new())?)?;
     if detectors.len() != usize::from(hall.group().n()) {
@@ -41,12 +52,34 @@ pub fn free_run<L: Ledger + Send + Sync, R: Threads + Wait + Sync>(
         turns: 100,
         scripts: Vec::new(alloc),
     };
-    let made = hall.run_free(rt, alloc, &plan, detectors, &NoGate, &mut share);
-    if share.parts() == 1000 {
-        let world = hall.settled(rt, alloc, &mut share)?;
-        replay_again(alloc, &world, share.steps())?;
+    Ok(hall.run_free(rt, alloc, &plan, detectors, &NoGate, share))
+}
+
+// Looks at the hall's world, unless a part of the share was lost with a thread.
+fn settle<L: Ledger, R: Wait>(
+    rt: &R,
+    alloc: Global,
+    hall: &Hall<L>,
+    share: &mut Share<L>,
+) -> Result<(), Fault>
+    requires { L.parts ≡ 1000 }
+{
+    if share.parts() != 1000 {
+        return Ok(());
     }
-    Ok(made)
+    let world = hall.settled(rt, alloc, share)?;
+    replay_again(alloc, &world, share.steps())
+}
+
+// A world of one member that submitted a message, and its board.
+fn submitted(alloc: Global) -> Result<(World, Board), Fault> {
+    let Some(group) = Group::new(1) else {
+        return Err(Fault::Group);
+    };
+    let mut world = World::new(alloc, group, 4)?;
+    let board = Board::new(alloc, 4)?;
+    let _ = world.apply(&board, &Step::Submit(1, Command::Set(0, 7)))?;
+    Ok((world, board))
 }
 
 // The world has so many steps, and they lead to it.

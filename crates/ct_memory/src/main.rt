@@ -46,10 +46,7 @@ fn tried<L: Ledger + Send + Sync, R: Threads + Wait + Sync>(
     requires whole { L.parts ≡ 1000 }
 {
     let alloc = rt.alloc();
-    let (world, refused) = do_one_by_one(alloc, &input(rt)?)?;
-    let mut text = report(alloc, &world)?;
-    let told = format!(in alloc; "refused at step {refused}\n")?;
-    text.extend_from_slice(told.as_bytes())?;
+    let mut text = told_one_by_one(alloc, &input(rt)?)?;
     let told = match free_run::<L, R>(threads, alloc, blank)? {
         Ok(made) => format!(in alloc;
             "free run: {} steps, {} refused\n",
@@ -57,6 +54,15 @@ fn tried<L: Ledger + Send + Sync, R: Threads + Wait + Sync>(
         )?,
         Err(fault) => format!(in alloc; "free run: {fault:?}\n")?,
     };
+    text.extend_from_slice(told.as_bytes())?;
+    Ok(text)
+}
+
+// The report of the record, and the last of its steps that was refused for want of memory.
+fn told_one_by_one(alloc: Global, record: &[u8]) -> Result<Vec<u8>, Fault> {
+    let (world, refused) = do_one_by_one(alloc, record)?;
+    let mut text = report(alloc, &world)?;
+    let told = format!(in alloc; "refused at step {refused}\n")?;
     text.extend_from_slice(told.as_bytes())?;
     Ok(text)
 }
