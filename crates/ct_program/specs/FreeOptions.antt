@@ -1,18 +1,19 @@
 -- The ranges of the options of a free run.
 use Rattle.std.specs.Prelude.{◌≤◌, ⊤}
+use Rattle.ct_names.specs.declared.limit.TheConstants.{MAX_CELLS, MAX_MEMBERS}
 use Rattle.ct_program.specs.declared.free_options.FreeOptions.{FreeOptions}
 use Rattle.ct_program.specs.declared.call.Call.{Call}
 use Rattle.ct_program.specs.declared.call.Call.TheVariants.{Replay, Free}
 
 -- each option is in its range
 pub record InRange (o : FreeOptions) : Type 0 where
-  pub members : (1 ≤ o.members) × (o.members ≤ 16)
+  pub members : (1 ≤ o.members) × (o.members ≤ MAX_MEMBERS)
   pub turns : o.turns ≤ 100000
   pub seed : o.seed ≤ 4294967295
   pub rate : o.rate ≤ 256
-  pub cells : o.cells ≤ 1024
+  pub cells : o.cells ≤ MAX_CELLS
   pub submit : o.submit ≤ 1000
-  pub crash : o.crash ≤ 16
+  pub crash : o.crash ≤ MAX_MEMBERS
   pub postpone : o.postpone ≤ 1000
 
 -- a free run is asked for with each option in its range

@@ -2,6 +2,7 @@
 use Rattle.std.specs.Prelude.{◌≡◌, ◌&&◌, ℕ, true, List, [], ◌∷◌, codes, Option, Some, None, option_map, option_and_then, nat_le, if◌then◌else◌, ⊤}
 use Rattle.std.specs.Str.{bytes_eq}
 use Rattle.std.specs.Str.Parse.{digits_value, without_leading_plus}
+use Rattle.ct_names.specs.declared.limit.TheConstants.{MAX_CELLS, MAX_MEMBERS}
 use Rattle.clap.specs.Words.{App, Kinds, HasKind, Row, Rule, Text, fault_of, first_of, kind_of, new_app, new_rule, subcommand_of, with_subcommand}
 use Rattle.clap.specs.Simple.{new_shape, on_top}
 use Rattle.clap.specs.ValueTests.{is_numeral}
@@ -66,13 +67,13 @@ option_in rows name low high = first_of name rows >>= whole_in low high
 -- the options of a free run, where each value is a whole number of its range
 unfoldable pub options_of : List Row → Option FreeOptions
 options_of rows = do
-  members ← option_in rows (codes "members") 1 16
+  members ← option_in rows (codes "members") 1 MAX_MEMBERS
   turns ← option_in rows (codes "turns") 0 100000
   seed ← option_in rows (codes "seed") 0 4294967295
   rate ← option_in rows (codes "rate") 0 256
-  cells ← option_in rows (codes "cells") 0 1024
+  cells ← option_in rows (codes "cells") 0 MAX_CELLS
   submit ← option_in rows (codes "submit") 0 1000
-  crash ← option_in rows (codes "crash") 0 16
+  crash ← option_in rows (codes "crash") 0 MAX_MEMBERS
   postpone ← option_in rows (codes "postpone") 0 1000
   Some (record { members = members; turns = turns; seed = seed; rate = rate; cells = cells; submit = submit; crash = crash; postpone = postpone })
 

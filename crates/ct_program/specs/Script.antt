@@ -2,6 +2,7 @@
 use Rattle.std.specs.Prelude.{ℕ, suc, Bool, true, ◌+◌, ◌==◌, ◌&&◌, List, [], ◌∷◌, length, codes, nat_le, nat_lt, Option, Some, None, Result, Ok, Err, option_map, option_and_then, ok_or, if◌then◌else◌}
 use Rattle.std.specs.Option.{option_map_or}
 use Rattle.std.specs.Str.{bytes_eq, is_utf8}
+use Rattle.ct_names.specs.declared.limit.TheConstants.{MAX_CELLS, MAX_MEMBERS}
 use Rattle.serde_json.specs.Data.{Data, Items, no_items, item, Members, no_members, member}
 use Rattle.serde_json.specs.Read.{read}
 use Rattle.serde_json.specs.Find.{get, as_number, as_u64, as_str, as_array, as_object}
@@ -130,8 +131,8 @@ steps_of at (d ∷ ds) = do
 -- the number of members, the number of cells, the steps
 unfoldable pub rehearsal_in : Data → Result Rehearsal ReadFault
 rehearsal_in d = do
-  n ← ok_or (option_and_then (whole_of 1 16) (get (codes "n") d)) (Shape 0)
-  cells ← ok_or (option_and_then (whole_of 0 1024) (get (codes "cells") d)) (Shape 0)
+  n ← ok_or (option_and_then (whole_of 1 MAX_MEMBERS) (get (codes "n") d)) (Shape 0)
+  cells ← ok_or (option_and_then (whole_of 0 MAX_CELLS) (get (codes "cells") d)) (Shape 0)
   ds ← ok_or (option_and_then list_in (get (codes "steps") d)) (Shape 0)
   steps ← steps_of 1 ds
   Ok (record { setting = record { members = n }; cells = cells; steps = steps })

@@ -13,7 +13,7 @@ ghost use Rattle.ct_program.specs.View.{rehearsal_of};
 use crate::naming::{commanded_step, named_command, numbered_step, short_step};
 use crate::script::Script;
 use ct_model::Step;
-use ct_names::{Command, Group, Member};
+use ct_names::{Command, Group, MAX_CELLS, MAX_MEMBERS, Member};
 use json::{Reader, Scratch, Token};
 use std::alloc::{AllocError, Global};
 
@@ -45,7 +45,7 @@ pub(crate) fn plain(alloc: Global, bytes: &[u8]) -> Result<Option<Script>, Alloc
 
 fn head(reader: &mut Reader<'_>) -> Option<(u16, Group)>
     ensures head { IfSome result (λ h. Head reader.old h.0 h.1 reader.new) }
-    ensures cells { IfSome result (λ h. h.0 ≤ 1024) }
+    ensures cells { IfSome result (λ h. h.0 ≤ MAX_CELLS) }
 {
     let Some(Token::BeginObject) = reader.next() else {
         return None;
@@ -53,11 +53,11 @@ fn head(reader: &mut Reader<'_>) -> Option<(u16, Group)>
     if !key(reader, "cells") {
         return None;
     }
-    let cells = number(reader, 0, 1024)?;
+    let cells = number(reader, 0, MAX_CELLS as u64)?;
     if !key(reader, "n") {
         return None;
     }
-    let n = number(reader, 1, 16)?;
+    let n = number(reader, 1, MAX_MEMBERS as u64)?;
     let group = Group::new(n as u8)?;
     if !key(reader, "steps") || !open(reader) {
         return None;

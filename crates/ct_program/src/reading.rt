@@ -11,7 +11,7 @@ use crate::quick::plain;
 use crate::read_fault::ReadFault;
 use crate::script::Script;
 use ct_model::Step;
-use ct_names::{Command, Group, Member};
+use ct_names::{Command, Group, MAX_CELLS, MAX_MEMBERS, Member};
 use serde_json::{Map, Value};
 use std::alloc::Global;
 
@@ -72,9 +72,9 @@ fn count(members: &Map<String, Value>) -> usize
 fn script_in(alloc: Global, value: &Value) -> Result<Script, ReadFault>
     ensures { Gives rehearsal_of result (rehearsal_in (view value.now)) }
 {
-    let n = whole(value.get("n").ok_or(ODD)?, 1, 16).ok_or(ODD)?;
+    let n = whole(value.get("n").ok_or(ODD)?, 1, MAX_MEMBERS as u64).ok_or(ODD)?;
     let group = Group::new(n as u8).ok_or(ODD)?;
-    let cells = whole(value.get("cells").ok_or(ODD)?, 0, 1024).ok_or(ODD)?;
+    let cells = whole(value.get("cells").ok_or(ODD)?, 0, MAX_CELLS as u64).ok_or(ODD)?;
     let list = entries(value.get("steps").ok_or(ODD)?).ok_or(ODD)?;
     let steps = steps(alloc, list)?;
     Ok(Script {

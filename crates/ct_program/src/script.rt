@@ -1,6 +1,7 @@
 //! What a record says.
 
 ghost use Rattle.std.specs.Prelude.{◌≤◌};
+ghost use Rattle.ct_names.specs.declared.limit.TheConstants.{MAX_CELLS};
 
 use ct_model::Step;
 use ct_names::Group;
@@ -11,5 +12,5 @@ pub struct Script {
     pub group: Group,
     pub cells: u16,
     pub steps: Vec<Step>,
-    ghost small: { cells ≤ 1024 },
+    ghost small: { cells ≤ MAX_CELLS },
 }

@@ -9,6 +9,7 @@ use crate::call::Call;
 use crate::free_options::FreeOptions;
 use crate::line_fault::LineFault;
 use clap::{Arg, ArgAction, ArgMatches, Command};
+use ct_names::{MAX_CELLS, MAX_MEMBERS};
 use std::alloc::{AllocError, Global};
 
 /// What the words ask for, the program's name first: the subcommand `replay`, or `free` with its options. A call for help
@@ -42,13 +43,13 @@ fn options(found: &ArgMatches<'_>) -> Option<FreeOptions>
     ensures range { IfSome result InRange }
 {
     Some(FreeOptions {
-        members: number(found, "members", 1, 16)? as u8,
+        members: number(found, "members", 1, MAX_MEMBERS as u64)? as u8,
         turns: number(found, "turns", 0, 100_000)?,
         seed: number(found, "seed", 0, u32::MAX)?,
         rate: number(found, "rate", 0, 256)? as u16,
-        cells: number(found, "cells", 0, 1024)? as u16,
+        cells: number(found, "cells", 0, MAX_CELLS as u64)? as u16,
         submit: number(found, "submit", 0, 1000)? as u16,
-        crash: number(found, "crash", 0, 16)? as u8,
+        crash: number(found, "crash", 0, MAX_MEMBERS as u64)? as u8,
         postpone: number(found, "postpone", 0, 1000)? as u16,
     })
 }
