@@ -1,10 +1,11 @@
 #!/usr/bin/env python3
-"""Runs `ct free` many times, with a seed of its own each, and prints what the runs came to.
+"""Runs `ct free` many times, with a seed of its own each, and prints what the runs came to. With --walk it runs
+`ct_tool walk`.
 
-    bench/free.py [options] [CT] [-- OPTIONS]
+    bench/free.py [options] [PROGRAM] [-- OPTIONS]
 
-CT: the built program; crates/ct/out/ct if left out. OPTIONS go to each `ct free`, as
-`-- --submit 10 --crash 2`. A row for each number of members and each rate:
+PROGRAM: the built program; crates/ct/out/ct if left out, with --walk crates/ct_tool/out/ct_tool. OPTIONS go to each
+run, as `-- --submit 10 --crash 2`. A row for each number of members and each rate:
 
     posted    runs of 100 that post a batch, so that some member delivers it
     all       runs of 100 in which each member that is up delivers every message
@@ -28,7 +29,7 @@ import time
 import model
 
 HERE = os.path.dirname(os.path.abspath(__file__))
-BUILT = os.path.join(HERE, "..", "crates", "ct", "out", "ct")
+CRATES = os.path.join(HERE, "..", "crates")
 FROM_OUTSIDE = ("submit", "crash", "postpone")   # steps that members don't take by themselves
 
 
@@ -41,10 +42,11 @@ def arguments():
     if "--" in own:
         at = own.index("--")
         own, given = own[:at], own[at + 1:]
-    parser = argparse.ArgumentParser(description="Run `ct free` many times and print what the runs came to.",
-                                     usage="%(prog)s [options] [CT] [-- OPTIONS]")
-    parser.add_argument("ct", nargs="?", default=BUILT, metavar="CT",
-                        help="the built program (default crates/ct/out/ct)")
+    parser = argparse.ArgumentParser(description="Run `ct free` or `ct_tool walk` many times and print what they came to.",
+                                     usage="%(prog)s [options] [PROGRAM] [-- OPTIONS]")
+    parser.add_argument("program", nargs="?", metavar="PROGRAM",
+                        help="the built program (default crates/ct/out/ct, with --walk crates/ct_tool/out/ct_tool)")
+    parser.add_argument("--walk", action="store_true", help="run `ct_tool walk`")
     parser.add_argument("--seeds", type=int, default=200, help="runs of a row, with the seeds 1, 2, .. (default 200)")
     parser.add_argument("--members", type=numbers, default=[1, 2, 3, 5, 8, 16], metavar="N,..",
                         help="rows for these (default 1,2,3,5,8,16)")
@@ -52,8 +54,10 @@ def arguments():
     parser.add_argument("--turns", type=int, default=1_000, help="turns of each member (default 1000)")
     parser.add_argument("--cpu", type=numbers, metavar="C,..", help="run on these cores alone")
     options = parser.parse_args(own)
-    if not os.access(options.ct, os.X_OK):
-        parser.error(f"no program at {options.ct}")
+    name, options.subcommand = ("ct_tool", "walk") if options.walk else ("ct", "free")
+    options.program = options.program or os.path.join(CRATES, name, "out", name)
+    if not os.access(options.program, os.X_OK):
+        parser.error(f"no program at {options.program}")
     return options, given
 
 
@@ -87,7 +91,8 @@ def measure(options, given, members, rate):
     """The runs of one row, and the seconds of each."""
     runs, seconds = [], []
     for seed in range(1, options.seeds + 1):
-        words = [options.ct, "free", "--members", members, "--rate", rate, "--turns", options.turns, "--seed", seed]
+        words = [options.program, options.subcommand, "--members", members, "--rate", rate, "--turns", options.turns,
+                 "--seed", seed]
         start = time.perf_counter()
         done = subprocess.run([str(word) for word in words] + given, stdout=subprocess.PIPE, check=True)
         seconds.append(time.perf_counter() - start)

@@ -1,7 +1,8 @@
 #!/usr/bin/env bash
-# Runs the built program `ct` on the cases of table.txt, on the records of ../examples, freely, and with little memory.
+# Runs the built program `ct` on the cases of table.txt, on the records of ../examples, freely, and with little memory; and
+# the built program `ct_tool` on the cases of tool_table.txt.
 #
-#     cases/run.sh [CT]        CT: the built program; crates/ct/out/ct if left out
+#     cases/run.sh [CT [CT_TOOL]]        the built programs; those of ../crates/*/out if left out
 #
 # Prints a line for each failing case and ends with `N passed, M failed`, and with
 # status 0 only where none failed. A run of more than 20 seconds fails. Needs bash 4.4.
@@ -10,11 +11,15 @@ export LC_ALL=C
 
 here=$(cd "$(dirname "$0")" && pwd)
 ct=${1:-$here/../crates/ct/out/ct}
-if [[ ! -x $ct || -d $ct ]]; then
-    echo "cases/run.sh: no program at $ct" >&2
-    exit 2
-fi
+tool=${2:-$here/../crates/ct_tool/out/ct_tool}
+for program in "$ct" "$tool"; do
+    if [[ ! -x $program || -d $program ]]; then
+        echo "cases/run.sh: no program at $program" >&2
+        exit 2
+    fi
+done
 ct=$(realpath "$ct")
+tool=$(realpath "$tool")
 cd "$here" || exit 2
 folder=$(mktemp -d)
 trap 'rm -rf "$folder"' EXIT
@@ -95,7 +100,7 @@ as_wanted() {
 # start_of FILE: its first bytes on one line.
 start_of() { head -c 120 "$1" | tr '\n' ' '; }
 
-# check NAME ARGUMENTS STATUS OUTPUT ERROR INPUT: runs one case and counts it.
+# check NAME ARGUMENTS STATUS OUTPUT ERROR INPUT: runs one case of $program and counts it.
 check() {
     local name=$1 words status wrong=''
     read -ra words < <(printf '%b\n' "$2")
@@ -104,7 +109,7 @@ check() {
     @closed | @directory | @zeros | @piped\ *) ;;
     *) make_input "$6" >"$folder/input" ;;
     esac
-    with_output "$4" with_input "$6" timeout -k 5 20 "$ct" ${words[@]+"${words[@]}"} 2>"$folder/error"
+    with_output "$4" with_input "$6" timeout -k 5 20 "$program" ${words[@]+"${words[@]}"} 2>"$folder/error"
     status=$?
     [[ $status == "$3" ]] || wrong+=" status $status, not $3;"
     as_wanted "$4" "$folder/output" || wrong+=" output '$(start_of "$folder/output")', not '$4';"
@@ -157,22 +162,50 @@ check_free_runs() {
     fi
 }
 
-while IFS= read -r line <&9; do
-    [[ -n $line && $line != \#* ]] || continue
-    fields=()
-    while [[ ${#fields[@]} -lt 5 && $line == *'|'* ]]; do
-        trim "${line%%|*}"
-        fields+=("$trimmed")
-        line=${line#*|}
-    done
-    trim "$line"
-    if [[ ${#fields[@]} -ne 5 ]]; then
+# check_walks: the same options give the same record, which is replayed; other seeds give others; what is found is as asked.
+check_walks() {
+    local wrong=''
+    "$tool" walk --members 3 --seed 7 >"$folder/output" 2>"$folder/error" || wrong+=" a walk fails;"
+    "$tool" walk --members 3 --seed 7 | cmp -s - "$folder/output" || wrong+=" a walk is not the same again;"
+    ! "$tool" walk --members 3 --seed 8 | cmp -s - "$folder/output" || wrong+=" another seed gives the same walk;"
+    [[ $("$ct" replay <"$folder/output") =~ ' posted '[1-9] ]] || wrong+=" a walk posts no batch;"
+    "$tool" walk --members 3 --find round 5 --seeds 1..100 2>"$folder/error" | "$ct" replay >"$folder/report" ||
+        wrong+=" no seed of 100 gives a round 5;"
+    [[ $("$tool" walk --members 3 --until decided 1 | "$ct" replay) =~ 'decided 1:' ]] || wrong+=" nothing is decided;"
+    if [[ -z $wrong ]]; then
+        passed=$((passed + 1))
+    else
         failed=$((failed + 1))
-        echo "FAILED a line of table.txt has too few fields: $line"
-        continue
+        echo "FAILED walks:${wrong%;}"
     fi
-    check "${fields[@]}" "$trimmed"
-done 9<table.txt
+}
+
+# check_table FILE: the cases of a table.
+check_table() {
+    local line fields
+    while IFS= read -r line <&9; do
+        [[ -n $line && $line != \#* ]] || continue
+        fields=()
+        while [[ ${#fields[@]} -lt 5 && $line == *'|'* ]]; do
+            trim "${line%%|*}"
+            fields+=("$trimmed")
+            line=${line#*|}
+        done
+        trim "$line"
+        if [[ ${#fields[@]} -ne 5 ]]; then
+            failed=$((failed + 1))
+            echo "FAILED a line of $1 has too few fields: $line"
+            continue
+        fi
+        check "${fields[@]}" "$trimmed"
+    done 9<"$1"
+}
+
+program=$tool
+check_table tool_table.txt
+check_walks
+program=$ct
+check_table table.txt
 
 for record in ../examples/*.json; do
     name=${record%.json}

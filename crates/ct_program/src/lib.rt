@@ -31,16 +31,17 @@ pub use free_options::FreeOptions;
 pub use freeing::free;
 pub use law::law_round_trip;
 pub use line_fault::LineFault;
+pub use planning::{postponements, submissions};
 pub use program_fault::ProgramFault;
 pub use read_fault::ReadFault;
 pub use reading::read_record;
-pub use replaying::run_replay;
+pub use replaying::{run_replay, write_all};
 pub use reporting::report;
 pub use script::Script;
 pub use seeding::seeded;
 pub use sink::Sink;
 pub use source::Source;
-pub use words::line;
+pub use words::{found_options, line, number_in, with_free_options};
 pub use writing::write_record;
 
 #[cfg(test)]

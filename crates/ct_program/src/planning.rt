@@ -26,8 +26,8 @@ pub(crate) fn plan(alloc: Global, options: &FreeOptions) -> Result<Plan, AllocEr
     })
 }
 
-// The first script: submissions, and the crash where one is asked for.
-fn submissions(alloc: Global, options: &FreeOptions) -> Result<Vec<Disturbance>, AllocError>
+/// The first script: submissions, and the crash where one is asked for.
+pub fn submissions(alloc: Global, options: &FreeOptions) -> Result<Vec<Disturbance>, AllocError>
     requires { InRange options.now }
     ensures exact { IfOk result (λ script. script.items ≡ first_script options.now) }
     ensures few { IfOk result (λ script. vec_len script ≤ 1001) }
@@ -42,8 +42,8 @@ fn submissions(alloc: Global, options: &FreeOptions) -> Result<Vec<Disturbance>,
     Ok(script)
 }
 
-// The second script: postponements.
-fn postponements(alloc: Global, options: &FreeOptions) -> Result<Vec<Disturbance>, AllocError>
+/// The second script: postponements.
+pub fn postponements(alloc: Global, options: &FreeOptions) -> Result<Vec<Disturbance>, AllocError>
     requires { InRange options.now }
     ensures exact { IfOk result (λ script. script.items ≡ second_script options.now) }
     ensures few { IfOk result (λ script. vec_len script ≤ 1000) }

@@ -116,7 +116,8 @@ fn answer(alloc: Global, bytes: Vec<u8>) -> Result<Vec<u8>, ProgramFault>
     Ok(report(alloc, &world)?)
 }
 
-pub(crate) fn write_all<W: Sink>(writer: &mut W, bytes: &[u8]) -> Result<(), Failed>
+/// Writes all the bytes, in as many writes as the sink takes, until one fails.
+pub fn write_all<W: Sink>(writer: &mut W, bytes: &[u8]) -> Result<(), Failed>
     requires { W.failures writer.old < 2 ^ 63 }
     ensures bytes { OnOk result (Appends (W.written writer.old) (W.written writer.new) bytes.now) }
     ensures part { OnErr result (WritesPart (W.written writer.old) (W.written writer.new) bytes.now) }

@@ -1,9 +1,9 @@
 //! The words of a command line.
 
-ghost use Rattle.std.specs.Prelude.{◌≡◌, ◌≤◌, ℕ, List, [], ◌∷◌, false, map, codes, Some, None, Err, OnOk, IfOk, IfErr, IfSome};
-ghost use Rattle.clap.specs.Words.{app_of, found_of, rows_of, rule_of};
+ghost use Rattle.std.specs.Prelude.{◌≡◌, ◌≤◌, ℕ, List, [], ◌∷◌, false, fold, map, codes, Some, None, Err, OnOk, IfOk, IfErr, IfSome};
+ghost use Rattle.clap.specs.Words.{app_of, found_of, rows_of, rule_of, with_rule};
 ghost use Rattle.ct_program.specs.FreeOptions.{FreeInRange, InRange};
-ghost use Rattle.ct_program.specs.Line.{program, free_app, option_rule, required_rule, faults_of, call_of, option_in, options_of, whole_in, IsOfKind, IsMemory};
+ghost use Rattle.ct_program.specs.Line.{program, free_app, free_rules, option_rule, required_rule, faults_of, call_of, option_in, options_of, whole_in, IsOfKind, IsMemory};
 
 use crate::call::Call;
 use crate::free_options::FreeOptions;
@@ -29,16 +29,16 @@ pub fn line<'a>(alloc: Global, words: &'a [&'a str]) -> Result<Call, LineFault>
     };
     match matches.subcommand_matches("free") {
         None => Ok(Call::Replay),
-        Some(found) => match options(found) {
+        Some(found) => match found_options(found) {
             Some(options) => Ok(Call::Free(options)),
             None => Err(LineFault::Range),
         },
     }
 }
 
-// The options that clap found; None where a value is no whole number of its option's range.
+/// The options of a free run that clap found; None where a value is no whole number of its option's range.
 #[tactic(auto, unfolding(crate::specs::Line::options_of))]
-fn options(found: &ArgMatches<'_>) -> Option<FreeOptions>
+pub fn found_options(found: &ArgMatches<'_>) -> Option<FreeOptions>
     ensures exact { result ≡ options_of (rows_of (found_of found.now)) }
     ensures range { IfSome result InRange }
 {
@@ -60,11 +60,11 @@ fn number(found: &ArgMatches<'_>, name: &str, low: u32, high: u32) -> Option<u32
     ensures range { IfSome result (λ n. (low ≤ n) × (n ≤ high)) }
 {
     let text = found.get_str(name)?;
-    whole(text, low, high)
+    number_in(text, low, high)
 }
 
-// The whole number of the text; None where it has none from `low` to `high`.
-fn whole(text: &str, low: u32, high: u32) -> Option<u32>
+/// The whole number of the text; None where it has none from `low` to `high`.
+pub fn number_in(text: &str, low: u32, high: u32) -> Option<u32>
     ensures value { result ≡ whole_in low high text.now }
     ensures range { IfSome result (λ n. (low ≤ n) × (n ≤ high)) }
 {
@@ -102,17 +102,24 @@ fn command<'a>(alloc: Global) -> Result<Command<'a>, AllocError>
 fn free<'a>(alloc: Global) -> Result<Command<'a>, AllocError>
     ensures { IfOk result (λ command. app_of command ≡ free_app) }
 {
-    Command::new(alloc, "free")
-        .about(
-            "Runs a group of members under threads, with failure detectors that answer at random, and writes the record of the run to standard output",
-        )
+    let command = Command::new(alloc, "free").about(
+        "Runs a group of members under threads, with failure detectors that answer at random, and writes the record of the run to standard output",
+    );
+    let turns = "How many turns the thread of each member takes, 0 to 100000";
+    with_free_options(alloc, command, turns)
+}
+
+/// The command, and after its own arguments the options of a free run. This is the help of the option `turns`.
+pub fn with_free_options<'a>(
+    alloc: Global,
+    command: Command<'a>,
+    turns: &'a str,
+) -> Result<Command<'a>, AllocError>
+    ensures { IfOk result (λ longer. app_of longer ≡ fold with_rule (app_of command.entry) free_rules) }
+{
+    command
         .arg(required(alloc, "members", "The number of members, 1 to 16"))?
-        .arg(option(
-            alloc,
-            "turns",
-            "1000",
-            "How many turns the thread of each member takes, 0 to 100000",
-        ))?
+        .arg(option(alloc, "turns", "1000", turns))?
         .arg(option(
             alloc,
             "seed",

@@ -41,6 +41,15 @@ round_of w p = unwrap_or (option_map (λ c. c.round) (if_member w p (member_of w
 unfoldable pub ask_of : Rehearsal → ℕ → Ask
 ask_of w p = record { member = p; coordinator = coordinator w.setting.members (round_of w p); instance = instance_of w p; round = round_of w p }
 
+-- what p asks where this step comes next: a suspicion alone is asked about
+abbrev pub asked_for : Option Step → Ask → Option Ask
+asked_for (Some (Suspect p)) ask = Some ask
+asked_for _ ask = None
+
+-- what a turn of p asks its detector; None where it asks nothing
+unfoldable pub question : Rehearsal → ℕ → Option Ask
+question w p = asked_for (next_local w p) (ask_of w p)
+
 -- the answer that a detector gave last
 abbrev pub said : Option (Ask × Bool) → Bool
 said (Some last) = last.1

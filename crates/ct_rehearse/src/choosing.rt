@@ -2,7 +2,7 @@
 
 ghost use Rattle.std.specs.Prelude.{◌≡◌, Some};
 ghost use Rattle.ct_world.specs.Driving.{next_local};
-ghost use Rattle.ct_rehearse.specs.Choices.{HasAsked, ask_of, chosen, entry_step, first_waiting, instance_of, receives, round_of, said, tried};
+ghost use Rattle.ct_rehearse.specs.Choices.{HasAsked, ask_of, chosen, entry_step, first_waiting, instance_of, question, receives, round_of, said, tried};
 
 use crate::disturbance::Disturbance;
 use ct_detect::{Ask, Detector};
@@ -43,18 +43,56 @@ fn chosen(
     }
 }
 
+/// What a turn of the member asks its detector: of the coordinator of its round, where a suspicion comes next; None where
+/// it asks nothing.
+#[tactic(auto, unfolding(crate::specs::Choices::question))]
+pub fn question(world: &World, member: Member) -> Option<Ask>
+    ensures { result ≡ question world.now.rehearsal member }
+{
+    match world.next_local(member) {
+        Some(Step::Suspect(_)) => Some(ask(world, member)),
+        _ => None,
+    }
+}
+
+// What a turn of the member tries, where its detector gives this answer.
+#[tactic(auto, unfolding(crate::specs::Choices::tried))]
+pub(crate) fn tried_by(world: &World, member: Member, suspects: bool) -> Option<Step>
+    ensures { result ≡ tried world.now.rehearsal member (Some (ask_of world.now.rehearsal member, suspects)) }
+{
+    let chosen = chosen_by(world, member, world.next_local(member), suspects);
+    if world.crashed(member) { None } else { chosen }
+}
+
+// What is tried where this step comes next, and this is the detector's answer.
+fn chosen_by(world: &World, member: Member, next: Option<Step>, suspects: bool) -> Option<Step>
+    ensures { result ≡ chosen member (first_waiting world.now.rehearsal member) suspects next }
+{
+    match next {
+        Some(Step::Suspect(_)) if !suspects => receipt(world, member),
+        Some(step) => Some(step),
+        None => receipt(world, member),
+    }
+}
+
 // Asks the detector.
-#[tactic(auto, unfolding(crate::specs::Choices::ask_of))]
 fn suspects(world: &World, member: Member, detector: &mut dyn Detector) -> bool
     ensures { last detector.new ≡ Some (ask_of world.now.rehearsal member, result) }
 {
+    detector.suspects(ask(world, member))
+}
+
+#[tactic(auto, unfolding(crate::specs::Choices::ask_of))]
+fn ask(world: &World, member: Member) -> Ask
+    ensures { result ≡ ask_of world.now.rehearsal member }
+{
     let round = round_of(world, member);
-    detector.suspects(Ask {
+    Ask {
         member,
         coordinator: world.group().coordinator(round),
         instance: instance_of(world, member),
         round,
-    })
+    }
 }
 
 #[tactic(auto, unfolding(crate::specs::Choices::instance_of))]

@@ -104,9 +104,10 @@ impl<L: Ledger> Desk<L> {
         share.audit(&mut self.total);
     }
 
-    // The world, in which no step is prepared. (Nobody's crash is refused, and then none is.)
+    /// The world, in which no step is prepared.
+    // (Nobody's crash is refused, and then none is.)
     #[tactic(auto, unfolding(ct_model::specs::Cause::cause))]
-    pub(crate) fn into_world(self) -> World
+    pub fn into_world(self) -> World
         ensures rehearsal { result.rehearsal ≡ self.rehearsal }
         ensures none { result.prepared ≡ None }
         ensures safe { IsSafe result.rehearsal.setting (state_of result.rehearsal) }

@@ -23,6 +23,7 @@ mod turns;
 mod worked;
 mod working;
 
+pub use choosing::question;
 pub use desk::Desk;
 pub use disturbance::Disturbance;
 pub use gate::{Gate, NoGate};
@@ -36,7 +37,7 @@ pub use rehearsed::Rehearsed;
 pub use rehearsing::rehearse;
 pub use run_fault::RunFault;
 pub use share::Share;
-pub use turns::{disturb, turn};
+pub use turns::{disturb, turn, turn_answered};
 
 #[cfg(test)]
 mod tests;

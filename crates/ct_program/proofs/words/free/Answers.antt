@@ -1,18 +1,12 @@
 use Rattle.std.proofs.Common.{codes, ap, ◌≡◌, ◌∙◌}
+use Rattle.std.specs.Prelude.{fold}
 use Rattle.std.proofs.lemmas.Result.{IfOk-weaker}
-use Rattle.clap.specs.Words.{app_of, new_app}
+use Rattle.clap.specs.Words.{app_of, new_app, with_rule}
 use Rattle.clap.specs.Simple.{app_of_fields}
-use Rattle.ct_program.proofs.Lines.{with_option}
+use Rattle.ct_program.specs.Line.{free_rules}
 use Rattle.ct_program.proofs.words.free.Goals as goal
 
 pub returns : goal.returns
 returns c =
-    let start : app_of c.about.result ≡ new_app (codes "free") = ap app_of_fields c.about.ensures ∙ c.new.ensures.app in
-    let members = with_option _ _ _ _ _ c.in_ok-arg.ensures c.required.ensures.local start c.required.ensures.rule in
-    let turns = with_option _ _ _ _ _ c.in_ok-arg-2.ensures c.option.ensures.local members c.option.ensures.rule in
-    let seed = with_option _ _ _ _ _ c.in_ok-arg-3.ensures c.option-2.ensures.local turns c.option-2.ensures.rule in
-    let rate = with_option _ _ _ _ _ c.in_ok-arg-4.ensures c.option-3.ensures.local seed c.option-3.ensures.rule in
-    let cells = with_option _ _ _ _ _ c.in_ok-arg-5.ensures c.option-4.ensures.local rate c.option-4.ensures.rule in
-    let submit = with_option _ _ _ _ _ c.in_ok-arg-6.ensures c.option-5.ensures.local cells c.option-5.ensures.rule in
-    let crash = with_option _ _ _ _ _ c.in_ok-arg-7.ensures c.option-6.ensures.local submit c.option-6.ensures.rule in
-    IfOk-weaker c.arg-8.result _ _ (λ r adds. with_option _ _ _ _ _ adds c.option-7.ensures.local crash c.option-7.ensures.rule) c.arg-8.ensures
+    let start : app_of c.about-command.result ≡ new_app (codes "free") = ap app_of_fields c.about-command.ensures ∙ c.new.ensures.app in
+    IfOk-weaker c.with_free_options.result _ _ (λ r longer. longer ∙ ap (λ app. fold with_rule app free_rules) start) c.with_free_options.ensures

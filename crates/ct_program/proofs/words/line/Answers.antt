@@ -20,16 +20,16 @@ returns-in-None-clause-call c =
     replay_called _ _ _ c.in_ok-command.ensures c.in-Ok.ensures.matches (c.in-Ok.ensures.kinds (exact_app _ c.in_ok-command.ensures))
     (λ named. true≢false (sym (c.subcommand_matches.ensures.found.1 named) ∙ none))
 
-pub returns-in-Some-options-clause-ok : goal.returns-in-Some-options-clause-ok
-returns-in-Some-options-clause-ok c = no_faults _ _ c.in_ok-command.ensures (c.in-Ok.ensures.kinds (exact_app _ c.in_ok-command.ensures))
+pub returns-in-Some-found_options-clause-ok : goal.returns-in-Some-found_options-clause-ok
+returns-in-Some-found_options-clause-ok c = no_faults _ _ c.in_ok-command.ensures (c.in-Ok.ensures.kinds (exact_app _ c.in_ok-command.ensures))
 
-pub returns-in-Some-options-clause-call : goal.returns-in-Some-options-clause-call
-returns-in-Some-options-clause-call c =
+pub returns-in-Some-found_options-clause-call : goal.returns-in-Some-found_options-clause-call
+returns-in-Some-found_options-clause-call c =
     free_called _ _ _ _ c.in_ok-command.ensures c.in-Ok.ensures.matches (c.subcommand_matches.ensures.found.0 (ap is_some c.in-Some.is)) c.in-Some.ensures.rows
-    ∙ ap (option_map Free) (sym c.options.ensures.exact ∙ c.in-Some-options.is)
+    ∙ ap (option_map Free) (sym c.found_options.ensures.exact ∙ c.in-Some-found_options.is)
 
-pub returns-in-Some-options-clause-in_range : goal.returns-in-Some-options-clause-in_range
-returns-in-Some-options-clause-in_range c = c.in-Some-options.ensures.range
+pub returns-in-Some-found_options-clause-in_range : goal.returns-in-Some-found_options-clause-in_range
+returns-in-Some-found_options-clause-in_range c = c.in-Some-found_options.ensures.range
 
 pub returns-clause-err : goal.returns-clause-err
 returns-clause-err c = no_faults _ _ c.in_ok-command.ensures (c.in-Ok.ensures.kinds (exact_app _ c.in_ok-command.ensures))
@@ -37,7 +37,7 @@ returns-clause-err c = no_faults _ _ c.in_ok-command.ensures (c.in-Ok.ensures.ki
 pub returns-clause-range : goal.returns-clause-range
 returns-clause-range c = λ _.
     free_called _ _ _ _ c.in_ok-command.ensures c.in-Ok.ensures.matches (c.subcommand_matches.ensures.found.0 (ap is_some c.in-Some.is)) c.in-Some.ensures.rows
-    ∙ ap (option_map Free) (sym c.options.ensures.exact ∙ c.in-None-options.is)
+    ∙ ap (option_map Free) (sym c.found_options.ensures.exact ∙ c.in-None-found_options.is)
 
 pub returns-clause-replay : goal.returns-clause-replay
 returns-clause-replay c = λ name e.

@@ -1,6 +1,6 @@
 use Rattle.std.proofs.Common.{arith}
 use Rattle.ct_program.proofs.Numbers.{whole_above, whole_below, whole_none, whole_within}
-use Rattle.ct_program.proofs.words.whole.Goals as goal
+use Rattle.ct_program.proofs.words.number_in.Goals as goal
 
 pub returns-in-Ok-clause-value : goal.returns-in-Ok-clause-value
 returns-in-Ok-clause-value c = whole_within c.parse.result _ _ _ _ c.in-Ok.is c.parse.ensures.value.0 c.if-low-n.true c.if-n-high.true

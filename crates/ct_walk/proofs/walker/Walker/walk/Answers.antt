@@ -1,0 +1,31 @@
+use Rattle.std.proofs.Common.{◌∙◌, ◌+◌, ◌-◌, arith, ap, sym}
+use Rattle.ct_world.specs.World.{WorldView}
+use Rattle.ct_walk.specs.Shown.{is_shown}
+use Rattle.ct_walk.specs.Walking.{Walk}
+use Rattle.ct_walk.proofs.Looping.{walk_ends, walk_goes, walk_stops}
+use Rattle.ct_walk.proofs.walker.Walker.walk.Goals as goal
+
+pub loop-made-preserved : goal.loop-made-preserved
+loop-made-preserved g c =
+    let same = ap (λ (w : WorldView). w.rehearsal) c.world.ensures ∙ ap (λ (w : Walk). w.rehearsal) c.self.view_is in
+    let shown = ap (is_shown c.args.until) (sym same) ∙ (sym c.is_shown.ensures ∙ c.if-is_shown.false) in
+    let made = c.loop-made.made in
+    let next = c.args.most - (made + 1) in
+    sym (walk_goes c.args.every c.args.until made (c.args.most - made) next c.loop-made.self _
+    (omega (arith, c.loop-made-test.true)) c.in_ok-turn.ensures.ok shown)
+    ∙ c.loop-made.invariant
+
+pub returns-then-is_shown-clause-ok : goal.returns-then-is_shown-clause-ok
+returns-then-is_shown-clause-ok g c =
+    let same = ap (λ (w : WorldView). w.rehearsal) c.world.ensures ∙ ap (λ (w : Walk). w.rehearsal) c.self.view_is in
+    let shown = ap (is_shown c.args.until) (sym same) ∙ (sym c.is_shown.ensures ∙ c.if-is_shown.true) in
+    let made = c.loop-made.made in
+    let next = c.args.most - (made + 1) in
+    sym (walk_stops c.args.every c.args.until made (c.args.most - made) next c.loop-made.self _
+    (omega (arith, c.loop-made-test.true)) c.in_ok-turn.ensures.ok shown)
+    ∙ c.loop-made.invariant
+
+pub returns-clause-ok : goal.returns-clause-ok
+returns-clause-ok g c =
+    sym (walk_ends c.args.every c.args.until c.loop-made.made _ c.loop-made.self (omega (arith, c.loop-made-test.false)))
+    ∙ c.loop-made.invariant

@@ -1,0 +1,11 @@
+-- Which seed's walk shows what is looked for.
+use Rattle.std.specs.Prelude.{ℕ, zero, suc, ◌+◌, Option, Some, None, if◌then◌else◌}
+use Rattle.ct_walk.specs.declared.options.WalkOptions.{WalkOptions}
+use Rattle.ct_walk.specs.Options.{with_seed}
+use Rattle.ct_walk.specs.Shown.{is_shown}
+use Rattle.ct_walk.specs.Walking.{walked}
+
+-- the first of so many seeds, from this one on, whose walk shows what it is made until
+unfoldable pub first_seed : WalkOptions → ℕ → ℕ → Option ℕ
+first_seed o seed zero = None
+first_seed o seed (suc more) = if is_shown o.until (walked (with_seed o seed)) then Some seed else first_seed o (seed + 1) more

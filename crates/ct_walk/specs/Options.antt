@@ -1,0 +1,14 @@
+-- The ranges of the options of a walk.
+use Rattle.std.specs.Prelude.{◌≤◌, ℕ, Option}
+use Rattle.ct_program.specs.FreeOptions.{InRange}
+use Rattle.ct_program.specs.declared.free_options.FreeOptions.{FreeOptions}
+use Rattle.ct_walk.specs.declared.options.WalkOptions.{WalkOptions}
+
+-- each option is in its range
+pub record IsInRange (o : WalkOptions) : Type 0 where
+  pub run : InRange o.run
+  pub every : o.every ≤ 100000
+
+-- the options with another seed
+abbrev pub with_seed : WalkOptions → ℕ → WalkOptions
+with_seed o seed = record o { run = record o.run { seed = seed } }

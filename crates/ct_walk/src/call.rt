@@ -1,0 +1,21 @@
+//! What a command line asks of walks.
+
+use crate::options::WalkOptions;
+
+/// What the words after `walk` ask for.
+#[derive(Clone, Copy, Debug, Drop, PartialEq, Eq)]
+pub enum Call {
+    /// To make the walk of these options, and write its record.
+    Walk(WalkOptions),
+    /// To make the walks of these seeds until one shows what it is made until, and write its record.
+    Find(WalkOptions, Seeds),
+}
+
+/// Seeds one after the other.
+#[derive(Clone, Copy, Debug, Drop, PartialEq, Eq)]
+pub struct Seeds {
+    /// The first seed.
+    pub first: u32,
+    /// How many there are.
+    pub count: u32,
+}

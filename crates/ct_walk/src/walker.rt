@@ -1,0 +1,266 @@
+//! The turns of a walk.
+
+ghost use Rattle.std.specs.Prelude.{◌≡◌, ◌+◌, ◌-◌, ◌*◌, ◌^◌, ◌<◌, ◌≤◌, Some, None, IfOk, IfErr, IsTrue, OnOk, length};
+ghost use Rattle.ct_program.specs.FreeOptions.{InRange};
+ghost use Rattle.ct_walk.specs.Faults.{IsShort};
+ghost use Rattle.ct_walk.specs.Shown.{is_shown};
+ghost use Rattle.ct_walk.specs.Walking.{after_entry, drawn, driven, has_first, has_second, is_due, is_first_drawn, made_by, postponing, start, submitting, turned, walked_for, workers};
+
+use crate::answering::answer;
+use crate::fault::WalkFault;
+use crate::settled::settled;
+use crate::sight::{Sight, is_shown};
+use crate::worlds::first_world;
+use ct_board::Board;
+use ct_detect::Seeded;
+use ct_names::Member;
+use ct_program::{FreeOptions, postponements, seeded, submissions};
+use ct_rehearse::{Desk, Disturbance, Share, disturb, turn_answered};
+use ct_world::World;
+use rand_core::SeedableRng;
+use rand_core::utils::NextWord;
+use rand_pcg::Pcg32;
+use std::alloc::Global;
+use std::marker::Model;
+use std::sync::ledger::{Blank, Ledger};
+
+// A world, and all that its next turns depend on.
+#[derive(Drop)]
+pub(crate) struct Walker<L: Ledger> {
+    desk: Desk<L>,
+    share: Share<L>,
+    board: Board,
+    draws: Pcg32,
+    detectors: Vec<Seeded>,
+    first: Vec<Disturbance>,
+    second: Vec<Disturbance>,
+    submitted: usize,
+    postponed: usize,
+}
+
+// Contracts see all of it but the share, which has as many steps as the record, the board, and what is prepared.
+impl<L: Ledger> Model for Walker<L> {
+    ghost use Rattle.std.specs.Prelude.{◌≡◌, length};
+    ghost use Rattle.ct_walk.specs.Walking.{Walk};
+
+    ghost Value = { Walk };
+
+    ghost view = { λ w. record {
+      rehearsal = w.desk.rehearsal;
+      draws = w.draws;
+      detectors = w.detectors.items;
+      first = w.first.items;
+      second = w.second.items;
+      submitted = w.submitted;
+      postponed = w.postponed;
+    } };
+
+    ghost invariant = { λ w. w.share.steps ≡ length w.desk.rehearsal.steps };
+}
+
+impl<L: Ledger> Walker<L> {
+    // The walk of these options before its first turn.
+    #[tactic(auto, unfolding(crate::specs::Walking::start, ct_detect::specs::Seeded::words_of_seed))]
+    pub(crate) fn new(
+        alloc: Global,
+        blank: Blank,
+        options: &FreeOptions,
+    ) -> Result<Walker<L>, WalkFault>
+        requires range { InRange options.now }
+        requires name { blank.name ≡ L.name }
+        requires parts { blank.parts ≡ L.parts }
+        requires whole { L.parts ≡ 1000 }
+        ensures ok { IfOk result (λ walker. walker ≡ start options.now) }
+        ensures few { IfOk result (λ walker. length walker.first + length walker.second ≤ 2001) }
+        ensures err { IfErr result IsShort }
+    {
+        let detectors = seeded(alloc, options)?;
+        let first = submissions(alloc, options)?;
+        let second = postponements(alloc, options)?;
+        let board = Board::new(alloc, usize::from(options.cells))?;
+        let world = first_world(alloc, options)?;
+        let (desk, share) = Desk::new(blank, world);
+        Ok(Walker {
+            desk,
+            share,
+            board,
+            draws: Pcg32::seed_from_u64(u64::from(options.seed)),
+            detectors,
+            first,
+            second,
+            submitted: 0,
+            postponed: 0,
+        })
+    }
+
+    // How many turns are to be made at most, where each member makes so many.
+    pub(crate) fn most_turns(&self, turns: u32) -> u64
+        requires turns { turns ≤ 100000 }
+        requires entries { length self.now.first + length self.now.second ≤ 2001 }
+        ensures { result ≡ self.now.rehearsal.setting.members * turns + (length self.now.first + length self.now.second) }
+    {
+        let members = u64::from(self.desk.world().group().n());
+        let entries = self.first.len() as u64 + self.second.len() as u64;
+        members * u64::from(turns) + entries
+    }
+
+    // Makes so many turns at most, until a member shows what is asked for.
+    pub(crate) fn walk(
+        &mut self,
+        every: u32,
+        until: Option<Sight>,
+        most: u64,
+    ) -> Result<(), WalkFault>
+        ensures ok { OnOk result (self.new ≡ walked_for every until 0 most self.old) }
+        ensures err { IfErr result IsShort }
+    {
+        for made in 0..most {
+            self.turn(every, made + 1)?;
+            if is_shown(until, self.desk.world()) {
+                return Ok(());
+            }
+        }
+        Ok(())
+    }
+
+    // Makes the turn of this number.
+    #[tactic(auto, unfolding(crate::specs::Walking::turned))]
+    fn turn(&mut self, every: u32, number: u64) -> Result<(), WalkFault>
+        ensures ok { OnOk result (self.new ≡ turned every number self.old) }
+        ensures err { IfErr result IsShort }
+    {
+        if self.is_due(every, number) {
+            return self.submit();
+        }
+        self.draw(every)
+    }
+
+    // Whether the turn is the first script's without a draw.
+    #[tactic(auto, unfolding(crate::specs::Walking::is_due))]
+    fn is_due(&self, every: u32, number: u64) -> bool
+        ensures value { result ≡ is_due every number self.now }
+        ensures left { IsTrue result → self.now.submitted < length self.now.first }
+    {
+        self.has_first() && every != 0 && number % u64::from(every) == 0
+    }
+
+    fn has_first(&self) -> bool
+        ensures { result ≡ has_first self.now }
+    {
+        self.submitted < self.first.len()
+    }
+
+    fn has_second(&self) -> bool
+        ensures { result ≡ has_second self.now }
+    {
+        self.postponed < self.second.len()
+    }
+
+    fn is_first_drawn(&self, every: u32) -> bool
+        ensures { result ≡ is_first_drawn every self.now }
+    {
+        self.has_first() && every == 0
+    }
+
+    // How many workers the coming turn is drawn from.
+    #[tactic(auto, unfolding(crate::specs::Walking::workers))]
+    fn workers(&self, every: u32) -> u32
+        ensures value { result ≡ workers every self.now }
+        ensures some { 0 < result }
+    {
+        u32::from(self.desk.world().group().n())
+            + u32::from(self.is_first_drawn(every))
+            + u32::from(self.has_second())
+    }
+
+    // Makes a turn of a worker that is drawn.
+    #[tactic(auto, unfolding(crate::specs::Walking::drawn, ct_detect::specs::Seeded::next_word, ct_detect::specs::Seeded::after_word))]
+    fn draw(&mut self, every: u32) -> Result<(), WalkFault>
+        ensures ok { OnOk result (self.new ≡ drawn every self.old) }
+        ensures err { IfErr result IsShort }
+    {
+        let workers = self.workers(every);
+        let place = self.draws.next_word() % workers;
+        self.make(every, place)
+    }
+
+    // Makes a turn of the worker of this number.
+    #[tactic(auto, unfolding(crate::specs::Walking::made_by))]
+    fn make(&mut self, every: u32, place: u32) -> Result<(), WalkFault>
+        ensures ok { OnOk result (self.new ≡ made_by every self.old place) }
+        ensures err { IfErr result IsShort }
+    {
+        let members = u32::from(self.desk.world().group().n());
+        if place < members {
+            return self.drive(place as u8 + 1);
+        }
+        if place == members && self.is_first_drawn(every) {
+            return self.submit();
+        }
+        if self.has_second() {
+            return self.postpone();
+        }
+        Ok(())
+    }
+
+    // Makes a turn of a member.
+    #[tactic(auto, unfolding(crate::specs::Walking::driven))]
+    fn drive(&mut self, member: Member) -> Result<(), WalkFault>
+        requires { 0 < member }
+        ensures ok { OnOk result (self.new ≡ driven self.old member) }
+        ensures err { IfErr result IsShort }
+    {
+        let suspects = answer(self.desk.world(), &mut self.detectors, member);
+        let _ = self.desk.world().record();
+        let turn = turn_answered(
+            &mut self.desk,
+            &mut self.share,
+            &self.board,
+            member,
+            suspects,
+        );
+        settled(&turn)
+    }
+
+    // Makes the next entry of the first script.
+    #[tactic(auto, unfolding(crate::specs::Walking::submitting))]
+    fn submit(&mut self) -> Result<(), WalkFault>
+        requires { self.old.submitted < length self.old.first }
+        ensures ok { OnOk result (self.new ≡ submitting self.old) }
+        ensures err { IfErr result IsShort }
+    {
+        let entry = self.first[self.submitted];
+        self.submitted += 1;
+        self.disturb(&entry)
+    }
+
+    // Makes the next entry of the second script.
+    #[tactic(auto, unfolding(crate::specs::Walking::postponing))]
+    fn postpone(&mut self) -> Result<(), WalkFault>
+        requires { self.old.postponed < length self.old.second }
+        ensures ok { OnOk result (self.new ≡ postponing self.old) }
+        ensures err { IfErr result IsShort }
+    {
+        let entry = self.second[self.postponed];
+        self.postponed += 1;
+        self.disturb(&entry)
+    }
+
+    // Makes an entry of a script.
+    fn disturb(&mut self, entry: &Disturbance) -> Result<(), WalkFault>
+        ensures ok { OnOk result (self.new ≡ record self.old { rehearsal = after_entry self.old.rehearsal (Some entry.now) }) }
+        ensures err { IfErr result IsShort }
+    {
+        let _ = self.desk.world().record();
+        let turn = disturb(&mut self.desk, &mut self.share, &self.board, entry);
+        settled(&turn)
+    }
+
+    // The world.
+    pub(crate) fn into_world(self) -> World
+        ensures rehearsal { result.rehearsal ≡ self.rehearsal }
+        ensures none { result.prepared ≡ None }
+    {
+        self.desk.into_world()
+    }
+}
