@@ -1,5 +1,6 @@
 -- The messages of a set that a list doesn't have join the list in turn.
-use Rattle.std.proofs.Common.{◌≡◌, ℕ, zero, suc, ◌+◌, ◌<◌, Bool, true, false, cond, not, ◌||◌, List, [], ◌∷◌, ◌++◌, length, get_or, take, nat_lt, refl, sym, ap, ◌∙◌, subst, inl, inr, arith, append_assoc, ◌==◌}
+use Rattle.std.proofs.Common.{◌≡◌, ℕ, zero, suc, ◌+◌, ◌<◌, Bool, true, false, cond, not, ◌||◌, List, [], ◌∷◌, ◌++◌, length, get_or, take}
+use Rattle.std.proofs.Common.{nat_lt, refl, sym, ap, ◌∙◌, subst, inl, inr, arith, append_assoc, ◌==◌}
 use Rattle.std.specs.List.{list_any}
 use Rattle.std.proofs.lemmas.Bool.Decides.{nat_tests}
 use Rattle.std.proofs.lemmas.List.{append-nil}
@@ -33,7 +34,8 @@ in-at (x ∷ items) zero m low is = inl is
 in-at (x ∷ items) (suc i) m low is = inr (in-at items i m (omega arith) is)
 
 -- what stands in a list without repeats does not stand before
-fresh : (items : List Message) (i : ℕ) (m : Message) → IsWithoutRepeats items → i < length items → m ≡ get_or items i m → IsIn m (take i items) → ⊥
+fresh : (items : List Message) (i : ℕ) (m : Message) → IsWithoutRepeats items → i < length items → m ≡ get_or items i m →
+    IsIn m (take i items) → ⊥
 fresh [] i m once low is h = absurd (omega arith)
 fresh (x ∷ items) zero m once low is h = h
 fresh (x ∷ items) (suc i) m once low is (inl e) = once.0 (subst (λ z. IsIn z items) e (in-at items i m (omega arith) is))
@@ -52,7 +54,8 @@ or-nothing true b h = refl
 or-nothing false b h = h
 
 -- the next message of the set is inserted where the list doesn't have it
-pub insert-more : (list items : List Message) (i : ℕ) (m : Message) → IsWithoutRepeats items → i < length items → m ≡ get_or items i m → insert_key equal.eq (list ++ minus (take i items) list) m ≡ list ++ minus (take (i + 1) items) list
+pub insert-more : (list items : List Message) (i : ℕ) (m : Message) → IsWithoutRepeats items → i < length items → m ≡ get_or items i m →
+    insert_key equal.eq (list ++ minus (take i items) list) m ≡ list ++ minus (take (i + 1) items) list
 insert-more list items i m once low is =
     ap (λ b. cond b (list ++ kept) ((list ++ kept) ++ m ∷ [])) there
     ∙ (at (has list m)

@@ -1,5 +1,6 @@
 -- Batches in one list, each told by where it ends.
-use Rattle.std.proofs.Common.{◌≡◌, ℕ, zero, suc, ◌-◌, ◌≤◌, ◌<◌, List, [], ◌∷◌, ◌++◌, length, get_or, take, drop, slice_get, Some, None, refl, sym, ap, ◌∙◌, subst, arith, length-append, length-drop, Option, inl, inr}
+use Rattle.std.proofs.Common.{◌≡◌, ℕ, zero, suc, ◌-◌, ◌≤◌, ◌<◌, List, [], ◌∷◌, ◌++◌, length, get_or, take, drop, slice_get, Some, None}
+use Rattle.std.proofs.Common.{refl, sym, ap, ◌∙◌, subst, arith, length-append, length-drop, Option, inl, inr}
 use Rattle.std.specs.Prelude.{slice_range}
 use Rattle.std.proofs.lemmas.List.{drop_all, drop-append-le, take-append-le, take_all}
 use Rattle.std.proofs.lemmas.List.Folds.{drop_split}
@@ -22,7 +23,8 @@ ends-low : (start : ℕ) (ends : List ℕ) (last : ℕ) → AreEnds start ends l
 ends-low start [] last h = omega (arith, h)
 ends-low start (end ∷ ends) last h = let low = ends-low end ends last h.1 in omega (arith, h.0, low)
 
-joined-from : (start : ℕ) (ends : List ℕ) (list : List Message) → AreEnds start ends (length list) → joined (parts start ends list) ≡ drop start list
+joined-from : (start : ℕ) (ends : List ℕ) (list : List Message) → AreEnds start ends (length list) →
+    joined (parts start ends list) ≡ drop start list
 joined-from start [] list h = sym (drop_all start list (omega (arith, h)))
 joined-from start (end ∷ ends) list h =
     ap (λ rest. slice_range list start end ++ rest) (joined-from end ends list h.1) ∙ sym (drop_split list start end h.0)
@@ -31,24 +33,28 @@ joined-from start (end ∷ ends) list h =
 pub joined-parts : (ends : List ℕ) (list : List Message) → AreEnds 0 ends (length list) → joined (parts 0 ends list) ≡ list
 joined-parts ends list h = joined-from 0 ends list h
 
-range-append : (list more : List Message) (start end : ℕ) → start ≤ end → end ≤ length list → slice_range (list ++ more) start end ≡ slice_range list start end
+range-append : (list more : List Message) (start end : ℕ) → start ≤ end → end ≤ length list →
+    slice_range (list ++ more) start end ≡ slice_range list start end
 range-append list more start end low high =
     ap (λ rest. take (end - start) rest) (drop-append-le start list more (omega arith))
     ∙ take-append-le (end - start) (drop start list) more (let l = length-drop start list in omega arith)
 
 -- what is appended is the last part
-parts-from : (start : ℕ) (ends : List ℕ) (list more : List Message) → AreEnds start ends (length list) → parts start (ends ++ length (list ++ more) ∷ []) (list ++ more) ≡ parts start ends list ++ more ∷ []
+parts-from : (start : ℕ) (ends : List ℕ) (list more : List Message) → AreEnds start ends (length list) →
+    parts start (ends ++ length (list ++ more) ∷ []) (list ++ more) ≡ parts start ends list ++ more ∷ []
 parts-from start [] list more h =
     let rest : drop start (list ++ more) ≡ more = ap (λ n. drop n (list ++ more)) h ∙ drop-append_seam list more in
     let size : length (list ++ more) - start ≡ length more = let l = length-append list more in omega (arith, h) in
-    ap (λ part. part ∷ []) (ap (λ n. take n (drop start (list ++ more))) size ∙ ap (λ zs. take (length more) zs) rest ∙ take_all (length more) more (omega arith))
+    ap (λ part. part ∷ []) (ap (λ n. take n (drop start (list ++ more))) size ∙ ap (λ zs. take (length more) zs) rest
+    ∙ take_all (length more) more (omega arith))
 parts-from start (end ∷ ends) list more h =
     let high = ends-low end ends (length list) h.1 in
     let first = range-append list more start end h.0 high in
     let rest = parts-from end ends list more h.1 in
     cc
 
-pub parts-push : (ends : List ℕ) (list more : List Message) → AreEnds 0 ends (length list) → parts 0 (ends ++ length (list ++ more) ∷ []) (list ++ more) ≡ parts 0 ends list ++ more ∷ []
+pub parts-push : (ends : List ℕ) (list more : List Message) → AreEnds 0 ends (length list) →
+    parts 0 (ends ++ length (list ++ more) ∷ []) (list ++ more) ≡ parts 0 ends list ++ more ∷ []
 parts-push ends list more h = parts-from 0 ends list more h
 
 ends-from : (start : ℕ) (ends : List ℕ) (last next : ℕ) → AreEnds start ends last → last ≤ next → AreEnds start (ends ++ next ∷ []) next
@@ -64,7 +70,8 @@ record IsPart (start : ℕ) (ends : List ℕ) (list : List Message) (k from : �
   pub within : get_or ends k 0 ≤ length list
   pub part : slice_get (parts start ends list) k ≡ Some (slice_range list from (get_or ends k 0))
 
-part-from : (start : ℕ) (ends : List ℕ) (list : List Message) (k : ℕ) → AreEnds start ends (length list) → k < length ends → IsPart start ends list k (get_or (start ∷ ends) k 0)
+part-from : (start : ℕ) (ends : List ℕ) (list : List Message) (k : ℕ) → AreEnds start ends (length list) → k < length ends →
+    IsPart start ends list k (get_or (start ∷ ends) k 0)
 part-from start [] list k h low = absurd (omega arith)
 part-from start (end ∷ ends) list zero h low = record { rising = h.0; within = ends-low end ends (length list) h.1; part = refl }
 part-from start (end ∷ ends) list (suc k) h low =
@@ -77,18 +84,22 @@ within-default (end ∷ ends) zero d low = refl
 within-default (end ∷ ends) (suc k) d low = within-default ends k d (omega arith)
 
 -- a part but the first starts where the part before ends
-pub start-before : (ends : List ℕ) (k start : ℕ) → 0 < k → k < length ends → start ≡ get_or ends (k - 1) start → start ≡ get_or (0 ∷ ends) k 0
+pub start-before : (ends : List ℕ) (k start : ℕ) → 0 < k → k < length ends → start ≡ get_or ends (k - 1) start →
+    start ≡ get_or (0 ∷ ends) k 0
 start-before ends zero start low high is = absurd (omega arith)
 start-before ends (suc k) start low high is =
     let same : suc k - 1 ≡ k = omega arith in
     is ∙ (ap (λ j. get_or ends j start) same ∙ within-default ends k start (omega arith))
 
 -- what `get` of the range lends
-part-got : (list : List Message) (from to : ℕ) (r : Option (Bor (List Message))) → from ≤ to → to ≤ length list → IsGetRangeResult list from to r → option_map (λ part. part.now) r ≡ Some (slice_range list from to)
+part-got : (list : List Message) (from to : ℕ) (r : Option (Bor (List Message))) → from ≤ to → to ≤ length list →
+    IsGetRangeResult list from to r → option_map (λ part. part.now) r ≡ Some (slice_range list from to)
 part-got list from to None low high h = elim h.0 [ inl k ↦ absurd (omega arith) | inr k ↦ absurd (omega arith) ]
 part-got list from to (Some part) low high h = ap Some h.0.2
 
-pub part-at : (ends : List ℕ) (list all : List Message) (k from to : ℕ) (r : Option (Bor (List Message))) → AreEnds 0 ends (length list) → k < length ends → all ≡ list → from ≡ get_or (0 ∷ ends) k 0 → to ≡ get_or ends k 0 → IsGetRangeResult all from to r → option_map (λ part. part.now) r ≡ slice_get (parts 0 ends list) k
+pub part-at : (ends : List ℕ) (list all : List Message) (k from to : ℕ) (r : Option (Bor (List Message))) → AreEnds 0 ends (length list) →
+    k < length ends → all ≡ list → from ≡ get_or (0 ∷ ends) k 0 → to ≡ get_or ends k 0 → IsGetRangeResult all from to r →
+    option_map (λ part. part.now) r ≡ slice_get (parts 0 ends list) k
 part-at ends list all k from to r h low all_is from_is to_is got =
     let p = part-from 0 ends list k h low in
     let rising = p.rising in
@@ -103,18 +114,21 @@ part-past ends list k past =
     slice_get_past (parts 0 ends list) k (omega arith)
 
 -- the ends with one more, where more was appended
-pub delivered-ends : (ends next : List ℕ) (list all more : List Message) → AreEnds 0 ends (length list) → all ≡ list ++ more → next ≡ ends ++ length all ∷ [] → AreEnds 0 next (length all)
+pub delivered-ends : (ends next : List ℕ) (list all more : List Message) → AreEnds 0 ends (length list) → all ≡ list ++ more →
+    next ≡ ends ++ length all ∷ [] → AreEnds 0 next (length all)
 delivered-ends ends next list all more h all_is next_is =
     let sum = length-append list more in
     let len : length all ≡ length (list ++ more) = ap length all_is in
     subst (λ z. AreEnds 0 z (length all)) (sym next_is) (ends-push ends (length list) (length all) h (omega arith))
 
-pub delivered-parts : (ends next : List ℕ) (list all more : List Message) → AreEnds 0 ends (length list) → all ≡ list ++ more → next ≡ ends ++ length all ∷ [] → parts 0 next all ≡ parts 0 ends list ++ more ∷ []
+pub delivered-parts : (ends next : List ℕ) (list all more : List Message) → AreEnds 0 ends (length list) → all ≡ list ++ more →
+    next ≡ ends ++ length all ∷ [] → parts 0 next all ≡ parts 0 ends list ++ more ∷ []
 delivered-parts ends next list all more h all_is next_is =
     ap (λ z. parts 0 z all) next_is
     ∙ (ap (λ z. parts 0 (ends ++ length z ∷ []) z) all_is ∙ parts-push ends list more h)
 
 -- what is new of the set is the batch
-pub batch-is : (ends : List ℕ) (list : List Message) (v : Value) → AreEnds 0 ends (length list) → IsOrdered v → minus v list ≡ batch_after (parts 0 ends list) v
+pub batch-is : (ends : List ℕ) (list : List Message) (v : Value) → AreEnds 0 ends (length list) → IsOrdered v →
+    minus v list ≡ batch_after (parts 0 ends list) v
 batch-is ends list v h set =
     sym (set-minus v list set) ∙ ap (λ z. ordered (minus v z)) (sym (joined-parts ends list h))

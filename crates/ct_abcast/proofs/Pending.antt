@@ -20,25 +20,33 @@ use Rattle.ct_abcast.proofs.Fresh.{keys-has, absent, or-nothing}
 has-minus : (list other : List Message) (m : Message) → has (minus list other) m ≡ (has list m && not (has other m))
 has-minus list other m =
     same_test (has (minus list other) m) (has list m && not (has other m))
-    (λ h. let i = in-has (minus list other) m h in both (has list m) (not (has other m)) (has-in list m (minus-from list other m i)) (ap not (absent other m (minus-out list other m i))))
-    (λ h. has-in (minus list other) m (IsIn-filter (λ x. not (has other x)) m list (both-right (has list m) (not (has other m)) h) (in-has list m (both-left (has list m) (not (has other m)) h))))
+    (λ h. let i = in-has (minus list other) m h in both (has list m) (not (has other m)) (has-in list m (minus-from list other m i))
+    (ap not (absent other m (minus-out list other m i))))
+    (λ h. has-in (minus list other) m (IsIn-filter (λ x. not (has other x)) m list (both-right (has list m) (not (has other m)) h)
+    (in-has list m (both-left (has list m) (not (has other m)) h))))
 
 -- the set of what is pending
-pub pending-set : (pending received delivered : List Message) → IsPending pending received delivered → ordered pending ≡ ordered (minus received delivered)
+pub pending-set : (pending received delivered : List Message) → IsPending pending received delivered →
+    ordered pending ≡ ordered (minus received delivered)
 pending-set pending received delivered h =
     same_ordered pending (minus received delivered) (λ m. h m ∙ sym (has-minus received delivered m))
 
 -- the keys of a set after one of them was put in or taken out, as messages
-keys-updated : (old new : List Message) (message : Message) (b : Bool) → ((q : Message) → list_any (equal.eq q) new ≡ cond (equal.eq message q) b (list_any (equal.eq q) old)) → (m : Message) → has new m ≡ cond (is_message message m) b (has old m)
+keys-updated : (old new : List Message) (message : Message) (b : Bool) →
+    ((q : Message) → list_any (equal.eq q) new ≡ cond (equal.eq message q) b (list_any (equal.eq q) old)) → (m : Message) →
+    has new m ≡ cond (is_message message m) b (has old m)
 keys-updated old new message b h m =
     sym (keys-has new m) ∙ (h m ∙ (λ i. cond (same_eq message m i) b (keys-has old m i)))
 
-module _ (pending received new : List Message) (message : Message) (delivered : List Message) (h : IsPending pending received delivered) (is : new ≡ received ++ message ∷ []) where
+module _ (pending received new : List Message) (message : Message) (delivered : List Message) (h : IsPending pending received delivered)
+    (is : new ≡ received ++ message ∷ []) where
   pushed : (m : Message) → has new m ≡ (has received m || is_message message m)
   pushed m = ap (λ list. has list m) is ∙ has-push received message m
 
   -- a message that was not delivered is received
-  pub pending-more : (keys : List Message) → false ≡ has delivered message → ((q : Message) → list_any (equal.eq q) keys ≡ cond (equal.eq message q) true (list_any (equal.eq q) pending)) → IsPending keys new delivered
+  pub pending-more : (keys : List Message) → false ≡ has delivered message →
+      ((q : Message) → list_any (equal.eq q) keys ≡ cond (equal.eq message q) true (list_any (equal.eq q) pending)) →
+      IsPending keys new delivered
   pending-more keys away updated m =
       keys-updated pending keys message true updated m
       ∙ (at (is_message message m) refl
@@ -63,12 +71,17 @@ module _ (pending received new : List Message) (message : Message) (delivered : 
       both_false false true d e = ap not e
       both_false false false d e = refl
 
-      at : (b : Bool) → is_message message m ≡ b → (has received m && not (has delivered m)) ≡ ((has received m || b) && not (has delivered m))
-      at true e = both_false (has received m) (has received m || true) (has delivered m) (subst (λ z. true ≡ has delivered z) (same_message message m e) there)
+      at : (b : Bool) → is_message message m ≡ b → (has received m && not (has delivered m))
+          ≡ ((has received m || b) && not (has delivered m))
+      at true e = both_false (has received m) (has received m || true) (has delivered m)
+          (subst (λ z. true ≡ has delivered z) (same_message message m e) there)
       at false e = ap (λ a. a && not (has delivered m)) (sym (or-nothing (has received m) false refl))
 
 -- one of the messages is taken out, after those before it
-pub taken-more : (pending before now : List Message) (messages more : List Message) (message : Message) → ((m : Message) → has before m ≡ (has pending m && not (has messages m))) → more ≡ messages ++ message ∷ [] → ((q : Message) → list_any (equal.eq q) now ≡ cond (equal.eq message q) false (list_any (equal.eq q) before)) → (m : Message) → has now m ≡ (has pending m && not (has more m))
+pub taken-more : (pending before now : List Message) (messages more : List Message) (message : Message) →
+    ((m : Message) → has before m ≡ (has pending m && not (has messages m))) → more ≡ messages ++ message ∷ [] →
+    ((q : Message) → list_any (equal.eq q) now ≡ cond (equal.eq message q) false (list_any (equal.eq q) before)) → (m : Message) →
+    has now m ≡ (has pending m && not (has more m))
 taken-more pending before now messages more message h is updated m =
     keys-updated before now message false updated m
     ∙ (ap (cond (is_message message m) false) (h m)
@@ -84,7 +97,9 @@ taken-more pending before now messages more message h is updated m =
     at false b false = refl
 
 -- what stays pending after one more batch
-pub pending-left : (pending now received : List Message) (old new : List (List Message)) (v : List Message) → IsPending pending received (joined old) → new ≡ old ++ batch_after old v ∷ [] → ((m : Message) → has now m ≡ (has pending m && not (has v m))) → IsPending now received (joined new)
+pub pending-left : (pending now received : List Message) (old new : List (List Message)) (v : List Message) →
+    IsPending pending received (joined old) → new ≡ old ++ batch_after old v ∷ [] →
+    ((m : Message) → has now m ≡ (has pending m && not (has v m))) → IsPending now received (joined new)
 pending-left pending now received old new v h is left m =
     left m
     ∙ (ap (λ a. a && not (has v m)) (h m)

@@ -17,5 +17,6 @@ eq-Decides a b =
 pub messages-Decides : (list other : List Message) (same : Bool) → same ≡ pointwise equal.eq list other → Decides same (list ≡ other)
 messages-Decides list other same h = slice_eq-Decides eq-Decides list other same h
 
-pub same_batch : (batch : Batch) (instance : ℕ) (messages : List Message) → batch.instance ≡ instance → batch.messages ≡ messages → batch ≡ record { instance = instance; messages = messages }
+pub same_batch : (batch : Batch) (instance : ℕ) (messages : List Message) → batch.instance ≡ instance → batch.messages ≡ messages →
+    batch ≡ record { instance = instance; messages = messages }
 same_batch batch instance messages e f = λ i. record { instance = e i; messages = f i }

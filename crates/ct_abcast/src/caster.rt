@@ -1,6 +1,7 @@
 //! What a member received and delivered.
 
-ghost use Rattle.std.specs.Prelude.{◌≡◌, ℕ, ◌+◌, ◌<◌, ◌≤◌, ◌&&◌, ◌++◌, ◌∷◌, [], false, not, length, nat_lt, slice_get, option_map, IsTrue, IfOk, OnOk, OnErr};
+ghost use Rattle.std.specs.Prelude.{◌≡◌, ℕ, ◌+◌, ◌<◌, ◌≤◌, ◌&&◌, ◌++◌, ◌∷◌, [], false, not, length, nat_lt, slice_get, option_map, IsTrue};
+ghost use Rattle.std.specs.Prelude.{IfOk, OnOk, OnErr};
 ghost use Rattle.indexmap.specs.IndexSet.{spare};
 ghost use Rattle.ct_names.specs.Message.{Message as Plain};
 ghost use Rattle.ct_names.specs.Value.{has};
@@ -34,7 +35,14 @@ impl Model for Caster {
 
     ghost Value = { Cast };
 
-    ghost view = { λ c. record { received = c.received.items; batches = c.delivered.batches; instance = c.instance; room = least (vec_capacity c.received - vec_len c.received) (spare c.pending) c.delivered.room; fits_batch = c.delivered.fits_batch } };
+    ghost view = { λ c. record {
+      received = c.received.items;
+      batches = c.delivered.batches;
+      instance = c.instance;
+      room =
+          least (vec_capacity c.received - vec_len c.received) (spare c.pending) c.delivered.room;
+      fits_batch = c.delivered.fits_batch;
+    } };
 
     ghost invariant = { λ c. IsPending c.pending.keys c.received.items (joined c.delivered.batches) };
 }

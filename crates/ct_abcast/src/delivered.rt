@@ -1,6 +1,7 @@
 //! What a member delivered.
 
-ghost use Rattle.std.specs.Prelude.{◌≡◌, ℕ, ◌+◌, ◌≤◌, ◌++◌, ◌∷◌, [], ◌&&◌, false, length, nat_le, slice_get, option_map, IsTrue, IfOk, OnOk, OnErr};
+ghost use Rattle.std.specs.Prelude.{◌≡◌, ℕ, ◌+◌, ◌≤◌, ◌++◌, ◌∷◌, [], ◌&&◌, false, length, nat_le, slice_get, option_map, IsTrue, IfOk};
+ghost use Rattle.std.specs.Prelude.{OnOk, OnErr};
 ghost use Rattle.ct_names.specs.Value.{has};
 ghost use Rattle.ct_abcast.specs.Batches.{joined, batch_after};
 
@@ -28,7 +29,12 @@ impl Model for Delivered {
 
     ghost Value = { Batches };
 
-    ghost view = { λ d. record { batches = parts 0 d.ends.items d.messages.keys; room = spare d.messages; fits_batch = nat_lt (vec_len d.ends) (vec_capacity d.ends) } };
+    ghost view = { λ d. record {
+      batches = parts 0 d.ends.items d.messages.keys;
+      room = spare d.messages;
+      fits_batch =
+          nat_lt (vec_len d.ends) (vec_capacity d.ends);
+    } };
 
     ghost invariant = { λ d. AreEnds 0 d.ends.items (length d.messages.keys) };
 }

@@ -1,5 +1,6 @@
 -- What a look and a read make of a watcher.
-use Rattle.std.proofs.Common.{◌≡◌, ℕ, ◌+◌, ◌<◌, ◌≤◌, zero, suc, List, [], ◌∷◌, ◌++◌, Some, None, length, get_or, refl, sym, ◌∙◌, ap, arith, append_assoc, append-nil}
+use Rattle.std.proofs.Common.{◌≡◌, ℕ, ◌+◌, ◌<◌, ◌≤◌, zero, suc, List, [], ◌∷◌, ◌++◌, Some, None, length, get_or, refl, sym, ◌∙◌, ap, arith}
+use Rattle.std.proofs.Common.{append_assoc, append-nil}
 use Rattle.std.specs.Prelude.{slice_get}
 use Rattle.std.proofs.lemmas.List.{length-map}
 use Rattle.once_cell.specs.declared.race.note.Note.{Note}
@@ -27,7 +28,8 @@ pub record IsKept (before after : Watched) : Type 0 where
   pub read : batches_read after ≡ batches_read before
   pub told : batches_told after ≡ batches_told before
 
-pub looked : (before after : List (Note Batch)) (r t : ℕ) → cells_of after ≡ cells_of before → Keeps (known_of before) (known_of after) → IsWatching (seen before r t) → IsKept (seen before r t) (seen after r t)
+pub looked : (before after : List (Note Batch)) (r t : ℕ) → cells_of after ≡ cells_of before → Keeps (known_of before) (known_of after) →
+    IsWatching (seen before r t) → IsKept (seen before r t) (seen after r t)
 looked before after r t cells keeps w =
     let len = as_long before after cells in
     let read = somes_kept r (known_of before) (known_of after) w.read_known w.read_within keeps in
@@ -35,7 +37,14 @@ looked before after r t cells keeps w =
     let read_within = w.read_within in
     let told_within = w.told_within in
     record {
-      watching = record { one_each = as_many after; read_within = omega arith; told_within = omega arith; read_known = read.known; told_known = told.known };
+      watching = record {
+        one_each = as_many after;
+        read_within = omega arith;
+        told_within = omega arith;
+        read_known =
+            read.known;
+        told_known = told.known;
+      };
       read = read.same;
       told = told.same;
     }
@@ -47,7 +56,9 @@ pub record IsReadOn (before after : Watched) (batch : Batch) : Type 0 where
   pub told : batches_told after ≡ batches_told before
   pub below : before.read < before.told → slice_get (batches_told before) before.read ≡ Some batch
 
-pub read_on : (before after : List (Note Batch)) (r t : ℕ) (batch : Batch) → cells_of after ≡ cells_of before → Keeps (known_of before) (known_of after) → r < length before → Knows (known_of after) r batch → IsWatching (seen before r t) → IsReadOn (seen before r t) (seen after (r + 1) t) batch
+pub read_on : (before after : List (Note Batch)) (r t : ℕ) (batch : Batch) → cells_of after ≡ cells_of before →
+    Keeps (known_of before) (known_of after) → r < length before → Knows (known_of after) r batch → IsWatching (seen before r t) →
+    IsReadOn (seen before r t) (seen after (r + 1) t) batch
 read_on before after r t batch cells keeps room known w =
     let kept = looked before after r t cells keeps w in
     let now = kept.watching in
@@ -56,13 +67,22 @@ read_on before after r t batch cells keeps room known w =
     let more = somes_next r (known_of after) batch now.read_known (omega arith) known in
     let told_within = now.told_within in
     record {
-      watching = record { one_each = as_many after; read_within = omega arith; told_within = told_within; read_known = more.known; told_known = now.told_known };
+      watching = record {
+        one_each = as_many after;
+        read_within = omega arith;
+        told_within = told_within;
+        read_known =
+            more.known;
+        told_known = now.told_known;
+      };
       read = more.appended ∙ ap (λ batches. batches ++ batch ∷ []) kept.read;
       told = kept.told;
-      below = λ less. ap (λ batches. slice_get batches r) (sym kept.told) ∙ (slice_get-somes t r (known_of after) now.told_known told_within less ∙ known);
+      below = λ less. ap (λ batches. slice_get batches r) (sym kept.told)
+          ∙ (slice_get-somes t r (known_of after) now.told_known told_within less ∙ known);
     }
 
-fold-append : (values : List ℕ) (first next : List Message) → applied_all values (first ++ next) ≡ applied_all (applied_all values first) next
+fold-append : (values : List ℕ) (first next : List Message) →
+    applied_all values (first ++ next) ≡ applied_all (applied_all values first) next
 fold-append values [] next = refl
 fold-append values (m ∷ first) next = fold-append (applied_all values (m ∷ [])) first next
 
@@ -72,7 +92,8 @@ messages_of-next (b ∷ batches) batch =
     ap (λ list. b.messages ++ list) (messages_of-next batches batch) ∙ sym (append_assoc b.messages (messages_of batches) batch.messages)
 
 -- the table of one batch more
-pub table-next : (batches : List Batch) (batch : Batch) → table (messages_of (batches ++ batch ∷ [])) ≡ applied_all (table (messages_of batches)) batch.messages
+pub table-next : (batches : List Batch) (batch : Batch) → table (messages_of (batches ++ batch ∷ []))
+    ≡ applied_all (table (messages_of batches)) batch.messages
 table-next batches batch = ap table (messages_of-next batches batch) ∙ fold-append _ (messages_of batches) batch.messages
 
 past_none : {A : Type 0} (xs : List A) (k : ℕ) → slice_get xs k ≡ None → length xs ≤ k

@@ -1,5 +1,6 @@
 -- The first values of a list, where all of them are known.
-use Rattle.std.proofs.Common.{◌≡◌, ℕ, ◌+◌, ◌<◌, ◌≤◌, zero, suc, List, [], ◌∷◌, ◌++◌, Option, Some, None, All, IsSome, take, length, get_or, false, true, refl, sym, ◌∙◌, ap, subst, arith, inl, inr}
+use Rattle.std.proofs.Common.{◌≡◌, ℕ, ◌+◌, ◌<◌, ◌≤◌, zero, suc, List, [], ◌∷◌, ◌++◌, Option, Some, None, All, IsSome, take, length, get_or}
+use Rattle.std.proofs.Common.{false, true, refl, sym, ◌∙◌, ap, subst, arith, inl, inr}
 use Rattle.std.specs.Prelude.{slice_get}
 use Rattle.ct_board.specs.Known.{somes, Knows, Keeps, SameWhereKnown}
 use Rattle.ct_names.specs.Prefix.{IsPrefix, OneBegins}
@@ -23,12 +24,14 @@ module _ {A : Type 0} where
   length-somes (suc n) (Some x ∷ xs) known within = ap suc (length-somes n xs (rest_known (Some x) (take n xs) known) (omega arith))
 
   -- the k-th of them is what is known at k
-  pub slice_get-somes : (n k : ℕ) (xs : List (Option A)) → All IsSome (take n xs) → n ≤ length xs → k < n → slice_get (somes (take n xs)) k ≡ get_or xs k None
+  pub slice_get-somes : (n k : ℕ) (xs : List (Option A)) → All IsSome (take n xs) → n ≤ length xs → k < n →
+      slice_get (somes (take n xs)) k ≡ get_or xs k None
   slice_get-somes zero k xs known within below = absurd (omega arith)
   slice_get-somes (suc n) k [] known within below = absurd (omega arith)
   slice_get-somes (suc n) k (None ∷ xs) known within below = absurd (none_known (take n xs) known)
   slice_get-somes (suc n) zero (Some x ∷ xs) known within below = refl
-  slice_get-somes (suc n) (suc k) (Some x ∷ xs) known within below = slice_get-somes n k xs (rest_known (Some x) (take n xs) known) (omega arith) (omega arith)
+  slice_get-somes (suc n) (suc k) (Some x ∷ xs) known within below =
+      slice_get-somes n k xs (rest_known (Some x) (take n xs) known) (omega arith) (omega arith)
 
   -- the first n are known in both, and are the same
   pub record AreKept (n : ℕ) (xs ys : List (Option A)) : Type 0 where
@@ -52,7 +55,8 @@ module _ {A : Type 0} where
     pub known : All IsSome (take m xs)
     pub appended : somes (take m xs) ≡ somes (take n xs) ++ x ∷ []
 
-  pub somes_next : (n : ℕ) (xs : List (Option A)) (x : A) → All IsSome (take n xs) → n < length xs → Knows xs n x → AreAndNext n (n + 1) xs x
+  pub somes_next : (n : ℕ) (xs : List (Option A)) (x : A) → All IsSome (take n xs) → n < length xs → Knows xs n x →
+      AreAndNext n (n + 1) xs x
   somes_next n [] x known within knows = absurd (omega arith)
   somes_next zero (None ∷ xs) x known within knows = let e : None ≡ Some x = knows in cc
   somes_next zero (Some y ∷ xs) x known within knows =
@@ -63,10 +67,15 @@ module _ {A : Type 0} where
   somes_next (suc n) (Some y ∷ xs) x known within knows =
       let more = somes_next n xs x (rest_known (Some y) (take n xs) known) (omega arith) knows in
       let one : suc (n + 1) ≡ suc n + 1 = omega arith in
-      subst (λ m. AreAndNext (suc n) m (Some y ∷ xs) x) one (record { known = more_known y (take (n + 1) xs) more.known; appended = ap (λ zs. y ∷ zs) more.appended })
+      subst (λ m. AreAndNext (suc n) m (Some y ∷ xs) x) one (record {
+        known = more_known y (take (n + 1) xs) more.known;
+        appended =
+            ap (λ zs. y ∷ zs) more.appended;
+      })
 
   -- where two lists agree, of the first values of each one begins the other
-  pub one_begins : (m n : ℕ) (xs ys : List (Option A)) → All IsSome (take m xs) → m ≤ length xs → All IsSome (take n ys) → n ≤ length ys → SameWhereKnown xs ys → OneBegins (somes (take m xs)) (somes (take n ys))
+  pub one_begins : (m n : ℕ) (xs ys : List (Option A)) → All IsSome (take m xs) → m ≤ length xs → All IsSome (take n ys) → n ≤ length ys →
+      SameWhereKnown xs ys → OneBegins (somes (take m xs)) (somes (take n ys))
   one_begins zero n xs ys known within known_y within_y same = inl (somes (take n ys), refl)
   one_begins (suc m) zero xs ys known within known_y within_y same = inr (somes (take (suc m) xs), refl)
   one_begins (suc m) (suc n) [] ys known within known_y within_y same = absurd (omega arith)
@@ -75,7 +84,8 @@ module _ {A : Type 0} where
   one_begins (suc m) (suc n) (Some x ∷ xs) (None ∷ ys) known within known_y within_y same = absurd (none_known (take n ys) known_y)
   one_begins (suc m) (suc n) (Some x ∷ xs) (Some y ∷ ys) known within known_y within_y same =
       let e : x ≡ y = same 0 x y refl refl in
-      elim (one_begins m n xs ys (rest_known (Some x) (take m xs) known) (omega arith) (rest_known (Some y) (take n ys) known_y) (omega arith) (λ k a b. same (suc k) a b)) [
+      elim (one_begins m n xs ys (rest_known (Some x) (take m xs) known) (omega arith) (rest_known (Some y) (take n ys) known_y)
+      (omega arith) (λ k a b. same (suc k) a b)) [
         | inl h ↦ inl (h.0, ap (λ z. z ∷ (somes (take m xs) ++ h.0)) e ∙ ap (λ zs. y ∷ zs) h.1)
         | inr h ↦ inr (h.0, ap (λ z. z ∷ (somes (take n ys) ++ h.0)) (sym e) ∙ ap (λ zs. x ∷ zs) h.1)
       ]
@@ -85,7 +95,8 @@ module _ {A : Type 0} where
   same_as_itself xs k x y known known_y = let e : Some x ≡ Some y = sym known ∙ known_y in cc
 
   -- fewer of them begin more
-  pub somes_begin : (m n : ℕ) (xs : List (Option A)) → m ≤ n → All IsSome (take n xs) → n ≤ length xs → IsPrefix (somes (take m xs)) (somes (take n xs))
+  pub somes_begin : (m n : ℕ) (xs : List (Option A)) → m ≤ n → All IsSome (take n xs) → n ≤ length xs →
+      IsPrefix (somes (take m xs)) (somes (take n xs))
   somes_begin zero n xs less known within = (somes (take n xs), refl)
   somes_begin (suc m) zero xs less known within = absurd (omega arith)
   somes_begin (suc m) (suc n) [] less known within = absurd (omega arith)
@@ -110,4 +121,9 @@ module _ {A : Type 0} where
       let same : x ≡ y = cc in
       let more = somes_are list xs (λ k z h. each (suc k) z h) in
       let within = more.within in
-      record { within = omega arith; known = more_known x (take (length list) xs) more.known; same = ap (λ z. z ∷ somes (take (length list) xs)) same ∙ ap (λ zs. y ∷ zs) more.same }
+      record {
+        within = omega arith;
+        known = more_known x (take (length list) xs) more.known;
+        same =
+            ap (λ z. z ∷ somes (take (length list) xs)) same ∙ ap (λ zs. y ∷ zs) more.same;
+      }

@@ -75,7 +75,8 @@ impl Board {
     pub(crate) fn look<'b>(&'b self, place: usize, note: &mut Note<Batch>) -> Option<&'b Batch>
         requires { slice_get self.now place ≡ Some note.old.cell }
         ensures cell { note.new.cell ≡ note.old.cell }
-        ensures value { MatchOption result ((note.old.known ≡ None) × (note.new.known ≡ None)) (λ batch. (note.new.known ≡ Some batch.now) × Agrees note.old.known batch.now) }
+        ensures value { MatchOption result ((note.old.known ≡ None) × (note.new.known ≡ None))
+            (λ batch. (note.new.known ≡ Some batch.now) × Agrees note.old.known batch.now) }
     {
         self.cells[place].get_as(note)
     }

@@ -1,6 +1,7 @@
 //! Watchers.
 
-ghost use Rattle.std.specs.Prelude.{◌≡◌, ◌+◌, ◌<◌, ◌≤◌, ◌++◌, ◌∷◌, [], All, None, Some, length, replicate, slice_get, slice_set, take, IfOk, IfNone, IfSome, IsSome, IsSomeAnd};
+ghost use Rattle.std.specs.Prelude.{◌≡◌, ◌+◌, ◌<◌, ◌≤◌, ◌++◌, ◌∷◌, [], All, None, Some, length, replicate, slice_get, slice_set, take};
+ghost use Rattle.std.specs.Prelude.{IfOk, IfNone, IfSome, IsSome, IsSomeAnd};
 ghost use Rattle.ct_names.specs.Batch.{Batch as Plain};
 ghost use Rattle.ct_table.specs.Table.{table as table_of};
 ghost use Rattle.ct_board.specs.Known.{Keeps, Knows};
@@ -87,10 +88,15 @@ impl Watcher {
     pub fn next<'b>(&mut self, board: &'b Board) -> Option<&'b Batch>
         requires { board.now ≡ self.old.cells }
         ensures read { IfSome result (λ batch. batches_read self.new ≡ batches_read self.old ++ batch.now ∷ []) }
-        ensures below { self.old.read < self.old.told → IsSomeAnd result (λ batch. slice_get (batches_told self.old) self.old.read ≡ Some batch.now) }
+        ensures below { self.old.read < self.old.told → IsSomeAnd result
+            (λ batch. slice_get (batches_told self.old) self.old.read ≡ Some batch.now) }
         ensures told { batches_told self.new ≡ batches_told self.old }
         ensures cells { self.new.cells ≡ self.old.cells }
-        ensures some { IfSome result (λ batch. self.new ≡ record self.old { notes = slice_set self.old.notes self.old.read (Some batch.now); read = self.old.read + 1 }) }
+        ensures some { IfSome result (λ batch. self.new ≡ record self.old {
+          notes =
+              slice_set self.old.notes self.old.read (Some batch.now);
+          read = self.old.read + 1;
+        }) }
         ensures none { IfNone result (self.new ≡ self.old) }
     {
         if self.read >= self.notes.len() {

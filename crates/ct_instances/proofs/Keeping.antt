@@ -1,6 +1,7 @@
 -- What is kept of a member's instances stays what its state says: as the list of values grows, a wire is noted, room is
 -- made, and an instance is opened and closed.
-use Rattle.std.proofs.Common.{◌≡◌, ℕ, ◌+◌, List, [], ◌∷◌, ◌++◌, length, filter_map, Option, Some, None, option_map, refl, ap, sym, ◌∙◌, subst}
+use Rattle.std.proofs.Common.{◌≡◌, ℕ, ◌+◌, List, [], ◌∷◌, ◌++◌, length, filter_map, Option, Some, None, option_map, refl, ap, sym, ◌∙◌}
+use Rattle.std.proofs.Common.{subst}
 use Rattle.std.specs.List.{cons_option}
 use Rattle.std.specs.Option.{option_or}
 use Rattle.std.proofs.lemmas.List.Elements.{filter_map-append}
@@ -24,7 +25,8 @@ use Rattle.ct_instances.proofs.Named.{decision_of-map, value_at-last, grows_stan
 
 -- the list of values grows
 
-pub keeps-grown : (n : ℕ) (values more : List Value) (p : ℕ) (m : Member) (kept : Kept) → KeepsInstances n values p m kept → KeepsInstances n (values ++ more) p m kept
+pub keeps-grown : (n : ℕ) (values more : List Value) (p : ℕ) (m : Member) (kept : Kept) → KeepsInstances n values p m kept →
+    KeepsInstances n (values ++ more) p m kept
 keeps-grown n values more p m kept h = record {
   members = h.members;
   me = h.me;
@@ -36,7 +38,8 @@ keeps-grown n values more p m kept h = record {
 }
 
 -- another state of the member with the same wires, and the same instance open
-pub keeps-same : (n : ℕ) (values : List Value) (p : ℕ) (m m' : Member) (kept : Kept) → m'.got ≡ m.got → m'.last ≡ m.last → m'.current ≡ m.current → KeepsInstances n values p m kept → KeepsInstances n values p m' kept
+pub keeps-same : (n : ℕ) (values : List Value) (p : ℕ) (m m' : Member) (kept : Kept) → m'.got ≡ m.got → m'.last ≡ m.last →
+    m'.current ≡ m.current → KeepsInstances n values p m kept → KeepsInstances n values p m' kept
 keeps-same n values p m m' kept got last current h = record {
   members = h.members;
   me = h.me;
@@ -53,7 +56,8 @@ no-decision : (k : ℕ) → decided {V = Value} [] k ≡ None
 unfolding decided
 no-decision k = refl
 
-pub keeps-new : (n : ℕ) (values : List Value) (p : ℕ) → KeepsInstances n values p new_member (record { members = n; me = p; last = 0; part = None; entries = [] })
+pub keeps-new : (n : ℕ) (values : List Value) (p : ℕ) → KeepsInstances n values p new_member
+    (record { members = n; me = p; last = 0; part = None; entries = [] })
 keeps-new n values p = record {
   members = refl;
   me = refl;
@@ -72,22 +76,26 @@ head-push [] (Some x) = refl
 head-push (x ∷ xs) o = refl
 
 -- the first decision stays
-pub decided-push : {V : Type 0} (got : List (AnyWire V)) (w : AnyWire V) (k : ℕ) → decided (got ++ w ∷ []) k ≡ option_or (decided got k) (decision_of k w)
+pub decided-push : {V : Type 0} (got : List (AnyWire V)) (w : AnyWire V) (k : ℕ) →
+    decided (got ++ w ∷ []) k ≡ option_or (decided got k) (decision_of k w)
 unfolding decided
-decided-push got w k = ap head (filter_map-append (decision_of k) got (w ∷ [])) ∙ head-push (filter_map (decision_of k) got) (decision_of k w)
+decided-push got w k = ap head (filter_map-append (decision_of k) got (w ∷ []))
+    ∙ head-push (filter_map (decision_of k) got) (decision_of k w)
 
 or-map : {A B : Type 0} (f : A → B) (a b : Option A) → option_or (option_map f a) (option_map f b) ≡ option_map f (option_or a b)
 or-map f None b = refl
 or-map f (Some x) b = refl
 
-ballots-noted : (values : List Value) (a : Ballots ℕ) (t : Ballots Value) (k r : ℕ) (x : AnyWire ℕ) (w : Wire) → NamesBallots values a t → NamesWire values x w → NamesBallots values (count_in a k r x) (count_in t k r w)
+ballots-noted : (values : List Value) (a : Ballots ℕ) (t : Ballots Value) (k r : ℕ) (x : AnyWire ℕ) (w : Wire) → NamesBallots values a t →
+    NamesWire values x w → NamesBallots values (count_in a k r x) (count_in t k r w)
 ballots-noted values a t k r x w h e =
     sym (count_in-map (value_at values) a k r x)
     ∙ ap (λ z. count_in z k r (wire_map (value_at values) x)) h
     ∙ ap (count_in (ballots_map Some t) k r) e
     ∙ count_in-map Some t k r w
 
-decision-noted : (values : List Value) (a : Option ℕ) (o : Option Value) (k : ℕ) (x : AnyWire ℕ) (w : Wire) → NamesDecision values a o → NamesWire values x w → NamesDecision values (option_or a (decision_of k x)) (option_or o (decision_of k w))
+decision-noted : (values : List Value) (a : Option ℕ) (o : Option Value) (k : ℕ) (x : AnyWire ℕ) (w : Wire) → NamesDecision values a o →
+    NamesWire values x w → NamesDecision values (option_or a (decision_of k x)) (option_or o (decision_of k w))
 decision-noted values a o k x w h e =
     sym (or-map (value_at values) a (decision_of k x))
     ∙ ap (λ z. option_or z (option_map (value_at values) (decision_of k x))) h
@@ -95,18 +103,23 @@ decision-noted values a o k x w h e =
     ∙ or-map Some o (decision_of k w)
 
 -- other entries, where these are the ballots and decisions
-keeps-entries : (n : ℕ) (values : List Value) (p : ℕ) (m m' : Member) (kept kept' : Kept) → KeepsInstances n values p m kept → m'.last ≡ m.last → m'.current ≡ m.current → kept' ≡ record kept { entries = kept'.entries } → ((k r : ℕ) → NamesBallots values (ballots_of kept' k r) (ballots m'.got k r)) → ((k : ℕ) → NamesDecision values (decision_at kept' k) (decided m'.got k)) → KeepsInstances n values p m' kept'
+keeps-entries : (n : ℕ) (values : List Value) (p : ℕ) (m m' : Member) (kept kept' : Kept) → KeepsInstances n values p m kept →
+    m'.last ≡ m.last → m'.current ≡ m.current → kept' ≡ record kept { entries = kept'.entries } →
+    ((k r : ℕ) → NamesBallots values (ballots_of kept' k r) (ballots m'.got k r)) →
+    ((k : ℕ) → NamesDecision values (decision_at kept' k) (decided m'.got k)) → KeepsInstances n values p m' kept'
 keeps-entries n values p m m' kept kept' h last current rest got_ballots got_decisions = record {
   members = ap (λ (z : Kept). z.members) rest ∙ h.members;
   me = ap (λ (z : Kept). z.me) rest ∙ h.me;
   last = ap (λ (z : Kept). z.last) rest ∙ h.last ∙ sym last;
   part = λ c is. subst (λ k. IsPartOf n p k c) (sym last) (h.part c (sym (ap (λ (z : Kept). z.part) rest) ∙ is));
-  standing = ap (λ (z : Kept). option_map (λ c. standing_map (value_at values) c) (option_map (λ (c : Part). c.standing) z.part)) rest ∙ h.standing ∙ ap (option_map (standing_map Some)) (sym current);
+  standing = ap (λ (z : Kept). option_map (λ c. standing_map (value_at values) c) (option_map (λ (c : Part). c.standing) z.part)) rest
+      ∙ h.standing ∙ ap (option_map (standing_map Some)) (sym current);
   ballots = got_ballots;
   decisions = got_decisions;
 }
 
-pub keeps-noted : (n : ℕ) (values : List Value) (p : ℕ) (m : Member) (x : AnyWire ℕ) (w : Wire) (kept kept' : Kept) → KeepsInstances n values p m kept → NamesWire values x w → NamesSomebody w
+pub keeps-noted : (n : ℕ) (values : List Value) (p : ℕ) (m : Member) (x : AnyWire ℕ) (w : Wire) (kept kept' : Kept) →
+    KeepsInstances n values p m kept → NamesWire values x w → NamesSomebody w
     → ((k r : ℕ) → ballots_of kept' k r ≡ count_in (ballots_of kept k r) k r x)
     → ((k : ℕ) → decision_at kept' k ≡ option_or (decision_at kept k) (decision_of k x))
     → kept' ≡ record kept { entries = kept'.entries }
@@ -135,25 +148,39 @@ keeps-prepared n values p m kept kept' h same_ballots same_decisions rest =
 
 -- the next instance is opened with a value that joins the list
 
-pub keeps-opened : (n : ℕ) (values : List Value) (p : ℕ) (m : Member) (kept : Kept) (v : Value) → KeepsInstances n values p m kept → KeepsInstances n (values ++ v ∷ []) p (record m { last = m.last + 1; current = Some (record { round = 0; phase = Rest; estimate = v; ts = 0 }) }) (opened kept (length values))
+pub keeps-opened : (n : ℕ) (values : List Value) (p : ℕ) (m : Member) (kept : Kept) (v : Value) → KeepsInstances n values p m kept →
+    KeepsInstances n (values ++ v ∷ []) p (record m {
+      last = m.last + 1;
+      current =
+          Some (record { round = 0; phase = Rest; estimate = v; ts = 0 });
+    }) (opened kept (length values))
 keeps-opened n values p m kept v old =
     let h = keeps-grown n values (v ∷ []) p m kept old in
     let last : kept.last + 1 ≡ m.last + 1 = ap (λ k. k + 1) h.last in
-    let part : Part = record { members = kept.members; me = kept.me; instance = kept.last + 1; standing = record { round = 0; phase = Rest; estimate = length values; ts = 0 } } in
+    let part : Part = record {
+      members = kept.members;
+      me = kept.me;
+      instance = kept.last + 1;
+      standing =
+          record { round = 0; phase = Rest; estimate = length values; ts = 0 };
+    } in
     let is_part : IsPartOf n p (m.last + 1) part = record { members_is = h.members; me_is = h.me; instance_is = last } in
     record {
       members = h.members;
       me = h.me;
       last = last;
       part = λ c is. subst (λ z. IsPartOf n p (m.last + 1) z) (some-same part c is) is_part;
-      standing = ap (λ estimate. let c : AnyStanding (Option Value) = record { round = 0; phase = Rest; estimate = estimate; ts = 0 } in Some c) (value_at-last values v);
+      standing = ap (λ estimate. let c : AnyStanding (Option Value) = record { round = 0; phase = Rest; estimate = estimate; ts = 0 } in
+          Some c) (value_at-last values v);
       ballots = h.ballots;
       decisions = h.decisions;
     }
 
 -- and closed
 
-pub keeps-closed : (n : ℕ) (values : List Value) (p : ℕ) (m : Member) (kept : Kept) (batches : List Batch) → KeepsInstances n values p m kept → KeepsInstances n values p (record m { current = None; batches = batches }) (record kept { part = None })
+pub keeps-closed : (n : ℕ) (values : List Value) (p : ℕ) (m : Member) (kept : Kept) (batches : List Batch) →
+    KeepsInstances n values p m kept → KeepsInstances n values p (record m { current = None; batches = batches })
+    (record kept { part = None })
 keeps-closed n values p m kept batches h = record {
   members = h.members;
   me = h.me;

@@ -1,6 +1,7 @@
 -- What has values by number and what has the values themselves: what is the same in both, and that a longer list of
 -- values names what the shorter one did.
-use Rattle.std.proofs.Common.{◌≡◌, ℕ, zero, suc, Bool, true, false, List, [], ◌∷◌, ◌++◌, length, map, slice_get, Option, Some, None, is_some, is_none, option_map, refl, ap, sym, ◌∙◌, subst}
+use Rattle.std.proofs.Common.{◌≡◌, ℕ, zero, suc, Bool, true, false, List, [], ◌∷◌, ◌++◌, length, map, slice_get, Option, Some, None}
+use Rattle.std.proofs.Common.{is_some, is_none, option_map, refl, ap, sym, ◌∙◌, subst}
 use Rattle.std.specs.Prelude.{◌==◌, ◌+◌, if◌then◌else◌}
 use Rattle.std.proofs.lemmas.List.{map-append, length-map}
 use Rattle.std.proofs.lemmas.Option.{slice_get-map}
@@ -20,7 +21,8 @@ use Rattle.ct_model.specs.Mapped.{wire_map, envelope_map, without_value, mail_ma
 use Rattle.ct_model.specs.Waiting.{serials_to}
 use Rattle.ct_model.proofs.Numbers.Naturality.{envelopes-map}
 use Rattle.ct_model.proofs.Basics.Options.{some-same, some-none}
-use Rattle.ct_instances.specs.Named.{value_at, NamesWire, NamesMail, NamesEnvelope, NamesEnvelopes, NamesStanding, NamesBallots, NamesDecision}
+use Rattle.ct_instances.specs.Named.{value_at, NamesWire, NamesMail, NamesEnvelope, NamesEnvelopes, NamesStanding, NamesBallots}
+use Rattle.ct_instances.specs.Named.{NamesDecision}
 
 -- lists and optional values with one image
 
@@ -31,7 +33,8 @@ module _ {A B C : Type 0} (f : A → C) (g : B → C) where
   mate (Some z) None x h e = absurd (cc)
   mate (Some z) (Some y) x h e = (y, refl, let same : z ≡ x = some-same z x e in cc)
 
-  pub mate-back : (a : Option A) (b : Option B) (y : B) → option_map f a ≡ option_map g b → b ≡ Some y → (x : A) × (a ≡ Some x) × (f x ≡ g y)
+  pub mate-back : (a : Option A) (b : Option B) (y : B) → option_map f a ≡ option_map g b → b ≡ Some y →
+      (x : A) × (a ≡ Some x) × (f x ≡ g y)
   mate-back a None y h e = some-none y e
   mate-back None (Some z) y h e = absurd (cc)
   mate-back (Some x) (Some z) y h e = (x, refl, let same : z ≡ y = some-same z y e in cc)
@@ -53,13 +56,15 @@ module _ {A B C : Type 0} (f : A → C) (g : B → C) where
   mates-none (Some x) (Some y) h = refl
 
   -- another image that the two have where they have the first
-  option-kept : {D : Type 0} (u : A → D) (v : B → D) → ((x : A) (y : B) → f x ≡ g y → u x ≡ v y) → (a : Option A) (b : Option B) → option_map f a ≡ option_map g b → option_map u a ≡ option_map v b
+  option-kept : {D : Type 0} (u : A → D) (v : B → D) → ((x : A) (y : B) → f x ≡ g y → u x ≡ v y) → (a : Option A) (b : Option B) →
+      option_map f a ≡ option_map g b → option_map u a ≡ option_map v b
   option-kept u v keep None None h = refl
   option-kept u v keep None (Some y) h = absurd (cc)
   option-kept u v keep (Some x) None h = absurd (cc)
   option-kept u v keep (Some x) (Some y) h = ap Some (keep x y (some-same (f x) (g y) h))
 
-  list-kept : {D : Type 0} (u : A → D) (v : B → D) → ((x : A) (y : B) → f x ≡ g y → u x ≡ v y) → (xs : List A) (ys : List B) → map f xs ≡ map g ys → map u xs ≡ map v ys
+  list-kept : {D : Type 0} (u : A → D) (v : B → D) → ((x : A) (y : B) → f x ≡ g y → u x ≡ v y) → (xs : List A) (ys : List B) →
+      map f xs ≡ map g ys → map u xs ≡ map v ys
   list-kept u v keep [] [] h = refl
   list-kept u v keep [] (y ∷ ys) h = absurd (cc)
   list-kept u v keep (x ∷ xs) [] h = absurd (cc)
@@ -122,7 +127,8 @@ somebody-from f (Ack k r p) h = h
 somebody-from f (Nack k r p) h = h
 somebody-from f (Dec k r v) h = tt
 
-serials_to-map : {V U : Type 0} (f : V → U) (q k : ℕ) (es : List (AnyEnvelope V)) → serials_to q k (map (envelope_map f) es) ≡ serials_to q k es
+serials_to-map : {V U : Type 0} (f : V → U) (q k : ℕ) (es : List (AnyEnvelope V)) →
+    serials_to q k (map (envelope_map f) es) ≡ serials_to q k es
 serials_to-map f q k [] = refl
 serials_to-map f q k (e ∷ es) = ap (λ ks. (if e.to == q then (k + 1) ∷ [] else []) ++ ks) (serials_to-map f q (k + 1) es)
 
@@ -192,7 +198,8 @@ module _ {A B : Type 0} (f g : A → Option B) (agree : (a : A) (b : B) → f a 
 
   ballots-kept : (x : Ballots A) (t : Ballots B) → ballots_map f x ≡ ballots_map Some t → ballots_map g x ≡ ballots_map Some t
   ballots-kept x t h =
-      let estimates = list-kept (heard_map f) (heard_map Some) (heard_map g) (heard_map Some) heard-kept x.estimates t.estimates (ap (λ (z : Ballots (Option B)). z.estimates) h) in
+      let estimates = list-kept (heard_map f) (heard_map Some) (heard_map g) (heard_map Some) heard-kept x.estimates t.estimates
+      (ap (λ (z : Ballots (Option B)). z.estimates) h) in
       let proposal = option-kept f Some g Some agree x.proposal t.proposal (ap (λ (z : Ballots (Option B)). z.proposal) h) in
       let acked = ap (λ (z : Ballots (Option B)). z.acked) h in
       let replied = ap (λ (z : Ballots (Option B)). z.replied) h in
@@ -200,7 +207,8 @@ module _ {A B : Type 0} (f g : A → Option B) (agree : (a : A) (b : B) → f a 
 
 -- growth: what the list names, a longer one names too
 
-pub value_at-grown : {A : Type 0} (values more : List A) (id : ℕ) (v : A) → slice_get values id ≡ Some v → slice_get (values ++ more) id ≡ Some v
+pub value_at-grown : {A : Type 0} (values more : List A) (id : ℕ) (v : A) → slice_get values id ≡ Some v →
+    slice_get (values ++ more) id ≡ Some v
 value_at-grown [] more id v h = some-none v h
 value_at-grown (x ∷ values) more zero v h = h
 value_at-grown (x ∷ values) more (suc id) v h = value_at-grown values more id v h
@@ -210,28 +218,35 @@ pub value_at-last : {A : Type 0} (values : List A) (v : A) → slice_get (values
 value_at-last [] v = refl
 value_at-last (x ∷ values) v = value_at-last values v
 
-pub grows_envelope : (values more : List Value) (x : AnyEnvelope ℕ) (e : Envelope) → NamesEnvelope values x e → NamesEnvelope (values ++ more) x e
+pub grows_envelope : (values more : List Value) (x : AnyEnvelope ℕ) (e : Envelope) → NamesEnvelope values x e →
+    NamesEnvelope (values ++ more) x e
 grows_envelope values more x e h = envelope-kept (value_at values) (value_at (values ++ more)) (value_at-grown values more) x e h
 
-pub grows_envelopes : (values more : List Value) (xs : List (AnyEnvelope ℕ)) (es : List Envelope) → NamesEnvelopes values xs es → NamesEnvelopes (values ++ more) xs es
+pub grows_envelopes : (values more : List Value) (xs : List (AnyEnvelope ℕ)) (es : List Envelope) → NamesEnvelopes values xs es →
+    NamesEnvelopes (values ++ more) xs es
 grows_envelopes values more xs es h =
-    list-kept (envelope_map (value_at values)) (envelope_map Some) (envelope_map (value_at (values ++ more))) (envelope_map Some) (grows_envelope values more) xs es h
+    list-kept (envelope_map (value_at values)) (envelope_map Some) (envelope_map (value_at (values ++ more))) (envelope_map Some)
+    (grows_envelope values more) xs es h
 
-pub grows_standing : (values more : List Value) (x : Option (AnyStanding ℕ)) (c : Option Standing) → NamesStanding values x c → NamesStanding (values ++ more) x c
+pub grows_standing : (values more : List Value) (x : Option (AnyStanding ℕ)) (c : Option Standing) → NamesStanding values x c →
+    NamesStanding (values ++ more) x c
 grows_standing values more x c h =
     option-kept (standing_map (value_at values)) (standing_map Some) (standing_map (value_at (values ++ more))) (standing_map Some)
     (standing-kept (value_at values) (value_at (values ++ more)) (value_at-grown values more)) x c h
 
-pub grows_ballots : (values more : List Value) (x : Ballots ℕ) (t : Ballots Value) → NamesBallots values x t → NamesBallots (values ++ more) x t
+pub grows_ballots : (values more : List Value) (x : Ballots ℕ) (t : Ballots Value) → NamesBallots values x t →
+    NamesBallots (values ++ more) x t
 grows_ballots values more x t h = ballots-kept (value_at values) (value_at (values ++ more)) (value_at-grown values more) x t h
 
-pub grows_decision : (values more : List Value) (d : Option ℕ) (o : Option Value) → NamesDecision values d o → NamesDecision (values ++ more) d o
+pub grows_decision : (values more : List Value) (d : Option ℕ) (o : Option Value) → NamesDecision values d o →
+    NamesDecision (values ++ more) d o
 grows_decision values more d o h =
     option-kept (value_at values) Some (value_at (values ++ more)) Some (value_at-grown values more) d o h
 
 -- decisions
 
-pub named_some : (values : List Value) (id : ℕ) (d : Option ℕ) (o : Option Value) → NamesDecision values d o → d ≡ Some id → (v : Value) × (o ≡ Some v) × (value_at values id ≡ Some v)
+pub named_some : (values : List Value) (id : ℕ) (d : Option ℕ) (o : Option Value) → NamesDecision values d o → d ≡ Some id →
+    (v : Value) × (o ≡ Some v) × (value_at values id ≡ Some v)
 named_some values id d o h e = mate (value_at values) Some d o id h e
 
 pub named_none : (values : List Value) (o : Option Value) → NamesDecision values None o → o ≡ None
@@ -242,10 +257,12 @@ named_is_some values d o h = mates-some (value_at values) Some d o h
 
 -- standings
 
-pub standing_some : (values : List Value) (x : AnyStanding ℕ) (o : Option Standing) → NamesStanding values (Some x) o → (c : Standing) × (o ≡ Some c) × (standing_map (value_at values) x ≡ standing_map Some c)
+pub standing_some : (values : List Value) (x : AnyStanding ℕ) (o : Option Standing) → NamesStanding values (Some x) o →
+    (c : Standing) × (o ≡ Some c) × (standing_map (value_at values) x ≡ standing_map Some c)
 standing_some values x o h = mate (standing_map (value_at values)) (standing_map Some) (Some x) o x h refl
 
-pub standing_is_some : (values : List Value) (x : Option (AnyStanding ℕ)) (o : Option Standing) → NamesStanding values x o → is_some x ≡ is_some o
+pub standing_is_some : (values : List Value) (x : Option (AnyStanding ℕ)) (o : Option Standing) → NamesStanding values x o →
+    is_some x ≡ is_some o
 standing_is_some values x o h = mates-some (standing_map (value_at values)) (standing_map Some) x o h
 
 module _ (values : List Value) (x : AnyStanding ℕ) (c : Standing) (h : standing_map (value_at values) x ≡ standing_map Some c) where
@@ -269,10 +286,12 @@ named_wire values x e h = ap (λ (z : AnyEnvelope (Option Value)). z.wire) h
 pub named_to : (values : List Value) (x : AnyEnvelope ℕ) (e : Envelope) → NamesEnvelope values x e → x.to ≡ e.to
 named_to values x e h = ap (λ (z : AnyEnvelope (Option Value)). z.to) h
 
-pub named_length : (values : List Value) (xs : List (AnyEnvelope ℕ)) (es : List Envelope) → NamesEnvelopes values xs es → length xs ≡ length es
+pub named_length : (values : List Value) (xs : List (AnyEnvelope ℕ)) (es : List Envelope) → NamesEnvelopes values xs es →
+    length xs ≡ length es
 named_length values xs es h = sym (length-map xs (envelope_map (value_at values))) ∙ ap length h ∙ length-map es (envelope_map Some)
 
-pub named_append : (values : List Value) (xs ys : List (AnyEnvelope ℕ)) (es fs : List Envelope) → NamesEnvelopes values xs es → NamesEnvelopes values ys fs → NamesEnvelopes values (xs ++ ys) (es ++ fs)
+pub named_append : (values : List Value) (xs ys : List (AnyEnvelope ℕ)) (es fs : List Envelope) → NamesEnvelopes values xs es →
+    NamesEnvelopes values ys fs → NamesEnvelopes values (xs ++ ys) (es ++ fs)
 named_append values xs ys es fs h l =
     map-append (envelope_map (value_at values)) xs ys
     ∙ ap (λ zs. zs ++ map (envelope_map (value_at values)) ys) h
@@ -283,24 +302,31 @@ at_serial-map : {A B : Type 0} (f : A → B) (xs : List A) (k : ℕ) → at_seri
 at_serial-map f xs zero = refl
 at_serial-map f xs (suc i) = slice_get-map f xs i
 
-serials-same : (values : List Value) (xs : List (AnyEnvelope ℕ)) (es : List Envelope) (k : ℕ) → NamesEnvelopes values xs es → option_map (envelope_map (value_at values)) (at_serial xs k) ≡ option_map (envelope_map Some) (at_serial es k)
-serials-same values xs es k h = sym (at_serial-map (envelope_map (value_at values)) xs k) ∙ ap (λ zs. at_serial zs k) h ∙ at_serial-map (envelope_map Some) es k
+serials-same : (values : List Value) (xs : List (AnyEnvelope ℕ)) (es : List Envelope) (k : ℕ) → NamesEnvelopes values xs es →
+    option_map (envelope_map (value_at values)) (at_serial xs k) ≡ option_map (envelope_map Some) (at_serial es k)
+serials-same values xs es k h = sym (at_serial-map (envelope_map (value_at values)) xs k) ∙ ap (λ zs. at_serial zs k) h
+    ∙ at_serial-map (envelope_map Some) es k
 
-pub named_at : (values : List Value) (xs : List (AnyEnvelope ℕ)) (es : List Envelope) (k : ℕ) (x : AnyEnvelope ℕ) → NamesEnvelopes values xs es → at_serial xs k ≡ Some x → (e : Envelope) × (at_serial es k ≡ Some e) × NamesEnvelope values x e
+pub named_at : (values : List Value) (xs : List (AnyEnvelope ℕ)) (es : List Envelope) (k : ℕ) (x : AnyEnvelope ℕ) →
+    NamesEnvelopes values xs es → at_serial xs k ≡ Some x → (e : Envelope) × (at_serial es k ≡ Some e) × NamesEnvelope values x e
 named_at values xs es k x h e =
     mate (envelope_map (value_at values)) (envelope_map Some) (at_serial xs k) (at_serial es k) x (serials-same values xs es k h) e
 
-pub named_back : (values : List Value) (xs : List (AnyEnvelope ℕ)) (es : List Envelope) (k : ℕ) (e : Envelope) → NamesEnvelopes values xs es → at_serial es k ≡ Some e → (x : AnyEnvelope ℕ) × (at_serial xs k ≡ Some x) × NamesEnvelope values x e
+pub named_back : (values : List Value) (xs : List (AnyEnvelope ℕ)) (es : List Envelope) (k : ℕ) (e : Envelope) →
+    NamesEnvelopes values xs es → at_serial es k ≡ Some e → (x : AnyEnvelope ℕ) × (at_serial xs k ≡ Some x) × NamesEnvelope values x e
 named_back values xs es k e h is =
     mate-back (envelope_map (value_at values)) (envelope_map Some) (at_serial xs k) (at_serial es k) e (serials-same values xs es k h) is
 
-pub named_posts : (values : List Value) (n : ℕ) (x : AnyMail ℕ) (mail : Mail) → NamesMail values x mail → NamesEnvelopes values (envelopes n x) (envelopes n mail)
+pub named_posts : (values : List Value) (n : ℕ) (x : AnyMail ℕ) (mail : Mail) → NamesMail values x mail →
+    NamesEnvelopes values (envelopes n x) (envelopes n mail)
 named_posts values n x mail h = sym (envelopes-map (value_at values) n x) ∙ ap (envelopes n) h ∙ envelopes-map Some n mail
 
-pub named_serials : (values : List Value) (xs : List (AnyEnvelope ℕ)) (es : List Envelope) (q k : ℕ) → NamesEnvelopes values xs es → serials_to q k xs ≡ serials_to q k es
+pub named_serials : (values : List Value) (xs : List (AnyEnvelope ℕ)) (es : List Envelope) (q k : ℕ) → NamesEnvelopes values xs es →
+    serials_to q k xs ≡ serials_to q k es
 named_serials values xs es q k h = sym (serials_to-map (value_at values) q k xs) ∙ ap (serials_to q k) h ∙ serials_to-map Some q k es
 
-pub named_without_value : (values : List Value) (xs : List (AnyEnvelope ℕ)) (es : List Envelope) → NamesEnvelopes values xs es → map without_value xs ≡ map without_value es
+pub named_without_value : (values : List Value) (xs : List (AnyEnvelope ℕ)) (es : List Envelope) → NamesEnvelopes values xs es →
+    map without_value xs ≡ map without_value es
 named_without_value values xs es h =
     list-kept (envelope_map (value_at values)) (envelope_map Some) without_value without_value
     (λ x e same. sym (without_value-map (value_at values) x) ∙ ap without_value same ∙ without_value-map Some e) xs es h
@@ -324,9 +350,11 @@ named_data values m (Ack k r p) h = absurd (cc)
 named_data values m (Nack k r p) h = absurd (cc)
 named_data values m (Dec k r v) h = absurd (cc)
 
-pub named_decision_name : (values : List Value) (k r : ℕ) (x : AnyWire ℕ) (w : Wire) → NamesWire values x w → is_decision k r x ≡ is_decision k r w
+pub named_decision_name : (values : List Value) (k r : ℕ) (x : AnyWire ℕ) (w : Wire) → NamesWire values x w →
+    is_decision k r x ≡ is_decision k r w
 named_decision_name values k r x w h = sym (is_decision-map (value_at values) k r x) ∙ ap (is_decision k r) h ∙ is_decision-map Some k r w
 
-pub named_all : (values : List Value) (b : Bool) (x : AnyWire ℕ) (w : Wire) → NamesWire values x w → NamesMail values (if b then All x else Nobody) (if b then All w else Nobody)
+pub named_all : (values : List Value) (b : Bool) (x : AnyWire ℕ) (w : Wire) → NamesWire values x w →
+    NamesMail values (if b then All x else Nobody) (if b then All w else Nobody)
 named_all values true x w h = ap All h
 named_all values false x w h = refl

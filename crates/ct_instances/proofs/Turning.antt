@@ -1,5 +1,6 @@
 -- The steps of the open instance: with values by number they are refused and taken as with the values themselves.
-use Rattle.std.proofs.Common.{◌≡◌, ℕ, false, List, [], ◌∷◌, ◌+◌, Option, Some, None, is_none, option_map, option_and_then, refl, ap, sym, ◌∙◌, subst}
+use Rattle.std.proofs.Common.{◌≡◌, ℕ, false, List, [], ◌∷◌, ◌+◌, Option, Some, None, is_none, option_map, option_and_then, refl, ap, sym}
+use Rattle.std.proofs.Common.{◌∙◌, subst}
 use Rattle.std.specs.Prelude.{nat_lt, ◌&&◌}
 use Rattle.std.specs.Option.{option_map_or}
 use Rattle.ct_names.specs.declared.limit.TheConstants.{MAX_ROUNDS}
@@ -20,7 +21,8 @@ use Rattle.ct_rounds.specs.Part.{Part, got}
 use Rattle.ct_instances.specs.Kept.{Kept}
 use Rattle.ct_instances.specs.Keeping.{IsPartOf, KeepsInstances}
 use Rattle.ct_instances.specs.Named.{value_at, NamesMail, NamesStanding, NamesBallots, NamesDecision}
-use Rattle.ct_instances.specs.Steps.{Stepped, open_rounds, open_decision, tests_by, faults, with_standing, step_by, taken, sent, passes_rounds}
+use Rattle.ct_instances.specs.Steps.{Stepped, open_rounds, open_decision, tests_by, faults, with_standing, step_by, taken, sent}
+use Rattle.ct_instances.specs.Steps.{passes_rounds}
 use Rattle.ct_instances.proofs.Named.{mate, standing_some, standing_round}
 
 -- a step of the open instance was taken, by its row at the values themselves
@@ -33,8 +35,10 @@ pub record IsTurnedBy (m : Member) (values : List Value) (step : Standing → Op
   pub keeps : KeepsInstances n values p (record m { current = Some turn.after }) stepped.after
 
 -- so the row of the step gives this turn
-pub turned-row : (m : Member) (values : List Value) (step : Standing → Option Turn) (n p : ℕ) (stepped : Stepped) (t : IsTurnedBy m values step n p stepped) → round_row m step ≡ Some (turned m t.turn)
-turned-row m values step n p stepped t = ap (λ o. option_map (turned m) (option_and_then step o)) t.is_open ∙ ap (option_map (turned m)) t.taken
+pub turned-row : (m : Member) (values : List Value) (step : Standing →
+    Option Turn) (n p : ℕ) (stepped : Stepped) (t : IsTurnedBy m values step n p stepped) → round_row m step ≡ Some (turned m t.turn)
+turned-row m values step n p stepped t = ap (λ o. option_map (turned m) (option_and_then step o)) t.is_open
+    ∙ ap (option_map (turned m)) t.taken
 
 module _ (s : Setting) (values : List Value) (p : ℕ) (m : Member) (kept : Kept) (h : KeepsInstances s.members values p m kept) where
   -- the standing is that of the part, with its value
@@ -42,7 +46,8 @@ module _ (s : Setting) (values : List Value) (p : ℕ) (m : Member) (kept : Kept
   Names c x = standing_map (value_at values) c.standing ≡ standing_map Some x
 
   -- what is the same of no part and none, and of a part and its standing, is the same of the open ones
-  met : {A : Type 0} (f : Option Part → A) (g : Option Standing → A) → f None ≡ g None → ((c : Part) (x : Standing) → kept.part ≡ Some c → Names c x → f (Some c) ≡ g (Some x)) → f kept.part ≡ g m.current
+  met : {A : Type 0} (f : Option Part → A) (g : Option Standing → A) → f None ≡ g None →
+      ((c : Part) (x : Standing) → kept.part ≡ Some c → Names c x → f (Some c) ≡ g (Some x)) → f kept.part ≡ g m.current
   met {A} f g none some = go kept.part m.current refl h.standing
     where
       go : (o : Option Part) (u : Option Standing) → kept.part ≡ o → NamesStanding values (option_map (λ c. c.standing) o) u → f o ≡ g u
@@ -80,12 +85,16 @@ module _ (s : Setting) (values : List Value) (p : ℕ) (m : Member) (kept : Kept
 
   -- the tests
 
-  tests-same : (a : Part → List Test) (b : Standing → List Test) → ((c : Part) (x : Standing) → kept.part ≡ Some c → Names c x → a c ≡ b x) → first_fault (tests_by a kept) ≡ first_fault (open_tests m b)
+  tests-same : (a : Part → List Test) (b : Standing → List Test) →
+      ((c : Part) (x : Standing) → kept.part ≡ Some c → Names c x → a c ≡ b x) →
+      first_fault (tests_by a kept) ≡ first_fault (open_tests m b)
   tests-same a b same =
-      met (λ o. first_fault (at Idle (is_none o) ∷ option_map_or a o [])) (λ u. first_fault (at Idle (is_none u) ∷ option_map_or b u [])) refl
+      met (λ o. first_fault (at Idle (is_none o) ∷ option_map_or a o [])) (λ u. first_fault (at Idle (is_none u) ∷ option_map_or b u []))
+      refl
       (λ c x is e. ap first_fault (same c x is e))
 
-  pub action-tests : (g : State) (line : List ℕ) (q : ℕ) (a : Move) → first_fault (faults kept a) ≡ first_fault (tests s g m line (step_of q a))
+  pub action-tests : (g : State) (line : List ℕ) (q : ℕ) (a : Move) →
+      first_fault (faults kept a) ≡ first_fault (tests s g m line (step_of q a))
   action-tests g line q a =
       tests-same (λ c. faults_of c.members (open_decision kept) (got (open_rounds kept) c) c.standing a) (faults_at s.members m a)
       (λ c x is e.
@@ -100,15 +109,18 @@ module _ (s : Setting) (values : List Value) (p : ℕ) (m : Member) (kept : Kept
 
   pub action-sent : (a : Move) → sent kept a ≡ option_map_or (λ x. sent_by s.members (own_ballots m x).acked a) m.current 0
   action-sent a =
-      met (λ o. option_map_or (λ c. sent_by c.members (got (open_rounds kept) c).acked a) o 0) (λ u. option_map_or (λ x. sent_by s.members (own_ballots m x).acked a) u 0) refl
+      met (λ o. option_map_or (λ c. sent_by c.members (got (open_rounds kept) c).acked a) o 0)
+      (λ u. option_map_or (λ x. sent_by s.members (own_ballots m x).acked a) u 0) refl
       (λ c x is e.
       ap (λ n. sent_by n (got (open_rounds kept) c).acked a) (h.part c is).members_is
       ∙ ap (λ (t : Ballots (Option Value)). sent_by s.members t.acked a) (own c x e))
 
-  pub action-passes : (a : Move) → passes_rounds kept a ≡ (is_enter a && option_map_or (λ x. nat_lt MAX_ROUNDS (x.round + 1)) m.current false)
+  pub action-passes : (a : Move) → passes_rounds kept a ≡ (is_enter a
+      && option_map_or (λ x. nat_lt MAX_ROUNDS (x.round + 1)) m.current false)
   action-passes a =
       ap (λ b. is_enter a && b)
-      (met (λ o. option_map_or (λ c. nat_lt MAX_ROUNDS (c.standing.round + 1)) o false) (λ u. option_map_or (λ x. nat_lt MAX_ROUNDS (x.round + 1)) u false) refl
+      (met (λ o. option_map_or (λ c. nat_lt MAX_ROUNDS (c.standing.round + 1)) o false)
+      (λ u. option_map_or (λ x. nat_lt MAX_ROUNDS (x.round + 1)) u false) refl
       (λ c x is e. ap (λ (z : AnyStanding (Option Value)). nat_lt MAX_ROUNDS (z.round + 1)) e))
 
   -- the turns
@@ -117,11 +129,17 @@ module _ (s : Setting) (values : List Value) (p : ℕ) (m : Member) (kept : Kept
   abbrev leaves : Part → AnyTurn ℕ → Stepped
   leaves c turn = record { after = with_standing kept c turn.after; mail = turn.mail }
 
-  keeps-turned : (c : Part) (turn : AnyTurn ℕ) (t : Turn) → kept.part ≡ Some c → turn_map (value_at values) turn ≡ turn_map Some t → KeepsInstances s.members values p (record m { current = Some t.after }) (with_standing kept c turn.after)
+  keeps-turned : (c : Part) (turn : AnyTurn ℕ) (t : Turn) → kept.part ≡ Some c → turn_map (value_at values) turn ≡ turn_map Some t →
+      KeepsInstances s.members values p (record m { current = Some t.after }) (with_standing kept c turn.after)
   keeps-turned c turn t is e =
       let part = h.part c is in
       let new : Part = record c { standing = turn.after } in
-      let new_part : IsPartOf s.members p m.last new = record { members_is = part.members_is; me_is = part.me_is; instance_is = part.instance_is } in
+      let new_part : IsPartOf s.members p m.last new = record {
+        members_is = part.members_is;
+        me_is = part.me_is;
+        instance_is =
+            part.instance_is;
+      } in
       record {
         members = h.members;
         me = h.me;
@@ -133,14 +151,17 @@ module _ (s : Setting) (values : List Value) (p : ℕ) (m : Member) (kept : Kept
       }
 
   turned-by : (row : Part → Option (AnyTurn ℕ)) (step : Standing → Option Turn) (stepped : Stepped)
-      → ((c : Part) (x : Standing) → IsPartOf s.members p m.last c → Names c x → option_map (turn_map (value_at values)) (row c) ≡ option_map (turn_map Some) (step x))
+      → ((c : Part) (x : Standing) → IsPartOf s.members p m.last c → Names c x →
+      option_map (turn_map (value_at values)) (row c) ≡ option_map (turn_map Some) (step x))
       → step_by row kept ≡ Some stepped
       → IsTurnedBy m values step s.members p stepped
   turned-by row step stepped same e =
       let a = made-then (λ c. option_map (leaves c) (row c)) kept.part stepped e in
       let b = made-map (leaves a.from) (row a.from) stepped a.gives in
-      let c = standing_some values a.from.standing m.current (subst (λ o. NamesStanding values (option_map (λ c. c.standing) o) m.current) a.is h.standing) in
-      let t = mate (turn_map (value_at values)) (turn_map Some) (row a.from) (step c.0) b.from (same a.from c.0 (h.part a.from a.is) c.2) b.is in
+      let c = standing_some values a.from.standing m.current
+      (subst (λ o. NamesStanding values (option_map (λ c. c.standing) o) m.current) a.is h.standing) in
+      let t = mate (turn_map (value_at values)) (turn_map Some) (row a.from) (step c.0) b.from (same a.from c.0 (h.part a.from a.is) c.2)
+      b.is in
       subst (λ z. IsTurnedBy m values step s.members p z) b.gives
       (record {
         standing = c.0;
@@ -151,15 +172,18 @@ module _ (s : Setting) (values : List Value) (p : ℕ) (m : Member) (kept : Kept
         keeps = keeps-turned a.from b.from t.0 a.is t.2;
       })
 
-  pub action-turn : (a : Move) (stepped : Stepped) → taken kept a ≡ Some stepped → IsTurnedBy m values (turn_at s.members p m a) s.members p stepped
+  pub action-turn : (a : Move) (stepped : Stepped) → taken kept a ≡ Some stepped →
+      IsTurnedBy m values (turn_at s.members p m a) s.members p stepped
   action-turn a stepped is =
-      turned-by (λ c. turn_of c.members c.me c.instance (open_decision kept) (got (open_rounds kept) c) c.standing a) (turn_at s.members p m a) stepped
+      turned-by (λ c. turn_of c.members c.me c.instance (open_decision kept) (got (open_rounds kept) c) c.standing a)
+      (turn_at s.members p m a) stepped
       (λ c x is e.
       let t = got (open_rounds kept) c in
       ap (option_map (turn_map (value_at values))) (whose (λ n q k. turn_of n q k (open_decision kept) t c.standing a) c is)
       ∙ sym (turn-map (value_at values) s.members p m.last (open_decision kept) t c.standing a)
       ∙ ap (λ d. turn_of s.members p m.last d (ballots_map (value_at values) t) (standing_map (value_at values) c.standing) a) own-decision
-      ∙ ap (λ z. turn_of s.members p m.last (option_map Some (decided m.got m.last)) z (standing_map (value_at values) c.standing) a) (own c x e)
+      ∙ ap (λ z. turn_of s.members p m.last (option_map Some (decided m.got m.last)) z (standing_map (value_at values) c.standing) a)
+      (own c x e)
       ∙ ap (λ z. turn_of s.members p m.last (option_map Some (decided m.got m.last)) (ballots_map Some (own_ballots m x)) z a) e
       ∙ turn-map Some s.members p m.last (decided m.got m.last) (own_ballots m x) x a)
       is

@@ -1,7 +1,8 @@
 -- Who takes a step.
 use Rattle.std.specs.Prelude.{ℕ}
 use Rattle.ct_model.specs.declared.step.Step.{Step}
-use Rattle.ct_model.specs.declared.step.Step.TheVariants.{Submit, Receive, Begin, Enter, Choose, Adopt, Suspect, Conclude, Deliver, Crash, Postpone}
+use Rattle.ct_model.specs.declared.step.Step.TheVariants.{Submit, Receive, Begin, Enter, Choose, Adopt, Suspect, Conclude, Deliver, Crash}
+use Rattle.ct_model.specs.declared.step.Step.TheVariants.{Postpone}
 
 -- the member that takes the step
 abbrev pub actor : Step → ℕ

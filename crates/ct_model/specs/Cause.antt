@@ -1,16 +1,19 @@
 -- Why a step is refused: the first of its tests that fires.
-use Rattle.std.specs.Prelude.{ℕ, ◌+◌, not, nat_lt, if◌then◌else◌, List, [], ◌∷◌, Option, Some, None, is_some, is_none, option_and_then, length, map}
+use Rattle.std.specs.Prelude.{ℕ, ◌+◌, not, nat_lt, if◌then◌else◌, List, [], ◌∷◌, Option, Some, None, is_some, is_none, option_and_then}
+use Rattle.std.specs.Prelude.{length, map}
 use Rattle.std.specs.Option.{option_map_or}
 use Rattle.ct_names.specs.declared.limit.TheConstants.{MAX_SUBMISSIONS, MAX_INSTANCES, MAX_ROUNDS, MAX_ENVELOPES, MAX_STEPS}
 use Rattle.ct_names.specs.declared.limit.Limit.TheVariants.{Submissions, Instances, Rounds, Envelopes, Cells, Steps}
 use Rattle.ct_names.specs.declared.refusal.Refusal.{Refusal}
-use Rattle.ct_names.specs.declared.refusal.Refusal.TheVariants.{NoSuchMember, Crashed, NotWaiting, Busy, Nothing, Idle, Undecided, BadCommand, Full}
+use Rattle.ct_names.specs.declared.refusal.Refusal.TheVariants.{NoSuchMember, Crashed, NotWaiting, Busy, Nothing, Idle, Undecided}
+use Rattle.ct_names.specs.declared.refusal.Refusal.TheVariants.{BadCommand, Full}
 use Rattle.ct_names.specs.Command.{is_good}
 use Rattle.ct_names.specs.Group.{is_member}
 use Rattle.ct_model.specs.declared.moves.Move.{Move}
 use Rattle.ct_model.specs.declared.moves.Move.TheVariants as moves
 use Rattle.ct_model.specs.declared.step.Step.{Step}
-use Rattle.ct_model.specs.declared.step.Step.TheVariants.{Submit, Receive, Begin, Enter, Choose, Adopt, Suspect, Conclude, Deliver, Crash, Postpone}
+use Rattle.ct_model.specs.declared.step.Step.TheVariants.{Submit, Receive, Begin, Enter, Choose, Adopt, Suspect, Conclude, Deliver, Crash}
+use Rattle.ct_model.specs.declared.step.Step.TheVariants.{Postpone}
 use Rattle.ct_model.specs.Setting.{Setting}
 use Rattle.ct_model.specs.State.{State, Member, member, is_crashed, submissions}
 use Rattle.ct_names.specs.Batch.{Batch}
@@ -91,4 +94,5 @@ cause w step =
 -- the limit that a step passes that sends this many envelopes and comes near no other limit
 unfoldable pub overflow : Rehearsal → ℕ → Option Refusal
 overflow w more =
-    first_fault (at (Full Envelopes) (nat_lt MAX_ENVELOPES (length (state_of w).sent + more)) ∷ at (Full Steps) (nat_lt MAX_STEPS (length w.steps + 1)) ∷ [])
+    first_fault (at (Full Envelopes) (nat_lt MAX_ENVELOPES (length (state_of w).sent + more))
+    ∷ at (Full Steps) (nat_lt MAX_STEPS (length w.steps + 1)) ∷ [])

@@ -19,6 +19,7 @@ pub record KnowsMessages (s : Setting) (g : State) : Type 0 where
   pub origin : (m : Message) → has g.submitted m ≡ true → is_member s.members m.origin ≡ true
   pub positive : (m : Message) → has g.submitted m ≡ true → 1 ≤ m.number
   pub numbered : (m : Message) → has g.submitted m ≡ true → m.number ≤ submissions g.submitted m.origin
-  pub unique : (m other : Message) → has g.submitted m ≡ true → has g.submitted other ≡ true → m.origin ≡ other.origin → m.number ≡ other.number → m ≡ other
+  pub unique : (m other : Message) → has g.submitted m ≡ true → has g.submitted other ≡ true → m.origin ≡ other.origin →
+      m.number ≡ other.number → m ≡ other
   pub sent : (i : ℕ) (e : Envelope) → slice_get g.sent i ≡ Some e → CarriesOne g.submitted e.wire
   pub received : (p : ℕ) (m : Message) → has (received_by g p) m ≡ true → has g.submitted m ≡ true

@@ -17,7 +17,8 @@ HasDecided g p instance value = decided (member g p).got instance ≡ Some value
 
 -- each serial that a step of p sent to q is named by a Receive of q
 abbrev pub IsArrived : Setting → List Step → State → ℕ → ℕ → Type 0
-IsArrived s steps g p q = (k : ℕ) (e : Envelope) → at_serial (senders s steps) k ≡ Some p → at_serial g.sent k ≡ Some e → e.to ≡ q → IsIn (Receive q k) steps
+IsArrived s steps g p q = (k : ℕ) (e : Envelope) → at_serial (senders s steps) k ≡ Some p → at_serial g.sent k ≡ Some e → e.to ≡ q →
+    IsIn (Receive q k) steps
 
 -- q received what p received, and has a decision where p has one
 pub record HasCaughtUp (g : State) (p q : ℕ) : Type 0 where

@@ -26,7 +26,8 @@ delivered_by g p = delivered (member g p)
 
 -- two decisions of one instance are equal, and a decision was proposed for its instance
 pub record IsAgreed (s : Setting) (g : State) : Type 0 where
-  pub agreed : (p q instance : ℕ) (v w : Value) → IsMember s.members p → IsMember s.members q → HasDecided g p instance v → HasDecided g q instance w → v ≡ w
+  pub agreed : (p q instance : ℕ) (v w : Value) → IsMember s.members p → IsMember s.members q → HasDecided g p instance v →
+      HasDecided g q instance w → v ≡ w
   pub proposed : (p instance : ℕ) (v : Value) → IsMember s.members p → HasDecided g p instance v → IsProposed g instance v
 
 -- what is safe: decisions are agreed on and were proposed; of two delivered sequences one begins the other, also batch

@@ -1,5 +1,6 @@
 -- The state of the whole group.
-use Rattle.std.specs.Prelude.{ℕ, suc, zero, ◌-◌, ◌==◌, Bool, false, List, [], Option, None, length, filter, flat_map, map, replicate, slice_get, slice_index_or}
+use Rattle.std.specs.Prelude.{ℕ, suc, zero, ◌-◌, ◌==◌, Bool, false, List, [], Option, None, length, filter, flat_map, map, replicate}
+use Rattle.std.specs.Prelude.{slice_get, slice_index_or}
 use Rattle.ct_names.specs.Batch.{Batch}
 use Rattle.ct_names.specs.Message.{Message}
 use Rattle.ct_names.specs.Value.{Value}

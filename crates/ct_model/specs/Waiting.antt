@@ -49,7 +49,8 @@ changed p Leaves line = line
 
 -- p's line after a step in state g: what the step sends to p joins the end
 unfoldable pub line_after : Setting → ℕ → State → List ℕ → Step → List ℕ
-line_after s p g line step = changed p (line_change step) line ++ serials_to p (length g.sent) (drop (length g.sent) (stepped s g step).sent)
+line_after s p g line step = changed p (line_change step) line
+    ++ serials_to p (length g.sent) (drop (length g.sent) (stepped s g step).sent)
 
 -- p's line after further steps
 abbrev pub line_from : Setting → ℕ → State → List ℕ → List Step → List ℕ

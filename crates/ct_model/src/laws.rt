@@ -24,41 +24,51 @@ ghost use Rattle.ct_model.specs.declared.step.Step.{Step};
 /// Uniform integrity of reliable broadcast (Chandra and Toueg, section 4): a member receives a message at most once,
 /// and only one that was submitted.
 pub fn law_integrity()
-    ensures once { (s : Setting) (steps : List Step) (g : State) → run s steps ≡ Some g → (p : ℕ) → IsMember s.members p → IsWithoutRepeats (received_by g p) }
-    ensures submitted { (s : Setting) (steps : List Step) (g : State) → run s steps ≡ Some g → (p : ℕ) (m : Message) → IsMember s.members p → IsIn m (received_by g p) → IsIn m g.submitted }
+    ensures once { (s : Setting) (steps : List Step) (g : State) → run s steps ≡ Some g → (p : ℕ) → IsMember s.members p →
+        IsWithoutRepeats (received_by g p) }
+    ensures submitted { (s : Setting) (steps : List Step) (g : State) → run s steps ≡ Some g → (p : ℕ) (m : Message) →
+        IsMember s.members p → IsIn m (received_by g p) → IsIn m g.submitted }
 {}
 
 /// Agreement of reliable broadcast (Chandra and Toueg, section 4), up to what is under way: a member that received all
 /// that another sent to it has received each message, and has a decision for each instance, that the other has.
 pub fn law_relay()
-    ensures { (s : Setting) (steps : List Step) (g : State) → run s steps ≡ Some g → (p q : ℕ) → IsMember s.members p → IsMember s.members q → IsArrived s steps g p q → HasCaughtUp g p q }
+    ensures { (s : Setting) (steps : List Step) (g : State) → run s steps ≡ Some g → (p q : ℕ) → IsMember s.members p →
+        IsMember s.members q → IsArrived s steps g p q → HasCaughtUp g p q }
 {}
 
 /// The locked value (Chandra and Toueg, section 6.2): once a majority acked a round's proposal, the proposal of every
 /// later round of the instance is the same.
 pub fn law_locked()
-    ensures { (s : Setting) (steps : List Step) (g : State) → run s steps ≡ Some g → (instance round later : ℕ) (v w : Value) → IsLocked s g instance round v → round ≤ later → IsIn (Prop instance later w) (wires g) → w ≡ v }
+    ensures { (s : Setting) (steps : List Step) (g : State) → run s steps ≡ Some g → (instance round later : ℕ) (v w : Value) →
+        IsLocked s g instance round v → round ≤ later → IsIn (Prop instance later w) (wires g) → w ≡ v }
 {}
 
 /// Uniform agreement of consensus (Chandra and Toueg, section 6): two decisions of one instance are equal, also those
 /// of members that crashed.
 pub fn law_agreement()
-    ensures { (s : Setting) (steps : List Step) (g : State) → run s steps ≡ Some g → (p q instance : ℕ) (v w : Value) → IsMember s.members p → IsMember s.members q → HasDecided g p instance v → HasDecided g q instance w → v ≡ w }
+    ensures { (s : Setting) (steps : List Step) (g : State) → run s steps ≡ Some g → (p q instance : ℕ) (v w : Value) →
+        IsMember s.members p → IsMember s.members q → HasDecided g p instance v → HasDecided g q instance w → v ≡ w }
 {}
 
 /// Uniform validity of consensus (Chandra and Toueg, section 6), and integrity of atomic broadcast (section 7): a
 /// decision was proposed for its instance, and what a member delivered was submitted.
 pub fn law_validity()
-    ensures proposed { (s : Setting) (steps : List Step) (g : State) → run s steps ≡ Some g → (p instance : ℕ) (v : Value) → IsMember s.members p → HasDecided g p instance v → IsProposed g instance v }
-    ensures submitted { (s : Setting) (steps : List Step) (g : State) → run s steps ≡ Some g → (p : ℕ) (m : Message) → IsMember s.members p → IsIn m (delivered_by g p) → IsIn m g.submitted }
+    ensures proposed { (s : Setting) (steps : List Step) (g : State) → run s steps ≡ Some g → (p instance : ℕ) (v : Value) →
+        IsMember s.members p → HasDecided g p instance v → IsProposed g instance v }
+    ensures submitted { (s : Setting) (steps : List Step) (g : State) → run s steps ≡ Some g → (p : ℕ) (m : Message) →
+        IsMember s.members p → IsIn m (delivered_by g p) → IsIn m g.submitted }
 {}
 
 /// Uniform total order of atomic broadcast (Chandra and Toueg, section 7): of two delivered sequences one begins the
 /// other, and so it is with the batches; no message stands twice in one.
 pub fn law_prefix()
-    ensures delivered { (s : Setting) (steps : List Step) (g : State) → run s steps ≡ Some g → (p q : ℕ) → IsMember s.members p → IsMember s.members q → IsPrefix (delivered_by g p) (delivered_by g q) ⊎ IsPrefix (delivered_by g q) (delivered_by g p) }
-    ensures once { (s : Setting) (steps : List Step) (g : State) → run s steps ≡ Some g → (p : ℕ) → IsMember s.members p → IsWithoutRepeats (delivered_by g p) }
-    ensures batches { (s : Setting) (steps : List Step) (g : State) → run s steps ≡ Some g → (p q : ℕ) → IsMember s.members p → IsMember s.members q → IsPrefix (member g p).batches (member g q).batches ⊎ IsPrefix (member g q).batches (member g p).batches }
+    ensures delivered { (s : Setting) (steps : List Step) (g : State) → run s steps ≡ Some g → (p q : ℕ) → IsMember s.members p →
+        IsMember s.members q → IsPrefix (delivered_by g p) (delivered_by g q) ⊎ IsPrefix (delivered_by g q) (delivered_by g p) }
+    ensures once { (s : Setting) (steps : List Step) (g : State) → run s steps ≡ Some g → (p : ℕ) → IsMember s.members p →
+        IsWithoutRepeats (delivered_by g p) }
+    ensures batches { (s : Setting) (steps : List Step) (g : State) → run s steps ≡ Some g → (p q : ℕ) → IsMember s.members p →
+        IsMember s.members q → IsPrefix (member g p).batches (member g q).batches ⊎ IsPrefix (member g q).batches (member g p).batches }
 {}
 
 /// The tests of a step and the rows of the next state say the same, after any record that a world can keep: a step has no
@@ -75,5 +85,6 @@ pub fn law_cause()
 /// wires there are none, and one more wire counts as it is read.
 pub fn law_count<V>()
     ensures none { (instance round : ℕ) → ballots {V = V} [] instance round ≡ no_ballots }
-    ensures more { (got : List (Wire V)) (instance round : ℕ) (w : Wire V) → NamesSomebody w → ballots (got ++ w ∷ []) instance round ≡ count_in (ballots got instance round) instance round w }
+    ensures more { (got : List (Wire V)) (instance round : ℕ) (w : Wire V) → NamesSomebody w →
+        ballots (got ++ w ∷ []) instance round ≡ count_in (ballots got instance round) instance round w }
 {}

@@ -3,12 +3,14 @@ use Rattle.std.proofs.Common.{◌≡◌, ℕ, Bool, true, false, ◌||◌, ◌==
 use Rattle.std.specs.List.{list_any, AllByRecursion, IsDistinct}
 use Rattle.ct_names.proofs.Lists.{contrary}
 
-later-apart : {K : Type 0} (R : K → K → Bool) (k : K) (ks : List K) (x : K) (xs : List K) → AllByRecursion (λ y. R k y ≡ false) (ks ++ x ∷ xs) → R k x ≡ false
+later-apart : {K : Type 0} (R : K → K → Bool) (k : K) (ks : List K) (x : K) (xs : List K) →
+    AllByRecursion (λ y. R k y ≡ false) (ks ++ x ∷ xs) → R k x ≡ false
 later-apart R k [] x xs apart = apart.0
 later-apart R k (y ∷ ks) x xs apart = later-apart R k ks x xs apart.1
 
 -- one that comes later is not among those before it
-pub absent_before : {K : Type 0} (R : K → K → Bool) → ((x y : K) → R x y ≡ R y x) → (ks : List K) (x : K) (xs : List K) → IsDistinct R (ks ++ x ∷ xs) → list_any (R x) ks ≡ false
+pub absent_before : {K : Type 0} (R : K → K → Bool) → ((x y : K) → R x y ≡ R y x) → (ks : List K) (x : K) (xs : List K) →
+    IsDistinct R (ks ++ x ∷ xs) → list_any (R x) ks ≡ false
 unfolding IsDistinct
 absent_before R symm [] x xs distinct = refl
 absent_before R symm (k ∷ ks) x xs distinct =

@@ -1,5 +1,6 @@
 -- Sets of members as filters of all members, and the bits that stand for them.
-use Rattle.std.proofs.Common.{◌≡◌, ◌≢◌, ℕ, zero, suc, ◌+◌, ◌*◌, ◌-◌, ◌/◌, ◌%◌, ◌^◌, ◌≤◌, ◌<◌, Bool, true, false, cond, ◌||◌, ◌==◌, List, [], ◌∷◌, length, filter, map, refl, sym, ap, ◌∙◌, subst, inl, inr, arith, eqb-true, eq-eqb}
+use Rattle.std.proofs.Common.{◌≡◌, ◌≢◌, ℕ, zero, suc, ◌+◌, ◌*◌, ◌-◌, ◌/◌, ◌%◌, ◌^◌, ◌≤◌, ◌<◌, Bool, true, false, cond, ◌||◌, ◌==◌, List, []}
+use Rattle.std.proofs.Common.{◌∷◌, length, filter, map, refl, sym, ap, ◌∙◌, subst, inl, inr, arith, eqb-true, eq-eqb}
 use Rattle.std.specs.Int.{w16, bit_at}
 use Rattle.std.specs.Int.RustNames.{bit_and, bit_or, count_ones}
 use Rattle.std.proofs.Math.Nat.{pow-succ', div-div-eq-div-mul, mul_comm, zero-div}
@@ -72,7 +73,8 @@ filter-has_member test = filter-agree test (has_member (filter test everyone)) e
 -- one more member of those that pass a test
 pub with_member-filter : (test : ℕ → Bool) (one : ℕ) → with_member (filter test everyone) one ≡ filter (λ p. (p == one) || test p) everyone
 with_member-filter test one =
-    filter-agree (λ p. (p == one) || has_member (filter test everyone) p) (λ p. (p == one) || test p) everyone (λ p i. ap (λ b. (p == one) || b) (has_member-filter test p i))
+    filter-agree (λ p. (p == one) || has_member (filter test everyone) p) (λ p. (p == one) || test p) everyone
+    (λ p i. ap (λ b. (p == one) || b) (has_member-filter test p i))
 
 -- the lowest bit of a number, and the others
 split-number : (c : ℕ) → (cond ((c % 2) == 1) 1 0) + 2 * (c / 2) ≡ c
@@ -84,14 +86,16 @@ split-number c = elim (Lists.true_or_false ((c % 2) == 1)) [
 shifted : (b first : ℕ) → 1 ≤ first → b / 2 ^ (first + 1 - 1) ≡ b / 2 ^ (first - 1) / 2
 shifted b first h =
     let e : first + 1 - 1 ≡ suc (first - 1) = omega arith in
-    ap (λ k. b / 2 ^ k) e ∙ (ap (λ z. b / z) (pow-succ' 2 (first - 1) ∙ mul_comm 2 (2 ^ (first - 1))) ∙ sym (div-div-eq-div-mul b (2 ^ (first - 1)) 2))
+    ap (λ k. b / 2 ^ k) e ∙ (ap (λ z. b / z) (pow-succ' 2 (first - 1) ∙ mul_comm 2 (2 ^ (first - 1)))
+    ∙ sym (div-div-eq-div-mul b (2 ^ (first - 1)) 2))
 
 number_of-bits : (b first n c : ℕ) → 1 ≤ first → b / 2 ^ (first - 1) ≡ c → c < 2 ^ n → number_of (map (has_bit b) (counting first n)) ≡ c
 number_of-bits b first zero c h e low = omega arith
 number_of-bits b first (suc n) c h e low =
     let next : b / 2 ^ (first + 1 - 1) ≡ c / 2 = shifted b first h ∙ ap (λ z. z / 2) e in
     let double : 2 ^ suc n ≡ 2 * 2 ^ n = pow-succ' 2 n in
-    let rest : number_of (map (has_bit b) (counting (first + 1) n)) ≡ c / 2 = number_of-bits b (first + 1) n (c / 2) (omega arith) next (omega arith) in
+    let rest : number_of (map (has_bit b) (counting (first + 1) n)) ≡ c / 2 =
+    number_of-bits b (first + 1) n (c / 2) (omega arith) next (omega arith) in
     ap (λ z. cond ((z % 2) == 1) 1 0 + 2 * number_of (map (has_bit b) (counting (first + 1) n))) e
     ∙ (ap (λ z. cond ((c % 2) == 1) 1 0 + 2 * z) rest ∙ split-number c)
 
@@ -102,7 +106,8 @@ number_of-has_bit b low = number_of-bits b 1 16 b (omega arith) (omega arith) lo
 -- the bits come back from the members
 pub bits_of-members_of : (bits : ℕ) → bits < 65536 → bits_of (members_of bits) ≡ bits
 bits_of-members_of bits low =
-    ap number_of (map-agree (has_member (members_of bits)) (has_bit bits) everyone (has_member-filter (has_bit bits))) ∙ number_of-has_bit bits low
+    ap number_of (map-agree (has_member (members_of bits)) (has_bit bits) everyone (has_member-filter (has_bit bits)))
+    ∙ number_of-has_bit bits low
 
 number_of-mask_l : (bits : List Bool) → number_of bits ≡ mask_l bits
 number_of-mask_l [] = refl
@@ -113,7 +118,8 @@ pub bits_low : (bits : ℕ) → bits_of (members_of bits) ≡ bits → bits < 65
 unfolding members
 bits_low bits back =
     let low = mask_l-lt (map (has_member (members_of bits)) everyone) in
-    let e : mask_l (map (has_member (members_of bits)) everyone) ≡ bits = sym (number_of-mask_l (map (has_member (members_of bits)) everyone)) ∙ back in
+    let e : mask_l (map (has_member (members_of bits)) everyone) ≡ bits =
+    sym (number_of-mask_l (map (has_member (members_of bits)) everyone)) ∙ back in
     subst (λ n. n < 65536) e low
 
 -- there are as many members as bits are set
@@ -124,23 +130,29 @@ length-members_of bits back =
     ∙ (ones-mask_l (has_bit bits) everyone ∙ sym (length-filter (has_bit bits) everyone))
 
 -- a member's bit is set
-has_bit-set : (bits one p : ℕ) → IsMember MAX_MEMBERS one → 1 ≤ p → has_bit (bit_or bits (1 * 2 ^ (one - 1) % 65536)) p ≡ ((p == one) || has_bit bits p)
+has_bit-set : (bits one p : ℕ) → IsMember MAX_MEMBERS one → 1 ≤ p →
+    has_bit (bit_or bits (1 * 2 ^ (one - 1) % 65536)) p ≡ ((p == one) || has_bit bits p)
 has_bit-set bits one p h from_one = elim (Lists.true_or_false (p == one)) [
   | inl is ↦
       let e : p ≡ one = eqb-true p one is in
       let place : p - 1 ≡ one - 1 = ap (λ z. z - 1) e in
-      let set : bit_at (bit_or bits (1 * 2 ^ (one - 1) % 65536)) (one - 1) ≡ 1 = bit_at_set_same w16 bits (one - 1) (omega (arith, h.0, h.1)) in
-      ap (λ k. bit_at (bit_or bits (1 * 2 ^ (one - 1) % 65536)) k == 1) place ∙ (ap (λ z. z == 1) set ∙ sym (ap (λ b. b || has_bit bits p) is))
+      let set : bit_at (bit_or bits (1 * 2 ^ (one - 1) % 65536)) (one - 1) ≡ 1 =
+      bit_at_set_same w16 bits (one - 1) (omega (arith, h.0, h.1)) in
+      ap (λ k. bit_at (bit_or bits (1 * 2 ^ (one - 1) % 65536)) k == 1) place
+      ∙ (ap (λ z. z == 1) set ∙ sym (ap (λ b. b || has_bit bits p) is))
   | inr is ↦
       let e : p ≢ one = eqb-false p one is in
       let apart : p - 1 ≢ one - 1 = λ same. e (omega (arith, h.0)) in
-      let kept : bit_at (bit_or bits (1 * 2 ^ (one - 1) % 65536)) (p - 1) ≡ bit_at bits (p - 1) = bit_at_set_other w16 bits (one - 1) (omega (arith, h.0, h.1)) (p - 1) apart in
+      let kept : bit_at (bit_or bits (1 * 2 ^ (one - 1) % 65536)) (p - 1) ≡ bit_at bits (p - 1) =
+      bit_at_set_other w16 bits (one - 1) (omega (arith, h.0, h.1)) (p - 1) apart in
       ap (λ z. z == 1) kept ∙ sym (ap (λ b. b || has_bit bits p) is)
 ]
 
-pub members_of-insert : (bits one : ℕ) → IsMember MAX_MEMBERS one → members_of (bit_or bits (1 * 2 ^ (one - 1) % 65536)) ≡ with_member (members_of bits) one
+pub members_of-insert : (bits one : ℕ) → IsMember MAX_MEMBERS one →
+    members_of (bit_or bits (1 * 2 ^ (one - 1) % 65536)) ≡ with_member (members_of bits) one
 members_of-insert bits one h =
-    filter-agree (has_bit (bit_or bits (1 * 2 ^ (one - 1) % 65536))) (λ p. (p == one) || has_bit bits p) everyone (λ p i. has_bit-set bits one p h (everyone-in p i).0)
+    filter-agree (has_bit (bit_or bits (1 * 2 ^ (one - 1) % 65536))) (λ p. (p == one) || has_bit bits p) everyone
+    (λ p i. has_bit-set bits one p h (everyone-in p i).0)
     ∙ sym (with_member-filter (has_bit bits) one)
 
 -- the bits stay below 65536
@@ -153,10 +165,12 @@ members_of-zero = nothing everyone
   where
     nothing : (xs : List ℕ) → filter (has_bit 0) xs ≡ []
     nothing [] = refl
-    nothing (x ∷ xs) = ap (λ n. cond ((n % 2) == 1) (x ∷ filter (has_bit 0) xs) (filter (has_bit 0) xs)) (zero-div (2 ^ (x - 1))) ∙ nothing xs
+    nothing (x ∷ xs) = ap (λ n. cond ((n % 2) == 1) (x ∷ filter (has_bit 0) xs) (filter (has_bit 0) xs)) (zero-div (2 ^ (x - 1)))
+        ∙ nothing xs
 
 -- what the set has is what its bits say
-pub has_member-bit : (bits one : ℕ) (set : List ℕ) → members_of bits ≡ set → IsMember MAX_MEMBERS one → (bit_and (bits / 2 ^ (one - 1)) 1 == 1) ≡ has_member set one
+pub has_member-bit : (bits one : ℕ) (set : List ℕ) → members_of bits ≡ set → IsMember MAX_MEMBERS one →
+    (bit_and (bits / 2 ^ (one - 1)) 1 == 1) ≡ has_member set one
 has_member-bit bits one set is h =
     ap (λ z. z == 1) (shr_and_one bits (one - 1))
     ∙ (sym (has_member-filter (has_bit bits) one (in-everyone one h)) ∙ ap (λ s. has_member s one) is)

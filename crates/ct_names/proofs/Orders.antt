@@ -1,5 +1,6 @@
 -- The order of messages is total: it compares their keys.
-use Rattle.std.proofs.Common.{◌≡◌, ℕ, Bool, true, false, ◌&&◌, ◌||◌, ◌==◌, List, [], ◌∷◌, length, Ordering, Less, Equal, Greater, refl, sym, ap, ◌∙◌, inl, inr, ◌⊎◌, arith, ltb}
+use Rattle.std.proofs.Common.{◌≡◌, ℕ, Bool, true, false, ◌&&◌, ◌||◌, ◌==◌, List, [], ◌∷◌, length, Ordering, Less, Equal, Greater, refl, sym}
+use Rattle.std.proofs.Common.{ap, ◌∙◌, inl, inr, ◌⊎◌, arith, ltb}
 use Rattle.std.specs.Cmp.{IsTotalOrder}
 use Rattle.std.specs.Cmp.Lexicographic.{slice_cmp}
 use Rattle.std.specs.Ordering.{nat_cmp, is_lt, is_eq, ordering_reverse, ordering_then}
@@ -27,7 +28,8 @@ less-cmp (x ∷ xs) (y ∷ ys) e =
     let ih : is_less xs ys ≡ is_lt (slice_cmp nat_cmp xs ys) = less-cmp xs ys (omega arith) in
     less-cons x y (slice_cmp nat_cmp xs ys) (is_less xs ys) ih
   where
-    less-cons : (x y : ℕ) (o : Ordering) (rest : Bool) → rest ≡ is_lt o → (ltb x y || ((x == y) && rest)) ≡ is_lt (ordering_then (nat_cmp x y) o)
+    less-cons : (x y : ℕ) (o : Ordering) (rest : Bool) → rest ≡ is_lt o →
+        (ltb x y || ((x == y) && rest)) ≡ is_lt (ordering_then (nat_cmp x y) o)
     less-cons x y o rest ih = grind (arith, nat_tests)
 
 same-cmp : (xs ys : List ℕ) → is_same xs ys ≡ is_eq (slice_cmp nat_cmp xs ys)
@@ -103,17 +105,20 @@ module _ (origin number other_origin other_number : ℕ) where
 
   same_cmp-command : (c d : Command) → ghosts.cmp (with_command c) (other_with d) ≡ order (with_command c) (other_with d)
   same_cmp-command (Set r v) (Set s w) =
-      ap (λ o. ordering_then (nat_cmp origin other_origin) (ordering_then (nat_cmp number other_number) (ordering_then (nat_cmp r s) o))) (then-equal (nat_cmp v w))
+      ap (λ o. ordering_then (nat_cmp origin other_origin) (ordering_then (nat_cmp number other_number) (ordering_then (nat_cmp r s) o)))
+      (then-equal (nat_cmp v w))
   same_cmp-command (Set r v) (Add s w) = refl
   same_cmp-command (Set r v) (Copy s w) = refl
   same_cmp-command (Add r v) (Set s w) = refl
   same_cmp-command (Add r v) (Add s w) =
-      ap (λ o. ordering_then (nat_cmp origin other_origin) (ordering_then (nat_cmp number other_number) (ordering_then (nat_cmp r s) o))) (then-equal (nat_cmp v w))
+      ap (λ o. ordering_then (nat_cmp origin other_origin) (ordering_then (nat_cmp number other_number) (ordering_then (nat_cmp r s) o)))
+      (then-equal (nat_cmp v w))
   same_cmp-command (Add r v) (Copy s w) = refl
   same_cmp-command (Copy r v) (Set s w) = refl
   same_cmp-command (Copy r v) (Add s w) = refl
   same_cmp-command (Copy r v) (Copy s w) =
-      ap (λ o. ordering_then (nat_cmp origin other_origin) (ordering_then (nat_cmp number other_number) (ordering_then (nat_cmp r s) o))) (then-equal (nat_cmp v w))
+      ap (λ o. ordering_then (nat_cmp origin other_origin) (ordering_then (nat_cmp number other_number) (ordering_then (nat_cmp r s) o)))
+      (then-equal (nat_cmp v w))
 
 -- the derived `cmp` of messages is that order
 pub same_cmp : (m other : Message) → ghosts.cmp m other ≡ order m other
@@ -124,7 +129,10 @@ and_true true = refl
 and_true false = refl
 
 module _ (origin number other_origin other_number : ℕ) where
-  same_eq-command : (c d : Command) → equal.eq (record { origin = origin; number = number; command = c }) (record { origin = other_origin; number = other_number; command = d }) ≡ is_message (record { origin = origin; number = number; command = c }) (record { origin = other_origin; number = other_number; command = d })
+  same_eq-command : (c d : Command) → equal.eq (record { origin = origin; number = number; command = c })
+      (record { origin = other_origin; number = other_number; command = d })
+      ≡ is_message (record { origin = origin; number = number; command = c })
+      (record { origin = other_origin; number = other_number; command = d })
   unfolding is_message
   same_eq-command (Set r v) (Set s w) =
       ap (λ b. (origin == other_origin) && ((number == other_number) && ((r == s) && b))) (and_true (v == w))

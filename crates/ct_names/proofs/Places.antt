@@ -1,5 +1,6 @@
 -- Where a binary search finds a message in a set, and the place that it names for another.
-use Rattle.std.proofs.Common.{◌≡◌, ℕ, zero, suc, ◌+◌, ◌≤◌, ◌<◌, Bool, true, false, cond, not, ◌||◌, List, [], ◌∷◌, ◌++◌, length, get_or, take, Ordering, Less, Equal, Greater, Result, Ok, Err, refl, sym, ap, ◌∙◌, subst, inl, inr, ◌⊎◌, arith}
+use Rattle.std.proofs.Common.{◌≡◌, ℕ, zero, suc, ◌+◌, ◌≤◌, ◌<◌, Bool, true, false, cond, not, ◌||◌, List, [], ◌∷◌, ◌++◌, length, get_or}
+use Rattle.std.proofs.Common.{take, Ordering, Less, Equal, Greater, Result, Ok, Err, refl, sym, ap, ◌∙◌, subst, inl, inr, ◌⊎◌, arith}
 use Rattle.std.specs.List.{AllWithin, HoldsAt, insert}
 use Rattle.std.specs.List.Sorted.{IsBinarySearchResult, IsSearchInRange, IsSortedBy, IsNonDecreasingBy}
 use Rattle.std.specs.Ordering.{is_lt, is_eq, ordering_index, ordering_reverse}
@@ -17,7 +18,8 @@ use Rattle.ct_names.proofs.Orders.{order, order_total, before-order, message-ord
 use Rattle.ct_names.proofs.Sets.{IsRising, rising-set, rising-placed, placed-in, set_of}
 use Rattle.ct_names.proofs.Values.{in-has, has-in, placed-from}
 
-rising-step : (xs : List Message) → IsRising xs → (k : ℕ) (d : Message) → suc k < length xs → is_before (get_or xs k d) (get_or xs (suc k) d) ≡ true
+rising-step : (xs : List Message) → IsRising xs → (k : ℕ) (d : Message) → suc k < length xs →
+    is_before (get_or xs k d) (get_or xs (suc k) d) ≡ true
 rising-step [] h k d low = absurd (omega arith)
 rising-step (x ∷ []) h k d low = absurd (omega arith)
 rising-step (x ∷ y ∷ xs) h zero d low = h.0.0
@@ -40,7 +42,8 @@ less-not_before : (m other : Message) → order other m ≡ Less → is_before m
 less-not_before m other h = before-order m other ∙ ap is_lt (order_total.antisymm m other ∙ ap ordering_reverse h)
 
 -- the message goes where the smaller end and the larger begin
-placed-insert : (m : Message) (xs : List Message) (i : ℕ) → i ≤ length xs → AllWithin (λ y. order y m ≡ Less) xs 0 i → AllWithin (λ y. order y m ≡ Greater) xs i (length xs) → placed m xs ≡ insert xs i m
+placed-insert : (m : Message) (xs : List Message) (i : ℕ) → i ≤ length xs → AllWithin (λ y. order y m ≡ Less) xs 0 i →
+    AllWithin (λ y. order y m ≡ Greater) xs i (length xs) → placed m xs ≡ insert xs i m
 placed-insert m [] zero in' below above = refl
 placed-insert m [] (suc i) in' below above = absurd (omega arith)
 placed-insert m (other ∷ xs) zero in' below above =
@@ -71,7 +74,8 @@ pub record IsPlace (xs : List Message) (m : Message) (i : ℕ) : Type 0 where
   pub absent : has xs m ≡ false
   pub there : placed m xs ≡ insert xs i m
 
-place_of : (xs : List Message) (m : Message) (i : ℕ) → i ≤ length xs → AllWithin (λ y. order y m ≡ Less) xs 0 i → AllWithin (λ y. order y m ≡ Greater) xs i (length xs) → IsPlace xs m i
+place_of : (xs : List Message) (m : Message) (i : ℕ) → i ≤ length xs → AllWithin (λ y. order y m ≡ Less) xs 0 i →
+    AllWithin (λ y. order y m ≡ Greater) xs i (length xs) → IsPlace xs m i
 place_of xs m i in' below above = record {
   absent = has-nowhere xs m (λ k low. elim (cases_lt k i) [
     | inl h ↦ message-order (get_or xs k m) m ∙ ap is_eq (below k m (omega arith) h)
@@ -81,19 +85,24 @@ place_of xs m i in' below above = record {
 }
 
 -- a message that is found is in the set, and one that isn't is absent, and its place is known
-pub found : (xs : List Message) (m : Message) (ord : Message → Ordering) → ((y : Message) → ord y ≡ order y m) → IsOrdered xs → (r : Result ℕ ℕ) → IsSearchInRange r (length xs) → IsBinarySearchResult ord xs r → MatchResult r (λ i. has xs m ≡ true) (λ i. IsPlace xs m i)
+pub found : (xs : List Message) (m : Message) (ord : Message → Ordering) → ((y : Message) → ord y ≡ order y m) → IsOrdered xs →
+    (r : Result ℕ ℕ) → IsSearchInRange r (length xs) → IsBinarySearchResult ord xs r →
+    MatchResult r (λ i. has xs m ≡ true) (λ i. IsPlace xs m i)
 found xs m ord same h (Ok i) low at = has-at xs m i low (λ d. sym (same (get_or xs i d)) ∙ at d)
 found xs m ord same h (Err i) low at =
     let same_ord : ord ≡ (λ y. order y m) = λ j. λ y. same y j in
-    let rising : IsNonDecreasingBy (λ y. ordering_index (ord y)) xs = subst (λ f. IsNonDecreasingBy (λ y. ordering_index (f y)) xs) (sym same_ord) (searchable xs m (rising-set xs h)) in
+    let rising : IsNonDecreasingBy (λ y. ordering_index (ord y)) xs =
+    subst (λ f. IsNonDecreasingBy (λ y. ordering_index (f y)) xs) (sym same_ord) (searchable xs m (rising-set xs h)) in
     let parts = at rising in
-    place_of xs m i low (λ k d from to. sym (same (get_or xs k d)) ∙ parts.0 k d from to) (λ k d from to. sym (same (get_or xs k d)) ∙ parts.1 k d from to)
+    place_of xs m i low (λ k d from to. sym (same (get_or xs k d)) ∙ parts.0 k d from to)
+    (λ k d from to. sym (same (get_or xs k d)) ∙ parts.1 k d from to)
 
 -- with the message at its place the set is that of the list and the message
 pub set-insert : (xs : List Message) (m : Message) (i : ℕ) → IsOrdered xs → IsPlace xs m i → insert xs i m ≡ ordered (xs ++ m ∷ [])
 set-insert xs m i h place =
     sym place.there
-    ∙ set_of (placed m xs) (xs ++ m ∷ []) (rising-placed m xs (λ k. Lists.contrary (has xs m) (has-in xs m k) place.absent) (rising-set xs h))
+    ∙ set_of (placed m xs) (xs ++ m ∷ []) (rising-placed m xs (λ k. Lists.contrary (has xs m) (has-in xs m k) place.absent)
+    (rising-set xs h))
     (λ x k. elim (placed-from m x xs k) [
       | inl e ↦ Lists.IsIn-append_right x xs (m ∷ []) (inl e)
       | inr j ↦ Lists.IsIn-append_left x xs (m ∷ []) j
@@ -117,15 +126,18 @@ set-present xs m h there =
     back x (inr (inr j)) = absurd j
 
 -- the search is Ok exactly where the message is in the set
-pub ok_has : (r : Result ℕ ℕ) (xs : List Message) (m : Message) → MatchResult r (λ i. has xs m ≡ true) (λ i. IsPlace xs m i) → is_ok r ≡ has xs m
+pub ok_has : (r : Result ℕ ℕ) (xs : List Message) (m : Message) → MatchResult r (λ i. has xs m ≡ true) (λ i. IsPlace xs m i) →
+    is_ok r ≡ has xs m
 ok_has (Ok i) xs m h = sym h
 ok_has (Err i) xs m h = sym h.absent
 
 -- the next message of the set, which is kept or left out
-pub minus-more : (xs list : List Message) (i : ℕ) (m : Message) (b : Bool) → i < length xs → m ≡ get_or xs i m → has list m ≡ b → minus (take (i + 1) xs) list ≡ minus (take i xs) list ++ cond b [] (m ∷ [])
+pub minus-more : (xs list : List Message) (i : ℕ) (m : Message) (b : Bool) → i < length xs → m ≡ get_or xs i m → has list m ≡ b →
+    minus (take (i + 1) xs) list ≡ minus (take i xs) list ++ cond b [] (m ∷ [])
 minus-more xs list i m b low is there =
     filter_more (λ x. not (has list x)) xs i m low
-    ∙ ap (λ zs. minus (take i xs) list ++ zs) (ap (λ x. cond (not (has list x)) (x ∷ []) []) (sym is) ∙ (ap (λ t. cond (not t) (m ∷ []) []) there ∙ at b))
+    ∙ ap (λ zs. minus (take i xs) list ++ zs) (ap (λ x. cond (not (has list x)) (x ∷ []) []) (sym is)
+    ∙ (ap (λ t. cond (not t) (m ∷ []) []) there ∙ at b))
   where
     at : (b : Bool) → cond (not b) (m ∷ []) [] ≡ cond b [] (m ∷ [])
     at true = refl

@@ -6,7 +6,8 @@ use Rattle.ct_names.specs.Value.{has, minus, first_occurrences, placed, sorted, 
 use Rattle.ct_names.specs.Membership.{IsIn, IsWithoutRepeats}
 use Rattle.ct_names.proofs.Lists
 use Rattle.ct_names.proofs.Orders.{before-trans, before-other, one_way}
-use Rattle.ct_names.proofs.Values.{same_message, is_message-refl, in-has, has-in, first_occurrences-in, IsWithoutRepeats-first_occurrences, sorted-from, placed-from, ordered-from}
+use Rattle.ct_names.proofs.Values.{same_message, is_message-refl, in-has, has-in, first_occurrences-in, IsWithoutRepeats-first_occurrences}
+use Rattle.ct_names.proofs.Values.{sorted-from, placed-from, ordered-from}
 
 -- the message is before each of the list
 abbrev pub IsBeforeAll : Message → List Message → Type 0
@@ -60,7 +61,8 @@ placed-in m [] x (inl e) = inl e
 placed-in m [] x (inr i) = absurd i
 placed-in m (other ∷ list) x h = at (is_before m other) h (placed-in m list x)
   where
-    at : (b : Bool) → (x ≡ m) ⊎ IsIn x (other ∷ list) → ((x ≡ m) ⊎ IsIn x list → IsIn x (placed m list)) → IsIn x (cond b (m ∷ other ∷ list) (other ∷ placed m list))
+    at : (b : Bool) → (x ≡ m) ⊎ IsIn x (other ∷ list) → ((x ≡ m) ⊎ IsIn x list → IsIn x (placed m list)) →
+        IsIn x (cond b (m ∷ other ∷ list) (other ∷ placed m list))
     at true (inl e) rest = inl e
     at true (inr i) rest = inr i
     at false (inl e) rest = inr (rest (inl e))
@@ -78,7 +80,8 @@ ordered-in list x i = sorted-in (first_occurrences list) x (first_occurrences-in
 
 pub has-ordered : (list : List Message) (m : Message) → has (ordered list) m ≡ has list m
 has-ordered list m =
-    same_test (has (ordered list) m) (has list m) (λ h. has-in list m (ordered-from list m (in-has (ordered list) m h))) (λ h. has-in (ordered list) m (ordered-in list m (in-has list m h)))
+    same_test (has (ordered list) m) (has list m) (λ h. has-in list m (ordered-from list m (in-has (ordered list) m h)))
+    (λ h. has-in (ordered list) m (ordered-in list m (in-has list m h)))
 
 after-from : (m other : Message) → is_before m other ≡ false → (m ≡ other → ⊥) → is_before other m ≡ true
 after-from m other h apart = elim (one_way m other) [
@@ -125,7 +128,8 @@ in_rest x y m xs ys h same i (inl e) =
 in_rest x y m xs ys h same i (inr j) = j
 
 -- rising lists with the same messages are one list
-pub same_rising : (xs ys : List Message) → IsRising xs → IsRising ys → ((m : Message) → IsIn m xs → IsIn m ys) → ((m : Message) → IsIn m ys → IsIn m xs) → xs ≡ ys
+pub same_rising : (xs ys : List Message) → IsRising xs → IsRising ys → ((m : Message) → IsIn m xs → IsIn m ys) →
+    ((m : Message) → IsIn m ys → IsIn m xs) → xs ≡ ys
 same_rising [] [] h k there back = refl
 same_rising [] (y ∷ ys) h k there back = absurd (back y (inl refl))
 same_rising (x ∷ xs) [] h k there back = absurd (there x (inl refl))
@@ -140,7 +144,8 @@ pub rising-set : (list : List Message) → IsOrdered list → IsRising list
 rising-set list h = subst IsRising h (rising-ordered list)
 
 -- a rising list is the set of a list that has the same messages
-pub set_of : (xs list : List Message) → IsRising xs → ((m : Message) → IsIn m xs → IsIn m list) → ((m : Message) → IsIn m list → IsIn m xs) → xs ≡ ordered list
+pub set_of : (xs list : List Message) → IsRising xs → ((m : Message) → IsIn m xs → IsIn m list) →
+    ((m : Message) → IsIn m list → IsIn m xs) → xs ≡ ordered list
 set_of xs list h there back =
     same_rising xs (ordered list) h (rising-ordered list) (λ m i. ordered-in list m (there m i)) (λ m i. back m (ordered-from list m i))
 

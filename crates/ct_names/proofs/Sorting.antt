@@ -30,7 +30,9 @@ has-dedup_from : (k : Message) (list : List Message) (m : Message) → has (dedu
 has-dedup_from k [] m = refl
 has-dedup_from k (x ∷ list) m = at (is_message x k) refl (has-dedup_from k list m) (has-dedup_from x list m)
   where
-    at : (b : Bool) → is_message x k ≡ b → has (dedup_from is_message k list) m ≡ has (k ∷ list) m → has (dedup_from is_message x list) m ≡ has (x ∷ list) m → has (cond b (dedup_from is_message k list) (k ∷ dedup_from is_message x list)) m ≡ has (k ∷ x ∷ list) m
+    at : (b : Bool) → is_message x k ≡ b → has (dedup_from is_message k list) m ≡ has (k ∷ list) m →
+        has (dedup_from is_message x list) m ≡ has (x ∷ list) m →
+        has (cond b (dedup_from is_message k list) (k ∷ dedup_from is_message x list)) m ≡ has (k ∷ x ∷ list) m
     at true is by_k by_x =
         by_k
         ∙ (or-twice (is_message k m) (has list m)
@@ -49,7 +51,8 @@ set-dedup list h =
     (λ m. has-dedup list m ∙ sym (has-ordered list m))
 
 -- what is left of a list after a sort and `dedup` is the set of the list
-pub sorted_dedup-set : (list moved : List Message) → IsPermutation list moved → IsSorted ghosts.cmp moved → dedup equal.eq moved ≡ ordered list
+pub sorted_dedup-set : (list moved : List Message) → IsPermutation list moved → IsSorted ghosts.cmp moved →
+    dedup equal.eq moved ≡ ordered list
 sorted_dedup-set list moved same h =
     let cmp_is : ghosts.cmp ≡ order = λ i. λ m other. same_cmp m other i in
     let eq_is : equal.eq ≡ is_message = λ i. λ m other. same_eq m other i in

@@ -4,7 +4,9 @@ use Rattle.std.specs.List.{concat}
 use Rattle.ct_names.specs.declared.limit.Limit.{Limit}
 use Rattle.ct_names.specs.declared.limit.Limit.TheVariants.{Submissions, Instances, Rounds, Envelopes, Cells, Steps}
 use Rattle.ct_names.specs.declared.refusal.Refusal.{Refusal}
-use Rattle.ct_names.specs.declared.refusal.Refusal.TheVariants.{NoSuchMember, Crashed, NotWaiting, Busy, Nothing, Idle, WrongPhase, Decided, TooFew, NotLargest, NoProposal, HasProposal, Undecided, BadCommand, Full, OutOfMemory, Board}
+use Rattle.ct_names.specs.declared.refusal.Refusal.TheVariants.{NoSuchMember, Crashed, NotWaiting, Busy, Nothing, Idle, WrongPhase, Decided}
+use Rattle.ct_names.specs.declared.refusal.Refusal.TheVariants.{TooFew, NotLargest, NoProposal, HasProposal, Undecided, BadCommand, Full}
+use Rattle.ct_names.specs.declared.refusal.Refusal.TheVariants.{OutOfMemory, Board}
 
 abbrev pub limit_text : Limit → List ℕ
 limit_text Submissions = codes "Submissions"

@@ -5,5 +5,6 @@ ghost use Rattle.ct_names.specs.Group.{IsMajority, IsSetOf, IsShared};
 
 /// Two majorities of a group share a member.
 pub fn law_majorities()
-    ensures { (n : ℕ) (one other : List ℕ) → IsSetOf n one → IsSetOf n other → IsMajority n one → IsMajority n other → IsShared n one other }
+    ensures { (n : ℕ) (one other : List ℕ) → IsSetOf n one → IsSetOf n other → IsMajority n one → IsMajority n other →
+        IsShared n one other }
 {}

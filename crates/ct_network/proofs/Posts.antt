@@ -37,7 +37,8 @@ module _ {V : Type 0} where
   abbrev letter : Wire V → ℕ → Envelope V
   letter w q = record { to = q; wire = w }
 
-  from : (w : Wire V) (first n last : ℕ) → last ≡ first + n → map (letter w) (counting first (suc n)) ≡ map (letter w) (counting first n) ++ letter w last ∷ []
+  from : (w : Wire V) (first n last : ℕ) → last ≡ first + n →
+      map (letter w) (counting first (suc n)) ≡ map (letter w) (counting first n) ++ letter w last ∷ []
   from w first zero last e = let is : first ≡ last = omega arith in ap (λ q. letter w q ∷ []) is
   from w first (suc n) last e = ap (λ r. letter w first ∷ r) (from w (first + 1) n last (omega arith))
 
@@ -61,7 +62,8 @@ module _ {V U : Type 0} (f : V → U) where
   length-envelopes-map n mail = ap length (envelopes-map f n mail) ∙ length-map (envelopes n mail) (envelope_map f)
 
 -- a member gets one of the envelopes to all
-pub serials_to-all : {V : Type 0} (n q before : ℕ) (w : Wire V) → 1 ≤ q → q ≤ n → serials_to q before (envelopes n (All w)) ≡ (before + q) ∷ []
+pub serials_to-all : {V : Type 0} (n q before : ℕ) (w : Wire V) → 1 ≤ q → q ≤ n →
+    serials_to q before (envelopes n (All w)) ≡ (before + q) ∷ []
 serials_to-all {V} n q before w low high =
     sym (serials_to-map none q before (envelopes n (All w)))
     ∙ ap (serials_to q before) (sym (envelopes-map none n (All w)))

@@ -10,5 +10,6 @@ pub copied-item : {A : Type 0} (xs : List A) (i : ℕ) (r : Option (Bor A)) → 
 copied-item xs i None h = sym (slice_get_past xs i h.3)
 copied-item xs i (Some x) h = sym (slice_get_read xs (length xs) i x.now refl h.3.0 h.1)
 
-pub envelope_at : {V : Type 0} (es : List (Envelope V)) (serial i : ℕ) (r : Option (Envelope V)) → serial ≡ suc i → r ≡ slice_get es i → r ≡ at_serial es serial
+pub envelope_at : {V : Type 0} (es : List (Envelope V)) (serial i : ℕ) (r : Option (Envelope V)) → serial ≡ suc i → r ≡ slice_get es i →
+    r ≡ at_serial es serial
 envelope_at es serial i r is e = e ∙ ap (at_serial es) (sym is)

@@ -23,9 +23,11 @@ fault_of_input Memory bytes input e h = tt
 fault_of_input Start bytes input e h = absurd h
 fault_of_input Exchanged bytes input e h = absurd h
 
-pub fault_seen : (fault : ProgramFault) (left : Option (List ℕ)) (bytes seen : List ℕ) → IfSome left (λ input. bytes ≡ read_part input) → seen ≡ bytes → IsFaultIn fault seen → IfSome left (IsFaultIn fault)
+pub fault_seen : (fault : ProgramFault) (left : Option (List ℕ)) (bytes seen : List ℕ) → IfSome left (λ input. bytes ≡ read_part input) →
+    seen ≡ bytes → IsFaultIn fault seen → IfSome left (IsFaultIn fault)
 fault_seen fault None bytes seen h same f = tt
-fault_seen fault (Some input) bytes seen h same f = fault_of_input fault bytes input (script_read bytes input h) (subst (IsFaultIn fault) same f)
+fault_seen fault (Some input) bytes seen h same f = fault_of_input fault bytes input (script_read bytes input h)
+    (subst (IsFaultIn fault) same f)
 
 ok_weaker : {T E : Type 0} (r : Result T E) (P Q : T → Type 0) → ((x : T) → P x → Q x) → IsOkAnd r P → IsOkAnd r Q
 ok_weaker (Ok x) P Q f h = f x h
@@ -33,22 +35,29 @@ ok_weaker (Err e) P Q f h = h
 
 written : (bytes text : List ℕ) (old new : Option (List ℕ)) → IsReportOf bytes text → Appends old new text → WritesReport bytes old new
 written bytes text old new h a =
-    ok_weaker (script bytes) (λ w. IsReplayed w × (text ≡ report_text w)) (λ w. IsReplayed w × Appends old new (report_text w)) (λ w both. (both.0, subst (Appends old new) both.1 a)) h
+    ok_weaker (script bytes) (λ w. IsReplayed w × (text ≡ report_text w)) (λ w. IsReplayed w × Appends old new (report_text w))
+    (λ w both. (both.0, subst (Appends old new) both.1 a)) h
 
-part_written : (bytes text : List ℕ) (old new : Option (List ℕ)) → IsReportOf bytes text → WritesPart old new text → WritesReportPart bytes old new
+part_written : (bytes text : List ℕ) (old new : Option (List ℕ)) → IsReportOf bytes text → WritesPart old new text →
+    WritesReportPart bytes old new
 part_written bytes text old new h a =
-    ok_weaker (script bytes) (λ w. IsReplayed w × (text ≡ report_text w)) (λ w. IsReplayed w × WritesPart old new (report_text w)) (λ w both. (both.0, subst (WritesPart old new) both.1 a)) h
+    ok_weaker (script bytes) (λ w. IsReplayed w × (text ≡ report_text w)) (λ w. IsReplayed w × WritesPart old new (report_text w))
+    (λ w both. (both.0, subst (WritesPart old new) both.1 a)) h
 
-pub ok_seen : (left : Option (List ℕ)) (bytes seen text out : List ℕ) (old new : Option (List ℕ)) → IfSome left (λ input. bytes ≡ read_part input) → seen ≡ bytes → IsReportOf seen text → out ≡ text → Appends old new out
+pub ok_seen : (left : Option (List ℕ)) (bytes seen text out : List ℕ) (old new : Option (List ℕ)) →
+    IfSome left (λ input. bytes ≡ read_part input) → seen ≡ bytes → IsReportOf seen text → out ≡ text → Appends old new out
     → IfSome left (λ input. WritesReport input old new)
 ok_seen None bytes seen text out old new h same r e a = tt
 ok_seen (Some input) bytes seen text out old new h same r e a =
-    let all : WritesReport bytes old new = written bytes text old new (subst (λ b. IsReportOf b text) same r) (subst (Appends old new) e a) in
+    let all : WritesReport bytes old new = written bytes text old new (subst (λ b. IsReportOf b text) same r)
+    (subst (Appends old new) e a) in
     rw (← script_read bytes input h) all
 
-pub part_seen : (left : Option (List ℕ)) (bytes seen text out : List ℕ) (old new : Option (List ℕ)) → IfSome left (λ input. bytes ≡ read_part input) → seen ≡ bytes → IsReportOf seen text → out ≡ text → WritesPart old new out
+pub part_seen : (left : Option (List ℕ)) (bytes seen text out : List ℕ) (old new : Option (List ℕ)) →
+    IfSome left (λ input. bytes ≡ read_part input) → seen ≡ bytes → IsReportOf seen text → out ≡ text → WritesPart old new out
     → IfSome left (λ input. WritesReportPart input old new)
 part_seen None bytes seen text out old new h same r e a = tt
 part_seen (Some input) bytes seen text out old new h same r e a =
-    let all : WritesReportPart bytes old new = part_written bytes text old new (subst (λ b. IsReportOf b text) same r) (subst (WritesPart old new) e a) in
+    let all : WritesReportPart bytes old new = part_written bytes text old new (subst (λ b. IsReportOf b text) same r)
+    (subst (WritesPart old new) e a) in
     rw (← script_read bytes input h) all

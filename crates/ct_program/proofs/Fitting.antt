@@ -8,7 +8,8 @@ fit_push : (ss : List Step) (s : Step) → AllFit ss → StepFits s → AllFit (
 fit_push [] s h k = (k, tt)
 fit_push (t ∷ ss) s h k = (h.0, fit_push ss s h.1 k)
 
-pub fit_more : (ss : List Step) (i : ℕ) (d : Step) → i < length ss → StepFits (get_or ss i d) → AllFit (take i ss) → AllFit (take (i + 1) ss)
+pub fit_more : (ss : List Step) (i : ℕ) (d : Step) → i < length ss → StepFits (get_or ss i d) → AllFit (take i ss) →
+    AllFit (take (i + 1) ss)
 fit_more ss i d lt k h = rw (take_more ss i d lt) (fit_push (take i ss) (get_or ss i d) h k)
 
 pub fit_all : (ss : List Step) (i : ℕ) → length ss ≤ i → AllFit (take i ss) → AllFit ss

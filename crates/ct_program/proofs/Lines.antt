@@ -1,7 +1,10 @@
 -- What clap makes of the program's words.
-use Rattle.std.proofs.Common.{◌≡◌, true, false, List, [], ◌∷◌, Option, Some, None, option_map, option_and_then, Box, box_value, codes, refl, ap, ap₂, ◌∙◌, sym, subst, inl, inr, IsSomeAnd, ◌⊎◌}
+use Rattle.std.proofs.Common.{◌≡◌, true, false, List, [], ◌∷◌, Option, Some, None, option_map, option_and_then, Box, box_value, codes, refl}
+use Rattle.std.proofs.Common.{ap, ap₂, ◌∙◌, sym, subst, inl, inr, IsSomeAnd, ◌⊎◌}
 use Rattle.std.specs.declared.alloc.Global.{Global}
-use Rattle.clap.specs.Words.{AddsArg, AddsSubcommand, App, HasKind, HasMatchesOf, Row, Rule, Shape, Text, app_of, fault_of, is_simple, is_simple_and_free, kind_of, rule_of, shape_of, subcommand_name_of, subcommand_of, subcommand_rows, subcommand_rows_of, with_rule, with_subcommand}
+use Rattle.clap.specs.Words.{AddsArg, AddsSubcommand, App, HasKind, HasMatchesOf, Row, Rule, Shape, Text, app_of, fault_of, is_simple}
+use Rattle.clap.specs.Words.{is_simple_and_free, kind_of, rule_of, shape_of, subcommand_name_of, subcommand_of, subcommand_rows}
+use Rattle.clap.specs.Words.{subcommand_rows_of, with_rule, with_subcommand}
 use Rattle.clap.specs.declared.builder.arg.Arg.{Arg}
 use Rattle.clap.specs.declared.builder.command.Command.{Command}
 use Rattle.clap.specs.Simple.{argument_words, built}
@@ -28,7 +31,8 @@ pub no_faults : (app : App) (words : List Text) → app ≡ program → fault_of
 unfolding faults_of
 no_faults app words e h = ap (λ a. fault_of a words) (sym e) ∙ h
 
-pub has_kind : (app : App) (words : List Text) (error : Error) → app ≡ program → HasKind (fault_of app words) error → HasKind (faults_of words) error
+pub has_kind : (app : App) (words : List Text) (error : Error) → app ≡ program → HasKind (fault_of app words) error →
+    HasKind (faults_of words) error
 unfolding faults_of
 has_kind app words error e h = subst (λ a. HasKind (fault_of a words) error) e h
 
@@ -40,7 +44,8 @@ from_memory : (error : Error) → HasKind [] error → kind_of error ≡ OutOfMe
 from_memory error (inl memory) = memory
 from_memory error (inr none) = absurd none
 
-pub replay_passes : (words : List Text) (name : Text) (error : Error) → HasKind (faults_of words) error → words ≡ name ∷ codes "replay" ∷ [] → kind_of error ≡ OutOfMemory
+pub replay_passes : (words : List Text) (name : Text) (error : Error) → HasKind (faults_of words) error →
+    words ≡ name ∷ codes "replay" ∷ [] → kind_of error ≡ OutOfMemory
 replay_passes words name error h e = from_memory error (subst (λ kinds. HasKind kinds error) (ap faults_of e ∙ replay_faults name) h)
 
 -- ---- what the words ask for
@@ -57,12 +62,14 @@ ours : (words : List Text) → faults_of words ≡ [] → IsSomeAnd (subcommand_
 unfolding faults_of
 ours words e = accepted (built program) _ _ _ (argument_words program words) refl refl refl refl refl e
 
-replay_at : (found : Option (Text × List Row)) → IsSomeAnd found IsOurs → (option_map (λ p. p.0) found ≡ Some (codes "free") → ⊥) → option_and_then (λ p. call_at p.0 p.1) found ≡ Some Replay
+replay_at : (found : Option (Text × List Row)) → IsSomeAnd found IsOurs → (option_map (λ p. p.0) found ≡ Some (codes "free") → ⊥) →
+    option_and_then (λ p. call_at p.0 p.1) found ≡ Some Replay
 replay_at None own other = absurd own
 replay_at (Some p) (inl e) other = rw e refl
 replay_at (Some p) (inr e) other = absurd (other (ap Some e))
 
-free_at : (found : Option (Text × List Row)) (rows : List Row) → option_map (λ p. p.0) found ≡ Some (codes "free") → option_map (λ p. p.1) found ≡ Some rows
+free_at : (found : Option (Text × List Row)) (rows : List Row) → option_map (λ p. p.0) found ≡ Some (codes "free") →
+    option_map (λ p. p.1) found ≡ Some rows
     → option_and_then (λ p. call_at p.0 p.1) found ≡ option_map Free (options_of rows)
 free_at None rows named has = absurd (cc)
 free_at (Some p) rows named has =
@@ -73,45 +80,56 @@ free_at (Some p) rows named has =
 named_found : (m : ArgMatches) → option_map (λ p. p.0) (subcommand_rows_of m) ≡ subcommand_name_of m
 named_found m = go (out-ArgMatches m).subcommand
   where
-    go : (o : Option (Box SubCommand Global)) → option_map (λ p. p.0) (subcommand_rows o) ≡ option_map (λ b. (out-SubCommand (box_value b)).name.now) o
+    go : (o : Option (Box SubCommand Global)) → option_map (λ p. p.0) (subcommand_rows o)
+        ≡ option_map (λ b. (out-SubCommand (box_value b)).name.now) o
     go None = refl
     go (Some b) = refl
 
-found_is : (app : App) (words : List Text) (m : ArgMatches) → app ≡ program → HasMatchesOf app words m → subcommand_rows_of m ≡ subcommand_of program words
+found_is : (app : App) (words : List Text) (m : ArgMatches) → app ≡ program → HasMatchesOf app words m →
+    subcommand_rows_of m ≡ subcommand_of program words
 found_is app words m e h = (h (ap is_simple e ∙ is_exact)).1 ∙ ap (λ a. subcommand_of a words) e
 
-pub replay_called : (app : App) (words : List Text) (m : ArgMatches) → app ≡ program → HasMatchesOf app words m → fault_of app words ≡ [] → (subcommand_name_of m ≡ Some (codes "free") → ⊥)
+pub replay_called : (app : App) (words : List Text) (m : ArgMatches) → app ≡ program → HasMatchesOf app words m → fault_of app words ≡ [] →
+    (subcommand_name_of m ≡ Some (codes "free") → ⊥)
     → call_of words ≡ Some Replay
 unfolding call_of
 replay_called app words m e h passes other =
     let found : subcommand_rows_of m ≡ subcommand_of program words = found_is app words m e h in
-    replay_at (subcommand_of program words) (ours words (no_faults app words e passes)) (λ named. other (sym (named_found m) ∙ (ap (option_map (λ p. p.0)) found ∙ named)))
+    replay_at (subcommand_of program words) (ours words (no_faults app words e passes))
+    (λ named. other (sym (named_found m) ∙ (ap (option_map (λ p. p.0)) found ∙ named)))
 
-pub free_called : (app : App) (words : List Text) (m : ArgMatches) (rows : List Row) → app ≡ program → HasMatchesOf app words m → subcommand_name_of m ≡ Some (codes "free")
+pub free_called : (app : App) (words : List Text) (m : ArgMatches) (rows : List Row) → app ≡ program → HasMatchesOf app words m →
+    subcommand_name_of m ≡ Some (codes "free")
     → option_map (λ p. p.1) (subcommand_rows_of m) ≡ Some rows → call_of words ≡ option_map Free (options_of rows)
 unfolding call_of
 free_called app words m rows e h named has =
     let found : subcommand_rows_of m ≡ subcommand_of program words = found_is app words m e h in
-    free_at (subcommand_of program words) rows (sym (ap (option_map (λ p. p.0)) found) ∙ (named_found m ∙ named)) (sym (ap (option_map (λ p. p.1)) found) ∙ has)
+    free_at (subcommand_of program words) rows (sym (ap (option_map (λ p. p.0)) found) ∙ (named_found m ∙ named))
+    (sym (ap (option_map (λ p. p.1)) found) ∙ has)
 
 replay_named : (name : Text) → option_map (λ p. p.0) (subcommand_of program (name ∷ codes "replay" ∷ [])) ≡ Some (codes "replay")
 unfolding clap_on_literals
 replay_named name = refl
 
 -- the one word `replay` calls for no free run
-pub replay_only : (app : App) (words : List Text) (m : ArgMatches) (name : Text) → app ≡ program → HasMatchesOf app words m → words ≡ name ∷ codes "replay" ∷ [] → subcommand_name_of m ≡ Some (codes "free") → ⊥
+pub replay_only : (app : App) (words : List Text) (m : ArgMatches) (name : Text) → app ≡ program → HasMatchesOf app words m →
+    words ≡ name ∷ codes "replay" ∷ [] → subcommand_name_of m ≡ Some (codes "free") → ⊥
 replay_only app words m name e h are named =
     let found : subcommand_rows_of m ≡ subcommand_of program words = found_is app words m e h in
-    let both : Some (codes "replay") ≡ Some (codes "free") = sym (replay_named name) ∙ (ap (λ ws. option_map (λ p. p.0) (subcommand_of program ws)) (sym are) ∙ (sym (ap (option_map (λ p. p.0)) found) ∙ (named_found m ∙ named))) in
+    let both : Some (codes "replay") ≡ Some (codes "free") =
+    sym (replay_named name) ∙ (ap (λ ws. option_map (λ p. p.0) (subcommand_of program ws)) (sym are)
+    ∙ (sym (ap (option_map (λ p. p.0)) found) ∙ (named_found m ∙ named))) in
     cc
 
 -- ---- commands as they are built
 
-pub with_option : (old new : Command) (a : Arg) (app : App) (rule : Rule) → AddsArg old a new → a.global ≡ false → app_of old ≡ app → rule_of a ≡ rule → app_of new ≡ with_rule app rule
+pub with_option : (old new : Command) (a : Arg) (app : App) (rule : Rule) → AddsArg old a new → a.global ≡ false → app_of old ≡ app →
+    rule_of a ≡ rule → app_of new ≡ with_rule app rule
 with_option old new a app rule adds local old_is rule_is = adds.shape local ∙ ap₂ with_rule old_is rule_is
 
 -- the subcommand has no global argument, as its shape tells
-pub with_command : (old sub new : Command) (app below : App) → AddsSubcommand old sub new → below.top.is_plain ≡ true → app_of old ≡ app → app_of sub ≡ below → app_of new ≡ with_subcommand app below.top
+pub with_command : (old sub new : Command) (app below : App) → AddsSubcommand old sub new → below.top.is_plain ≡ true → app_of old ≡ app →
+    app_of sub ≡ below → app_of new ≡ with_subcommand app below.top
 with_command old sub new app below adds plain old_is sub_is =
     let top_is : shape_of sub ≡ below.top = ap (λ (a : App). a.top) sub_is in
     let fields = plain_fields sub (ap (λ (s : Shape). s.is_plain) top_is ∙ plain) in

@@ -1,5 +1,6 @@
 -- Writing the texts of a list while they are found, with a byte between each two.
-use Rattle.std.proofs.Common.{◌≡◌, ℕ, Bool, true, false, cond, List, [], ◌∷◌, ◌++◌, Result, Ok, Err, refl, sym, ap, ◌∙◌, append_assoc, append-nil}
+use Rattle.std.proofs.Common.{◌≡◌, ℕ, Bool, true, false, cond, List, [], ◌∷◌, ◌++◌, Result, Ok, Err, refl, sym, ap, ◌∙◌, append_assoc}
+use Rattle.std.proofs.Common.{append-nil}
 use Rattle.std.specs.Prelude.{OnOk}
 use Rattle.std.specs.List.{join_with_byte}
 use Rattle.ct_program.specs.Report.{list_text}
@@ -16,7 +17,8 @@ pub record HasWritten (byte : ℕ) (texts : List (List ℕ)) (old new : List ℕ
 pub written_none : (byte : ℕ) (old : List ℕ) → HasWritten byte [] old old false
 written_none byte old = record { text = sym (append-nil old); any = refl }
 
-join-push : (byte : ℕ) (texts : List (List ℕ)) (last : List ℕ) → join_with_byte byte (texts ++ last ∷ []) ≡ join_with_byte byte texts ++ (cond (is_any texts) (byte ∷ []) [] ++ last)
+join-push : (byte : ℕ) (texts : List (List ℕ)) (last : List ℕ) →
+    join_with_byte byte (texts ++ last ∷ []) ≡ join_with_byte byte texts ++ (cond (is_any texts) (byte ∷ []) [] ++ last)
 join-push byte [] last = refl
 join-push byte (t ∷ []) last = refl
 join-push byte (t ∷ u ∷ texts) last = ap (λ s. t ++ (byte ∷ s)) (join-push byte (u ∷ texts) last) ∙ simp append_assoc
@@ -26,17 +28,20 @@ any-push [] x = refl
 any-push (y ∷ xs) x = refl
 
 -- one more text
-pub written_more : (byte : ℕ) (texts : List (List ℕ)) (last old mid new end : List ℕ) (later : Bool) → HasWritten byte texts old new later → mid ≡ new ++ cond later (byte ∷ []) [] → end ≡ mid ++ last → HasWritten byte (texts ++ last ∷ []) old end true
+pub written_more : (byte : ℕ) (texts : List (List ℕ)) (last old mid new end : List ℕ) (later : Bool) → HasWritten byte texts old new later →
+    mid ≡ new ++ cond later (byte ∷ []) [] → end ≡ mid ++ last → HasWritten byte (texts ++ last ∷ []) old end true
 written_more byte texts last old mid new end later h first second = record {
   text = rw (second, first, h.text, h.any, join-push byte texts last) (simp append_assoc);
   any = any-push texts last;
 }
 
-dashed : (byte : ℕ) (texts : List (List ℕ)) (old new end : List ℕ) (later : Bool) → HasWritten byte texts old new later → end ≡ new ++ cond later [] (45 ∷ []) → end ≡ old ++ list_text byte texts
+dashed : (byte : ℕ) (texts : List (List ℕ)) (old new end : List ℕ) (later : Bool) → HasWritten byte texts old new later →
+    end ≡ new ++ cond later [] (45 ∷ []) → end ≡ old ++ list_text byte texts
 dashed byte [] old new end later h last = rw (last, h.text, h.any) (simp append-nil)
 dashed byte (t ∷ texts) old new end later h last = rw (last, h.text, h.any) (simp append-nil)
 
 -- and a dash where there were none
-pub written_all : {T E : Type 0} (r : Result T E) (byte : ℕ) (texts : List (List ℕ)) (old new end : List ℕ) (later : Bool) → HasWritten byte texts old new later → OnOk r (end ≡ new ++ cond later [] (45 ∷ [])) → OnOk r (end ≡ old ++ list_text byte texts)
+pub written_all : {T E : Type 0} (r : Result T E) (byte : ℕ) (texts : List (List ℕ)) (old new end : List ℕ) (later : Bool) →
+    HasWritten byte texts old new later → OnOk r (end ≡ new ++ cond later [] (45 ∷ [])) → OnOk r (end ≡ old ++ list_text byte texts)
 written_all (Ok x) byte texts old new end later h last = dashed byte texts old new end later h last
 written_all (Err e) byte texts old new end later h last = tt

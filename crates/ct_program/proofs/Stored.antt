@@ -1,5 +1,6 @@
 -- The value that a record is, and that its text reads as that value.
-use Rattle.std.proofs.Common.{◌≡◌, ℕ, ◌+◌, ◌*◌, ◌^◌, ◌<◌, ◌≤◌, true, false, List, [], ◌∷◌, ◌++◌, length, codes, decimal, Some, refl, sym, ap, ap₂, ◌∙◌, arith, append_assoc, append-nil}
+use Rattle.std.proofs.Common.{◌≡◌, ℕ, ◌+◌, ◌*◌, ◌^◌, ◌<◌, ◌≤◌, true, false, List, [], ◌∷◌, ◌++◌, length, codes, decimal, Some, refl, sym}
+use Rattle.std.proofs.Common.{ap, ap₂, ◌∙◌, arith, append_assoc, append-nil}
 use Rattle.std.specs.Prelude.{map, option_map, option_and_then}
 use Rattle.std.specs.List.{concat}
 use Rattle.std.specs.Fmt.{digits}
@@ -20,7 +21,8 @@ use Rattle.ct_names.specs.declared.command.Command.{Command}
 use Rattle.ct_model.specs.declared.step.Step.{Step}
 use Rattle.ct_model.specs.Rehearsal.{Rehearsal}
 use Rattle.ct_model.specs.StepText as steps
-use Rattle.ct_model.specs.StepText.{Number, byte, serial, value, amount, largest, Rest, nothing, command, command_entry, step_entry, entry_text, command_text, rest_texts, step_text}
+use Rattle.ct_model.specs.StepText.{Number, byte, serial, value, amount, largest, Rest, nothing, command, command_entry, step_entry}
+use Rattle.ct_model.specs.StepText.{entry_text, command_text, rest_texts, step_text}
 use Rattle.ct_program.specs.Fits.{NumberFits, CommandFits, RestFits, StepFits, AllFit}
 use Rattle.ct_program.specs.Text.{steps_text, record_text}
 use Rattle.ct_program.proofs.Joins.{rest_of, rest_of-join}
@@ -111,7 +113,8 @@ entry_text_width name first rest wide is few h =
     (lengths.then (codes "\",") _ 2 _ (lengths.plain (codes "\",") refl)
     (lengths.then (decimal first) _ 3 _ (lengths.byte first few) last)))
 
-entry_compact : (name : List ℕ) (first : ℕ) (items : Items) (rest : List (List ℕ)) → IsName name → items_text true items ≡ concat rest ++ 93 ∷ []
+entry_compact : (name : List ℕ) (first : ℕ) (items : Items) (rest : List (List ℕ)) → IsName name →
+    items_text true items ≡ concat rest ++ 93 ∷ []
     → compact_text (entry_data name first items) ≡ entry_text name first rest
 entry_compact name first items rest is h =
     let after = decimal first ++ (concat rest ++ codes "]") in
@@ -130,7 +133,7 @@ entry_stored name first items rest deep wide is few h =
       shallow = omega (arith, h.shallow);
       compact = entry_compact name first items rest is h.compact;
       text =
-      lengths.weaker _ (2 + (8 + (2 + (3 + (wide + 1))))) (16 + wide) (entry_text_width name first rest wide is few h.text) (omega arith);
+          lengths.weaker _ (2 + (8 + (2 + (3 + (wide + 1))))) (16 + wide) (entry_text_width name first rest wide is few h.text) (omega arith);
     }
 
 -- ---- those of a record
@@ -160,7 +163,8 @@ rest_stored (command c) h = one_stored (command_data c) (command_text c) 1 37 (c
 step_stored : (s : Step) → StepFits s → IsStored (step_data s) (step_text s) 2 54
 unfolding step_text
 step_stored s h =
-    entry_stored (step_entry s).name (step_entry s).first _ (rest_texts (step_entry s).rest) 1 38 (step_name s) h.0 (rest_stored (step_entry s).rest h.1)
+    entry_stored (step_entry s).name (step_entry s).first _ (rest_texts (step_entry s).rest) 1 38 (step_name s) h.0
+    (rest_stored (step_entry s).rest h.1)
 
 steps_stored : (ss : List Step) → AllFit ss → AreStored (steps_data ss) (rest_of 44 true (map step_text ss)) 2 (55 * length ss)
 steps_stored [] h = wider _ _ 2 0 _ (none_stored 2) (omega arith)
@@ -182,7 +186,7 @@ list_stored (s ∷ ss) h =
     record {
       compact = ap₂ (λ x y. x ++ y) first.compact more.compact ∙ sym (append_assoc (step_text s) rest (93 ∷ []));
       text =
-      lengths.weaker _ (54 + 55 * length ss) _ (lengths.then (step_text s) rest 54 (55 * length ss) first.text more.text) (omega arith);
+          lengths.weaker _ (54 + 55 * length ss) _ (lengths.then (step_text s) rest 54 (55 * length ss) first.text more.text) (omega arith);
     }
 
 pub steps_width : (ss : List Step) → AllFit ss → Text (steps_text ss) (55 * length ss)

@@ -1,13 +1,18 @@
 -- The subcommand of words that clap accepts: `help` is answered by a fault.
-use Rattle.std.proofs.Common.{◌≡◌, ◌∙◌, ◌&&◌, ◌⊎◌, ℕ, Bool, true, false, true≢false, cond, List, [], ◌∷◌, ◌++◌, Option, Some, None, option_map, codes, refl, sym, ap, subst, inl, inr, IfSome, IsSomeAnd}
+use Rattle.std.proofs.Common.{◌≡◌, ◌∙◌, ◌&&◌, ◌⊎◌, ℕ, Bool, true, false, true≢false, cond, List, [], ◌∷◌, ◌++◌, Option, Some, None}
+use Rattle.std.proofs.Common.{option_map, codes, refl, sym, ap, subst, inl, inr, IfSome, IsSomeAnd}
 use Rattle.std.specs.Prelude.{fold, is_some}
 use Rattle.std.specs.Str.{bytes_eq}
 use Rattle.std.proofs.Math.Bool.{or-false}
 use Rattle.std.proofs.lemmas.Slice.Eq.{bytes_eq-Decides}
 use Rattle.clap.specs.Kinds.{Kinds, or_else}
-use Rattle.clap.specs.Walk.{Held, Names, Outcome, Rule, Step, Text, Waiting, Walk, idle, option, positional, done, waits, plain, refused, next, trailing, subcommand, value, after_flag, after_step, answers_to, arg_by_index, bundle, finished, long_or_other, nothing_held, plain_word, settled, short_or_plain, stop_after, subcommand_met, subcommand_or_other, to_positional, walk, walk_from, walked, walked_from, word_met}
+use Rattle.clap.specs.Walk.{Held, Names, Outcome, Rule, Step, Text, Waiting, Walk, idle, option, positional, done, waits, plain, refused}
+use Rattle.clap.specs.Walk.{next, trailing, subcommand, value, after_flag, after_step, answers_to, arg_by_index, bundle, finished}
+use Rattle.clap.specs.Walk.{long_or_other, nothing_held, plain_word, settled, short_or_plain, stop_after, subcommand_met}
+use Rattle.clap.specs.Walk.{subcommand_or_other, to_positional, walk, walk_from, walked, walked_from, word_met}
 use Rattle.clap.specs.Lexer.{long_of, short_of}
-use Rattle.clap.specs.Faults.{built_fault, check_fault, defaults_fault, entered_fault, level_fault, other_fault, settle_fault, step_fault, turn_fault, walk_fault, word_fault}
+use Rattle.clap.specs.Faults.{built_fault, check_fault, defaults_fault, entered_fault, level_fault, other_fault, settle_fault, step_fault}
+use Rattle.clap.specs.Faults.{turn_fault, walk_fault, word_fault}
 use Rattle.clap.specs.Simple.{App, Shape, entered, label_of, names_of, rows_at}
 use Rattle.clap.specs.declared.error.kind.ErrorKind.TheVariants.{DisplayHelp, InvalidSubcommand, MissingSubcommand}
 use Rattle.clap.proofs.WalkLemmas.{walk_stopped}
@@ -30,17 +35,20 @@ plain_enters c idle word h = refl
 plain_enters c (option id) word h = refl
 plain_enters c positional word h = refl
 
-flag_enters : (c : List Rule) (waiting : Waiting) (word : Text) (h : Held) (o : Outcome) → entered_by (after_flag c waiting word h o).1 ≡ None
+flag_enters : (c : List Rule) (waiting : Waiting) (word : Text) (h : Held) (o : Outcome) →
+    entered_by (after_flag c waiting word h o).1 ≡ None
 flag_enters c waiting word h done = refl
 flag_enters c waiting word h (waits id) = refl
 flag_enters c waiting word h plain = plain_enters c waiting word h
 flag_enters c waiting word h refused = plain_enters c waiting word h
 
-short_enters : (c : List Rule) (waiting : Waiting) (word : Text) (flags : Option Text) (h : Held) → entered_by (short_or_plain c waiting word flags h).1 ≡ None
+short_enters : (c : List Rule) (waiting : Waiting) (word : Text) (flags : Option Text) (h : Held) →
+    entered_by (short_or_plain c waiting word flags h).1 ≡ None
 short_enters c waiting word None h = plain_enters c waiting word h
 short_enters c waiting word (Some flags) h = flag_enters c waiting word (bundle c flags h).0 (bundle c flags h).1
 
-long_enters : (c : List Rule) (waiting : Waiting) (word : Text) (p : Option (Text × Option Text)) (h : Held) → entered_by (long_or_other c waiting word p h).1 ≡ None
+long_enters : (c : List Rule) (waiting : Waiting) (word : Text) (p : Option (Text × Option Text)) (h : Held) →
+    entered_by (long_or_other c waiting word p h).1 ≡ None
 long_enters c waiting word None h = short_enters c waiting word (short_of word) h
 long_enters c waiting word (Some p) h = flag_enters c waiting word _ _
 
@@ -58,7 +66,8 @@ word_enters : (c : List Rule) (names : Names) (is_trailing : Bool) (waiting : Wa
 word_enters c names true waiting position word h = refl
 word_enters c names false waiting position word h = other_enters c (subcommand_met names waiting word) waiting position word h
 
-step_stops : (c : List Rule) (word : Text) (w : Walk) (h : Held) (step : Step) → w.stopped ≡ None → (after_step c word w h step).stopped ≡ option_map (λ n. (n, [])) (entered_by step)
+step_stops : (c : List Rule) (word : Text) (w : Walk) (h : Held) (step : Step) → w.stopped ≡ None →
+    (after_step c word w h step).stopped ≡ option_map (λ n. (n, [])) (entered_by step)
 step_stops c word w h (next waiting) e = e
 step_stops c word w h (trailing position) e = e
 step_stops c word w h (subcommand name) e = refl
@@ -84,15 +93,20 @@ named_other s false (Some n) word h enabled e = go (bytes_eq n (codes "help")) (
     go false f = refl
     go true f = absurd (cc)
 
-turn_other : (s : Shape) (names : Names) (w : Walk) (word : Text) → s.disable_help_subcommand ≡ false → w.stopped ≡ None → turn_fault s names w word ≡ []
+turn_other : (s : Shape) (names : Names) (w : Walk) (word : Text) → s.disable_help_subcommand ≡ false → w.stopped ≡ None →
+    turn_fault s names w word ≡ []
     → IsOther (walked s.rules names w word).stopped
 unfolding walked
 turn_other s names w word enabled goes passes =
     let met = word_met s.rules names w.is_trailing w.waiting w.position word w.held in
-    let own : or_else (word_fault s names w.is_trailing w.waiting word w.held) (step_fault s w.position met.0 met.1) ≡ [] = rw goes at passes in
-    let stops : (walked_from s.rules names None w word).stopped ≡ option_map (λ n. (n, [])) (cond w.is_trailing None (subcommand_met names w.waiting word)) =
-    step_stops s.rules word w met.0 met.1 goes ∙ ap (option_map (λ n. (n, []))) (word_enters s.rules names w.is_trailing w.waiting w.position word w.held) in
-    let all : (walked_from s.rules names w.stopped w word).stopped ≡ option_map (λ n. (n, [])) (cond w.is_trailing None (subcommand_met names w.waiting word)) =
+    let own : or_else (word_fault s names w.is_trailing w.waiting word w.held) (step_fault s w.position met.0 met.1) ≡ [] =
+    rw goes at passes in
+    let stops : (walked_from s.rules names None w word).stopped
+    ≡ option_map (λ n. (n, [])) (cond w.is_trailing None (subcommand_met names w.waiting word)) =
+    step_stops s.rules word w met.0 met.1 goes ∙ ap (option_map (λ n. (n, [])))
+    (word_enters s.rules names w.is_trailing w.waiting w.position word w.held) in
+    let all : (walked_from s.rules names w.stopped w word).stopped
+    ≡ option_map (λ n. (n, [])) (cond w.is_trailing None (subcommand_met names w.waiting word)) =
     ap (λ o. (walked_from s.rules names o w word).stopped) goes ∙ stops in
     subst IsOther (sym all) (named_other s w.is_trailing (subcommand_met names w.waiting word) word w.held enabled (or_else_none _ _ own).0)
 
@@ -100,22 +114,26 @@ turn_other s names w word enabled goes passes =
 entered_stays : (c : List Rule) (names : Names) (w : Walk) (p : Text × List Text) (words : List Text) → w.stopped ≡ Some p
     → (fold (walked c names) w words).stopped ≡ Some (p.0, p.1 ++ words)
 entered_stays c names w p words e =
-    let at : ◌≡◌ {A = Walk} w (record w { stopped = Some (p.0, p.1) }) = ap (λ (o : Option (Text × List Text)). record w { stopped = o }) e in
-    ap (λ (v : Walk). (fold (walked c names) v words).stopped) at ∙ sym (ap (λ (v : Walk). v.stopped) (walk_stopped c names w p.0 p.1 words))
+    let at : ◌≡◌ {A = Walk} w (record w { stopped = Some (p.0, p.1) }) =
+    ap (λ (o : Option (Text × List Text)). record w { stopped = o }) e in
+    ap (λ (v : Walk). (fold (walked c names) v words).stopped) at
+    ∙ sym (ap (λ (v : Walk). v.stopped) (walk_stopped c names w p.0 p.1 words))
 
 rest_other : (s : Shape) (names : Names) (w : Walk) (rest : List Text) (stop : Option (Text × List Text)) → w.stopped ≡ stop → IsOther stop
     → (w.stopped ≡ None → IsOther (fold (walked s.rules names) w rest).stopped) → IsOther (fold (walked s.rules names) w rest).stopped
 rest_other s names w rest None e other goes_on = goes_on e
 rest_other s names w rest (Some p) e other goes_on = subst IsOther (sym (entered_stays s.rules names w p rest e)) other
 
-walk_other : (s : Shape) (names : Names) (w : Walk) (words : List Text) → s.disable_help_subcommand ≡ false → w.stopped ≡ None → walk_fault s names w words ≡ []
+walk_other : (s : Shape) (names : Names) (w : Walk) (words : List Text) → s.disable_help_subcommand ≡ false → w.stopped ≡ None →
+    walk_fault s names w words ≡ []
     → IsOther (fold (walked s.rules names) w words).stopped
 unfolding walk_fault
 walk_other s names w [] enabled goes passes = rw goes tt
 walk_other s names w (word ∷ rest) enabled goes passes =
     let parts = or_else_none _ _ passes in
     let after = walked s.rules names w word in
-    rest_other s names after rest after.stopped refl (turn_other s names w word enabled goes parts.0) (λ e. walk_other s names after rest enabled e parts.1)
+    rest_other s names after rest after.stopped refl (turn_other s names w word enabled goes parts.0)
+    (λ e. walk_other s names after rest enabled e parts.1)
 
 -- ---- what clap accepts
 
@@ -127,11 +145,13 @@ ends_none [] (k ∷ ks) c d e h = absurd (cc)
 ends_none (k ∷ ks) b c d e h = absurd (cc)
 
 -- a level without fault has a walk without fault, and a subcommand where one is required
-level_parts : (s : Shape) (names : Names) (h : Held) (words : List Text) (has : Bool) (below : Kinds) → s.arg_required_else_help ≡ false → s.subcommand_required ≡ true
+level_parts : (s : Shape) (names : Names) (h : Held) (words : List Text) (has : Bool) (below : Kinds) → s.arg_required_else_help ≡ false →
+    s.subcommand_required ≡ true
     → level_fault s names h words has below ≡ [] → (walk_fault s names (walk_from h) words ≡ []) × (has ≡ true)
 level_parts s names h words has below no_help required e =
     let end = (walk s.rules names h words).held in
-    let parts = ends_none (walk_fault s names (walk_from h) words) below (settle_fault s.rules s.args_override_self end) (defaults_fault (settled s.rules end).rows s.rules) (check_fault s (finished s.rules end) has) e in
+    let parts = ends_none (walk_fault s names (walk_from h) words) below (settle_fault s.rules s.args_override_self end)
+    (defaults_fault (settled s.rules end).rows s.rules) (check_fault s (finished s.rules end) has) e in
     (parts.0, go has parts.1)
   where
     go : (b : Bool) → check_fault s (finished s.rules (walk s.rules names h words).held) b ≡ [] → b ≡ true
@@ -141,12 +161,15 @@ level_parts s names h words has below no_help required e =
         absurd (cc)
 
 -- the subcommand that is entered, of three where the last isn't named
-entered_first : (a : App) (x y z : Shape) (p : Text × List Text) → a.subs ≡ x ∷ y ∷ z ∷ [] → is_some (entered a (Some p)) ≡ true → answers_to p.0 (label_of z) ≡ false
+entered_first : (a : App) (x y z : Shape) (p : Text × List Text) → a.subs ≡ x ∷ y ∷ z ∷ [] → is_some (entered a (Some p)) ≡ true →
+    answers_to p.0 (label_of z) ≡ false
     → IfSome (entered a (Some p)) (λ q. (q.0 ≡ x.name) ⊎ (q.0 ≡ y.name))
-entered_first a x y z p subs found other = rw subs (go (answers_to p.0 (label_of x)) (answers_to p.0 (label_of y)) (rw (subs, other) at found))
+entered_first a x y z p subs found other = rw subs (go (answers_to p.0 (label_of x)) (answers_to p.0 (label_of y))
+    (rw (subs, other) at found))
   where
     go : (b c : Bool) → is_some (option_map (λ s. rows_at s p.1) (cond b (Some x) (cond c (Some y) None))) ≡ true
-        → IfSome (option_map (λ s. rows_at s p.1) (cond b (Some x) (cond c (Some y) (cond (answers_to p.0 (label_of z)) (Some z) None)))) (λ q. (q.0 ≡ x.name) ⊎ (q.0 ≡ y.name))
+        → IfSome (option_map (λ s. rows_at s p.1) (cond b (Some x) (cond c (Some y) (cond (answers_to p.0 (label_of z)) (Some z) None))))
+        (λ q. (q.0 ≡ x.name) ⊎ (q.0 ≡ y.name))
     go true c f = inl refl
     go false true f = inr refl
     go false false f = absurd (true≢false (sym f))
@@ -165,15 +188,18 @@ help_unnamed word e = go (bytes_eq (codes "help") word) refl
         absurd (true≢false (sym ((bytes_eq-Decides word (codes "help")).1 (sym same)) ∙ e))
 
 -- words without fault name a subcommand, of three where the last is `help`
-pub accepted : (a : App) (x y z : Shape) (words : List Text) → a.subs ≡ x ∷ y ∷ z ∷ [] → label_of z ≡ (codes "help", []) → a.top.disable_help_subcommand ≡ false
+pub accepted : (a : App) (x y z : Shape) (words : List Text) → a.subs ≡ x ∷ y ∷ z ∷ [] → label_of z ≡ (codes "help", []) →
+    a.top.disable_help_subcommand ≡ false
     → a.top.arg_required_else_help ≡ false → a.top.subcommand_required ≡ true → built_fault a nothing_held words ≡ []
     → IsSomeAnd (entered a (stop_after a.top.rules (names_of a) words)) (λ q. (q.0 ≡ x.name) ⊎ (q.0 ≡ y.name))
 accepted a x y z words subs help enabled no_help required passes =
     let stop = stop_after a.top.rules (names_of a) words in
-    let parts = level_parts a.top (names_of a) nothing_held words (is_some (entered a stop)) (entered_fault a stop) no_help required passes in
+    let parts = level_parts a.top (names_of a) nothing_held words (is_some (entered a stop)) (entered_fault a stop) no_help required
+    passes in
     go stop (walk_other a.top (names_of a) (walk_from nothing_held) words enabled refl parts.0) parts.1
   where
-    go : (o : Option (Text × List Text)) → IsOther o → is_some (entered a o) ≡ true → IsSomeAnd (entered a o) (λ q. (q.0 ≡ x.name) ⊎ (q.0 ≡ y.name))
+    go : (o : Option (Text × List Text)) → IsOther o → is_some (entered a o) ≡ true →
+        IsSomeAnd (entered a o) (λ q. (q.0 ≡ x.name) ⊎ (q.0 ≡ y.name))
     go None other found = absurd (true≢false (sym found))
     go (Some p) other found =
         let unnamed : answers_to p.0 (label_of z) ≡ false = ap (answers_to p.0) help ∙ (or-false _ ∙ help_unnamed p.0 other) in

@@ -8,11 +8,13 @@ use Rattle.ct_model.specs.StepText as steps
 use Rattle.ct_model.specs.StepText.{Rest, nothing, command, amount, largest, command_entry, step_entry}
 use Rattle.ct_program.specs.Fits.{CommandFits, RestFits, StepFits, AllFit, IsStorable}
 use Rattle.ct_program.specs.Text.{record_text}
-use Rattle.ct_program.specs.Script.{whole_of, named_command, command_of, named, short_step, numbered_step, commanded_step, long_step, step_of, steps_of, rehearsal_in, of_value, list_of, rest_fits, script}
+use Rattle.ct_program.specs.Script.{whole_of, named_command, command_of, named, short_step, numbered_step, commanded_step, long_step}
+use Rattle.ct_program.specs.Script.{step_of, steps_of, rehearsal_in, of_value, list_of, rest_fits, script}
 use Rattle.ct_program.proofs.Lengths as lengths
 use Rattle.ct_program.proofs.Lengths.{Text}
 use Rattle.ct_program.proofs.Names.{alike, step_found, command_found}
-use Rattle.ct_program.proofs.Stored.{entry_data, command_data, rest_data, step_data, steps_data, record_data, record_reads, amount_fits, steps_width}
+use Rattle.ct_program.proofs.Stored.{entry_data, command_data, rest_data, step_data, steps_data, record_data, record_reads, amount_fits}
+use Rattle.ct_program.proofs.Stored.{steps_width}
 use Rattle.ct_program.proofs.Whole.{script_read}
 
 record_width : (w : Rehearsal) → w.cells ≤ 1024 → w.setting.members ≤ 255 → AllFit w.steps
@@ -47,8 +49,12 @@ command_is : (c : Command) → CommandFits c → command_of (command_data c) ≡
 unfolding command_of named_command
 command_is c h =
     let x = (command_entry c).rest in
-    rw (byte_is (command_entry c).first h.0, value_is (amount x) (amount_fits x h.1), command_found c,
-    le-leb (amount x) (largest x) h.1) refl
+    rw (
+      byte_is (command_entry c).first h.0,
+      value_is (amount x) (amount_fits x h.1),
+      command_found c,
+      le-leb (amount x) (largest x) h.1,
+    ) refl
 
 rest_is : (r : Rest) → RestFits r → rest_fits r ≡ true
 rest_is nothing h = refl

@@ -1,9 +1,11 @@
 -- How the program's command line is read. `clap` gives what its commands make of words.
-use Rattle.std.specs.Prelude.{◌≡◌, ◌&&◌, ℕ, true, List, [], ◌∷◌, codes, Option, Some, None, option_map, option_and_then, nat_le, if◌then◌else◌, ⊤}
+use Rattle.std.specs.Prelude.{◌≡◌, ◌&&◌, ℕ, true, List, [], ◌∷◌, codes, Option, Some, None, option_map, option_and_then, nat_le}
+use Rattle.std.specs.Prelude.{if◌then◌else◌, ⊤}
 use Rattle.std.specs.Str.{bytes_eq}
 use Rattle.std.specs.Str.Parse.{digits_value, without_leading_plus}
 use Rattle.ct_names.specs.declared.limit.TheConstants.{MAX_CELLS, MAX_MEMBERS}
-use Rattle.clap.specs.Words.{App, Kinds, HasKind, Row, Rule, Text, fault_of, first_of, kind_of, new_app, new_rule, subcommand_of, with_subcommand}
+use Rattle.clap.specs.Words.{App, Kinds, HasKind, Row, Rule, Text, fault_of, first_of, kind_of, new_app, new_rule, subcommand_of}
+use Rattle.clap.specs.Words.{with_subcommand}
 use Rattle.clap.specs.Simple.{new_shape, on_top}
 use Rattle.clap.specs.ValueTests.{is_numeral}
 use Rattle.clap.specs.declared.builder.action.ArgAction.TheVariants.{Set}
@@ -36,7 +38,9 @@ free_app = on_top (λ s. record s { rules = free_rules }) (new_app (codes "free"
 
 -- the program has a version and two subcommands, `replay` and `free`, of which one has to be given
 abbrev pub program : App
-program = with_subcommand (with_subcommand (on_top (λ s. record s { has_version = true; subcommand_required = true }) (new_app (codes "ct"))) (new_shape (codes "replay"))) free_app.top
+program =
+    with_subcommand (with_subcommand (on_top (λ s. record s { has_version = true; subcommand_required = true }) (new_app (codes "ct")))
+    (new_shape (codes "replay"))) free_app.top
 
 -- the kinds of fault that the words may have, the program's name first; none where clap accepts them
 unfoldable pub faults_of : List Text → Kinds
@@ -75,7 +79,17 @@ options_of rows = do
   submit ← option_in rows (codes "submit") 0 1000
   crash ← option_in rows (codes "crash") 0 MAX_MEMBERS
   postpone ← option_in rows (codes "postpone") 0 1000
-  Some (record { members = members; turns = turns; seed = seed; rate = rate; cells = cells; submit = submit; crash = crash; postpone = postpone })
+  Some (record {
+    members = members;
+    turns = turns;
+    seed = seed;
+    rate = rate;
+    cells = cells;
+    submit = submit;
+    crash = crash;
+    postpone =
+        postpone;
+  })
 
 -- the call of a subcommand, by its name and what clap found for its options
 abbrev pub call_at : Text → List Row → Option Call

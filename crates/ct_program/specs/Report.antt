@@ -1,5 +1,6 @@
 -- The text of a report. Every line ends with one line feed.
-use Rattle.std.specs.Prelude.{ℕ, zero, suc, ◌==◌, List, [], ◌∷◌, ◌++◌, length, codes, decimal, map, is_some, Option, Some, None, unwrap_or, slice_index, if◌then◌else◌}
+use Rattle.std.specs.Prelude.{ℕ, zero, suc, ◌==◌, List, [], ◌∷◌, ◌++◌, length, codes, decimal, map, is_some, Option, Some, None, unwrap_or}
+use Rattle.std.specs.Prelude.{slice_index, if◌then◌else◌}
 use Rattle.std.specs.List.{join_with_byte, concat}
 use Rattle.ct_names.specs.Group.{majority}
 use Rattle.ct_names.specs.Message.{Message}
@@ -66,7 +67,8 @@ table_text values = list_text 32 (first_registers values 16)
 unfoldable pub standing_text : Rehearsal → ℕ → List ℕ
 standing_text w p =
     concat (codes "member " ∷ decimal p ∷ codes " " ∷ (if is_crashed (state_of w) p then codes "crashed" else codes "up")
-    ∷ codes " instance " ∷ decimal (member (state_of w) p).last ∷ codes " " ∷ (if is_some (member (state_of w) p).current then codes "open" else codes "idle") ∷ codes "\n" ∷ [])
+    ∷ codes " instance " ∷ decimal (member (state_of w) p).last ∷ codes " "
+    ∷ (if is_some (member (state_of w) p).current then codes "open" else codes "idle") ∷ codes "\n" ∷ [])
 
 -- a word and a list
 unfoldable pub line_text : List ℕ → List ℕ → List ℕ
@@ -98,6 +100,8 @@ first_members w (suc k) = first_members w k ++ member_text w (suc k)
 -- two lines of the whole, and those of each member
 unfoldable pub report_text : Rehearsal → List ℕ
 report_text w =
-    concat (codes "group " ∷ decimal w.setting.members ∷ codes " majority " ∷ decimal (majority w.setting.members) ∷ codes " cells " ∷ decimal w.cells ∷ codes "\n" ∷ [])
-    ++ (concat (codes "steps " ∷ decimal (length w.steps) ∷ codes " sent " ∷ decimal (length (state_of w).sent) ∷ codes " posted " ∷ decimal (length (order (state_of w))) ∷ codes "\n" ∷ [])
+    concat (codes "group " ∷ decimal w.setting.members ∷ codes " majority " ∷ decimal (majority w.setting.members) ∷ codes " cells "
+    ∷ decimal w.cells ∷ codes "\n" ∷ [])
+    ++ (concat (codes "steps " ∷ decimal (length w.steps) ∷ codes " sent " ∷ decimal (length (state_of w).sent) ∷ codes " posted "
+    ∷ decimal (length (order (state_of w))) ∷ codes "\n" ∷ [])
     ++ first_members w w.setting.members)

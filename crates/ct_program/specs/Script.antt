@@ -1,5 +1,6 @@
 -- What a record says, or its first fault.
-use Rattle.std.specs.Prelude.{ℕ, suc, Bool, true, ◌+◌, ◌==◌, ◌&&◌, List, [], ◌∷◌, length, codes, nat_le, nat_lt, Option, Some, None, Result, Ok, Err, option_map, option_and_then, ok_or, if◌then◌else◌}
+use Rattle.std.specs.Prelude.{ℕ, suc, Bool, true, ◌+◌, ◌==◌, ◌&&◌, List, [], ◌∷◌, length, codes, nat_le, nat_lt, Option, Some, None, Result}
+use Rattle.std.specs.Prelude.{Ok, Err, option_map, option_and_then, ok_or, if◌then◌else◌}
 use Rattle.std.specs.Option.{option_map_or}
 use Rattle.std.specs.Str.{bytes_eq, is_utf8}
 use Rattle.ct_names.specs.declared.limit.TheConstants.{MAX_CELLS, MAX_MEMBERS}
@@ -9,7 +10,8 @@ use Rattle.serde_json.specs.Find.{get, as_number, as_u64, as_str, as_array, as_o
 use Rattle.ct_names.specs.declared.command.Command.{Command}
 use Rattle.ct_names.specs.declared.command.Command.TheVariants.{Set, Add, Copy}
 use Rattle.ct_model.specs.declared.step.Step.{Step}
-use Rattle.ct_model.specs.declared.step.Step.TheVariants.{Submit, Receive, Begin, Enter, Choose, Adopt, Suspect, Conclude, Deliver, Crash, Postpone}
+use Rattle.ct_model.specs.declared.step.Step.TheVariants.{Submit, Receive, Begin, Enter, Choose, Adopt, Suspect, Conclude, Deliver, Crash}
+use Rattle.ct_model.specs.declared.step.Step.TheVariants.{Postpone}
 use Rattle.ct_model.specs.Rehearsal.{Rehearsal}
 use Rattle.ct_model.specs.StepText.{Number, amount, largest, Rest, nothing, number, command, Entry, command_entry, step_entry}
 use Rattle.ct_program.specs.declared.read_fault.ReadFault.{ReadFault}
@@ -98,7 +100,8 @@ short_step name p = named step_entry name (alone p)
 
 -- the step of a name, a member and a number
 unfoldable pub numbered_step : List ℕ → ℕ → ℕ → Option Step
-numbered_step name p n = option_and_then (λ s. if rest_fits (step_entry s).rest then Some s else None) (named step_entry name (with_number p n))
+numbered_step name p n = option_and_then (λ s. if rest_fits (step_entry s).rest then Some s else None)
+    (named step_entry name (with_number p n))
 
 -- the step of a name, a member and a command
 unfoldable pub commanded_step : List ℕ → ℕ → Command → Option Step

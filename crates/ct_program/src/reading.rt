@@ -4,7 +4,8 @@ ghost use Rattle.std.specs.Prelude.{◌≡◌, ◌<◌, ◌≤◌, length, map, 
 ghost use Rattle.serde_json.specs.View.{view, members_view};
 ghost use Rattle.ct_program.specs.Gives.{Gives};
 ghost use Rattle.ct_program.specs.View.{rehearsal_of};
-ghost use Rattle.ct_program.specs.Script.{list_in, count_of, whole_of, byte_of, value_of, command_of, long_step, step_of, steps_of, rehearsal_in, of_value, max_len, script};
+ghost use Rattle.ct_program.specs.Script.{list_in, count_of, whole_of, byte_of, value_of, command_of, long_step, step_of, steps_of};
+ghost use Rattle.ct_program.specs.Script.{rehearsal_in, of_value, max_len, script};
 
 use crate::naming::{commanded_step, named_command, numbered_step, short_step};
 use crate::quick::plain;

@@ -3,7 +3,8 @@
 ghost use Rattle.std.specs.Prelude.{◌≡◌, ◌++◌, ◌<◌, [], ◌∷◌, codes, if◌then◌else◌, OnOk, IfOk, IsTrue, string_bytes, slice_index};
 ghost use Rattle.ct_names.specs.Group.{is_member};
 ghost use Rattle.ct_program.specs.Outcome.{IsOutcome};
-ghost use Rattle.ct_program.specs.Report.{line_text, messages_text, decision_text, decisions_text, nonzero, register_text, table_text, standing_text, member_text, first_members, report_text};
+ghost use Rattle.ct_program.specs.Report.{line_text, messages_text, decision_text, decisions_text, nonzero, register_text, table_text};
+ghost use Rattle.ct_program.specs.Report.{standing_text, member_text, first_members, report_text};
 ghost use Rattle.ct_world.specs.World.{member_of};
 
 use crate::separator::push_separator;
@@ -94,7 +95,8 @@ fn push_message_line(text: &mut String, word: &str, messages: &[Message]) -> Res
 #[tactic(auto, unfolding(crate::specs::Report::line_text))]
 fn push_decision_line(text: &mut String, world: &World, member: Member) -> Result<(), AllocError>
     requires { IsTrue (is_member world.now.rehearsal.setting.members member) }
-    ensures { OnOk result (string_bytes text.new ≡ string_bytes text.old ++ line_text (codes "decided") (decisions_text (member_of world.now.rehearsal member).got)) }
+    ensures { OnOk result (string_bytes text.new ≡ string_bytes text.old
+        ++ line_text (codes "decided") (decisions_text (member_of world.now.rehearsal member).got)) }
 {
     text.push_str("decided ")?;
     push_decisions(text, world, member)?;

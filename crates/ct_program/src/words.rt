@@ -3,7 +3,8 @@
 ghost use Rattle.std.specs.Prelude.{◌≡◌, ◌≤◌, ℕ, List, [], ◌∷◌, false, fold, map, codes, Some, None, Err, OnOk, IfOk, IfErr, IfSome};
 ghost use Rattle.clap.specs.Words.{app_of, found_of, rows_of, rule_of, with_rule};
 ghost use Rattle.ct_program.specs.FreeOptions.{FreeInRange, InRange};
-ghost use Rattle.ct_program.specs.Line.{program, free_app, free_rules, option_rule, required_rule, faults_of, call_of, option_in, options_of, whole_in, IsOfKind, IsMemory};
+ghost use Rattle.ct_program.specs.Line.{program, free_app, free_rules, option_rule, required_rule, faults_of, call_of, option_in};
+ghost use Rattle.ct_program.specs.Line.{options_of, whole_in, IsOfKind, IsMemory};
 
 use crate::call::Call;
 use crate::free_options::FreeOptions;

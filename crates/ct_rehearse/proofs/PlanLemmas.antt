@@ -9,7 +9,8 @@ use Rattle.ct_rehearse.specs.Plans.{entries, turns_planned, IsWithin}
 -- the entries of the scripts, together
 entries_few : (plan : Plan) → IsWithin plan → entries plan ≤ 800000
 entries_few plan within =
-    let all : entries plan ≤ length plan.scripts.items * 100000 = sum_by-le (λ script. vec_len script) 100000 plan.scripts.items within.entries in
+    let all : entries plan ≤ length plan.scripts.items * 100000 =
+    sum_by-le (λ script. vec_len script) 100000 plan.scripts.items within.entries in
     let same : vec_len plan.scripts ≡ length plan.scripts.items = plan.scripts.ok.0 in
     omega (arith, all, same, within.scripts)
 

@@ -1,5 +1,6 @@
 -- What one more step of a list comes to.
-use Rattle.std.proofs.Common.{◌≡◌, inl, inr, ℕ, ◌+◌, Bool, true, false, not, ◌&&◌, List, [], ◌∷◌, ◌++◌, length, Option, Some, None, refl, sym, ap, ◌∙◌, append_assoc, append-nil, add-zero, add_assoc, length-append, arith}
+use Rattle.std.proofs.Common.{◌≡◌, inl, inr, ℕ, ◌+◌, Bool, true, false, not, ◌&&◌, List, [], ◌∷◌, ◌++◌, length, Option, Some, None, refl}
+use Rattle.std.proofs.Common.{sym, ap, ◌∙◌, append_assoc, append-nil, add-zero, add_assoc, length-append, arith}
 use Rattle.std.specs.Prelude.{is_none, unwrap_or, option_and_then, if◌then◌else◌}
 use Rattle.std.specs.Option.{option_map_or}
 use Rattle.ct_names.specs.declared.refusal.Refusal.{Refusal}
@@ -40,9 +41,11 @@ are_causes (test ∷ rest) = not (is_short test.refusal) && are_causes rest
 fault-cause : (list : List Test) → are_causes list ≡ true → is_cause (first_fault list) ≡ true
 unfolding is_cause are_causes
 fault-cause [] h = refl
-fault-cause (test ∷ rest) h = go test.fires (and_left (not (is_short test.refusal)) (are_causes rest) h) (fault-cause rest (and_right (not (is_short test.refusal)) (are_causes rest) h))
+fault-cause (test ∷ rest) h = go test.fires (and_left (not (is_short test.refusal)) (are_causes rest) h)
+    (fault-cause rest (and_right (not (is_short test.refusal)) (are_causes rest) h))
   where
-    go : (b : Bool) → not (is_short test.refusal) ≡ true → is_cause (first_fault rest) ≡ true → is_cause (if b then Some test.refusal else first_fault rest) ≡ true
+    go : (b : Bool) → not (is_short test.refusal) ≡ true → is_cause (first_fault rest) ≡ true →
+        is_cause (if b then Some test.refusal else first_fault rest) ≡ true
     go true here later = here
     go false here later = later
 
@@ -50,7 +53,8 @@ or_else-cause : (o rest : Option Refusal) → is_cause o ≡ true → is_cause r
 or_else-cause None rest h k = k
 or_else-cause (Some refusal) rest h k = h
 
-open-causes : (current : Option Standing) (rest : Standing → List Test) → ((c : Standing) → are_causes (rest c) ≡ true) → are_causes (option_map_or rest current []) ≡ true
+open-causes : (current : Option Standing) (rest : Standing → List Test) → ((c : Standing) → are_causes (rest c) ≡ true) →
+    are_causes (option_map_or rest current []) ≡ true
 unfolding are_causes
 open-causes None rest h = refl
 open-causes (Some c) rest h = h c
@@ -65,21 +69,25 @@ own-causes s g m line (Conclude p) = open-causes m.current _ (λ c. refl)
 own-causes s g m line (Deliver p) = open-causes m.current _ (λ c. refl)
 own-causes s g m line _ = refl
 
-and_then-cause : (o : Option State) (f : State → Option Refusal) → ((g : State) → is_cause (f g) ≡ true) → is_cause (option_and_then f o) ≡ true
+and_then-cause : (o : Option State) (f : State → Option Refusal) → ((g : State) → is_cause (f g) ≡ true) →
+    is_cause (option_and_then f o) ≡ true
 unfolding is_cause
 and_then-cause None f h = refl
 and_then-cause (Some g) f h = h g
 
 limit-cause : (w : Rehearsal) (step : Step) → is_cause (limit w step) ≡ true
 unfolding limit are_causes
-limit-cause w step = and_then-cause (next w.setting (state_of w) step) (λ g. first_fault (limits w.cells (length w.steps + 1) g (actor step))) (λ g. fault-cause (limits w.cells (length w.steps + 1) g (actor step)) refl)
+limit-cause w step = and_then-cause (next w.setting (state_of w) step)
+    (λ g. first_fault (limits w.cells (length w.steps + 1) g (actor step)))
+    (λ g. fault-cause (limits w.cells (length w.steps + 1) g (actor step)) refl)
 
 cause-cause : (w : Rehearsal) (step : Step) → is_cause (cause w step) ≡ true
 unfolding cause are_causes
 cause-cause w step =
     let p = actor step in
     or_else-cause _ _ (fault-cause (presence w.setting (state_of w) p) refl)
-    (or_else-cause _ _ (fault-cause (tests w.setting (state_of w) (member (state_of w) p) (line_of w p) step) (own-causes w.setting (state_of w) (member (state_of w) p) (line_of w p) step)) (limit-cause w step))
+    (or_else-cause _ _ (fault-cause (tests w.setting (state_of w) (member (state_of w) p) (line_of w p) step)
+    (own-causes w.setting (state_of w) (member (state_of w) p) (line_of w p) step)) (limit-cause w step))
 
 false_of : (b : Bool) → not b ≡ true → b ≡ false
 false_of true h = sym h
@@ -100,7 +108,8 @@ refused-short w step refusal (inr b) = rw (b.allowed, b.named) refl
 length-snoc : {A : Type 0} (xs : List A) (x : A) → length (xs ++ x ∷ []) ≡ length xs + 1
 length-snoc xs x = simp length-append
 
-marked-snoc : (marks : List Bool) (steps : List Step) (mark : Bool) (step : Step) → length marks ≡ length steps → marked (marks ++ mark ∷ []) (steps ++ step ∷ []) ≡ marked marks steps ++ marked (mark ∷ []) (step ∷ [])
+marked-snoc : (marks : List Bool) (steps : List Step) (mark : Bool) (step : Step) → length marks ≡ length steps →
+    marked (marks ++ mark ∷ []) (steps ++ step ∷ []) ≡ marked marks steps ++ marked (mark ∷ []) (step ∷ [])
 unfolding marked
 marked-snoc [] [] mark step h = refl
 marked-snoc [] (s ∷ steps) mark step h = cc
@@ -108,17 +117,23 @@ marked-snoc (b ∷ marks) [] mark step h = cc
 marked-snoc (true ∷ marks) (s ∷ steps) mark step h = ap (λ list. s ∷ list) (marked-snoc marks steps mark step (omega arith))
 marked-snoc (false ∷ marks) (s ∷ steps) mark step h = marked-snoc marks steps mark step (omega arith)
 
-unmarked-snoc : (w : Rehearsal) (marks : List Bool) (steps : List Step) (mark : Bool) (step : Step) → length marks ≡ length steps → allowed_unmarked w (marks ++ mark ∷ []) (steps ++ step ∷ []) ≡ allowed_unmarked w marks steps + allowed_unmarked (extended_by w (marked marks steps)) (mark ∷ []) (step ∷ [])
+unmarked-snoc : (w : Rehearsal) (marks : List Bool) (steps : List Step) (mark : Bool) (step : Step) → length marks ≡ length steps →
+    allowed_unmarked w (marks ++ mark ∷ []) (steps ++ step ∷ []) ≡ allowed_unmarked w marks steps
+    + allowed_unmarked (extended_by w (marked marks steps)) (mark ∷ []) (step ∷ [])
 unfolding marked allowed_unmarked
 unmarked-snoc w [] [] mark step h = rw append-nil (omega arith)
 unmarked-snoc w [] (s ∷ steps) mark step h = cc
 unmarked-snoc w (b ∷ marks) [] mark step h = cc
-unmarked-snoc w (true ∷ marks) (s ∷ steps) mark step h = rw (append_assoc w.steps (s ∷ []) (marked marks steps)) at (unmarked-snoc (extended w s) marks steps mark step (omega arith))
-unmarked-snoc w (false ∷ marks) (s ∷ steps) mark step h = rw (unmarked-snoc w marks steps mark step (omega arith)) (sym (add_assoc (if is_none (cause w s) then 1 else 0) (allowed_unmarked w marks steps) (allowed_unmarked (extended_by w (marked marks steps)) (mark ∷ []) (step ∷ []))))
+unmarked-snoc w (true ∷ marks) (s ∷ steps) mark step h = rw (append_assoc w.steps (s ∷ []) (marked marks steps)) at
+    (unmarked-snoc (extended w s) marks steps mark step (omega arith))
+unmarked-snoc w (false ∷ marks) (s ∷ steps) mark step h = rw (unmarked-snoc w marks steps mark step (omega arith))
+    (sym (add_assoc (if is_none (cause w s) then 1 else 0) (allowed_unmarked w marks steps)
+    (allowed_unmarked (extended_by w (marked marks steps)) (mark ∷ []) (step ∷ []))))
 
 -- the steps that joined the record, and those that didn't
 
-has-stepped : (old : Rehearsal) (tried : List Step) (new : Rehearsal) (p : Played) (step : Step) → HasPlayed old tried new p → HasPlayed old (tried ++ step ∷ []) (extended new step) (record p { applied = p.applied + 1 })
+has-stepped : (old : Rehearsal) (tried : List Step) (new : Rehearsal) (p : Played) (step : Step) → HasPlayed old tried new p →
+    HasPlayed old (tried ++ step ∷ []) (extended new step) (record p { applied = p.applied + 1 })
 unfolding marked allowed_unmarked
 has-stepped old tried new p step h =
     let grown = marked-snoc h.marks tried true step h.each in
@@ -130,7 +145,8 @@ has-stepped old tried new p step h =
       short = unmarked-snoc old h.marks tried true step h.each ∙ rw add-zero h.short;
     }
 
-has-left : (old : Rehearsal) (tried : List Step) (new : Rehearsal) (p q : Played) (step : Step) → q.applied ≡ p.applied → q.short ≡ p.short + (if is_none (cause new step) then 1 else 0) → HasPlayed old tried new p → HasPlayed old (tried ++ step ∷ []) new q
+has-left : (old : Rehearsal) (tried : List Step) (new : Rehearsal) (p q : Played) (step : Step) → q.applied ≡ p.applied →
+    q.short ≡ p.short + (if is_none (cause new step) then 1 else 0) → HasPlayed old tried new p → HasPlayed old (tried ++ step ∷ []) new q
 unfolding marked allowed_unmarked
 has-left old tried new p q step applied short h =
     let kept = marked-snoc h.marks tried false step h.each in
@@ -142,10 +158,12 @@ has-left old tried new p q step applied short h =
       short = unmarked-snoc old h.marks tried false step h.each ∙ rw (← h.joined, h.short, add-zero) (sym short);
     }
 
-passed-stepped : (old : Rehearsal) (tried : List Step) (new : Rehearsal) (step : Step) → cause new step ≡ None → new ≡ extended_by old (passed old tried) → extended new step ≡ extended_by old (passed old (tried ++ step ∷ []))
+passed-stepped : (old : Rehearsal) (tried : List Step) (new : Rehearsal) (step : Step) → cause new step ≡ None →
+    new ≡ extended_by old (passed old tried) → extended new step ≡ extended_by old (passed old (tried ++ step ∷ []))
 passed-stepped old tried new step free e = rw (passed-snoc old tried step, ← e, free) (rw e (rw append_assoc refl))
 
-passed-left : (old : Rehearsal) (tried : List Step) (new : Rehearsal) (step : Step) → is_none (cause new step) ≡ false → new ≡ extended_by old (passed old tried) → new ≡ extended_by old (passed old (tried ++ step ∷ []))
+passed-left : (old : Rehearsal) (tried : List Step) (new : Rehearsal) (step : Step) → is_none (cause new step) ≡ false →
+    new ≡ extended_by old (passed old tried) → new ≡ extended_by old (passed old (tried ++ step ∷ []))
 passed-left old tried new step caused e = rw (passed-snoc old tried step, ← e, caused, append-nil) e
 
 prepared-snoc : (old : Option Step) (tried : List Step) (step : Step) → prepared_after old (tried ++ step ∷ []) ≡ None
@@ -172,8 +190,10 @@ played-none old had = record {
 }
 
 -- a step was done
-played-stepped : (old : WorldView) (had : Held) (tried : List Step) (new : WorldView) (has : Held) (p : Played) (step : Step) → cause new.rehearsal step ≡ None → IsPlayed old had tried new has p
-    → IsPlayed old had (tried ++ step ∷ []) (record { rehearsal = extended new.rehearsal step; prepared = None }) (risen_by has 1) (record p { applied = p.applied + 1 })
+played-stepped : (old : WorldView) (had : Held) (tried : List Step) (new : WorldView) (has : Held) (p : Played) (step : Step) →
+    cause new.rehearsal step ≡ None → IsPlayed old had tried new has p
+    → IsPlayed old had (tried ++ step ∷ []) (record { rehearsal = extended new.rehearsal step; prepared = None }) (risen_by has 1)
+    (record p { applied = p.applied + 1 })
 played-stepped old had tried new has p step free h = record {
   total = omega (arith, length-snoc tried step, h.total);
   share = rw h.share (rw add_assoc refl);
@@ -183,11 +203,14 @@ played-stepped old had tried new has p step free h = record {
 }
 
 -- a step was refused
-played-refused : (old : WorldView) (had : Held) (tried : List Step) (new : WorldView) (has : Held) (p : Played) (step : Step) (refusal : Refusal) → is_none (cause new.rehearsal step) ≡ is_short refusal → IsPlayed old had tried new has p
+played-refused : (old : WorldView) (had : Held) (tried : List Step) (new : WorldView) (has : Held) (p : Played) (step : Step)
+    (refusal : Refusal) → is_none (cause new.rehearsal step) ≡ is_short refusal → IsPlayed old had tried new has p
     → IsPlayed old had (tried ++ step ∷ []) (record new { prepared = None }) has (played_after p (Refused refusal))
 played-refused old had tried new has p step refusal e h = go (is_short refusal) e
   where
-    go : (b : Bool) → is_none (cause new.rehearsal step) ≡ b → IsPlayed old had (tried ++ step ∷ []) (record new { prepared = None }) has (if b then record p { short = p.short + 1 } else record p { refused = p.refused + 1 })
+    go : (b : Bool) → is_none (cause new.rehearsal step) ≡ b →
+        IsPlayed old had (tried ++ step ∷ []) (record new { prepared = None }) has
+        (if b then record p { short = p.short + 1 } else record p { refused = p.refused + 1 })
     go true e = record {
       total = omega (arith, length-snoc tried step, h.total);
       share = h.share;
@@ -204,8 +227,10 @@ played-refused old had tried new has p step refusal e h = go (is_short refusal) 
     }
 
 -- one more step was tried
-pub played-turn : (cells : List ℕ) (old : WorldView) (had : Held) (tried : List Step) (mid : WorldView) (has : Held) (p : Played) (step : Step) (new : Rehearsal) (turn : Turn) → Answers cells mid.rehearsal step new turn → IsPlayed old had tried mid has p
+pub played-turn : (cells : List ℕ) (old : WorldView) (had : Held) (tried : List Step) (mid : WorldView) (has : Held) (p : Played)
+    (step : Step) (new : Rehearsal) (turn : Turn) → Answers cells mid.rehearsal step new turn → IsPlayed old had tried mid has p
     → IsPlayed old had (tried ++ step ∷ []) (world_after_turn mid turn) (share_after_turn has turn) (played_after p turn)
 played-turn cells old had tried mid has p step new (Stepped done effect) a h = rw a.0 (played-stepped old had tried mid has p step a.1 h)
 played-turn cells old had tried mid has p step new Resting a h = absurd a
-played-turn cells old had tried mid has p step new (Refused refusal) a h = played-refused old had tried mid has p step refusal (refused-short mid.rehearsal step refusal a.0) h
+played-turn cells old had tried mid has p step new (Refused refusal) a h =
+    played-refused old had tried mid has p step refusal (refused-short mid.rehearsal step refusal a.0) h

@@ -1,5 +1,6 @@
 -- What a turn tries, and what it asks first.
-use Rattle.std.specs.Prelude.{◌≡◌, ℕ, Bool, false, ◌&&◌, Option, Some, None, if◌then◌else◌, unwrap_or, slice_get, option_and_then, option_map}
+use Rattle.std.specs.Prelude.{◌≡◌, ℕ, Bool, false, ◌&&◌, Option, Some, None, if◌then◌else◌, unwrap_or, slice_get, option_and_then}
+use Rattle.std.specs.Prelude.{option_map}
 use Rattle.ct_names.specs.Group.{is_member, coordinator}
 use Rattle.ct_model.specs.declared.step.Step.{Step}
 use Rattle.ct_model.specs.declared.step.Step.TheVariants.{Submit, Receive, Suspect, Crash, Postpone}
@@ -39,7 +40,13 @@ round_of w p = unwrap_or (option_map (λ c. c.round) (if_member w p (member_of w
 
 -- what p asks its detector: whether it suspects the coordinator of the round that p is in
 unfoldable pub ask_of : Rehearsal → ℕ → Ask
-ask_of w p = record { member = p; coordinator = coordinator w.setting.members (round_of w p); instance = instance_of w p; round = round_of w p }
+ask_of w p = record {
+  member = p;
+  coordinator = coordinator w.setting.members (round_of w p);
+  instance = instance_of w p;
+  round =
+      round_of w p;
+}
 
 -- what p asks where this step comes next: a suspicion alone is asked about
 abbrev pub asked_for : Option Step → Ask → Option Ask

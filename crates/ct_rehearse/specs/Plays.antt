@@ -24,7 +24,8 @@ is_short _ = false
 abbrev pub played_after : Played → Turn → Played
 played_after played (Stepped step effect) = record played { applied = played.applied + 1 }
 played_after played Resting = played
-played_after played (Refused refusal) = if is_short refusal then record played { short = played.short + 1 } else record played { refused = played.refused + 1 }
+played_after played (Refused refusal) = if is_short refusal then record played { short = played.short + 1 }
+    else record played { refused = played.refused + 1 }
 
 -- nothing is prepared once a step was tried
 abbrev pub prepared_after : Option Step → List Step → Option Step

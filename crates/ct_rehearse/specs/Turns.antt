@@ -11,7 +11,8 @@ use Rattle.ct_rehearse.specs.declared.outcome.Turn.TheVariants.{Stepped, Resting
 
 -- the world answers that the step was tried, with a board of these cells
 abbrev pub Answers : List ℕ → Rehearsal → Step → Rehearsal → Turn → Type 0
-Answers cells old step new (Stepped done effect) = (done ≡ step) × (cause old step ≡ None) × IsDone old step new effect.sent × HasPosted cells old new effect.receipt
+Answers cells old step new (Stepped done effect) = (done ≡ step) × (cause old step ≡ None) × IsDone old step new effect.sent
+    × HasPosted cells old new effect.receipt
 Answers cells old step new Resting = ⊥
 Answers cells old step new (Refused refusal) = IsRefusal old step refusal × (new ≡ old)
 

@@ -2,7 +2,8 @@
 
 ghost use Rattle.std.specs.Prelude.{◌≡◌, Some};
 ghost use Rattle.ct_world.specs.Driving.{next_local};
-ghost use Rattle.ct_rehearse.specs.Choices.{HasAsked, ask_of, chosen, entry_step, first_waiting, instance_of, question, receives, round_of, said, tried};
+ghost use Rattle.ct_rehearse.specs.Choices.{HasAsked, ask_of, chosen, entry_step, first_waiting, instance_of, question, receives, round_of};
+ghost use Rattle.ct_rehearse.specs.Choices.{said, tried};
 
 use crate::disturbance::Disturbance;
 use ct_detect::{Ask, Detector};
@@ -14,7 +15,8 @@ use ct_world::World;
 #[tactic(auto, unfolding(crate::specs::Choices::tried))]
 pub(crate) fn tried(world: &World, member: Member, detector: &mut dyn Detector) -> Option<Step>
     ensures tried { result ≡ tried world.now.rehearsal member (last detector.new) }
-    ensures asked { HasAsked (next_local world.now.rehearsal member) (ask_of world.now.rehearsal member) (last detector.old) (last detector.new) }
+    ensures asked { HasAsked (next_local world.now.rehearsal member) (ask_of world.now.rehearsal member) (last detector.old)
+        (last detector.new) }
 {
     let step = chosen(world, member, world.next_local(member), detector);
     if world.crashed(member) { None } else { step }

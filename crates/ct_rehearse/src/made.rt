@@ -43,7 +43,12 @@ impl Made {
     // The turns of one more worker.
     pub(crate) fn add(&mut self, other: &Made)
         requires { turns_made self.old + turns_made other.now < 2 ^ 64 }
-        ensures { self.new ≡ record { steps = self.old.steps + other.now.steps; resting = self.old.resting + other.now.resting; refused = self.old.refused + other.now.refused } }
+        ensures { self.new ≡ record {
+          steps = self.old.steps + other.now.steps;
+          resting = self.old.resting + other.now.resting;
+          refused =
+              self.old.refused + other.now.refused;
+        } }
     {
         self.steps += other.steps;
         self.resting += other.resting;

@@ -68,7 +68,8 @@ fn start_drivers<'s, E, L: Ledger + Send + Sync, R: Wait + Sync, G: Gate>(
     requires parts { vec_len detectors ≤ pool.old.parts }
     requires room { vec_len all.old + vec_len detectors ≤ vec_capacity all.old }
     ensures ok { OnOk result (vec_len all.new ≡ vec_len all.old + vec_len detectors) }
-    ensures turns { OnOk result (sum_by (λ (r : _). r.turns) all.new.items ≡ sum_by (λ (r : _). r.turns) all.old.items + vec_len detectors * turns) }
+    ensures turns { OnOk result (sum_by (λ (r : _). r.turns) all.new.items ≡ sum_by (λ (r : _). r.turns) all.old.items
+        + vec_len detectors * turns) }
     ensures parts { OnOk result (pool.new.parts + vec_len detectors ≡ pool.old.parts) }
     ensures steps { pool.new.steps ≡ pool.old.steps }
     ensures err { IfErr result (λ f. f ≡ RunFault.Start) }
@@ -105,12 +106,14 @@ fn start_scripts<'s, E, L: Ledger + Send + Sync, R: Wait + Sync, G: Gate>(
     requires parts { length scripts.now ≤ pool.old.parts }
     requires room { vec_len all.old + length scripts.now ≤ vec_capacity all.old }
     ensures ok { OnOk result (vec_len all.new ≡ vec_len all.old + length scripts.now) }
-    ensures turns { OnOk result (sum_by (λ (r : _). r.turns) all.new.items ≡ sum_by (λ (r : _). r.turns) all.old.items + sum_by (λ s. vec_len s) scripts.now) }
+    ensures turns { OnOk result (sum_by (λ (r : _). r.turns) all.new.items ≡ sum_by (λ (r : _). r.turns) all.old.items
+        + sum_by (λ s. vec_len s) scripts.now) }
     ensures parts { OnOk result (pool.new.parts + length scripts.now ≡ pool.old.parts) }
     ensures steps { pool.new.steps ≡ pool.old.steps }
     ensures err { IfErr result (λ f. f ≡ RunFault.Start) }
     ensures fewer { OnErr result (vec_len all.new < vec_len all.old + length scripts.now) }
-    ensures less { sum_by (λ (r : _). r.turns) all.new.items ≤ sum_by (λ (r : _). r.turns) all.old.items + sum_by (λ s. vec_len s) scripts.now }
+    ensures less { sum_by (λ (r : _). r.turns) all.new.items ≤ sum_by (λ (r : _). r.turns) all.old.items
+        + sum_by (λ s. vec_len s) scripts.now }
     ensures lost { OnErr result (pool.new.parts + vec_len all.new + 1 ≡ pool.old.parts + vec_len all.old) }
 {
     let mut worker = members;

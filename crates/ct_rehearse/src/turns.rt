@@ -28,8 +28,10 @@ pub fn turn<L: Ledger>(
     detector: &mut dyn Detector,
 ) -> Turn
     requires { share.old.steps + 1 < 2 ^ 64 }
-    ensures made { MatchOption (tried desk.old.rehearsal member (last detector.new)) (result ≡ Turn.Resting) (λ step. Answers board.now desk.old.rehearsal step desk.new.rehearsal result) }
-    ensures asked { HasAsked (next_local desk.old.rehearsal member) (ask_of desk.old.rehearsal member) (last detector.old) (last detector.new) }
+    ensures made { MatchOption (tried desk.old.rehearsal member (last detector.new)) (result ≡ Turn.Resting)
+        (λ step. Answers board.now desk.old.rehearsal step desk.new.rehearsal result) }
+    ensures asked { HasAsked (next_local desk.old.rehearsal member) (ask_of desk.old.rehearsal member) (last detector.old)
+        (last detector.new) }
     ensures world { desk.new ≡ world_after_turn desk.old result }
     ensures share { share.new ≡ share_after_turn share.old result }
 {
@@ -49,7 +51,8 @@ pub fn turn_answered<L: Ledger>(
     suspects: bool,
 ) -> Turn
     requires { share.old.steps + 1 < 2 ^ 64 }
-    ensures made { MatchOption (tried desk.old.rehearsal member (Some (ask_of desk.old.rehearsal member, suspects))) (result ≡ Turn.Resting) (λ step. Answers board.now desk.old.rehearsal step desk.new.rehearsal result) }
+    ensures made { MatchOption (tried desk.old.rehearsal member (Some (ask_of desk.old.rehearsal member, suspects))) (result ≡ Turn.Resting)
+        (λ step. Answers board.now desk.old.rehearsal step desk.new.rehearsal result) }
     ensures world { desk.new ≡ world_after_turn desk.old result }
     ensures share { share.new ≡ share_after_turn share.old result }
 {
@@ -68,7 +71,8 @@ pub fn disturb<L: Ledger>(
     entry: &Disturbance,
 ) -> Turn
     requires { share.old.steps + 1 < 2 ^ 64 }
-    ensures made { MatchOption (entry_step desk.old.rehearsal entry.now) (result ≡ Turn.Resting) (λ step. Answers board.now desk.old.rehearsal step desk.new.rehearsal result) }
+    ensures made { MatchOption (entry_step desk.old.rehearsal entry.now) (result ≡ Turn.Resting)
+        (λ step. Answers board.now desk.old.rehearsal step desk.new.rehearsal result) }
     ensures world { desk.new ≡ world_after_turn desk.old result }
     ensures share { share.new ≡ share_after_turn share.old result }
 {

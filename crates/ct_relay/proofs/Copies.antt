@@ -19,7 +19,8 @@ drained s (x ∷ xs) ran =
     ap (λ rest. x.now ∷ rest) (drained step.0 xs (ran.0, (ran.1.0, step.2, ran.1.2))) ∙ sym step.1
 
 -- what is distinct from all before it comes last
-insert_all-distinct : {X : Type 0} (R : X → X → Bool) → ((x y : X) → R x y ≡ R y x) → (ks xs : List X) → IsDistinct R (ks ++ xs) → insert_all R ks xs ≡ ks ++ xs
+insert_all-distinct : {X : Type 0} (R : X → X → Bool) → ((x y : X) → R x y ≡ R y x) → (ks xs : List X) → IsDistinct R (ks ++ xs) →
+    insert_all R ks xs ≡ ks ++ xs
 insert_all-distinct R symm ks [] distinct = sym (append-nil ks)
 insert_all-distinct R symm ks (x ∷ xs) distinct =
     let last = ap (λ there. cond there ks (ks ++ x ∷ [])) (absent_before R symm ks x xs distinct) in
@@ -34,6 +35,7 @@ same-symm (Dec instance round) (Data other n) = refl
 same-symm (Dec instance round) (Dec k r) = ap₂ (λ a b. a && b) (eq-symm instance k) (eq-symm round r)
 
 -- the list is taken in from one that iterates over distinct ids
-pub taken-in : (ids old new s : List RelayId) (xs : List (Bor RelayId)) → IsDistinct equal.eq ids → old ≡ [] → s ≡ ids → Drains (TakesFirst (deref {X = RelayId})) s xs → new ≡ insert_all equal.eq old (map deref xs) → new ≡ ids
+pub taken-in : (ids old new s : List RelayId) (xs : List (Bor RelayId)) → IsDistinct equal.eq ids → old ≡ [] → s ≡ ids →
+    Drains (TakesFirst (deref {X = RelayId})) s xs → new ≡ insert_all equal.eq old (map deref xs) → new ≡ ids
 taken-in ids old new s xs distinct empty whole ran inserted =
     inserted ∙ ap₂ (insert_all equal.eq) empty (drained s xs ran ∙ whole) ∙ insert_all-distinct equal.eq same-symm [] ids distinct

@@ -15,18 +15,22 @@ rest-other false b h = h
 rest-other true b h = absurd (cc)
 
 -- a key that is not there comes last
-insert_entry-new : {V : Type 0} (es : List (ℕ × V)) (k : ℕ) (v : V) → list_any (λ key. k == key) (keys_of es) ≡ false → insert_entry (λ a b. a == b) es k v ≡ es ++ (k, v) ∷ []
+insert_entry-new : {V : Type 0} (es : List (ℕ × V)) (k : ℕ) (v : V) → list_any (λ key. k == key) (keys_of es) ≡ false →
+    insert_entry (λ a b. a == b) es k v ≡ es ++ (k, v) ∷ []
 insert_entry-new [] k v absent = refl
 insert_entry-new (e ∷ es) k v absent =
     ap (λ same. cond same ((e.0, v) ∷ es) (e ∷ insert_entry (λ a b. a == b) es k v)) (first-other (k == e.0) _ absent)
     ∙ ap (λ rest. e ∷ rest) (insert_entry-new es k v (rest-other (k == e.0) _ absent))
 
-insert_entry-next : {V : Type 0} (done : List (ℕ × V)) (e : ℕ × V) (left : List (ℕ × V)) → IsDistinct (λ a b. a == b) (keys_of (done ++ e ∷ left)) → insert_entry (λ a b. a == b) done e.0 e.1 ≡ done ++ e ∷ []
+insert_entry-next : {V : Type 0} (done : List (ℕ × V)) (e : ℕ × V) (left : List (ℕ × V)) →
+    IsDistinct (λ a b. a == b) (keys_of (done ++ e ∷ left)) → insert_entry (λ a b. a == b) done e.0 e.1 ≡ done ++ e ∷ []
 insert_entry-next done e left distinct =
-    insert_entry-new done e.0 e.1 (absent_before (λ a b. a == b) eq-symm (keys_of done) e.0 (keys_of left) (subst (IsDistinct (λ a b. a == b)) (map-append (λ e. e.0) done (e ∷ left)) distinct))
+    insert_entry-new done e.0 e.1 (absent_before (λ a b. a == b) eq-symm (keys_of done) e.0 (keys_of left)
+    (subst (IsDistinct (λ a b. a == b)) (map-append (λ e. e.0) done (e ∷ left)) distinct))
 
 -- once the next of the entries is inserted too, the new ones and those that are left are all of them
-pub copied-next : {V : Type 0} (done : List (ℕ × V)) (k : ℕ) (v : V) (left all new : List (ℕ × V)) → new ≡ insert_entry (λ a b. a == b) done k v → done ++ (k, v) ∷ left ≡ all → IsDistinct (λ a b. a == b) (keys_of all) → new ++ left ≡ all
+pub copied-next : {V : Type 0} (done : List (ℕ × V)) (k : ℕ) (v : V) (left all new : List (ℕ × V)) →
+    new ≡ insert_entry (λ a b. a == b) done k v → done ++ (k, v) ∷ left ≡ all → IsDistinct (λ a b. a == b) (keys_of all) → new ++ left ≡ all
 copied-next done k v left all new inserted whole distinct =
     let last = insert_entry-next done (k, v) left (subst (λ es. IsDistinct (λ a b. a == b) (keys_of es)) (sym whole) distinct) in
     ap (λ es. es ++ left) (inserted ∙ last) ∙ append_assoc done ((k, v) ∷ []) left ∙ whole

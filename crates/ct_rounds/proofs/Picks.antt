@@ -1,5 +1,6 @@
 -- The best of the estimates, found from the end.
-use Rattle.std.proofs.Common.{◌≡◌, ℕ, ◌+◌, ◌<◌, ◌≤◌, Bool, true, false, cond, List, [], ◌∷◌, Option, Some, None, refl, sym, ap, ◌∙◌, arith, nat_le, option_map, map, find}
+use Rattle.std.proofs.Common.{◌≡◌, ℕ, ◌+◌, ◌<◌, ◌≤◌, Bool, true, false, cond, List, [], ◌∷◌, Option, Some, None, refl, sym, ap, ◌∙◌, arith}
+use Rattle.std.proofs.Common.{nat_le, option_map, map, find}
 use Rattle.std.specs.Prelude.{◌==◌, ◌&&◌, ◌||◌, nat_lt}
 use Rattle.std.specs.List.{list_all}
 use Rattle.std.proofs.lemmas.Bool.Decides.{nat_tests}
@@ -42,10 +43,12 @@ all-below t (x ∷ xs) b h = by (all-below t xs) (pick xs) refl h
     and_true true = refl
     and_true false = refl
 
-    by : ((c : Heard ℕ) → pick xs ≡ Some c → list_all (λ y. nat_le y.ts t) xs ≡ nat_le c.ts t) → (o : Option (Heard ℕ)) → pick xs ≡ o → Some (larger x o) ≡ Some b → (nat_le x.ts t && list_all (λ y. nat_le y.ts t) xs) ≡ nat_le b.ts t
+    by : ((c : Heard ℕ) → pick xs ≡ Some c → list_all (λ y. nat_le y.ts t) xs ≡ nat_le c.ts t) → (o : Option (Heard ℕ)) → pick xs ≡ o →
+        Some (larger x o) ≡ Some b → (nat_le x.ts t && list_all (λ y. nat_le y.ts t) xs) ≡ nat_le b.ts t
     by rest None is e =
         let same : x ≡ b = cc in
-        ap (λ v. nat_le x.ts t && v) (none-all (λ y. nat_le y.ts t) xs is) ∙ (and_true (nat_le x.ts t) ∙ ap (λ (z : Heard ℕ). nat_le z.ts t) same)
+        ap (λ v. nat_le x.ts t && v) (none-all (λ y. nat_le y.ts t) xs is)
+        ∙ (and_true (nat_le x.ts t) ∙ ap (λ (z : Heard ℕ). nat_le z.ts t) same)
     by rest (Some c) is e =
         let same : larger x (Some c) ≡ b = cc in
         ap (λ v. nat_le x.ts t && v) (rest c is) ∙ (larger-below c (nat_le c.ts x.ts) refl ∙ ap (λ (z : Heard ℕ). nat_le z.ts t) same)
@@ -63,13 +66,15 @@ first-is b (x ∷ xs) h = by (first-is b xs) (pick xs) refl h
         let passes : nat_le b.ts x.ts ≡ true = ap (λ (z : Heard ℕ). nat_le b.ts z.ts) same ∙ itself b.ts in
         rw passes (ap (λ (z : Heard ℕ). Some z) same)
 
-    later : (pick xs ≡ Some b → find (λ e. nat_le b.ts e.ts) xs ≡ Some b) → (c : Heard ℕ) (l : Bool) → pick xs ≡ Some c → nat_le c.ts x.ts ≡ l → cond l x c ≡ b → cond (nat_le b.ts x.ts) (Some x) (find (λ e. nat_le b.ts e.ts) xs) ≡ Some b
+    later : (pick xs ≡ Some b → find (λ e. nat_le b.ts e.ts) xs ≡ Some b) → (c : Heard ℕ) (l : Bool) → pick xs ≡ Some c →
+        nat_le c.ts x.ts ≡ l → cond l x c ≡ b → cond (nat_le b.ts x.ts) (Some x) (find (λ e. nat_le b.ts e.ts) xs) ≡ Some b
     later rest c true is l same = here same
     later rest c false is l same =
         let fails : nat_le b.ts x.ts ≡ false = ap (λ (z : Heard ℕ). nat_le z.ts x.ts) (sym same) ∙ l in
         rw fails (rest (is ∙ ap (λ (z : Heard ℕ). Some z) same))
 
-    by : (pick xs ≡ Some b → find (λ e. nat_le b.ts e.ts) xs ≡ Some b) → (o : Option (Heard ℕ)) → pick xs ≡ o → Some (larger x o) ≡ Some b → cond (nat_le b.ts x.ts) (Some x) (find (λ e. nat_le b.ts e.ts) xs) ≡ Some b
+    by : (pick xs ≡ Some b → find (λ e. nat_le b.ts e.ts) xs ≡ Some b) → (o : Option (Heard ℕ)) → pick xs ≡ o → Some (larger x o) ≡ Some b →
+        cond (nat_le b.ts x.ts) (Some x) (find (λ e. nat_le b.ts e.ts) xs) ≡ Some b
     by rest None is e = here (let same : x ≡ b = cc in same)
     by rest (Some c) is e = later rest c (nat_le c.ts x.ts) is refl (let same : larger x (Some c) ≡ b = cc in same)
 
@@ -103,7 +108,8 @@ pick-above : (a : ℕ) (xs : List (Heard ℕ)) (w : Heard ℕ) → Rises a (map 
 pick-above a [] w r h = cc
 pick-above a (x ∷ xs) w r h = by (λ c. pick-above (x.member + 1) xs c r.1) (pick xs) refl h
   where
-    by : ((c : Heard ℕ) → pick xs ≡ Some c → x.member + 1 ≤ c.member) → (o : Option (Heard ℕ)) → pick xs ≡ o → Some (larger x o) ≡ Some w → a ≤ w.member
+    by : ((c : Heard ℕ) → pick xs ≡ Some c → x.member + 1 ≤ c.member) → (o : Option (Heard ℕ)) → pick xs ≡ o → Some (larger x o) ≡ Some w →
+        a ≤ w.member
     by rest None is e =
         let same : x ≡ w = cc in
         let m : x.member ≡ w.member = ap (λ (z : Heard ℕ). z.member) same in
@@ -168,18 +174,23 @@ behind x e (Some b) less = by (nat_lt b.ts e.ts || ((b.ts == e.ts) && nat_lt e.m
     by false false w l = rw (l, w) refl
 
 -- the best one after one more
-pub pick-more : (e : Heard ℕ) (a : ℕ) (xs : List (Heard ℕ)) → Rises a (map (λ y. y.member) xs) → has_member (map (λ y. y.member) xs) e.member ≡ false → pick (with_estimate e xs) ≡ Some (winner (pick xs) e)
+pub pick-more : (e : Heard ℕ) (a : ℕ) (xs : List (Heard ℕ)) → Rises a (map (λ y. y.member) xs) →
+    has_member (map (λ y. y.member) xs) e.member ≡ false → pick (with_estimate e xs) ≡ Some (winner (pick xs) e)
 pick-more e a [] r absent = refl
 pick-more e a (x ∷ xs) r absent = by (pick-more e (x.member + 1) xs r.1) (nat_lt e.member x.member) (e.member == x.member) refl refl
   where
-    by : (has_member (map (λ y. y.member) xs) e.member ≡ false → pick (with_estimate e xs) ≡ Some (winner (pick xs) e)) → (b c : Bool) → nat_lt e.member x.member ≡ b → (e.member == x.member) ≡ c → pick (cond b (e ∷ x ∷ xs) (cond c (x ∷ xs) (x ∷ with_estimate e xs))) ≡ Some (winner (Some (larger x (pick xs))) e)
+    by : (has_member (map (λ y. y.member) xs) e.member ≡ false → pick (with_estimate e xs) ≡ Some (winner (pick xs) e)) → (b c : Bool) →
+        nat_lt e.member x.member ≡ b → (e.member == x.member) ≡ c →
+        pick (cond b (e ∷ x ∷ xs) (cond c (x ∷ xs) (x ∷ with_estimate e xs))) ≡ Some (winner (Some (larger x (pick xs))) e)
     by later true c is same =
         let above = pick-above x.member (x ∷ xs) (larger x (pick xs)) (omega arith, r.1) refl in
         let less : e.member < (larger x (pick xs)).member = grind (arith, nat_tests) in
         ap (λ (z : Heard ℕ). Some z) (front (larger x (pick xs)) e less)
-    by later false true is same = absurd (let there : (x.member == e.member) ≡ true = grind (arith, nat_tests) in let no = ap (λ v. v || has_member (map (λ y. y.member) xs) e.member) (sym there) ∙ absent in cc)
+    by later false true is same = absurd (let there : (x.member == e.member) ≡ true = grind (arith, nat_tests) in
+        let no = ap (λ v. v || has_member (map (λ y. y.member) xs) e.member) (sym there) ∙ absent in cc)
     by later false false is same =
         let apart : (x.member == e.member) ≡ false = grind (arith, nat_tests) in
-        let rest : has_member (map (λ y. y.member) xs) e.member ≡ false = ap (λ v. v || has_member (map (λ y. y.member) xs) e.member) (sym apart) ∙ absent in
+        let rest : has_member (map (λ y. y.member) xs) e.member ≡ false =
+        ap (λ v. v || has_member (map (λ y. y.member) xs) e.member) (sym apart) ∙ absent in
         let less : x.member < e.member = grind (arith, nat_tests) in
         ap (λ z. Some (larger x z)) (later rest) ∙ ap (λ (z : Heard ℕ). Some z) (behind x e (pick xs) less)

@@ -1,5 +1,6 @@
 -- Sets of members are rising lists.
-use Rattle.std.proofs.Common.{◌≡◌, ℕ, zero, suc, ◌+◌, ◌≤◌, ◌<◌, Bool, true, false, cond, List, [], ◌∷◌, filter, refl, sym, ap, ◌∙◌, arith, eqb-true}
+use Rattle.std.proofs.Common.{◌≡◌, ℕ, zero, suc, ◌+◌, ◌≤◌, ◌<◌, Bool, true, false, cond, List, [], ◌∷◌, filter, refl, sym, ap, ◌∙◌, arith}
+use Rattle.std.proofs.Common.{eqb-true}
 use Rattle.std.specs.Prelude.{◌==◌, ◌||◌, nat_lt, if◌then◌else◌}
 use Rattle.std.proofs.lemmas.Bool.Decides.{nat_tests}
 use Rattle.ct_names.specs.declared.limit.TheConstants.{MAX_MEMBERS}
@@ -32,7 +33,8 @@ rises-filter : (f : ℕ → Bool) (a n : ℕ) → Rises a (filter f (counting a 
 rises-filter f a zero = tt
 rises-filter f a (suc n) = by (f a) (rises-filter f (a + 1) n)
   where
-    by : (b : Bool) → Rises (a + 1) (filter f (counting (a + 1) n)) → Rises a (cond b (a ∷ filter f (counting (a + 1) n)) (filter f (counting (a + 1) n)))
+    by : (b : Bool) → Rises (a + 1) (filter f (counting (a + 1) n)) →
+        Rises a (cond b (a ∷ filter f (counting (a + 1) n)) (filter f (counting (a + 1) n)))
     by true r = (omega arith, r)
     by false r = rises-from a (a + 1) (filter f (counting (a + 1) n)) (omega arith) r
 
@@ -49,7 +51,8 @@ rises-set set is = along (λ z. Rises 1 z) set (filter (has_member set) everyone
 -- a member of a set is 1 to 16
 pub within-set : (set : List ℕ) (p : ℕ) → IsSet set → has_member set p ≡ true → IsMember MAX_MEMBERS p
 within-set set p is h =
-    everyone-in p (Lists.IsIn-filter_from (has_member set) p everyone (in-has_member (filter (has_member set) everyone) p (ap (λ z. has_member z p) (sym is) ∙ h)))
+    everyone-in p (Lists.IsIn-filter_from (has_member set) p everyone
+    (in-has_member (filter (has_member set) everyone) p (ap (λ z. has_member z p) (sym is) ∙ h)))
 
 -- nobody is in the empty set
 pub empty-set : IsSet []
@@ -87,7 +90,8 @@ others p f a (suc n) h =
     rw (differs, or_false (f a), others p f (a + 1) n (omega arith)) refl
 
 -- the member joins those that pass
-inserted-filter : (p : ℕ) (f : ℕ → Bool) (a n : ℕ) → a ≤ p → p < a + n → inserted p (filter f (counting a n)) ≡ filter (λ q. f q || (q == p)) (counting a n)
+inserted-filter : (p : ℕ) (f : ℕ → Bool) (a n : ℕ) → a ≤ p → p < a + n →
+    inserted p (filter f (counting a n)) ≡ filter (λ q. f q || (q == p)) (counting a n)
 inserted-filter p f a zero lo hi = absurd (omega arith)
 inserted-filter p f a (suc n) lo hi = go (a == p) (f a) refl (λ above. inserted-filter p f (a + 1) n above (omega arith))
   where
@@ -103,9 +107,11 @@ inserted-filter p f a (suc n) lo hi = go (a == p) (f a) refl (λ above. inserted
         let eq : (p == a) ≡ true = grind (arith, nat_tests) in
         rw (low, eq) (ap (λ z. a ∷ z) (sym (others p f (a + 1) n (omega arith))))
     here false same =
-        inserted-first p f (a + 1) n (omega arith) ∙ ap (λ z. z ∷ old) (sym same) ∙ ap (λ z. a ∷ z) (sym (others p f (a + 1) n (omega arith)))
+        inserted-first p f (a + 1) n (omega arith) ∙ ap (λ z. z ∷ old) (sym same)
+        ∙ ap (λ z. a ∷ z) (sym (others p f (a + 1) n (omega arith)))
 
-    go : (e b : Bool) → (a == p) ≡ e → (a + 1 ≤ p → inserted p old ≡ new) → inserted p (if b then a ∷ old else old) ≡ (if (b || e) then a ∷ new else new)
+    go : (e b : Bool) → (a == p) ≡ e → (a + 1 ≤ p → inserted p old ≡ new) →
+        inserted p (if b then a ∷ old else old) ≡ (if (b || e) then a ∷ new else new)
     go true b is ih = here b (grind (arith, nat_tests))
     go false true is ih =
         let low : nat_lt p a ≡ false = grind (arith, nat_tests) in
@@ -116,7 +122,8 @@ inserted-filter p f a (suc n) lo hi = go (a == p) (f a) refl (λ above. inserted
 
 -- one member more, in its place
 swapped : (set : List ℕ) (p : ℕ) → with_member set p ≡ filter (λ q. has_member set q || (q == p)) everyone
-swapped set p = filter-agree (λ q. (q == p) || has_member set q) (λ q. has_member set q || (q == p)) everyone (λ q i. by (q == p) (has_member set q))
+swapped set p = filter-agree (λ q. (q == p) || has_member set q) (λ q. has_member set q || (q == p)) everyone
+    (λ q i. by (q == p) (has_member set q))
   where
     by : (b c : Bool) → (b || c) ≡ (c || b)
     by true true = refl

@@ -34,15 +34,36 @@ impl Model for Consensus {
 
     ghost Value = { Part };
 
-    ghost view = { λ c. record { members = c.group; me = c.me; instance = c.instance; standing = record { round = c.round; phase = c.phase; estimate = c.estimate; ts = c.ts } } };
+    ghost view = { λ c. record {
+      members = c.group;
+      me = c.me;
+      instance = c.instance;
+      standing =
+          record { round = c.round; phase = c.phase; estimate = c.estimate; ts = c.ts };
+    } };
 
-    ghost inverse = { λ p. record { group = p.members; me = p.me; instance = p.instance; round = p.standing.round; phase = p.standing.phase; estimate = p.standing.estimate; ts = p.standing.ts } };
+    ghost inverse = { λ p. record {
+      group = p.members;
+      me = p.me;
+      instance = p.instance;
+      round = p.standing.round;
+      phase =
+          p.standing.phase;
+      estimate = p.standing.estimate;
+      ts = p.standing.ts;
+    } };
 }
 
 impl Consensus {
     /// The member `me` opens the instance with this estimate. No round is running.
     pub fn new(group: Group, me: Member, instance: Instance, estimate: ValueId) -> Consensus
-        ensures { result ≡ record { members = group; me = me; instance = instance; standing = record { round = 0; phase = Rest; estimate = estimate; ts = 0 } } }
+        ensures { result ≡ record {
+          members = group;
+          me = me;
+          instance = instance;
+          standing =
+              record { round = 0; phase = Rest; estimate = estimate; ts = 0 };
+        } }
     {
         Consensus {
             group,

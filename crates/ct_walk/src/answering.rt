@@ -13,7 +13,8 @@ use ct_world::World;
 pub(crate) fn answer(world: &World, detectors: &mut Vec<Seeded>, member: Member) -> bool
     requires { 0 < member }
     ensures answer { result ≡ answer (question world.now.rehearsal member) (slice_get detectors.old.items (member - 1)) }
-    ensures after { detectors.new.items ≡ after_answer detectors.old.items member (question world.now.rehearsal member) (slice_get detectors.old.items (member - 1)) }
+    ensures after { detectors.new.items ≡ after_answer detectors.old.items member (question world.now.rehearsal member)
+        (slice_get detectors.old.items (member - 1)) }
 {
     match question(world, member) {
         None => false,

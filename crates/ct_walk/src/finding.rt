@@ -23,7 +23,8 @@ pub fn find(
 ) -> Result<Option<World>, WalkFault>
     requires range { IsInRange options.now }
     requires seeds { first + seeds ≤ 4294967295 }
-    ensures exact { IfOk result (λ found. option_map (λ world. world.rehearsal) found ≡ option_map (λ seed. walked (with_seed options.now seed)) (first_seed options.now first seeds)) }
+    ensures exact { IfOk result (λ found. option_map (λ world. world.rehearsal) found
+        ≡ option_map (λ seed. walked (with_seed options.now seed)) (first_seed options.now first seeds)) }
     ensures none { IfOk result (λ found. IfSome found (λ world. world.prepared ≡ None)) }
     ensures err { IfErr result IsShort }
 {

@@ -4,7 +4,8 @@ ghost use Rattle.std.specs.Prelude.{◌≡◌, ◌+◌, ◌-◌, ◌*◌, ◌^�
 ghost use Rattle.ct_program.specs.FreeOptions.{InRange};
 ghost use Rattle.ct_walk.specs.Faults.{IsShort};
 ghost use Rattle.ct_walk.specs.Shown.{is_shown};
-ghost use Rattle.ct_walk.specs.Walking.{after_entry, drawn, driven, has_first, has_second, is_due, is_first_drawn, made_by, postponing, start, submitting, turned, walked_for, workers};
+ghost use Rattle.ct_walk.specs.Walking.{after_entry, drawn, driven, has_first, has_second, is_due, is_first_drawn, made_by, postponing};
+ghost use Rattle.ct_walk.specs.Walking.{start, submitting, turned, walked_for, workers};
 
 use crate::answering::answer;
 use crate::fault::WalkFault;

@@ -9,7 +9,8 @@ use Rattle.ct_world.specs.Kept.{Fields, IsWorld, no_seat, seat_of}
 use Rattle.ct_world.proofs.Members.{place}
 use Rattle.ct_world.proofs.Rooms.{world-roomier}
 
-module _ (w : Rehearsal) (f new : Fields) (world : IsWorld w f) (values : new.book.values ≡ f.book.values) (same : AreSameSeats f.seats new.seats) where
+module _ (w : Rehearsal) (f new : Fields) (world : IsWorld w f) (values : new.book.values ≡ f.book.values)
+    (same : AreSameSeats f.seats new.seats) where
   seat_same : (p : ℕ) → is_member w.setting.members p ≡ true → content (seat_of new.seats p) ≡ content (seat_of f.seats p)
   seat_same p group =
       let within = place w.setting.members p group in

@@ -1,5 +1,6 @@
 -- The largest instance with a decision, from what is kept of a member's instances.
-use Rattle.std.proofs.Common.{◌≡◌, ℕ, ◌≤◌, ◌==◌, true, List, [], ◌∷◌, Option, Some, None, filter_map, fold, refl, sym, ap, subst, ◌∙◌, arith, inl, inr, ◌⊎◌, eq-eqb, eqb-true}
+use Rattle.std.proofs.Common.{◌≡◌, ℕ, ◌≤◌, ◌==◌, true, List, [], ◌∷◌, Option, Some, None, filter_map, fold, refl, sym, ap, subst, ◌∙◌}
+use Rattle.std.proofs.Common.{arith, inl, inr, ◌⊎◌, eq-eqb, eqb-true}
 use Rattle.std.specs.Prelude.{max, nat_eq, is_some, option_and_then}
 use Rattle.std.specs.List.{reduce}
 use Rattle.std.specs.Map.{keys_of, lookup}
@@ -62,7 +63,8 @@ in-entries : (kept : Kept) (k : ℕ) → is_some (decision_at kept k) ≡ true �
 in-entries kept k some =
     let there : is_some (lookup (nat_eq k) kept.entries) ≡ true = entry-some (entry_of kept k) some in
     let found = found-list_any (nat_eq k) (keys_of kept.entries) (sym (is_some-lookup (nat_eq k) kept.entries) ∙ there) in
-    IsIn-filter (λ j. is_some (decision_at kept j)) k (keys_of kept.entries) some (subst (λ j. IsIn j (keys_of kept.entries)) (sym (eqb-true k found.item found.passes)) found.is_in)
+    IsIn-filter (λ j. is_some (decision_at kept j)) k (keys_of kept.entries) some
+    (subst (λ j. IsIn j (keys_of kept.entries)) (sym (eqb-true k found.item found.passes)) found.is_in)
 
 -- and among the wires
 
@@ -107,11 +109,13 @@ decided-wires got k h =
     let t = from_filter_map (decision_of k) v.0 got v.1 in
     IsIn-filter_map decided_instance t.source k got (has_instance t.source k v.0 t.gives) t.is_in
 
-pub last_decided-is : (values : List Value) (kept : Kept) (got : List Wire) → ((k : ℕ) → NamesDecision values (decision_at kept k) (decided got k)) → reduce max (decided_instances kept) ≡ last_decided got
+pub last_decided-is : (values : List Value) (kept : Kept) (got : List Wire) →
+    ((k : ℕ) → NamesDecision values (decision_at kept k) (decided got k)) → reduce max (decided_instances kept) ≡ last_decided got
 unfolding last_decided
 last_decided-is values kept got names =
     same_largest (decided_instances kept) (filter_map decided_instance got)
-    (λ k h. decided-wires got k (sym (named_is_some values (decision_at kept k) (decided got k) (names k)) ∙ IsIn-filter_passes (λ j. is_some (decision_at kept j)) k (keys_of kept.entries) h))
+    (λ k h. decided-wires got k (sym (named_is_some values (decision_at kept k) (decided got k) (names k))
+    ∙ IsIn-filter_passes (λ j. is_some (decision_at kept j)) k (keys_of kept.entries) h))
     (λ k h. in-entries kept k (named_is_some values (decision_at kept k) (decided got k) (names k) ∙ wires-decided got k h))
 
 pub if_this : {A : Type 0} (w : Rehearsal) (p : ℕ) (x : Option A) → is_member w.setting.members p ≡ true → x ≡ if_member w p x

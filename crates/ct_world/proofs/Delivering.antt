@@ -1,5 +1,6 @@
 -- Deliver: why it is refused, by the seat, and the seat after it.
-use Rattle.std.proofs.Common.{◌≡◌, ℕ, ◌+◌, ◌-◌, ◌≤◌, ◌<◌, Bool, true, false, not, List, [], ◌∷◌, ◌++◌, length, set, refl, ap, sym, ◌∙◌, subst, arith, append-nil, slice_get, Option, Some, None, Bor}
+use Rattle.std.proofs.Common.{◌≡◌, ℕ, ◌+◌, ◌-◌, ◌≤◌, ◌<◌, Bool, true, false, not, List, [], ◌∷◌, ◌++◌, length, set, refl, ap, sym, ◌∙◌}
+use Rattle.std.proofs.Common.{subst, arith, append-nil, slice_get, Option, Some, None, Bor}
 use Rattle.std.specs.Prelude.{option_copied, nat_lt, is_some, is_none, if◌then◌else◌}
 use Rattle.std.specs.Option.{option_map_or}
 use Rattle.std.proofs.lemmas.Bool.Decides.{nat_tests}
@@ -45,10 +46,13 @@ use Rattle.ct_world.proofs.Proposing.{copied-some, open-same, delivered-same}
 use Rattle.ct_world.proofs.Refines.{refined}
 
 -- the decision of the last instance, by number and by value
-pub decision-same : (n : ℕ) (values : List Value) (p : ℕ) (m : Member) (seat : Seat) → Keeps n values p m seat → NamesDecision values (decision_at seat.instances seat.instances.last) (decided m.got m.last)
-decision-same n values p m seat k = subst (λ i. NamesDecision values (decision_at seat.instances seat.instances.last) (decided m.got i)) k.instances.last (k.instances.decisions seat.instances.last)
+pub decision-same : (n : ℕ) (values : List Value) (p : ℕ) (m : Member) (seat : Seat) → Keeps n values p m seat →
+    NamesDecision values (decision_at seat.instances seat.instances.last) (decided m.got m.last)
+decision-same n values p m seat k = subst (λ i. NamesDecision values (decision_at seat.instances seat.instances.last) (decided m.got i))
+    k.instances.last (k.instances.decisions seat.instances.last)
 
-pub batch-same : (n : ℕ) (values : List Value) (p : ℕ) (m : Member) (seat : Seat) (v : Value) → Keeps n values p m seat → cast_batch seat.caster v ≡ batch_of m v
+pub batch-same : (n : ℕ) (values : List Value) (p : ℕ) (m : Member) (seat : Seat) (v : Value) → Keeps n values p m seat →
+    cast_batch seat.caster v ≡ batch_of m v
 unfolding batch_of
 batch-same n values p m seat v k = ap (λ list. ordered (minus v list)) (delivered-same n values p m seat k)
 
@@ -66,30 +70,41 @@ module _ (w : Rehearsal) (p : ℕ) (seat : Seat) (a : IsActor w p seat) where
 
   pub deliver_idle : is_some seat.instances.part ≡ false → cause w (Deliver p) ≡ Some Idle
   deliver_idle e =
-      let none : is_none (member (state_of w) p).current ≡ true = some-none-test (member (state_of w) p).current ∙ ap not (sym open_is ∙ e) in
-      cause-tested w (Deliver p) Idle a.present (ap first_fault (own_tests-is w (Deliver p)) ∙ ap (λ b. first_fault (at Idle b ∷ option_map_or (λ (c : Standing). at Undecided (is_none (decided (member (state_of w) p).got (member (state_of w) p).last)) ∷ []) (member (state_of w) p).current [])) none)
+      let none : is_none (member (state_of w) p).current ≡ true =
+      some-none-test (member (state_of w) p).current ∙ ap not (sym open_is ∙ e) in
+      cause-tested w (Deliver p) Idle a.present (ap first_fault (own_tests-is w (Deliver p))
+      ∙ ap (λ b. first_fault (at Idle b ∷ option_map_or (λ (c : Standing). at Undecided
+      (is_none (decided (member (state_of w) p).got (member (state_of w) p).last)) ∷ []) (member (state_of w) p).current [])) none)
 
-  decision_is : is_some (decision_at seat.instances seat.instances.last) ≡ is_some (decided (member (state_of w) p).got (member (state_of w) p).last)
-  decision_is = named_is_some (values_of (state_of w)) (decision_at seat.instances seat.instances.last) (decided (member (state_of w) p).got (member (state_of w) p).last) (decision-same w.setting.members (values_of (state_of w)) p (member (state_of w) p) seat a.sits.keeps)
+  decision_is : is_some (decision_at seat.instances seat.instances.last)
+      ≡ is_some (decided (member (state_of w) p).got (member (state_of w) p).last)
+  decision_is = named_is_some (values_of (state_of w)) (decision_at seat.instances seat.instances.last)
+      (decided (member (state_of w) p).got (member (state_of w) p).last)
+      (decision-same w.setting.members (values_of (state_of w)) p (member (state_of w) p) seat a.sits.keeps)
 
-  tests-by : (b : Bool) → is_some seat.instances.part ≡ true → is_some (decision_at seat.instances seat.instances.last) ≡ b → first_fault (own_tests w (Deliver p)) ≡ first_fault (at Undecided (not b) ∷ [])
+  tests-by : (b : Bool) → is_some seat.instances.part ≡ true → is_some (decision_at seat.instances seat.instances.last) ≡ b →
+      first_fault (own_tests w (Deliver p)) ≡ first_fault (at Undecided (not b) ∷ [])
   tests-by b e f =
       let c = standing-there (member (state_of w) p).current (sym open_is ∙ e) in
-      tests-deliver w p c.0 c.1 ∙ ap (λ b. first_fault (at Undecided b ∷ [])) (some-none-test (decided (member (state_of w) p).got (member (state_of w) p).last) ∙ ap not (sym decision_is ∙ f))
+      tests-deliver w p c.0 c.1 ∙ ap (λ b. first_fault (at Undecided b ∷ []))
+      (some-none-test (decided (member (state_of w) p).got (member (state_of w) p).last) ∙ ap not (sym decision_is ∙ f))
 
-  pub deliver_undecided : is_some seat.instances.part ≡ true → is_some (decision_at seat.instances seat.instances.last) ≡ false → cause w (Deliver p) ≡ Some Undecided
+  pub deliver_undecided : is_some seat.instances.part ≡ true → is_some (decision_at seat.instances seat.instances.last) ≡ false →
+      cause w (Deliver p) ≡ Some Undecided
   deliver_undecided e f = cause-tested w (Deliver p) Undecided a.present (tests-by false e f)
 
   batches_are : length seat.caster.batches ≡ length (member (state_of w) p).batches
   batches_are = ap length a.sits.keeps.batches ∙ length-map (member (state_of w) p).batches (λ (b : Batch). b.messages)
 
-  pub deliver_full : is_some seat.instances.part ≡ true → is_some (decision_at seat.instances seat.instances.last) ≡ true → w.cells ≤ length seat.caster.batches → cause w (Deliver p) ≡ Some (Full Cells)
+  pub deliver_full : is_some seat.instances.part ≡ true → is_some (decision_at seat.instances seat.instances.last) ≡ true →
+      w.cells ≤ length seat.caster.batches → cause w (Deliver p) ≡ Some (Full Cells)
   deliver_full e f many =
       let number = batches_are in
       let t : nat_lt w.cells (length (member (state_of w) p).batches + 1) ≡ true = grind (arith, nat_tests) in
       cause-deliver w p a.lawful a.present (tests-by true e f) ∙ ap (λ b. or_else (first_fault (at (Full Cells) b ∷ [])) (overflow w 0)) t
 
-  pub deliver_free : is_some seat.instances.part ≡ true → is_some (decision_at seat.instances seat.instances.last) ≡ true → length seat.caster.batches < w.cells → cause w (Deliver p) ≡ overflow w 0
+  pub deliver_free : is_some seat.instances.part ≡ true → is_some (decision_at seat.instances seat.instances.last) ≡ true →
+      length seat.caster.batches < w.cells → cause w (Deliver p) ≡ overflow w 0
   deliver_free e f few =
       let number = batches_are in
       let t : nat_lt w.cells (length (member (state_of w) p).batches + 1) ≡ false = grind (arith, nat_tests) in
@@ -133,15 +148,19 @@ delivered_keeps n values p m seat new v k d = keeps-roomier n values p (deliver 
 pub record IsDueAt (w : Rehearsal) (p : ℕ) (values : List Value) (seat : Seat) : Type 0 where
   pub is_open : is_some seat.instances.part ≡ true
   pub decided_there : is_some (decision_at seat.instances seat.instances.last) ≡ true
-  pub value : (id : ℕ) → decision_at seat.instances seat.instances.last ≡ Some id → (v : Value) × (decided (member (state_of w) p).got (member (state_of w) p).last ≡ Some v) × (value_at values id ≡ Some v)
+  pub value : (id : ℕ) → decision_at seat.instances seat.instances.last ≡ Some id →
+      (v : Value) × (decided (member (state_of w) p).got (member (state_of w) p).last ≡ Some v) × (value_at values id ≡ Some v)
 
-pub due : (w : Rehearsal) (p : ℕ) (values : List Value) (seat : Seat) → IsDeliverStep w p → Keeps w.setting.members values p (member (state_of w) p) seat → IsDueAt w p values seat
+pub due : (w : Rehearsal) (p : ℕ) (values : List Value) (seat : Seat) → IsDeliverStep w p →
+    Keeps w.setting.members values p (member (state_of w) p) seat → IsDueAt w p values seat
 due w p values seat step k =
     let same = decision-same w.setting.members values p (member (state_of w) p) seat k in
     record {
       is_open = open-same w.setting.members values p (member (state_of w) p) seat k ∙ ap is_some step.is_open;
-      decided_there = named_is_some values (decision_at seat.instances seat.instances.last) (decided (member (state_of w) p).got (member (state_of w) p).last) same ∙ ap is_some step.decision;
-      value = λ id e. named_some values id (decision_at seat.instances seat.instances.last) (decided (member (state_of w) p).got (member (state_of w) p).last) same e;
+      decided_there = named_is_some values (decision_at seat.instances seat.instances.last)
+          (decided (member (state_of w) p).got (member (state_of w) p).last) same ∙ ap is_some step.decision;
+      value = λ id e. named_some values id (decision_at seat.instances seat.instances.last)
+          (decided (member (state_of w) p).got (member (state_of w) p).last) same e;
     }
 
 -- a Deliver delivers the decision and closes the instance
@@ -166,18 +185,22 @@ deliver_steps w p f new id v seat ready number value delivered seats sent lines 
     }) refl sent lines)
 
 -- the decision of the last instance at a seat, as it is read there
-pub number_at : (old s : Seat) (k : ℕ) (d : Option ℕ) → s ≡ old → k ≡ s.instances.last → d ≡ decision_at s.instances k → d ≡ decision_at old.instances old.instances.last
-number_at old s k d here last number = number ∙ ap (decision_at s.instances) last ∙ ap (λ (x : Seat). decision_at x.instances x.instances.last) here
+pub number_at : (old s : Seat) (k : ℕ) (d : Option ℕ) → s ≡ old → k ≡ s.instances.last → d ≡ decision_at s.instances k →
+    d ≡ decision_at old.instances old.instances.last
+number_at old s k d here last number = number ∙ ap (decision_at s.instances) last
+    ∙ ap (λ (x : Seat). decision_at x.instances x.instances.last) here
 
 -- what is due where a Deliver is allowed
 pub due_at : (w : Rehearsal) (p : ℕ) (f : Fields) → IsAllowed w (Deliver p) f → IsDueAt w p f.book.values (seat_of f.seats p)
 due_at w p f a = due w p f.book.values (seat_of f.seats p) (deliver_taken w p a.world.lawful a.allowed) (a.world.seat p a.in_group)
 
 pub prepared_due : (w : Rehearsal) (p : ℕ) (f : Fields) → IsPrepared w (Deliver p) f → IsDueAt w p f.book.values (seat_of f.seats p)
-prepared_due w p f r = due w p f.book.values (seat_of f.seats p) (deliver_taken w p r.world.lawful r.ready.allowed) (r.world.seat p r.in_group)
+prepared_due w p f r = due w p f.book.values (seat_of f.seats p) (deliver_taken w p r.world.lawful r.ready.allowed)
+    (r.world.seat p r.in_group)
 
 -- the number that a call gives has a value
-pub value_there : (w : Rehearsal) (p : ℕ) (values : List Value) (seat : Seat) (id : ℕ) (r : Option (Bor Value)) → IsDueAt w p values seat → decision_at seat.instances seat.instances.last ≡ Some id → option_copied r ≡ slice_get values id → is_some r ≡ true
+pub value_there : (w : Rehearsal) (p : ℕ) (values : List Value) (seat : Seat) (id : ℕ) (r : Option (Bor Value)) → IsDueAt w p values seat →
+    decision_at seat.instances seat.instances.last ≡ Some id → option_copied r ≡ slice_get values id → is_some r ≡ true
 value_there w p values seat id r d number got = sym (copied-some r (slice_get values id) got) ∙ ap is_some (d.value id number).2
 
 -- the room that was made for a Deliver

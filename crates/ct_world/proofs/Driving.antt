@@ -1,5 +1,6 @@
 -- What a driver does next at a member.
-use Rattle.std.proofs.Common.{◌≡◌, ℕ, Bool, true, false, cond, List, [], ◌∷◌, ◌++◌, Option, Some, None, Result, Ok, Err, Bor, find, flat_map, map, option_map, option_and_then, is_none, refl, ap, sym, ◌∙◌, subst}
+use Rattle.std.proofs.Common.{◌≡◌, ℕ, Bool, true, false, cond, List, [], ◌∷◌, ◌++◌, Option, Some, None, Result, Ok, Err, Bor, find}
+use Rattle.std.proofs.Common.{flat_map, map, option_map, option_and_then, is_none, refl, ap, sym, ◌∙◌, subst}
 use Rattle.std.specs.Prelude.{MatchResult}
 use Rattle.std.specs.Option.{option_to_list}
 use Rattle.std.specs.Result.{result_ok}
@@ -31,13 +32,17 @@ use Rattle.ct_world.specs.World.{member_of}
 best-map : {V U : Type 0} (f : V → U) (t : Ballots V) → best (ballots_map f t) ≡ best t
 best-map {V} f t = go t.estimates
   where
-    go : (es : List (Heard V)) → option_map (λ e. e.member) (find (λ e. is_largest (ballots_map f t) e.ts) (map (heard_map f) es)) ≡ option_map (λ e. e.member) (find (λ e. is_largest t e.ts) es)
+    go : (es : List (Heard V)) → option_map (λ e. e.member) (find (λ e. is_largest (ballots_map f t) e.ts) (map (heard_map f) es))
+        ≡ option_map (λ e. e.member) (find (λ e. is_largest t e.ts) es)
     go [] = refl
     go (e ∷ es) = by (is_largest t e.ts) (is_largest-map f t e.ts) (go es)
       where
         by : (b : Bool) → is_largest (ballots_map f t) e.ts ≡ b
-            → option_map (λ e. e.member) (find (λ e. is_largest (ballots_map f t) e.ts) (map (heard_map f) es)) ≡ option_map (λ e. e.member) (find (λ e. is_largest t e.ts) es)
-            → option_map (λ e. e.member) (cond (is_largest (ballots_map f t) e.ts) (Some (heard_map f e)) (find (λ e. is_largest (ballots_map f t) e.ts) (map (heard_map f) es))) ≡ option_map (λ e. e.member) (cond b (Some e) (find (λ e. is_largest t e.ts) es))
+            → option_map (λ e. e.member) (find (λ e. is_largest (ballots_map f t) e.ts) (map (heard_map f) es))
+            ≡ option_map (λ e. e.member) (find (λ e. is_largest t e.ts) es)
+            → option_map (λ e. e.member) (cond (is_largest (ballots_map f t) e.ts) (Some (heard_map f e))
+            (find (λ e. is_largest (ballots_map f t) e.ts) (map (heard_map f) es)))
+            ≡ option_map (λ e. e.member) (cond b (Some e) (find (λ e. is_largest t e.ts) es))
         by true is later = rw is refl
         by false is later = rw is later
 
@@ -55,9 +60,11 @@ module _ (w : Rehearsal) (p : ℕ) (seat : Seat) (a : IsActor w p seat) where
   -- the best one that its seat has is the best one that it heard
   pub best_heard-is : option_and_then (λ c. best (got (open_rounds seat.instances) c)) seat.instances.part ≡ best_heard (member_of w p)
   best_heard-is =
-      go seat.instances.part (member_of w p).current (keeps-round w.setting (values_of (state_of w)) p (member_of w p) seat.instances a.sits.keeps.instances)
+      go seat.instances.part (member_of w p).current (keeps-round w.setting (values_of (state_of w)) p (member_of w p) seat.instances
+      a.sits.keeps.instances)
     where
-      go : (o : Option Part) (u : Option Standing) → option_map {U = ℕ} (λ c. c.standing.round) o ≡ option_map (λ c. c.round) u → option_and_then (λ c. best (got (open_rounds seat.instances) c)) o ≡ option_and_then (λ c. best (own_ballots (member_of w p) c)) u
+      go : (o : Option Part) (u : Option Standing) → option_map {U = ℕ} (λ c. c.standing.round) o ≡ option_map (λ c. c.round) u →
+          option_and_then (λ c. best (got (open_rounds seat.instances) c)) o ≡ option_and_then (λ c. best (own_ballots (member_of w p) c)) u
       go None None e = refl
       go None (Some x) e = absurd (cc)
       go (Some c) None e = absurd (cc)
@@ -68,9 +75,25 @@ module _ (w : Rehearsal) (p : ℕ) (seat : Seat) (a : IsActor w p seat) where
 -- the member may take no step
 
 module _ (w : Rehearsal) (p : ℕ) (refusal : Refusal) (a : IsAbsent w p refusal) where
-  refused : (o : Option ℕ) → find (λ step. is_none (cause w step)) ((Deliver p ∷ Begin p ∷ []) ++ option_to_list (option_map (Choose p) o) ++ (Adopt p ∷ Conclude p ∷ Enter p ∷ Suspect p ∷ [])) ≡ None
-  refused None = rw (cause-absent w (Deliver p) refusal a, cause-absent w (Begin p) refusal a, cause-absent w (Adopt p) refusal a, cause-absent w (Conclude p) refusal a, cause-absent w (Enter p) refusal a, cause-absent w (Suspect p) refusal a) refl
-  refused (Some q) = rw (cause-absent w (Deliver p) refusal a, cause-absent w (Begin p) refusal a, cause-absent w (Choose p q) refusal a, cause-absent w (Adopt p) refusal a, cause-absent w (Conclude p) refusal a, cause-absent w (Enter p) refusal a, cause-absent w (Suspect p) refusal a) refl
+  refused : (o : Option ℕ) → find (λ step. is_none (cause w step))
+      ((Deliver p ∷ Begin p ∷ []) ++ option_to_list (option_map (Choose p) o) ++ (Adopt p ∷ Conclude p ∷ Enter p ∷ Suspect p ∷ [])) ≡ None
+  refused None = rw (
+    cause-absent w (Deliver p) refusal a,
+    cause-absent w (Begin p) refusal a,
+    cause-absent w (Adopt p) refusal a,
+    cause-absent w (Conclude p) refusal a,
+    cause-absent w (Enter p) refusal a,
+    cause-absent w (Suspect p) refusal a,
+  ) refl
+  refused (Some q) = rw (
+    cause-absent w (Deliver p) refusal a,
+    cause-absent w (Begin p) refusal a,
+    cause-absent w (Choose p q) refusal a,
+    cause-absent w (Adopt p) refusal a,
+    cause-absent w (Conclude p) refusal a,
+    cause-absent w (Enter p) refusal a,
+    cause-absent w (Suspect p) refusal a,
+  ) refl
 
   -- so none is next
   pub next_local-absent : next_local w p ≡ None
@@ -92,5 +115,9 @@ module _ (w : Rehearsal) (p : ℕ) where
 
   -- the candidates, one after the other
   pub next_local-is : (choice : Option Step) → choice ≡ option_map (Choose p) (best_heard (member_of w p))
-      → find (λ step. is_none (cause w step)) (flat_map option_to_list (Some (Deliver p) ∷ Some (Begin p) ∷ choice ∷ Some (Adopt p) ∷ Some (Conclude p) ∷ Some (Enter p) ∷ Some (Suspect p) ∷ [])) ≡ next_local w p
-  next_local-is choice e = ap (λ o. find (λ step. is_none (cause w step)) (flat_map option_to_list (Some (Deliver p) ∷ Some (Begin p) ∷ o ∷ Some (Adopt p) ∷ Some (Conclude p) ∷ Some (Enter p) ∷ Some (Suspect p) ∷ []))) e
+      → find (λ step. is_none (cause w step)) (flat_map option_to_list
+      (Some (Deliver p) ∷ Some (Begin p) ∷ choice ∷ Some (Adopt p) ∷ Some (Conclude p) ∷ Some (Enter p) ∷ Some (Suspect p) ∷ []))
+      ≡ next_local w p
+  next_local-is choice e = ap (λ o. find (λ step. is_none (cause w step))
+      (flat_map option_to_list (Some (Deliver p) ∷ Some (Begin p) ∷ o ∷ Some (Adopt p) ∷ Some (Conclude p) ∷ Some (Enter p)
+      ∷ Some (Suspect p) ∷ []))) e

@@ -1,5 +1,6 @@
 -- The seat of the least of the members that delivered most batches.
-use Rattle.std.proofs.Common.{◌≡◌, ℕ, ◌+◌, ◌-◌, ◌<◌, ◌≤◌, Bool, true, false, List, [], ◌∷◌, ◌++◌, length, map, get_or, take, refl, ap, sym, ◌∙◌, subst, arith}
+use Rattle.std.proofs.Common.{◌≡◌, ℕ, ◌+◌, ◌-◌, ◌<◌, ◌≤◌, Bool, true, false, List, [], ◌∷◌, ◌++◌, length, map, get_or, take, refl, ap, sym}
+use Rattle.std.proofs.Common.{◌∙◌, subst, arith}
 use Rattle.std.specs.Prelude.{nat_lt, if◌then◌else◌}
 use Rattle.std.proofs.lemmas.Bool.Decides.{nat_tests}
 use Rattle.std.proofs.lemmas.List.{length-map, map_more, take_all, get_or-map, get_or_read, same_lists}
@@ -14,27 +15,37 @@ use Rattle.ct_world.specs.declared.seat.Seat.{Seat}
 use Rattle.ct_world.specs.Kept.{Fields, IsWorld, no_seat}
 
 -- the longest of lists with one more at the end
-longest-push : {A : Type 0} (lists : List (List A)) (best last : List A) → longest best (lists ++ last ∷ []) ≡ (if nat_lt (length (longest best lists)) (length last) then last else longest best lists)
+longest-push : {A : Type 0} (lists : List (List A)) (best last : List A) →
+    longest best (lists ++ last ∷ []) ≡ (if nat_lt (length (longest best lists)) (length last) then last else longest best lists)
 longest-push [] best last = refl
-longest-push {A} (list ∷ lists) best last = go (nat_lt (length best) (length list)) (longest-push lists list last) (longest-push lists best last)
+longest-push {A} (list ∷ lists) best last = go (nat_lt (length best) (length list)) (longest-push lists list last)
+    (longest-push lists best last)
   where
-    go : (b : Bool) → longest list (lists ++ last ∷ []) ≡ (if nat_lt (length (longest list lists)) (length last) then last else longest list lists)
+    go : (b : Bool) → longest list (lists ++ last ∷ []) ≡ (if nat_lt (length (longest list lists)) (length last) then last
+        else longest list lists)
         → longest best (lists ++ last ∷ []) ≡ (if nat_lt (length (longest best lists)) (length last) then last else longest best lists)
-        → (if b then longest list (lists ++ last ∷ []) else longest best (lists ++ last ∷ [])) ≡ (if nat_lt (length (if b then longest list lists else longest best lists)) (length last) then last else (if b then longest list lists else longest best lists))
+        → (if b then longest list (lists ++ last ∷ []) else longest best (lists ++ last ∷ []))
+        ≡ (if nat_lt (length (if b then longest list lists else longest best lists)) (length last) then last
+        else (if b then longest list lists else longest best lists))
     go true new old = new
     go false new old = old
 
 longest-one : {A : Type 0} (list : List A) → longest [] (list ∷ []) ≡ list
 longest-one [] = refl
-longest-one (x ∷ list) = let test : nat_lt 0 (length (x ∷ list)) ≡ true = grind (arith, nat_tests) in ap (λ b. if b then x ∷ list else []) test
+longest-one (x ∷ list) = let test : nat_lt 0 (length (x ∷ list)) ≡ true = grind (arith, nat_tests) in
+    ap (λ b. if b then x ∷ list else []) test
 
 -- the longest of the images is the image of the longest
-longest-map : {A B : Type 0} (f : A → B) (lists : List (List A)) (best : List A) → longest (map f best) (map (map f) lists) ≡ map f (longest best lists)
+longest-map : {A B : Type 0} (f : A → B) (lists : List (List A)) (best : List A) →
+    longest (map f best) (map (map f) lists) ≡ map f (longest best lists)
 longest-map f [] best = refl
-longest-map {A} {B} f (list ∷ lists) best = rw (length-map best f, length-map list f) (go (nat_lt (length best) (length list)) (longest-map f lists list) (longest-map f lists best))
+longest-map {A} {B} f (list ∷ lists) best = rw (length-map best f, length-map list f)
+    (go (nat_lt (length best) (length list)) (longest-map f lists list) (longest-map f lists best))
   where
-    go : (b : Bool) → longest (map f list) (map (map f) lists) ≡ map f (longest list lists) → longest (map f best) (map (map f) lists) ≡ map f (longest best lists)
-        → (if b then longest (map f list) (map (map f) lists) else longest (map f best) (map (map f) lists)) ≡ map f (if b then longest list lists else longest best lists)
+    go : (b : Bool) → longest (map f list) (map (map f) lists) ≡ map f (longest list lists) →
+        longest (map f best) (map (map f) lists) ≡ map f (longest best lists)
+        → (if b then longest (map f list) (map (map f) lists) else longest (map f best) (map (map f) lists))
+        ≡ map f (if b then longest list lists else longest best lists)
     go true new old = new
     go false new old = old
 
@@ -55,7 +66,8 @@ foremost-first [] h = absurd (omega arith)
 foremost-first (s ∷ seats) h = record { before = omega arith; is = longest-one s.caster.batches }
 
 module _ (seats : List Seat) (i best : ℕ) (foremost : IsForemost seats i best) (within : i < length seats) where
-  one_more : longest [] (all_batches (take (i + 1) seats)) ≡ (if nat_lt (length (batches_at seats best)) (length (batches_at seats i)) then batches_at seats i else batches_at seats best)
+  one_more : longest [] (all_batches (take (i + 1) seats)) ≡ (if nat_lt (length (batches_at seats best)) (length (batches_at seats i))
+      then batches_at seats i else batches_at seats best)
   one_more =
       ap (longest []) (map_more (λ (s : Seat). s.caster.batches) seats i no_seat within)
       ∙ longest-push (all_batches (take i seats)) [] (batches_at seats i)
@@ -73,7 +85,8 @@ module _ (seats : List Seat) (i best : ℕ) (foremost : IsForemost seats i best)
       record { before = omega arith; is = one_more ∙ ap (λ b. if b then batches_at seats i else batches_at seats best) test }
 
 -- the batches of a seat that is read
-pub batches_read : (seats : List Seat) (i : ℕ) (s : Seat) → i < length seats → s ≡ get_or seats i s → length s.caster.batches ≡ length (batches_at seats i)
+pub batches_read : (seats : List Seat) (i : ℕ) (s : Seat) → i < length seats → s ≡ get_or seats i s →
+    length s.caster.batches ≡ length (batches_at seats i)
 batches_read seats i s within is = ap (λ (x : Seat). length x.caster.batches) (get_or_read seats i s within is no_seat)
 
 abbrev messages : List Batch → List (List Message)
@@ -85,15 +98,19 @@ module _ (w : Rehearsal) (f : Fields) (world : IsWorld w f) where
   place_is k h =
       let same : k + 1 - 1 ≡ k = omega arith in
       let group : is_member w.setting.members (k + 1) ≡ true = grind (arith, nat_tests) in
-      subst (λ j. batches_at f.seats j ≡ messages (get_or (state_of w).members j new_member).batches) same (world.seat (k + 1) group).batches
+      subst (λ j. batches_at f.seats j ≡ messages (get_or (state_of w).members j new_member).batches) same
+      (world.seat (k + 1) group).batches
 
   batches_are : all_batches f.seats ≡ map messages (map (λ (m : Member). m.batches) (state_of w).members)
   batches_are =
       let seated : length f.seats ≡ w.setting.members = world.seated in
       let size : length (state_of w).members ≡ w.setting.members = world.lawful.size in
       let left : length (all_batches f.seats) ≡ length f.seats = length-map f.seats (λ (s : Seat). s.caster.batches) in
-      let lists : length (map (λ (m : Member). m.batches) (state_of w).members) ≡ length (state_of w).members = length-map (state_of w).members (λ (m : Member). m.batches) in
-      let right : length (map messages (map (λ (m : Member). m.batches) (state_of w).members)) ≡ length (map (λ (m : Member). m.batches) (state_of w).members) = length-map (map (λ (m : Member). m.batches) (state_of w).members) messages in
+      let lists : length (map (λ (m : Member). m.batches) (state_of w).members) ≡ length (state_of w).members =
+      length-map (state_of w).members (λ (m : Member). m.batches) in
+      let right : length (map messages (map (λ (m : Member). m.batches) (state_of w).members))
+      ≡ length (map (λ (m : Member). m.batches) (state_of w).members) =
+      length-map (map (λ (m : Member). m.batches) (state_of w).members) messages in
       same_lists (all_batches f.seats) (map messages (map (λ (m : Member). m.batches) (state_of w).members)) (omega arith)
       (λ k d h.
       get_or-map (λ (s : Seat). s.caster.batches) f.seats k no_seat d (omega arith)
@@ -114,7 +131,8 @@ module _ (w : Rehearsal) (f : Fields) (world : IsWorld w f) where
 
     pub foremost-few : length (batches_at f.seats best) ≤ MAX_CELLS
     foremost-few =
-        let same : length (batches_at f.seats best) ≡ length (order (state_of w)) = ap length foremost-order ∙ length-map (order (state_of w)) (λ (b : Batch). b.messages) in
+        let same : length (batches_at f.seats best) ≡ length (order (state_of w)) =
+        ap length foremost-order ∙ length-map (order (state_of w)) (λ (b : Batch). b.messages) in
         let few : length (order (state_of w)) ≤ w.cells = world.lawful.within.few_batches in
         let cells : w.cells ≤ MAX_CELLS = world.few_cells in
         omega arith

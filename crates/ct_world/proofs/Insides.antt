@@ -1,5 +1,6 @@
 -- The fields of a world, taken together.
-use Rattle.std.proofs.Common.{◌≡◌, ℕ, ◌+◌, ◌-◌, ◌<◌, ◌≤◌, true, List, [], ◌∷◌, ◌++◌, length, get_or, refl, ap, ◌∙◌, sym, subst, Some, None, Option, arith}
+use Rattle.std.proofs.Common.{◌≡◌, ℕ, ◌+◌, ◌-◌, ◌<◌, ◌≤◌, true, List, [], ◌∷◌, ◌++◌, length, get_or, refl, ap, ◌∙◌, sym, subst, Some, None}
+use Rattle.std.proofs.Common.{Option, arith}
 use Rattle.std.specs.Prelude.{option_map, is_some, vec_len, vec_capacity}
 use Rattle.ct_names.specs.Group.{is_member}
 use Rattle.ct_model.specs.declared.step.Step.{Step}
@@ -96,26 +97,33 @@ there_in a v step o view prepared same = ap is_some same ∙ sym (mapped_there s
 pub within_in : (a : Inside) (step : Step) → IsPreparedIn a step → actor step - 1 < vec_len a.seats
 within_in a step p = let within = p.within in omega (arith, a.seats.ok.0)
 
-pub seat_in : (a : Inside) (step : Step) (s : Seat) → IsPreparedIn a step → s ≡ get_or a.seats.items (actor step - 1) s → s ≡ seat_of a.seats.items (actor step)
+pub seat_in : (a : Inside) (step : Step) (s : Seat) → IsPreparedIn a step → s ≡ get_or a.seats.items (actor step - 1) s →
+    s ≡ seat_of a.seats.items (actor step)
 seat_in a step s p e = seat_found a.seats.items (actor step) s p.within e
 
 -- the step is done
-done_of : (w : Rehearsal) (v : WorldView) (prepared : Option Step) (step : Step) (o : Outcome) (new : Rehearsal) (f : Fields) (more : ℕ) → record { rehearsal = w; prepared = prepared } ≡ v → new ≡ extended w step → IsWorld w f → IsTaken w step o → length (envelopes w.setting.members o.mail) ≡ more → IsDone v.rehearsal step new more
+done_of : (w : Rehearsal) (v : WorldView) (prepared : Option Step) (step : Step) (o : Outcome) (new : Rehearsal) (f : Fields) (more : ℕ) →
+    record { rehearsal = w; prepared = prepared } ≡ v → new ≡ extended w step → IsWorld w f → IsTaken w step o →
+    length (envelopes w.setting.members o.mail) ≡ more → IsDone v.rehearsal step new more
 done_of w v prepared step o new f more view is world taken number =
     subst (λ r. IsDone r step new more) (ap (λ (x : WorldView). x.rehearsal) view) (record {
       joined = is;
       next = next-step w step o world.lawful taken ∙ ap (λ g. Some g) (sym (state-step w step o world.lawful taken) ∙ ap state_of (sym is));
-      sent_more = ap (λ r. length (state_of r).sent) is ∙ ap (λ (g : State). length g.sent) (state-step w step o world.lawful taken) ∙ length-after-sent w.setting (state_of w) (actor step) o ∙ ap (λ k. length (state_of w).sent + k) number;
+      sent_more = ap (λ r. length (state_of r).sent) is ∙ ap (λ (g : State). length g.sent) (state-step w step o world.lawful taken)
+          ∙ length-after-sent w.setting (state_of w) (actor step) o ∙ ap (λ k. length (state_of w).sent + k) number;
     })
 
 -- the step is done, where the record has it at its end
-pub done_in : (a : Inside) (v : WorldView) (step : Step) (o : Outcome) (steps : List Step) (more : ℕ) → view_in a ≡ v → IsPreparedIn a step → steps ≡ a.record.items ++ step ∷ [] → IsTaken (rehearsal_in a) step o → length (envelopes a.group o.mail) ≡ more → IsDone v.rehearsal step (record (rehearsal_in a) { steps = steps }) more
+pub done_in : (a : Inside) (v : WorldView) (step : Step) (o : Outcome) (steps : List Step) (more : ℕ) → view_in a ≡ v →
+    IsPreparedIn a step → steps ≡ a.record.items ++ step ∷ [] → IsTaken (rehearsal_in a) step o → length (envelopes a.group o.mail) ≡ more →
+    IsDone v.rehearsal step (record (rehearsal_in a) { steps = steps }) more
 done_in a v step o steps more view p pushed taken number =
     done_of (rehearsal_in a) v (option_map step_in a.prepared) step o (record (rehearsal_in a) { steps = steps }) (fields_in a) more view
     (ap (λ ss. record (rehearsal_in a) { steps = ss }) pushed) p.world taken number
 
 -- a world with one step more and none prepared
-pub kept_in : (a : Inside) (step : Step) (steps : List Step) (f : Fields) → steps ≡ a.record.items ++ step ∷ [] → IsWorld (extended (rehearsal_in a) step) f → IsKept (record (rehearsal_in a) { steps = steps }) None f
+pub kept_in : (a : Inside) (step : Step) (steps : List Step) (f : Fields) → steps ≡ a.record.items ++ step ∷ [] →
+    IsWorld (extended (rehearsal_in a) step) f → IsKept (record (rehearsal_in a) { steps = steps }) None f
 kept_in a step steps f pushed world = record {
   world = subst (λ ss. IsWorld (record (rehearsal_in a) { steps = ss }) f) (sym pushed) world;
   ready = λ x e. some-none x e;

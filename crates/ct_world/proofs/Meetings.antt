@@ -18,23 +18,31 @@ record IsThere (list : List Batch) (n : ℕ) (messages : List Message) : Type 0 
   at : slice_get list n ≡ Some batch
   has : batch.messages ≡ messages
 
-there : (list : List Batch) (n : ℕ) (messages : List Message) → slice_get (map (λ (b : Batch). b.messages) list) n ≡ Some messages → IsThere list n messages
+there : (list : List Batch) (n : ℕ) (messages : List Message) → slice_get (map (λ (b : Batch). b.messages) list) n ≡ Some messages →
+    IsThere list n messages
 there [] n messages e = some-none messages e
 there (x ∷ list) zero messages e = record { batch = x; at = refl; has = some-same x.messages messages e }
 there (x ∷ list) (suc n) messages e =
     let t = there list n messages e in
     record { batch = t.batch; at = t.at; has = t.has }
 
-same_batch : (b found : Batch) (instance : ℕ) (messages : List Message) → b.instance ≡ instance → b.messages ≡ messages → found ≡ record { instance = instance; messages = messages } → b ≡ found
+same_batch : (b found : Batch) (instance : ℕ) (messages : List Message) → b.instance ≡ instance → b.messages ≡ messages →
+    found ≡ record { instance = instance; messages = messages } → b ≡ found
 same_batch b found instance messages e f is = rw (sym e, sym f) at (sym is)
 
 -- the watcher found the next batch of the order
-pub finds_more : (w : Rehearsal) (old new : List (Option Batch)) (n : ℕ) (found : Batch) (messages : List Message) → run w.setting w.steps ≡ Some (state_of w) → slice_get (map (λ (b : Batch). b.messages) (order (state_of w))) n ≡ Some messages → found ≡ record { instance = n + 1; messages = messages } → KnowsBelow (order (state_of w)) old n → Keeps old new → Knows new n found → KnowsBelow (order (state_of w)) new (n + 1)
+pub finds_more : (w : Rehearsal) (old new : List (Option Batch)) (n : ℕ) (found : Batch) (messages : List Message) →
+    run w.setting w.steps ≡ Some (state_of w) → slice_get (map (λ (b : Batch). b.messages) (order (state_of w))) n ≡ Some messages →
+    found ≡ record { instance = n + 1; messages = messages } → KnowsBelow (order (state_of w)) old n → Keeps old new → Knows new n found →
+    KnowsBelow (order (state_of w)) new (n + 1)
 finds_more w old new n found messages runs here is before keeps known =
     let t = there (order (state_of w)) n messages here in
-    let same : t.batch ≡ found = same_batch t.batch found (n + 1) messages (order-instance w.setting w.steps (state_of w) runs n t.batch t.at) t.has is in
+    let same : t.batch ≡ found = same_batch t.batch found (n + 1) messages
+    (order-instance w.setting w.steps (state_of w) runs n t.batch t.at) t.has is in
     knows_more (order (state_of w)) old new n found before keeps known (t.at ∙ ap Some same)
 
 -- it found all of them
-pub is_met : (w : Rehearsal) (watcher : Watched) (n : ℕ) → length (order (state_of w)) ≤ n → KnowsBelow (order (state_of w)) watcher.notes n → watcher.read ≤ length (order (state_of w)) → watcher.told ≤ length (order (state_of w)) → IsMet (order (state_of w)) watcher
+pub is_met : (w : Rehearsal) (watcher : Watched) (n : ℕ) → length (order (state_of w)) ≤ n →
+    KnowsBelow (order (state_of w)) watcher.notes n → watcher.read ≤ length (order (state_of w)) →
+    watcher.told ≤ length (order (state_of w)) → IsMet (order (state_of w)) watcher
 is_met w watcher n all known read told = met (order (state_of w)) watcher (λ k b less at. known k b (omega arith) at) read told

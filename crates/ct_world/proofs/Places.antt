@@ -1,6 +1,8 @@
 -- The place of a serial in a line, and the line without it.
-use Rattle.std.proofs.Common.{subst, one-add, ◌≡◌, ℕ, suc, ◌+◌, ◌<◌, Bool, true, false, List, [], ◌∷◌, ◌++◌, length, refl, ap, sym, ◌∙◌, arith, Option, Some, None}
-use Rattle.std.specs.Prelude.{not, ◌==◌, ◌&&◌, ◌||◌, filter, position, remove, nat_lt, if◌then◌else◌, is_some, slice_index_or, Result, Ok, Err}
+use Rattle.std.proofs.Common.{subst, one-add, ◌≡◌, ℕ, suc, ◌+◌, ◌<◌, Bool, true, false, List, [], ◌∷◌, ◌++◌, length, refl, ap, sym, ◌∙◌}
+use Rattle.std.proofs.Common.{arith, Option, Some, None}
+use Rattle.std.specs.Prelude.{not, ◌==◌, ◌&&◌, ◌||◌, filter, position, remove, nat_lt, if◌then◌else◌, is_some, slice_index_or, Result, Ok}
+use Rattle.std.specs.Prelude.{Err}
 use Rattle.std.specs.List.{list_any, position_or_len}
 use Rattle.std.proofs.lemmas.Bool.Decides.{nat_tests}
 use Rattle.ct_names.specs.Group.{is_member}
@@ -46,12 +48,14 @@ none_left : (k : ℕ) (xs : List ℕ) → has_serial k xs ≡ false → filter (
 none_left k [] h = refl
 none_left k (x ∷ xs) h = go (x == k) h (none_left k xs)
   where
-    go : (b : Bool) → (b || has_serial k xs) ≡ false → (has_serial k xs ≡ false → filter (λ q. not (q == k)) xs ≡ xs) → (if (not b) then x ∷ filter (λ q. not (q == k)) xs else filter (λ q. not (q == k)) xs) ≡ x ∷ xs
+    go : (b : Bool) → (b || has_serial k xs) ≡ false → (has_serial k xs ≡ false → filter (λ q. not (q == k)) xs ≡ xs) →
+        (if (not b) then x ∷ filter (λ q. not (q == k)) xs else filter (λ q. not (q == k)) xs) ≡ x ∷ xs
     go true h ih = absurd (cc)
     go false h ih = ap (λ r. x ∷ r) (ih h)
 
 -- the first goes, and no other is like it
-same_first : (k x : ℕ) (xs : List ℕ) → true ≡ (x == k) → (not (has_serial x xs) && is_distinct xs) ≡ true → filter (λ q. not (q == k)) (x ∷ xs) ≡ xs
+same_first : (k x : ℕ) (xs : List ℕ) → true ≡ (x == k) → (not (has_serial x xs) && is_distinct xs) ≡ true →
+    filter (λ q. not (q == k)) (x ∷ xs) ≡ xs
 same_first k x xs is d =
     let e : x ≡ k = grind (arith, nat_tests) in
     let away : not (has_serial x xs) ≡ true = and_true_left (not (has_serial x xs)) (is_distinct xs) d in
@@ -81,13 +85,20 @@ pub without : (k : ℕ) (xs : List ℕ) → is_distinct xs ≡ true → has_seri
 without k [] d h = absurd (cc)
 without k (x ∷ xs) d h = go (x == k) refl h (without k xs (and_true_right (not (has_serial x xs)) (is_distinct xs) d))
   where
-    go : (b : Bool) → b ≡ (x == k) → (b || has_serial k xs) ≡ true → (has_serial k xs ≡ true → IsWithout k xs (position_or_len (λ q. q == k) xs)) → IsWithout k (x ∷ xs) (if (not b) then (1 + position_or_len (λ q. q == k) xs) else 0)
+    go : (b : Bool) → b ≡ (x == k) → (b || has_serial k xs) ≡ true →
+        (has_serial k xs ≡ true → IsWithout k xs (position_or_len (λ q. q == k) xs)) →
+        IsWithout k (x ∷ xs) (if (not b) then (1 + position_or_len (λ q. q == k) xs) else 0)
     go true is h ih =
         let e : x ≡ k = grind (arith, nat_tests) in
         record { within = omega arith; rest = sym (same_first k x xs is d); item = e }
     go false is h ih =
         let r = ih h in
-        record { within = omega (arith, r.within); rest = later x xs (position_or_len (λ q. q == k) xs) ∙ ap (λ l. x ∷ l) r.rest ∙ kept_first k x xs is; item = later_item x xs (position_or_len (λ q. q == k) xs) ∙ r.item }
+        record {
+          within = omega (arith, r.within);
+          rest = later x xs (position_or_len (λ q. q == k) xs) ∙ ap (λ l. x ∷ l) r.rest
+              ∙ kept_first k x xs is;
+          item = later_item x xs (position_or_len (λ q. q == k) xs) ∙ r.item;
+        }
 
 -- a serial that has a place is there
 pub stands-there : (k i : ℕ) (xs : List ℕ) → place_of k xs ≡ Some i → has_serial k xs ≡ true
@@ -104,7 +115,8 @@ some_same x y h = cc
 pub placed : (k i : ℕ) (xs : List ℕ) → place_of k xs ≡ Some i → is_distinct xs ≡ true → IsWithout k xs i
 placed k i xs is d =
     let there = stands-there k i xs is in
-    let e : position_or_len (λ q. q == k) xs ≡ i = some_same (position_or_len (λ q. q == k) xs) i (sym (position_is (λ q. q == k) xs there) ∙ is) in
+    let e : position_or_len (λ q. q == k) xs ≡ i = some_same (position_or_len (λ q. q == k) xs) i
+    (sym (position_is (λ q. q == k) xs there) ∙ is) in
     subst (λ j. IsWithout k xs j) e (without k xs d there)
 
 -- and with the serial at its end
@@ -112,12 +124,14 @@ pub put-is : (k i : ℕ) (xs : List ℕ) → IsWithout k xs i → put_last xs i 
 put-is k i xs a = λ j. a.rest j ++ a.item j ∷ []
 
 -- the serial's place in the network's line
-pub placed_in : (w : Rehearsal) (f : Fields) (p k i : ℕ) → IsWorld w f → is_member w.setting.members p ≡ true → StandsAt w p k i → IsWithout k (line_at f.network.lines p) i
+pub placed_in : (w : Rehearsal) (f : Fields) (p k i : ℕ) → IsWorld w f → is_member w.setting.members p ≡ true → StandsAt w p k i →
+    IsWithout k (line_at f.network.lines p) i
 placed_in w f p k i world group is =
     subst (λ line. IsWithout k line i) (sym (world.line p group)) (placed k i (line_of w p) is (world.lawful.distinct p))
 
 -- which the network finds
-pub found_in : (w : Rehearsal) (f : Fields) (p k : ℕ) → IsWorld w f → is_member w.setting.members p ≡ true → (if is_member (length f.network.lines) p then place_of k (line_at f.network.lines p) else None) ≡ place_of k (line_of w p)
+pub found_in : (w : Rehearsal) (f : Fields) (p k : ℕ) → IsWorld w f → is_member w.setting.members p ≡ true →
+    (if is_member (length f.network.lines) p then place_of k (line_at f.network.lines p) else None) ≡ place_of k (line_of w p)
 found_in w f p k world group =
     ap (λ b. if b then place_of k (line_at f.network.lines p) else None) (lined_member w f p world group)
     ∙ ap (place_of k) (world.line p group)

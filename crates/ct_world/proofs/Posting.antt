@@ -16,9 +16,11 @@ last_there [] b = refl
 last_there (x ∷ list) b = last_there list b
 
 -- the batch that joins the order is of the instance of its place from 1
-joined_instance : (w : Rehearsal) (list : List Batch) (b : Batch) → IsLawful w → order (state_of w) ≡ list ++ b ∷ [] → b.instance ≡ length list + 1
+joined_instance : (w : Rehearsal) (list : List Batch) (b : Batch) → IsLawful w → order (state_of w) ≡ list ++ b ∷ [] →
+    b.instance ≡ length list + 1
 joined_instance w list b law joined =
-    order-instance w.setting w.steps (state_of w) law.runs (length list) b (ap (λ all. slice_get all (length list)) joined ∙ last_there list b)
+    order-instance w.setting w.steps (state_of w) law.runs (length list) b
+    (ap (λ all. slice_get all (length list)) joined ∙ last_there list b)
 
 -- so it has a place
 pub posting_low : {A : Type 0} (w : Rehearsal) (step : Step) (f : A → Batch) (o : Option A) (posting : Option Batch)
@@ -39,7 +41,8 @@ has_posted cells w step None None law joins set = joins
 has_posted cells w step None (Some r) law joins set = absurd set
 has_posted cells w step (Some b) None law joins set = absurd set
 has_posted cells w step (Some b) (Some r) law joins set =
-    let joined : order (state_of (extended w step)) ≡ order (state_of w) ++ r.batch ∷ [] = joins ∙ ap (λ x. order (state_of w) ++ x ∷ []) (sym set.0) in
+    let joined : order (state_of (extended w step)) ≡ order (state_of w) ++ r.batch ∷ [] =
+    joins ∙ ap (λ x. order (state_of w) ++ x ∷ []) (sym set.0) in
     let instance : b.instance ≡ length (order (state_of w)) + 1 = joined_instance (extended w step) (order (state_of w)) b law joins in
     let here : r.place ≡ length (order (state_of w)) = set.1 ∙ omega arith in
     record {

@@ -1,10 +1,8 @@
 -- Postpone.
-use Rattle.std.proofs.Common.{◌≡◌, ℕ, ◌+◌, ◌-◌, not, [], ◌∷◌, ◌++◌, length, set, filter, refl, ap, sym, ◌∙◌, arith, append-nil, true, false, List, subst, inl, inr, Some}
-use Rattle.std.specs.Prelude.{◌==◌, if◌then◌else◌, is_some}
-use Rattle.std.proofs.lemmas.List.{length-set, set-get_or, get_or-set_same, get_or-set_other}
-use Rattle.std.proofs.lemmas.Bool.{cases_eq}
-use Rattle.std.proofs.lemmas.List.Elements.{filter_agree}
-use Rattle.ct_names.specs.Group.{is_member}
+use Rattle.std.proofs.Common.{◌≡◌, ℕ, ◌+◌, ◌-◌, not, [], ◌∷◌, ◌++◌, length, set, filter, refl, ap, sym, ◌∙◌, arith, append-nil, true}
+use Rattle.std.proofs.Common.{subst, Some}
+use Rattle.std.specs.Prelude.{◌==◌, is_some}
+use Rattle.std.proofs.lemmas.List.{length-set, set-get_or}
 use Rattle.ct_model.specs.declared.step.Step.TheVariants.{Postpone}
 use Rattle.ct_model.specs.Rehearsal.{Rehearsal, state_of, line_of, extended}
 use Rattle.ct_model.specs.State.{submissions}
@@ -18,14 +16,16 @@ use Rattle.ct_model.proofs.Steps.Postpone.{postpone_outcome, postpone_taken}
 use Rattle.ct_network.specs.Network.{line_at}
 use Rattle.ct_world.specs.Kept.{Fields, IsWorld, seat_of, no_seat, StandsAt, NeedsNoRoom}
 use Rattle.ct_world.proofs.Insides.{IsPrepared, IsMade}
-use Rattle.ct_world.proofs.Posts.{changed_line, filter_true}
+use Rattle.ct_world.proofs.Posts.{changed_line}
 use Rattle.ct_world.specs.Prepared.{place_in}
 use Rattle.ct_world.specs.declared.prepared.Prepared.{Prepared}
 use Rattle.ct_world.specs.declared.prepared.Prepared.TheVariants as made
-use Rattle.ct_world.proofs.Members.{apart, place}
 use Rattle.ct_world.proofs.Refines.{IsStepped, refined}
 
-module _ (w : Rehearsal) (p k : ℕ) (f new : Fields) (ready : IsPrepared w (Postpone p k) f) (seats : new.seats ≡ f.seats) (sent : new.network.sent ≡ f.network.sent) (lines : new.network.lines ≡ set f.network.lines (p - 1) (filter (λ other. not (other == k)) (line_at f.network.lines p) ++ k ∷ [])) (values : new.book.values ≡ f.book.values) where
+module _ (w : Rehearsal) (p k : ℕ) (f new : Fields) (ready : IsPrepared w (Postpone p k) f) (seats : new.seats ≡ f.seats)
+    (sent : new.network.sent ≡ f.network.sent) (lines : new.network.lines
+    ≡ set f.network.lines (p - 1) (filter (λ other. not (other == k)) (line_at f.network.lines p) ++ k ∷ []))
+    (values : new.book.values ≡ f.book.values) where
   stepped : IsStepped w (Postpone p k) (postpone_outcome w p) f new
   unfolding postpone_outcome
   stepped = record {
@@ -55,7 +55,8 @@ module _ (w : Rehearsal) (p k : ℕ) (f new : Fields) (ready : IsPrepared w (Pos
 
   -- a Postpone moves the serial to the end of its line
   pub postpone_steps : IsWorld (extended w (Postpone p k)) new
-  postpone_steps = refined w (Postpone p k) (postpone_outcome w p) f new ready.world (postpone_taken w p k ready.world.lawful ready.ready.allowed) stepped
+  postpone_steps = refined w (Postpone p k) (postpone_outcome w p) f new ready.world
+      (postpone_taken w p k ready.world.lawful ready.ready.allowed) stepped
 
 -- the place that was found
 pub postpone_placed : (w : Rehearsal) (p k : ℕ) (f : Fields) (x : Prepared) → IsMade w (Postpone p k) f x → is_some (place_in x) ≡ true

@@ -1,5 +1,6 @@
 -- What a step that takes and moves no serial makes of the network.
-use Rattle.std.proofs.Common.{◌≡◌, ℕ, ◌+◌, ◌-◌, true, List, [], ◌++◌, length, map, set, ap, sym, ◌∙◌, subst, arith, append-nil, Some, inl, inr}
+use Rattle.std.proofs.Common.{◌≡◌, ℕ, ◌+◌, ◌-◌, true, List, [], ◌++◌, length, map, set, ap, sym, ◌∙◌, subst, arith, append-nil, Some, inl}
+use Rattle.std.proofs.Common.{inr}
 use Rattle.std.specs.Prelude.{◌==◌, if◌then◌else◌}
 use Rattle.std.proofs.lemmas.Bool.{cases_eq}
 use Rattle.std.proofs.lemmas.List.{get_or-set_same, get_or-set_other}
@@ -45,7 +46,8 @@ changed_line lines n p q change lined here there =
 pub record IsPosted (old new : NetworkView) (mail : AnyMail ℕ) : Type 0 where
   pub sent : new.sent ≡ old.sent ++ envelopes (length old.lines) mail
   pub lined : length new.lines ≡ length old.lines
-  pub joined : (q : ℕ) → is_member (length old.lines) q ≡ true → line_at new.lines q ≡ line_at old.lines q ++ serials_to q (length old.sent) (envelopes (length old.lines) mail)
+  pub joined : (q : ℕ) → is_member (length old.lines) q ≡ true →
+      line_at new.lines q ≡ line_at old.lines q ++ serials_to q (length old.sent) (envelopes (length old.lines) mail)
 
 -- what the step does besides to its member
 pub record IsTurnedInto (w : Rehearsal) (step : Step) (o : Outcome) (f new : Fields) (seat : Seat) : Type 0 where
@@ -54,7 +56,9 @@ pub record IsTurnedInto (w : Rehearsal) (step : Step) (o : Outcome) (f new : Fie
   pub keeps : Keeps w.setting.members new.book.values (actor step) o.member seat
   pub submitted : seat.submitted ≡ submissions (state_of w).submitted (actor step) + submissions o.submitted (actor step)
 
-pub stepped-sending : (w : Rehearsal) (step : Step) (o : Outcome) (f new : Fields) (seat : Seat) (mail : AnyMail ℕ) → IsWorld w f → line_change step ≡ Leaves → IsTurnedInto w step o f new seat → NamesMail new.book.values mail o.mail → IsPosted f.network new.network mail → IsStepped w step o f new
+pub stepped-sending : (w : Rehearsal) (step : Step) (o : Outcome) (f new : Fields) (seat : Seat) (mail : AnyMail ℕ) → IsWorld w f →
+    line_change step ≡ Leaves → IsTurnedInto w step o f new seat → NamesMail new.book.values mail o.mail →
+    IsPosted f.network new.network mail → IsStepped w step o f new
 stepped-sending w step o f new seat mail world plain turned named posted = record {
   posts = envelopes w.setting.members mail;
   seat = seat;
@@ -72,7 +76,9 @@ stepped-sending w step o f new seat mail world plain turned named posted = recor
   submitted = turned.submitted;
 }
 
-pub stepped-quiet : (w : Rehearsal) (step : Step) (o : Outcome) (f new : Fields) (seat : Seat) → IsWorld w f → line_change step ≡ Leaves → IsTurnedInto w step o f new seat → o.mail ≡ Nobody → new.network.sent ≡ f.network.sent → new.network.lines ≡ f.network.lines → IsStepped w step o f new
+pub stepped-quiet : (w : Rehearsal) (step : Step) (o : Outcome) (f new : Fields) (seat : Seat) → IsWorld w f → line_change step ≡ Leaves →
+    IsTurnedInto w step o f new seat → o.mail ≡ Nobody → new.network.sent ≡ f.network.sent → new.network.lines ≡ f.network.lines →
+    IsStepped w step o f new
 stepped-quiet w step o f new seat world plain turned nobody sent lines = record {
   posts = [];
   seat = seat;

@@ -1,5 +1,6 @@
 -- A step that is allowed: what is there, and what is kept while room is made for it.
-use Rattle.std.proofs.Common.{◌≡◌, ◌-◌, ◌<◌, ◌≤◌, true, List, length, get_or, set, refl, ap, sym, ◌∙◌, subst, Option, Some, None, option_map, arith}
+use Rattle.std.proofs.Common.{◌≡◌, ◌-◌, ◌<◌, ◌≤◌, true, List, length, get_or, set, refl, ap, sym, ◌∙◌, subst, Option, Some, None}
+use Rattle.std.proofs.Common.{option_map, arith}
 use Rattle.std.specs.Prelude.{vec_len}
 use Rattle.ct_names.specs.Group.{is_member}
 use Rattle.ct_model.specs.declared.step.Step.{Step}
@@ -42,14 +43,16 @@ allowed_at w step f world allowed =
       within = omega (arith, world.seated);
     }
 
-pub allowed_in : (a : Inside) (v : WorldView) (step : Step) → view_in a ≡ v → IsKeptIn a → cause v.rehearsal step ≡ None → IsAllowedIn a step
+pub allowed_in : (a : Inside) (v : WorldView) (step : Step) → view_in a ≡ v → IsKeptIn a → cause v.rehearsal step ≡ None →
+    IsAllowedIn a step
 allowed_in a v step view kept allowed =
     allowed_at (rehearsal_in a) step (fields_in a) kept.world (subst (λ (x : WorldView). cause x.rehearsal step ≡ None) (sym view) allowed)
 
 pub in_vec : (a : Inside) (step : Step) → IsAllowedIn a step → actor step - 1 < vec_len a.seats
 in_vec a step p = let within = p.within in omega (arith, a.seats.ok.0)
 
-pub seat_at : (a : Inside) (step : Step) (s : Seat) → IsAllowedIn a step → s ≡ get_or a.seats.items (actor step - 1) s → s ≡ seat_of a.seats.items (actor step)
+pub seat_at : (a : Inside) (step : Step) (s : Seat) → IsAllowedIn a step → s ≡ get_or a.seats.items (actor step - 1) s →
+    s ≡ seat_of a.seats.items (actor step)
 seat_at a step s p e = seat_found a.seats.items (actor step) s p.within e
 
 -- the world once room was made at the actor's seat
@@ -62,7 +65,8 @@ roomier_in a step old seat new p here same values sent lines seats =
     (subst (λ s. content seat ≡ content s) here same))
 
 -- still no step is prepared
-pub unprepared_in : (a : Inside) (v : WorldView) (steps : List Step) (new : Fields) → view_in a ≡ v → v.prepared ≡ None → steps ≡ a.record.items → IsWorld (rehearsal_in a) new → IsKept (record (rehearsal_in a) { steps = steps }) a.prepared new
+pub unprepared_in : (a : Inside) (v : WorldView) (steps : List Step) (new : Fields) → view_in a ≡ v → v.prepared ≡ None →
+    steps ≡ a.record.items → IsWorld (rehearsal_in a) new → IsKept (record (rehearsal_in a) { steps = steps }) a.prepared new
 unprepared_in a v steps new view none same world =
     kept-unprepared (record (rehearsal_in a) { steps = steps }) a.prepared new
     (none_mapped a.prepared (ap (λ (x : WorldView). x.prepared) view ∙ none))

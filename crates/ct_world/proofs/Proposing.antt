@@ -1,5 +1,6 @@
 -- Begin: why it is refused, by the seat, and the seat after it.
-use Rattle.std.proofs.Common.{◌≡◌, ℕ, ◌+◌, ◌-◌, ◌≤◌, ◌<◌, Bool, true, false, not, List, [], ◌∷◌, ◌++◌, length, set, refl, ap, sym, ◌∙◌, subst, arith, Option, Some, None, option_map, Bor}
+use Rattle.std.proofs.Common.{◌≡◌, ℕ, ◌+◌, ◌-◌, ◌≤◌, ◌<◌, Bool, true, false, not, List, [], ◌∷◌, ◌++◌, length, set, refl, ap, sym, ◌∙◌}
+use Rattle.std.proofs.Common.{subst, arith, Option, Some, None, option_map, Bor}
 use Rattle.std.specs.Prelude.{option_copied, nat_lt, is_some, map}
 use Rattle.std.proofs.lemmas.Bool.Decides.{nat_tests}
 use Rattle.ct_names.specs.declared.limit.TheConstants.{MAX_INSTANCES}
@@ -50,15 +51,19 @@ joined-mapped [] = refl
 joined-mapped (b ∷ batches) = ap (λ list. b.messages ++ list) (joined-mapped batches)
 
 -- an instance is open at the seat where it is in the state
-pub open-same : (n : ℕ) (values : List Value) (p : ℕ) (m : Member) (seat : Seat) → Keeps n values p m seat → is_some seat.instances.part ≡ is_some m.current
-open-same n values p m seat k = sym (some-mapped (λ (c : Part). c.standing) seat.instances.part) ∙ standing_is_some values (option_map (λ (c : Part). c.standing) seat.instances.part) m.current k.instances.standing
+pub open-same : (n : ℕ) (values : List Value) (p : ℕ) (m : Member) (seat : Seat) → Keeps n values p m seat →
+    is_some seat.instances.part ≡ is_some m.current
+open-same n values p m seat k = sym (some-mapped (λ (c : Part). c.standing) seat.instances.part)
+    ∙ standing_is_some values (option_map (λ (c : Part). c.standing) seat.instances.part) m.current k.instances.standing
 
 -- the messages that the seat delivered
-pub delivered-same : (n : ℕ) (values : List Value) (p : ℕ) (m : Member) (seat : Seat) → Keeps n values p m seat → joined seat.caster.batches ≡ model_joined m.batches
+pub delivered-same : (n : ℕ) (values : List Value) (p : ℕ) (m : Member) (seat : Seat) → Keeps n values p m seat →
+    joined seat.caster.batches ≡ model_joined m.batches
 delivered-same n values p m seat k = ap joined k.batches ∙ joined-mapped m.batches
 
 -- what was received and not delivered is the same in both
-pub undelivered-same : (n : ℕ) (values : List Value) (p : ℕ) (m : Member) (seat : Seat) → Keeps n values p m seat → cast_undelivered seat.caster ≡ undelivered m
+pub undelivered-same : (n : ℕ) (values : List Value) (p : ℕ) (m : Member) (seat : Seat) → Keeps n values p m seat →
+    cast_undelivered seat.caster ≡ undelivered m
 unfolding undelivered
 undelivered-same n values p m seat k =
     ap (λ list. ordered (minus list (joined seat.caster.batches))) k.received
@@ -72,7 +77,8 @@ module _ (w : Rehearsal) (p : ℕ) (seat : Seat) (a : IsActor w p seat) where
   m : Member
   m = member (state_of w) p
 
-  tests-by : (b c : Bool) → is_some (member (state_of w) p).current ≡ b → is_empty (undelivered (member (state_of w) p)) ≡ c → first_fault (own_tests w (Begin p)) ≡ first_fault (at Busy b ∷ at Nothing c ∷ [])
+  tests-by : (b c : Bool) → is_some (member (state_of w) p).current ≡ b → is_empty (undelivered (member (state_of w) p)) ≡ c →
+      first_fault (own_tests w (Begin p)) ≡ first_fault (at Busy b ∷ at Nothing c ∷ [])
   tests-by b c e f =
       ap first_fault (own_tests-is w (Begin p))
       ∙ ap (λ b. first_fault (at Busy b ∷ at Nothing (is_empty (undelivered (member (state_of w) p))) ∷ [])) e
@@ -82,24 +88,30 @@ module _ (w : Rehearsal) (p : ℕ) (seat : Seat) (a : IsActor w p seat) where
   open_is = open-same w.setting.members (values_of (state_of w)) p (member (state_of w) p) seat a.sits.keeps
 
   empty_is : is_empty (undelivered (member (state_of w) p)) ≡ not (nat_lt 0 (length (cast_undelivered seat.caster)))
-  empty_is = sym (ap is_empty (undelivered-same w.setting.members (values_of (state_of w)) p (member (state_of w) p) seat a.sits.keeps)) ∙ empty-length (cast_undelivered seat.caster)
+  empty_is = sym (ap is_empty (undelivered-same w.setting.members (values_of (state_of w)) p (member (state_of w) p) seat a.sits.keeps))
+      ∙ empty-length (cast_undelivered seat.caster)
 
   pub begin_busy : is_some seat.instances.part ≡ true → cause w (Begin p) ≡ Some Busy
-  begin_busy e = cause-tested w (Begin p) Busy a.present (tests-by true (is_empty (undelivered (member (state_of w) p))) (sym open_is ∙ e) refl)
+  begin_busy e = cause-tested w (Begin p) Busy a.present (tests-by true (is_empty (undelivered (member (state_of w) p))) (sym open_is ∙ e)
+      refl)
 
-  pub begin_nothing : is_some seat.instances.part ≡ false → nat_lt 0 (length (cast_undelivered seat.caster)) ≡ false → cause w (Begin p) ≡ Some Nothing
+  pub begin_nothing : is_some seat.instances.part ≡ false → nat_lt 0 (length (cast_undelivered seat.caster)) ≡ false →
+      cause w (Begin p) ≡ Some Nothing
   begin_nothing e f = cause-tested w (Begin p) Nothing a.present (tests-by false true (sym open_is ∙ e) (empty_is ∙ ap not f))
 
-  tested : is_some seat.instances.part ≡ false → nat_lt 0 (length (cast_undelivered seat.caster)) ≡ true → first_fault (own_tests w (Begin p)) ≡ None
+  tested : is_some seat.instances.part ≡ false → nat_lt 0 (length (cast_undelivered seat.caster)) ≡ true →
+      first_fault (own_tests w (Begin p)) ≡ None
   tested e f = tests-by false false (sym open_is ∙ e) (empty_is ∙ ap not f)
 
-  pub begin_full : is_some seat.instances.part ≡ false → nat_lt 0 (length (cast_undelivered seat.caster)) ≡ true → MAX_INSTANCES ≤ seat.instances.last → cause w (Begin p) ≡ Some (Full Instances)
+  pub begin_full : is_some seat.instances.part ≡ false → nat_lt 0 (length (cast_undelivered seat.caster)) ≡ true →
+      MAX_INSTANCES ≤ seat.instances.last → cause w (Begin p) ≡ Some (Full Instances)
   begin_full e f many =
       let last : seat.instances.last ≡ (member (state_of w) p).last = a.sits.keeps.instances.last in
       let t : nat_lt MAX_INSTANCES ((member (state_of w) p).last + 1) ≡ true = grind (arith, nat_tests) in
       cause-begin w p a.lawful a.present (tested e f) ∙ ap (λ b. or_else (first_fault (at (Full Instances) b ∷ [])) (overflow w 0)) t
 
-  pub begin_free : is_some seat.instances.part ≡ false → nat_lt 0 (length (cast_undelivered seat.caster)) ≡ true → seat.instances.last < MAX_INSTANCES → cause w (Begin p) ≡ overflow w 0
+  pub begin_free : is_some seat.instances.part ≡ false → nat_lt 0 (length (cast_undelivered seat.caster)) ≡ true →
+      seat.instances.last < MAX_INSTANCES → cause w (Begin p) ≡ overflow w 0
   begin_free e f few =
       let last : seat.instances.last ≡ (member (state_of w) p).last = a.sits.keeps.instances.last in
       let t : nat_lt MAX_INSTANCES ((member (state_of w) p).last + 1) ≡ false = grind (arith, nat_tests) in
@@ -112,7 +124,8 @@ none_more k p = let e = submissions-none p in omega arith
 abbrev pub begun : Seat → ℕ → Seat
 begun seat id = record seat { instances = opened seat.instances id; caster = record seat.caster { instance = seat.caster.instance + 1 } }
 
-begun_keeps : (n : ℕ) (values : List Value) (p : ℕ) (m : Member) (seat : Seat) → Keeps n values p m seat → Keeps n (values ++ undelivered m ∷ []) p (begin p m).member (begun seat (length values))
+begun_keeps : (n : ℕ) (values : List Value) (p : ℕ) (m : Member) (seat : Seat) → Keeps n values p m seat →
+    Keeps n (values ++ undelivered m ∷ []) p (begin p m).member (begun seat (length values))
 begun_keeps n values p m seat k = record {
   crashed = k.crashed;
   me = k.me;
@@ -125,13 +138,19 @@ begun_keeps n values p m seat k = record {
 }
 
 -- a Begin opens the instance and writes the value into the book
-pub begin_steps : (w : Rehearsal) (p : ℕ) (f new : Fields) → IsPrepared w (Begin p) f → new.seats ≡ set f.seats (p - 1) (begun (seat_of f.seats p) (length f.book.values)) → new.network.sent ≡ f.network.sent → new.network.lines ≡ f.network.lines → new.book.values ≡ f.book.values ++ cast_undelivered (seat_of f.seats p).caster ∷ [] → IsWorld (extended w (Begin p)) new
+pub begin_steps : (w : Rehearsal) (p : ℕ) (f new : Fields) → IsPrepared w (Begin p) f →
+    new.seats ≡ set f.seats (p - 1) (begun (seat_of f.seats p) (length f.book.values)) → new.network.sent ≡ f.network.sent →
+    new.network.lines ≡ f.network.lines → new.book.values ≡ f.book.values ++ cast_undelivered (seat_of f.seats p).caster ∷ [] →
+    IsWorld (extended w (Begin p)) new
 begin_steps w p f new ready seats sent lines values =
     let keeps = ready.world.seat p ready.in_group in
     let step = begin_taken w p ready.world.lawful ready.ready.allowed in
-    let grown : new.book.values ≡ f.book.values ++ undelivered (member (state_of w) p) ∷ [] = values ∙ ap (λ v. f.book.values ++ v ∷ []) (undelivered-same w.setting.members f.book.values p (member (state_of w) p) (seat_of f.seats p) keeps) in
+    let grown : new.book.values ≡ f.book.values ++ undelivered (member (state_of w) p) ∷ [] =
+    values ∙ ap (λ v. f.book.values ++ v ∷ []) (undelivered-same w.setting.members f.book.values p (member (state_of w) p)
+    (seat_of f.seats p) keeps) in
     refined w (Begin p) (begin p (member (state_of w) p)) f new ready.world step.taken
-    (stepped-quiet w (Begin p) (begin p (member (state_of w) p)) f new (begun (seat_of f.seats p) (length f.book.values)) ready.world refl (record {
+    (stepped-quiet w (Begin p) (begin p (member (state_of w) p)) f new (begun (seat_of f.seats p) (length f.book.values)) ready.world refl
+    (record {
       values = grown;
       seats = seats;
       keeps = rw grown (begun_keeps w.setting.members f.book.values p (member (state_of w) p) (seat_of f.seats p) keeps);
@@ -156,7 +175,8 @@ can_begin w p f ready =
     let last : (seat_of f.seats p).instances.last ≡ (member (state_of w) p).last = k.instances.last in
     let begun = k.begun in
     record {
-      idle = nothing-some (seat_of f.seats p).instances.part (open-same w.setting.members f.book.values p (member (state_of w) p) (seat_of f.seats p) k ∙ ap is_some step.idle);
+      idle = nothing-some (seat_of f.seats p).instances.part
+          (open-same w.setting.members f.book.values p (member (state_of w) p) (seat_of f.seats p) k ∙ ap is_some step.idle);
       few = omega arith;
       few_begun = omega arith;
     }
@@ -174,9 +194,11 @@ begin_room seats p seat v new within set_is value entry room =
     }
 
 -- fewer than 1,024 instances began where a Begin is allowed
-pub low_last : (w : Rehearsal) (p : ℕ) (f : Fields) (s : Seat) → IsAllowed w (Begin p) f → s ≡ seat_of f.seats p → s.instances.last ≤ MAX_INSTANCES
+pub low_last : (w : Rehearsal) (p : ℕ) (f : Fields) (s : Seat) → IsAllowed w (Begin p) f → s ≡ seat_of f.seats p →
+    s.instances.last ≤ MAX_INSTANCES
 low_last w p f s a here =
-    let last : s.instances.last ≡ (member (state_of w) p).last = ap (λ (x : Seat). x.instances.last) here ∙ (a.world.seat p a.in_group).instances.last in
+    let last : s.instances.last ≡ (member (state_of w) p).last =
+    ap (λ (x : Seat). x.instances.last) here ∙ (a.world.seat p a.in_group).instances.last in
     let few = a.world.lawful.within.few_instances p in
     omega arith
 

@@ -34,14 +34,17 @@ use Rattle.ct_world.specs.declared.seat.Seat.{Seat}
 use Rattle.ct_world.specs.Seats.{has_name, was_got, Keeps, HasReceived, ids_with, received_with, is_passed_on}
 
 -- a message of this origin and number was got exactly where the message itself was received, if no other such was
-module _ (got : List Wire) (m : Message) (only : (x : Message) → has (received got) x ≡ true → x.origin ≡ m.origin → x.number ≡ m.number → x ≡ m) where
+module _ (got : List Wire) (m : Message) (only : (x : Message) → has (received got) x ≡ true → x.origin ≡ m.origin → x.number ≡ m.number →
+    x ≡ m) where
   named : RelayId
   named = id.Data m.origin m.number
 
   name_of_one : (w : Wire) → IsIn w got → has_name (id.Data m.origin m.number) w ≡ true → IsIn m (received got)
   name_of_one (Data x) there e =
       let heard : IsIn x (received got) = got-received got x there in
-      let same : x ≡ m = only x (has-in (received got) x heard) (same_number x.origin m.origin (and_left (x.origin == m.origin) (x.number == m.number) e)) (same_number x.number m.number (and_right (x.origin == m.origin) (x.number == m.number) e)) in
+      let same : x ≡ m = only x (has-in (received got) x heard)
+      (same_number x.origin m.origin (and_left (x.origin == m.origin) (x.number == m.number) e))
+      (same_number x.number m.number (and_right (x.origin == m.origin) (x.number == m.number) e)) in
       subst (λ y. IsIn y (received got)) same heard
   name_of_one (Est k r p v t) there e = absurd (cc)
   name_of_one (Prop k r v) there e = absurd (cc)
@@ -69,13 +72,17 @@ module _ (got : List Wire) (m : Message) (only : (x : Message) → has (received
       same_tests false false f g = refl
 
 -- what is known of messages gives that
-pub known_name : (s : Setting) (g : State) (p : ℕ) (m : Message) → KnowsMessages s g → has g.submitted m ≡ true → was_got (member g p).got (id.Data m.origin m.number) ≡ has (received (member g p).got) m
-known_name s g p m k submitted = got_by_name (member g p).got m (λ x h origin number. k.unique x m (k.received p x (ap (λ list. has list x) (received-by g p) ∙ h)) submitted origin number)
+pub known_name : (s : Setting) (g : State) (p : ℕ) (m : Message) → KnowsMessages s g → has g.submitted m ≡ true →
+    was_got (member g p).got (id.Data m.origin m.number) ≡ has (received (member g p).got) m
+known_name s g p m k submitted = got_by_name (member g p).got m
+    (λ x h origin number. k.unique x m (k.received p x (ap (λ list. has list x) (received-by g p) ∙ h)) submitted origin number)
 
 -- the names taken
 
-first-push : (ids : List RelayId) (name other : RelayId) → is_first (ids ++ name ∷ []) other ≡ (is_first ids other && not (is_id other name))
-first-push ids name other = ap not (list_any-append (is_id other) ids (name ∷ [])) ∙ de_morgan (list_any (is_id other) ids) (is_id other name)
+first-push : (ids : List RelayId) (name other : RelayId) → is_first (ids ++ name ∷ []) other
+    ≡ (is_first ids other && not (is_id other name))
+first-push ids name other = ap not (list_any-append (is_id other) ids (name ∷ []))
+    ∙ de_morgan (list_any (is_id other) ids) (is_id other name)
   where
     de_morgan : (a b : Bool) → not (a || (b || false)) ≡ (not a && not b)
     de_morgan true b = refl
@@ -95,7 +102,8 @@ alike (id.Dec o n) (id.Dec x y) e =
     let b = same_number y n (and_right (x == o) (y == n) e) in
     ap (λ z. id.Dec z y) a ∙ ap (id.Dec o) b
 
-first-with : (ids : List RelayId) (name other : RelayId) → is_first (with_id ids name) other ≡ (is_first ids other && not (is_id other name))
+first-with : (ids : List RelayId) (name other : RelayId) → is_first (with_id ids name) other
+    ≡ (is_first ids other && not (is_id other name))
 first-with ids name other = go (is_first ids name) refl (is_id other name) refl
   where
     and_nothing : (b : Bool) → (b && false) ≡ false
@@ -106,7 +114,8 @@ first-with ids name other = go (is_first ids name) refl (is_id other name) refl
     and_all true = refl
     and_all false = refl
 
-    go : (b : Bool) → is_first ids name ≡ b → (t : Bool) → is_id other name ≡ t → is_first (if is_first ids name then (ids ++ name ∷ []) else ids) other ≡ (is_first ids other && not (is_id other name))
+    go : (b : Bool) → is_first ids name ≡ b → (t : Bool) → is_id other name ≡ t →
+        is_first (if is_first ids name then (ids ++ name ∷ []) else ids) other ≡ (is_first ids other && not (is_id other name))
     go true e t f = ap (λ c. is_first (if c then (ids ++ name ∷ []) else ids) other) e ∙ first-push ids name other
     go false e true f =
         ap (λ c. is_first (if c then (ids ++ name ∷ []) else ids) other) e
@@ -119,11 +128,13 @@ both_swapped : (a b c d : ℕ) → ((a == b) && (c == d)) ≡ ((b == a) && (d ==
 both_swapped a b c d = grind (arith, nat_tests)
 
 -- other wires have no name
-no_name : (other : RelayId) (x : AnyWire ℕ) → ((k r : ℕ) → is_decision k r x ≡ false) → ((o n : ℕ) → has_name (id.Data o n) x ≡ false) → has_name other x ≡ false
+no_name : (other : RelayId) (x : AnyWire ℕ) → ((k r : ℕ) → is_decision k r x ≡ false) → ((o n : ℕ) → has_name (id.Data o n) x ≡ false) →
+    has_name other x ≡ false
 no_name (id.Data o n) x dec data_ = data_ o n
 no_name (id.Dec k r) x dec data_ = dec k r
 
-still : (ids : List RelayId) (x : AnyWire ℕ) (other : RelayId) → has_name other x ≡ false → is_first ids other ≡ (is_first ids other && not (has_name other x))
+still : (ids : List RelayId) (x : AnyWire ℕ) (other : RelayId) → has_name other x ≡ false →
+    is_first ids other ≡ (is_first ids other && not (has_name other x))
 still ids x other e = all (is_first ids other) ∙ ap (λ b. is_first ids other && not b) (sym e)
   where
     all : (b : Bool) → b ≡ (b && true)
@@ -131,11 +142,14 @@ still ids x other e = all (is_first ids other) ∙ ap (λ b. is_first ids other 
     all false = refl
 
 -- the names taken after a receipt
-first-received : (ids : List RelayId) (x : AnyWire ℕ) (other : RelayId) → is_first (ids_with ids x) other ≡ (is_first ids other && not (has_name other x))
-first-received ids (Data m) (id.Data o n) = first-with ids (id.Data m.origin m.number) (id.Data o n) ∙ ap (λ b. is_first ids (id.Data o n) && not b) (both_swapped o m.origin n m.number)
+first-received : (ids : List RelayId) (x : AnyWire ℕ) (other : RelayId) →
+    is_first (ids_with ids x) other ≡ (is_first ids other && not (has_name other x))
+first-received ids (Data m) (id.Data o n) = first-with ids (id.Data m.origin m.number) (id.Data o n)
+    ∙ ap (λ b. is_first ids (id.Data o n) && not b) (both_swapped o m.origin n m.number)
 first-received ids (Data m) (id.Dec k r) = first-with ids (id.Data m.origin m.number) (id.Dec k r)
 first-received ids (Dec k r v) (id.Data o n) = first-with ids (id.Dec k r) (id.Data o n)
-first-received ids (Dec k r v) (id.Dec j q) = first-with ids (id.Dec k r) (id.Dec j q) ∙ ap (λ b. is_first ids (id.Dec j q) && not b) (both_swapped j k q r)
+first-received ids (Dec k r v) (id.Dec j q) = first-with ids (id.Dec k r) (id.Dec j q)
+    ∙ ap (λ b. is_first ids (id.Dec j q) && not b) (both_swapped j k q r)
 first-received ids (Est k r p v t) other = still ids (Est k r p v t) other (no_name other (Est k r p v t) (λ k r. refl) (λ o n. refl))
 first-received ids (Prop k r v) other = still ids (Prop k r v) other (no_name other (Prop k r v) (λ k r. refl) (λ o n. refl))
 first-received ids (Ack k r p) other = still ids (Ack k r p) other (no_name other (Ack k r p) (λ k r. refl) (λ o n. refl))
@@ -186,7 +200,8 @@ IsKnown got (Data m) = was_got got (id.Data m.origin m.number) ≡ has (received
 IsKnown got _ = Unit {0}
 
 module _ (n : ℕ) (values : List Value) (p : ℕ) (m : Member) (seat : Seat) (k : Keeps n values p m seat) where
-  first_is : (msg : Message) → IsKnown m.got (Data msg) → is_first seat.relay.ids (id.Data msg.origin msg.number) ≡ not (has (received m.got) msg)
+  first_is : (msg : Message) → IsKnown m.got (Data msg) → is_first seat.relay.ids (id.Data msg.origin msg.number)
+      ≡ not (has (received m.got) msg)
   first_is msg known = k.taken (id.Data msg.origin msg.number) ∙ ap not known
 
   received_silent : (w : Wire) → message_of w ≡ None → received (m.got ++ w ∷ []) ≡ received m.got
@@ -197,11 +212,13 @@ module _ (n : ℕ) (values : List Value) (p : ℕ) (m : Member) (seat : Seat) (k
   received_silent (Nack j r q) e = received-push m.got (Nack j r q)
   received_silent (Dec j r v) e = received-push m.got (Dec j r v)
 
-  received_push : (x : AnyWire ℕ) (w : Wire) → NamesWire values x w → IsKnown m.got w → received_with seat.relay.ids seat.caster.received x ≡ received (m.got ++ w ∷ [])
+  received_push : (x : AnyWire ℕ) (w : Wire) → NamesWire values x w → IsKnown m.got w →
+      received_with seat.relay.ids seat.caster.received x ≡ received (m.got ++ w ∷ [])
   received_push (Data msg) w e known =
       let is : w ≡ Data msg = named_data values msg w e in
       subst (λ y. received_with seat.relay.ids seat.caster.received (Data msg) ≡ received (m.got ++ y ∷ [])) (sym is)
-      (ap (λ b. if b then (seat.caster.received ++ msg ∷ []) else seat.caster.received) (first_is msg (subst (λ y. IsKnown m.got y) is known))
+      (ap (λ b. if b then (seat.caster.received ++ msg ∷ []) else seat.caster.received)
+      (first_is msg (subst (λ y. IsKnown m.got y) is known))
       ∙ ap (λ list. if not (has (received m.got) msg) then (list ++ msg ∷ []) else list) k.received
       ∙ turned_test (has (received m.got) msg) (received m.got) (received m.got ++ msg ∷ [])
       ∙ sym (received-push m.got (Data msg)))
@@ -216,7 +233,8 @@ module _ (n : ℕ) (values : List Value) (p : ℕ) (m : Member) (seat : Seat) (k
   received_push (Dec j r v) w e known = k.received ∙ sym (received_silent w (sym (named_message values (Dec j r v) w e)))
 
   -- the seat keeps what the member is after it got the wire
-  pub receive_keeps : (new : Seat) (x : AnyWire ℕ) (w : Wire) → NamesWire values x w → NamesSomebody w → IsKnown m.got w → HasReceived seat x new → Keeps n values p (record m { got = m.got ++ w ∷ [] }) new
+  pub receive_keeps : (new : Seat) (x : AnyWire ℕ) (w : Wire) → NamesWire values x w → NamesSomebody w → IsKnown m.got w →
+      HasReceived seat x new → Keeps n values p (record m { got = m.got ++ w ∷ [] }) new
   receive_keeps new x w e somebody known h = record {
     crashed = h.crashed ∙ k.crashed;
     me = h.me ∙ k.me;
@@ -239,7 +257,8 @@ module _ (n : ℕ) (values : List Value) (p : ℕ) (m : Member) (seat : Seat) (k
       de_morgan false false = refl
 
   -- whether it is passed on
-  pub passes : (s : Setting) (x : AnyWire ℕ) (w : Wire) → s.members ≡ n → NamesWire values x w → IsKnown m.got w → is_passed_on n seat.relay x ≡ is_relayed s p m.got w
+  pub passes : (s : Setting) (x : AnyWire ℕ) (w : Wire) → s.members ≡ n → NamesWire values x w → IsKnown m.got w →
+      is_passed_on n seat.relay x ≡ is_relayed s p m.got w
   unfolding is_relayed
   passes s (Data msg) w same e known =
       let is : w ≡ Data msg = named_data values msg w e in

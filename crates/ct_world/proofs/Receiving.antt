@@ -1,9 +1,8 @@
 -- Receive.
-use Rattle.std.proofs.Common.{◌≡◌, ℕ, ◌+◌, ◌-◌, ◌<◌, ◌≤◌, Bool, true, not, List, [], ◌++◌, length, set, filter, Some, refl, ap, sym, ◌∙◌, subst, arith, append-nil, false, ◌&&◌, inl, inr}
+use Rattle.std.proofs.Common.{◌≡◌, ℕ, ◌+◌, ◌-◌, ◌<◌, ◌≤◌, Bool, true, not, List, [], ◌++◌, length, set, filter, Some, refl, ap, sym, ◌∙◌}
+use Rattle.std.proofs.Common.{subst, arith, append-nil}
 use Rattle.std.specs.Prelude.{◌==◌, if◌then◌else◌, is_some}
-use Rattle.std.proofs.lemmas.List.{length-set, get_or-set_same, get_or-set_other}
-use Rattle.std.proofs.lemmas.Bool.{cases_eq}
-use Rattle.std.proofs.lemmas.List.Elements.{filter_agree}
+use Rattle.std.proofs.lemmas.List.{length-set}
 use Rattle.ct_names.specs.declared.limit.TheConstants.{MAX_ENVELOPES}
 use Rattle.ct_names.specs.Group.{is_member}
 use Rattle.ct_model.specs.declared.step.Step.TheVariants.{Receive}
@@ -30,8 +29,8 @@ use Rattle.ct_world.specs.declared.world.World.TheInside.{Inside}
 use Rattle.ct_world.specs.Seats.{Keeps, HasReceived, CanReceive, is_passed_on, passed_on}
 use Rattle.ct_world.specs.Kept.{Fields, IsWorld, IsActor, HasReceiveRoom, values_of, seat_of, StandsAt, NeedsNoRoom}
 use Rattle.ct_world.proofs.Insides.{IsPrepared, IsPreparedIn, rehearsal_in, fields_in, IsMade}
-use Rattle.ct_world.proofs.Members.{seat-same, apart, place}
-use Rattle.ct_world.proofs.Posts.{IsPosted, changed_line, filter_true}
+use Rattle.ct_world.proofs.Members.{seat-same}
+use Rattle.ct_world.proofs.Posts.{IsPosted, changed_line}
 use Rattle.ct_world.specs.Prepared.{place_in}
 use Rattle.ct_world.specs.declared.prepared.Prepared.{Prepared}
 use Rattle.ct_world.specs.declared.prepared.Prepared.TheVariants as made
@@ -41,18 +40,25 @@ use Rattle.ct_world.proofs.Waits.{IsAwaited, awaited-is}
 
 -- why it is refused
 
-pub cause_by : (w : Rehearsal) (f : Fields) (p k n : ℕ) (seat : Seat) (x : AnyEnvelope ℕ) (b : Bool) → IsWorld w f → IsActor w p seat → n ≡ w.setting.members → is_waiting w p k ≡ true → Some x ≡ at_serial f.network.sent k → is_passed_on n seat.relay x.wire ≡ b → cause w (Receive p k) ≡ overflow w (if b then w.setting.members else 0)
+pub cause_by : (w : Rehearsal) (f : Fields) (p k n : ℕ) (seat : Seat) (x : AnyEnvelope ℕ) (b : Bool) → IsWorld w f → IsActor w p seat →
+    n ≡ w.setting.members → is_waiting w p k ≡ true → Some x ≡ at_serial f.network.sent k → is_passed_on n seat.relay x.wire ≡ b →
+    cause w (Receive p k) ≡ overflow w (if b then w.setting.members else 0)
 cause_by w f p k n seat x b world actor members waits is passed =
     let a = awaited-is w f p k x world waits is in
-    let names : NamesWire (values_of (state_of w)) x.wire a.envelope.wire = subst (λ vs. NamesWire vs x.wire a.envelope.wire) world.values (named_wire f.book.values x a.envelope a.names) in
-    let same = passes w.setting.members (values_of (state_of w)) p (member (state_of w) p) seat actor.sits.keeps w.setting x.wire a.envelope.wire refl names a.known in
+    let names : NamesWire (values_of (state_of w)) x.wire a.envelope.wire =
+    subst (λ vs. NamesWire vs x.wire a.envelope.wire) world.values (named_wire f.book.values x a.envelope a.names) in
+    let same = passes w.setting.members (values_of (state_of w)) p (member (state_of w) p) seat actor.sits.keeps w.setting x.wire
+    a.envelope.wire refl names a.known in
     cause-receive w p k a.envelope world.lawful actor.present a.letter waits
-    ∙ ap (λ t. overflow w (if t then w.setting.members else 0)) (sym same ∙ ap (λ j. is_passed_on j seat.relay x.wire) (sym members) ∙ passed)
+    ∙ ap (λ t. overflow w (if t then w.setting.members else 0))
+    (sym same ∙ ap (λ j. is_passed_on j seat.relay x.wire) (sym members) ∙ passed)
 
 -- the envelope of a prepared Receive
 
-pub awaited_in : (a : Inside) (p k : ℕ) (x : AnyEnvelope ℕ) → IsPreparedIn a (Receive p k) → Some x ≡ at_serial a.network.sent k → IsAwaited (rehearsal_in a) (fields_in a) p k x
-awaited_in a p k x ready is = awaited-is (rehearsal_in a) (fields_in a) p k x ready.world (receive_waits (rehearsal_in a) p k ready.ready.allowed) is
+pub awaited_in : (a : Inside) (p k : ℕ) (x : AnyEnvelope ℕ) → IsPreparedIn a (Receive p k) → Some x ≡ at_serial a.network.sent k →
+    IsAwaited (rehearsal_in a) (fields_in a) p k x
+awaited_in a p k x ready is = awaited-is (rehearsal_in a) (fields_in a) p k x ready.world
+    (receive_waits (rehearsal_in a) p k ready.ready.allowed) is
 
 pub left_lined : (lines left : List (List ℕ)) (n i : ℕ) (line : List ℕ) → left ≡ set lines i line → length lines ≡ n → length left ≡ n
 left_lined lines left n i line is lined = ap length is ∙ length-set lines i line ∙ lined
@@ -81,20 +87,27 @@ module _ (w : Rehearsal) (p k : ℕ) (f : Fields) (x : AnyEnvelope ℕ) (ready :
   received_taken = receive_taken w p k a.envelope ready.world.lawful ready.ready.allowed a.letter
 
   -- the mail
-  named_mail : (mail : AnyMail ℕ) → mail ≡ passed_on w.setting.members (seat_of f.seats p).relay x.wire → NamesMail f.book.values mail (receive_outcome w p a.envelope.wire).mail
+  named_mail : (mail : AnyMail ℕ) → mail ≡ passed_on w.setting.members (seat_of f.seats p).relay x.wire →
+      NamesMail f.book.values mail (receive_outcome w p a.envelope.wire).mail
   named_mail mail is =
-      let passed = passes w.setting.members f.book.values p (member (state_of w) p) (seat_of f.seats p) keeps w.setting x.wire a.envelope.wire refl names a.known in
+      let passed = passes w.setting.members f.book.values p (member (state_of w) p) (seat_of f.seats p) keeps w.setting x.wire
+      a.envelope.wire refl names a.known in
       let b : Bool = is_relayed w.setting p (member (state_of w) p).got a.envelope.wire in
-      rw (receive_outcome-is w p a.envelope.wire) (subst (λ z. NamesMail f.book.values z (if b then All a.envelope.wire else Nobody)) (sym (is ∙ ap (λ t. if t then All x.wire else Nobody) passed))
+      rw (receive_outcome-is w p a.envelope.wire) (subst (λ z. NamesMail f.book.values z (if b then All a.envelope.wire else Nobody))
+      (sym (is ∙ ap (λ t. if t then All x.wire else Nobody) passed))
       (named_all f.book.values b x.wire a.envelope.wire names))
 
-  pub number_posted : (mail : AnyMail ℕ) (n : ℕ) → mail ≡ passed_on w.setting.members (seat_of f.seats p).relay x.wire → n ≡ w.setting.members → length (envelopes w.setting.members (receive_outcome w p a.envelope.wire).mail) ≡ length (envelopes n mail)
+  pub number_posted : (mail : AnyMail ℕ) (n : ℕ) → mail ≡ passed_on w.setting.members (seat_of f.seats p).relay x.wire →
+      n ≡ w.setting.members → length (envelopes w.setting.members (receive_outcome w p a.envelope.wire).mail) ≡ length (envelopes n mail)
   number_posted mail n is members =
       let mo = (receive_outcome w p a.envelope.wire).mail in
-      sym (named_length f.book.values (envelopes w.setting.members mail) (envelopes w.setting.members mo) (named_posts f.book.values w.setting.members mail mo (named_mail mail is)))
+      sym (named_length f.book.values (envelopes w.setting.members mail) (envelopes w.setting.members mo)
+      (named_posts f.book.values w.setting.members mail mo (named_mail mail is)))
       ∙ ap (λ j. length (envelopes j mail)) (sym members)
 
-  pub few_posted : (mail : AnyMail ℕ) (n : ℕ) (sent : List (AnyEnvelope ℕ)) → mail ≡ passed_on w.setting.members (seat_of f.seats p).relay x.wire → n ≡ w.setting.members → sent ≡ f.network.sent → length sent + length (envelopes n mail) ≤ MAX_ENVELOPES
+  pub few_posted : (mail : AnyMail ℕ) (n : ℕ) (sent : List (AnyEnvelope ℕ)) →
+      mail ≡ passed_on w.setting.members (seat_of f.seats p).relay x.wire → n ≡ w.setting.members → sent ≡ f.network.sent →
+      length sent + length (envelopes n mail) ≤ MAX_ENVELOPES
   few_posted mail n sent is members same =
       let few = received_taken.within.few_envelopes in
       let all = length-after-sent w.setting (state_of w) p (receive_outcome w p a.envelope.wire) in
@@ -103,38 +116,45 @@ module _ (w : Rehearsal) (p k : ℕ) (f : Fields) (x : AnyEnvelope ℕ) (ready :
       let as_many = ap length same in
       omega arith
 
-  module _ (new : Fields) (seat : Seat) (mail : AnyMail ℕ) (left : NetworkView) (t : HasTaken w.setting.members p k f new x seat mail left) where
-    lined : length left.lines ≡ w.setting.members
-    lined = left_lined f.network.lines left.lines w.setting.members (p - 1) (filter (λ other. not (other == k)) (line_at f.network.lines p)) t.lines ready.world.lined
+  module _ (new : Fields) (seat : Seat) (mail : AnyMail ℕ) (left : NetworkView) (t : HasTaken w.setting.members p k f new x seat mail left)
+    where
+      lined : length left.lines ≡ w.setting.members
+      lined = left_lined f.network.lines left.lines w.setting.members (p - 1) (filter (λ other. not (other == k)) (line_at f.network.lines p))
+          t.lines ready.world.lined
 
-    line : (q : ℕ) → is_member w.setting.members q ≡ true → line_at new.network.lines q ≡ changed q (Takes p k) (line_at f.network.lines q) ++ serials_to q (length f.network.sent) (envelopes w.setting.members mail)
-    line q group =
-        t.posted.joined q (ap (λ n. is_member n q) lined ∙ group)
-        ∙ ap (λ n. line_at left.lines q ++ serials_to q (length left.sent) (envelopes n mail)) lined
-        ∙ ap (λ (es : List (AnyEnvelope ℕ)). line_at left.lines q ++ serials_to q (length es) (envelopes w.setting.members mail)) t.sent
-        ∙ ap (λ ks. ks ++ serials_to q (length f.network.sent) (envelopes w.setting.members mail))
-        (ap (λ ls. line_at ls q) t.lines
-        ∙ changed_line f.network.lines w.setting.members p q (without k) ready.world.lined ready.in_group group)
+      line : (q : ℕ) → is_member w.setting.members q ≡ true → line_at new.network.lines q ≡ changed q (Takes p k) (line_at f.network.lines q)
+          ++ serials_to q (length f.network.sent) (envelopes w.setting.members mail)
+      line q group =
+          t.posted.joined q (ap (λ n. is_member n q) lined ∙ group)
+          ∙ ap (λ n. line_at left.lines q ++ serials_to q (length left.sent) (envelopes n mail)) lined
+          ∙ ap (λ (es : List (AnyEnvelope ℕ)). line_at left.lines q ++ serials_to q (length es) (envelopes w.setting.members mail)) t.sent
+          ∙ ap (λ ks. ks ++ serials_to q (length f.network.sent) (envelopes w.setting.members mail))
+          (ap (λ ls. line_at ls q) t.lines
+          ∙ changed_line f.network.lines w.setting.members p q (without k) ready.world.lined ready.in_group group)
 
-    stepped : IsStepped w (Receive p k) (receive w.setting p (member (state_of w) p) a.envelope.wire) f new
-    stepped = record {
-      posts = envelopes w.setting.members mail;
-      seat = seat;
-      values = t.values ∙ sym (append-nil f.book.values);
-      posted = rw t.values (named_posts f.book.values w.setting.members mail (receive w.setting p (member (state_of w) p) a.envelope.wire).mail (rw (receive_outcome-is w p a.envelope.wire) at (named_mail mail t.mail_is)));
-      sent = t.posted.sent ∙ ap (λ n. left.sent ++ envelopes n mail) lined ∙ ap (λ es. es ++ envelopes w.setting.members mail) t.sent;
-      lined = t.posted.lined ∙ lined ∙ sym ready.world.lined;
-      line = line;
-      seats = t.seats;
-      keeps = rw t.values (receive_keeps w.setting.members f.book.values p (member (state_of w) p) (seat_of f.seats p) keeps seat x.wire a.envelope.wire names a.somebody a.known t.received);
-      submitted = t.received.submitted ∙ ready.world.submitted p ready.in_group ∙ none_more (submissions (state_of w).submitted p);
-    }
-      where
-        none_more : (j : ℕ) → j ≡ j + submissions [] p
-        none_more j = let e = submissions-none p in omega arith
+      stepped : IsStepped w (Receive p k) (receive w.setting p (member (state_of w) p) a.envelope.wire) f new
+      stepped = record {
+        posts = envelopes w.setting.members mail;
+        seat = seat;
+        values = t.values ∙ sym (append-nil f.book.values);
+        posted = rw t.values (named_posts f.book.values w.setting.members mail
+            (receive w.setting p (member (state_of w) p) a.envelope.wire).mail
+            (rw (receive_outcome-is w p a.envelope.wire) at (named_mail mail t.mail_is)));
+        sent = t.posted.sent ∙ ap (λ n. left.sent ++ envelopes n mail) lined ∙ ap (λ es. es ++ envelopes w.setting.members mail) t.sent;
+        lined = t.posted.lined ∙ lined ∙ sym ready.world.lined;
+        line = line;
+        seats = t.seats;
+        keeps = rw t.values (receive_keeps w.setting.members f.book.values p (member (state_of w) p) (seat_of f.seats p) keeps seat x.wire
+            a.envelope.wire names a.somebody a.known t.received);
+        submitted = t.received.submitted ∙ ready.world.submitted p ready.in_group ∙ none_more (submissions (state_of w).submitted p);
+      }
+        where
+          none_more : (j : ℕ) → j ≡ j + submissions [] p
+          none_more j = let e = submissions-none p in omega arith
 
-    pub receive_steps : IsWorld (extended w (Receive p k)) new
-    receive_steps = refined w (Receive p k) (receive_outcome w p a.envelope.wire) f new ready.world received_taken (rw (receive_outcome-is w p a.envelope.wire) stepped)
+      pub receive_steps : IsWorld (extended w (Receive p k)) new
+      receive_steps = refined w (Receive p k) (receive_outcome w p a.envelope.wire) f new ready.world received_taken
+          (rw (receive_outcome-is w p a.envelope.wire) stepped)
 
 -- room for it
 

@@ -41,13 +41,15 @@ pub record IsStepped (w : Rehearsal) (step : Step) (o : Outcome) (f new : Fields
   pub posted : NamesEnvelopes new.book.values posts (envelopes w.setting.members o.mail)
   pub sent : new.network.sent ≡ f.network.sent ++ posts
   pub lined : length new.network.lines ≡ length f.network.lines
-  pub line : (q : ℕ) → is_member w.setting.members q ≡ true → line_at new.network.lines q ≡ changed q (line_change step) (line_at f.network.lines q) ++ serials_to q (length f.network.sent) posts
+  pub line : (q : ℕ) → is_member w.setting.members q ≡ true →
+      line_at new.network.lines q ≡ changed q (line_change step) (line_at f.network.lines q) ++ serials_to q (length f.network.sent) posts
   pub seats : new.seats ≡ set f.seats (actor step - 1) seat
   pub keeps : Keeps w.setting.members new.book.values (actor step) o.member seat
   pub submitted : seat.submitted ≡ submissions (state_of w).submitted (actor step) + submissions o.submitted (actor step)
 
 -- one value more leaves what is kept
-pub seat-grown : (n : ℕ) (values more : List Value) (p : ℕ) (m : Member) (seat : Seat) → Keeps n values p m seat → Keeps n (values ++ more) p m seat
+pub seat-grown : (n : ℕ) (values more : List Value) (p : ℕ) (m : Member) (seat : Seat) → Keeps n values p m seat →
+    Keeps n (values ++ more) p m seat
 seat-grown n values more p m seat k = record {
   crashed = k.crashed;
   me = k.me;
@@ -60,7 +62,9 @@ seat-grown n values more p m seat k = record {
 }
 
 -- the seat of a member that got, delivered and began nothing meanwhile
-pub seat-kept : (n : ℕ) (values : List Value) (p : ℕ) (m m' : Member) (seat seat' : Seat) → Keeps n values p m seat → seat'.crashed ≡ m'.crashed → seat'.relay ≡ seat.relay → seat'.caster ≡ seat.caster → seat'.table ≡ seat.table → m'.got ≡ m.got → m'.batches ≡ m.batches → m'.last ≡ m.last → KeepsInstances n values p m' seat'.instances → Keeps n values p m' seat'
+pub seat-kept : (n : ℕ) (values : List Value) (p : ℕ) (m m' : Member) (seat seat' : Seat) → Keeps n values p m seat →
+    seat'.crashed ≡ m'.crashed → seat'.relay ≡ seat.relay → seat'.caster ≡ seat.caster → seat'.table ≡ seat.table → m'.got ≡ m.got →
+    m'.batches ≡ m.batches → m'.last ≡ m.last → KeepsInstances n values p m' seat'.instances → Keeps n values p m' seat'
 seat-kept n values p m m' seat seat' k crashed relay caster same_table got batches last instances = record {
   crashed = crashed;
   me = ap (λ (r : Taken). r.me) relay ∙ k.me;
@@ -72,11 +76,13 @@ seat-kept n values p m m' seat seat' k crashed relay caster same_table got batch
   instances = instances;
 }
 
-after-proposals : (w : Rehearsal) (p : ℕ) (o : Outcome) → values_of (after w.setting (state_of w) p o) ≡ values_of (state_of w) ++ map (λ (x : Proposal). x.value) o.proposals
+after-proposals : (w : Rehearsal) (p : ℕ) (o : Outcome) → values_of (after w.setting (state_of w) p o) ≡ values_of (state_of w)
+    ++ map (λ (x : Proposal). x.value) o.proposals
 unfolding after
 after-proposals w p o = map-append (λ (x : Proposal). x.value) (state_of w).proposals o.proposals
 
-module _ (w : Rehearsal) (step : Step) (o : Outcome) (f new : Fields) (world : IsWorld w f) (taken : IsTaken w step o) (s : IsStepped w step o f new) where
+module _ (w : Rehearsal) (step : Step) (o : Outcome) (f new : Fields) (world : IsWorld w f) (taken : IsTaken w step o)
+    (s : IsStepped w step o f new) where
   n : ℕ
   n = w.setting.members
 
@@ -100,8 +106,11 @@ module _ (w : Rehearsal) (step : Step) (o : Outcome) (f new : Fields) (world : I
   sent : NamesEnvelopes new.book.values new.network.sent h.sent
   unfolding h
   sent =
-      let grown : NamesEnvelopes new.book.values f.network.sent (state_of w).sent = subst (λ vs. NamesEnvelopes vs f.network.sent (state_of w).sent) (sym s.values) (grows_envelopes f.book.values (map (λ (x : Proposal). x.value) o.proposals) f.network.sent (state_of w).sent world.sent) in
-      let both : NamesEnvelopes new.book.values (f.network.sent ++ s.posts) ((state_of w).sent ++ envelopes w.setting.members o.mail) = named_append new.book.values f.network.sent s.posts (state_of w).sent (envelopes w.setting.members o.mail) grown s.posted in
+      let grown : NamesEnvelopes new.book.values f.network.sent (state_of w).sent =
+      subst (λ vs. NamesEnvelopes vs f.network.sent (state_of w).sent) (sym s.values)
+      (grows_envelopes f.book.values (map (λ (x : Proposal). x.value) o.proposals) f.network.sent (state_of w).sent world.sent) in
+      let both : NamesEnvelopes new.book.values (f.network.sent ++ s.posts) ((state_of w).sent ++ envelopes w.setting.members o.mail) =
+      named_append new.book.values f.network.sent s.posts (state_of w).sent (envelopes w.setting.members o.mail) grown s.posted in
       rw (s.sent, after-sent w.setting (state_of w) (actor step) o) both
 
   line : (q : ℕ) → is_member w.setting.members q ≡ true → line_at new.network.lines q ≡ line_of (extended w step) q
@@ -109,16 +118,21 @@ module _ (w : Rehearsal) (step : Step) (o : Outcome) (f new : Fields) (world : I
       s.line q group
       ∙ ap (λ ks. changed q (line_change step) ks ++ serials_to q (length f.network.sent) s.posts) (world.line q group)
       ∙ ap (λ ks. changed q (line_change step) (line_of w q) ++ ks)
-      (ap (λ k. serials_to q k s.posts) (named_length f.book.values f.network.sent (state_of w).sent world.sent) ∙ named_serials new.book.values s.posts (envelopes w.setting.members o.mail) q (length (state_of w).sent) s.posted)
+      (ap (λ k. serials_to q k s.posts) (named_length f.book.values f.network.sent (state_of w).sent world.sent)
+      ∙ named_serials new.book.values s.posts (envelopes w.setting.members o.mail) q (length (state_of w).sent) s.posted)
       ∙ sym (line-step w step o world.lawful taken q)
 
-  grown_other : (q : ℕ) → is_member w.setting.members q ≡ true → Keeps w.setting.members new.book.values q (member (state_of w) q) (seat_of f.seats q)
-  grown_other q group = subst (λ vs. Keeps w.setting.members vs q (member (state_of w) q) (seat_of f.seats q)) (sym s.values) (seat-grown w.setting.members f.book.values (map (λ (x : Proposal). x.value) o.proposals) q (member (state_of w) q) (seat_of f.seats q) (world.seat q group))
+  grown_other : (q : ℕ) → is_member w.setting.members q ≡ true →
+      Keeps w.setting.members new.book.values q (member (state_of w) q) (seat_of f.seats q)
+  grown_other q group = subst (λ vs. Keeps w.setting.members vs q (member (state_of w) q) (seat_of f.seats q)) (sym s.values)
+      (seat-grown w.setting.members f.book.values (map (λ (x : Proposal). x.value) o.proposals) q (member (state_of w) q)
+      (seat_of f.seats q) (world.seat q group))
 
   seat : (q : ℕ) → is_member w.setting.members q ≡ true → Keeps w.setting.members new.book.values q (member h q) (seat_of new.seats q)
   unfolding h
   seat q group = rw s.seats (elim (cases_eq q (actor step)) [
-    | inl e ↦ subst (λ r. Keeps w.setting.members new.book.values r (member (after w.setting (state_of w) (actor step) o) r) (seat_of (set f.seats (actor step - 1) s.seat) r)) (sym e)
+    | inl e ↦ subst (λ r. Keeps w.setting.members new.book.values r (member (after w.setting (state_of w) (actor step) o) r)
+        (seat_of (set f.seats (actor step - 1) s.seat) r)) (sym e)
         (rw (seat-same f.seats (actor step) s.seat within, member-same w.setting (state_of w) (actor step) o there) s.keeps)
     | inr ne ↦
         let away = apart w.setting.members (actor step) q taken.present.in_group group ne in
@@ -127,8 +141,13 @@ module _ (w : Rehearsal) (step : Step) (o : Outcome) (f new : Fields) (world : I
 
   submitted : (q : ℕ) → is_member w.setting.members q ≡ true → (seat_of new.seats q).submitted ≡ submissions h.submitted q
   unfolding h
-  submitted q group = rw (s.seats, after-submitted w.setting (state_of w) (actor step) o, submissions-append (state_of w).submitted o.submitted q) (elim (cases_eq q (actor step)) [
-    | inl e ↦ subst (λ r. (seat_of (set f.seats (actor step - 1) s.seat) r).submitted ≡ submissions (state_of w).submitted r + submissions o.submitted r) (sym e)
+  submitted q group = rw (
+    s.seats,
+    after-submitted w.setting (state_of w) (actor step) o,
+    submissions-append (state_of w).submitted o.submitted q,
+  ) (elim (cases_eq q (actor step)) [
+    | inl e ↦ subst (λ r. (seat_of (set f.seats (actor step - 1) s.seat) r).submitted ≡ submissions (state_of w).submitted r
+        + submissions o.submitted r) (sym e)
         (rw (seat-same f.seats (actor step) s.seat within) s.submitted)
     | inr ne ↦
         let away = apart w.setting.members (actor step) q taken.present.in_group group ne in
@@ -141,7 +160,8 @@ module _ (w : Rehearsal) (step : Step) (o : Outcome) (f new : Fields) (world : I
   unfolding h
   refined = record {
     lawful = lawful-step w step o world.lawful taken;
-    messages = rw state_is (knows-next w.setting (state_of w) step (after w.setting (state_of w) (actor step) o) (next-step w step o world.lawful taken) world.lawful.size world.messages);
+    messages = rw state_is (knows-next w.setting (state_of w) step (after w.setting (state_of w) (actor step) o)
+        (next-step w step o world.lawful taken) world.lawful.size world.messages);
     few_members = world.few_members;
     few_cells = world.few_cells;
     values = rw state_is values;

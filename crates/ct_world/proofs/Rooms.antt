@@ -61,12 +61,14 @@ world-roomier w f new world r = record {
   lined = ap length r.lines ∙ world.lined;
   line = λ q group. ap (λ lines. line_at lines q) r.lines ∙ world.line q group;
   seated = r.seated ∙ world.seated;
-  seat = λ q group. rw r.values (keeps-roomier w.setting.members f.book.values q _ (seat_of f.seats q) (seat_of new.seats q) (r.each q group) (world.seat q group));
+  seat = λ q group. rw r.values (keeps-roomier w.setting.members f.book.values q _ (seat_of f.seats q) (seat_of new.seats q)
+      (r.each q group) (world.seat q group));
   submitted = λ q group. ap (λ (c : Content). c.seat.submitted) (r.each q group) ∙ world.submitted q group;
 }
 
 -- the seats stay
-pub roomier-network : (w : Rehearsal) (f new : Fields) → new.book.values ≡ f.book.values → new.network.sent ≡ f.network.sent → new.network.lines ≡ f.network.lines → new.seats ≡ f.seats → IsRoomier w f new
+pub roomier-network : (w : Rehearsal) (f new : Fields) → new.book.values ≡ f.book.values → new.network.sent ≡ f.network.sent →
+    new.network.lines ≡ f.network.lines → new.seats ≡ f.seats → IsRoomier w f new
 roomier-network w f new values sent lines seats = record {
   values = values;
   sent = sent;

@@ -1,5 +1,6 @@
 -- What is read off a world's fields.
-use Rattle.std.proofs.Common.{◌≡◌, ℕ, zero, suc, ◌-◌, ◌≤◌, List, [], ◌∷◌, ◌++◌, map, slice_get, Option, Some, None, option_map, refl, ap, sym, ◌∙◌, subst, arith}
+use Rattle.std.proofs.Common.{◌≡◌, ℕ, zero, suc, ◌-◌, ◌≤◌, List, [], ◌∷◌, ◌++◌, map, slice_get, Option, Some, None, option_map, refl, ap}
+use Rattle.std.proofs.Common.{sym, ◌∙◌, subst, arith}
 use Rattle.std.specs.Prelude.{option_and_then, flat_map}
 use Rattle.std.proofs.lemmas.Option.{slice_get-map}
 use Rattle.ct_names.specs.Value.{Value}
@@ -25,8 +26,10 @@ serial-map : {A B : Type 0} (f : A → B) (xs : List A) (k : ℕ) → at_serial 
 serial-map f xs zero = refl
 serial-map f xs (suc i) = slice_get-map f xs i
 
-pub without_value_at : (values : List Value) (xs : List (AnyEnvelope ℕ)) (es : List Envelope) (k : ℕ) → NamesEnvelopes values xs es → option_map without_value (at_serial xs k) ≡ option_map without_value (at_serial es k)
-without_value_at values xs es k h = sym (serial-map without_value xs k) ∙ ap (λ zs. at_serial zs k) (named_without_value values xs es h) ∙ serial-map without_value es k
+pub without_value_at : (values : List Value) (xs : List (AnyEnvelope ℕ)) (es : List Envelope) (k : ℕ) → NamesEnvelopes values xs es →
+    option_map without_value (at_serial xs k) ≡ option_map without_value (at_serial es k)
+without_value_at values xs es k h = sym (serial-map without_value xs k) ∙ ap (λ zs. at_serial zs k) (named_without_value values xs es h)
+    ∙ serial-map without_value es k
 
 -- and the values that they carry
 
@@ -34,7 +37,8 @@ without_value_at values xs es k h = sym (serial-map without_value xs k) ∙ ap (
 abbrev pub carried : List Envelope → ℕ → Option Value
 carried es k = option_and_then (λ e. value_of e.wire) (at_serial es k)
 
-module _ (values : List Value) (xs : List (AnyEnvelope ℕ)) (es : List Envelope) (k : ℕ) (names : NamesEnvelopes values xs es) (x : AnyEnvelope ℕ) (there : at_serial xs k ≡ Some x) where
+module _ (values : List Value) (xs : List (AnyEnvelope ℕ)) (es : List Envelope) (k : ℕ) (names : NamesEnvelopes values xs es)
+    (x : AnyEnvelope ℕ) (there : at_serial xs k ≡ Some x) where
   pub carried_named : NamesDecision values (value_of x.wire) (carried es k)
   carried_named =
       let found = named_at values xs es k x names there in
@@ -75,7 +79,8 @@ module _ (w : Rehearsal) (p : ℕ) (seat : Seat) (sits : IsSeatOf w p seat) wher
   table_is = sits.keeps.table
 
 -- what stands at a serial
-pub serial_at : {A B : Type 0} (f : A → B) (xs : List A) (k i : ℕ) (got : Option B) (list : List B) → 1 ≤ k → i ≡ k - 1 → list ≡ map f xs → got ≡ slice_get list i → got ≡ option_map f (at_serial xs k)
+pub serial_at : {A B : Type 0} (f : A → B) (xs : List A) (k i : ℕ) (got : Option B) (list : List B) → 1 ≤ k → i ≡ k - 1 → list ≡ map f xs →
+    got ≡ slice_get list i → got ≡ option_map f (at_serial xs k)
 serial_at f xs zero i got list low at is e = absurd (omega arith)
 serial_at f xs (suc j) i got list low at is e =
     let same : i ≡ j = omega arith in

@@ -49,7 +49,8 @@ module _ (n cells : ℕ) (f : Fields) (new : AreNewSeats n n f.seats) where
       subst (λ q. content (seat_of f.seats p) ≡ content (new_seat n q)) at (new.each (p - 1) no_seat (place n p group))
 
   -- nothing sent, nothing proposed and new seats are the world of a record without steps
-  pub world-empty : n ≤ MAX_MEMBERS → cells ≤ MAX_CELLS → f.network.sent ≡ [] → f.network.lines ≡ replicate n [] → f.book.values ≡ [] → IsWorld (record { setting = record { members = n }; cells = cells; steps = [] }) f
+  pub world-empty : n ≤ MAX_MEMBERS → cells ≤ MAX_CELLS → f.network.sent ≡ [] → f.network.lines ≡ replicate n [] → f.book.values ≡ [] →
+      IsWorld (record { setting = record { members = n }; cells = cells; steps = [] }) f
   unfolding s
   world-empty small few sent lines values = record {
     lawful = lawful-first (record { members = n }) cells;
@@ -59,14 +60,19 @@ module _ (n cells : ℕ) (f : Fields) (new : AreNewSeats n n f.seats) where
     values = values ∙ sym (ap values_of (state-first (record { members = n }) cells) ∙ proposals-first (record { members = n }));
     sent = rw (sent, state-first (record { members = n }) cells, sent-first (record { members = n })) refl;
     lined = ap length lines ∙ length-replicate n [];
-    line = λ p group. ap (λ ls. line_at ls p) lines ∙ get_or-replicate n (p - 1) [] [] (place n p group) ∙ sym (line-first (record { members = n }) cells p);
+    line = λ p group. ap (λ ls. line_at ls p) lines ∙ get_or-replicate n (p - 1) [] [] (place n p group)
+        ∙ sym (line-first (record { members = n }) cells p);
     seated = new.seated;
-    seat = λ p group. rw (state-first (record { members = n }) cells, member-first (record { members = n }) p) (new_keeps n f.book.values p (seat_of f.seats p) (seat_new p group));
+    seat = λ p group. rw (state-first (record { members = n }) cells, member-first (record { members = n }) p)
+        (new_keeps n f.book.values p (seat_of f.seats p) (seat_new p group));
     submitted = λ p group. rw (state-first (record { members = n }) cells, submissions-first (record { members = n }) p)
         (ap (λ (c : Content). c.seat.submitted) (seat_new p group));
   }
 
 -- the same where the steps are known to be none
-pub world-first : (n cells : ℕ) (steps : List Step) (f : Fields) → n ≤ MAX_MEMBERS → cells ≤ MAX_CELLS → steps ≡ [] → f.network.sent ≡ [] → f.network.lines ≡ replicate n [] → f.book.values ≡ [] → AreNewSeats n n f.seats → IsWorld (record { setting = record { members = n }; cells = cells; steps = steps }) f
+pub world-first : (n cells : ℕ) (steps : List Step) (f : Fields) → n ≤ MAX_MEMBERS → cells ≤ MAX_CELLS → steps ≡ [] → f.network.sent ≡ [] →
+    f.network.lines ≡ replicate n [] → f.book.values ≡ [] → AreNewSeats n n f.seats →
+    IsWorld (record { setting = record { members = n }; cells = cells; steps = steps }) f
 world-first n cells steps f small few none sent lines values new =
-    subst (λ ss. IsWorld (record { setting = record { members = n }; cells = cells; steps = ss }) f) (sym none) (world-empty n cells f new small few sent lines values)
+    subst (λ ss. IsWorld (record { setting = record { members = n }; cells = cells; steps = ss }) f) (sym none)
+    (world-empty n cells f new small few sent lines values)

@@ -1,5 +1,6 @@
 -- Submit: the message that goes to all, and the seat after it.
-use Rattle.std.proofs.Common.{◌≡◌, ℕ, ◌+◌, ◌-◌, ◌≤◌, true, List, [], ◌∷◌, length, set, refl, ap, sym, ◌∙◌, subst, arith, append-nil, Option, Some, None}
+use Rattle.std.proofs.Common.{◌≡◌, ℕ, ◌+◌, ◌-◌, ◌≤◌, true, List, [], ◌∷◌, length, set, refl, ap, sym, ◌∙◌, subst, arith, append-nil, Option}
+use Rattle.std.proofs.Common.{Some, None}
 use Rattle.std.specs.Prelude.{if◌then◌else◌, IsSome}
 use Rattle.ct_names.specs.declared.limit.TheConstants.{MAX_ENVELOPES}
 use Rattle.ct_names.specs.declared.command.Command.{Command}
@@ -30,17 +31,22 @@ use Rattle.ct_world.proofs.Posts.{IsPosted, stepped-sending}
 use Rattle.ct_world.proofs.Refines.{refined, seat-kept}
 
 -- the message that is made is the next one
-pub next_made : (r : Option Message) (m : Message) (p k : ℕ) (c : Command) (list : List Message) → r ≡ (if is_good c then Some (record { origin = p; number = k + 1; command = c }) else None) → is_good c ≡ true → r ≡ Some m → k ≡ submissions list p → m ≡ next_message list p c
+pub next_made : (r : Option Message) (m : Message) (p k : ℕ) (c : Command) (list : List Message) →
+    r ≡ (if is_good c then Some (record { origin = p; number = k + 1; command = c }) else None) → is_good c ≡ true → r ≡ Some m →
+    k ≡ submissions list p → m ≡ next_message list p c
 next_made r m p k c list made good is count =
     let n : k + 1 ≡ 1 + submissions list p = omega arith in
-    some-same m (next_message list p c) (sym is ∙ made ∙ ap (λ b. if b then Some (record { origin = p; number = k + 1; command = c }) else None) good ∙ ap (λ i. Some (record { origin = p; number = i; command = c })) n)
+    some-same m (next_message list p c) (sym is ∙ made ∙ ap (λ b. if b then Some (record { origin = p; number = k + 1; command = c })
+    else None) good ∙ ap (λ i. Some (record { origin = p; number = i; command = c })) n)
 
 pub good_made : (r : Option Message) (m : Message) (c : Command) → r ≡ (if is_good c then Some m else None) → is_good c ≡ true → IsSome r
 good_made r m c made good = subst (λ x. IsSome x) (sym (made ∙ ap (λ b. if b then Some m else None) good)) refl
 
-one_more : (w : Rehearsal) (p : ℕ) (c : Command) (k : ℕ) → k ≡ submissions (state_of w).submitted p → k + 1 ≡ submissions (state_of w).submitted p + submissions (next_message (state_of w).submitted p c ∷ []) p
+one_more : (w : Rehearsal) (p : ℕ) (c : Command) (k : ℕ) → k ≡ submissions (state_of w).submitted p →
+    k + 1 ≡ submissions (state_of w).submitted p + submissions (next_message (state_of w).submitted p c ∷ []) p
 one_more w p c k count =
-    let one : submissions (next_message (state_of w).submitted p c ∷ []) p ≡ 1 = submissions-next (state_of w).submitted p p c ∙ ap (λ b. if b then 1 else 0) (self_number p) in
+    let one : submissions (next_message (state_of w).submitted p c ∷ []) p ≡ 1 =
+    submissions-next (state_of w).submitted p p c ∙ ap (λ b. if b then 1 else 0) (self_number p) in
     omega arith
 
 no_value : Value
@@ -51,34 +57,48 @@ number-all : (n : ℕ) (x : AnyWire ℕ) → length (envelopes n (All x)) ≡ n
 number-all n x = sym (length-envelopes-map (λ id. no_value) n (All x)) ∙ length-all n (wire_map (λ id. no_value) x)
 
 -- as many envelopes are sent as there are members
-pub submit_number : (w : Rehearsal) (p : ℕ) (c : Command) → length (envelopes w.setting.members (submit_outcome w p c).mail) ≡ w.setting.members
+pub submit_number : (w : Rehearsal) (p : ℕ) (c : Command) → length (envelopes w.setting.members (submit_outcome w p c).mail)
+    ≡ w.setting.members
 submit_number w p c = rw (submit_outcome-is w p c) (length-all w.setting.members (Data (next_message (state_of w).submitted p c)))
 
 -- the mail fits
-pub submit_few : (w : Rehearsal) (p : ℕ) (c : Command) (f : Fields) (x : AnyWire ℕ) → IsPrepared w (Submit p c) f → length f.network.sent + length (envelopes (length f.network.lines) (All x)) ≤ MAX_ENVELOPES
+pub submit_few : (w : Rehearsal) (p : ℕ) (c : Command) (f : Fields) (x : AnyWire ℕ) → IsPrepared w (Submit p c) f →
+    length f.network.sent + length (envelopes (length f.network.lines) (All x)) ≤ MAX_ENVELOPES
 submit_few w p c f x ready =
     let taken = (submit_taken w p c ready.world.lawful ready.ready.allowed).taken in
     let few = taken.within.few_envelopes in
-    let sent : length f.network.sent ≡ length (state_of w).sent = named_length f.book.values f.network.sent (state_of w).sent ready.world.sent in
-    let after_is : length (after w.setting (state_of w) p (submit_outcome w p c)).sent ≡ length (state_of w).sent + length (envelopes w.setting.members (submit_outcome w p c).mail) = length-after-sent w.setting (state_of w) p (submit_outcome w p c) in
+    let sent : length f.network.sent ≡ length (state_of w).sent =
+    named_length f.book.values f.network.sent (state_of w).sent ready.world.sent in
+    let after_is : length (after w.setting (state_of w) p (submit_outcome w p c)).sent ≡ length (state_of w).sent
+    + length (envelopes w.setting.members (submit_outcome w p c).mail) =
+    length-after-sent w.setting (state_of w) p (submit_outcome w p c) in
     let mail : length (envelopes w.setting.members (submit_outcome w p c).mail) ≡ w.setting.members = submit_number w p c in
-    let number : length (envelopes (length f.network.lines) (All x)) ≡ w.setting.members = number-all (length f.network.lines) x ∙ ready.world.lined in
+    let number : length (envelopes (length f.network.lines) (All x)) ≡ w.setting.members =
+    number-all (length f.network.lines) x ∙ ready.world.lined in
     omega arith
 
-pub submit_mail : (w : Rehearsal) (p : ℕ) (c : Command) (f : Fields) (x : AnyWire ℕ) (k : ℕ) → IsPrepared w (Submit p c) f → k ≡ length (envelopes (length f.network.lines) (All x)) → length (envelopes w.setting.members (submit_outcome w p c).mail) ≡ k
+pub submit_mail : (w : Rehearsal) (p : ℕ) (c : Command) (f : Fields) (x : AnyWire ℕ) (k : ℕ) → IsPrepared w (Submit p c) f →
+    k ≡ length (envelopes (length f.network.lines) (All x)) → length (envelopes w.setting.members (submit_outcome w p c).mail) ≡ k
 submit_mail w p c f x k ready number = submit_number w p c ∙ sym (number ∙ number-all (length f.network.lines) x ∙ ready.world.lined)
 
 -- a Submit sends the next message to all
-pub submit_steps : (w : Rehearsal) (p : ℕ) (c : Command) (f new : Fields) (m : Message) → IsPrepared w (Submit p c) f → m ≡ next_message (state_of w).submitted p c → new.seats ≡ set f.seats (p - 1) (record (seat_of f.seats p) { submitted = (seat_of f.seats p).submitted + 1 }) → new.book.values ≡ f.book.values → IsPosted f.network new.network (All (Data m)) → IsWorld (extended w (Submit p c)) new
+pub submit_steps : (w : Rehearsal) (p : ℕ) (c : Command) (f new : Fields) (m : Message) → IsPrepared w (Submit p c) f →
+    m ≡ next_message (state_of w).submitted p c → new.seats ≡ set f.seats (p - 1)
+    (record (seat_of f.seats p) { submitted = (seat_of f.seats p).submitted + 1 }) → new.book.values ≡ f.book.values →
+    IsPosted f.network new.network (All (Data m)) → IsWorld (extended w (Submit p c)) new
 submit_steps w p c f new m ready made seats values posted =
     let keeps = ready.world.seat p ready.in_group in
     let taken = (submit_taken w p c ready.world.lawful ready.ready.allowed).taken in
     let who : Member = member (state_of w) p in
-    let named : NamesMail new.book.values (All (Data m)) (All (Data (next_message (state_of w).submitted p c))) = ap (λ x. let mail : AnyMail (Option Value) = All (Data x) in mail) made in
+    let named : NamesMail new.book.values (All (Data m)) (All (Data (next_message (state_of w).submitted p c))) =
+    ap (λ x. let mail : AnyMail (Option Value) = All (Data x) in mail) made in
     refined w (Submit p c) (submit_outcome w p c) f new ready.world taken
-    (rw (submit_outcome-is w p c) (stepped-sending w (Submit p c) (submit (state_of w) p (member (state_of w) p) c) f new (record (seat_of f.seats p) { submitted = (seat_of f.seats p).submitted + 1 }) (All (Data m)) ready.world refl (record {
+    (rw (submit_outcome-is w p c) (stepped-sending w (Submit p c) (submit (state_of w) p (member (state_of w) p) c) f new
+    (record (seat_of f.seats p) { submitted = (seat_of f.seats p).submitted + 1 }) (All (Data m)) ready.world refl (record {
       values = values ∙ sym (append-nil f.book.values);
       seats = seats;
-      keeps = rw values (seat-kept w.setting.members f.book.values p who who (seat_of f.seats p) (record (seat_of f.seats p) { submitted = (seat_of f.seats p).submitted + 1 }) keeps keeps.crashed refl refl refl refl refl refl keeps.instances);
+      keeps = rw values (seat-kept w.setting.members f.book.values p who who (seat_of f.seats p)
+          (record (seat_of f.seats p) { submitted = (seat_of f.seats p).submitted + 1 }) keeps keeps.crashed refl refl refl refl refl refl
+          keeps.instances);
       submitted = one_more w p c (seat_of f.seats p).submitted (ready.world.submitted p ready.in_group);
     }) named posted))

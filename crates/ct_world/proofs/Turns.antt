@@ -1,5 +1,6 @@
 -- The five steps of a round: what the instances of the member and the network did is the step.
-use Rattle.std.proofs.Common.{◌≡◌, ℕ, ◌+◌, ◌-◌, ◌<◌, ◌≤◌, true, List, [], length, set, refl, ap, sym, ◌∙◌, subst, append-nil, arith, Option, Some}
+use Rattle.std.proofs.Common.{◌≡◌, ℕ, ◌+◌, ◌-◌, ◌<◌, ◌≤◌, true, List, [], length, set, refl, ap, sym, ◌∙◌, subst, append-nil, arith, Option}
+use Rattle.std.proofs.Common.{Some}
 use Rattle.std.specs.Prelude.{nat_le}
 use Rattle.std.proofs.lemmas.Bool.Decides.{nat_tests}
 use Rattle.ct_names.specs.declared.limit.TheConstants.{MAX_ENVELOPES}
@@ -39,10 +40,12 @@ use Rattle.ct_world.proofs.Refines.{refined, seat-kept}
 pub record IsTurned (w : Rehearsal) (step : Step) (f : Fields) (kept : Kept) (mail : AnyMail ℕ) : Type 0 where
   pub turn : Turn
   pub named : NamesMail f.book.values mail turn.mail
-  pub keeps : KeepsInstances w.setting.members f.book.values (actor step) (record (member (state_of w) (actor step)) { current = Some turn.after }) kept
+  pub keeps : KeepsInstances w.setting.members f.book.values (actor step)
+      (record (member (state_of w) (actor step)) { current = Some turn.after }) kept
   pub taken : IsTaken w step (turned (member (state_of w) (actor step)) turn)
 
-pub turned_at : (w : Rehearsal) (step : Step) (by : Standing → Option Turn) (f : Fields) (kept : Kept) (mail : AnyMail ℕ) → IsPrepared w step f
+pub turned_at : (w : Rehearsal) (step : Step) (by : Standing → Option Turn) (f : Fields) (kept : Kept) (mail : AnyMail ℕ) →
+    IsPrepared w step f
     → row w.setting (state_of w) (actor step) (member (state_of w) (actor step)) step ≡ round_row (member (state_of w) (actor step)) by
     → IsTurnedBy (member (state_of w) (actor step)) f.book.values by w.setting.members (actor step) (record { after = kept; mail = mail })
     → IsTurned w step f kept mail
@@ -53,7 +56,8 @@ turned_at w step by f kept mail ready is t =
       turn = t.turn;
       named = t.mail;
       keeps = t.keeps;
-      taken = taken_of w step (turned m t.turn) ready.world.lawful ready.ready.allowed (is ∙ turned-row m f.book.values by w.setting.members (actor step) stepped t);
+      taken = taken_of w step (turned m t.turn) ready.world.lawful ready.ready.allowed
+          (is ∙ turned-row m f.book.values by w.setting.members (actor step) stepped t);
     }
 
 group_member : (n p : ℕ) → IsMember n p → is_member n p ≡ true
@@ -63,7 +67,8 @@ group_member n p h =
     and_both (nat_le 1 p) (nat_le p n) low high
 
 -- mail goes to members where the mail with the values themselves does
-named_addressed : (values : List Value) (n : ℕ) (x : AnyMail ℕ) (mail : Mail) → NamesMail values x mail → ((to : ℕ) (w : Wire) → mail ≡ One to w → IsMember n to) → IsAddressed n x
+named_addressed : (values : List Value) (n : ℕ) (x : AnyMail ℕ) (mail : Mail) → NamesMail values x mail →
+    ((to : ℕ) (w : Wire) → mail ≡ One to w → IsMember n to) → IsAddressed n x
 named_addressed values n Nobody mail h to_member = tt
 named_addressed values n (One to x) Nobody h to_member = absurd (cc)
 named_addressed values n (One to x) (One q w) h to_member =
@@ -75,10 +80,12 @@ named_addressed values n (All x) mail h to_member = tt
 none_more : (k p : ℕ) → k ≡ k + submissions [] p
 none_more k p = let e = submissions-none p in omega arith
 
-module _ (w : Rehearsal) (step : Step) (f : Fields) (kept : Kept) (mail : AnyMail ℕ) (ready : IsPrepared w step f) (t : IsTurned w step f kept mail) where
+module _ (w : Rehearsal) (step : Step) (f : Fields) (kept : Kept) (mail : AnyMail ℕ) (ready : IsPrepared w step f)
+    (t : IsTurned w step f kept mail) where
   -- as many envelopes as with the values themselves
   number : length (envelopes w.setting.members mail) ≡ length (envelopes w.setting.members t.turn.mail)
-  number = named_length f.book.values (envelopes w.setting.members mail) (envelopes w.setting.members t.turn.mail) (named_posts f.book.values w.setting.members mail t.turn.mail t.named)
+  number = named_length f.book.values (envelopes w.setting.members mail) (envelopes w.setting.members t.turn.mail)
+      (named_posts f.book.values w.setting.members mail t.turn.mail t.named)
 
   -- what the network's post asks for
 
@@ -88,7 +95,8 @@ module _ (w : Rehearsal) (step : Step) (f : Fields) (kept : Kept) (mail : AnyMai
       let some : 0 < w.setting.members = omega (arith, ready.world.seated) in
       rw ready.world.lined
       (named_addressed f.book.values w.setting.members mail t.turn.mail t.named
-      (λ to x e. addressed-step w.setting (state_of w) (actor step) (member (state_of w) (actor step)) step (turned (member (state_of w) (actor step)) t.turn) to x some t.taken.row e))
+      (λ to x e. addressed-step w.setting (state_of w) (actor step) (member (state_of w) (actor step)) step
+      (turned (member (state_of w) (actor step)) t.turn) to x some t.taken.row e))
 
   pub turn_few : length f.network.sent + length (envelopes (length f.network.lines) mail) ≤ MAX_ENVELOPES
   turn_few =
@@ -98,22 +106,28 @@ module _ (w : Rehearsal) (step : Step) (f : Fields) (kept : Kept) (mail : AnyMai
       let more = number in
       rw ready.world.lined (omega arith)
 
-  pub turn_number : (sent : ℕ) → sent ≡ length (envelopes (length f.network.lines) mail) → length (envelopes w.setting.members t.turn.mail) ≡ sent
+  pub turn_number : (sent : ℕ) → sent ≡ length (envelopes (length f.network.lines) mail) →
+      length (envelopes w.setting.members t.turn.mail) ≡ sent
   turn_number sent e = sym (e ∙ ap (λ n. length (envelopes n mail)) ready.world.lined ∙ number)
 
   -- after the post the fields are those of the longer record
-  pub turn_steps : (new : Fields) → line_change step ≡ Leaves → new.seats ≡ set f.seats (actor step - 1) (record (seat_of f.seats (actor step)) { instances = kept }) → new.book.values ≡ f.book.values → IsPosted f.network new.network mail → IsWorld (extended w step) new
+  pub turn_steps : (new : Fields) → line_change step ≡ Leaves →
+      new.seats ≡ set f.seats (actor step - 1) (record (seat_of f.seats (actor step)) { instances = kept }) →
+      new.book.values ≡ f.book.values → IsPosted f.network new.network mail → IsWorld (extended w step) new
   turn_steps new plain seats values posted =
       let seat : Seat = record (seat_of f.seats (actor step)) { instances = kept } in
       let m' : Member = record (member (state_of w) (actor step)) { current = Some t.turn.after } in
       let keeps : Keeps w.setting.members f.book.values (actor step) m' seat =
-      seat-kept w.setting.members f.book.values (actor step) (member (state_of w) (actor step)) m' (seat_of f.seats (actor step)) seat (ready.world.seat (actor step) ready.in_group)
+      seat-kept w.setting.members f.book.values (actor step) (member (state_of w) (actor step)) m' (seat_of f.seats (actor step)) seat
+      (ready.world.seat (actor step) ready.in_group)
       (ready.world.seat (actor step) ready.in_group).crashed refl refl refl refl refl refl t.keeps in
       let into : IsTurnedInto w step (turned (member (state_of w) (actor step)) t.turn) f new seat = record {
         values = values ∙ sym (append-nil f.book.values);
         seats = seats;
         keeps = rw values keeps;
-        submitted = ready.world.submitted (actor step) ready.in_group ∙ none_more (submissions (state_of w).submitted (actor step)) (actor step);
+        submitted = ready.world.submitted (actor step) ready.in_group
+            ∙ none_more (submissions (state_of w).submitted (actor step)) (actor step);
       } in
       refined w step (turned (member (state_of w) (actor step)) t.turn) f new ready.world t.taken
-      (stepped-sending w step (turned (member (state_of w) (actor step)) t.turn) f new seat mail ready.world plain into (subst (λ vs. NamesMail vs mail t.turn.mail) (sym values) t.named) posted)
+      (stepped-sending w step (turned (member (state_of w) (actor step)) t.turn) f new seat mail ready.world plain into
+      (subst (λ vs. NamesMail vs mail t.turn.mail) (sym values) t.named) posted)

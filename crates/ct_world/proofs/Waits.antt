@@ -1,5 +1,6 @@
 -- What waits at a member: its envelope, in the record and in the network.
-use Rattle.std.proofs.Common.{◌≡◌, ℕ, zero, suc, ◌-◌, ◌≤◌, true, List, [], ◌∷◌, length, slice_get, Some, None, option_map, ap, sym, ◌∙◌, subst, arith, inl, inr}
+use Rattle.std.proofs.Common.{◌≡◌, ℕ, zero, suc, ◌-◌, ◌≤◌, true, List, [], ◌∷◌, length, slice_get, Some, None, option_map, ap, sym, ◌∙◌}
+use Rattle.std.proofs.Common.{subst, arith, inl, inr}
 use Rattle.std.proofs.lemmas.Option.{slice_get-map}
 use Rattle.ct_names.specs.Group.{is_member}
 use Rattle.ct_names.specs.Membership.{IsIn}
@@ -24,7 +25,8 @@ use Rattle.ct_world.proofs.Insides.{IsKeptIn, view_in, fields_in}
 use Rattle.ct_world.proofs.Receipts.{IsKnown, known_name}
 
 -- the member's line
-pub lined_member : (w : Rehearsal) (f : Fields) (p : ℕ) → IsWorld w f → is_member w.setting.members p ≡ true → is_member (length f.network.lines) p ≡ true
+pub lined_member : (w : Rehearsal) (f : Fields) (p : ℕ) → IsWorld w f → is_member w.setting.members p ≡ true →
+    is_member (length f.network.lines) p ≡ true
 lined_member w f p world group = ap (λ n. is_member n p) world.lined ∙ group
 
 -- an envelope at its serial
@@ -39,7 +41,8 @@ found (y ∷ list) (suc i) x e = inr (found list i x e)
 
 -- its wire is among those that were sent
 wire_sent : (g : State) (i : ℕ) (e : Envelope) → slice_get g.sent i ≡ Some e → IsIn e.wire (wires g)
-wire_sent g i e there = found (wires g) i e.wire (slice_get-map (λ (z : Envelope). z.wire) g.sent i ∙ ap (option_map (λ (z : Envelope). z.wire)) there)
+wire_sent g i e there = found (wires g) i e.wire (slice_get-map (λ (z : Envelope). z.wire) g.sent i
+    ∙ ap (option_map (λ (z : Envelope). z.wire)) there)
 
 -- a message that it carries was submitted
 known_wire : (s : Setting) (g : State) (p : ℕ) (w : Wire) → KnowsMessages s g → CarriesOne g.submitted w → IsKnown (member g p).got w
@@ -63,14 +66,16 @@ pub record IsAwaited (w : Rehearsal) (f : Fields) (p k : ℕ) (x : AnyEnvelope �
 pub awaited : (w : Rehearsal) (f : Fields) (p k : ℕ) → IsWorld w f → is_waiting w p k ≡ true → (x : AnyEnvelope ℕ) × IsAwaited w f p k x
 awaited w f p k world waits =
     let e = waiting_letter w p k world.lawful waits in
-    let back = named_back f.book.values f.network.sent (state_of w).sent k e.0 world.sent (serial_of (state_of w).sent k e.0 e.1.positive e.1.there) in (
+    let back = named_back f.book.values f.network.sent (state_of w).sent k e.0 world.sent
+    (serial_of (state_of w).sent k e.0 e.1.positive e.1.there) in (
       back.0,
       record {
         there = back.1;
         envelope = e.0;
         letter = e.1;
         names = back.2;
-        somebody = sender_named w.setting w.steps (state_of w) world.few_members world.lawful.runs e.0.wire (wire_sent (state_of w) (k - 1) e.0 e.1.there);
+        somebody = sender_named w.setting w.steps (state_of w) world.few_members world.lawful.runs e.0.wire
+            (wire_sent (state_of w) (k - 1) e.0 e.1.there);
         known = known_wire w.setting (state_of w) p e.0.wire world.messages (world.messages.sent (k - 1) e.0 e.1.there);
       },
     )
@@ -80,7 +85,8 @@ pub awaited-some : (w : Rehearsal) (f : Fields) (p k : ℕ) → IsWorld w f → 
 awaited-some w f p k world waits none = let a = awaited w f p k world waits in some-none a.0 (none ∙ a.1.there)
 
 -- and the one that it has is that
-pub awaited-is : (w : Rehearsal) (f : Fields) (p k : ℕ) (x : AnyEnvelope ℕ) → IsWorld w f → is_waiting w p k ≡ true → Some x ≡ at_serial f.network.sent k → IsAwaited w f p k x
+pub awaited-is : (w : Rehearsal) (f : Fields) (p k : ℕ) (x : AnyEnvelope ℕ) → IsWorld w f → is_waiting w p k ≡ true →
+    Some x ≡ at_serial f.network.sent k → IsAwaited w f p k x
 awaited-is w f p k x world waits is =
     let a = awaited w f p k world waits in
     subst (λ y. IsAwaited w f p k y) (some-same a.0 x (sym a.1.there ∙ sym is)) a.1

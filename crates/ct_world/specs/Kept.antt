@@ -1,5 +1,6 @@
 -- What a world keeps, and how it follows from the record.
-use Rattle.std.specs.Prelude.{◌≡◌, ℕ, ◌+◌, ◌-◌, ◌<◌, ◌≤◌, true, false, List, [], length, map, Option, Some, None, Result, MatchResult, slice_index_or, option_map}
+use Rattle.std.specs.Prelude.{◌≡◌, ℕ, ◌+◌, ◌-◌, ◌<◌, ◌≤◌, true, List, length, map, Option, Some, None, Result, MatchResult}
+use Rattle.std.specs.Prelude.{slice_index_or, option_map}
 use Rattle.ct_names.specs.declared.limit.TheConstants.{MAX_CELLS, MAX_MEMBERS}
 use Rattle.ct_names.specs.Group.{is_member}
 use Rattle.ct_names.specs.Batch.{Batch}
@@ -55,7 +56,8 @@ pub record IsWorld (w : Rehearsal) (f : Fields) : Type 0 where
   pub lined : length f.network.lines ≡ w.setting.members
   pub line : (p : ℕ) → is_member w.setting.members p ≡ true → line_at f.network.lines p ≡ line_of w p
   pub seated : length f.seats ≡ w.setting.members
-  pub seat : (p : ℕ) → is_member w.setting.members p ≡ true → Keeps w.setting.members f.book.values p (member (state_of w) p) (seat_of f.seats p)
+  pub seat : (p : ℕ) → is_member w.setting.members p ≡ true →
+      Keeps w.setting.members f.book.values p (member (state_of w) p) (seat_of f.seats p)
   pub submitted : (p : ℕ) → is_member w.setting.members p ≡ true → (seat_of f.seats p).submitted ≡ submissions (state_of w).submitted p
 
 -- the serial stands at this place of p's line

@@ -10,7 +10,11 @@ use Rattle.ct_world.specs.World.{WorldView}
 
 -- a world of this group and this many cells after the steps, with nothing prepared
 abbrev pub world_after : ℕ → ℕ → List Step → WorldView
-world_after n cells steps = record { rehearsal = record { setting = record { members = n }; cells = cells; steps = steps }; prepared = None }
+world_after n cells steps = record {
+  rehearsal = record { setting = record { members = n }; cells = cells; steps = steps };
+  prepared =
+      None;
+}
 
 -- the first steps of a list, as a record
 abbrev pub first_steps : ℕ → ℕ → List Step → ℕ → Rehearsal
@@ -18,7 +22,8 @@ first_steps n cells steps k = record { setting = record { members = n }; cells =
 
 -- each step is allowed after those before it
 abbrev pub AllowsFirst : ℕ → ℕ → List Step → ℕ → Type 0
-AllowsFirst n cells steps count = (k : ℕ) (step : Step) → k < count → slice_get steps k ≡ Some step → cause (first_steps n cells steps k) step ≡ None
+AllowsFirst n cells steps count = (k : ℕ) (step : Step) → k < count → slice_get steps k ≡ Some step →
+    cause (first_steps n cells steps k) step ≡ None
 
 -- step i, counted from 0, is refused, and each before it is allowed
 pub record IsRefusedAt (n cells : ℕ) (steps : List Step) (i : ℕ) (refusal : Refusal) : Type 0 where

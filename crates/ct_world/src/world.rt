@@ -60,7 +60,10 @@ impl Model for World {
 
     ghost use Rattle.ct_world.specs.Kept.{IsKept};
 
-    ghost view = { λ a. record { rehearsal = record { setting = record { members = a.group }; cells = a.cells; steps = a.record.items }; prepared = option_map step_in a.prepared } };
+    ghost view = { λ a. record {
+      rehearsal = record { setting = record { members = a.group }; cells = a.cells; steps = a.record.items };
+      prepared = option_map step_in a.prepared;
+    } };
 
     ghost invariant = { λ a. IsKept (record { setting = record { members = a.group }; cells = a.cells; steps = a.record.items }) a.prepared
         (record { network = a.network; book = a.book; seats = a.seats.items; spare_steps = vec_capacity a.record - vec_len a.record }) };

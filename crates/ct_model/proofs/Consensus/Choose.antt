@@ -22,7 +22,8 @@ use Rattle.ct_model.proofs.Consensus.Readings
 use Rattle.ct_model.proofs.Steps.Rows.{choose-is}
 use Rattle.ct_model.proofs.Consensus.RoundFacts.{turn-grows, turn-reaches, turn-allowed, standing-reached, gather-no_rest}
 
-module _ (s : Setting) (g : State) (p : ℕ) (holds : Holds s g) (is : IsMember s.members p) (c : Standing) (open_at : (member g p).current ≡ Some c) (e : Heard Value) where
+module _ (s : Setting) (g : State) (p : ℕ) (holds : Holds s g) (is : IsMember s.members p) (c : Standing)
+    (open_at : (member g p).current ≡ Some c) (e : Heard Value) where
   -- the open instance, the ballots of the round, the turn, its outcome, the state after it
   abbrev k : ℕ
   k = (member g p).last
@@ -116,7 +117,8 @@ module _ (s : Setting) (g : State) (p : ℕ) (holds : Holds s g) (is : IsMember 
         let round : r ≡ c.round = cc in
         let f = holds.founded (Prop j r w) sent in
         let own : coordinator s.members r ≡ p = ap (λ z. coordinator s.members z) round ∙ old.gathers gathers in
-        let past : HasChosen r c = standing-reached (member g p) j (HasChosen r) c ours open_at (subst (λ z. Reached (member g z) j (HasChosen r)) own f.reached) in
+        let past : HasChosen r c = standing-reached (member g p) j (HasChosen r) c ours open_at
+        (subst (λ z. Reached (member g z) j (HasChosen r)) own f.reached) in
         elim past [
           | inl a ↦ absurd (omega arith)
           | inr a ↦ Lists.contrary (is_gather c.phase) gathers a.1

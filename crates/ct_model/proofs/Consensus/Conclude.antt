@@ -14,14 +14,16 @@ use Rattle.ct_model.specs.Next.{turn_at, own_ballots, turned, after}
 use Rattle.ct_model.specs.Safe.{IsLocked}
 use Rattle.ct_model.proofs.Consensus.Sent.{Carries}
 use Rattle.ct_model.proofs.Consensus.Facts.{IsFounded, IsSound, Holds}
-use Rattle.ct_model.proofs.Consensus.Growth.{IsOnward, Grows, IsProposed-grows, IsCarried-grows, IsLocked-grows, IsMajority-more, acked-more}
+use Rattle.ct_model.proofs.Consensus.Growth.{IsOnward, Grows, IsProposed-grows, IsCarried-grows, IsLocked-grows, IsMajority-more}
+use Rattle.ct_model.proofs.Consensus.Growth.{acked-more}
 use Rattle.ct_model.proofs.Consensus.Obligations.{IsAllowed}
 use Rattle.ct_model.proofs.Consensus.Readings
 use Rattle.ct_model.proofs.Steps.Rows.{conclude-is}
 use Rattle.ct_model.proofs.Steps.Mail.{carried-if}
 use Rattle.ct_model.proofs.Consensus.RoundFacts.{turn-grows, turn-allowed}
 
-module _ (s : Setting) (g : State) (p : ℕ) (holds : Holds s g) (is : IsMember s.members p) (c : Standing) (open_at : (member g p).current ≡ Some c) (tallies : is_tally c.phase ≡ true) where
+module _ (s : Setting) (g : State) (p : ℕ) (holds : Holds s g) (is : IsMember s.members p) (c : Standing)
+    (open_at : (member g p).current ≡ Some c) (tallies : is_tally c.phase ≡ true) where
   -- the open instance, the ballots of the round, the turn, the state after it, the decision
   abbrev k : ℕ
   k = (member g p).last

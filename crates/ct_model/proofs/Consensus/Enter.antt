@@ -16,9 +16,11 @@ use Rattle.ct_model.proofs.Consensus.Facts.{Reached, HasRound, HasTs, IsCarried,
 use Rattle.ct_model.proofs.Consensus.Growth.{IsOnward, Grows, IsProposed-grows, IsCarried-grows}
 use Rattle.ct_model.proofs.Consensus.Obligations.{IsAllowed}
 use Rattle.ct_model.proofs.Steps.Rows.{enter-is}
-use Rattle.ct_model.proofs.Consensus.RoundFacts.{turn-grows, turn-reaches, turn-allowed, standing-reached, first-gather, first-wait, first-no_tally}
+use Rattle.ct_model.proofs.Consensus.RoundFacts.{turn-grows, turn-reaches, turn-allowed, standing-reached, first-gather, first-wait}
+use Rattle.ct_model.proofs.Consensus.RoundFacts.{first-no_tally}
 
-module _ (s : Setting) (g : State) (p : ℕ) (holds : Holds s g) (is : IsMember s.members p) (c : Standing) (open_at : (member g p).current ≡ Some c) where
+module _ (s : Setting) (g : State) (p : ℕ) (holds : Holds s g) (is : IsMember s.members p) (c : Standing)
+    (open_at : (member g p).current ≡ Some c) where
   -- the open instance, the turn, the state after it
   abbrev k : ℕ
   k = (member g p).last
@@ -57,7 +59,8 @@ module _ (s : Setting) (g : State) (p : ℕ) (holds : Holds s g) (is : IsMember 
     proposed = IsProposed-grows s g h up k c.estimate old.proposed;
     carried = λ some. further (c.round + 1) (carried some);
     waits_own = λ x own.
-        Lists.contrary (coordinator s.members (c.round + 1) == p) (eq-eqb (coordinator s.members (c.round + 1)) p own) (first-wait (coordinator s.members (c.round + 1) == p) x);
+        Lists.contrary (coordinator s.members (c.round + 1) == p) (eq-eqb (coordinator s.members (c.round + 1)) p own)
+        (first-wait (coordinator s.members (c.round + 1) == p) x);
     tallies_own = λ x. Lists.contrary (is_tally t.after.phase) x (first-no_tally (coordinator s.members (c.round + 1) == p));
   }
 
@@ -69,13 +72,15 @@ module _ (s : Setting) (g : State) (p : ℕ) (holds : Holds s g) (is : IsMember 
     carried = carried;
   }
 
-  after_ack : (j r later q : ℕ) (v : Value) (ts : ℕ) → Est j later q v ts ≡ Est k (c.round + 1) p c.estimate c.ts → Sent g (Ack j r q) → r < later → r ≤ ts
+  after_ack : (j r later q : ℕ) (v : Value) (ts : ℕ) → Est j later q v ts ≡ Est k (c.round + 1) p c.estimate c.ts → Sent g (Ack j r q) →
+      r < later → r ≤ ts
   after_ack j r later q v ts same sent lt =
       let here : q ≡ p = cc in
       let ours : j ≡ k = cc in
       let its : ts ≡ c.ts = cc in
       let f = holds.founded (Ack j r q) sent in
-      let low : r ≤ c.ts = standing-reached (member g p) j (HasTs r) c ours open_at (subst (λ z. Reached (member g z) j (HasTs r)) here f.reached) in
+      let low : r ≤ c.ts = standing-reached (member g p) j (HasTs r) c ours open_at
+      (subst (λ z. Reached (member g z) j (HasTs r)) here f.reached) in
       omega arith
 
   allowed : IsAllowed s g p (turned (member g p) t)

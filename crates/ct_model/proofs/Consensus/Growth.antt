@@ -1,5 +1,6 @@
 -- What is founded and sound stays so as the state grows.
-use Rattle.std.proofs.Common.{◌≡◌, ℕ, ◌+◌, ◌≤◌, Bool, true, false, cond, List, [], ◌∷◌, length, filter, Some, None, refl, sym, ◌∙◌, subst, arith, le_trans}
+use Rattle.std.proofs.Common.{◌≡◌, ℕ, ◌+◌, ◌≤◌, Bool, true, false, cond, List, [], ◌∷◌, length, filter, Some, None, refl, sym, ◌∙◌, subst}
+use Rattle.std.proofs.Common.{arith, le_trans}
 use Rattle.ct_names.specs.Group.{coordinator, IsMember, IsMajority, everyone}
 use Rattle.ct_names.specs.Membership.{IsIn}
 use Rattle.ct_names.specs.Value.{Value}
@@ -24,11 +25,13 @@ pub record IsOnward (c d : Standing) : Type 0 where
 -- how a step moves a member on
 pub data Advance (before : Member) (after : Member) : Type 0 where
   stays : after.last ≡ before.last → after.current ≡ before.current → Advance before after
-  turns : after.last ≡ before.last → (c d : Standing) → before.current ≡ Some c → after.current ≡ Some d → IsOnward c d → Advance before after
+  turns : after.last ≡ before.last → (c d : Standing) → before.current ≡ Some c → after.current ≡ Some d → IsOnward c d →
+      Advance before after
   opens : after.last ≡ before.last + 1 → Advance before after
   closes : after.last ≡ before.last → after.current ≡ None → Advance before after
 
-Reached-advance : (m o : Member) (k : ℕ) (P : Standing → Type 0) → ((c d : Standing) → IsOnward c d → P c → P d) → Advance m o → Reached m k P → Reached o k P
+Reached-advance : (m o : Member) (k : ℕ) (P : Standing → Type 0) → ((c d : Standing) → IsOnward c d → P c → P d) → Advance m o →
+    Reached m k P → Reached o k P
 Reached-advance m o k P keep (stays l e) (earlier h) = earlier (omega arith)
 Reached-advance m o k P keep (stays l e) (now h at) = now (h ∙ sym l) (λ c is. at c (sym e ∙ is))
 Reached-advance m o k P keep (turns l c d is then on) (earlier h) = earlier (omega arith)
@@ -46,21 +49,26 @@ pub record Grows (s : Setting) (g h : State) : Type 0 where
   pub advance : (q : ℕ) → IsMember s.members q → Advance (member g q) (member h q)
 
 -- more members pass a weaker test
-filter-more_cases : (one other : ℕ → Bool) (x : ℕ) (xs : List ℕ) (a b : Bool) → (a ≡ true → b ≡ true) → length (filter one xs) ≤ length (filter other xs) → length (cond a (x ∷ filter one xs) (filter one xs)) ≤ length (cond b (x ∷ filter other xs) (filter other xs))
+filter-more_cases : (one other : ℕ → Bool) (x : ℕ) (xs : List ℕ) (a b : Bool) → (a ≡ true → b ≡ true) →
+    length (filter one xs) ≤ length (filter other xs) → length (cond a (x ∷ filter one xs) (filter one xs))
+    ≤ length (cond b (x ∷ filter other xs) (filter other xs))
 filter-more_cases one other x xs true true h k = omega arith
 filter-more_cases one other x xs true false h k = Lists.contrary false (h refl) refl
 filter-more_cases one other x xs false true h k = omega arith
 filter-more_cases one other x xs false false h k = k
 
-filter-more : (one other : ℕ → Bool) → ((p : ℕ) → one p ≡ true → other p ≡ true) → (xs : List ℕ) → length (filter one xs) ≤ length (filter other xs)
+filter-more : (one other : ℕ → Bool) → ((p : ℕ) → one p ≡ true → other p ≡ true) → (xs : List ℕ) →
+    length (filter one xs) ≤ length (filter other xs)
 filter-more one other h [] = omega arith
 filter-more one other h (x ∷ xs) = filter-more_cases one other x xs (one x) (other x) (h x) (filter-more one other h xs)
 
-pub IsMajority-more : (n : ℕ) (one other : ℕ → Bool) → ((p : ℕ) → one p ≡ true → other p ≡ true) → IsMajority n (filter one everyone) → IsMajority n (filter other everyone)
+pub IsMajority-more : (n : ℕ) (one other : ℕ → Bool) → ((p : ℕ) → one p ≡ true → other p ≡ true) → IsMajority n (filter one everyone) →
+    IsMajority n (filter other everyone)
 IsMajority-more n one other h m = le_trans m (filter-more one other h everyone)
 
 -- who acked among some wires acked among more
-pub acked-more : (xs ys : List Wire) → ((w : Wire) → IsIn w xs → IsIn w ys) → (k r p : ℕ) → has_ack xs k r p ≡ true → has_ack ys k r p ≡ true
+pub acked-more : (xs ys : List Wire) → ((w : Wire) → IsIn w xs → IsIn w ys) → (k r p : ℕ) → has_ack xs k r p ≡ true →
+    has_ack ys k r p ≡ true
 acked-more xs ys sub k r p h =
     let f = Lists.found-list_any (is_ack k r p) xs h in
     Lists.list_any-found (is_ack k r p) f.item ys (sub f.item f.is_in) f.passes
@@ -70,7 +78,13 @@ module _ (s : Setting) (g h : State) (up : Grows s g h) where
   IsProposed-grows k v f = record { by = f.by; is_in = up.proposals (record { member = f.by; instance = k; value = v }) f.is_in }
 
   pub IsCarried-grows : (k ts bound : ℕ) (v : Value) → IsCarried g k ts bound v → IsCarried h k ts bound v
-  IsCarried-grows k ts bound v f = record { round = f.round; from_ts = f.from_ts; below = f.below; sent = up.sent (Prop k f.round v) f.sent }
+  IsCarried-grows k ts bound v f = record {
+    round = f.round;
+    from_ts = f.from_ts;
+    below = f.below;
+    sent =
+        up.sent (Prop k f.round v) f.sent;
+  }
 
   IsHeard-grows : (k r q ts : ℕ) → IsHeard g k r q ts → IsHeard h k r q ts
   IsHeard-grows k r q ts f = record { value = f.value; its_ts = f.its_ts; sent = up.sent (Est k r q f.value f.its_ts) f.sent; low = f.low }
@@ -96,7 +110,8 @@ module _ (s : Setting) (g h : State) (up : Grows s g h) where
   IsFounded-grows (Data m) f = tt
   IsFounded-grows (Est k r q v ts) f = record {
     sender = f.sender;
-    reached = Reached-advance (member g q) (member h q) k (HasRound r) (λ c d on x. omega (arith, on.round)) (up.advance q f.sender) f.reached;
+    reached = Reached-advance (member g q) (member h q) k (HasRound r) (λ c d on x. omega (arith, on.round)) (up.advance q f.sender)
+        f.reached;
     proposed = IsProposed-grows k v f.proposed;
     carried = λ pos. IsCarried-grows k ts r v (f.carried pos);
   }
@@ -104,7 +119,8 @@ module _ (s : Setting) (g h : State) (up : Grows s g h) where
     first = f.first;
     sender = f.sender;
     reached =
-        Reached-advance (member g (coordinator s.members r)) (member h (coordinator s.members r)) k (HasChosen r) (λ c d on x. on.chosen r x) (up.advance (coordinator s.members r) f.sender) f.reached;
+        Reached-advance (member g (coordinator s.members r)) (member h (coordinator s.members r)) k (HasChosen r)
+        (λ c d on x. on.chosen r x) (up.advance (coordinator s.members r) f.sender) f.reached;
     proposed = IsProposed-grows k v f.proposed;
     picked = IsPicked-grows k r v f.picked;
   }

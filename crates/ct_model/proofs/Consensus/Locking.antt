@@ -46,7 +46,8 @@ module _ (s : Setting) (g : State) (holds : Holds s g) (k r : ℕ) (v : Value) (
             let prop : IsFoundedProp s g k later w = holds.founded (Prop k later w) h in
             let pick : IsPicked s g k later w = prop.picked in
             let both : IsShared s.members (ackers (wires g) k r) pick.heard =
-            majorities s.members (ackers (wires g) k r) pick.heard (ackers-set s g k r holds) (heard-set s g k later w holds pick) lock.acked pick.majority in
+            majorities s.members (ackers (wires g) k r) pick.heard (ackers-set s g k r holds) (heard-set s g k later w holds pick)
+            lock.acked pick.majority in
             let ack : Sent g (Ack k r both.member) = Readings.acker-got (wires g) k r both.member both.in_one in
             let founded_ack : IsFoundedAck s g k r both.member = holds.founded (Ack k r both.member) ack in
             let its : IsHeard g k later both.member pick.ts = pick.others both.member both.in_other in
@@ -62,7 +63,8 @@ module _ (s : Setting) (g : State) (holds : Holds s g) (k r : ℕ) (v : Value) (
   locked_for_good : (later : ℕ) (w : Value) → r ≤ later → Sent g (Prop k later w) → w ≡ v
   locked_for_good later w le h = locked-below (suc later) later w (omega arith) le h
 
-agreed_locks : (s : Setting) (g : State) → Holds s g → (k r other : ℕ) (v w : Value) → IsLocked s g k r v → IsLocked s g k other w → (r ≤ other) ⊎ (other ≤ r) → v ≡ w
+agreed_locks : (s : Setting) (g : State) → Holds s g → (k r other : ℕ) (v w : Value) → IsLocked s g k r v → IsLocked s g k other w →
+    (r ≤ other) ⊎ (other ≤ r) → v ≡ w
 agreed_locks s g holds k r other v w a b (inl le) = sym (locked_for_good s g holds k r v a other w le b.proposed)
 agreed_locks s g holds k r other v w a b (inr le) = locked_for_good s g holds k other w b r v le a.proposed
 
@@ -79,13 +81,15 @@ settled s g holds p k v is h =
     let d = Readings.decided-got (member g p).got k v h in
     record { round = d.round; lock = holds.founded (Dec k d.round v) (holds.got p is (Dec k d.round v) d.is_in) }
 
-pub agreed : (s : Setting) (g : State) → Holds s g → (p q k : ℕ) (v w : Value) → IsMember s.members p → IsMember s.members q → HasDecided g p k v → HasDecided g q k w → v ≡ w
+pub agreed : (s : Setting) (g : State) → Holds s g → (p q k : ℕ) (v w : Value) → IsMember s.members p → IsMember s.members q →
+    HasDecided g p k v → HasDecided g q k w → v ≡ w
 agreed s g holds p q k v w isp isq a b =
     let x = settled s g holds p k v isp a in
     let y = settled s g holds q k w isq b in
     agreed_locks s g holds k x.round y.round v w x.lock y.lock (either_way x.round y.round)
 
-pub decided_proposed : (s : Setting) (g : State) → Holds s g → (p k : ℕ) (v : Value) → IsMember s.members p → HasDecided g p k v → IsProposed g k v
+pub decided_proposed : (s : Setting) (g : State) → Holds s g → (p k : ℕ) (v : Value) → IsMember s.members p → HasDecided g p k v →
+    IsProposed g k v
 decided_proposed s g holds p k v is h =
     let x = settled s g holds p k v is h in
     let f : IsFoundedProp s g k x.round v = holds.founded (Prop k x.round v) x.lock.proposed in
@@ -93,13 +97,16 @@ decided_proposed s g holds p k v is h =
 
 -- the laws, over whole runs
 
-pub locked : (s : Setting) (steps : List Step) (g : State) → run s steps ≡ Some g → (instance round later : ℕ) (v w : Value) → IsLocked s g instance round v → round ≤ later → IsIn (Prop instance later w) (wires g) → w ≡ v
+pub locked : (s : Setting) (steps : List Step) (g : State) → run s steps ≡ Some g → (instance round later : ℕ) (v w : Value) →
+    IsLocked s g instance round v → round ≤ later → IsIn (Prop instance later w) (wires g) → w ≡ v
 locked s steps g e instance round later v w lock le h = locked_for_good s g (Holds-run s steps g e) instance round v lock later w le h
 
-pub agreement : (s : Setting) (steps : List Step) (g : State) → run s steps ≡ Some g → (p q instance : ℕ) (v w : Value) → IsMember s.members p → IsMember s.members q → HasDecided g p instance v → HasDecided g q instance w → v ≡ w
+pub agreement : (s : Setting) (steps : List Step) (g : State) → run s steps ≡ Some g → (p q instance : ℕ) (v w : Value) →
+    IsMember s.members p → IsMember s.members q → HasDecided g p instance v → HasDecided g q instance w → v ≡ w
 agreement s steps g e p q instance v w isp isq a b = agreed s g (Holds-run s steps g e) p q instance v w isp isq a b
 
-pub validity : (s : Setting) (steps : List Step) (g : State) → run s steps ≡ Some g → (p instance : ℕ) (v : Value) → IsMember s.members p → HasDecided g p instance v → IsProposed g instance v
+pub validity : (s : Setting) (steps : List Step) (g : State) → run s steps ≡ Some g → (p instance : ℕ) (v : Value) → IsMember s.members p →
+    HasDecided g p instance v → IsProposed g instance v
 validity s steps g e p instance v is h = decided_proposed s g (Holds-run s steps g e) p instance v is h
 
 -- decisions are agreed on, and were proposed

@@ -23,15 +23,18 @@ pub record IsAllowed (s : Setting) (g : State) (p : ℕ) (o : Outcome) : Type 0 
   pub sound : (c : Standing) → o.member.current ≡ Some c → IsSound s (after s g p o) p o.member.last c
   pub founded : (w : Wire) → Carries o.mail w → IsFounded s (after s g p o) w
   pub first_proposal : (k r : ℕ) (v w : Value) → Carries o.mail (Prop k r v) → Sent g (Prop k r w) → v ≡ w
-  pub estimate_after_ack : (k r later q : ℕ) (v : Value) (ts : ℕ) → Carries o.mail (Est k later q v ts) → Sent g (Ack k r q) → r < later → r ≤ ts
-  pub ack_after_estimate : (k r later q : ℕ) (v : Value) (ts : ℕ) → Carries o.mail (Ack k r q) → Sent g (Est k later q v ts) → r < later → r ≤ ts
+  pub estimate_after_ack : (k r later q : ℕ) (v : Value) (ts : ℕ) → Carries o.mail (Est k later q v ts) → Sent g (Ack k r q) → r < later →
+      r ≤ ts
+  pub ack_after_estimate : (k r later q : ℕ) (v : Value) (ts : ℕ) → Carries o.mail (Ack k r q) → Sent g (Est k later q v ts) → r < later →
+      r ≤ ts
 
 proposals-old : (s : Setting) (g : State) (p : ℕ) (o : Outcome) (x : Proposal) → IsIn x g.proposals → IsIn x (after s g p o).proposals
 unfolding after
 proposals-old s g p o x h = Lists.IsIn-append_left x g.proposals o.proposals h
 
 -- a step that moves its member on leaves a later state
-pub grows : (s : Setting) (g : State) (p : ℕ) (o : Outcome) → Holds s g → IsMember s.members p → Advance (member g p) o.member → Grows s g (after s g p o)
+pub grows : (s : Setting) (g : State) (p : ℕ) (o : Outcome) → Holds s g → IsMember s.members p → Advance (member g p) o.member →
+    Grows s g (after s g p o)
 grows s g p o holds is advance = record {
   sent = λ w h. Sent-old s g p o w h;
   proposals = λ x h. proposals-old s g p o x h;
@@ -50,7 +53,8 @@ two_proposals Nobody k r v w a b = absurd a
 two_proposals (One to x) k r v w a b = cc
 two_proposals (All x) k r v w a b = cc
 
-ack_and_estimate : {A : Type 0} (mail : Mail) (k r later q : ℕ) (v : Value) (ts : ℕ) → Carries mail (Ack k r q) → Carries mail (Est k later q v ts) → A
+ack_and_estimate : {A : Type 0} (mail : Mail) (k r later q : ℕ) (v : Value) (ts : ℕ) → Carries mail (Ack k r q) →
+    Carries mail (Est k later q v ts) → A
 ack_and_estimate Nobody k r later q v ts a b = absurd a
 ack_and_estimate (One to x) k r later q v ts a b = cc
 ack_and_estimate (All x) k r later q v ts a b = cc

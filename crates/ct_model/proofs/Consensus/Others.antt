@@ -24,7 +24,9 @@ IsApart (Prop k r v) = ⊥
 IsApart (Ack k r q) = ⊥
 IsApart _ = Unit {0}
 
-allowed-silent : (s : Setting) (g : State) (p : ℕ) (o : Outcome) → Holds s g → IsMember s.members p → o.member.last ≡ (member g p).last → o.member.current ≡ (member g p).current → ((w : Wire) → IsIn w o.member.got → Sent g w) → ((w : Wire) → Carries o.mail w → IsApart w) → ((w : Wire) → Carries o.mail w → IsFounded s (after s g p o) w) → IsAllowed s g p o
+allowed-silent : (s : Setting) (g : State) (p : ℕ) (o : Outcome) → Holds s g → IsMember s.members p → o.member.last ≡ (member g p).last →
+    o.member.current ≡ (member g p).current → ((w : Wire) → IsIn w o.member.got → Sent g w) → ((w : Wire) → Carries o.mail w → IsApart w) →
+    ((w : Wire) → Carries o.mail w → IsFounded s (after s g p o) w) → IsAllowed s g p o
 allowed-silent s g p o holds is last current got apart founded =
     let up : Grows s g (after s g p o) = grows s g p o holds is (stays last current) in
     record {
@@ -53,7 +55,8 @@ relayed_apart s p got (Prop k r v) h = true≢false (sym h)
 relayed_apart s p got (Ack k r q) h = true≢false (sym h)
 relayed_apart s p got _ h = tt
 
-got-more : (g : State) (got : List Wire) (w : Wire) → ((x : Wire) → IsIn x got → Sent g x) → Sent g w → (x : Wire) → IsIn x (got ++ w ∷ []) → Sent g x
+got-more : (g : State) (got : List Wire) (w : Wire) → ((x : Wire) → IsIn x got → Sent g x) → Sent g w → (x : Wire) →
+    IsIn x (got ++ w ∷ []) → Sent g x
 got-more g got w old new x h = elim (Lists.IsIn-append_cases x got (w ∷ []) h) [
   | inl a ↦ old x a
   | inr b ↦ elim b [ inl e ↦ subst (λ z. Sent g z) (sym e) new | inr never ↦ absurd never ]

@@ -1,5 +1,6 @@
 -- What is read off the wires that were got was among them.
-use Rattle.std.proofs.Common.{◌≡◌, ℕ, ◌≤◌, Bool, true, false, cond, ◌&&◌, ◌==◌, nat_le, List, [], ◌∷◌, filter_map, map, Option, Some, None, refl, sym, ap, ◌∙◌, subst, inl, inr, eqb-true, eq-eqb, leb-true, true≢false}
+use Rattle.std.proofs.Common.{◌≡◌, ℕ, ◌≤◌, Bool, true, false, cond, ◌&&◌, ◌==◌, nat_le, List, [], ◌∷◌, filter_map, map, Option, Some, None}
+use Rattle.std.proofs.Common.{refl, sym, ap, ◌∙◌, subst, inl, inr, eqb-true, eq-eqb, leb-true, true≢false}
 use Rattle.std.specs.List.{cons_option}
 use Rattle.ct_names.specs.Group.{everyone}
 use Rattle.ct_names.specs.Membership.{IsIn, IsWithoutRepeats}
@@ -10,7 +11,8 @@ use Rattle.ct_names.proofs.Lists
 use Rattle.ct_names.proofs.Values
 use Rattle.ct_model.specs.AtValue.{Wire}
 use Rattle.ct_model.specs.declared.wire.Wire.TheVariants.{Data, Est, Prop, Ack, Dec}
-use Rattle.ct_model.specs.Received.{head, message_of, received, decision_of, is_decision, decided, Heard, Ballots, ballots, heard, estimate_of, heard_from, estimate_from, is_largest, proposal_of, proposal, is_ack, has_ack, ackers}
+use Rattle.ct_model.specs.Received.{head, message_of, received, decision_of, is_decision, decided, Heard, Ballots, ballots, heard}
+use Rattle.ct_model.specs.Received.{estimate_of, heard_from, estimate_from, is_largest, proposal_of, proposal, is_ack, has_ack, ackers}
 use Rattle.ct_model.proofs.Basics.Options.{some-same, some-none}
 
 in-head : {A : Type 0} (xs : List A) (x : A) → head xs ≡ Some x → IsIn x xs
@@ -112,13 +114,15 @@ estimate-wire k r (Est j i p x t) e is =
     wire ∙ ap (λ (h : Heard Value). Est k r h.member h.value h.ts) c.1
 estimate-wire k r _ e is = some-none e is
 
-heard_from-got : (got : List Wire) (k r p : ℕ) (e : Heard Value) → heard_from got k r p ≡ Some e → IsIn (Est k r e.member e.value e.ts) got × (e.member ≡ p)
+heard_from-got : (got : List Wire) (k r p : ℕ) (e : Heard Value) → heard_from got k r p ≡ Some e →
+    IsIn (Est k r e.member e.value e.ts) got × (e.member ≡ p)
 heard_from-got got k r p e is =
     let f = Lists.found-find (λ (x : Heard Value). x.member == p) e (filter_map (estimate_of k r) got) is in
     let t = Lists.from_filter_map (estimate_of k r) e got f.0 in
     (subst (λ w. IsIn w got) (estimate-wire k r t.source e t.gives) t.is_in, eqb-true e.member p f.1)
 
-pub estimates-got : (got : List Wire) (k r : ℕ) (e : Heard Value) → IsIn e (ballots got k r).estimates → IsIn (Est k r e.member e.value e.ts) got
+pub estimates-got : (got : List Wire) (k r : ℕ) (e : Heard Value) → IsIn e (ballots got k r).estimates →
+    IsIn (Est k r e.member e.value e.ts) got
 unfolding ballots
 estimates-got got k r e h =
     let t = Lists.from_filter_map (heard_from got k r) e everyone h in
@@ -137,13 +141,16 @@ heard-among got k r x ps h =
     let same : x ≡ t.source = m.2 ∙ (heard_from-got got k r t.source m.0 t.gives).1 in
     subst (λ z. IsIn z ps) (sym same) t.is_in
 
-heard-once_cases : (got : List Wire) (k r p : ℕ) (ps : List ℕ) (o : Option (Heard Value)) → heard_from got k r p ≡ o → (IsIn p ps → ⊥) → IsWithoutRepeats (map (λ e. e.member) (filter_map (heard_from got k r) ps)) → IsWithoutRepeats (map (λ e. e.member) (cons_option o (filter_map (heard_from got k r) ps)))
+heard-once_cases : (got : List Wire) (k r p : ℕ) (ps : List ℕ) (o : Option (Heard Value)) → heard_from got k r p ≡ o → (IsIn p ps → ⊥) →
+    IsWithoutRepeats (map (λ e. e.member) (filter_map (heard_from got k r) ps)) →
+    IsWithoutRepeats (map (λ e. e.member) (cons_option o (filter_map (heard_from got k r) ps)))
 heard-once_cases got k r p ps None is out rest = rest
 heard-once_cases got k r p ps (Some e) is out rest =
     let same : e.member ≡ p = (heard_from-got got k r p e is).1 in
     ((λ h. out (heard-among got k r p ps (subst (λ z. IsIn z (map (λ x. x.member) (filter_map (heard_from got k r) ps))) same h))), rest)
 
-heard-once_of : (got : List Wire) (k r : ℕ) (ps : List ℕ) → IsWithoutRepeats ps → IsWithoutRepeats (map (λ e. e.member) (filter_map (heard_from got k r) ps))
+heard-once_of : (got : List Wire) (k r : ℕ) (ps : List ℕ) → IsWithoutRepeats ps →
+    IsWithoutRepeats (map (λ e. e.member) (filter_map (heard_from got k r) ps))
 heard-once_of got k r [] once = tt
 heard-once_of got k r (p ∷ ps) once = heard-once_cases got k r p ps (heard_from got k r p) refl once.0 (heard-once_of got k r ps once.1)
 

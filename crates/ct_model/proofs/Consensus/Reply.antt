@@ -17,9 +17,11 @@ use Rattle.ct_model.proofs.Consensus.Growth.{IsOnward, Grows, IsProposed-grows, 
 use Rattle.ct_model.proofs.Consensus.Obligations.{IsAllowed}
 use Rattle.ct_model.proofs.Consensus.Readings
 use Rattle.ct_model.proofs.Steps.Rows.{adopt-is, suspect-is}
-use Rattle.ct_model.proofs.Consensus.RoundFacts.{turn-grows, turn-reaches, turn-allowed, standing-reached, reply-no_gather, reply-no_wait, reply-tally, wait-no_rest}
+use Rattle.ct_model.proofs.Consensus.RoundFacts.{turn-grows, turn-reaches, turn-allowed, standing-reached, reply-no_gather, reply-no_wait}
+use Rattle.ct_model.proofs.Consensus.RoundFacts.{reply-tally, wait-no_rest}
 
-module _ (s : Setting) (g : State) (p : ℕ) (holds : Holds s g) (is : IsMember s.members p) (c : Standing) (open_at : (member g p).current ≡ Some c) (waits : is_wait c.phase ≡ true) where
+module _ (s : Setting) (g : State) (p : ℕ) (holds : Holds s g) (is : IsMember s.members p) (c : Standing)
+    (open_at : (member g p).current ≡ Some c) (waits : is_wait c.phase ≡ true) where
   -- the open instance, and whether p coordinates the round
   abbrev k : ℕ
   k = (member g p).last
@@ -88,7 +90,8 @@ module _ (s : Setting) (g : State) (p : ℕ) (holds : Holds s g) (is : IsMember 
         let ours : j ≡ k = cc in
         let round : r ≡ c.round = cc in
         let f = holds.founded (Est j later q w ts) sent in
-        let low : later ≤ c.round = standing-reached (member g p) j (HasRound later) c ours open_at (subst (λ z. Reached (member g z) j (HasRound later)) here f.reached) in
+        let low : later ≤ c.round = standing-reached (member g p) j (HasRound later) c ours open_at
+        (subst (λ z. Reached (member g z) j (HasRound later)) here f.reached) in
         absurd (omega arith)
 
     adopt_allowed : IsAllowed s g p o
@@ -123,7 +126,8 @@ module _ (s : Setting) (g : State) (p : ℕ) (holds : Holds s g) (is : IsMember 
     carried = λ some. IsCarried-grows s g after_nack nack_up k c.ts (c.round + 1) c.estimate (old.carried some);
     waits_own = λ x own. Lists.contrary (is_wait u.after.phase) x (reply-no_wait coordinates);
     tallies_own = λ x.
-        nack_up.sent (Prop k c.round c.estimate) (old.waits_own waits (eqb-true (coordinator s.members c.round) p (reply-tally coordinates x)));
+        nack_up.sent (Prop k c.round c.estimate) (old.waits_own waits
+        (eqb-true (coordinator s.members c.round) p (reply-tally coordinates x)));
   }
 
   suspect_allowed : IsAllowed s g p (turned (member g p) u)

@@ -19,7 +19,8 @@ use Rattle.ct_model.proofs.Consensus.Obligations.{IsAllowed, grows}
 use Rattle.ct_model.proofs.Basics.Options.{some-same}
 use Rattle.ct_model.proofs.Record.Members.{member-same}
 
-module _ (s : Setting) (g : State) (p : ℕ) (holds : Holds s g) (is : IsMember s.members p) (c : Standing) (open_at : (member g p).current ≡ Some c) (t : Turn) (onward : IsOnward c t.after) where
+module _ (s : Setting) (g : State) (p : ℕ) (holds : Holds s g) (is : IsMember s.members p) (c : Standing)
+    (open_at : (member g p).current ≡ Some c) (t : Turn) (onward : IsOnward c t.after) where
   -- the state after the turn
   abbrev h : State
   h = after s g p (turned (member g p) t)
@@ -37,7 +38,11 @@ module _ (s : Setting) (g : State) (p : ℕ) (holds : Holds s g) (is : IsMember 
       (λ d at. subst P (sym (standing-after d at)) x)
 
   -- what is left to show of a turn
-  pub turn-allowed : IsSound s h p (member g p).last t.after → ((w : Wire) → Carries t.mail w → IsFounded s h w) → ((k r : ℕ) (v w : Value) → Carries t.mail (Prop k r v) → Sent g (Prop k r w) → v ≡ w) → ((k r later q : ℕ) (v : Value) (ts : ℕ) → Carries t.mail (Est k later q v ts) → Sent g (Ack k r q) → r < later → r ≤ ts) → ((k r later q : ℕ) (v : Value) (ts : ℕ) → Carries t.mail (Ack k r q) → Sent g (Est k later q v ts) → r < later → r ≤ ts) → IsAllowed s g p (turned (member g p) t)
+  pub turn-allowed : IsSound s h p (member g p).last t.after → ((w : Wire) → Carries t.mail w → IsFounded s h w) →
+      ((k r : ℕ) (v w : Value) → Carries t.mail (Prop k r v) → Sent g (Prop k r w) → v ≡ w) →
+      ((k r later q : ℕ) (v : Value) (ts : ℕ) → Carries t.mail (Est k later q v ts) → Sent g (Ack k r q) → r < later → r ≤ ts) →
+      ((k r later q : ℕ) (v : Value) (ts : ℕ) → Carries t.mail (Ack k r q) → Sent g (Est k later q v ts) → r < later → r ≤ ts) →
+      IsAllowed s g p (turned (member g p) t)
   turn-allowed sound founded first estimate ack = record {
     advance = turns refl c t.after open_at refl onward;
     got = λ w x. holds.got p is w x;

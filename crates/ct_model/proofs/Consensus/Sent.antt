@@ -26,7 +26,8 @@ Carries (One to x) w = w ≡ x
 Carries (All x) w = w ≡ x
 
 -- the wires of one envelope to each
-carried_all : (x w : Wire) (to : List ℕ) → IsIn w (map (λ e. e.wire) (map (λ t. let e : Envelope = record { to = t; wire = x } in e) to)) → w ≡ x
+carried_all : (x w : Wire) (to : List ℕ) → IsIn w (map (λ e. e.wire) (map (λ t. let e : Envelope = record { to = t; wire = x } in e) to)) →
+    w ≡ x
 carried_all x w [] h = absurd h
 carried_all x w (t ∷ to) (inl e) = e
 carried_all x w (t ∷ to) (inr h) = carried_all x w to h
@@ -37,7 +38,8 @@ carries-mail n (One to x) w (inl e) = e
 carries-mail n (One to x) w (inr h) = absurd h
 carries-mail n (All x) w h = carried_all x w (members n) h
 
-mail-all : (x w : Wire) (n : ℕ) → 0 < n → w ≡ x → IsIn w (map (λ e. e.wire) (map (λ t. let e : Envelope = record { to = t; wire = x } in e) (counting 1 n)))
+mail-all : (x w : Wire) (n : ℕ) → 0 < n → w ≡ x → IsIn w (map (λ e. e.wire)
+    (map (λ t. let e : Envelope = record { to = t; wire = x } in e) (counting 1 n)))
 mail-all x w zero h e = absurd (omega arith)
 mail-all x w (suc n) h e = inl e
 

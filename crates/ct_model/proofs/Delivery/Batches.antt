@@ -1,5 +1,6 @@
 -- A member's batches are what its decisions give: one for each instance that it closed, in order.
-use Rattle.std.proofs.Common.{◌≡◌, ℕ, suc, zero, ◌-◌, ◌<◌, ◌≤◌, true, List, [], ◌∷◌, ◌++◌, Option, Some, None, refl, sym, ap, ◌∙◌, subst, inl, inr, arith, filter_map, unwrap_or, true≢false, length}
+use Rattle.std.proofs.Common.{◌≡◌, ℕ, suc, zero, ◌-◌, ◌<◌, ◌≤◌, true, List, [], ◌∷◌, ◌++◌, Option, Some, None, refl, sym, ap, ◌∙◌, subst}
+use Rattle.std.proofs.Common.{inl, inr, arith, filter_map, unwrap_or, true≢false, length}
 use Rattle.std.specs.Prelude.{is_none}
 use Rattle.std.specs.List.{cons_option}
 use Rattle.std.proofs.lemmas.Bool.{cases_eq}
@@ -24,7 +25,8 @@ use Rattle.ct_model.proofs.Record.Runs.{kept-run}
 unfoldable pub deliveries : (ℕ → Value) → ℕ → List Batch
 deliveries decision zero = []
 deliveries decision (suc k) =
-    deliveries decision k ++ record { instance = suc k; messages = ordered (minus (decision (suc k)) (joined (deliveries decision k))) } ∷ []
+    deliveries decision k ++ record { instance = suc k; messages = ordered (minus (decision (suc k)) (joined (deliveries decision k))) }
+    ∷ []
 
 -- the same decisions give the same batches
 pub deliveries-same : (f g : ℕ → Value) (c : ℕ) → ((k : ℕ) → 1 ≤ k → k ≤ c → f k ≡ g k) → deliveries f c ≡ deliveries g c
@@ -68,12 +70,14 @@ cons-append (Some z) zs ws = refl
 
 filter_map-append : {A B : Type 0} (f : A → Option B) (xs ys : List A) → filter_map f (xs ++ ys) ≡ filter_map f xs ++ filter_map f ys
 filter_map-append f [] ys = refl
-filter_map-append f (x ∷ xs) ys = ap (λ z. cons_option (f x) z) (filter_map-append f xs ys) ∙ cons-append (f x) (filter_map f xs) (filter_map f ys)
+filter_map-append f (x ∷ xs) ys = ap (λ z. cons_option (f x) z) (filter_map-append f xs ys)
+    ∙ cons-append (f x) (filter_map f xs) (filter_map f ys)
 
 pub decided-more : (got more : List Wire) (k : ℕ) (v : Value) → decided got k ≡ Some v → decided (got ++ more) k ≡ Some v
 unfolding decided
 decided-more got more k v e =
-    ap head (filter_map-append (decision_of k) got more) ∙ head-append (filter_map (decision_of k) got) (filter_map (decision_of k) more) v e
+    ap head (filter_map-append (decision_of k) got more) ∙ head-append (filter_map (decision_of k) got) (filter_map (decision_of k) more) v
+    e
 
 -- what each step keeps of it
 
@@ -113,7 +117,8 @@ closed-turned m c t open_at f = record {
   decided = f.decided;
 }
 
-closed-deliver : (m : Member) (c : Standing) (v : Value) → m.current ≡ Some c → decided m.got m.last ≡ Some v → HasClosed m → HasClosed (deliver m v).member
+closed-deliver : (m : Member) (c : Standing) (v : Value) → m.current ≡ Some c → decided m.got m.last ≡ Some v → HasClosed m →
+    HasClosed (deliver m v).member
 unfolding deliveries batch_of
 closed-deliver m c v open_at has f =
     let l : suc f.closed ≡ m.last = f.busy c open_at in
@@ -145,13 +150,15 @@ closed-row s g p m step o e f = by_shape s g p m (λ x. HasClosed x.member) step
 abbrev pub HaveClosed : State → Type 0
 HaveClosed g = (p : ℕ) → HasClosed (member g p)
 
-closed-after : (s : Setting) (g : State) (p : ℕ) (o : Outcome) → p - 1 < length g.members → HasClosed o.member → HaveClosed g → HaveClosed (after s g p o)
+closed-after : (s : Setting) (g : State) (p : ℕ) (o : Outcome) → p - 1 < length g.members → HasClosed o.member → HaveClosed g →
+    HaveClosed (after s g p o)
 closed-after s g p o there mine all q = elim (cases_eq (q - 1) (p - 1)) [
   | inl same ↦ subst (λ m. HasClosed m) (sym (at_place (λ m. m) (after s g p o) q p same ∙ member-same s g p o there)) mine
   | inr other ↦ subst (λ m. HasClosed m) (sym (member-other s g p q o other)) (all q)
 ]
 
-closed-next : (s : Setting) (g : State) (step : Step) (h : State) → next s g step ≡ Some h → length g.members ≡ s.members → HaveClosed g → HaveClosed h
+closed-next : (s : Setting) (g : State) (step : Step) (h : State) → next s g step ≡ Some h → length g.members ≡ s.members → HaveClosed g →
+    HaveClosed h
 closed-next s g step h e size all =
     let t = next-is s g step h e in
     let p : ℕ = actor step in

@@ -1,5 +1,6 @@
 -- Where of each two lists one begins the other, each begins the longest.
-use Rattle.std.proofs.Common.{◌≡◌, ◌+◌, ◌≤◌, Bool, true, false, List, [], ◌∷◌, ◌++◌, refl, sym, ap, ◌∙◌, subst, inl, inr, ◌⊎◌, arith, append_assoc, append-nil, length, length-append, if◌then◌else◌}
+use Rattle.std.proofs.Common.{◌≡◌, ◌+◌, ◌≤◌, Bool, true, false, List, [], ◌∷◌, ◌++◌, refl, sym, ap, ◌∙◌, subst, inl, inr, ◌⊎◌, arith}
+use Rattle.std.proofs.Common.{append_assoc, append-nil, length, length-append, if◌then◌else◌}
 use Rattle.std.specs.Prelude.{nat_lt}
 use Rattle.std.proofs.lemmas.Bool.Decides.{nat_tests}
 use Rattle.ct_names.specs.Membership.{IsIn}
@@ -37,7 +38,9 @@ skip : (xs best l : List Batch) (rest : List (List Batch)) → IsIn xs (best ∷
 skip xs best l rest (inl e) = inl e
 skip xs best l rest (inr i) = inr (inr i)
 
-longest_of : (b : Bool) (best l : List Batch) (rest : List (List Batch)) → nat_lt (length best) (length l) ≡ b → InOneOrder (best ∷ l ∷ rest) → AllBegin (l ∷ rest) (longest l rest) → AllBegin (best ∷ rest) (longest best rest) → AllBegin (best ∷ l ∷ rest) (if b then longest l rest else longest best rest)
+longest_of : (b : Bool) (best l : List Batch) (rest : List (List Batch)) → nat_lt (length best) (length l) ≡ b →
+    InOneOrder (best ∷ l ∷ rest) → AllBegin (l ∷ rest) (longest l rest) → AllBegin (best ∷ rest) (longest best rest) →
+    AllBegin (best ∷ l ∷ rest) (if b then longest l rest else longest best rest)
 longest_of true best l rest e h with_l with_best xs (inl same) =
     let le : length best ≤ length l = grind (arith, nat_tests) in
     prefix-trans xs l (longest l rest)
@@ -50,7 +53,8 @@ longest_of false best l rest e h with_l with_best xs (inr (inl same)) =
     (subst (λ z. IsPrefix z best) (sym same) (prefix-shorter l best (h l best (inr (inl refl)) (inl refl)) le)) (with_best best (inl refl))
 longest_of false best l rest e h with_l with_best xs (inr (inr i)) = with_best xs (inr i)
 
-pub longest-prefix : (best : List Batch) (lists : List (List Batch)) → InOneOrder (best ∷ lists) → (xs : List Batch) → IsIn xs (best ∷ lists) → IsPrefix xs (longest best lists)
+pub longest-prefix : (best : List Batch) (lists : List (List Batch)) → InOneOrder (best ∷ lists) → (xs : List Batch) →
+    IsIn xs (best ∷ lists) → IsPrefix xs (longest best lists)
 longest-prefix best [] h xs (inl e) = prefix-same xs best e
 longest-prefix best [] h xs (inr never) = absurd never
 longest-prefix best (l ∷ rest) h xs is =
@@ -58,7 +62,8 @@ longest-prefix best (l ∷ rest) h xs is =
     (longest-prefix l rest (λ ys zs a b. h ys zs (inr a) (inr b)))
     (longest-prefix best rest (λ ys zs a b. h ys zs (skip ys best l rest a) (skip zs best l rest b))) xs is
 
-longest_is : (b : Bool) (best l : List Batch) (rest : List (List Batch)) → IsIn (longest l rest) (l ∷ rest) → IsIn (longest best rest) (best ∷ rest) → IsIn (if b then longest l rest else longest best rest) (best ∷ l ∷ rest)
+longest_is : (b : Bool) (best l : List Batch) (rest : List (List Batch)) → IsIn (longest l rest) (l ∷ rest) →
+    IsIn (longest best rest) (best ∷ rest) → IsIn (if b then longest l rest else longest best rest) (best ∷ l ∷ rest)
 longest_is true best l rest h k = inr h
 longest_is false best l rest h k = skip (longest best rest) best l rest k
 

@@ -1,5 +1,6 @@
 -- The batches of the least member whose list is longest.
-use Rattle.std.proofs.Common.{◌≡◌, ℕ, zero, suc, ◌-◌, ◌≤◌, ◌<◌, Bool, true, false, List, [], ◌∷◌, length, map, refl, ap, ◌∙◌, arith, ◌⊎◌, inl, inr}
+use Rattle.std.proofs.Common.{◌≡◌, ℕ, zero, suc, ◌-◌, ◌≤◌, ◌<◌, Bool, true, false, List, [], ◌∷◌, length, map, refl, ap, ◌∙◌, arith, ◌⊎◌}
+use Rattle.std.proofs.Common.{inl, inr}
 use Rattle.std.specs.Prelude.{nat_lt, if◌then◌else◌, slice_index_or}
 use Rattle.std.proofs.lemmas.Bool.{cases_eq}
 use Rattle.std.proofs.lemmas.Bool.Decides.{nat_tests}
@@ -18,7 +19,8 @@ best-below : (ms : List Member) (best : List Batch) → length best ≤ length (
 best-below [] best = omega arith
 best-below (m ∷ ms) best = go (nat_lt (length best) (length m.batches)) refl (best-below ms m.batches) (best-below ms best)
   where
-    go : (b : Bool) → b ≡ nat_lt (length best) (length m.batches) → length m.batches ≤ length (longest_of m.batches ms) → length best ≤ length (longest_of best ms) → length best ≤ length (if b then longest_of m.batches ms else longest_of best ms)
+    go : (b : Bool) → b ≡ nat_lt (length best) (length m.batches) → length m.batches ≤ length (longest_of m.batches ms) →
+        length best ≤ length (longest_of best ms) → length best ≤ length (if b then longest_of m.batches ms else longest_of best ms)
     go true e new old = let less : length best < length m.batches = grind (arith, nat_tests) in omega arith
     go false e new old = old
 
@@ -27,12 +29,15 @@ all-below : (ms : List Member) (i : ℕ) (best : List Batch) → length (slice_i
 all-below [] i best = omega arith
 all-below (m ∷ ms) zero best = go (nat_lt (length best) (length m.batches)) refl (best-below ms m.batches) (best-below ms best)
   where
-    go : (b : Bool) → b ≡ nat_lt (length best) (length m.batches) → length m.batches ≤ length (longest_of m.batches ms) → length best ≤ length (longest_of best ms) → length m.batches ≤ length (if b then longest_of m.batches ms else longest_of best ms)
+    go : (b : Bool) → b ≡ nat_lt (length best) (length m.batches) → length m.batches ≤ length (longest_of m.batches ms) →
+        length best ≤ length (longest_of best ms) → length m.batches ≤ length (if b then longest_of m.batches ms else longest_of best ms)
     go true e new old = new
     go false e new old = let less : length m.batches ≤ length best = grind (arith, nat_tests) in omega arith
 all-below (m ∷ ms) (suc i) best = go (nat_lt (length best) (length m.batches)) (all-below ms i m.batches) (all-below ms i best)
   where
-    go : (b : Bool) → length (slice_index_or ms i new_member).batches ≤ length (longest_of m.batches ms) → length (slice_index_or ms i new_member).batches ≤ length (longest_of best ms) → length (slice_index_or ms i new_member).batches ≤ length (if b then longest_of m.batches ms else longest_of best ms)
+    go : (b : Bool) → length (slice_index_or ms i new_member).batches ≤ length (longest_of m.batches ms) →
+        length (slice_index_or ms i new_member).batches ≤ length (longest_of best ms) →
+        length (slice_index_or ms i new_member).batches ≤ length (if b then longest_of m.batches ms else longest_of best ms)
     go true new old = new
     go false new old = old
 
@@ -50,7 +55,10 @@ from-one : (ms : List Member) (best : List Batch) → (longest_of best ms ≡ be
 from-one [] best = inl refl
 from-one (m ∷ ms) best = go (nat_lt (length best) (length m.batches)) (from-one ms m.batches) (from-one ms best)
   where
-    go : (b : Bool) → (longest_of m.batches ms ≡ m.batches) ⊎ IsAt ms (longest_of m.batches ms) → (longest_of best ms ≡ best) ⊎ IsAt ms (longest_of best ms) → ((if b then longest_of m.batches ms else longest_of best ms) ≡ best) ⊎ IsAt (m ∷ ms) (if b then longest_of m.batches ms else longest_of best ms)
+    go : (b : Bool) → (longest_of m.batches ms ≡ m.batches) ⊎ IsAt ms (longest_of m.batches ms) →
+        (longest_of best ms ≡ best) ⊎ IsAt ms (longest_of best ms) →
+        ((if b then longest_of m.batches ms else longest_of best ms) ≡ best)
+        ⊎ IsAt (m ∷ ms) (if b then longest_of m.batches ms else longest_of best ms)
     go true (inl e) old = inr (record { place = zero; below = omega arith; is = e })
     go true (inr a) old = inr (further m ms (longest_of m.batches ms) a)
     go false new (inl e) = inl e
@@ -85,16 +93,24 @@ order-member g some = go (from-one g.members [])
       by = 1;
       positive = omega arith;
       below = some;
-      is = e ∙ nothing (slice_index_or g.members 0 new_member).batches (let below = all-below g.members 0 [] in let none : length (longest_of [] g.members) ≡ 0 = ap length e in omega arith);
+      is = e ∙ nothing (slice_index_or g.members 0 new_member).batches (let below = all-below g.members 0 [] in
+          let none : length (longest_of [] g.members) ≡ 0 = ap length e in omega arith);
     }
     go (inr a) =
         let below : a.place < length g.members = a.below in
         let at : a.place ≡ suc a.place - 1 = omega arith in
-        record { by = suc a.place; positive = omega arith; below = omega arith; is = a.is ∙ ap (λ i. (slice_index_or g.members i new_member).batches) at }
+        record {
+          by = suc a.place;
+          positive = omega arith;
+          below = omega arith;
+          is =
+              a.is ∙ ap (λ i. (slice_index_or g.members i new_member).batches) at;
+        }
 
 -- the order after the actor's batches grew
 
-module _ (s : Setting) (g : State) (p : ℕ) (o : Outcome) (there : p - 1 < length g.members) (grows : length (member g p).batches ≤ length o.member.batches) where
+module _ (s : Setting) (g : State) (p : ℕ) (o : Outcome) (there : p - 1 < length g.members)
+    (grows : length (member g p).batches ≤ length o.member.batches) where
   h : State
   h = after s g p o
 
@@ -120,12 +136,16 @@ module _ (s : Setting) (g : State) (p : ℕ) (o : Outcome) (there : p - 1 < leng
       let is : length (order g) ≡ length (member g m.by).batches = ap length m.is in
       let all = order-longest h m.by in
       elim (cases_eq (m.by - 1) (p - 1)) [
-        | inl same ↦ (let now : length (member h m.by).batches ≡ length o.member.batches = ap length (own m.by same) in let old : length (member g m.by).batches ≡ length (member g p).batches = at_place (λ x. length x.batches) g m.by p same in omega arith)
-        | inr differs ↦ (let now : length (member h m.by).batches ≡ length (member g m.by).batches = ap length (other m.by differs) in omega arith)
+        | inl same ↦ (let now : length (member h m.by).batches ≡ length o.member.batches = ap length (own m.by same) in
+            let old : length (member g m.by).batches ≡ length (member g p).batches = at_place (λ x. length x.batches) g m.by p same in
+            omega arith)
+        | inr differs ↦ (let now : length (member h m.by).batches ≡ length (member g m.by).batches = ap length (other m.by differs) in
+            omega arith)
       ]
 
   has_new : length o.member.batches ≤ length (order h)
-  has_new = let now : length (member h p).batches ≡ length o.member.batches = ap length (own p refl) in let all = order-longest h p in omega arith
+  has_new = let now : length (member h p).batches ≡ length o.member.batches = ap length (own p refl) in let all = order-longest h p in
+      omega arith
 
   -- it is the actor's batches, or no longer than before
   either : (order h ≡ o.member.batches) ⊎ (length (order h) ≤ length (order g))
@@ -133,7 +153,8 @@ module _ (s : Setting) (g : State) (p : ℕ) (o : Outcome) (there : p - 1 < leng
       let m = order-member h some_after in
       elim (cases_eq (m.by - 1) (p - 1)) [
         | inl same ↦ inl (m.is ∙ own m.by same)
-        | inr differs ↦ (let is : length (order h) ≡ length (member g m.by).batches = ap length (m.is ∙ other m.by differs) in let all = order-longest g m.by in inr (omega arith))
+        | inr differs ↦ (let is : length (order h) ≡ length (member g m.by).batches = ap length (m.is ∙ other m.by differs) in
+            let all = order-longest g m.by in inr (omega arith))
       ]
 
   -- where the actor has more batches than anyone had, they are the order
@@ -152,9 +173,11 @@ module _ (s : Setting) (g : State) (p : ℕ) (o : Outcome) (there : p - 1 < leng
   ]
 
   -- its length is the larger of that before and that of the actor's batches
-  pub order-grown : length (order (after s g p o)) ≡ (if nat_lt (length (order g)) (length o.member.batches) then length o.member.batches else length (order g))
+  pub order-grown : length (order (after s g p o)) ≡ (if nat_lt (length (order g)) (length o.member.batches) then length o.member.batches
+      else length (order g))
   order-grown = go (nat_lt (length (order g)) (length o.member.batches)) refl
     where
-      go : (b : Bool) → b ≡ nat_lt (length (order g)) (length o.member.batches) → length (order (after s g p o)) ≡ (if b then length o.member.batches else length (order g))
+      go : (b : Bool) → b ≡ nat_lt (length (order g)) (length o.member.batches) →
+          length (order (after s g p o)) ≡ (if b then length o.member.batches else length (order g))
       go true e = ap length (order-new (grind (arith, nat_tests)))
       go false e = order-same (grind (arith, nat_tests))

@@ -1,5 +1,7 @@
--- Of two members' batches one begins the other, and each begins the order of the group; what was delivered was submitted, and delivered once.
-use Rattle.std.proofs.Common.{◌≡◌, ℕ, suc, zero, ◌+◌, ◌-◌, ◌≤◌, ◌<◌, List, [], ◌∷◌, ◌++◌, Some, refl, sym, ap, ◌∙◌, subst, inl, inr, ◌⊎◌, arith, append_assoc, append-nil, length, length-append, map}
+-- Of two members' batches one begins the other, and each begins the order of the group; what was delivered was submitted, and delivered
+-- once.
+use Rattle.std.proofs.Common.{◌≡◌, ℕ, suc, zero, ◌+◌, ◌-◌, ◌≤◌, ◌<◌, List, [], ◌∷◌, ◌++◌, Some, refl, sym, ap, ◌∙◌, subst, inl, inr, ◌⊎◌}
+use Rattle.std.proofs.Common.{arith, append_assoc, append-nil, length, length-append, map}
 use Rattle.std.specs.Prelude.{slice_get, slice_index_or}
 use Rattle.ct_names.specs.Group.{IsMember}
 use Rattle.ct_names.specs.Membership.{IsIn, IsWithoutRepeats}
@@ -16,7 +18,8 @@ use Rattle.ct_model.specs.Run.{run}
 use Rattle.ct_model.specs.Cause.{order}
 use Rattle.ct_model.specs.Safe.{IsAgreed, IsProposed, delivered_by}
 use Rattle.ct_names.specs.Prefix.{IsPrefix}
-use Rattle.ct_model.proofs.Delivery.Batches.{deliveries, deliveries-same, decision, decision-is, HasDecision, HasClosed, HaveClosed, closed-run}
+use Rattle.ct_model.proofs.Delivery.Batches.{deliveries, deliveries-same, decision, decision-is, HasDecision, HasClosed, HaveClosed}
+use Rattle.ct_model.proofs.Delivery.Batches.{closed-run}
 use Rattle.ct_model.proofs.Delivery.Comparable.{InOneOrder, longest-prefix, longest-in}
 use Rattle.ct_model.proofs.Basics.Options.{some-same, some-none}
 use Rattle.ct_model.proofs.Delivery.Proposals.{proposes-run}
@@ -34,11 +37,16 @@ unfolding deliveries
 deliveries-prefix f c zero = ([], append-nil (deliveries f c) ∙ ap (λ z. deliveries f z) (let e : c ≡ c + 0 = omega arith in e))
 deliveries-prefix f c (suc more) =
     let r = deliveries-prefix f c more in
-    let last : List Batch = record { instance = suc (c + more); messages = ordered (minus (f (suc (c + more))) (joined (deliveries f (c + more)))) } ∷ [] in
+    let last : List Batch = record {
+      instance = suc (c + more);
+      messages =
+          ordered (minus (f (suc (c + more))) (joined (deliveries f (c + more))));
+    } ∷ [] in
     let e : c + suc more ≡ suc (c + more) = omega arith in
     (r.0 ++ last, sym (append_assoc (deliveries f c) r.0 last) ∙ ap (λ z. z ++ last) r.1 ∙ ap (λ z. deliveries f z) (sym e))
 
-joined-deliveries : (f : ℕ → Value) (c : ℕ) → joined (deliveries f (suc c)) ≡ joined (deliveries f c) ++ ordered (minus (f (suc c)) (joined (deliveries f c)))
+joined-deliveries : (f : ℕ → Value) (c : ℕ) → joined (deliveries f (suc c)) ≡ joined (deliveries f c)
+    ++ ordered (minus (f (suc c)) (joined (deliveries f c)))
 unfolding deliveries
 joined-deliveries f c =
     let b : List Message = ordered (minus (f (suc c)) (joined (deliveries f c))) in
@@ -71,14 +79,21 @@ from-deliveries f (suc c) m h =
           let hi : r.instance ≤ c = r.closed in
           record { instance = r.instance; first = r.first; closed = omega arith; is_in = r.is_in }
       | inr b ↦
-          record { instance = suc c; first = omega arith; closed = omega arith; is_in = Values.minus-from (f (suc c)) d m (Values.ordered-from new m b) }
+          record {
+            instance = suc c;
+            first = omega arith;
+            closed = omega arith;
+            is_in =
+                Values.minus-from (f (suc c)) d m (Values.ordered-from new m b);
+          }
     ]
 
 -- two members
 
 module _ (s : Setting) (g : State) (agree : IsAgreed s g) (all : HaveClosed g) where
   -- the batches of the member that closed fewer instances begin the other's
-  fewer : (p q : ℕ) → IsMember s.members p → IsMember s.members q → (a : HasClosed (member g p)) (b : HasClosed (member g q)) → a.closed ≤ b.closed → IsPrefix (member g p).batches (member g q).batches
+  fewer : (p q : ℕ) → IsMember s.members p → IsMember s.members q → (a : HasClosed (member g p)) (b : HasClosed (member g q)) →
+      a.closed ≤ b.closed → IsPrefix (member g p).batches (member g q).batches
   fewer p q isp isq a b le =
       let mine : List Wire = (member g p).got in
       let its : List Wire = (member g q).got in
@@ -98,7 +113,8 @@ module _ (s : Setting) (g : State) (agree : IsAgreed s g) (all : HaveClosed g) w
   either : (i j : ℕ) → (i ≤ j) ⊎ (j ≤ i)
   either i j = grind arith
 
-  one_order : (p q : ℕ) → IsMember s.members p → IsMember s.members q → IsPrefix (member g p).batches (member g q).batches ⊎ IsPrefix (member g q).batches (member g p).batches
+  one_order : (p q : ℕ) → IsMember s.members p → IsMember s.members q →
+      IsPrefix (member g p).batches (member g q).batches ⊎ IsPrefix (member g q).batches (member g p).batches
   one_order p q isp isq = elim (either (all p).closed (all q).closed) [
     | inl le ↦ inl (fewer p q isp isq (all p) (all q) le)
     | inr le ↦ inr (fewer q p isq isp (all q) (all p) le)
@@ -130,19 +146,27 @@ place-in [] i h = absurd (omega arith)
 place-in (m ∷ list) zero h = inl refl
 place-in (m ∷ list) (suc i) h = inr (place-in list i (omega arith))
 
-of_member : (s : Setting) (g : State) → length g.members ≡ s.members → (batches : List Batch) → IsIn batches (map (λ m. m.batches) g.members) → IsOfMember s g batches
+of_member : (s : Setting) (g : State) → length g.members ≡ s.members → (batches : List Batch) →
+    IsIn batches (map (λ m. m.batches) g.members) → IsOfMember s g batches
 unfolding member
 of_member s g size batches h =
     let f = in-place g.members batches h in
     let lt : f.place < length g.members = f.below in
     let same : f.place ≡ suc f.place - 1 = omega arith in
-    record { by = suc f.place; in_group = (omega arith, omega arith); is = f.is ∙ ap (λ i. (slice_index_or g.members i new_member).batches) same }
+    record {
+      by = suc f.place;
+      in_group = (omega arith, omega arith);
+      is =
+          f.is ∙ ap (λ i. (slice_index_or g.members i new_member).batches) same;
+    }
 
-member-in : (s : Setting) (g : State) (p : ℕ) → length g.members ≡ s.members → IsMember s.members p → IsIn (member g p).batches (map (λ m. m.batches) g.members)
+member-in : (s : Setting) (g : State) (p : ℕ) → length g.members ≡ s.members → IsMember s.members p →
+    IsIn (member g p).batches (map (λ m. m.batches) g.members)
 unfolding member
 member-in s g p size is = let low : 1 ≤ p = is.0 in let high : p ≤ s.members = is.1 in place-in g.members (p - 1) (omega arith)
 
-in_one_order : (s : Setting) (g : State) → IsAgreed s g → HaveClosed g → length g.members ≡ s.members → InOneOrder ([] ∷ map (λ m. m.batches) g.members)
+in_one_order : (s : Setting) (g : State) → IsAgreed s g → HaveClosed g → length g.members ≡ s.members →
+    InOneOrder ([] ∷ map (λ m. m.batches) g.members)
 in_one_order s g agree all size xs ys (inl e) b = inl (subst (λ z. IsPrefix z ys) (sym e) (ys, refl))
 in_one_order s g agree all size xs ys (inr a) (inl e) = inr (subst (λ z. IsPrefix z xs) (sym e) (xs, refl))
 in_one_order s g agree all size xs ys (inr a) (inr b) =
@@ -161,7 +185,8 @@ length-deliveries f (suc c) =
     let two = length-deliveries f c in
     omega (arith, one, two)
 
-at_end : (xs : List Batch) (x b : Batch) (i : ℕ) → slice_get (xs ++ x ∷ []) i ≡ Some b → (slice_get xs i ≡ Some b) ⊎ ((i ≡ length xs) × (x ≡ b))
+at_end : (xs : List Batch) (x b : Batch) (i : ℕ) → slice_get (xs ++ x ∷ []) i ≡ Some b →
+    (slice_get xs i ≡ Some b) ⊎ ((i ≡ length xs) × (x ≡ b))
 at_end [] x b zero e = inr (refl, some-same x b e)
 at_end [] x b (suc i) e = some-none b e
 at_end (y ∷ xs) x b zero e = inl e
@@ -184,10 +209,12 @@ deliveries-place f (suc c) i b e =
 -- what holds after every run
 
 module _ (s : Setting) (steps : List Step) (g : State) (runs : run s steps ≡ Some g) where
-  pub batches-prefix : IsAgreed s g → (p q : ℕ) → IsMember s.members p → IsMember s.members q → IsPrefix (member g p).batches (member g q).batches ⊎ IsPrefix (member g q).batches (member g p).batches
+  pub batches-prefix : IsAgreed s g → (p q : ℕ) → IsMember s.members p → IsMember s.members q →
+      IsPrefix (member g p).batches (member g q).batches ⊎ IsPrefix (member g q).batches (member g p).batches
   batches-prefix agree = one_order s g agree (closed-run s steps g runs).closed
 
-  pub delivered-prefix : IsAgreed s g → (p q : ℕ) → IsMember s.members p → IsMember s.members q → IsPrefix (delivered_by g p) (delivered_by g q) ⊎ IsPrefix (delivered_by g q) (delivered_by g p)
+  pub delivered-prefix : IsAgreed s g → (p q : ℕ) → IsMember s.members p → IsMember s.members q →
+      IsPrefix (delivered_by g p) (delivered_by g q) ⊎ IsPrefix (delivered_by g q) (delivered_by g p)
   delivered-prefix agree p q isp isq = elim (batches-prefix agree p q isp isq) [
     | inl f ↦ inl (joined-prefix (member g p).batches (member g q).batches f)
     | inr f ↦ inr (joined-prefix (member g q).batches (member g p).batches f)
@@ -213,7 +240,8 @@ module _ (s : Setting) (steps : List Step) (g : State) (runs : run s steps ≡ S
   unfolding order
   order-prefix agree p is =
       let f = closed-run s steps g runs in
-      longest-prefix [] (map (λ m. m.batches) g.members) (in_one_order s g agree f.closed f.size) (member g p).batches (inr (member-in s g p f.size is))
+      longest-prefix [] (map (λ m. m.batches) g.members) (in_one_order s g agree f.closed f.size) (member g p).batches
+      (inr (member-in s g p f.size is))
 
   -- that order is empty, or a member's
   pub order-of : (order g ≡ []) ⊎ IsOfMember s g (order g)

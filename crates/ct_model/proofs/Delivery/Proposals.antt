@@ -24,11 +24,13 @@ abbrev pub ProposesSubmitted : State → Type 0
 ProposesSubmitted g = (x : Proposal) → IsIn x g.proposals → (m : Message) → IsIn m x.value → IsIn m g.submitted
 
 -- what a member received and didn't deliver was submitted
-undelivered-submitted : (s : Setting) (g : State) (p : ℕ) (m : Message) → KnowsMessages s g → IsIn m (undelivered (member g p)) → IsIn m g.submitted
+undelivered-submitted : (s : Setting) (g : State) (p : ℕ) (m : Message) → KnowsMessages s g → IsIn m (undelivered (member g p)) →
+    IsIn m g.submitted
 unfolding undelivered
 undelivered-submitted s g p m k h =
     let rest : List Message = minus (received (member g p).got) (delivered (member g p)) in
-    let inside : IsIn m (received (member g p).got) = Values.minus-from (received (member g p).got) (delivered (member g p)) m (Values.ordered-from rest m h) in
+    let inside : IsIn m (received (member g p).got) = Values.minus-from (received (member g p).got) (delivered (member g p)) m
+    (Values.ordered-from rest m h) in
     Values.in-has g.submitted m (k.received p m (Values.has-in _ m (subst (λ list. IsIn m list) (sym (received-by g p)) inside)))
 
 -- what a step proposes is what its member didn't deliver
@@ -46,7 +48,8 @@ proposes-row s g p m step o = by_shape s g p m (ProposesUndelivered m) step o (r
   marks = λ crashed x h. absurd h;
 })
 
-proposals-cases : (s : Setting) (g : State) (p : ℕ) (o : Outcome) (x : Proposal) → IsIn x (after s g p o).proposals → IsIn x g.proposals ⊎ IsIn x o.proposals
+proposals-cases : (s : Setting) (g : State) (p : ℕ) (o : Outcome) (x : Proposal) → IsIn x (after s g p o).proposals →
+    IsIn x g.proposals ⊎ IsIn x o.proposals
 unfolding after
 proposals-cases s g p o x h = Lists.IsIn-append_cases x g.proposals o.proposals h
 
@@ -54,13 +57,15 @@ submitted-old : (s : Setting) (g : State) (p : ℕ) (o : Outcome) (m : Message) 
 submitted-old s g p o m h =
     subst (λ list. IsIn m list) (sym (after-submitted s g p o)) (Lists.IsIn-append_left m g.submitted o.submitted h)
 
-proposes-after : (s : Setting) (g : State) (p : ℕ) (o : Outcome) → KnowsMessages s g → ProposesUndelivered (member g p) o → ProposesSubmitted g → ProposesSubmitted (after s g p o)
+proposes-after : (s : Setting) (g : State) (p : ℕ) (o : Outcome) → KnowsMessages s g → ProposesUndelivered (member g p) o →
+    ProposesSubmitted g → ProposesSubmitted (after s g p o)
 proposes-after s g p o k new old x is m inside = elim (proposals-cases s g p o x is) [
   | inl a ↦ submitted-old s g p o m (old x a m inside)
   | inr b ↦ submitted-old s g p o m (undelivered-submitted s g p m k (subst (λ v. IsIn m v) (new x b) inside))
 ]
 
-proposes-next : (s : Setting) (g : State) (step : Step) (h : State) → next s g step ≡ Some h → KnowsMessages s g → ProposesSubmitted g → ProposesSubmitted h
+proposes-next : (s : Setting) (g : State) (step : Step) (h : State) → next s g step ≡ Some h → KnowsMessages s g → ProposesSubmitted g →
+    ProposesSubmitted h
 proposes-next s g step h e k old =
     let t = next-is s g step h e in
     let p : ℕ = actor step in
@@ -77,7 +82,12 @@ record KnowsProposals (s : Setting) (g : State) : Type 0 where
   proposals : ProposesSubmitted g
 
 knows_proposals-run : (s : Setting) (steps : List Step) (g : State) → run s steps ≡ Some g → KnowsProposals s g
-knows_proposals-run s = kept-run (KnowsProposals s) s (record { size = size-first s; messages = knows-first s; proposals = proposes-first s })
+knows_proposals-run s = kept-run (KnowsProposals s) s (record {
+  size = size-first s;
+  messages = knows-first s;
+  proposals =
+      proposes-first s;
+})
     (λ g step h e k. record {
       size = size-next s g step h e k.size;
       messages = knows-next s g step h e k.size k.messages;

@@ -32,7 +32,8 @@ abbrev pub IsToMember : ℕ → Mail → Type 0
 IsToMember n (One to w) = IsMember n to
 IsToMember n _ = Unit {0}
 
-to_member : (s : Setting) (g : State) (p : ℕ) (m : Member) (mail : Mail) → 0 < s.members → IsSending s g p m mail → IsToMember s.members mail
+to_member : (s : Setting) (g : State) (p : ℕ) (m : Member) (mail : Mail) → 0 < s.members → IsSending s g p m mail →
+    IsToMember s.members mail
 to_member s g p m mail some (nothing e) = subst (λ x. IsToMember s.members x) (sym e) tt
 to_member s g p m mail some (message new origin e) = subst (λ x. IsToMember s.members x) (sym e) tt
 to_member s g p m mail some (relay w sent relayed e) = subst (λ x. IsToMember s.members x) (sym e) tt
@@ -43,31 +44,38 @@ to_member s g p m mail some (nack k r e) = subst (λ x. IsToMember s.members x) 
 to_member s g p m mail some (decision c at tallies e) = subst (λ x. IsToMember s.members x) (sym e) tt
 
 -- where a step sends one envelope, it goes to a member
-pub addressed-step : (s : Setting) (g : State) (p : ℕ) (m : Member) (step : Step) (o : Outcome) (to : ℕ) (w : Wire) → 0 < s.members → row s g p m step ≡ Some o → o.mail ≡ One to w → IsMember s.members to
+pub addressed-step : (s : Setting) (g : State) (p : ℕ) (m : Member) (step : Step) (o : Outcome) (to : ℕ) (w : Wire) → 0 < s.members →
+    row s g p m step ≡ Some o → o.mail ≡ One to w → IsMember s.members to
 addressed-step s g p m step o to w some e mail =
     subst (λ x. IsToMember s.members x) mail (to_member s g p m o.mail some (row-sends s g p m step o e))
 
 -- what a step of a member sends names members
-names-sending : (s : Setting) (g : State) (p : ℕ) (m : Member) (mail : Mail) → IsMember s.members p → ((w : Wire) → Sent g w → NamesMember s.members w) → IsSending s g p m mail → (w : Wire) → Carries mail w → NamesMember s.members w
+names-sending : (s : Setting) (g : State) (p : ℕ) (m : Member) (mail : Mail) → IsMember s.members p →
+    ((w : Wire) → Sent g w → NamesMember s.members w) → IsSending s g p m mail → (w : Wire) → Carries mail w → NamesMember s.members w
 names-sending s g p m mail is old (nothing e) w c = absurd (subst (λ z. Carries z w) e c)
 names-sending s g p m mail is old (message new origin e) w c = subst (λ x. NamesMember s.members x) (sym (subst (λ z. Carries z w) e c)) tt
-names-sending s g p m mail is old (relay x sent relayed e) w c = subst (λ z. NamesMember s.members z) (sym (subst (λ z. Carries z w) e c)) (old x sent)
+names-sending s g p m mail is old (relay x sent relayed e) w c =
+    subst (λ z. NamesMember s.members z) (sym (subst (λ z. Carries z w) e c)) (old x sent)
 names-sending s g p m mail is old (estimate k r v ts e) w c = subst (λ x. NamesMember s.members x) (sym (subst (λ z. Carries z w) e c)) is
 names-sending s g p m mail is old (proposal k r v e) w c = subst (λ x. NamesMember s.members x) (sym (subst (λ z. Carries z w) e c)) tt
 names-sending s g p m mail is old (ack k r e) w c = subst (λ x. NamesMember s.members x) (sym (subst (λ z. Carries z w) e c)) is
 names-sending s g p m mail is old (nack k r e) w c = subst (λ x. NamesMember s.members x) (sym (subst (λ z. Carries z w) e c)) is
-names-sending s g p m mail is old (decision d at tallies e) w c = subst (λ x. NamesMember s.members x) (sym (subst (λ z. Carries z w) e c)) tt
+names-sending s g p m mail is old (decision d at tallies e) w c =
+    subst (λ x. NamesMember s.members x) (sym (subst (λ z. Carries z w) e c)) tt
 
-named-next : (s : Setting) (g : State) (step : Step) (h : State) → next s g step ≡ Some h → ((w : Wire) → Sent g w → NamesMember s.members w) → (w : Wire) → Sent h w → NamesMember s.members w
+named-next : (s : Setting) (g : State) (step : Step) (h : State) → next s g step ≡ Some h →
+    ((w : Wire) → Sent g w → NamesMember s.members w) → (w : Wire) → Sent h w → NamesMember s.members w
 named-next s g step h e old w sent =
     let t = next-is s g step h e in
     let p : ℕ = actor step in
     elim (Sent-cases s g p t.outcome w (subst (λ x. Sent x w) (sym t.gives) sent)) [
       | inl a ↦ old w a
-      | inr c ↦ names-sending s g p (member g p) t.outcome.mail (member_is s.members p t.in_group) old (row-sends s g p (member g p) step t.outcome t.row) w c
+      | inr c ↦ names-sending s g p (member g p) t.outcome.mail (member_is s.members p t.in_group) old
+          (row-sends s g p (member g p) step t.outcome t.row) w c
     ]
 
-named-run_from : (s : Setting) (g h : State) (steps : List Step) → run_from s g steps ≡ Some h → ((w : Wire) → Sent g w → NamesMember s.members w) → (w : Wire) → Sent h w → NamesMember s.members w
+named-run_from : (s : Setting) (g h : State) (steps : List Step) → run_from s g steps ≡ Some h →
+    ((w : Wire) → Sent g w → NamesMember s.members w) → (w : Wire) → Sent h w → NamesMember s.members w
 unfolding run_from
 named-run_from s g h [] e old w sent = old w (subst (λ x. Sent x w) (sym (some-same g h e)) sent)
 named-run_from s g h (step ∷ steps) e old w sent =
@@ -90,5 +98,6 @@ names_somebody n (Nack k r p) few h = let high : p ≤ n = h.1 in (h.0, omega ar
 names_somebody n _ few h = tt
 
 -- in a group of at most 16 it names one of everyone
-pub sender_named : (s : Setting) (steps : List Step) (g : State) → s.members ≤ MAX_MEMBERS → run s steps ≡ Some g → (w : Wire) → IsIn w (wires g) → NamesSomebody w
+pub sender_named : (s : Setting) (steps : List Step) (g : State) → s.members ≤ MAX_MEMBERS → run s steps ≡ Some g → (w : Wire) →
+    IsIn w (wires g) → NamesSomebody w
 sender_named s steps g few e w sent = names_somebody s.members w few (named s steps g e w sent)

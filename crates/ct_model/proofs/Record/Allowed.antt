@@ -4,13 +4,15 @@ use Rattle.std.specs.Prelude.{is_some, is_none, option_and_then}
 use Rattle.std.specs.Option.{option_map_or}
 use Rattle.ct_names.specs.declared.limit.TheConstants.{MAX_ENVELOPES, MAX_INSTANCES, MAX_ROUNDS, MAX_STEPS, MAX_SUBMISSIONS}
 use Rattle.ct_names.specs.declared.refusal.Refusal.{Refusal}
-use Rattle.ct_names.specs.declared.refusal.Refusal.TheVariants.{NotWaiting, Busy, Nothing, WrongPhase, TooFew, NotLargest, NoProposal, HasProposal, Decided, Undecided, BadCommand}
+use Rattle.ct_names.specs.declared.refusal.Refusal.TheVariants.{NotWaiting, Busy, Nothing, WrongPhase, TooFew, NotLargest, NoProposal}
+use Rattle.ct_names.specs.declared.refusal.Refusal.TheVariants.{HasProposal, Decided, Undecided, BadCommand}
 use Rattle.ct_names.specs.Value.{Value}
 use Rattle.ct_names.specs.Command.{is_good}
 use Rattle.ct_model.specs.declared.moves.Move.{Move}
 use Rattle.ct_model.specs.declared.moves.Move.TheVariants as moves
 use Rattle.ct_model.specs.declared.step.Step.{Step}
-use Rattle.ct_model.specs.declared.step.Step.TheVariants.{Submit, Receive, Begin, Enter, Choose, Adopt, Suspect, Conclude, Deliver, Crash, Postpone}
+use Rattle.ct_model.specs.declared.step.Step.TheVariants.{Submit, Receive, Begin, Enter, Choose, Adopt, Suspect, Conclude, Deliver, Crash}
+use Rattle.ct_model.specs.declared.step.Step.TheVariants.{Postpone}
 use Rattle.ct_model.specs.Actor.{actor}
 use Rattle.ct_model.specs.State.{State, member, submissions}
 use Rattle.ct_model.specs.AtValue.{Standing, Turn}
@@ -101,7 +103,8 @@ turn-tested n p k d b c moves.Enter turn taken =
     none-two (not (is_rest c.phase)) (is_some d) WrongPhase Decided (ap not r.rests) r.undecided
 turn-tested n p k d b c (moves.Choose from) turn taken =
     let r = choose-is n k b c from turn taken in
-    let largest : has_largest b from ≡ true = ap (λ e. option_map_or (λ (x : Heard Value). is_largest b x.ts) e false) r.from_is ∙ r.largest in
+    let largest : has_largest b from ≡ true = ap (λ e. option_map_or (λ (x : Heard Value). is_largest b x.ts) e false) r.from_is
+    ∙ r.largest in
     none-three (not (is_gather c.phase)) (lacks n (heard b)) (not (has_largest b from)) WrongPhase TooFew NotLargest
     (ap not r.gathers) (ap not r.majority) (ap not largest)
 turn-tested n p k d b c moves.Adopt turn taken =
@@ -126,14 +129,17 @@ move-free w p a o is =
     ∙ open-at m (faults_at n m a) t.standing t.is_open
     ∙ turn-tested n q m.last (decided m.got m.last) (own_ballots m t.standing) t.standing a t.turn t.taken
 
-row-free : (w : Rehearsal) (step : Step) (o : Outcome) → row w.setting (state_of w) (actor step) (member (state_of w) (actor step)) step ≡ Some o → NamesWaiting w step → first_fault (own_tests w step) ≡ None
+row-free : (w : Rehearsal) (step : Step) (o : Outcome) → row w.setting (state_of w) (actor step) (member (state_of w) (actor step)) step
+    ≡ Some o → NamesWaiting w step → first_fault (own_tests w step) ≡ None
 row-free w (Submit p c) o is names =
     let good = (when-is (is_good c) (submit (state_of w) p (member (state_of w) p) c) o is).0 in
     ap first_fault (own_tests-is w (Submit p c)) ∙ none-one (not (is_good c)) BadCommand (ap not good)
-row-free w (Receive p k) o is names = ap first_fault (own_tests-is w (Receive p k)) ∙ none-one (not (is_waiting w p k)) NotWaiting (ap not names)
+row-free w (Receive p k) o is names = ap first_fault (own_tests-is w (Receive p k))
+    ∙ none-one (not (is_waiting w p k)) NotWaiting (ap not names)
 row-free w (Begin p) o is names =
     let r = begin_row-is p (member (state_of w) p) o is in
-    ap first_fault (own_tests-is w (Begin p)) ∙ none-two (is_some (member (state_of w) p).current) (is_empty (undelivered (member (state_of w) p))) Busy Nothing (none-some (member (state_of w) p).current r.idle) r.something
+    ap first_fault (own_tests-is w (Begin p)) ∙ none-two (is_some (member (state_of w) p).current)
+    (is_empty (undelivered (member (state_of w) p))) Busy Nothing (none-some (member (state_of w) p).current r.idle) r.something
 row-free w (Enter p) o is names = move-free w p moves.Enter o is
 row-free w (Choose p from) o is names = move-free w p (moves.Choose from) o is
 row-free w (Adopt p) o is names = move-free w p moves.Adopt o is
@@ -144,7 +150,8 @@ row-free w (Deliver p) o is names =
     let d = deliver_row-is m o is in
     tests-deliver w p d.standing d.is_open ∙ none-one (is_none (decided m.got m.last)) Undecided (ap is_none d.decision)
 row-free w (Crash p) o is names = ap first_fault (own_tests-is w (Crash p))
-row-free w (Postpone p k) o is names = ap first_fault (own_tests-is w (Postpone p k)) ∙ none-one (not (is_waiting w p k)) NotWaiting (ap not names)
+row-free w (Postpone p k) o is names = ap first_fault (own_tests-is w (Postpone p k))
+    ∙ none-one (not (is_waiting w p k)) NotWaiting (ap not names)
 
 -- where no limit is passed none is the cause
 within-free : (cells steps : ℕ) (g : State) (p : ℕ) → IsWithin cells g steps → first_fault (limits cells steps g p) ≡ None
@@ -158,7 +165,8 @@ within-free cells steps g p within =
       low MAX_STEPS steps within.few_steps,
     ) refl
 
-limit-free : (w : Rehearsal) (step : Step) (h : State) → next w.setting (state_of w) step ≡ Some h → IsWithin w.cells h (length w.steps + 1) → limit w step ≡ None
+limit-free : (w : Rehearsal) (step : Step) (h : State) → next w.setting (state_of w) step ≡ Some h →
+    IsWithin w.cells h (length w.steps + 1) → limit w step ≡ None
 unfolding limit
 limit-free w step h e within =
     ap (option_and_then (λ g. first_fault (limits w.cells (length w.steps + 1) g (actor step)))) e

@@ -1,5 +1,6 @@
 -- The first test that fires, and the limits of a step that only sends.
-use Rattle.std.proofs.Common.{◌≡◌, ℕ, ◌+◌, ◌≤◌, ◌<◌, Bool, true, false, not, List, [], ◌∷◌, length, refl, ap, sym, ◌∙◌, arith, Option, Some, None}
+use Rattle.std.proofs.Common.{◌≡◌, ℕ, ◌+◌, ◌≤◌, ◌<◌, Bool, true, false, not, List, [], ◌∷◌, length, refl, ap, sym, ◌∙◌, arith, Option, Some}
+use Rattle.std.proofs.Common.{None}
 use Rattle.std.specs.Prelude.{nat_lt, if◌then◌else◌}
 use Rattle.std.proofs.lemmas.Bool.Decides.{nat_tests}
 use Rattle.ct_names.specs.declared.limit.TheConstants.{MAX_ENVELOPES, MAX_STEPS}
@@ -20,10 +21,12 @@ or_else-none None rest h = (refl, h)
 or_else-none (Some r) rest h = absurd (cc)
 
 -- where no test fires, the first doesn't and no later one does
-pub first_fault-none : (test : Test) (rest : List Test) → first_fault (test ∷ rest) ≡ None → (test.fires ≡ false) × (first_fault rest ≡ None)
+pub first_fault-none : (test : Test) (rest : List Test) → first_fault (test ∷ rest) ≡ None →
+    (test.fires ≡ false) × (first_fault rest ≡ None)
 first_fault-none test rest h = go test.fires refl h
   where
-    go : (b : Bool) → test.fires ≡ b → (if b then Some test.refusal else first_fault rest) ≡ None → (test.fires ≡ false) × (first_fault rest ≡ None)
+    go : (b : Bool) → test.fires ≡ b → (if b then Some test.refusal else first_fault rest) ≡ None →
+        (test.fires ≡ false) × (first_fault rest ≡ None)
     go true e h = absurd (cc)
     go false e h = (e, h)
 
@@ -40,12 +43,15 @@ none-present w p h =
 unfoldable pub own_tests : Rehearsal → Step → List Test
 own_tests w step = tests w.setting (state_of w) (member (state_of w) (actor step)) (line_of w (actor step)) step
 
-pub cause-is : (w : Rehearsal) (step : Step) → cause w step ≡ or_else (first_fault (presence w.setting (state_of w) (actor step))) (or_else (first_fault (own_tests w step)) (limit w step))
+pub cause-is : (w : Rehearsal) (step : Step) → cause w step ≡ or_else (first_fault (presence w.setting (state_of w) (actor step)))
+    (or_else (first_fault (own_tests w step)) (limit w step))
 unfolding cause own_tests
 cause-is w step = refl
 
-pub cause-present : (w : Rehearsal) (step : Step) → IsPresent w (actor step) → cause w step ≡ or_else (first_fault (own_tests w step)) (limit w step)
-cause-present w step h = cause-is w step ∙ ap (λ o. or_else o (or_else (first_fault (own_tests w step)) (limit w step))) (present-none w (actor step) h)
+pub cause-present : (w : Rehearsal) (step : Step) → IsPresent w (actor step) →
+    cause w step ≡ or_else (first_fault (own_tests w step)) (limit w step)
+cause-present w step h = cause-is w step ∙ ap (λ o. or_else o (or_else (first_fault (own_tests w step)) (limit w step)))
+    (present-none w (actor step) h)
 
 -- what no refusal says
 pub record IsFree (w : Rehearsal) (step : Step) : Type 0 where
@@ -55,7 +61,8 @@ pub record IsFree (w : Rehearsal) (step : Step) : Type 0 where
 
 pub cause-none : (w : Rehearsal) (step : Step) → cause w step ≡ None → IsFree w step
 cause-none w step h =
-    let a = or_else-none (first_fault (presence w.setting (state_of w) (actor step))) (or_else (first_fault (own_tests w step)) (limit w step)) (sym (cause-is w step) ∙ h) in
+    let a = or_else-none (first_fault (presence w.setting (state_of w) (actor step)))
+    (or_else (first_fault (own_tests w step)) (limit w step)) (sym (cause-is w step) ∙ h) in
     let b = or_else-none (first_fault (own_tests w step)) (limit w step) a.1 in
     record { present = none-present w (actor step) a.0; tested = b.0; limited = b.1 }
 
@@ -74,19 +81,30 @@ high bound k h = grind (arith, nat_tests)
 pub under : (bound k : ℕ) → nat_lt bound k ≡ false → k ≤ bound
 under bound k h = grind (arith, nat_tests)
 
-pub overflow-is : (w : Rehearsal) (more : ℕ) → overflow w more ≡ first_fault (at (Full Envelopes) (nat_lt MAX_ENVELOPES (length (state_of w).sent + more)) ∷ at (Full Steps) (nat_lt MAX_STEPS (length w.steps + 1)) ∷ [])
+pub overflow-is : (w : Rehearsal) (more : ℕ) → overflow w more
+    ≡ first_fault (at (Full Envelopes) (nat_lt MAX_ENVELOPES (length (state_of w).sent + more))
+    ∷ at (Full Steps) (nat_lt MAX_STEPS (length w.steps + 1)) ∷ [])
 unfolding overflow
 overflow-is w more = refl
 
 pub overflow-sent : (w : Rehearsal) (more : ℕ) → MAX_ENVELOPES < length (state_of w).sent + more → overflow w more ≡ Some (Full Envelopes)
 overflow-sent w more many = overflow-is w more ∙ rw (high MAX_ENVELOPES (length (state_of w).sent + more) many) refl
 
-pub overflow-steps : (w : Rehearsal) (more : ℕ) → length (state_of w).sent + more ≤ MAX_ENVELOPES → MAX_STEPS < length w.steps + 1 → overflow w more ≡ Some (Full Steps)
-overflow-steps w more few many = overflow-is w more ∙ rw (low MAX_ENVELOPES (length (state_of w).sent + more) few, high MAX_STEPS (length w.steps + 1) many) refl
+pub overflow-steps : (w : Rehearsal) (more : ℕ) → length (state_of w).sent + more ≤ MAX_ENVELOPES → MAX_STEPS < length w.steps + 1 →
+    overflow w more ≡ Some (Full Steps)
+overflow-steps w more few many = overflow-is w more ∙ rw (
+  low MAX_ENVELOPES (length (state_of w).sent + more) few,
+  high MAX_STEPS (length w.steps + 1) many,
+) refl
 
-pub overflow-no : (w : Rehearsal) (more : ℕ) → length (state_of w).sent + more ≤ MAX_ENVELOPES → length w.steps + 1 ≤ MAX_STEPS → overflow w more ≡ None
-overflow-no w more few less = overflow-is w more ∙ rw (low MAX_ENVELOPES (length (state_of w).sent + more) few, low MAX_STEPS (length w.steps + 1) less) refl
+pub overflow-no : (w : Rehearsal) (more : ℕ) → length (state_of w).sent + more ≤ MAX_ENVELOPES → length w.steps + 1 ≤ MAX_STEPS →
+    overflow w more ≡ None
+overflow-no w more few less = overflow-is w more ∙ rw (
+  low MAX_ENVELOPES (length (state_of w).sent + more) few,
+  low MAX_STEPS (length w.steps + 1) less,
+) refl
 
 -- what keeps a member from any step is the cause
-pub cause-absent : (w : Rehearsal) (step : Step) (refusal : Refusal) → first_fault (presence w.setting (state_of w) (actor step)) ≡ Some refusal → cause w step ≡ Some refusal
+pub cause-absent : (w : Rehearsal) (step : Step) (refusal : Refusal) →
+    first_fault (presence w.setting (state_of w) (actor step)) ≡ Some refusal → cause w step ≡ Some refusal
 cause-absent w step refusal e = cause-is w step ∙ ap (λ o. or_else o (or_else (first_fault (own_tests w step)) (limit w step))) e

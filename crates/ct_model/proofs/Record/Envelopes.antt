@@ -1,5 +1,6 @@
 -- What waits is an envelope to the member.
-use Rattle.std.proofs.Common.{◌≡◌, ℕ, zero, suc, ◌+◌, ◌-◌, Bool, true, false, not, List, [], ◌∷◌, ◌++◌, refl, sym, ◌∙◌, subst, arith, Some, inl, inr}
+use Rattle.std.proofs.Common.{◌≡◌, ℕ, zero, suc, ◌+◌, ◌-◌, Bool, true, false, not, List, [], ◌∷◌, ◌++◌, refl, sym, ◌∙◌, subst, arith, Some}
+use Rattle.std.proofs.Common.{inl, inr}
 use Rattle.std.specs.Prelude.{◌==◌, slice_get, if◌then◌else◌, option_and_then}
 use Rattle.std.proofs.lemmas.Bool.Decides.{nat_tests}
 use Rattle.ct_model.specs.AtValue.{Envelope, Wire}
@@ -18,14 +19,18 @@ record IsAt (p before k : ℕ) (es : List Envelope) (i : ℕ) (e : Envelope) : T
   to : e.to ≡ p
 
 -- a serial that goes to p is an envelope to p
-serial_at : (p before k : ℕ) (es : List Envelope) → has_serial k (serials_to p before es) ≡ true → (i : ℕ) × (e : Envelope) × IsAt p before k es i e
+serial_at : (p before k : ℕ) (es : List Envelope) → has_serial k (serials_to p before es) ≡ true →
+    (i : ℕ) × (e : Envelope) × IsAt p before k es i e
 serial_at p before k [] h = absurd (cc)
 serial_at p before k (e ∷ es) h = go (e.to == p) refl (λ m. further (serial_at p (before + 1) k es m)) h
   where
     further : ((i : ℕ) × (x : Envelope) × IsAt p (before + 1) k es i x) → (i : ℕ) × (x : Envelope) × IsAt p before k (e ∷ es) i x
     further r = (suc r.0, r.1, record { place = omega (arith, r.2.place); there = r.2.there; to = r.2.to })
 
-    go : (b : Bool) → b ≡ (e.to == p) → (has_serial k (serials_to p (before + 1) es) ≡ true → (i : ℕ) × (x : Envelope) × IsAt p before k (e ∷ es) i x) → has_serial k ((if b then (before + 1) ∷ [] else []) ++ serials_to p (before + 1) es) ≡ true → (i : ℕ) × (x : Envelope) × IsAt p before k (e ∷ es) i x
+    go : (b : Bool) → b ≡ (e.to == p) → (has_serial k (serials_to p (before + 1) es) ≡ true →
+        (i : ℕ) × (x : Envelope) × IsAt p before k (e ∷ es) i x) →
+        has_serial k ((if b then (before + 1) ∷ [] else []) ++ serials_to p (before + 1) es) ≡ true →
+        (i : ℕ) × (x : Envelope) × IsAt p before k (e ∷ es) i x
     go true is rest m =
         elim (or_cases (before + 1 == k) (has_serial k (serials_to p (before + 1) es)) m) [
           | inl a ↦ (zero, e, record { place = grind (arith, nat_tests); there = refl; to = grind (arith, nat_tests) })

@@ -1,5 +1,6 @@
 -- What an outcome leaves of the state.
-use Rattle.std.proofs.Common.{◌≡◌, ◌≢◌, ℕ, Bool, true, false, zero, suc, ◌-◌, ◌+◌, ◌<◌, List, [], ◌∷◌, ◌++◌, length, map, refl, ap, ◌∙◌, set}
+use Rattle.std.proofs.Common.{◌≡◌, ◌≢◌, ℕ, Bool, true, false, zero, suc, ◌-◌, ◌+◌, ◌<◌, List, [], ◌∷◌, ◌++◌, length, map, refl, ap, ◌∙◌}
+use Rattle.std.proofs.Common.{set}
 use Rattle.std.specs.Prelude.{filter, ◌==◌, slice_index_or, if◌then◌else◌}
 use Rattle.std.proofs.lemmas.List.{length-append, length-set, get_or-set_same, get_or-set_other}
 use Rattle.std.proofs.lemmas.List.Elements.{filter-append}
@@ -15,7 +16,8 @@ pub after-sent : (s : Setting) (g : State) (p : ℕ) (o : Outcome) → (after s 
 unfolding after
 after-sent s g p o = refl
 
-pub length-after-sent : (s : Setting) (g : State) (p : ℕ) (o : Outcome) → length (after s g p o).sent ≡ length g.sent + length (envelopes s.members o.mail)
+pub length-after-sent : (s : Setting) (g : State) (p : ℕ) (o : Outcome) →
+    length (after s g p o).sent ≡ length g.sent + length (envelopes s.members o.mail)
 length-after-sent s g p o = ap length (after-sent s g p o) ∙ length-append g.sent (envelopes s.members o.mail)
 
 pub after-submitted : (s : Setting) (g : State) (p : ℕ) (o : Outcome) → (after s g p o).submitted ≡ g.submitted ++ o.submitted
@@ -36,7 +38,8 @@ member-other s g p q o ne = get_or-set_other g.members (p - 1) (q - 1) o.member 
 
 pub submissions-append : (xs ys : List Message) (p : ℕ) → submissions (xs ++ ys) p ≡ submissions xs p + submissions ys p
 unfolding submissions
-submissions-append xs ys p = ap length (filter-append (λ m. m.origin == p) xs ys) ∙ length-append (filter (λ m. m.origin == p) xs) (filter (λ m. m.origin == p) ys)
+submissions-append xs ys p = ap length (filter-append (λ m. m.origin == p) xs ys)
+    ∙ length-append (filter (λ m. m.origin == p) xs) (filter (λ m. m.origin == p) ys)
 
 -- the members have the same of this, one of them exchanged for another that has the same
 map-set : {A B : Type 0} (f : A → B) (xs : List A) (i : ℕ) (x d : A) → f x ≡ f (slice_index_or xs i d) → map f (set xs i x) ≡ map f xs

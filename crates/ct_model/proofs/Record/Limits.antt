@@ -1,5 +1,6 @@
 -- The tests and limits of a step, whichever it is.
-use Rattle.std.proofs.Common.{◌≡◌, ◌≢◌, ℕ, ◌+◌, ◌-◌, ◌≤◌, Bool, true, false, not, List, [], ◌∷◌, length, refl, ap, sym, ◌∙◌, arith, Some, None, inl, inr}
+use Rattle.std.proofs.Common.{◌≡◌, ◌≢◌, ℕ, ◌+◌, ◌-◌, ◌≤◌, Bool, true, false, not, List, [], ◌∷◌, length, refl, ap, sym, ◌∙◌, arith, Some}
+use Rattle.std.proofs.Common.{None, inl, inr}
 use Rattle.std.specs.Option.{option_map_or}
 use Rattle.std.specs.Prelude.{nat_lt, ◌==◌, ◌++◌, option_and_then, if◌then◌else◌}
 use Rattle.std.proofs.lemmas.Bool.{cases_eq}
@@ -20,26 +21,31 @@ use Rattle.ct_model.specs.Wire.{envelopes}
 use Rattle.ct_model.specs.Cause.{Test, at, first_fault, tests, limits, limit, or_else, cause, overflow, order, round_of}
 use Rattle.ct_model.specs.Lawful.{IsWithin, IsLawful, IsPresent, NamesWaiting, is_waiting}
 use Rattle.ct_model.proofs.Basics.Tests.{false_not, number_other}
-use Rattle.ct_model.proofs.Record.Frame.{after-submitted, length-after-sent, order-kept, member-same, member-other, at_place, submissions-append, submissions-next, submissions-none}
+use Rattle.ct_model.proofs.Record.Frame.{after-submitted, length-after-sent, order-kept, member-same, member-other, at_place}
+use Rattle.ct_model.proofs.Record.Frame.{submissions-append, submissions-next, submissions-none}
 use Rattle.ct_model.proofs.Steps.Shapes.{by_shape}
 use Rattle.ct_model.proofs.Record.Causes.{own_tests, cause-present, cause-none, IsKept, first_fault-none, low, under, overflow-is}
 use Rattle.ct_model.proofs.Record.Taken.{IsTaken, next-row}
 use Rattle.ct_model.proofs.Relay.Messages.{in_members}
 
 -- the tests of its own that a step has
-pub own_tests-is : (w : Rehearsal) (step : Step) → own_tests w step ≡ tests w.setting (state_of w) (member (state_of w) (actor step)) (line_of w (actor step)) step
+pub own_tests-is : (w : Rehearsal) (step : Step) → own_tests w step
+    ≡ tests w.setting (state_of w) (member (state_of w) (actor step)) (line_of w (actor step)) step
 unfolding own_tests
 own_tests-is w step = refl
 
 -- the first of them that fires is the cause, and where none does, the limit is
-pub cause-tested : (w : Rehearsal) (step : Step) (r : Refusal) → IsPresent w (actor step) → first_fault (own_tests w step) ≡ Some r → cause w step ≡ Some r
+pub cause-tested : (w : Rehearsal) (step : Step) (r : Refusal) → IsPresent w (actor step) → first_fault (own_tests w step) ≡ Some r →
+    cause w step ≡ Some r
 cause-tested w step r present e = cause-present w step present ∙ ap (λ o. or_else o (limit w step)) e
 
-pub cause-limited : (w : Rehearsal) (step : Step) → IsPresent w (actor step) → first_fault (own_tests w step) ≡ None → cause w step ≡ limit w step
+pub cause-limited : (w : Rehearsal) (step : Step) → IsPresent w (actor step) → first_fault (own_tests w step) ≡ None →
+    cause w step ≡ limit w step
 cause-limited w step present e = cause-present w step present ∙ ap (λ o. or_else o (limit w step)) e
 
 -- a step that has one test
-module _ (w : Rehearsal) (step : Step) (r : Refusal) (b : Bool) (one : tests w.setting (state_of w) (member (state_of w) (actor step)) (line_of w (actor step)) step ≡ at r (not b) ∷ []) where
+module _ (w : Rehearsal) (step : Step) (r : Refusal) (b : Bool)
+    (one : tests w.setting (state_of w) (member (state_of w) (actor step)) (line_of w (actor step)) step ≡ at r (not b) ∷ []) where
   first_is : (c : Bool) → b ≡ c → first_fault (own_tests w step) ≡ (if not c then Some r else None)
   first_is c e = ap first_fault (own_tests-is w step ∙ one) ∙ ap (λ x. if not x then Some r else None) e
 
@@ -59,9 +65,12 @@ names-free w (Postpone p k) none = passed-free w (Postpone p k) NotWaiting (is_w
 names-free w _ none = tt
 
 -- the limits of a step with this outcome are tested on the state after it
-pub limit-of : (w : Rehearsal) (step : Step) (o : Outcome) → IsPresent w (actor step) → row w.setting (state_of w) (actor step) (member (state_of w) (actor step)) step ≡ Some o → limit w step ≡ first_fault (limits w.cells (length w.steps + 1) (after w.setting (state_of w) (actor step) o) (actor step))
+pub limit-of : (w : Rehearsal) (step : Step) (o : Outcome) → IsPresent w (actor step) →
+    row w.setting (state_of w) (actor step) (member (state_of w) (actor step)) step ≡ Some o →
+    limit w step ≡ first_fault (limits w.cells (length w.steps + 1) (after w.setting (state_of w) (actor step) o) (actor step))
 unfolding limit
-limit-of w step o present e = ap (λ x. option_and_then (λ h. first_fault (limits w.cells (length w.steps + 1) h (actor step))) x) (next-row w.setting (state_of w) step o present.in_group present.up e)
+limit-of w step o present e = ap (λ x. option_and_then (λ h. first_fault (limits w.cells (length w.steps + 1) h (actor step))) x)
+    (next-row w.setting (state_of w) step o present.in_group present.up e)
 
 -- nobody submits but the actor
 
@@ -109,9 +118,13 @@ limits-none cells steps g p h =
       few_steps = under MAX_STEPS steps f.0;
     }
 
-module _ (w : Rehearsal) (step : Step) (o : Outcome) (law : IsLawful w) (is : row w.setting (state_of w) (actor step) (member (state_of w) (actor step)) step ≡ Some o) (under : IsUnder w.cells (length w.steps + 1) (after w.setting (state_of w) (actor step) o) (actor step)) where
+module _ (w : Rehearsal) (step : Step) (o : Outcome) (law : IsLawful w)
+    (is : row w.setting (state_of w) (actor step) (member (state_of w) (actor step)) step ≡ Some o)
+    (under : IsUnder w.cells (length w.steps + 1) (after w.setting (state_of w) (actor step) o) (actor step)) where
   -- a bound that holds of each member before the step, and of the actor after it, holds of each member after it
-  for_each : (f : Member → ℕ) (bound : ℕ) → ((q : ℕ) → f (member (state_of w) q) ≤ bound) → f (member (after w.setting (state_of w) (actor step) o) (actor step)) ≤ bound → (q : ℕ) → f (member (after w.setting (state_of w) (actor step) o) q) ≤ bound
+  for_each : (f : Member → ℕ) (bound : ℕ) → ((q : ℕ) → f (member (state_of w) q) ≤ bound) →
+      f (member (after w.setting (state_of w) (actor step) o) (actor step)) ≤ bound → (q : ℕ) →
+      f (member (after w.setting (state_of w) (actor step) o) q) ≤ bound
   for_each f bound before here q =
       elim (cases_eq (q - 1) (actor step - 1)) [
         | inl same ↦ rw (at_place f (after w.setting (state_of w) (actor step) o) q (actor step) same) here
@@ -122,7 +135,11 @@ module _ (w : Rehearsal) (step : Step) (o : Outcome) (law : IsLawful w) (is : ro
   few_each q =
       elim (cases_eq q (actor step)) [
         | inl same ↦ rw same under.few_submissions
-        | inr other ↦ rw (after-submitted w.setting (state_of w) (actor step) o, submissions-append (state_of w).submitted o.submitted q, row-submits w.setting (state_of w) (actor step) (member (state_of w) (actor step)) step o is q other)
+        | inr other ↦ rw (
+          after-submitted w.setting (state_of w) (actor step) o,
+          submissions-append (state_of w).submitted o.submitted q,
+          row-submits w.setting (state_of w) (actor step) (member (state_of w) (actor step)) step o is q other,
+        )
             (let few = law.within.few_submissions q in omega arith)
       ]
 
@@ -137,14 +154,16 @@ module _ (w : Rehearsal) (step : Step) (o : Outcome) (law : IsLawful w) (is : ro
   }
 
 -- a step without a cause is taken, with the outcome of its row
-pub taken_of : (w : Rehearsal) (step : Step) (o : Outcome) → IsLawful w → cause w step ≡ None → row w.setting (state_of w) (actor step) (member (state_of w) (actor step)) step ≡ Some o → IsTaken w step o
+pub taken_of : (w : Rehearsal) (step : Step) (o : Outcome) → IsLawful w → cause w step ≡ None →
+    row w.setting (state_of w) (actor step) (member (state_of w) (actor step)) step ≡ Some o → IsTaken w step o
 taken_of w step o law none is =
     let free = cause-none w step none in
     record {
       present = free.present;
       row = is;
       names = names-free w step none;
-      within = within_all w step o law is (limits-none w.cells (length w.steps + 1) (after w.setting (state_of w) (actor step) o) (actor step) (sym (limit-of w step o free.present is) ∙ free.limited));
+      within = within_all w step o law is (limits-none w.cells (length w.steps + 1) (after w.setting (state_of w) (actor step) o)
+          (actor step) (sym (limit-of w step o free.present is) ∙ free.limited));
     }
 
 -- the first test that fires is the first of some, or of the others
@@ -153,12 +172,14 @@ first_fault-append [] rest = refl
 first_fault-append (test ∷ some) rest = go test.fires (first_fault-append some rest)
   where
     go : (b : Bool) → first_fault (some ++ rest) ≡ or_else (first_fault some) (first_fault rest)
-        → (if b then Some test.refusal else first_fault (some ++ rest)) ≡ or_else (if b then Some test.refusal else first_fault some) (first_fault rest)
+        → (if b then Some test.refusal else first_fault (some ++ rest))
+        ≡ or_else (if b then Some test.refusal else first_fault some) (first_fault rest)
     go true e = refl
     go false e = e
 
 -- the limits of a step with this outcome, one by one
-module _ (w : Rehearsal) (step : Step) (o : Outcome) (law : IsLawful w) (present : IsPresent w (actor step)) (is : row w.setting (state_of w) (actor step) (member (state_of w) (actor step)) step ≡ Some o) where
+module _ (w : Rehearsal) (step : Step) (o : Outcome) (law : IsLawful w) (present : IsPresent w (actor step))
+    (is : row w.setting (state_of w) (actor step) (member (state_of w) (actor step)) step ≡ Some o) where
   abbrev g : State
   g = state_of w
 
@@ -174,7 +195,8 @@ module _ (w : Rehearsal) (step : Step) (o : Outcome) (law : IsLawful w) (present
   few_silent : o.submitted ≡ [] → nat_lt MAX_SUBMISSIONS (submissions h.submitted p) ≡ false
   few_silent none =
       let same : h.submitted ≡ g.submitted = after-submitted w.setting g p o ∙ ap (λ ms. g.submitted ++ ms) none ∙ append-nil g.submitted in
-      ap (λ ms. nat_lt MAX_SUBMISSIONS (submissions ms p)) same ∙ low MAX_SUBMISSIONS (submissions g.submitted p) (law.within.few_submissions p)
+      ap (λ ms. nat_lt MAX_SUBMISSIONS (submissions ms p)) same
+      ∙ low MAX_SUBMISSIONS (submissions g.submitted p) (law.within.few_submissions p)
 
   -- where it submits nothing
   pub limit-silent : o.submitted ≡ []
@@ -192,7 +214,8 @@ module _ (w : Rehearsal) (step : Step) (o : Outcome) (law : IsLawful w) (present
 
   rounds_kept : o.member.current ≡ (member g p).current → nat_lt MAX_ROUNDS (round_of o.member) ≡ false
   rounds_kept same =
-      ap (λ c. nat_lt MAX_ROUNDS (option_map_or (λ (x : Standing). x.round) c 0)) same ∙ low MAX_ROUNDS (round_of (member g p)) (law.within.few_rounds p)
+      ap (λ c. nat_lt MAX_ROUNDS (option_map_or (λ (x : Standing). x.round) c 0)) same
+      ∙ low MAX_ROUNDS (round_of (member g p)) (law.within.few_rounds p)
 
   cells_kept : o.member.batches ≡ (member g p).batches → nat_lt w.cells (length (order h)) ≡ false
   cells_kept same =
@@ -201,19 +224,23 @@ module _ (w : Rehearsal) (step : Step) (o : Outcome) (law : IsLawful w) (present
   -- where it submits and delivers nothing
   pub limit-idle : o.submitted ≡ [] → o.member.batches ≡ (member (state_of w) (actor step)).batches
       → limit w step
-      ≡ or_else (first_fault (at (Full Instances) (nat_lt MAX_INSTANCES o.member.last) ∷ at (Full Rounds) (nat_lt MAX_ROUNDS (round_of o.member)) ∷ []))
+      ≡ or_else (first_fault (at (Full Instances) (nat_lt MAX_INSTANCES o.member.last)
+      ∷ at (Full Rounds) (nat_lt MAX_ROUNDS (round_of o.member)) ∷ []))
       (overflow w (length (envelopes w.setting.members o.mail)))
   limit-idle none kept =
-      let own : List Test = at (Full Instances) (nat_lt MAX_INSTANCES o.member.last) ∷ at (Full Rounds) (nat_lt MAX_ROUNDS (round_of o.member)) ∷ [] in
+      let own : List Test = at (Full Instances) (nat_lt MAX_INSTANCES o.member.last)
+      ∷ at (Full Rounds) (nat_lt MAX_ROUNDS (round_of o.member)) ∷ [] in
       let more : ℕ = length (envelopes w.setting.members o.mail) in
       limit-silent none
-      ∙ rw (cells_kept kept) (first_fault-append own (at (Full Envelopes) (nat_lt MAX_ENVELOPES (length g.sent + more)) ∷ at (Full Steps) (nat_lt MAX_STEPS (length w.steps + 1)) ∷ []))
+      ∙ rw (cells_kept kept) (first_fault-append own (at (Full Envelopes) (nat_lt MAX_ENVELOPES (length g.sent + more))
+      ∷ at (Full Steps) (nat_lt MAX_STEPS (length w.steps + 1)) ∷ []))
       ∙ ap (or_else (first_fault own)) (sym (overflow-is w more))
 
   -- where its member keeps its instances and batches
   pub limit-kept : IsKept (member (state_of w) (actor step)) o.member
       → limit w step
-      ≡ first_fault (at (Full Submissions) (nat_lt MAX_SUBMISSIONS (submissions (after w.setting (state_of w) (actor step) o).submitted (actor step)))
+      ≡ first_fault (at (Full Submissions) (nat_lt MAX_SUBMISSIONS
+      (submissions (after w.setting (state_of w) (actor step) o).submitted (actor step)))
       ∷ at (Full Envelopes) (nat_lt MAX_ENVELOPES (length (state_of w).sent + length (envelopes w.setting.members o.mail)))
       ∷ at (Full Steps) (nat_lt MAX_STEPS (length w.steps + 1))
       ∷ [])

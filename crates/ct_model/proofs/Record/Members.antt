@@ -14,7 +14,8 @@ pub use Rattle.ct_model.proofs.Consensus.Sent.{Sent, Carries, Sent-cases, Sent-w
 pub member-same : (s : Setting) (g : State) (p : ℕ) (o : Outcome) → Holds s g → IsMember s.members p → member (after s g p o) p ≡ o.member
 member-same s g p o holds is = same_place s g p o (in_place s g p holds is)
 
-pub member-other : (s : Setting) (g : State) (p q : ℕ) (o : Outcome) → IsMember s.members p → IsMember s.members q → q ≢ p → member (after s g p o) q ≡ member g q
+pub member-other : (s : Setting) (g : State) (p q : ℕ) (o : Outcome) → IsMember s.members p → IsMember s.members q → q ≢ p →
+    member (after s g p o) q ≡ member g q
 member-other s g p q o m h ne =
     let low : 1 ≤ p = m.0 in
     let also : 1 ≤ q = h.0 in

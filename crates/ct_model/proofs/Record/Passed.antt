@@ -10,12 +10,16 @@ use Rattle.ct_model.specs.Passed.{extended_by, passed}
 abbrev pub if_allowed : Rehearsal → Step → List Step
 if_allowed w step = if is_none (cause w step) then step ∷ [] else []
 
-pub passed-snoc : (w : Rehearsal) (steps : List Step) (step : Step) → passed w (steps ++ step ∷ []) ≡ passed w steps ++ if_allowed (extended_by w (passed w steps)) step
+pub passed-snoc : (w : Rehearsal) (steps : List Step) (step : Step) →
+    passed w (steps ++ step ∷ []) ≡ passed w steps ++ if_allowed (extended_by w (passed w steps)) step
 unfolding passed
 passed-snoc w [] step = rw append-nil refl
 passed-snoc w (first ∷ rest) step =
     let next : Rehearsal = extended w first in
-    elim (is_none (cause w first)) as (λ b. cond b (first ∷ passed next (rest ++ step ∷ [])) (passed w (rest ++ step ∷ [])) ≡ cond b (first ∷ passed next rest) (passed w rest) ++ if_allowed (extended_by w (cond b (first ∷ passed next rest) (passed w rest))) step) [
-      | true ↦ ap (λ (list : List Step). first ∷ list) (rw (append_assoc w.steps (first ∷ []) (passed next rest)) at (passed-snoc next rest step))
+    elim (is_none (cause w first)) as (λ b. cond b (first ∷ passed next (rest ++ step ∷ [])) (passed w (rest ++ step ∷ []))
+    ≡ cond b (first ∷ passed next rest) (passed w rest) ++ if_allowed
+    (extended_by w (cond b (first ∷ passed next rest) (passed w rest))) step) [
+      | true ↦ ap (λ (list : List Step). first ∷ list) (rw (append_assoc w.steps (first ∷ []) (passed next rest)) at
+          (passed-snoc next rest step))
       | false ↦ passed-snoc w rest step
     ]

@@ -14,7 +14,8 @@ pub state_of-push : (w : Rehearsal) (step : Step) → state_of (extended w step)
 unfolding state_of
 state_of-push w step = fold-append (stepped w.setting) (first_state w.setting) w.steps (step ∷ [])
 
-run_from-push : (s : Setting) (g : State) (steps : List Step) (step : Step) → run_from s g (steps ++ step ∷ []) ≡ option_and_then (λ h. next s h step) (run_from s g steps)
+run_from-push : (s : Setting) (g : State) (steps : List Step) (step : Step) →
+    run_from s g (steps ++ step ∷ []) ≡ option_and_then (λ h. next s h step) (run_from s g steps)
 unfolding run_from
 run_from-push s g [] step = at_end (next s g step)
   where
@@ -23,12 +24,16 @@ run_from-push s g [] step = at_end (next s g step)
     at_end (Some h) = refl
 run_from-push s g (x ∷ steps) step = onwards (next s g x) (λ h. run_from-push s h steps step)
   where
-    onwards : (o : Option State) → ((h : State) → run_from s h (steps ++ step ∷ []) ≡ option_and_then (λ k. next s k step) (run_from s h steps)) → option_and_then (λ h. run_from s h (steps ++ step ∷ [])) o ≡ option_and_then (λ k. next s k step) (option_and_then (λ h. run_from s h steps) o)
+    onwards : (o : Option State) → ((h : State) → run_from s h (steps ++ step ∷ [])
+        ≡ option_and_then (λ k. next s k step) (run_from s h steps)) →
+        option_and_then (λ h. run_from s h (steps ++ step ∷ [])) o
+        ≡ option_and_then (λ k. next s k step) (option_and_then (λ h. run_from s h steps) o)
     onwards None ih = refl
     onwards (Some h) ih = ih h
 
 -- a run goes on by one step
-pub run-push : (s : Setting) (steps : List Step) (step : Step) → run s (steps ++ step ∷ []) ≡ option_and_then (λ h. next s h step) (run s steps)
+pub run-push : (s : Setting) (steps : List Step) (step : Step) →
+    run s (steps ++ step ∷ []) ≡ option_and_then (λ h. next s h step) (run s steps)
 unfolding run
 run-push s steps step = run_from-push s (first_state s) steps step
 
@@ -37,7 +42,8 @@ pub stepped-next : (s : Setting) (g h : State) (step : Step) → next s g step �
 unfolding stepped
 stepped-next s g h step e = ap (λ o. unwrap_or o g) e
 
-kept-run_from : (P : State → Type 0) (s : Setting) → ((g : State) (step : Step) (h : State) → next s g step ≡ Some h → P g → P h) → (g h : State) (steps : List Step) → run_from s g steps ≡ Some h → P g → P h
+kept-run_from : (P : State → Type 0) (s : Setting) → ((g : State) (step : Step) (h : State) → next s g step ≡ Some h → P g → P h) →
+    (g h : State) (steps : List Step) → run_from s g steps ≡ Some h → P g → P h
 unfolding run_from
 kept-run_from P s keeps g h [] e first = subst P (some-same g h e) first
 kept-run_from P s keeps g h (step ∷ steps) e first =
@@ -45,6 +51,8 @@ kept-run_from P s keeps g h (step ∷ steps) e first =
     kept-run_from P s keeps mid.from h steps mid.gives (keeps g step mid.from mid.is first)
 
 -- what holds of the first state and is kept by every step holds after a run
-pub kept-run : (P : State → Type 0) (s : Setting) → P (first_state s) → ((g : State) (step : Step) (h : State) → next s g step ≡ Some h → P g → P h) → (steps : List Step) (g : State) → run s steps ≡ Some g → P g
+pub kept-run : (P : State → Type 0) (s : Setting) → P (first_state s) →
+    ((g : State) (step : Step) (h : State) → next s g step ≡ Some h → P g → P h) → (steps : List Step) (g : State) → run s steps ≡ Some g →
+    P g
 unfolding run
 kept-run P s first keeps steps g e = kept-run_from P s keeps (first_state s) g steps e first

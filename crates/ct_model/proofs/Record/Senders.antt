@@ -1,5 +1,6 @@
 -- Which member's step sent an envelope.
-use Rattle.std.proofs.Common.{◌≡◌, ℕ, suc, zero, ◌+◌, ◌≤◌, ◌<◌, List, [], ◌∷◌, ◌++◌, Some, refl, sym, ap, ◌∙◌, inl, inr, arith, length, replicate}
+use Rattle.std.proofs.Common.{◌≡◌, ℕ, suc, zero, ◌+◌, ◌≤◌, ◌<◌, List, [], ◌∷◌, ◌++◌, Some, refl, sym, ap, ◌∙◌, inl, inr, arith, length}
+use Rattle.std.proofs.Common.{replicate}
 use Rattle.std.specs.Prelude.{slice_get}
 use Rattle.ct_names.specs.Group.{members, counting, IsMember}
 use Rattle.ct_names.specs.Membership.{IsIn}
@@ -54,14 +55,16 @@ pub record IsPosted (from : List ℕ) (sent : List Envelope) (x : ℕ) (e : Enve
   pub sender : at_serial from serial ≡ Some x
   pub envelope : at_serial sent serial ≡ Some e
 
-pub posted-old : (from more : List ℕ) (sent new : List Envelope) (x : ℕ) (e : Envelope) → IsPosted from sent x e → IsPosted (from ++ more) (sent ++ new) x e
+pub posted-old : (from more : List ℕ) (sent new : List Envelope) (x : ℕ) (e : Envelope) → IsPosted from sent x e →
+    IsPosted (from ++ more) (sent ++ new) x e
 posted-old from more sent new x e f = record {
   serial = f.serial;
   sender = at-front from more f.serial x f.sender;
   envelope = at-front sent new f.serial e f.envelope;
 }
 
-pub posted-new : (from : List ℕ) (sent new : List Envelope) (x : ℕ) (e : Envelope) → length from ≡ length sent → IsIn e new → IsPosted (from ++ replicate (length new) x) (sent ++ new) x e
+pub posted-new : (from : List ℕ) (sent new : List Envelope) (x : ℕ) (e : Envelope) → length from ≡ length sent → IsIn e new →
+    IsPosted (from ++ replicate (length new) x) (sent ++ new) x e
 posted-new from sent new x e len h =
     let r = placed e new h in
     let same : r.place + length sent ≡ r.place + length from = omega arith in

@@ -30,10 +30,13 @@ pub record IsTaken (w : Rehearsal) (step : Step) (o : Outcome) : Type 0 where
   pub names : NamesWaiting w step
   pub within : IsWithin w.cells (after w.setting (state_of w) (actor step) o) (length w.steps + 1)
 
-pub next-row : (s : Setting) (g : State) (step : Step) (o : Outcome) → is_member s.members (actor step) ≡ true → is_crashed g (actor step) ≡ false → row s g (actor step) (member g (actor step)) step ≡ Some o → next s g step ≡ Some (after s g (actor step) o)
+pub next-row : (s : Setting) (g : State) (step : Step) (o : Outcome) → is_member s.members (actor step) ≡ true →
+    is_crashed g (actor step) ≡ false → row s g (actor step) (member g (actor step)) step ≡ Some o →
+    next s g step ≡ Some (after s g (actor step) o)
 unfolding next
 next-row s g step o group up e =
-    let acts : can_act s g (actor step) ≡ true = and_both (is_member s.members (actor step)) (not (is_crashed g (actor step))) group (ap not up) in
+    let acts : can_act s g (actor step) ≡ true = and_both (is_member s.members (actor step)) (not (is_crashed g (actor step))) group
+    (ap not up) in
     rw (acts, e) refl
 
 waiting_within : (w : Rehearsal) → IsLawful w → (p k : ℕ) → has_serial k (line_of w p) ≡ true → k ≤ length (state_of w).sent
@@ -96,7 +99,9 @@ module _ (w : Rehearsal) (step : Step) (o : Outcome) (law : IsLawful w) (taken :
 
   sent_parts : (p : ℕ) → serials_to p 0 h.sent ≡ serials_to p 0 (state_of w).sent ++ serials_to p (length (state_of w).sent) sends
   unfolding h sends
-  sent_parts p = ap (serials_to p 0) (after-sent w.setting (state_of w) (actor step) o) ∙ serials_to-append p 0 (state_of w).sent (envelopes w.setting.members o.mail) ∙ ap (λ b. serials_to p 0 (state_of w).sent ++ serials_to p b (envelopes w.setting.members o.mail)) (omega arith)
+  sent_parts p = ap (serials_to p 0) (after-sent w.setting (state_of w) (actor step) o)
+      ∙ serials_to-append p 0 (state_of w).sent (envelopes w.setting.members o.mail)
+      ∙ ap (λ b. serials_to p 0 (state_of w).sent ++ serials_to p b (envelopes w.setting.members o.mail)) (omega arith)
 
   -- what it sends was never taken
   untaken : (p k : ℕ) → length (state_of w).sent < k → (is_taken p w.steps k ≡ false) × (takes p k (line_change step) ≡ false)

@@ -60,7 +60,8 @@ goes-carried mail w x e c =
     subst (λ z. GoesToAll z w) (sym e) (subst (λ z. GoesToAll (All x) z) (sym same) (goes-all x))
 
 -- a wire that goes to all, or isn't a message and no decision
-sending-to_all : (s : Setting) (g : State) (p : ℕ) (m : Member) (mail : Mail) → IsSending s g p m mail → (w : Wire) → Carries mail w → GoesToAll mail w
+sending-to_all : (s : Setting) (g : State) (p : ℕ) (m : Member) (mail : Mail) → IsSending s g p m mail → (w : Wire) → Carries mail w →
+    GoesToAll mail w
 sending-to_all s g p m mail (nothing e) w c = absurd (subst (λ z. Carries z w) e c)
 sending-to_all s g p m mail (message new origin e) w c = goes-carried mail w (Data new) e c
 sending-to_all s g p m mail (relay x sent relayed e) w c = goes-carried mail w x e c
@@ -70,9 +71,11 @@ sending-to_all s g p m mail (ack k r e) w c = subst (λ z. GoesToAll mail z) (sy
 sending-to_all s g p m mail (nack k r e) w c = subst (λ z. GoesToAll mail z) (sym (subst (λ z. Carries z w) e c)) tt
 sending-to_all s g p m mail (decision d at tallies e) w c = goes-carried mail w (Dec m.last d.round d.estimate) e c
 
-sending-owner : (s : Setting) (g : State) (p : ℕ) (mail : Mail) → Holds s g → IsMember s.members p → IsSending s g p (member g p) mail → (w : Wire) → Carries mail w → IsByOwner s g p w
+sending-owner : (s : Setting) (g : State) (p : ℕ) (mail : Mail) → Holds s g → IsMember s.members p → IsSending s g p (member g p) mail →
+    (w : Wire) → Carries mail w → IsByOwner s g p w
 sending-owner s g p mail holds is (nothing e) w c = absurd (subst (λ z. Carries z w) e c)
-sending-owner s g p mail holds is (message new origin e) w c = subst (λ z. IsByOwner s g p z) (sym (subst (λ z. Carries z w) e c)) (inr origin)
+sending-owner s g p mail holds is (message new origin e) w c =
+    subst (λ z. IsByOwner s g p z) (sym (subst (λ z. Carries z w) e c)) (inr origin)
 sending-owner s g p mail holds is (relay x sent relayed e) w c =
     subst (λ z. IsByOwner s g p z) (sym (subst (λ z. Carries z w) e c)) (by_owner-sent s g p x sent)
 sending-owner s g p mail holds is (estimate k r v ts e) w c = subst (λ z. IsByOwner s g p z) (sym (subst (λ z. Carries z w) e c)) tt
@@ -120,7 +123,8 @@ step-gets s g p step o = by_shape s g p (member g p) (IsGetting s g p) step o (r
   marks = λ crashed. gets-nothing s g p (plain (record (member g p) { crashed = crashed }) Nobody) refl;
 })
 
-pub made-step : (s : Setting) (g : State) (step : Step) (o : Outcome) → Holds s g → IsMember s.members (actor step) → row s g (actor step) (member g (actor step)) step ≡ Some o → IsMade s g (actor step) o
+pub made-step : (s : Setting) (g : State) (step : Step) (o : Outcome) → Holds s g → IsMember s.members (actor step) →
+    row s g (actor step) (member g (actor step)) step ≡ Some o → IsMade s g (actor step) o
 made-step s g step o holds is e =
     let p : ℕ = actor step in
     let gets = step-gets s g p step o e in

@@ -1,5 +1,6 @@
 -- What has been sent and received, kept by every step.
-use Rattle.std.proofs.Common.{◌≡◌, ◌≢◌, ℕ, Bool, true, false, cond, not, ◌&&◌, ◌==◌, List, [], ◌∷◌, ◌++◌, Some, refl, sym, ap, ◌∙◌, subst, inl, inr, ◌⊎◌, arith, eqb-true, length, length-append, replicate}
+use Rattle.std.proofs.Common.{◌≡◌, ◌≢◌, ℕ, Bool, true, false, cond, not, ◌&&◌, ◌==◌, List, [], ◌∷◌, ◌++◌, Some, refl, sym, ap, ◌∙◌, subst}
+use Rattle.std.proofs.Common.{inl, inr, ◌⊎◌, arith, eqb-true, length, length-append, replicate}
 use Rattle.std.proofs.lemmas.List.{length-replicate}
 use Rattle.ct_names.specs.Group.{coordinator, IsMember}
 use Rattle.ct_names.specs.Membership.{IsIn}
@@ -37,9 +38,12 @@ pub record IsCome (g : State) (q j : ℕ) : Type 0 where
 pub record IsHistory (s : Setting) (done : List Step) (from : List ℕ) (g : State) : Type 0 where
   pub count : length from ≡ length g.sent
   pub own_data : (m : Message) → Sent g (Data m) → (q : ℕ) → IsMember s.members q → IsPosted from g.sent m.origin (letter q (Data m))
-  pub own_dec : (k r : ℕ) (v : Value) → Sent g (Dec k r v) → (q : ℕ) → IsMember s.members q → IsDecPosted from g.sent (coordinator s.members r) q k r
-  pub data_on : (p : ℕ) → IsMember s.members p → (m : Message) → IsIn (Data m) (member g p).got → (q : ℕ) → IsMember s.members q → IsPosted from g.sent p (letter q (Data m))
-  pub dec_on : (p : ℕ) → IsMember s.members p → (k r : ℕ) (v : Value) → IsIn (Dec k r v) (member g p).got → (q : ℕ) → IsMember s.members q → IsDecPosted from g.sent p q k r
+  pub own_dec : (k r : ℕ) (v : Value) → Sent g (Dec k r v) → (q : ℕ) → IsMember s.members q →
+      IsDecPosted from g.sent (coordinator s.members r) q k r
+  pub data_on : (p : ℕ) → IsMember s.members p → (m : Message) → IsIn (Data m) (member g p).got → (q : ℕ) → IsMember s.members q →
+      IsPosted from g.sent p (letter q (Data m))
+  pub dec_on : (p : ℕ) → IsMember s.members p → (k r : ℕ) (v : Value) → IsIn (Dec k r v) (member g p).got → (q : ℕ) → IsMember s.members q →
+      IsDecPosted from g.sent p q k r
   pub come : (q j : ℕ) → IsMember s.members q → IsIn (Receive q j) done → IsCome g q j
 
 and_either : (a b : Bool) → (a && b) ≡ false → (a ≡ false) ⊎ (b ≡ false)
@@ -47,14 +51,16 @@ and_either true b h = inr h
 and_either false b h = inl refl
 
 -- what is not relayed was got before, or is one's own
-data-kept_back : (s : Setting) (p : ℕ) (got : List Wire) (m : Message) → is_relayed s p got (Data m) ≡ false → IsIn (Data m) got ⊎ (m.origin ≡ p)
+data-kept_back : (s : Setting) (p : ℕ) (got : List Wire) (m : Message) → is_relayed s p got (Data m) ≡ false →
+    IsIn (Data m) got ⊎ (m.origin ≡ p)
 unfolding is_relayed
 data-kept_back s p got m h = elim (and_either (not (has (received got) m)) (not (m.origin == p)) h) [
   | inl a ↦ inl (Readings.received-got got m (Values.in-has (received got) m (Lists.not-false (has (received got) m) a)))
   | inr b ↦ inr (eqb-true m.origin p (Lists.not-false (m.origin == p) b))
 ]
 
-dec-kept_back : (s : Setting) (p : ℕ) (got : List Wire) (k r : ℕ) (v : Value) → is_relayed s p got (Dec k r v) ≡ false → ((w : Value) × IsIn (Dec k r w) got) ⊎ (coordinator s.members r ≡ p)
+dec-kept_back : (s : Setting) (p : ℕ) (got : List Wire) (k r : ℕ) (v : Value) → is_relayed s p got (Dec k r v) ≡ false →
+    ((w : Value) × IsIn (Dec k r w) got) ⊎ (coordinator s.members r ≡ p)
 unfolding is_relayed
 dec-kept_back s p got k r v h = elim (and_either (not (has_decision got k r)) (not (coordinator s.members r == p)) h) [
   | inl a ↦
@@ -77,7 +83,8 @@ come-receive s g q j o e =
     let made = made-map (receive s q (member g q)) (wire_to g q j) o e in
     let f = made-then (addressed q) (at_serial g.sent j) made.from made.is in
     let wire : f.from.wire ≡ made.from = (when-is (f.from.to == q) f.from.wire made.from f.gives).1 in
-    let in_new : IsIn made.from (receive s q (member g q) made.from).member.got = Lists.IsIn-append_right made.from (member g q).got (made.from ∷ []) (inl refl) in
+    let in_new : IsIn made.from (receive s q (member g q) made.from).member.got =
+    Lists.IsIn-append_right made.from (member g q).got (made.from ∷ []) (inl refl) in
     record {
       envelope = f.from;
       at = f.is;
@@ -88,10 +95,13 @@ come-receive s g q j o e =
 abbrev ComeFamily : Setting → State → ℕ → ℕ → Outcome → Step → Type 0
 ComeFamily s g q j o step = row s g (actor step) (member g (actor step)) step ≡ Some o → IsComeNow g (actor step) o q j
 
-come-step : (s : Setting) (g : State) (step : Step) (o : Outcome) (q j : ℕ) → row s g (actor step) (member g (actor step)) step ≡ Some o → Receive q j ≡ step → IsComeNow g (actor step) o q j
+come-step : (s : Setting) (g : State) (step : Step) (o : Outcome) (q j : ℕ) → row s g (actor step) (member g (actor step)) step ≡ Some o →
+    Receive q j ≡ step → IsComeNow g (actor step) o q j
 come-step s g step o q j e same = (subst (λ st. ComeFamily s g q j o st) same (come-receive s g q j o)) e
 
-module _ (s : Setting) (done : List Step) (from : List ℕ) (g : State) (step : Step) (o : Outcome) (hist : IsHistory s done from g) (holds : Holds s g) (is : IsMember s.members (actor step)) (made : IsMade s g (actor step) o) (rowed : row s g (actor step) (member g (actor step)) step ≡ Some o) where
+module _ (s : Setting) (done : List Step) (from : List ℕ) (g : State) (step : Step) (o : Outcome) (hist : IsHistory s done from g)
+    (holds : Holds s g) (is : IsMember s.members (actor step)) (made : IsMade s g (actor step) o)
+    (rowed : row s g (actor step) (member g (actor step)) step ≡ Some o) where
   -- the actor, the state after the step, and who sent what the step sends
   abbrev p : ℕ
   p = actor step
@@ -112,7 +122,8 @@ module _ (s : Setting) (done : List Step) (from : List ℕ) (g : State) (step : 
   posted-all : (w : Wire) (q : ℕ) → IsMember s.members q → o.mail ≡ All w → IsPosted (from ++ new) h.sent p (letter q w)
   unfolding after
   posted-all w q isq mail =
-      let inside : IsIn (letter q w) (envelopes s.members o.mail) = subst (λ z. IsIn (letter q w) (envelopes s.members z)) (sym mail) (in-all s.members q w isq) in
+      let inside : IsIn (letter q w) (envelopes s.members o.mail) =
+      subst (λ z. IsIn (letter q w) (envelopes s.members z)) (sym mail) (in-all s.members q w isq) in
       posted-new from g.sent (envelopes s.members o.mail) p (letter q w) hist.count inside
 
   count_kept : length (from ++ new) ≡ length h.sent
@@ -124,16 +135,19 @@ module _ (s : Setting) (done : List Step) (from : List ℕ) (g : State) (step : 
       let d : length from ≡ length g.sent = hist.count in
       omega (arith, a, b, c, d)
 
-  own_data_kept : (m : Message) → Sent h (Data m) → (q : ℕ) → IsMember s.members q → IsPosted (from ++ new) h.sent m.origin (letter q (Data m))
+  own_data_kept : (m : Message) → Sent h (Data m) → (q : ℕ) → IsMember s.members q →
+      IsPosted (from ++ new) h.sent m.origin (letter q (Data m))
   own_data_kept m sent q isq = elim (Sent-cases s g p o (Data m) sent) [
     | inl old ↦ posted-kept m.origin (letter q (Data m)) (hist.own_data m old q isq)
     | inr c ↦ elim (made.owner (Data m) c) [
       | inl old ↦ posted-kept m.origin (letter q (Data m)) (hist.own_data m old q isq)
-      | inr mine ↦ subst (λ z. IsPosted (from ++ new) h.sent z (letter q (Data m))) (sym mine) (posted-all (Data m) q isq (made.to_all (Data m) c))
+      | inr mine ↦ subst (λ z. IsPosted (from ++ new) h.sent z (letter q (Data m))) (sym mine)
+          (posted-all (Data m) q isq (made.to_all (Data m) c))
     ]
   ]
 
-  own_dec_kept : (k r : ℕ) (v : Value) → Sent h (Dec k r v) → (q : ℕ) → IsMember s.members q → IsDecPosted (from ++ new) h.sent (coordinator s.members r) q k r
+  own_dec_kept : (k r : ℕ) (v : Value) → Sent h (Dec k r v) → (q : ℕ) → IsMember s.members q →
+      IsDecPosted (from ++ new) h.sent (coordinator s.members r) q k r
   own_dec_kept k r v sent q isq = elim (Sent-cases s g p o (Dec k r v) sent) [
     | inl old ↦ dec-kept (coordinator s.members r) q k r (hist.own_dec k r v old q isq)
     | inr c ↦ elim (made.owner (Dec k r v) c) [
@@ -141,12 +155,14 @@ module _ (s : Setting) (done : List Step) (from : List ℕ) (g : State) (step : 
       | inr mine ↦
           record {
             value = v;
-            posted = subst (λ z. IsPosted (from ++ new) h.sent z (letter q (Dec k r v))) (sym mine) (posted-all (Dec k r v) q isq (made.to_all (Dec k r v) c));
+            posted = subst (λ z. IsPosted (from ++ new) h.sent z (letter q (Dec k r v))) (sym mine)
+                (posted-all (Dec k r v) q isq (made.to_all (Dec k r v) c));
           }
     ]
   ]
 
-  data_now : (m : Message) → IsIn (Data m) o.member.got → (q : ℕ) → IsMember s.members q → IsPosted (from ++ new) h.sent p (letter q (Data m))
+  data_now : (m : Message) → IsIn (Data m) o.member.got → (q : ℕ) → IsMember s.members q →
+      IsPosted (from ++ new) h.sent p (letter q (Data m))
   data_now m inside q isq = elim (made.got_now (Data m) inside) [
     | inl old ↦ posted-kept p (letter q (Data m)) (hist.data_on p is m old q isq)
     | inr now_got ↦ elim (Lists.true_or_false (is_relayed s p (member g p).got (Data m))) [
@@ -161,7 +177,8 @@ module _ (s : Setting) (done : List Step) (from : List ℕ) (g : State) (step : 
     ]
   ]
 
-  dec_now : (k r : ℕ) (v : Value) → IsIn (Dec k r v) o.member.got → (q : ℕ) → IsMember s.members q → IsDecPosted (from ++ new) h.sent p q k r
+  dec_now : (k r : ℕ) (v : Value) → IsIn (Dec k r v) o.member.got → (q : ℕ) → IsMember s.members q →
+      IsDecPosted (from ++ new) h.sent p q k r
   dec_now k r v inside q isq = elim (made.got_now (Dec k r v) inside) [
     | inl old ↦ dec-kept p q k r (hist.dec_on p is k r v old q isq)
     | inr now_got ↦ elim (Lists.true_or_false (is_relayed s p (member g p).got (Dec k r v))) [
@@ -181,13 +198,15 @@ module _ (s : Setting) (done : List Step) (from : List ℕ) (g : State) (step : 
   got-mine x w e inside =
       subst (λ z. IsIn w z.got) (member-same s g p o holds is) (subst (λ z. IsIn w (member h z).got) e inside)
 
-  data_kept : (x : ℕ) → IsMember s.members x → (m : Message) → IsIn (Data m) (member h x).got → (q : ℕ) → IsMember s.members q → IsPosted (from ++ new) h.sent x (letter q (Data m))
+  data_kept : (x : ℕ) → IsMember s.members x → (m : Message) → IsIn (Data m) (member h x).got → (q : ℕ) → IsMember s.members q →
+      IsPosted (from ++ new) h.sent x (letter q (Data m))
   data_kept x isx m inside q isq = elim (p_or_other x p) [
     | inl e ↦ subst (λ z. IsPosted (from ++ new) h.sent z (letter q (Data m))) (sym e) (data_now m (got-mine x (Data m) e inside) q isq)
     | inr ne ↦ posted-kept x (letter q (Data m)) (hist.data_on x isx m (got-of x (Data m) isx ne inside) q isq)
   ]
 
-  dec_kept_on : (x : ℕ) → IsMember s.members x → (k r : ℕ) (v : Value) → IsIn (Dec k r v) (member h x).got → (q : ℕ) → IsMember s.members q → IsDecPosted (from ++ new) h.sent x q k r
+  dec_kept_on : (x : ℕ) → IsMember s.members x → (k r : ℕ) (v : Value) → IsIn (Dec k r v) (member h x).got → (q : ℕ) →
+      IsMember s.members q → IsDecPosted (from ++ new) h.sent x q k r
   dec_kept_on x isx k r v inside q isq = elim (p_or_other x p) [
     | inl e ↦ subst (λ z. IsDecPosted (from ++ new) h.sent z q k r) (sym e) (dec_now k r v (got-mine x (Dec k r v) e inside) q isq)
     | inr ne ↦ dec-kept x q k r (hist.dec_on x isx k r v (got-of x (Dec k r v) isx ne inside) q isq)
@@ -216,7 +235,8 @@ module _ (s : Setting) (done : List Step) (from : List ℕ) (g : State) (step : 
           record {
             envelope = c.envelope;
             at = still_at j c.envelope c.at;
-            got = subst (λ z. IsIn c.envelope.wire (member h z).got) (sym c.here) (subst (λ z. IsIn c.envelope.wire z.got) (sym (member-same s g p o holds is)) c.got);
+            got = subst (λ z. IsIn c.envelope.wire (member h z).got) (sym c.here)
+                (subst (λ z. IsIn c.envelope.wire z.got) (sym (member-same s g p o holds is)) c.got);
           }
       | inr never ↦ absurd never
     ]

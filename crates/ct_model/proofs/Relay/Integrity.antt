@@ -25,10 +25,18 @@ unfolding run_from
 knows-run_from s g h [] e k = subst (λ x. Knows s x) (some-same g h e) k
 knows-run_from s g h (step ∷ steps) e k =
     let made = made-then (λ mid. run_from s mid steps) (next s g step) h e in
-    knows-run_from s made.from h steps made.gives (record { messages = knows-next s g step made.from made.is k.size k.messages; size = size-next s g step made.from made.is k.size })
+    knows-run_from s made.from h steps made.gives (record {
+      messages = knows-next s g step made.from made.is k.size k.messages;
+      size =
+          size-next s g step made.from made.is k.size;
+    })
 
 knows-start : (s : Setting) → Knows s (first_state s)
-knows-start s = record { messages = knows-first s; size = ap (λ (g : State). length g.members) (sym (state-first s 0)) ∙ (lawful-first s 0).size }
+knows-start s = record {
+  messages = knows-first s;
+  size = ap (λ (g : State). length g.members) (sym (state-first s 0))
+      ∙ (lawful-first s 0).size;
+}
 
 knows-run : (s : Setting) (steps : List Step) (g : State) → run s steps ≡ Some g → Knows s g
 unfolding run
@@ -38,9 +46,11 @@ once : (g : State) (p : ℕ) → IsWithoutRepeats (received_by g p)
 unfolding received_by received
 once g p = IsWithoutRepeats-first_occurrences (filter_map message_of (member g p).got)
 
-pub received_once : (s : Setting) (steps : List Step) (g : State) → run s steps ≡ Some g → (p : ℕ) → IsMember s.members p → IsWithoutRepeats (received_by g p)
+pub received_once : (s : Setting) (steps : List Step) (g : State) → run s steps ≡ Some g → (p : ℕ) → IsMember s.members p →
+    IsWithoutRepeats (received_by g p)
 received_once s steps g e p is = once g p
 
-pub received_submitted : (s : Setting) (steps : List Step) (g : State) → run s steps ≡ Some g → (p : ℕ) (m : Message) → IsMember s.members p → IsIn m (received_by g p) → IsIn m g.submitted
+pub received_submitted : (s : Setting) (steps : List Step) (g : State) → run s steps ≡ Some g → (p : ℕ) (m : Message) →
+    IsMember s.members p → IsIn m (received_by g p) → IsIn m g.submitted
 received_submitted s steps g e p m is h =
     in-has g.submitted m ((knows-run s steps g e).messages.received p m (has-in (received_by g p) m h))

@@ -1,5 +1,6 @@
 -- What is known of messages holds after every step.
-use Rattle.std.proofs.Common.{◌≡◌, ℕ, zero, suc, ◌+◌, ◌-◌, ◌<◌, ◌≤◌, Bool, true, false, not, List, [], ◌∷◌, ◌++◌, length, map, refl, ap, sym, ◌∙◌, subst, arith, Some, None, Option, option_map, ◌⊎◌, inl, inr}
+use Rattle.std.proofs.Common.{◌≡◌, ℕ, zero, suc, ◌+◌, ◌-◌, ◌<◌, ◌≤◌, Bool, true, false, not, List, [], ◌∷◌, ◌++◌, length, map, refl, ap}
+use Rattle.std.proofs.Common.{sym, ◌∙◌, subst, arith, Some, None, Option, option_map, ◌⊎◌, inl, inr}
 use Rattle.std.specs.Prelude.{slice_get, if◌then◌else◌}
 use Rattle.std.proofs.lemmas.Bool.{cases_eq}
 use Rattle.std.proofs.lemmas.Bool.Decides.{nat_tests}
@@ -23,7 +24,8 @@ use Rattle.ct_model.specs.declared.wire.Wire.TheVariants.{Data, Dec}
 use Rattle.ct_model.specs.declared.mail.Mail.TheVariants.{Nobody, One, All}
 use Rattle.ct_model.specs.State.{State, Member, member, is_crashed, submissions}
 use Rattle.ct_model.specs.Received.{received, received_by, decided}
-use Rattle.ct_model.specs.Next.{Outcome, plain, row, submit, receive, begin, turned, turn_at, own_ballots, deliver, next_message, is_relayed, after, next, can_act}
+use Rattle.ct_model.specs.Next.{Outcome, plain, row, submit, receive, begin, turned, turn_at, own_ballots, deliver, next_message}
+use Rattle.ct_model.specs.Next.{is_relayed, after, next, can_act}
 use Rattle.ct_model.proofs.Basics.Tests.{and_left, and_right, true_not, or_cases, or_left, or_right, self_number}
 use Rattle.ct_model.proofs.Basics.Options.{some-same, some-none, made-map}
 use Rattle.ct_model.proofs.Record.Frame.{after-sent, after-submitted, after-size, member-same, member-other, at_place, submissions-append}
@@ -49,7 +51,8 @@ carries_more : (list : List Message) (x : Message) (w : Wire) → CarriesOne lis
 carries_more list x (Data m) h = known_more list m x h
 carries_more list x _ h = tt
 
-in_either : (xs ys : List Envelope) (i : ℕ) (e : Envelope) → slice_get (xs ++ ys) i ≡ Some e → ((j : ℕ) × (slice_get xs j ≡ Some e)) ⊎ ((j : ℕ) × (slice_get ys j ≡ Some e))
+in_either : (xs ys : List Envelope) (i : ℕ) (e : Envelope) → slice_get (xs ++ ys) i ≡ Some e →
+    ((j : ℕ) × (slice_get xs j ≡ Some e)) ⊎ ((j : ℕ) × (slice_get ys j ≡ Some e))
 in_either [] ys i e h = inr (i, h)
 in_either (x ∷ xs) ys zero e h = inl (zero, h)
 in_either (x ∷ xs) ys (suc i) e h = elim (in_either xs ys i e h) [ inl a ↦ inl (suc a.0, a.1) | inr a ↦ inr a ]
@@ -60,14 +63,17 @@ MailCarries list Nobody = Unit {0}
 MailCarries list (One to w) = CarriesOne list w
 MailCarries list (All w) = CarriesOne list w
 
-all_carry : (list : List Message) (w : Wire) (tos : List ℕ) (i : ℕ) (e : Envelope) → CarriesOne list w → slice_get (map (λ to. let x : Envelope = record { to = to; wire = w } in x) tos) i ≡ Some e → CarriesOne list e.wire
+all_carry : (list : List Message) (w : Wire) (tos : List ℕ) (i : ℕ) (e : Envelope) → CarriesOne list w →
+    slice_get (map (λ to. let x : Envelope = record { to = to; wire = w } in x) tos) i ≡ Some e → CarriesOne list e.wire
 all_carry list w [] i e c h = absurd (cc)
 all_carry list w (to ∷ tos) zero e c h = subst (λ (x : Envelope). CarriesOne list x.wire) (some-same (record { to = to; wire = w }) e h) c
 all_carry list w (to ∷ tos) (suc i) e c h = all_carry list w tos i e c h
 
-mail_carries : (n : ℕ) (list : List Message) (mail : Mail) (i : ℕ) (e : Envelope) → MailCarries list mail → slice_get (envelopes n mail) i ≡ Some e → CarriesOne list e.wire
+mail_carries : (n : ℕ) (list : List Message) (mail : Mail) (i : ℕ) (e : Envelope) → MailCarries list mail →
+    slice_get (envelopes n mail) i ≡ Some e → CarriesOne list e.wire
 mail_carries n list Nobody i e c h = absurd (cc)
-mail_carries n list (One to w) zero e c h = subst (λ (x : Envelope). CarriesOne list x.wire) (some-same (record { to = to; wire = w }) e h) c
+mail_carries n list (One to w) zero e c h = subst (λ (x : Envelope). CarriesOne list x.wire) (some-same (record { to = to; wire = w }) e h)
+    c
 mail_carries n list (One to w) (suc i) e c h = absurd (cc)
 mail_carries n list (All w) i e c h = all_carry list w (members n) i e c h
 
@@ -82,17 +88,24 @@ submissions-one list p c = ap (λ b. length (if b then next_message list p c ∷
 
 module _ (s : Setting) (g : State) (p : ℕ) (o : Outcome) (k : KnowsMessages s g) (there : p - 1 < length g.members) where
   -- a message that a member has received after the step was received before, or by the actor in it
-  received_cases : ((m : Message) → has (received o.member.got) m ≡ true → has g.submitted m ≡ true) → (q : ℕ) (m : Message) → has (received_by (after s g p o) q) m ≡ true → has g.submitted m ≡ true
+  received_cases : ((m : Message) → has (received o.member.got) m ≡ true → has g.submitted m ≡ true) → (q : ℕ) (m : Message) →
+      has (received_by (after s g p o) q) m ≡ true → has g.submitted m ≡ true
   received_cases here q m h =
       elim (cases_eq (q - 1) (p - 1)) [
-        | inl same ↦ here m (ap (λ got. has (received got) m) (sym (at_place (λ x. x.got) (after s g p o) q p same ∙ ap (λ (x : Member). x.got) (member-same s g p o there))) ∙ ap (λ list. has list m) (sym (received-by (after s g p o) q)) ∙ h)
-        | inr other ↦ k.received q m (ap (λ list. has list m) (received-by g q ∙ ap (λ (x : Member). received x.got) (sym (member-other s g p q o other)) ∙ sym (received-by (after s g p o) q)) ∙ h)
+        | inl same ↦ here m (ap (λ got. has (received got) m)
+            (sym (at_place (λ x. x.got) (after s g p o) q p same ∙ ap (λ (x : Member). x.got) (member-same s g p o there)))
+            ∙ ap (λ list. has list m) (sym (received-by (after s g p o) q)) ∙ h)
+        | inr other ↦ k.received q m (ap (λ list. has list m)
+            (received-by g q ∙ ap (λ (x : Member). received x.got) (sym (member-other s g p q o other))
+            ∙ sym (received-by (after s g p o) q)) ∙ h)
       ]
 
   -- a step that submits nothing
-  knows-silent : o.submitted ≡ [] → MailCarries g.submitted o.mail → ((m : Message) → has (received o.member.got) m ≡ true → has g.submitted m ≡ true) → KnowsMessages s (after s g p o)
+  knows-silent : o.submitted ≡ [] → MailCarries g.submitted o.mail →
+      ((m : Message) → has (received o.member.got) m ≡ true → has g.submitted m ≡ true) → KnowsMessages s (after s g p o)
   knows-silent none mail here =
-      let same : (after s g p o).submitted ≡ g.submitted = after-submitted s g p o ∙ ap (λ ms. g.submitted ++ ms) none ∙ append-nil g.submitted in
+      let same : (after s g p o).submitted ≡ g.submitted = after-submitted s g p o ∙ ap (λ ms. g.submitted ++ ms) none
+      ∙ append-nil g.submitted in
       record {
         origin = λ m h. k.origin m (rw same at h);
         positive = λ m h. k.positive m (rw same at h);
@@ -106,23 +119,38 @@ module _ (s : Setting) (g : State) (p : ℕ) (o : Outcome) (k : KnowsMessages s 
       }
 
   -- a step that submits the next message of its actor
-  knows-submitting : (c : Command) → is_member s.members p ≡ true → o.submitted ≡ next_message g.submitted p c ∷ [] → o.mail ≡ All (Data (next_message g.submitted p c)) → o.member.got ≡ (member g p).got → KnowsMessages s (after s g p o)
+  knows-submitting : (c : Command) → is_member s.members p ≡ true → o.submitted ≡ next_message g.submitted p c ∷ [] →
+      o.mail ≡ All (Data (next_message g.submitted p c)) → o.member.got ≡ (member g p).got → KnowsMessages s (after s g p o)
   knows-submitting c group one mail got = record {
-    origin = λ m h. elim (old_or_new m h) [ inl a ↦ k.origin m a | inr e ↦ subst (λ (x : Message). is_member s.members x.origin ≡ true) (sym e) group ];
-    positive = λ m h. elim (old_or_new m h) [ inl a ↦ k.positive m a | inr e ↦ (let i : m.number ≡ 1 + submissions g.submitted p = ap (λ (x : Message). x.number) e in omega arith) ];
+    origin = λ m h. elim (old_or_new m h) [
+      | inl a ↦ k.origin m a
+      | inr e ↦ subst (λ (x : Message). is_member s.members x.origin ≡ true)
+          (sym e) group
+    ];
+    positive = λ m h. elim (old_or_new m h) [
+      | inl a ↦ k.positive m a
+      | inr e ↦ (let i : m.number ≡ 1 + submissions g.submitted p =
+          ap (λ (x : Message). x.number) e in omega arith)
+    ];
     numbered = λ m h. elim (old_or_new m h) [
       | inl a ↦ (let low = k.numbered m a in let grown = counted m.origin in omega arith)
-      | inr e ↦ (let i : m.number ≡ 1 + submissions g.submitted p = ap (λ (x : Message). x.number) e in let o_is : m.origin ≡ p = ap (λ (x : Message). x.origin) e in let grown = counted_new m.origin o_is in omega arith)
+      | inr e ↦ (let i : m.number ≡ 1 + submissions g.submitted p = ap (λ (x : Message). x.number) e in
+          let o_is : m.origin ≡ p = ap (λ (x : Message). x.origin) e in let grown = counted_new m.origin o_is in omega arith)
     ];
     unique = λ a b ha hb same_origin same_count. elim (old_or_new a ha) [
-      | inl x ↦ elim (old_or_new b hb) [ inl y ↦ k.unique a b x y same_origin same_count | inr y ↦ absurd (not_both a b x y same_origin same_count) ]
+      | inl x ↦ elim (old_or_new b hb) [
+        | inl y ↦ k.unique a b x y same_origin same_count
+        | inr y ↦ absurd
+            (not_both a b x y same_origin same_count)
+      ]
       | inr x ↦ elim (old_or_new b hb) [ inl y ↦ absurd (not_both b a y x (sym same_origin) (sym same_count)) | inr y ↦ x ∙ sym y ]
     ];
     sent = λ i e h. rw submitted_is (elim (in_either g.sent (envelopes s.members o.mail) i e (rw (after-sent s g p o) at h)) [
       | inl a ↦ carries_more g.submitted new e.wire (k.sent a.0 e a.1)
       | inr a ↦ mail_carries s.members (g.submitted ++ new ∷ []) (All (Data new)) a.0 e (known_last g.submitted new) (rw mail at a.1)
     ]);
-    received = λ q m h. rw submitted_is (known_more g.submitted m new (received_cases (λ x r. k.received p x (ap (λ list. has list x) (received-by g p ∙ ap received (sym got)) ∙ r)) q m h));
+    received = λ q m h. rw submitted_is (known_more g.submitted m new
+        (received_cases (λ x r. k.received p x (ap (λ list. has list x) (received-by g p ∙ ap received (sym got)) ∙ r)) q m h));
   }
     where
       new : Message
@@ -138,7 +166,8 @@ module _ (s : Setting) (g : State) (p : ℕ) (o : Outcome) (k : KnowsMessages s 
       counted q = let e = ap (λ ms. submissions ms q) submitted_is ∙ submissions-append g.submitted (new ∷ []) q in omega arith
 
       counted_new : (q : ℕ) → q ≡ p → submissions (after s g p o).submitted q ≡ submissions g.submitted p + 1
-      counted_new q e = ap (λ r. submissions (after s g p o).submitted r) e ∙ ap (λ ms. submissions ms p) submitted_is ∙ submissions-append g.submitted (new ∷ []) p ∙ ap (λ n. submissions g.submitted p + n) (submissions-one g.submitted p c)
+      counted_new q e = ap (λ r. submissions (after s g p o).submitted r) e ∙ ap (λ ms. submissions ms p) submitted_is
+          ∙ submissions-append g.submitted (new ∷ []) p ∙ ap (λ n. submissions g.submitted p + n) (submissions-one g.submitted p c)
 
       not_both : (a b : Message) → has g.submitted a ≡ true → b ≡ new → a.origin ≡ b.origin → a.number ≡ b.number → ⊥
       not_both a b h e same_origin same_count =
@@ -181,7 +210,8 @@ relay_carries : (list : List Message) (b : Bool) (w : Wire) → CarriesOne list 
 relay_carries list true w h = h
 relay_carries list false w h = tt
 
-joined_known : (list known : List Message) (w : Wire) → CarriesOne known w → ((m : Message) → has list m ≡ true → has known m ≡ true) → (m : Message) → has (joined_by list w) m ≡ true → has known m ≡ true
+joined_known : (list known : List Message) (w : Wire) → CarriesOne known w → ((m : Message) → has list m ≡ true → has known m ≡ true) →
+    (m : Message) → has (joined_by list w) m ≡ true → has known m ≡ true
 joined_known list known (Data x) c old m h = go (has list x) h
   where
     go : (b : Bool) → has (if b then list else list ++ x ∷ []) m ≡ true → has known m ≡ true
@@ -204,37 +234,40 @@ turn_carries list n p m Conclude c t h =
     subst (λ (x : Turn). MailCarries list x.mail) (conclude-is n m.last (own_ballots m c) c t h).gives
     (relay_carries list _ (Dec m.last c.round c.estimate) tt)
 
-module _ (s : Setting) (g : State) (p : ℕ) (k : KnowsMessages s g) (there : p - 1 < length g.members) (group : is_member s.members p ≡ true) where
-  abbrev m : Member
-  m = member g p
+module _ (s : Setting) (g : State) (p : ℕ) (k : KnowsMessages s g) (there : p - 1 < length g.members) (group : is_member s.members p ≡ true)
+  where
+    abbrev m : Member
+    m = member g p
 
-  -- what the member received before was submitted
-  received_before : (x : Message) → has (received (member g p).got) x ≡ true → has g.submitted x ≡ true
-  received_before x h = k.received p x (ap (λ list. has list x) (received-by g p) ∙ h)
+    -- what the member received before was submitted
+    received_before : (x : Message) → has (received (member g p).got) x ≡ true → has g.submitted x ≡ true
+    received_before x h = k.received p x (ap (λ list. has list x) (received-by g p) ∙ h)
 
-  knows-outcome : (step : Step) (o : Outcome) → row s g p (member g p) step ≡ Some o → KnowsMessages s (after s g p o)
-  knows-outcome step o = by_shape s g p m (λ x. KnowsMessages s (after s g p x)) step o (record {
-    submits = λ c good. knows-submitting s g p (submit g p m c) k there c group refl refl refl;
-    gets = λ i w at.
-        let sent = wire_to-sent g p i w at in
-        let carries = subst (λ x. CarriesOne g.submitted x) sent.wire (k.sent sent.place sent.envelope sent.there) in
-        knows-silent s g p (receive s p m w) k there refl (relay_carries g.submitted (is_relayed s p m.got w) w carries)
-        (λ x h.
-        joined_known (received m.got) g.submitted w carries received_before x (ap (λ list. has list x) (sym (received-push m.got w)) ∙ h));
-    opens = λ idle some. knows-silent s g p (begin p m) k there refl tt received_before;
-    turns = λ a c t open_at taken.
-        knows-silent s g p (turned m t) k there refl (turn_carries g.submitted s.members p m a c t taken) received_before;
-    closes = λ c v open_at has delivers. knows-silent s g p (deliver m v) k there refl tt received_before;
-    marks = λ crashed. knows-silent s g p (plain (record m { crashed = crashed }) Nobody) k there refl tt received_before;
-  })
+    knows-outcome : (step : Step) (o : Outcome) → row s g p (member g p) step ≡ Some o → KnowsMessages s (after s g p o)
+    knows-outcome step o = by_shape s g p m (λ x. KnowsMessages s (after s g p x)) step o (record {
+      submits = λ c good. knows-submitting s g p (submit g p m c) k there c group refl refl refl;
+      gets = λ i w at.
+          let sent = wire_to-sent g p i w at in
+          let carries = subst (λ x. CarriesOne g.submitted x) sent.wire (k.sent sent.place sent.envelope sent.there) in
+          knows-silent s g p (receive s p m w) k there refl (relay_carries g.submitted (is_relayed s p m.got w) w carries)
+          (λ x h.
+          joined_known (received m.got) g.submitted w carries received_before x (ap (λ list. has list x) (sym (received-push m.got w)) ∙ h));
+      opens = λ idle some. knows-silent s g p (begin p m) k there refl tt received_before;
+      turns = λ a c t open_at taken.
+          knows-silent s g p (turned m t) k there refl (turn_carries g.submitted s.members p m a c t taken) received_before;
+      closes = λ c v open_at has delivers. knows-silent s g p (deliver m v) k there refl tt received_before;
+      marks = λ crashed. knows-silent s g p (plain (record m { crashed = crashed }) Nobody) k there refl tt received_before;
+    })
 
-pub knows-next : (s : Setting) (g : State) (step : Step) (h : State) → next s g step ≡ Some h → length g.members ≡ s.members → KnowsMessages s g → KnowsMessages s h
+pub knows-next : (s : Setting) (g : State) (step : Step) (h : State) → next s g step ≡ Some h → length g.members ≡ s.members →
+    KnowsMessages s g → KnowsMessages s h
 knows-next s g step h e size k =
     let t = next-is s g step h e in
     subst (λ x. KnowsMessages s x) t.gives
     (knows-outcome s g (actor step) k (in_members s g (actor step) size t.in_group) t.in_group step t.outcome t.row)
 
-pub size-next : (s : Setting) (g : State) (step : Step) (h : State) → next s g step ≡ Some h → length g.members ≡ s.members → length h.members ≡ s.members
+pub size-next : (s : Setting) (g : State) (step : Step) (h : State) → next s g step ≡ Some h → length g.members ≡ s.members →
+    length h.members ≡ s.members
 size-next s g step h e size =
     let t = next-is s g step h e in
     ap (λ (x : State). length x.members) (sym t.gives) ∙ after-size s g (actor step) t.outcome ∙ size

@@ -15,14 +15,16 @@ abbrev pub joined_by : List Message → Wire → List Message
 joined_by list (Data m) = if has list m then list else list ++ m ∷ []
 joined_by list _ = list
 
-received-parts : (got : List Wire) (w : Wire) → received (got ++ w ∷ []) ≡ first_occurrences (filter_map message_of got ++ filter_map message_of (w ∷ []))
+received-parts : (got : List Wire) (w : Wire) → received (got ++ w ∷ [])
+    ≡ first_occurrences (filter_map message_of got ++ filter_map message_of (w ∷ []))
 unfolding received
 received-parts got w = ap first_occurrences (filter_map-append message_of got (w ∷ []))
 
 received-silent : (got : List Wire) (w : Wire) → filter_map message_of (w ∷ []) ≡ [] → received (got ++ w ∷ []) ≡ received got
 unfolding received
 received-silent got w e =
-    received-parts got w ∙ ap (λ ms. first_occurrences (filter_map message_of got ++ ms)) e ∙ ap first_occurrences (append-nil (filter_map message_of got))
+    received-parts got w ∙ ap (λ ms. first_occurrences (filter_map message_of got ++ ms)) e
+    ∙ ap first_occurrences (append-nil (filter_map message_of got))
 
 received-data : (got : List Wire) (m : Message) → received (got ++ Data m ∷ []) ≡ joined_by (received got) (Data m)
 unfolding received

@@ -38,11 +38,13 @@ pub begin_row-some : (p : ℕ) (m : Member) → IsReady m → begin_row p m ≡ 
 begin_row-some p m r =
     ap (λ o. when (is_none o && not (is_empty (undelivered m))) (begin p m)) r.idle ∙ ap (λ b. when (not b) (begin p m)) r.something
 
-row-begin : (w : Rehearsal) (p : ℕ) → first_fault (own_tests w (Begin p)) ≡ None → row w.setting (state_of w) p (member (state_of w) p) (Begin p) ≡ Some (begin p (member (state_of w) p))
+row-begin : (w : Rehearsal) (p : ℕ) → first_fault (own_tests w (Begin p)) ≡ None →
+    row w.setting (state_of w) p (member (state_of w) p) (Begin p) ≡ Some (begin p (member (state_of w) p))
 row-begin w p h = begin_row-some p (member (state_of w) p) (begin-ready w p h)
 
 pub cause-begin : (w : Rehearsal) (p : ℕ) → IsLawful w → IsPresent w p → first_fault (own_tests w (Begin p)) ≡ None
-    → cause w (Begin p) ≡ or_else (first_fault (at (Full Instances) (nat_lt MAX_INSTANCES ((member (state_of w) p).last + 1)) ∷ [])) (overflow w 0)
+    → cause w (Begin p) ≡ or_else (first_fault (at (Full Instances) (nat_lt MAX_INSTANCES ((member (state_of w) p).last + 1)) ∷ []))
+    (overflow w 0)
 cause-begin w p law present h =
     cause-limited w (Begin p) present h ∙ limit-idle w (Begin p) (begin p (member (state_of w) p)) law present (row-begin w p h) refl refl
 
@@ -59,6 +61,7 @@ begin_taken w p law none =
     let r = begin-ready w p free.tested in
     let taken = taken_of w (Begin p) (begin p (member (state_of w) p)) law none (row-begin w p free.tested) in
     let there = in_members w.setting (state_of w) p law.size free.present.in_group in
-    let last : (member (after w.setting (state_of w) p (begin p (member (state_of w) p))) p).last ≡ (member (state_of w) p).last + 1 = ap (λ (m : Member). m.last) (member-same w.setting (state_of w) p (begin p (member (state_of w) p)) there) in
+    let last : (member (after w.setting (state_of w) p (begin p (member (state_of w) p))) p).last ≡ (member (state_of w) p).last + 1 =
+    ap (λ (m : Member). m.last) (member-same w.setting (state_of w) p (begin p (member (state_of w) p)) there) in
     let within = taken.within.few_instances p in
     record { idle = r.idle; something = r.something; few = omega arith; taken = taken }

@@ -1,5 +1,6 @@
 -- Deliver.
-use Rattle.std.proofs.Common.{◌≡◌, ℕ, ◌+◌, ◌-◌, ◌≤◌, ◌<◌, Bool, true, false, List, [], ◌∷◌, length, refl, ap, sym, ◌∙◌, arith, Option, Some, None}
+use Rattle.std.proofs.Common.{◌≡◌, ℕ, ◌+◌, ◌-◌, ◌≤◌, ◌<◌, Bool, true, false, List, [], ◌∷◌, length, refl, ap, sym, ◌∙◌, arith, Option, Some}
+use Rattle.std.proofs.Common.{None}
 use Rattle.std.specs.Prelude.{nat_lt, is_none, if◌then◌else◌, option_and_then, option_map}
 use Rattle.std.proofs.lemmas.List.{length_push}
 use Rattle.std.proofs.lemmas.Bool.Decides.{nat_tests}
@@ -22,8 +23,12 @@ use Rattle.ct_model.proofs.Delivery.Longest.{order-grown}
 use Rattle.ct_model.proofs.Record.Limits.{own_tests-is, cause-limited, limit-silent, taken_of, first_fault-append}
 use Rattle.ct_model.proofs.Steps.Rounds.{open-at, open-standing}
 
-pub tests-deliver : (w : Rehearsal) (p : ℕ) (c : Standing) → (member (state_of w) p).current ≡ Some c → first_fault (own_tests w (Deliver p)) ≡ first_fault (at Undecided (is_none (decided (member (state_of w) p).got (member (state_of w) p).last)) ∷ [])
-tests-deliver w p c e = ap first_fault (own_tests-is w (Deliver p)) ∙ open-at (member (state_of w) p) (λ x. at Undecided (is_none (decided (member (state_of w) p).got (member (state_of w) p).last)) ∷ []) c e
+pub tests-deliver : (w : Rehearsal) (p : ℕ) (c : Standing) → (member (state_of w) p).current ≡ Some c →
+    first_fault (own_tests w (Deliver p)) ≡ first_fault (at Undecided
+    (is_none (decided (member (state_of w) p).got (member (state_of w) p).last)) ∷ [])
+tests-deliver w p c e = ap first_fault (own_tests-is w (Deliver p))
+    ∙ open-at (member (state_of w) p) (λ x. at Undecided (is_none (decided (member (state_of w) p).got (member (state_of w) p).last)) ∷ [])
+    c e
 
 -- what the tests of a Deliver say where none fires
 pub record IsDue (m : Member) : Type 0 where
@@ -34,7 +39,9 @@ pub record IsDue (m : Member) : Type 0 where
 
 pub deliver-due : (w : Rehearsal) (p : ℕ) → first_fault (own_tests w (Deliver p)) ≡ None → IsDue (member (state_of w) p)
 deliver-due w p h =
-    let a = open-standing (member (state_of w) p) (λ x. at Undecided (is_none (decided (member (state_of w) p).got (member (state_of w) p).last)) ∷ []) (sym (ap first_fault (own_tests-is w (Deliver p))) ∙ h) in
+    let a = open-standing (member (state_of w) p) (λ x. at Undecided
+    (is_none (decided (member (state_of w) p).got (member (state_of w) p).last)) ∷ [])
+    (sym (ap first_fault (own_tests-is w (Deliver p))) ∙ h) in
     let b = go (decided (member (state_of w) p).got (member (state_of w) p).last) a.2 in
     record { standing = a.0; is_open = a.1; value = b.0; decision = b.1 }
   where
@@ -42,18 +49,27 @@ deliver-due w p h =
     go None h = absurd (cc)
     go (Some v) h = (v, refl)
 
-pub deliver_row-some : (m : Member) (c : Standing) (v : Value) → m.current ≡ Some c → decided m.got m.last ≡ Some v → deliver_row m ≡ Some (deliver m v)
-deliver_row-some m c v e d = ap (λ o. option_and_then (λ (c : Standing). option_map (deliver m) (decided m.got m.last)) o) e ∙ ap (option_map (deliver m)) d
+pub deliver_row-some : (m : Member) (c : Standing) (v : Value) → m.current ≡ Some c → decided m.got m.last ≡ Some v →
+    deliver_row m ≡ Some (deliver m v)
+deliver_row-some m c v e d = ap (λ o. option_and_then (λ (c : Standing). option_map (deliver m) (decided m.got m.last)) o) e
+    ∙ ap (option_map (deliver m)) d
 
-module _ (w : Rehearsal) (p : ℕ) (v : Value) (law : IsLawful w) (present : IsPresent w p) (is : row w.setting (state_of w) p (member (state_of w) p) (Deliver p) ≡ Some (deliver (member (state_of w) p) v)) where
+module _ (w : Rehearsal) (p : ℕ) (v : Value) (law : IsLawful w) (present : IsPresent w p)
+    (is : row w.setting (state_of w) p (member (state_of w) p) (Deliver p) ≡ Some (deliver (member (state_of w) p) v)) where
   there : p - 1 < length (state_of w).members
   there = in_members w.setting (state_of w) p law.size present.in_group
 
   one_more : length (deliver (member (state_of w) p) v).member.batches ≡ length (member (state_of w) p).batches + 1
-  one_more = length_push (member (state_of w) p).batches (record { instance = (member (state_of w) p).last; messages = batch_of (member (state_of w) p) v })
+  one_more = length_push (member (state_of w) p).batches (record {
+    instance = (member (state_of w) p).last;
+    messages =
+        batch_of (member (state_of w) p) v;
+  })
 
   -- the order after the step is as long as before, or as the member's batches then
-  pub order-deliver : length (order (after w.setting (state_of w) p (deliver (member (state_of w) p) v))) ≡ (if nat_lt (length (order (state_of w))) (length (member (state_of w) p).batches + 1) then length (member (state_of w) p).batches + 1 else length (order (state_of w)))
+  pub order-deliver : length (order (after w.setting (state_of w) p (deliver (member (state_of w) p) v)))
+      ≡ (if nat_lt (length (order (state_of w))) (length (member (state_of w) p).batches + 1) then length (member (state_of w) p).batches
+      + 1 else length (order (state_of w)))
   order-deliver =
       let more = one_more in
       order-grown w.setting (state_of w) p (deliver (member (state_of w) p) v) there (omega arith)
@@ -66,12 +82,14 @@ module _ (w : Rehearsal) (p : ℕ) (v : Value) (law : IsLawful w) (present : IsP
       let b : nat_lt cells new ≡ false = grind (arith, nat_tests) in
       a ∙ sym b
 
-  limit-deliver : limit w (Deliver p) ≡ or_else (first_fault (at (Full Cells) (nat_lt w.cells (length (member (state_of w) p).batches + 1)) ∷ [])) (overflow w 0)
+  limit-deliver : limit w (Deliver p) ≡ or_else (first_fault
+      (at (Full Cells) (nat_lt w.cells (length (member (state_of w) p).batches + 1)) ∷ [])) (overflow w 0)
   limit-deliver =
       let o : Outcome = deliver (member (state_of w) p) v in
       let all : ℕ = length (order (state_of w)) in
       let own : ℕ = length (member (state_of w) p).batches + 1 in
-      let cells : nat_lt w.cells (length (order (after w.setting (state_of w) p (deliver (member (state_of w) p) v)))) ≡ nat_lt w.cells own =
+      let cells : nat_lt w.cells (length (order (after w.setting (state_of w) p (deliver (member (state_of w) p) v))))
+      ≡ nat_lt w.cells own =
       ap (nat_lt w.cells) order-deliver ∙ larger (nat_lt all own) w.cells all own refl law.within.few_batches in
       let small : length (state_of w).sent ≤ MAX_ENVELOPES = law.within.few_envelopes in
       let sent : nat_lt MAX_ENVELOPES (length (state_of w).sent + 0) ≡ false = grind (arith, nat_tests) in
@@ -82,10 +100,13 @@ module _ (w : Rehearsal) (p : ℕ) (v : Value) (law : IsLawful w) (present : IsP
       ∙ ap (or_else (first_fault (at (Full Cells) (nat_lt w.cells own) ∷ [])))
       (sym (overflow-is w 0 ∙ ap (λ b. first_fault (at (Full Envelopes) b ∷ steps)) sent))
 
-row-deliver : (w : Rehearsal) (p : ℕ) (d : IsDue (member (state_of w) p)) → row w.setting (state_of w) p (member (state_of w) p) (Deliver p) ≡ Some (deliver (member (state_of w) p) d.value)
+row-deliver : (w : Rehearsal) (p : ℕ) (d : IsDue (member (state_of w) p)) →
+    row w.setting (state_of w) p (member (state_of w) p) (Deliver p) ≡ Some (deliver (member (state_of w) p) d.value)
 row-deliver w p d = deliver_row-some (member (state_of w) p) d.standing d.value d.is_open d.decision
 
-pub cause-deliver : (w : Rehearsal) (p : ℕ) → IsLawful w → IsPresent w p → first_fault (own_tests w (Deliver p)) ≡ None → cause w (Deliver p) ≡ or_else (first_fault (at (Full Cells) (nat_lt w.cells (length (member (state_of w) p).batches + 1)) ∷ [])) (overflow w 0)
+pub cause-deliver : (w : Rehearsal) (p : ℕ) → IsLawful w → IsPresent w p → first_fault (own_tests w (Deliver p)) ≡ None →
+    cause w (Deliver p) ≡ or_else (first_fault (at (Full Cells) (nat_lt w.cells (length (member (state_of w) p).batches + 1)) ∷ []))
+    (overflow w 0)
 cause-deliver w p law present h =
     let d = deliver-due w p h in
     cause-limited w (Deliver p) present h ∙ limit-deliver w p d.value law present (row-deliver w p d)

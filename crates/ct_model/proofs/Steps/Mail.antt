@@ -28,14 +28,16 @@ pub data IsSending (s : Setting) (g : State) (p : ℕ) (m : Member) (mail : Mail
   proposal : (k r : ℕ) (v : Value) → mail ≡ All (Prop k r v) → IsSending s g p m mail
   ack : (k r : ℕ) → mail ≡ One (coordinator s.members r) (Ack k r p) → IsSending s g p m mail
   nack : (k r : ℕ) → mail ≡ One (coordinator s.members r) (Nack k r p) → IsSending s g p m mail
-  decision : (c : Standing) → m.current ≡ Some c → is_tally c.phase ≡ true → mail ≡ All (Dec m.last c.round c.estimate) → IsSending s g p m mail
+  decision : (c : Standing) → m.current ≡ Some c → is_tally c.phase ≡ true → mail ≡ All (Dec m.last c.round c.estimate) →
+      IsSending s g p m mail
 
 module _ (s : Setting) (g : State) (p : ℕ) (m : Member) where
   sends-relayed : (w : Wire) → Sent g w → (b : Bool) → is_relayed s p m.got w ≡ b → IsSending s g p m (if b then All w else Nobody)
   sends-relayed w sent true e = relay w sent e refl
   sends-relayed w sent false e = nothing refl
 
-  sends-decision : (c : Standing) → m.current ≡ Some c → is_tally c.phase ≡ true → (b : Bool) → IsSending s g p m (if b then All (Dec m.last c.round c.estimate) else Nobody)
+  sends-decision : (c : Standing) → m.current ≡ Some c → is_tally c.phase ≡ true → (b : Bool) →
+      IsSending s g p m (if b then All (Dec m.last c.round c.estimate) else Nobody)
   sends-decision c at tallies true = decision c at tallies refl
   sends-decision c at tallies false = nothing refl
 

@@ -34,7 +34,8 @@ cause-postpone w p k law present waits =
     (record { last = refl; current = refl; batches = refl })
 
 -- a Postpone that is allowed
-pub postpone_taken : (w : Rehearsal) (p k : ℕ) → IsLawful w → cause w (Postpone p k) ≡ None → IsTaken w (Postpone p k) (postpone_outcome w p)
+pub postpone_taken : (w : Rehearsal) (p k : ℕ) → IsLawful w → cause w (Postpone p k) ≡ None →
+    IsTaken w (Postpone p k) (postpone_outcome w p)
 unfolding postpone_outcome
 postpone_taken w p k law none =
     taken_of w (Postpone p k) (plain (member (state_of w) p) Nobody) law none (row-postpone w p k law (names-free w (Postpone p k) none))

@@ -58,5 +58,6 @@ pub receive_waits : (w : Rehearsal) (p k : ℕ) → cause w (Receive p k) ≡ No
 receive_waits w p k none = names-free w (Receive p k) none
 
 -- a Receive that is allowed
-pub receive_taken : (w : Rehearsal) (p k : ℕ) (e : Envelope) → IsLawful w → cause w (Receive p k) ≡ None → IsLetter (state_of w) p k e → IsTaken w (Receive p k) (receive_outcome w p e.wire)
+pub receive_taken : (w : Rehearsal) (p k : ℕ) (e : Envelope) → IsLawful w → cause w (Receive p k) ≡ None → IsLetter (state_of w) p k e →
+    IsTaken w (Receive p k) (receive_outcome w p e.wire)
 receive_taken w p k e law none letter = taken_of w (Receive p k) (receive_outcome w p e.wire) law none (row-receive w p k e letter)

@@ -1,5 +1,6 @@
 -- What holds of each step of a round alike.
-use Rattle.std.proofs.Common.{◌≡◌, ℕ, ◌+◌, ◌≤◌, Bool, true, false, not, length, subst, arith, List, [], ◌∷◌, ◌++◌, refl, ap, sym, ◌∙◌, Option, Some, None}
+use Rattle.std.proofs.Common.{◌≡◌, ℕ, ◌+◌, ◌≤◌, Bool, true, false, not, length, subst, arith, List, [], ◌∷◌, ◌++◌, refl, ap, sym, ◌∙◌}
+use Rattle.std.proofs.Common.{Option, Some, None}
 use Rattle.std.specs.Prelude.{nat_lt, ◌&&◌, is_some, option_map, if◌then◌else◌}
 use Rattle.ct_names.specs.declared.limit.Limit.TheVariants.{Rounds}
 use Rattle.ct_names.specs.declared.refusal.Refusal.TheVariants.{WrongPhase, Full, Decided}
@@ -32,7 +33,8 @@ use Rattle.ct_model.proofs.Steps.Rounds.{open-at, round_row-some, cause-turned}
 use Rattle.ct_model.proofs.Basics.Serials.{length-all}
 use Rattle.ct_model.proofs.Steps.Receive.{either_number}
 use Rattle.ct_model.proofs.Steps.Turns.{choose-heard, choose-taken, adopt-proposed, adopt-taken, suspect-taken, conclude-taken}
-use Rattle.ct_model.proofs.Numbers.Naturality.{enter-map, choose-map, adopt-map, suspect-map, conclude-map, choose_faults-map, adopt_faults-map, suspect_faults-map, conclude_faults-map}
+use Rattle.ct_model.proofs.Numbers.Naturality.{enter-map, choose-map, adopt-map, suspect-map, conclude-map, choose_faults-map}
+use Rattle.ct_model.proofs.Numbers.Naturality.{adopt_faults-map, suspect_faults-map, conclude_faults-map}
 use Rattle.ct_model.specs.Waiting.{line_change}
 use Rattle.ct_model.specs.Waiting.LineChange.{Leaves}
 
@@ -46,24 +48,28 @@ pub line_change-move : (p : ℕ) (a : Move) → line_change (step_of p a) ≡ Le
 line_change-move p Enter = refl
 line_change-move p _ = refl
 
-pub row-move : (s : Setting) (g : State) (p q : ℕ) (m : Member) (a : Move) → row s g q m (step_of p a) ≡ round_row m (turn_at s.members q m a)
+pub row-move : (s : Setting) (g : State) (p q : ℕ) (m : Member) (a : Move) →
+    row s g q m (step_of p a) ≡ round_row m (turn_at s.members q m a)
 row-move s g p q m Enter = refl
 row-move s g p q m _ = refl
 
-pub tests-move : (s : Setting) (g : State) (m : Member) (line : List ℕ) (p : ℕ) (a : Move) → tests s g m line (step_of p a) ≡ open_tests m (faults_at s.members m a)
+pub tests-move : (s : Setting) (g : State) (m : Member) (line : List ℕ) (p : ℕ) (a : Move) →
+    tests s g m line (step_of p a) ≡ open_tests m (faults_at s.members m a)
 tests-move s g m line p Enter = refl
 tests-move s g m line p _ = refl
 
 -- a value is only passed on
 
-pub turn-map : {V U : Type 0} (f : V → U) (n me k : ℕ) (d : Option V) (t : Ballots V) (c : Standing V) (a : Move) → turn_of n me k (option_map f d) (ballots_map f t) (standing_map f c) a ≡ option_map (turn_map f) (turn_of n me k d t c a)
+pub turn-map : {V U : Type 0} (f : V → U) (n me k : ℕ) (d : Option V) (t : Ballots V) (c : Standing V) (a : Move) →
+    turn_of n me k (option_map f d) (ballots_map f t) (standing_map f c) a ≡ option_map (turn_map f) (turn_of n me k d t c a)
 turn-map f n me k d t c Enter = enter-map f n me k d c
 turn-map f n me k d t c (Choose from) = choose-map f n k t c from
 turn-map f n me k d t c Adopt = adopt-map f n me k t c
 turn-map f n me k d t c Suspect = suspect-map f n me k t c
 turn-map f n me k d t c Conclude = conclude-map f n k t c
 
-pub faults-map : {V U : Type 0} (f : V → U) (n : ℕ) (d : Option V) (t : Ballots V) (c : Standing V) (a : Move) → faults_of n (option_map f d) (ballots_map f t) (standing_map f c) a ≡ faults_of n d t c a
+pub faults-map : {V U : Type 0} (f : V → U) (n : ℕ) (d : Option V) (t : Ballots V) (c : Standing V) (a : Move) →
+    faults_of n (option_map f d) (ballots_map f t) (standing_map f c) a ≡ faults_of n d t c a
 faults-map f n None t c Enter = refl
 faults-map f n (Some v) t c Enter = refl
 faults-map f n d t c (Choose from) = choose_faults-map f n t c from
@@ -73,11 +79,13 @@ faults-map f n d t c Conclude = conclude_faults-map f n t c
 
 -- where none of its tests fires
 
-enter-free : (n me k : ℕ) (decision : Option Value) (c : AtSets) → first_fault (enter_faults c ++ at Decided (is_some decision) ∷ []) ≡ None → enter n me k decision c ≡ Some (entered n me k c)
+enter-free : (n me k : ℕ) (decision : Option Value) (c : AtSets) →
+    first_fault (enter_faults c ++ at Decided (is_some decision) ∷ []) ≡ None → enter n me k decision c ≡ Some (entered n me k c)
 unfolding enter
 enter-free n me k decision c h = go (is_rest c.phase) (is_some decision) h
   where
-    go : (a b : Bool) → first_fault (at WrongPhase (not a) ∷ at Decided b ∷ []) ≡ None → when (a && not b) (entered n me k c) ≡ Some (entered n me k c)
+    go : (a b : Bool) → first_fault (at WrongPhase (not a) ∷ at Decided b ∷ []) ≡ None →
+        when (a && not b) (entered n me k c) ≡ Some (entered n me k c)
     go true true h = absurd (cc)
     go true false h = refl
     go false b h = absurd (cc)
@@ -89,18 +97,32 @@ pub record IsFree (n p k : ℕ) (d : Option Value) (t : Ballots Value) (c : AtSe
   pub round : turn.after.round ≡ (if is_enter a then c.round + 1 else c.round)
   pub number : length (envelopes n turn.mail) ≡ sent_by n t.acked a
 
-pub turn-free : (n p k : ℕ) (d : Option Value) (t : Ballots Value) (c : AtSets) (a : Move) → first_fault (faults_of n d t c a) ≡ None → IsFree n p k d t c a
+pub turn-free : (n p k : ℕ) (d : Option Value) (t : Ballots Value) (c : AtSets) (a : Move) → first_fault (faults_of n d t c a) ≡ None →
+    IsFree n p k d t c a
 turn-free n p k d t c Enter h = record { turn = entered n p k c; turns = enter-free n p k d c h; round = refl; number = refl }
 turn-free n p k d t c (Choose from) h =
     let best = choose-heard n k t c from h in
-    record { turn = chosen k c best.0; turns = choose-taken n k t c from best.0 h best.1; round = refl; number = length-all n (Prop k c.round best.0.value) }
+    record {
+      turn = chosen k c best.0;
+      turns = choose-taken n k t c from best.0 h best.1;
+      round = refl;
+      number =
+          length-all n (Prop k c.round best.0.value);
+    }
 turn-free n p k d t c Adopt h =
     let v = adopt-proposed n p k t c h in
     record { turn = adopted n p k c v.0; turns = adopt-taken n p k t c v.0 h v.1; round = refl; number = refl }
 turn-free n p k d t c Suspect h = record { turn = suspected n p k c; turns = suspect-taken n p k t c h; round = refl; number = refl }
-turn-free n p k d t c Conclude h = record { turn = concluded n k t c; turns = conclude-taken n k t c h; round = refl; number = either_number n (Dec k c.round c.estimate) (is_majority n t.acked) }
+turn-free n p k d t c Conclude h = record {
+  turn = concluded n k t c;
+  turns = conclude-taken n k t c h;
+  round = refl;
+  number =
+      either_number n (Dec k c.round c.estimate) (is_majority n t.acked);
+}
 
-within-round : (enters : Bool) (after now : ℕ) → after ≡ (if enters then now + 1 else now) → now ≤ MAX_ROUNDS → nat_lt MAX_ROUNDS after ≡ (enters && nat_lt MAX_ROUNDS (now + 1))
+within-round : (enters : Bool) (after now : ℕ) → after ≡ (if enters then now + 1 else now) → now ≤ MAX_ROUNDS →
+    nat_lt MAX_ROUNDS after ≡ (enters && nat_lt MAX_ROUNDS (now + 1))
 within-round true after now e few = ap (nat_lt MAX_ROUNDS) e
 within-round false after now e few = grind (arith, nat_tests)
 

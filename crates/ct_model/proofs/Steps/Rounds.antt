@@ -19,26 +19,33 @@ use Rattle.ct_model.proofs.Record.Limits.{cause-limited, limit-idle}
 
 -- the tests at the member's standing
 
-pub open-at : (m : Member) (tests : Standing → List Test) (c : Standing) → m.current ≡ Some c → first_fault (open_tests m tests) ≡ first_fault (tests c)
+pub open-at : (m : Member) (tests : Standing → List Test) (c : Standing) → m.current ≡ Some c →
+    first_fault (open_tests m tests) ≡ first_fault (tests c)
 open-at m tests c e = ap (λ o. first_fault (at Idle (is_none o) ∷ option_map_or tests o [])) e
 
 -- where none fires, the member has an instance open, and none fires at its standing there
-pub open-standing : (m : Member) (tests : Standing → List Test) → first_fault (open_tests m tests) ≡ None → (c : Standing) × (m.current ≡ Some c) × (first_fault (tests c) ≡ None)
+pub open-standing : (m : Member) (tests : Standing → List Test) → first_fault (open_tests m tests) ≡ None →
+    (c : Standing) × (m.current ≡ Some c) × (first_fault (tests c) ≡ None)
 open-standing m tests h = go m.current h
   where
-    go : (o : Option Standing) → first_fault (at Idle (is_none o) ∷ option_map_or tests o []) ≡ None → (c : Standing) × (o ≡ Some c) × (first_fault (tests c) ≡ None)
+    go : (o : Option Standing) → first_fault (at Idle (is_none o) ∷ option_map_or tests o []) ≡ None →
+        (c : Standing) × (o ≡ Some c) × (first_fault (tests c) ≡ None)
     go None h = absurd (cc)
     go (Some c) h = (c, refl, h)
 
 -- the row of a turn
-pub round_row-some : (m : Member) (step : Standing → Option Turn) (c : Standing) (t : Turn) → m.current ≡ Some c → step c ≡ Some t → round_row m step ≡ Some (turned m t)
+pub round_row-some : (m : Member) (step : Standing → Option Turn) (c : Standing) (t : Turn) → m.current ≡ Some c → step c ≡ Some t →
+    round_row m step ≡ Some (turned m t)
 round_row-some m step c t e f = ap (λ o. option_map (turned m) (option_and_then step o)) e ∙ ap (option_map (turned m)) f
 
-module _ (w : Rehearsal) (step : Step) (t : Turn) (law : IsLawful w) (present : IsPresent w (actor step)) (is : row w.setting (state_of w) (actor step) (member (state_of w) (actor step)) step ≡ Some (turned (member (state_of w) (actor step)) t)) where
+module _ (w : Rehearsal) (step : Step) (t : Turn) (law : IsLawful w) (present : IsPresent w (actor step))
+    (is : row w.setting (state_of w) (actor step) (member (state_of w) (actor step)) step
+    ≡ Some (turned (member (state_of w) (actor step)) t)) where
   -- such a step passes only the limit on rounds, or overflows
   pub cause-turned : first_fault (own_tests w step) ≡ None
       → cause w step
-      ≡ or_else (first_fault (at (Full Rounds) (nat_lt MAX_ROUNDS t.after.round) ∷ [])) (overflow w (length (envelopes w.setting.members t.mail)))
+      ≡ or_else (first_fault (at (Full Rounds) (nat_lt MAX_ROUNDS t.after.round) ∷ []))
+      (overflow w (length (envelopes w.setting.members t.mail)))
   cause-turned h =
       let last = law.within.few_instances (actor step) in
       cause-limited w step present h

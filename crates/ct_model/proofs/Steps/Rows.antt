@@ -7,7 +7,8 @@ use Rattle.ct_model.specs.When.{when}
 use Rattle.ct_model.specs.AtValue.{Standing, Turn}
 use Rattle.ct_model.specs.State.{Member}
 use Rattle.ct_model.specs.Received.{Heard, Ballots, heard, estimate_from, is_largest, decided}
-use Rattle.ct_model.specs.Phases.{is_rest, is_gather, is_wait, is_tally, entered, enter, chosen, choose, adopted, adopt, suspected, suspect, concluded, conclude}
+use Rattle.ct_model.specs.Phases.{is_rest, is_gather, is_wait, is_tally, entered, enter, chosen, choose, adopted, adopt, suspected, suspect}
+use Rattle.ct_model.specs.Phases.{concluded, conclude}
 use Rattle.ct_model.specs.Next.{Outcome, turned, round_row, begin, begin_row, deliver, deliver_row, undelivered, is_empty}
 use Rattle.ct_model.proofs.Basics.Tests.{and_left, and_right, true_not}
 use Rattle.ct_model.proofs.Basics.Options.{when-is, made-map, made-then}
@@ -60,7 +61,8 @@ pub record IsEntered (n me k : ℕ) (decision : Option Value) (c : Standing) (t 
   pub undecided : is_some decision ≡ false
   pub gives : entered n me k c ≡ t
 
-pub enter-is : (n me k : ℕ) (decision : Option Value) (c : Standing) (t : Turn) → enter n me k decision c ≡ Some t → IsEntered n me k decision c t
+pub enter-is : (n me k : ℕ) (decision : Option Value) (c : Standing) (t : Turn) → enter n me k decision c ≡ Some t →
+    IsEntered n me k decision c t
 unfolding enter
 enter-is n me k decision c t e =
     let a = when-is (is_rest c.phase && not (is_some decision)) (entered n me k c) t e in
@@ -78,10 +80,12 @@ pub record IsChosen (n k : ℕ) (t : Ballots Value) (c : Standing) (from : ℕ) 
   pub largest : is_largest t best.ts ≡ true
   pub gives : chosen k c best ≡ turn
 
-pub choose-is : (n k : ℕ) (t : Ballots Value) (c : Standing) (from : ℕ) (turn : Turn) → choose n k t c from ≡ Some turn → IsChosen n k t c from turn
+pub choose-is : (n k : ℕ) (t : Ballots Value) (c : Standing) (from : ℕ) (turn : Turn) → choose n k t c from ≡ Some turn →
+    IsChosen n k t c from turn
 unfolding choose
 choose-is n k t c from turn e =
-    let a = made-then (λ (h : Heard Value). when (is_gather c.phase && is_majority n (heard t) && is_largest t h.ts) (chosen k c h)) (estimate_from t from) turn e in
+    let a = made-then (λ (h : Heard Value). when (is_gather c.phase && is_majority n (heard t) && is_largest t h.ts) (chosen k c h))
+    (estimate_from t from) turn e in
     let b = when-is (is_gather c.phase && is_majority n (heard t) && is_largest t a.from.ts) (chosen k c a.from) turn a.gives in
     let two = and_left (is_gather c.phase && is_majority n (heard t)) (is_largest t a.from.ts) b.0 in
     record {
@@ -111,7 +115,8 @@ pub record IsSuspected (n me k : ℕ) (t : Ballots Value) (c : Standing) (turn :
   pub no_proposal : is_some t.proposal ≡ false
   pub gives : suspected n me k c ≡ turn
 
-pub suspect-is : (n me k : ℕ) (t : Ballots Value) (c : Standing) (turn : Turn) → suspect n me k t c ≡ Some turn → IsSuspected n me k t c turn
+pub suspect-is : (n me k : ℕ) (t : Ballots Value) (c : Standing) (turn : Turn) → suspect n me k t c ≡ Some turn →
+    IsSuspected n me k t c turn
 unfolding suspect
 suspect-is n me k t c turn e =
     let a = when-is (is_wait c.phase && not (is_some t.proposal)) (suspected n me k c) turn e in

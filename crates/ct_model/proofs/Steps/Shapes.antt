@@ -7,13 +7,15 @@ use Rattle.ct_names.specs.Value.{Value}
 use Rattle.ct_model.specs.declared.moves.Move.{Move}
 use Rattle.ct_model.specs.declared.moves.Move.TheVariants as moves
 use Rattle.ct_model.specs.declared.step.Step.{Step}
-use Rattle.ct_model.specs.declared.step.Step.TheVariants.{Submit, Receive, Begin, Enter, Choose, Adopt, Suspect, Conclude, Deliver, Crash, Postpone}
+use Rattle.ct_model.specs.declared.step.Step.TheVariants.{Submit, Receive, Begin, Enter, Choose, Adopt, Suspect, Conclude, Deliver, Crash}
+use Rattle.ct_model.specs.declared.step.Step.TheVariants.{Postpone}
 use Rattle.ct_model.specs.AtValue.{Wire, Standing, Turn}
 use Rattle.ct_model.specs.Setting.{Setting}
 use Rattle.ct_model.specs.declared.mail.Mail.TheVariants.{Nobody}
 use Rattle.ct_model.specs.State.{State, Member}
 use Rattle.ct_model.specs.Received.{decided}
-use Rattle.ct_model.specs.Next.{Outcome, plain, row, submit, receive, wire_to, begin, undelivered, is_empty, turned, turn_at, round_row, deliver, crash}
+use Rattle.ct_model.specs.Next.{Outcome, plain, row, submit, receive, wire_to, begin, undelivered, is_empty, turned, turn_at, round_row}
+use Rattle.ct_model.specs.Next.{deliver, crash}
 use Rattle.ct_model.specs.Order.{DeliversNothing}
 use Rattle.ct_model.proofs.Basics.Options.{some-same, when-is, made-map}
 use Rattle.ct_model.proofs.Steps.Rows.{round_row-is, begin_row-is, deliver_row-is}

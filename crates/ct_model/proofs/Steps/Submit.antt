@@ -65,12 +65,14 @@ module _ (w : Rehearsal) (p : ℕ) (c : Command) (law : IsLawful w) (present : I
   pub cause-submit-bad : is_good c ≡ false → cause w (Submit p c) ≡ Some BadCommand
   cause-submit-bad bad = cause-failed w (Submit p c) BadCommand (is_good c) refl present bad
 
-  pub cause-submit-full : is_good c ≡ true → MAX_SUBMISSIONS ≤ submissions (state_of w).submitted p → cause w (Submit p c) ≡ Some (Full Submissions)
+  pub cause-submit-full : is_good c ≡ true → MAX_SUBMISSIONS ≤ submissions (state_of w).submitted p →
+      cause w (Submit p c) ≡ Some (Full Submissions)
   cause-submit-full good many =
       let t : nat_lt MAX_SUBMISSIONS (submissions (state_of w).submitted p + 1) ≡ true = grind (arith, nat_tests) in
       cause-good good ∙ rw t refl
 
-  pub cause-submit-sends : is_good c ≡ true → submissions (state_of w).submitted p < MAX_SUBMISSIONS → cause w (Submit p c) ≡ overflow w w.setting.members
+  pub cause-submit-sends : is_good c ≡ true → submissions (state_of w).submitted p < MAX_SUBMISSIONS →
+      cause w (Submit p c) ≡ overflow w w.setting.members
   cause-submit-sends good few =
       let t : nat_lt MAX_SUBMISSIONS (submissions (state_of w).submitted p + 1) ≡ false = grind (arith, nat_tests) in
       cause-good good ∙ rw t (sym (overflow-is w w.setting.members))

@@ -15,7 +15,8 @@ use Rattle.ct_model.proofs.Basics.Tests.{and_both}
 
 -- where two tests guard a value
 
-taken-two : {A : Type 0} (a b : Bool) (x : A) (r s : Refusal) → first_fault (at r (not a) ∷ at s (not b) ∷ []) ≡ None → when (a && b) x ≡ Some x
+taken-two : {A : Type 0} (a b : Bool) (x : A) (r s : Refusal) → first_fault (at r (not a) ∷ at s (not b) ∷ []) ≡ None →
+    when (a && b) x ≡ Some x
 taken-two true true x r s h = refl
 taken-two true false x r s h = absurd (cc)
 taken-two false b x r s h = absurd (cc)
@@ -33,7 +34,8 @@ largest-heard {V} t from h = go (estimate_from t from) h
     go (Some e) h = (e, refl)
 
 module _ {V : Type 0} (n k : ℕ) (t : Ballots V) (c : Standing V) (from : ℕ) where
-  three : (a b l : Bool) → first_fault (at WrongPhase (not a) ∷ at TooFew (not b) ∷ at NotLargest (not l) ∷ []) ≡ None → (a && b ≡ true) × (l ≡ true)
+  three : (a b l : Bool) → first_fault (at WrongPhase (not a) ∷ at TooFew (not b) ∷ at NotLargest (not l) ∷ []) ≡ None →
+      (a && b ≡ true) × (l ≡ true)
   three true true true h = (refl, refl)
   three true true false h = absurd (cc)
   three true false l h = absurd (cc)
@@ -42,7 +44,8 @@ module _ {V : Type 0} (n k : ℕ) (t : Ballots V) (c : Standing V) (from : ℕ) 
   pub choose-heard : first_fault (choose_faults n t c from) ≡ None → (e : Heard V) × (estimate_from t from ≡ Some e)
   choose-heard h = largest-heard t from (three (is_gather c.phase) (is_majority n (heard t)) (has_largest t from) h).1
 
-  pub choose-taken : (e : Heard V) → first_fault (choose_faults n t c from) ≡ None → estimate_from t from ≡ Some e → choose n k t c from ≡ Some (chosen k c e)
+  pub choose-taken : (e : Heard V) → first_fault (choose_faults n t c from) ≡ None → estimate_from t from ≡ Some e →
+      choose n k t c from ≡ Some (chosen k c e)
   unfolding choose
   choose-taken e h is =
       let w = three (is_gather c.phase) (is_majority n (heard t)) (has_largest t from) h in
@@ -63,9 +66,11 @@ module _ {V : Type 0} (n me k : ℕ) (t : Ballots V) (c : Standing V) where
 
   pub adopt-taken : (v : V) → first_fault (adopt_faults t c) ≡ None → t.proposal ≡ Some v → adopt n me k t c ≡ Some (adopted n me k c v)
   unfolding adopt
-  adopt-taken v h is = ap (option_and_then (λ x. when (is_wait c.phase) (adopted n me k c x))) is ∙ go (is_wait c.phase) (is_none t.proposal) h
+  adopt-taken v h is = ap (option_and_then (λ x. when (is_wait c.phase) (adopted n me k c x))) is
+      ∙ go (is_wait c.phase) (is_none t.proposal) h
     where
-      go : (b l : Bool) → first_fault (at WrongPhase (not b) ∷ at NoProposal l ∷ []) ≡ None → when b (adopted n me k c v) ≡ Some (adopted n me k c v)
+      go : (b l : Bool) → first_fault (at WrongPhase (not b) ∷ at NoProposal l ∷ []) ≡ None →
+          when b (adopted n me k c v) ≡ Some (adopted n me k c v)
       go true l h = refl
       go false l h = absurd (cc)
 
@@ -75,13 +80,15 @@ module _ {V : Type 0} (n me k : ℕ) (t : Ballots V) (c : Standing V) where
   unfolding suspect
   suspect-taken h = go (is_wait c.phase) (is_some t.proposal) h
     where
-      go : (a b : Bool) → first_fault (at WrongPhase (not a) ∷ at HasProposal b ∷ []) ≡ None → when (a && not b) (suspected n me k c) ≡ Some (suspected n me k c)
+      go : (a b : Bool) → first_fault (at WrongPhase (not a) ∷ at HasProposal b ∷ []) ≡ None →
+          when (a && not b) (suspected n me k c) ≡ Some (suspected n me k c)
       go true true h = absurd (cc)
       go true false h = refl
       go false b h = absurd (cc)
 
 -- conclude
 
-pub conclude-taken : {V : Type 0} (n k : ℕ) (t : Ballots V) (c : Standing V) → first_fault (conclude_faults n t c) ≡ None → conclude n k t c ≡ Some (concluded n k t c)
+pub conclude-taken : {V : Type 0} (n k : ℕ) (t : Ballots V) (c : Standing V) → first_fault (conclude_faults n t c) ≡ None →
+    conclude n k t c ≡ Some (concluded n k t c)
 unfolding conclude
 conclude-taken n k t c h = taken-two (is_tally c.phase) (is_majority n t.replied) (concluded n k t c) WrongPhase TooFew h

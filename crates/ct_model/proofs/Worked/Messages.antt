@@ -28,7 +28,11 @@ short list = map (λ m. (m.origin, m.number)) list
 -- how many envelopes were sent, what each of three members received, and who crashed
 outcome : Option State → Option (ℕ × List (List (ℕ × ℕ)) × List Bool)
 unfolding short
-outcome o = option_map (λ g. (length g.sent, short (received_by g 1) ∷ short (received_by g 2) ∷ short (received_by g 3) ∷ [], map (λ m. m.crashed) g.members)) o
+outcome o = option_map (λ g. (
+  length g.sent,
+  short (received_by g 1) ∷ short (received_by g 2) ∷ short (received_by g 3) ∷ [],
+  map (λ m. m.crashed) g.members,
+)) o
 
 -- the cause of a step after the list, for a group of three with four cells
 after_three : List Step → Step → Option Refusal
@@ -40,7 +44,8 @@ relayed_once = Submit 1 (Set 0 7) ∷ Receive 1 1 ∷ Receive 2 2 ∷ []
 
 -- all that these compute with
 computing : Unit {0}
-unfolding members is_before is_message ordered first_state member submissions received received_by wire_to is_relayed after next stepped run_from run line_after waiting state_of line_of order limit cause outcome short after_three relayed_once
+unfolding members is_before is_message ordered first_state member submissions received received_by wire_to is_relayed after next stepped
+    run_from run line_after waiting state_of line_of order limit cause outcome short after_three relayed_once
 computing = tt
 
 nothing_yet : outcome (run (group_of 3) []) ≡ Some (0, ([] ∷ [] ∷ [] ∷ []), (false ∷ false ∷ false ∷ []))
@@ -57,7 +62,8 @@ unfolding computing
 lines_then = refl
 
 -- what is got twice is neither received nor relayed twice
-second_receipts : outcome (run (group_of 3) (relayed_once ++ Receive 1 4 ∷ Receive 2 5 ∷ [])) ≡ Some (6, (((1, 1) ∷ []) ∷ ((1, 1) ∷ []) ∷ [] ∷ []), (false ∷ false ∷ false ∷ []))
+second_receipts : outcome (run (group_of 3) (relayed_once ++ Receive 1 4 ∷ Receive 2 5 ∷ []))
+    ≡ Some (6, (((1, 1) ∷ []) ∷ ((1, 1) ∷ []) ∷ [] ∷ []), (false ∷ false ∷ false ∷ []))
 unfolding computing
 second_receipts = refl
 
@@ -66,17 +72,20 @@ postponed : map (waiting (group_of 3) (relayed_once ++ Postpone 3 3 ∷ [])) (1 
 unfolding computing
 postponed = refl
 
-reordered : outcome (run (group_of 3) (relayed_once ++ Postpone 3 3 ∷ Receive 3 6 ∷ Receive 3 3 ∷ [])) ≡ Some (9, (((1, 1) ∷ []) ∷ ((1, 1) ∷ []) ∷ ((1, 1) ∷ []) ∷ []), (false ∷ false ∷ false ∷ []))
+reordered : outcome (run (group_of 3) (relayed_once ++ Postpone 3 3 ∷ Receive 3 6 ∷ Receive 3 3 ∷ []))
+    ≡ Some (9, (((1, 1) ∷ []) ∷ ((1, 1) ∷ []) ∷ ((1, 1) ∷ []) ∷ []), (false ∷ false ∷ false ∷ []))
 unfolding computing
 reordered = refl
 
 -- an origin's second message may be received first
-out_of_order : outcome (run (group_of 1) (Submit 1 (Copy 0 1) ∷ Submit 1 (Set 0 5) ∷ Receive 1 2 ∷ Receive 1 1 ∷ [])) ≡ Some (2, (((1, 2) ∷ (1, 1) ∷ []) ∷ [] ∷ [] ∷ []), (false ∷ []))
+out_of_order : outcome (run (group_of 1) (Submit 1 (Copy 0 1) ∷ Submit 1 (Set 0 5) ∷ Receive 1 2 ∷ Receive 1 1 ∷ []))
+    ≡ Some (2, (((1, 2) ∷ (1, 1) ∷ []) ∷ [] ∷ [] ∷ []), (false ∷ []))
 unfolding computing
 out_of_order = refl
 
 -- envelopes to a crashed member stay waiting
-crashed : outcome (run (group_of 3) (relayed_once ++ Crash 3 ∷ [])) ≡ Some (6, (((1, 1) ∷ []) ∷ ((1, 1) ∷ []) ∷ [] ∷ []), (false ∷ false ∷ true ∷ []))
+crashed : outcome (run (group_of 3) (relayed_once ++ Crash 3 ∷ []))
+    ≡ Some (6, (((1, 1) ∷ []) ∷ ((1, 1) ∷ []) ∷ [] ∷ []), (false ∷ false ∷ true ∷ []))
 unfolding computing
 crashed = refl
 
@@ -85,15 +94,18 @@ unfolding computing
 lines_of_crashed = refl
 
 -- a crashed member takes no step, and no step is a stranger's
-refused_crashed : map (after_three (Crash 3 ∷ [])) (Submit 3 (Set 16 1) ∷ Receive 3 1 ∷ Crash 3 ∷ Postpone 3 1 ∷ []) ≡ Some Crashed ∷ Some Crashed ∷ Some Crashed ∷ Some Crashed ∷ []
+refused_crashed : map (after_three (Crash 3 ∷ [])) (Submit 3 (Set 16 1) ∷ Receive 3 1 ∷ Crash 3 ∷ Postpone 3 1 ∷ []) ≡ Some Crashed
+    ∷ Some Crashed ∷ Some Crashed ∷ Some Crashed ∷ []
 unfolding computing
 refused_crashed = refl
 
-refused_strangers : map (after_three []) (Submit 4 (Set 0 1) ∷ Receive 0 1 ∷ Crash 4 ∷ Postpone 255 1 ∷ []) ≡ Some NoSuchMember ∷ Some NoSuchMember ∷ Some NoSuchMember ∷ Some NoSuchMember ∷ []
+refused_strangers : map (after_three []) (Submit 4 (Set 0 1) ∷ Receive 0 1 ∷ Crash 4 ∷ Postpone 255 1 ∷ []) ≡ Some NoSuchMember
+    ∷ Some NoSuchMember ∷ Some NoSuchMember ∷ Some NoSuchMember ∷ []
 unfolding computing
 refused_strangers = refl
 
-refused_others : map (after_three relayed_once) (Submit 1 (Set 16 1) ∷ Receive 2 2 ∷ Receive 1 2 ∷ Receive 3 0 ∷ Postpone 3 7 ∷ []) ≡ Some BadCommand ∷ Some NotWaiting ∷ Some NotWaiting ∷ Some NotWaiting ∷ Some NotWaiting ∷ []
+refused_others : map (after_three relayed_once) (Submit 1 (Set 16 1) ∷ Receive 2 2 ∷ Receive 1 2 ∷ Receive 3 0 ∷ Postpone 3 7 ∷ [])
+    ≡ Some BadCommand ∷ Some NotWaiting ∷ Some NotWaiting ∷ Some NotWaiting ∷ Some NotWaiting ∷ []
 unfolding computing
 refused_others = refl
 

@@ -39,11 +39,13 @@ two_estimates = Est 1 2 3 8 1 ∷ Est 1 2 1 7 0 ∷ []
 
 -- all that these compute with
 computing : Unit {0}
-unfolding members is_before is_message ordered received proposal ballots enter choose adopt suspect conclude undelivered second two_estimates
+unfolding members is_before is_message ordered received proposal ballots enter choose adopt suspect conclude undelivered second
+    two_estimates
 computing = tt
 
 -- ballots: by member, the first of each; those of other rounds and instances don't count
-first_count : second (Est 1 2 3 8 1 ∷ Est 1 2 3 9 2 ∷ Est 1 1 2 9 0 ∷ Est 2 2 2 9 0 ∷ Est 1 2 1 7 0 ∷ Prop 1 2 5 ∷ Prop 1 2 6 ∷ Ack 1 2 3 ∷ Nack 1 2 2 ∷ Ack 1 2 3 ∷ Ack 1 1 1 ∷ Dec 1 2 5 ∷ [])
+first_count : second (Est 1 2 3 8 1 ∷ Est 1 2 3 9 2 ∷ Est 1 1 2 9 0 ∷ Est 2 2 2 9 0 ∷ Est 1 2 1 7 0 ∷ Prop 1 2 5 ∷ Prop 1 2 6 ∷ Ack 1 2 3
+    ∷ Nack 1 2 2 ∷ Ack 1 2 3 ∷ Ack 1 1 1 ∷ Dec 1 2 5 ∷ [])
     ≡ record {
       estimates = record { member = 1; value = 7; ts = 0 } ∷ record { member = 3; value = 8; ts = 1 } ∷ [];
       proposal = Some 5;
@@ -57,7 +59,8 @@ one_more : count_in (second two_estimates) 1 2 (Est 1 2 2 9 1) ≡ second (Est 1
 unfolding computing
 one_more = refl
 
-nobody_else : count_in (second two_estimates) 1 2 (Ack 1 2 17) ≡ record { estimates = (second two_estimates).estimates; proposal = None; acked = []; replied = [] }
+nobody_else : count_in (second two_estimates) 1 2 (Ack 1 2 17)
+    ≡ record { estimates = (second two_estimates).estimates; proposal = None; acked = []; replied = [] }
 unfolding computing
 nobody_else = refl
 
@@ -74,7 +77,8 @@ no_entry : enter 3 1 1 (Some 7) (stands 1 Rest 7 1) ∷ enter 3 1 1 None (stands
 unfolding computing
 no_entry = refl
 
-entry_refused : map (λ phase. first_fault (enter_faults (stands 1 phase 7 1))) (Rest ∷ Gather ∷ Wait ∷ Tally ∷ []) ≡ None ∷ Some WrongPhase ∷ Some WrongPhase ∷ Some WrongPhase ∷ []
+entry_refused : map (λ phase. first_fault (enter_faults (stands 1 phase 7 1))) (Rest ∷ Gather ∷ Wait ∷ Tally ∷ []) ≡ None ∷ Some WrongPhase
+    ∷ Some WrongPhase ∷ Some WrongPhase ∷ []
 unfolding computing
 entry_refused = refl
 
@@ -87,12 +91,14 @@ no_choice : map (choose 3 1 (second two_estimates) (stands 2 Gather 6 0)) (1 ∷
 unfolding computing
 no_choice = refl
 
-choice_refused : map (λ from. first_fault (choose_faults 3 (second two_estimates) (stands 2 Gather 6 0) from)) (1 ∷ 2 ∷ 3 ∷ []) ≡ Some NotLargest ∷ Some NotLargest ∷ None ∷ []
+choice_refused : map (λ from. first_fault (choose_faults 3 (second two_estimates) (stands 2 Gather 6 0) from)) (1 ∷ 2 ∷ 3 ∷ [])
+    ≡ Some NotLargest ∷ Some NotLargest ∷ None ∷ []
 unfolding computing
 choice_refused = refl
 
 -- a second estimate of one member makes no majority
-too_few_heard : first_fault (choose_faults 3 (second (Est 1 2 3 8 1 ∷ Est 1 2 3 9 2 ∷ Est 1 1 1 7 0 ∷ [])) (stands 2 Gather 6 0) 3) ≡ Some TooFew
+too_few_heard : first_fault (choose_faults 3 (second (Est 1 2 3 8 1 ∷ Est 1 2 3 9 2 ∷ Est 1 1 1 7 0 ∷ [])) (stands 2 Gather 6 0) 3)
+    ≡ Some TooFew
 unfolding computing
 too_few_heard = refl
 
@@ -101,7 +107,8 @@ unfolding computing
 no_gathering = refl
 
 -- of equal ts either may be taken
-either_of_two : map (choose 3 1 (second (Est 1 2 1 7 1 ∷ Est 1 2 2 9 1 ∷ [])) (stands 2 Gather 6 0)) (1 ∷ 2 ∷ []) ≡ Some (turn (stands 2 Wait 7 0) (All (Prop 1 2 7))) ∷ Some (turn (stands 2 Wait 9 0) (All (Prop 1 2 9))) ∷ []
+either_of_two : map (choose 3 1 (second (Est 1 2 1 7 1 ∷ Est 1 2 2 9 1 ∷ [])) (stands 2 Gather 6 0)) (1 ∷ 2 ∷ [])
+    ≡ Some (turn (stands 2 Wait 7 0) (All (Prop 1 2 7))) ∷ Some (turn (stands 2 Wait 9 0) (All (Prop 1 2 9))) ∷ []
 unfolding computing
 either_of_two = refl
 
@@ -114,7 +121,8 @@ adopts_its_own : adopt 3 3 1 (second (Prop 1 2 8 ∷ [])) (stands 2 Wait 8 0) �
 unfolding computing
 adopts_its_own = refl
 
-adoption_refused : first_fault (adopt_faults (second (Prop 1 1 8 ∷ [])) (stands 2 Wait 7 0)) ∷ first_fault (adopt_faults (second (Prop 1 2 8 ∷ [])) (stands 2 Rest 7 0)) ∷ [] ≡ Some NoProposal ∷ Some WrongPhase ∷ []
+adoption_refused : first_fault (adopt_faults (second (Prop 1 1 8 ∷ [])) (stands 2 Wait 7 0))
+    ∷ first_fault (adopt_faults (second (Prop 1 2 8 ∷ [])) (stands 2 Rest 7 0)) ∷ [] ≡ Some NoProposal ∷ Some WrongPhase ∷ []
 unfolding computing
 adoption_refused = refl
 
@@ -127,12 +135,14 @@ suspects_itself : suspect 3 3 1 (second []) (stands 2 Wait 8 0) ≡ Some (turn (
 unfolding computing
 suspects_itself = refl
 
-suspicion_refused : first_fault (suspect_faults (second (Prop 1 2 8 ∷ [])) (stands 2 Wait 7 0)) ∷ first_fault (suspect_faults (second []) (stands 2 Tally 7 0)) ∷ [] ≡ Some HasProposal ∷ Some WrongPhase ∷ []
+suspicion_refused : first_fault (suspect_faults (second (Prop 1 2 8 ∷ [])) (stands 2 Wait 7 0))
+    ∷ first_fault (suspect_faults (second []) (stands 2 Tally 7 0)) ∷ [] ≡ Some HasProposal ∷ Some WrongPhase ∷ []
 unfolding computing
 suspicion_refused = refl
 
 -- Conclude sends the decision where a majority acked; nacks count as replies alone, and a reply got twice counts once
-concludes : conclude 3 1 (second (Ack 1 2 1 ∷ Nack 1 2 2 ∷ Ack 1 2 3 ∷ [])) (stands 2 Tally 8 2) ≡ Some (turn (stands 2 Rest 8 2) (All (Dec 1 2 8)))
+concludes : conclude 3 1 (second (Ack 1 2 1 ∷ Nack 1 2 2 ∷ Ack 1 2 3 ∷ [])) (stands 2 Tally 8 2)
+    ≡ Some (turn (stands 2 Rest 8 2) (All (Dec 1 2 8)))
 unfolding computing
 concludes = refl
 
@@ -140,7 +150,8 @@ concludes_nothing : conclude 3 1 (second (Ack 1 2 1 ∷ Nack 1 2 2 ∷ [])) (sta
 unfolding computing
 concludes_nothing = refl
 
-conclusion_refused : first_fault (conclude_faults 3 (second (Ack 1 2 1 ∷ Ack 1 2 1 ∷ Ack 1 1 2 ∷ [])) (stands 2 Tally 8 2)) ∷ first_fault (conclude_faults 3 (second (Ack 1 2 1 ∷ Ack 1 2 2 ∷ [])) (stands 2 Rest 8 2)) ∷ [] ≡ Some TooFew ∷ Some WrongPhase ∷ []
+conclusion_refused : first_fault (conclude_faults 3 (second (Ack 1 2 1 ∷ Ack 1 2 1 ∷ Ack 1 1 2 ∷ [])) (stands 2 Tally 8 2))
+    ∷ first_fault (conclude_faults 3 (second (Ack 1 2 1 ∷ Ack 1 2 2 ∷ [])) (stands 2 Rest 8 2)) ∷ [] ≡ Some TooFew ∷ Some WrongPhase ∷ []
 unfolding computing
 conclusion_refused = refl
 
@@ -159,7 +170,16 @@ with_three = record new_member {
 
 begins : begin_row 3 with_three
     ≡ Some (record {
-      member = record with_three { last = 2; current = Some (record { round = 0; phase = Rest; estimate = message 1 2 ∷ message 2 1 ∷ []; ts = 0 }) };
+      member = record with_three {
+        last = 2;
+        current = Some (record {
+          round = 0;
+          phase = Rest;
+          estimate =
+              message 1 2 ∷ message 2 1 ∷ [];
+          ts = 0;
+        });
+      };
       submitted = [];
       proposals = record { member = 3; instance = 2; value = message 1 2 ∷ message 2 1 ∷ [] } ∷ [];
       mail = Nobody;
@@ -188,12 +208,18 @@ begun = (begin 3 with_three).member
 abbrev taken : Member → Move → Option Outcome
 taken m action = round_row m (turn_at group.members 3 m action)
 
-enters_its_instance : taken begun Enter ≡ Some (turned begun (record { after = record { round = 1; phase = Wait; estimate = message 1 2 ∷ message 2 1 ∷ []; ts = 0 }; mail = One 2 (Est 2 1 3 (message 1 2 ∷ message 2 1 ∷ []) 0) }))
+enters_its_instance : taken begun Enter ≡ Some (turned begun
+    (record {
+      after = record { round = 1; phase = Wait; estimate = message 1 2 ∷ message 2 1 ∷ []; ts = 0 };
+      mail =
+          One 2 (Est 2 1 3 (message 1 2 ∷ message 2 1 ∷ []) 0);
+    }))
 unfolding computing message with_three group begun decided
 enters_its_instance = refl
 
 -- the decision of another instance doesn't keep it from entering, that of its own does
-enters_undecided : map (λ k. option_map (λ o. o.mail) (taken (record begun { got = Dec k 1 [] ∷ [] }) Enter)) (1 ∷ 2 ∷ []) ≡ Some (One 2 (Est 2 1 3 (message 1 2 ∷ message 2 1 ∷ []) 0)) ∷ None ∷ []
+enters_undecided : map (λ k. option_map (λ o. o.mail) (taken (record begun { got = Dec k 1 [] ∷ [] }) Enter)) (1 ∷ 2 ∷ [])
+    ≡ Some (One 2 (Est 2 1 3 (message 1 2 ∷ message 2 1 ∷ []) 0)) ∷ None ∷ []
 unfolding computing message with_three group begun decided
 enters_undecided = refl
 
@@ -203,20 +229,30 @@ idle = refl
 
 -- member 3 in round 1 of instance 2
 entered_member : List (Wire Value) → Phase → Member
-entered_member got phase = record new_member { got = got; last = 2; current = Some (record { round = 1; phase = phase; estimate = []; ts = 0 }) }
+entered_member got phase = record new_member {
+  got = got;
+  last = 2;
+  current =
+      Some (record { round = 1; phase = phase; estimate = []; ts = 0 });
+}
 
-adopts_of_its_round : map (λ r. option_map (λ o. o.mail) (taken (entered_member (Prop 2 r [] ∷ []) Wait) Adopt)) (1 ∷ 2 ∷ []) ≡ Some (One 2 (Ack 2 1 3)) ∷ None ∷ []
+adopts_of_its_round : map (λ r. option_map (λ o. o.mail) (taken (entered_member (Prop 2 r [] ∷ []) Wait) Adopt)) (1 ∷ 2 ∷ [])
+    ≡ Some (One 2 (Ack 2 1 3)) ∷ None ∷ []
 unfolding computing group entered_member
 adopts_of_its_round = refl
 
-suspects_in_its_round : map (λ r. option_map (λ o. o.mail) (taken (entered_member (Prop 2 r [] ∷ []) Wait) Suspect)) (1 ∷ 2 ∷ []) ≡ None ∷ Some (One 2 (Nack 2 1 3)) ∷ []
+suspects_in_its_round : map (λ r. option_map (λ o. o.mail) (taken (entered_member (Prop 2 r [] ∷ []) Wait) Suspect)) (1 ∷ 2 ∷ []) ≡ None
+    ∷ Some (One 2 (Nack 2 1 3)) ∷ []
 unfolding computing group entered_member
 suspects_in_its_round = refl
 
-chooses_in_its_instance : map (λ k. option_map (λ o. o.mail) (taken (entered_member (Est k 1 1 (message 1 1 ∷ []) 0 ∷ Est k 1 3 [] 0 ∷ []) Gather) (Choose 1))) (1 ∷ 2 ∷ []) ≡ None ∷ Some (All (Prop 2 1 (message 1 1 ∷ []))) ∷ []
+chooses_in_its_instance : map (λ k. option_map (λ o. o.mail)
+    (taken (entered_member (Est k 1 1 (message 1 1 ∷ []) 0 ∷ Est k 1 3 [] 0 ∷ []) Gather) (Choose 1))) (1 ∷ 2 ∷ []) ≡ None
+    ∷ Some (All (Prop 2 1 (message 1 1 ∷ []))) ∷ []
 unfolding computing group entered_member message
 chooses_in_its_instance = refl
 
-concludes_its_round : map (λ r. option_map (λ o. o.mail) (taken (entered_member (Ack 2 r 1 ∷ Ack 2 r 3 ∷ []) Tally) Conclude)) (1 ∷ 2 ∷ []) ≡ Some (All (Dec 2 1 [])) ∷ None ∷ []
+concludes_its_round : map (λ r. option_map (λ o. o.mail) (taken (entered_member (Ack 2 r 1 ∷ Ack 2 r 3 ∷ []) Tally) Conclude)) (1 ∷ 2 ∷ [])
+    ≡ Some (All (Dec 2 1 [])) ∷ None ∷ []
 unfolding computing group entered_member
 concludes_its_round = refl

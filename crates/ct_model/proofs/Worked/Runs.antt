@@ -3,13 +3,15 @@ use Rattle.std.proofs.Common.{◌≡◌, ℕ, List, [], ◌∷◌, ◌++◌, Opt
 use Rattle.ct_names.specs.declared.command.Command.TheVariants.{Set, Copy}
 use Rattle.ct_names.specs.declared.limit.Limit.TheVariants.{Cells}
 use Rattle.ct_names.specs.declared.refusal.Refusal.{Refusal}
-use Rattle.ct_names.specs.declared.refusal.Refusal.TheVariants.{NoSuchMember, Crashed, Busy, Nothing, Idle, Decided, Undecided, WrongPhase, NoProposal, Full}
+use Rattle.ct_names.specs.declared.refusal.Refusal.TheVariants.{NoSuchMember, Crashed, Busy, Nothing, Idle, Decided, Undecided, WrongPhase}
+use Rattle.ct_names.specs.declared.refusal.Refusal.TheVariants.{NoProposal, Full}
 use Rattle.ct_names.specs.Group.{members}
 use Rattle.ct_names.specs.Message.{Message}
 use Rattle.ct_names.specs.Order.{is_before, is_message}
 use Rattle.ct_names.specs.Value.{ordered}
 use Rattle.ct_model.specs.declared.step.Step.{Step}
-use Rattle.ct_model.specs.declared.step.Step.TheVariants.{Submit, Receive, Begin, Enter, Choose, Adopt, Suspect, Conclude, Deliver, Crash, Postpone}
+use Rattle.ct_model.specs.declared.step.Step.TheVariants.{Submit, Receive, Begin, Enter, Choose, Adopt, Suspect, Conclude, Deliver, Crash}
+use Rattle.ct_model.specs.declared.step.Step.TheVariants.{Postpone}
 use Rattle.ct_model.specs.Setting.{Setting}
 use Rattle.ct_model.specs.State.{State, Member, first_state, member, delivered, submissions}
 use Rattle.ct_model.specs.Received.{received, decided, proposal, ballots}
@@ -65,14 +67,18 @@ to_delivery = Deliver 2 ∷ Receive 1 14 ∷ Deliver 1 ∷ []
 
 -- one member: two messages, the second decided and delivered before the first is received
 first_instance : List Step
-first_instance = Submit 1 (Copy 0 1) ∷ Submit 1 (Set 0 5) ∷ Receive 1 2 ∷ Begin 1 ∷ Enter 1 ∷ Receive 1 3 ∷ Choose 1 1 ∷ Receive 1 4 ∷ Adopt 1 ∷ Receive 1 5 ∷ Conclude 1 ∷ Receive 1 6 ∷ []
+first_instance = Submit 1 (Copy 0 1) ∷ Submit 1 (Set 0 5) ∷ Receive 1 2 ∷ Begin 1 ∷ Enter 1 ∷ Receive 1 3 ∷ Choose 1 1 ∷ Receive 1 4
+    ∷ Adopt 1 ∷ Receive 1 5 ∷ Conclude 1 ∷ Receive 1 6 ∷ []
 
 second_instance : List Step
-second_instance = Receive 1 1 ∷ Begin 1 ∷ Enter 1 ∷ Receive 1 7 ∷ Choose 1 1 ∷ Receive 1 8 ∷ Adopt 1 ∷ Receive 1 9 ∷ Conclude 1 ∷ Receive 1 10 ∷ []
+second_instance = Receive 1 1 ∷ Begin 1 ∷ Enter 1 ∷ Receive 1 7 ∷ Choose 1 1 ∷ Receive 1 8 ∷ Adopt 1 ∷ Receive 1 9 ∷ Conclude 1
+    ∷ Receive 1 10 ∷ []
 
 -- all that these compute with
 computing : Unit {0}
-unfolding members is_before is_message ordered first_state member submissions received decided proposal ballots enter choose adopt suspect conclude wire_to is_relayed undelivered batch_of after next stepped run_from run line_after waiting state_of line_of order limit cause outcome show short after_in to_crash to_proposal to_decision to_delivery first_instance second_instance
+unfolding members is_before is_message ordered first_state member submissions received decided proposal ballots enter choose adopt suspect
+    conclude wire_to is_relayed undelivered batch_of after next stepped run_from run line_after waiting state_of line_of order limit cause
+    outcome show short after_in to_crash to_proposal to_decision to_delivery first_instance second_instance
 computing = tt
 
 -- the two that are up deliver the message, and the member that is not the coordinator passes the decision on
@@ -103,7 +109,8 @@ two_instances_of_one = refl
 
 -- each of the eleven steps, at a member
 all_of : ℕ → List Step
-all_of p = Submit p (Set 0 1) ∷ Receive p 3 ∷ Begin p ∷ Enter p ∷ Choose p 1 ∷ Adopt p ∷ Suspect p ∷ Conclude p ∷ Deliver p ∷ Crash p ∷ Postpone p 3 ∷ []
+all_of p = Submit p (Set 0 1) ∷ Receive p 3 ∷ Begin p ∷ Enter p ∷ Choose p 1 ∷ Adopt p ∷ Suspect p ∷ Conclude p ∷ Deliver p ∷ Crash p
+    ∷ Postpone p 3 ∷ []
 
 eleven : Refusal → List (Option Refusal)
 eleven r = Some r ∷ Some r ∷ Some r ∷ Some r ∷ Some r ∷ Some r ∷ Some r ∷ Some r ∷ Some r ∷ Some r ∷ Some r ∷ []
@@ -123,7 +130,8 @@ unfolding computing
 refused_cells = refl
 
 -- before an instance, in one, and in one that is decided
-refused_idle : map (after_in 3 4 to_crash) (Begin 1 ∷ Enter 1 ∷ Choose 2 1 ∷ Adopt 1 ∷ Suspect 1 ∷ Conclude 2 ∷ Deliver 1 ∷ []) ≡ None ∷ Some Idle ∷ Some Idle ∷ Some Idle ∷ Some Idle ∷ Some Idle ∷ Some Idle ∷ []
+refused_idle : map (after_in 3 4 to_crash) (Begin 1 ∷ Enter 1 ∷ Choose 2 1 ∷ Adopt 1 ∷ Suspect 1 ∷ Conclude 2 ∷ Deliver 1 ∷ []) ≡ None
+    ∷ Some Idle ∷ Some Idle ∷ Some Idle ∷ Some Idle ∷ Some Idle ∷ Some Idle ∷ []
 unfolding computing
 refused_idle = refl
 
@@ -131,10 +139,13 @@ refused_nothing : map (after_in 3 4 []) (Begin 1 ∷ []) ≡ Some Nothing ∷ []
 unfolding computing
 refused_nothing = refl
 
-refused_in_instance : map (after_in 3 4 (to_crash ++ to_proposal)) (Begin 1 ∷ Enter 1 ∷ Choose 2 1 ∷ Adopt 1 ∷ Suspect 1 ∷ Conclude 2 ∷ Deliver 1 ∷ []) ≡ Some Busy ∷ Some WrongPhase ∷ Some WrongPhase ∷ Some NoProposal ∷ None ∷ Some WrongPhase ∷ Some Undecided ∷ []
+refused_in_instance : map (after_in 3 4 (to_crash ++ to_proposal))
+    (Begin 1 ∷ Enter 1 ∷ Choose 2 1 ∷ Adopt 1 ∷ Suspect 1 ∷ Conclude 2 ∷ Deliver 1 ∷ []) ≡ Some Busy ∷ Some WrongPhase ∷ Some WrongPhase
+    ∷ Some NoProposal ∷ None ∷ Some WrongPhase ∷ Some Undecided ∷ []
 unfolding computing
 refused_in_instance = refl
 
-refused_decided : map (after_in 3 4 (to_crash ++ to_proposal ++ to_decision)) (Enter 2 ∷ Deliver 2 ∷ Enter 1 ∷ Deliver 1 ∷ []) ≡ Some Decided ∷ None ∷ None ∷ Some Undecided ∷ []
+refused_decided : map (after_in 3 4 (to_crash ++ to_proposal ++ to_decision)) (Enter 2 ∷ Deliver 2 ∷ Enter 1 ∷ Deliver 1 ∷ [])
+    ≡ Some Decided ∷ None ∷ None ∷ Some Undecided ∷ []
 unfolding computing
 refused_decided = refl

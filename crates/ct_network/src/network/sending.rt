@@ -22,7 +22,9 @@ impl Network {
         requires small { length self.old.lines ≤ MAX_MEMBERS }
         ensures sent { self.new.sent ≡ self.old.sent ++ envelopes (length self.old.lines) mail }
         ensures members { length self.new.lines ≡ length self.old.lines }
-        ensures joined { (q : ℕ) → is_member (length self.old.lines) q ≡ true → line_at self.new.lines q ≡ line_at self.old.lines q ++ serials_to q (length self.old.sent) (envelopes (length self.old.lines) mail) }
+        ensures joined { (q : ℕ) → is_member (length self.old.lines) q ≡ true →
+            line_at self.new.lines q ≡ line_at self.old.lines q
+            ++ serials_to q (length self.old.sent) (envelopes (length self.old.lines) mail) }
         ensures number { result ≡ length (envelopes (length self.old.lines) mail) }
     {
         match mail {
@@ -47,7 +49,9 @@ fn send_one(sent: &mut Vec<Envelope>, lines: &mut Vec<Line>, to: Member, wire: W
     requires few { vec_len sent.old < MAX_ENVELOPES }
     ensures sent { sent.new.items ≡ sent.old.items ++ envelopes (length lines.old.items) (One to wire) }
     ensures members { length lines.new.items ≡ length lines.old.items }
-    ensures joined { (q : ℕ) → is_member (length lines.old.items) q ≡ true → line_at (serials_of lines.new.items) q ≡ line_at (serials_of lines.old.items) q ++ serials_to q (length sent.old.items) (envelopes (length lines.old.items) (One to wire)) }
+    ensures joined { (q : ℕ) → is_member (length lines.old.items) q ≡ true →
+        line_at (serials_of lines.new.items) q ≡ line_at (serials_of lines.old.items) q
+        ++ serials_to q (length sent.old.items) (envelopes (length lines.old.items) (One to wire)) }
 {
     let _ = sent.push(Envelope { to, wire });
     let line = &mut lines[to as usize - 1];
@@ -62,7 +66,9 @@ fn send_to_all(sent: &mut Vec<Envelope>, lines: &mut Vec<Line>, wire: Wire)
     requires small { length lines.old.items ≤ MAX_MEMBERS }
     ensures sent { sent.new.items ≡ sent.old.items ++ envelopes (length lines.old.items) (All wire) }
     ensures members { length lines.new.items ≡ length lines.old.items }
-    ensures joined { (q : ℕ) → is_member (length lines.old.items) q ≡ true → line_at (serials_of lines.new.items) q ≡ line_at (serials_of lines.old.items) q ++ serials_to q (length sent.old.items) (envelopes (length lines.old.items) (All wire)) }
+    ensures joined { (q : ℕ) → is_member (length lines.old.items) q ≡ true →
+        line_at (serials_of lines.new.items) q ≡ line_at (serials_of lines.old.items) q
+        ++ serials_to q (length sent.old.items) (envelopes (length lines.old.items) (All wire)) }
 {
     // Each envelope gets a copy.
     let wire = &wire;

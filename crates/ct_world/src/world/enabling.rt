@@ -58,7 +58,8 @@ impl World {
 
     // What is kept of the member whose step it is.
     pub(super) fn actor(&self, member: Member) -> Result<&Seat, Refusal>
-        ensures { MatchResult result (λ seat. IsActor self.now.rehearsal member seat.now) (λ refusal. IsAbsent self.now.rehearsal member refusal) }
+        ensures { MatchResult result (λ seat. IsActor self.now.rehearsal member seat.now)
+            (λ refusal. IsAbsent self.now.rehearsal member refusal) }
     {
         let _ = &self.seats;
         match self.seat(member) {

@@ -75,7 +75,8 @@ impl World {
     /// where the step would set a cell that is not there or refuses the batch; then nothing else changes.
     pub fn commit(&mut self, board: &Board) -> Result<Effect, Refusal>
         requires { IsSome self.old.prepared }
-        ensures done { IfOk result (λ effect. IfSome self.old.prepared (λ step. IsDone self.old.rehearsal step self.new.rehearsal effect.sent)) }
+        ensures done { IfOk result (λ effect. IfSome self.old.prepared
+            (λ step. IsDone self.old.rehearsal step self.new.rehearsal effect.sent)) }
         ensures posted { IfOk result (λ effect. HasPosted board.now self.old.rehearsal self.new.rehearsal effect.receipt) }
         ensures refusal { IfErr result (λ refusal. IfSome self.old.prepared (λ step. IsRefusedByBoard self.old.rehearsal step refusal)) }
         ensures err { OnErr result (self.new.rehearsal ≡ self.old.rehearsal) }

@@ -40,7 +40,8 @@ impl World {
     /// The value that the envelope of a serial carries, in the order of messages; None where that was not sent, or
     /// carries none.
     pub fn value(&self, serial: Serial) -> Option<&[Message]>
-        ensures { option_map (λ list. list.now) result ≡ option_and_then (λ e. value_of e.wire) (at_serial (state_of self.now.rehearsal).sent serial) }
+        ensures { option_map (λ list. list.now) result ≡ option_and_then (λ e. value_of e.wire)
+            (at_serial (state_of self.now.rehearsal).sent serial) }
     {
         let envelope = self.network.envelope(serial)?;
         let set = self.book.get(envelope.wire.value()?)?;
@@ -56,7 +57,8 @@ impl World {
 
     /// The messages that a member received, in order of first receipt; None for no member of the group.
     pub fn received(&self, member: Member) -> Option<&[Message]>
-        ensures { option_map (λ list. list.now) result ≡ of_member self.now.rehearsal member (received_by (state_of self.now.rehearsal) member) }
+        ensures { option_map (λ list. list.now) result ≡ of_member self.now.rehearsal member
+            (received_by (state_of self.now.rehearsal) member) }
     {
         let seat = self.seat(member)?;
         Some(seat.caster.received())
@@ -64,7 +66,8 @@ impl World {
 
     /// The messages that a member delivered, in order; None for no member of the group.
     pub fn delivered(&self, member: Member) -> Option<&[Message]>
-        ensures { option_map (λ list. list.now) result ≡ of_member self.now.rehearsal member (delivered (member_of self.now.rehearsal member)) }
+        ensures { option_map (λ list. list.now) result ≡ of_member self.now.rehearsal member
+            (delivered (member_of self.now.rehearsal member)) }
     {
         let seat = self.seat(member)?;
         Some(seat.caster.delivered())
@@ -72,7 +75,8 @@ impl World {
 
     /// The registers after the commands of what a member delivered, in order; None for no member of the group.
     pub fn table(&self, member: Member) -> Option<&Table>
-        ensures { option_map (λ table. table.now) result ≡ of_member self.now.rehearsal member (table (delivered (member_of self.now.rehearsal member))) }
+        ensures { option_map (λ table. table.now) result ≡ of_member self.now.rehearsal member
+            (table (delivered (member_of self.now.rehearsal member))) }
     {
         let seat = self.seat(member)?;
         Some(&seat.table)
@@ -81,7 +85,8 @@ impl World {
     /// The decision that a member got for an instance, begun or not, in the order of messages; None for no member of
     /// the group, and where it got none.
     pub fn decided(&self, member: Member, instance: Instance) -> Option<&[Message]>
-        ensures { option_map (λ list. list.now) result ≡ if_member self.now.rehearsal member (decided (member_of self.now.rehearsal member).got instance) }
+        ensures { option_map (λ list. list.now) result ≡ if_member self.now.rehearsal member
+            (decided (member_of self.now.rehearsal member).got instance) }
     {
         let seat = self.seat(member)?;
         let set = self.book.get(seat.instances.decided(instance)?)?;
@@ -101,7 +106,8 @@ impl World {
     /// The last instance that a member began, 0 before the first, and whether it is open; None for no member of the
     /// group.
     pub fn instance(&self, member: Member) -> Option<(Instance, bool)>
-        ensures { result ≡ of_member self.now.rehearsal member ((member_of self.now.rehearsal member).last, is_some (member_of self.now.rehearsal member).current) }
+        ensures { result ≡ of_member self.now.rehearsal member
+            ((member_of self.now.rehearsal member).last, is_some (member_of self.now.rehearsal member).current) }
     {
         let seat = self.seat(member)?;
         Some((seat.instances.last(), seat.instances.current().is_some()))
@@ -109,7 +115,8 @@ impl World {
 
     /// The round of a member's open instance and its phase; None for no member of the group, and where none is open.
     pub fn round(&self, member: Member) -> Option<(Round, Phase)>
-        ensures { result ≡ if_member self.now.rehearsal member (option_map (λ c. (c.round, c.phase)) (member_of self.now.rehearsal member).current) }
+        ensures { result ≡ if_member self.now.rehearsal member
+            (option_map (λ c. (c.round, c.phase)) (member_of self.now.rehearsal member).current) }
     {
         let seat = self.seat(member)?;
         let part = seat.instances.current()?;
@@ -125,7 +132,8 @@ impl World {
 
     /// The batch of an instance: what its first Deliver delivered; None where there was none.
     pub fn batch(&self, instance: Instance) -> Option<&[Message]>
-        ensures { option_map (λ list. list.now) result ≡ option_map (λ b. b.messages) (at_serial (order (state_of self.now.rehearsal)) instance) }
+        ensures { option_map (λ list. list.now) result ≡ option_map (λ b. b.messages)
+            (at_serial (order (state_of self.now.rehearsal)) instance) }
     {
         let place = (instance as usize).checked_sub(1)?;
         self.foremost().caster.batch_at(place)

@@ -8,8 +8,10 @@ loop-message-preserved c =
     let xs = c.args.messages.now in
     let i = c.loop-message.message-index in
     let m = c.message-item.result in
-    let more : take (i + 1) xs ≡ take i xs ++ m ∷ [] = take_more xs i m c.loop-message-test.true ∙ ap (λ z. take i xs ++ z ∷ []) (sym c.message-item.is) in
+    let more : take (i + 1) xs ≡ take i xs ++ m ∷ [] = take_more xs i m c.loop-message-test.true
+    ∙ ap (λ z. take i xs ++ z ∷ []) (sym c.message-item.is) in
     record {
-      left = taken-more c.args.pending.now.keys c.loop-message.pending.keys c.swap_remove.new.self.keys (take i xs) (take (i + 1) xs) m c.loop-message.invariant.left more c.swap_remove.ensures.updates.0;
+      left = taken-more c.args.pending.now.keys c.loop-message.pending.keys c.swap_remove.new.self.keys (take i xs) (take (i + 1) xs) m
+          c.loop-message.invariant.left more c.swap_remove.ensures.updates.0;
       room = omega (arith, c.loop-message.invariant.room, c.swap_remove.ensures.room.0);
     }

@@ -13,7 +13,8 @@ compare-requires c =
     let len = c.len-place-end.ensures in
     let less : c.loop-place.place < length c.loop-place.mine.items = rw at.mine (omega arith) in
     let cells = ap cells_of at.mine ∙ (c.requires ∙ ap cells_of (sym at.theirs)) in
-    ap (λ n. n.cell) c.again-copy.ensures.1 ∙ one_cell _ _ _ _ _ cells less c.index_mut-in-loop-place.ensures.value c.index_mut.ensures.value
+    ap (λ n. n.cell) c.again-copy.ensures.1 ∙ one_cell _ _ _ _ _ cells less c.index_mut-in-loop-place.ensures.value
+    c.index_mut.ensures.value
 
 pub loop-place-preserved : goal.loop-place-preserved
 loop-place-preserved c =
@@ -25,7 +26,8 @@ loop-place-preserved c =
     let below : c.loop-place.place < length c.args.mine.now.items = omega arith in
     record {
       mine = ap (λ note. set c.loop-place.mine.items c.loop-place.place note) (c.compare.ensures.0 ∙ m_is) ∙ (set-get_or _ _ _ ∙ at.mine);
-      theirs = ap (λ note. set c.loop-place.theirs.items c.loop-place.place note) (c.again-copy.ensures.0 ∙ n_is) ∙ (set-get_or _ _ _ ∙ at.theirs);
+      theirs = ap (λ note. set c.loop-place.theirs.items c.loop-place.place note) (c.again-copy.ensures.0 ∙ n_is)
+          ∙ (set-get_or _ _ _ ∙ at.theirs);
       same = same_more c.args.mine.now.items c.args.theirs.now.items c.loop-place.place m n c.requires below
           (m_is ∙ ap (λ notes. get_or notes c.loop-place.place m) at.mine)
           (n_is ∙ ap (λ notes. get_or notes c.loop-place.place n) at.theirs)

@@ -8,5 +8,6 @@ abbrev pub invariant-loop-place : goal.invariant-loop-place
 invariant-loop-place l = record {
   mine : l.mine.items ≡ l.initial.mine.items;
   theirs : l.theirs.items ≡ l.initial.theirs.items;
-  same : (k : ℕ) (x y : Batch) → k < l.place → Knows (known_of l.initial.mine.items) k x → Knows (known_of l.initial.theirs.items) k y → x ≡ y;
+  same : (k : ℕ) (x y : Batch) → k < l.place → Knows (known_of l.initial.mine.items) k x → Knows (known_of l.initial.theirs.items) k y →
+      x ≡ y;
 }

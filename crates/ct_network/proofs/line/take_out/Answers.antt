@@ -3,7 +3,9 @@ use Rattle.std.proofs.lemmas.List.{drop-drop, drop_at, take-take, length-drop, l
 use Rattle.ct_network.proofs.line.take_out.Goals as goal
 
 -- after a rotation by one of the part from a on, n long, the rest lacks the part's last
-pulled : (xs ys : List ℕ) (a i n : ℕ) → a + i < length xs → n ≡ i + 1 → ys ≡ drop (length (take n (drop a xs)) - 1) (take n (drop a xs)) ++ take (length (take n (drop a xs)) - 1) (take n (drop a xs)) → drop (a + 1) (take a xs ++ (ys ++ drop n (drop a xs))) ≡ remove (drop a xs) i
+pulled : (xs ys : List ℕ) (a i n : ℕ) → a + i < length xs → n ≡ i + 1 →
+    ys ≡ drop (length (take n (drop a xs)) - 1) (take n (drop a xs)) ++ take (length (take n (drop a xs)) - 1) (take n (drop a xs)) →
+    drop (a + 1) (take a xs ++ (ys ++ drop n (drop a xs))) ≡ remove (drop a xs) i
 pulled xs ys a i n h en e =
     let r : List ℕ = drop a xs in
     let m : List ℕ = take n r in
@@ -11,7 +13,8 @@ pulled xs ys a i n h en e =
     let lm : length m ≡ n = length-take-le n r (omega arith) in
     let back : length m - 1 ≡ i = omega arith in
     let ld : length (drop i m) ≡ 1 = length-drop i m ∙ omega arith in
-    let ys_is : ys ≡ drop i m ++ take i r = e ∙ ap (λ k. drop k m ++ take k m) back ∙ ap (λ zs. drop i m ++ zs) (take-take i n r (omega arith)) in
+    let ys_is : ys ≡ drop i m ++ take i r = e ∙ ap (λ k. drop k m ++ take k m) back
+    ∙ ap (λ zs. drop i m ++ zs) (take-take i n r (omega arith)) in
     sym (drop-drop 1 a (take a xs ++ (ys ++ drop n r)))
     ∙ ap (drop 1) (drop_at (take a xs) (ys ++ drop n r) a (length-take-le a xs (omega arith)))
     ∙ ap (λ zs. drop 1 (zs ++ drop n r)) ys_is
@@ -20,4 +23,5 @@ pulled xs ys a i n h en e =
     ∙ (let next : n ≡ suc i = omega arith in ap (λ k. take i r ++ drop k r) next)
 
 pub returns : goal.returns
-returns c = pulled c.args.kept.now c.rotate_right.new.self c.args.start c.args.at (c.args.start + c.args.at + 1 - c.args.start) c.requires (omega arith) c.rotate_right.ensures.after
+returns c = pulled c.args.kept.now c.rotate_right.new.self c.args.start c.args.at (c.args.start + c.args.at + 1 - c.args.start) c.requires
+    (omega arith) c.rotate_right.ensures.after

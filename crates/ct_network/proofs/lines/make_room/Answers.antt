@@ -6,12 +6,14 @@ use Rattle.ct_network.proofs.lines.make_room.Goals as goal
 pub returns-in_err-make_room-clause-same : goal.returns-in_err-make_room-clause-same
 returns-in_err-make_room-clause-same c =
     let v = c.loop-i.invariant in
-    serials-same c.loop-i.lines.items c.loop-i.i c.index_mut-line.result.now c.make_room.new.self (omega (arith, v.as_many)) c.index_mut-line.ensures.value c.make_room.ensures.same ∙ v.same
+    serials-same c.loop-i.lines.items c.loop-i.i c.index_mut-line.result.now c.make_room.new.self (omega (arith, v.as_many))
+    c.index_mut-line.ensures.value c.make_room.ensures.same ∙ v.same
 
 pub returns-in_err-make_room-clause-room : goal.returns-in_err-make_room-clause-room
 returns-in_err-make_room-clause-room c roomy =
     let v = c.loop-i.invariant in
-    roomy-stays c.loop-i.lines.items c.loop-i.i c.index_mut-line.result.now c.make_room.new.self (omega (arith, v.as_many)) c.index_mut-line.ensures.value c.make_room.ensures.room (v.kept roomy)
+    roomy-stays c.loop-i.lines.items c.loop-i.i c.index_mut-line.result.now c.make_room.new.self (omega (arith, v.as_many))
+    c.index_mut-line.ensures.value c.make_room.ensures.room (v.kept roomy)
 
 pub loop-i-preserved : goal.loop-i-preserved
 loop-i-preserved c =
@@ -20,7 +22,9 @@ loop-i-preserved c =
     let within : c.loop-i.i < length lines = omega (arith, v.as_many) in
     record {
       as_many = length-set lines c.loop-i.i c.make_room.new.self ∙ v.as_many;
-      same = serials-same lines c.loop-i.i c.index_mut-line.result.now c.make_room.new.self within c.index_mut-line.ensures.value c.make_room.ensures.same ∙ v.same;
+      same = serials-same lines c.loop-i.i c.index_mut-line.result.now c.make_room.new.self within c.index_mut-line.ensures.value
+          c.make_room.ensures.same ∙ v.same;
       done = roomy-more lines c.loop-i.i c.make_room.new.self within v.done c.in_ok-make_room.ensures.ok;
-      kept = λ roomy. roomy-stays lines c.loop-i.i c.index_mut-line.result.now c.make_room.new.self within c.index_mut-line.ensures.value c.make_room.ensures.room (v.kept roomy);
+      kept = λ roomy. roomy-stays lines c.loop-i.i c.index_mut-line.result.now c.make_room.new.self within c.index_mut-line.ensures.value
+          c.make_room.ensures.room (v.kept roomy);
     }

@@ -6,4 +6,5 @@ use Rattle.ct_program.proofs.Joins.{rest_of}
 use Rattle.ct_program.proofs.reporting.push_messages.Given as goal
 
 abbrev pub invariant-loop-i : goal.invariant-loop-i
-invariant-loop-i l = string_bytes l.text ++ rest_of l.separator (nat_lt 0 l.i) (drop l.i (map message_text l.messages)) ≡ string_bytes l.fn.text ++ join_with_byte l.separator (map message_text l.messages)
+invariant-loop-i l = string_bytes l.text ++ rest_of l.separator (nat_lt 0 l.i) (drop l.i (map message_text l.messages))
+    ≡ string_bytes l.fn.text ++ join_with_byte l.separator (map message_text l.messages)

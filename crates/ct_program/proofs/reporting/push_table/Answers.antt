@@ -11,8 +11,10 @@ loop-register-init c = written_none 32 (string_bytes c.args.text.now)
 pub loop-register-preserved : goal.loop-register-preserved
 loop-register-preserved c = elim c.match-value_of.branch [
   | in-Some+in_ok-push_separator+in_ok-push_register x ↦
-      rw (x.text-is, x.later-is) (register_taken c.args.table.now c.loop-register.register x.in-Some.value _ _ _ _ _ c.loop-register.invariant x.in-Some.ensures x.in_ok-push_separator.ensures x.in_ok-push_register.ensures)
-  | in_default x ↦ rw (x.text-is, x.later-is) (register_passed c.args.table.now c.loop-register.register _ _ _ c.loop-register.invariant x.in_default.ensures)
+      rw (x.text-is, x.later-is) (register_taken c.args.table.now c.loop-register.register x.in-Some.value _ _ _ _ _
+      c.loop-register.invariant x.in-Some.ensures x.in_ok-push_separator.ensures x.in_ok-push_register.ensures)
+  | in_default x ↦ rw (x.text-is, x.later-is) (register_passed c.args.table.now c.loop-register.register _ _ _ c.loop-register.invariant
+      x.in_default.ensures)
 ]
 
 pub returns : goal.returns

@@ -12,5 +12,7 @@ some_if false value = refl
 pub returns : goal.returns
 returns c =
     let value = c.unwrap_or-value.result in
-    let read : value ≡ slice_index c.args.table.now c.args.register = c.unwrap_or-value.ensures ∙ ap (λ (o : Option ℕ). unwrap_or o 0) c.get.ensures.value ∙ unwrap_or-slice_get c.args.table.now c.args.register 0 in
+    let read : value ≡ slice_index c.args.table.now c.args.register =
+    c.unwrap_or-value.ensures ∙ ap (λ (o : Option ℕ). unwrap_or o 0) c.get.ensures.value
+    ∙ unwrap_or-slice_get c.args.table.now c.args.register 0 in
     c.then_some.ensures ∙ some_if (value == 0) value ∙ ap nonzero read

@@ -9,7 +9,8 @@ returns-in-Err-clause-err c =
 
 pub returns-in-Err-clause-replay : goal.returns-in-Err-clause-replay
 returns-in-Err-clause-replay c = λ name e.
-    replay_passes _ name c.in-Err.error (has_kind _ _ c.in-Err.error c.in_ok-command.ensures (c.in-Err.ensures.kinds (exact_app _ c.in_ok-command.ensures))) e
+    replay_passes _ name c.in-Err.error (has_kind _ _ c.in-Err.error c.in_ok-command.ensures
+    (c.in-Err.ensures.kinds (exact_app _ c.in_ok-command.ensures))) e
 
 pub returns-in-None-clause-ok : goal.returns-in-None-clause-ok
 returns-in-None-clause-ok c = no_faults _ _ c.in_ok-command.ensures (c.in-Ok.ensures.kinds (exact_app _ c.in_ok-command.ensures))
@@ -21,11 +22,13 @@ returns-in-None-clause-call c =
     (λ named. true≢false (sym (c.subcommand_matches.ensures.found.1 named) ∙ none))
 
 pub returns-in-Some-found_options-clause-ok : goal.returns-in-Some-found_options-clause-ok
-returns-in-Some-found_options-clause-ok c = no_faults _ _ c.in_ok-command.ensures (c.in-Ok.ensures.kinds (exact_app _ c.in_ok-command.ensures))
+returns-in-Some-found_options-clause-ok c = no_faults _ _ c.in_ok-command.ensures
+    (c.in-Ok.ensures.kinds (exact_app _ c.in_ok-command.ensures))
 
 pub returns-in-Some-found_options-clause-call : goal.returns-in-Some-found_options-clause-call
 returns-in-Some-found_options-clause-call c =
-    free_called _ _ _ _ c.in_ok-command.ensures c.in-Ok.ensures.matches (c.subcommand_matches.ensures.found.0 (ap is_some c.in-Some.is)) c.in-Some.ensures.rows
+    free_called _ _ _ _ c.in_ok-command.ensures c.in-Ok.ensures.matches (c.subcommand_matches.ensures.found.0 (ap is_some c.in-Some.is))
+    c.in-Some.ensures.rows
     ∙ ap (option_map Free) (sym c.found_options.ensures.exact ∙ c.in-Some-found_options.is)
 
 pub returns-in-Some-found_options-clause-in_range : goal.returns-in-Some-found_options-clause-in_range
@@ -36,9 +39,11 @@ returns-clause-err c = no_faults _ _ c.in_ok-command.ensures (c.in-Ok.ensures.ki
 
 pub returns-clause-range : goal.returns-clause-range
 returns-clause-range c = λ _.
-    free_called _ _ _ _ c.in_ok-command.ensures c.in-Ok.ensures.matches (c.subcommand_matches.ensures.found.0 (ap is_some c.in-Some.is)) c.in-Some.ensures.rows
+    free_called _ _ _ _ c.in_ok-command.ensures c.in-Ok.ensures.matches (c.subcommand_matches.ensures.found.0 (ap is_some c.in-Some.is))
+    c.in-Some.ensures.rows
     ∙ ap (option_map Free) (sym c.found_options.ensures.exact ∙ c.in-None-found_options.is)
 
 pub returns-clause-replay : goal.returns-clause-replay
 returns-clause-replay c = λ name e.
-    replay_only _ _ _ name c.in_ok-command.ensures c.in-Ok.ensures.matches e (c.subcommand_matches.ensures.found.0 (ap is_some c.in-Some.is))
+    replay_only _ _ _ name c.in_ok-command.ensures c.in-Ok.ensures.matches e
+    (c.subcommand_matches.ensures.found.0 (ap is_some c.in-Some.is))

@@ -9,4 +9,5 @@ both (Err e) P S Q f p q = tt
 
 pub returns-clause-reads_back : goal.returns-clause-reads_back
 returns-clause-reads_back c =
-    both c.record_bytes.result _ _ _ (λ bytes text storable. rw text (round_trip _ storable)) c.record_bytes.ensures.text c.record_bytes.ensures.storable
+    both c.record_bytes.result _ _ _ (λ bytes text storable. rw text (round_trip _ storable)) c.record_bytes.ensures.text
+    c.record_bytes.ensures.storable

@@ -10,4 +10,9 @@ loop-step-init g c = rw c.none-played.ensures (played-none _ _)
 pub loop-step-preserved : goal.loop-step-preserved
 loop-step-preserved g c =
     let more = played-turn _ _ _ _ _ _ _ _ _ _ c.attempt-turn.ensures.made c.loop-step.invariant in
-    rw (take_more c.args.steps.now c.loop-step.step-index (Submit 0 (Set 0 0)) c.loop-step-test.true, c.attempt-turn.ensures.world, c.attempt-turn.ensures.share, c.count.ensures) more
+    rw (
+      take_more c.args.steps.now c.loop-step.step-index (Submit 0 (Set 0 0)) c.loop-step-test.true,
+      c.attempt-turn.ensures.world,
+      c.attempt-turn.ensures.share,
+      c.count.ensures,
+    ) more

@@ -9,7 +9,8 @@ loop-i-init c = subst (λ copies. AreSameSeats [] copies) (sym c.new-copies.ensu
 pub loop-i-preserved : goal.loop-i-preserved
 loop-i-preserved c =
     subst (λ copies. AreSameSeats (take (c.loop-i.i + 1) c.args.seats.now) copies) (sym c.in_ok-push.ensures.items)
-    (same-more c.args.seats.now c.loop-i.copies.items c.loop-i.i c.index-seats-i.result c.in_ok-copy.field-0 c.loop-i.invariant c.loop-i-test.true c.index-seats-i.is c.in_ok-copy.ensures)
+    (same-more c.args.seats.now c.loop-i.copies.items c.loop-i.i c.index-seats-i.result c.in_ok-copy.field-0 c.loop-i.invariant
+    c.loop-i-test.true c.index-seats-i.is c.in_ok-copy.ensures)
 
 pub returns : goal.returns
 returns c = same-all c.args.seats.now c.loop-i.copies.items c.loop-i.i c.loop-i-test.false c.loop-i.invariant

@@ -12,4 +12,5 @@ loop-i-preserved c =
     (new-more c.args.group c.loop-i.i c.loop-i.seats.items c.new.result c.loop-i.invariant c.new.ensures)
 
 pub returns : goal.returns
-returns c = new-all c.args.group c.loop-i.i c.loop-i.seats.items (omega (arith, c.n-i-end.ensures.value, c.loop-i-test.false, c.loop-i.auto.i-end)) c.loop-i.invariant
+returns c = new-all c.args.group c.loop-i.i c.loop-i.seats.items
+    (omega (arith, c.n-i-end.ensures.value, c.loop-i-test.false, c.loop-i.auto.i-end)) c.loop-i.invariant

@@ -7,6 +7,7 @@ use Rattle.ct_abcast.proofs.delivered.Delivered.contains.Goals as goal
 
 pub returns : goal.returns
 returns c =
-    let list_is = sym (joined-parts c.self.inside.ends.items c.self.inside.messages.keys c.self.invariant) ∙ ap (λ v. joined v.batches) c.self.view_is in
+    let list_is = sym (joined-parts c.self.inside.ends.items c.self.inside.messages.keys c.self.invariant)
+    ∙ ap (λ v. joined v.batches) c.self.view_is in
     c.contains.ensures
     ∙ (keys-has c.self.inside.messages.keys c.args.message.now ∙ ap (λ list. has list c.args.message.now) list_is)

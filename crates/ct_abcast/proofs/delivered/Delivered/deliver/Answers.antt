@@ -14,32 +14,43 @@ use Rattle.ct_abcast.proofs.delivered.Delivered.deliver.Goals as goal
 pub loop-message-preserved : goal.loop-message-preserved
 loop-message-preserved c =
     let items = c.items-message-items.result.now in
-    let once : IsWithoutRepeats items = subst IsWithoutRepeats (c.items-message-items.ensures.ordered ∙ sym c.items-message-items.ensures.value) (IsWithoutRepeats-ordered c.args.set.now) in
-    let inserted : c.insert.new.self.keys ≡ insert_key equal.eq c.loop-message.self-inside.messages.keys c.message-item.result = search rules in
+    let once : IsWithoutRepeats items = subst IsWithoutRepeats
+    (c.items-message-items.ensures.ordered ∙ sym c.items-message-items.ensures.value) (IsWithoutRepeats-ordered c.args.set.now) in
+    let inserted : c.insert.new.self.keys ≡ insert_key equal.eq c.loop-message.self-inside.messages.keys c.message-item.result =
+    search rules in
     record {
       keys = inserted
           ∙ (ap (λ keys. insert_key equal.eq keys c.message-item.result) c.loop-message.invariant.keys
-          ∙ insert-more c.self.inside.messages.keys items c.loop-message.message-index c.message-item.result once c.loop-message-test.true c.message-item.is);
+          ∙ insert-more c.self.inside.messages.keys items c.loop-message.message-index c.message-item.result once c.loop-message-test.true
+          c.message-item.is);
       ends = c.loop-message.invariant.ends;
       room = omega (arith, c.insert.ensures.spare, c.loop-message.invariant.room);
     }
 
 -- all that was delivered, after the loop
-all_is : (c : goal.After-unwrap-2) → c.loop-message.self-inside.messages.keys ≡ c.self.inside.messages.keys ++ minus c.args.set.now c.self.inside.messages.keys
+all_is : (c : goal.After-unwrap-2) → c.loop-message.self-inside.messages.keys ≡ c.self.inside.messages.keys
+    ++ minus c.args.set.now c.self.inside.messages.keys
 all_is c =
     c.loop-message.invariant.keys
-    ∙ ap (λ list. c.self.inside.messages.keys ++ minus list c.self.inside.messages.keys) (take_all c.loop-message.message-index c.items-message-items.result.now c.loop-message-test.false ∙ c.items-message-items.ensures.value)
+    ∙ ap (λ list. c.self.inside.messages.keys ++ minus list c.self.inside.messages.keys)
+    (take_all c.loop-message.message-index c.items-message-items.result.now c.loop-message-test.false
+    ∙ c.items-message-items.ensures.value)
 
-ends_are : (c : goal.After-unwrap-2) → c.push.new.self.items ≡ c.self.inside.ends.items ++ length c.loop-message.self-inside.messages.keys ∷ []
+ends_are : (c : goal.After-unwrap-2) → c.push.new.self.items ≡ c.self.inside.ends.items ++ length c.loop-message.self-inside.messages.keys
+    ∷ []
 ends_are c = search rules
 
 pub invariant_of-self : goal.invariant_of-self
 invariant_of-self c =
-    delivered-ends c.self.inside.ends.items c.push.new.self.items c.self.inside.messages.keys c.loop-message.self-inside.messages.keys (minus c.args.set.now c.self.inside.messages.keys) c.self.invariant (all_is c) (ends_are c)
+    delivered-ends c.self.inside.ends.items c.push.new.self.items c.self.inside.messages.keys c.loop-message.self-inside.messages.keys
+    (minus c.args.set.now c.self.inside.messages.keys) c.self.invariant (all_is c) (ends_are c)
 
 pub returns-clause-batches : goal.returns-clause-batches
 returns-clause-batches c =
     let more = minus c.args.set.now c.self.inside.messages.keys in
-    delivered-parts c.self.inside.ends.items c.push.new.self.items c.self.inside.messages.keys c.loop-message.self-inside.messages.keys more c.self.invariant (all_is c) (ends_are c)
-    ∙ (ap (λ batch. parts 0 c.self.inside.ends.items c.self.inside.messages.keys ++ batch ∷ []) (batch-is c.self.inside.ends.items c.self.inside.messages.keys c.args.set.now c.self.invariant c.items-message-items.ensures.ordered)
+    delivered-parts c.self.inside.ends.items c.push.new.self.items c.self.inside.messages.keys c.loop-message.self-inside.messages.keys more
+    c.self.invariant (all_is c) (ends_are c)
+    ∙ (ap (λ batch. parts 0 c.self.inside.ends.items c.self.inside.messages.keys ++ batch ∷ [])
+    (batch-is c.self.inside.ends.items c.self.inside.messages.keys c.args.set.now c.self.invariant
+    c.items-message-items.ensures.ordered)
     ∙ ap (λ v. v.batches ++ batch_after v.batches c.args.set.now ∷ []) c.self.view_is)

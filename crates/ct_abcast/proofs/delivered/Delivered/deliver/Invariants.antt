@@ -5,7 +5,8 @@ use Rattle.ct_abcast.proofs.delivered.Delivered.deliver.Given as goal
 
 abbrev pub invariant-loop-message : goal.invariant-loop-message
 invariant-loop-message l = record {
-  keys : l.self-inside.messages.keys ≡ l.initial.self-inside.messages.keys ++ minus (take l.message-index l.message-items) l.initial.self-inside.messages.keys;
+  keys : l.self-inside.messages.keys ≡ l.initial.self-inside.messages.keys
+      ++ minus (take l.message-index l.message-items) l.initial.self-inside.messages.keys;
   ends : l.self-inside.ends ≡ l.initial.self-inside.ends;
   room : spare l.initial.self-inside.messages ≤ spare l.self-inside.messages + l.message-index;
 }

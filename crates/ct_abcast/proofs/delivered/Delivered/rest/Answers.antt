@@ -9,5 +9,6 @@ pub returns : goal.returns
 returns c =
     let list = joined c.args.self.now.batches in
     c.loop-message.invariant
-    ∙ (ap (λ items. minus items list) (take_all c.loop-message.message-index c.items-message-items.result.now c.loop-message-test.false ∙ c.items-message-items.ensures.value)
+    ∙ (ap (λ items. minus items list) (take_all c.loop-message.message-index c.items-message-items.result.now c.loop-message-test.false
+    ∙ c.items-message-items.ensures.value)
     ∙ sym (set-minus c.args.set.now list c.items-message-items.ensures.ordered))

@@ -11,7 +11,8 @@ returns-then-self-len-clause-below c =
     rw (← c.self.view_is) (all_read _ _ _ c.self.invariant.0 (omega arith))
 
 pub returns-in_err-batch-clause-below : goal.returns-in_err-batch-clause-below
-returns-in_err-batch-clause-below c = rw (← c.self.view_is) (λ less. absurd (none_below _ _ _ c.self.invariant.0 c.in_err-batch.ensures.unknown less))
+returns-in_err-batch-clause-below c = rw (← c.self.view_is) (λ less. absurd
+    (none_below _ _ _ c.self.invariant.0 c.in_err-batch.ensures.unknown less))
 
 pub invariant_of-self-2 : goal.invariant_of-self-2
 invariant_of-self-2 c =
@@ -22,7 +23,8 @@ invariant_of-self-2 c =
       c.apply_all.ensures
           ∙ (ap (λ messages. applied_all c.self.inside.table messages) c.messages.ensures
           ∙ (ap (λ values. applied_all values c.in_ok-batch.batch.now.messages) c.self.invariant.1
-          ∙ (sym (table-next (batches_read (watched_of c.self.inside)) c.in_ok-batch.batch.now) ∙ ap (λ batches. table (messages_of batches)) (sym on.read)))),
+          ∙ (sym (table-next (batches_read (watched_of c.self.inside)) c.in_ok-batch.batch.now)
+          ∙ ap (λ batches. table (messages_of batches)) (sym on.read)))),
     )
 
 pub returns-clause-told : goal.returns-clause-told

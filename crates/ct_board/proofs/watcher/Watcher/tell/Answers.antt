@@ -11,4 +11,5 @@ returns-clause-longer c =
     let cells = ap (λ (v : Watched). length v.cells) c.self.view_is in
     let told = ap (λ (v : Watched). v.told) c.self.view_is in
     let known = rw (← c.self.view_is) at c.requires.known in
-    rw (← c.self.view_is) (somes_begin c.self.inside.told c.args.number (known_of c.self.inside.notes.items) (omega arith) known (omega arith))
+    rw (← c.self.view_is) (somes_begin c.self.inside.told c.args.number (known_of c.self.inside.notes.items) (omega arith) known
+    (omega arith))

@@ -10,7 +10,8 @@ loop-instance-preserved-in_ok-insert c =
     let done = c.loop-instance.entries.entries in
     let inserted = c.in_ok-insert.ensures.entries ∙ ap (insert_entry (λ a b. a == b) done c.in-Some.instance.now) c.in_ok-copy.ensures in
     let whole = ap (λ es. done ++ es) (sym c.in-Some.ensures.steps) ∙ c.loop-instance.invariant in
-    let distinct = subst (λ kept. IsDistinct (λ a b. a == b) (keys_of kept.entries)) c.self.view_is c.into_iter-instance-iterator.ensures.into_iter_gives.4 in
+    let distinct = subst (λ kept. IsDistinct (λ a b. a == b) (keys_of kept.entries)) c.self.view_is
+    c.into_iter-instance-iterator.ensures.into_iter_gives.4 in
     copied-next done _ _ c.next.new.self c.args.self.now.entries c.insert.new.self.entries inserted whole distinct
 
 pub loop-instance-preserved : goal.loop-instance-preserved
@@ -18,5 +19,6 @@ loop-instance-preserved c =
     let done = c.loop-instance.entries.entries in
     let inserted = c.in_ok-insert.ensures.entries ∙ ap (insert_entry (λ a b. a == b) done c.in-Some.instance.now) c.in_ok-copy.ensures in
     let whole = ap (λ es. done ++ es) (sym c.in-Some.ensures.steps) ∙ c.loop-instance.invariant in
-    let distinct = subst (λ kept. IsDistinct (λ a b. a == b) (keys_of kept.entries)) c.self.view_is c.into_iter-instance-iterator.ensures.into_iter_gives.4 in
+    let distinct = subst (λ kept. IsDistinct (λ a b. a == b) (keys_of kept.entries)) c.self.view_is
+    c.into_iter-instance-iterator.ensures.into_iter_gives.4 in
     copied-next done _ _ c.next.new.self c.args.self.now.entries c.insert.new.self.entries inserted whole distinct

@@ -11,7 +11,8 @@ use Rattle.ct_names.proofs.msg_set.MsgSet.add.Goals as goal
 after_insert : (c : goal.In_ok-insert) → c.insert.new.self.items ≡ ordered (c.self.inside.items.items ++ c.args.message ∷ [])
 after_insert c =
     let set : IsOrdered c.deref.result.now = subst IsOrdered (sym c.deref.ensures.value) c.self.invariant in
-    let place = found c.deref.result.now c.args.message (λ y. ghosts.cmp y c.args.message) (λ y. same_cmp y c.args.message) set (Err c.in-Err.place) c.in-Err.ensures.bound c.in-Err.ensures.position in
+    let place = found c.deref.result.now c.args.message (λ y. ghosts.cmp y c.args.message) (λ y. same_cmp y c.args.message) set
+    (Err c.in-Err.place) c.in-Err.ensures.bound c.in-Err.ensures.position in
     c.in_ok-insert.ensures.items
     ∙ (ap (λ list. insert list c.in-Err.place c.args.message) (sym c.deref.ensures.value)
     ∙ (set-insert c.deref.result.now c.args.message c.in-Err.place set place
@@ -27,5 +28,6 @@ pub returns-in_default-clause-ok : goal.returns-in_default-clause-ok
 returns-in_default-clause-ok c =
     let list_is = c.deref.ensures.value ∙ c.self.view_is in
     let set : IsOrdered c.deref.result.now = subst IsOrdered (sym c.deref.ensures.value) c.self.invariant in
-    let there = found c.deref.result.now c.args.message (λ y. ghosts.cmp y c.args.message) (λ y. same_cmp y c.args.message) set (Ok c.in_default.field-0) c.in_default.ensures.bound c.in_default.ensures.position in
+    let there = found c.deref.result.now c.args.message (λ y. ghosts.cmp y c.args.message) (λ y. same_cmp y c.args.message) set
+    (Ok c.in_default.field-0) c.in_default.ensures.bound c.in_default.ensures.position in
     subst (λ list. list ≡ ordered (list ++ c.args.message ∷ [])) list_is (set-present c.deref.result.now c.args.message set there)

@@ -10,7 +10,8 @@ pub loop-message-preserved : goal.loop-message-preserved
 loop-message-preserved c =
     let more = minus-more c.deref-message-items.result.now c.args.list.now c.loop-message.message-index c.message-item.result in
     let there : has c.args.list.now c.message-item.result ≡ c.contains.result =
-    sym (c.contains.ensures ∙ (ap (λ set. has set c.message-item.result) c.in_ok-taken.ensures ∙ has-ordered c.args.list.now c.message-item.result)) in
+    sym (c.contains.ensures ∙ (ap (λ set. has set c.message-item.result) c.in_ok-taken.ensures
+    ∙ has-ordered c.args.list.now c.message-item.result)) in
     elim c.if-not-contains.branch [
       | then-not-contains+in_ok-push w ↦
           ap (λ v. v.items) w.items-is
@@ -26,5 +27,8 @@ loop-message-preserved c =
 
 pub invariant_of-result : goal.invariant_of-result
 invariant_of-result c =
-    let all : c.loop-message.items.items ≡ minus c.deref-message-items.result.now c.args.list.now = c.loop-message.invariant ∙ ap (λ list. minus list c.args.list.now) (take_all c.loop-message.message-index c.deref-message-items.result.now c.loop-message-test.false) in
-    subst IsOrdered (sym all) (set-minus c.deref-message-items.result.now c.args.list.now (subst IsOrdered (sym c.deref-message-items.ensures.value) c.self.invariant))
+    let all : c.loop-message.items.items ≡ minus c.deref-message-items.result.now c.args.list.now =
+    c.loop-message.invariant ∙ ap (λ list. minus list c.args.list.now)
+    (take_all c.loop-message.message-index c.deref-message-items.result.now c.loop-message-test.false) in
+    subst IsOrdered (sym all) (set-minus c.deref-message-items.result.now c.args.list.now
+    (subst IsOrdered (sym c.deref-message-items.ensures.value) c.self.invariant))

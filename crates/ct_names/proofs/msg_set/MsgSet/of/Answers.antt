@@ -11,7 +11,8 @@ use Rattle.ct_names.proofs.msg_set.MsgSet.of.Goals as goal
 left_is : (c : goal.After-dedup) → c.dedup.new.self.items ≡ ordered c.args.list.now
 left_is c =
     let sorted = c.sort_unstable.new.self.items in
-    let moved : IsPermutation c.args.list.now sorted = subst (λ list. IsPermutation list sorted) c.in_ok-items.ensures.items c.sort_unstable.ensures.permutation in
+    let moved : IsPermutation c.args.list.now sorted = subst (λ list. IsPermutation list sorted) c.in_ok-items.ensures.items
+    c.sort_unstable.ensures.permutation in
     dedup_is equal.eq sorted c.dedup.new.self.items c.dedup.ensures.filtered
     ∙ sorted_dedup-set c.args.list.now sorted moved c.sort_unstable.ensures.sorted
 

@@ -9,12 +9,15 @@ pub send_to_all-requires-clause-few : goal.send_to_all-requires-clause-few
 send_to_all-requires-clause-few c =
     let now = c.args.self.now in
     let sent : length now.sent ≡ length c.self.inside.envelopes.items = ap (λ (v : NetworkView). length v.sent) (sym c.self.view_is) in
-    let lines : length now.lines ≡ length c.self.inside.lines.items = ap (λ (v : NetworkView). length v.lines) (sym c.self.view_is) ∙ length-map c.self.inside.lines.items (λ l. l.serials) in
+    let lines : length now.lines ≡ length c.self.inside.lines.items =
+    ap (λ (v : NetworkView). length v.lines) (sym c.self.view_is) ∙ length-map c.self.inside.lines.items (λ l. l.serials) in
     omega (arith, c.requires.few, length-all (length now.lines) c.args.mail c.in-All.wire c.in-All.is, c.self.inside.envelopes.ok.0)
 
 pub returns-in-All-clause-number : goal.returns-in-All-clause-number
 returns-in-All-clause-number c =
     let now = c.args.self.now in
-    let lines : length now.lines ≡ length c.self.inside.lines.items = ap (λ (v : NetworkView). length v.lines) (sym c.self.view_is) ∙ length-map c.self.inside.lines.items (λ l. l.serials) in
-    let all : length (envelopes (length now.lines) c.args.mail) ≡ length now.lines = length-all (length now.lines) c.args.mail c.in-All.wire c.in-All.is in
+    let lines : length now.lines ≡ length c.self.inside.lines.items =
+    ap (λ (v : NetworkView). length v.lines) (sym c.self.view_is) ∙ length-map c.self.inside.lines.items (λ l. l.serials) in
+    let all : length (envelopes (length now.lines) c.args.mail) ≡ length now.lines =
+    length-all (length now.lines) c.args.mail c.in-All.wire c.in-All.is in
     c.len.ensures ∙ c.send_to_all.new.lines.ok.0 ∙ c.send_to_all.ensures.members ∙ sym lines ∙ sym all

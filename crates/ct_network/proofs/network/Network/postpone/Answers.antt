@@ -9,7 +9,8 @@ pub returns-clause-lines : goal.returns-clause-lines
 returns-clause-lines c =
     let lines = c.self.inside.lines.items in
     let line = c.index_mut-line.result.now in
-    let within : c.args.member - 1 < length lines = place lines c.args.self.now.lines c.args.member (ap (λ (v : NetworkView). v.lines) c.self.view_is) c.requires.member in
+    let within : c.args.member - 1 < length lines = place lines c.args.self.now.lines c.args.member
+    (ap (λ (v : NetworkView). v.lines) c.self.view_is) c.requires.member in
     let moved : c.join.new.self.serials ≡ put_last line.serials c.args.place =
     c.join.ensures.serials
     ∙ ap (λ ks. ks ++ slice_index_or c.as_slice.result.now c.args.place 0 ∷ []) c.leave.ensures.serials

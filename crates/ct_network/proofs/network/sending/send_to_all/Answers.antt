@@ -37,9 +37,11 @@ loop-i-preserved c =
       capacity = omega (arith, v.capacity, c.push.ensures.capacity);
       number = number;
       as_many = length-set c.loop-i.lines.items i new ∙ v.as_many;
-      done = join_more lines c.loop-i.lines.items i (length old) new v.as_many within v.done v.rest c.index_mut-line.result.now c.len.result c.index_mut-line.ensures.value c.join.ensures.serials (c.len.ensures ∙ omega (arith, number, c.args.sent.now.ok.0));
+      done = join_more lines c.loop-i.lines.items i (length old) new v.as_many within v.done v.rest c.index_mut-line.result.now c.len.result
+          c.index_mut-line.ensures.value c.join.ensures.serials (c.len.ensures ∙ omega (arith, number, c.args.sent.now.ok.0));
       rest = join_rest lines c.loop-i.lines.items i (length old) new v.as_many within v.done v.rest;
     }
 
 pub returns-clause-joined : goal.returns-clause-joined
-returns-clause-joined c = joined_all c.args.lines.now.items c.loop-i.lines.items (length c.args.sent.now.items) c.args.wire c.loop-i.invariant.as_many (λ k d h. c.loop-i.invariant.done k d (omega arith))
+returns-clause-joined c = joined_all c.args.lines.now.items c.loop-i.lines.items (length c.args.sent.now.items) c.args.wire
+    c.loop-i.invariant.as_many (λ k d h. c.loop-i.invariant.done k d (omega arith))

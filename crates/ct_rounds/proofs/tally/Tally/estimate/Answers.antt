@@ -15,10 +15,12 @@ pub returns-then-contains : goal.returns-then-contains
 returns-then-contains c =
     let i = c.self.inside in
     let there : has_member i.heard c.args.from ≡ true = sym c.contains.ensures.value ∙ c.if-contains.true in
-    rw (← c.self.view_is, c.new.ensures) (sym (ap (option_map (λ e. e.value)) (found i.estimates i.heard c.args.from ∙ ap (λ b. cond b (Some (heard_at i.estimates c.args.from)) None) there)))
+    rw (← c.self.view_is, c.new.ensures) (sym (ap (option_map (λ e. e.value))
+    (found i.estimates i.heard c.args.from ∙ ap (λ b. cond b (Some (heard_at i.estimates c.args.from)) None) there)))
 
 pub returns-else-contains : goal.returns-else-contains
 returns-else-contains c =
     let i = c.self.inside in
     let absent : has_member i.heard c.args.from ≡ false = sym c.contains.ensures.value ∙ c.if-contains.false in
-    rw (← c.self.view_is) (sym (ap (option_map (λ e. e.value)) (found i.estimates i.heard c.args.from ∙ ap (λ b. cond b (Some (heard_at i.estimates c.args.from)) None) absent)))
+    rw (← c.self.view_is) (sym (ap (option_map (λ e. e.value))
+    (found i.estimates i.heard c.args.from ∙ ap (λ b. cond b (Some (heard_at i.estimates c.args.from)) None) absent)))

@@ -14,7 +14,8 @@ pub returns-then-contains : goal.returns-then-contains
 returns-then-contains c =
     let i = c.self.inside in
     let there : has_member i.heard c.args.from ≡ true = sym c.contains.ensures.value ∙ c.if-contains.true in
-    rw (← c.self.view_is) (largest-in i.estimates c.args.from i.heard i.acked i.replied i.proposal c.in-Some.best (rw c.in-Some.is at c.self.invariant) there)
+    rw (← c.self.view_is) (largest-in i.estimates c.args.from i.heard i.acked i.replied i.proposal c.in-Some.best
+    (rw c.in-Some.is at c.self.invariant) there)
 
 pub returns-else-contains : goal.returns-else-contains
 returns-else-contains c =
@@ -26,4 +27,5 @@ pub returns-in-None : goal.returns-in-None
 returns-in-None c =
     let i = c.self.inside in
     let nobody = nobody-heard i.estimates i.heard i.acked i.replied (rw c.in-None.is at c.self.invariant) in
-    rw (← c.self.view_is) (largest-out i.estimates c.args.from i.heard i.acked i.replied i.proposal (ap (λ z. has_member z c.args.from) nobody))
+    rw (← c.self.view_is) (largest-out i.estimates c.args.from i.heard i.acked i.replied i.proposal
+    (ap (λ z. has_member z c.args.from) nobody))

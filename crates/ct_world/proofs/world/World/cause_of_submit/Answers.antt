@@ -10,17 +10,21 @@ pub returns-in-Err : goal.returns-in-Err
 returns-in-Err c = sym (cause-absent c.args.self.now.rehearsal (Submit c.args.member c.args.command.now) c.in-Err.refusal c.in-Err.ensures)
 
 pub returns-then-not-good : goal.returns-then-not-good
-returns-then-not-good c = sym (cause-submit-bad c.args.self.now.rehearsal c.args.member c.args.command.now c.in-Ok.ensures.lawful c.in-Ok.ensures.present (sym c.good.ensures ∙ c.if-not-good.true))
+returns-then-not-good c = sym (cause-submit-bad c.args.self.now.rehearsal c.args.member c.args.command.now c.in-Ok.ensures.lawful
+    c.in-Ok.ensures.present (sym c.good.ensures ∙ c.if-not-good.true))
 
 pub returns-then-seat-ge-MAX_SUBMISSIONS : goal.returns-then-seat-ge-MAX_SUBMISSIONS
 returns-then-seat-ge-MAX_SUBMISSIONS c =
     let count = c.in-Ok.ensures.sits.submitted in
-    sym (cause-submit-full c.args.self.now.rehearsal c.args.member c.args.command.now c.in-Ok.ensures.lawful c.in-Ok.ensures.present (sym c.good.ensures ∙ c.if-not-good.false) (omega (arith, c.if-seat-ge-MAX_SUBMISSIONS.true)))
+    sym (cause-submit-full c.args.self.now.rehearsal c.args.member c.args.command.now c.in-Ok.ensures.lawful c.in-Ok.ensures.present
+    (sym c.good.ensures ∙ c.if-not-good.false) (omega (arith, c.if-seat-ge-MAX_SUBMISSIONS.true)))
 
 pub returns : goal.returns
 returns c =
     let w = c.args.self.now.rehearsal in
     let count = c.in-Ok.ensures.sits.submitted in
-    let seats : c.len.result ≡ w.setting.members = c.len.ensures ∙ c.self.inside.seats.ok.0 ∙ c.self.invariant.world.seated ∙ ap (λ (v : WorldView). v.rehearsal.setting.members) c.self.view_is in
-    c.overflow.ensures ∙ ap (overflow w) seats ∙ sym (cause-submit-sends w c.args.member c.args.command.now c.in-Ok.ensures.lawful c.in-Ok.ensures.present (sym c.good.ensures ∙ c.if-not-good.false)
+    let seats : c.len.result ≡ w.setting.members = c.len.ensures ∙ c.self.inside.seats.ok.0 ∙ c.self.invariant.world.seated
+    ∙ ap (λ (v : WorldView). v.rehearsal.setting.members) c.self.view_is in
+    c.overflow.ensures ∙ ap (overflow w) seats ∙ sym (cause-submit-sends w c.args.member c.args.command.now c.in-Ok.ensures.lawful
+    c.in-Ok.ensures.present (sym c.good.ensures ∙ c.if-not-good.false)
     (omega (arith, c.if-seat-ge-MAX_SUBMISSIONS.false)))

@@ -13,14 +13,16 @@ use Rattle.ct_instances.specs.Kept.{Kept, has_room_open}
 use Rattle.ct_instances.specs.Steps.{opened}
 use Rattle.ct_world.specs.declared.seat.Seat.{Seat}
 use Rattle.ct_world.specs.Kept.{seat_of}
-use Rattle.ct_world.proofs.Insides.{rehearsal_in, IsPreparedIn, prepared_in, made_in, there_in, within_in, seat_in, done_in, kept_in, fields_in}
+use Rattle.ct_world.proofs.Insides.{rehearsal_in, IsPreparedIn, prepared_in, made_in, there_in, within_in, seat_in, done_in, kept_in}
+use Rattle.ct_world.proofs.Insides.{fields_in}
 use Rattle.ct_world.proofs.Proposing.{begun, can_begin, begin_number, begin_steps, begin_made}
 use Rattle.ct_world.proofs.world.World.commit_begin.Goals as goal
 use Rattle.ct_world.proofs.world.World.commit_begin.Goals.{After-push}
 
 pub add-requires : goal.add-requires
 add-requires c =
-    begin_number (rehearsal_in c.self.inside) (fields_in c.self.inside) (prepared_in c.self.inside c.args.self.now (Begin c.args.member) c.self.view_is c.self.invariant c.requires).world
+    begin_number (rehearsal_in c.self.inside) (fields_in c.self.inside)
+    (prepared_in c.self.inside c.args.self.now (Begin c.args.member) c.self.view_is c.self.invariant c.requires).world
 
 pub unwrap-prepared-requires : goal.unwrap-prepared-requires
 unwrap-prepared-requires c = there_in c.self.inside c.args.self.now (Begin c.args.member) c.take.result c.self.view_is c.requires
@@ -44,14 +46,16 @@ pub overflow_sub-member : goal.overflow_sub-member
 overflow_sub-member c = (prepared_in c.self.inside c.args.self.now (Begin c.args.member) c.self.view_is c.self.invariant c.requires).low
 
 pub index_mut-seat-requires : goal.index_mut-seat-requires
-index_mut-seat-requires c = within_in c.self.inside (Begin c.args.member) (prepared_in c.self.inside c.args.self.now (Begin c.args.member) c.self.view_is c.self.invariant c.requires)
+index_mut-seat-requires c = within_in c.self.inside (Begin c.args.member)
+    (prepared_in c.self.inside c.args.self.now (Begin c.args.member) c.self.view_is c.self.invariant c.requires)
 
 pub overflow_add-next : goal.overflow_add-next
 overflow_add-next c =
     let p = (prepared_in c.self.inside c.args.self.now (Begin c.args.member) c.self.view_is c.self.invariant c.requires) in
     let can = can_begin (rehearsal_in c.self.inside) c.args.member (fields_in c.self.inside) p in
     let here = seat_in c.self.inside (Begin c.args.member) c.index_mut-seat.result.now p c.index_mut-seat.ensures.value in
-    let last : c.last-next.result ≡ (seat_of c.self.inside.seats.items c.args.member).instances.last = c.last-next.ensures ∙ ap (λ (s : Seat). s.instances.last) here in
+    let last : c.last-next.result ≡ (seat_of c.self.inside.seats.items c.args.member).instances.last =
+    c.last-next.ensures ∙ ap (λ (s : Seat). s.instances.last) here in
     omega (arith, can.few)
 
 pub open-requires-clause-idle : goal.open-requires-clause-idle
@@ -74,7 +78,8 @@ pub begin-requires : goal.begin-requires
 begin-requires c =
     let p = (prepared_in c.self.inside c.args.self.now (Begin c.args.member) c.self.view_is c.self.invariant c.requires) in
     let here = seat_in c.self.inside (Begin c.args.member) c.index_mut-seat.result.now p c.index_mut-seat.ensures.value in
-    subst (λ (s : Seat). s.caster.instance < MAX_INSTANCES) (sym here) (can_begin (rehearsal_in c.self.inside) c.args.member (fields_in c.self.inside) p).few_begun
+    subst (λ (s : Seat). s.caster.instance < MAX_INSTANCES) (sym here)
+    (can_begin (rehearsal_in c.self.inside) c.args.member (fields_in c.self.inside) p).few_begun
 
 -- when the step has joined the record
 
@@ -108,7 +113,8 @@ invariant_of-self c =
     let opened_is = c.open.ensures ∙ ap (opened s.instances) (number c) in
     let seats =
     ap (λ (i : Kept). set c.self.inside.seats.items (c.args.member - 1) (record s { instances = i; caster = c.begin.new.self })) opened_is
-    ∙ ap (λ (k : Cast). set c.self.inside.seats.items (c.args.member - 1) (record s { instances = opened s.instances (length c.self.inside.book.values); caster = k })) c.begin.ensures
+    ∙ ap (λ (k : Cast). set c.self.inside.seats.items (c.args.member - 1)
+    (record s { instances = opened s.instances (length c.self.inside.book.values); caster = k })) c.begin.ensures
     ∙ ap (λ (x : Seat). set c.self.inside.seats.items (c.args.member - 1) (begun x (length c.self.inside.book.values))) (here c) in
     rw c.take.ensures.after (kept_in c.self.inside (Begin c.args.member) c.push.new.self.items _ (pushed c)
     (begin_steps (rehearsal_in c.self.inside) c.args.member (fields_in c.self.inside) _ (before c) seats refl refl
@@ -117,6 +123,8 @@ invariant_of-self c =
 pub returns-clause-done : goal.returns-clause-done
 returns-clause-done c =
     let p = before c in
-    done_in c.self.inside c.args.self.now (Begin c.args.member) (begin c.args.member (member (state_of (rehearsal_in c.self.inside)) c.args.member)) c.push.new.self.items 0 c.self.view_is p (pushed c)
+    done_in c.self.inside c.args.self.now (Begin c.args.member)
+    (begin c.args.member (member (state_of (rehearsal_in c.self.inside)) c.args.member)) c.push.new.self.items 0 c.self.view_is p
+    (pushed c)
     (begin_taken (rehearsal_in c.self.inside) c.args.member p.world.lawful p.ready.allowed).taken
     refl

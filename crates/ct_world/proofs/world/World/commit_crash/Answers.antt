@@ -12,7 +12,8 @@ pub overflow_sub-member : goal.overflow_sub-member
 overflow_sub-member c = (prepared_in c.self.inside c.args.self.now (Crash c.args.member) c.self.view_is c.self.invariant c.requires).low
 
 pub index_mut-seat-requires : goal.index_mut-seat-requires
-index_mut-seat-requires c = within_in c.self.inside (Crash c.args.member) (prepared_in c.self.inside c.args.self.now (Crash c.args.member) c.self.view_is c.self.invariant c.requires)
+index_mut-seat-requires c = within_in c.self.inside (Crash c.args.member)
+    (prepared_in c.self.inside c.args.self.now (Crash c.args.member) c.self.view_is c.self.invariant c.requires)
 
 before : (c : After-push) → IsPreparedIn c.self.inside (Crash c.args.member)
 before c = prepared_in c.self.inside c.args.self.now (Crash c.args.member) c.self.view_is c.self.invariant c.requires
@@ -33,6 +34,7 @@ invariant_of-self c =
 pub returns-clause-done : goal.returns-clause-done
 returns-clause-done c =
     let p = before c in
-    done_in c.self.inside c.args.self.now (Crash c.args.member) (crash_outcome (rehearsal_in c.self.inside) c.args.member) c.push.new.self.items 0 c.self.view_is p (pushed c)
+    done_in c.self.inside c.args.self.now (Crash c.args.member) (crash_outcome (rehearsal_in c.self.inside) c.args.member)
+    c.push.new.self.items 0 c.self.view_is p (pushed c)
     (crash_taken (rehearsal_in c.self.inside) c.args.member p.world.lawful p.ready.allowed)
     (crash_mail (rehearsal_in c.self.inside) c.args.member)

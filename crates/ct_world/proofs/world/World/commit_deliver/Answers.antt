@@ -11,7 +11,8 @@ use Rattle.ct_model.proofs.Record.Taken.{lawful-step}
 use Rattle.ct_instances.specs.Named.{value_at}
 use Rattle.ct_world.specs.declared.seat.Seat.{Seat}
 use Rattle.ct_world.specs.Kept.{seat_of, HasDeliverRoom}
-use Rattle.ct_world.proofs.Insides.{rehearsal_in, IsPreparedIn, prepared_in, made_in, there_in, within_in, seat_in, done_in, kept_in, fields_in}
+use Rattle.ct_world.proofs.Insides.{rehearsal_in, IsPreparedIn, prepared_in, made_in, there_in, within_in, seat_in, done_in, kept_in}
+use Rattle.ct_world.proofs.Insides.{fields_in}
 use Rattle.ct_world.specs.Seats.{content, with_delivery}
 use Rattle.ct_world.specs.Posting.{HasPosted, IsSet}
 use Rattle.ct_world.specs.Prepared.{batch_in}
@@ -49,7 +50,8 @@ pub overflow_sub-member : goal.overflow_sub-member
 overflow_sub-member c = (prepared_in c.self.inside c.args.self.now (Deliver c.args.member) c.self.view_is c.self.invariant c.requires).low
 
 pub index_mut-seat-requires : goal.index_mut-seat-requires
-index_mut-seat-requires c = within_in c.self.inside (Deliver c.args.member) (prepared_in c.self.inside c.args.self.now (Deliver c.args.member) c.self.view_is c.self.invariant c.requires)
+index_mut-seat-requires c = within_in c.self.inside (Deliver c.args.member)
+    (prepared_in c.self.inside c.args.self.now (Deliver c.args.member) c.self.view_is c.self.invariant c.requires)
 
 pub unwrap-requires : goal.unwrap-requires
 unwrap-requires c =
@@ -87,7 +89,8 @@ pub deliver-requires-clause-open : goal.deliver-requires-clause-open
 deliver-requires-clause-open c =
     let p = prepared_in c.self.inside c.args.self.now (Deliver c.args.member) c.self.view_is c.self.invariant c.requires in
     let here = seat_in c.self.inside (Deliver c.args.member) c.index_mut-seat.result.now p c.index_mut-seat.ensures.value in
-    ap (λ (s : Seat). is_some s.instances.part) here ∙ (prepared_due (rehearsal_in c.self.inside) c.args.member (fields_in c.self.inside) p).is_open
+    ap (λ (s : Seat). is_some s.instances.part) here ∙ (prepared_due (rehearsal_in c.self.inside) c.args.member (fields_in c.self.inside)
+    p).is_open
 
 -- when the step has joined the record
 
@@ -127,7 +130,9 @@ pub returns-clause-done : goal.returns-clause-done
 returns-clause-done c =
     let p = before c in
     let step = deliver_taken (rehearsal_in c.self.inside) c.args.member p.world.lawful p.ready.allowed in
-    done_in c.self.inside c.args.self.now (Deliver c.args.member) (deliver (member (state_of (rehearsal_in c.self.inside)) c.args.member) step.value) c.push.new.self.items 0 c.self.view_is p (pushed c) step.taken refl
+    done_in c.self.inside c.args.self.now (Deliver c.args.member)
+    (deliver (member (state_of (rehearsal_in c.self.inside)) c.args.member) step.value) c.push.new.self.items 0 c.self.view_is p
+    (pushed c) step.taken refl
 
 pub returns-clause-posted : goal.returns-clause-posted
 returns-clause-posted c =
@@ -139,5 +144,7 @@ returns-clause-posted c =
     c.in_ok-receipt.ensures.ok in
     let posted : HasPosted c.args.board.now w (extended w (Deliver c.args.member)) c.in_ok-receipt.receipt = has_posted c.args.board.now w
     (Deliver c.args.member) (batch_in c.unwrap-prepared.result) c.in_ok-receipt.receipt law (room c).posting set in
-    let new : HasPosted c.args.board.now w (record w { steps = c.push.new.self.items }) c.in_ok-receipt.receipt = subst (λ steps. HasPosted c.args.board.now w (record w { steps = steps }) c.in_ok-receipt.receipt) (sym (pushed c)) posted in
-    subst (λ (x : WorldView). HasPosted c.args.board.now x.rehearsal (record w { steps = c.push.new.self.items }) c.in_ok-receipt.receipt) c.self.view_is new
+    let new : HasPosted c.args.board.now w (record w { steps = c.push.new.self.items }) c.in_ok-receipt.receipt =
+    subst (λ steps. HasPosted c.args.board.now w (record w { steps = steps }) c.in_ok-receipt.receipt) (sym (pushed c)) posted in
+    subst (λ (x : WorldView). HasPosted c.args.board.now x.rehearsal (record w { steps = c.push.new.self.items }) c.in_ok-receipt.receipt)
+    c.self.view_is new

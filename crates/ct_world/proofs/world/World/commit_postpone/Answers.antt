@@ -22,10 +22,12 @@ unwrap-place-requires c =
     c.unwrap-prepared.result m
 
 pub postpone-requires-clause-room : goal.postpone-requires-clause-room
-postpone-requires-clause-room c = (prepared_in c.self.inside c.args.self.now (Postpone c.args.member c.args.serial) c.self.view_is c.self.invariant c.requires).ready.for_sending
+postpone-requires-clause-room c = (prepared_in c.self.inside c.args.self.now (Postpone c.args.member c.args.serial) c.self.view_is
+    c.self.invariant c.requires).ready.for_sending
 
 pub postpone-requires-clause-member : goal.postpone-requires-clause-member
-postpone-requires-clause-member c = let p = prepared_in c.self.inside c.args.self.now (Postpone c.args.member c.args.serial) c.self.view_is c.self.invariant c.requires in lined_member (rehearsal_in c.self.inside) (fields_in c.self.inside) c.args.member p.world p.in_group
+postpone-requires-clause-member c = let p = prepared_in c.self.inside c.args.self.now (Postpone c.args.member c.args.serial) c.self.view_is
+    c.self.invariant c.requires in lined_member (rehearsal_in c.self.inside) (fields_in c.self.inside) c.args.member p.world p.in_group
 
 pub postpone-requires-clause-there : goal.postpone-requires-clause-there
 postpone-requires-clause-there c =
@@ -45,7 +47,8 @@ pushed c =
     let ok : is_ok c.push.result ≡ true = c.push.ensures.succeeds (omega (arith, (before c).ready.for_step)) in
     rw ok at c.push.ensures.items
 
-put_last_in : (c : After-push) → c.postpone.new.self.lines ≡ set c.self.inside.network.lines (c.args.member - 1) (filter (λ other. not (other == c.args.serial)) (line_at c.self.inside.network.lines c.args.member) ++ c.args.serial ∷ [])
+put_last_in : (c : After-push) → c.postpone.new.self.lines ≡ set c.self.inside.network.lines (c.args.member - 1)
+    (filter (λ other. not (other == c.args.serial)) (line_at c.self.inside.network.lines c.args.member) ++ c.args.serial ∷ [])
 put_last_in c =
     let p = before c in
     let line = line_at c.self.inside.network.lines c.args.member in
@@ -67,6 +70,7 @@ invariant_of-self c =
 pub returns-clause-done : goal.returns-clause-done
 returns-clause-done c =
     let p = before c in
-    done_in c.self.inside c.args.self.now (Postpone c.args.member c.args.serial) (postpone_outcome (rehearsal_in c.self.inside) c.args.member) c.push.new.self.items 0 c.self.view_is p (pushed c)
+    done_in c.self.inside c.args.self.now (Postpone c.args.member c.args.serial)
+    (postpone_outcome (rehearsal_in c.self.inside) c.args.member) c.push.new.self.items 0 c.self.view_is p (pushed c)
     (postpone_taken (rehearsal_in c.self.inside) c.args.member c.args.serial p.world.lawful p.ready.allowed)
     (postpone_mail (rehearsal_in c.self.inside) c.args.member)

@@ -7,8 +7,10 @@ use Rattle.ct_instances.proofs.Named.{named_sender, named_wire}
 use Rattle.ct_world.specs.declared.seat.Seat.{Seat}
 use Rattle.ct_world.specs.Seats.{CanReceive, HasReceived, passed_on}
 use Rattle.ct_world.specs.Kept.{seat_of}
-use Rattle.ct_world.proofs.Insides.{rehearsal_in, IsPreparedIn, prepared_in, made_in, there_in, within_in, seat_in, done_in, kept_in, fields_in}
-use Rattle.ct_world.proofs.Receiving.{awaited_in, few_posted, left_lined, number_posted, received_taken, receive_steps, receive_placed, receive_made}
+use Rattle.ct_world.proofs.Insides.{rehearsal_in, IsPreparedIn, prepared_in, made_in, there_in, within_in, seat_in, done_in, kept_in}
+use Rattle.ct_world.proofs.Insides.{fields_in}
+use Rattle.ct_world.proofs.Receiving.{awaited_in, few_posted, left_lined, number_posted, received_taken, receive_steps, receive_placed}
+use Rattle.ct_world.proofs.Receiving.{receive_made}
 use Rattle.ct_world.proofs.Waits.{IsAwaited, awaited-some, lined_member}
 use Rattle.ct_world.proofs.Places.{IsWithout, placed_in}
 use Rattle.ct_world.proofs.world.World.commit_receive.Goals as goal
@@ -26,10 +28,12 @@ unwrap-place-requires c =
     c.unwrap-prepared.result m
 
 pub overflow_sub-member : goal.overflow_sub-member
-overflow_sub-member c = (prepared_in c.self.inside c.args.self.now (Receive c.args.member c.args.serial) c.self.view_is c.self.invariant c.requires).low
+overflow_sub-member c = (prepared_in c.self.inside c.args.self.now (Receive c.args.member c.args.serial) c.self.view_is c.self.invariant
+    c.requires).low
 
 pub index_mut-seat-requires : goal.index_mut-seat-requires
-index_mut-seat-requires c = within_in c.self.inside (Receive c.args.member c.args.serial) (prepared_in c.self.inside c.args.self.now (Receive c.args.member c.args.serial) c.self.view_is c.self.invariant c.requires)
+index_mut-seat-requires c = within_in c.self.inside (Receive c.args.member c.args.serial)
+    (prepared_in c.self.inside c.args.self.now (Receive c.args.member c.args.serial) c.self.view_is c.self.invariant c.requires)
 
 pub receive-mail-requires-clause-room : goal.receive-mail-requires-clause-room
 receive-mail-requires-clause-room c =
@@ -46,12 +50,14 @@ pub receive-mail-requires-clause-sender : goal.receive-mail-requires-clause-send
 receive-mail-requires-clause-sender c =
     let p = prepared_in c.self.inside c.args.self.now (Receive c.args.member c.args.serial) c.self.view_is c.self.invariant c.requires in
     let a = awaited_in c.self.inside c.args.member c.args.serial c.in-Some.envelope p c.in-Some.ensures in
-    named_sender c.self.inside.book.values c.in-Some.envelope.wire a.envelope.wire (named_wire c.self.inside.book.values c.in-Some.envelope a.envelope a.names) a.somebody
+    named_sender c.self.inside.book.values c.in-Some.envelope.wire a.envelope.wire
+    (named_wire c.self.inside.book.values c.in-Some.envelope a.envelope a.names) a.somebody
 
 pub unreachable-requires : goal.unreachable-requires
 unreachable-requires c =
     let p = prepared_in c.self.inside c.args.self.now (Receive c.args.member c.args.serial) c.self.view_is c.self.invariant c.requires in
-    awaited-some (rehearsal_in c.self.inside) (fields_in c.self.inside) c.args.member c.args.serial p.world (receive_waits (rehearsal_in c.self.inside) c.args.member c.args.serial p.ready.allowed) c.in-None.ensures
+    awaited-some (rehearsal_in c.self.inside) (fields_in c.self.inside) c.args.member c.args.serial p.world
+    (receive_waits (rehearsal_in c.self.inside) c.args.member c.args.serial p.ready.allowed) c.in-None.ensures
 
 pub leave-requires-clause-member : goal.leave-requires-clause-member
 leave-requires-clause-member c =
@@ -80,8 +86,10 @@ post-sent-requires-clause-few c =
     let here = seat_in c.self.inside (Receive c.args.member c.args.serial) c.index_mut-seat.result.now p c.index_mut-seat.ensures.value in
     let mail = c.receive-mail.ensures.mail ∙ ap (λ (s : Seat). passed_on c.self.inside.group s.relay c.in-Some.envelope.wire) here in
     let left = remove (line_at c.self.inside.network.lines c.args.member) c.unwrap-place.result in
-    let lined = left_lined c.self.inside.network.lines c.leave.new.self.lines c.self.inside.group (c.args.member - 1) left c.leave.ensures.lines p.world.lined in
-    few_posted (rehearsal_in c.self.inside) c.args.member c.args.serial (fields_in c.self.inside) c.in-Some.envelope p a c.receive-mail.result _ c.leave.new.self.sent mail lined c.leave.ensures.sent
+    let lined = left_lined c.self.inside.network.lines c.leave.new.self.lines c.self.inside.group (c.args.member - 1) left
+    c.leave.ensures.lines p.world.lined in
+    few_posted (rehearsal_in c.self.inside) c.args.member c.args.serial (fields_in c.self.inside) c.in-Some.envelope p a
+    c.receive-mail.result _ c.leave.new.self.sent mail lined c.leave.ensures.sent
 
 before : (c : After-push) → IsPreparedIn c.self.inside (Receive c.args.member c.args.serial)
 before c = prepared_in c.self.inside c.args.self.now (Receive c.args.member c.args.serial) c.self.view_is c.self.invariant c.requires
@@ -101,7 +109,8 @@ here_left c =
     placed_in (rehearsal_in c.self.inside) (fields_in c.self.inside) c.args.member c.args.serial c.unwrap-place.result (before c).world
     (before c).in_group room.placed
 
-mail_is : (c : After-push) → c.receive-mail.result ≡ passed_on c.self.inside.group (seat_of c.self.inside.seats.items c.args.member).relay c.in-Some.envelope.wire
+mail_is : (c : After-push) → c.receive-mail.result ≡ passed_on c.self.inside.group (seat_of c.self.inside.seats.items c.args.member).relay
+    c.in-Some.envelope.wire
 mail_is c = c.receive-mail.ensures.mail ∙ ap (λ (s : Seat). passed_on c.self.inside.group s.relay c.in-Some.envelope.wire) (here c)
 
 pushed : (c : After-push) → c.push.new.self.items ≡ c.self.inside.record.items ++ Receive c.args.member c.args.serial ∷ []
@@ -112,8 +121,10 @@ pushed c =
 pub invariant_of-self : goal.invariant_of-self
 invariant_of-self c =
     rw c.take.ensures.after (kept_in c.self.inside (Receive c.args.member c.args.serial) c.push.new.self.items _ (pushed c)
-    (receive_steps (rehearsal_in c.self.inside) c.args.member c.args.serial (fields_in c.self.inside) c.in-Some.envelope (before c) (carried c) _ c.receive-mail.new.self c.receive-mail.result c.leave.new.self (record {
-      received = subst (λ (s : Seat). HasReceived s c.in-Some.envelope.wire c.receive-mail.new.self) (here c) c.receive-mail.ensures.received;
+    (receive_steps (rehearsal_in c.self.inside) c.args.member c.args.serial (fields_in c.self.inside) c.in-Some.envelope (before c)
+    (carried c) _ c.receive-mail.new.self c.receive-mail.result c.leave.new.self (record {
+      received = subst (λ (s : Seat). HasReceived s c.in-Some.envelope.wire c.receive-mail.new.self) (here c)
+          c.receive-mail.ensures.received;
       mail_is = mail_is c;
       lines = c.leave.ensures.lines ∙ ap (set c.self.inside.network.lines (c.args.member - 1)) (here_left c).rest;
       sent = c.leave.ensures.sent;
@@ -128,7 +139,10 @@ returns-clause-done c =
     let a = carried c in
     let w = rehearsal_in c.self.inside in
     let left = remove (line_at c.self.inside.network.lines c.args.member) c.unwrap-place.result in
-    let lined = left_lined c.self.inside.network.lines c.leave.new.self.lines c.self.inside.group (c.args.member - 1) left c.leave.ensures.lines p.world.lined in
-    done_in c.self.inside c.args.self.now (Receive c.args.member c.args.serial) (receive_outcome w c.args.member a.envelope.wire) c.push.new.self.items c.post-sent.result c.self.view_is p (pushed c)
+    let lined = left_lined c.self.inside.network.lines c.leave.new.self.lines c.self.inside.group (c.args.member - 1) left
+    c.leave.ensures.lines p.world.lined in
+    done_in c.self.inside c.args.self.now (Receive c.args.member c.args.serial) (receive_outcome w c.args.member a.envelope.wire)
+    c.push.new.self.items c.post-sent.result c.self.view_is p (pushed c)
     (received_taken w c.args.member c.args.serial (fields_in c.self.inside) c.in-Some.envelope p a)
-    (number_posted w c.args.member c.args.serial (fields_in c.self.inside) c.in-Some.envelope p a c.receive-mail.result _ (mail_is c) lined ∙ sym c.post-sent.ensures.number)
+    (number_posted w c.args.member c.args.serial (fields_in c.self.inside) c.in-Some.envelope p a c.receive-mail.result _ (mail_is c) lined
+    ∙ sym c.post-sent.ensures.number)

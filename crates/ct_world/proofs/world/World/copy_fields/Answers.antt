@@ -18,7 +18,8 @@ copied c = record {
 
 pub invariant_of-result : goal.invariant_of-result
 invariant_of-result c = record {
-  world = subst (λ steps. IsWorld (record (rehearsal_in c.self.inside) { steps = steps }) (copied c)) (sym (c.in_ok-from_slice.ensures.items ∙ c.deref.ensures.value))
+  world = subst (λ steps. IsWorld (record (rehearsal_in c.self.inside) { steps = steps }) (copied c))
+      (sym (c.in_ok-from_slice.ensures.items ∙ c.deref.ensures.value))
       (world-copied (rehearsal_in c.self.inside) (fields_in c.self.inside) (copied c) c.self.invariant.world c.in_ok-copy-2.ensures
       (subst (λ seats. AreSameSeats seats c.in_ok-copy_seats.field-0.items) c.deref-2.ensures.value c.in_ok-copy_seats.ensures)
       c.in_ok-copy.ensures.sent c.in_ok-copy.ensures.lines);

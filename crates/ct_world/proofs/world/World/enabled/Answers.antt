@@ -12,4 +12,5 @@ returns-in-None-clause-allowed c =
     (sym c.in-None.ensures)
 
 pub returns-in-Some-clause-all_allowed : goal.returns-in-Some-clause-all_allowed
-returns-in-Some-clause-all_allowed c = λ allowed. some-none c.in-Some.refusal (sym (allowed-free c.args.self.now.rehearsal c.args.step.now allowed) ∙ sym c.in-Some.ensures)
+returns-in-Some-clause-all_allowed c = λ allowed. some-none c.in-Some.refusal
+    (sym (allowed-free c.args.self.now.rehearsal c.args.step.now allowed) ∙ sym c.in-Some.ensures)

@@ -29,7 +29,8 @@ unreachable-requires c =
     let world = world_seen c.self.inside c.args.self.now c.self.view_is c.self.invariant in
     let stands : place_of c.args.serial (line_of w c.args.member) ≡ Some c.in-Some.place =
     sym (found_in w (fields_in c.self.inside) c.args.member c.args.serial world c.in-Ok.ensures.present.in_group) ∙ sym c.in-Some.ensures in
-    awaited-some w (fields_in c.self.inside) c.args.member c.args.serial world (stands-there c.args.serial c.in-Some.place (line_of w c.args.member) stands) c.in-None.ensures
+    awaited-some w (fields_in c.self.inside) c.args.member c.args.serial world
+    (stands-there c.args.serial c.in-Some.place (line_of w c.args.member) stands) c.in-None.ensures
 
 pub returns-then-passes_on : goal.returns-then-passes_on
 returns-then-passes_on c =
@@ -42,7 +43,8 @@ returns-then-passes_on c =
     let group = ap (λ (v : WorldView). v.rehearsal.setting.members) c.self.view_is in
     let seats : c.len.result ≡ w.setting.members = c.len.ensures ∙ c.self.inside.seats.ok.0 ∙ world.seated in
     unless-found w (Receive c.args.member c.args.serial) c.overflow.result (Some c.in-Some.place) c.unless.result
-    (cause_by w (fields_in c.self.inside) c.args.member c.args.serial c.self.inside.group c.in-Ok.seat.now c.in-Some-envelope.envelope true world actor group waits c.in-Some-envelope.ensures (sym c.passes_on-passes_on.ensures ∙ c.if-passes_on.true)
+    (cause_by w (fields_in c.self.inside) c.args.member c.args.serial c.self.inside.group c.in-Ok.seat.now c.in-Some-envelope.envelope true
+    world actor group waits c.in-Some-envelope.ensures (sym c.passes_on-passes_on.ensures ∙ c.if-passes_on.true)
     ∙ sym (c.overflow.ensures ∙ ap (overflow w) seats))
     stands c.unless.ensures
 
@@ -57,6 +59,7 @@ returns-else-passes_on c =
     let group = ap (λ (v : WorldView). v.rehearsal.setting.members) c.self.view_is in
     unless-found w (Receive c.args.member c.args.serial) c.overflow-else-passes_on.result (Some c.in-Some.place)
     c.unless-else-passes_on.result
-    (cause_by w (fields_in c.self.inside) c.args.member c.args.serial c.self.inside.group c.in-Ok.seat.now c.in-Some-envelope.envelope false world actor group waits c.in-Some-envelope.ensures (sym c.passes_on-passes_on.ensures ∙ c.if-passes_on.false)
+    (cause_by w (fields_in c.self.inside) c.args.member c.args.serial c.self.inside.group c.in-Ok.seat.now c.in-Some-envelope.envelope false
+    world actor group waits c.in-Some-envelope.ensures (sym c.passes_on-passes_on.ensures ∙ c.if-passes_on.false)
     ∙ sym c.overflow-else-passes_on.ensures)
     stands c.unless-else-passes_on.ensures

@@ -10,5 +10,6 @@ returns c =
     let w = c.args.self.now.rehearsal in
     let sits = c.in_ok-seat.ensures.seat in
     c.last_decided.ensures
-    ∙ last_decided-is (values_of (state_of w)) c.in_ok-seat.seat.now.instances (member_of w c.args.member).got sits.keeps.instances.decisions
+    ∙ last_decided-is (values_of (state_of w)) c.in_ok-seat.seat.now.instances (member_of w c.args.member).got
+    sits.keeps.instances.decisions
     ∙ if_this w c.args.member _ sits.in_group

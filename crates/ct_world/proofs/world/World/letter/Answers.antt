@@ -12,11 +12,13 @@ pub returns-in-Some : goal.returns-in-Some
 returns-in-Some c =
     ap Some c.without_value.ensures
     ∙ ap (option_map without_value) c.in-Some.ensures
-    ∙ without_value_at c.self.inside.book.values c.self.inside.network.sent (state_of (rehearsal_in c.self.inside)).sent c.args.serial c.self.invariant.world.sent
+    ∙ without_value_at c.self.inside.book.values c.self.inside.network.sent (state_of (rehearsal_in c.self.inside)).sent c.args.serial
+    c.self.invariant.world.sent
     ∙ ap (λ (v : WorldView). option_map (without_value {V = Value}) (at_serial (state_of v.rehearsal).sent c.args.serial)) c.self.view_is
 
 pub returns-in-None : goal.returns-in-None
 returns-in-None c =
     ap (option_map without_value) c.in-None.ensures
-    ∙ without_value_at c.self.inside.book.values c.self.inside.network.sent (state_of (rehearsal_in c.self.inside)).sent c.args.serial c.self.invariant.world.sent
+    ∙ without_value_at c.self.inside.book.values c.self.inside.network.sent (state_of (rehearsal_in c.self.inside)).sent c.args.serial
+    c.self.invariant.world.sent
     ∙ ap (λ (v : WorldView). option_map (without_value {V = Value}) (at_serial (state_of v.rehearsal).sent c.args.serial)) c.self.view_is

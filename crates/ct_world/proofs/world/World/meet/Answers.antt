@@ -24,16 +24,21 @@ loop-place-preserved c =
       batches_read = look.read ∙ old.batches_read;
       batches_told = look.told ∙ old.batches_told;
       keeps = λ place x knows. look.keeps place x (old.keeps place x knows);
-      known = finds_more c.args.self.now.rehearsal c.loop-place.watcher.notes c.look.new.self.notes c.loop-place.place c.in-Some.batch.now c.unwrap-messages.result.now
-          (subst (λ steps. run c.args.self.now.rehearsal.setting steps ≡ Some (state_of c.args.self.now.rehearsal)) c.record.ensures.value c.record.ensures.runs)
-          (ap (λ list. slice_get list c.loop-place.place) (sym c.foremost-first.ensures.value) ∙ sym c.batch_at.ensures ∙ ap (option_map (λ list. list.now)) c.unwrap-messages.ensures)
+      known = finds_more c.args.self.now.rehearsal c.loop-place.watcher.notes c.look.new.self.notes c.loop-place.place c.in-Some.batch.now
+          c.unwrap-messages.result.now
+          (subst (λ steps. run c.args.self.now.rehearsal.setting steps ≡ Some (state_of c.args.self.now.rehearsal)) c.record.ensures.value
+          c.record.ensures.runs)
+          (ap (λ list. slice_get list c.loop-place.place) (sym c.foremost-first.ensures.value) ∙ sym c.batch_at.ensures
+          ∙ ap (option_map (λ list. list.now)) c.unwrap-messages.ensures)
           (c.if-is_same.ensures.0 refl) old.known look.keeps look.known;
     }
 
 pub tell-requires-clause-known : goal.tell-requires-clause-known
 tell-requires-clause-known c =
     let old = c.loop-place.invariant in
-    let posted : c.batches-posted.result ≡ length (order (state_of c.args.self.now.rehearsal)) = c.batches-posted.ensures ∙ ap length c.foremost-first.ensures.value ∙ length-map (order (state_of c.args.self.now.rehearsal)) (λ (b : Batch). b.messages) in
+    let posted : c.batches-posted.result ≡ length (order (state_of c.args.self.now.rehearsal)) =
+    c.batches-posted.ensures ∙ ap length c.foremost-first.ensures.value
+    ∙ length-map (order (state_of c.args.self.now.rehearsal)) (λ (b : Batch). b.messages) in
     let found = is_met c.args.self.now.rehearsal c.loop-place.watcher c.loop-place.place
     (omega (arith, posted, c.loop-place-test.false)) old.known
     (omega (arith, posted, old.read, c.read.ensures.number, c.if-posted-read.false))
@@ -43,7 +48,8 @@ tell-requires-clause-known c =
 -- when the watcher was told
 
 posted : (c : After-tell) → c.batches-posted.result ≡ length (order (state_of c.args.self.now.rehearsal))
-posted c = c.batches-posted.ensures ∙ ap length c.foremost-first.ensures.value ∙ length-map (order (state_of c.args.self.now.rehearsal)) (λ (b : Batch). b.messages)
+posted c = c.batches-posted.ensures ∙ ap length c.foremost-first.ensures.value
+    ∙ length-map (order (state_of c.args.self.now.rehearsal)) (λ (b : Batch). b.messages)
 
 found : (c : After-tell) → IsMet (order (state_of c.args.self.now.rehearsal)) c.loop-place.watcher
 found c =
@@ -54,10 +60,12 @@ found c =
     (omega (arith, posted c, old.told, c.told.ensures.number, c.if-posted-told.false))
 
 pub returns-clause-read : goal.returns-clause-read
-returns-clause-read c = subst (λ list. IsPrefix list (order (state_of c.args.self.now.rehearsal))) c.loop-place.invariant.batches_read (found c).read
+returns-clause-read c = subst (λ list. IsPrefix list (order (state_of c.args.self.now.rehearsal))) c.loop-place.invariant.batches_read
+    (found c).read
 
 pub returns-clause-told : goal.returns-clause-told
-returns-clause-told c = subst (λ list. IsPrefix list (order (state_of c.args.self.now.rehearsal))) c.loop-place.invariant.batches_told (found c).told
+returns-clause-told c = subst (λ list. IsPrefix list (order (state_of c.args.self.now.rehearsal))) c.loop-place.invariant.batches_told
+    (found c).told
 
 pub returns-clause-tells : goal.returns-clause-tells
 returns-clause-tells c =

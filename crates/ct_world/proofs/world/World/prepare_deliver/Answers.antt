@@ -13,16 +13,19 @@ use Rattle.ct_world.proofs.Delivering.{number_at, due_at, value_there, deliver_r
 use Rattle.ct_world.proofs.world.World.prepare_deliver.Goals as goal
 
 pub overflow_sub-member : goal.overflow_sub-member
-overflow_sub-member c = (allowed_in c.self.inside c.args.self.now (Deliver c.args.member) c.self.view_is c.self.invariant c.requires.allowed).low
+overflow_sub-member c = (allowed_in c.self.inside c.args.self.now (Deliver c.args.member) c.self.view_is c.self.invariant
+    c.requires.allowed).low
 
 pub index_mut-seat-requires : goal.index_mut-seat-requires
-index_mut-seat-requires c = in_vec c.self.inside (Deliver c.args.member) (allowed_in c.self.inside c.args.self.now (Deliver c.args.member) c.self.view_is c.self.invariant c.requires.allowed)
+index_mut-seat-requires c = in_vec c.self.inside (Deliver c.args.member)
+    (allowed_in c.self.inside c.args.self.now (Deliver c.args.member) c.self.view_is c.self.invariant c.requires.allowed)
 
 pub unwrap-number-requires : goal.unwrap-number-requires
 unwrap-number-requires c =
     let p = allowed_in c.self.inside c.args.self.now (Deliver c.args.member) c.self.view_is c.self.invariant c.requires.allowed in
     let here = seat_at c.self.inside (Deliver c.args.member) c.index_mut-seat.result.now p c.index_mut-seat.ensures.value in
-    ap is_some (number_at (seat_of c.self.inside.seats.items c.args.member) c.index_mut-seat.result.now c.last.result c.decided.result here c.last.ensures c.decided.ensures)
+    ap is_some (number_at (seat_of c.self.inside.seats.items c.args.member) c.index_mut-seat.result.now c.last.result c.decided.result here
+    c.last.ensures c.decided.ensures)
     ∙ (due_at (rehearsal_in c.self.inside) c.args.member (fields_in c.self.inside) p).decided_there
 
 pub unwrap-value-requires : goal.unwrap-value-requires
@@ -40,7 +43,8 @@ invariant_of-self-in_err-prepare_deliver c =
     let p = allowed_in c.self.inside c.args.self.now (Deliver c.args.member) c.self.view_is c.self.invariant c.requires.allowed in
     let here = seat_at c.self.inside (Deliver c.args.member) c.index_mut-seat.result.now p c.index_mut-seat.ensures.value in
     unprepared_in c.self.inside c.args.self.now c.reserve.new.steps.items _ c.self.view_is c.requires.none c.in_ok-reserve.ensures.record
-    (roomier_in c.self.inside (Deliver c.args.member) c.index_mut-seat.result.now c.prepare_deliver.new.self _ p here c.in_err-prepare_deliver.ensures.same refl c.in_ok-reserve.ensures.sent c.in_ok-reserve.ensures.lines refl)
+    (roomier_in c.self.inside (Deliver c.args.member) c.index_mut-seat.result.now c.prepare_deliver.new.self _ p here
+    c.in_err-prepare_deliver.ensures.same refl c.in_ok-reserve.ensures.sent c.in_ok-reserve.ensures.lines refl)
 
 pub invariant_of-self-2 : goal.invariant_of-self-2
 invariant_of-self-2 c =
@@ -57,7 +61,8 @@ invariant_of-self-2 c =
     let posting = option_map (λ b. b.value) c.in_ok-batch.batch in
     ready_in c.self.inside (made.Deliver c.args.member c.unwrap-number.result c.in_ok-batch.batch) c.reserve.new.steps.items _
     c.in_ok-reserve.ensures.record
-    (roomier_in c.self.inside (Deliver c.args.member) c.index_mut-seat.result.now c.prepare_deliver.new.self _ p here c.in_ok-prepare_deliver.ensures.same refl c.in_ok-reserve.ensures.sent c.in_ok-reserve.ensures.lines refl)
+    (roomier_in c.self.inside (Deliver c.args.member) c.index_mut-seat.result.now c.prepare_deliver.new.self _ p here
+    c.in_ok-prepare_deliver.ensures.same refl c.in_ok-reserve.ensures.sent c.in_ok-reserve.ensures.lines refl)
     (record {
       ready = record {
         allowed = p.allowed;

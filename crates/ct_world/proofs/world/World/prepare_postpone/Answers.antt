@@ -13,7 +13,8 @@ invariant_of-self-2 c =
     let a = c.self.inside in
     let p = allowed_in a c.args.self.now (Postpone c.args.member c.args.serial) c.self.view_is c.self.invariant c.requires.allowed in
     ready_in a (made.Postpone c.args.member c.args.serial c.args.place) c.reserve.new.steps.items _ c.reserve.ensures.record
-    (world-roomier (rehearsal_in a) (fields_in a) _ p.world (roomier-network (rehearsal_in a) (fields_in a) _ refl c.reserve.ensures.sent c.reserve.ensures.lines refl))
+    (world-roomier (rehearsal_in a) (fields_in a) _ p.world (roomier-network (rehearsal_in a) (fields_in a) _ refl c.reserve.ensures.sent
+    c.reserve.ensures.lines refl))
     (record {
       ready = record {
         allowed = p.allowed;

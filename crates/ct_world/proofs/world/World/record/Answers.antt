@@ -10,9 +10,12 @@ use Rattle.ct_world.proofs.world.World.record.Goals as goal
 pub returns-clause-safe : goal.returns-clause-safe
 returns-clause-safe c =
     subst (λ (v : WorldView). IsSafe v.rehearsal.setting (state_of v.rehearsal)) c.self.view_is
-    (safe-run (rehearsal_in c.self.inside).setting (rehearsal_in c.self.inside).steps (state_of (rehearsal_in c.self.inside)) c.self.invariant.world.lawful.runs)
+    (safe-run (rehearsal_in c.self.inside).setting (rehearsal_in c.self.inside).steps (state_of (rehearsal_in c.self.inside))
+    c.self.invariant.world.lawful.runs)
 
 pub returns-clause-within : goal.returns-clause-within
 returns-clause-within c =
-    subst (λ steps. IsWithin c.args.self.now.rehearsal.cells (state_of c.args.self.now.rehearsal) (length steps)) (sym c.deref.ensures.value)
-    (subst (λ (v : WorldView). IsWithin v.rehearsal.cells (state_of v.rehearsal) (length c.self.inside.record.items)) c.self.view_is c.self.invariant.world.lawful.within)
+    subst (λ steps. IsWithin c.args.self.now.rehearsal.cells (state_of c.args.self.now.rehearsal) (length steps))
+    (sym c.deref.ensures.value)
+    (subst (λ (v : WorldView). IsWithin v.rehearsal.cells (state_of v.rehearsal) (length c.self.inside.record.items)) c.self.view_is
+    c.self.invariant.world.lawful.within)

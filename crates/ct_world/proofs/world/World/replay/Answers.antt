@@ -27,7 +27,8 @@ returns-in-Err-apply-clause-err c =
       within = c.loop-i-test.true;
       before = c.loop-i.invariant.allowed;
       refused = λ s e.
-          subst (λ t. IsRefusal (first_steps c.args.group c.args.cells steps i) t c.in-Err-apply.refusal) (get_or_from_slice_get steps i s no_step e)
+          subst (λ t. IsRefusal (first_steps c.args.group c.args.cells steps i) t c.in-Err-apply.refusal)
+          (get_or_from_slice_get steps i s no_step e)
           (subst (λ (v : WorldView). IsRefusal v.rehearsal (get_or steps i no_step) c.in-Err-apply.refusal) so_far h.refusal);
     })
 
@@ -39,7 +40,9 @@ loop-i-preserved c =
     let i = c.loop-i.i in
     let here : Step = get_or steps i no_step in
     let joined : c.apply.new.self.rehearsal ≡ first_steps c.args.group c.args.cells steps (i + 1) =
-    h.ok.joined ∙ ap (λ (v : WorldView). extended v.rehearsal here) so_far ∙ ap (λ l. record (first_steps c.args.group c.args.cells steps i) { steps = l }) (sym (take_more steps i no_step c.loop-i-test.true)) in
+    h.ok.joined ∙ ap (λ (v : WorldView). extended v.rehearsal here) so_far
+    ∙ ap (λ l. record (first_steps c.args.group c.args.cells steps i) { steps = l })
+    (sym (take_more steps i no_step c.loop-i-test.true)) in
     record {
       so_far = λ t. record { rehearsal = joined t; prepared = h.none t };
       allowed = λ j s b e. elim (cases_lt j i) [
@@ -47,6 +50,7 @@ loop-i-preserved c =
         | inr high ↦ (let same : i ≡ j = omega arith in
             let now : slice_get steps i ≡ Some s = subst (λ m. slice_get steps m ≡ Some s) (sym same) e in
             subst (λ m. cause (first_steps c.args.group c.args.cells steps m) s ≡ None) same
-            (ap (λ t. cause (first_steps c.args.group c.args.cells steps i) t) (sym (get_or_from_slice_get steps i s no_step now)) ∙ ap (λ (v : WorldView). cause v.rehearsal here) (sym so_far) ∙ h.allowed))
+            (ap (λ t. cause (first_steps c.args.group c.args.cells steps i) t) (sym (get_or_from_slice_get steps i s no_step now))
+            ∙ ap (λ (v : WorldView). cause v.rehearsal here) (sym so_far) ∙ h.allowed))
       ];
     }
