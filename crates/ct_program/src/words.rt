@@ -44,13 +44,13 @@ pub fn found_options(found: &ArgMatches<'_>) -> Option<FreeOptions>
     ensures range { IfSome result InRange }
 {
     Some(FreeOptions {
-        members: number(found, "members", 1, MAX_MEMBERS as u64)? as u8,
+        members: number(found, "members", 1, MAX_MEMBERS as u32)? as u8,
         turns: number(found, "turns", 0, 100_000)?,
         seed: number(found, "seed", 0, u32::MAX)?,
         rate: number(found, "rate", 0, 256)? as u16,
-        cells: number(found, "cells", 0, MAX_CELLS as u64)? as u16,
+        cells: number(found, "cells", 0, MAX_CELLS as u32)? as u16,
         submit: number(found, "submit", 0, 1000)? as u16,
-        crash: number(found, "crash", 0, MAX_MEMBERS as u64)? as u8,
+        crash: number(found, "crash", 0, MAX_MEMBERS as u32)? as u8,
         postpone: number(found, "postpone", 0, 1000)? as u16,
     })
 }
