@@ -188,12 +188,7 @@ fn what_a_coordinator_chose_it_keeps_without_its_ts(rt: HostRuntime) -> Result<(
     inbox.prepare(1)?;
     let mut consensus = gathering(group, &mut inbox);
     consensus.choose(&inbox, 1)?;
-    let nack = Wire::Nack {
-        instance: 1,
-        round: 1,
-        from: 2,
-    };
-    assert_eq!(rt; consensus.suspect(&inbox), Ok(Mail::One(2, nack)));
+    assert_eq!(rt; consensus.suspect(&inbox), Ok(Mail::One(2, nack(1, 2))));
     assert!(rt; consensus.round() < 10000);
     assert_eq!(rt; consensus.enter(), Err(Refusal::WrongPhase));
     inbox.note(&nack(1, 2));
@@ -357,19 +352,9 @@ fn estimates_proposals_and_decisions_carry_values(rt: HostRuntime) -> Result<(),
     assert_eq!(rt; estimate.value(), Some(value));
     assert_eq!(rt; proposal.value(), Some(value));
     assert_eq!(rt; decision.value(), Some(value));
-    assert_eq!(rt; Wire::Data(message).value(), None);
-    for wire in [
-        Wire::Ack {
-            instance: 1,
-            round: 2,
-            from: 3,
-        },
-        Wire::Nack {
-            instance: 1,
-            round: 2,
-            from: 3,
-        },
-    ] {
+    let data: Wire = Wire::Data(message);
+    assert_eq!(rt; data.value(), None);
+    for wire in [ack(2, 3), nack(2, 3)] {
         assert_eq!(rt; wire.value(), None);
     }
     Ok(())

@@ -1,7 +1,6 @@
 -- The ranges of the options of a walk.
-use Rattle.std.specs.Prelude.{◌≤◌, ℕ, Option}
+use Rattle.std.specs.Prelude.{◌≤◌, ℕ}
 use Rattle.ct_program.specs.FreeOptions.{InRange}
-use Rattle.ct_program.specs.declared.free_options.FreeOptions.{FreeOptions}
 use Rattle.ct_walk.specs.declared.options.WalkOptions.{WalkOptions}
 
 -- each option is in its range
