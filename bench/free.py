@@ -12,14 +12,13 @@ run, as `-- --submit 10 --crash 2`. A row for each number of members and each ra
     batches   batches posted, of a run
     rounds    the round that decided, of an instance that was decided
     suspects  suspicions, of such an instance
-    follows   steps of 100 of members that follow a step of another member
+    after     steps of 100 of members that come after a step of another member
     ms        median milliseconds of a run, the start of the program and its output with it
     turns/s   turns of members and scripts in a second, over all runs
 
 How busy the cores are is the caller's to choose: `taskset -c 0 bench/free.py` runs on one core.
 """
 import argparse
-import json
 import os
 import statistics
 import subprocess
@@ -30,7 +29,7 @@ import model
 
 HERE = os.path.dirname(os.path.abspath(__file__))
 CRATES = os.path.join(HERE, "..", "crates")
-FROM_OUTSIDE = ("submit", "crash", "postpone")   # steps that members don't take by themselves
+FROM_OUTSIDE = ("submit", "crash", "postpone", "lose", "repeat")   # steps that members don't take by themselves
 
 
 def numbers(text):
@@ -65,11 +64,11 @@ class Run:
     """What one record came to."""
 
     def __init__(self, record):
-        world = model.World(record["n"], record["cells"])
-        self.outside = self.suspicions = self.own = self.follows = 0
+        world, steps = model.read(record)
+        self.outside = self.suspicions = self.own = self.after = 0
         self.deciding = {}   # by instance: the round that decided first
         last = None
-        for step in record["steps"]:
+        for step in steps:
             name, p = step[:2]
             here, sent = world.members[p].open, world.sent()
             world.apply(*step)
@@ -80,7 +79,7 @@ class Run:
                 self.outside += 1
                 continue
             self.own += 1
-            self.follows += last not in (None, p)
+            self.after += last not in (None, p)
             last = p
         up = [member for member in world.members.values() if member.up]
         self.batches = world.posted()
@@ -96,7 +95,7 @@ def measure(options, given, members, rate):
         start = time.perf_counter()
         done = subprocess.run([str(word) for word in words] + given, stdout=subprocess.PIPE, check=True)
         seconds.append(time.perf_counter() - start)
-        runs.append(Run(json.loads(done.stdout)))
+        runs.append(Run(done.stdout))
     return runs, seconds
 
 
@@ -117,7 +116,7 @@ def row(options, members, rate, runs, seconds):
             each(sum(run.batches for run in runs), len(runs)),
             each(sum(sum(run.deciding.values()) for run in runs), decided),
             each(sum(run.suspicions for run in runs), decided),
-            share(sum(run.follows for run in runs), sum(run.own for run in runs)),
+            share(sum(run.after for run in runs), sum(run.own for run in runs)),
             f"{1000 * statistics.median(seconds):.1f}",
             f"{made / sum(seconds):.0f}")
 
@@ -127,7 +126,7 @@ def main():
     if options.cpu:
         os.sched_setaffinity(0, options.cpu)
     form = "{:>7} {:>4} {:>6} {:>5} {:>6} {:>5} {:>7} {:>6} {:>8} {:>7} {:>7} {:>8}"
-    print(form.format("members", "rate", "turns", "runs", "posted", "all", "batches", "rounds", "suspects", "follows",
+    print(form.format("members", "rate", "turns", "runs", "posted", "all", "batches", "rounds", "suspects", "after",
                       "ms", "turns/s"), flush=True)
     for rate in options.rate:
         for members in options.members:

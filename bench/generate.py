@@ -9,7 +9,8 @@ submission reserves them all, and submissions are spread over the record so that
 what is reserved never passes the limit; between them stand receipts (of
 duplicates too) and postponements. Lines grow where more is sent than received.
 The last serial that waits at a member still up is kept where no submission is
-left, so that a step is always allowed.
+left, so that a step is always allowed. With --lose and --repeat some envelopes are
+lost, and some that were lost or received wait again.
 
     python3 generate.py --members 5 --steps 100000 --seed 1 > record.json
 
@@ -18,13 +19,20 @@ distances, members take their steps in random order, and each suspects the
 coordinator of a round at random, or because it has crashed or is slow. For a
 while one member may receive seldom, or take its other steps seldom, so that it
 falls behind. Submissions come several at once, and so far apart that about 0.9
-envelopes are sent for each step. A line of counts goes to standard error.
+envelopes are sent for each step. --batch bounds proposals; with --pending many
+messages are pending at every member before the first instance; with --follow some
+members wait for the decision of an instance that enough others begin, and follow
+it. A line of counts goes to standard error.
 
     python3 generate.py --whole --members 5 --steps 100000 --seed 1 --crash 2 > record.json
+
+The record is one of version 3. --version writes an older one for comparison, where
+the options ask for nothing that is newer.
 """
 import argparse
 import random
 import sys
+from bisect import bisect_left, insort
 from collections import deque
 
 SUBMISSIONS = 65_535    # greatest number for each member
@@ -33,8 +41,10 @@ ROUNDS = 10_000         # greatest number of one instance
 ENVELOPES = 1_000_000   # greatest number sent in all
 STEPS = 1_000_000       # greatest number in a record
 CELLS = 1_024           # greatest number of cells
+BOUND = 1_048_560       # greatest bound on a proposal, that of records which don't name one
 REGISTERS = 16
 SENT_PER_STEP = 0.9     # what submissions aim at with --whole
+ORIGIN = SUBMISSIONS + 1   # with --whole a message is so many times its origin, and its number there
 
 
 def arguments():
@@ -52,6 +62,13 @@ def arguments():
     parser.add_argument("--mix", type=int, nargs=3, default=[1, 20, 4],
                         metavar=("SUBMIT", "RECEIVE", "POSTPONE"),
                         help="weights of the steps without --whole (default 1 20 4)")
+    parser.add_argument("--lose", type=int, default=0, metavar="PERCENT",
+                        help="chance that a step loses an envelope (default 0)")
+    parser.add_argument("--repeat", type=int, default=0, metavar="PERCENT",
+                        help="chance that a step repeats an envelope, half of them lost ones (default 0)")
+    parser.add_argument("--batch", type=int, default=BOUND, metavar="B",
+                        help=f"bound on a proposal, 1 to {BOUND} (default {BOUND})")
+    parser.add_argument("--version", type=int, default=3, choices=(1, 2, 3), help="version of the record (default 3)")
     whole = parser.add_argument_group("the whole algorithm")
     whole.add_argument("--whole", action="store_true", help="steps of consensus and atomic broadcast too")
     whole.add_argument("--instances", type=int, metavar="I",
@@ -66,6 +83,12 @@ def arguments():
                        help="submissions come 1 to B close together (default 8)")
     whole.add_argument("--waiting", type=int, default=40, metavar="W",
                        help="no submission while W envelopes wait on average at the members still up (default 40)")
+    whole.add_argument("--pending", type=int, default=0, metavar="P",
+                       help="begin no instance, and submit, until P messages are pending at every member that is up"
+                            " (default 0)")
+    whole.add_argument("--follow", type=int, default=0, metavar="PERCENT",
+                       help="chance that a member means to follow its next instance, and begins it only where fewer than"
+                            " a majority would without it (default 0)")
     options = parser.parse_args()
     check(parser, options)
     return options
@@ -80,12 +103,36 @@ def check(parser, options):
     crashes = (options.members - 1) // 2 if options.whole else options.members - 1
     limits = {"members": (1, 16), "steps": (0, STEPS), "depth": (1, ENVELOPES), "crash": (0, crashes),
               "cells": (0, CELLS), "instances": (0, INSTANCES), "suspect": (0, 100), "postpone": (0, 100),
-              "far": (0, 100), "burst": (1, SUBMISSIONS), "waiting": (1, ENVELOPES)}
+              "far": (0, 100), "burst": (1, SUBMISSIONS), "waiting": (1, ENVELOPES), "pending": (0, STEPS),
+              "lose": (0, 100), "repeat": (0, 100), "follow": (0, 100), "batch": (1, BOUND)}
     for name, (low, high) in limits.items():
         if not low <= getattr(options, name) <= high:
             parser.error(f"--{name} is {low} to {high}")
     if min(options.mix) < 0 or sum(options.mix) == 0:
         parser.error("--mix is three weights from 0, not all 0")
+    if options.version < 3 and options.batch != BOUND:
+        parser.error("--batch is for version 3")
+    if options.version < 3 and options.follow:
+        parser.error("--follow is for version 3")
+    if options.version < 2 and (options.lose or options.repeat):
+        parser.error("--lose and --repeat are for versions 2 and 3")
+
+
+class Gone:
+    """The serials that were sent to a member and don't wait there."""
+
+    def __init__(self):
+        self.lost, self.received = [], []
+
+    def __len__(self):
+        return len(self.lost) + len(self.received)
+
+    def take(self, below):
+        """One that was lost, or one that was received, each half the time where there are both."""
+        serials = self.lost if self.lost and (not self.received or below(2)) else self.received
+        place = below(len(serials))
+        serials[place], serials[-1] = serials[-1], serials[place]
+        return serials.pop()
 
 
 class Generator:
@@ -94,6 +141,7 @@ class Generator:
         self.random = random.Random(options.seed).random
         self.up = list(range(1, self.n + 1))
         self.lines = [deque() for _ in range(self.n + 1)]
+        self.gone = [Gone() for _ in range(self.n + 1)]
         self.known = [set() for _ in range(self.n + 1)]   # messages that the member got
         self.own = [0] * (self.n + 1)                     # submissions of the member
         self.origins = []                                 # of each message
@@ -118,14 +166,31 @@ class Generator:
         last = self.below(REGISTERS) if name == "copy" else self.below(1 << 64) >> self.below(64)
         return f'["submit",{member},["{name}",{register},{last}]]'
 
-    def receive_or_postpone(self, member, receive):
-        line, known = self.lines[member], self.known[member]
+    def take(self, member):
+        """Takes a serial out of the line, one of the first."""
+        line = self.lines[member]
         place = self.below(min(self.options.depth, len(line)))
         serial = line[place]
         del line[place]
+        return serial
+
+    def lose(self, member):
+        serial = self.take(member)
+        self.gone[member].lost.append(serial)
+        return f'["lose",{member},{serial}]'
+
+    def repeat(self, member):
+        serial = self.gone[member].take(self.below)
+        self.lines[member].append(serial)
+        return f'["repeat",{member},{serial}]'
+
+    def receive_or_postpone(self, member, receive):
+        known = self.known[member]
+        serial = self.take(member)
         if not receive:
-            line.append(serial)
+            self.lines[member].append(serial)
             return f'["postpone",{member},{serial}]'
+        self.gone[member].received.append(serial)
         message = self.letters[serial]
         if message not in known and self.origins[message] != member:
             self.send_to_all(message)
@@ -143,9 +208,14 @@ class Generator:
         reserved = (len(self.origins) + 1) * self.n * self.n   # a next message counted
         free = [p for p in self.up if self.own[p] < SUBMISSIONS and reserved <= ENVELOPES]
         due = wanted < submit and reserved * self.options.steps <= ENVELOPES * number
+        may_receive = free or sum(len(self.lines[p]) for p in having) > 1
+        if self.options.lose and having and may_receive and self.below(100) < self.options.lose:
+            return self.lose(self.one_of(having))
+        gone = [p for p in self.up if self.gone[p]] if self.options.repeat else []
+        if gone and self.below(100) < self.options.repeat:
+            return self.repeat(self.one_of(gone))
         if free and (due or not having):
             return self.submit(self.one_of(free))
-        may_receive = free or sum(len(self.lines[p]) for p in having) > 1
         return self.receive_or_postpone(self.one_of(having), may_receive and wanted < submit + receive)
 
 
@@ -154,13 +224,15 @@ class Seat:
 
     def __init__(self):
         self.line = deque()
+        self.gone = Gone()
         self.own = 0              # submissions of the member
         self.relays_left = 0      # relays still to come, if it gets all that was sent
         self.known = set()        # messages that it got
-        self.pending = set()      # those of them that it hasn't delivered
+        self.pending = []         # those of them that it hasn't delivered, in order
         self.delivered = set()
         self.batches = 0
         self.last, self.is_open = 0, False
+        self.follows = False      # whether it means to follow its next instance
         self.round, self.phase = 0, "Rest"
         self.estimate, self.ts = None, 0
         self.suspects = False     # whether it means to suspect the coordinator of its round
@@ -173,7 +245,7 @@ class Seat:
 
 
 class Whole:
-    """Makes a record of the whole algorithm. A value is a set of messages, which go by number."""
+    """Makes a record of the whole algorithm. A value is a set of messages. These are numbers, in their order."""
 
     def __init__(self, options):
         self.options, self.n = options, options.members
@@ -181,17 +253,20 @@ class Whole:
         self.random = random.Random(options.seed).random
         self.up = list(range(1, self.n + 1))
         self.seats = [None] + [Seat() for _ in self.up]
-        self.origins = []         # of each message
+        self.submitted = 0        # messages
         self.letters = [None]     # the wire of each serial: its kind and fields
         self.waiting = 0          # envelopes in the lines of members still up
         self.relays_left = 0      # the sum of these at members still up
         self.crashes = 0          # crashes to come as soon as nobody's line is empty
         self.burst = 0            # submissions to come soon
+        self.filled = None        # steps made when so many messages were pending as are asked for
         self.allowed = 0          # greatest instance that may begin by now
         self.slow = 0             # a member that is slow for a while, 0 if there is none
         self.slow_to_act = False  # whether it is slow in what it does, and not in what it receives
         self.rounds = set()       # (instance, round) that a member entered
-        self.suspicions = 0
+        self.suspicions = self.lost = self.repeated = self.followed = 0
+        for seat in self.seats[1:]:
+            self.look_ahead(seat)
 
     def below(self, count):
         return int(self.random() * count)
@@ -240,6 +315,7 @@ class Whole:
     def receive(self, p):
         seat = self.seats[p]
         serial = self.take(seat)
+        seat.gone.received.append(serial)
         self.waiting -= 1
         kind, *fields = wire = self.letters[serial]
         if kind == "Data":
@@ -263,8 +339,8 @@ class Whole:
             return
         seat.known.add(message)
         if message not in seat.delivered:
-            seat.pending.add(message)
-        if self.origins[message] != p:
+            insort(seat.pending, message)
+        if message // ORIGIN != p:
             self.relay(seat, wire)
 
     def get_decision(self, p, seat, fields, wire):
@@ -281,12 +357,26 @@ class Whole:
         self.seats[p].line.append(serial)
         return f'["postpone",{p},{serial}]'
 
+    def lose(self, p, seat):
+        serial = self.take(seat)
+        seat.gone.lost.append(serial)
+        self.waiting -= 1
+        self.lost += 1
+        return f'["lose",{p},{serial}]'
+
+    def repeat(self, p, seat):
+        serial = seat.gone.take(self.below)
+        seat.line.append(serial)
+        self.waiting += 1
+        self.repeated += 1
+        return f'["repeat",{p},{serial}]'
+
     # The other steps.
 
     def submit(self, p):
         self.seats[p].own += 1
-        self.origins.append(p)
-        self.send_first(p, ("Data", len(self.origins) - 1))
+        self.submitted += 1
+        self.send_first(p, ("Data", p * ORIGIN + self.seats[p].own))
         name, register = self.one_of(["set", "add", "copy"]), self.below(REGISTERS)
         last = self.below(REGISTERS) if name == "copy" else self.below(1 << 64) >> self.below(64)
         return f'["submit",{p},["{name}",{register},{last}]]'
@@ -302,7 +392,7 @@ class Whole:
         seat.last += 1
         seat.is_open = True
         seat.round, seat.phase = 0, "Rest"
-        seat.estimate, seat.ts = frozenset(seat.pending), 0
+        seat.estimate, seat.ts = frozenset(seat.pending[:self.options.batch]), 0
         return f'["begin",{p}]'
 
     def enter(self, p, seat):
@@ -343,21 +433,55 @@ class Whole:
         seat.phase = "Rest"
         return f'["conclude",{p}]'
 
-    def deliver(self, p, seat):
-        value = seat.decisions[seat.last]
-        seat.pending -= value
+    def append(self, seat, value):
+        """The member delivers the value."""
+        for message in (value & seat.known) - seat.delivered:
+            del seat.pending[bisect_left(seat.pending, message)]
         seat.delivered |= value
         seat.batches += 1
+        self.look_ahead(seat)
+
+    def deliver(self, p, seat):
+        self.append(seat, seat.decisions[seat.last])
         seat.is_open = False
         return f'["deliver",{p}]'
 
+    def follow(self, p, seat):
+        seat.last += 1
+        self.append(seat, seat.decisions[seat.last])
+        self.followed += 1
+        return f'["follow",{p}]'
+
     # Which step comes.
+
+    def look_ahead(self, seat):
+        """Whether the member means to follow the instance after its last."""
+        seat.follows = self.options.follow > 0 and self.below(100) < self.options.follow
+
+    def leaves(self, seat):
+        """Whether the member leaves its next instance to others, enough of whom began it or may mean to."""
+        others = [self.seats[q] for q in self.up if self.seats[q] is not seat]
+        return seat.follows and sum(other.last > seat.last or not other.follows for other in others) >= self.majority
+
+    def act_idle(self, p, seat):
+        """A step of p that opens its next instance or follows it, or None."""
+        if seat.follows and seat.last + 1 in seat.decisions:
+            return self.follow(p, seat) if seat.batches < self.options.cells else None
+        may_begin = seat.pending and seat.last < self.allowed and not self.leaves(seat)
+        return self.begin(p, seat) if may_begin else None
+
+    def wants_to_suspect(self, seat):
+        """Whether the member suspects the coordinator of its round, of which it got no proposal."""
+        coordinator = self.coordinator(seat.round)
+        other = self.seats[coordinator]
+        takes_part = coordinator in self.up and not (other.follows and other.last < seat.last)
+        return seat.suspects or not takes_part or (coordinator == self.slow and not self.below(4))
 
     def act(self, p):
         """A step of consensus or atomic broadcast that p may take, or None."""
         seat = self.seats[p]
         if not seat.is_open:
-            return self.begin(p, seat) if seat.pending and seat.last < self.allowed else None
+            return self.act_idle(p, seat)
         decided = seat.last in seat.decisions
         if decided and seat.batches < self.options.cells and (seat.phase == "Rest" or self.below(2)):
             return self.deliver(p, seat)
@@ -371,29 +495,35 @@ class Whole:
         if seat.phase == "Wait":
             if here in seat.proposals:
                 return self.adopt(p, seat) if self.room(1) else None
-            coordinator = self.coordinator(seat.round)
-            wants = seat.suspects or coordinator not in self.up or (coordinator == self.slow and not self.below(4))
-            return self.suspect(p, seat) if wants and self.room(1) else None
+            return self.suspect(p, seat) if self.wants_to_suspect(seat) and self.room(1) else None
         decides = len(seat.acked.get(here, ())) >= self.majority
         may_conclude = len(seat.replied.get(here, ())) >= self.majority
         may_conclude = may_conclude and (not decides or self.room(self.n * len(self.up)))
         return self.conclude(p, seat, decides) if may_conclude else None
 
     def due(self, number):
-        """Whether more messages are due by step `number`; while a member is slow, some in advance."""
+        """Whether more messages are due by step `number`; while a member is slow, some in advance.
+
+        With --pending they are due until so many are pending, and no longer."""
         sent = len(self.letters) - 1 + (self.relays_left + len(self.up)) * self.n
         advance, waiting = 0, self.waiting
         if self.slow in self.up:
             advance = min(1000, self.options.steps // 50)
             waiting -= len(self.seats[self.slow].line)
-        spread = len(self.origins) * self.options.steps < SUBMISSIONS * len(self.up) * number
+        spread = self.submitted * self.options.steps < SUBMISSIONS * len(self.up) * number
+        if self.options.pending:
+            spread = self.filled is None
         behind = sent <= SENT_PER_STEP * number + advance
         return spread and behind and waiting < self.options.waiting * len(self.up)
 
     def step(self, number, crash):
         """Step `number` of the record; `crash` asks for a crash."""
         options = self.options
-        self.allowed = (options.instances * number + options.steps - 1) // options.steps
+        if self.filled is None and all(len(self.seats[p].pending) >= options.pending for p in self.up):
+            self.filled = number - 1
+        if self.filled is not None:
+            left = options.steps - self.filled
+            self.allowed = (options.instances * (number - self.filled) + left - 1) // left
         if self.below(2 * options.steps) < options.instances:
             self.slow = self.below(self.n + 1) if len(self.up) > 2 else 0
             self.slow_to_act = self.below(2) == 0
@@ -409,9 +539,22 @@ class Whole:
             self.burst -= self.burst > 0
             return self.submit(self.one_of(free))
         first = self.below(len(self.up))
+        may_receive = self.waiting > 1 or (free and (self.burst or options.pending))
+        text = self.lose_or_repeat(self.up[first], may_receive)
+        if text:
+            return text
         if self.seats[self.up[first]].line and self.below(100) < options.postpone:
             return self.postpone(self.up[first])
-        return self.ordinary(first, self.waiting > 1 or (free and self.burst))
+        return self.ordinary(first, may_receive)
+
+    def lose_or_repeat(self, p, may_lose):
+        """A loss or a repeat at p, where one comes and is possible, or None."""
+        seat = self.seats[p]
+        if self.options.lose and may_lose and seat.line and self.below(100) < self.options.lose:
+            return self.lose(p, seat)
+        if self.options.repeat and seat.gone and self.below(100) < self.options.repeat:
+            return self.repeat(p, seat)
+        return None
 
     def ordinary(self, start, may_receive):
         """A receipt or a step of `act`, by the first member from place `start` on that may take one, the slow one last."""
@@ -434,7 +577,9 @@ class Whole:
         batches = max(seat.batches for seat in self.seats[1:])
         begun = max(seat.last for seat in self.seats[1:])
         return (f"instances begun {begun} delivered {batches} rounds {len(self.rounds)} suspicions {self.suspicions}"
-                f" crashes {self.n - len(self.up)} submitted {len(self.origins)} sent {len(self.letters) - 1}"
+                f" crashes {self.n - len(self.up)} submitted {self.submitted} sent {len(self.letters) - 1}"
+                f" lost {self.lost} repeated {self.repeated} followed {self.followed}"
+                f" pending {max(len(seat.pending) for seat in self.seats[1:])}"
                 f" waiting {sum(len(seat.line) for seat in self.seats[1:])}")
 
 
@@ -444,7 +589,9 @@ def main():
     while len(crashes) < min(options.crash, options.steps):
         crashes.add(1 + maker.below(options.steps))
     steps = ",".join(maker.step(i, i in crashes) for i in range(1, options.steps + 1))
-    sys.stdout.write(f'{{"cells":{options.cells},"n":{options.members},"steps":[{steps}],"version":1}}')
+    batch = f'"batch":{options.batch},' if options.version == 3 else ""
+    sys.stdout.write(f'{{{batch}"cells":{options.cells},"n":{options.members},"steps":[{steps}],'
+                     f'"version":{options.version}}}')
     if options.whole:
         print(maker.counts(), file=sys.stderr)
 

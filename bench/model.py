@@ -1,28 +1,52 @@
 #!/usr/bin/env python3
-"""A small reference of `ct replay` for all steps: reliable broadcast, consensus and
-atomic broadcast.
+"""A small reference of `ct replay` for all steps and versions of records: reliable
+broadcast, consensus and atomic broadcast over a network that loses and repeats.
 
 Reads a record on standard input and prints its report, or on standard error
-`step <at>: <Name>` for the first refused step, with status 1. It is written from the
-rules alone, to be compared with the proved program. The record must be well formed:
-what is wrong with a record's text is the program's to say, and here it is status 2.
+`step <at>: <Name>` for the first refused step, with status 1, or `record: <fault>`
+with status 2. It is written from the rules alone, to be compared with the proved
+program. What is JSON is Python's to say, which is less strict than `serde_json`.
 
     python3 model.py < record.json
 """
 import json
 import sys
+from bisect import bisect_left, insort
 
 SUBMISSIONS = 65_535    # greatest number for each member
 INSTANCES = 1_024       # greatest number begun by each member
 ROUNDS = 10_000         # greatest number of one instance
 ENVELOPES = 1_000_000   # greatest number sent in all
 STEPS = 1_000_000       # greatest number in a record
+BOUND = 1_048_560       # greatest bound on a proposal, that of records which don't name one
+LENGTH = 67_108_864     # greatest length of a record's text
 REGISTERS = 16
 LARGEST = (1 << 64) - 1   # greatest value of a register
+
+# Greatest numbers of a record's fields.
+MEMBER = REGISTER = 255
+SERIAL = (1 << 32) - 1
+
+COMMAND = {"set": (REGISTER, LARGEST), "add": (REGISTER, LARGEST), "copy": (REGISTER, REGISTER)}
+
+# What stands behind a step's name: numbers, and the command of a submission.
+STEP = {"submit": (MEMBER, COMMAND), "receive": (MEMBER, SERIAL), "begin": (MEMBER,), "enter": (MEMBER,),
+        "choose": (MEMBER, MEMBER), "adopt": (MEMBER,), "suspect": (MEMBER,), "conclude": (MEMBER,),
+        "deliver": (MEMBER,), "crash": (MEMBER,), "postpone": (MEMBER, SERIAL)}
+LOSSY_STEP = {**STEP, "lose": (MEMBER, SERIAL), "repeat": (MEMBER, SERIAL)}
+FOLLOWED_STEP = {**LOSSY_STEP, "follow": (MEMBER,)}
+
+# The steps of each version, and its keys with what they hold.
+KEYS = {"cells": (0, 1_024), "n": (1, 16), "steps": None, "version": None}
+VERSIONS = {1: (STEP, KEYS), 2: (LOSSY_STEP, KEYS), 3: (FOLLOWED_STEP, {**KEYS, "batch": (1, BOUND)})}
 
 
 class Refused(Exception):
     """A step that the rules refuse, with the refusal's name."""
+
+
+class Fault(Exception):
+    """Something that is no record, with the fault's name."""
 
 
 class Instance:
@@ -41,7 +65,7 @@ class Member:
         self.up = True
         self.submitted = 0
         self.received = {}    # messages in order of first receipt; the values say nothing
-        self.pending = set()  # messages received and not delivered
+        self.pending = []     # messages received and not delivered, in order
         self.line = {}        # waiting serials in order; the values say nothing
         self.last = 0         # the last instance begun
         self.open = None      # that instance, if it is open
@@ -56,11 +80,12 @@ class Member:
 
 
 class World:
-    def __init__(self, n, cells):
+    def __init__(self, n, cells, bound):
         self.members = {p: Member() for p in range(1, n + 1)}
-        self.n, self.majority, self.cells = n, n // 2 + 1, cells
+        self.n, self.majority, self.cells, self.bound = n, n // 2 + 1, cells, bound
         self.commands = {}    # by message, which is (origin, number)
         self.wires = [None]   # of each serial: its kind and fields
+        self.sent_to = [0]    # of each serial: the member that it was sent to
         self.steps = 0
 
     def sent(self):
@@ -75,6 +100,7 @@ class World:
     def send(self, to, wire):
         self.members[to].line[len(self.wires)] = None
         self.wires.append(wire)
+        self.sent_to.append(to)
 
     def send_to_all(self, wire):
         for p in self.members:
@@ -130,9 +156,9 @@ class World:
         """The member has got a wire of this kind."""
         if kind == "Data":
             message = fields[0]
+            if message not in member.received and message not in member.delivered:
+                insort(member.pending, message)
             member.received.setdefault(message)
-            if message not in member.delivered:
-                member.pending.add(message)
             return
         k, r, *rest = fields
         if kind == "Est":
@@ -157,7 +183,7 @@ class World:
             raise Refused("Nothing")
         self.check_limits(instances=member.last + 1)
         member.last += 1
-        member.open = Instance(member.last, tuple(sorted(member.pending)))
+        member.open = Instance(member.last, tuple(member.pending[:self.bound]))
 
     def opened(self, member, phase):
         """The open instance, which must be in this phase."""
@@ -227,11 +253,27 @@ class World:
         if member.open.k not in member.decisions:
             raise Refused("Undecided")
         self.check_limits(batches=member.batches + 1)
-        for message in member.decisions[member.open.k]:
-            member.delivered.setdefault(message)
-            member.pending.discard(message)
-        member.batches += 1
+        self.append(member, member.decisions[member.open.k])
         member.open = None
+
+    def follow(self, p, member):
+        """Begins and closes the next instance at once, whose decision p has got."""
+        if member.open:
+            raise Refused("Busy")
+        if member.last + 1 not in member.decisions:
+            raise Refused("Undecided")
+        self.check_limits(instances=member.last + 1, batches=member.batches + 1)
+        member.last += 1
+        self.append(member, member.decisions[member.last])
+
+    def append(self, member, value):
+        """The member delivers what it didn't deliver of the value, in order, as one batch."""
+        for message in value:
+            member.delivered.setdefault(message)
+            place = bisect_left(member.pending, message)
+            if member.pending[place:place + 1] == [message]:
+                del member.pending[place]
+        member.batches += 1
 
     # Faults.
 
@@ -246,10 +288,25 @@ class World:
         del member.line[serial]
         member.line[serial] = None
 
+    def lose(self, p, member, serial):
+        if serial not in member.line:
+            raise Refused("NotWaiting")
+        self.check_limits()
+        del member.line[serial]
+
+    def repeat(self, p, member, serial):
+        if not 1 <= serial <= self.sent() or self.sent_to[serial] != p:
+            raise Refused("NotSent")
+        if serial in member.line:
+            raise Refused("StillWaiting")
+        self.check_limits()
+        member.line[serial] = None
+
     def apply(self, name, p, *rest):
         act = {"submit": self.submit, "receive": self.receive, "begin": self.begin, "enter": self.enter,
                "choose": self.choose, "adopt": self.adopt, "suspect": self.suspect, "conclude": self.conclude,
-               "deliver": self.deliver, "crash": self.crash, "postpone": self.postpone}[name]
+               "deliver": self.deliver, "follow": self.follow, "crash": self.crash, "postpone": self.postpone,
+               "lose": self.lose, "repeat": self.repeat}[name]
         if p not in self.members:
             raise Refused("NoSuchMember")
         if not self.members[p].up:
@@ -289,21 +346,65 @@ def report(world):
         yield f"table {' '.join(f'{place}={value}' for place, value in registers if value) or '-'}"
 
 
+# Records.
+
+def is_whole(value, least, greatest):
+    return type(value) is int and least <= value <= greatest
+
+
+def is_list_of(entry, table):
+    """Whether the entry is a list of a name in the table and what the table asks for behind it."""
+    if not isinstance(entry, list) or not entry or not isinstance(entry[0], str) or entry[0] not in table:
+        return False
+    asked = table[entry[0]]
+    return len(entry) == len(asked) + 1 and all(
+        is_list_of(field, greatest) if isinstance(greatest, dict) else is_whole(field, 0, greatest)
+        for field, greatest in zip(entry[1:], asked))
+
+
+def parsed(data):
+    """The JSON value that these bytes are the text of."""
+    if len(data) > LENGTH:
+        raise Fault("too long")
+    try:
+        return json.loads(data.decode())
+    except (ValueError, RecursionError):
+        raise Fault("not JSON") from None
+
+
+def read(data):
+    """The world without steps and the steps that a record's bytes say."""
+    record = parsed(data)
+    if not isinstance(record, dict) or not is_whole(record.get("version"), 0, LARGEST):
+        raise Fault("shape at 0")
+    if record["version"] not in VERSIONS:
+        raise Fault("version")
+    table, keys = VERSIONS[record["version"]]
+    ranges = {key: ends for key, ends in keys.items() if ends}
+    if record.keys() != keys.keys() or not all(is_whole(record[key], *ends) for key, ends in ranges.items()):
+        raise Fault("shape at 0")
+    if not isinstance(record["steps"], list):
+        raise Fault("shape at 0")
+    for at, step in enumerate(record["steps"], 1):
+        if not is_list_of(step, table):
+            raise Fault(f"shape at {at}")
+    return World(record["n"], record["cells"], record.get("batch", BOUND)), record["steps"]
+
+
 def main():
     try:
-        record = json.load(sys.stdin)
-        world = World(record["n"], record["cells"])
-        for at, step in enumerate(record["steps"], 1):
-            try:
-                world.apply(*step)
-            except Refused as refusal:
-                print(f"step {at}: {refusal}", file=sys.stderr)
-                return 1
-        print("\n".join(report(world)))
-        return 0
-    except (KeyError, TypeError, ValueError) as fault:
-        print(f"model: no record: {fault!r}", file=sys.stderr)
+        world, steps = read(sys.stdin.buffer.read(LENGTH + 1))
+    except Fault as fault:
+        print(f"record: {fault}", file=sys.stderr)
         return 2
+    for at, step in enumerate(steps, 1):
+        try:
+            world.apply(*step)
+        except Refused as refusal:
+            print(f"step {at}: {refusal}", file=sys.stderr)
+            return 1
+    print("\n".join(report(world)))
+    return 0
 
 
 if __name__ == "__main__":

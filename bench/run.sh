@@ -1,11 +1,15 @@
 #!/usr/bin/env bash
 # Times `ct replay` on generated records and compares its reports with bench/model.py.
 #
-#     bench/run.sh [--whole] [--beside PROGRAM] [CT]
+#     bench/run.sh [--whole] [--version V] [--beside PROGRAM] [CT]
 #
 # CT: the built program; crates/ct/out/ct if left out. --whole adds records of the
-# whole algorithm, without and with crashes. --beside: a program that replays the
-# record on its standard input too, run in turn with CT.
+# whole algorithm: without and with crashes; lossy ones, of a network that loses and
+# repeats; ones of two members at which 10,000 and 100,000 messages are pending while
+# they propose one at a time; and ones of three members at which 9,000 and 90,000 are,
+# of whom two begin each instance and the third follows. --version: records of an older
+# version, of the kinds that it can say. --beside: a program that replays the record on
+# its standard input too, run in turn with CT.
 #
 # Prints a table row for each record: processor seconds (user and system, the least
 # of three runs), peak resident memory in MiB, and whether the report is the model's;
@@ -26,14 +30,20 @@ program() {
 
 kinds=(plain)
 names=(ct)
+version=3
 while [[ ${1-} == --* ]]; do
     case $1 in
-        --whole) kinds+=(whole crashes) ;;
+        --whole) kinds+=(whole crashes lossy pending followers) ;;
+        --version) version=${2-}; shift ;;
         --beside) beside=$(program "${2-}"); names+=(beside); shift ;;
         *) echo "bench/run.sh: no option $1" >&2; exit 2 ;;
     esac
     shift
 done
+if [[ $version != [123] ]]; then
+    echo "bench/run.sh: no version '$version'" >&2
+    exit 2
+fi
 ct=$(program "${1:-$here/../crates/ct/out/ct}")
 folder=$(mktemp -d)
 trap 'rm -rf "$folder"' EXIT
@@ -89,30 +99,52 @@ columns() {
         }' "${costs[@]/%/.costs}"
 }
 
-# options KIND MEMBERS: the generator's options for such a record, one a line.
+# options KIND MEMBERS STEPS: the generator's options for such a record, one a line.
 options() {
     case $1 in
         plain) ;;
         whole) echo --whole ;;
         crashes) printf '%s\n' --whole --crash "$((($2 - 1) / 2))" ;;
+        lossy) printf '%s\n' --whole --lose 3 --repeat 6 ;;
+        pending) printf '%s\n' --whole --pending "$(($3 / 6))" --instances "$(($3 / 600))" --batch 1 ;;
+        followers) printf '%s\n' --whole --pending "$(($3 * 9 / 100))" --batch 1 --follow 100 ;;
+    esac
+}
+
+# groups KIND: the numbers of members of its records, where this version can say them.
+groups() {
+    case $1 in
+        crashes) echo 5 16 ;;
+        lossy) [[ $version == 1 ]] || echo 1 5 16 ;;
+        pending) [[ $version != 3 ]] || echo 2 ;;
+        followers) [[ $version != 3 ]] || echo 3 ;;
+        *) echo 1 5 16 ;;
+    esac
+}
+
+# sizes KIND: the numbers of steps of its records.
+sizes() {
+    case $1 in
+        pending) echo 60000 600000 ;;
+        *) echo 100000 1000000 ;;
     esac
 }
 
 failed=0
-printf '%-8s %8s %9s' record members steps
+printf '%-9s %8s %9s' record members steps
 printf ' %8s %6s' seconds MiB
 [[ ${#names[@]} == 1 ]] || printf ' %8s %6s %8s %6s' beside MiB ratio ratio
 printf '  %s\n' report
 for kind in "${kinds[@]}"; do
-    for members in 1 5 16; do
-        [[ $kind$members != crashes1 ]] || continue
-        mapfile -t extra < <(options "$kind" "$members")
-        for steps in 100000 1000000; do
-            python3 "$here/generate.py" "${extra[@]}" --members "$members" --steps "$steps" --seed 1 >"$record" 2>"$folder/counts"
+    for members in $(groups "$kind"); do
+        for steps in $(sizes "$kind"); do
+            mapfile -t extra < <(options "$kind" "$members" "$steps")
+            extra+=(--version "$version" --members "$members" --steps "$steps" --seed 1)
+            python3 "$here/generate.py" "${extra[@]}" >"$record" 2>"$folder/counts"
             python3 "$here/model.py" <"$record" >"$folder/wanted"
             said=$(outcome)
             [[ $said == as* ]] || failed=1
-            printf '%-8s %8d %9d%s  %s\n' "$kind" "$members" "$steps" "$(columns)" "$said"
+            printf '%-9s %8d %9d%s  %s\n' "$kind" "$members" "$steps" "$(columns)" "$said"
         done
     done
 done

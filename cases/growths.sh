@@ -90,13 +90,13 @@ is_free() {
     esac
 }
 
-# is_tried: whether the run wrote the worked report, which of its steps was refused and done at the second try, and what
+# is_tried: whether the run wrote the report $wanted, which of its steps was refused and done at the second try, and what
 # the free run came to. Both are remembered.
 is_tried() {
     local lines
     mapfile -t lines <"$folder/output"
     [[ $status == 0 && ! -s $folder/error && ${#lines[@]} == 19 ]] || return 1
-    head -n 17 "$folder/output" | cmp -s decided.report - || return 1
+    head -n 17 "$folder/output" | cmp -s "$wanted" - || return 1
     [[ ${lines[17]} =~ ^refused\ at\ step\ [0-9]+$ ]] || return 1
     [[ ${lines[18]} =~ ^free\ run:\ (13 steps, [01] refused|Memory|Start)$ ]] || return 1
     seen[${lines[17]}]=1
@@ -149,8 +149,12 @@ replay_of() {
     each_call "replay of $1" is_whole "$2" "$ct" replay
 }
 
-# A worked record, two long ones, one whose fifth step is refused, and one that is none.
-for record in ../crates/ct/stdin ../examples/{coordinator_crashes,five_members,second_receipt_is_refused}.json /dev/null; do
+# A worked record, two long ones, one of a lossy network, one with followers, one whose fifth step is refused, and one that
+# is none.
+for name in coordinator_crashes five_members lost_and_repeated followers second_receipt_is_refused; do
+    replay_of "../examples/$name.json" ''
+done
+for record in ../crates/ct/stdin /dev/null; do
     replay_of "$record" ''
 done
 replay_of ../crates/ct/stdin each
@@ -162,6 +166,7 @@ each_call 'free run' is_free each "$ct" free --members 2 --turns 20 --submit 2 -
 tell 'ct free'
 
 # The steps of a round are each refused at least once, and the free run ends in each of its ways.
+wanted=decided.report
 cp ../crates/ct_memory/stdin "$folder/input"
 each_call 'ct_memory' is_tried '' "$memory"
 tell 'ct_memory'
@@ -170,6 +175,16 @@ for n in {0..22}; do
 done
 for text in '13 steps, 0 refused' '13 steps, 1 refused' Memory Start; do
     [[ -n ${seen["free run: $text"]:-} ]] || fail "ct_memory: no free run ended so: $text"
+done
+
+# So are two that follow, the second of which posts its batch.
+seen=()
+wanted=../examples/followers.report
+cp ../examples/followers.json "$folder/input"
+each_call 'ct_memory with followers' is_tried '' "$memory"
+tell 'ct_memory with followers'
+for n in 47 70; do
+    [[ -n ${seen["refused at step $n"]:-} ]] || fail "ct_memory: step $n, which follows, was never refused"
 done
 
 echo "$passed passed, $failed failed"

@@ -5,7 +5,8 @@
 #     cases/run.sh [CT [CT_TOOL]]        the built programs; those of ../crates/*/out if left out
 #
 # Prints a line for each failing case and ends with `N passed, M failed`, and with
-# status 0 only where none failed. A run of more than 20 seconds fails. Needs bash 4.4.
+# status 0 only where none failed. A run of more than 20 seconds fails, and so does a
+# case that has the name of another. Needs bash 4.4.
 set -u
 export LC_ALL=C
 
@@ -23,30 +24,36 @@ tool=$(realpath "$tool")
 cd "$here" || exit 2
 folder=$(mktemp -d)
 trap 'rm -rf "$folder"' EXIT
-empty_record='{"cells":4,"n":3,"steps":[],"version":1}'
+empty_record='{"batch":1048560,"cells":4,"n":3,"steps":[],"version":3}'
 passed=0
 failed=0
+declare -A named=()
 
 # repeat NUMBER TEXT: the text so many times.
 repeat() { yes "$2" | head -n "$1" | tr -d '\n'; }
 
-# record N S P: S submissions and P postponements of serial 1, by member 1 of N.
-record() {
-    local steps
-    steps=$(repeat "$2" '["submit",1,["set",0,7]],' && repeat "$3" '["postpone",1,1],')
-    printf '{"cells":4,"n":%d,"steps":[%s],"version":1}' "$1" "${steps%,}"
+# steps S P [STEPS]: S submissions and P postponements of serial 1, by member 1, and then the steps, joined by commas.
+steps() {
+    { repeat "$1" '["submit",1,["set",0,7]],' && repeat "$2" '["postpone",1,1],' && printf '%s' "${3-}"; } | sed 's/,$//'
 }
+
+# record N S P [STEPS]: a record of these for N members.
+record() { printf '{"batch":1048560,"cells":4,"n":%d,"steps":[' "$1" && steps "${@:2}" && printf '],"version":3}'; }
+
+# old_record N S P: the same of version 1.
+old_record() { printf '{"cells":4,"n":%d,"steps":[' "$1" && steps "${@:2}" && printf '],"version":1}'; }
 
 # make_input FORM: the input of the form, on standard output.
 make_input() {
-    local form=$1 word first second third
-    read -r word first second third <<<"$form"
+    local form=$1 word first second third rest
+    read -r word first second third rest <<<"$form"
     case $word in
     @escaped) printf '%b' "${form#@escaped }" ;;
     @spaces) head -c "$first" /dev/zero | tr '\0' ' ' ;;
     @padded) printf '%s%*s' "$empty_record" $((first - ${#empty_record})) '' ;;
     @brackets) repeat "$first" '[' && repeat "$second" ']' ;;
-    @record) record "$first" "$second" "$third" ;;
+    @record) record "$first" "$second" "$third" "$rest" ;;
+    @old_record) old_record "$first" "$second" "$third" ;;
     @*) cat "${word#@}" ;;
     *) printf '%s' "$form" ;;
     esac
@@ -103,6 +110,8 @@ start_of() { head -c 120 "$1" | tr '\n' ' '; }
 # check NAME ARGUMENTS STATUS OUTPUT ERROR INPUT: runs one case of $program and counts it.
 check() {
     local name=$1 words status wrong=''
+    [[ -z ${named[$name]-} ]] || wrong+=" another case has this name;"
+    named[$name]=1
     read -ra words < <(printf '%b\n' "$2")
     : >"$folder/output"
     case $6 in
@@ -144,21 +153,25 @@ check_memory() {
     [[ $status != 5 ]] || refused=$((refused + 1))
 }
 
-# check_free_runs: 20 free runs of three members that suspect nobody. Each is replayed, and at least one posts a batch.
+# check_free_runs NAME WORDS..: 20 free runs of three members that suspect nobody, with these words besides. Each is replayed,
+# at least one posts a batch, and with --lose and --repeat there are such steps.
 check_free_runs() {
-    local run posting=0 wrong=''
+    local name=$1 run seen='' wrong=''
+    shift
     for run in {1..20}; do
-        timeout -k 5 20 "$ct" free --members 3 --rate 0 --seed "$run" >"$folder/output" 2>"$folder/error" &&
+        timeout -k 5 20 "$ct" free --members 3 --rate 0 --seed "$run" "$@" >"$folder/output" 2>"$folder/error" &&
             timeout -k 5 20 "$ct" replay <"$folder/output" >"$folder/report" 2>>"$folder/error" ||
             wrong+=" run $run is not replayed: '$(start_of "$folder/error")';"
-        [[ ! $(<"$folder/report") =~ ' posted '[1-9] ]] || posting=$((posting + 1))
+        seen+=$(grep -oE ' posted [1-9]' "$folder/report"; grep -oE '\["(lose|repeat)",' "$folder/output" | sort -u)
     done
-    [[ $posting -gt 0 ]] || wrong+=" none of 20 posts a batch;"
+    [[ $seen == *posted* ]] || wrong+=" none of 20 posts a batch;"
+    [[ $* != *--lose* || $seen == *lose* ]] || wrong+=" none of 20 loses an envelope;"
+    [[ $* != *--repeat* || $seen == *repeat* ]] || wrong+=" none of 20 repeats an envelope;"
     if [[ -z $wrong ]]; then
         passed=$((passed + 1))
     else
         failed=$((failed + 1))
-        echo "FAILED free runs:${wrong%;}"
+        echo "FAILED $name:${wrong%;}"
     fi
 }
 
@@ -172,6 +185,12 @@ check_walks() {
     "$tool" walk --members 3 --find round 5 --seeds 1..100 2>"$folder/error" | "$ct" replay >"$folder/report" ||
         wrong+=" no seed of 100 gives a round 5;"
     [[ $("$tool" walk --members 3 --until decided 1 | "$ct" replay) =~ 'decided 1:' ]] || wrong+=" nothing is decided;"
+    "$tool" walk --members 3 --lose 20 --repeat 40 --batch 1 >"$folder/output" 2>"$folder/error" &&
+        "$ct" replay <"$folder/output" >"$folder/report" || wrong+=" a lossy walk is not replayed;"
+    [[ $(<"$folder/output") == *'["lose",'*'["repeat",'* ]] || wrong+=" a lossy walk doesn't lose and repeat;"
+    "$tool" walk --members 3 --seed 1 --lose 40 --repeat 80 --batch 1 >"$folder/output" 2>"$folder/error" &&
+        "$ct" replay <"$folder/output" >"$folder/report" || wrong+=" a walk with a follower is not replayed;"
+    [[ $(<"$folder/output") == *'["follow",'* ]] || wrong+=" nobody follows in a walk that loses much;"
     if [[ -z $wrong ]]; then
         passed=$((passed + 1))
     else
@@ -217,7 +236,8 @@ for record in ../examples/*.json; do
     fi
 done
 
-check_free_runs
+check_free_runs 'free runs'
+check_free_runs 'lossy free runs' --lose 20 --repeat 40 --batch 1
 
 # Memory refused at different places: at the start, while reading, while replaying.
 record 3 60000 0 >"$folder/long"

@@ -1,7 +1,9 @@
 -- The messages of a set that a list doesn't have join the list in turn.
-use Rattle.std.proofs.Common.{◌≡◌, ℕ, zero, suc, ◌+◌, ◌<◌, Bool, true, false, cond, not, ◌||◌, List, [], ◌∷◌, ◌++◌, length, get_or, take}
-use Rattle.std.proofs.Common.{nat_lt, refl, sym, ap, ◌∙◌, subst, inl, inr, arith, append_assoc, ◌==◌}
+use Rattle.std.proofs.Common.{◌≡◌, ℕ, zero, suc, ◌+◌, ◌<◌, Bool, true, false, cond, not, List, [], ◌∷◌, ◌++◌, length, get_or, take}
+use Rattle.std.proofs.Common.{nat_lt, refl, sym, ap, ◌∙◌, inl, inr, arith, append_assoc, ◌==◌}
 use Rattle.std.specs.List.{list_any}
+use Rattle.std.proofs.Math.Bool.{or-false}
+use Rattle.std.proofs.lemmas.Bool.{false_from_ne_true}
 use Rattle.std.proofs.lemmas.Bool.Decides.{nat_tests}
 use Rattle.std.proofs.lemmas.List.{append-nil}
 use Rattle.std.proofs.lemmas.List.Folds.{list_any-append}
@@ -13,14 +15,11 @@ use Rattle.ct_names.specs.Order.{is_message}
 use Rattle.ct_names.specs.Value.{has, minus, ordered}
 use Rattle.ct_names.proofs.Orders.{same_eq}
 use Rattle.ct_names.proofs.Places.{minus-more}
-use Rattle.ct_names.proofs.Sets.{same_test, ordered-in, set-nil}
+use Rattle.ct_names.proofs.Sets.{ordered-in, set-nil}
 use Rattle.ct_names.proofs.Values.{same_message, is_message-refl, in-has, minus-from}
 
-same_way : (a b : Message) → is_message a b ≡ true → is_message b a ≡ true
-same_way a b h = subst (λ z. is_message z a ≡ true) (same_message a b h) (is_message-refl a)
-
-is_message-sym : (a b : Message) → is_message a b ≡ is_message b a
-is_message-sym a b = same_test (is_message a b) (is_message b a) (same_way a b) (same_way b a)
+pub is_message-sym : (a b : Message) → is_message a b ≡ is_message b a
+is_message-sym a b = grind (arith, same_message a b, same_message b a, is_message-refl a)
 
 -- the set of keys has what the list has
 pub keys-has : (list : List Message) (m : Message) → list_any (equal.eq m) list ≡ has list m
@@ -38,20 +37,12 @@ fresh : (items : List Message) (i : ℕ) (m : Message) → IsWithoutRepeats item
     IsIn m (take i items) → ⊥
 fresh [] i m once low is h = absurd (omega arith)
 fresh (x ∷ items) zero m once low is h = h
-fresh (x ∷ items) (suc i) m once low is (inl e) = once.0 (subst (λ z. IsIn z items) e (in-at items i m (omega arith) is))
+fresh (x ∷ items) (suc i) m once low is (inl e) = once.0 (rw e at (in-at items i m (omega arith) is))
 fresh (x ∷ items) (suc i) m once low is (inr h) = fresh items i m once.1 (omega arith) is h
 
 -- what is not in the list
 pub absent : (list : List Message) (m : Message) → (IsIn m list → ⊥) → has list m ≡ false
-absent list m out = at (has list m) refl
-  where
-    at : (b : Bool) → has list m ≡ b → b ≡ false
-    at true is = absurd (out (in-has list m is))
-    at false is = refl
-
-pub or-nothing : (a b : Bool) → b ≡ false → (a || b) ≡ a
-or-nothing true b h = refl
-or-nothing false b h = h
+absent list m out = false_from_ne_true (has list m) (λ h. out (in-has list m h))
 
 -- the next message of the set is inserted where the list doesn't have it
 pub insert-more : (list items : List Message) (i : ℕ) (m : Message) → IsWithoutRepeats items → i < length items → m ≡ get_or items i m →
@@ -68,14 +59,11 @@ insert-more list items i m once low is =
     there =
         keys-has (list ++ kept) m
         ∙ (list_any-append (λ other. is_message other m) list kept
-        ∙ or-nothing (has list m) (has kept m) (absent kept m (λ h. fresh items i m once low is (minus-from (take i items) list m h))))
+        ∙ rw (absent kept m (λ h. fresh items i m once low is (minus-from (take i items) list m h))) (or-false (has list m)))
 
     at : (b : Bool) → cond b (list ++ kept) ((list ++ kept) ++ m ∷ []) ≡ list ++ (kept ++ cond b [] (m ∷ []))
     at true = ap (λ zs. list ++ zs) (sym (append-nil kept))
     at false = append_assoc list kept (m ∷ [])
-
-some-suc : (n : ℕ) → nat_lt 0 (suc n) ≡ true
-some-suc n = grind (arith, nat_tests)
 
 -- the set of a list has a message where the list has
 pub some-ordered : (list : List Message) → nat_lt 0 (length (ordered list)) ≡ nat_lt 0 (length list)
@@ -84,7 +72,7 @@ some-ordered (m ∷ list) = at (ordered (m ∷ list)) (ordered-in (m ∷ list) m
   where
     at : (zs : List Message) → IsIn m zs → nat_lt 0 (length zs) ≡ nat_lt 0 (suc (length list))
     at [] h = absurd h
-    at (z ∷ zs) h = some-suc (length zs) ∙ sym (some-suc (length list))
+    at (z ∷ zs) h = grind (arith, nat_tests)
 
 pub some-length : (n : ℕ) → not (n == 0) ≡ nat_lt 0 n
 some-length n = grind (arith, nat_tests)

@@ -1,3 +1,4 @@
+pub mod Feeding
 pub mod Fresh
 pub mod Parts
 pub mod Pending

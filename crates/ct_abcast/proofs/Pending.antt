@@ -1,5 +1,5 @@
 -- What is pending: what was received and not delivered.
-use Rattle.std.proofs.Common.{◌≡◌, Bool, true, false, cond, not, ◌&&◌, ◌||◌, List, [], ◌∷◌, ◌++◌, refl, sym, ap, ◌∙◌, subst}
+use Rattle.std.proofs.Common.{◌≡◌, Bool, true, false, cond, not, ◌&&◌, ◌||◌, List, [], ◌∷◌, ◌++◌, sym, ap, ◌∙◌, arith}
 use Rattle.std.specs.List.{list_any}
 use Rattle.std.proofs.lemmas.List.{append-nil}
 use Rattle.std.proofs.lemmas.List.Folds.{list_any-append}
@@ -15,7 +15,7 @@ use Rattle.ct_names.proofs.Sets.{same_test, same_ordered, has-ordered}
 use Rattle.ct_names.proofs.Values.{same_message, in-has, has-in, minus-from, minus-out}
 use Rattle.ct_abcast.specs.Batches.{joined, batch_after}
 use Rattle.ct_abcast.specs.Pending.{IsPending}
-use Rattle.ct_abcast.proofs.Fresh.{keys-has, absent, or-nothing}
+use Rattle.ct_abcast.proofs.Fresh.{keys-has, absent}
 
 has-minus : (list other : List Message) (m : Message) → has (minus list other) m ≡ (has list m && not (has other m))
 has-minus list other m =
@@ -32,7 +32,7 @@ pending-set pending received delivered h =
     same_ordered pending (minus received delivered) (λ m. h m ∙ sym (has-minus received delivered m))
 
 -- the keys of a set after one of them was put in or taken out, as messages
-keys-updated : (old new : List Message) (message : Message) (b : Bool) →
+pub keys-updated : (old new : List Message) (message : Message) (b : Bool) →
     ((q : Message) → list_any (equal.eq q) new ≡ cond (equal.eq message q) b (list_any (equal.eq q) old)) → (m : Message) →
     has new m ≡ cond (is_message message m) b (has old m)
 keys-updated old new message b h m =
@@ -41,70 +41,32 @@ keys-updated old new message b h m =
 module _ (pending received new : List Message) (message : Message) (delivered : List Message) (h : IsPending pending received delivered)
     (is : new ≡ received ++ message ∷ []) where
   pushed : (m : Message) → has new m ≡ (has received m || is_message message m)
-  pushed m = ap (λ list. has list m) is ∙ has-push received message m
+  pushed m = rw is (has-push received message m)
 
   -- a message that was not delivered is received
   pub pending-more : (keys : List Message) → false ≡ has delivered message →
-      ((q : Message) → list_any (equal.eq q) keys ≡ cond (equal.eq message q) true (list_any (equal.eq q) pending)) →
-      IsPending keys new delivered
-  pending-more keys away updated m =
-      keys-updated pending keys message true updated m
-      ∙ (at (is_message message m) refl
-      ∙ ap (λ a. a && not (has delivered m)) (sym (pushed m)))
-    where
-      both_true : (a d : Bool) → false ≡ d → true ≡ ((a || true) && not d)
-      both_true true d e = ap not e
-      both_true false d e = ap not e
-
-      at : (b : Bool) → is_message message m ≡ b → cond b true (has pending m) ≡ ((has received m || b) && not (has delivered m))
-      at true e = both_true (has received m) (has delivered m) (subst (λ z. false ≡ has delivered z) (same_message message m e) away)
-      at false e = h m ∙ ap (λ a. a && not (has delivered m)) (sym (or-nothing (has received m) false refl))
+      ((m : Message) → has keys m ≡ cond (is_message message m) true (has pending m)) → IsPending keys new delivered
+  pending-more keys away updated m = grind (arith, updated m, h m, pushed m, same_message message m)
 
   -- a message that was delivered is received
   pub pending-same : true ≡ has delivered message → IsPending pending new delivered
-  pending-same there m =
-      h m ∙ (at (is_message message m) refl ∙ ap (λ a. a && not (has delivered m)) (sym (pushed m)))
-    where
-      both_false : (a b d : Bool) → true ≡ d → (a && not d) ≡ (b && not d)
-      both_false true true d e = refl
-      both_false true false d e = sym (ap not e)
-      both_false false true d e = ap not e
-      both_false false false d e = refl
-
-      at : (b : Bool) → is_message message m ≡ b → (has received m && not (has delivered m))
-          ≡ ((has received m || b) && not (has delivered m))
-      at true e = both_false (has received m) (has received m || true) (has delivered m)
-          (subst (λ z. true ≡ has delivered z) (same_message message m e) there)
-      at false e = ap (λ a. a && not (has delivered m)) (sym (or-nothing (has received m) false refl))
+  pending-same there m = grind (arith, h m, pushed m, same_message message m)
 
 -- one of the messages is taken out, after those before it
 pub taken-more : (pending before now : List Message) (messages more : List Message) (message : Message) →
     ((m : Message) → has before m ≡ (has pending m && not (has messages m))) → more ≡ messages ++ message ∷ [] →
-    ((q : Message) → list_any (equal.eq q) now ≡ cond (equal.eq message q) false (list_any (equal.eq q) before)) → (m : Message) →
+    ((m : Message) → has now m ≡ cond (is_message message m) false (has before m)) → (m : Message) →
     has now m ≡ (has pending m && not (has more m))
 taken-more pending before now messages more message h is updated m =
-    keys-updated before now message false updated m
-    ∙ (ap (cond (is_message message m) false) (h m)
-    ∙ (at (has pending m) (has messages m) (is_message message m)
-    ∙ ap (λ b. has pending m && not b) (sym (ap (λ list. has list m) is ∙ has-push messages message m))))
-  where
-    at : (a b e : Bool) → cond e false (a && not b) ≡ (a && not (b || e))
-    at true true true = refl
-    at true true false = refl
-    at true false true = refl
-    at true false false = refl
-    at false b true = refl
-    at false b false = refl
+    let more_is : has more m ≡ (has messages m || is_message message m) = rw is (has-push messages message m) in
+    grind (arith, updated m, h m, more_is)
 
 -- what stays pending after one more batch
 pub pending-left : (pending now received : List Message) (old new : List (List Message)) (v : List Message) →
     IsPending pending received (joined old) → new ≡ old ++ batch_after old v ∷ [] →
     ((m : Message) → has now m ≡ (has pending m && not (has v m))) → IsPending now received (joined new)
 pending-left pending now received old new v h is left m =
-    left m
-    ∙ (ap (λ a. a && not (has v m)) (h m)
-    ∙ (at (has received m) (has (joined old) m) (has v m)
-    ∙ ap (λ b. has received m && not b) (sym all)))
+    grind (arith, left m, h m, all)
   where
     more : List Message
     more = batch_after old v
@@ -117,10 +79,3 @@ pending-left pending now received old new v h is left m =
         ap (λ list. has list m) joined_is
         ∙ (list_any-append (λ other. is_message other m) (joined old) more
         ∙ ap (λ b. has (joined old) m || b) (has-ordered (minus v (joined old)) m ∙ has-minus v (joined old) m))
-
-    at : (r d s : Bool) → ((r && not d) && not s) ≡ (r && not (d || (s && not d)))
-    at true true true = refl
-    at true true false = refl
-    at true false true = refl
-    at true false false = refl
-    at false d s = refl

@@ -1,4 +1,5 @@
 pub mod Batches
 pub mod Cast
 pub mod Ends
+pub mod Ordered
 pub mod Pending

@@ -1,6 +1,7 @@
 //! What a member received and delivered.
 
-ghost use Rattle.std.specs.Prelude.{◌≡◌, ℕ, ◌+◌, ◌<◌, ◌≤◌, ◌&&◌, ◌++◌, ◌∷◌, [], false, not, length, nat_lt, slice_get, option_map, IsTrue};
+ghost use Rattle.std.specs.Prelude.{◌≡◌, ℕ, ◌+◌, ◌<◌, ◌≤◌, ◌&&◌, ◌++◌, ◌∷◌, [], false, not, length, take, nat_lt, slice_get};
+ghost use Rattle.std.specs.Prelude.{option_map, IsTrue};
 ghost use Rattle.std.specs.Prelude.{IfOk, OnOk, OnErr};
 ghost use Rattle.indexmap.specs.IndexSet.{spare};
 ghost use Rattle.ct_names.specs.Message.{Message as Plain};
@@ -9,6 +10,7 @@ ghost use Rattle.ct_abcast.specs.Cast.{delivered, undelivered, batch_of, has_roo
 
 use crate::batch::Batch;
 use crate::delivered::Delivered;
+use crate::ordered::Ordered;
 use ct_names::{Instance, MAX_INSTANCES, Message, MsgSet};
 use indexmap::IndexSet;
 use std::alloc::{AllocError, Global};
@@ -21,6 +23,8 @@ pub struct Caster {
     received: Vec<Message>,
     // What was received and not delivered, in no order.
     pending: IndexSet<Message>,
+    // The same in order, as far as it was fed.
+    ordered: Ordered,
     delivered: Delivered,
     instance: Instance,
 }
@@ -31,6 +35,7 @@ impl Model for Caster {
     ghost use Rattle.indexmap.specs.IndexSet.{spare};
     ghost use Rattle.ct_abcast.specs.Batches.{joined};
     ghost use Rattle.ct_abcast.specs.Cast.{Cast, least};
+    ghost use Rattle.ct_abcast.specs.Ordered.{IsFed};
     ghost use Rattle.ct_abcast.specs.Pending.{IsPending};
 
     ghost Value = { Cast };
@@ -44,7 +49,8 @@ impl Model for Caster {
       fits_batch = c.delivered.fits_batch;
     } };
 
-    ghost invariant = { λ c. IsPending c.pending.keys c.received.items (joined c.delivered.batches) };
+    ghost invariant = { λ c. IsPending c.pending.keys c.received.items (joined c.delivered.batches)
+        × IsFed c.ordered c.received.items (joined c.delivered.batches) };
 }
 
 impl Caster {
@@ -57,6 +63,7 @@ impl Caster {
         Caster {
             received: Vec::new(alloc),
             pending: IndexSet::new(alloc),
+            ordered: Ordered::new(alloc),
             delivered: Delivered::new(alloc),
             instance: 0,
         }
@@ -104,12 +111,18 @@ impl Caster {
         !self.pending.is_empty()
     }
 
-    /// The set of the messages that were received and not delivered, or the error where memory is refused. It costs what
-    /// those are, and not what was received in all.
-    pub fn undelivered(&self, alloc: Global) -> Result<MsgSet, AllocError>
-        ensures { IfOk result (λ set. set ≡ undelivered self.now) }
+    /// Of the set of the messages that were received and not delivered the first ones, as many as the bound or all, or the
+    /// error where memory is refused. What was received and delivered stays, Ok or not. It costs what it answers and what was
+    /// received since it was last asked for fewer than all, and not what else is pending.
+    pub fn undelivered(&mut self, alloc: Global, bound: u32) -> Result<MsgSet, AllocError>
+        ensures first { IfOk result (λ set. set ≡ take bound (undelivered self.old)) }
+        ensures same { self.new ≡ self.old }
     {
-        MsgSet::of(alloc, self.pending.as_slice())
+        if self.pending.len() <= bound as usize {
+            return MsgSet::of(alloc, self.pending.as_slice());
+        }
+        self.ordered.feed(&self.received, &self.delivered)?;
+        self.ordered.first(alloc, bound)
     }
 
     /// Whether so many messages can be received, and one batch of so many delivered, without memory.
@@ -174,15 +187,21 @@ impl Caster {
     {
         self.delivered.deliver(set);
         take_out(&mut self.pending, set.items());
+        self.ordered.take_out(set.items());
     }
 
-    /// What the decision of the last instance delivers, if it is that set, or the error where memory is refused.
-    pub fn batch(&self, alloc: Global, set: &MsgSet) -> Result<Batch, AllocError>
-        ensures instance { IfOk result (λ batch. batch.instance ≡ self.now.instance) }
+    /// What the decision of this instance would deliver now, if it is that set, or the error where memory is refused.
+    pub fn batch(
+        &self,
+        alloc: Global,
+        instance: Instance,
+        set: &MsgSet,
+    ) -> Result<Batch, AllocError>
+        ensures instance { IfOk result (λ batch. batch.instance ≡ instance) }
         ensures messages { IfOk result (λ batch. batch.messages ≡ batch_of self.now set.now) }
     {
         let messages = self.delivered.rest(alloc, set)?;
-        Ok(Batch::of(self.instance, messages))
+        Ok(Batch::of(instance, messages))
     }
 
     /// The same messages, batches and instance once more, or the error where memory is refused. Whether the copy has room
@@ -195,6 +214,7 @@ impl Caster {
         Ok(Caster {
             received: Vec::from_slice(alloc, &self.received)?,
             pending: self.pending.clone()?,
+            ordered: Ordered::new(alloc),
             delivered: self.delivered.copy(alloc)?,
             instance: self.instance,
         })

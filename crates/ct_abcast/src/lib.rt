@@ -5,6 +5,7 @@
 mod batch;
 mod caster;
 mod delivered;
+mod ordered;
 
 pub use batch::Batch;
 pub use caster::Caster;

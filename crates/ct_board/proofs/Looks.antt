@@ -1,6 +1,6 @@
 -- What a look and a comparison make of a list of notes, at one place.
 use Rattle.std.proofs.Common.{◌≡◌, ℕ, ◌+◌, ◌<◌, List, [], ◌∷◌, ◌++◌, take, Option, Some, None, length, get_or, set, replicate, sym, ◌∙◌, ap}
-use Rattle.std.proofs.Common.{subst, arith, IfSome, IfNone, Bor, get_or-set_other, get_or-set_same, inl, inr}
+use Rattle.std.proofs.Common.{arith, IfSome, IfNone, Bor, get_or-set_other, get_or-set_same, inl, inr}
 use Rattle.std.specs.Option.{MatchOption}
 use Rattle.std.proofs.lemmas.List.{get_or-map, take_more, length-set, map-append, length-map, map-set, set-get_or}
 use Rattle.std.proofs.lemmas.List.{replicate-append-replicate}
@@ -63,9 +63,7 @@ known_after (Some batch) notes i old new below tells =
     known_at (set notes i new) i new (omega (arith, length-set notes i new)) (sym (get_or-set_same notes i new new below)) ∙ tells.0
 
 still : (answer : Option (Bor Batch)) (old new : Option Batch) → Tells answer old new → (x : Batch) → old ≡ Some x → new ≡ Some x
-still None old new tells x e = let none = tells.0 in cc
-still (Some batch) None new tells x e = cc
-still (Some batch) (Some y) new tells x e = let now : y ≡ batch.now = tells.1 in let after = tells.0 in cc
+still answer old new tells x e = grind arith
 
 -- an answer keeps what is known at every place
 pub Keeps-set : (answer : Option (Bor Batch)) (notes : List (Note Batch)) (i : ℕ) (at new : Note Batch) → i < length notes →
@@ -75,7 +73,7 @@ Keeps-set answer notes i at new below is tells k x known =
     let len : i < length (known_of notes) = omega (arith, length-map notes (λ (n : Note Batch). n.known)) in
     rw e (elim (cases_eq k i) [
       | inl same ↦
-          let here : get_or (known_of notes) i None ≡ Some x = subst (λ (j : ℕ). get_or (known_of notes) j None ≡ Some x) same known in
+          let here : get_or (known_of notes) i None ≡ Some x = rw same at known in
           rw same (get_or-set_same (known_of notes) i new.known None len
           ∙ still answer at.known new.known tells x (sym (known_at notes i at below is) ∙ here))
       | inr other ↦ get_or-set_other (known_of notes) i k new.known None other ∙ known
@@ -101,9 +99,8 @@ module _ (mine theirs : List (Note Batch)) (i : ℕ) (m n : Note Batch) (cells :
       elim (cases_eq k i) [
         | inl same ↦
             let len = as_long mine theirs cells in
-            let x_is : get_or (known_of mine) i None ≡ Some x = subst (λ (j : ℕ). get_or (known_of mine) j None ≡ Some x) same mine_x in
-            let y_is : get_or (known_of theirs) i None ≡ Some y =
-            subst (λ (j : ℕ). get_or (known_of theirs) j None ≡ Some y) same theirs_y in
+            let x_is : get_or (known_of mine) i None ≡ Some x = rw same at mine_x in
+            let y_is : get_or (known_of theirs) i None ≡ Some y = rw same at theirs_y in
             agree m.known n.known agrees x y (sym (known_at mine i m below m_is) ∙ x_is)
             (sym (known_at theirs i n (omega arith) n_is) ∙ y_is)
         | inr other ↦ before k x y (omega arith) mine_x theirs_y

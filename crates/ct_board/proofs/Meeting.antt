@@ -1,5 +1,5 @@
 -- What is learned of a watcher that looks at place after place and finds the batches of a list.
-use Rattle.std.proofs.Common.{◌≡◌, ℕ, ◌+◌, ◌<◌, ◌≤◌, List, Option, Some, None, All, IsSome, length, take, get_or, sym, ◌∙◌, subst, arith}
+use Rattle.std.proofs.Common.{◌≡◌, ℕ, ◌+◌, ◌<◌, ◌≤◌, List, Option, Some, All, IsSome, length, take, sym, ◌∙◌, subst, arith}
 use Rattle.std.proofs.Common.{inl, inr}
 use Rattle.std.specs.Prelude.{slice_get}
 use Rattle.std.proofs.lemmas.Bool.{cases_eq}
@@ -20,8 +20,7 @@ pub knows_more : (list : List Batch) (old new : List (Option Batch)) (n : ℕ) (
 knows_more list old new n found before keeps known is k b less at =
     elim (cases_eq k n) [
       | inl same ↦
-          let here : slice_get list n ≡ Some b = subst (λ (j : ℕ). slice_get list j ≡ Some b) same at in
-          subst (λ (j : ℕ). get_or new j None ≡ Some b) (sym same) (known ∙ (sym is ∙ here))
+          rw same (known ∙ (sym is ∙ (rw same at at)))
       | inr other ↦ keeps k b (before k b (omega arith) at)
     ]
 

@@ -1,6 +1,6 @@
 -- The first values of a list, where all of them are known.
 use Rattle.std.proofs.Common.{◌≡◌, ℕ, ◌+◌, ◌<◌, ◌≤◌, zero, suc, List, [], ◌∷◌, ◌++◌, Option, Some, None, All, IsSome, take, length, get_or}
-use Rattle.std.proofs.Common.{false, true, refl, sym, ◌∙◌, ap, subst, arith, inl, inr}
+use Rattle.std.proofs.Common.{false, true, refl, sym, ◌∙◌, ap, arith, inl, inr}
 use Rattle.std.specs.Prelude.{slice_get}
 use Rattle.ct_board.specs.Known.{somes, Knows, Keeps, SameWhereKnown}
 use Rattle.ct_names.specs.Prefix.{IsPrefix, OneBegins}
@@ -48,7 +48,7 @@ module _ {A : Type 0} where
       let e : Some y ≡ Some x = keeps 0 x refl in
       let same : y ≡ x = cc in
       let more = somes_kept n xs ys (rest_known (Some x) (take n xs) known) (omega arith) (λ k z h. keeps (suc k) z h) in
-      record { known = more_known y (take n ys) more.known; same = ap (λ z. z ∷ somes (take n ys)) same ∙ ap (λ zs. x ∷ zs) more.same }
+      record { known = more_known y (take n ys) more.known; same = rw (same, more.same) refl }
 
   -- the first m are known: the first n, and then x
   pub record AreAndNext (n m : ℕ) (xs : List (Option A)) (x : A) : Type 0 where
@@ -62,16 +62,12 @@ module _ {A : Type 0} where
   somes_next zero (Some y ∷ xs) x known within knows =
       let e : Some y ≡ Some x = knows in
       let same : y ≡ x = cc in
-      record { known = more_known y [] known; appended = ap (λ z. z ∷ []) same }
+      record { known = more_known y [] known; appended = rw same refl }
   somes_next (suc n) (None ∷ xs) x known within knows = absurd (none_known (take n xs) known)
   somes_next (suc n) (Some y ∷ xs) x known within knows =
       let more = somes_next n xs x (rest_known (Some y) (take n xs) known) (omega arith) knows in
-      let one : suc (n + 1) ≡ suc n + 1 = omega arith in
-      subst (λ m. AreAndNext (suc n) m (Some y ∷ xs) x) one (record {
-        known = more_known y (take (n + 1) xs) more.known;
-        appended =
-            ap (λ zs. y ∷ zs) more.appended;
-      })
+      let one : suc n + 1 ≡ suc (n + 1) = omega arith in
+      rw one (record { known = more_known y (take (n + 1) xs) more.known; appended = rw more.appended refl })
 
   -- where two lists agree, of the first values of each one begins the other
   pub one_begins : (m n : ℕ) (xs ys : List (Option A)) → All IsSome (take m xs) → m ≤ length xs → All IsSome (take n ys) → n ≤ length ys →
@@ -86,8 +82,8 @@ module _ {A : Type 0} where
       let e : x ≡ y = same 0 x y refl refl in
       elim (one_begins m n xs ys (rest_known (Some x) (take m xs) known) (omega arith) (rest_known (Some y) (take n ys) known_y)
       (omega arith) (λ k a b. same (suc k) a b)) [
-        | inl h ↦ inl (h.0, ap (λ z. z ∷ (somes (take m xs) ++ h.0)) e ∙ ap (λ zs. y ∷ zs) h.1)
-        | inr h ↦ inr (h.0, ap (λ z. z ∷ (somes (take n ys) ++ h.0)) (sym e) ∙ ap (λ zs. x ∷ zs) h.1)
+        | inl h ↦ inl (h.0, rw (e, h.1) refl)
+        | inr h ↦ inr (h.0, rw (e, h.1) refl)
       ]
 
   -- a list agrees with itself
@@ -103,7 +99,7 @@ module _ {A : Type 0} where
   somes_begin (suc m) (suc n) (None ∷ xs) less known within = absurd (none_known (take n xs) known)
   somes_begin (suc m) (suc n) (Some x ∷ xs) less known within =
       let h = somes_begin m n xs (omega arith) (rest_known (Some x) (take n xs) known) (omega arith) in
-      (h.0, ap (λ zs. x ∷ zs) h.1)
+      (h.0, rw h.1 refl)
 
   -- the first values are those of the list
   pub record AreFirst (list : List A) (xs : List (Option A)) : Type 0 where
@@ -120,10 +116,8 @@ module _ {A : Type 0} where
       let e : Some x ≡ Some y = each 0 y refl in
       let same : x ≡ y = cc in
       let more = somes_are list xs (λ k z h. each (suc k) z h) in
-      let within = more.within in
       record {
-        within = omega arith;
+        within = omega (arith, more.within);
         known = more_known x (take (length list) xs) more.known;
-        same =
-            ap (λ z. z ∷ somes (take (length list) xs)) same ∙ ap (λ zs. y ∷ zs) more.same;
+        same = rw (same, more.same) refl;
       }

@@ -14,10 +14,8 @@ fn message(number: u32) -> Result<Message, &'static str> {
 
 // The batch of instance 1 with that message.
 fn batch(alloc: Global, number: u32) -> Result<Box<Batch>, Fail> {
-    let mut caster = Caster::new(alloc);
-    caster.begin();
     let set = MsgSet::of(alloc, &[message(number)?])?;
-    Ok(Box::new(alloc, caster.batch(alloc, &set)?)?)
+    Ok(Box::new(alloc, Caster::new(alloc).batch(alloc, 1, &set)?)?)
 }
 
 fn is_of(batch: &Batch, number: u32) -> Result<bool, Fail> {

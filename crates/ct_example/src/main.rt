@@ -7,7 +7,7 @@ ghost use Rattle.ct_rehearse.specs.Plans.{IsWithin};
 
 use ct_board::{Board, Watcher};
 use ct_detect::{Ask, Detector};
-use ct_names::{Command, Group};
+use ct_names::{Command, Group, MAX_BOUND};
 use ct_rehearse::{Disturbance, Gate, Plan, Rehearsed, rehearse};
 use ct_world::World;
 use std::alloc::{AllocError, Global};
@@ -87,7 +87,14 @@ fn print_batches(rt: &HostRuntime, watcher: &Watcher) {
 
 // Whether the record leads to a world again.
 fn replays(alloc: Global, world: &World) -> bool {
-    World::replay(alloc, world.group(), world.cells(), world.record()).is_ok()
+    World::replay(
+        alloc,
+        world.group(),
+        world.cells(),
+        world.bound(),
+        world.record(),
+    )
+    .is_ok()
 }
 
 // Three members make 500 turns each, while a script submits four messages and then crashes member 2, which coordinates the
@@ -108,7 +115,7 @@ fn run<R: Threads + Wait + Sync>(rt: &R, alloc: Global, gate: &Counter) -> Optio
 
 // A world of three members, and its board.
 fn begun(alloc: Global) -> Option<(World, Board)> {
-    let world = World::new(alloc, Group::new(3)?, 16).ok()?;
+    let world = World::new(alloc, Group::new(3)?, 16, MAX_BOUND).ok()?;
     let board = Board::new(alloc, 16).ok()?;
     Some((world, board))
 }

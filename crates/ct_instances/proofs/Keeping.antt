@@ -1,7 +1,7 @@
 -- What is kept of a member's instances stays what its state says: as the list of values grows, a wire is noted, room is
--- made, and an instance is opened and closed.
-use Rattle.std.proofs.Common.{◌≡◌, ℕ, ◌+◌, List, [], ◌∷◌, ◌++◌, length, filter_map, Option, Some, None, option_map, refl, ap, sym, ◌∙◌}
-use Rattle.std.proofs.Common.{subst}
+-- made, and an instance is opened, closed, and followed.
+use Rattle.std.proofs.Common.{◌≡◌, ℕ, ◌+◌, List, [], ◌∷◌, ◌++◌, length, filter_map, Option, Some, None, option_map}
+use Rattle.std.proofs.Common.{refl, ap, sym, ◌∙◌, arith}
 use Rattle.std.specs.List.{cons_option}
 use Rattle.std.specs.Option.{option_or}
 use Rattle.std.proofs.lemmas.List.Elements.{filter_map-append}
@@ -9,11 +9,11 @@ use Rattle.ct_names.specs.Value.{Value}
 use Rattle.ct_model.specs.declared.phase.Phase.TheVariants.{Rest}
 use Rattle.ct_model.specs.declared.wire.Wire.{Wire as AnyWire}
 use Rattle.ct_model.specs.AtValue.{Wire}
-use Rattle.ct_model.specs.State.{Standing as AnyStanding, Member, new_member}
+use Rattle.ct_model.specs.State.{Member, new_member}
 use Rattle.ct_names.specs.Batch.{Batch}
 use Rattle.ct_model.specs.Received.{Ballots, head, decision_of, decided, ballots}
 use Rattle.ct_model.specs.Counted.{count_in, NamesSomebody}
-use Rattle.ct_model.specs.Mapped.{wire_map, standing_map, ballots_map}
+use Rattle.ct_model.specs.Mapped.{ballots_map}
 use Rattle.ct_model.proofs.Numbers.Counts.{ballots-push, ballots-none, count_in-map}
 use Rattle.ct_model.proofs.Basics.Options.{some-same, some-none}
 use Rattle.ct_rounds.specs.Part.{Part}
@@ -44,17 +44,13 @@ keeps-same n values p m m' kept got last current h = record {
   members = h.members;
   me = h.me;
   last = h.last ∙ sym last;
-  part = λ c is. subst (λ k. IsPartOf n p k c) (sym last) (h.part c is);
-  standing = h.standing ∙ ap (option_map (standing_map Some)) (sym current);
-  ballots = λ k r. h.ballots k r ∙ ap (λ ws. ballots_map Some (ballots ws k r)) (sym got);
-  decisions = λ k. h.decisions k ∙ ap (λ ws. option_map Some (decided ws k)) (sym got);
+  part = λ c is. rw last (h.part c is);
+  standing = rw current h.standing;
+  ballots = λ k r. rw got (h.ballots k r);
+  decisions = λ k. rw got (h.decisions k);
 }
 
 -- nothing was got, and nothing began
-
-no-decision : (k : ℕ) → decided {V = Value} [] k ≡ None
-unfolding decided
-no-decision k = refl
 
 pub keeps-new : (n : ℕ) (values : List Value) (p : ℕ) → KeepsInstances n values p new_member
     (record { members = n; me = p; last = 0; part = None; entries = [] })
@@ -65,42 +61,34 @@ keeps-new n values p = record {
   part = λ c is. some-none c is;
   standing = refl;
   ballots = λ k r. ap (ballots_map Some) (sym (ballots-none k r));
-  decisions = λ k. ap (option_map Some) (sym (no-decision k));
+  decisions = λ k. unfold decided in refl;
 }
 
 -- a wire is noted
-
-head-push : {A : Type 0} (xs : List A) (o : Option A) → head (xs ++ cons_option o []) ≡ option_or (head xs) o
-head-push [] None = refl
-head-push [] (Some x) = refl
-head-push (x ∷ xs) o = refl
 
 -- the first decision stays
 pub decided-push : {V : Type 0} (got : List (AnyWire V)) (w : AnyWire V) (k : ℕ) →
     decided (got ++ w ∷ []) k ≡ option_or (decided got k) (decision_of k w)
 unfolding decided
-decided-push got w k = ap head (filter_map-append (decision_of k) got (w ∷ []))
-    ∙ head-push (filter_map (decision_of k) got) (decision_of k w)
+decided-push {V} got w k =
+    ap head (filter_map-append (decision_of k) got (w ∷ [])) ∙ go (filter_map (decision_of k) got) (decision_of k w)
+  where
+    go : (xs : List V) (o : Option V) → head (xs ++ cons_option o []) ≡ option_or (head xs) o
+    go xs o = grind arith
 
 or-map : {A B : Type 0} (f : A → B) (a b : Option A) → option_or (option_map f a) (option_map f b) ≡ option_map f (option_or a b)
-or-map f None b = refl
-or-map f (Some x) b = refl
+or-map f a b = grind arith
 
 ballots-noted : (values : List Value) (a : Ballots ℕ) (t : Ballots Value) (k r : ℕ) (x : AnyWire ℕ) (w : Wire) → NamesBallots values a t →
     NamesWire values x w → NamesBallots values (count_in a k r x) (count_in t k r w)
 ballots-noted values a t k r x w h e =
-    sym (count_in-map (value_at values) a k r x)
-    ∙ ap (λ z. count_in z k r (wire_map (value_at values) x)) h
-    ∙ ap (count_in (ballots_map Some t) k r) e
-    ∙ count_in-map Some t k r w
+    sym (count_in-map (value_at values) a k r x) ∙ rw (h, e) (count_in-map Some t k r w)
 
 decision-noted : (values : List Value) (a : Option ℕ) (o : Option Value) (k : ℕ) (x : AnyWire ℕ) (w : Wire) → NamesDecision values a o →
     NamesWire values x w → NamesDecision values (option_or a (decision_of k x)) (option_or o (decision_of k w))
 decision-noted values a o k x w h e =
     sym (or-map (value_at values) a (decision_of k x))
-    ∙ ap (λ z. option_or z (option_map (value_at values) (decision_of k x))) h
-    ∙ ap (option_or (option_map Some o)) (sym (decision_of-map (value_at values) k x) ∙ ap (decision_of k) e ∙ decision_of-map Some k w)
-    ∙ or-map Some o (decision_of k w)
+    ∙ rw (h, ← decision_of-map (value_at values) k x, e, decision_of-map Some k w) (or-map Some o (decision_of k w))
 
 -- other entries, where these are the ballots and decisions
 keeps-entries : (n : ℕ) (values : List Value) (p : ℕ) (m m' : Member) (kept kept' : Kept) → KeepsInstances n values p m kept →
@@ -108,12 +96,11 @@ keeps-entries : (n : ℕ) (values : List Value) (p : ℕ) (m m' : Member) (kept 
     ((k r : ℕ) → NamesBallots values (ballots_of kept' k r) (ballots m'.got k r)) →
     ((k : ℕ) → NamesDecision values (decision_at kept' k) (decided m'.got k)) → KeepsInstances n values p m' kept'
 keeps-entries n values p m m' kept kept' h last current rest got_ballots got_decisions = record {
-  members = ap (λ (z : Kept). z.members) rest ∙ h.members;
-  me = ap (λ (z : Kept). z.me) rest ∙ h.me;
-  last = ap (λ (z : Kept). z.last) rest ∙ h.last ∙ sym last;
-  part = λ c is. subst (λ k. IsPartOf n p k c) (sym last) (h.part c (sym (ap (λ (z : Kept). z.part) rest) ∙ is));
-  standing = ap (λ (z : Kept). option_map (λ c. standing_map (value_at values) c) (option_map (λ (c : Part). c.standing) z.part)) rest
-      ∙ h.standing ∙ ap (option_map (standing_map Some)) (sym current);
+  members = rw rest h.members;
+  me = rw rest h.me;
+  last = rw (rest, last) h.last;
+  part = λ c is. rw last (h.part c (rw rest at is));
+  standing = rw (rest, current) h.standing;
   ballots = got_ballots;
   decisions = got_decisions;
 }
@@ -126,14 +113,10 @@ pub keeps-noted : (n : ℕ) (values : List Value) (p : ℕ) (m : Member) (x : An
     → KeepsInstances n values p (record m { got = m.got ++ w ∷ [] }) kept'
 keeps-noted n values p m x w kept kept' h e somebody new_ballots new_decisions rest =
     keeps-entries n values p m (record m { got = m.got ++ w ∷ [] }) kept kept' h refl refl rest
-    (λ k r.
-    ap (ballots_map (value_at values)) (new_ballots k r)
-    ∙ ballots-noted values (ballots_of kept k r) (ballots m.got k r) k r x w (h.ballots k r) e
-    ∙ ap (ballots_map Some) (sym (ballots-push m.got k r w somebody)))
-    (λ k.
-    ap (option_map (value_at values)) (new_decisions k)
-    ∙ decision-noted values (decision_at kept k) (decided m.got k) k x w (h.decisions k) e
-    ∙ ap (option_map Some) (sym (decided-push m.got w k)))
+    (λ k r. rw (new_ballots k r, ballots-push m.got k r w somebody)
+    (ballots-noted values (ballots_of kept k r) (ballots m.got k r) k r x w (h.ballots k r) e))
+    (λ k. rw (new_decisions k, decided-push m.got w k)
+    (decision-noted values (decision_at kept k) (decided m.got k) k x w (h.decisions k) e))
 
 -- room is made
 pub keeps-prepared : (n : ℕ) (values : List Value) (p : ℕ) (m : Member) (kept kept' : Kept) → KeepsInstances n values p m kept
@@ -143,17 +126,14 @@ pub keeps-prepared : (n : ℕ) (values : List Value) (p : ℕ) (m : Member) (kep
     → KeepsInstances n values p m kept'
 keeps-prepared n values p m kept kept' h same_ballots same_decisions rest =
     keeps-entries n values p m m kept kept' h refl refl rest
-    (λ k r. ap (ballots_map (value_at values)) (same_ballots k r) ∙ h.ballots k r)
-    (λ k. ap (option_map (value_at values)) (same_decisions k) ∙ h.decisions k)
+    (λ k r. rw (same_ballots k r) (h.ballots k r)) (λ k. rw (same_decisions k) (h.decisions k))
 
 -- the next instance is opened with a value that joins the list
 
 pub keeps-opened : (n : ℕ) (values : List Value) (p : ℕ) (m : Member) (kept : Kept) (v : Value) → KeepsInstances n values p m kept →
-    KeepsInstances n (values ++ v ∷ []) p (record m {
-      last = m.last + 1;
-      current =
-          Some (record { round = 0; phase = Rest; estimate = v; ts = 0 });
-    }) (opened kept (length values))
+    KeepsInstances n (values ++ v ∷ []) p
+    (record m { last = m.last + 1; current = Some (record { round = 0; phase = Rest; estimate = v; ts = 0 }) })
+    (opened kept (length values))
 keeps-opened n values p m kept v old =
     let h = keeps-grown n values (v ∷ []) p m kept old in
     let last : kept.last + 1 ≡ m.last + 1 = ap (λ k. k + 1) h.last in
@@ -161,17 +141,15 @@ keeps-opened n values p m kept v old =
       members = kept.members;
       me = kept.me;
       instance = kept.last + 1;
-      standing =
-          record { round = 0; phase = Rest; estimate = length values; ts = 0 };
+      standing = record { round = 0; phase = Rest; estimate = length values; ts = 0 };
     } in
     let is_part : IsPartOf n p (m.last + 1) part = record { members_is = h.members; me_is = h.me; instance_is = last } in
     record {
       members = h.members;
       me = h.me;
       last = last;
-      part = λ c is. subst (λ z. IsPartOf n p (m.last + 1) z) (some-same part c is) is_part;
-      standing = ap (λ estimate. let c : AnyStanding (Option Value) = record { round = 0; phase = Rest; estimate = estimate; ts = 0 } in
-          Some c) (value_at-last values v);
+      part = λ c is. rw (← some-same part c is) is_part;
+      standing = rw (value_at-last values v) refl;
       ballots = h.ballots;
       decisions = h.decisions;
     }
@@ -187,6 +165,21 @@ keeps-closed n values p m kept batches h = record {
   last = h.last;
   part = λ c is. some-none c is;
   standing = refl;
+  ballots = h.ballots;
+  decisions = h.decisions;
+}
+
+-- and, while none is open, the next one is followed
+
+pub keeps-followed : (n : ℕ) (values : List Value) (p : ℕ) (m : Member) (kept : Kept) (batches : List Batch) → kept.part ≡ None →
+    KeepsInstances n values p m kept → KeepsInstances n values p (record m { last = m.last + 1; current = None; batches = batches })
+    (record kept { last = kept.last + 1 })
+keeps-followed n values p m kept batches idle h = record {
+  members = h.members;
+  me = h.me;
+  last = ap (λ k. k + 1) h.last;
+  part = λ c is. some-none c (sym idle ∙ is);
+  standing = rw idle refl;
   ballots = h.ballots;
   decisions = h.decisions;
 }

@@ -1,5 +1,5 @@
 -- The steps of the open instance: with values by number they are refused and taken as with the values themselves.
-use Rattle.std.proofs.Common.{◌≡◌, ℕ, false, List, [], ◌∷◌, ◌+◌, Option, Some, None, is_none, option_map, option_and_then, refl, ap, sym}
+use Rattle.std.proofs.Common.{◌≡◌, ℕ, false, List, [], ◌∷◌, ◌+◌, Option, Some, None, is_none, option_map, refl, ap, sym}
 use Rattle.std.proofs.Common.{◌∙◌, subst}
 use Rattle.std.specs.Prelude.{nat_lt, ◌&&◌}
 use Rattle.std.specs.Option.{option_map_or}
@@ -10,9 +10,9 @@ use Rattle.ct_model.specs.declared.moves.Move.{Move}
 use Rattle.ct_model.specs.Setting.{Setting}
 use Rattle.ct_model.specs.State.{State, Member, Standing as AnyStanding, Turn as AnyTurn}
 use Rattle.ct_model.specs.AtValue.{Standing, Turn}
-use Rattle.ct_model.specs.Received.{Ballots, ballots, decided}
+use Rattle.ct_model.specs.Received.{Ballots, decided}
 use Rattle.ct_model.specs.Moves.{step_of, turn_of, faults_of, sent_by, is_enter}
-use Rattle.ct_model.specs.Mapped.{ballots_map, standing_map, turn_map}
+use Rattle.ct_model.specs.Mapped.{standing_map, turn_map}
 use Rattle.ct_model.specs.Next.{own_ballots, turn_at, round_row, turned}
 use Rattle.ct_model.specs.Cause.{Test, at, first_fault, open_tests, faults_at, tests}
 use Rattle.ct_model.proofs.Steps.RoundSteps.{turn-map, faults-map, tests-move}
@@ -35,10 +35,9 @@ pub record IsTurnedBy (m : Member) (values : List Value) (step : Standing → Op
   pub keeps : KeepsInstances n values p (record m { current = Some turn.after }) stepped.after
 
 -- so the row of the step gives this turn
-pub turned-row : (m : Member) (values : List Value) (step : Standing →
-    Option Turn) (n p : ℕ) (stepped : Stepped) (t : IsTurnedBy m values step n p stepped) → round_row m step ≡ Some (turned m t.turn)
-turned-row m values step n p stepped t = ap (λ o. option_map (turned m) (option_and_then step o)) t.is_open
-    ∙ ap (option_map (turned m)) t.taken
+pub turned-row : (m : Member) (values : List Value) (step : Standing → Option Turn) (n p : ℕ) (stepped : Stepped)
+    (t : IsTurnedBy m values step n p stepped) → round_row m step ≡ Some (turned m t.turn)
+turned-row m values step n p stepped t = rw (t.is_open, t.taken) refl
 
 module _ (s : Setting) (values : List Value) (p : ℕ) (m : Member) (kept : Kept) (h : KeepsInstances s.members values p m kept) where
   -- the standing is that of the part, with its value
@@ -52,26 +51,15 @@ module _ (s : Setting) (values : List Value) (p : ℕ) (m : Member) (kept : Kept
     where
       go : (o : Option Part) (u : Option Standing) → kept.part ≡ o → NamesStanding values (option_map (λ c. c.standing) o) u → f o ≡ g u
       go None None is e = none
-      go None (Some x) is e = absurd (cc)
-      go (Some c) None is e = absurd (cc)
       go (Some c) (Some x) is e = some c x is (some-same (standing_map (value_at values) c.standing) (standing_map Some x) e)
+      go _ _ is e = absurd (cc)
 
   -- what was got for its round
   own : (c : Part) (x : Standing) → Names c x → NamesBallots values (got (open_rounds kept) c) (own_ballots m x)
-  own c x e =
-      h.ballots kept.last c.standing.round
-      ∙ ap (λ k. ballots_map Some (ballots m.got k c.standing.round)) h.last
-      ∙ ap (λ r. ballots_map Some (ballots m.got m.last r)) (standing_round values c.standing x e)
+  own c x e = rw (← h.last, ← standing_round values c.standing x e) (h.ballots kept.last c.standing.round)
 
   own-decision : NamesDecision values (open_decision kept) (decided m.got m.last)
-  own-decision = h.decisions kept.last ∙ ap (λ k. option_map Some (decided m.got k)) h.last
-
-  -- whose part it is
-  whose : {A : Type 0} (f : ℕ → ℕ → ℕ → A) (c : Part) → IsPartOf s.members p m.last c → f c.members c.me c.instance ≡ f s.members p m.last
-  whose f c is =
-      ap (λ n. f n c.me c.instance) is.members_is
-      ∙ ap (λ q. f s.members q c.instance) is.me_is
-      ∙ ap (f s.members p) is.instance_is
+  own-decision = rw (← h.last) (h.decisions kept.last)
 
   -- what is read of the open instance
 
@@ -98,13 +86,14 @@ module _ (s : Setting) (values : List Value) (p : ℕ) (m : Member) (kept : Kept
   action-tests g line q a =
       tests-same (λ c. faults_of c.members (open_decision kept) (got (open_rounds kept) c) c.standing a) (faults_at s.members m a)
       (λ c x is e.
-      let t = got (open_rounds kept) c in
-      ap (λ n. faults_of n (open_decision kept) t c.standing a) (h.part c is).members_is
-      ∙ sym (faults-map (value_at values) s.members (open_decision kept) t c.standing a)
-      ∙ ap (λ d. faults_of s.members d (ballots_map (value_at values) t) (standing_map (value_at values) c.standing) a) own-decision
-      ∙ ap (λ z. faults_of s.members (option_map Some (decided m.got m.last)) z (standing_map (value_at values) c.standing) a) (own c x e)
-      ∙ ap (λ z. faults_of s.members (option_map Some (decided m.got m.last)) (ballots_map Some (own_ballots m x)) z a) e
-      ∙ faults-map Some s.members (decided m.got m.last) (own_ballots m x) x a)
+      cc (
+        (h.part c is).members_is,
+        faults-map (value_at values) s.members (open_decision kept) (got (open_rounds kept) c) c.standing a,
+        own-decision,
+        own c x e,
+        e,
+        faults-map Some s.members (decided m.got m.last) (own_ballots m x) x a,
+      ))
       ∙ ap first_fault (sym (tests-move s g m line q a))
 
   pub action-sent : (a : Move) → sent kept a ≡ option_map_or (λ x. sent_by s.members (own_ballots m x).acked a) m.current 0
@@ -134,17 +123,13 @@ module _ (s : Setting) (values : List Value) (p : ℕ) (m : Member) (kept : Kept
   keeps-turned c turn t is e =
       let part = h.part c is in
       let new : Part = record c { standing = turn.after } in
-      let new_part : IsPartOf s.members p m.last new = record {
-        members_is = part.members_is;
-        me_is = part.me_is;
-        instance_is =
-            part.instance_is;
-      } in
+      let new_part : IsPartOf s.members p m.last new =
+      record { members_is = part.members_is; me_is = part.me_is; instance_is = part.instance_is } in
       record {
         members = h.members;
         me = h.me;
         last = h.last;
-        part = λ d same. subst (λ z. IsPartOf s.members p m.last z) (some-same new d same) new_part;
+        part = λ d same. rw (← some-same new d same) new_part;
         standing = ap (λ (z : AnyTurn (Option Value)). Some z.after) e;
         ballots = h.ballots;
         decisions = h.decisions;
@@ -177,13 +162,13 @@ module _ (s : Setting) (values : List Value) (p : ℕ) (m : Member) (kept : Kept
   action-turn a stepped is =
       turned-by (λ c. turn_of c.members c.me c.instance (open_decision kept) (got (open_rounds kept) c) c.standing a)
       (turn_at s.members p m a) stepped
-      (λ c x is e.
-      let t = got (open_rounds kept) c in
-      ap (option_map (turn_map (value_at values))) (whose (λ n q k. turn_of n q k (open_decision kept) t c.standing a) c is)
-      ∙ sym (turn-map (value_at values) s.members p m.last (open_decision kept) t c.standing a)
-      ∙ ap (λ d. turn_of s.members p m.last d (ballots_map (value_at values) t) (standing_map (value_at values) c.standing) a) own-decision
-      ∙ ap (λ z. turn_of s.members p m.last (option_map Some (decided m.got m.last)) z (standing_map (value_at values) c.standing) a)
-      (own c x e)
-      ∙ ap (λ z. turn_of s.members p m.last (option_map Some (decided m.got m.last)) (ballots_map Some (own_ballots m x)) z a) e
-      ∙ turn-map Some s.members p m.last (decided m.got m.last) (own_ballots m x) x a)
-      is
+      (λ c x part e. cc (
+        part.members_is,
+        part.me_is,
+        part.instance_is,
+        turn-map (value_at values) s.members p m.last (open_decision kept) (got (open_rounds kept) c) c.standing a,
+        own-decision,
+        own c x e,
+        e,
+        turn-map Some s.members p m.last (decided m.got m.last) (own_ballots m x) x a,
+      )) is

@@ -1,5 +1,5 @@
--- What is true of the open part, whatever was done.
-use Rattle.std.specs.Prelude.{◌≡◌, ℕ, IsTrue, List, nat_eq, is_some}
+-- What is true of the open part and of the entries, whatever was done.
+use Rattle.std.specs.Prelude.{◌≡◌, ℕ, ◌^◌, ◌<◌, IsTrue, List, nat_eq, is_some}
 use Rattle.std.specs.Map.{lookup}
 use Rattle.ct_rounds.specs.Part.{Part}
 use Rattle.ct_instances.specs.declared.entry.Entry.{Entry}
@@ -10,3 +10,7 @@ pub record IsPart (n me k : ℕ) (entries : List (ℕ × Entry)) (c : Part) : Ty
   pub me_is : c.me ≡ me
   pub instance_is : c.instance ≡ k
   pub has_entry : IsTrue (is_some (lookup (nat_eq k) entries))
+
+-- the number of each instance that has an entry fits
+abbrev pub FitInstances : List (ℕ × Entry) → Type 0
+FitInstances entries = (k : ℕ) → IsTrue (is_some (lookup (nat_eq k) entries)) → k < 2 ^ 32

@@ -1,7 +1,7 @@
 //! The instances of one member.
 
 ghost use Rattle.std.specs.Prelude.{◌≡◌, ◌+◌, [], IsTrue, IsSome, None};
-ghost use Rattle.ct_instances.specs.Kept.{has_room_open};
+ghost use Rattle.ct_instances.specs.Kept.{decision_at, has_room_open};
 ghost use Rattle.ct_instances.specs.Steps.{opened};
 
 mod copying;
@@ -25,7 +25,7 @@ use std::marker::Model;
 pub struct Instances {
     group: Group,
     me: Member,
-    // The last instance that was opened, 0 before the first.
+    // The last instance that was begun, 0 before the first.
     last: Instance,
     part: Option<Consensus>,
     entries: IndexMap<Instance, Entry>,
@@ -35,13 +35,13 @@ pub struct Instances {
 impl Model for Instances {
     ghost use Rattle.std.specs.Prelude.{IfSome};
     ghost use Rattle.ct_instances.specs.Kept.{Kept};
-    ghost use Rattle.ct_instances.specs.Opened.{IsPart};
+    ghost use Rattle.ct_instances.specs.Opened.{FitInstances, IsPart};
 
     ghost Value = { Kept };
 
     ghost view = { λ i. record { members = i.group; me = i.me; last = i.last; part = i.part; entries = i.entries.entries } };
 
-    ghost invariant = { λ i. IfSome i.part (IsPart i.group i.me i.last i.entries.entries) };
+    ghost invariant = { λ i. IfSome i.part (IsPart i.group i.me i.last i.entries.entries) × FitInstances i.entries.entries };
 }
 
 impl Instances {
@@ -76,5 +76,14 @@ impl Instances {
         ensures { self.new ≡ record self.old { part = None } }
     {
         self.part = None;
+    }
+
+    /// Begins the next instance, whose decision is there, and closes it at once.
+    pub fn follow(&mut self)
+        requires idle { self.old.part ≡ None }
+        requires decided { IsSome (decision_at self.old (self.old.last + 1)) }
+        ensures { self.new ≡ record self.old { last = self.old.last + 1 } }
+    {
+        self.last += 1;
     }
 }

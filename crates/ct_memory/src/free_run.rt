@@ -6,7 +6,7 @@ use crate::fault::Fault;
 use ct_board::Board;
 use ct_detect::{Detector, Never};
 use ct_model::Step;
-use ct_names::{Command, Group};
+use ct_names::{Command, Group, MAX_BOUND};
 use ct_rehearse::{Hall, Made, NoGate, Plan, RunFault, Share};
 use ct_world::World;
 use std::alloc::Global;
@@ -76,7 +76,7 @@ fn submitted(alloc: Global) -> Result<(World, Board), Fault> {
     let Some(group) = Group::new(1) else {
         return Err(Fault::Group);
     };
-    let mut world = World::new(alloc, group, 4)?;
+    let mut world = World::new(alloc, group, 4, MAX_BOUND)?;
     let board = Board::new(alloc, 4)?;
     let _ = world.apply(&board, &Step::Submit(1, Command::Set(0, 7)))?;
     Ok((world, board))
@@ -87,7 +87,13 @@ fn replay_again(alloc: Global, world: &World, steps: u64) -> Result<(), Fault> {
     if world.record().len() as u64 != steps {
         return Err(Fault::Share);
     }
-    let (again, _board) = World::replay(alloc, world.group(), world.cells(), world.record())?;
+    let (again, _board) = World::replay(
+        alloc,
+        world.group(),
+        world.cells(),
+        world.bound(),
+        world.record(),
+    )?;
     if again.record() == world.record() {
         Ok(())
     } else {

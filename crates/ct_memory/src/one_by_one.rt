@@ -12,7 +12,7 @@ use std::alloc::Global;
 /// it was before. The world after all steps, and the number of the last step that was refused; 0 where none was.
 pub fn do_one_by_one(alloc: Global, record: &[u8]) -> Result<(World, usize), Fault> {
     let script = read_record(alloc, record)?;
-    let mut world = World::new(alloc, script.group, script.cells)?;
+    let mut world = World::new(alloc, script.group, script.cells, script.batch)?;
     let board = Board::new(alloc, usize::from(script.cells))?;
     let mut refused = 0;
     for (i, step) in script.steps.iter().enumerate() {

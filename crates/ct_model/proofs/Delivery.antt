@@ -3,6 +3,7 @@ pub mod Batches
 pub mod Proposals
 pub mod Comparable
 pub mod Prefixes
+pub mod Bounds
 pub mod Longest
 pub mod Order
 pub mod Safety

@@ -8,6 +8,8 @@ pub mod Rounds
 pub mod Submit
 pub mod Receive
 pub mod Begin
+pub mod Close
 pub mod Deliver
+pub mod Follow
 pub mod Crash
-pub mod Postpone
+pub mod LineSteps

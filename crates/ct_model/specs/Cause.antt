@@ -6,14 +6,14 @@ use Rattle.ct_names.specs.declared.limit.TheConstants.{MAX_SUBMISSIONS, MAX_INST
 use Rattle.ct_names.specs.declared.limit.Limit.TheVariants.{Submissions, Instances, Rounds, Envelopes, Cells, Steps}
 use Rattle.ct_names.specs.declared.refusal.Refusal.{Refusal}
 use Rattle.ct_names.specs.declared.refusal.Refusal.TheVariants.{NoSuchMember, Crashed, NotWaiting, Busy, Nothing, Idle, Undecided}
-use Rattle.ct_names.specs.declared.refusal.Refusal.TheVariants.{BadCommand, Full}
+use Rattle.ct_names.specs.declared.refusal.Refusal.TheVariants.{BadCommand, NotSent, StillWaiting, Full}
 use Rattle.ct_names.specs.Command.{is_good}
 use Rattle.ct_names.specs.Group.{is_member}
 use Rattle.ct_model.specs.declared.moves.Move.{Move}
 use Rattle.ct_model.specs.declared.moves.Move.TheVariants as moves
 use Rattle.ct_model.specs.declared.step.Step.{Step}
-use Rattle.ct_model.specs.declared.step.Step.TheVariants.{Submit, Receive, Begin, Enter, Choose, Adopt, Suspect, Conclude, Deliver, Crash}
-use Rattle.ct_model.specs.declared.step.Step.TheVariants.{Postpone}
+use Rattle.ct_model.specs.declared.step.Step.TheVariants.{Submit, Receive, Begin, Enter, Choose, Adopt, Suspect, Conclude, Deliver}
+use Rattle.ct_model.specs.declared.step.Step.TheVariants.{Follow, Crash, Postpone, Lose, Repeat}
 use Rattle.ct_model.specs.Setting.{Setting}
 use Rattle.ct_model.specs.State.{State, Member, member, is_crashed, submissions}
 use Rattle.ct_names.specs.Batch.{Batch}
@@ -21,7 +21,7 @@ use Rattle.ct_model.specs.Actor.{actor}
 use Rattle.ct_model.specs.AtValue.{Standing}
 use Rattle.ct_model.specs.Received.{decided}
 use Rattle.ct_model.specs.Moves.{faults_of}
-use Rattle.ct_model.specs.Next.{next, undelivered, is_empty, own_ballots}
+use Rattle.ct_model.specs.Next.{next, wire_to, proposed, is_empty, own_ballots}
 use Rattle.ct_model.specs.Waiting.{has_serial}
 use Rattle.ct_model.specs.Rehearsal.{Rehearsal, state_of, line_of}
 pub use Rattle.ct_model.specs.Test.{Test, at, first_fault}
@@ -42,15 +42,18 @@ faults_at n m action c = faults_of n (decided m.got m.last) (own_ballots m c) c 
 abbrev pub tests : Setting → State → Member → List ℕ → Step → List Test
 tests s g m line (Submit _ c) = at BadCommand (not (is_good c)) ∷ []
 tests s g m line (Receive _ k) = at NotWaiting (not (has_serial k line)) ∷ []
-tests s g m line (Begin _) = at Busy (is_some m.current) ∷ at Nothing (is_empty (undelivered m)) ∷ []
+tests s g m line (Begin _) = at Busy (is_some m.current) ∷ at Nothing (is_empty (proposed s m)) ∷ []
 tests s g m line (Enter _) = open_tests m (faults_at s.members m moves.Enter)
 tests s g m line (Choose _ from) = open_tests m (faults_at s.members m (moves.Choose from))
 tests s g m line (Adopt _) = open_tests m (faults_at s.members m moves.Adopt)
 tests s g m line (Suspect _) = open_tests m (faults_at s.members m moves.Suspect)
 tests s g m line (Conclude _) = open_tests m (faults_at s.members m moves.Conclude)
 tests s g m line (Deliver _) = open_tests m (λ c. at Undecided (is_none (decided m.got m.last)) ∷ [])
+tests s g m line (Follow _) = at Busy (is_some m.current) ∷ at Undecided (is_none (decided m.got (m.last + 1))) ∷ []
 tests s g m line (Crash _) = []
 tests s g m line (Postpone _ k) = at NotWaiting (not (has_serial k line)) ∷ []
+tests s g m line (Lose _ k) = at NotWaiting (not (has_serial k line)) ∷ []
+tests s g m line (Repeat p k) = at NotSent (is_none (wire_to g p k)) ∷ at StillWaiting (has_serial k line) ∷ []
 
 -- the longest of the lists and this one, the first of them where some are equally long
 abbrev pub longest : {A : Type 0} → List A → List (List A) → List A

@@ -1,14 +1,15 @@
 -- What is true of every record that a world keeps.
-use Rattle.std.specs.Prelude.{◌≡◌, ℕ, ◌-◌, ◌<◌, ◌≤◌, Bool, true, false, not, ◌&&◌, List, [], ◌∷◌, length, slice_get, Some}
-use Rattle.std.specs.List.{list_any}
+use Rattle.std.specs.Prelude.{◌≡◌, ℕ, ◌-◌, ◌<◌, ◌≤◌, Bool, true, false, not, ◌&&◌, ◌||◌, List, [], ◌∷◌, length, fold, slice_get}
+use Rattle.std.specs.Prelude.{is_some, Some}
 use Rattle.ct_names.specs.declared.limit.TheConstants.{MAX_ENVELOPES, MAX_INSTANCES, MAX_ROUNDS, MAX_STEPS, MAX_SUBMISSIONS}
 use Rattle.ct_names.specs.Group.{is_member}
 use Rattle.ct_model.specs.declared.step.Step.{Step}
 use Rattle.ct_model.specs.AtValue.{Envelope}
 use Rattle.ct_model.specs.State.{State, member, is_crashed, submissions}
+use Rattle.ct_model.specs.Next.{wire_to}
 use Rattle.ct_model.specs.Run.{run}
-use Rattle.ct_model.specs.Waiting.{has_serial, serials_to, LineChange, line_change, takes}
-use Rattle.ct_model.specs.Waiting.LineChange.{Takes, Defers, Leaves}
+use Rattle.ct_model.specs.Waiting.{has_serial, serials_to, LineChange, line_change, takes, restores}
+use Rattle.ct_model.specs.Waiting.LineChange.{Takes, Defers, Restores, Leaves}
 use Rattle.ct_model.specs.Rehearsal.{Rehearsal, state_of, line_of}
 use Rattle.ct_model.specs.Cause.{round_of, order}
 
@@ -26,18 +27,22 @@ pub record IsWithin (cells : ℕ) (g : State) (steps : ℕ) : Type 0 where
   pub few_batches : length (order g) ≤ cells
   pub few_steps : steps ≤ MAX_STEPS
 
--- some step takes the serial out of p's line
-abbrev pub is_taken : ℕ → List Step → ℕ → Bool
-is_taken p steps k = list_any (λ step. takes p k (line_change step)) steps
+-- whether the serial is gone from p's line after a change, where it was so or not before
+abbrev pub gone_after : ℕ → ℕ → Bool → LineChange → Bool
+gone_after p k gone change = (gone || takes p k change) && not (restores p k change)
 
--- the record is a run that ends in its state, within the limits; and what holds of its waiting lines: no step takes a
--- serial before it is sent; what waits are the serials that were sent to the member and that no step took, each once
+-- of the steps that take the serial out of p's line or put it back, the last takes it out
+abbrev pub is_gone : ℕ → List Step → ℕ → Bool
+is_gone p steps k = fold (λ gone step. gone_after p k gone (line_change step)) false steps
+
+-- the record is a run that ends in its state, within the limits; and what holds of its waiting lines: no serial is gone
+-- before it is sent; what waits are the serials that were sent to the member and aren't gone, each once
 pub record IsLawful (w : Rehearsal) : Type 0 where
   pub runs : run w.setting w.steps ≡ Some (state_of w)
   pub size : length (state_of w).members ≡ w.setting.members
   pub within : IsWithin w.cells (state_of w) (length w.steps)
-  pub unsent : (p k : ℕ) → length (state_of w).sent < k → is_taken p w.steps k ≡ false
-  pub waits : (p k : ℕ) → has_serial k (line_of w p) ≡ (has_serial k (serials_to p 0 (state_of w).sent) && not (is_taken p w.steps k))
+  pub unsent : (p k : ℕ) → length (state_of w).sent < k → is_gone p w.steps k ≡ false
+  pub waits : (p k : ℕ) → has_serial k (line_of w p) ≡ (has_serial k (serials_to p 0 (state_of w).sent) && not (is_gone p w.steps k))
   pub distinct : (p : ℕ) → is_distinct (line_of w p) ≡ true
 
 -- the member is there and up
@@ -49,13 +54,19 @@ pub record IsPresent (w : Rehearsal) (p : ℕ) : Type 0 where
 abbrev pub is_waiting : Rehearsal → ℕ → ℕ → Bool
 is_waiting w p k = has_serial k (line_of w p)
 
--- the serial that is taken or moved waits
+-- the serial was sent to the member, and doesn't wait
+pub record IsAway (w : Rehearsal) (p k : ℕ) : Type 0 where
+  pub sent : is_some (wire_to (state_of w) p k) ≡ true
+  pub away : is_waiting w p k ≡ false
+
+-- the serial that is taken or moved waits, the one that is put back was sent and doesn't
 abbrev pub Waits : Rehearsal → LineChange → Type 0
 Waits w (Takes p k) = is_waiting w p k ≡ true
 Waits w (Defers p k) = is_waiting w p k ≡ true
+Waits w (Restores p k) = IsAway w p k
 Waits w Leaves = Unit {0}
 
--- a serial that the step takes or moves waits
+-- a serial that the step takes or moves waits, one that it puts back doesn't
 abbrev pub NamesWaiting : Rehearsal → Step → Type 0
 NamesWaiting w step = Waits w (line_change step)
 

@@ -1,6 +1,6 @@
 -- The state after a step.
 use Rattle.std.specs.Prelude.{ℕ, ◌+◌, ◌-◌, Bool, true, false, not, ◌&&◌, ◌==◌, if◌then◌else◌, List, [], ◌∷◌, ◌++◌, Option, Some, None}
-use Rattle.std.specs.Prelude.{is_none, option_and_then, option_map, slice_set, unwrap_or}
+use Rattle.std.specs.Prelude.{is_none, option_and_then, option_map, slice_set, take, unwrap_or}
 use Rattle.ct_names.specs.declared.command.Command.{Command}
 use Rattle.ct_names.specs.Command.{is_good}
 use Rattle.ct_names.specs.Group.{is_member, coordinator}
@@ -10,8 +10,8 @@ use Rattle.ct_model.specs.declared.moves.Move.{Move}
 use Rattle.ct_model.specs.declared.moves.Move.TheVariants as moves
 use Rattle.ct_model.specs.declared.phase.Phase.TheVariants.{Rest}
 use Rattle.ct_model.specs.declared.step.Step.{Step}
-use Rattle.ct_model.specs.declared.step.Step.TheVariants.{Submit, Receive, Begin, Enter, Choose, Adopt, Suspect, Conclude, Deliver, Crash}
-use Rattle.ct_model.specs.declared.step.Step.TheVariants.{Postpone}
+use Rattle.ct_model.specs.declared.step.Step.TheVariants.{Submit, Receive, Begin, Enter, Choose, Adopt, Suspect, Conclude, Deliver}
+use Rattle.ct_model.specs.declared.step.Step.TheVariants.{Follow, Crash, Postpone, Lose, Repeat}
 use Rattle.ct_model.specs.Setting.{Setting}
 use Rattle.ct_model.specs.When.{when}
 use Rattle.ct_model.specs.Wire.{envelopes}
@@ -68,22 +68,26 @@ receive s p m w = plain (record m { got = m.got ++ w ∷ [] }) (if is_relayed s 
 unfoldable pub undelivered : Member → Value
 undelivered m = ordered (minus (received m.got) (delivered m))
 
+-- what it proposes of that: the first messages, as many as the bound, or all where they are fewer
+unfoldable pub proposed : Setting → Member → Value
+proposed s m = take s.bound (undelivered m)
+
 abbrev pub is_empty : {A : Type 0} → List A → Bool
 is_empty [] = true
 is_empty (x ∷ xs) = false
 
--- p opens its next instance, and proposes what it didn't deliver
-abbrev pub begin : ℕ → Member → Outcome
-begin p m = record {
-  member = record m { last = m.last + 1; current = Some (record { round = 0; phase = Rest; estimate = undelivered m; ts = 0 }) };
+-- p opens its next instance, with what it proposes as its estimate
+abbrev pub begin : Setting → ℕ → Member → Outcome
+begin s p m = record {
+  member = record m { last = m.last + 1; current = Some (record { round = 0; phase = Rest; estimate = proposed s m; ts = 0 }) };
   submitted = [];
-  proposals = record { member = p; instance = m.last + 1; value = undelivered m } ∷ [];
+  proposals = record { member = p; instance = m.last + 1; value = proposed s m } ∷ [];
   mail = Nobody;
 }
 
 -- the row of that: p has no instance open, and something to propose. None: it isn't enabled
-abbrev pub begin_row : ℕ → Member → Option Outcome
-begin_row p m = when (is_none m.current && not (is_empty (undelivered m))) (begin p m)
+abbrev pub begin_row : Setting → ℕ → Member → Option Outcome
+begin_row s p m = when (is_none m.current && not (is_empty (proposed s m))) (begin s p m)
 
 -- the member after a step of a round
 abbrev pub turned : Member → Turn → Outcome
@@ -105,33 +109,53 @@ turn_at n p m action c = turn_of n p m.last (decided m.got m.last) (own_ballots 
 unfoldable pub batch_of : Member → Value → List Message
 batch_of m v = ordered (minus v (delivered m))
 
--- the open instance is closed, and its decision is delivered
-abbrev pub deliver : Member → Value → Outcome
-deliver m v = plain (record m {
+-- the instance is closed, and its decision is delivered; nothing is submitted, proposed or sent
+abbrev pub close : Member → ℕ → Value → Outcome
+close m instance v = plain (record m {
+  last = instance;
   current = None;
-  batches = m.batches ++ record { instance = m.last; messages = batch_of m v } ∷ [];
+  batches = m.batches ++ record { instance = instance; messages = batch_of m v } ∷ [];
 }) Nobody
+
+-- so it is with the open instance
+abbrev pub deliver : Member → Value → Outcome
+deliver m v = close m m.last v
 
 -- the row of that: an instance is open, and its decision was got. None: it isn't enabled
 abbrev pub deliver_row : Member → Option Outcome
 deliver_row m = option_and_then (λ c. option_map (deliver m) (decided m.got m.last)) m.current
 
+-- the next instance is begun and closed at once
+abbrev pub follow : Member → Value → Outcome
+follow m v = close m (m.last + 1) v
+
+-- the row of that: no instance is open, and the next one's decision was got. None: it isn't enabled
+abbrev pub follow_row : Member → Option Outcome
+follow_row m = option_and_then (λ v. when (is_none m.current) (follow m v)) (decided m.got (m.last + 1))
+
 abbrev pub crash : Member → Outcome
 crash m = plain (record m { crashed = true }) Nobody
+
+-- the row of a step that changes nothing but p's waiting line: the serial was sent to p. None: it isn't enabled
+abbrev pub line_row : State → ℕ → Member → ℕ → Option Outcome
+line_row g p m k = option_map (λ w. plain m Nobody) (wire_to g p k)
 
 -- the row of each step, for its member p as it is. None: the step isn't enabled
 abbrev pub row : Setting → State → ℕ → Member → Step → Option Outcome
 row s g p m (Submit _ c) = when (is_good c) (submit g p m c)
 row s g p m (Receive _ k) = option_map (receive s p m) (wire_to g p k)
-row s g p m (Begin _) = begin_row p m
+row s g p m (Begin _) = begin_row s p m
 row s g p m (Enter _) = round_row m (turn_at s.members p m moves.Enter)
 row s g p m (Choose _ from) = round_row m (turn_at s.members p m (moves.Choose from))
 row s g p m (Adopt _) = round_row m (turn_at s.members p m moves.Adopt)
 row s g p m (Suspect _) = round_row m (turn_at s.members p m moves.Suspect)
 row s g p m (Conclude _) = round_row m (turn_at s.members p m moves.Conclude)
 row s g p m (Deliver _) = deliver_row m
+row s g p m (Follow _) = follow_row m
 row s g p m (Crash _) = Some (crash m)
-row s g p m (Postpone _ k) = option_map (λ w. plain m Nobody) (wire_to g p k)
+row s g p m (Postpone _ k) = line_row g p m k
+row s g p m (Lose _ k) = line_row g p m k
+row s g p m (Repeat _ k) = line_row g p m k
 
 -- the state after p's step with this outcome
 unfoldable pub after : Setting → State → ℕ → Outcome → State

@@ -1,5 +1,6 @@
 -- What is safe in every state of a run.
-use Rattle.std.specs.Prelude.{◌≡◌, ℕ, List}
+use Rattle.std.specs.Prelude.{◌≡◌, ℕ, ◌≤◌, List, length}
+use Rattle.ct_names.specs.Batch.{Batch}
 use Rattle.ct_names.specs.Group.{IsMember, IsMajority}
 use Rattle.ct_names.specs.Message.{Message}
 use Rattle.ct_names.specs.Membership.{IsIn, IsWithoutRepeats}
@@ -31,10 +32,11 @@ pub record IsAgreed (s : Setting) (g : State) : Type 0 where
   pub proposed : (p instance : ℕ) (v : Value) → IsMember s.members p → HasDecided g p instance v → IsProposed g instance v
 
 -- what is safe: decisions are agreed on and were proposed; of two delivered sequences one begins the other, also batch
--- by batch, no message stands twice in one, and each was submitted
+-- by batch, no message stands twice in one, and each was submitted; no batch has more messages than the bound
 pub record IsSafe (s : Setting) (g : State) : Type 0 where
   pub decisions : IsAgreed s g
   pub one_order : (p q : ℕ) → IsMember s.members p → IsMember s.members q → OneBegins (delivered_by g p) (delivered_by g q)
   pub batches : (p q : ℕ) → IsMember s.members p → IsMember s.members q → OneBegins (member g p).batches (member g q).batches
   pub once : (p : ℕ) → IsMember s.members p → IsWithoutRepeats (delivered_by g p)
   pub submitted : (p : ℕ) (m : Message) → IsMember s.members p → IsIn m (delivered_by g p) → IsIn m g.submitted
+  pub bounded : (p : ℕ) (b : Batch) → IsMember s.members p → IsIn b (member g p).batches → length b.messages ≤ s.bound

@@ -4,8 +4,8 @@ use Rattle.std.specs.List.{concat}
 use Rattle.ct_names.specs.declared.command.Command.{Command}
 use Rattle.ct_names.specs.declared.command.Command.TheVariants.{Set, Add, Copy}
 use Rattle.ct_model.specs.declared.step.Step.{Step}
-use Rattle.ct_model.specs.declared.step.Step.TheVariants.{Submit, Receive, Begin, Enter, Choose, Adopt, Suspect, Conclude, Deliver, Crash}
-use Rattle.ct_model.specs.declared.step.Step.TheVariants.{Postpone}
+use Rattle.ct_model.specs.declared.step.Step.TheVariants.{Submit, Receive, Begin, Enter, Choose, Adopt, Suspect, Conclude, Deliver}
+use Rattle.ct_model.specs.declared.step.Step.TheVariants.{Follow, Crash, Postpone, Lose, Repeat}
 
 -- ---- what an entry has
 
@@ -58,8 +58,11 @@ step_entry (Adopt p) = entry (codes "adopt") p nothing
 step_entry (Suspect p) = entry (codes "suspect") p nothing
 step_entry (Conclude p) = entry (codes "conclude") p nothing
 step_entry (Deliver p) = entry (codes "deliver") p nothing
+step_entry (Follow p) = entry (codes "follow") p nothing
 step_entry (Crash p) = entry (codes "crash") p nothing
 step_entry (Postpone p k) = entry (codes "postpone") p (number (serial k))
+step_entry (Lose p k) = entry (codes "lose") p (number (serial k))
+step_entry (Repeat p k) = entry (codes "repeat") p (number (serial k))
 
 -- ---- their texts
 

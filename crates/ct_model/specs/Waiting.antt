@@ -2,7 +2,7 @@
 use Rattle.std.specs.Prelude.{ℕ, ◌+◌, Bool, false, not, ◌&&◌, ◌==◌, if◌then◌else◌, List, [], ◌∷◌, ◌++◌, length, drop, filter}
 use Rattle.std.specs.List.{list_any}
 use Rattle.ct_model.specs.declared.step.Step.{Step}
-use Rattle.ct_model.specs.declared.step.Step.TheVariants.{Receive, Postpone}
+use Rattle.ct_model.specs.declared.step.Step.TheVariants.{Receive, Postpone, Lose, Repeat}
 use Rattle.ct_model.specs.Setting.{Setting}
 use Rattle.ct_model.specs.State.{State, first_state}
 use Rattle.ct_model.specs.Next.{stepped}
@@ -18,21 +18,29 @@ serials_to p before [] = []
 serials_to p before (e ∷ es) = (if e.to == p then (before + 1) ∷ [] else []) ++ serials_to p (before + 1) es
 
 -- what a step does to waiting lines before it sends: it takes a serial out of a member's line, moves one to the end of it,
--- or leaves them
+-- puts one that is not there back at the end, or leaves them
 pub data LineChange : Type 0 where
   Takes : (member serial : ℕ) → LineChange
   Defers : (member serial : ℕ) → LineChange
+  Restores : (member serial : ℕ) → LineChange
   Leaves : LineChange
 
 abbrev pub line_change : Step → LineChange
 line_change (Receive p k) = Takes p k
 line_change (Postpone p k) = Defers p k
+line_change (Lose p k) = Takes p k
+line_change (Repeat p k) = Restores p k
 line_change _ = Leaves
 
 -- it takes this serial out of p's line
 abbrev pub takes : ℕ → ℕ → LineChange → Bool
 takes p k (Takes q i) = (q == p) && (i == k)
 takes p k _ = false
+
+-- it puts this serial back into p's line
+abbrev pub restores : ℕ → ℕ → LineChange → Bool
+restores p k (Restores q i) = (q == p) && (i == k)
+restores p k _ = false
 
 -- the line without the serial, and the serial alone where it waits
 abbrev pub without : ℕ → List ℕ → List ℕ
@@ -45,6 +53,7 @@ alone k line = filter (λ other. other == k) line
 abbrev pub changed : ℕ → LineChange → List ℕ → List ℕ
 changed p (Takes q k) line = if q == p then without k line else line
 changed p (Defers q k) line = if q == p then without k line ++ alone k line else line
+changed p (Restores q k) line = if q == p then line ++ k ∷ [] else line
 changed p Leaves line = line
 
 -- p's line after a step in state g: what the step sends to p joins the end

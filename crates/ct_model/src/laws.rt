@@ -1,6 +1,7 @@
 //! Laws over the definitions alone: of every group and every list of steps that has a run, of causes, and of ballots.
 
-ghost use Rattle.std.specs.Prelude.{◌≡◌, ◌⊎◌, ℕ, ◌≤◌, ◌++◌, ◌∷◌, [], List, None, Some};
+ghost use Rattle.std.specs.Prelude.{◌≡◌, ◌⊎◌, ℕ, ◌≤◌, ◌++◌, ◌∷◌, [], List, None, Some, length};
+ghost use Rattle.ct_names.specs.Batch.{Batch};
 ghost use Rattle.ct_names.specs.Group.{IsMember};
 ghost use Rattle.ct_names.specs.Membership.{IsIn, IsWithoutRepeats};
 ghost use Rattle.ct_names.specs.Message.{Message};
@@ -71,9 +72,17 @@ pub fn law_prefix()
         IsMember s.members q → IsPrefix (member g p).batches (member g q).batches ⊎ IsPrefix (member g q).batches (member g p).batches }
 {}
 
+/// Bounded batches: no decision has more messages than a member proposes at most for an instance, and so no batch has.
+pub fn law_bound()
+    ensures decisions { (s : Setting) (steps : List Step) (g : State) → run s steps ≡ Some g → (p instance : ℕ) (v : Value) →
+        IsMember s.members p → HasDecided g p instance v → length v ≤ s.bound }
+    ensures batches { (s : Setting) (steps : List Step) (g : State) → run s steps ≡ Some g → (p : ℕ) (b : Batch) →
+        IsMember s.members p → IsIn b (member g p).batches → length b.messages ≤ s.bound }
+{}
+
 /// The tests of a step and the rows of the next state say the same, after any record that a world can keep: a step has no
-/// cause exactly where it is enabled, a serial that it takes or moves waits, and no limit is passed. A world can keep the
-/// record without steps, and any that such a step makes of one that it can keep.
+/// cause exactly where it is enabled, a serial that it takes or moves waits, one that it puts back doesn't, and no limit is
+/// passed. A world can keep the record without steps, and any that such a step makes of one that it can keep.
 pub fn law_cause()
     ensures first { (s : Setting) (cells : ℕ) → IsLawful (empty s cells) }
     ensures longer { (w : Rehearsal) (step : Step) → IsLawful w → IsAllowed w step → IsLawful (extended w step) }

@@ -15,7 +15,8 @@ pub enum Step {
     Submit(Member, Command),
     /// The member receives the envelope of this serial, and relays what it receives for the first time.
     Receive(Member, Serial),
-    /// The member opens its next instance, and proposes what it received and didn't deliver.
+    /// The member opens its next instance, and proposes of what it received and didn't deliver the first messages, as
+    /// many as the bound or all.
     Begin(Member),
     /// The member enters the next round: its estimate goes to the round's coordinator.
     Enter(Member),
@@ -29,10 +30,17 @@ pub enum Step {
     Conclude(Member),
     /// The member delivers the decision of its open instance, and closes it.
     Deliver(Member),
+    /// The member has no instance open: it begins its next one, delivers that instance's decision, and closes it, all at
+    /// once. It proposes and sends nothing.
+    Follow(Member),
     /// The member stops for good.
     Crash(Member),
     /// The serial moves to the end of the member's waiting line.
     Postpone(Member, Serial),
+    /// The serial leaves the member's waiting line, and is not received.
+    Lose(Member, Serial),
+    /// A serial that was sent to the member, and was received or lost, joins the end of its waiting line again.
+    Repeat(Member, Serial),
 }
 
 impl Step {
@@ -50,8 +58,11 @@ impl Step {
             Step::Suspect(member) => member,
             Step::Conclude(member) => member,
             Step::Deliver(member) => member,
+            Step::Follow(member) => member,
             Step::Crash(member) => member,
             Step::Postpone(member, _) => member,
+            Step::Lose(member, _) => member,
+            Step::Repeat(member, _) => member,
         }
     }
 }
@@ -79,8 +90,11 @@ impl fmt::Display for Step {
             Step::Suspect(p) => write!(f, "[\"suspect\",{p}]"),
             Step::Conclude(p) => write!(f, "[\"conclude\",{p}]"),
             Step::Deliver(p) => write!(f, "[\"deliver\",{p}]"),
+            Step::Follow(p) => write!(f, "[\"follow\",{p}]"),
             Step::Crash(p) => write!(f, "[\"crash\",{p}]"),
             Step::Postpone(p, serial) => write!(f, "[\"postpone\",{p},{serial}]"),
+            Step::Lose(p, serial) => write!(f, "[\"lose\",{p},{serial}]"),
+            Step::Repeat(p, serial) => write!(f, "[\"repeat\",{p},{serial}]"),
         }
     }
 }

@@ -1,7 +1,7 @@
 -- Lists in which no two elements are equal by a test.
-use Rattle.std.proofs.Common.{◌≡◌, ℕ, Bool, true, false, ◌||◌, ◌==◌, List, [], ◌∷◌, ◌++◌, refl, sym, ap, ◌∙◌, eq-eqb, eqb-true}
+use Rattle.std.proofs.Common.{◌≡◌, ℕ, Bool, false, ◌||◌, ◌==◌, List, [], ◌∷◌, ◌++◌, refl, ap, ◌∙◌, arith}
 use Rattle.std.specs.List.{list_any, AllByRecursion, IsDistinct}
-use Rattle.ct_names.proofs.Lists.{contrary}
+use Rattle.std.proofs.lemmas.Bool.Decides.{nat_tests}
 
 later-apart : {K : Type 0} (R : K → K → Bool) (k : K) (ks : List K) (x : K) (xs : List K) →
     AllByRecursion (λ y. R k y ≡ false) (ks ++ x ∷ xs) → R k x ≡ false
@@ -18,10 +18,4 @@ absent_before R symm (k ∷ ks) x xs distinct =
 
 -- two numbers are equal either way round
 pub eq-symm : (m n : ℕ) → (m == n) ≡ (n == m)
-eq-symm m n = at (m == n) (n == m) refl refl
-  where
-    at : (a b : Bool) → (m == n) ≡ a → (n == m) ≡ b → a ≡ b
-    at true true here there = refl
-    at false false here there = refl
-    at true false here there = contrary (n == m) (eq-eqb n m (sym (eqb-true m n here))) there
-    at false true here there = contrary (m == n) (eq-eqb m n (sym (eqb-true n m there))) here
+eq-symm m n = grind (arith, nat_tests)

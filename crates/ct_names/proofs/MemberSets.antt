@@ -4,7 +4,8 @@ use Rattle.std.proofs.Common.{◌∷◌, length, filter, map, refl, sym, ap, ◌
 use Rattle.std.specs.Int.{w16, bit_at}
 use Rattle.std.specs.Int.RustNames.{bit_and, bit_or, count_ones}
 use Rattle.std.proofs.Math.Nat.{pow-succ', div-div-eq-div-mul, mul_comm, zero-div}
-use Rattle.std.proofs.lemmas.Bool.{eqb-false}
+use Rattle.std.proofs.lemmas.Bool.{eqb-false, false_from_ne_true}
+use Rattle.std.proofs.lemmas.Bool.Decides.{nat_tests}
 use Rattle.std.proofs.lemmas.List.Sums.{length-filter}
 use Rattle.std.proofs.lemmas.Nat.{or_lt}
 use Rattle.std.proofs.lemmas.Nat.Bits.{shr_and_one, bit_at_set_same, bit_at_set_other}
@@ -20,29 +21,22 @@ use Rattle.ct_names.proofs.Groups.{counting-range, in-counting}
 -- tests that agree on the elements keep the same elements
 pub filter-agree : {A : Type 0} (p q : A → Bool) (xs : List A) → ((x : A) → IsIn x xs → p x ≡ q x) → filter p xs ≡ filter q xs
 filter-agree p q [] h = refl
-filter-agree p q (x ∷ xs) h =
-    let rest : filter p xs ≡ filter q xs = filter-agree p q xs (λ y i. h y (inr i)) in
-    let here : p x ≡ q x = h x (inl refl) in
-    ap (λ b. cond b (x ∷ filter p xs) (filter p xs)) here ∙ ap (λ ys. cond (q x) (x ∷ ys) ys) rest
+filter-agree p q (x ∷ xs) h = rw (h x (inl refl), filter-agree p q xs (λ y i. h y (inr i))) refl
 
 map-agree : {A B : Type 0} (f g : A → B) (xs : List A) → ((x : A) → IsIn x xs → f x ≡ g x) → map f xs ≡ map g xs
 map-agree f g [] h = refl
-map-agree f g (x ∷ xs) h =
-    ap (λ y. y ∷ map f xs) (h x (inl refl)) ∙ ap (λ ys. g x ∷ ys) (map-agree f g xs (λ y i. h y (inr i)))
+map-agree f g (x ∷ xs) h = rw (h x (inl refl), map-agree f g xs (λ y i. h y (inr i))) refl
 
 pub in-has_member : (set : List ℕ) (p : ℕ) → has_member set p ≡ true → IsIn p set
 in-has_member set p h =
     let f = Lists.found-list_any (λ q. q == p) set h in
-    subst (λ z. IsIn z set) (eqb-true f.item p f.passes) f.is_in
+    rw (eqb-true f.item p f.passes) at f.is_in
 
 pub has_member-in : (set : List ℕ) (p : ℕ) → IsIn p set → has_member set p ≡ true
 has_member-in set p i = Lists.list_any-found (λ q. q == p) p set i (eq-eqb p p refl)
 
 pub has_member-out : (set : List ℕ) (p : ℕ) → (IsIn p set → ⊥) → has_member set p ≡ false
-has_member-out set p out = elim (Lists.true_or_false (has_member set p)) [
-  | inl h ↦ absurd (out (in-has_member set p h))
-  | inr h ↦ h
-]
+has_member-out set p out = false_from_ne_true (has_member set p) (λ h. out (in-has_member set p h))
 
 -- what a filter has is what passes the test
 has_member-kept : (test : ℕ → Bool) (xs : List ℕ) (p : ℕ) (b : Bool) → test p ≡ b → IsIn p xs → has_member (filter test xs) p ≡ b
@@ -78,10 +72,7 @@ with_member-filter test one =
 
 -- the lowest bit of a number, and the others
 split-number : (c : ℕ) → (cond ((c % 2) == 1) 1 0) + 2 * (c / 2) ≡ c
-split-number c = elim (Lists.true_or_false ((c % 2) == 1)) [
-  | inl h ↦ let e : c % 2 ≡ 1 = eqb-true (c % 2) 1 h in rw h (omega arith)
-  | inr h ↦ let e : c % 2 ≢ 1 = eqb-false (c % 2) 1 h in rw h (omega arith)
-]
+split-number c = grind (arith, nat_tests)
 
 shifted : (b first : ℕ) → 1 ≤ first → b / 2 ^ (first + 1 - 1) ≡ b / 2 ^ (first - 1) / 2
 shifted b first h =
@@ -120,7 +111,7 @@ bits_low bits back =
     let low = mask_l-lt (map (has_member (members_of bits)) everyone) in
     let e : mask_l (map (has_member (members_of bits)) everyone) ≡ bits =
     sym (number_of-mask_l (map (has_member (members_of bits)) everyone)) ∙ back in
-    subst (λ n. n < 65536) e low
+    rw e at low
 
 -- there are as many members as bits are set
 pub length-members_of : (bits : ℕ) → bits_of (members_of bits) ≡ bits → count_ones bits ≡ length (members_of bits)
@@ -165,8 +156,7 @@ members_of-zero = nothing everyone
   where
     nothing : (xs : List ℕ) → filter (has_bit 0) xs ≡ []
     nothing [] = refl
-    nothing (x ∷ xs) = ap (λ n. cond ((n % 2) == 1) (x ∷ filter (has_bit 0) xs) (filter (has_bit 0) xs)) (zero-div (2 ^ (x - 1)))
-        ∙ nothing xs
+    nothing (x ∷ xs) = rw (zero-div (2 ^ (x - 1)), nothing xs) refl
 
 -- what the set has is what its bits say
 pub has_member-bit : (bits one : ℕ) (set : List ℕ) → members_of bits ≡ set → IsMember MAX_MEMBERS one →

@@ -1,9 +1,10 @@
 -- The order of messages is total: it compares their keys.
-use Rattle.std.proofs.Common.{◌≡◌, ℕ, Bool, true, false, ◌&&◌, ◌||◌, ◌==◌, List, [], ◌∷◌, length, Ordering, Less, Equal, Greater, refl, sym}
-use Rattle.std.proofs.Common.{ap, ◌∙◌, inl, inr, ◌⊎◌, arith, ltb}
+use Rattle.std.proofs.Common.{◌≡◌, ℕ, true, false, ◌==◌, List, [], ◌∷◌, length, Ordering, Less, Equal, Greater, refl, sym}
+use Rattle.std.proofs.Common.{ap, ◌∙◌, inl, inr, ◌⊎◌, arith}
 use Rattle.std.specs.Cmp.{IsTotalOrder}
 use Rattle.std.specs.Cmp.Lexicographic.{slice_cmp}
 use Rattle.std.specs.Ordering.{nat_cmp, is_lt, is_eq, ordering_reverse, ordering_then}
+use Rattle.std.proofs.Math.Bool.{and-true}
 use Rattle.std.proofs.lemmas.Bool.Decides.{nat_tests}
 use Rattle.std.proofs.lemmas.Cmp.{nat_list_cmp_total, on_total}
 use Rattle.ct_names.specs.declared.command.Command.{Command}
@@ -24,24 +25,12 @@ less-cmp : (xs ys : List ℕ) → length xs ≡ length ys → is_less xs ys ≡ 
 less-cmp [] [] e = refl
 less-cmp [] (y ∷ ys) e = absurd (omega arith)
 less-cmp (x ∷ xs) [] e = absurd (omega arith)
-less-cmp (x ∷ xs) (y ∷ ys) e =
-    let ih : is_less xs ys ≡ is_lt (slice_cmp nat_cmp xs ys) = less-cmp xs ys (omega arith) in
-    less-cons x y (slice_cmp nat_cmp xs ys) (is_less xs ys) ih
-  where
-    less-cons : (x y : ℕ) (o : Ordering) (rest : Bool) → rest ≡ is_lt o →
-        (ltb x y || ((x == y) && rest)) ≡ is_lt (ordering_then (nat_cmp x y) o)
-    less-cons x y o rest ih = grind (arith, nat_tests)
+less-cmp (x ∷ xs) (y ∷ ys) e = grind (arith, nat_tests, less-cmp xs ys (omega arith))
 
 same-cmp : (xs ys : List ℕ) → is_same xs ys ≡ is_eq (slice_cmp nat_cmp xs ys)
 same-cmp [] [] = refl
-same-cmp [] (y ∷ ys) = refl
-same-cmp (x ∷ xs) [] = refl
-same-cmp (x ∷ xs) (y ∷ ys) =
-    let ih : is_same xs ys ≡ is_eq (slice_cmp nat_cmp xs ys) = same-cmp xs ys in
-    same-cons x y (slice_cmp nat_cmp xs ys) (is_same xs ys) ih
-  where
-    same-cons : (x y : ℕ) (o : Ordering) (rest : Bool) → rest ≡ is_eq o → ((x == y) && rest) ≡ is_eq (ordering_then (nat_cmp x y) o)
-    same-cons x y o rest ih = grind (arith, nat_tests)
+same-cmp (x ∷ xs) (y ∷ ys) = grind (arith, nat_tests, same-cmp xs ys)
+same-cmp _ _ = refl
 
 length-command_key : (c : Command) → length (command_key c) ≡ 3
 length-command_key (Set r v) = refl
@@ -63,12 +52,7 @@ pub less-before : (m other : Message) → order m other ≡ Less → is_before m
 less-before m other h = before-order m other ∙ ap is_lt h
 
 pub before-less : (m other : Message) → is_before m other ≡ true → order m other ≡ Less
-before-less m other h = at (order m other) (sym (before-order m other) ∙ h)
-  where
-    at : (o : Ordering) → is_lt o ≡ true → o ≡ Less
-    at Less e = refl
-    at Equal e = cc
-    at Greater e = cc
+before-less m other h = grind (arith, before-order m other)
 
 pub equal-message : (m other : Message) → order m other ≡ Equal → is_message m other ≡ true
 equal-message m other h = message-order m other ∙ ap is_eq h
@@ -91,10 +75,8 @@ one_way a b = at (order a b) refl
     at Equal e = inr (inl (equal-message a b e))
     at Greater e = inr (inr (less-before b a (order_total.antisymm b a ∙ ap ordering_reverse e)))
 
-then-equal : (o : Ordering) → o ≡ ordering_then o Equal
-then-equal Less = refl
-then-equal Equal = refl
-then-equal Greater = refl
+then-equal : (o : Ordering) → ordering_then o Equal ≡ o
+then-equal o = grind arith
 
 module _ (origin number other_origin other_number : ℕ) where
   abbrev with_command : Command → Message
@@ -104,29 +86,14 @@ module _ (origin number other_origin other_number : ℕ) where
   other_with command = record { origin = other_origin; number = other_number; command = command }
 
   same_cmp-command : (c d : Command) → ghosts.cmp (with_command c) (other_with d) ≡ order (with_command c) (other_with d)
-  same_cmp-command (Set r v) (Set s w) =
-      ap (λ o. ordering_then (nat_cmp origin other_origin) (ordering_then (nat_cmp number other_number) (ordering_then (nat_cmp r s) o)))
-      (then-equal (nat_cmp v w))
-  same_cmp-command (Set r v) (Add s w) = refl
-  same_cmp-command (Set r v) (Copy s w) = refl
-  same_cmp-command (Add r v) (Set s w) = refl
-  same_cmp-command (Add r v) (Add s w) =
-      ap (λ o. ordering_then (nat_cmp origin other_origin) (ordering_then (nat_cmp number other_number) (ordering_then (nat_cmp r s) o)))
-      (then-equal (nat_cmp v w))
-  same_cmp-command (Add r v) (Copy s w) = refl
-  same_cmp-command (Copy r v) (Set s w) = refl
-  same_cmp-command (Copy r v) (Add s w) = refl
-  same_cmp-command (Copy r v) (Copy s w) =
-      ap (λ o. ordering_then (nat_cmp origin other_origin) (ordering_then (nat_cmp number other_number) (ordering_then (nat_cmp r s) o)))
-      (then-equal (nat_cmp v w))
+  same_cmp-command (Set r v) (Set s w) = rw (then-equal (nat_cmp v w)) refl
+  same_cmp-command (Add r v) (Add s w) = rw (then-equal (nat_cmp v w)) refl
+  same_cmp-command (Copy r v) (Copy s w) = rw (then-equal (nat_cmp v w)) refl
+  same_cmp-command _ _ = refl
 
 -- the derived `cmp` of messages is that order
 pub same_cmp : (m other : Message) → ghosts.cmp m other ≡ order m other
 same_cmp m other = same_cmp-command m.origin m.number other.origin other.number m.command other.command
-
-and_true : (b : Bool) → b ≡ (b && true)
-and_true true = refl
-and_true false = refl
 
 module _ (origin number other_origin other_number : ℕ) where
   same_eq-command : (c d : Command) → equal.eq (record { origin = origin; number = number; command = c })
@@ -134,18 +101,10 @@ module _ (origin number other_origin other_number : ℕ) where
       ≡ is_message (record { origin = origin; number = number; command = c })
       (record { origin = other_origin; number = other_number; command = d })
   unfolding is_message
-  same_eq-command (Set r v) (Set s w) =
-      ap (λ b. (origin == other_origin) && ((number == other_number) && ((r == s) && b))) (and_true (v == w))
-  same_eq-command (Set r v) (Add s w) = refl
-  same_eq-command (Set r v) (Copy s w) = refl
-  same_eq-command (Add r v) (Set s w) = refl
-  same_eq-command (Add r v) (Add s w) =
-      ap (λ b. (origin == other_origin) && ((number == other_number) && ((r == s) && b))) (and_true (v == w))
-  same_eq-command (Add r v) (Copy s w) = refl
-  same_eq-command (Copy r v) (Set s w) = refl
-  same_eq-command (Copy r v) (Add s w) = refl
-  same_eq-command (Copy r v) (Copy s w) =
-      ap (λ b. (origin == other_origin) && ((number == other_number) && ((r == s) && b))) (and_true (v == w))
+  same_eq-command (Set r v) (Set s w) = rw (and-true (v == w)) refl
+  same_eq-command (Add r v) (Add s w) = rw (and-true (v == w)) refl
+  same_eq-command (Copy r v) (Copy s w) = rw (and-true (v == w)) refl
+  same_eq-command _ _ = refl
 
 -- the derived `==` of messages
 pub same_eq : (m other : Message) → equal.eq m other ≡ is_message m other

@@ -5,7 +5,7 @@ use Rattle.std.specs.List.{AllWithin, HoldsAt, insert}
 use Rattle.std.specs.List.Sorted.{IsBinarySearchResult, IsSearchInRange, IsSortedBy, IsNonDecreasingBy}
 use Rattle.std.specs.Ordering.{is_lt, is_eq, ordering_index, ordering_reverse}
 use Rattle.std.specs.Result.{MatchResult, is_ok}
-use Rattle.std.proofs.lemmas.Bool.{cases_lt}
+use Rattle.std.proofs.lemmas.Bool.{cases_lt, or_left, or_right}
 use Rattle.std.proofs.lemmas.Cmp.{nat_list_cmp_total}
 use Rattle.std.proofs.lemmas.List.Sorted.{searchable_from_sorted}
 use Rattle.std.proofs.lemmas.List.Elements.{filter_more}
@@ -47,22 +47,17 @@ placed-insert : (m : Message) (xs : List Message) (i : ℕ) → i ≤ length xs 
 placed-insert m [] zero in' below above = refl
 placed-insert m [] (suc i) in' below above = absurd (omega arith)
 placed-insert m (other ∷ xs) zero in' below above =
-    ap (λ b. cond b (m ∷ other ∷ xs) (other ∷ placed m xs)) (greater-before m other (above 0 m (omega arith) (omega arith)))
+    rw (greater-before m other (above 0 m (omega arith) (omega arith))) refl
 placed-insert m (other ∷ xs) (suc i) in' below above =
     let rest : placed m xs ≡ insert xs i m = placed-insert m xs i (omega arith)
     (λ k d low high. below (suc k) d (omega arith) (omega arith))
     (λ k d low high. above (suc k) d (omega arith) (omega arith)) in
-    ap (λ b. cond b (m ∷ other ∷ xs) (other ∷ placed m xs)) (less-not_before m other (below 0 m (omega arith) (omega arith)))
-    ∙ ap (λ zs. other ∷ zs) rest
+    rw (less-not_before m other (below 0 m (omega arith) (omega arith)), rest) refl
 
 has-at : (xs : List Message) (m : Message) (i : ℕ) → i < length xs → HoldsAt (λ y. order y m ≡ Equal) xs i → has xs m ≡ true
 has-at [] m i low at = absurd (omega arith)
-has-at (x ∷ xs) m zero low at = ap (λ b. b || has xs m) (equal-message x m (at m))
-has-at (x ∷ xs) m (suc i) low at = or-right (is_message x m) (has xs m) (has-at xs m i (omega arith) (λ d. at d))
-  where
-    or-right : (a b : Bool) → b ≡ true → (a || b) ≡ true
-    or-right true b h = refl
-    or-right false b h = h
+has-at (x ∷ xs) m zero low at = or_left (is_message x m) (has xs m) (equal-message x m (at m))
+has-at (x ∷ xs) m (suc i) low at = or_right (is_message x m) (has xs m) (has-at xs m i (omega arith) (λ d. at d))
 
 has-nowhere : (xs : List Message) (m : Message) → ((k : ℕ) → k < length xs → is_message (get_or xs k m) m ≡ false) → has xs m ≡ false
 has-nowhere [] m h = refl
@@ -122,7 +117,7 @@ set-present xs m h there =
   where
     back : (x : Message) → IsIn x xs ⊎ IsIn x (m ∷ []) → IsIn x xs
     back x (inl j) = j
-    back x (inr (inl e)) = subst (λ z. IsIn z xs) (sym e) (in-has xs m there)
+    back x (inr (inl e)) = rw e (in-has xs m there)
     back x (inr (inr j)) = absurd j
 
 -- the search is Ok exactly where the message is in the set
@@ -135,10 +130,4 @@ ok_has (Err i) xs m h = sym h.absent
 pub minus-more : (xs list : List Message) (i : ℕ) (m : Message) (b : Bool) → i < length xs → m ≡ get_or xs i m → has list m ≡ b →
     minus (take (i + 1) xs) list ≡ minus (take i xs) list ++ cond b [] (m ∷ [])
 minus-more xs list i m b low is there =
-    filter_more (λ x. not (has list x)) xs i m low
-    ∙ ap (λ zs. minus (take i xs) list ++ zs) (ap (λ x. cond (not (has list x)) (x ∷ []) []) (sym is)
-    ∙ (ap (λ t. cond (not t) (m ∷ []) []) there ∙ at b))
-  where
-    at : (b : Bool) → cond (not b) (m ∷ []) [] ≡ cond b [] (m ∷ [])
-    at true = refl
-    at false = refl
+    filter_more (λ x. not (has list x)) xs i m low ∙ grind arith

@@ -1,5 +1,7 @@
 -- Lists of messages that rise. A set is the one rising list of its messages.
-use Rattle.std.proofs.Common.{◌≡◌, Bool, true, false, cond, not, List, [], ◌∷◌, filter, refl, sym, ◌∙◌, subst, inl, inr, ◌⊎◌}
+use Rattle.std.proofs.Common.{◌≡◌, ℕ, zero, suc, Bool, true, false, cond, not, arith, List, [], ◌∷◌, filter, take, refl, sym, ◌∙◌}
+use Rattle.std.proofs.Common.{subst, inl, inr, ◌⊎◌}
+use Rattle.std.proofs.lemmas.Bool.{cond_both}
 use Rattle.ct_names.specs.Message.{Message}
 use Rattle.ct_names.specs.Order.{is_before, is_message}
 use Rattle.ct_names.specs.Value.{has, minus, first_occurrences, placed, sorted, ordered, IsOrdered}
@@ -21,9 +23,7 @@ IsRising (m ∷ list) = IsBeforeAll m list × IsRising list
 
 -- two tests of which each passes where the other does
 pub same_test : (a b : Bool) → (a ≡ true → b ≡ true) → (b ≡ true → a ≡ true) → a ≡ b
-same_test true b h k = sym (h refl)
-same_test false true h k = k refl
-same_test false false h k = refl
+same_test a b h k = grind arith
 
 before_all-weaker : (a b : Message) (list : List Message) → is_before a b ≡ true → IsBeforeAll b list → IsBeforeAll a list
 before_all-weaker a b [] h k = tt
@@ -31,7 +31,7 @@ before_all-weaker a b (x ∷ list) h k = (before-trans a b x h k.0, before_all-w
 
 before_all-in : (m : Message) (list : List Message) (x : Message) → IsBeforeAll m list → IsIn x list → is_before m x ≡ true
 before_all-in m [] x h i = absurd i
-before_all-in m (y ∷ list) x h (inl e) = subst (λ z. is_before m z ≡ true) (sym e) h.0
+before_all-in m (y ∷ list) x h (inl e) = rw e h.0
 before_all-in m (y ∷ list) x h (inr i) = before_all-in m list x h.1 i
 
 before_all-from : (m : Message) (list : List Message) → ((x : Message) → IsIn x list → is_before m x ≡ true) → IsBeforeAll m list
@@ -47,14 +47,11 @@ before_all-filter : (test : Message → Bool) (m : Message) (list : List Message
 before_all-filter test m list h =
     before_all-from m (filter test list) (λ x i. before_all-in m list x h (Lists.IsIn-filter_from test x list i))
 
-rising-cond : (b : Bool) (m : Message) (list : List Message) → IsBeforeAll m list → IsRising list → IsRising (cond b (m ∷ list) list)
-rising-cond true m list h k = (h, k)
-rising-cond false m list h k = k
-
 pub rising-filter : (test : Message → Bool) (list : List Message) → IsRising list → IsRising (filter test list)
 rising-filter test [] h = tt
 rising-filter test (m ∷ list) h =
-    rising-cond (test m) m (filter test list) (before_all-filter test m list h.0) (rising-filter test list h.1)
+    let rest : IsRising (filter test list) = rising-filter test list h.1 in
+    cond_both (test m) (m ∷ filter test list) (filter test list) IsRising (λ e. (before_all-filter test m list h.0, rest)) (λ e. rest)
 
 pub placed-in : (m : Message) (list : List Message) (x : Message) → (x ≡ m) ⊎ IsIn x list → IsIn x (placed m list)
 placed-in m [] x (inl e) = inl e
@@ -99,7 +96,7 @@ rising-placed m (other ∷ list) out h = at (is_before m other) refl (rising-pla
     at false is rest =
         let after : is_before other m ≡ true = after-from m other is (λ e. out (inl e)) in
         let all : IsBeforeAll other (placed m list) = before_all-from other (placed m list) (λ x i. elim (placed-from m x list i) [
-          | inl e ↦ subst (λ z. is_before other z ≡ true) (sym e) after
+          | inl e ↦ rw e after
           | inr k ↦ before_all-in other list x h.0 k
         ]) in
         (all, rest)
@@ -122,9 +119,7 @@ same_first x y xs ys h k (inr i) (inr j) =
     Lists.contrary (is_message x x) (is_message-refl x) (before-other x x (before-trans x y x b a))
 
 in_rest : (x y m : Message) (xs ys : List Message) → IsBeforeAll x xs → x ≡ y → IsIn m xs → IsIn m (y ∷ ys) → IsIn m ys
-in_rest x y m xs ys h same i (inl e) =
-    let by_x : m ≡ x = e ∙ sym same in
-    absurd (before_all-out x xs h (subst (λ z. IsIn z xs) by_x i))
+in_rest x y m xs ys h same i (inl e) = absurd (before_all-out x xs h (rw (e ∙ sym same) at i))
 in_rest x y m xs ys h same i (inr j) = j
 
 -- rising lists with the same messages are one list
@@ -170,6 +165,21 @@ set-ordered list = set-rising (ordered list) (rising-ordered list)
 
 pub set-minus : (list other : List Message) → IsOrdered list → IsOrdered (minus list other)
 set-minus list other h = set-rising (minus list other) (rising-filter (λ m. not (has other m)) list (rising-set list h))
+
+rising-take : (count : ℕ) (list : List Message) → IsRising list → IsRising (take count list)
+rising-take zero list h = tt
+rising-take (suc count) [] h = tt
+rising-take (suc count) (m ∷ list) h =
+    (before_all-from m (take count list) (λ x i. before_all-in m list x h.0 (in-take count list x i)), rising-take count list h.1)
+  where
+    in-take : (count : ℕ) (list : List Message) (x : Message) → IsIn x (take count list) → IsIn x list
+    in-take zero list x i = absurd i
+    in-take (suc count) [] x i = absurd i
+    in-take (suc count) (y ∷ list) x (inl e) = inl e
+    in-take (suc count) (y ∷ list) x (inr i) = inr (in-take count list x i)
+
+pub set-take : (count : ℕ) (list : List Message) → IsOrdered list → IsOrdered (take count list)
+set-take count list h = set-rising (take count list) (rising-take count list (rising-set list h))
 
 pub set-nil : IsOrdered []
 set-nil = set-rising [] tt

@@ -1,5 +1,5 @@
 -- A list that is sorted, and of which one of each message stays, is the set of its messages.
-use Rattle.std.proofs.Common.{◌≡◌, Bool, true, false, cond, ◌||◌, List, [], ◌∷◌, Less, refl, sym, ap, ◌∙◌, subst}
+use Rattle.std.proofs.Common.{◌≡◌, List, [], ◌∷◌, Less, refl, sym, ap, ◌∙◌, subst, arith}
 use Rattle.std.specs.List.{AllByRecursion, dedup, dedup_from}
 use Rattle.std.specs.List.Sorted.{IsPermutation, IsSorted, IsStrictlySortedBy}
 use Rattle.std.proofs.lemmas.List.Kept.{IsStrictlySortedBy-dedup}
@@ -22,22 +22,9 @@ unfolding IsStrictlySortedBy
 rising-strict [] h = tt
 rising-strict (m ∷ list) h = (before_all-less m list h.0, rising-strict list h.1)
 
-or-twice : (a b : Bool) → (a || b) ≡ (a || (a || b))
-or-twice true b = refl
-or-twice false b = refl
-
 has-dedup_from : (k : Message) (list : List Message) (m : Message) → has (dedup_from is_message k list) m ≡ has (k ∷ list) m
 has-dedup_from k [] m = refl
-has-dedup_from k (x ∷ list) m = at (is_message x k) refl (has-dedup_from k list m) (has-dedup_from x list m)
-  where
-    at : (b : Bool) → is_message x k ≡ b → has (dedup_from is_message k list) m ≡ has (k ∷ list) m →
-        has (dedup_from is_message x list) m ≡ has (x ∷ list) m →
-        has (cond b (dedup_from is_message k list) (k ∷ dedup_from is_message x list)) m ≡ has (k ∷ x ∷ list) m
-    at true is by_k by_x =
-        by_k
-        ∙ (or-twice (is_message k m) (has list m)
-        ∙ ap (λ y. is_message k m || (is_message y m || has list m)) (sym (same_message x k is)))
-    at false is by_k by_x = ap (λ b. is_message k m || b) by_x
+has-dedup_from k (x ∷ list) m = grind (arith, same_message x k, has-dedup_from k list m, has-dedup_from x list m)
 
 has-dedup : (list : List Message) (m : Message) → has (dedup is_message list) m ≡ has list m
 has-dedup [] m = refl

@@ -6,7 +6,7 @@ use Rattle.ct_names.specs.declared.limit.Limit.TheVariants.{Submissions, Instanc
 use Rattle.ct_names.specs.declared.refusal.Refusal.{Refusal}
 use Rattle.ct_names.specs.declared.refusal.Refusal.TheVariants.{NoSuchMember, Crashed, NotWaiting, Busy, Nothing, Idle, WrongPhase, Decided}
 use Rattle.ct_names.specs.declared.refusal.Refusal.TheVariants.{TooFew, NotLargest, NoProposal, HasProposal, Undecided, BadCommand, Full}
-use Rattle.ct_names.specs.declared.refusal.Refusal.TheVariants.{OutOfMemory, Board}
+use Rattle.ct_names.specs.declared.refusal.Refusal.TheVariants.{OutOfMemory, Board, NotSent, StillWaiting}
 
 abbrev pub limit_text : Limit → List ℕ
 limit_text Submissions = codes "Submissions"
@@ -34,3 +34,5 @@ refusal_text BadCommand = codes "BadCommand"
 refusal_text (Full limit) = concat (codes "Full(" ∷ limit_text limit ∷ codes ")" ∷ [])
 refusal_text OutOfMemory = codes "OutOfMemory"
 refusal_text Board = codes "Board"
+refusal_text NotSent = codes "NotSent"
+refusal_text StillWaiting = codes "StillWaiting"

@@ -19,7 +19,7 @@ pub use command::Command;
 pub use group::Group;
 pub use laws::law_majorities;
 pub use limit::{
-    Limit, MAX_CELLS, MAX_ENVELOPES, MAX_INSTANCES, MAX_MEMBERS, MAX_ROUNDS, MAX_STEPS,
+    Limit, MAX_BOUND, MAX_CELLS, MAX_ENVELOPES, MAX_INSTANCES, MAX_MEMBERS, MAX_ROUNDS, MAX_STEPS,
     MAX_SUBMISSIONS, REGISTERS,
 };
 pub use member_set::MemberSet;

@@ -24,6 +24,9 @@ pub const MAX_ROUNDS: Round = 10_000;
 /// How many envelopes are sent at most.
 pub const MAX_ENVELOPES: usize = 1_000_000;
 
+/// The largest bound on the messages of a proposal: as many as can be pending, so that it bounds nothing.
+pub const MAX_BOUND: u32 = 1_048_560;
+
 /// How many cells for batches a world has at most.
 pub const MAX_CELLS: u16 = 1_024;
 

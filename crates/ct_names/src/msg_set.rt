@@ -1,6 +1,6 @@
 //! Sets of messages.
 
-ghost use Rattle.std.specs.Prelude.{◌≡◌, ◌==◌, ◌++◌, ◌∷◌, [], length, OnOk, OnErr, IfOk};
+ghost use Rattle.std.specs.Prelude.{◌≡◌, ◌==◌, ◌++◌, ◌∷◌, [], length, take, OnOk, OnErr, IfOk};
 ghost use Rattle.ct_names.specs.Value.{has, minus, ordered, IsOrdered};
 
 use crate::message::Message;
@@ -68,6 +68,13 @@ impl MsgSet {
             }
         }
         Ok(MsgSet { items })
+    }
+
+    /// Keeps the first messages of the set, as many as the count or all.
+    pub fn truncate(&mut self, count: usize)
+        ensures { self.new ≡ take count self.old }
+    {
+        self.items.truncate(count);
     }
 
     /// A second set of the same messages, or the error where memory is refused.

@@ -6,7 +6,8 @@ ghost use Rattle.ct_names.specs.RefusalText.{refusal_text};
 use crate::limit::Limit;
 use std::fmt;
 
-/// Why a step is refused, in the order of testing. It is shown by its name, as `NotWaiting` or `Full(Steps)`.
+/// Why a step is refused, in the order of testing; the last two are tested just before `Full`. It is shown by its name, as
+/// `NotWaiting` or `Full(Steps)`.
 #[derive(Clone, Copy, Debug, PartialEq, Eq)]
 pub enum Refusal {
     /// The member is none of the group's.
@@ -44,6 +45,10 @@ pub enum Refusal {
     /// The board is not the one that the world was given so far: the cell of a new batch is not there or set already,
     /// or a cell that was set has no batch or another.
     Board,
+    /// The serial was never sent to the member.
+    NotSent,
+    /// The serial is in the member's waiting line.
+    StillWaiting,
 }
 
 impl fmt::Display for Refusal {
@@ -68,6 +73,8 @@ impl fmt::Display for Refusal {
             Refusal::Full(limit) => write!(f, "Full({limit})"),
             Refusal::OutOfMemory => f.write_str("OutOfMemory"),
             Refusal::Board => f.write_str("Board"),
+            Refusal::NotSent => f.write_str("NotSent"),
+            Refusal::StillWaiting => f.write_str("StillWaiting"),
         }
     }
 }

@@ -33,8 +33,12 @@ fn names_are_shown(rt: HostRuntime) -> Result<(), Fail> {
     let alloc = rt.alloc();
     let message = Message::new(1, 2, Command::Set(0, 7)).ok_or("good")?;
     let refusal = Refusal::Full(Limit::Cells);
-    let text = format!(in alloc; "{message} {refusal} {}", Refusal::TooFew)?;
-    assert_eq!(rt; text.as_str(), "1.2 Full(Cells) TooFew");
+    let text = format!(in alloc;
+        "{message} {refusal} {} {}",
+        Refusal::NotSent,
+        Refusal::StillWaiting
+    )?;
+    assert_eq!(rt; text.as_str(), "1.2 Full(Cells) NotSent StillWaiting");
     Ok(())
 }
 
@@ -70,6 +74,10 @@ fn sets_of_messages_are_in_order(rt: HostRuntime) -> Result<(), Fail> {
     let rest = set.minus(alloc, &[next, first])?;
     assert!(rt; rest.items() == [last].as_slice());
     assert_eq!(rt; rest.len(), 1);
+    set.truncate(3);
+    assert_eq!(rt; set.len(), 2);
+    set.truncate(1);
+    assert!(rt; set.items() == [first].as_slice());
     Ok(())
 }
 

@@ -1,35 +1,14 @@
 -- Lists of waiting lines.
-use Rattle.std.proofs.Common.{◌≡◌, ℕ, zero, suc, ◌+◌, ◌-◌, ◌<◌, ◌≤◌, Bool, true, List, [], ◌∷◌, length, get_or, set, take, refl, ap, sym}
-use Rattle.std.proofs.Common.{◌∙◌, arith}
-use Rattle.std.specs.Prelude.{◌&&◌}
-use Rattle.std.specs.List.{list_all}
-use Rattle.std.proofs.lemmas.List.{map-set, get_or-map, set-get_or, length-map, take_more_set}
-use Rattle.std.proofs.lemmas.List.Folds.{list_all-append}
-use Rattle.std.proofs.lemmas.Bool.Decides.{nat_tests}
+use Rattle.std.proofs.Common.{◌≡◌, ℕ, ◌+◌, ◌-◌, ◌<◌, ◌≤◌, Bool, true, false, List, [], length, get_or, set, refl, ap, sym}
+use Rattle.std.proofs.Common.{◌∙◌, subst, arith, inl, inr}
+use Rattle.std.specs.Prelude.{◌==◌}
+use Rattle.std.proofs.lemmas.List.{map-set, get_or-map, set-get_or, length-map, length-set, get_or-set_same, get_or-set_other}
+use Rattle.std.proofs.lemmas.Bool.{cases_lt, eqb-true, eqb-false}
 use Rattle.ct_names.specs.Group.{is_member}
 use Rattle.ct_names.proofs.Groups.{member_from_one, member_to_n}
-use Rattle.ct_names.proofs.Lists.{both, both-left, both-right}
-use Rattle.ct_network.specs.WaitingLine.{WaitingLine, is_roomy}
-use Rattle.ct_network.specs.Lines.{serials_of, are_roomy}
+use Rattle.ct_network.specs.WaitingLine.{WaitingLine}
+use Rattle.ct_network.specs.Lines.{serials_of, HaveFirstRoom, HaveRoom}
 use Rattle.ct_network.specs.Network.{line_at}
-
-pub all-at : {A : Type 0} (p : A → Bool) (xs : List A) (i : ℕ) (d : A) → i < length xs → list_all p xs ≡ true → p (get_or xs i d) ≡ true
-all-at p [] i d h all = absurd (omega arith)
-all-at p (x ∷ xs) zero d h all = both-left (p x) (list_all p xs) all
-all-at p (x ∷ xs) (suc i) d h all = all-at p xs i d (omega arith) (both-right (p x) (list_all p xs) all)
-
-pub all-set : {A : Type 0} (p : A → Bool) (xs : List A) (i : ℕ) (y : A) → list_all p xs ≡ true → p y ≡ true → list_all p (set xs i y) ≡ true
-all-set p [] i y all h = refl
-all-set p (x ∷ xs) zero y all h = both (p y) (list_all p xs) h (both-right (p x) (list_all p xs) all)
-all-set p (x ∷ xs) (suc i) y all h = both (p x) (list_all p (set xs i y)) (both-left (p x) (list_all p xs) all)
-    (all-set p xs i y (both-right (p x) (list_all p xs) all) h)
-
--- a test answers as before where an element that passes it or not is put for another such
-pub all-same : {A : Type 0} (p : A → Bool) (xs : List A) (i : ℕ) (y d : A) → p y ≡ p (get_or xs i d) →
-    list_all p (set xs i y) ≡ list_all p xs
-all-same p [] i y d e = refl
-all-same p (x ∷ xs) zero y d e = ap (λ b. b && list_all p xs) e
-all-same p (x ∷ xs) (suc i) y d e = ap (λ b. p x && b) (all-same p xs i y d e)
 
 -- what waits at one member
 pub line_there : (lines : List WaitingLine) (i : ℕ) (line : WaitingLine) → i < length lines → line ≡ get_or lines i line →
@@ -54,19 +33,42 @@ pub serials-same : (lines : List WaitingLine) (i : ℕ) (old new : WaitingLine) 
 serials-same lines i old new within is e =
     serials-set lines i new ∙ ap (set (serials_of lines) i) (e ∙ line_there lines i old within is) ∙ set-get_or (serials_of lines) i []
 
+-- a line with as much room is put for another
+pub room-set : (lines : List WaitingLine) (i n least : ℕ) (new : WaitingLine) → i < length lines → HaveFirstRoom n lines least →
+    least ≤ new.room → HaveFirstRoom n (set lines i new) least
+room-set lines i n least new within room h k d low = go (i == k) refl
+  where
+    go : (b : Bool) → (i == k) ≡ b → least ≤ (get_or (set lines i new) k d).room
+    go true e = subst (λ j. least ≤ (get_or (set lines i new) j d).room) (eqb-true i k e)
+        (rw (get_or-set_same lines i new d within) h)
+    go false e = rw (get_or-set_other lines i k new d (λ s. eqb-false i k e (sym s))) (room k d low)
+
 -- a line keeps its room
-pub roomy-stays : (lines : List WaitingLine) (i : ℕ) (old new : WaitingLine) → i < length lines → old ≡ get_or lines i old →
-    old.room ≤ new.room → are_roomy lines ≡ true → are_roomy (set lines i new) ≡ true
-roomy-stays lines i old new within is more roomy =
-    let was : is_roomy old ≡ true = ap is_roomy is ∙ all-at is_roomy lines i old within roomy in
-    all-set is_roomy lines i new roomy (grind (arith, nat_tests))
+pub room-kept : (lines : List WaitingLine) (i least : ℕ) (old new : WaitingLine) → i < length lines → old ≡ get_or lines i old →
+    old.room ≤ new.room → HaveRoom lines least → HaveRoom (set lines i new) least
+room-kept lines i least old new within is h room =
+    let here : least ≤ (get_or lines i old).room = room i old within in
+    let same : old.room ≡ (get_or lines i old).room = ap (λ (l : WaitingLine). l.room) is in
+    rw (length-set lines i new) (room-set lines i (length lines) least new within room (omega arith))
+
+-- a line has room for one less
+pub room-used : (lines : List WaitingLine) (i least : ℕ) (old new : WaitingLine) → i < length lines → old ≡ get_or lines i old →
+    old.room ≤ new.room + 1 → HaveRoom lines least → HaveRoom (set lines i new) (least - 1)
+room-used lines i least old new within is h room =
+    let here : least ≤ (get_or lines i old).room = room i old within in
+    let same : old.room ≡ (get_or lines i old).room = ap (λ (l : WaitingLine). l.room) is in
+    let fewer : HaveRoom lines (least - 1) = λ k d low. let most : least ≤ (get_or lines k d).room = room k d low in omega arith in
+    rw (length-set lines i new) (room-set lines i (length lines) (least - 1) new within fewer (omega arith))
 
 -- one more of the lines has room
-pub roomy-more : (lines : List WaitingLine) (i : ℕ) (new : WaitingLine) → i < length lines → are_roomy (take i lines) ≡ true →
-    0 < new.room → are_roomy (take (i + 1) (set lines i new)) ≡ true
-roomy-more lines i new within done room =
-    ap are_roomy (take_more_set lines i new within) ∙ list_all-append is_roomy (take i lines) (new ∷ [])
-    ∙ both (are_roomy (take i lines)) (is_roomy new && true) done (both (is_roomy new) true (grind (arith, nat_tests)) refl)
+pub room-more : (lines : List WaitingLine) (i least : ℕ) (new : WaitingLine) → i < length lines → HaveFirstRoom i lines least →
+    least ≤ new.room → HaveFirstRoom (i + 1) (set lines i new) least
+room-more lines i least new within room h k d low =
+    elim (cases_lt k i) [
+      | inl before ↦ room-set lines i i least new within room h k d before
+      | inr after ↦ (let e : i ≡ k = omega arith in
+          subst (λ j. least ≤ (get_or (set lines i new) j d).room) e (rw (get_or-set_same lines i new d within) h))
+    ]
 
 -- the line of a member of the group
 pub place : (lines : List WaitingLine) (seen : List (List ℕ)) (p : ℕ) → serials_of lines ≡ seen → is_member (length seen) p ≡ true →

@@ -1,12 +1,15 @@
 -- The waiting lines of all members.
-use Rattle.std.specs.Prelude.{ℕ, Bool, List, map}
-use Rattle.std.specs.List.{list_all}
-use Rattle.ct_network.specs.WaitingLine.{WaitingLine, is_roomy}
+use Rattle.std.specs.Prelude.{ℕ, ◌<◌, ◌≤◌, List, length, map, slice_index_or}
+use Rattle.ct_network.specs.WaitingLine.{WaitingLine}
 
 -- the serials that wait at each member
 abbrev pub serials_of : List WaitingLine → List (List ℕ)
 serials_of lines = map (λ line. line.serials) lines
 
--- one more serial can join each line without memory
-abbrev pub are_roomy : List WaitingLine → Bool
-are_roomy lines = list_all is_roomy lines
+-- at least so many more serials can join each of the first n lines without memory
+abbrev pub HaveFirstRoom : ℕ → List WaitingLine → ℕ → Type 0
+HaveFirstRoom n lines least = (i : ℕ) (line : WaitingLine) → i < n → least ≤ (slice_index_or lines i line).room
+
+-- at least so many more serials can join each line without memory
+abbrev pub HaveRoom : List WaitingLine → ℕ → Type 0
+HaveRoom lines least = HaveFirstRoom (length lines) lines least

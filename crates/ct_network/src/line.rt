@@ -1,8 +1,7 @@
 //! Waiting lines.
 
-ghost use Rattle.std.specs.Prelude.{◌≡◌, ◌+◌, ◌<◌, ◌≤◌, [], ◌∷◌, ◌++◌, length, drop, remove, false, OnOk, OnErr, IfOk};
+ghost use Rattle.std.specs.Prelude.{◌≡◌, ◌+◌, ◌<◌, ◌≤◌, [], ◌∷◌, ◌++◌, length, drop, remove, OnOk, OnErr, IfOk};
 ghost use Rattle.ct_network.specs.Network.{place_of};
-ghost use Rattle.ct_network.specs.WaitingLine.{is_roomy};
 
 use ct_names::Serial;
 use std::alloc::{AllocError, Global};
@@ -61,25 +60,18 @@ impl Line {
         self.as_slice().iter().position(|other| *other == serial)
     }
 
-    /// Whether one more serial can join without memory.
-    pub fn has_room(&self) -> bool
-        ensures { result ≡ is_roomy self.now }
-    {
-        self.kept.len() < self.kept.capacity()
-    }
-
-    /// Makes room for one more serial. A full line first takes back the places of the serials that left, where those are
-    /// more than half. Where memory is refused that room was missing.
-    pub fn make_room(&mut self) -> Result<(), AllocError>
+    /// Makes room for so many more serials. Where that is missing the line first takes back the places of the serials
+    /// that left, if those are more than half. Where memory is refused that room was missing.
+    pub fn make_room(&mut self, more: usize) -> Result<(), AllocError>
         ensures same { self.new.serials ≡ self.old.serials }
         ensures room { self.old.room ≤ self.new.room }
-        ensures ok { OnOk result (0 < self.new.room) }
-        ensures refused { OnErr result (is_roomy self.old ≡ false) }
+        ensures ok { OnOk result (more ≤ self.new.room) }
+        ensures refused { OnErr result (self.old.room < more) }
     {
-        if self.kept.len() == self.kept.capacity() && self.start > self.kept.len() / 2 {
+        if self.kept.capacity() - self.kept.len() < more && self.start > self.kept.len() / 2 {
             self.reclaim();
         }
-        self.kept.reserve(1)
+        self.kept.reserve(more)
     }
 
     /// The serial comes to the end.
@@ -118,6 +110,8 @@ fn take_out(kept: &mut [Serial], start: usize, at: usize)
     requires { start + at < length kept.old }
     ensures { drop (start + 1) kept.new ≡ remove (drop start kept.old) at }
 {
-    let front = &mut kept[start..start + at + 1];
-    front.rotate_right(1);
+    if at > 0 {
+        let front = &mut kept[start..start + at + 1];
+        front.rotate_right(1);
+    }
 }

@@ -1,7 +1,7 @@
 //! The waiting lines of all members.
 
-ghost use Rattle.std.specs.Prelude.{◌≡◌, [], false, IsTrue, IfOk, OnOk, OnErr, replicate};
-ghost use Rattle.ct_network.specs.Lines.{serials_of, are_roomy};
+ghost use Rattle.std.specs.Prelude.{◌≡◌, ℕ, [], IfOk, OnOk, replicate};
+ghost use Rattle.ct_network.specs.Lines.{serials_of, HaveRoom};
 
 use crate::line::Line;
 use std::alloc::{AllocError, Global};
@@ -28,24 +28,15 @@ pub fn copy_lines(alloc: Global, lines: &[Line]) -> Result<Vec<Line>, AllocError
     Ok(copies)
 }
 
-/// Whether one more serial can join each line without memory.
-pub fn are_roomy(lines: &[Line]) -> bool
-    ensures { result ≡ are_roomy lines.now }
-{
-    lines.iter().all(|line| line.has_room())
-}
-
-/// Makes room in each line for one more serial. Where memory is refused that room was missing. What waits stays, and so
-/// does room.
-pub fn make_room(lines: &mut Vec<Line>) -> Result<(), AllocError>
+/// Makes room in each line for so many more serials. What waits stays, and so does room, also where memory is refused.
+pub fn make_room(lines: &mut Vec<Line>, more: usize) -> Result<(), AllocError>
     ensures same { serials_of lines.new.items ≡ serials_of lines.old.items }
-    ensures ok { OnOk result (IsTrue (are_roomy lines.new.items)) }
-    ensures refused { OnErr result (are_roomy lines.old.items ≡ false) }
-    ensures room { IsTrue (are_roomy lines.old.items) → IsTrue (are_roomy lines.new.items) }
+    ensures ok { OnOk result (HaveRoom lines.new.items more) }
+    ensures room { (least : ℕ) → HaveRoom lines.old.items least → HaveRoom lines.new.items least }
 {
     for i in 0..lines.len() {
         let line = &mut lines[i];
-        line.make_room()?;
+        line.make_room(more)?;
     }
     Ok(())
 }

@@ -21,11 +21,13 @@ use std::marker::Model;
 pub struct Network {
     envelopes: Vec<Envelope>,
     lines: Vec<Line>,
+    // So many more serials can join each line without memory, and perhaps more.
+    spare: usize,
 }
 
 impl Model for Network {
-    ghost use Rattle.std.specs.Prelude.{◌-◌, ◌&&◌, nat_le, length, vec_len, vec_capacity};
-    ghost use Rattle.ct_network.specs.Lines.{serials_of, are_roomy};
+    ghost use Rattle.std.specs.Prelude.{◌-◌, ◌&&◌, nat_le, nat_lt, length, vec_len, vec_capacity};
+    ghost use Rattle.ct_network.specs.Lines.{serials_of, HaveRoom};
     ghost use Rattle.ct_network.specs.Network.{NetworkView};
 
     ghost Value = { NetworkView };
@@ -33,8 +35,10 @@ impl Model for Network {
     ghost view = { λ a. record {
       sent = a.envelopes.items;
       lines = serials_of a.lines.items;
-      has_room = nat_le (length a.lines.items) (vec_capacity a.envelopes - vec_len a.envelopes) && are_roomy a.lines.items;
+      has_room = nat_le (length a.lines.items) (vec_capacity a.envelopes - vec_len a.envelopes) && nat_lt 0 a.spare;
     } };
+
+    ghost invariant = { λ a. HaveRoom a.lines.items a.spare };
 }
 
 impl Network {
@@ -46,6 +50,7 @@ impl Network {
         Ok(Network {
             envelopes: Vec::new(alloc),
             lines: lines::new_lines(alloc, members)?,
+            spare: 0,
         })
     }
 
@@ -57,6 +62,7 @@ impl Network {
         Ok(Network {
             envelopes: Vec::from_slice(alloc, &self.envelopes)?,
             lines: lines::copy_lines(alloc, &self.lines)?,
+            spare: 0,
         })
     }
 

@@ -45,6 +45,31 @@ fn is_line(network: &Network, member: Member, serials: &[Serial]) -> bool
     }
 }
 
+// Whether a message went to all, and then an ack to the second member.
+fn has_sent(network: &Network, message: Message) -> bool {
+    network.sent() == 4
+        && network.envelope(0).is_none()
+        && network.envelope(3)
+            == Some(Envelope {
+                to: 3,
+                wire: Wire::Data(message),
+            })
+        && network.envelope(4) == Some(Envelope { to: 2, wire: ack() })
+        && network.envelope(5).is_none()
+}
+
+// Whether their serials wait where they went to.
+fn has_lines(network: &Network) -> bool {
+    is_line(network, 2, &[2, 4])
+        && is_line(network, 3, &[3])
+        && network.line(0).is_none()
+        && network.line(4).is_none()
+}
+
+fn finds(network: &Network) -> bool {
+    network.find(2, 4) == Some(1) && network.find(3, 4).is_none() && network.find(4, 4).is_none()
+}
+
 #[test]
 fn mail_goes_to_all_and_to_one(rt: HostRuntime) -> Result<(), Fail> {
     let message = Message::new(2, 1, Command::Set(0, 7)).ok_or("good")?;
@@ -54,59 +79,66 @@ fn mail_goes_to_all_and_to_one(rt: HostRuntime) -> Result<(), Fail> {
     assert!(rt; network.has_room());
     assert_eq!(rt; send_to_all(&mut network, Wire::Data(message))?, 3);
     assert_eq!(rt; send(&mut network, 2, ack())?, 1);
-    assert_eq!(rt; network.sent(), 4);
-    assert_eq!(rt; network.envelope(0), None);
-    assert_eq!(rt;
-        network.envelope(3),
-        Some(Envelope {
-            to: 3,
-            wire: Wire::Data(message)
-        })
-    );
-    assert_eq!(rt; network.envelope(4), Some(Envelope { to: 2, wire: ack() }));
-    assert_eq!(rt; network.envelope(5), None);
-    assert!(rt; is_line(&network, 2, &[2, 4]));
-    assert!(rt; is_line(&network, 3, &[3]));
-    assert_eq!(rt; network.line(0), None);
-    assert_eq!(rt; network.line(4), None);
-    assert_eq!(rt; network.find(2, 4), Some(1));
-    assert_eq!(rt; network.find(3, 4), None);
-    assert_eq!(rt; network.find(4, 4), None);
+    assert!(rt; has_sent(&network, message));
+    assert!(rt; has_lines(&network));
+    assert!(rt; finds(&network));
     Ok(())
 }
 
-#[test]
-fn serials_leave_and_move_to_the_end(rt: HostRuntime) -> Result<(), Fail> {
-    let mut network = Network::new(rt.alloc(), 3)?;
-    send(&mut network, 2, ack())?;
-    send(&mut network, 2, ack())?;
+// Sends two wires to the second member, the first of which is moved behind the second one.
+fn postponed(network: &mut Network) -> Result<bool, Fail> {
+    send(network, 2, ack())?;
+    send(network, 2, ack())?;
     network.prepare()?;
-    assert!(rt; is_line(&network, 2, &[1, 2]));
+    if !is_line(network, 2, &[1, 2]) {
+        return Ok(false);
+    }
     network.postpone(2, 0);
-    assert!(rt; is_line(&network, 2, &[2, 1]));
-    let copy = network.copy(rt.alloc())?;
+    Ok(is_line(network, 2, &[2, 1]))
+}
+
+// Takes the first serial of the second member out, and puts it and another one back.
+fn put_back(network: &mut Network) -> Result<bool, Fail> {
+    if !is_line(network, 2, &[2, 1]) {
+        return Ok(false);
+    }
     network.leave(2, 0);
-    assert!(rt; is_line(&network, 2, &[1]));
+    let left = is_line(network, 2, &[1]);
+    network.prepare()?;
+    network.put_back(2, 2);
+    let one = is_line(network, 2, &[1, 2]);
+    network.prepare()?;
+    network.put_back(2, 1);
+    Ok(left && one && is_line(network, 2, &[1, 2, 1]))
+}
+
+#[test]
+fn serials_leave_move_to_the_end_and_come_back(rt: HostRuntime) -> Result<(), Fail> {
+    let mut network = Network::new(rt.alloc(), 3)?;
+    let moved = postponed(&mut network)?;
+    let copy = network.copy(rt.alloc())?;
+    let back = put_back(&mut network)?;
+    assert!(rt; moved && back);
+    assert!(rt; network.sent() == 2 && copy.sent() == 2);
     assert!(rt; is_line(&copy, 2, &[2, 1]));
-    assert_eq!(rt; copy.sent(), 2);
     Ok(())
 }
 
 #[test]
 fn a_line_takes_up_the_places_of_what_left(rt: HostRuntime) -> Result<(), Fail> {
     let mut line = Line::new(rt.alloc());
-    line.make_room()?;
+    line.make_room(1)?;
     line.join(1);
     line.leave(0);
-    line.make_room()?;
+    line.make_room(1)?;
     line.join(2);
     line.leave(0);
-    line.make_room()?;
+    line.make_room(1)?;
     line.join(3);
     line.leave(0);
-    line.make_room()?;
+    line.make_room(1)?;
     line.join(4);
-    line.make_room()?;
+    line.make_room(1)?;
     line.join(5);
     assert_eq!(rt; line.as_slice(), [4, 5].as_slice());
     Ok(())

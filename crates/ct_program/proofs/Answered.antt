@@ -10,7 +10,7 @@ use Rattle.ct_program.specs.Replay.{IsReplayed, IsReportOf, WritesReport, Writes
 use Rattle.ct_program.specs.Streams.{WritesPart}
 use Rattle.ct_program.proofs.Whole.{script_part}
 
-script_read : (bytes input : List ℕ) → bytes ≡ read_part input → script bytes ≡ script input
+pub script_read : (bytes input : List ℕ) → bytes ≡ read_part input → script bytes ≡ script input
 unfolding read_part
 script_read bytes input e = ap script e ∙ script_part 67108865 input (omega arith)
 

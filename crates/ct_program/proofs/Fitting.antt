@@ -4,7 +4,7 @@ use Rattle.std.proofs.lemmas.List.{take_more, take_all}
 use Rattle.ct_model.specs.declared.step.Step.{Step}
 use Rattle.ct_program.specs.Fits.{StepFits, AllFit}
 
-fit_push : (ss : List Step) (s : Step) → AllFit ss → StepFits s → AllFit (ss ++ s ∷ [])
+pub fit_push : (ss : List Step) (s : Step) → AllFit ss → StepFits s → AllFit (ss ++ s ∷ [])
 fit_push [] s h k = (k, tt)
 fit_push (t ∷ ss) s h k = (h.0, fit_push ss s h.1 k)
 

@@ -13,6 +13,7 @@ pub mod Numbers
 pub mod Fitting
 pub mod Lengths
 pub mod Names
+pub mod LineEnd
 pub mod Stored
 pub mod Written
-pub mod Taking
+pub mod Plain

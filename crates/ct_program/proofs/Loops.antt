@@ -10,14 +10,14 @@ use Rattle.serde_json.specs.declared.value.Value.{Value}
 use Rattle.ct_model.specs.declared.step.Step.{Step}
 use Rattle.ct_program.specs.declared.read_fault.ReadFault.{ReadFault}
 use Rattle.ct_program.specs.declared.read_fault.ReadFault.TheVariants.{Shape}
-use Rattle.ct_program.specs.Script.{◌>>=◌, step_of, steps_of}
+use Rattle.ct_program.specs.Script.{◌>>=◌, step_in, steps_of}
 
 -- what was read before, and what is still read
 abbrev pub with_front : List Step → Result (List Step) ReadFault → Result (List Step) ReadFault
 with_front front read = read >>= λ ss. Ok (front ++ ss)
 
-pub steps_start : (ds : List Data) → with_front [] (steps_of 1 ds) ≡ steps_of 1 ds
-steps_start ds = elim (steps_of 1 ds) as (λ r. with_front [] r ≡ r) [ Ok ss ↦ refl | Err e ↦ refl ]
+pub steps_start : (version : ℕ) (ds : List Data) → with_front [] (steps_of version 1 ds) ≡ steps_of version 1 ds
+steps_start version ds = elim (steps_of version 1 ds) as (λ r. with_front [] r ≡ r) [ Ok ss ↦ refl | Err e ↦ refl ]
 
 regroup : (front : List Step) (s : Step) (read : Result (List Step) ReadFault) →
     with_front front (read >>= λ ss. Ok (s ∷ ss)) ≡ with_front (front ++ s ∷ []) read
@@ -29,29 +29,33 @@ split vs i d lt =
     let l : i < length (map view vs) = rw length-map lt in
     rw add-one (drop-cons (map view vs) i (view d) l ∙ ap (λ x. x ∷ drop (suc i) (map view vs)) (get_or-map view vs i d (view d) lt))
 
-pub steps_go : (front new : List Step) (i : ℕ) (vs : List Value) (d : Value) (s : Step) (total : Result (List Step) ReadFault) →
-    i < length vs → d ≡ get_or vs i d → Some s ≡ step_of (view d) → new ≡ front ++ s ∷ []
-    → with_front front (steps_of (i + 1) (drop i (map view vs))) ≡ total →
-    with_front new (steps_of (i + 1 + 1) (drop (i + 1) (map view vs))) ≡ total
+pub steps_go : (version : ℕ) (front new : List Step) (i : ℕ) (vs : List Value) (d : Value) (s : Step)
+    (total : Result (List Step) ReadFault) →
+    i < length vs → d ≡ get_or vs i d → Some s ≡ step_in version (view d) → new ≡ front ++ s ∷ []
+    → with_front front (steps_of version (i + 1) (drop i (map view vs))) ≡ total →
+    with_front new (steps_of version (i + 1 + 1) (drop (i + 1) (map view vs))) ≡ total
 unfolding steps_of
-steps_go front new i vs d s total lt here h e so_far =
-    let one : with_front front (steps_of (i + 1) (drop i (map view vs)))
-    ≡ with_front (front ++ s ∷ []) (steps_of (i + 1 + 1) (drop (i + 1) (map view vs))) =
-    rw (split vs i d lt, ← here, ← h) (regroup front s (steps_of (i + 1 + 1) (drop (i + 1) (map view vs)))) in
+steps_go version front new i vs d s total lt here h e so_far =
+    let one : with_front front (steps_of version (i + 1) (drop i (map view vs)))
+    ≡ with_front (front ++ s ∷ []) (steps_of version (i + 1 + 1) (drop (i + 1) (map view vs))) =
+    rw (split vs i d lt, ← here, ← h) (regroup front s (steps_of version (i + 1 + 1) (drop (i + 1) (map view vs)))) in
     rw e (sym one ∙ so_far)
 
-pub steps_stop : (front : List Step) (i : ℕ) (vs : List Value) (d : Value) (total : Result (List Step) ReadFault) → i < length vs →
-    d ≡ get_or vs i d → None ≡ step_of (view d)
-    → with_front front (steps_of (i + 1) (drop i (map view vs))) ≡ total → total ≡ Err (Shape (i + 1))
+pub steps_stop : (version : ℕ) (front : List Step) (i : ℕ) (vs : List Value) (d : Value) (total : Result (List Step) ReadFault)
+    → i < length vs →
+    d ≡ get_or vs i d → None ≡ step_in version (view d)
+    → with_front front (steps_of version (i + 1) (drop i (map view vs))) ≡ total → total ≡ Err (Shape (i + 1))
 unfolding steps_of
-steps_stop front i vs d total lt here h so_far =
-    let one : with_front front (steps_of (i + 1) (drop i (map view vs))) ≡ Err (Shape (i + 1)) = rw (split vs i d lt, ← here, ← h) refl in
+steps_stop version front i vs d total lt here h so_far =
+    let one : with_front front (steps_of version (i + 1) (drop i (map view vs))) ≡ Err (Shape (i + 1)) = rw
+    (split vs i d lt, ← here, ← h) refl in
     sym so_far ∙ one
 
-pub steps_end : (front : List Step) (i : ℕ) (vs : List Value) (total : Result (List Step) ReadFault) → length vs ≤ i →
-    with_front front (steps_of (i + 1) (drop i (map view vs))) ≡ total → total ≡ Ok front
+pub steps_end : (version : ℕ) (front : List Step) (i : ℕ) (vs : List Value) (total : Result (List Step) ReadFault) → length vs ≤ i →
+    with_front front (steps_of version (i + 1) (drop i (map view vs))) ≡ total → total ≡ Ok front
 unfolding steps_of
-steps_end front i vs total le so_far =
+steps_end version front i vs total le so_far =
     let none : drop i (map view vs) ≡ [] = drop_all i (map view vs) (rw length-map le) in
-    let one : with_front front (steps_of (i + 1) (drop i (map view vs))) ≡ Ok front = rw none (ap (λ xs. Ok xs) (append-nil front)) in
+    let one : with_front front (steps_of version (i + 1) (drop i (map view vs))) ≡ Ok front = rw none
+    (ap (λ xs. Ok xs) (append-nil front)) in
     sym so_far ∙ one

@@ -4,10 +4,9 @@ use Rattle.json.specs.Print.{quoted}
 use Rattle.json.proofs.OnLiterals.{json_on_literals}
 use Rattle.json.proofs.Printed.Utf8.{are_ascii}
 use Rattle.ct_names.specs.declared.command.Command.{Command}
-use Rattle.ct_names.specs.declared.command.Command.TheVariants.{Set, Add, Copy}
+use Rattle.ct_names.specs.declared.command.Command.TheVariants.{Set}
 use Rattle.ct_model.specs.declared.step.Step.{Step}
-use Rattle.ct_model.specs.declared.step.Step.TheVariants.{Submit, Receive, Begin, Enter, Choose, Adopt, Suspect, Conclude, Deliver, Crash}
-use Rattle.ct_model.specs.declared.step.Step.TheVariants.{Postpone}
+use Rattle.ct_model.specs.declared.step.Step.TheVariants.{Submit}
 use Rattle.ct_model.specs.StepText.{Rest, nothing, number, command, amount, command_entry, step_entry}
 use Rattle.ct_program.specs.Script.{named, commands, alone, with_number, with_command}
 
@@ -33,16 +32,7 @@ IsNamed s =
 step_named : (s : Step) → IsNamed s
 unfolding json_on_literals
 step_named (Submit p c) = (refl, refl, omega arith, refl)
-step_named (Receive p k) = (refl, refl, omega arith, refl)
-step_named (Begin p) = (refl, refl, omega arith, refl)
-step_named (Enter p) = (refl, refl, omega arith, refl)
-step_named (Choose p from) = (refl, refl, omega arith, refl)
-step_named (Adopt p) = (refl, refl, omega arith, refl)
-step_named (Suspect p) = (refl, refl, omega arith, refl)
-step_named (Conclude p) = (refl, refl, omega arith, refl)
-step_named (Deliver p) = (refl, refl, omega arith, refl)
-step_named (Crash p) = (refl, refl, omega arith, refl)
-step_named (Postpone p k) = (refl, refl, omega arith, refl)
+step_named _ = (refl, refl, omega arith, refl)
 
 abbrev IsCommandNamed : Command → Type 0
 IsCommandNamed c =
@@ -53,8 +43,7 @@ IsCommandNamed c =
 command_named : (c : Command) → IsCommandNamed c
 unfolding json_on_literals
 command_named (Set register n) = (refl, refl, omega arith, refl)
-command_named (Add register n) = (refl, refl, omega arith, refl)
-command_named (Copy from to) = (refl, refl, omega arith, refl)
+command_named _ = (refl, refl, omega arith, refl)
 
 pub step_name : (s : Step) → IsName (step_entry s).name
 step_name s = let h = step_named s in record { plain = h.0; ascii = h.1; short = h.2 }

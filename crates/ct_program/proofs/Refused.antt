@@ -15,7 +15,7 @@ use Rattle.ct_program.specs.ProgramFault.{of_read_fault, IsOfReplayFault}
 use Rattle.ct_program.specs.Script.{script}
 use Rattle.ct_program.specs.Replay.{IsRefused, IsFaultIn}
 
-is_refused : (w : Rehearsal) (at : ℕ) (refusal : Refusal) → IsFaultOf w.setting.members w.cells w.steps at refusal →
+pub is_refused : (w : Rehearsal) (at : ℕ) (refusal : Refusal) → IsFaultOf w.setting w.cells w.steps at refusal →
     refusal ≢ cause.OutOfMemory → IsRefused w at refusal
 is_refused w zero refusal h other = absurd (other h)
 is_refused w (suc i) refusal h other =
@@ -30,11 +30,11 @@ err_seen (Err e) P Q f h = f e h
 -- what a replay of the steps of a script answers is a fault in the script
 pub replay_refused : (input : List ℕ) (w : Rehearsal) (steps : List Step) (replay : ReplayFault) (fault : ProgramFault) →
     script input ≡ Ok w → steps ≡ w.steps
-    → IsFaultOf w.setting.members w.cells steps replay.at replay.refusal → IsOfReplayFault replay fault → IsFaultIn fault input
+    → IsFaultOf w.setting w.cells steps replay.at replay.refusal → IsOfReplayFault replay fault → IsFaultIn fault input
 replay_refused input w steps replay fault e same h (inl memory) = rw memory.1 tt
 replay_refused input w steps replay fault e same h (inr refused) =
     rw refused.1 (rw e (is_refused w replay.at replay.refusal
-    (subst (λ ss. IsFaultOf w.setting.members w.cells ss replay.at replay.refusal) same h) refused.0))
+    (subst (λ ss. IsFaultOf w.setting w.cells ss replay.at replay.refusal) same h) refused.0))
 
 pub reading_failed : (input : List ℕ) (read : ReadFault) (fault : ProgramFault) → Fails read (script input) → fault ≡ of_read_fault read →
     IsFaultIn fault input

@@ -1,15 +1,24 @@
 -- The value of what is written says what the record says.
-use Rattle.std.proofs.Common.{◌≡◌, ℕ, ◌+◌, ◌*◌, ◌≤◌, true, List, [], ◌∷◌, length, codes, decimal, Some, None, Ok, refl, ◌∙◌, arith, le-leb}
+use Rattle.std.proofs.Common.{◌≡◌, ℕ, ◌+◌, ◌*◌, ◌≤◌, Bool, true, false, List, [], ◌∷◌, length, codes, decimal, Some, None, Ok, refl}
+use Rattle.std.proofs.Common.{sym, ap, ◌∙◌, arith}
+use Rattle.std.proofs.Common.{le-leb, inr}
+use Rattle.std.specs.Prelude.{◌==◌, All}
+use Rattle.std.specs.Fmt.{digits}
+use Rattle.std.proofs.lemmas.List.Elements.{All-head, All-tail}
+use Rattle.json.specs.Spaced.{IsGap}
 use Rattle.serde_json.specs.Data.{number, unsigned}
 use Rattle.ct_names.specs.declared.command.Command.{Command}
+use Rattle.ct_names.specs.declared.limit.TheConstants.{MAX_BOUND}
 use Rattle.ct_model.specs.declared.step.Step.{Step}
+use Rattle.ct_model.specs.declared.step.Step.TheVariants.{Follow}
 use Rattle.ct_model.specs.Rehearsal.{Rehearsal}
 use Rattle.ct_model.specs.StepText as steps
 use Rattle.ct_model.specs.StepText.{Rest, nothing, command, amount, largest, command_entry, step_entry}
 use Rattle.ct_program.specs.Fits.{CommandFits, RestFits, StepFits, AllFit, IsStorable}
+use Rattle.ct_program.specs.Plain.{bound_text, version_text, whole_text}
 use Rattle.ct_program.specs.Text.{record_text}
 use Rattle.ct_program.specs.Script.{whole_of, named_command, command_of, named, short_step, numbered_step, commanded_step, long_step}
-use Rattle.ct_program.specs.Script.{step_of, steps_of, rehearsal_in, of_value, list_of, rest_fits, script}
+use Rattle.ct_program.specs.Script.{step_of, since, step_in, bound_in, steps_of, rehearsal_in, of_value, list_of, rest_fits, script}
 use Rattle.ct_program.proofs.Lengths as lengths
 use Rattle.ct_program.proofs.Lengths.{Text}
 use Rattle.ct_program.proofs.Names.{alike, step_found, command_found}
@@ -17,17 +26,34 @@ use Rattle.ct_program.proofs.Stored.{entry_data, command_data, rest_data, step_d
 use Rattle.ct_program.proofs.Stored.{steps_width}
 use Rattle.ct_program.proofs.Whole.{script_read}
 
-record_width : (w : Rehearsal) → w.cells ≤ 1024 → w.setting.members ≤ 255 → AllFit w.steps
-    → Text (record_text w) (9 + (20 + (5 + (3 + (10 + (55 * length w.steps + 14))))))
-unfolding record_text
-record_width w hc hn h =
+-- ---- the text is short
+
+bound_width : (named : Bool) (bound : ℕ) (t : List ℕ) (wide : ℕ) → bound ≤ MAX_BOUND → Text t wide →
+    Text (bound_text named bound t) (9 + (20 + (1 + wide)))
+bound_width true bound t wide few h =
+    lengths.then (codes "{\"batch\":") _ 9 _ (lengths.plain (codes "{\"batch\":") refl)
+    (lengths.then (decimal bound) _ 20 _ (lengths.value bound (omega arith))
+    (lengths.then (codes ",") t 1 wide (lengths.plain (codes ",") refl) h))
+bound_width false bound t wide few h =
+    lengths.weaker _ (1 + wide) _ (lengths.then (codes "{") t 1 wide (lengths.plain (codes "{") refl) h) (omega arith)
+
+version_width : (version : ℕ) (gap : List ℕ) → version ≤ 3 → Text gap 1 → Text (93 ∷ version_text version gap) (12 + (3 + (1 + 1)))
+version_width version gap le h =
+    lengths.then (codes "],\"version\":") _ 12 _ (lengths.plain (codes "],\"version\":") refl)
+    (lengths.then (decimal version) _ 3 _ (lengths.byte version (omega arith))
+    (lengths.then (codes "}") gap 1 1 (lengths.plain (codes "}") refl) h))
+
+whole_width : (named : Bool) (version : ℕ) (w : Rehearsal) (gap : List ℕ) → version ≤ 3 → Text gap 1 → IsStorable w →
+    Text (whole_text named version w gap) (9 + (20 + (1 + (8 + (20 + (5 + (3 + (10 + (55 * length w.steps + 17)))))))))
+whole_width named version w gap le narrow h =
     let literal = lengths.plain in
-    lengths.then (codes "{\"cells\":") _ 9 _ (literal (codes "{\"cells\":") refl)
-    (lengths.then (decimal w.cells) _ 20 _ (lengths.value w.cells (omega arith))
+    bound_width named w.setting.bound _ _ h.few_bound
+    (lengths.then (codes "\"cells\":") _ 8 _ (literal (codes "\"cells\":") refl)
+    (lengths.then (decimal w.cells) _ 20 _ (lengths.value w.cells (omega (arith, h.few_cells)))
     (lengths.then (codes ",\"n\":") _ 5 _ (literal (codes ",\"n\":") refl)
-    (lengths.then (decimal w.setting.members) _ 3 _ (lengths.byte w.setting.members hn)
+    (lengths.then (decimal w.setting.members) _ 3 _ (lengths.byte w.setting.members (omega (arith, h.few_members)))
     (lengths.then (codes ",\"steps\":[") _ 10 _ (literal (codes ",\"steps\":[") refl)
-    (lengths.then _ _ (55 * length w.steps) _ (steps_width w.steps h) (literal (codes "],\"version\":1}") refl))))))
+    (lengths.then _ _ (55 * length w.steps) _ (steps_width w.steps h.fit) (version_width version gap le narrow)))))))
 
 -- ---- the value says what the record says
 
@@ -73,20 +99,82 @@ step_is : (s : Step) → StepFits s → step_of (step_data s) ≡ Some s
 step_is s h =
     entry_is (step_entry s).name (step_entry s).first (step_entry s).rest s h.0 h.1 (rest_is (step_entry s).rest h.1) (step_found s)
 
-steps_are : (at : ℕ) (ss : List Step) → AllFit ss → steps_of at (list_of (steps_data ss)) ≡ Ok ss
-unfolding steps_of
-steps_are at [] h = refl
-steps_are at (s ∷ ss) h = rw (step_is s h.0, steps_are (at + 1) ss h.1) refl
+-- a record of a known version, which has its steps; the bound is named in version 3 alone, and else the largest
+pub record IsOf (named : Bool) (version : ℕ) (w : Rehearsal) : Type 0 where
+  pub first : 1 ≤ version
+  pub last : version ≤ 3
+  pub names : (version == 3) ≡ named
+  pub bound : named ≡ false → w.setting.bound ≡ MAX_BOUND
+  pub known : All (λ s. since s ≤ version) w.steps
 
-record_is : (w : Rehearsal) → IsStorable w → of_value (record_data w) ≡ Ok w
-unfolding of_value rehearsal_in
-record_is w h =
+known_is : (version : ℕ) (s : Step) → StepFits s → since s ≤ version → step_in version (step_data s) ≡ Some s
+unfolding step_in
+known_is version s h le = rw (step_is s h, le-leb (since s) version le) refl
+
+steps_are : (version at : ℕ) (ss : List Step) → AllFit ss → All (λ s. since s ≤ version) ss →
+    steps_of version at (list_of (steps_data ss)) ≡ Ok ss
+unfolding steps_of
+steps_are version at [] h known = refl
+steps_are version at (s ∷ ss) h known =
+    rw (
+      known_is version s h.0 (All-head (λ s. since s ≤ version) s ss known),
+      steps_are version (at + 1) ss h.1 (All-tail (λ s. since s ≤ version) s ss known),
+    ) refl
+
+record_is : (named : Bool) (version : ℕ) (w : Rehearsal) → IsOf named version w → IsStorable w →
+    of_value (record_data named version w) ≡ Ok w
+unfolding of_value rehearsal_in bound_in
+record_is true version w is h =
+    let members = whole_is 1 16 w.setting.members h.some_members h.few_members in
+    let bound = whole_is 1 MAX_BOUND w.setting.bound h.some_bound h.few_bound in
+    let cells = whole_is 0 1024 w.cells (omega arith) h.few_cells in
+    let steps = steps_are version 1 w.steps h.fit is.known in
+    let value = value_is version (omega (arith, is.last)) in
+    rw (value, le-leb 1 version is.first, le-leb version 3 is.last, is.names, members, bound, cells, steps) refl
+record_is false version w is h =
     let members = whole_is 1 16 w.setting.members h.some_members h.few_members in
     let cells = whole_is 0 1024 w.cells (omega arith) h.few_cells in
-    rw (value_is 1 (omega arith), members, cells, steps_are 1 w.steps h.fit) refl
+    let steps = steps_are version 1 w.steps h.fit is.known in
+    let value = value_is version (omega (arith, is.last)) in
+    let says : ℕ → Rehearsal =
+    λ b. record { setting = record { members = w.setting.members; bound = b }; cells = w.cells; steps = w.steps } in
+    let is_largest : of_value (record_data false version w) ≡ Ok (says MAX_BOUND) =
+    rw (value, le-leb 1 version is.first, le-leb version 3 is.last, is.names, members, cells, steps) refl in
+    is_largest ∙ ap (λ b. Ok (says b)) (sym (is.bound refl))
+
+-- ---- the whole
+
+-- a space or a line feed behind the text changes nothing
+gap_trip : (named : Bool) (version : ℕ) (w : Rehearsal) (gap : List ℕ) → IsGap gap → Text gap 1 → IsOf named version w →
+    IsStorable w → script (whole_text named version w gap) ≡ Ok w
+gap_trip named version w gap is narrow of h =
+    let width = whole_width named version w gap of.last narrow h in
+    script_read (whole_text named version w gap) (record_data named version w) (omega (arith, width.short, h.few_steps)) width.utf8
+    (record_reads named version w gap is of.last h) ∙ record_is named version w of h
+
+pub version_trip : (named : Bool) (version : ℕ) (w : Rehearsal) → IsOf named version w → IsStorable w →
+    script (whole_text named version w []) ≡ Ok w
+version_trip named version w = gap_trip named version w [] tt (lengths.weaker [] 0 1 (lengths.plain [] refl) (omega arith))
+
+pub version_line_trip : (named : Bool) (version : ℕ) (w : Rehearsal) → IsOf named version w → IsStorable w →
+    script (whole_text named version w (10 ∷ [])) ≡ Ok w
+version_line_trip named version w = gap_trip named version w (10 ∷ []) (inr refl, tt) (lengths.plain (10 ∷ []) refl)
+
+-- every step is one of version 3
+is_known : (s : Step) → since s ≤ 3
+is_known (Follow p) = omega arith
+is_known _ = omega arith
+
+record_whole : (w : Rehearsal) → record_text w ≡ whole_text true 3 w []
+unfolding record_text digits
+record_whole w = refl
 
 pub round_trip : (w : Rehearsal) → IsStorable w → script (record_text w) ≡ Ok w
 round_trip w h =
-    let short = record_width w h.few_cells (omega (arith, h.few_members)) h.fit in
-    let reads = record_reads w (omega (arith, h.few_cells)) (omega (arith, h.few_members)) h.fit in
-    script_read (record_text w) (record_data w) (omega (arith, short.short, h.few_steps)) short.utf8 reads ∙ record_is w h
+    ap script (record_whole w) ∙ version_trip true 3 w (record {
+      first = omega arith;
+      last = omega arith;
+      names = refl;
+      bound = λ e. absurd cc;
+      known = λ k d lt. is_known _;
+    }) h

@@ -1,6 +1,6 @@
 -- Records whose numbers fit their fields.
 use Rattle.std.specs.Prelude.{List, [], ◌∷◌, ◌≤◌, length, ⊤}
-use Rattle.ct_names.specs.declared.limit.TheConstants.{MAX_CELLS, MAX_MEMBERS, MAX_STEPS}
+use Rattle.ct_names.specs.declared.limit.TheConstants.{MAX_BOUND, MAX_CELLS, MAX_MEMBERS, MAX_STEPS}
 use Rattle.ct_names.specs.declared.command.Command.{Command}
 use Rattle.ct_model.specs.declared.step.Step.{Step}
 use Rattle.ct_model.specs.Rehearsal.{Rehearsal}
@@ -24,10 +24,12 @@ abbrev pub AllFit : List Step → Type 0
 AllFit [] = ⊤
 AllFit (step ∷ steps) = StepFits step × AllFit steps
 
--- a group of 1 to 16 members, 1,024 cells and 1,000,000 steps at most, and numbers that fit
+-- a group of 1 to 16 members, a bound that a record can name, 1,024 cells and 1,000,000 steps at most, and numbers that fit
 pub record IsStorable (w : Rehearsal) : Type 0 where
   pub some_members : 1 ≤ w.setting.members
   pub few_members : w.setting.members ≤ MAX_MEMBERS
+  pub some_bound : 1 ≤ w.setting.bound
+  pub few_bound : w.setting.bound ≤ MAX_BOUND
   pub few_cells : w.cells ≤ MAX_CELLS
   pub few_steps : length w.steps ≤ MAX_STEPS
   pub fit : AllFit w.steps

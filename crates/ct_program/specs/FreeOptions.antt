@@ -1,6 +1,7 @@
 -- The ranges of the options of a free run.
 use Rattle.std.specs.Prelude.{◌≤◌, ⊤}
-use Rattle.ct_names.specs.declared.limit.TheConstants.{MAX_CELLS, MAX_MEMBERS}
+use Rattle.ct_names.specs.declared.limit.TheConstants.{MAX_BOUND, MAX_CELLS, MAX_MEMBERS}
+use Rattle.ct_model.specs.Setting.{Setting}
 use Rattle.ct_program.specs.declared.free_options.FreeOptions.{FreeOptions}
 use Rattle.ct_program.specs.declared.call.Call.{Call}
 use Rattle.ct_program.specs.declared.call.Call.TheVariants.{Replay, Free}
@@ -15,6 +16,13 @@ pub record InRange (o : FreeOptions) : Type 0 where
   pub submit : o.submit ≤ 1000
   pub crash : o.crash ≤ MAX_MEMBERS
   pub postpone : o.postpone ≤ 1000
+  pub lose : o.lose ≤ 1000
+  pub repeat : o.repeat ≤ 1000
+  pub batch : (1 ≤ o.batch) × (o.batch ≤ MAX_BOUND)
+
+-- the setting that the options ask for
+abbrev pub setting_of : FreeOptions → Setting
+setting_of o = record { members = o.members; bound = o.batch }
 
 -- a free run is asked for with each option in its range
 abbrev pub FreeInRange : Call → Type 0

@@ -9,10 +9,11 @@ use Rattle.ct_program.specs.Outcome.{IsOutcome}
 use Rattle.ct_program.specs.Streams.{WritesPart}
 use Rattle.ct_program.specs.Text.{record_text}
 
--- the record has as many members and cells as the options ask for; its steps are a run that ends in a safe state, which
+-- the record has the members, the bound and the cells that the options ask for; its steps are a run that ends in a safe state, which
 -- its report shows
 pub record IsRunOf (o : FreeOptions) (w : Rehearsal) : Type 0 where
   pub members : w.setting.members ≡ o.members
+  pub bound : w.setting.bound ≡ o.batch
   pub cells : w.cells ≡ o.cells
   pub outcome : IsOutcome w
 

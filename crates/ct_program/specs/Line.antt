@@ -3,7 +3,7 @@ use Rattle.std.specs.Prelude.{◌≡◌, ◌&&◌, ℕ, true, List, [], ◌∷�
 use Rattle.std.specs.Prelude.{if◌then◌else◌, ⊤}
 use Rattle.std.specs.Str.{bytes_eq}
 use Rattle.std.specs.Str.Parse.{digits_value, without_leading_plus}
-use Rattle.ct_names.specs.declared.limit.TheConstants.{MAX_CELLS, MAX_MEMBERS}
+use Rattle.ct_names.specs.declared.limit.TheConstants.{MAX_BOUND, MAX_CELLS, MAX_MEMBERS}
 use Rattle.clap.specs.Words.{App, Kinds, HasKind, Row, Rule, Text, fault_of, first_of, kind_of, new_app, new_rule, subcommand_of}
 use Rattle.clap.specs.Words.{with_subcommand}
 use Rattle.clap.specs.Simple.{new_shape, on_top}
@@ -30,7 +30,8 @@ abbrev pub free_rules : List Rule
 free_rules =
     required_rule (codes "members") ∷ option_rule (codes "turns") (codes "1000") ∷ option_rule (codes "seed") (codes "0")
     ∷ option_rule (codes "rate") (codes "64") ∷ option_rule (codes "cells") (codes "64") ∷ option_rule (codes "submit") (codes "8")
-    ∷ option_rule (codes "crash") (codes "0") ∷ option_rule (codes "postpone") (codes "0") ∷ []
+    ∷ option_rule (codes "crash") (codes "0") ∷ option_rule (codes "postpone") (codes "0") ∷ option_rule (codes "lose") (codes "0")
+    ∷ option_rule (codes "repeat") (codes "0") ∷ option_rule (codes "batch") (codes "1048560") ∷ []
 
 -- the subcommand `free`
 abbrev pub free_app : App
@@ -79,6 +80,9 @@ options_of rows = do
   submit ← option_in rows (codes "submit") 0 1000
   crash ← option_in rows (codes "crash") 0 MAX_MEMBERS
   postpone ← option_in rows (codes "postpone") 0 1000
+  lose ← option_in rows (codes "lose") 0 1000
+  repeat ← option_in rows (codes "repeat") 0 1000
+  batch ← option_in rows (codes "batch") 1 MAX_BOUND
   Some (record {
     members = members;
     turns = turns;
@@ -87,8 +91,10 @@ options_of rows = do
     cells = cells;
     submit = submit;
     crash = crash;
-    postpone =
-        postpone;
+    postpone = postpone;
+    lose = lose;
+    repeat = repeat;
+    batch = batch;
   })
 
 -- the call of a subcommand, by its name and what clap found for its options

@@ -14,12 +14,12 @@ use Rattle.ct_program.specs.Streams.{WritesPart}
 
 -- each step of the record is allowed after those before it
 abbrev pub IsAllowed : Rehearsal → Type 0
-IsAllowed w = AllowsFirst w.setting.members w.cells w.steps (length w.steps)
+IsAllowed w = AllowsFirst w.setting w.cells w.steps (length w.steps)
 
 -- step `at`, counted from 1, is refused, but not for want of memory, and each before it is allowed
 pub record IsRefused (w : Rehearsal) (at : ℕ) (refusal : Refusal) : Type 0 where
   pub counted : 1 ≤ at
-  pub refused : IsRefusedAt w.setting.members w.cells w.steps (at - 1) refusal
+  pub refused : IsRefusedAt w.setting w.cells w.steps (at - 1) refusal
   pub not_memory : refusal ≢ OutOfMemory
 
 -- the record's steps are all allowed; so they are a run, which ends in a safe state

@@ -3,16 +3,17 @@ use Rattle.std.specs.Prelude.{ℕ, suc, Bool, true, ◌+◌, ◌==◌, ◌&&◌,
 use Rattle.std.specs.Prelude.{Ok, Err, option_map, option_and_then, ok_or, if◌then◌else◌}
 use Rattle.std.specs.Option.{option_map_or}
 use Rattle.std.specs.Str.{bytes_eq, is_utf8}
-use Rattle.ct_names.specs.declared.limit.TheConstants.{MAX_CELLS, MAX_MEMBERS}
+use Rattle.ct_names.specs.declared.limit.TheConstants.{MAX_BOUND, MAX_CELLS, MAX_MEMBERS}
 use Rattle.serde_json.specs.Data.{Data, Items, no_items, item, Members, no_members, member}
 use Rattle.serde_json.specs.Read.{read}
 use Rattle.serde_json.specs.Find.{get, as_number, as_u64, as_str, as_array, as_object}
 use Rattle.ct_names.specs.declared.command.Command.{Command}
 use Rattle.ct_names.specs.declared.command.Command.TheVariants.{Set, Add, Copy}
 use Rattle.ct_model.specs.declared.step.Step.{Step}
-use Rattle.ct_model.specs.declared.step.Step.TheVariants.{Submit, Receive, Begin, Enter, Choose, Adopt, Suspect, Conclude, Deliver, Crash}
-use Rattle.ct_model.specs.declared.step.Step.TheVariants.{Postpone}
+use Rattle.ct_model.specs.declared.step.Step.TheVariants.{Submit, Receive, Begin, Enter, Choose, Adopt, Suspect, Conclude, Deliver}
+use Rattle.ct_model.specs.declared.step.Step.TheVariants.{Follow, Crash, Postpone, Lose, Repeat}
 use Rattle.ct_model.specs.Rehearsal.{Rehearsal}
+use Rattle.ct_model.specs.When.{when}
 use Rattle.ct_model.specs.StepText.{Number, amount, largest, Rest, nothing, number, command, Entry, command_entry, step_entry}
 use Rattle.ct_program.specs.declared.read_fault.ReadFault.{ReadFault}
 use Rattle.ct_program.specs.declared.read_fault.ReadFault.TheVariants.{TooLong, NotJson, Shape, Version}
@@ -81,10 +82,10 @@ command_of d = option_and_then command_parts (list_in d)
 
 -- the steps that have a member alone, and those that have one more number, or a command
 abbrev pub alone : ℕ → List Step
-alone p = Begin p ∷ Enter p ∷ Adopt p ∷ Suspect p ∷ Conclude p ∷ Deliver p ∷ Crash p ∷ []
+alone p = Begin p ∷ Enter p ∷ Adopt p ∷ Suspect p ∷ Conclude p ∷ Deliver p ∷ Follow p ∷ Crash p ∷ []
 
 abbrev pub with_number : ℕ → ℕ → List Step
-with_number p n = Receive p n ∷ Choose p n ∷ Postpone p n ∷ []
+with_number p n = Receive p n ∷ Choose p n ∷ Postpone p n ∷ Lose p n ∷ Repeat p n ∷ []
 
 abbrev pub with_command : ℕ → Command → List Step
 with_command p c = Submit p c ∷ []
@@ -121,31 +122,52 @@ step_parts (name ∷ p ∷ d ∷ e ∷ rest) = None
 unfoldable pub step_of : Data → Option Step
 step_of d = option_and_then step_parts (list_in d)
 
--- the steps, of which the first is the at-th, or the fault of the first that is none
-unfoldable pub steps_of : ℕ → List Data → Result (List Step) ReadFault
-steps_of at [] = Ok []
-steps_of at (d ∷ ds) = do
-  s ← ok_or (step_of d) (Shape at)
-  ss ← steps_of (at + 1) ds
+-- the first version of records that has the step
+abbrev pub since : Step → ℕ
+since (Lose p k) = 2
+since (Repeat p k) = 2
+since (Follow p) = 3
+since _ = 1
+
+-- the step, where records of the version have it
+unfoldable pub step_in : ℕ → Data → Option Step
+step_in version d = option_and_then (λ s. when (nat_le (since s) version) s) (step_of d)
+
+-- the steps of a record of the version, of which the first is the at-th, or the fault of the first that is none
+unfoldable pub steps_of : ℕ → ℕ → List Data → Result (List Step) ReadFault
+steps_of version at [] = Ok []
+steps_of version at (d ∷ ds) = do
+  s ← ok_or (step_in version d) (Shape at)
+  ss ← steps_of version (at + 1) ds
   Ok (s ∷ ss)
 
 -- ---- the whole
 
--- the number of members, the number of cells, the steps
-unfoldable pub rehearsal_in : Data → Result Rehearsal ReadFault
-rehearsal_in d = do
+-- how many keys a record of the version has
+abbrev pub keys : ℕ → ℕ
+keys version = if version == 3 then 5 else 4
+
+-- the bound on a proposal: a record of version 3 names it, others have the largest
+unfoldable pub bound_in : ℕ → Data → Option ℕ
+bound_in version d = if version == 3 then option_and_then (whole_of 1 MAX_BOUND) (get (codes "batch") d) else Some MAX_BOUND
+
+-- the number of members, the bound, the number of cells, the steps
+unfoldable pub rehearsal_in : ℕ → Data → Result Rehearsal ReadFault
+rehearsal_in version d = do
   n ← ok_or (option_and_then (whole_of 1 MAX_MEMBERS) (get (codes "n") d)) (Shape 0)
+  bound ← ok_or (bound_in version d) (Shape 0)
   cells ← ok_or (option_and_then (whole_of 0 MAX_CELLS) (get (codes "cells") d)) (Shape 0)
   ds ← ok_or (option_and_then list_in (get (codes "steps") d)) (Shape 0)
-  steps ← steps_of 1 ds
-  Ok (record { setting = record { members = n }; cells = cells; steps = steps })
+  steps ← steps_of version 1 ds
+  Ok (record { setting = record { members = n; bound = bound }; cells = cells; steps = steps })
 
--- an object with a version, which is 1, and with four members in all
+-- an object with a version, which is 1, 2 or 3, and with as many members as it has keys
 unfoldable pub of_value : Data → Result Rehearsal ReadFault
 of_value d = do
   ms ← ok_or (as_object d) (Shape 0)
   version ← ok_or (option_and_then value_of (get (codes "version") d)) (Shape 0)
-  if version == 1 then (if count_of ms == 4 then rehearsal_in d else Err (Shape 0)) else Err Version
+  if nat_le 1 version && nat_le version 3 then
+      (if count_of ms == keys version then rehearsal_in version d else Err (Shape 0)) else Err Version
 
 -- the value of bytes that are text
 abbrev pub data_of : List ℕ → Option Data

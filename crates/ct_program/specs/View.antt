@@ -3,4 +3,4 @@ use Rattle.ct_model.specs.Rehearsal.{Rehearsal}
 use Rattle.ct_program.specs.declared.script.Script.{Script}
 
 abbrev pub rehearsal_of : Script → Rehearsal
-rehearsal_of s = record { setting = record { members = s.group }; cells = s.cells; steps = s.steps.items }
+rehearsal_of s = record { setting = record { members = s.group; bound = s.batch }; cells = s.cells; steps = s.steps.items }

@@ -3,28 +3,39 @@
 use crate::failed::Failed;
 use crate::sink::Sink;
 use crate::source::Source;
-use std::io::{Read, Write};
+use std::io::{ErrorKind, Read, Write};
 
 /// A reader or a writer of std, and how often it failed. A write that takes none of some bytes is a failure.
 #[derive(Drop)]
 pub struct Counted<T> {
     stream: T,
     failures: u64,
+    // The last failure was a write into a pipe that nobody reads.
+    broken: bool,
 }
 
 impl<T> Counted<T> {
-    ghost use Rattle.std.specs.Prelude.{◌≡◌};
-    ghost use Rattle.ct_program.specs.Counted.{stream_of, failures_of};
+    ghost use Rattle.std.specs.Prelude.{◌≡◌, false};
+    ghost use Rattle.ct_program.specs.Counted.{stream_of, failures_of, broken_of};
 
     /// The stream, which has not failed yet.
     pub fn new(stream: T) -> Counted<T>
         ensures stream { stream_of result ≡ stream }
         ensures none { failures_of result ≡ 0 }
+        ensures unbroken { broken_of result ≡ false }
     {
         Counted {
             stream,
             failures: 0,
+            broken: false,
         }
+    }
+
+    /// Whether the last failure was a write into a pipe that nobody reads.
+    pub fn is_broken(&self) -> bool
+        ensures { result ≡ broken_of self.now }
+    {
+        self.broken
     }
 
     /// The stream alone.
@@ -63,8 +74,13 @@ impl<W: Write> Sink for Counted<W> {
     fn write(&mut self, bytes: &[u8]) -> Result<usize, Failed> {
         match self.stream.write(bytes) {
             Ok(n) if n > 0 || bytes.is_empty() => Ok(n),
-            _ => {
+            Ok(_) => {
                 self.failures += 1;
+                Err(Failed)
+            }
+            Err(error) => {
+                self.failures += 1;
+                self.broken = error.kind() == ErrorKind::BrokenPipe;
                 Err(Failed)
             }
         }

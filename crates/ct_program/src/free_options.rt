@@ -21,4 +21,12 @@ pub struct FreeOptions {
     /// How many postponements the second script makes, up to 1000. Postponement j, from 1, is at member
     /// `((j - 1) mod members) + 1`.
     pub postpone: u16,
+    /// How many times the third script loses what waits first, up to 1000. Loss j, from 1, is at member
+    /// `((j - 1) mod members) + 1`.
+    pub lose: u16,
+    /// How many repetitions the fourth script makes, up to 1000. Repetition j, from 1, is of serial j at member
+    /// `((j - 1) mod members) + 1`.
+    pub repeat: u16,
+    /// How many messages a member proposes at most for an instance, from 1 to 1,048,560.
+    pub batch: u32,
 }

@@ -2,7 +2,7 @@
 
 ghost use Rattle.std.specs.Prelude.{◌≡◌, ◌≢◌, ◌⊎◌, ◌+◌, ◌^◌, ◌<◌, [], Err, OnOk, IfOk, IfErr, vec_len};
 ghost use Rattle.ct_world.specs.Replay.{world_after};
-ghost use Rattle.ct_program.specs.FreeOptions.{InRange};
+ghost use Rattle.ct_program.specs.FreeOptions.{InRange, setting_of};
 ghost use Rattle.ct_program.specs.FreeRun.{IsLineOfRun, WritesRun, WritesRunPart, IsFreeFault};
 
 use crate::failed::Failed;
@@ -22,9 +22,9 @@ use std::sync::Wait;
 use std::thread::Threads;
 
 /// Runs a group freely: each member makes its turns in a thread of its own, with its detector, the first detector being
-/// member 1's, beside a thread of submissions with the crash and one of postponements. Then it writes the record of the
-/// run and a line feed. A run is not the same each time: the threads take their turns in any order. What the contract
-/// says of the output holds where the writer tells its bytes.
+/// member 1's, beside a thread for each script: submissions with the crash, postponements, losses and repetitions. Then
+/// it writes the record of the run and a line feed. A run is not the same each time: the threads take their turns in any
+/// order. What the contract says of the output holds where the writer tells its bytes.
 pub fn free<R: Threads + Wait + Sync, W: Sink>(
     rt: &R,
     alloc: Global,
@@ -35,7 +35,7 @@ pub fn free<R: Threads + Wait + Sync, W: Sink>(
     requires range { InRange options.now }
     requires detectors { vec_len detectors ≡ options.now.members }
     requires writes { W.failures writer.old < 2 ^ 63 }
-    // What was written is the record of a run of these many members and cells that ends in a safe state, and a line feed.
+    // What was written is the record of a run with these members, bound and cells that ends in a safe state, and a line feed.
     ensures ok { OnOk result (WritesRun options.now (W.written writer.old) (W.written writer.new)) }
     ensures fault { IfErr result IsFreeFault }
     // Only a fault of the writer has written anything: some first bytes of such a line.
@@ -79,24 +79,27 @@ fn rehearsed<R: Threads + Wait + Sync>(
 // The world before the run.
 fn first_world(alloc: Global, options: &FreeOptions) -> Result<World, ProgramFault>
     requires { InRange options.now }
-    ensures ok { IfOk result (λ world. world ≡ world_after options.now.members options.now.cells []) }
+    ensures ok { IfOk result (λ world. world ≡ world_after (setting_of options.now) options.now.cells []) }
     ensures err { IfErr result (λ fault. fault ≡ ProgramFault.Memory) }
 {
     let Some(group) = Group::new(options.members) else {
         unreachable!()
     };
-    match World::new(alloc, group, options.cells) {
+    match World::new(alloc, group, options.cells, options.batch) {
         Ok(world) => Ok(world),
         Err(_) => Err(ProgramFault::Memory),
     }
 }
 
-// The record of the world and a line feed, where the world has these many members and cells.
+// The record of the world and a line feed, where the world has these members, bound and cells.
 fn line_of(alloc: Global, options: &FreeOptions, world: &World) -> Result<Vec<u8>, ProgramFault>
     ensures ok { IfOk result (λ text. IsLineOfRun options.now text.items) }
     ensures err { IfErr result (λ fault. (fault ≡ ProgramFault.Memory) ⊎ (fault ≡ ProgramFault.Exchanged)) }
 {
-    if world.group().n() != options.members || world.cells() != options.cells {
+    if world.group().n() != options.members
+        || world.bound() != options.batch
+        || world.cells() != options.cells
+    {
         return Err(ProgramFault::Exchanged);
     }
     let _ = world.record();

@@ -3,23 +3,27 @@
 ghost use Rattle.std.specs.Prelude.{◌≡◌, ◌<◌, ◌≤◌, IfOk, vec_len};
 ghost use Rattle.ct_rehearse.specs.Plans.{entries, IsWithin};
 ghost use Rattle.ct_program.specs.FreeOptions.{InRange};
-ghost use Rattle.ct_program.specs.Planning.{first_script, second_script, submission, in_turn, IsPlanOf};
+ghost use Rattle.ct_program.specs.Planning.{entry, first_entries, first_script, fourth_script, in_turn, second_script};
+ghost use Rattle.ct_program.specs.Planning.{third_script, IsPlanOf};
 
 use crate::free_options::FreeOptions;
+use crate::kind::Kind;
 use ct_names::{Command, Member};
 use ct_rehearse::{Disturbance, Plan};
 use std::alloc::{AllocError, Global};
 
-// The turns and the two scripts that the options ask for.
+// The turns and the four scripts that the options ask for.
 pub(crate) fn plan(alloc: Global, options: &FreeOptions) -> Result<Plan, AllocError>
     requires { InRange options.now }
     ensures exact { IfOk result (IsPlanOf options.now) }
     ensures within { IfOk result (λ plan. IsWithin plan) }
-    ensures entries { IfOk result (λ plan. entries plan ≤ 2001) }
+    ensures entries { IfOk result (λ plan. entries plan ≤ 4001) }
 {
     let first = submissions(alloc, options)?;
     let second = postponements(alloc, options)?;
-    let scripts = vec![in alloc; first, second]?;
+    let third = losses(alloc, options)?;
+    let fourth = repetitions(alloc, options)?;
+    let scripts = vec![in alloc; first, second, third, fourth]?;
     Ok(Plan {
         turns: options.turns,
         scripts,
@@ -32,10 +36,7 @@ pub fn submissions(alloc: Global, options: &FreeOptions) -> Result<Vec<Disturban
     ensures exact { IfOk result (λ script. script.items ≡ first_script options.now) }
     ensures few { IfOk result (λ script. vec_len script ≤ 1001) }
 {
-    let mut script = Vec::new(alloc);
-    for i in 0..options.submit {
-        script.push(submitted(options.members, i))?;
-    }
+    let mut script = first_entries(alloc, Kind::Submission, options.members, options.submit)?;
     if options.crash > 0 {
         script.push(Disturbance::Crash(options.crash))?;
     }
@@ -48,20 +49,59 @@ pub fn postponements(alloc: Global, options: &FreeOptions) -> Result<Vec<Disturb
     ensures exact { IfOk result (λ script. script.items ≡ second_script options.now) }
     ensures few { IfOk result (λ script. vec_len script ≤ 1000) }
 {
+    first_entries(alloc, Kind::Postponement, options.members, options.postpone)
+}
+
+/// The third script: losses.
+pub fn losses(alloc: Global, options: &FreeOptions) -> Result<Vec<Disturbance>, AllocError>
+    requires { InRange options.now }
+    ensures exact { IfOk result (λ script. script.items ≡ third_script options.now) }
+    ensures few { IfOk result (λ script. vec_len script ≤ 1000) }
+{
+    first_entries(alloc, Kind::Loss, options.members, options.lose)
+}
+
+/// The fourth script: repetitions.
+pub fn repetitions(alloc: Global, options: &FreeOptions) -> Result<Vec<Disturbance>, AllocError>
+    requires { InRange options.now }
+    ensures exact { IfOk result (λ script. script.items ≡ fourth_script options.now) }
+    ensures few { IfOk result (λ script. vec_len script ≤ 1000) }
+{
+    first_entries(alloc, Kind::Repetition, options.members, options.repeat)
+}
+
+// So many entries of this kind.
+fn first_entries(
+    alloc: Global,
+    kind: Kind,
+    members: u8,
+    count: u16,
+) -> Result<Vec<Disturbance>, AllocError>
+    requires { 0 < members }
+    ensures exact { IfOk result (λ script. script.items ≡ first_entries (entry kind members) count) }
+    ensures count { IfOk result (λ script. vec_len script ≡ count) }
+{
     let mut script = Vec::new(alloc);
-    for i in 0..options.postpone {
-        script.push(Disturbance::Postpone(turn_of(options.members, i)))?;
+    for i in 0..count {
+        script.push(entry(kind, members, i))?;
     }
     Ok(script)
 }
 
-// The submission at a place, counted from 0.
-fn submitted(members: u8, i: u16) -> Disturbance
+// The entry of this kind at a place, counted from 0.
+fn entry(kind: Kind, members: u8, i: u16) -> Disturbance
     requires { 0 < members }
-    ensures { result ≡ submission members i }
+    ensures { result ≡ entry kind members i }
 {
-    let command = Command::Add((i % 16) as u8, u64::from(i) + 1);
-    Disturbance::Submit(turn_of(members, i), command)
+    let member = turn_of(members, i);
+    match kind {
+        Kind::Submission => {
+            Disturbance::Submit(member, Command::Add((i % 16) as u8, u64::from(i) + 1))
+        }
+        Kind::Postponement => Disturbance::Postpone(member),
+        Kind::Loss => Disturbance::Lose(member),
+        Kind::Repetition => Disturbance::Repeat(member, u32::from(i) + 1),
+    }
 }
 
 // The member whose turn it is at a place, counted from 0.

@@ -1,203 +1,231 @@
-//! From the text of a record in its plain form to what it says, with no value between.
+//! From the bytes of a record, where they are those that are written of it, to what it says.
 
-ghost use Rattle.std.specs.Prelude.{◌≡◌, ◌≤◌, ◌∷◌, length, Some, Ok, IfOk, IfSome, IsTrue};
-ghost use Rattle.json.specs.Token.{begin_array};
-ghost use Rattle.json.specs.Json.{read_key};
-ghost use Rattle.serde_json.specs.Data.{unsigned};
-ghost use Rattle.serde_json.specs.Find.{as_str};
-ghost use Rattle.serde_json.specs.Read.{number_of};
-ghost use Rattle.ct_program.specs.Plain.{Reads, ReadsSteps, Head, Foot};
-ghost use Rattle.ct_program.specs.Script.{whole_of, byte_of, command_of, long_step, step_of, max_len, script};
+ghost use Rattle.std.specs.Prelude.{◌≡◌, ◌+◌, ◌<◌, ◌≤◌, ◌++◌, ◌∷◌, [], decimal, length, if◌then◌else◌, Ok, IfOk, IfSome, IsTrue};
+ghost use Rattle.std.specs.Prelude.{All, false};
+ghost use Rattle.ct_model.specs.StepText.{command_text, step_text};
+ghost use Rattle.ct_program.specs.Fits.{CommandFits, StepFits, AllFit};
+ghost use Rattle.ct_program.specs.Plain.{Continues, bound_text, sizes_text, IsVersion};
+ghost use Rattle.ct_program.specs.Script.{since, script};
+ghost use Rattle.ct_program.specs.Text.{steps_text};
 ghost use Rattle.ct_program.specs.View.{rehearsal_of};
 
 use crate::naming::{commanded_step, named_command, numbered_step, short_step};
 use crate::script::Script;
+use crate::version::{BOUNDED, FIRST, LATEST, since};
 use ct_model::Step;
-use ct_names::{Command, Group, MAX_CELLS, MAX_MEMBERS, Member};
-use json::{Reader, Scratch, Token};
+use ct_names::{Command, Group, MAX_BOUND, MAX_CELLS, MAX_MEMBERS, MAX_STEPS, Member};
 use std::alloc::{AllocError, Global};
 
-/// What the record says, where it has the plain form that `write_record` gives it.
+/// What the record says, where its bytes are those that were written of it in its version, also with a line end behind
+/// them.
 pub(crate) fn plain(alloc: Global, bytes: &[u8]) -> Result<Option<Script>, AllocError>
-    requires { length bytes.now ≤ max_len }
     ensures { IfOk result (λ o. IfSome o (λ s. script bytes.now ≡ Ok (rehearsal_of s))) }
 {
-    let Ok(text) = simdutf8::compat::from_utf8(bytes) else {
+    let Some((named, batch, rest)) = bound(bytes) else {
         return Ok(None);
     };
-    let mut scratch = Scratch::new(alloc);
-    let mut reader = Reader::new(text, &mut scratch)?;
-    let Some((cells, group)) = head(&mut reader) else {
+    let Some((cells, n, rest)) = sizes(rest) else {
         return Ok(None);
     };
-    let Some(steps) = steps(alloc, &mut reader)? else {
+    let Some(group) = Group::new(n) else {
         return Ok(None);
     };
-    if !foot(&mut reader) {
+    let Some((steps, rest)) = steps(alloc, rest)? else {
+        return Ok(None);
+    };
+    let Some(version) = version(rest) else {
+        return Ok(None);
+    };
+    if named != (version == BOUNDED) || !has_all(version, &steps) {
         return Ok(None);
     }
     Ok(Some(Script {
         group,
         cells,
+        batch,
         steps,
     }))
 }
 
-fn head(reader: &mut Reader<'_>) -> Option<(u16, Group)>
-    ensures head { IfSome result (λ h. Head reader.old h.0 h.1 reader.new) }
-    ensures cells { IfSome result (λ h. h.0 ≤ MAX_CELLS) }
+// Whether the bound is named, and the bound, which is the largest where it is not.
+fn bound(bytes: &[u8]) -> Option<(bool, u32, &[u8])>
+    ensures text { IfSome result (λ r. bytes.now ≡ bound_text r.0 r.1 r.2.now) }
+    ensures some { IfSome result (λ r. 1 ≤ r.1) }
+    ensures bounded { IfSome result (λ r. r.1 ≤ MAX_BOUND) }
+    ensures largest { IfSome result (λ r. r.0 ≡ false → r.1 ≡ MAX_BOUND) }
 {
-    let Some(Token::BeginObject) = reader.next() else {
-        return None;
+    let Some(rest) = after(bytes, "{\"batch\":") else {
+        return Some((false, MAX_BOUND, after(bytes, "{")?));
     };
-    if !key(reader, "cells") {
+    let (batch, rest) = number(rest, MAX_BOUND as u64)?;
+    if batch == 0 {
         return None;
     }
-    let cells = number(reader, 0, MAX_CELLS as u64)?;
-    if !key(reader, "n") {
+    Some((true, batch as u32, after(rest, ",")?))
+}
+
+// The cells and the number of members, which stand before the steps.
+fn sizes(bytes: &[u8]) -> Option<(u16, u8, &[u8])>
+    ensures text { IfSome result (λ r. bytes.now ≡ sizes_text r.0 r.1 r.2.now) }
+    ensures cells { IfSome result (λ r. r.0 ≤ MAX_CELLS) }
+{
+    let rest = after(bytes, "\"cells\":")?;
+    let (cells, rest) = number(rest, MAX_CELLS as u64)?;
+    let rest = after(rest, ",\"n\":")?;
+    let (n, rest) = number(rest, MAX_MEMBERS as u64)?;
+    let rest = after(rest, ",\"steps\":[")?;
+    Some((cells as u16, n as u8, rest))
+}
+
+// The version, where that alone stands behind the steps.
+fn version(bytes: &[u8]) -> Option<u64>
+    ensures text { IfSome result (λ version. IsVersion version bytes.now) }
+    ensures first { IfSome result (λ version. 1 ≤ version) }
+    ensures last { IfSome result (λ version. version ≤ 3) }
+{
+    let rest = after(bytes, ",\"version\":")?;
+    let (version, rest) = number(rest, LATEST)?;
+    if version < FIRST {
         return None;
     }
-    let n = number(reader, 1, MAX_MEMBERS as u64)?;
-    let group = Group::new(n as u8)?;
-    if !key(reader, "steps") || !open(reader) {
-        return None;
-    }
-    Some((cells as u16, group))
-}
-
-fn foot(reader: &mut Reader<'_>) -> bool
-    ensures { IsTrue result → Foot reader.old }
-{
-    if !key(reader, "version") {
-        return false;
-    }
-    let Some(1) = number(reader, 0, u64::MAX) else {
-        return false;
-    };
-    let Some(Token::EndObject) = reader.next() else {
-        return false;
-    };
-    reader.next().is_none()
-}
-
-fn steps(alloc: Global, reader: &mut Reader<'_>) -> Result<Option<Vec<Step>>, AllocError>
-    ensures { IfOk result (λ o. IfSome o (λ steps. ReadsSteps reader.old steps.items reader.new)) }
-{
-    let mut steps = Vec::new(alloc);
-    'steps: while !reader.take_end_array() {
-        let Some(step) = step(reader) else {
-            return Ok(None);
-        };
-        steps.push(step)?;
-    }
-    Ok(Some(steps))
-}
-
-fn step(reader: &mut Reader<'_>) -> Option<Step>
-    ensures { IfSome result (λ s. Reads step_of 2 reader.old s reader.new) }
-{
-    if !open(reader) {
-        return None;
-    }
-    let name = word(reader)?;
-    let p = byte(reader)?;
-    if reader.take_end_array() {
-        return short_step(name, p);
-    }
-    let step = long_step(reader, name, p)?;
-    if reader.take_end_array() {
-        Some(step)
-    } else {
-        None
-    }
-}
-
-// The step of a name, a member and one more entry.
-fn long_step(reader: &mut Reader<'_>, name: &str, p: Member) -> Option<Step>
-    ensures { IfSome result (λ s. Reads (long_step name.now p) 1 reader.old s reader.new) }
-{
-    match reader.next() {
-        Some(Token::Number(text)) => numbered_step(name, p, digits(text)?),
-        Some(Token::BeginArray) => commanded_step(name, p, command(reader)?),
+    match after(rest, "}")? {
+        [] | b"\n" => Some(version),
         _ => None,
     }
 }
 
-// The command behind the bracket that opens it.
-fn command(reader: &mut Reader<'_>) -> Option<Command>
-    ensures { IfSome result (λ c. Reads command_of 1 (begin_array ∷ reader.old) c reader.new) }
+// Whether records of the version have each of the steps.
+fn has_all(version: u64, steps: &[Step]) -> bool
+    ensures { IsTrue result → All (λ s. since s ≤ version) steps.now }
 {
-    let name = word(reader)?;
-    let register = byte(reader)?;
-    let n = number(reader, 0, u64::MAX)?;
-    if !reader.take_end_array() {
-        return None;
+    steps.iter().all(|step| since(*step) <= version)
+}
+
+// The steps, up to the bracket that closes their list, and what follows it.
+#[inline(never)]
+fn steps(alloc: Global, bytes: &[u8]) -> Result<Option<(Vec<Step>, &[u8])>, AllocError>
+    ensures text { IfOk result (λ o. IfSome o (λ r. bytes.now ≡ steps_text r.0.items ++ 93 ∷ r.1.now)) }
+    ensures fit { IfOk result (λ o. IfSome o (λ r. AllFit r.0.items)) }
+    ensures few { IfOk result (λ o. IfSome o (λ r. length r.0.items ≤ MAX_STEPS)) }
+{
+    let mut steps = Vec::new(alloc);
+    let mut rest = bytes;
+    for i in 0..MAX_STEPS + 1 {
+        if let Some(end) = after(rest, "]") {
+            return Ok(Some((steps, end)));
+        }
+        let Some((step, end)) = next_step(rest, i > 0) else {
+            return Ok(None);
+        };
+        steps.push(step)?;
+        rest = end;
     }
-    named_command(name, register, n)
+    Ok(None)
 }
 
-fn key(reader: &mut Reader<'_>, name: &str) -> bool
-    ensures { IsTrue result → read_key reader.old ≡ Some (Some name.now, reader.new) }
-{
-    let Ok(Some(key)) = reader.next_key() else {
-        return false;
-    };
-    key == name
-}
-
-// Takes the bracket that opens an array.
-fn open(reader: &mut Reader<'_>) -> bool
-    ensures { IsTrue result → reader.old ≡ begin_array ∷ reader.new }
-{
-    matches!(reader.next(), Some(Token::BeginArray))
-}
-
-fn word<'a>(reader: &mut Reader<'a>) -> Option<&'a str>
-    ensures { IfSome result (λ s. Reads as_str 0 reader.old s.now reader.new) }
-{
-    let Some(Token::String(text)) = reader.next() else {
-        return None;
-    };
-    Some(text)
-}
-
-// The number of a member or of a register.
-fn byte(reader: &mut Reader<'_>) -> Option<u8>
-    ensures { IfSome result (λ n. Reads byte_of 0 reader.old n reader.new) }
-{
-    let n = number(reader, 0, 255)?;
-    Some(n as u8)
-}
-
-// The whole number, where it is within the range.
-fn number(reader: &mut Reader<'_>, low: u64, high: u64) -> Option<u64>
-    ensures value { IfSome result (λ n. Reads (whole_of low high) 0 reader.old n reader.new) }
-    ensures within { IfSome result (λ n. (low ≤ n) × (n ≤ high)) }
-{
-    let Some(Token::Number(text)) = reader.next() else {
-        return None;
-    };
-    let n = digits(text)?;
-    if low <= n && n <= high { Some(n) } else { None }
-}
-
-// The number that the text writes in digits alone.
+// The next step, behind a comma where another stands before it.
 #[inline(always)]
-fn digits(text: &str) -> Option<u64>
-    ensures { IfSome result (λ n. number_of text.now ≡ Some (unsigned n)) }
+fn next_step(bytes: &[u8], later: bool) -> Option<(Step, &[u8])>
+    ensures text { IfSome result (λ r. bytes.now ≡ (if later then 44 ∷ [] else []) ++ (step_text r.0 ++ r.1.now)) }
+    ensures fits { IfSome result (λ r. StepFits r.0) }
 {
-    let bytes = text.as_bytes();
+    if later {
+        step(after(bytes, ",")?)
+    } else {
+        step(bytes)
+    }
+}
+
+#[inline(always)]
+fn step(bytes: &[u8]) -> Option<(Step, &[u8])>
+    ensures text { IfSome result (λ r. bytes.now ≡ step_text r.0 ++ r.1.now) }
+    ensures fits { IfSome result (λ r. StepFits r.0) }
+{
+    let rest = after(bytes, "[\"")?;
+    let (name, rest) = word(rest)?;
+    let rest = after(rest, ",")?;
+    let (p, rest) = number(rest, 255)?;
+    let (step, rest) = step_of(name, p as u8, rest)?;
+    Some((step, after(rest, "]")?))
+}
+
+// The step of a name, a member and what follows these, up to the bracket that closes it.
+#[inline(always)]
+fn step_of<'a>(name: &[u8], p: Member, bytes: &'a [u8]) -> Option<(Step, &'a [u8])>
+    ensures { IfSome result (λ r. Continues name.now p bytes.now r.0 r.1.now) }
+{
+    let Some(rest) = after(bytes, ",") else {
+        return Some((short_step(name, p)?, bytes));
+    };
+    if let Some(rest) = after(rest, "[\"") {
+        let (command, rest) = command(rest)?;
+        return Some((commanded_step(name, p, command)?, rest));
+    }
+    let (n, rest) = number(rest, u64::MAX)?;
+    Some((numbered_step(name, p, n)?, rest))
+}
+
+// The command behind the bracket and the quotation mark that begin it.
+#[inline(never)]
+fn command(bytes: &[u8]) -> Option<(Command, &[u8])>
+    ensures text { IfSome result (λ r. 91 ∷ 34 ∷ bytes.now ≡ command_text r.0 ++ r.1.now) }
+    ensures fits { IfSome result (λ r. CommandFits r.0) }
+{
+    let (name, rest) = word(bytes)?;
+    let rest = after(rest, ",")?;
+    let (register, rest) = number(rest, 255)?;
+    let rest = after(rest, ",")?;
+    let (n, rest) = number(rest, u64::MAX)?;
+    let command = named_command(name, register as u8, n)?;
+    Some((command, after(rest, "]")?))
+}
+
+// What follows the text.
+#[inline(always)]
+fn after<'a>(bytes: &'a [u8], text: &str) -> Option<&'a [u8]>
+    ensures { IfSome result (λ rest. bytes.now ≡ text.now ++ rest.now) }
+{
+    bytes.strip_prefix(text.as_bytes())
+}
+
+// The letters up to the next quotation mark, and what follows the mark.
+#[inline(always)]
+fn word(bytes: &[u8]) -> Option<(&[u8], &[u8])>
+    ensures { IfSome result (λ r. bytes.now ≡ r.0.now ++ 34 ∷ r.1.now) }
+{
+    let end = bytes.iter().position(|byte| *byte == b'"')?;
+    Some((&bytes[..end], &bytes[end + 1..]))
+}
+
+// The number that the first digits write, without a zero before it, and what follows them.
+#[inline(always)]
+fn number(bytes: &[u8], high: u64) -> Option<(u64, &[u8])>
+    ensures text { IfSome result (λ r. bytes.now ≡ decimal r.0 ++ r.1.now) }
+    ensures within { IfSome result (λ r. r.0 ≤ high) }
+{
     if bytes.is_empty() {
         return None;
     }
-    let mut n = 0u64;
-    for i in 0..bytes.len() {
-        let byte = bytes[i];
-        if byte < b'0' || b'9' < byte {
-            return None;
-        }
-        let tens = n.checked_mul(10)?;
-        n = tens.checked_add((byte - b'0') as u64)?;
+    let mut n = digit(bytes[0])?;
+    if n == 0 {
+        return Some((0, &bytes[1..]));
     }
-    Some(n)
+    for i in 1..bytes.len() {
+        let Some(next) = digit(bytes[i]) else {
+            return (n <= high).then_some((n, &bytes[i..]));
+        };
+        n = n.checked_mul(10)?.checked_add(next)?;
+    }
+    None
+}
+
+// The number that the digit writes.
+#[inline(always)]
+fn digit(byte: u8) -> Option<u64>
+    ensures { IfSome result (λ n. (n < 10) × (byte ≡ 48 + n)) }
+{
+    if byte < b'0' || b'9' < byte {
+        return None;
+    }
+    Some((byte - b'0') as u64)
 }

@@ -18,7 +18,7 @@ pub enum ReadFault {
     /// Step `at`, counted from 1, is none; at 0 the record as a whole has another shape.
     #[error("record: shape at {at}")]
     Shape { at: usize },
-    /// Its version is another than 1.
+    /// Its version is another than 1, 2 and 3.
     #[error("record: version")]
     Version,
     /// Memory was refused. It may come in place of each fault but `TooLong`.

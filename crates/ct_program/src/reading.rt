@@ -2,17 +2,20 @@
 
 ghost use Rattle.std.specs.Prelude.{◌≡◌, ◌<◌, ◌≤◌, length, map, option_map, Err, IfSome};
 ghost use Rattle.serde_json.specs.View.{view, members_view};
+ghost use Rattle.ct_names.specs.declared.limit.TheConstants.{MAX_BOUND};
 ghost use Rattle.ct_program.specs.Gives.{Gives};
 ghost use Rattle.ct_program.specs.View.{rehearsal_of};
-ghost use Rattle.ct_program.specs.Script.{list_in, count_of, whole_of, byte_of, value_of, command_of, long_step, step_of, steps_of};
+ghost use Rattle.ct_program.specs.Script.{list_in, count_of, whole_of, byte_of, value_of, command_of, long_step, step_of, step_in};
+ghost use Rattle.ct_program.specs.Script.{keys, bound_in, steps_of};
 ghost use Rattle.ct_program.specs.Script.{rehearsal_in, of_value, max_len, script};
 
 use crate::naming::{commanded_step, named_command, numbered_step, short_step};
 use crate::quick::plain;
 use crate::read_fault::ReadFault;
 use crate::script::Script;
+use crate::version::{BOUNDED, FIRST, LATEST, since};
 use ct_model::Step;
-use ct_names::{Command, Group, MAX_CELLS, MAX_MEMBERS, Member};
+use ct_names::{Command, Group, MAX_BOUND, MAX_CELLS, MAX_MEMBERS, Member};
 use serde_json::{Map, Value};
 use std::alloc::Global;
 
@@ -53,13 +56,13 @@ fn value_script(alloc: Global, value: &Value) -> Result<Script, ReadFault>
 {
     let members = value.as_object().ok_or(ODD)?;
     let version = number(value.get("version").ok_or(ODD)?).ok_or(ODD)?;
-    if version != 1 {
+    if version < FIRST || version > LATEST {
         return Err(ReadFault::Version);
     }
-    if count(members) != 4 {
+    if count(members) != keys(version) {
         return Err(ODD);
     }
-    script_in(alloc, value)
+    script_in(alloc, version, value)
 }
 
 #[tactic(auto, using(crate::proofs::Entries::count_of_members))]
@@ -69,29 +72,52 @@ fn count(members: &Map<String, Value>) -> usize
     members.len()
 }
 
+// How many keys a record of the version has.
+fn keys(version: u64) -> usize
+    ensures { result ≡ keys version }
+{
+    if version == BOUNDED { 5 } else { 4 }
+}
+
 #[tactic(auto, unfolding(crate::specs::Script::rehearsal_in))]
-fn script_in(alloc: Global, value: &Value) -> Result<Script, ReadFault>
-    ensures { Gives rehearsal_of result (rehearsal_in (view value.now)) }
+fn script_in(alloc: Global, version: u64, value: &Value) -> Result<Script, ReadFault>
+    ensures { Gives rehearsal_of result (rehearsal_in version (view value.now)) }
 {
     let n = whole(value.get("n").ok_or(ODD)?, 1, MAX_MEMBERS as u64).ok_or(ODD)?;
     let group = Group::new(n as u8).ok_or(ODD)?;
+    let batch = bound(version, value).ok_or(ODD)?;
     let cells = whole(value.get("cells").ok_or(ODD)?, 0, MAX_CELLS as u64).ok_or(ODD)?;
     let list = entries(value.get("steps").ok_or(ODD)?).ok_or(ODD)?;
-    let steps = steps(alloc, list)?;
+    let steps = steps(alloc, version, list)?;
     Ok(Script {
         group,
         cells: cells as u16,
+        batch,
         steps,
     })
 }
 
-// The steps, or the fault of the first that is none.
-fn steps(alloc: Global, values: &[Value]) -> Result<Vec<Step>, ReadFault>
-    ensures { Gives (λ steps. steps.items) result (steps_of 1 (map view values.now)) }
+// The bound on a proposal: named, or the largest.
+#[tactic(auto, unfolding(crate::specs::Script::bound_in))]
+fn bound(version: u64, value: &Value) -> Option<u32>
+    ensures value { result ≡ bound_in version (view value.now) }
+    ensures some { IfSome result (λ bound. 1 ≤ bound) }
+    ensures few { IfSome result (λ bound. bound ≤ MAX_BOUND) }
+{
+    if version != BOUNDED {
+        return Some(MAX_BOUND);
+    }
+    let bound = whole(value.get("batch")?, 1, MAX_BOUND as u64)?;
+    Some(bound as u32)
+}
+
+// The steps of a record of the version, or the fault of the first that is none.
+fn steps(alloc: Global, version: u64, values: &[Value]) -> Result<Vec<Step>, ReadFault>
+    ensures { Gives (λ steps. steps.items) result (steps_of version 1 (map view values.now)) }
 {
     let mut steps = Vec::new(alloc);
     for (i, value) in values.iter().enumerate() {
-        let Some(step) = step(value) else {
+        let Some(step) = step_in(version, value) else {
             return Err(ReadFault::Shape { at: i + 1 });
         };
         steps.push(step)?;
@@ -99,20 +125,33 @@ fn steps(alloc: Global, values: &[Value]) -> Result<Vec<Step>, ReadFault>
     Ok(steps)
 }
 
+// The step, where records of the version have it.
+#[tactic(auto, unfolding(crate::specs::Script::step_in))]
+fn step_in(version: u64, value: &Value) -> Option<Step>
+    ensures { result ≡ step_in version (view value.now) }
+{
+    let step = step(value)?;
+    if since(step) <= version {
+        Some(step)
+    } else {
+        None
+    }
+}
+
 #[tactic(auto, using(crate::proofs::Entries::step_parts_short, crate::proofs::Entries::step_parts_long), unfolding(crate::specs::Script::step_of))]
 fn step(value: &Value) -> Option<Step>
     ensures { result ≡ step_of (view value.now) }
 {
     match entries(value)? {
-        [name, p] => short_step(name.as_str()?, byte(p)?),
-        [name, p, last] => long_step(name.as_str()?, byte(p)?, last),
+        [name, p] => short_step(name.as_str()?.as_bytes(), byte(p)?),
+        [name, p, last] => long_step(name.as_str()?.as_bytes(), byte(p)?, last),
         _ => None,
     }
 }
 
 // The step of a name, a member and one more entry.
 #[tactic(auto, unfolding(crate::specs::Script::long_step))]
-fn long_step(name: &str, p: Member, last: &Value) -> Option<Step>
+fn long_step(name: &[u8], p: Member, last: &Value) -> Option<Step>
     ensures { result ≡ long_step name.now p (view last.now) }
 {
     match number(last) {
@@ -126,7 +165,11 @@ fn command(value: &Value) -> Option<Command>
     ensures { result ≡ command_of (view value.now) }
 {
     match entries(value)? {
-        [name, register, last] => named_command(name.as_str()?, byte(register)?, number(last)?),
+        [name, register, last] => named_command(
+            name.as_str()?.as_bytes(),
+            byte(register)?,
+            number(last)?,
+        ),
         _ => None,
     }
 }

@@ -53,8 +53,9 @@ pub fn run_replay<R: Source, W: Sink>(
     }
 }
 
-// All that the source has, or its first bytes, one more than a record may have.
-fn read_all<R: Source>(alloc: Global, reader: &mut R) -> Result<Vec<u8>, ProgramFault>
+/// All that the source has, or its first bytes, one more than a record may have. Where what the source has is not known,
+/// nothing is said of the bytes.
+pub fn read_all<R: Source>(alloc: Global, reader: &mut R) -> Result<Vec<u8>, ProgramFault>
     requires { R.failures reader.old < 2 ^ 63 }
     ensures bytes { IfOk result (λ bytes. IfSome (R.left reader.old) (λ input. bytes.items ≡ read_part input)) }
     ensures ok { OnOk result (R.failures reader.new ≡ R.failures reader.old) }
@@ -112,7 +113,13 @@ fn answer(alloc: Global, bytes: Vec<u8>) -> Result<Vec<u8>, ProgramFault>
 {
     let script = read_record(alloc, &bytes)?;
     drop(bytes);
-    let (world, _board) = World::replay(alloc, script.group, script.cells, &script.steps)?;
+    let (world, _board) = World::replay(
+        alloc,
+        script.group,
+        script.cells,
+        script.batch,
+        &script.steps,
+    )?;
     Ok(report(alloc, &world)?)
 }
 

@@ -4,12 +4,8 @@ ghost use Rattle.std.specs.Prelude.{◌≡◌, ◌<◌, ◌++◌, [], ◌∷◌,
 
 use std::alloc::AllocError;
 
-// The character, which is one of ASCII, where a piece stands before.
-pub(crate) fn push_separator(
-    text: &mut String,
-    separator: char,
-    later: bool,
-) -> Result<(), AllocError>
+/// Appends the character, which is one of ASCII, where a piece stands before.
+pub fn push_separator(text: &mut String, separator: char, later: bool) -> Result<(), AllocError>
     requires { separator < 128 }
     ensures { OnOk result (string_bytes text.new
         ≡ string_bytes text.old ++ (if later then separator ∷ [] else [])) }

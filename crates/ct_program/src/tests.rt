@@ -16,21 +16,21 @@ mod quick;
 mod reports;
 
 const RECORD: &str =
-    "{\"cells\":4,\"n\":3,\"steps\":[[\"submit\",1,[\"set\",0,7]],[\"receive\",1,1],[\"receive\",2,2]],\"version\":1}";
+    "{\"batch\":1048560,\"cells\":4,\"n\":3,\"steps\":[[\"submit\",1,[\"set\",0,7]],[\"receive\",1,1],[\"receive\",2,2]],\"version\":3}";
 
 const REPORT: &str =
     "group 3 majority 2 cells 4\nsteps 3 sent 6 posted 0\nmember 1 up instance 0 idle\nreceived 1.1\ndecided -\ndelivered -\ntable -\nmember 2 up instance 0 idle\nreceived 1.1\ndecided -\ndelivered -\ntable -\nmember 3 up instance 0 idle\nreceived -\ndecided -\ndelivered -\ntable -\n";
 
 // Three members, of which one crashes: the others decide in one round, and deliver.
 const ONE_ROUND: &str =
-    "{\"cells\":4,\"n\":3,\"steps\":[[\"submit\",1,[\"set\",0,7]],[\"receive\",1,1],[\"receive\",2,2],[\"crash\",3],[\"begin\",1],[\"begin\",2],[\"enter\",1],[\"enter\",2],[\"receive\",2,7],[\"receive\",2,8],[\"choose\",2,1],[\"receive\",1,9],[\"adopt\",1],[\"receive\",2,10],[\"adopt\",2],[\"receive\",2,12],[\"receive\",2,13],[\"conclude\",2],[\"receive\",2,15],[\"deliver\",2],[\"receive\",1,14],[\"deliver\",1]],\"version\":1}";
+    "{\"batch\":1048560,\"cells\":4,\"n\":3,\"steps\":[[\"submit\",1,[\"set\",0,7]],[\"receive\",1,1],[\"receive\",2,2],[\"crash\",3],[\"begin\",1],[\"begin\",2],[\"enter\",1],[\"enter\",2],[\"receive\",2,7],[\"receive\",2,8],[\"choose\",2,1],[\"receive\",1,9],[\"adopt\",1],[\"receive\",2,10],[\"adopt\",2],[\"receive\",2,12],[\"receive\",2,13],[\"conclude\",2],[\"receive\",2,15],[\"deliver\",2],[\"receive\",1,14],[\"deliver\",1]],\"version\":3}";
 
 const ONE_ROUND_REPORT: &str =
     "group 3 majority 2 cells 4\nsteps 22 sent 19 posted 1\nmember 1 up instance 1 idle\nreceived 1.1\ndecided 1:1.1\ndelivered 1.1\ntable 0=7\nmember 2 up instance 1 idle\nreceived 1.1\ndecided 1:1.1\ndelivered 1.1\ntable 0=7\nmember 3 crashed instance 0 idle\nreceived -\ndecided -\ndelivered -\ntable -\n";
 
 // One step of each kind, as a record has them.
 const EACH_STEP: &str =
-    "[\"submit\",1,[\"set\",0,7]],[\"receive\",2,3],[\"begin\",4],[\"enter\",5],[\"choose\",6,7],[\"adopt\",8],[\"suspect\",9],[\"conclude\",10],[\"deliver\",11],[\"crash\",12],[\"postpone\",13,14]";
+    "[\"submit\",1,[\"set\",0,7]],[\"receive\",2,3],[\"begin\",4],[\"enter\",5],[\"choose\",6,7],[\"adopt\",8],[\"suspect\",9],[\"conclude\",10],[\"deliver\",11],[\"crash\",12],[\"postpone\",13,14],[\"lose\",15,16],[\"repeat\",17,18],[\"follow\",19]";
 
 // ---- readers and writers
 
@@ -215,7 +215,7 @@ fn fault_of_steps(alloc: Global, steps: &str) -> Result<Option<ReadFault>, Alloc
 }
 
 fn with_steps(alloc: Global, steps: &str) -> Result<String, AllocError> {
-    format!(in alloc; "{{\"cells\":4,\"n\":3,\"steps\":{steps},\"version\":1}}")
+    format!(in alloc; "{{\"batch\":1048560,\"cells\":4,\"n\":3,\"steps\":{steps},\"version\":3}}")
 }
 
 fn spaces(alloc: Global, count: usize) -> Result<Vec<u8>, AllocError> {
@@ -284,6 +284,11 @@ fn the_whole_has_a_shape(rt: HostRuntime) {
         "{\"cells\":1025,\"n\":3,\"steps\":[],\"version\":1}",
         "{\"cells\":4,\"n\":3,\"steps\":{},\"version\":1}",
         "{\"cells\":4,\"m\":1,\"n\":3,\"steps\":[],\"version\":1}",
+        "{\"batch\":1,\"cells\":4,\"n\":3,\"steps\":[],\"version\":2}",
+        "{\"cells\":4,\"n\":3,\"steps\":[],\"version\":3}",
+        "{\"batch\":0,\"cells\":4,\"n\":3,\"steps\":[],\"version\":3}",
+        "{\"batch\":1048561,\"cells\":4,\"n\":3,\"steps\":[],\"version\":3}",
+        "{\"batch\":\"1\",\"cells\":4,\"n\":3,\"steps\":[],\"version\":3}",
     ];
     for record in records {
         let fault = fault_of(rt.alloc(), record.as_bytes());
@@ -320,6 +325,9 @@ fn steps_of_a_round_have_a_shape(rt: HostRuntime) -> Result<(), Fail> {
         "[\"choose\",1]",
         "[\"choose\",1,256]",
         "[\"deliver\",256]",
+        "[\"follow\",256]",
+        "[\"follow\",1,1]",
+        "[\"follow\"]",
         "[\"Begin\",1]",
         "[\"begin\"]",
     ];
@@ -353,7 +361,13 @@ fn numbers_may_fill_their_fields(rt: HostRuntime) -> Result<(), Fail> {
 // What is written of the world that the record leads to.
 fn rewritten(alloc: Global, record: &[u8]) -> Result<Vec<u8>, ProgramFault> {
     let script = read_record(alloc, record)?;
-    let (world, _board) = World::replay(alloc, script.group, script.cells, &script.steps)?;
+    let (world, _board) = World::replay(
+        alloc,
+        script.group,
+        script.cells,
+        script.batch,
+        &script.steps,
+    )?;
     Ok(write_record(alloc, &world)?)
 }
 
@@ -363,10 +377,60 @@ fn a_record_is_written_as_it_was(rt: HostRuntime) {
     assert!(rt; written.is_ok_and(|text| text.as_slice() == RECORD.as_bytes()));
 }
 
+// A record of three members, of version 1 or 2.
+fn of_version(alloc: Global, steps: &str, version: u8) -> Result<String, AllocError> {
+    format!(in alloc; "{{\"cells\":4,\"n\":3,\"steps\":{steps},\"version\":{version}}}")
+}
+
+#[test]
+fn an_older_record_is_written_in_the_last_version(rt: HostRuntime) -> Result<(), Fail> {
+    let alloc = rt.alloc();
+    for version in 1..=2u8 {
+        let steps = "[[\"submit\",1,[\"set\",0,7]],[\"receive\",1,1],[\"receive\",2,2]]";
+        let record = of_version(alloc, steps, version)?;
+        let written = rewritten(alloc, record.as_bytes())?;
+        assert!(rt; written.as_slice() == RECORD.as_bytes());
+        let (answer, report) = replayed(alloc, record.as_bytes());
+        assert_eq!(rt; answer, Ok(()));
+        assert!(rt; report.as_slice() == REPORT.as_bytes());
+    }
+    Ok(())
+}
+
+#[test]
+fn a_step_has_a_first_version(rt: HostRuntime) -> Result<(), Fail> {
+    let alloc = rt.alloc();
+    let steps = [
+        ("[\"lose\",1,1]", 2),
+        ("[\"repeat\",1,1]", 2),
+        ("[\"follow\",1]", 3),
+    ];
+    for (step, since) in steps {
+        let list = format!(in alloc; "[[\"begin\",1],{step}]")?;
+        for version in 1..=2u8 {
+            let record = of_version(alloc, &list, version)?;
+            let fault = (version < since).then_some(ReadFault::Shape { at: 2 });
+            assert_eq!(rt; fault_of(alloc, record.as_bytes()), fault);
+        }
+        assert_eq!(rt; fault_of_steps(alloc, &list)?, None);
+    }
+    Ok(())
+}
+
+#[test]
+fn a_bound_is_read_and_written(rt: HostRuntime) -> Result<(), Fail> {
+    let alloc = rt.alloc();
+    let record = "{\"batch\":1,\"cells\":4,\"n\":3,\"steps\":[],\"version\":3}";
+    assert_eq!(rt; read_record(alloc, record.as_bytes())?.batch, 1);
+    let written = rewritten(alloc, record.as_bytes())?;
+    assert!(rt; written.as_slice() == record.as_bytes());
+    Ok(())
+}
+
 #[test]
 fn an_empty_record_is_written(rt: HostRuntime) {
     let record = "{\"version\":1,\"steps\":[ ],\"n\":3,\"cells\":4}\n";
-    let text = "{\"cells\":4,\"n\":3,\"steps\":[],\"version\":1}";
+    let text = "{\"batch\":1048560,\"cells\":4,\"n\":3,\"steps\":[],\"version\":3}";
     let written = rewritten(rt.alloc(), record.as_bytes());
     assert!(rt; written.is_ok_and(|bytes| bytes.as_slice() == text.as_bytes()));
 }
@@ -386,6 +450,9 @@ fn each_step_is_read_and_written_again(rt: HostRuntime) -> Result<(), Fail> {
         Step::Deliver(11),
         Step::Crash(12),
         Step::Postpone(13, 14),
+        Step::Lose(15, 16),
+        Step::Repeat(17, 18),
+        Step::Follow(19),
     ];
     let list = format!(in alloc; "[{EACH_STEP}]")?;
     let record = with_steps(alloc, &list)?;
@@ -494,6 +561,9 @@ fn free_takes_options(rt: HostRuntime) {
         submit: 3,
         crash: 2,
         postpone: 0,
+        lose: 0,
+        repeat: 0,
+        batch: 1_048_560,
     };
     assert!(rt; matches!(&call, Ok(Call::Free(found)) if *found == options));
 }
@@ -510,6 +580,9 @@ fn free_has_defaults(rt: HostRuntime) {
         submit: 8,
         crash: 0,
         postpone: 0,
+        lose: 0,
+        repeat: 0,
+        batch: 1_048_560,
     };
     assert!(rt; matches!(&call, Ok(Call::Free(found)) if *found == options));
 }
@@ -529,6 +602,9 @@ fn values_may_be_the_greatest_of_their_ranges(rt: HostRuntime) {
             "--submit=1000",
             "--crash=16",
             "--postpone=1000",
+            "--lose=1000",
+            "--repeat=1000",
+            "--batch=1048560",
         ],
     );
     let options = FreeOptions {
@@ -540,6 +616,9 @@ fn values_may_be_the_greatest_of_their_ranges(rt: HostRuntime) {
         submit: 1000,
         crash: 16,
         postpone: 1000,
+        lose: 1000,
+        repeat: 1000,
+        batch: 1_048_560,
     };
     assert!(rt; matches!(&call, Ok(Call::Free(found)) if *found == options));
 }
@@ -563,6 +642,10 @@ fn other_values_have_ranges(rt: HostRuntime) {
     assert!(rt; is_out_of_range(alloc, &["ct", "free", "--members=2", "--submit=1001"]));
     assert!(rt; is_out_of_range(alloc, &["ct", "free", "--members=2", "--crash=17"]));
     assert!(rt; is_out_of_range(alloc, &["ct", "free", "--members=2", "--postpone=1001"]));
+    assert!(rt; is_out_of_range(alloc, &["ct", "free", "--members=2", "--lose=1001"]));
+    assert!(rt; is_out_of_range(alloc, &["ct", "free", "--members=2", "--repeat=1001"]));
+    assert!(rt; is_out_of_range(alloc, &["ct", "free", "--members=2", "--batch=0"]));
+    assert!(rt; is_out_of_range(alloc, &["ct", "free", "--members=2", "--batch=1048561"]));
 }
 
 #[test]

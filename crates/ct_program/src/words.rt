@@ -10,7 +10,7 @@ use crate::call::Call;
 use crate::free_options::FreeOptions;
 use crate::line_fault::LineFault;
 use clap::{Arg, ArgAction, ArgMatches, Command};
-use ct_names::{MAX_CELLS, MAX_MEMBERS};
+use ct_names::{MAX_BOUND, MAX_CELLS, MAX_MEMBERS};
 use std::alloc::{AllocError, Global};
 
 /// What the words ask for, the program's name first: the subcommand `replay`, or `free` with its options. A call for help
@@ -52,6 +52,9 @@ pub fn found_options(found: &ArgMatches<'_>) -> Option<FreeOptions>
         submit: number(found, "submit", 0, 1000)? as u16,
         crash: number(found, "crash", 0, MAX_MEMBERS as u32)? as u8,
         postpone: number(found, "postpone", 0, 1000)? as u16,
+        lose: number(found, "lose", 0, 1000)? as u16,
+        repeat: number(found, "repeat", 0, 1000)? as u16,
+        batch: number(found, "batch", 1, MAX_BOUND)?,
     })
 }
 
@@ -156,6 +159,24 @@ pub fn with_free_options<'a>(
             "postpone",
             "0",
             "How many times a waiting envelope is postponed, 0 to 1000, at the members in turn",
+        ))?
+        .arg(option(
+            alloc,
+            "lose",
+            "0",
+            "How many times a waiting envelope is lost, 0 to 1000, at the members in turn",
+        ))?
+        .arg(option(
+            alloc,
+            "repeat",
+            "0",
+            "How many envelopes are repeated, 0 to 1000: those of serial 1, 2 and so on, at the members in turn",
+        ))?
+        .arg(option(
+            alloc,
+            "batch",
+            "1048560",
+            "How many messages a member proposes at most for an instance, 1 to 1048560",
         ))
 }
 

@@ -29,9 +29,13 @@ fn record_bytes(alloc: Global, world: &World) -> Result<Vec<u8>, AllocError>
     let mut text = String::new(alloc);
     let cells = world.cells();
     let n = world.group().n();
-    write!(text, "{{\"cells\":{cells},\"n\":{n},\"steps\":[")?;
+    let bound = world.bound();
+    write!(
+        text,
+        "{{\"batch\":{bound},\"cells\":{cells},\"n\":{n},\"steps\":["
+    )?;
     push_steps(&mut text, world.record())?;
-    text.push_str("],\"version\":1}")?;
+    text.push_str("],\"version\":3}")?;
     Ok(text.into_bytes())
 }
 

@@ -3,7 +3,7 @@ use Rattle.std.specs.Prelude.{◌≡◌, ℕ, Bool, false, ◌&&◌, Option, Som
 use Rattle.std.specs.Prelude.{option_map}
 use Rattle.ct_names.specs.Group.{is_member, coordinator}
 use Rattle.ct_model.specs.declared.step.Step.{Step}
-use Rattle.ct_model.specs.declared.step.Step.TheVariants.{Submit, Receive, Suspect, Crash, Postpone}
+use Rattle.ct_model.specs.declared.step.Step.TheVariants.{Submit, Receive, Suspect, Crash, Postpone, Lose, Repeat}
 use Rattle.ct_model.specs.Rehearsal.{Rehearsal, state_of, line_of}
 use Rattle.ct_model.specs.State.{is_crashed}
 use Rattle.ct_world.specs.World.{member_of, of_member, if_member}
@@ -22,13 +22,7 @@ first_waiting w p = option_and_then (λ line. slice_get line 0) (of_member w p (
 
 -- the receipt of the serial
 abbrev pub receives : ℕ → Option ℕ → Option Step
-receives p (Some serial) = Some (Receive p serial)
-receives p None = None
-
--- the postponement of the serial
-abbrev pub postpones : ℕ → Option ℕ → Option Step
-postpones p (Some serial) = Some (Postpone p serial)
-postpones p None = None
+receives p serial = option_map (Receive p) serial
 
 -- the last instance that p began, 0 where there is none
 unfoldable pub instance_of : Rehearsal → ℕ → ℕ
@@ -81,4 +75,6 @@ tried w p last = if has_crashed w p then None else chosen p (first_waiting w p) 
 unfoldable pub entry_step : Rehearsal → Disturbance → Option Step
 entry_step w (entry.Submit p command) = Some (Submit p command)
 entry_step w (entry.Crash p) = Some (Crash p)
-entry_step w (entry.Postpone p) = postpones p (first_waiting w p)
+entry_step w (entry.Postpone p) = option_map (Postpone p) (first_waiting w p)
+entry_step w (entry.Lose p) = option_map (Lose p) (first_waiting w p)
+entry_step w (entry.Repeat p serial) = Some (Repeat p serial)

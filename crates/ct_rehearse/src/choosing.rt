@@ -139,9 +139,10 @@ pub(crate) fn entry_step(world: &World, entry: &Disturbance) -> Option<Step>
     match *entry {
         Disturbance::Submit(member, command) => Some(Step::Submit(member, command)),
         Disturbance::Crash(member) => Some(Step::Crash(member)),
-        Disturbance::Postpone(member) => match first_waiting(world, member) {
-            None => None,
-            Some(serial) => Some(Step::Postpone(member, serial)),
-        },
+        Disturbance::Postpone(member) => {
+            Some(Step::Postpone(member, first_waiting(world, member)?))
+        }
+        Disturbance::Lose(member) => Some(Step::Lose(member, first_waiting(world, member)?)),
+        Disturbance::Repeat(member, serial) => Some(Step::Repeat(member, serial)),
     }
 }

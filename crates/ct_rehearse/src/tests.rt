@@ -4,7 +4,7 @@ use super::*;
 use ct_board::Board;
 use ct_detect::{Detector, Never};
 use ct_model::Step;
-use ct_names::{Command, Group};
+use ct_names::{Command, Group, MAX_BOUND};
 use ct_world::World;
 use std::alloc::{AllocError, Global};
 use std::marker::Brand;
@@ -31,7 +31,7 @@ const SEVEN: Command = Command::Set(0, 7);
 // A world of n members and four cells without steps, and its board.
 fn started(alloc: Global, n: u8) -> Result<(World, Board), Fail> {
     let group = Group::new(n).ok_or("a group")?;
-    let world = World::new(alloc, group, 4)?;
+    let world = World::new(alloc, group, 4, MAX_BOUND)?;
     let board = Board::new(alloc, 4)?;
     Ok((world, board))
 }

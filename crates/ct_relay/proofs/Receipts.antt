@@ -1,8 +1,11 @@
--- What was taken stands in the list once.
-use Rattle.std.proofs.Common.{◌≡◌, Bool, true, false, not, cond, List, [], ◌∷◌, ◌++◌, refl, subst, inl, inr, eq-eqb}
+-- What was taken stands in the list once, and is found there.
+use Rattle.std.proofs.Common.{◌≡◌, Bool, true, false, not, cond, ◌==◌, List, [], ◌∷◌, ◌++◌, refl, sym, subst, ap₂, inl, inr}
+use Rattle.std.proofs.Common.{eq-eqb, eqb-true, rules}
 use Rattle.std.specs.List.{list_any}
 use Rattle.ct_names.specs.Membership.{IsIn, IsWithoutRepeats}
 use Rattle.ct_names.proofs.Lists
+use Rattle.indexmap.specs.IndexSet.{insert_key}
+use Rattle.ct_relay.specs.contracts.relay_id.RelayIdPartialEq.TheImpl.{ghosts as equal}
 use Rattle.ct_relay.specs.declared.relay_id.RelayId.{RelayId}
 use Rattle.ct_relay.specs.declared.relay_id.RelayId.TheVariants.{Data, Dec}
 use Rattle.ct_relay.specs.Taken.{is_id, with_id}
@@ -11,22 +14,42 @@ is_id-refl : (id : RelayId) → is_id id id ≡ true
 is_id-refl (Data origin number) = Lists.both _ _ (eq-eqb origin origin refl) (eq-eqb number number refl)
 is_id-refl (Dec instance round) = Lists.both _ _ (eq-eqb instance instance refl) (eq-eqb round round refl)
 
--- what the test does not find is not in the list
-out : (ids : List RelayId) (id : RelayId) → list_any (is_id id) ids ≡ false → IsIn id ids → ⊥
-out ids id absent there =
-    Lists.contrary (list_any (is_id id) ids) (Lists.list_any-found (is_id id) id ids there (is_id-refl id)) absent
+same-is_id : (x y : RelayId) → is_id x y ≡ true → x ≡ y
+same-is_id (Data origin number) (Data other n) e =
+    ap₂ (λ o k. Data o k) (eqb-true _ _ (Lists.both-left (origin == other) _ e)) (eqb-true _ _ (Lists.both-right (origin == other) _ e))
+same-is_id (Data origin number) (Dec k r) e = absurd (cc)
+same-is_id (Dec instance round) (Data other n) e = absurd (cc)
+same-is_id (Dec instance round) (Dec k r) e =
+    ap₂ (λ i s. Dec i s) (eqb-true _ _ (Lists.both-left (instance == k) _ e)) (eqb-true _ _ (Lists.both-right (instance == k) _ e))
+
+-- what stands in the list is found, and what is found stands there
+pub in-found : (ids : List RelayId) (id : RelayId) → IsIn id ids → list_any (is_id id) ids ≡ true
+in-found ids id there = Lists.list_any-found (is_id id) id ids there (is_id-refl id)
+
+pub found-in : (ids : List RelayId) (id : RelayId) → list_any (is_id id) ids ≡ true → IsIn id ids
+found-in ids id found =
+    let f = Lists.found-list_any (is_id id) ids found in
+    subst (λ x. IsIn x ids) (sym (same-is_id id f.item f.passes)) f.is_in
+
+-- what is not found is not in the list
+pub out : (ids : List RelayId) (id : RelayId) → list_any (is_id id) ids ≡ false → IsIn id ids → ⊥
+out ids id absent there = Lists.contrary (list_any (is_id id) ids) (in-found ids id there) absent
 
 -- one that is not there comes last
-once-last : (ids : List RelayId) (id : RelayId) → (IsIn id ids → ⊥) → IsWithoutRepeats ids → IsWithoutRepeats (ids ++ id ∷ [])
+pub once-last : (ids : List RelayId) (id : RelayId) → (IsIn id ids → ⊥) → IsWithoutRepeats ids → IsWithoutRepeats (ids ++ id ∷ [])
 once-last ids id absent once = Lists.IsWithoutRepeats-append ids (id ∷ []) once ((λ none. absurd none), tt) shared
   where
     shared : (x : RelayId) → IsIn x ids → IsIn x (id ∷ []) → ⊥
     shared x there (inl same) = absent (subst (λ y. IsIn y ids) same there)
     shared x there (inr none) = none
 
-pub once-with_id : (ids : List RelayId) (id : RelayId) → IsWithoutRepeats ids → IsWithoutRepeats (with_id ids id)
-once-with_id ids id once = at (list_any (is_id id) ids) refl
+-- a set takes one more as the list does
+pub insert_key-with_id : (ids : List RelayId) (id : RelayId) → insert_key equal.eq ids id ≡ with_id ids id
+insert_key-with_id ids id = subst (λ found. cond found ids (ids ++ id ∷ []) ≡ with_id ids id) (sym same) (at (list_any (is_id id) ids))
   where
-    at : (b : Bool) → list_any (is_id id) ids ≡ b → IsWithoutRepeats (cond (not b) (ids ++ id ∷ []) ids)
-    at true found = once
-    at false absent = once-last ids id (out ids id absent) once
+    same : list_any (equal.eq id) ids ≡ list_any (is_id id) ids
+    same = search rules
+
+    at : (b : Bool) → cond b ids (ids ++ id ∷ []) ≡ cond (not b) (ids ++ id ∷ []) ids
+    at true = refl
+    at false = refl

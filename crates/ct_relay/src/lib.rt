@@ -3,6 +3,7 @@
 #![tactic(auto)]
 
 mod action;
+mod firsts;
 mod relay;
 mod relay_id;
 

@@ -1,10 +1,14 @@
 //! The first receipts of a member.
 
-ghost use Rattle.std.specs.Prelude.{◌≡◌, [], false, IsTrue, IfOk, OnOk, OnErr};
-ghost use Rattle.ct_names.specs.Membership.{IsWithoutRepeats};
+ghost use Rattle.std.specs.Prelude.{◌≡◌, ℕ, ◌+◌, ◌<◌, ◌≤◌, List, [], ◌∷◌, ◌++◌, if◌then◌else◌, false, IsTrue, IfOk, OnOk, OnErr};
+ghost use Rattle.ct_names.specs.Membership.{IsIn, IsWithoutRepeats};
+ghost use Rattle.ct_relay.specs.declared.relay_id.RelayId.TheVariants.{Data};
+ghost use Rattle.ct_relay.specs.declared.relay_id.RelayId.{RelayId as Id};
+ghost use Rattle.ct_relay.specs.Marks.{told_of, is_next_of, IsKept};
 ghost use Rattle.ct_relay.specs.Taken.{is_first, with_id, action_of};
 
 use crate::action::Action;
+use crate::firsts::Firsts;
 use crate::relay_id::RelayId;
 use ct_names::Member;
 use indexmap::IndexSet;
@@ -15,21 +19,32 @@ use std::marker::Model;
 #[derive(Drop)]
 pub struct Relay {
     me: Member,
-    ids: IndexSet<RelayId>,
+    // All that was taken, in the order of first receipt.
+    order: Vec<RelayId>,
+    firsts: Firsts,
+    // What was taken besides: decisions, and messages that came before one with a smaller number. These stay here when the
+    // smaller ones have come, and are no longer looked for.
+    others: IndexSet<RelayId>,
 }
 
 // Contracts see the member, what it took in the order of first receipt, and whether one more fits.
 impl Model for Relay {
-    ghost use Rattle.std.specs.Prelude.{nat_lt};
-    ghost use Rattle.ct_names.specs.Membership.{IsWithoutRepeats};
+    ghost use Rattle.std.specs.Prelude.{nat_lt, ◌&&◌};
+    ghost use Rattle.std.specs.Vec.{vec_len, vec_capacity};
     ghost use Rattle.indexmap.specs.IndexSet.{spare};
+    ghost use Rattle.ct_relay.specs.Marks.{IsKept};
     ghost use Rattle.ct_relay.specs.Taken.{Taken};
 
     ghost Value = { Taken };
 
-    ghost view = { λ relay. record { me = relay.me; ids = relay.ids.keys; has_room = nat_lt 0 (spare relay.ids) } };
+    ghost view = { λ relay. record {
+      me = relay.me;
+      ids = relay.order.items;
+      has_room =
+          nat_lt (vec_len relay.order) (vec_capacity relay.order) && nat_lt 0 (spare relay.others);
+    } };
 
-    ghost invariant = { λ relay. IsWithoutRepeats relay.ids.keys };
+    ghost invariant = { λ relay. IsKept relay.order.items relay.firsts relay.others.keys };
 }
 
 impl Relay {
@@ -40,7 +55,9 @@ impl Relay {
     {
         Relay {
             me,
-            ids: IndexSet::new(alloc),
+            order: Vec::new(alloc),
+            firsts: Firsts::new(),
+            others: IndexSet::new(alloc),
         }
     }
 
@@ -49,9 +66,12 @@ impl Relay {
         ensures me { IfOk result (λ relay. relay.me ≡ self.now.me) }
         ensures ids { IfOk result (λ relay. relay.ids ≡ self.now.ids) }
     {
-        let mut ids = IndexSet::new(alloc);
-        ids.extend(&self.ids)?;
-        Ok(Relay { me: self.me, ids })
+        Ok(Relay {
+            me: self.me,
+            order: Vec::from_slice(alloc, &self.order)?,
+            firsts: self.firsts,
+            others: self.others.clone()?,
+        })
     }
 
     /// The member whose receipts these are.
@@ -66,14 +86,17 @@ impl Relay {
         ensures value { result ≡ is_first self.now.ids id }
         ensures once { IsWithoutRepeats self.now.ids }
     {
-        !self.ids.contains(&id)
+        match told(&self.firsts, id) {
+            Some(taken) => !taken,
+            None => !self.others.contains(&id),
+        }
     }
 
     /// Whether one more can be taken: so it is after a `prepare` that was Ok.
     pub fn has_room(&self) -> bool
         ensures { result ≡ self.now.has_room }
     {
-        self.ids.len() < self.ids.capacity()
+        self.order.len() < self.order.capacity() && self.others.len() < self.others.capacity()
     }
 
     /// Makes room for one more. Where memory is refused there was no room. Nothing else changes, Ok or not.
@@ -84,7 +107,8 @@ impl Relay {
         ensures room { IsTrue self.old.has_room → IsTrue self.new.has_room }
         ensures refused { OnErr result (self.old.has_room ≡ false) }
     {
-        self.ids.reserve(1)
+        self.order.reserve(1)?;
+        self.others.reserve(1)
     }
 
     /// Takes it, and says what to do with it: at its first receipt it is delivered, and relayed unless this member sent
@@ -95,10 +119,65 @@ impl Relay {
         ensures ids { self.new.ids ≡ with_id self.old.ids id }
         ensures me { self.new.me ≡ self.old.me }
     {
-        let deliver = self.ids.insert(id).unwrap();
+        let deliver = self.first(id);
+        if deliver {
+            self.order.push(id).unwrap();
+            if !cover(&mut self.firsts, &self.others, id) {
+                self.others.insert(id).unwrap();
+            }
+        }
         Action {
             relay: deliver && sender != self.me,
             deliver,
         }
     }
+}
+
+// Whether it was taken, where the marks tell it.
+fn told(firsts: &Firsts, id: RelayId) -> Option<bool>
+    ensures { result ≡ told_of firsts.now id }
+{
+    match id {
+        RelayId::Data { origin, number } => firsts.tells(origin, number),
+        RelayId::Dec { .. } => None,
+    }
+}
+
+// Notes that it was taken. Whether the marks cover it now: where they don't it has to stand with the others.
+fn cover(firsts: &mut Firsts, others: &IndexSet<RelayId>, id: RelayId) -> bool
+    ensures next { result ≡ is_next_of firsts.old id }
+    ensures kept { (order : List Id) → IsKept order firsts.old others.now.keys → (IsIn id order → ⊥)
+        → IsKept (order ++ id ∷ []) firsts.new (if result then others.now.keys else with_id others.now.keys id) }
+{
+    let RelayId::Data { origin, number } = id else {
+        return false;
+    };
+    firsts.see(origin, number);
+    if !firsts.is_next(origin, number) {
+        return false;
+    }
+    let all = all_from(others, origin, number, firsts.last(origin));
+    firsts.raise(origin, all);
+    true
+}
+
+// The number, `last` at most, to which the others have all messages of the origin after `number`. In all calls together each
+// message is passed once.
+fn all_from(others: &IndexSet<RelayId>, origin: Member, number: u32, last: u32) -> u32
+    requires { number ≤ last }
+    ensures least { number ≤ result }
+    ensures largest { result ≤ last }
+    ensures all { (k : ℕ) → number < k → k ≤ result → IsIn (Data origin k) others.now.keys }
+    ensures next { result < last → IsIn (Data origin (result + 1)) others.now.keys → ⊥ }
+{
+    for before in number..last {
+        let next = RelayId::Data {
+            origin,
+            number: before + 1,
+        };
+        if !others.contains(&next) {
+            return before;
+        }
+    }
+    last
 }

@@ -61,6 +61,34 @@ fn only_first_receipts_from_others_are_relayed(rt: HostRuntime) -> Result<(), Fa
 }
 
 #[test]
+fn messages_come_in_any_order(rt: HostRuntime) -> Result<(), Fail> {
+    let mut relay = Relay::new(rt.alloc(), ME);
+    for (origin, number, first) in [
+        (3, 3, true),
+        (4, 2, true),
+        (3, 1, true),
+        (3, 3, false),
+        (3, 2, true),
+        (4, 1, true),
+        (3, 3, false),
+        (3, 4, true),
+        (4, 2, false),
+        (200, 0, true),
+        (200, 0, false),
+        (3, 0, true),
+    ] {
+        let id = RelayId::Data { origin, number };
+        assert_eq!(rt; relay.first(id), first, "at {origin}.{number}");
+        assert_eq!(rt;
+            receive(&mut relay, id, OTHER)?.deliver,
+            first,
+            "at {origin}.{number}"
+        );
+    }
+    Ok(())
+}
+
+#[test]
 fn a_copy_goes_its_own_way(rt: HostRuntime) -> Result<(), Fail> {
     let mut relay = Relay::new(rt.alloc(), ME);
     for number in 1..=20 {

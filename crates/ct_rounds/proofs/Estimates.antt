@@ -1,16 +1,14 @@
 -- Estimates that stand by member, of the members in a set.
-use Rattle.std.proofs.Common.{◌≡◌, ◌≢◌, ℕ, ◌+◌, ◌<◌, Bool, true, false, cond, List, [], ◌∷◌, Option, Some, None, refl, sym, ap, ◌∙◌, arith}
-use Rattle.std.proofs.Common.{eqb-true, nat_le, option_map, map, find, length, set, get_or-set_same, get_or-set_other}
-use Rattle.std.specs.Prelude.{◌==◌, ◌||◌, nat_lt}
-use Rattle.std.specs.Option.{option_map_or}
-use Rattle.std.proofs.lemmas.Bool.{eqb-false}
+use Rattle.std.proofs.Common.{◌≡◌, ℕ, ◌+◌, ◌<◌, true, false, cond, List, [], ◌∷◌, Option, Some, None, refl, sym, ap, ◌∙◌, arith}
+use Rattle.std.proofs.Common.{nat_le, option_map, map, find, length, set, get_or-set_same, get_or-set_other}
+use Rattle.std.specs.Prelude.{◌==◌}
 use Rattle.std.proofs.lemmas.Bool.Decides.{nat_tests}
 use Rattle.ct_names.specs.declared.limit.TheConstants.{MAX_MEMBERS}
 use Rattle.ct_names.specs.Group.{IsMember}
 use Rattle.ct_names.specs.MemberSet.{has_member, with_member}
 use Rattle.ct_model.specs.Counted.{with_estimate}
 use Rattle.ct_model.specs.Faults.{has_largest}
-use Rattle.ct_model.specs.Received.{Heard, is_largest}
+use Rattle.ct_model.specs.Received.{Heard}
 use Rattle.ct_rounds.specs.Tally.{heard_as, heard_at, ballots_of, IsSet, IsTally, mark_of, better}
 use Rattle.ct_rounds.specs.declared.tally.Estimate.{Estimate}
 use Rattle.ct_rounds.specs.declared.tally.Best.{Best}
@@ -26,72 +24,34 @@ senders arr (p ∷ heard) = ap (λ z. p ∷ z) (senders arr heard)
 pub found : (arr : List Estimate) (heard : List ℕ) (p : ℕ) →
     find (λ e. e.member == p) (map (heard_at arr) heard) ≡ cond (has_member heard p) (Some (heard_at arr p)) None
 found arr [] p = refl
-found arr (q ∷ heard) p = by (q == p) refl (found arr heard p)
-  where
-    by : (b : Bool) → (q == p) ≡ b → find (λ e. e.member == p) (map (heard_at arr) heard)
-        ≡ cond (has_member heard p) (Some (heard_at arr p)) None
-        → cond b (Some (heard_at arr q)) (find (λ e. e.member == p) (map (heard_at arr) heard))
-        ≡ cond (b || has_member heard p) (Some (heard_at arr p)) None
-    by true is rest = ap (λ z. Some (heard_at arr z)) (eqb-true q p is)
-    by false is rest = rest
+found arr (q ∷ heard) p = grind (arith, nat_tests, found arr heard p)
 
 -- an estimate of a member that was heard changes nothing
 kept : (arr : List Estimate) (e : Heard ℕ) (a : ℕ) (heard : List ℕ) → Rises a heard → has_member heard e.member ≡ true →
     with_estimate e (map (heard_at arr) heard) ≡ map (heard_at arr) heard
 kept arr e a [] r h = cc
-kept arr e a (q ∷ heard) r h = by (kept arr e (q + 1) heard r.1) (q == e.member) refl h
-  where
-    by : (has_member heard e.member ≡ true → with_estimate e (map (heard_at arr) heard) ≡ map (heard_at arr) heard) → (b : Bool) →
-        (q == e.member) ≡ b → (b || has_member heard e.member) ≡ true
-        → cond (nat_lt e.member q) (e ∷ heard_at arr q ∷ map (heard_at arr) heard)
-        (cond (e.member == q) (heard_at arr q ∷ map (heard_at arr) heard) (heard_at arr q ∷ with_estimate e (map (heard_at arr) heard)))
-        ≡ heard_at arr q ∷ map (heard_at arr) heard
-    by later true is there =
-        let low : nat_lt e.member q ≡ false = grind (arith, nat_tests) in
-        let same : (e.member == q) ≡ true = grind (arith, nat_tests) in
-        rw (low, same) refl
-    by later false is there =
-        let above = rises-in (q + 1) e.member heard r.1 there in
-        let low : nat_lt e.member q ≡ false = grind (arith, nat_tests) in
-        let apart : (e.member == q) ≡ false = grind (arith, nat_tests) in
-        rw (low, apart) (ap (λ z. heard_at arr q ∷ z) (later there))
+kept arr e a (q ∷ heard) r h =
+    grind (arith, nat_tests, kept arr e (q + 1) heard r.1, rises-in (q + 1) e.member heard r.1)
 
 -- the estimates of other members stay after a write
 elsewhere : (arr : List Estimate) (p : ℕ) (e : Estimate) (heard : List ℕ) → has_member heard p ≡ false →
     map (heard_at (set arr p e)) heard ≡ map (heard_at arr) heard
 elsewhere arr p e [] absent = refl
-elsewhere arr p e (q ∷ heard) absent = by (elsewhere arr p e heard) (q == p) refl absent
-  where
-    by : (has_member heard p ≡ false → map (heard_at (set arr p e)) heard ≡ map (heard_at arr) heard) → (b : Bool) → (q == p) ≡ b →
-        (b || has_member heard p) ≡ false → map (heard_at (set arr p e)) (q ∷ heard) ≡ map (heard_at arr) (q ∷ heard)
-    by later true is h = cc
-    by later false is h =
-        let apart : q ≢ p = eqb-false q p is in
-        ap (λ z. heard_as q z ∷ map (heard_at (set arr p e)) heard) (get_or-set_other arr p q e (record { value = 0; ts = 0 }) apart)
-        ∙ ap (λ z. heard_at arr q ∷ z) (later h)
+elsewhere arr p e (q ∷ heard) absent =
+    grind (arith, nat_tests, elsewhere arr p e heard, get_or-set_other arr p q e (record { value = 0; ts = 0 }))
 
 -- the first estimate of a member is counted in
 came : (arr : List Estimate) (p : ℕ) (e : Estimate) (heard : List ℕ) → p < length arr → has_member heard p ≡ false →
     with_estimate (heard_as p e) (map (heard_at arr) heard) ≡ map (heard_at (set arr p e)) (inserted p heard)
 came arr p e [] room absent = ap (λ z. heard_as p z ∷ []) (sym (get_or-set_same arr p e (record { value = 0; ts = 0 }) room))
-came arr p e (q ∷ heard) room absent = by (came arr p e heard room) (nat_lt p q) (p == q) refl refl
-  where
-    by : (has_member heard p ≡ false → with_estimate (heard_as p e) (map (heard_at arr) heard)
-        ≡ map (heard_at (set arr p e)) (inserted p heard)) → (b c : Bool) → nat_lt p q ≡ b → (p == q) ≡ c
-        → cond b (heard_as p e ∷ heard_at arr q ∷ map (heard_at arr) heard)
-        (cond c (heard_at arr q ∷ map (heard_at arr) heard) (heard_at arr q ∷ with_estimate (heard_as p e) (map (heard_at arr) heard)))
-        ≡ map (heard_at (set arr p e)) (cond b (p ∷ q ∷ heard) (cond c (q ∷ heard) (q ∷ inserted p heard)))
-    by later true c is same =
-        ap (λ z. heard_as p z ∷ map (heard_at arr) (q ∷ heard)) (sym (get_or-set_same arr p e (record { value = 0; ts = 0 }) room))
-        ∙ ap (λ z. heard_at (set arr p e) p ∷ z) (sym (elsewhere arr p e (q ∷ heard) absent))
-    by later false true is same = absurd (let there : (q == p) ≡ true = grind (arith, nat_tests) in
-        let no = ap (λ v. v || has_member heard p) (sym there) ∙ absent in cc)
-    by later false false is same =
-        let apart : (q == p) ≡ false = grind (arith, nat_tests) in
-        let rest : has_member heard p ≡ false = ap (λ v. v || has_member heard p) (sym apart) ∙ absent in
-        ap (λ z. heard_as q z ∷ with_estimate (heard_as p e) (map (heard_at arr) heard))
-        (sym (get_or-set_other arr p q e (record { value = 0; ts = 0 }) (eqb-false q p apart)))
-        ∙ ap (λ z. heard_at (set arr p e) q ∷ z) (later rest)
+came arr p e (q ∷ heard) room absent = grind (
+  arith,
+  nat_tests,
+  came arr p e heard room,
+  elsewhere arr p e (q ∷ heard) absent,
+  get_or-set_same arr p e (record { value = 0; ts = 0 }) room,
+  get_or-set_other arr p q e (record { value = 0; ts = 0 }),
+)
 
 -- a tally after one more estimate
 
@@ -102,8 +62,7 @@ heard-again arr p e heard is there = kept arr (heard_as p e) 1 heard (rises-set 
 pub heard-first : (arr : List Estimate) (p : ℕ) (e : Estimate) (heard : List ℕ) → IsSet heard → IsMember MAX_MEMBERS p → p < length arr →
     has_member heard p ≡ false
     → map (heard_at (set arr p e)) (with_member heard p) ≡ with_estimate (heard_as p e) (map (heard_at arr) heard)
-heard-first arr p e heard is member room absent = ap (map (heard_at (set arr p e))) (same-insert heard p is member)
-    ∙ sym (came arr p e heard room absent)
+heard-first arr p e heard is member room absent = rw (same-insert heard p is member) (sym (came arr p e heard room absent))
 
 pub best-more : (arr : List Estimate) (p : ℕ) (e : Estimate) (heard acked replied : List ℕ) (best : Option Best) →
     IsTally heard arr acked replied best → IsMember MAX_MEMBERS p → p < length arr → has_member heard p ≡ false
@@ -111,7 +70,7 @@ pub best-more : (arr : List Estimate) (p : ℕ) (e : Estimate) (heard acked repl
 best-more arr p e heard acked replied best is member room absent =
     let new : Heard ℕ = heard_as p e in
     let old : List (Heard ℕ) = map (heard_at arr) heard in
-    let out : has_member (map (λ y. y.member) old) p ≡ false = ap (λ z. has_member z p) (senders arr heard) ∙ absent in
+    let out : has_member (map (λ y. y.member) old) p ≡ false = rw (senders arr heard) absent in
     let rising : Rises 1 (map (λ y. y.member) old) = rw (senders arr heard) (rises-set heard is.heard_is) in
     let was : best ≡ option_map mark_of (pick old) = is.best_is
     ∙ ap (option_map mark_of) (best-pick (ballots_of heard arr None acked replied)) in
@@ -134,24 +93,12 @@ pub largest-in : (arr : List Estimate) (p : ℕ) (heard acked replied : List ℕ
 largest-in arr p heard acked replied proposal b is there =
     let was : Some b ≡ option_map mark_of (pick (map (heard_at arr) heard)) =
     is.best_is ∙ ap (option_map mark_of) (best-pick (ballots_of heard arr None acked replied)) in
-    by (pick (map (heard_at arr) heard)) refl was
-    ∙ sym (ap (λ o. option_map_or (λ e. list_below e.ts) o false) (found arr heard p ∙ ap (λ v. cond v (Some (heard_at arr p)) None) there))
-  where
-    list_below : ℕ → Bool
-    list_below t = is_largest (ballots_of heard arr proposal acked replied) t
-
-    by : (o : Option (Heard ℕ)) → pick (map (heard_at arr) heard) ≡ o → Some b ≡ option_map mark_of o →
-        nat_le b.ts (heard_at arr p).ts ≡ list_below (heard_at arr p).ts
-    by None is e = cc
-    by (Some w) is e =
-        let same : b ≡ mark_of w = cc in
-        ap (λ (z : Best). nat_le z.ts (heard_at arr p).ts) same ∙ sym (all-below (heard_at arr p).ts (map (heard_at arr) heard) w is)
+    grind (arith, was, found arr heard p, all-below (heard_at arr p).ts (map (heard_at arr) heard))
 
 pub largest-out : (arr : List Estimate) (p : ℕ) (heard acked replied : List ℕ) (proposal : Option ℕ) → has_member heard p ≡ false →
     false ≡ has_largest (ballots_of heard arr proposal acked replied) p
 largest-out arr p heard acked replied proposal absent =
-    sym (ap (λ o. option_map_or (λ e. is_largest (ballots_of heard arr proposal acked replied) e.ts) o false)
-    (found arr heard p ∙ ap (λ v. cond v (Some (heard_at arr p)) None) absent))
+    grind (arith, found arr heard p)
 
 -- where there is no best one nobody was heard
 pub nobody-heard : (arr : List Estimate) (heard acked replied : List ℕ) → IsTally heard arr acked replied None → heard ≡ []

@@ -131,6 +131,16 @@ impl Inbox {
         }
     }
 
+    /// The ts of the first estimate of `from` for the round.
+    pub fn ts(&self, round: Round, from: Member) -> Option<Round>
+        ensures { result ≡ option_map (λ e. e.ts) (estimate_from (ballots_at self.now round) from) }
+    {
+        match self.tallies.get(&round) {
+            Some(tally) => tally.ts(from),
+            None => None,
+        }
+    }
+
     /// The value of the round's first proposal.
     pub fn proposal(&self, round: Round) -> Option<ValueId>
         ensures { result ≡ (ballots_at self.now round).proposal }

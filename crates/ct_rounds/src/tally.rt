@@ -122,6 +122,17 @@ impl Tally {
         }
     }
 
+    /// The ts of the member's estimate.
+    pub fn ts(&self, from: Member) -> Option<Round>
+        ensures { result ≡ option_map (λ e. e.ts) (estimate_from self.now from) }
+    {
+        if self.heard.contains(from) {
+            Some(self.estimates[from as usize].ts)
+        } else {
+            None
+        }
+    }
+
     /// The value of the proposal.
     pub fn proposal(&self) -> Option<ValueId>
         ensures { result ≡ self.now.proposal }

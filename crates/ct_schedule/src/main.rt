@@ -7,7 +7,7 @@ ghost use Rattle.std.specs.Prelude.{◌≡◌};
 
 use ct_board::Board;
 use ct_model::Step;
-use ct_names::{Command, Group, Member};
+use ct_names::{Command, Group, MAX_BOUND, Member};
 use ct_rehearse::{Desk, Played, play};
 use ct_world::World;
 use std::alloc::{AllocError, Global};
@@ -79,7 +79,7 @@ fn rehearse<L: Ledger>(alloc: Global, blank: Blank) -> Option<(Played, World)>
     requires whole { L.parts ≡ 1000 }
 {
     let group = Group::new(3)?;
-    let world = World::new(alloc, group, 4).ok()?;
+    let world = World::new(alloc, group, 4, MAX_BOUND).ok()?;
     let board = Board::new(alloc, 4).ok()?;
     let (mut desk, mut share) = Desk::<L>::new(blank, world);
     let played = play(&mut desk, &mut share, &board, &SCHEDULE);

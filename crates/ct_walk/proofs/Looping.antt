@@ -1,12 +1,12 @@
 -- Turns and seeds one after the other.
-use Rattle.std.proofs.Common.{◌≡◌, ◌∙◌, ℕ, ◌+◌, ◌*◌, true, false, length, Option, Some, None, ap, ap₂, refl, add-one}
+use Rattle.std.proofs.Common.{◌≡◌, ◌∙◌, ℕ, ◌+◌, ◌*◌, true, false, Option, Some, None, ap, ap₂, refl, add-one}
 use Rattle.ct_model.specs.Rehearsal.{Rehearsal}
 use Rattle.ct_walk.specs.declared.options.WalkOptions.{WalkOptions}
 use Rattle.ct_walk.specs.declared.sight.Sight.{Sight}
 use Rattle.ct_walk.specs.Finding.{first_seed}
 use Rattle.ct_walk.specs.Options.{with_seed}
 use Rattle.ct_walk.specs.Shown.{is_shown}
-use Rattle.ct_walk.specs.Walking.{Walk, most_turns, start, turned, walked, walked_for}
+use Rattle.ct_walk.specs.Walking.{Walk, entries_left, most_turns, start, turned, walked, walked_for}
 
 -- a turn that shows what is asked for is the last one
 pub walk_stops : (every : ℕ) (until : Option Sight) (made left next : ℕ) (w v : Walk) → left ≡ next + 1
@@ -43,11 +43,11 @@ seeds_end o seed left none = rw none refl
 
 -- the turns that were made from the start are the walk
 pub walked_is : (o : WalkOptions) (w v : Walk) (most : ℕ) → w ≡ start o.run
-    → most ≡ w.rehearsal.setting.members * o.run.turns + (length w.first + length w.second)
+    → most ≡ w.rehearsal.setting.members * o.run.turns + entries_left w.scripts
     → v ≡ walked_for o.every o.until 0 most w → v.rehearsal ≡ walked o
 unfolding walked start
 walked_is o w v most starts most_is goes =
     let all : most ≡ most_turns o.run =
-    most_is ∙ ap (λ (x : Walk). x.rehearsal.setting.members * o.run.turns + (length x.first + length x.second)) starts in
+    most_is ∙ ap (λ (x : Walk). x.rehearsal.setting.members * o.run.turns + entries_left x.scripts) starts in
     ap (λ (x : Walk). x.rehearsal) goes
     ∙ ap₂ (λ (n : ℕ) (x : Walk). (walked_for o.every o.until 0 n x).rehearsal) all starts

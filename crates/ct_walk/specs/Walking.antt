@@ -1,7 +1,8 @@
 -- A walk: what its turns come to, as a function of the options.
-use Rattle.std.specs.Prelude.{ℕ, zero, suc, ◌+◌, ◌*◌, ◌-◌, ◌%◌, ◌==◌, Bool, false, not, ◌&&◌, nat_lt, List, length, slice_get, set}
-use Rattle.std.specs.Prelude.{Option, Some, None, is_none, if◌then◌else◌}
+use Rattle.std.specs.Prelude.{ℕ, zero, suc, ◌+◌, ◌*◌, ◌-◌, ◌%◌, ◌==◌, Bool, false, not, ◌&&◌, ◌||◌, nat_lt, List, [], length, drop, filter}
+use Rattle.std.specs.Prelude.{get_or, slice_get, set, sum_by, Option, Some, None, is_none, if◌then◌else◌}
 use Rattle.rand_pcg.specs.Lcg.{Lcg}
+use Rattle.std.specs.List.{range_with_len}
 use Rattle.ct_model.specs.declared.step.Step.{Step}
 use Rattle.ct_model.specs.Cause.{cause}
 use Rattle.ct_model.specs.Rehearsal.{Rehearsal, empty, extended}
@@ -10,22 +11,20 @@ use Rattle.ct_detect.specs.Seeded.{SeededState, words_of_seed, next_word, after_
 use Rattle.ct_rehearse.specs.declared.disturbance.Disturbance.{Disturbance}
 use Rattle.ct_rehearse.specs.Choices.{ask_of, entry_step, question, tried}
 use Rattle.ct_program.specs.declared.free_options.FreeOptions.{FreeOptions}
-use Rattle.ct_program.specs.Planning.{first_script, second_script}
+use Rattle.ct_program.specs.FreeOptions.{setting_of}
+use Rattle.ct_program.specs.Planning.{scripts_of}
 use Rattle.ct_program.specs.Seeding.{first_detectors}
 use Rattle.ct_walk.specs.declared.options.WalkOptions.{WalkOptions}
 use Rattle.ct_walk.specs.declared.sight.Sight.{Sight}
 use Rattle.ct_walk.specs.Shown.{is_shown}
 
--- the record; the generator of the words that turns are drawn by; the members' detectors, member 1's first; the two scripts, and
--- how many entries of each were made
+-- the record; the generator of the words that turns are drawn by; the members' detectors, member 1's first; what is left of each
+-- script, the first one's first
 pub record Walk : Type 0 where
   pub rehearsal : Rehearsal
   pub draws : Lcg
   pub detectors : List SeededState
-  pub first : List Disturbance
-  pub second : List Disturbance
-  pub submitted : ℕ
-  pub postponed : ℕ
+  pub scripts : List (List Disturbance)
 
 -- ---- what one turn comes to
 
@@ -67,42 +66,47 @@ abbrev pub after_entry : Rehearsal → Option Disturbance → Rehearsal
 after_entry w None = w
 after_entry w (Some entry) = after_try w (entry_step w entry)
 
--- after the next entry of the first script
-unfoldable pub submitting : Walk → Walk
-submitting w = record w { rehearsal = after_entry w.rehearsal (slice_get w.first w.submitted); submitted = w.submitted + 1 }
+-- what is left of script i, counted from 0
+abbrev pub left_of : Walk → ℕ → List Disturbance
+left_of w i = get_or w.scripts i []
 
--- after the next entry of the second script
-unfoldable pub postponing : Walk → Walk
-postponing w = record w { rehearsal = after_entry w.rehearsal (slice_get w.second w.postponed); postponed = w.postponed + 1 }
+-- after the next entry of script i
+unfoldable pub entered : Walk → ℕ → Walk
+entered w i =
+    record w { rehearsal = after_entry w.rehearsal (slice_get (left_of w i) 0); scripts = set w.scripts i (drop 1 (left_of w i)) }
 
 -- ---- whose turn it is
 
--- entries of the first script are left
-abbrev pub has_first : Walk → Bool
-has_first w = nat_lt w.submitted (length w.first)
-
--- entries of the second script are left
-abbrev pub has_second : Walk → Bool
-has_second w = nat_lt w.postponed (length w.second)
+-- entries of script i are left
+abbrev pub has_left : Walk → ℕ → Bool
+has_left w i = nat_lt 0 (length (left_of w i))
 
 -- the turn of this number, from 1, is the first script's without a draw: it is a multiple of `every`, which isn't 0
 unfoldable pub is_due : ℕ → ℕ → Walk → Bool
-is_due every number w = has_first w && (not (every == 0) && number % every == 0)
+is_due every number w = has_left w 0 && (not (every == 0) && number % every == 0)
 
--- the first script is drawn like the others: `every` is 0
-abbrev pub is_first_drawn : ℕ → Walk → Bool
-is_first_drawn every w = has_first w && every == 0
+-- script i is drawn: it has entries left, and is not the first one, unless `every` is 0
+abbrev pub is_drawn : ℕ → Walk → ℕ → Bool
+is_drawn every w i = has_left w i && (nat_lt 0 i || every == 0)
 
--- how many workers the coming turn is drawn from: the members, and the scripts that are drawn and have entries left
+-- the scripts that are drawn, of four
+abbrev pub drawn_scripts : ℕ → Walk → List ℕ
+drawn_scripts every w = filter (is_drawn every w) (range_with_len 0 4)
+
+-- how many workers the coming turn is drawn from: the members, and the scripts that are drawn
 unfoldable pub workers : ℕ → Walk → ℕ
-workers every w = w.rehearsal.setting.members + (if is_first_drawn every w then 1 else 0) + (if has_second w then 1 else 0)
+workers every w = w.rehearsal.setting.members + length (drawn_scripts every w)
 
--- after a turn of the worker of this number, from 0: the members, then the first script where it is drawn, then the second
--- where it has entries left
+-- after an entry of the script, where there is one
+abbrev pub after_script : Walk → Option ℕ → Walk
+after_script w None = w
+after_script w (Some i) = entered w i
+
+-- after a turn of the worker of this number, from 0: the members, then the scripts that are drawn
 unfoldable pub made_by : ℕ → Walk → ℕ → Walk
 made_by every w k =
-    if nat_lt k w.rehearsal.setting.members then driven w (k + 1)
-    else (if k == w.rehearsal.setting.members && is_first_drawn every w then submitting w else (if has_second w then postponing w else w))
+    let n = w.rehearsal.setting.members in
+    if nat_lt k n then driven w (k + 1) else after_script w (slice_get (drawn_scripts every w) (k - n))
 
 -- after a turn of a worker that is drawn: the generator's next word, modulo the number of workers
 unfoldable pub drawn : ℕ → Walk → Walk
@@ -110,7 +114,7 @@ drawn every w = made_by every (record w { draws = after_word w.draws }) (next_wo
 
 -- after the turn of this number
 unfoldable pub turned : ℕ → ℕ → Walk → Walk
-turned every number w = if is_due every number w then submitting w else drawn every w
+turned every number w = if is_due every number w then entered w 0 else drawn every w
 
 -- ---- the walk
 
@@ -124,18 +128,19 @@ walked_for every until made (suc more) w =
 -- before the first turn. The generator of draws starts from the seed, and the detector of member m from the seed and m
 unfoldable pub start : FreeOptions → Walk
 start o = record {
-  rehearsal = empty (record { members = o.members }) o.cells;
+  rehearsal = empty (setting_of o) o.cells;
   draws = words_of_seed o.seed;
   detectors = first_detectors o o.members;
-  first = first_script o;
-  second = second_script o;
-  submitted = 0;
-  postponed = 0;
+  scripts = scripts_of o;
 }
+
+-- how many entries these scripts have together
+abbrev pub entries_left : List (List Disturbance) → ℕ
+entries_left scripts = sum_by (λ script. length script) scripts
 
 -- how many turns a walk has at most: those of the members, and an entry each of the scripts
 abbrev pub most_turns : FreeOptions → ℕ
-most_turns o = o.members * o.turns + (length (first_script o) + length (second_script o))
+most_turns o = o.members * o.turns + entries_left (scripts_of o)
 
 -- the record of the walk that these options ask for
 unfoldable pub walked : WalkOptions → Rehearsal

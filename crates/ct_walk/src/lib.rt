@@ -7,6 +7,7 @@ mod call;
 mod fault;
 mod finding;
 mod options;
+mod script;
 mod settled;
 mod sight;
 mod walker;

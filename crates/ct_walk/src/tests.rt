@@ -1,13 +1,31 @@
 ghost use Rattle.std.specs.Prelude.{◌≡◌, None};
+ghost use Rattle.ct_names.specs.declared.limit.TheConstants.{MAX_BOUND};
 
 use super::*;
 use ct_model::Step;
+use ct_names::MAX_BOUND;
 use ct_program::FreeOptions;
 use std::test::Fail;
 
 // The options of a walk of three members, the others as the command line has them by default.
 fn options(seed: u32) -> WalkOptions
-    ensures { result ≡ record { run = record { members = 3; turns = 1000; seed = seed; rate = 64; cells = 64; submit = 8; crash = 0; postpone = 0 }; every = 0; until = None } }
+    ensures { result ≡ record {
+      run = record {
+        members = 3;
+        turns = 1000;
+        seed = seed;
+        rate = 64;
+        cells = 64;
+        submit = 8;
+        crash = 0;
+        postpone = 0;
+        lose = 0;
+        repeat = 0;
+        batch = MAX_BOUND;
+      };
+      every = 0;
+      until = None;
+    } }
 {
     WalkOptions {
         run: FreeOptions {
@@ -19,6 +37,9 @@ fn options(seed: u32) -> WalkOptions
             submit: 8,
             crash: 0,
             postpone: 0,
+            lose: 0,
+            repeat: 0,
+            batch: MAX_BOUND,
         },
         every: 0,
         until: None,
@@ -77,6 +98,47 @@ fn submissions_are_spread(rt: HostRuntime) -> Result<(), Fail> {
         .count();
     assert_eq!(rt; submitted, 3);
     assert!(rt; !world.crashed(2));
+    Ok(())
+}
+
+fn is_loss(step: &Step) -> bool {
+    match step {
+        Step::Lose(_, _) => true,
+        _ => false,
+    }
+}
+
+fn is_repetition(step: &Step) -> bool {
+    match step {
+        Step::Repeat(_, _) => true,
+        _ => false,
+    }
+}
+
+#[test]
+fn envelopes_are_lost_and_repeated(rt: HostRuntime) -> Result<(), Fail> {
+    let mut lossy = options(1);
+    lossy.run.lose = 20;
+    let world = walk(rt.alloc(), &lossy)?;
+    assert!(rt; world.record().iter().any(is_loss));
+    assert!(rt; !world.record().iter().any(is_repetition));
+    lossy.run.repeat = 20;
+    let world = walk(rt.alloc(), &lossy)?;
+    assert!(rt; world.record().iter().any(is_loss));
+    assert!(rt; world.record().iter().any(is_repetition));
+    Ok(())
+}
+
+#[test]
+fn batches_are_bounded(rt: HostRuntime) -> Result<(), Fail> {
+    let mut bounded = options(1);
+    bounded.run.batch = 1;
+    let world = walk(rt.alloc(), &bounded)?;
+    assert_eq!(rt; world.bound(), 1);
+    assert!(rt; world.posted() > 1);
+    assert!(rt;
+        (1..=world.posted()).all(|k| world.batch(k.into()).is_some_and(|batch| batch.len() == 1))
+    );
     Ok(())
 }
 

@@ -1,21 +1,22 @@
 //! The turns of a walk.
 
-ghost use Rattle.std.specs.Prelude.{◌≡◌, ◌+◌, ◌-◌, ◌*◌, ◌^◌, ◌<◌, ◌≤◌, Some, None, IfOk, IfErr, IsTrue, OnOk, length};
+ghost use Rattle.std.specs.Prelude.{◌≡◌, ◌+◌, ◌-◌, ◌*◌, ◌^◌, ◌<◌, ◌≤◌, Some, None, IfOk, IfErr, IfSome, OnOk, slice_get};
 ghost use Rattle.ct_program.specs.FreeOptions.{InRange};
 ghost use Rattle.ct_walk.specs.Faults.{IsShort};
 ghost use Rattle.ct_walk.specs.Shown.{is_shown};
-ghost use Rattle.ct_walk.specs.Walking.{after_entry, drawn, driven, has_first, has_second, is_due, is_first_drawn, made_by, postponing};
-ghost use Rattle.ct_walk.specs.Walking.{start, submitting, turned, walked_for, workers};
+ghost use Rattle.ct_walk.specs.Walking.{after_entry, drawn, drawn_scripts, driven, entered, entries_left, has_left, is_due};
+ghost use Rattle.ct_walk.specs.Walking.{is_drawn, made_by, start, turned, walked_for, workers};
 
 use crate::answering::answer;
 use crate::fault::WalkFault;
+use crate::script::Script;
 use crate::settled::settled;
 use crate::sight::{Sight, is_shown};
 use crate::worlds::first_world;
 use ct_board::Board;
 use ct_detect::Seeded;
 use ct_names::Member;
-use ct_program::{FreeOptions, postponements, seeded, submissions};
+use ct_program::{FreeOptions, losses, postponements, repetitions, seeded, submissions};
 use ct_rehearse::{Desk, Disturbance, Share, disturb, turn_answered};
 use ct_world::World;
 use rand_core::SeedableRng;
@@ -25,6 +26,9 @@ use std::alloc::Global;
 use std::marker::Model;
 use std::sync::ledger::{Blank, Ledger};
 
+// How many scripts there are.
+const SCRIPTS: usize = 4;
+
 // A world, and all that its next turns depend on.
 #[derive(Drop)]
 pub(crate) struct Walker<L: Ledger> {
@@ -33,10 +37,7 @@ pub(crate) struct Walker<L: Ledger> {
     board: Board,
     draws: Pcg32,
     detectors: Vec<Seeded>,
-    first: Vec<Disturbance>,
-    second: Vec<Disturbance>,
-    submitted: usize,
-    postponed: usize,
+    scripts: [Script; SCRIPTS],
 }
 
 // Contracts see all of it but the share, which has as many steps as the record, the board, and what is prepared.
@@ -50,10 +51,7 @@ impl<L: Ledger> Model for Walker<L> {
       rehearsal = w.desk.rehearsal;
       draws = w.draws;
       detectors = w.detectors.items;
-      first = w.first.items;
-      second = w.second.items;
-      submitted = w.submitted;
-      postponed = w.postponed;
+      scripts = w.scripts;
     } };
 
     ghost invariant = { λ w. w.share.steps ≡ length w.desk.rehearsal.steps };
@@ -72,12 +70,16 @@ impl<L: Ledger> Walker<L> {
         requires parts { blank.parts ≡ L.parts }
         requires whole { L.parts ≡ 1000 }
         ensures ok { IfOk result (λ walker. walker ≡ start options.now) }
-        ensures few { IfOk result (λ walker. length walker.first + length walker.second ≤ 2001) }
+        ensures few { IfOk result (λ walker. entries_left walker.scripts ≤ 4001) }
         ensures err { IfErr result IsShort }
     {
         let detectors = seeded(alloc, options)?;
-        let first = submissions(alloc, options)?;
-        let second = postponements(alloc, options)?;
+        let scripts = [
+            Script::new(submissions(alloc, options)?),
+            Script::new(postponements(alloc, options)?),
+            Script::new(losses(alloc, options)?),
+            Script::new(repetitions(alloc, options)?),
+        ];
         let board = Board::new(alloc, usize::from(options.cells))?;
         let world = first_world(alloc, options)?;
         let (desk, share) = Desk::new(blank, world);
@@ -87,21 +89,22 @@ impl<L: Ledger> Walker<L> {
             board,
             draws: Pcg32::seed_from_u64(u64::from(options.seed)),
             detectors,
-            first,
-            second,
-            submitted: 0,
-            postponed: 0,
+            scripts,
         })
     }
 
     // How many turns are to be made at most, where each member makes so many.
     pub(crate) fn most_turns(&self, turns: u32) -> u64
         requires turns { turns ≤ 100000 }
-        requires entries { length self.now.first + length self.now.second ≤ 2001 }
-        ensures { result ≡ self.now.rehearsal.setting.members * turns + (length self.now.first + length self.now.second) }
+        requires entries { entries_left self.now.scripts ≤ 4001 }
+        ensures { result ≡ self.now.rehearsal.setting.members * turns + entries_left self.now.scripts }
     {
         let members = u64::from(self.desk.world().group().n());
-        let entries = self.first.len() as u64 + self.second.len() as u64;
+        let scripts: &[Script] = &self.scripts;
+        let mut entries = 0;
+        for script in scripts {
+            entries += script.len() as u64;
+        }
         members * u64::from(turns) + entries
     }
 
@@ -131,7 +134,7 @@ impl<L: Ledger> Walker<L> {
         ensures err { IfErr result IsShort }
     {
         if self.is_due(every, number) {
-            return self.submit();
+            return self.enter(0);
         }
         self.draw(every)
     }
@@ -140,27 +143,25 @@ impl<L: Ledger> Walker<L> {
     #[tactic(auto, unfolding(crate::specs::Walking::is_due))]
     fn is_due(&self, every: u32, number: u64) -> bool
         ensures value { result ≡ is_due every number self.now }
-        ensures left { IsTrue result → self.now.submitted < length self.now.first }
     {
-        self.has_first() && every != 0 && number % u64::from(every) == 0
+        self.has_left(0) && every != 0 && number % u64::from(every) == 0
     }
 
-    fn has_first(&self) -> bool
-        ensures { result ≡ has_first self.now }
+    // Whether entries of a script are left, of those counted from 0.
+    fn has_left(&self, i: usize) -> bool
+        ensures { result ≡ has_left self.now i }
     {
-        self.submitted < self.first.len()
+        match self.scripts.get(i) {
+            Some(script) => script.len() > 0,
+            None => false,
+        }
     }
 
-    fn has_second(&self) -> bool
-        ensures { result ≡ has_second self.now }
+    // Whether a script is drawn.
+    fn is_drawn(&self, every: u32, i: usize) -> bool
+        ensures { result ≡ is_drawn every self.now i }
     {
-        self.postponed < self.second.len()
-    }
-
-    fn is_first_drawn(&self, every: u32) -> bool
-        ensures { result ≡ is_first_drawn every self.now }
-    {
-        self.has_first() && every == 0
+        self.has_left(i) && (i > 0 || every == 0)
     }
 
     // How many workers the coming turn is drawn from.
@@ -169,9 +170,18 @@ impl<L: Ledger> Walker<L> {
         ensures value { result ≡ workers every self.now }
         ensures some { 0 < result }
     {
-        u32::from(self.desk.world().group().n())
-            + u32::from(self.is_first_drawn(every))
-            + u32::from(self.has_second())
+        let scripts = (0..SCRIPTS).filter(|i| self.is_drawn(every, *i)).count();
+        u32::from(self.desk.world().group().n()) + scripts as u32
+    }
+
+    // The script of this number among those that are drawn.
+    fn drawn_script(&self, every: u32, place: u32) -> Option<usize>
+        ensures script { result ≡ slice_get (drawn_scripts every self.now) place }
+        ensures four { IfSome result (λ i. i < 4) }
+    {
+        (0..SCRIPTS)
+            .filter(|i| self.is_drawn(every, *i))
+            .nth(place as usize)
     }
 
     // Makes a turn of a worker that is drawn.
@@ -195,13 +205,10 @@ impl<L: Ledger> Walker<L> {
         if place < members {
             return self.drive(place as u8 + 1);
         }
-        if place == members && self.is_first_drawn(every) {
-            return self.submit();
+        match self.drawn_script(every, place - members) {
+            Some(i) => self.enter(i),
+            None => Ok(()),
         }
-        if self.has_second() {
-            return self.postpone();
-        }
-        Ok(())
     }
 
     // Makes a turn of a member.
@@ -223,28 +230,17 @@ impl<L: Ledger> Walker<L> {
         settled(&turn)
     }
 
-    // Makes the next entry of the first script.
-    #[tactic(auto, unfolding(crate::specs::Walking::submitting))]
-    fn submit(&mut self) -> Result<(), WalkFault>
-        requires { self.old.submitted < length self.old.first }
-        ensures ok { OnOk result (self.new ≡ submitting self.old) }
+    // Makes the next entry of a script.
+    #[tactic(auto, unfolding(crate::specs::Walking::entered))]
+    fn enter(&mut self, i: usize) -> Result<(), WalkFault>
+        requires { i < 4 }
+        ensures ok { OnOk result (self.new ≡ entered self.old i) }
         ensures err { IfErr result IsShort }
     {
-        let entry = self.first[self.submitted];
-        self.submitted += 1;
-        self.disturb(&entry)
-    }
-
-    // Makes the next entry of the second script.
-    #[tactic(auto, unfolding(crate::specs::Walking::postponing))]
-    fn postpone(&mut self) -> Result<(), WalkFault>
-        requires { self.old.postponed < length self.old.second }
-        ensures ok { OnOk result (self.new ≡ postponing self.old) }
-        ensures err { IfErr result IsShort }
-    {
-        let entry = self.second[self.postponed];
-        self.postponed += 1;
-        self.disturb(&entry)
+        match self.scripts[i].next() {
+            Some(entry) => self.disturb(&entry),
+            None => Ok(()),
+        }
     }
 
     // Makes an entry of a script.

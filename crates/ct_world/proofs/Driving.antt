@@ -7,7 +7,7 @@ use Rattle.std.specs.Result.{result_ok}
 use Rattle.ct_names.specs.declared.refusal.Refusal.{Refusal}
 use Rattle.ct_names.specs.Value.{Value}
 use Rattle.ct_model.specs.declared.step.Step.{Step}
-use Rattle.ct_model.specs.declared.step.Step.TheVariants.{Begin, Enter, Choose, Adopt, Suspect, Conclude, Deliver}
+use Rattle.ct_model.specs.declared.step.Step.TheVariants.{Begin, Enter, Choose, Adopt, Suspect, Conclude, Deliver, Follow}
 use Rattle.ct_model.specs.AtValue.{Standing}
 use Rattle.ct_model.specs.Received.{Heard, Ballots, ballots, is_largest}
 use Rattle.ct_model.specs.Mapped.{heard_map, ballots_map}
@@ -48,7 +48,7 @@ best-map {V} f t = go t.estimates
 
 -- the member may take steps
 
-module _ (w : Rehearsal) (p : ℕ) (seat : Seat) (a : IsActor w p seat) where
+module _ {w : Rehearsal} {p : ℕ} {seat : Seat} (a : IsActor w p seat) where
   best_at : (r : ℕ) → best (ballots_of seat.instances seat.instances.last r) ≡ best (ballots (member_of w p).got (member_of w p).last r)
   best_at r =
       let h = a.sits.keeps.instances in
@@ -76,9 +76,11 @@ module _ (w : Rehearsal) (p : ℕ) (seat : Seat) (a : IsActor w p seat) where
 
 module _ (w : Rehearsal) (p : ℕ) (refusal : Refusal) (a : IsAbsent w p refusal) where
   refused : (o : Option ℕ) → find (λ step. is_none (cause w step))
-      ((Deliver p ∷ Begin p ∷ []) ++ option_to_list (option_map (Choose p) o) ++ (Adopt p ∷ Conclude p ∷ Enter p ∷ Suspect p ∷ [])) ≡ None
+      ((Deliver p ∷ Follow p ∷ Begin p ∷ []) ++ option_to_list (option_map (Choose p) o)
+      ++ (Adopt p ∷ Conclude p ∷ Enter p ∷ Suspect p ∷ [])) ≡ None
   refused None = rw (
     cause-absent w (Deliver p) refusal a,
+    cause-absent w (Follow p) refusal a,
     cause-absent w (Begin p) refusal a,
     cause-absent w (Adopt p) refusal a,
     cause-absent w (Conclude p) refusal a,
@@ -87,6 +89,7 @@ module _ (w : Rehearsal) (p : ℕ) (refusal : Refusal) (a : IsAbsent w p refusal
   ) refl
   refused (Some q) = rw (
     cause-absent w (Deliver p) refusal a,
+    cause-absent w (Follow p) refusal a,
     cause-absent w (Begin p) refusal a,
     cause-absent w (Choose p q) refusal a,
     cause-absent w (Adopt p) refusal a,
@@ -114,10 +117,10 @@ module _ (w : Rehearsal) (p : ℕ) where
   nothing_next (Err refusal) a e = next_local-absent w p refusal a
 
   -- the candidates, one after the other
+  abbrev tried : Option Step → List (Option Step)
+  tried choice = Some (Deliver p) ∷ Some (Follow p) ∷ Some (Begin p) ∷ choice ∷ Some (Adopt p) ∷ Some (Conclude p) ∷ Some (Enter p)
+      ∷ Some (Suspect p) ∷ []
+
   pub next_local-is : (choice : Option Step) → choice ≡ option_map (Choose p) (best_heard (member_of w p))
-      → find (λ step. is_none (cause w step)) (flat_map option_to_list
-      (Some (Deliver p) ∷ Some (Begin p) ∷ choice ∷ Some (Adopt p) ∷ Some (Conclude p) ∷ Some (Enter p) ∷ Some (Suspect p) ∷ []))
-      ≡ next_local w p
-  next_local-is choice e = ap (λ o. find (λ step. is_none (cause w step))
-      (flat_map option_to_list (Some (Deliver p) ∷ Some (Begin p) ∷ o ∷ Some (Adopt p) ∷ Some (Conclude p) ∷ Some (Enter p)
-      ∷ Some (Suspect p) ∷ []))) e
+      → find (λ step. is_none (cause w step)) (flat_map option_to_list (tried choice)) ≡ next_local w p
+  next_local-is choice e = ap (λ o. find (λ step. is_none (cause w step)) (flat_map option_to_list (tried o))) e

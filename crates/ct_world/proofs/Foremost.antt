@@ -134,5 +134,5 @@ module _ (w : Rehearsal) (f : Fields) (world : IsWorld w f) where
         let same : length (batches_at f.seats best) ≡ length (order (state_of w)) =
         ap length foremost-order ∙ length-map (order (state_of w)) (λ (b : Batch). b.messages) in
         let few : length (order (state_of w)) ≤ w.cells = world.lawful.within.few_batches in
-        let cells : w.cells ≤ MAX_CELLS = world.few_cells in
+        let cells : w.cells ≤ MAX_CELLS = world.fixed.few_cells in
         omega arith

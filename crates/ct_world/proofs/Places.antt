@@ -13,7 +13,7 @@ use Rattle.ct_model.specs.Rehearsal.{Rehearsal, line_of}
 use Rattle.ct_model.specs.Waiting.{has_serial}
 use Rattle.ct_model.specs.Lawful.{is_distinct}
 use Rattle.ct_network.specs.Network.{line_at, place_of, put_last}
-use Rattle.ct_world.specs.Kept.{Fields, IsWorld, StandsAt, IsPlaced, IsFound, IsUnless}
+use Rattle.ct_world.specs.Kept.{Fields, IsWorld, place_named, IsFound, IsUnless}
 use Rattle.ct_world.proofs.Waits.{lined_member}
 
 and_true_left : (a b : Bool) → (a && b) ≡ true → a ≡ true
@@ -101,8 +101,12 @@ without k (x ∷ xs) d h = go (x == k) refl h (without k xs (and_true_right (not
         }
 
 -- a serial that has a place is there
-pub stands-there : (k i : ℕ) (xs : List ℕ) → place_of k xs ≡ Some i → has_serial k xs ≡ true
-stands-there k i xs is = sym (is_some-position (λ q. q == k) xs) ∙ ap is_some is
+pub stands-there : (k : ℕ) {i : ℕ} (xs : List ℕ) → place_of k xs ≡ Some i → has_serial k xs ≡ true
+stands-there k xs is = sym (is_some-position (λ q. q == k) xs) ∙ ap is_some is
+
+-- so what is there has one
+pub waits-placed : (k : ℕ) (xs : List ℕ) → has_serial k xs ≡ true → is_some (place_of k xs) ≡ true
+waits-placed k xs there = is_some-position (λ q. q == k) xs ∙ there
 
 -- and one that has none is not
 pub stands-nowhere : (k : ℕ) (xs : List ℕ) → None ≡ place_of k xs → has_serial k xs ≡ false
@@ -114,7 +118,7 @@ some_same x y h = cc
 -- the line without the serial at its place
 pub placed : (k i : ℕ) (xs : List ℕ) → place_of k xs ≡ Some i → is_distinct xs ≡ true → IsWithout k xs i
 placed k i xs is d =
-    let there = stands-there k i xs is in
+    let there = stands-there k xs is in
     let e : position_or_len (λ q. q == k) xs ≡ i = some_same (position_or_len (λ q. q == k) xs) i
     (sym (position_is (λ q. q == k) xs there) ∙ is) in
     subst (λ j. IsWithout k xs j) e (without k xs d there)
@@ -123,21 +127,20 @@ placed k i xs is d =
 pub put-is : (k i : ℕ) (xs : List ℕ) → IsWithout k xs i → put_last xs i ≡ filter (λ q. not (q == k)) xs ++ k ∷ []
 put-is k i xs a = λ j. a.rest j ++ a.item j ∷ []
 
--- the serial's place in the network's line
-pub placed_in : (w : Rehearsal) (f : Fields) (p k i : ℕ) → IsWorld w f → is_member w.setting.members p ≡ true → StandsAt w p k i →
-    IsWithout k (line_at f.network.lines p) i
-placed_in w f p k i world group is =
-    subst (λ line. IsWithout k line i) (sym (world.line p group)) (placed k i (line_of w p) is (world.lawful.distinct p))
+module _ {w : Rehearsal} {f : Fields} (p k : ℕ) (world : IsWorld w f) (group : is_member w.setting.members p ≡ true) where
+  -- the serial's place in the network's line
+  pub placed_in : {i : ℕ} → place_of k (line_of w p) ≡ Some i → IsWithout k (line_at f.network.lines p) i
+  placed_in {i} is = subst (λ line. IsWithout k line i) (sym (world.line p group)) (placed k i (line_of w p) is (world.lawful.distinct p))
 
--- which the network finds
-pub found_in : (w : Rehearsal) (f : Fields) (p k : ℕ) → IsWorld w f → is_member w.setting.members p ≡ true →
-    (if is_member (length f.network.lines) p then place_of k (line_at f.network.lines p) else None) ≡ place_of k (line_of w p)
-found_in w f p k world group =
-    ap (λ b. if b then place_of k (line_at f.network.lines p) else None) (lined_member w f p world group)
-    ∙ ap (place_of k) (world.line p group)
+  -- which the network finds
+  pub found_in : (if is_member (length f.network.lines) p then place_of k (line_at f.network.lines p) else None)
+      ≡ place_of k (line_of w p)
+  found_in =
+      ap (λ b. if b then place_of k (line_at f.network.lines p) else None) (lined_member p world group)
+      ∙ ap (place_of k) (world.line p group)
 
 -- the step is allowed at the place unless a limit is passed
-pub unless-found : (w : Rehearsal) (step : Step) (fault : Option Refusal) (i : Option ℕ) (found : Result (Option ℕ) Refusal)
-    → cause w step ≡ fault → IsPlaced w step i → IsUnless fault i found → IsFound w step found
-unless-found w step fault i (Ok j) is at h = record { allowed = is ∙ h.1; placed = subst (λ x. IsPlaced w step x) (sym h.0) at }
-unless-found w step fault i (Err refusal) is at h = is ∙ h
+pub unless-found : (w : Rehearsal) (step : Step) {fault : Option Refusal} {i : Option ℕ} (found : Result (Option ℕ) Refusal)
+    → cause w step ≡ fault → i ≡ place_named w step → IsUnless fault i found → IsFound w step found
+unless-found w step (Ok j) is at h = record { allowed = is ∙ h.1; placed = h.0 ∙ at }
+unless-found w step (Err refusal) is at h = is ∙ h

@@ -1,5 +1,5 @@
 -- The receipt of a step that posts.
-use Rattle.std.proofs.Common.{◌≡◌, ℕ, ◌+◌, ◌≤◌, List, [], ◌∷◌, ◌++◌, Option, Some, None, length, refl, ap, sym, ◌∙◌, subst, arith}
+use Rattle.std.proofs.Common.{◌≡◌, ℕ, ◌+◌, ◌≤◌, List, [], ◌∷◌, ◌++◌, Option, Some, None, length, refl, ap, sym, ◌∙◌, arith}
 use Rattle.std.specs.Prelude.{slice_get, option_map, IfSome}
 use Rattle.ct_names.specs.Batch.{Batch}
 use Rattle.ct_model.specs.declared.step.Step.{Step}
@@ -23,14 +23,11 @@ joined_instance w list b law joined =
     (ap (λ all. slice_get all (length list)) joined ∙ last_there list b)
 
 -- so it has a place
-pub posting_low : {A : Type 0} (w : Rehearsal) (step : Step) (f : A → Batch) (o : Option A) (posting : Option Batch)
-    → IsLawful (extended w step)
-    → Joins (order (state_of w)) (order (state_of (extended w step))) posting → option_map f o ≡ posting
-    → IfSome o (λ b. 1 ≤ (f b).instance)
-posting_low w step f None posting law joins is = tt
-posting_low w step f (Some b) posting law joins is =
-    let instance = joined_instance (extended w step) (order (state_of w)) (f b) law
-    (subst (λ o. Joins (order (state_of w)) (order (state_of (extended w step))) o) (sym is) joins) in
+pub posting_low : {A : Type 0} (w : Rehearsal) (step : Step) (f : A → Batch) (o : Option A) → IsLawful (extended w step)
+    → Joins (order (state_of w)) (order (state_of (extended w step))) (option_map f o) → IfSome o (λ b. 1 ≤ (f b).instance)
+posting_low w step f None law joins = tt
+posting_low w step f (Some b) law joins =
+    let instance = joined_instance (extended w step) (order (state_of w)) (f b) law joins in
     omega arith
 
 -- what was set is what joins the order

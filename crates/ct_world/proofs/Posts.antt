@@ -56,10 +56,10 @@ pub record IsTurnedInto (w : Rehearsal) (step : Step) (o : Outcome) (f new : Fie
   pub keeps : Keeps w.setting.members new.book.values (actor step) o.member seat
   pub submitted : seat.submitted ≡ submissions (state_of w).submitted (actor step) + submissions o.submitted (actor step)
 
-pub stepped-sending : (w : Rehearsal) (step : Step) (o : Outcome) (f new : Fields) (seat : Seat) (mail : AnyMail ℕ) → IsWorld w f →
+pub stepped-sending : {w : Rehearsal} {step : Step} {o : Outcome} {f new : Fields} (seat : Seat) {mail : AnyMail ℕ} → IsWorld w f →
     line_change step ≡ Leaves → IsTurnedInto w step o f new seat → NamesMail new.book.values mail o.mail →
     IsPosted f.network new.network mail → IsStepped w step o f new
-stepped-sending w step o f new seat mail world plain turned named posted = record {
+stepped-sending {w} {step} {o} {f} {new} seat {mail} world plain turned named posted = record {
   posts = envelopes w.setting.members mail;
   seat = seat;
   values = turned.values;
@@ -76,10 +76,10 @@ stepped-sending w step o f new seat mail world plain turned named posted = recor
   submitted = turned.submitted;
 }
 
-pub stepped-quiet : (w : Rehearsal) (step : Step) (o : Outcome) (f new : Fields) (seat : Seat) → IsWorld w f → line_change step ≡ Leaves →
+pub stepped-quiet : {w : Rehearsal} {step : Step} {o : Outcome} {f new : Fields} (seat : Seat) → line_change step ≡ Leaves →
     IsTurnedInto w step o f new seat → o.mail ≡ Nobody → new.network.sent ≡ f.network.sent → new.network.lines ≡ f.network.lines →
     IsStepped w step o f new
-stepped-quiet w step o f new seat world plain turned nobody sent lines = record {
+stepped-quiet {w} {step} {o} {f} {new} seat plain turned nobody sent lines = record {
   posts = [];
   seat = seat;
   values = turned.values;

@@ -25,6 +25,7 @@ row-proposes s g p m step o = by_shape s g p m AtMostOne step o (record {
   opens = λ idle some. omega arith;
   turns = λ a c t open_at taken. omega arith;
   closes = λ c v open_at has delivers. omega arith;
+  follows = λ v idle has delivers. omega arith;
   marks = λ crashed. omega arith;
 })
 

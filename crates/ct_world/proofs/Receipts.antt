@@ -79,15 +79,15 @@ known_name s g p m k submitted = got_by_name (member g p).got m
 
 -- the names taken
 
+de_morgan : (a b : Bool) → not (a || (b || false)) ≡ (not a && not b)
+de_morgan true b = refl
+de_morgan false true = refl
+de_morgan false false = refl
+
 first-push : (ids : List RelayId) (name other : RelayId) → is_first (ids ++ name ∷ []) other
     ≡ (is_first ids other && not (is_id other name))
 first-push ids name other = ap not (list_any-append (is_id other) ids (name ∷ []))
     ∙ de_morgan (list_any (is_id other) ids) (is_id other name)
-  where
-    de_morgan : (a b : Bool) → not (a || (b || false)) ≡ (not a && not b)
-    de_morgan true b = refl
-    de_morgan false true = refl
-    de_morgan false false = refl
 
 -- names that are alike have the same place
 alike : (name other : RelayId) → is_id other name ≡ true → other ≡ name
@@ -199,7 +199,7 @@ abbrev pub IsKnown : List Wire → Wire → Type 0
 IsKnown got (Data m) = was_got got (id.Data m.origin m.number) ≡ has (received got) m
 IsKnown got _ = Unit {0}
 
-module _ (n : ℕ) (values : List Value) (p : ℕ) (m : Member) (seat : Seat) (k : Keeps n values p m seat) where
+module _ {n p : ℕ} {values : List Value} {m : Member} {seat : Seat} (k : Keeps n values p m seat) where
   first_is : (msg : Message) → IsKnown m.got (Data msg) → is_first seat.relay.ids (id.Data msg.origin msg.number)
       ≡ not (has (received m.got) msg)
   first_is msg known = k.taken (id.Data msg.origin msg.number) ∙ ap not known
@@ -233,28 +233,22 @@ module _ (n : ℕ) (values : List Value) (p : ℕ) (m : Member) (seat : Seat) (k
   received_push (Dec j r v) w e known = k.received ∙ sym (received_silent w (sym (named_message values (Dec j r v) w e)))
 
   -- the seat keeps what the member is after it got the wire
-  pub receive_keeps : (new : Seat) (x : AnyWire ℕ) (w : Wire) → NamesWire values x w → NamesSomebody w → IsKnown m.got w →
+  pub receive_keeps : {new : Seat} (x : AnyWire ℕ) (w : Wire) → NamesWire values x w → NamesSomebody w → IsKnown m.got w →
       HasReceived seat x new → Keeps n values p (record m { got = m.got ++ w ∷ [] }) new
-  receive_keeps new x w e somebody known h = record {
+  receive_keeps {new} x w e somebody known h = record {
     crashed = h.crashed ∙ k.crashed;
     me = h.me ∙ k.me;
     taken = λ name.
         ap (λ ids. is_first ids name) h.ids ∙ first-received seat.relay.ids x name
         ∙ ap (λ b. b && not (has_name name x)) (k.taken name)
         ∙ ap (λ b. not (was_got m.got name) && not b) (same_name values name x w e)
-        ∙ de_morgan (was_got m.got name) (has_name name w)
-        ∙ sym (ap not (list_any-append (has_name name) m.got (w ∷ [])));
+        ∙ sym (ap not (list_any-append (has_name name) m.got (w ∷ [])) ∙ de_morgan (was_got m.got name) (has_name name w));
     received = h.received ∙ received_push x w e known;
     batches = h.batches ∙ k.batches;
     table = h.table ∙ k.table;
     begun = h.begun ∙ k.begun;
     instances = keeps-noted n values p m x w seat.instances new.instances k.instances e somebody h.ballots h.decisions h.instances;
   }
-    where
-      de_morgan : (a b : Bool) → (not a && not b) ≡ not (a || (b || false))
-      de_morgan true b = refl
-      de_morgan false true = refl
-      de_morgan false false = refl
 
   -- whether it is passed on
   pub passes : (s : Setting) (x : AnyWire ℕ) (w : Wire) → s.members ≡ n → NamesWire values x w → IsKnown m.got w →
@@ -281,7 +275,7 @@ module _ (n : ℕ) (values : List Value) (p : ℕ) (m : Member) (seat : Seat) (k
       other (Prop i q u) f = absurd (cc)
       other (Ack i q z) f = absurd (cc)
       other (Nack i q z) f = absurd (cc)
-  passes s (Est j r q v t) w same e known = sym (kept_back s p m.got w ((of_round-named values (Est j r q v t) w e)))
-  passes s (Prop j r v) w same e known = sym (kept_back s p m.got w ((of_round-named values (Prop j r v) w e)))
-  passes s (Ack j r q) w same e known = sym (kept_back s p m.got w ((of_round-named values (Ack j r q) w e)))
-  passes s (Nack j r q) w same e known = sym (kept_back s p m.got w ((of_round-named values (Nack j r q) w e)))
+  passes s (Est j r q v t) w same e known = sym (kept_back s p m.got w (of_round-named values (Est j r q v t) w e))
+  passes s (Prop j r v) w same e known = sym (kept_back s p m.got w (of_round-named values (Prop j r v) w e))
+  passes s (Ack j r q) w same e known = sym (kept_back s p m.got w (of_round-named values (Ack j r q) w e))
+  passes s (Nack j r q) w same e known = sym (kept_back s p m.got w (of_round-named values (Nack j r q) w e))

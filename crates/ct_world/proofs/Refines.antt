@@ -48,9 +48,9 @@ pub record IsStepped (w : Rehearsal) (step : Step) (o : Outcome) (f new : Fields
   pub submitted : seat.submitted ≡ submissions (state_of w).submitted (actor step) + submissions o.submitted (actor step)
 
 -- one value more leaves what is kept
-pub seat-grown : (n : ℕ) (values more : List Value) (p : ℕ) (m : Member) (seat : Seat) → Keeps n values p m seat →
+seat-grown : {n p : ℕ} {values : List Value} {m : Member} {seat : Seat} (more : List Value) → Keeps n values p m seat →
     Keeps n (values ++ more) p m seat
-seat-grown n values more p m seat k = record {
+seat-grown {n} {p} {values} {m} {seat} more k = record {
   crashed = k.crashed;
   me = k.me;
   taken = k.taken;
@@ -62,10 +62,10 @@ seat-grown n values more p m seat k = record {
 }
 
 -- the seat of a member that got, delivered and began nothing meanwhile
-pub seat-kept : (n : ℕ) (values : List Value) (p : ℕ) (m m' : Member) (seat seat' : Seat) → Keeps n values p m seat →
+pub seat-kept : {n p : ℕ} {values : List Value} {m m' : Member} {seat seat' : Seat} → Keeps n values p m seat →
     seat'.crashed ≡ m'.crashed → seat'.relay ≡ seat.relay → seat'.caster ≡ seat.caster → seat'.table ≡ seat.table → m'.got ≡ m.got →
     m'.batches ≡ m.batches → m'.last ≡ m.last → KeepsInstances n values p m' seat'.instances → Keeps n values p m' seat'
-seat-kept n values p m m' seat seat' k crashed relay caster same_table got batches last instances = record {
+seat-kept k crashed relay caster same_table got batches last instances = record {
   crashed = crashed;
   me = ap (λ (r : Taken). r.me) relay ∙ k.me;
   taken = λ name. ap (λ (r : Taken). is_first r.ids name) relay ∙ k.taken name ∙ ap (λ list. not (was_got list name)) (sym got);
@@ -81,11 +81,8 @@ after-proposals : (w : Rehearsal) (p : ℕ) (o : Outcome) → values_of (after w
 unfolding after
 after-proposals w p o = map-append (λ (x : Proposal). x.value) (state_of w).proposals o.proposals
 
-module _ (w : Rehearsal) (step : Step) (o : Outcome) (f new : Fields) (world : IsWorld w f) (taken : IsTaken w step o)
+module _ {w : Rehearsal} {step : Step} {o : Outcome} {f new : Fields} (world : IsWorld w f) (taken : IsTaken w step o)
     (s : IsStepped w step o f new) where
-  n : ℕ
-  n = w.setting.members
-
   h : State
   h = after w.setting (state_of w) (actor step) o
 
@@ -125,8 +122,7 @@ module _ (w : Rehearsal) (step : Step) (o : Outcome) (f new : Fields) (world : I
   grown_other : (q : ℕ) → is_member w.setting.members q ≡ true →
       Keeps w.setting.members new.book.values q (member (state_of w) q) (seat_of f.seats q)
   grown_other q group = subst (λ vs. Keeps w.setting.members vs q (member (state_of w) q) (seat_of f.seats q)) (sym s.values)
-      (seat-grown w.setting.members f.book.values (map (λ (x : Proposal). x.value) o.proposals) q (member (state_of w) q)
-      (seat_of f.seats q) (world.seat q group))
+      (seat-grown (map (λ (x : Proposal). x.value) o.proposals) (world.seat q group))
 
   seat : (q : ℕ) → is_member w.setting.members q ≡ true → Keeps w.setting.members new.book.values q (member h q) (seat_of new.seats q)
   unfolding h
@@ -162,8 +158,7 @@ module _ (w : Rehearsal) (step : Step) (o : Outcome) (f new : Fields) (world : I
     lawful = lawful-step w step o world.lawful taken;
     messages = rw state_is (knows-next w.setting (state_of w) step (after w.setting (state_of w) (actor step) o)
         (next-step w step o world.lawful taken) world.lawful.size world.messages);
-    few_members = world.few_members;
-    few_cells = world.few_cells;
+    fixed = world.fixed;
     values = rw state_is values;
     sent = rw state_is sent;
     lined = s.lined ∙ world.lined;

@@ -60,9 +60,9 @@ module _ (values : List Value) (xs : List (AnyEnvelope ℕ)) (es : List Envelope
 
 -- what a member received and delivered
 
-module _ (w : Rehearsal) (p : ℕ) (seat : Seat) (sits : IsSeatOf w p seat) where
-  pub of_this : {A : Type 0} (x y : A) → x ≡ y → Some x ≡ of_member w p y
-  of_this x y e = rw sits.in_group (ap Some e)
+module _ {w : Rehearsal} {p : ℕ} {seat : Seat} (sits : IsSeatOf w p seat) where
+  pub of_this : {A : Type 0} {x y : A} → x ≡ y → Some x ≡ of_member w p y
+  of_this e = rw sits.in_group (ap Some e)
 
   pub received_is : seat.caster.received ≡ received_by (state_of w) p
   unfolding received_by

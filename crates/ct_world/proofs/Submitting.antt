@@ -13,8 +13,8 @@ use Rattle.ct_model.specs.declared.mail.Mail.{Mail as AnyMail}
 use Rattle.ct_model.specs.Wire.{envelopes}
 use Rattle.ct_model.specs.declared.wire.Wire.TheVariants.{Data}
 use Rattle.ct_model.specs.declared.mail.Mail.TheVariants.{All}
-use Rattle.ct_model.specs.State.{Member, member, submissions}
-use Rattle.ct_model.specs.Next.{submit, next_message, after}
+use Rattle.ct_model.specs.State.{submissions}
+use Rattle.ct_model.specs.Next.{next_message}
 use Rattle.ct_model.specs.Rehearsal.{Rehearsal, state_of, extended}
 use Rattle.ct_model.proofs.Record.Frame.{length-after-sent, submissions-next}
 use Rattle.ct_model.proofs.Basics.Options.{some-same}
@@ -23,10 +23,11 @@ use Rattle.ct_model.proofs.Steps.Submit.{submit_outcome, submit_outcome-is, subm
 use Rattle.ct_model.proofs.Basics.Tests.{self_number}
 use Rattle.ct_model.specs.Mapped.{wire_map}
 use Rattle.ct_network.proofs.Posts.{length-envelopes-map}
+use Rattle.ct_model.proofs.Record.Taken.{IsTaken}
 use Rattle.ct_instances.specs.Named.{NamesMail}
 use Rattle.ct_instances.proofs.Named.{named_length}
 use Rattle.ct_world.specs.Kept.{Fields, IsWorld, seat_of}
-use Rattle.ct_world.proofs.Insides.{IsPrepared}
+use Rattle.ct_world.proofs.Insides.{IsAllowed}
 use Rattle.ct_world.proofs.Posts.{IsPosted, stepped-sending}
 use Rattle.ct_world.proofs.Refines.{refined, seat-kept}
 
@@ -56,49 +57,37 @@ no_value = []
 number-all : (n : ℕ) (x : AnyWire ℕ) → length (envelopes n (All x)) ≡ n
 number-all n x = sym (length-envelopes-map (λ id. no_value) n (All x)) ∙ length-all n (wire_map (λ id. no_value) x)
 
--- as many envelopes are sent as there are members
-pub submit_number : (w : Rehearsal) (p : ℕ) (c : Command) → length (envelopes w.setting.members (submit_outcome w p c).mail)
-    ≡ w.setting.members
-submit_number w p c = rw (submit_outcome-is w p c) (length-all w.setting.members (Data (next_message (state_of w).submitted p c)))
+module _ {w : Rehearsal} {p : ℕ} {c : Command} {f : Fields} (may : IsAllowed w (Submit p c) f) where
+  pub submitted_taken : IsTaken w (Submit p c) (submit_outcome w p c)
+  submitted_taken = (submit_taken w p c may.world.lawful may.allowed).taken
 
--- the mail fits
-pub submit_few : (w : Rehearsal) (p : ℕ) (c : Command) (f : Fields) (x : AnyWire ℕ) → IsPrepared w (Submit p c) f →
-    length f.network.sent + length (envelopes (length f.network.lines) (All x)) ≤ MAX_ENVELOPES
-submit_few w p c f x ready =
-    let taken = (submit_taken w p c ready.world.lawful ready.ready.allowed).taken in
-    let few = taken.within.few_envelopes in
-    let sent : length f.network.sent ≡ length (state_of w).sent =
-    named_length f.book.values f.network.sent (state_of w).sent ready.world.sent in
-    let after_is : length (after w.setting (state_of w) p (submit_outcome w p c)).sent ≡ length (state_of w).sent
-    + length (envelopes w.setting.members (submit_outcome w p c).mail) =
-    length-after-sent w.setting (state_of w) p (submit_outcome w p c) in
-    let mail : length (envelopes w.setting.members (submit_outcome w p c).mail) ≡ w.setting.members = submit_number w p c in
-    let number : length (envelopes (length f.network.lines) (All x)) ≡ w.setting.members =
-    number-all (length f.network.lines) x ∙ ready.world.lined in
-    omega arith
+  -- as many envelopes are sent as there are members
+  pub submit_mail : (x : AnyWire ℕ) → length (envelopes w.setting.members (submit_outcome w p c).mail)
+      ≡ length (envelopes (length f.network.lines) (All x))
+  submit_mail x = rw (submit_outcome-is w p c) (length-all w.setting.members (Data (next_message (state_of w).submitted p c)))
+      ∙ sym (number-all (length f.network.lines) x ∙ may.world.lined)
 
-pub submit_mail : (w : Rehearsal) (p : ℕ) (c : Command) (f : Fields) (x : AnyWire ℕ) (k : ℕ) → IsPrepared w (Submit p c) f →
-    k ≡ length (envelopes (length f.network.lines) (All x)) → length (envelopes w.setting.members (submit_outcome w p c).mail) ≡ k
-submit_mail w p c f x k ready number = submit_number w p c ∙ sym (number ∙ number-all (length f.network.lines) x ∙ ready.world.lined)
+  -- the mail fits
+  pub submit_few : (x : AnyWire ℕ) → length f.network.sent + length (envelopes (length f.network.lines) (All x)) ≤ MAX_ENVELOPES
+  submit_few x =
+      let few = submitted_taken.within.few_envelopes in
+      let sent = named_length f.book.values f.network.sent (state_of w).sent may.world.sent in
+      let after_is = length-after-sent w.setting (state_of w) p (submit_outcome w p c) in
+      let mail = submit_mail x in
+      omega arith
 
--- a Submit sends the next message to all
-pub submit_steps : (w : Rehearsal) (p : ℕ) (c : Command) (f new : Fields) (m : Message) → IsPrepared w (Submit p c) f →
-    m ≡ next_message (state_of w).submitted p c → new.seats ≡ set f.seats (p - 1)
-    (record (seat_of f.seats p) { submitted = (seat_of f.seats p).submitted + 1 }) → new.book.values ≡ f.book.values →
-    IsPosted f.network new.network (All (Data m)) → IsWorld (extended w (Submit p c)) new
-submit_steps w p c f new m ready made seats values posted =
-    let keeps = ready.world.seat p ready.in_group in
-    let taken = (submit_taken w p c ready.world.lawful ready.ready.allowed).taken in
-    let who : Member = member (state_of w) p in
-    let named : NamesMail new.book.values (All (Data m)) (All (Data (next_message (state_of w).submitted p c))) =
-    ap (λ x. let mail : AnyMail (Option Value) = All (Data x) in mail) made in
-    refined w (Submit p c) (submit_outcome w p c) f new ready.world taken
-    (rw (submit_outcome-is w p c) (stepped-sending w (Submit p c) (submit (state_of w) p (member (state_of w) p) c) f new
-    (record (seat_of f.seats p) { submitted = (seat_of f.seats p).submitted + 1 }) (All (Data m)) ready.world refl (record {
-      values = values ∙ sym (append-nil f.book.values);
-      seats = seats;
-      keeps = rw values (seat-kept w.setting.members f.book.values p who who (seat_of f.seats p)
-          (record (seat_of f.seats p) { submitted = (seat_of f.seats p).submitted + 1 }) keeps keeps.crashed refl refl refl refl refl refl
-          keeps.instances);
-      submitted = one_more w p c (seat_of f.seats p).submitted (ready.world.submitted p ready.in_group);
-    }) named posted))
+  -- a Submit sends the next message to all
+  pub submit_steps : {new : Fields} (m : Message) → m ≡ next_message (state_of w).submitted p c → new.seats ≡ set f.seats (p - 1)
+      (record (seat_of f.seats p) { submitted = (seat_of f.seats p).submitted + 1 }) → new.book.values ≡ f.book.values →
+      IsPosted f.network new.network (All (Data m)) → IsWorld (extended w (Submit p c)) new
+  submit_steps {new} m made seats values posted =
+      let named : NamesMail new.book.values (All (Data m)) (All (Data (next_message (state_of w).submitted p c))) =
+      ap (λ x. let mail : AnyMail (Option Value) = All (Data x) in mail) made in
+      refined may.world submitted_taken
+      (rw (submit_outcome-is w p c) (stepped-sending (record (seat_of f.seats p) { submitted = (seat_of f.seats p).submitted + 1 })
+      may.world refl (record {
+        values = values ∙ sym (append-nil f.book.values);
+        seats = seats;
+        keeps = rw values (seat-kept may.keeps may.keeps.crashed refl refl refl refl refl refl may.keeps.instances);
+        submitted = one_more w p c (seat_of f.seats p).submitted (may.world.submitted p may.in_group);
+      }) named posted))

@@ -1,5 +1,5 @@
 -- The five steps of a round: what the instances of the member and the network did is the step.
-use Rattle.std.proofs.Common.{◌≡◌, ℕ, ◌+◌, ◌-◌, ◌<◌, ◌≤◌, true, List, [], length, set, refl, ap, sym, ◌∙◌, subst, append-nil, arith, Option}
+use Rattle.std.proofs.Common.{◌≡◌, ℕ, ◌+◌, ◌-◌, ◌<◌, ◌≤◌, true, List, length, set, refl, ap, sym, ◌∙◌, subst, append-nil, arith, Option}
 use Rattle.std.proofs.Common.{Some}
 use Rattle.std.specs.Prelude.{nat_le}
 use Rattle.std.proofs.lemmas.Bool.Decides.{nat_tests}
@@ -12,10 +12,11 @@ use Rattle.ct_model.specs.AtValue.{Wire, Mail, Standing, Turn}
 use Rattle.ct_model.specs.declared.mail.Mail.{Mail as AnyMail}
 use Rattle.ct_model.specs.Wire.{envelopes}
 use Rattle.ct_model.specs.declared.mail.Mail.TheVariants.{Nobody, One, All}
-use Rattle.ct_model.specs.State.{Member, member, submissions}
+use Rattle.ct_model.specs.State.{Member, member}
 use Rattle.ct_model.specs.Next.{row, round_row, turned}
 use Rattle.ct_model.specs.Rehearsal.{Rehearsal, state_of, extended}
-use Rattle.ct_model.proofs.Record.Frame.{submissions-none, length-after-sent}
+use Rattle.ct_model.proofs.Record.Frame.{length-after-sent}
+use Rattle.ct_model.proofs.Record.Allowed.{names-free}
 use Rattle.ct_model.proofs.Record.Limits.{taken_of}
 use Rattle.ct_model.proofs.Record.Taken.{IsTaken}
 use Rattle.ct_model.proofs.Basics.Tests.{and_both}
@@ -26,14 +27,12 @@ use Rattle.ct_instances.specs.Named.{NamesMail}
 use Rattle.ct_instances.specs.Steps.{Stepped}
 use Rattle.ct_instances.proofs.Named.{named_posts, named_length}
 use Rattle.ct_instances.proofs.Turning.{IsTurnedBy, turned-row}
-use Rattle.ct_world.specs.declared.seat.Seat.{Seat}
-use Rattle.ct_world.specs.Seats.{Keeps}
 use Rattle.ct_world.specs.Kept.{Fields, IsWorld, seat_of}
 use Rattle.ct_model.proofs.Record.Addressees.{addressed-step}
-use Rattle.ct_world.proofs.Insides.{IsPrepared}
+use Rattle.ct_world.proofs.Insides.{IsAllowed}
 use Rattle.ct_model.specs.Waiting.{line_change}
 use Rattle.ct_model.specs.Waiting.LineChange.{Leaves}
-use Rattle.ct_world.proofs.Posts.{IsPosted, IsTurnedInto, stepped-sending}
+use Rattle.ct_world.proofs.Posts.{IsPosted, stepped-sending}
 use Rattle.ct_world.proofs.Refines.{refined, seat-kept}
 
 -- the member's instances took a step of a round, with this mail; it is the step of the record
@@ -44,19 +43,19 @@ pub record IsTurned (w : Rehearsal) (step : Step) (f : Fields) (kept : Kept) (ma
       (record (member (state_of w) (actor step)) { current = Some turn.after }) kept
   pub taken : IsTaken w step (turned (member (state_of w) (actor step)) turn)
 
-pub turned_at : (w : Rehearsal) (step : Step) (by : Standing → Option Turn) (f : Fields) (kept : Kept) (mail : AnyMail ℕ) →
-    IsPrepared w step f
+pub turned_at : {w : Rehearsal} {step : Step} (by : Standing → Option Turn) {f : Fields} {kept : Kept} {mail : AnyMail ℕ} →
+    IsAllowed w step f
     → row w.setting (state_of w) (actor step) (member (state_of w) (actor step)) step ≡ round_row (member (state_of w) (actor step)) by
     → IsTurnedBy (member (state_of w) (actor step)) f.book.values by w.setting.members (actor step) (record { after = kept; mail = mail })
     → IsTurned w step f kept mail
-turned_at w step by f kept mail ready is t =
+turned_at {w} {step} by {f} {kept} {mail} may is t =
     let m : Member = member (state_of w) (actor step) in
     let stepped : Stepped = record { after = kept; mail = mail } in
     record {
       turn = t.turn;
       named = t.mail;
       keeps = t.keeps;
-      taken = taken_of w step (turned m t.turn) ready.world.lawful ready.ready.allowed
+      taken = taken_of w step (turned m t.turn) may.world.lawful may.allowed (names-free w step may.allowed)
           (is ∙ turned-row m f.book.values by w.setting.members (actor step) stepped t);
     }
 
@@ -77,10 +76,7 @@ named_addressed values n (One to x) (One q w) h to_member =
 named_addressed values n (One to x) (All w) h to_member = absurd (cc)
 named_addressed values n (All x) mail h to_member = tt
 
-none_more : (k p : ℕ) → k ≡ k + submissions [] p
-none_more k p = let e = submissions-none p in omega arith
-
-module _ (w : Rehearsal) (step : Step) (f : Fields) (kept : Kept) (mail : AnyMail ℕ) (ready : IsPrepared w step f)
+module _ {w : Rehearsal} {step : Step} {f : Fields} {kept : Kept} {mail : AnyMail ℕ} (may : IsAllowed w step f)
     (t : IsTurned w step f kept mail) where
   -- as many envelopes as with the values themselves
   number : length (envelopes w.setting.members mail) ≡ length (envelopes w.setting.members t.turn.mail)
@@ -91,9 +87,8 @@ module _ (w : Rehearsal) (step : Step) (f : Fields) (kept : Kept) (mail : AnyMai
 
   pub turn_addressed : IsAddressed (length f.network.lines) mail
   turn_addressed =
-      let high = ready.within in
-      let some : 0 < w.setting.members = omega (arith, ready.world.seated) in
-      rw ready.world.lined
+      let some : 0 < w.setting.members = omega (arith, may.within, may.world.seated) in
+      rw may.world.lined
       (named_addressed f.book.values w.setting.members mail t.turn.mail t.named
       (λ to x e. addressed-step w.setting (state_of w) (actor step) (member (state_of w) (actor step)) step
       (turned (member (state_of w) (actor step)) t.turn) to x some t.taken.row e))
@@ -102,32 +97,24 @@ module _ (w : Rehearsal) (step : Step) (f : Fields) (kept : Kept) (mail : AnyMai
   turn_few =
       let few = t.taken.within.few_envelopes in
       let grown = length-after-sent w.setting (state_of w) (actor step) (turned (member (state_of w) (actor step)) t.turn) in
-      let sent = named_length f.book.values f.network.sent (state_of w).sent ready.world.sent in
+      let sent = named_length f.book.values f.network.sent (state_of w).sent may.world.sent in
       let more = number in
-      rw ready.world.lined (omega arith)
+      rw may.world.lined (omega arith)
 
-  pub turn_number : (sent : ℕ) → sent ≡ length (envelopes (length f.network.lines) mail) →
+  pub turn_number : {sent : ℕ} → sent ≡ length (envelopes (length f.network.lines) mail) →
       length (envelopes w.setting.members t.turn.mail) ≡ sent
-  turn_number sent e = sym (e ∙ ap (λ n. length (envelopes n mail)) ready.world.lined ∙ number)
+  turn_number e = sym (e ∙ ap (λ n. length (envelopes n mail)) may.world.lined ∙ number)
 
   -- after the post the fields are those of the longer record
-  pub turn_steps : (new : Fields) → line_change step ≡ Leaves →
+  pub turn_steps : {new : Fields} → line_change step ≡ Leaves →
       new.seats ≡ set f.seats (actor step - 1) (record (seat_of f.seats (actor step)) { instances = kept }) →
       new.book.values ≡ f.book.values → IsPosted f.network new.network mail → IsWorld (extended w step) new
-  turn_steps new plain seats values posted =
-      let seat : Seat = record (seat_of f.seats (actor step)) { instances = kept } in
-      let m' : Member = record (member (state_of w) (actor step)) { current = Some t.turn.after } in
-      let keeps : Keeps w.setting.members f.book.values (actor step) m' seat =
-      seat-kept w.setting.members f.book.values (actor step) (member (state_of w) (actor step)) m' (seat_of f.seats (actor step)) seat
-      (ready.world.seat (actor step) ready.in_group)
-      (ready.world.seat (actor step) ready.in_group).crashed refl refl refl refl refl refl t.keeps in
-      let into : IsTurnedInto w step (turned (member (state_of w) (actor step)) t.turn) f new seat = record {
+  turn_steps plain seats values posted =
+      refined may.world t.taken
+      (stepped-sending (record (seat_of f.seats (actor step)) { instances = kept }) may.world plain (record {
         values = values ∙ sym (append-nil f.book.values);
         seats = seats;
-        keeps = rw values keeps;
-        submitted = ready.world.submitted (actor step) ready.in_group
-            ∙ none_more (submissions (state_of w).submitted (actor step)) (actor step);
-      } in
-      refined w step (turned (member (state_of w) (actor step)) t.turn) f new ready.world t.taken
-      (stepped-sending w step (turned (member (state_of w) (actor step)) t.turn) f new seat mail ready.world plain into
+        keeps = rw values (seat-kept may.keeps may.keeps.crashed refl refl refl refl refl refl t.keeps);
+        submitted = may.submitted;
+      })
       (subst (λ vs. NamesMail vs mail t.turn.mail) (sym values) t.named) posted)

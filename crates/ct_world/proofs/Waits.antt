@@ -1,6 +1,9 @@
 -- What waits at a member: its envelope, in the record and in the network.
-use Rattle.std.proofs.Common.{◌≡◌, ℕ, zero, suc, ◌-◌, ◌≤◌, true, List, [], ◌∷◌, length, slice_get, Some, None, option_map, ap, sym, ◌∙◌}
+use Rattle.std.proofs.Common.{◌≡◌, ℕ, zero, suc, ◌-◌, ◌≤◌, Bool, true, false, refl, List, [], ◌∷◌, length, slice_get, Some, None}
+use Rattle.std.proofs.Common.{option_map, ap, sym, ◌∙◌}
 use Rattle.std.proofs.Common.{subst, arith, inl, inr}
+use Rattle.std.specs.Prelude.{◌==◌, Option, is_some, option_and_then}
+use Rattle.std.specs.Option.{option_map_or}
 use Rattle.std.proofs.lemmas.Option.{slice_get-map}
 use Rattle.ct_names.specs.Group.{is_member}
 use Rattle.ct_names.specs.Membership.{IsIn}
@@ -23,11 +26,15 @@ use Rattle.ct_world.specs.declared.world.World.TheInside.{Inside}
 use Rattle.ct_model.proofs.Record.Addressees.{sender_named}
 use Rattle.ct_world.proofs.Insides.{IsKeptIn, view_in, fields_in}
 use Rattle.ct_world.proofs.Receipts.{IsKnown, known_name}
+use Rattle.ct_world.proofs.Shown.{without_value_at}
+use Rattle.ct_model.specs.Mapped.{without_value}
+use Rattle.ct_model.specs.Next.{wire_to, addressed}
+use Rattle.ct_model.specs.When.{when}
 
 -- the member's line
-pub lined_member : (w : Rehearsal) (f : Fields) (p : ℕ) → IsWorld w f → is_member w.setting.members p ≡ true →
+pub lined_member : {w : Rehearsal} {f : Fields} (p : ℕ) → IsWorld w f → is_member w.setting.members p ≡ true →
     is_member (length f.network.lines) p ≡ true
-lined_member w f p world group = ap (λ n. is_member n p) world.lined ∙ group
+lined_member p world group = ap (λ n. is_member n p) world.lined ∙ group
 
 -- an envelope at its serial
 serial_of : {A : Type 0} (list : List A) (k : ℕ) (x : A) → 1 ≤ k → slice_get list (k - 1) ≡ Some x → at_serial list k ≡ Some x
@@ -62,35 +69,59 @@ pub record IsAwaited (w : Rehearsal) (f : Fields) (p k : ℕ) (x : AnyEnvelope �
   pub somebody : NamesSomebody envelope.wire
   pub known : IsKnown (member (state_of w) p).got envelope.wire
 
--- what waits has its envelope
-pub awaited : (w : Rehearsal) (f : Fields) (p k : ℕ) → IsWorld w f → is_waiting w p k ≡ true → (x : AnyEnvelope ℕ) × IsAwaited w f p k x
-awaited w f p k world waits =
-    let e = waiting_letter w p k world.lawful waits in
-    let back = named_back f.book.values f.network.sent (state_of w).sent k e.0 world.sent
-    (serial_of (state_of w).sent k e.0 e.1.positive e.1.there) in (
-      back.0,
-      record {
-        there = back.1;
-        envelope = e.0;
-        letter = e.1;
-        names = back.2;
-        somebody = sender_named w.setting w.steps (state_of w) world.few_members world.lawful.runs e.0.wire
-            (wire_sent (state_of w) (k - 1) e.0 e.1.there);
-        known = known_wire w.setting (state_of w) p e.0.wire world.messages (world.messages.sent (k - 1) e.0 e.1.there);
-      },
-    )
+module _ {w : Rehearsal} {f : Fields} (p k : ℕ) (world : IsWorld w f) (waits : is_waiting w p k ≡ true) where
+  -- what waits has its envelope
+  awaited : (x : AnyEnvelope ℕ) × IsAwaited w f p k x
+  awaited =
+      let e = waiting_letter w p k world.lawful waits in
+      let back = named_back f.book.values f.network.sent (state_of w).sent k e.0 world.sent
+      (serial_of (state_of w).sent k e.0 e.1.positive e.1.there) in (
+        back.0,
+        record {
+          there = back.1;
+          envelope = e.0;
+          letter = e.1;
+          names = back.2;
+          somebody = sender_named w.setting w.steps (state_of w) world.fixed.few_members world.lawful.runs e.0.wire
+              (wire_sent (state_of w) (k - 1) e.0 e.1.there);
+          known = known_wire w.setting (state_of w) p e.0.wire world.messages (world.messages.sent (k - 1) e.0 e.1.there);
+        },
+      )
 
--- so the network has one
-pub awaited-some : (w : Rehearsal) (f : Fields) (p k : ℕ) → IsWorld w f → is_waiting w p k ≡ true → None ≡ at_serial f.network.sent k → ⊥
-awaited-some w f p k world waits none = let a = awaited w f p k world waits in some-none a.0 (none ∙ a.1.there)
+  -- so the network has one
+  pub awaited-some : is_some (at_serial f.network.sent k) ≡ true
+  awaited-some = ap is_some awaited.1.there
 
--- and the one that it has is that
-pub awaited-is : (w : Rehearsal) (f : Fields) (p k : ℕ) (x : AnyEnvelope ℕ) → IsWorld w f → is_waiting w p k ≡ true →
-    Some x ≡ at_serial f.network.sent k → IsAwaited w f p k x
-awaited-is w f p k x world waits is =
-    let a = awaited w f p k world waits in
-    subst (λ y. IsAwaited w f p k y) (some-same a.0 x (sym a.1.there ∙ sym is)) a.1
+  -- and the one that it has is that
+  pub awaited-is : {x : AnyEnvelope ℕ} → at_serial f.network.sent k ≡ Some x → IsAwaited w f p k x
+  awaited-is {x} is = subst (λ y. IsAwaited w f p k y) (some-same awaited.0 x (sym awaited.1.there ∙ is)) awaited.1
 
 -- the world that a call sees
-pub world_seen : (a : Inside) (v : WorldView) → view_in a ≡ v → IsKeptIn a → IsWorld v.rehearsal (fields_in a)
-world_seen a v view kept = subst (λ (x : WorldView). IsWorld x.rehearsal (fields_in a)) view kept.world
+pub world_seen : (a : Inside) {v : WorldView} → view_in a ≡ v → IsKeptIn a → IsWorld v.rehearsal (fields_in a)
+world_seen a view kept = subst (λ (x : WorldView). IsWorld x.rehearsal (fields_in a)) view kept.world
+
+-- a serial was sent to p where its envelope in the network goes to p
+module _ {w : Rehearsal} {f : Fields} (p k : ℕ) (world : IsWorld w f) where
+  pub sent_to : {o : Option (AnyEnvelope ℕ)} → o ≡ at_serial f.network.sent k →
+      is_some (wire_to (state_of w) p k) ≡ option_map_or (λ x. x.to == p) o false
+  unfolding wire_to
+  sent_to is =
+      by_wire (at_serial (state_of w).sent k)
+      ∙ ap (λ o. option_map_or (λ x. x.to == p) o false)
+      (sym (without_value_at f.book.values f.network.sent (state_of w).sent k world.sent))
+      ∙ by_number (at_serial f.network.sent k)
+      ∙ ap (λ o. option_map_or (λ (x : AnyEnvelope ℕ). x.to == p) o false) (sym is)
+    where
+      by_wire : (o : Option Envelope) → is_some (option_and_then (addressed p) o)
+          ≡ option_map_or (λ x. x.to == p) (option_map without_value o) false
+      by_wire None = refl
+      by_wire (Some e) = go (e.to == p)
+        where
+          go : (b : Bool) → is_some (when b e.wire) ≡ b
+          go true = refl
+          go false = refl
+
+      by_number : (o : Option (AnyEnvelope ℕ)) → option_map_or (λ x. x.to == p) (option_map without_value o) false
+          ≡ option_map_or (λ x. x.to == p) o false
+      by_number None = refl
+      by_number (Some x) = refl

@@ -2,7 +2,7 @@
 use Rattle.std.specs.Prelude.{ℕ, List, [], ◌∷◌, ◌++◌, Option, is_none, option_and_then, option_map, find}
 use Rattle.std.specs.Option.{option_to_list}
 use Rattle.ct_model.specs.declared.step.Step.{Step}
-use Rattle.ct_model.specs.declared.step.Step.TheVariants.{Begin, Enter, Choose, Adopt, Suspect, Conclude, Deliver}
+use Rattle.ct_model.specs.declared.step.Step.TheVariants.{Begin, Enter, Choose, Adopt, Suspect, Conclude, Deliver, Follow}
 use Rattle.ct_model.specs.State.{Member}
 use Rattle.ct_model.specs.Next.{own_ballots}
 use Rattle.ct_model.specs.Rehearsal.{Rehearsal}
@@ -18,7 +18,7 @@ best_heard m = option_and_then (λ c. best (own_ballots m c)) m.current
 -- the steps that are tried at member p, in order; Choose only with the best one heard
 abbrev pub candidates : ℕ → Member → List Step
 candidates p m =
-    (Deliver p ∷ Begin p ∷ [])
+    (Deliver p ∷ Follow p ∷ Begin p ∷ [])
     ++ option_to_list (option_map (Choose p) (best_heard m))
     ++ (Adopt p ∷ Conclude p ∷ Enter p ∷ Suspect p ∷ [])
 

@@ -1,18 +1,23 @@
 -- What a world keeps, and how it follows from the record.
 use Rattle.std.specs.Prelude.{◌≡◌, ℕ, ◌+◌, ◌-◌, ◌<◌, ◌≤◌, true, List, length, map, Option, Some, None, Result, MatchResult}
-use Rattle.std.specs.Prelude.{slice_index_or, option_map}
-use Rattle.ct_names.specs.declared.limit.TheConstants.{MAX_CELLS, MAX_MEMBERS}
+use Rattle.std.specs.Prelude.{[], ◌∷◌, is_none, nat_lt, slice_index_or, option_map, take}
+use Rattle.ct_names.specs.declared.limit.Limit.TheVariants.{Instances, Cells}
+use Rattle.ct_names.specs.declared.limit.TheConstants.{MAX_BOUND, MAX_CELLS, MAX_INSTANCES, MAX_MEMBERS}
 use Rattle.ct_names.specs.Group.{is_member}
-use Rattle.ct_names.specs.Batch.{Batch}
 use Rattle.ct_names.specs.Book.{Contents}
 use Rattle.ct_names.specs.Value.{Value}
 use Rattle.ct_names.specs.declared.refusal.Refusal.{Refusal}
+use Rattle.ct_names.specs.declared.refusal.Refusal.TheVariants.{Undecided, Full}
 use Rattle.ct_model.specs.declared.step.Step.{Step}
-use Rattle.ct_model.specs.declared.step.Step.TheVariants.{Receive, Begin, Deliver, Postpone}
+use Rattle.ct_model.specs.declared.step.Step.TheVariants.{Receive, Begin, Deliver, Follow}
+use Rattle.ct_model.specs.Actor.{actor}
 use Rattle.ct_model.specs.declared.envelope.Envelope.{Envelope as AnyEnvelope}
 use Rattle.ct_model.specs.State.{State, member, submissions, at_serial}
+use Rattle.ct_model.specs.Setting.{Setting}
+use Rattle.ct_model.specs.Waiting.{LineChange, line_change}
+use Rattle.ct_model.specs.Waiting.LineChange.{Takes, Defers}
 use Rattle.ct_model.specs.Rehearsal.{Rehearsal, state_of, line_of, extended}
-use Rattle.ct_model.specs.Cause.{cause, presence, first_fault, order}
+use Rattle.ct_model.specs.Cause.{at, cause, presence, first_fault, or_else, order, overflow}
 use Rattle.ct_model.specs.Lawful.{IsLawful, IsPresent}
 use Rattle.ct_model.specs.Order.{Joins}
 use Rattle.ct_model.specs.Knowledge.{KnowsMessages}
@@ -21,9 +26,8 @@ use Rattle.ct_abcast.specs.Cast.{undelivered}
 use Rattle.ct_instances.specs.Kept.{decision_at, has_room_open}
 use Rattle.ct_instances.specs.Named.{value_at, NamesEnvelopes}
 use Rattle.ct_world.specs.declared.prepared.Prepared.{Prepared}
-use Rattle.ct_world.specs.declared.prepared.Prepared.TheVariants as made
 use Rattle.ct_world.specs.declared.seat.Seat.{Seat}
-use Rattle.ct_world.specs.Prepared.{step_in}
+use Rattle.ct_world.specs.Prepared.{step_in, place_in, proposal_in, number_in, batch_in}
 use Rattle.ct_world.specs.Seats.{Keeps, CanReceive, new_seat}
 
 -- the fields of a world besides its record: the network, the values by number, the seats, and how many more steps there
@@ -45,12 +49,18 @@ no_seat = new_seat 0 0
 abbrev pub seat_of : List Seat → ℕ → Seat
 seat_of seats p = slice_index_or seats (p - 1) no_seat
 
+-- what is fixed for a world is within its limits
+pub record IsFixed (s : Setting) (cells : ℕ) : Type 0 where
+  pub few_members : s.members ≤ MAX_MEMBERS
+  pub few_cells : cells ≤ MAX_CELLS
+  pub some_bound : 1 ≤ s.bound
+  pub few_bound : s.bound ≤ MAX_BOUND
+
 -- the fields are those of the record, which is lawful
 pub record IsWorld (w : Rehearsal) (f : Fields) : Type 0 where
   pub lawful : IsLawful w
   pub messages : KnowsMessages w.setting (state_of w)
-  pub few_members : w.setting.members ≤ MAX_MEMBERS
-  pub few_cells : w.cells ≤ MAX_CELLS
+  pub fixed : IsFixed w.setting w.cells
   pub values : f.book.values ≡ values_of (state_of w)
   pub sent : NamesEnvelopes f.book.values f.network.sent (state_of w).sent
   pub lined : length f.network.lines ≡ w.setting.members
@@ -60,22 +70,19 @@ pub record IsWorld (w : Rehearsal) (f : Fields) : Type 0 where
       Keeps w.setting.members f.book.values p (member (state_of w) p) (seat_of f.seats p)
   pub submitted : (p : ℕ) → is_member w.setting.members p ≡ true → (seat_of f.seats p).submitted ≡ submissions (state_of w).submitted p
 
--- the serial stands at this place of p's line
-abbrev pub StandsAt : Rehearsal → ℕ → ℕ → ℕ → Type 0
-StandsAt w p k i = place_of k (line_of w p) ≡ Some i
+-- the place of the serial that the step takes or moves in its line; None where it does neither
+abbrev pub place_at : Rehearsal → LineChange → Option ℕ
+place_at w (Takes p k) = place_of k (line_of w p)
+place_at w (Defers p k) = place_of k (line_of w p)
+place_at w _ = None
 
--- and so does the serial that the step names, if it names one
-abbrev pub IsPlaced : Rehearsal → Step → Option ℕ → Type 0
-IsPlaced w (Receive p k) (Some i) = StandsAt w p k i
-IsPlaced w (Receive p k) None = ⊥
-IsPlaced w (Postpone p k) (Some i) = StandsAt w p k i
-IsPlaced w (Postpone p k) None = ⊥
-IsPlaced w _ place = place ≡ None
+abbrev pub place_named : Rehearsal → Step → Option ℕ
+place_named w step = place_at w (line_change step)
 
--- the step is allowed, and its serial, if it names one, stands at this place of its line
+-- the step is allowed, and its serial stands at this place, if it takes or moves one
 pub record IsAllowedAt (w : Rehearsal) (step : Step) (place : Option ℕ) : Type 0 where
   pub allowed : cause w step ≡ None
-  pub placed : IsPlaced w step place
+  pub placed : place ≡ place_named w step
 
 -- the place where the step is allowed, or why it isn't
 abbrev pub IsFound : Rehearsal → Step → Result (Option ℕ) Refusal → Type 0
@@ -85,55 +92,58 @@ IsFound w step found = MatchResult found (λ place. IsAllowedAt w step place) (�
 abbrev pub IsUnless : Option Refusal → Option ℕ → Result (Option ℕ) Refusal → Type 0
 IsUnless fault place found = MatchResult found (λ i. (i ≡ place) × (fault ≡ None)) (λ refusal. fault ≡ Some refusal)
 
--- the wire of the serial, which stands at this place, can be received by p
-pub record HasReceiveRoom (w : Rehearsal) (f : Fields) (p k i : ℕ) : Type 0 where
-  pub wire : (x : AnyEnvelope ℕ) → at_serial f.network.sent k ≡ Some x → CanReceive (seat_of f.seats p) x.wire
-  pub placed : StandsAt w p k i
+-- p can receive the wire of the serial
+abbrev pub HasReceiveRoom : Fields → ℕ → ℕ → Type 0
+HasReceiveRoom f p k = (x : AnyEnvelope ℕ) → at_serial f.network.sent k ≡ Some x → CanReceive (seat_of f.seats p) x.wire
 
--- p can begin its next instance, with this proposal
-pub record HasBeginRoom (f : Fields) (p : ℕ) (v : Value) : Type 0 where
+-- p can begin its next instance, with the proposal that is kept
+pub record HasBeginRoom (w : Rehearsal) (f : Fields) (p : ℕ) (prepared : Option Prepared) : Type 0 where
+  pub proposal : proposal_in prepared ≡ Some (take w.setting.bound (undelivered (seat_of f.seats p).caster))
   pub book : 0 < f.book.room
   pub entry : has_room_open (seat_of f.seats p).instances ((seat_of f.seats p).instances.last + 1) ≡ true
-  pub proposal : v ≡ undelivered (seat_of f.seats p).caster
 
--- p can deliver the value of this number, the decision of its last instance, and this batch is the one that it posts
-pub record HasDeliverRoom (w : Rehearsal) (f : Fields) (p id : ℕ) (batch : Option Batch) : Type 0 where
-  pub number : decision_at (seat_of f.seats p).instances (seat_of f.seats p).instances.last ≡ Some id
-  pub fits : (seat_of f.seats p).caster.fits_batch ≡ true
-  pub messages : (v : Value) → value_at f.book.values id ≡ Some v → length v ≤ (seat_of f.seats p).caster.room
-  pub posting : Joins (order (state_of w)) (order (state_of (extended w (Deliver p)))) batch
+-- the seat of who takes the step
+abbrev pub seat_for : Fields → Step → Seat
+seat_for f step = seat_of f.seats (actor step)
 
--- the step needs no room of its own, and names no serial
+-- the step can deliver the value of the number that is kept, its member's decision for the instance k, and posts the batch
+-- that is kept
+pub record HasDeliveryRoom (w : Rehearsal) (f : Fields) (step : Step) (k : ℕ) (prepared : Option Prepared) : Type 0 where
+  pub number : number_in prepared ≡ decision_at (seat_for f step).instances k
+  pub fits : (seat_for f step).caster.fits_batch ≡ true
+  pub messages : (id : ℕ) (v : Value) → number_in prepared ≡ Some id → value_at f.book.values id ≡ Some v →
+      length v ≤ (seat_for f step).caster.room
+  pub posting : Joins (order (state_of w)) (order (state_of (extended w step))) (batch_in prepared)
+
+-- the step needs no room of its own
 abbrev pub NeedsNoRoom : Step → Type 0
 NeedsNoRoom (Receive p k) = ⊥
 NeedsNoRoom (Begin p) = ⊥
 NeedsNoRoom (Deliver p) = ⊥
-NeedsNoRoom (Postpone p k) = ⊥
+NeedsNoRoom (Follow p) = ⊥
 NeedsNoRoom _ = Unit {0}
 
--- what was found and made for this step alone
-abbrev pub HasOwnRoom : Rehearsal → Fields → Prepared → Type 0
-HasOwnRoom w f (made.Receive p k i) = HasReceiveRoom w f p k i
-HasOwnRoom w f (made.Begin p v) = HasBeginRoom f p v
-HasOwnRoom w f (made.Deliver p id batch) = HasDeliverRoom w f p id (option_map (λ b. b.value) batch)
-HasOwnRoom w f (made.Postpone p k i) = StandsAt w p k i
-HasOwnRoom w f (made.Other step) = NeedsNoRoom step
+-- what was made for this step alone
+abbrev pub HasOwnRoom : Rehearsal → Fields → Step → Option Prepared → Type 0
+HasOwnRoom w f (Receive p k) prepared = HasReceiveRoom f p k
+HasOwnRoom w f (Begin p) prepared = HasBeginRoom w f p prepared
+HasOwnRoom w f (Deliver p) prepared = HasDeliveryRoom w f (Deliver p) (seat_of f.seats p).instances.last prepared
+HasOwnRoom w f (Follow p) prepared = HasDeliveryRoom w f (Follow p) ((seat_of f.seats p).instances.last + 1) prepared
+HasOwnRoom w f _ prepared = Unit {0}
 
--- the step is allowed, and there is room for it in the record and for what it may send
-pub record IsReady (w : Rehearsal) (step : Step) (f : Fields) : Type 0 where
+-- the step is allowed, its serial stands at the place that is kept, and there is room for the step in the record, for what it
+-- may send, and what it alone needs
+pub record IsReady (w : Rehearsal) (step : Step) (prepared : Option Prepared) (f : Fields) : Type 0 where
   pub allowed : cause w step ≡ None
+  pub placed : place_in prepared ≡ place_named w step
   pub for_step : 0 < f.spare_steps
   pub for_sending : f.network.has_room ≡ true
-
--- and what it alone needs
-pub record HasRoom (w : Rehearsal) (x : Prepared) (f : Fields) : Type 0 where
-  pub ready : IsReady w (step_in x) f
-  pub for_itself : HasOwnRoom w f x
+  pub for_itself : HasOwnRoom w f step prepared
 
 -- the fields of a world
 pub record IsKept (w : Rehearsal) (prepared : Option Prepared) (f : Fields) : Type 0 where
   pub world : IsWorld w f
-  pub ready : (x : Prepared) → prepared ≡ Some x → HasRoom w x f
+  pub ready : (step : Step) → option_map step_in prepared ≡ Some step → IsReady w step prepared f
 
 -- this is the seat of a member of the group
 pub record IsSeatOf (w : Rehearsal) (p : ℕ) (seat : Seat) : Type 0 where
@@ -145,10 +155,19 @@ pub record IsSeatOf (w : Rehearsal) (p : ℕ) (seat : Seat) : Type 0 where
 pub record IsActor (w : Rehearsal) (p : ℕ) (seat : Seat) : Type 0 where
   pub lawful : IsLawful w
   pub messages : KnowsMessages w.setting (state_of w)
-  pub few_members : w.setting.members ≤ MAX_MEMBERS
+  pub fixed : IsFixed w.setting w.cells
   pub present : IsPresent w p
   pub sits : IsSeatOf w p seat
 
 -- the refusal keeps the member from any step
 abbrev pub IsAbsent : Rehearsal → ℕ → Refusal → Type 0
 IsAbsent w p refusal = first_fault (presence w.setting (state_of w) p) ≡ Some refusal
+
+-- why the decision of an instance is not delivered at the seat: it is not there, or a limit would be passed
+abbrev pub delivery_cause : Rehearsal → Seat → ℕ → Option Refusal
+delivery_cause w seat k = or_else (first_fault
+    (at Undecided (is_none (decision_at seat.instances k))
+    ∷ at (Full Instances) (nat_lt MAX_INSTANCES k)
+    ∷ at (Full Cells) (nat_lt w.cells (length seat.caster.batches + 1))
+    ∷ []))
+    (overflow w 0)

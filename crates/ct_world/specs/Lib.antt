@@ -6,3 +6,4 @@ pub mod Posting
 pub mod Replay
 pub mod Driving
 pub mod Decided
+pub mod Standing

@@ -3,35 +3,32 @@ use Rattle.std.specs.Prelude.{◌≡◌, ℕ, zero, suc, ◌<◌, List, length, 
 use Rattle.ct_names.specs.declared.refusal.Refusal.{Refusal}
 use Rattle.ct_names.specs.declared.refusal.Refusal.TheVariants.{OutOfMemory}
 use Rattle.ct_model.specs.declared.step.Step.{Step}
+use Rattle.ct_model.specs.Setting.{Setting}
 use Rattle.ct_model.specs.Rehearsal.{Rehearsal}
 use Rattle.ct_model.specs.Cause.{cause}
 use Rattle.ct_world.specs.Posting.{IsRefusal}
 use Rattle.ct_world.specs.World.{WorldView}
 
--- a world of this group and this many cells after the steps, with nothing prepared
-abbrev pub world_after : ℕ → ℕ → List Step → WorldView
-world_after n cells steps = record {
-  rehearsal = record { setting = record { members = n }; cells = cells; steps = steps };
-  prepared =
-      None;
-}
+-- a world of this setting and this many cells after the steps, with nothing prepared
+abbrev pub world_after : Setting → ℕ → List Step → WorldView
+world_after s cells steps = record { rehearsal = record { setting = s; cells = cells; steps = steps }; prepared = None }
 
 -- the first steps of a list, as a record
-abbrev pub first_steps : ℕ → ℕ → List Step → ℕ → Rehearsal
-first_steps n cells steps k = record { setting = record { members = n }; cells = cells; steps = take k steps }
+abbrev pub first_steps : Setting → ℕ → List Step → ℕ → Rehearsal
+first_steps s cells steps k = record { setting = s; cells = cells; steps = take k steps }
 
 -- each step is allowed after those before it
-abbrev pub AllowsFirst : ℕ → ℕ → List Step → ℕ → Type 0
-AllowsFirst n cells steps count = (k : ℕ) (step : Step) → k < count → slice_get steps k ≡ Some step →
-    cause (first_steps n cells steps k) step ≡ None
+abbrev pub AllowsFirst : Setting → ℕ → List Step → ℕ → Type 0
+AllowsFirst s cells steps count = (k : ℕ) (step : Step) → k < count → slice_get steps k ≡ Some step →
+    cause (first_steps s cells steps k) step ≡ None
 
 -- step i, counted from 0, is refused, and each before it is allowed
-pub record IsRefusedAt (n cells : ℕ) (steps : List Step) (i : ℕ) (refusal : Refusal) : Type 0 where
+pub record IsRefusedAt (s : Setting) (cells : ℕ) (steps : List Step) (i : ℕ) (refusal : Refusal) : Type 0 where
   pub within : i < length steps
-  pub before : AllowsFirst n cells steps i
-  pub refused : (step : Step) → slice_get steps i ≡ Some step → IsRefusal (first_steps n cells steps i) step refusal
+  pub before : AllowsFirst s cells steps i
+  pub refused : (step : Step) → slice_get steps i ≡ Some step → IsRefusal (first_steps s cells steps i) step refusal
 
 -- what a replay answers where it fails: at counts from 1, and is 0 where the world could not be made
-abbrev pub IsFaultOf : ℕ → ℕ → List Step → ℕ → Refusal → Type 0
-IsFaultOf n cells steps zero refusal = refusal ≡ OutOfMemory
-IsFaultOf n cells steps (suc i) refusal = IsRefusedAt n cells steps i refusal
+abbrev pub IsFaultOf : Setting → ℕ → List Step → ℕ → Refusal → Type 0
+IsFaultOf s cells steps zero refusal = refusal ≡ OutOfMemory
+IsFaultOf s cells steps (suc i) refusal = IsRefusedAt s cells steps i refusal

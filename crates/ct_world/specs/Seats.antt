@@ -21,6 +21,7 @@ use Rattle.ct_abcast.specs.Cast.{Cast, batch_of}
 use Rattle.ct_table.specs.Table.{zeros, applied_all, table}
 use Rattle.ct_instances.specs.Kept.{ballots_of, decision_at, has_room}
 use Rattle.ct_instances.specs.Keeping.{KeepsInstances}
+use Rattle.ct_instances.specs.Named.{value_at}
 use Rattle.ct_world.specs.declared.seat.Seat.{Seat}
 
 -- the wire is a message, or a decision, of this name
@@ -132,15 +133,33 @@ pub record HasSameRest (old new : Seat) : Type 0 where
   pub begun : new.caster.instance ≡ old.caster.instance
   pub instances : new.instances ≡ old.instances
 
--- the seat after it delivered the value for its open instance, which is closed
-abbrev pub with_delivery : Seat → Value → Seat
-with_delivery seat v = record seat {
+-- the seat after it delivered the value
+abbrev pub with_batch : Seat → Value → Seat
+with_batch seat v = record seat {
   caster = record seat.caster { batches = seat.caster.batches ++ batch_of seat.caster v ∷ [] };
   table = applied_all seat.table (batch_of seat.caster v);
-  instances = record seat.instances { part = None };
 }
 
--- the batch that the member posts for the value of its last instance, where so many were posted
-abbrev pub batch_to_post : Cast → Value → ℕ → Option Batch
-batch_to_post cast v posted =
-    if nat_lt (length cast.batches) posted then None else Some (record { instance = cast.instance; messages = batch_of cast v })
+-- the same for its open instance, which is closed
+abbrev pub with_delivery : Seat → Value → Seat
+with_delivery seat v = record (with_batch seat v) { instances = record seat.instances { part = None } }
+
+-- the seat once its next instance was begun, and none is open
+abbrev pub with_next : Seat → Seat
+with_next seat = record seat {
+  caster = record seat.caster { instance = seat.caster.instance + 1 };
+  instances = record seat.instances { last = seat.instances.last + 1 };
+}
+
+-- the batch that the member posts for the value of an instance, where so many were posted
+abbrev pub batch_to_post : Cast → ℕ → Value → ℕ → Option Batch
+batch_to_post cast instance v posted =
+    if nat_lt (length cast.batches) posted then None else Some (record { instance = instance; messages = batch_of cast v })
+
+-- the number is that of the decision for the instance, the seat has room to deliver its value, and the batch is the one that
+-- it posts, where so many were posted
+pub record IsDeliverable (values : List Value) (seat : Seat) (instance posted : ℕ) (number : ℕ) (batch : Option Batch) : Type 0 where
+  pub decided : decision_at seat.instances instance ≡ Some number
+  pub fits : seat.caster.fits_batch ≡ true
+  pub messages : (v : Value) → value_at values number ≡ Some v → length v ≤ seat.caster.room
+  pub posting : (v : Value) → value_at values number ≡ Some v → batch ≡ batch_to_post seat.caster instance v posted

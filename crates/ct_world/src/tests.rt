@@ -1,15 +1,19 @@
 use super::*;
 use ct_board::{Board, Watcher};
 use ct_model::{Phase, Step};
-use ct_names::{Command, Group, Instance, Limit, Member, Message, Refusal, Round, Serial};
+use ct_names::{
+    Command, Group, Instance, Limit, MAX_BOUND, Member, Message, Refusal, Round, Serial,
+};
 use fact::{Fact, Plain};
 use std::alloc::Global;
 use std::process::Abort;
 use trial::{Posted, Trial};
 
+mod bounds;
 mod cells;
 mod driving;
 mod fact;
+mod following;
 mod instances;
 mod limits;
 mod network;

@@ -12,7 +12,7 @@ use crate::prepared::Prepared;
 use crate::seat::Seat;
 use crate::seats;
 use ct_model::Step;
-use ct_names::{Book, Group, MAX_CELLS, MAX_STEPS, Refusal};
+use ct_names::{Book, Group, MAX_BOUND, MAX_CELLS, MAX_STEPS, Refusal};
 use ct_network::Network;
 use std::alloc::Global;
 use std::marker::Model;
@@ -22,7 +22,10 @@ mod copying;
 mod crash;
 mod deciding;
 mod deliver;
+mod delivering;
 mod enabling;
+mod follow;
+mod lose;
 mod meeting;
 mod next_local;
 mod outcome;
@@ -30,8 +33,10 @@ mod postpone;
 mod preparing;
 mod reading;
 mod receive;
+mod repeat;
 mod replaying;
 mod round;
+mod standing;
 mod submit;
 
 /// A group's network, its members and their crash marks, and the record of the steps that led there. Every world's
@@ -41,6 +46,7 @@ mod submit;
 pub struct World {
     group: Group,
     cells: u16,
+    bound: u32,
     record: Vec<Step>,
     network: Network,
     // The values proposed, in order.
@@ -61,20 +67,23 @@ impl Model for World {
     ghost use Rattle.ct_world.specs.Kept.{IsKept};
 
     ghost view = { λ a. record {
-      rehearsal = record { setting = record { members = a.group }; cells = a.cells; steps = a.record.items };
+      rehearsal = record { setting = record { members = a.group; bound = a.bound }; cells = a.cells; steps = a.record.items };
       prepared = option_map step_in a.prepared;
     } };
 
-    ghost invariant = { λ a. IsKept (record { setting = record { members = a.group }; cells = a.cells; steps = a.record.items }) a.prepared
+    ghost invariant = { λ a. IsKept
+        (record { setting = record { members = a.group; bound = a.bound }; cells = a.cells; steps = a.record.items }) a.prepared
         (record { network = a.network; book = a.book; seats = a.seats.items; spare_steps = vec_capacity a.record - vec_len a.record }) };
 }
 
 impl World {
-    /// A world without steps, for this group, with this many cells for batches, 0 to 1,024. Only
-    /// memory can be refused.
-    pub fn new(alloc: Global, group: Group, cells: u16) -> Result<World, Refusal>
-        requires { cells ≤ MAX_CELLS }
-        ensures ok { IfOk result (λ world. world ≡ world_after group cells []) }
+    /// A world without steps, for this group, with this many cells for batches, 0 to 1,024, where a member proposes so many
+    /// messages at most, 1 to 1,048,560. Only memory can be refused.
+    pub fn new(alloc: Global, group: Group, cells: u16, bound: u32) -> Result<World, Refusal>
+        requires few { cells ≤ MAX_CELLS }
+        requires some { 1 ≤ bound }
+        requires bounded { bound ≤ MAX_BOUND }
+        ensures ok { IfOk result (λ world. world ≡ world_after (record { members = group; bound = bound }) cells []) }
         ensures err { IfErr result (λ refusal. refusal ≡ Refusal.OutOfMemory) }
     {
         let Ok(network) = Network::new(alloc, group.n()) else {
@@ -86,6 +95,7 @@ impl World {
         Ok(World {
             group,
             cells,
+            bound,
             record: Vec::new(alloc),
             network,
             book: Book::new(alloc),
@@ -110,9 +120,19 @@ impl World {
         self.cells
     }
 
+    /// How many messages a member proposes at most for an instance.
+    pub fn bound(&self) -> u32
+        ensures value { result ≡ self.now.rehearsal.setting.bound }
+        ensures some { 1 ≤ result }
+        ensures few { result ≤ MAX_BOUND }
+    {
+        self.bound
+    }
+
     /// The steps so far, in order: a run, of at most 1,000,000 steps, that passes no limit. Its state is safe: two
     /// decisions of one instance are equal, and some member proposed that value for the instance; of two delivered
-    /// sequences one begins the other, without repeats, only of messages that were submitted.
+    /// sequences one begins the other, without repeats, only of messages that were submitted; no batch has more messages
+    /// than the bound.
     pub fn record(&self) -> &[Step]
         ensures value { result.now ≡ self.now.rehearsal.steps }
         ensures few { length result.now ≤ MAX_STEPS }

@@ -10,7 +10,7 @@ use ct_names::{Instance, Round, ValueId};
 use ct_rounds::{Consensus, Inbox, Wire};
 
 impl Instances {
-    /// The last instance that was opened, 0 before the first.
+    /// The last instance that was begun, 0 before the first.
     pub fn last(&self) -> Instance
         ensures { result ≡ self.now.last }
     {

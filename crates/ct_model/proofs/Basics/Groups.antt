@@ -1,17 +1,17 @@
 -- Members of a group.
-use Rattle.std.proofs.Common.{◌≡◌, ℕ, ◌%◌, ◌<◌, ◌≤◌, true, arith}
+use Rattle.std.proofs.Common.{◌≡◌, ℕ, ◌<◌, true, arith}
 use Rattle.std.proofs.lemmas.Bool.Decides.{nat_tests}
 use Rattle.std.proofs.Math.Nat.{mod-lt}
 use Rattle.ct_names.specs.Group.{is_member, coordinator, IsMember}
 
 -- a member of the group, by its test
 pub member_is : (n p : ℕ) → is_member n p ≡ true → IsMember n p
-member_is n p h = (grind (arith, nat_tests), grind (arith, nat_tests))
+member_is n p h = grind (arith, nat_tests)
 
 -- a group with a member has one, and more
 pub some_member : (n p : ℕ) → IsMember n p → 0 < n
-some_member n p is = let low : 1 ≤ p = is.0 in let high : p ≤ n = is.1 in omega arith
+some_member n p is = omega arith
 
 -- the coordinator of a round is a member
 pub coordinator_is : (n round : ℕ) → 0 < n → IsMember n (coordinator n round)
-coordinator_is n round some = let low : round % n < n = mod-lt round some in (omega arith, omega arith)
+coordinator_is n round some = omega (arith, mod-lt round some)

@@ -1,5 +1,6 @@
 -- What follows where an optional value is there.
 use Rattle.std.proofs.Common.{◌≡◌, Bool, true, false, Option, Some, None, option_map, option_and_then, refl}
+use Rattle.std.specs.Prelude.{is_none, is_some}
 use Rattle.ct_model.specs.When.{when}
 
 pub some-same : {A : Type 0} (x y : A) → Some x ≡ Some y → x ≡ y
@@ -7,6 +8,14 @@ some-same x y e = cc
 
 pub some-none : {A B : Type 0} (x : A) → None ≡ Some x → B
 some-none x e = cc
+
+pub not_none : {A : Type 0} (o : Option A) → is_none o ≡ false → is_some o ≡ true
+not_none None e = absurd (cc)
+not_none (Some x) e = refl
+
+pub when-some : {A : Type 0} (b : Bool) (x : A) → is_some (when b x) ≡ true → b ≡ true
+when-some true x e = refl
+when-some false x e = absurd (cc)
 
 pub when-is : {A : Type 0} (b : Bool) (x y : A) → when b x ≡ Some y → (b ≡ true) × (x ≡ y)
 when-is true x y e = (refl, some-same x y e)

@@ -1,10 +1,9 @@
 -- Choose keeps the facts.
-use Rattle.std.proofs.Common.{◌≡◌, ℕ, true, Some, refl, sym, ap, ◌∙◌, subst, inl, inr, arith, true≢false}
+use Rattle.std.proofs.Common.{◌≡◌, ℕ, true, Some, refl, ap, ◌∙◌, inr, arith}
 use Rattle.ct_names.specs.Group.{coordinator, IsMember, is_majority}
 use Rattle.ct_names.specs.Membership.{IsIn}
 use Rattle.ct_names.specs.Value.{Value}
 use Rattle.ct_names.proofs.Groups.{majority_of}
-use Rattle.ct_names.proofs.Lists
 use Rattle.ct_model.specs.declared.moves.Move.TheVariants as moves
 use Rattle.ct_model.specs.AtValue.{Standing, Turn}
 use Rattle.ct_model.specs.Setting.{Setting}
@@ -15,12 +14,12 @@ use Rattle.ct_model.specs.Phases.{is_gather, chosen}
 use Rattle.ct_model.specs.Next.{Outcome, turn_at, own_ballots, turned, after}
 use Rattle.ct_model.specs.Safe.{IsProposed}
 use Rattle.ct_model.proofs.Consensus.Sent.{Sent, Sent-old, Sent-new}
-use Rattle.ct_model.proofs.Consensus.Facts.{Reached, HasChosen, IsHeard, IsFoundedProp, IsFounded, IsSound, Holds}
+use Rattle.ct_model.proofs.Consensus.Facts.{HasChosen, IsHeard, IsFoundedProp, IsSound, Holds}
 use Rattle.ct_model.proofs.Consensus.Growth.{IsOnward, Grows, IsProposed-grows}
 use Rattle.ct_model.proofs.Consensus.Obligations.{IsAllowed}
 use Rattle.ct_model.proofs.Consensus.Readings
 use Rattle.ct_model.proofs.Steps.Rows.{choose-is}
-use Rattle.ct_model.proofs.Consensus.RoundFacts.{turn-grows, turn-reaches, turn-allowed, standing-reached, gather-no_rest}
+use Rattle.ct_model.proofs.Consensus.RoundFacts.{turn-grows, turn-reaches, turn-allowed, standing-reached}
 
 module _ (s : Setting) (g : State) (p : ℕ) (holds : Holds s g) (is : IsMember s.members p) (c : Standing)
     (open_at : (member g p).current ≡ Some c) (e : Heard Value) where
@@ -47,7 +46,7 @@ module _ (s : Setting) (g : State) (p : ℕ) (holds : Holds s g) (is : IsMember 
   onward = record {
     round = omega arith;
     ts = omega (arith, old.ts_low);
-    chosen = λ r x. elim x [ inl a ↦ inl a | inr a ↦ inr (a.0, refl) ];
+    chosen = λ r x. grind arith;
   }
 
   up : Grows s g h
@@ -68,24 +67,22 @@ module _ (s : Setting) (g : State) (p : ℕ) (holds : Holds s g) (is : IsMember 
     sound : IsSound s h p k t.after
     sound = record {
       ts_low = omega (arith, old.ts_low);
-      started = λ x. old.started (gather-no_rest c.phase gathers);
-      gathers = λ x. absurd (true≢false (sym x));
-      tallies = λ x. absurd (true≢false (sym x));
+      started = λ x. old.started (grind arith);
+      gathers = λ x. absurd (cc);
+      tallies = λ x. absurd (cc);
       proposed = proposed;
       carried = λ some. record { round = c.round; from_ts = omega (arith, old.ts_low); below = omega arith; sent = proposal_sent };
       waits_own = λ x own. proposal_sent;
-      tallies_own = λ x. absurd (true≢false (sym x));
+      tallies_own = λ x. absurd (cc);
     }
 
     others_heard : is_largest got e.ts ≡ true → (q : ℕ) → IsIn q (heard got) → IsHeard h k c.round q e.ts
     others_heard largest q x =
         let f = Readings.heard-in got q x in
-        let sent : Sent g (Est k c.round q f.estimate.value f.estimate.ts) =
-        subst (λ z. Sent g (Est k c.round z f.estimate.value f.estimate.ts)) f.member (estimate_sent f.estimate f.is_in) in
         record {
           value = f.estimate.value;
           its_ts = f.estimate.ts;
-          sent = Sent-old s g p o (Est k c.round q f.estimate.value f.estimate.ts) sent;
+          sent = Sent-old s g p o (Est k c.round q f.estimate.value f.estimate.ts) (rw f.member at (estimate_sent f.estimate f.is_in));
           low = Readings.largest-in got e.ts f.estimate largest f.is_in;
         }
 
@@ -93,11 +90,9 @@ module _ (s : Setting) (g : State) (p : ℕ) (holds : Holds s g) (is : IsMember 
     proposal majority largest =
         let own : coordinator s.members c.round ≡ p = old.gathers gathers in
         record {
-          first = old.started (gather-no_rest c.phase gathers);
-          sender = subst (λ z. IsMember s.members z) (sym own) is;
-          reached =
-              subst (λ z. Reached (member h z) k (HasChosen c.round)) (sym own)
-              (turn-reaches s g p holds is c open_at t onward (HasChosen c.round) (inr (refl, refl)));
+          first = old.started (grind arith);
+          sender = rw own is;
+          reached = rw own (turn-reaches s g p holds is c open_at t onward (HasChosen c.round) (inr (refl, refl)));
           proposed = proposed;
           picked = record {
             heard = heard got;
@@ -118,16 +113,13 @@ module _ (s : Setting) (g : State) (p : ℕ) (holds : Holds s g) (is : IsMember 
         let f = holds.founded (Prop j r w) sent in
         let own : coordinator s.members r ≡ p = ap (λ z. coordinator s.members z) round ∙ old.gathers gathers in
         let past : HasChosen r c = standing-reached (member g p) j (HasChosen r) c ours open_at
-        (subst (λ z. Reached (member g z) j (HasChosen r)) own f.reached) in
-        elim past [
-          | inl a ↦ absurd (omega arith)
-          | inr a ↦ Lists.contrary (is_gather c.phase) gathers a.1
-        ]
+        (rw own at f.reached) in
+        absurd (grind (arith, past))
 
     allowed : is_majority s.members (heard got) ≡ true → is_largest got e.ts ≡ true → IsAllowed s g p o
     allowed majority largest =
         turn-allowed s g p holds is c open_at t onward sound
-        (λ w same. subst (λ z. IsFounded s h z) (sym same) (proposal majority largest))
+        (λ w same. rw same (proposal majority largest))
         first (λ j r later q v ts same sent lt. cc) (λ j r later q v ts same sent lt. cc)
 
 pub allowed-choose : (s : Setting) (g : State) (p : ℕ) → Holds s g → IsMember s.members p → (from : ℕ) → (c : Standing) (t : Turn)
@@ -136,5 +128,5 @@ pub allowed-choose : (s : Setting) (g : State) (p : ℕ) → Holds s g → IsMem
 allowed-choose s g p holds is from c t at x =
     let m : Member = member g p in
     let f = choose-is s.members m.last (own_ballots m c) c from t x in
-    subst (λ z. IsAllowed s g p (turned (member g p) z)) f.gives
+    rw (← f.gives)
     (allowed s g p holds is c at f.best (Readings.estimate_from-in (own_ballots m c) from f.best f.from_is) f.gathers f.majority f.largest)

@@ -1,6 +1,6 @@
 -- Conclude keeps the facts.
-use Rattle.std.proofs.Common.{◌≡◌, ℕ, ◌+◌, true, Some, refl, sym, subst, inl, inr, arith, true≢false}
-use Rattle.ct_names.specs.Group.{IsMember, IsMajority, is_majority}
+use Rattle.std.proofs.Common.{◌≡◌, ℕ, ◌+◌, true, Some, arith}
+use Rattle.ct_names.specs.Group.{IsMember, is_majority}
 use Rattle.ct_names.proofs.Groups.{majority_of}
 use Rattle.ct_model.specs.declared.moves.Move.TheVariants as moves
 use Rattle.ct_model.specs.AtValue.{Wire, Standing, Turn}
@@ -13,7 +13,7 @@ use Rattle.ct_model.specs.Phases.{is_tally, concluded}
 use Rattle.ct_model.specs.Next.{turn_at, own_ballots, turned, after}
 use Rattle.ct_model.specs.Safe.{IsLocked}
 use Rattle.ct_model.proofs.Consensus.Sent.{Carries}
-use Rattle.ct_model.proofs.Consensus.Facts.{IsFounded, IsSound, Holds}
+use Rattle.ct_model.proofs.Consensus.Facts.{IsSound, Holds}
 use Rattle.ct_model.proofs.Consensus.Growth.{IsOnward, Grows, IsProposed-grows, IsCarried-grows, IsLocked-grows, IsMajority-more}
 use Rattle.ct_model.proofs.Consensus.Growth.{acked-more}
 use Rattle.ct_model.proofs.Consensus.Obligations.{IsAllowed}
@@ -47,7 +47,7 @@ module _ (s : Setting) (g : State) (p : ℕ) (holds : Holds s g) (is : IsMember 
   onward = record {
     round = omega arith;
     ts = omega arith;
-    chosen = λ r x. elim x [ inl a ↦ inl a | inr a ↦ inr (a.0, refl) ];
+    chosen = λ r x. grind arith;
   }
 
   up : Grows s g h
@@ -56,13 +56,13 @@ module _ (s : Setting) (g : State) (p : ℕ) (holds : Holds s g) (is : IsMember 
   sound : IsSound s h p k t.after
   sound = record {
     ts_low = old.ts_low;
-    started = λ x. absurd (true≢false x);
-    gathers = λ x. absurd (true≢false (sym x));
-    tallies = λ x. absurd (true≢false (sym x));
+    started = λ x. absurd (cc);
+    gathers = λ x. absurd (cc);
+    tallies = λ x. absurd (cc);
     proposed = IsProposed-grows s g h up k c.estimate old.proposed;
     carried = λ some. IsCarried-grows s g h up k c.ts (c.round + 1) c.estimate (old.carried some);
-    waits_own = λ x own. absurd (true≢false (sym x));
-    tallies_own = λ x. absurd (true≢false (sym x));
+    waits_own = λ x own. absurd (cc);
+    tallies_own = λ x. absurd (cc);
   }
 
   locked : is_majority s.members got.acked ≡ true → IsLocked s g k c.round c.estimate
@@ -71,7 +71,7 @@ module _ (s : Setting) (g : State) (p : ℕ) (holds : Holds s g) (is : IsMember 
     acked =
         IsMajority-more s.members (has_ack (member g p).got k c.round) (has_ack (wires g) k c.round)
         (acked-more (member g p).got (wires g) (λ w x. holds.got p is w x) k c.round)
-        (subst (λ z. IsMajority s.members z) (Readings.acked-of (member g p).got k c.round) (majority_of s.members got.acked majority));
+        (rw (Readings.acked-of (member g p).got k c.round) at (majority_of s.members got.acked majority));
   }
 
   -- what is sent is the decision, and is locked
@@ -81,9 +81,7 @@ module _ (s : Setting) (g : State) (p : ℕ) (holds : Holds s g) (is : IsMember 
   allowed : IsAllowed s g p (turned (member g p) t)
   allowed =
       turn-allowed s g p holds is c open_at t onward sound
-      (λ w x.
-      let r = carried w x in
-      subst (λ z. IsFounded s h z) (sym r.1) (IsLocked-grows s g h up k c.round c.estimate r.0))
+      (λ w x. let r = carried w x in rw r.1 (IsLocked-grows s g h up k c.round c.estimate r.0))
       (λ j r v w x sent. let e : Prop j r v ≡ decision = (carried (Prop j r v) x).1 in cc)
       (λ j r later q v ts x sent lt. let e : Est j later q v ts ≡ decision = (carried (Est j later q v ts) x).1 in cc)
       (λ j r later q v ts x sent lt. let e : Ack j r q ≡ decision = (carried (Ack j r q) x).1 in cc)
@@ -94,4 +92,4 @@ pub allowed-conclude : (s : Setting) (g : State) (p : ℕ) → Holds s g → IsM
 allowed-conclude s g p holds is c t at x =
     let m : Member = member g p in
     let f = conclude-is s.members m.last (own_ballots m c) c t x in
-    subst (λ z. IsAllowed s g p (turned (member g p) z)) f.gives (allowed s g p holds is c at f.tallies)
+    rw (← f.gives) (allowed s g p holds is c at f.tallies)

@@ -1,23 +1,22 @@
 -- Enter keeps the facts.
-use Rattle.std.proofs.Common.{◌≡◌, ℕ, ◌+◌, ◌≤◌, ◌<◌, ◌==◌, Some, sym, subst, inl, inr, arith, eqb-true, eq-eqb}
-use Rattle.ct_names.specs.Group.{coordinator, IsMember}
+use Rattle.std.proofs.Common.{◌≡◌, ℕ, ◌+◌, ◌≤◌, ◌<◌, Some, inl, inr, arith}
+use Rattle.std.proofs.lemmas.Bool.Decides.{nat_tests}
+use Rattle.ct_names.specs.Group.{IsMember}
 use Rattle.ct_names.specs.Value.{Value}
-use Rattle.ct_names.proofs.Lists
 use Rattle.ct_model.specs.declared.moves.Move.TheVariants as moves
 use Rattle.ct_model.specs.AtValue.{Standing, Turn}
 use Rattle.ct_model.specs.Setting.{Setting}
-use Rattle.ct_model.specs.declared.wire.Wire.TheVariants.{Est, Ack}
+use Rattle.ct_model.specs.declared.wire.Wire.TheVariants.{Est, Prop, Ack}
 use Rattle.ct_model.specs.State.{State, Member, member}
 use Rattle.ct_model.specs.Received.{decided}
-use Rattle.ct_model.specs.Phases.{is_tally, entered}
+use Rattle.ct_model.specs.Phases.{entered}
 use Rattle.ct_model.specs.Next.{turn_at, turned, after}
 use Rattle.ct_model.proofs.Consensus.Sent.{Sent}
-use Rattle.ct_model.proofs.Consensus.Facts.{Reached, HasRound, HasTs, IsCarried, IsFoundedEst, IsFounded, IsSound, Holds}
+use Rattle.ct_model.proofs.Consensus.Facts.{HasRound, HasTs, IsFoundedEst, IsSound, Holds}
 use Rattle.ct_model.proofs.Consensus.Growth.{IsOnward, Grows, IsProposed-grows, IsCarried-grows}
 use Rattle.ct_model.proofs.Consensus.Obligations.{IsAllowed}
 use Rattle.ct_model.proofs.Steps.Rows.{enter-is}
-use Rattle.ct_model.proofs.Consensus.RoundFacts.{turn-grows, turn-reaches, turn-allowed, standing-reached, first-gather, first-wait}
-use Rattle.ct_model.proofs.Consensus.RoundFacts.{first-no_tally}
+use Rattle.ct_model.proofs.Consensus.RoundFacts.{turn-grows, turn-reaches, turn-allowed, standing-reached}
 
 module _ (s : Setting) (g : State) (p : ℕ) (holds : Holds s g) (is : IsMember s.members p) (c : Standing)
     (open_at : (member g p).current ≡ Some c) where
@@ -44,24 +43,18 @@ module _ (s : Setting) (g : State) (p : ℕ) (holds : Holds s g) (is : IsMember 
   up : Grows s g h
   up = turn-grows s g p holds is c open_at t onward
 
-  carried : 0 < c.ts → IsCarried h k c.ts (c.round + 1) c.estimate
-  carried some = IsCarried-grows s g h up k c.ts (c.round + 1) c.estimate (old.carried some)
-
-  further : (bound : ℕ) → IsCarried h k c.ts bound c.estimate → IsCarried h k c.ts (bound + 1) c.estimate
-  further bound f = record { round = f.round; from_ts = f.from_ts; below = let b : f.round < bound = f.below in omega arith; sent = f.sent }
-
   sound : IsSound s h p k t.after
   sound = record {
-    ts_low = let l : c.ts ≤ c.round = old.ts_low in omega arith;
+    ts_low = omega (arith, old.ts_low);
     started = λ x. omega arith;
-    gathers = λ x. eqb-true (coordinator s.members (c.round + 1)) p (first-gather (coordinator s.members (c.round + 1) == p) x);
-    tallies = λ x. Lists.contrary (is_tally t.after.phase) x (first-no_tally (coordinator s.members (c.round + 1) == p));
+    gathers = λ x. grind (arith, nat_tests);
+    tallies = λ x. grind arith;
     proposed = IsProposed-grows s g h up k c.estimate old.proposed;
-    carried = λ some. further (c.round + 1) (carried some);
-    waits_own = λ x own.
-        Lists.contrary (coordinator s.members (c.round + 1) == p) (eq-eqb (coordinator s.members (c.round + 1)) p own)
-        (first-wait (coordinator s.members (c.round + 1) == p) x);
-    tallies_own = λ x. Lists.contrary (is_tally t.after.phase) x (first-no_tally (coordinator s.members (c.round + 1) == p));
+    carried = λ some.
+        let f = old.carried some in
+        record { round = f.round; from_ts = f.from_ts; below = omega (arith, f.below); sent = up.sent (Prop k f.round c.estimate) f.sent };
+    waits_own = λ x own. absurd (grind (arith, nat_tests));
+    tallies_own = λ x. absurd (grind arith);
   }
 
   estimate : IsFoundedEst s h k (c.round + 1) p c.estimate c.ts
@@ -69,7 +62,7 @@ module _ (s : Setting) (g : State) (p : ℕ) (holds : Holds s g) (is : IsMember 
     sender = is;
     reached = turn-reaches s g p holds is c open_at t onward (HasRound (c.round + 1)) (omega arith);
     proposed = IsProposed-grows s g h up k c.estimate old.proposed;
-    carried = carried;
+    carried = λ some. IsCarried-grows s g h up k c.ts (c.round + 1) c.estimate (old.carried some);
   }
 
   after_ack : (j r later q : ℕ) (v : Value) (ts : ℕ) → Est j later q v ts ≡ Est k (c.round + 1) p c.estimate c.ts → Sent g (Ack j r q) →
@@ -80,12 +73,12 @@ module _ (s : Setting) (g : State) (p : ℕ) (holds : Holds s g) (is : IsMember 
       let its : ts ≡ c.ts = cc in
       let f = holds.founded (Ack j r q) sent in
       let low : r ≤ c.ts = standing-reached (member g p) j (HasTs r) c ours open_at
-      (subst (λ z. Reached (member g z) j (HasTs r)) here f.reached) in
+      (rw here at f.reached) in
       omega arith
 
   allowed : IsAllowed s g p (turned (member g p) t)
   allowed =
-      turn-allowed s g p holds is c open_at t onward sound (λ w same. subst (λ z. IsFounded s h z) (sym same) estimate)
+      turn-allowed s g p holds is c open_at t onward sound (λ w same. rw same estimate)
       (λ j r v w same sent. cc) after_ack (λ j r later q v ts same sent lt. cc)
 
 pub allowed-enter : (s : Setting) (g : State) (p : ℕ) → Holds s g → IsMember s.members p → (c : Standing) (t : Turn)
@@ -94,4 +87,4 @@ pub allowed-enter : (s : Setting) (g : State) (p : ℕ) → Holds s g → IsMemb
 allowed-enter s g p holds is c t at x =
     let m : Member = member g p in
     let f = enter-is s.members p m.last (decided m.got m.last) c t x in
-    subst (λ z. IsAllowed s g p (turned (member g p) z)) f.gives (allowed s g p holds is c at)
+    rw (← f.gives) (allowed s g p holds is c at)

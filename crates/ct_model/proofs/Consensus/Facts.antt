@@ -107,5 +107,4 @@ pub record Holds (s : Setting) (g : State) : Type 0 where
 
 -- the place of a member among the members
 pub in_place : (s : Setting) (g : State) (p : ℕ) → Holds s g → IsMember s.members p → p - 1 < length g.members
-in_place s g p holds is = let size : length g.members ≡ s.members = holds.size in let low : 1 ≤ p = is.0 in
-    let high : p ≤ s.members = is.1 in omega arith
+in_place s g p holds is = omega (arith, holds.size)

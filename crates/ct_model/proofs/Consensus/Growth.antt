@@ -1,5 +1,5 @@
 -- What is founded and sound stays so as the state grows.
-use Rattle.std.proofs.Common.{◌≡◌, ℕ, ◌+◌, ◌≤◌, Bool, true, false, cond, List, [], ◌∷◌, length, filter, Some, None, refl, sym, ◌∙◌, subst}
+use Rattle.std.proofs.Common.{◌≡◌, ℕ, ◌+◌, ◌≤◌, Bool, true, List, [], ◌∷◌, length, filter, Some, None, sym, ◌∙◌}
 use Rattle.std.proofs.Common.{arith, le_trans}
 use Rattle.ct_names.specs.Group.{coordinator, IsMember, IsMajority, everyone}
 use Rattle.ct_names.specs.Membership.{IsIn}
@@ -36,7 +36,7 @@ Reached-advance m o k P keep (stays l e) (earlier h) = earlier (omega arith)
 Reached-advance m o k P keep (stays l e) (now h at) = now (h ∙ sym l) (λ c is. at c (sym e ∙ is))
 Reached-advance m o k P keep (turns l c d is then on) (earlier h) = earlier (omega arith)
 Reached-advance m o k P keep (turns l c d is then on) (now h at) =
-    now (h ∙ sym l) (λ x isx. let e : d ≡ x = some-same d x (sym then ∙ isx) in subst P e (keep c d on (at c is)))
+    now (h ∙ sym l) (λ x isx. rw (some-same d x (sym then ∙ isx)) at (keep c d on (at c is)))
 Reached-advance m o k P keep (opens l) (earlier h) = earlier (omega arith)
 Reached-advance m o k P keep (opens l) (now h at) = earlier (omega arith)
 Reached-advance m o k P keep (closes l e) (earlier h) = earlier (omega arith)
@@ -49,18 +49,10 @@ pub record Grows (s : Setting) (g h : State) : Type 0 where
   pub advance : (q : ℕ) → IsMember s.members q → Advance (member g q) (member h q)
 
 -- more members pass a weaker test
-filter-more_cases : (one other : ℕ → Bool) (x : ℕ) (xs : List ℕ) (a b : Bool) → (a ≡ true → b ≡ true) →
-    length (filter one xs) ≤ length (filter other xs) → length (cond a (x ∷ filter one xs) (filter one xs))
-    ≤ length (cond b (x ∷ filter other xs) (filter other xs))
-filter-more_cases one other x xs true true h k = omega arith
-filter-more_cases one other x xs true false h k = Lists.contrary false (h refl) refl
-filter-more_cases one other x xs false true h k = omega arith
-filter-more_cases one other x xs false false h k = k
-
 filter-more : (one other : ℕ → Bool) → ((p : ℕ) → one p ≡ true → other p ≡ true) → (xs : List ℕ) →
     length (filter one xs) ≤ length (filter other xs)
 filter-more one other h [] = omega arith
-filter-more one other h (x ∷ xs) = filter-more_cases one other x xs (one x) (other x) (h x) (filter-more one other h xs)
+filter-more one other h (x ∷ xs) = grind (arith, h x, filter-more one other h xs)
 
 pub IsMajority-more : (n : ℕ) (one other : ℕ → Bool) → ((p : ℕ) → one p ≡ true → other p ≡ true) → IsMajority n (filter one everyone) →
     IsMajority n (filter other everyone)
@@ -78,13 +70,12 @@ module _ (s : Setting) (g h : State) (up : Grows s g h) where
   IsProposed-grows k v f = record { by = f.by; is_in = up.proposals (record { member = f.by; instance = k; value = v }) f.is_in }
 
   pub IsCarried-grows : (k ts bound : ℕ) (v : Value) → IsCarried g k ts bound v → IsCarried h k ts bound v
-  IsCarried-grows k ts bound v f = record {
-    round = f.round;
-    from_ts = f.from_ts;
-    below = f.below;
-    sent =
-        up.sent (Prop k f.round v) f.sent;
-  }
+  IsCarried-grows k ts bound v f =
+      record { round = f.round; from_ts = f.from_ts; below = f.below; sent = up.sent (Prop k f.round v) f.sent }
+
+  Reached-grows : (q k : ℕ) (P : Standing → Type 0) → ((c d : Standing) → IsOnward c d → P c → P d) → IsMember s.members q →
+      Reached (member g q) k P → Reached (member h q) k P
+  Reached-grows q k P keep is = Reached-advance (member g q) (member h q) k P keep (up.advance q is)
 
   IsHeard-grows : (k r q ts : ℕ) → IsHeard g k r q ts → IsHeard h k r q ts
   IsHeard-grows k r q ts f = record { value = f.value; its_ts = f.its_ts; sent = up.sent (Est k r q f.value f.its_ts) f.sent; low = f.low }
@@ -110,24 +101,21 @@ module _ (s : Setting) (g h : State) (up : Grows s g h) where
   IsFounded-grows (Data m) f = tt
   IsFounded-grows (Est k r q v ts) f = record {
     sender = f.sender;
-    reached = Reached-advance (member g q) (member h q) k (HasRound r) (λ c d on x. omega (arith, on.round)) (up.advance q f.sender)
-        f.reached;
+    reached = Reached-grows q k (HasRound r) (λ c d on x. omega (arith, on.round)) f.sender f.reached;
     proposed = IsProposed-grows k v f.proposed;
     carried = λ pos. IsCarried-grows k ts r v (f.carried pos);
   }
   IsFounded-grows (Prop k r v) f = record {
     first = f.first;
     sender = f.sender;
-    reached =
-        Reached-advance (member g (coordinator s.members r)) (member h (coordinator s.members r)) k (HasChosen r)
-        (λ c d on x. on.chosen r x) (up.advance (coordinator s.members r) f.sender) f.reached;
+    reached = Reached-grows (coordinator s.members r) k (HasChosen r) (λ c d on. on.chosen r) f.sender f.reached;
     proposed = IsProposed-grows k v f.proposed;
     picked = IsPicked-grows k r v f.picked;
   }
   IsFounded-grows (Ack k r q) f = record {
     first = f.first;
     sender = f.sender;
-    reached = Reached-advance (member g q) (member h q) k (HasTs r) (λ c d on x. omega (arith, on.ts)) (up.advance q f.sender) f.reached;
+    reached = Reached-grows q k (HasTs r) (λ c d on x. omega (arith, on.ts)) f.sender f.reached;
   }
   IsFounded-grows (Nack k r q) f = tt
   IsFounded-grows (Dec k r v) f = IsLocked-grows k r v f

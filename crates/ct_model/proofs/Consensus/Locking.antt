@@ -1,5 +1,6 @@
 -- What is locked stays so, decisions agree, and a decision was proposed.
-use Rattle.std.proofs.Common.{◌≡◌, ℕ, suc, zero, ◌≤◌, ◌<◌, List, Some, sym, subst, inl, inr, ◌⊎◌, arith}
+use Rattle.std.proofs.Common.{◌≡◌, ℕ, suc, zero, ◌≤◌, ◌<◌, List, Some, sym, inl, inr, arith}
+use Rattle.std.proofs.lemmas.Bool.{cases_lt}
 use Rattle.ct_names.specs.Group.{everyone, IsMember, IsSetOf, IsShared}
 use Rattle.ct_names.specs.Membership.{IsIn}
 use Rattle.ct_names.specs.Value.{Value}
@@ -41,7 +42,7 @@ module _ (s : Setting) (g : State) (holds : Holds s g) (k r : ℕ) (v : Value) (
   locked-below zero later w lt le h = absurd (omega arith)
   locked-below (suc bound) later w lt le h =
       elim (p_or_other r later) [
-        | inl e ↦ holds.one_proposal k later w v h (subst (λ z. Sent g (Prop k z v)) e lock.proposed)
+        | inl e ↦ holds.one_proposal k later w v h (rw e at lock.proposed)
         | inr ne ↦
             let prop : IsFoundedProp s g k later w = holds.founded (Prop k later w) h in
             let pick : IsPicked s g k later w = prop.picked in
@@ -63,14 +64,6 @@ module _ (s : Setting) (g : State) (holds : Holds s g) (k r : ℕ) (v : Value) (
   locked_for_good : (later : ℕ) (w : Value) → r ≤ later → Sent g (Prop k later w) → w ≡ v
   locked_for_good later w le h = locked-below (suc later) later w (omega arith) le h
 
-agreed_locks : (s : Setting) (g : State) → Holds s g → (k r other : ℕ) (v w : Value) → IsLocked s g k r v → IsLocked s g k other w →
-    (r ≤ other) ⊎ (other ≤ r) → v ≡ w
-agreed_locks s g holds k r other v w a b (inl le) = sym (locked_for_good s g holds k r v a other w le b.proposed)
-agreed_locks s g holds k r other v w a b (inr le) = locked_for_good s g holds k other w b r v le a.proposed
-
-either_way : (a b : ℕ) → (a ≤ b) ⊎ (b ≤ a)
-either_way a b = grind arith
-
 -- a decision is locked in some round
 pub record IsSettled (s : Setting) (g : State) (k : ℕ) (v : Value) : Type 0 where
   pub round : ℕ
@@ -86,7 +79,10 @@ pub agreed : (s : Setting) (g : State) → Holds s g → (p q k : ℕ) (v w : Va
 agreed s g holds p q k v w isp isq a b =
     let x = settled s g holds p k v isp a in
     let y = settled s g holds q k w isq b in
-    agreed_locks s g holds k x.round y.round v w x.lock y.lock (either_way x.round y.round)
+    elim (cases_lt x.round y.round) [
+      | inl lt ↦ sym (locked_for_good s g holds k x.round v x.lock y.round w (omega arith) y.lock.proposed)
+      | inr le ↦ locked_for_good s g holds k y.round w y.lock x.round v le x.lock.proposed
+    ]
 
 pub decided_proposed : (s : Setting) (g : State) → Holds s g → (p k : ℕ) (v : Value) → IsMember s.members p → HasDecided g p k v →
     IsProposed g k v
@@ -99,15 +95,15 @@ decided_proposed s g holds p k v is h =
 
 pub locked : (s : Setting) (steps : List Step) (g : State) → run s steps ≡ Some g → (instance round later : ℕ) (v w : Value) →
     IsLocked s g instance round v → round ≤ later → IsIn (Prop instance later w) (wires g) → w ≡ v
-locked s steps g e instance round later v w lock le h = locked_for_good s g (Holds-run s steps g e) instance round v lock later w le h
+locked s steps g e instance round later v w lock = locked_for_good s g (Holds-run s steps g e) instance round v lock later w
 
 pub agreement : (s : Setting) (steps : List Step) (g : State) → run s steps ≡ Some g → (p q instance : ℕ) (v w : Value) →
     IsMember s.members p → IsMember s.members q → HasDecided g p instance v → HasDecided g q instance w → v ≡ w
-agreement s steps g e p q instance v w isp isq a b = agreed s g (Holds-run s steps g e) p q instance v w isp isq a b
+agreement s steps g e = agreed s g (Holds-run s steps g e)
 
 pub validity : (s : Setting) (steps : List Step) (g : State) → run s steps ≡ Some g → (p instance : ℕ) (v : Value) → IsMember s.members p →
     HasDecided g p instance v → IsProposed g instance v
-validity s steps g e p instance v is h = decided_proposed s g (Holds-run s steps g e) p instance v is h
+validity s steps g e = decided_proposed s g (Holds-run s steps g e)
 
 -- decisions are agreed on, and were proposed
 pub agreed-run : (s : Setting) (steps : List Step) (g : State) → run s steps ≡ Some g → IsAgreed s g

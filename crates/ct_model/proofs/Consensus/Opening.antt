@@ -1,4 +1,4 @@
--- Begin and Deliver keep the facts.
+-- Begin, Deliver and Follow keep the facts.
 use Rattle.std.proofs.Common.{ℕ, ◌+◌, refl, sym, subst, inl, arith, true≢false}
 use Rattle.ct_names.specs.Group.{IsMember}
 use Rattle.ct_names.specs.Membership.{IsIn}
@@ -8,8 +8,9 @@ use Rattle.ct_model.specs.declared.phase.Phase.TheVariants.{Rest}
 use Rattle.ct_model.specs.AtValue.{Standing}
 use Rattle.ct_model.specs.Setting.{Setting}
 use Rattle.ct_model.specs.State.{State, Member, Proposal, member}
-use Rattle.ct_model.specs.Next.{Outcome, begin, deliver, undelivered, after}
+use Rattle.ct_model.specs.Next.{Outcome, begin, close, deliver, follow, proposed, after}
 use Rattle.ct_model.proofs.Consensus.Facts.{IsSound, Holds}
+use Rattle.ct_model.proofs.Consensus.Growth.{Advance}
 use Rattle.ct_model.proofs.Consensus.Growth.Advance.{opens, closes}
 use Rattle.ct_model.proofs.Consensus.Obligations.{IsAllowed}
 use Rattle.ct_model.proofs.Basics.Options.{some-same, some-none}
@@ -24,10 +25,10 @@ module _ (s : Setting) (g : State) (p : ℕ) (holds : Holds s g) (is : IsMember 
 
   -- the outcome of Begin, and the standing in the new instance
   abbrev b : Outcome
-  b = begin p m
+  b = begin s p m
 
   abbrev fresh : Standing
-  fresh = record { round = 0; phase = Rest; estimate = undelivered m; ts = 0 }
+  fresh = record { round = 0; phase = Rest; estimate = proposed s m; ts = 0 }
 
   begun_sound : IsSound s (after s g p b) p (m.last + 1) fresh
   begun_sound = record {
@@ -37,7 +38,7 @@ module _ (s : Setting) (g : State) (p : ℕ) (holds : Holds s g) (is : IsMember 
     tallies = λ x. absurd (true≢false (sym x));
     proposed = record {
       by = p;
-      is_in = proposals-new s g p b (record { member = p; instance = m.last + 1; value = undelivered m }) (inl refl);
+      is_in = proposals-new s g p b (record { member = p; instance = m.last + 1; value = proposed s m }) (inl refl);
     };
     carried = λ some. absurd (omega arith);
     waits_own = λ x own. absurd (true≢false (sym x));
@@ -55,9 +56,10 @@ module _ (s : Setting) (g : State) (p : ℕ) (holds : Holds s g) (is : IsMember 
     ack_after_estimate = λ j r later q v ts x sent lt. absurd x;
   }
 
-  pub allowed-deliver : (v : Value) → IsAllowed s g p (deliver m v)
-  allowed-deliver v = record {
-    advance = closes refl refl;
+  -- the member closes an instance, and moves on so
+  allowed-close : (k : ℕ) (v : Value) → Advance m (close m k v).member → IsAllowed s g p (close m k v)
+  allowed-close k v advance = record {
+    advance = advance;
     got = λ w x. holds.got p is w x;
     sound = λ d x. some-none d x;
     founded = λ w x. absurd x;
@@ -65,3 +67,9 @@ module _ (s : Setting) (g : State) (p : ℕ) (holds : Holds s g) (is : IsMember 
     estimate_after_ack = λ j r later q v ts x sent lt. absurd x;
     ack_after_estimate = λ j r later q v ts x sent lt. absurd x;
   }
+
+  pub allowed-deliver : (v : Value) → IsAllowed s g p (deliver m v)
+  allowed-deliver v = allowed-close m.last v (closes refl refl)
+
+  pub allowed-follow : (v : Value) → IsAllowed s g p (follow m v)
+  allowed-follow v = allowed-close (m.last + 1) v (opens refl)

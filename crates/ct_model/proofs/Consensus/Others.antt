@@ -45,8 +45,7 @@ pub allowed-submit : (s : Setting) (g : State) (p : ℕ) → Holds s g → IsMem
     → IsAllowed s g p (submit g p (member g p) c)
 allowed-submit s g p holds is c =
     allowed-silent s g p (submit g p (member g p) c) holds is refl refl (λ w x. holds.got p is w x)
-    (λ w same. subst (λ x. IsApart x) (sym same) tt)
-    (λ w same. subst (λ x. IsFounded s (after s g p (submit g p (member g p) c)) x) (sym same) tt)
+    (λ w same. rw same tt) (λ w same. rw same tt)
 
 relayed_apart : (s : Setting) (p : ℕ) (got : List Wire) (w : Wire) → is_relayed s p got w ≡ true → IsApart w
 unfolding is_relayed
@@ -59,7 +58,7 @@ got-more : (g : State) (got : List Wire) (w : Wire) → ((x : Wire) → IsIn x g
     IsIn x (got ++ w ∷ []) → Sent g x
 got-more g got w old new x h = elim (Lists.IsIn-append_cases x got (w ∷ []) h) [
   | inl a ↦ old x a
-  | inr b ↦ elim b [ inl e ↦ subst (λ z. Sent g z) (sym e) new | inr never ↦ absurd never ]
+  | inr b ↦ elim b [ inl e ↦ rw e new | inr never ↦ absurd never ]
 ]
 
 pub allowed-receive : (s : Setting) (g : State) (p : ℕ) → Holds s g → IsMember s.members p → (w : Wire) → Sent g w
@@ -69,13 +68,10 @@ allowed-receive s g p holds is w sent =
     let up : Grows s g (after s g p u) = grows s g p u holds is (stays refl refl) in
     allowed-silent s g p u holds is refl refl
     (got-more g (member g p).got w (λ x h. holds.got p is x h) sent)
+    (λ x c. let r = carried-if (is_relayed s p (member g p).got w) w x c in rw r.1 (relayed_apart s p (member g p).got w r.0))
     (λ x c.
     let r = carried-if (is_relayed s p (member g p).got w) w x c in
-    subst (λ z. IsApart z) (sym r.1) (relayed_apart s p (member g p).got w r.0))
-    (λ x c.
-    let r = carried-if (is_relayed s p (member g p).got w) w x c in
-    subst (λ z. IsFounded s (after s g p u) z) (sym r.1)
-    (IsFounded-grows s g (after s g p u) up w (holds.founded w sent)))
+    rw r.1 (IsFounded-grows s g (after s g p u) up w (holds.founded w sent)))
 
 pub allowed-mark : (s : Setting) (g : State) (p : ℕ) → Holds s g → IsMember s.members p → (crashed : Bool)
     → IsAllowed s g p (plain (record (member g p) { crashed = crashed }) Nobody)

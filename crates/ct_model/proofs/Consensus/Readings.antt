@@ -1,7 +1,8 @@
 -- What is read off the wires that were got was among them.
-use Rattle.std.proofs.Common.{◌≡◌, ℕ, ◌≤◌, Bool, true, false, cond, ◌&&◌, ◌==◌, nat_le, List, [], ◌∷◌, filter_map, map, Option, Some, None}
-use Rattle.std.proofs.Common.{refl, sym, ap, ◌∙◌, subst, inl, inr, eqb-true, eq-eqb, leb-true, true≢false}
+use Rattle.std.proofs.Common.{◌≡◌, ℕ, ◌≤◌, true, ◌==◌, nat_le, List, [], ◌∷◌, filter_map, map, Option, Some, None}
+use Rattle.std.proofs.Common.{refl, sym, inl, inr, eqb-true, leb-true, arith}
 use Rattle.std.specs.List.{cons_option}
+use Rattle.std.proofs.lemmas.Bool.Decides.{nat_tests}
 use Rattle.ct_names.specs.Group.{everyone}
 use Rattle.ct_names.specs.Membership.{IsIn, IsWithoutRepeats}
 use Rattle.ct_names.specs.Message.{Message}
@@ -19,20 +20,15 @@ in-head : {A : Type 0} (xs : List A) (x : A) → head xs ≡ Some x → IsIn x x
 in-head [] x e = some-none x e
 in-head (y ∷ xs) x e = inl (sym (some-same y x e))
 
--- a test picks a value
-picked : {A : Type 0} (b : Bool) (x y : A) → cond b (Some x) None ≡ Some y → (b ≡ true) × (x ≡ y)
-picked true x y e = (refl, some-same x y e)
-picked false x y e = some-none y e
-
 message-wire : (w : Wire) (m : Message) → message_of w ≡ Some m → w ≡ Data m
-message-wire (Data x) m e = ap Data (some-same x m e)
+message-wire (Data x) m e = cc
 message-wire _ m e = some-none m e
 
 pub received-got : (got : List Wire) (m : Message) → IsIn m (received got) → IsIn (Data m) got
 unfolding received
 received-got got m h =
     let t = Lists.from_filter_map message_of m got (Values.first_occurrences-from (filter_map message_of got) m h) in
-    subst (λ w. IsIn w got) (message-wire t.source m t.gives) t.is_in
+    rw (message-wire t.source m t.gives) at t.is_in
 
 pub got-received : (got : List Wire) (m : Message) → IsIn (Data m) got → IsIn m (received got)
 unfolding received
@@ -44,11 +40,7 @@ pub record IsDecision (k : ℕ) (v : Value) (w : Wire) : Type 0 where
   pub wire : w ≡ Dec k round v
 
 decision-wire : (k : ℕ) (w : Wire) (v : Value) → decision_of k w ≡ Some v → IsDecision k v w
-decision-wire k (Dec j r x) v e =
-    let p = picked (j == k) x v e in
-    let same : j ≡ k = eqb-true j k p.0 in
-    let value : x ≡ v = p.1 in
-    record { round = r; wire = cc }
+decision-wire k (Dec j r x) v e = record { round = r; wire = grind (arith, nat_tests) }
 decision-wire k _ v e = some-none v e
 
 -- a decision came with a Dec
@@ -61,57 +53,39 @@ unfolding decided
 decided-got got k v e =
     let t = Lists.from_filter_map (decision_of k) v got (in-head (filter_map (decision_of k) got) v e) in
     let d = decision-wire k t.source v t.gives in
-    record { round = d.round; is_in = subst (λ w. IsIn w got) d.wire t.is_in }
+    record { round = d.round; is_in = rw d.wire at t.is_in }
 
 head-is : {A : Type 0} (xs : List A) (x : A) → IsIn x xs → (y : A) × (head xs ≡ Some y)
 head-is [] x h = absurd h
 head-is (y ∷ xs) x h = (y, refl)
 
-decision_of-same : (k r : ℕ) (v : Value) → decision_of k (Dec k r v) ≡ Some v
-decision_of-same k r v = ap (λ b. cond b (Some v) None) (eq-eqb k k refl)
-
 -- a Dec that was got makes a decision
 pub got-decided : (got : List Wire) (k r : ℕ) (v : Value) → IsIn (Dec k r v) got → (w : Value) × (decided got k ≡ Some w)
 unfolding decided
 got-decided got k r v h =
-    head-is (filter_map (decision_of k) got) v (Lists.IsIn-filter_map (decision_of k) (Dec k r v) v got (decision_of-same k r v) h)
+    head-is (filter_map (decision_of k) got) v (Lists.IsIn-filter_map (decision_of k) (Dec k r v) v got (grind (arith, nat_tests)) h)
 
 -- a wire that is a Dec of the round
 pub is_decision-wire : (k r : ℕ) (w : Wire) → is_decision k r w ≡ true → (v : Value) × (w ≡ Dec k r v)
-is_decision-wire k r (Dec j i v) h =
-    let one : j ≡ k = eqb-true j k (Lists.both-left (j == k) (i == r) h) in
-    let two : i ≡ r = eqb-true i r (Lists.both-right (j == k) (i == r) h) in
-    let e : Dec j i v ≡ Dec k r v = cc in
-    (v, e)
+is_decision-wire k r (Dec j i v) h = (v, grind (arith, nat_tests))
 is_decision-wire k r _ h = absurd (cc)
 
 -- the proposal of a round is that of a Prop that was got
 
 proposal-wire : (k r : ℕ) (w : Wire) (v : Value) → proposal_of k r w ≡ Some v → w ≡ Prop k r v
-proposal-wire k r (Prop j i x) v e =
-    let p = picked ((j == k) && (i == r)) x v e in
-    let one : j ≡ k = eqb-true j k (Lists.both-left (j == k) (i == r) p.0) in
-    let two : i ≡ r = eqb-true i r (Lists.both-right (j == k) (i == r) p.0) in
-    let value : x ≡ v = p.1 in
-    cc
+proposal-wire k r (Prop j i x) v e = grind (arith, nat_tests)
 proposal-wire k r _ v e = some-none v e
 
 pub proposal-got : (got : List Wire) (k r : ℕ) (v : Value) → (ballots got k r).proposal ≡ Some v → IsIn (Prop k r v) got
 unfolding ballots proposal
 proposal-got got k r v e =
     let t = Lists.from_filter_map (proposal_of k r) v got (in-head (filter_map (proposal_of k r) got) v e) in
-    subst (λ w. IsIn w got) (proposal-wire k r t.source v t.gives) t.is_in
+    rw (proposal-wire k r t.source v t.gives) at t.is_in
 
 -- the estimates of a round are those of Ests that were got, one of each member
 
 estimate-wire : (k r : ℕ) (w : Wire) (e : Heard Value) → estimate_of k r w ≡ Some e → w ≡ Est k r e.member e.value e.ts
-estimate-wire k r (Est j i p x t) e is =
-    let made : Heard Value = record { member = p; value = x; ts = t } in
-    let c = picked ((j == k) && (i == r)) made e is in
-    let one : j ≡ k = eqb-true j k (Lists.both-left (j == k) (i == r) c.0) in
-    let two : i ≡ r = eqb-true i r (Lists.both-right (j == k) (i == r) c.0) in
-    let wire : Est j i p x t ≡ Est k r p x t = cc in
-    wire ∙ ap (λ (h : Heard Value). Est k r h.member h.value h.ts) c.1
+estimate-wire k r (Est j i p x t) e is = grind (arith, nat_tests)
 estimate-wire k r _ e is = some-none e is
 
 heard_from-got : (got : List Wire) (k r p : ℕ) (e : Heard Value) → heard_from got k r p ≡ Some e →
@@ -119,7 +93,7 @@ heard_from-got : (got : List Wire) (k r p : ℕ) (e : Heard Value) → heard_fro
 heard_from-got got k r p e is =
     let f = Lists.found-find (λ (x : Heard Value). x.member == p) e (filter_map (estimate_of k r) got) is in
     let t = Lists.from_filter_map (estimate_of k r) e got f.0 in
-    (subst (λ w. IsIn w got) (estimate-wire k r t.source e t.gives) t.is_in, eqb-true e.member p f.1)
+    (rw (estimate-wire k r t.source e t.gives) at t.is_in, eqb-true e.member p f.1)
 
 pub estimates-got : (got : List Wire) (k r : ℕ) (e : Heard Value) → IsIn e (ballots got k r).estimates →
     IsIn (Est k r e.member e.value e.ts) got
@@ -138,16 +112,14 @@ heard-among : (got : List Wire) (k r x : ℕ) (ps : List ℕ) → IsIn x (map (�
 heard-among got k r x ps h =
     let m = of_map (λ (e : Heard Value). e.member) x (filter_map (heard_from got k r) ps) h in
     let t = Lists.from_filter_map (heard_from got k r) m.0 ps m.1 in
-    let same : x ≡ t.source = m.2 ∙ (heard_from-got got k r t.source m.0 t.gives).1 in
-    subst (λ z. IsIn z ps) (sym same) t.is_in
+    rw (m.2, (heard_from-got got k r t.source m.0 t.gives).1) t.is_in
 
 heard-once_cases : (got : List Wire) (k r p : ℕ) (ps : List ℕ) (o : Option (Heard Value)) → heard_from got k r p ≡ o → (IsIn p ps → ⊥) →
     IsWithoutRepeats (map (λ e. e.member) (filter_map (heard_from got k r) ps)) →
     IsWithoutRepeats (map (λ e. e.member) (cons_option o (filter_map (heard_from got k r) ps)))
 heard-once_cases got k r p ps None is out rest = rest
 heard-once_cases got k r p ps (Some e) is out rest =
-    let same : e.member ≡ p = (heard_from-got got k r p e is).1 in
-    ((λ h. out (heard-among got k r p ps (subst (λ z. IsIn z (map (λ x. x.member) (filter_map (heard_from got k r) ps))) same h))), rest)
+    ((λ h. out (heard-among got k r p ps (rw (heard_from-got got k r p e is).1 at h))), rest)
 
 heard-once_of : (got : List Wire) (k r : ℕ) (ps : List ℕ) → IsWithoutRepeats ps →
     IsWithoutRepeats (map (λ e. e.member) (filter_map (heard_from got k r) ps))
@@ -181,15 +153,10 @@ unfolding ballots
 acked-of got k r = refl
 
 ack-wire : (k r p : ℕ) (w : Wire) → is_ack k r p w ≡ true → w ≡ Ack k r p
-ack-wire k r p (Ack j i q) h =
-    let front = Lists.both-left ((j == k) && (i == r)) (q == p) h in
-    let one : j ≡ k = eqb-true j k (Lists.both-left (j == k) (i == r) front) in
-    let two : i ≡ r = eqb-true i r (Lists.both-right (j == k) (i == r) front) in
-    let three : q ≡ p = eqb-true q p (Lists.both-right ((j == k) && (i == r)) (q == p) h) in
-    cc
-ack-wire k r p _ h = absurd (true≢false (sym h))
+ack-wire k r p (Ack j i q) h = grind (arith, nat_tests)
+ack-wire k r p _ h = absurd (cc)
 
 pub acker-got : (got : List Wire) (k r p : ℕ) → IsIn p (ackers got k r) → IsIn (Ack k r p) got
 acker-got got k r p h =
     let f = Lists.found-list_any (is_ack k r p) got (Lists.IsIn-filter_passes (has_ack got k r) p everyone h) in
-    subst (λ w. IsIn w got) (ack-wire k r p f.item f.passes) f.is_in
+    rw (ack-wire k r p f.item f.passes) at f.is_in

@@ -1,39 +1,35 @@
 -- Adopt and Suspect keep the facts.
-use Rattle.std.proofs.Common.{◌≡◌, ℕ, ◌+◌, ◌≤◌, ◌<◌, Bool, true, ◌==◌, Some, sym, subst, inl, inr, arith, eqb-true}
-use Rattle.ct_names.specs.Group.{coordinator, IsMember}
+use Rattle.std.proofs.Common.{◌≡◌, ℕ, ◌+◌, ◌≤◌, ◌<◌, true, Some, arith}
+use Rattle.std.proofs.lemmas.Bool.Decides.{nat_tests}
+use Rattle.ct_names.specs.Group.{IsMember}
 use Rattle.ct_names.specs.Membership.{IsIn}
 use Rattle.ct_names.specs.Value.{Value}
-use Rattle.ct_names.proofs.Lists
 use Rattle.ct_model.specs.declared.moves.Move.TheVariants as moves
 use Rattle.ct_model.specs.AtValue.{Standing, Turn}
 use Rattle.ct_model.specs.Setting.{Setting}
 use Rattle.ct_model.specs.declared.wire.Wire.TheVariants.{Est, Prop, Ack}
 use Rattle.ct_model.specs.State.{State, Member, member}
-use Rattle.ct_model.specs.Phases.{is_gather, is_wait, adopted, suspected}
+use Rattle.ct_model.specs.Phases.{is_wait, adopted, suspected}
 use Rattle.ct_model.specs.Next.{Outcome, turn_at, own_ballots, turned, after}
 use Rattle.ct_model.proofs.Consensus.Sent.{Sent, Carries, Sent-old}
-use Rattle.ct_model.proofs.Consensus.Facts.{Reached, HasRound, HasTs, IsFoundedAck, IsFounded, IsSound, Holds}
+use Rattle.ct_model.proofs.Consensus.Facts.{HasRound, HasTs, IsFoundedAck, IsSound, Holds}
 use Rattle.ct_model.proofs.Consensus.Growth.{IsOnward, Grows, IsProposed-grows, IsCarried-grows}
 use Rattle.ct_model.proofs.Consensus.Obligations.{IsAllowed}
 use Rattle.ct_model.proofs.Consensus.Readings
 use Rattle.ct_model.proofs.Steps.Rows.{adopt-is, suspect-is}
-use Rattle.ct_model.proofs.Consensus.RoundFacts.{turn-grows, turn-reaches, turn-allowed, standing-reached, reply-no_gather, reply-no_wait}
-use Rattle.ct_model.proofs.Consensus.RoundFacts.{reply-tally, wait-no_rest}
+use Rattle.ct_model.proofs.Consensus.RoundFacts.{turn-grows, turn-reaches, turn-allowed, standing-reached}
 
 module _ (s : Setting) (g : State) (p : ℕ) (holds : Holds s g) (is : IsMember s.members p) (c : Standing)
     (open_at : (member g p).current ≡ Some c) (waits : is_wait c.phase ≡ true) where
-  -- the open instance, and whether p coordinates the round
+  -- the open instance
   abbrev k : ℕ
   k = (member g p).last
-
-  abbrev coordinates : Bool
-  coordinates = coordinator s.members c.round == p
 
   old : IsSound s g p k c
   old = holds.sound p is c open_at
 
   started : 1 ≤ c.round
-  started = old.started (wait-no_rest c.phase waits)
+  started = old.started (grind arith)
 
   module _ (v : Value) (came : IsIn (Prop k c.round v) (member g p).got) where
     -- the turn of Adopt, its outcome, the state after it
@@ -50,7 +46,7 @@ module _ (s : Setting) (g : State) (p : ℕ) (holds : Holds s g) (is : IsMember 
     onward = record {
       round = omega arith;
       ts = omega (arith, old.ts_low);
-      chosen = λ r x. elim x [ inl a ↦ inl a | inr a ↦ inr (a.0, reply-no_gather coordinates) ];
+      chosen = λ r x. grind arith;
     }
 
     up : Grows s g h
@@ -68,11 +64,11 @@ module _ (s : Setting) (g : State) (p : ℕ) (holds : Holds s g) (is : IsMember 
         record {
           ts_low = omega (arith, old.ts_low);
           started = λ x. started;
-          gathers = λ x. Lists.contrary (is_gather t.after.phase) x (reply-no_gather coordinates);
-          tallies = λ x. eqb-true (coordinator s.members c.round) p (reply-tally coordinates x);
+          gathers = λ x. absurd (grind arith);
+          tallies = λ x. grind (arith, nat_tests);
           proposed = IsProposed-grows s g h up k v f.proposed;
           carried = λ some. record { round = c.round; from_ts = omega (arith, old.ts_low); below = omega arith; sent = still_sent };
-          waits_own = λ x own. Lists.contrary (is_wait t.after.phase) x (reply-no_wait coordinates);
+          waits_own = λ x own. absurd (grind arith);
           tallies_own = λ x. still_sent;
         }
 
@@ -91,12 +87,12 @@ module _ (s : Setting) (g : State) (p : ℕ) (holds : Holds s g) (is : IsMember 
         let round : r ≡ c.round = cc in
         let f = holds.founded (Est j later q w ts) sent in
         let low : later ≤ c.round = standing-reached (member g p) j (HasRound later) c ours open_at
-        (subst (λ z. Reached (member g z) j (HasRound later)) here f.reached) in
+        (rw here at f.reached) in
         absurd (omega arith)
 
     adopt_allowed : IsAllowed s g p o
     adopt_allowed =
-        turn-allowed s g p holds is c open_at t onward sound (λ w same. subst (λ z. IsFounded s h z) (sym same) ack)
+        turn-allowed s g p holds is c open_at t onward sound (λ w same. rw same ack)
         (λ j r x w same sent. cc) (λ j r later q w ts same sent lt. cc) after_estimate
 
   -- the turn of Suspect, and the state after it
@@ -110,7 +106,7 @@ module _ (s : Setting) (g : State) (p : ℕ) (holds : Holds s g) (is : IsMember 
   nack_onward = record {
     round = omega arith;
     ts = omega arith;
-    chosen = λ r x. elim x [ inl a ↦ inl a | inr a ↦ inr (a.0, reply-no_gather coordinates) ];
+    chosen = λ r x. grind arith;
   }
 
   nack_up : Grows s g after_nack
@@ -120,19 +116,18 @@ module _ (s : Setting) (g : State) (p : ℕ) (holds : Holds s g) (is : IsMember 
   nack_sound = record {
     ts_low = old.ts_low;
     started = λ x. started;
-    gathers = λ x. Lists.contrary (is_gather u.after.phase) x (reply-no_gather coordinates);
-    tallies = λ x. eqb-true (coordinator s.members c.round) p (reply-tally coordinates x);
+    gathers = λ x. absurd (grind arith);
+    tallies = λ x. grind (arith, nat_tests);
     proposed = IsProposed-grows s g after_nack nack_up k c.estimate old.proposed;
     carried = λ some. IsCarried-grows s g after_nack nack_up k c.ts (c.round + 1) c.estimate (old.carried some);
-    waits_own = λ x own. Lists.contrary (is_wait u.after.phase) x (reply-no_wait coordinates);
+    waits_own = λ x own. absurd (grind arith);
     tallies_own = λ x.
-        nack_up.sent (Prop k c.round c.estimate) (old.waits_own waits
-        (eqb-true (coordinator s.members c.round) p (reply-tally coordinates x)));
+        nack_up.sent (Prop k c.round c.estimate) (old.waits_own waits (grind (arith, nat_tests)));
   }
 
   suspect_allowed : IsAllowed s g p (turned (member g p) u)
   suspect_allowed =
-      turn-allowed s g p holds is c open_at u nack_onward nack_sound (λ w same. subst (λ z. IsFounded s after_nack z) (sym same) tt)
+      turn-allowed s g p holds is c open_at u nack_onward nack_sound (λ w same. rw same tt)
       (λ j r x w same sent. cc) (λ j r later q w ts same sent lt. cc) (λ j r later q w ts same sent lt. cc)
 
 pub allowed-adopt : (s : Setting) (g : State) (p : ℕ) → Holds s g → IsMember s.members p → (c : Standing) (t : Turn)
@@ -141,7 +136,7 @@ pub allowed-adopt : (s : Setting) (g : State) (p : ℕ) → Holds s g → IsMemb
 allowed-adopt s g p holds is c t at x =
     let m : Member = member g p in
     let f = adopt-is s.members p m.last (own_ballots m c) c t x in
-    subst (λ z. IsAllowed s g p (turned (member g p) z)) f.gives
+    rw (← f.gives)
     (adopt_allowed s g p holds is c at f.waits f.value (Readings.proposal-got m.got m.last c.round f.value f.proposal_is))
 
 pub allowed-suspect : (s : Setting) (g : State) (p : ℕ) → Holds s g → IsMember s.members p → (c : Standing) (t : Turn)
@@ -150,4 +145,4 @@ pub allowed-suspect : (s : Setting) (g : State) (p : ℕ) → Holds s g → IsMe
 allowed-suspect s g p holds is c t at x =
     let m : Member = member g p in
     let f = suspect-is s.members p m.last (own_ballots m c) c t x in
-    subst (λ z. IsAllowed s g p (turned (member g p) z)) f.gives (suspect_allowed s g p holds is c at f.waits)
+    rw (← f.gives) (suspect_allowed s g p holds is c at f.waits)

@@ -1,7 +1,6 @@
 -- The facts hold after every run.
-use Rattle.std.proofs.Common.{◌≡◌, ℕ, List, Some, ap, sym, ◌∙◌, subst}
+use Rattle.std.proofs.Common.{◌≡◌, ℕ, List, Some}
 use Rattle.ct_names.specs.Group.{IsMember}
-use Rattle.ct_names.specs.Membership.{IsIn}
 use Rattle.ct_model.specs.declared.step.Step.{Step}
 use Rattle.ct_model.specs.declared.moves.Move.{Move}
 use Rattle.ct_model.specs.declared.moves.Move.TheVariants.{Enter, Choose, Adopt, Suspect, Conclude}
@@ -21,7 +20,7 @@ use Rattle.ct_model.proofs.Record.Start.{member-first, size-first}
 use Rattle.ct_model.proofs.Basics.Groups.{member_is}
 use Rattle.ct_model.proofs.Consensus.Obligations.{IsAllowed, kept}
 use Rattle.ct_model.proofs.Relay.Messages.{next-is}
-use Rattle.ct_model.proofs.Consensus.Opening.{allowed-begin, allowed-deliver}
+use Rattle.ct_model.proofs.Consensus.Opening.{allowed-begin, allowed-deliver, allowed-follow}
 use Rattle.ct_model.proofs.Basics.Options.{some-none}
 use Rattle.ct_model.proofs.Record.Runs.{kept-run}
 use Rattle.ct_model.proofs.Consensus.Reply.{allowed-adopt, allowed-suspect}
@@ -34,11 +33,11 @@ module _ (s : Setting) (g : State) (p : ℕ) (holds : Holds s g) (is : IsMember 
 
   allowed-turn : (a : Move) (c : Standing) (t : Turn) → (member g p).current ≡ Some c → turn_at s.members p (member g p) a c ≡ Some t
       → IsAllowed s g p (turned (member g p) t)
-  allowed-turn Enter c t at x = allowed-enter s g p holds is c t at x
-  allowed-turn (Choose from) c t at x = allowed-choose s g p holds is from c t at x
-  allowed-turn Adopt c t at x = allowed-adopt s g p holds is c t at x
-  allowed-turn Suspect c t at x = allowed-suspect s g p holds is c t at x
-  allowed-turn Conclude c t at x = allowed-conclude s g p holds is c t at x
+  allowed-turn Enter = allowed-enter s g p holds is
+  allowed-turn (Choose from) = allowed-choose s g p holds is from
+  allowed-turn Adopt = allowed-adopt s g p holds is
+  allowed-turn Suspect = allowed-suspect s g p holds is
+  allowed-turn Conclude = allowed-conclude s g p holds is
 
   allowed-step : (step : Step) (o : Outcome) → row s g p (member g p) step ≡ Some o → IsAllowed s g p o
   allowed-step step o = by_shape s g p m (IsAllowed s g p) step o (record {
@@ -47,6 +46,7 @@ module _ (s : Setting) (g : State) (p : ℕ) (holds : Holds s g) (is : IsMember 
     opens = λ idle some. allowed-begin s g p holds is;
     turns = allowed-turn;
     closes = λ c v open_at has delivers. allowed-deliver s g p holds is v;
+    follows = λ v idle has delivers. allowed-follow s g p holds is v;
     marks = λ crashed. allowed-mark s g p holds is crashed;
   })
 
@@ -54,7 +54,7 @@ pub Holds-next : (s : Setting) (g : State) (step : Step) (h : State) → next s 
 Holds-next s g step h e holds =
     let t = next-is s g step h e in
     let is : IsMember s.members (actor step) = member_is s.members (actor step) t.in_group in
-    subst (λ x. Holds s x) t.gives (kept s g (actor step) t.outcome holds is (allowed-step s g (actor step) holds is step t.outcome t.row))
+    rw t.gives at (kept s g (actor step) t.outcome holds is (allowed-step s g (actor step) holds is step t.outcome t.row))
 
 nothing_sent : (s : Setting) (w : Wire) → Sent (first_state s) w → ⊥
 unfolding first_state
@@ -63,8 +63,8 @@ nothing_sent s w x = x
 pub Holds-first : (s : Setting) → Holds s (first_state s)
 Holds-first s = record {
   size = size-first s;
-  got = λ p is w x. absurd (subst (λ (m : Member). IsIn w m.got) (member-first s p) x);
-  sound = λ p is c x. some-none c (sym (ap (λ (m : Member). m.current) (member-first s p)) ∙ x);
+  got = λ p is w x. absurd (rw (member-first s p) at x);
+  sound = λ p is c x. some-none c (rw (member-first s p) at x);
   founded = λ w x. absurd (nothing_sent s w x);
   one_proposal = λ k r v w x y. absurd (nothing_sent s (Prop k r v) x);
   ts_after_ack = λ k r later q v ts x y lt. absurd (nothing_sent s (Ack k r q) x);

@@ -1,6 +1,6 @@
 -- A member's batches are what its decisions give: one for each instance that it closed, in order.
-use Rattle.std.proofs.Common.{◌≡◌, ℕ, suc, zero, ◌-◌, ◌<◌, ◌≤◌, true, List, [], ◌∷◌, ◌++◌, Option, Some, None, refl, sym, ap, ◌∙◌, subst}
-use Rattle.std.proofs.Common.{inl, inr, arith, filter_map, unwrap_or, true≢false, length}
+use Rattle.std.proofs.Common.{◌≡◌, ℕ, suc, zero, ◌+◌, ◌-◌, ◌<◌, ◌≤◌, true, List, [], ◌∷◌, ◌++◌, Option, Some, None, refl, sym, ap, ◌∙◌}
+use Rattle.std.proofs.Common.{subst, inl, inr, arith, filter_map, unwrap_or, true≢false, length}
 use Rattle.std.specs.Prelude.{is_none}
 use Rattle.std.specs.List.{cons_option}
 use Rattle.std.proofs.lemmas.Bool.{cases_eq}
@@ -12,7 +12,7 @@ use Rattle.ct_model.specs.Setting.{Setting}
 use Rattle.ct_model.specs.State.{State, Member, joined, member, new_member, first_state}
 use Rattle.ct_names.specs.Batch.{Batch}
 use Rattle.ct_model.specs.Received.{head, decision_of, decided}
-use Rattle.ct_model.specs.Next.{Outcome, row, turned, begin, deliver, batch_of, after, next}
+use Rattle.ct_model.specs.Next.{Outcome, row, turned, begin, close, deliver, follow, batch_of, after, next}
 use Rattle.ct_model.specs.Run.{run}
 use Rattle.ct_model.proofs.Record.Start.{member-first, size-first}
 use Rattle.ct_model.proofs.Record.Frame.{member-same, member-other, at_place}
@@ -99,8 +99,8 @@ none-is : {A : Type 0} (o : Option A) → is_none o ≡ true → o ≡ None
 none-is None h = refl
 none-is (Some x) h = absurd (true≢false (sym h))
 
-closed-begin : (p : ℕ) (m : Member) → is_none m.current ≡ true → HasClosed m → HasClosed (begin p m).member
-closed-begin p m idle f = record {
+closed-begin : (s : Setting) (p : ℕ) (m : Member) → is_none m.current ≡ true → HasClosed m → HasClosed (begin s p m).member
+closed-begin s p m idle f = record {
   closed = f.closed;
   idle = λ e. some-none _ (sym e);
   busy = λ c e. let l : f.closed ≡ m.last = f.idle (none-is m.current idle) in omega arith;
@@ -117,32 +117,41 @@ closed-turned m c t open_at f = record {
   decided = f.decided;
 }
 
+-- the next instance after those that it closed is closed
+closed-close : (m : Member) (last : ℕ) (v : Value) → decided m.got last ≡ Some v → (f : HasClosed m) → suc f.closed ≡ last
+    → HasClosed (close m last v).member
+unfolding deliveries batch_of
+closed-close m last v has f l = record {
+  closed = suc f.closed;
+  idle = λ e. l;
+  busy = λ d e. some-none d e;
+  batches =
+      let at_last : decision m.got (suc f.closed) ≡ v = ap (λ k. decision m.got k) l ∙ decision-is m.got last v has in
+      rw (f.batches, at_last, l) refl;
+  decided = λ k lo hi. elim (cases_eq k (suc f.closed)) [
+    | inl e ↦ record { value = v; is = ap (λ j. decided m.got j) (e ∙ l) ∙ has }
+    | inr ne ↦ f.decided k lo (omega arith)
+  ];
+}
+
 closed-deliver : (m : Member) (c : Standing) (v : Value) → m.current ≡ Some c → decided m.got m.last ≡ Some v → HasClosed m →
     HasClosed (deliver m v).member
-unfolding deliveries batch_of
-closed-deliver m c v open_at has f =
-    let l : suc f.closed ≡ m.last = f.busy c open_at in
-    record {
-      closed = suc f.closed;
-      idle = λ e. l;
-      busy = λ d e. some-none d e;
-      batches =
-          let at_last : decision m.got (suc f.closed) ≡ v = ap (λ k. decision m.got k) l ∙ decision-is m.got m.last v has in
-          rw (f.batches, at_last, l) refl;
-      decided = λ k lo hi. elim (cases_eq k (suc f.closed)) [
-        | inl e ↦ record { value = v; is = ap (λ j. decided m.got j) (e ∙ l) ∙ has }
-        | inr ne ↦ f.decided k lo (omega arith)
-      ];
-    }
+closed-deliver m c v open_at has f = closed-close m m.last v has f (f.busy c open_at)
+
+closed-follow : (m : Member) (v : Value) → is_none m.current ≡ true → decided m.got (m.last + 1) ≡ Some v → HasClosed m →
+    HasClosed (follow m v).member
+closed-follow m v idle has f =
+    let l : f.closed ≡ m.last = f.idle (none-is m.current idle) in closed-close m (m.last + 1) v has f (omega arith)
 
 closed-row : (s : Setting) (g : State) (p : ℕ) (m : Member) (step : Step) (o : Outcome) → row s g p m step ≡ Some o → HasClosed m
     → HasClosed o.member
 closed-row s g p m step o e f = by_shape s g p m (λ x. HasClosed x.member) step o (record {
   submits = λ c good. f;
   gets = λ k w at. closed-got m w f;
-  opens = λ idle some. closed-begin p m idle f;
+  opens = λ idle some. closed-begin s p m idle f;
   turns = λ a c t open_at taken. closed-turned m c t open_at f;
   closes = λ c v open_at has delivers. closed-deliver m c v open_at has f;
+  follows = λ v idle has delivers. closed-follow m v idle has f;
   marks = λ crashed. record { closed = f.closed; idle = f.idle; busy = f.busy; batches = f.batches; decided = f.decided };
 }) e
 

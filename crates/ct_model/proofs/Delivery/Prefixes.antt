@@ -1,8 +1,10 @@
 -- Of two members' batches one begins the other, and each begins the order of the group; what was delivered was submitted, and delivered
 -- once.
-use Rattle.std.proofs.Common.{◌≡◌, ℕ, suc, zero, ◌+◌, ◌-◌, ◌≤◌, ◌<◌, List, [], ◌∷◌, ◌++◌, Some, refl, sym, ap, ◌∙◌, subst, inl, inr, ◌⊎◌}
-use Rattle.std.proofs.Common.{arith, append_assoc, append-nil, length, length-append, map}
-use Rattle.std.specs.Prelude.{slice_get, slice_index_or}
+use Rattle.std.proofs.Common.{◌≡◌, ℕ, suc, zero, ◌+◌, ◌≤◌, List, [], ◌∷◌, ◌++◌, Some, refl, sym, ap, ◌∙◌, inl, inr, ◌⊎◌}
+use Rattle.std.proofs.Common.{arith, append_assoc, append-nil, length, length-append}
+use Rattle.std.specs.Prelude.{slice_get}
+use Rattle.std.proofs.lemmas.Bool.{cases_lt}
+use Rattle.std.proofs.lemmas.Grind.{flat_map-append}
 use Rattle.ct_names.specs.Group.{IsMember}
 use Rattle.ct_names.specs.Membership.{IsIn, IsWithoutRepeats}
 use Rattle.ct_names.specs.Message.{Message}
@@ -12,7 +14,7 @@ use Rattle.ct_names.proofs.Values
 use Rattle.ct_model.specs.declared.step.Step.{Step}
 use Rattle.ct_model.specs.AtValue.{Wire}
 use Rattle.ct_model.specs.Setting.{Setting}
-use Rattle.ct_model.specs.State.{State, Member, joined, member, new_member}
+use Rattle.ct_model.specs.State.{State, joined, member}
 use Rattle.ct_names.specs.Batch.{Batch}
 use Rattle.ct_model.specs.Run.{run}
 use Rattle.ct_model.specs.Cause.{order}
@@ -21,44 +23,39 @@ use Rattle.ct_names.specs.Prefix.{IsPrefix}
 use Rattle.ct_model.proofs.Delivery.Batches.{deliveries, deliveries-same, decision, decision-is, HasDecision, HasClosed, HaveClosed}
 use Rattle.ct_model.proofs.Delivery.Batches.{closed-run}
 use Rattle.ct_model.proofs.Delivery.Comparable.{InOneOrder, longest-prefix, longest-in}
+use Rattle.ct_model.proofs.Delivery.Longest.{lists_of, member-in, of_member}
 use Rattle.ct_model.proofs.Basics.Options.{some-same, some-none}
 use Rattle.ct_model.proofs.Delivery.Proposals.{proposes-run}
 
-joined-append : (xs ys : List Batch) → joined (xs ++ ys) ≡ joined xs ++ joined ys
-joined-append [] ys = refl
-joined-append (x ∷ xs) ys = ap (λ z. x.messages ++ z) (joined-append xs ys) ∙ sym (append_assoc x.messages (joined xs) (joined ys))
-
 joined-prefix : (xs ys : List Batch) → IsPrefix xs ys → IsPrefix (joined xs) (joined ys)
-joined-prefix xs ys r = (joined r.0, sym (joined-append xs r.0) ∙ ap joined r.1)
+joined-prefix xs ys r = (joined r.0, rw (← r.1) (sym (flat_map-append (λ (b : Batch). b.messages) xs r.0)))
 
 -- the batches of fewer instances begin those of more
-deliveries-prefix : (f : ℕ → Value) (c more : ℕ) → IsPrefix (deliveries f c) (deliveries f (c + more))
+deliveries-prefix : (f : ℕ → Value) (c d : ℕ) → c ≤ d → IsPrefix (deliveries f c) (deliveries f d)
 unfolding deliveries
-deliveries-prefix f c zero = ([], append-nil (deliveries f c) ∙ ap (λ z. deliveries f z) (let e : c ≡ c + 0 = omega arith in e))
-deliveries-prefix f c (suc more) =
-    let r = deliveries-prefix f c more in
-    let last : List Batch = record {
-      instance = suc (c + more);
-      messages =
-          ordered (minus (f (suc (c + more))) (joined (deliveries f (c + more))));
-    } ∷ [] in
-    let e : c + suc more ≡ suc (c + more) = omega arith in
-    (r.0 ++ last, sym (append_assoc (deliveries f c) r.0 last) ∙ ap (λ z. z ++ last) r.1 ∙ ap (λ z. deliveries f z) (sym e))
+deliveries-prefix f c zero le = let e : c ≡ 0 = omega arith in rw e ([], refl)
+deliveries-prefix f c (suc d) le = elim (cases_lt d c) [
+  | inl lt ↦ let e : c ≡ suc d = omega arith in rw e ([], append-nil (deliveries f (suc d)))
+  | inr fewer ↦
+      let r = deliveries-prefix f c d fewer in
+      let last : List Batch = record { instance = suc d; messages = ordered (minus (f (suc d)) (joined (deliveries f d))) } ∷ [] in
+      (r.0 ++ last, sym (append_assoc (deliveries f c) r.0 last) ∙ ap (λ z. z ++ last) r.1)
+]
 
 joined-deliveries : (f : ℕ → Value) (c : ℕ) → joined (deliveries f (suc c)) ≡ joined (deliveries f c)
     ++ ordered (minus (f (suc c)) (joined (deliveries f c)))
 unfolding deliveries
 joined-deliveries f c =
     let b : List Message = ordered (minus (f (suc c)) (joined (deliveries f c))) in
-    joined-append (deliveries f c) (record { instance = suc c; messages = b } ∷ []) ∙ ap (λ z. joined (deliveries f c) ++ z) (append-nil b)
+    flat_map-append (λ (x : Batch). x.messages) (deliveries f c) (record { instance = suc c; messages = b } ∷ [])
+    ∙ ap (λ z. joined (deliveries f c) ++ z) (append-nil b)
 
 once-deliveries : (f : ℕ → Value) (c : ℕ) → IsWithoutRepeats (joined (deliveries f c))
 once-deliveries f zero = unfold deliveries in tt
 once-deliveries f (suc c) =
     let d : List Message = joined (deliveries f c) in
     let new : List Message = minus (f (suc c)) d in
-    subst (λ z. IsWithoutRepeats z) (sym (joined-deliveries f c))
-    (Lists.IsWithoutRepeats-append d (ordered new) (once-deliveries f c) (Values.IsWithoutRepeats-ordered new)
+    rw (joined-deliveries f c) (Lists.IsWithoutRepeats-append d (ordered new) (once-deliveries f c) (Values.IsWithoutRepeats-ordered new)
     (λ x h k. Values.minus-out (f (suc c)) d x (Values.ordered-from new x k) h))
 
 -- the instance whose decision a delivered message comes from
@@ -73,18 +70,16 @@ from-deliveries f zero m h = absurd (unfold deliveries in h)
 from-deliveries f (suc c) m h =
     let d : List Message = joined (deliveries f c) in
     let new : List Message = minus (f (suc c)) d in
-    elim (Lists.IsIn-append_cases m d (ordered new) (subst (λ z. IsIn m z) (joined-deliveries f c) h)) [
+    elim (Lists.IsIn-append_cases m d (ordered new) (rw (joined-deliveries f c) at h)) [
       | inl a ↦
           let r = from-deliveries f c m a in
-          let hi : r.instance ≤ c = r.closed in
-          record { instance = r.instance; first = r.first; closed = omega arith; is_in = r.is_in }
+          record { instance = r.instance; first = r.first; closed = omega (arith, r.closed); is_in = r.is_in }
       | inr b ↦
           record {
             instance = suc c;
             first = omega arith;
             closed = omega arith;
-            is_in =
-                Values.minus-from (f (suc c)) d m (Values.ordered-from new m b);
+            is_in = Values.minus-from (f (suc c)) d m (Values.ordered-from new m b);
           }
     ]
 
@@ -102,77 +97,23 @@ module _ (s : Setting) (g : State) (agree : IsAgreed s g) (all : HaveClosed g) w
       let x : HasDecision mine k = a.decided k lo hi in
       let y : HasDecision its k = b.decided k lo (omega arith) in
       decision-is mine k x.value x.is ∙ agree.agreed p q k x.value y.value isp isq x.is y.is ∙ sym (decision-is its k y.value y.is)) in
-      let sum : a.closed + (b.closed - a.closed) ≡ b.closed = omega arith in
-      let front : IsPrefix (deliveries (decision its) a.closed) (deliveries (decision its) b.closed) =
-      subst (λ z. IsPrefix (deliveries (decision its) a.closed) (deliveries (decision its) z)) sum
-      (deliveries-prefix (decision its) a.closed (b.closed - a.closed)) in
-      let two : IsPrefix (member g p).batches (deliveries (decision its) b.closed) =
-      subst (λ z. IsPrefix z (deliveries (decision its) b.closed)) (sym (a.batches ∙ same)) front in
-      subst (λ z. IsPrefix (member g p).batches z) (sym b.batches) two
-
-  either : (i j : ℕ) → (i ≤ j) ⊎ (j ≤ i)
-  either i j = grind arith
+      rw (a.batches, same, b.batches) (deliveries-prefix (decision its) a.closed b.closed le)
 
   one_order : (p q : ℕ) → IsMember s.members p → IsMember s.members q →
       IsPrefix (member g p).batches (member g q).batches ⊎ IsPrefix (member g q).batches (member g p).batches
-  one_order p q isp isq = elim (either (all p).closed (all q).closed) [
-    | inl le ↦ inl (fewer p q isp isq (all p) (all q) le)
+  one_order p q isp isq = elim (cases_lt (all p).closed (all q).closed) [
+    | inl lt ↦ inl (fewer p q isp isq (all p) (all q) (omega arith))
     | inr le ↦ inr (fewer q p isq isp (all q) (all p) le)
   ]
 
--- the order of the whole group
-
--- a member's batches
-pub record IsOfMember (s : Setting) (g : State) (batches : List Batch) : Type 0 where
-  pub by : ℕ
-  pub in_group : IsMember s.members by
-  pub is : batches ≡ (member g by).batches
-
-record HasPlace (list : List Member) (batches : List Batch) : Type 0 where
-  place : ℕ
-  below : place < length list
-  is : batches ≡ (slice_index_or list place new_member).batches
-
-in-place : (list : List Member) (batches : List Batch) → IsIn batches (map (λ m. m.batches) list) → HasPlace list batches
-in-place [] batches h = absurd h
-in-place (m ∷ list) batches (inl e) = record { place = 0; below = omega arith; is = e }
-in-place (m ∷ list) batches (inr h) =
-    let f = in-place list batches h in
-    let lt : f.place < length list = f.below in
-    record { place = suc f.place; below = omega arith; is = f.is }
-
-place-in : (list : List Member) (i : ℕ) → i < length list → IsIn (slice_index_or list i new_member).batches (map (λ m. m.batches) list)
-place-in [] i h = absurd (omega arith)
-place-in (m ∷ list) zero h = inl refl
-place-in (m ∷ list) (suc i) h = inr (place-in list i (omega arith))
-
-of_member : (s : Setting) (g : State) → length g.members ≡ s.members → (batches : List Batch) →
-    IsIn batches (map (λ m. m.batches) g.members) → IsOfMember s g batches
-unfolding member
-of_member s g size batches h =
-    let f = in-place g.members batches h in
-    let lt : f.place < length g.members = f.below in
-    let same : f.place ≡ suc f.place - 1 = omega arith in
-    record {
-      by = suc f.place;
-      in_group = (omega arith, omega arith);
-      is =
-          f.is ∙ ap (λ i. (slice_index_or g.members i new_member).batches) same;
-    }
-
-member-in : (s : Setting) (g : State) (p : ℕ) → length g.members ≡ s.members → IsMember s.members p →
-    IsIn (member g p).batches (map (λ m. m.batches) g.members)
-unfolding member
-member-in s g p size is = let low : 1 ≤ p = is.0 in let high : p ≤ s.members = is.1 in place-in g.members (p - 1) (omega arith)
-
-in_one_order : (s : Setting) (g : State) → IsAgreed s g → HaveClosed g → length g.members ≡ s.members →
-    InOneOrder ([] ∷ map (λ m. m.batches) g.members)
-in_one_order s g agree all size xs ys (inl e) b = inl (subst (λ z. IsPrefix z ys) (sym e) (ys, refl))
-in_one_order s g agree all size xs ys (inr a) (inl e) = inr (subst (λ z. IsPrefix z xs) (sym e) (xs, refl))
-in_one_order s g agree all size xs ys (inr a) (inr b) =
-    let p = of_member s g size xs a in
-    let q = of_member s g size ys b in
-    rw (p.is, q.is) (one_order s g agree all p.by q.by p.in_group q.in_group)
+  -- so are the batches of the whole group
+  in_one_order : length g.members ≡ s.members → InOneOrder ([] ∷ lists_of g)
+  in_one_order size xs ys (inl e) b = inl (rw e (ys, refl))
+  in_one_order size xs ys (inr a) (inl e) = inr (rw e (xs, refl))
+  in_one_order size xs ys (inr a) (inr b) =
+      let p = of_member g xs a in
+      let q = of_member g ys b in
+      rw (p.is, q.is) (one_order p.by q.by (p.positive, rw size at p.below) (q.positive, rw size at q.below))
 
 -- the instance of each batch
 
@@ -181,9 +122,7 @@ unfolding deliveries
 length-deliveries f zero = refl
 length-deliveries f (suc c) =
     let b : Batch = record { instance = suc c; messages = ordered (minus (f (suc c)) (joined (deliveries f c))) } in
-    let one = length-append (deliveries f c) (b ∷ []) in
-    let two = length-deliveries f c in
-    omega (arith, one, two)
+    omega (arith, length-append (deliveries f c) (b ∷ []), length-deliveries f c)
 
 at_end : (xs : List Batch) (x b : Batch) (i : ℕ) → slice_get (xs ++ x ∷ []) i ≡ Some b →
     (slice_get xs i ≡ Some b) ⊎ ((i ≡ length xs) × (x ≡ b))
@@ -199,11 +138,7 @@ deliveries-place f (suc c) i b e =
     let last : Batch = record { instance = suc c; messages = ordered (minus (f (suc c)) (joined (deliveries f c))) } in
     elim (at_end (deliveries f c) last b i e) [
       | inl a ↦ deliveries-place f c i b a
-      | inr a ↦
-          let place : i ≡ length (deliveries f c) = a.0 in
-          let size : length (deliveries f c) ≡ c = length-deliveries f c in
-          let it : b.instance ≡ suc c = sym (ap (λ (x : Batch). x.instance) a.1) in
-          omega arith
+      | inr a ↦ grind (arith, a.0, a.1, length-deliveries f c)
     ]
 
 -- what holds after every run
@@ -223,15 +158,15 @@ module _ (s : Setting) (steps : List Step) (g : State) (runs : run s steps ≡ S
   pub delivered-once : (p : ℕ) → IsWithoutRepeats (delivered_by g p)
   delivered-once p =
       let a = (closed-run s steps g runs).closed p in
-      subst (λ z. IsWithoutRepeats (joined z)) (sym a.batches) (once-deliveries (decision (member g p).got) a.closed)
+      rw a.batches (once-deliveries (decision (member g p).got) a.closed)
 
   pub delivered-submitted : IsAgreed s g → (p : ℕ) (m : Message) → IsMember s.members p → IsIn m (delivered_by g p) → IsIn m g.submitted
   delivered-submitted agree p m is h =
       let a = (closed-run s steps g runs).closed p in
       let f : ℕ → Value = decision (member g p).got in
-      let from : IsOfInstance f a.closed m = from-deliveries f a.closed m (subst (λ z. IsIn m (joined z)) a.batches h) in
+      let from : IsOfInstance f a.closed m = from-deliveries f a.closed m (rw a.batches at h) in
       let one : HasDecision (member g p).got from.instance = a.decided from.instance from.first from.closed in
-      let inside : IsIn m one.value = subst (λ v. IsIn m v) (decision-is (member g p).got from.instance one.value one.is) from.is_in in
+      let inside : IsIn m one.value = rw (decision-is (member g p).got from.instance one.value one.is) at from.is_in in
       let was : IsProposed g from.instance one.value = agree.proposed p from.instance one.value is one.is in
       proposes-run s steps g runs (record { member = was.by; instance = from.instance; value = one.value }) was.is_in m inside
 
@@ -240,26 +175,18 @@ module _ (s : Setting) (steps : List Step) (g : State) (runs : run s steps ≡ S
   unfolding order
   order-prefix agree p is =
       let f = closed-run s steps g runs in
-      longest-prefix [] (map (λ m. m.batches) g.members) (in_one_order s g agree f.closed f.size) (member g p).batches
-      (inr (member-in s g p f.size is))
-
-  -- that order is empty, or a member's
-  pub order-of : (order g ≡ []) ⊎ IsOfMember s g (order g)
-  unfolding order
-  order-of = elim (longest-in [] (map (λ m. m.batches) g.members)) [
-    | inl e ↦ inl e
-    | inr h ↦ inr (of_member s g (closed-run s steps g runs).size (order g) h)
-  ]
+      longest-prefix [] (lists_of g) (in_one_order s g agree f.closed f.size) (member g p).batches (member-in g p)
 
   -- the batch at a place from 0 is of the instance of that number from 1
   pub order-place : (p i : ℕ) (b : Batch) → slice_get (member g p).batches i ≡ Some b → b.instance ≡ i + 1
   order-place p i b e =
       let a = (closed-run s steps g runs).closed p in
-      deliveries-place (decision (member g p).got) a.closed i b (ap (λ list. slice_get list i) (sym a.batches) ∙ e)
+      deliveries-place (decision (member g p).got) a.closed i b (rw a.batches at e)
 
   -- and so in the order of the whole group
   pub order-instance : (i : ℕ) (b : Batch) → slice_get (order g) i ≡ Some b → b.instance ≡ i + 1
-  order-instance i b e = elim order-of [
-    | inl none ↦ some-none b (ap (λ list. slice_get list i) (sym none) ∙ e)
-    | inr f ↦ order-place f.by i b (ap (λ list. slice_get list i) (sym f.is) ∙ e)
+  unfolding order
+  order-instance i b e = elim (longest-in [] (lists_of g)) [
+    | inl none ↦ some-none b (rw none at e)
+    | inr h ↦ let f = of_member g (order g) h in order-place f.by i b (rw f.is at e)
   ]

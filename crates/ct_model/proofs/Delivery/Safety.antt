@@ -6,6 +6,7 @@ use Rattle.ct_model.specs.Safe.{IsSafe}
 use Rattle.ct_model.specs.Setting.{Setting}
 use Rattle.ct_model.specs.State.{State}
 use Rattle.ct_model.proofs.Consensus.Locking.{agreed-run}
+use Rattle.ct_model.proofs.Delivery.Bounds.{batches-few}
 use Rattle.ct_model.proofs.Delivery.Prefixes.{batches-prefix, delivered-prefix, delivered-once, delivered-submitted}
 
 pub safe-run : (s : Setting) (steps : List Step) (g : State) → run s steps ≡ Some g → IsSafe s g
@@ -15,4 +16,5 @@ safe-run s steps g e = record {
   batches = batches-prefix s steps g e (agreed-run s steps g e);
   once = λ p is. delivered-once s steps g e p;
   submitted = delivered-submitted s steps g e (agreed-run s steps g e);
+  bounded = batches-few s steps g e (agreed-run s steps g e);
 }

@@ -5,14 +5,14 @@ use Rattle.std.specs.Option.{option_map_or}
 use Rattle.ct_names.specs.declared.limit.TheConstants.{MAX_ENVELOPES, MAX_INSTANCES, MAX_ROUNDS, MAX_STEPS, MAX_SUBMISSIONS}
 use Rattle.ct_names.specs.declared.refusal.Refusal.{Refusal}
 use Rattle.ct_names.specs.declared.refusal.Refusal.TheVariants.{NotWaiting, Busy, Nothing, WrongPhase, TooFew, NotLargest, NoProposal}
-use Rattle.ct_names.specs.declared.refusal.Refusal.TheVariants.{HasProposal, Decided, Undecided, BadCommand}
+use Rattle.ct_names.specs.declared.refusal.Refusal.TheVariants.{HasProposal, Decided, Undecided, BadCommand, NotSent, StillWaiting}
 use Rattle.ct_names.specs.Value.{Value}
 use Rattle.ct_names.specs.Command.{is_good}
 use Rattle.ct_model.specs.declared.moves.Move.{Move}
 use Rattle.ct_model.specs.declared.moves.Move.TheVariants as moves
 use Rattle.ct_model.specs.declared.step.Step.{Step}
-use Rattle.ct_model.specs.declared.step.Step.TheVariants.{Submit, Receive, Begin, Enter, Choose, Adopt, Suspect, Conclude, Deliver, Crash}
-use Rattle.ct_model.specs.declared.step.Step.TheVariants.{Postpone}
+use Rattle.ct_model.specs.declared.step.Step.TheVariants.{Submit, Receive, Begin, Enter, Choose, Adopt, Suspect, Conclude, Deliver}
+use Rattle.ct_model.specs.declared.step.Step.TheVariants.{Follow, Crash, Postpone, Lose, Repeat}
 use Rattle.ct_model.specs.Actor.{actor}
 use Rattle.ct_model.specs.State.{State, member, submissions}
 use Rattle.ct_model.specs.AtValue.{Standing, Turn}
@@ -20,7 +20,8 @@ use Rattle.ct_model.specs.Received.{Ballots, Heard, decided, heard, is_largest}
 use Rattle.ct_model.specs.Moves.{step_of, turn_of, faults_of}
 use Rattle.ct_model.specs.Phases.{is_rest, is_gather, is_wait, is_tally}
 use Rattle.ct_model.specs.Faults.{lacks, has_largest}
-use Rattle.ct_model.specs.Next.{Outcome, row, begin, deliver, turned, turn_at, submit, undelivered, is_empty, own_ballots, after, next}
+use Rattle.ct_model.specs.Next.{Outcome, row, wire_to, begin, deliver, follow, turned, turn_at, submit, proposed, is_empty}
+use Rattle.ct_model.specs.Next.{own_ballots, after, next}
 use Rattle.ct_model.specs.Rehearsal.{Rehearsal, state_of, line_of, extended}
 use Rattle.ct_model.specs.Cause.{at, first_fault, faults_at, limits, limit, or_else, cause, order, round_of}
 use Rattle.ct_model.specs.Lawful.{IsLawful, IsWithin, IsPresent, NamesWaiting, is_waiting}
@@ -34,12 +35,23 @@ use Rattle.ct_model.proofs.Record.Limits.{own_tests-is, taken_of}
 use Rattle.ct_model.proofs.Steps.Submit.{submit_outcome, submit_taken}
 use Rattle.ct_model.proofs.Steps.Receive.{receive_outcome, receive_waits, receive_taken}
 use Rattle.ct_model.proofs.Steps.Begin.{begin_taken}
-use Rattle.ct_model.proofs.Steps.Rows.{round_row-is, begin_row-is, deliver_row-is, enter-is, choose-is, adopt-is, suspect-is, conclude-is}
+use Rattle.ct_model.proofs.Steps.Rows.{round_row-is, begin_row-is, deliver_row-is, follow_row-is, enter-is, choose-is, adopt-is}
+use Rattle.ct_model.proofs.Steps.Rows.{suspect-is, conclude-is}
 use Rattle.ct_model.proofs.Steps.Rounds.{open-at, open-standing, round_row-some}
 use Rattle.ct_model.proofs.Steps.RoundSteps.{row-move, tests-move, turn-free}
 use Rattle.ct_model.proofs.Steps.Deliver.{tests-deliver, deliver_taken}
+use Rattle.ct_model.proofs.Steps.Follow.{follow_taken}
 use Rattle.ct_model.proofs.Steps.Crash.{crash_outcome, crash_taken}
-use Rattle.ct_model.proofs.Steps.Postpone.{postpone_outcome, postpone_taken}
+use Rattle.ct_model.proofs.Steps.LineSteps.{line_outcome, postpone_taken, lose_taken, repeat_taken}
+use Rattle.ct_model.proofs.Steps.LineSteps.{postpone_waits, lose_waits, repeat_away}
+
+-- what a step without a cause takes or moves waits, what it puts back doesn't
+pub names-free : (w : Rehearsal) (step : Step) → cause w step ≡ None → NamesWaiting w step
+names-free w (Receive p k) none = receive_waits w p k none
+names-free w (Postpone p k) none = postpone_waits w p k none
+names-free w (Lose p k) none = lose_waits w p k none
+names-free w (Repeat p k) none = repeat_away w p k none
+names-free w _ none = tt
 
 -- what has no cause is allowed
 
@@ -62,14 +74,16 @@ move-allowed w p a law none =
     let s = open-standing m (faults_at n m a) (sym tested ∙ free.tested) in
     let f = turn-free n q m.last (decided m.got m.last) (own_ballots m s.0) s.0 a s.2 in
     let is = row-move w.setting (state_of w) p q m a ∙ round_row-some m (turn_at n q m a) s.0 f.turn s.1 f.turns in
-    taken-allowed w (step_of p a) (turned m f.turn) law (taken_of w (step_of p a) (turned m f.turn) law none is)
+    taken-allowed w (step_of p a) (turned m f.turn) law (taken_of w (step_of p a) (turned m f.turn) law none
+    (names-free w (step_of p a) none) is)
 
 pub cause-allowed : (w : Rehearsal) (step : Step) → IsLawful w → cause w step ≡ None → IsAllowed w step
 cause-allowed w (Submit p c) law none = taken-allowed w (Submit p c) (submit_outcome w p c) law (submit_taken w p c law none).taken
 cause-allowed w (Receive p k) law none =
     let l = waiting_letter w p k law (receive_waits w p k none) in
     taken-allowed w (Receive p k) (receive_outcome w p l.0.wire) law (receive_taken w p k l.0 law none l.1)
-cause-allowed w (Begin p) law none = taken-allowed w (Begin p) (begin p (member (state_of w) p)) law (begin_taken w p law none).taken
+cause-allowed w (Begin p) law none = taken-allowed w (Begin p) (begin w.setting p (member (state_of w) p)) law
+    (begin_taken w p law none).taken
 cause-allowed w (Enter p) law none = move-allowed w p moves.Enter law none
 cause-allowed w (Choose p from) law none = move-allowed w p (moves.Choose from) law none
 cause-allowed w (Adopt p) law none = move-allowed w p moves.Adopt law none
@@ -77,10 +91,14 @@ cause-allowed w (Suspect p) law none = move-allowed w p moves.Suspect law none
 cause-allowed w (Conclude p) law none = move-allowed w p moves.Conclude law none
 cause-allowed w (Deliver p) law none =
     let d = deliver_taken w p law none in taken-allowed w (Deliver p) (deliver (member (state_of w) p) d.value) law d.taken
+cause-allowed w (Follow p) law none =
+    let d = follow_taken w p law none in taken-allowed w (Follow p) (follow (member (state_of w) p) d.value) law d.taken
 cause-allowed w (Crash p) law none = taken-allowed w (Crash p) (crash_outcome w p) law (crash_taken w p law none)
-cause-allowed w (Postpone p k) law none = taken-allowed w (Postpone p k) (postpone_outcome w p) law (postpone_taken w p k law none)
+cause-allowed w (Postpone p k) law none = taken-allowed w (Postpone p k) (line_outcome w p) law (postpone_taken w p k law none)
+cause-allowed w (Lose p k) law none = taken-allowed w (Lose p k) (line_outcome w p) law (lose_taken w p k law none)
+cause-allowed w (Repeat p k) law none = taken-allowed w (Repeat p k) (line_outcome w p) law (repeat_taken w p k law none)
 
--- where a row gives an outcome and what the step names waits, no test of its own fires
+-- where a row gives an outcome and what the step names waits or not, as the step asks, no test of its own fires
 
 none-one : (a : Bool) (r : Refusal) → a ≡ false → first_fault (at r a ∷ []) ≡ None
 none-one a r e = rw e refl
@@ -94,6 +112,10 @@ none-three a b c r s t e f g = rw (e, f, g) refl
 none-some : {A : Type 0} (o : Option A) → is_none o ≡ true → is_some o ≡ false
 none-some None e = refl
 none-some (Some x) e = absurd (cc)
+
+some-not_none : {A : Type 0} (o : Option A) → is_some o ≡ true → is_none o ≡ false
+some-not_none None e = absurd (cc)
+some-not_none (Some x) e = refl
 
 -- the tests of a step of a round that is taken
 turn-tested : (n p k : ℕ) (d : Option Value) (b : Ballots Value) (c : Standing) (a : Move) (turn : Turn) → turn_of n p k d b c a ≡ Some turn
@@ -137,9 +159,9 @@ row-free w (Submit p c) o is names =
 row-free w (Receive p k) o is names = ap first_fault (own_tests-is w (Receive p k))
     ∙ none-one (not (is_waiting w p k)) NotWaiting (ap not names)
 row-free w (Begin p) o is names =
-    let r = begin_row-is p (member (state_of w) p) o is in
+    let r = begin_row-is w.setting p (member (state_of w) p) o is in
     ap first_fault (own_tests-is w (Begin p)) ∙ none-two (is_some (member (state_of w) p).current)
-    (is_empty (undelivered (member (state_of w) p))) Busy Nothing (none-some (member (state_of w) p).current r.idle) r.something
+    (is_empty (proposed w.setting (member (state_of w) p))) Busy Nothing (none-some (member (state_of w) p).current r.idle) r.something
 row-free w (Enter p) o is names = move-free w p moves.Enter o is
 row-free w (Choose p from) o is names = move-free w p (moves.Choose from) o is
 row-free w (Adopt p) o is names = move-free w p moves.Adopt o is
@@ -149,9 +171,19 @@ row-free w (Deliver p) o is names =
     let m = member (state_of w) p in
     let d = deliver_row-is m o is in
     tests-deliver w p d.standing d.is_open ∙ none-one (is_none (decided m.got m.last)) Undecided (ap is_none d.decision)
+row-free w (Follow p) o is names =
+    let m = member (state_of w) p in
+    let d = follow_row-is m o is in
+    ap first_fault (own_tests-is w (Follow p)) ∙ none-two (is_some m.current) (is_none (decided m.got (m.last + 1))) Busy Undecided
+    (none-some m.current d.idle) (ap is_none d.decision)
 row-free w (Crash p) o is names = ap first_fault (own_tests-is w (Crash p))
 row-free w (Postpone p k) o is names = ap first_fault (own_tests-is w (Postpone p k))
     ∙ none-one (not (is_waiting w p k)) NotWaiting (ap not names)
+row-free w (Lose p k) o is names = ap first_fault (own_tests-is w (Lose p k)) ∙ none-one (not (is_waiting w p k)) NotWaiting (ap not names)
+row-free w (Repeat p k) o is names =
+    ap first_fault (own_tests-is w (Repeat p k))
+    ∙ none-two (is_none (wire_to (state_of w) p k)) (is_waiting w p k) NotSent StillWaiting
+    (some-not_none (wire_to (state_of w) p k) names.sent) names.away
 
 -- where no limit is passed none is the cause
 within-free : (cells steps : ℕ) (g : State) (p : ℕ) → IsWithin cells g steps → first_fault (limits cells steps g p) ≡ None

@@ -1,16 +1,18 @@
 -- What waits is an envelope to the member.
-use Rattle.std.proofs.Common.{◌≡◌, ℕ, zero, suc, ◌+◌, ◌-◌, Bool, true, false, not, List, [], ◌∷◌, ◌++◌, refl, sym, ◌∙◌, subst, arith, Some}
+use Rattle.std.proofs.Common.{◌≡◌, ℕ, zero, suc, ◌+◌, ◌-◌, Bool, true, false, not, List, [], ◌∷◌, ◌++◌, refl, ap, sym, ◌∙◌, subst}
+use Rattle.std.proofs.Common.{arith, Some}
 use Rattle.std.proofs.Common.{inl, inr}
-use Rattle.std.specs.Prelude.{◌==◌, slice_get, if◌then◌else◌, option_and_then}
+use Rattle.std.specs.Prelude.{Option, None, is_some, ◌==◌, slice_get, if◌then◌else◌, option_and_then}
 use Rattle.std.proofs.lemmas.Bool.Decides.{nat_tests}
 use Rattle.ct_model.specs.AtValue.{Envelope, Wire}
 use Rattle.ct_model.specs.State.{State, at_serial}
 use Rattle.ct_model.specs.Next.{wire_to, addressed}
 use Rattle.ct_model.specs.Waiting.{serials_to, has_serial}
 use Rattle.ct_model.specs.Rehearsal.{Rehearsal, state_of}
-use Rattle.ct_model.specs.Lawful.{IsLawful, IsLetter, is_taken, is_waiting}
-use Rattle.ct_model.proofs.Basics.Tests.{and_left, or_cases, number_same}
-use Rattle.ct_model.proofs.Basics.Options.{made-then, when-is}
+use Rattle.ct_model.specs.Lawful.{IsLawful, IsLetter, is_gone, is_waiting}
+use Rattle.ct_model.proofs.Basics.Tests.{and_left, or_left, or_right, or_cases, number_same, same_number}
+use Rattle.ct_model.proofs.Basics.Options.{some-same, some-none, made-then, when-some, when-is}
+use Rattle.ct_model.proofs.Basics.Serials.{has_serial-append}
 
 -- the i-th envelope goes to p
 record IsAt (p before k : ℕ) (es : List Envelope) (i : ℕ) (e : Envelope) : Type 0 where
@@ -38,9 +40,38 @@ serial_at p before k (e ∷ es) h = go (e.to == p) refl (λ m. further (serial_a
         ]
     go false is rest m = rest m
 
+-- and an envelope to p has a serial that goes to p
+serial_to : (p before i : ℕ) (es : List Envelope) (e : Envelope) → slice_get es i ≡ Some e → e.to ≡ p →
+    has_serial (before + 1 + i) (serials_to p before es) ≡ true
+serial_to p before i [] e there to = some-none e there
+serial_to p before zero (x ∷ es) e there to =
+    let same : (x.to == p) ≡ true = number_same x.to p (ap (λ y. y.to) (some-same x e there) ∙ to) in
+    rw same (or_left (before + 1 == before + 1 + 0) (has_serial (before + 1 + 0) (serials_to p (before + 1) es))
+    (number_same (before + 1) (before + 1 + 0) (omega arith)))
+serial_to p before (suc i) (x ∷ es) e there to =
+    let here : List ℕ = if x.to == p then (before + 1) ∷ [] else [] in
+    let place : before + 1 + 1 + i ≡ before + 1 + suc i = omega arith in
+    has_serial-append (before + 1 + suc i) here (serials_to p (before + 1) es)
+    ∙ or_right (has_serial (before + 1 + suc i) here) (has_serial (before + 1 + suc i) (serials_to p (before + 1) es))
+    (subst (λ k. has_serial k (serials_to p (before + 1) es) ≡ true) place (serial_to p (before + 1) i es e there to))
+
+-- so has what p gets from a serial
+pub sent_serial : (g : State) (p k : ℕ) → is_some (wire_to g p k) ≡ true → has_serial k (serials_to p 0 g.sent) ≡ true
+unfolding wire_to
+sent_serial g p zero h = absurd (cc)
+sent_serial g p (suc i) h = go (slice_get g.sent i) refl h
+  where
+    go : (o : Option Envelope) → slice_get g.sent i ≡ o → is_some (option_and_then (addressed p) o) ≡ true →
+        has_serial (suc i) (serials_to p 0 g.sent) ≡ true
+    go None there h = absurd (cc)
+    go (Some e) there h =
+        let place : 0 + 1 + i ≡ suc i = omega arith in
+        subst (λ k. has_serial k (serials_to p 0 g.sent) ≡ true) place
+        (serial_to p 0 i g.sent e there (same_number e.to p (when-some (e.to == p) e.wire h)))
+
 -- what waits was sent to p
 pub was_sent : (w : Rehearsal) (p k : ℕ) → IsLawful w → is_waiting w p k ≡ true → has_serial k (serials_to p 0 (state_of w).sent) ≡ true
-was_sent w p k law h = and_left (has_serial k (serials_to p 0 (state_of w).sent)) (not (is_taken p w.steps k)) (sym (law.waits p k) ∙ h)
+was_sent w p k law h = and_left (has_serial k (serials_to p 0 (state_of w).sent)) (not (is_gone p w.steps k)) (sym (law.waits p k) ∙ h)
 
 -- and is an envelope to p
 pub waiting_letter : (w : Rehearsal) (p k : ℕ) → IsLawful w → is_waiting w p k ≡ true → (e : Envelope) × IsLetter (state_of w) p k e

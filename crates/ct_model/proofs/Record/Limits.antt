@@ -8,9 +8,8 @@ use Rattle.std.proofs.lemmas.List.{append-nil}
 use Rattle.ct_names.specs.declared.limit.TheConstants.{MAX_ENVELOPES, MAX_INSTANCES, MAX_ROUNDS, MAX_STEPS, MAX_SUBMISSIONS}
 use Rattle.ct_names.specs.declared.limit.Limit.TheVariants.{Submissions, Instances, Rounds, Envelopes, Cells, Steps}
 use Rattle.ct_names.specs.declared.refusal.Refusal.{Refusal}
-use Rattle.ct_names.specs.declared.refusal.Refusal.TheVariants.{NotWaiting, Full}
+use Rattle.ct_names.specs.declared.refusal.Refusal.TheVariants.{Full}
 use Rattle.ct_model.specs.declared.step.Step.{Step}
-use Rattle.ct_model.specs.declared.step.Step.TheVariants.{Receive, Postpone}
 use Rattle.ct_model.specs.Actor.{actor}
 use Rattle.ct_model.specs.AtValue.{Standing}
 use Rattle.ct_model.specs.Setting.{Setting}
@@ -19,7 +18,7 @@ use Rattle.ct_model.specs.Next.{Outcome, row, after}
 use Rattle.ct_model.specs.Rehearsal.{Rehearsal, state_of, line_of}
 use Rattle.ct_model.specs.Wire.{envelopes}
 use Rattle.ct_model.specs.Cause.{Test, at, first_fault, tests, limits, limit, or_else, cause, overflow, order, round_of}
-use Rattle.ct_model.specs.Lawful.{IsWithin, IsLawful, IsPresent, NamesWaiting, is_waiting}
+use Rattle.ct_model.specs.Lawful.{IsWithin, IsLawful, IsPresent, NamesWaiting}
 use Rattle.ct_model.proofs.Basics.Tests.{false_not, number_other}
 use Rattle.ct_model.proofs.Record.Frame.{after-submitted, length-after-sent, order-kept, member-same, member-other, at_place}
 use Rattle.ct_model.proofs.Record.Frame.{submissions-append, submissions-next, submissions-none}
@@ -58,12 +57,6 @@ module _ (w : Rehearsal) (step : Step) (r : Refusal) (b : Bool)
   pub passed-free : cause w step ≡ None → b ≡ true
   passed-free none = false_not b (first_fault-none (at r (not b)) [] (sym (first_is b refl) ∙ (cause-none w step none).tested)).0
 
--- what a step without a cause takes or moves waits
-pub names-free : (w : Rehearsal) (step : Step) → cause w step ≡ None → NamesWaiting w step
-names-free w (Receive p k) none = passed-free w (Receive p k) NotWaiting (is_waiting w p k) refl none
-names-free w (Postpone p k) none = passed-free w (Postpone p k) NotWaiting (is_waiting w p k) refl none
-names-free w _ none = tt
-
 -- the limits of a step with this outcome are tested on the state after it
 pub limit-of : (w : Rehearsal) (step : Step) (o : Outcome) → IsPresent w (actor step) →
     row w.setting (state_of w) (actor step) (member (state_of w) (actor step)) step ≡ Some o →
@@ -84,6 +77,7 @@ row-submits s g p m step o e q other = by_shape s g p m (λ x. submissions x.sub
   opens = λ idle some. submissions-none q;
   turns = λ a c t open_at taken. submissions-none q;
   closes = λ c v open_at has delivers. submissions-none q;
+  follows = λ v idle has delivers. submissions-none q;
   marks = λ crashed. submissions-none q;
 }) e
 
@@ -154,14 +148,14 @@ module _ (w : Rehearsal) (step : Step) (o : Outcome) (law : IsLawful w)
   }
 
 -- a step without a cause is taken, with the outcome of its row
-pub taken_of : (w : Rehearsal) (step : Step) (o : Outcome) → IsLawful w → cause w step ≡ None →
+pub taken_of : (w : Rehearsal) (step : Step) (o : Outcome) → IsLawful w → cause w step ≡ None → NamesWaiting w step →
     row w.setting (state_of w) (actor step) (member (state_of w) (actor step)) step ≡ Some o → IsTaken w step o
-taken_of w step o law none is =
+taken_of w step o law none names is =
     let free = cause-none w step none in
     record {
       present = free.present;
       row = is;
-      names = names-free w step none;
+      names = names;
       within = within_all w step o law is (limits-none w.cells (length w.steps + 1) (after w.setting (state_of w) (actor step) o)
           (actor step) (sym (limit-of w step o free.present is) ∙ free.limited));
     }

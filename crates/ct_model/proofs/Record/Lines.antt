@@ -1,15 +1,17 @@
 -- A waiting line after one more step.
-use Rattle.std.proofs.Common.{◌≡◌, ℕ, Bool, true, false, not, List, [], ◌∷◌, ◌++◌, refl, ap, sym, ◌∙◌, subst}
+use Rattle.std.proofs.Common.{◌≡◌, ℕ, Bool, true, false, not, List, [], ◌∷◌, ◌++◌, refl, ap, sym, ◌∙◌, subst, true≢false}
 use Rattle.std.specs.Prelude.{◌==◌, ◌&&◌, ◌||◌, fold, if◌then◌else◌}
-use Rattle.std.proofs.lemmas.List.Folds.{list_any-append}
 use Rattle.ct_model.specs.declared.step.Step.{Step}
 use Rattle.ct_model.specs.Setting.{Setting}
 use Rattle.ct_model.specs.State.{State, first_state}
 use Rattle.ct_model.specs.Next.{stepped}
-use Rattle.ct_model.specs.Waiting.{LineChange, changed, without, alone, has_serial, line_change, takes, line_after, line_from, waiting}
-use Rattle.ct_model.specs.Waiting.LineChange.{Takes, Defers, Leaves}
-use Rattle.ct_model.specs.Lawful.{is_distinct, is_taken}
-use Rattle.ct_model.proofs.Basics.Tests.{and_left, and_right, and_true, and_false, or_false, true_not, same_number, swapped}
+use Rattle.ct_model.specs.Waiting.{LineChange, changed, without, alone, has_serial, line_change, takes, restores, line_after, line_from}
+use Rattle.ct_model.specs.Waiting.{waiting}
+use Rattle.ct_model.specs.Waiting.LineChange.{Takes, Defers, Restores, Leaves}
+use Rattle.ct_model.specs.Lawful.{is_distinct, gone_after, is_gone}
+use Rattle.std.proofs.lemmas.List.Sums.{fold-append}
+use Rattle.ct_model.proofs.Basics.Tests.{and_left, and_right, and_both, and_true, and_false, or_false, true_not, same_number, self_number}
+use Rattle.ct_model.proofs.Basics.Tests.{number_other, swapped}
 use Rattle.ct_model.proofs.Basics.Serials.{has_serial-append, has_serial-filter, is_distinct-append, is_distinct-filter}
 
 line_from-push : (s : Setting) (p : ℕ) (g : State) (line : List ℕ) (steps : List Step) (step : Step)
@@ -22,7 +24,7 @@ pub waiting-push : (s : Setting) (p : ℕ) (steps : List Step) (step : Step)
 unfolding waiting
 waiting-push s p steps step = line_from-push s p (first_state s) [] steps step
 
--- what waits once still does after a change
+-- what waits once still does after a change, where what is put back didn't wait
 
 parted : (k j : ℕ) (line : List ℕ) → has_serial j (without k line) ≡ true → has_serial j (alone k line) ≡ false
 parted k j line m =
@@ -30,50 +32,69 @@ parted k j line m =
     let differs : (j == k) ≡ false = true_not (j == k) other in
     has_serial-filter (λ i. i == k) j line ∙ ap (λ b. has_serial j line && b) differs ∙ and_false (has_serial j line)
 
-pub changed-distinct : (p : ℕ) (change : LineChange) (line : List ℕ) → is_distinct line ≡ true → is_distinct (changed p change line) ≡ true
-changed-distinct p (Takes q k) line d = go (q == p)
+apart : (k j : ℕ) (line : List ℕ) → has_serial k line ≡ false → has_serial j line ≡ true → has_serial j (k ∷ []) ≡ false
+apart k j line away m =
+    or_false (k == j) ∙ number_other k j (λ same. true≢false (sym m ∙ subst (λ i. has_serial i line ≡ false) same away))
+
+pub changed-distinct : (p : ℕ) (change : LineChange) (line : List ℕ) → is_distinct line ≡ true →
+    ((k : ℕ) → restores p k change ≡ true → has_serial k line ≡ false) → is_distinct (changed p change line) ≡ true
+changed-distinct p (Takes q k) line d away = go (q == p)
   where
     go : (b : Bool) → is_distinct (if b then without k line else line) ≡ true
     go true = is_distinct-filter (λ i. not (i == k)) line d
     go false = d
-changed-distinct p (Defers q k) line d = go (q == p)
+changed-distinct p (Defers q k) line d away = go (q == p)
   where
     go : (b : Bool) → is_distinct (if b then without k line ++ alone k line else line) ≡ true
     go true =
         is_distinct-append (without k line) (alone k line)
         (is_distinct-filter (λ i. not (i == k)) line d) (is_distinct-filter (λ i. i == k) line d) (λ j m. parted k j line m)
     go false = d
-changed-distinct p Leaves line d = d
+changed-distinct p (Restores q k) line d away = go (q == p) (λ e. away k (and_both (q == p) (k == k) e (self_number k)))
+  where
+    go : (b : Bool) → (b ≡ true → has_serial k line ≡ false) → is_distinct (if b then line ++ k ∷ [] else line) ≡ true
+    go true out = is_distinct-append line (k ∷ []) d refl (λ j m. apart k j line (out refl) m)
+    go false out = d
+changed-distinct p Leaves line d away = d
 
--- what waits after a change waited before, and isn't taken
+-- what waits after a change waited before and isn't taken, or is put back
 
-both_parts : (l e : Bool) → ((l && not e) || (l && e)) ≡ (l && true)
+both_parts : (l e : Bool) → ((l && not e) || (l && e)) ≡ ((l && true) || false)
 both_parts true true = refl
 both_parts true false = refl
 both_parts false e = refl
 
+as_before : (l : Bool) → l ≡ ((l && true) || false)
+as_before true = refl
+as_before false = refl
+
 pub changed-has : (p k : ℕ) (change : LineChange) (line : List ℕ)
-    → has_serial k (changed p change line) ≡ (has_serial k line && not (takes p k change))
+    → has_serial k (changed p change line) ≡ ((has_serial k line && not (takes p k change)) || restores p k change)
 changed-has p k (Takes q i) line = go (q == p)
   where
-    go : (b : Bool) → has_serial k (if b then without i line else line) ≡ (has_serial k line && not (b && (i == k)))
-    go true = has_serial-filter (λ j. not (j == i)) k line ∙ ap (λ e. has_serial k line && not e) (swapped k i)
-    go false = sym (and_true (has_serial k line))
+    go : (b : Bool) → has_serial k (if b then without i line else line) ≡ ((has_serial k line && not (b && (i == k))) || false)
+    go true =
+        has_serial-filter (λ j. not (j == i)) k line ∙ ap (λ e. has_serial k line && not e) (swapped k i)
+        ∙ sym (or_false (has_serial k line && not (i == k)))
+    go false = as_before (has_serial k line)
 changed-has p k (Defers q i) line = go (q == p)
   where
-    go : (b : Bool) → has_serial k (if b then without i line ++ alone i line else line) ≡ (has_serial k line && true)
+    go : (b : Bool) → has_serial k (if b then without i line ++ alone i line else line) ≡ ((has_serial k line && true) || false)
     go true =
         has_serial-append k (without i line) (alone i line)
         ∙ rw (has_serial-filter (λ j. not (j == i)) k line, has_serial-filter (λ j. j == i) k line)
         (both_parts (has_serial k line) (k == i))
-    go false = sym (and_true (has_serial k line))
-changed-has p k Leaves line = sym (and_true (has_serial k line))
+    go false = as_before (has_serial k line)
+changed-has p k (Restores q i) line = go (q == p)
+  where
+    go : (b : Bool) → has_serial k (if b then line ++ i ∷ [] else line) ≡ ((has_serial k line && true) || (b && (i == k)))
+    go true = has_serial-append k line (i ∷ []) ∙ rw (or_false (i == k), and_true (has_serial k line)) refl
+    go false = as_before (has_serial k line)
+changed-has p k Leaves line = as_before (has_serial k line)
 
-pub is_taken-push : (p : ℕ) (steps : List Step) (step : Step) (k : ℕ)
-    → is_taken p (steps ++ step ∷ []) k ≡ (is_taken p steps k || takes p k (line_change step))
-is_taken-push p steps step k =
-    list_any-append (λ x. takes p k (line_change x)) steps (step ∷ [])
-    ∙ ap (λ b. is_taken p steps k || b) (or_false (takes p k (line_change step)))
+pub is_gone-push : (p : ℕ) (steps : List Step) (step : Step) (k : ℕ)
+    → is_gone p (steps ++ step ∷ []) k ≡ gone_after p k (is_gone p steps k) (line_change step)
+is_gone-push p steps step k = fold-append (λ gone x. gone_after p k gone (line_change x)) false steps (step ∷ [])
 
 -- a serial that waits once is one
 

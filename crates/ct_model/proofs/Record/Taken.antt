@@ -1,5 +1,6 @@
 -- A step that is taken: what it does to the record, whichever step it is.
-use Rattle.std.proofs.Common.{◌≡◌, ℕ, ◌+◌, ◌<◌, ◌≤◌, Bool, true, false, List, [], ◌∷◌, ◌++◌, length, drop, refl, ap, sym, ◌∙◌, arith, Some}
+use Rattle.std.proofs.Common.{◌≡◌, ℕ, ◌+◌, ◌<◌, ◌≤◌, Bool, true, false, List, [], ◌∷◌, ◌++◌, length, drop, refl, ap, sym, ◌∙◌, arith}
+use Rattle.std.proofs.Common.{Some, inl, inr}
 use Rattle.std.specs.Prelude.{not, ◌==◌, ◌&&◌, ◌||◌, option_and_then}
 use Rattle.std.proofs.lemmas.Bool.Decides.{nat_tests}
 use Rattle.std.proofs.lemmas.List.{drop_at, length_push}
@@ -12,14 +13,15 @@ use Rattle.ct_model.specs.Wire.{envelopes}
 use Rattle.ct_model.specs.State.{State, member, is_crashed}
 use Rattle.ct_model.specs.Next.{Outcome, row, after, next, can_act, stepped}
 use Rattle.ct_model.specs.Run.{run}
-use Rattle.ct_model.specs.Waiting.{LineChange, has_serial, serials_to, line_change, takes, changed, line_after}
-use Rattle.ct_model.specs.Waiting.LineChange.{Takes}
+use Rattle.ct_model.specs.Waiting.{LineChange, has_serial, serials_to, line_change, takes, restores, changed, line_after}
+use Rattle.ct_model.specs.Waiting.LineChange.{Takes, Restores}
 use Rattle.ct_model.specs.Rehearsal.{Rehearsal, state_of, line_of, extended}
-use Rattle.ct_model.specs.Lawful.{is_distinct, is_taken, Waits, IsWithin, IsLawful, IsPresent, NamesWaiting}
-use Rattle.ct_model.proofs.Basics.Tests.{and_left, and_both, and_false, or_false, not_true}
+use Rattle.ct_model.specs.Lawful.{is_distinct, is_gone, Waits, IsAway, IsWithin, IsLawful, IsPresent, NamesWaiting}
+use Rattle.ct_model.proofs.Basics.Tests.{and_left, and_right, and_both, and_true, and_false, or_cases, or_true, or_false, not_true}
+use Rattle.ct_model.proofs.Basics.Tests.{same_number}
 use Rattle.ct_model.proofs.Record.Runs.{state_of-push, run-push, stepped-next}
-use Rattle.ct_model.proofs.Record.Envelopes.{was_sent}
-use Rattle.ct_model.proofs.Record.Lines.{waiting-push, changed-distinct, changed-has, is_taken-push}
+use Rattle.ct_model.proofs.Record.Envelopes.{was_sent, sent_serial}
+use Rattle.ct_model.proofs.Record.Lines.{waiting-push, changed-distinct, changed-has, is_gone-push}
 use Rattle.ct_model.proofs.Basics.Serials.{has_serial-append, is_distinct-append, serials_to-append, serials_to-within, serials_to-distinct}
 use Rattle.ct_model.proofs.Record.Frame.{after-sent, length-after-sent, after-size}
 
@@ -39,9 +41,11 @@ next-row s g step o group up e =
     (ap not up) in
     rw (acts, e) refl
 
+sent_within : (g : State) (p k : ℕ) → has_serial k (serials_to p 0 g.sent) ≡ true → k ≤ length g.sent
+sent_within g p k m = let b = serials_to-within p 0 k g.sent m in omega arith
+
 waiting_within : (w : Rehearsal) → IsLawful w → (p k : ℕ) → has_serial k (line_of w p) ≡ true → k ≤ length (state_of w).sent
-waiting_within w law p k m =
-    let b = serials_to-within p 0 k (state_of w).sent (was_sent w p k law m) in omega arith
+waiting_within w law p k m = sent_within (state_of w) p k (was_sent w p k law m)
 
 -- a serial that wasn't sent isn't taken
 not_early : (w : Rehearsal) → IsLawful w → (change : LineChange) → Waits w change → (p k : ℕ) → length (state_of w).sent < k
@@ -52,7 +56,15 @@ not_early w law (Takes q i) waits p k m =
     rw differs (and_false (q == p))
 not_early w law _ waits p k m = refl
 
--- of a serial: it was sent before, it was taken before, the step takes it, the step sends it
+-- a serial that is put back was sent to the member, and doesn't wait there
+restored : (w : Rehearsal) (change : LineChange) → Waits w change → (p k : ℕ) → restores p k change ≡ true → IsAway w p k
+restored w (Restores q i) away p k e =
+    let member : q ≡ p = same_number q p (and_left (q == p) (i == k) e) in
+    let serial : i ≡ k = same_number i k (and_right (q == p) (i == k) e) in
+    rw (← member, ← serial) away
+restored w _ waits p k e = absurd (cc)
+
+-- of a serial: it was sent before, it was gone before, the step takes it, the step sends it
 taken_or_sent : (old was now new : Bool) → (new ≡ true → (was ≡ false) × (now ≡ false))
     → (((old && not was) && not now) || new) ≡ ((old || new) && not (was || now))
 taken_or_sent true true now false h = refl
@@ -62,6 +74,14 @@ taken_or_sent true false false true h = refl
 taken_or_sent false false false true h = refl
 taken_or_sent old true now true h = absurd (let e = (h refl).0 in cc)
 taken_or_sent old false true true h = absurd (let e = (h refl).1 in cc)
+
+-- and the step puts it back
+or_back : (old was now back new : Bool) → (new ≡ true → (was ≡ false) × (now ≡ false)) → (back ≡ true → old ≡ true)
+    → ((((old && not was) && not now) || back) || new) ≡ ((old || new) && not ((was || now) && not back))
+or_back old was now false new fresh sent =
+    rw (or_false ((old && not was) && not now), and_true (was || now)) (taken_or_sent old was now new fresh)
+or_back true was now true new fresh sent = rw (or_true (not was && not now), and_false (was || now)) refl
+or_back false was now true new fresh sent = absurd (let e = sent refl in cc)
 
 module _ (w : Rehearsal) (step : Step) (o : Outcome) (law : IsLawful w) (taken : IsTaken w step o) where
   sends : List Envelope
@@ -83,7 +103,7 @@ module _ (w : Rehearsal) (step : Step) (o : Outcome) (law : IsLawful w) (taken :
   coming : ℕ → List ℕ
   coming p = serials_to p (length (state_of w).sent) sends
 
-  -- its serial leaves the line or goes to its end, and what it sends comes after
+  -- the line as the step changes it, and what it sends comes after
   pub line-step : (p : ℕ)
       → line_of (extended w step) p
       ≡ changed p (line_change step) (line_of w p) ++ serials_to p (length (state_of w).sent) (envelopes w.setting.members o.mail)
@@ -103,19 +123,19 @@ module _ (w : Rehearsal) (step : Step) (o : Outcome) (law : IsLawful w) (taken :
       ∙ serials_to-append p 0 (state_of w).sent (envelopes w.setting.members o.mail)
       ∙ ap (λ b. serials_to p 0 (state_of w).sent ++ serials_to p b (envelopes w.setting.members o.mail)) (omega arith)
 
-  -- what it sends was never taken
-  untaken : (p k : ℕ) → length (state_of w).sent < k → (is_taken p w.steps k ≡ false) × (takes p k (line_change step) ≡ false)
+  -- what it sends wasn't gone, and isn't taken
+  untaken : (p k : ℕ) → length (state_of w).sent < k → (is_gone p w.steps k ≡ false) × (takes p k (line_change step) ≡ false)
   untaken p k m = (law.unsent p k m, not_early w law (line_change step) taken.names p k m)
 
-  unsent-step : (p k : ℕ) → length h.sent < k → is_taken p (w.steps ++ step ∷ []) k ≡ false
+  unsent-step : (p k : ℕ) → length h.sent < k → is_gone p (w.steps ++ step ∷ []) k ≡ false
   unfolding h
   unsent-step p k m =
       let grown = length-after-sent w.setting (state_of w) (actor step) o in
       let f = untaken p k (omega arith) in
-      is_taken-push p w.steps step k ∙ rw (f.0, f.1) refl
+      is_gone-push p w.steps step k ∙ rw (f.0, f.1) refl
 
   waits-step : (p k : ℕ)
-      → has_serial k (line_of (extended w step) p) ≡ (has_serial k (serials_to p 0 h.sent) && not (is_taken p (w.steps ++ step ∷ []) k))
+      → has_serial k (line_of (extended w step) p) ≡ (has_serial k (serials_to p 0 h.sent) && not (is_gone p (w.steps ++ step ∷ []) k))
   unfolding coming sends
   waits-step p k =
       let old : List ℕ = serials_to p 0 (state_of w).sent in
@@ -127,20 +147,30 @@ module _ (w : Rehearsal) (step : Step) (o : Outcome) (law : IsLawful w) (taken :
         law.waits p k,
         sent_parts p,
         has_serial-append k old (coming p),
-        is_taken-push p w.steps step k,
+        is_gone-push p w.steps step k,
       )
-      (taken_or_sent (has_serial k old) (is_taken p w.steps k) now (has_serial k (coming p))
-      (λ m. untaken p k (serials_to-within p (length (state_of w).sent) k sends m).0))
+      (or_back (has_serial k old) (is_gone p w.steps k) now (restores p k (line_change step)) (has_serial k (coming p))
+      (λ m. untaken p k (serials_to-within p (length (state_of w).sent) k sends m).0)
+      (λ m. sent_serial (state_of w) p k (restored w (line_change step) taken.names p k m).sent))
+
+  -- what waits after the change of the line was sent before
+  old_within : (p k : ℕ) → has_serial k (changed p (line_change step) (line_of w p)) ≡ true → k ≤ length (state_of w).sent
+  old_within p k m =
+      let change : LineChange = line_change step in
+      let waited : Bool = has_serial k (line_of w p) && not (takes p k change) in
+      elim (or_cases waited (restores p k change) (sym (changed-has p k change (line_of w p)) ∙ m)) [
+        | inl a ↦ waiting_within w law p k (and_left (has_serial k (line_of w p)) (not (takes p k change)) a)
+        | inr b ↦ sent_within (state_of w) p k (sent_serial (state_of w) p k (restored w change taken.names p k b).sent)
+      ]
 
   distinct-step : (p : ℕ) → is_distinct (line_of (extended w step) p) ≡ true
   unfolding coming sends
   distinct-step p = rw (line-step p)
       (is_distinct-append (changed p (line_change step) (line_of w p)) (coming p)
-      (changed-distinct p (line_change step) (line_of w p) (law.distinct p)) (serials_to-distinct p (length (state_of w).sent) sends)
+      (changed-distinct p (line_change step) (line_of w p) (law.distinct p)
+      (λ k m. (restored w (line_change step) taken.names p k m).away)) (serials_to-distinct p (length (state_of w).sent) sends)
       (λ k a. not_true (has_serial k (coming p)) (λ b.
-      let change : LineChange = line_change step in
-      let waited = and_left (has_serial k (line_of w p)) (not (takes p k change)) (sym (changed-has p k change (line_of w p)) ∙ a) in
-      let last = waiting_within w law p k waited in
+      let last = old_within p k a in
       let first = serials_to-within p (length (state_of w).sent) k sends b in
       omega arith)))
 

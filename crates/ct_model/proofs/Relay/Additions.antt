@@ -1,5 +1,5 @@
 -- What a step sends of messages and decisions, and what it adds to what its member got.
-use Rattle.std.proofs.Common.{◌≡◌, ℕ, cond, List, [], ◌∷◌, refl, sym, ap, subst, inl, inr, ◌⊎◌, Some}
+use Rattle.std.proofs.Common.{◌≡◌, ℕ, cond, List, [], ◌∷◌, refl, inl, inr, ◌⊎◌, Some}
 use Rattle.ct_names.specs.Group.{coordinator, IsMember}
 use Rattle.ct_names.specs.Membership.{IsIn}
 use Rattle.ct_names.proofs.Lists
@@ -7,10 +7,10 @@ use Rattle.ct_model.specs.declared.step.Step.{Step}
 use Rattle.ct_model.specs.Actor.{actor}
 use Rattle.ct_model.specs.AtValue.{Wire, Mail}
 use Rattle.ct_model.specs.Setting.{Setting}
-use Rattle.ct_model.specs.declared.wire.Wire.TheVariants.{Data, Prop, Dec}
+use Rattle.ct_model.specs.declared.wire.Wire.TheVariants.{Data, Est, Prop, Ack, Nack, Dec}
 use Rattle.ct_model.specs.declared.mail.Mail.TheVariants.{Nobody, All}
-use Rattle.ct_model.specs.State.{State, Member, member}
-use Rattle.ct_model.specs.Next.{Outcome, plain, row, submit, receive, begin, turned, deliver, is_relayed}
+use Rattle.ct_model.specs.State.{State, member}
+use Rattle.ct_model.specs.Next.{Outcome, plain, row, submit, receive, begin, turned, deliver, follow, is_relayed}
 use Rattle.ct_model.proofs.Consensus.Facts.{Holds}
 use Rattle.ct_model.proofs.Consensus.Sent.{Sent, Carries, Sent-wire}
 use Rattle.ct_model.proofs.Steps.Shapes.{by_shape}
@@ -25,65 +25,42 @@ pub record IsGotNow (s : Setting) (g : State) (p : ℕ) (o : Outcome) (w : Wire)
 abbrev pub GotNow : Setting → State → ℕ → Outcome → Type 0
 GotNow s g p o = (w : Wire) → IsIn w o.member.got → IsIn w (member g p).got ⊎ IsGotNow s g p o w
 
+-- messages and decisions, which are relayed
+abbrev pub IsShared : Wire → Type 0
+IsShared (Data m) = Unit {0}
+IsShared (Dec k r v) = Unit {0}
+IsShared _ = ⊥
+
 -- only its origin sends a message as new, and only the coordinator of its round a decision
-abbrev pub IsByOwner : Setting → State → ℕ → Wire → Type 0
-IsByOwner s g p (Data m) = Sent g (Data m) ⊎ (m.origin ≡ p)
-IsByOwner s g p (Dec k r v) = Sent g (Dec k r v) ⊎ (coordinator s.members r ≡ p)
-IsByOwner s g p _ = Unit {0}
+abbrev pub owner : Setting → Wire → ℕ
+owner s (Data m) = m.origin
+owner s (Dec k r v) = coordinator s.members r
+owner s _ = 0
 
-by_owner-sent : (s : Setting) (g : State) (p : ℕ) (w : Wire) → Sent g w → IsByOwner s g p w
-by_owner-sent s g p (Data m) h = inl h
-by_owner-sent s g p (Dec k r v) h = inl h
-by_owner-sent s g p _ h = tt
-
--- messages and decisions go to all
-abbrev pub GoesToAll : Mail → Wire → Type 0
-GoesToAll mail (Data m) = mail ≡ All (Data m)
-GoesToAll mail (Dec k r v) = mail ≡ All (Dec k r v)
-GoesToAll mail _ = Unit {0}
-
-goes-all : (w : Wire) → GoesToAll (All w) w
-goes-all (Data m) = refl
-goes-all (Dec k r v) = refl
-goes-all _ = tt
+-- what is sent of these was sent before or is its owner's, and goes to all
+abbrev pub IsOwned : Setting → State → ℕ → Mail → Wire → Type 0
+IsOwned s g p mail w = (Sent g w ⊎ (owner s w ≡ p)) × (mail ≡ All w)
 
 -- what a step does to messages and decisions
 pub record IsMade (s : Setting) (g : State) (p : ℕ) (o : Outcome) : Type 0 where
   pub more : (w : Wire) → IsIn w (member g p).got → IsIn w o.member.got
   pub got_now : GotNow s g p o
-  pub owner : (w : Wire) → Carries o.mail w → IsByOwner s g p w
-  pub to_all : (w : Wire) → Carries o.mail w → GoesToAll o.mail w
+  pub owned : (w : Wire) → IsShared w → Carries o.mail w → IsOwned s g p o.mail w
 
-goes-carried : (mail : Mail) (w x : Wire) → mail ≡ All x → Carries mail w → GoesToAll mail w
-goes-carried mail w x e c =
-    let same : w ≡ x = subst (λ z. Carries z w) e c in
-    subst (λ z. GoesToAll z w) (sym e) (subst (λ z. GoesToAll (All x) z) (sym same) (goes-all x))
-
--- a wire that goes to all, or isn't a message and no decision
-sending-to_all : (s : Setting) (g : State) (p : ℕ) (m : Member) (mail : Mail) → IsSending s g p m mail → (w : Wire) → Carries mail w →
-    GoesToAll mail w
-sending-to_all s g p m mail (nothing e) w c = absurd (subst (λ z. Carries z w) e c)
-sending-to_all s g p m mail (message new origin e) w c = goes-carried mail w (Data new) e c
-sending-to_all s g p m mail (relay x sent relayed e) w c = goes-carried mail w x e c
-sending-to_all s g p m mail (estimate k r v ts e) w c = subst (λ z. GoesToAll mail z) (sym (subst (λ z. Carries z w) e c)) tt
-sending-to_all s g p m mail (proposal k r v e) w c = goes-carried mail w (Prop k r v) e c
-sending-to_all s g p m mail (ack k r e) w c = subst (λ z. GoesToAll mail z) (sym (subst (λ z. Carries z w) e c)) tt
-sending-to_all s g p m mail (nack k r e) w c = subst (λ z. GoesToAll mail z) (sym (subst (λ z. Carries z w) e c)) tt
-sending-to_all s g p m mail (decision d at tallies e) w c = goes-carried mail w (Dec m.last d.round d.estimate) e c
-
-sending-owner : (s : Setting) (g : State) (p : ℕ) (mail : Mail) → Holds s g → IsMember s.members p → IsSending s g p (member g p) mail →
-    (w : Wire) → Carries mail w → IsByOwner s g p w
-sending-owner s g p mail holds is (nothing e) w c = absurd (subst (λ z. Carries z w) e c)
-sending-owner s g p mail holds is (message new origin e) w c =
-    subst (λ z. IsByOwner s g p z) (sym (subst (λ z. Carries z w) e c)) (inr origin)
-sending-owner s g p mail holds is (relay x sent relayed e) w c =
-    subst (λ z. IsByOwner s g p z) (sym (subst (λ z. Carries z w) e c)) (by_owner-sent s g p x sent)
-sending-owner s g p mail holds is (estimate k r v ts e) w c = subst (λ z. IsByOwner s g p z) (sym (subst (λ z. Carries z w) e c)) tt
-sending-owner s g p mail holds is (proposal k r v e) w c = subst (λ z. IsByOwner s g p z) (sym (subst (λ z. Carries z w) e c)) tt
-sending-owner s g p mail holds is (ack k r e) w c = subst (λ z. IsByOwner s g p z) (sym (subst (λ z. Carries z w) e c)) tt
-sending-owner s g p mail holds is (nack k r e) w c = subst (λ z. IsByOwner s g p z) (sym (subst (λ z. Carries z w) e c)) tt
-sending-owner s g p mail holds is (decision d at tallies e) w c =
-    subst (λ z. IsByOwner s g p z) (sym (subst (λ z. Carries z w) e c)) (inr ((holds.sound p is d at).tallies tallies))
+sending-owned : (s : Setting) (g : State) (p : ℕ) (mail : Mail) → Holds s g → IsMember s.members p → IsSending s g p (member g p) mail →
+    (w : Wire) → IsShared w → Carries mail w → IsOwned s g p mail w
+sending-owned s g p mail holds is (nothing e) w shared c = absurd (rw e at c)
+sending-owned s g p mail holds is (message new origin e) w shared c =
+    let same : w ≡ Data new = rw e at c in (inr (rw same origin), rw same e)
+sending-owned s g p mail holds is (relay x sent relayed e) w shared c = let same : w ≡ x = rw e at c in (inl (rw same sent), rw same e)
+sending-owned s g p mail holds is (estimate k r v ts e) w shared c =
+    let same : w ≡ Est k r p v ts = rw e at c in absurd (rw same at shared)
+sending-owned s g p mail holds is (proposal k r v e) w shared c = let same : w ≡ Prop k r v = rw e at c in absurd (rw same at shared)
+sending-owned s g p mail holds is (ack k r e) w shared c = let same : w ≡ Ack k r p = rw e at c in absurd (rw same at shared)
+sending-owned s g p mail holds is (nack k r e) w shared c = let same : w ≡ Nack k r p = rw e at c in absurd (rw same at shared)
+sending-owned s g p mail holds is (decision d at tallies e) w shared c =
+    let same : w ≡ Dec (member g p).last d.round d.estimate = rw e at c in
+    (inr (rw same ((holds.sound p is d at).tallies tallies)), rw same e)
 
 -- what a step gets
 record IsGetting (s : Setting) (g : State) (p : ℕ) (o : Outcome) : Type 0 where
@@ -92,8 +69,8 @@ record IsGetting (s : Setting) (g : State) (p : ℕ) (o : Outcome) : Type 0 wher
 
 gets-nothing : (s : Setting) (g : State) (p : ℕ) (o : Outcome) → o.member.got ≡ (member g p).got → IsGetting s g p o
 gets-nothing s g p o same = record {
-  more = λ w h. subst (λ z. IsIn w z) (sym same) h;
-  got_now = λ w h. inl (subst (λ z. IsIn w z) same h);
+  more = λ w h. rw same h;
+  got_now = λ w h. inl (rw same at h);
 }
 
 gets-one : (s : Setting) (g : State) (p : ℕ) (w : Wire) → Sent g w → IsGetting s g p (receive s p (member g p) w)
@@ -104,10 +81,7 @@ gets-one s g p w sent =
       got_now = λ x h. elim (Lists.IsIn-append_cases x got (w ∷ []) h) [
         | inl a ↦ inl a
         | inr c ↦ elim c [
-          | inl e ↦
-              let same : cond (is_relayed s p got w) (All w) Nobody ≡ cond (is_relayed s p got x) (All x) Nobody =
-              ap (λ z. cond (is_relayed s p got z) (All z) Nobody) (sym e) in
-              inr (record { sent = subst (λ z. Sent g z) (sym e) sent; mail = same })
+          | inl e ↦ inr (record { sent = rw e sent; mail = rw e refl })
           | inr never ↦ absurd never
         ]
       ];
@@ -117,9 +91,10 @@ step-gets : (s : Setting) (g : State) (p : ℕ) (step : Step) (o : Outcome) → 
 step-gets s g p step o = by_shape s g p (member g p) (IsGetting s g p) step o (record {
   submits = λ c good. gets-nothing s g p (submit g p (member g p) c) refl;
   gets = λ k w at. gets-one s g p w (Sent-wire g p k w at);
-  opens = λ idle some. gets-nothing s g p (begin p (member g p)) refl;
+  opens = λ idle some. gets-nothing s g p (begin s p (member g p)) refl;
   turns = λ a c t open_at taken. gets-nothing s g p (turned (member g p) t) refl;
   closes = λ c v open_at has delivers. gets-nothing s g p (deliver (member g p) v) refl;
+  follows = λ v idle has delivers. gets-nothing s g p (follow (member g p) v) refl;
   marks = λ crashed. gets-nothing s g p (plain (record (member g p) { crashed = crashed }) Nobody) refl;
 })
 
@@ -128,10 +103,8 @@ pub made-step : (s : Setting) (g : State) (step : Step) (o : Outcome) → Holds 
 made-step s g step o holds is e =
     let p : ℕ = actor step in
     let gets = step-gets s g p step o e in
-    let sends = row-sends s g p (member g p) step o e in
     record {
       more = gets.more;
       got_now = gets.got_now;
-      owner = sending-owner s g p o.mail holds is sends;
-      to_all = sending-to_all s g p (member g p) o.mail sends;
+      owned = sending-owned s g p o.mail holds is (row-sends s g p (member g p) step o e);
     }

@@ -1,14 +1,13 @@
 -- What is known of messages holds after every step.
-use Rattle.std.proofs.Common.{◌≡◌, ℕ, zero, suc, ◌+◌, ◌-◌, ◌<◌, ◌≤◌, Bool, true, false, not, List, [], ◌∷◌, ◌++◌, length, map, refl, ap}
-use Rattle.std.proofs.Common.{sym, ◌∙◌, subst, arith, Some, None, Option, option_map, ◌⊎◌, inl, inr}
-use Rattle.std.specs.Prelude.{slice_get, if◌then◌else◌}
+use Rattle.std.proofs.Common.{◌≡◌, ℕ, zero, suc, ◌+◌, ◌-◌, ◌<◌, Bool, true, false, not, List, [], ◌∷◌, ◌++◌, length, refl, ap}
+use Rattle.std.proofs.Common.{◌∙◌, arith, Some, Option, ◌⊎◌, inl, inr}
+use Rattle.std.specs.Prelude.{slice_get, if◌then◌else◌, ◌==◌}
 use Rattle.std.proofs.lemmas.Bool.{cases_eq}
 use Rattle.std.proofs.lemmas.Bool.Decides.{nat_tests}
 use Rattle.std.proofs.lemmas.List.{append-nil}
 use Rattle.ct_names.specs.declared.command.Command.{Command}
-use Rattle.ct_names.specs.Group.{is_member, members}
+use Rattle.ct_names.specs.Group.{is_member}
 use Rattle.ct_names.specs.Message.{Message}
-use Rattle.ct_names.specs.Order.{is_message}
 use Rattle.ct_names.specs.Value.{has}
 use Rattle.ct_names.proofs.Receipts.{has-push}
 use Rattle.ct_names.proofs.Values.{same_message, is_message-refl}
@@ -24,28 +23,26 @@ use Rattle.ct_model.specs.declared.wire.Wire.TheVariants.{Data, Dec}
 use Rattle.ct_model.specs.declared.mail.Mail.TheVariants.{Nobody, One, All}
 use Rattle.ct_model.specs.State.{State, Member, member, is_crashed, submissions}
 use Rattle.ct_model.specs.Received.{received, received_by, decided}
-use Rattle.ct_model.specs.Next.{Outcome, plain, row, submit, receive, begin, turned, turn_at, own_ballots, deliver, next_message}
-use Rattle.ct_model.specs.Next.{is_relayed, after, next, can_act}
-use Rattle.ct_model.proofs.Basics.Tests.{and_left, and_right, true_not, or_cases, or_left, or_right, self_number}
-use Rattle.ct_model.proofs.Basics.Options.{some-same, some-none, made-map}
-use Rattle.ct_model.proofs.Record.Frame.{after-sent, after-submitted, after-size, member-same, member-other, at_place, submissions-append}
+use Rattle.ct_model.specs.Next.{Outcome, plain, row, submit, receive, begin, turned, turn_at, own_ballots, deliver, follow}
+use Rattle.ct_model.specs.Next.{next_message, is_relayed, after, next, can_act}
+use Rattle.ct_model.proofs.Basics.Tests.{and_left, and_right, true_not}
+use Rattle.ct_model.proofs.Basics.Options.{made-map}
+use Rattle.ct_model.proofs.Record.Frame.{after-sent, after-submitted, after-size, member-same, member-other, at_place}
+use Rattle.ct_model.proofs.Record.Frame.{submissions-append, submissions-next}
 use Rattle.ct_model.proofs.Steps.Rows.{enter-is, choose-is, adopt-is, suspect-is, conclude-is}
 use Rattle.ct_model.proofs.Steps.Shapes.{by_shape}
 use Rattle.ct_model.proofs.Record.Envelopes.{wire_to-sent}
+use Rattle.ct_model.proofs.Consensus.Sent.{Carries, carries-mail, get-wire}
 use Rattle.ct_model.proofs.Relay.Receipts.{received-push, joined_by}
 
 known_push : (list : List Message) (m x : Message) → has (list ++ x ∷ []) m ≡ true → (has list m ≡ true) ⊎ (m ≡ x)
-known_push list m x h =
-    elim (or_cases (has list m) (is_message x m) (sym (has-push list x m) ∙ h)) [
-      | inl a ↦ inl a
-      | inr a ↦ inr (sym (same_message x m a))
-    ]
+known_push list m x h = grind (arith, has-push list x m, same_message x m)
 
 known_more : (list : List Message) (m x : Message) → has list m ≡ true → has (list ++ x ∷ []) m ≡ true
-known_more list m x h = has-push list x m ∙ or_left (has list m) (is_message x m) h
+known_more list m x h = grind (arith, has-push list x m)
 
 known_last : (list : List Message) (x : Message) → has (list ++ x ∷ []) x ≡ true
-known_last list x = has-push list x x ∙ or_right (has list x) (is_message x x) (is_message-refl x)
+known_last list x = grind (arith, has-push list x x, is_message-refl x)
 
 carries_more : (list : List Message) (x : Message) (w : Wire) → CarriesOne list w → CarriesOne (list ++ x ∷ []) w
 carries_more list x (Data m) h = known_more list m x h
@@ -63,49 +60,34 @@ MailCarries list Nobody = Unit {0}
 MailCarries list (One to w) = CarriesOne list w
 MailCarries list (All w) = CarriesOne list w
 
-all_carry : (list : List Message) (w : Wire) (tos : List ℕ) (i : ℕ) (e : Envelope) → CarriesOne list w →
-    slice_get (map (λ to. let x : Envelope = record { to = to; wire = w } in x) tos) i ≡ Some e → CarriesOne list e.wire
-all_carry list w [] i e c h = absurd (cc)
-all_carry list w (to ∷ tos) zero e c h = subst (λ (x : Envelope). CarriesOne list x.wire) (some-same (record { to = to; wire = w }) e h) c
-all_carry list w (to ∷ tos) (suc i) e c h = all_carry list w tos i e c h
-
 mail_carries : (n : ℕ) (list : List Message) (mail : Mail) (i : ℕ) (e : Envelope) → MailCarries list mail →
     slice_get (envelopes n mail) i ≡ Some e → CarriesOne list e.wire
-mail_carries n list Nobody i e c h = absurd (cc)
-mail_carries n list (One to w) zero e c h = subst (λ (x : Envelope). CarriesOne list x.wire) (some-same (record { to = to; wire = w }) e h)
-    c
-mail_carries n list (One to w) (suc i) e c h = absurd (cc)
-mail_carries n list (All w) i e c h = all_carry list w (members n) i e c h
+mail_carries n list mail i e c h = go mail c (carries-mail n mail e.wire (get-wire (envelopes n mail) i e h))
+  where
+    go : (mail : Mail) → MailCarries list mail → Carries mail e.wire → CarriesOne list e.wire
+    go Nobody c never = absurd never
+    go (One to w) c same = rw same c
+    go (All w) c same = rw same c
 
 pub received-by : (g : State) (p : ℕ) → received_by g p ≡ received (member g p).got
 unfolding received_by
 received-by g p = refl
 
--- the next message of an origin is one
-submissions-one : (list : List Message) (p : ℕ) (c : Command) → submissions (next_message list p c ∷ []) p ≡ 1
-unfolding submissions
-submissions-one list p c = ap (λ b. length (if b then next_message list p c ∷ [] else [])) (self_number p)
-
 module _ (s : Setting) (g : State) (p : ℕ) (o : Outcome) (k : KnowsMessages s g) (there : p - 1 < length g.members) where
   -- a message that a member has received after the step was received before, or by the actor in it
   received_cases : ((m : Message) → has (received o.member.got) m ≡ true → has g.submitted m ≡ true) → (q : ℕ) (m : Message) →
       has (received_by (after s g p o) q) m ≡ true → has g.submitted m ≡ true
-  received_cases here q m h =
-      elim (cases_eq (q - 1) (p - 1)) [
-        | inl same ↦ here m (ap (λ got. has (received got) m)
-            (sym (at_place (λ x. x.got) (after s g p o) q p same ∙ ap (λ (x : Member). x.got) (member-same s g p o there)))
-            ∙ ap (λ list. has list m) (sym (received-by (after s g p o) q)) ∙ h)
-        | inr other ↦ k.received q m (ap (λ list. has list m)
-            (received-by g q ∙ ap (λ (x : Member). received x.got) (sym (member-other s g p q o other))
-            ∙ sym (received-by (after s g p o) q)) ∙ h)
-      ]
+  unfolding received_by
+  received_cases here q m h = elim (cases_eq (q - 1) (p - 1)) [
+    | inl same ↦ here m (rw (at_place (λ x. x) (after s g p o) q p same, member-same s g p o there) at h)
+    | inr other ↦ k.received q m (rw (member-other s g p q o other) at h)
+  ]
 
   -- a step that submits nothing
   knows-silent : o.submitted ≡ [] → MailCarries g.submitted o.mail →
       ((m : Message) → has (received o.member.got) m ≡ true → has g.submitted m ≡ true) → KnowsMessages s (after s g p o)
   knows-silent none mail here =
-      let same : (after s g p o).submitted ≡ g.submitted = after-submitted s g p o ∙ ap (λ ms. g.submitted ++ ms) none
-      ∙ append-nil g.submitted in
+      let same : (after s g p o).submitted ≡ g.submitted = after-submitted s g p o ∙ rw none (append-nil g.submitted) in
       record {
         origin = λ m h. k.origin m (rw same at h);
         positive = λ m h. k.positive m (rw same at h);
@@ -121,36 +103,18 @@ module _ (s : Setting) (g : State) (p : ℕ) (o : Outcome) (k : KnowsMessages s 
   -- a step that submits the next message of its actor
   knows-submitting : (c : Command) → is_member s.members p ≡ true → o.submitted ≡ next_message g.submitted p c ∷ [] →
       o.mail ≡ All (Data (next_message g.submitted p c)) → o.member.got ≡ (member g p).got → KnowsMessages s (after s g p o)
+  unfolding received_by
   knows-submitting c group one mail got = record {
-    origin = λ m h. elim (old_or_new m h) [
-      | inl a ↦ k.origin m a
-      | inr e ↦ subst (λ (x : Message). is_member s.members x.origin ≡ true)
-          (sym e) group
-    ];
-    positive = λ m h. elim (old_or_new m h) [
-      | inl a ↦ k.positive m a
-      | inr e ↦ (let i : m.number ≡ 1 + submissions g.submitted p =
-          ap (λ (x : Message). x.number) e in omega arith)
-    ];
-    numbered = λ m h. elim (old_or_new m h) [
-      | inl a ↦ (let low = k.numbered m a in let grown = counted m.origin in omega arith)
-      | inr e ↦ (let i : m.number ≡ 1 + submissions g.submitted p = ap (λ (x : Message). x.number) e in
-          let o_is : m.origin ≡ p = ap (λ (x : Message). x.origin) e in let grown = counted_new m.origin o_is in omega arith)
-    ];
-    unique = λ a b ha hb same_origin same_count. elim (old_or_new a ha) [
-      | inl x ↦ elim (old_or_new b hb) [
-        | inl y ↦ k.unique a b x y same_origin same_count
-        | inr y ↦ absurd
-            (not_both a b x y same_origin same_count)
-      ]
-      | inr x ↦ elim (old_or_new b hb) [ inl y ↦ absurd (not_both b a y x (sym same_origin) (sym same_count)) | inr y ↦ x ∙ sym y ]
-    ];
+    origin = λ m h. grind (arith, old_or_new m h, k.origin m);
+    positive = λ m h. grind (arith, old_or_new m h, k.positive m);
+    numbered = λ m h. grind (arith, nat_tests, old_or_new m h, k.numbered m, counted m.origin);
+    unique = λ a b ha hb same_origin same_number.
+        grind (arith, old_or_new a ha, old_or_new b hb, k.unique a b, k.numbered a, k.numbered b);
     sent = λ i e h. rw submitted_is (elim (in_either g.sent (envelopes s.members o.mail) i e (rw (after-sent s g p o) at h)) [
       | inl a ↦ carries_more g.submitted new e.wire (k.sent a.0 e a.1)
       | inr a ↦ mail_carries s.members (g.submitted ++ new ∷ []) (All (Data new)) a.0 e (known_last g.submitted new) (rw mail at a.1)
     ]);
-    received = λ q m h. rw submitted_is (known_more g.submitted m new
-        (received_cases (λ x r. k.received p x (ap (λ list. has list x) (received-by g p ∙ ap received (sym got)) ∙ r)) q m h));
+    received = λ q m h. rw submitted_is (known_more g.submitted m new (received_cases (λ x r. k.received p x (rw got at r)) q m h));
   }
     where
       new : Message
@@ -162,20 +126,8 @@ module _ (s : Setting) (g : State) (p : ℕ) (o : Outcome) (k : KnowsMessages s 
       old_or_new : (m : Message) → has (after s g p o).submitted m ≡ true → (has g.submitted m ≡ true) ⊎ (m ≡ new)
       old_or_new m h = known_push g.submitted m new (rw submitted_is at h)
 
-      counted : (q : ℕ) → submissions g.submitted q ≤ submissions (after s g p o).submitted q
-      counted q = let e = ap (λ ms. submissions ms q) submitted_is ∙ submissions-append g.submitted (new ∷ []) q in omega arith
-
-      counted_new : (q : ℕ) → q ≡ p → submissions (after s g p o).submitted q ≡ submissions g.submitted p + 1
-      counted_new q e = ap (λ r. submissions (after s g p o).submitted r) e ∙ ap (λ ms. submissions ms p) submitted_is
-          ∙ submissions-append g.submitted (new ∷ []) p ∙ ap (λ n. submissions g.submitted p + n) (submissions-one g.submitted p c)
-
-      not_both : (a b : Message) → has g.submitted a ≡ true → b ≡ new → a.origin ≡ b.origin → a.number ≡ b.number → ⊥
-      not_both a b h e same_origin same_count =
-          let bn : b.number ≡ 1 + submissions g.submitted p = ap (λ (m : Message). m.number) e in
-          let ao : a.origin ≡ p = same_origin ∙ ap (λ (m : Message). m.origin) e in
-          let low : a.number ≤ submissions g.submitted a.origin = k.numbered a h in
-          let low' : a.number ≤ submissions g.submitted p = subst (λ q. a.number ≤ submissions g.submitted q) ao low in
-          omega arith
+      counted : (q : ℕ) → submissions (after s g p o).submitted q ≡ submissions g.submitted q + (if p == q then 1 else 0)
+      counted q = rw (submitted_is, submissions-append g.submitted (new ∷ []) q, submissions-next g.submitted p q c) refl
 
 -- the outcome of a step that is enabled
 pub record IsStep (s : Setting) (g : State) (step : Step) (h : State) : Type 0 where
@@ -185,20 +137,17 @@ pub record IsStep (s : Setting) (g : State) (step : Step) (h : State) : Type 0 w
   pub row : row s g (actor step) (member g (actor step)) step ≡ Some outcome
   pub gives : after s g (actor step) outcome ≡ h
 
-acting : (b : Bool) (o : Option State) (h : State) → (if b then o else None) ≡ Some h → (b ≡ true) × (o ≡ Some h)
-acting true o h e = (refl, e)
-acting false o h e = some-none h e
-
 pub next-is : (s : Setting) (g : State) (step : Step) (h : State) → next s g step ≡ Some h → IsStep s g step h
 unfolding next
 next-is s g step h e =
-    let r : Option Outcome = row s g (actor step) (member g (actor step)) step in
-    let a = acting (can_act s g (actor step)) (option_map (after s g (actor step)) r) h e in
-    let made = made-map (after s g (actor step)) r h a.1 in
+    let p : ℕ = actor step in
+    let r : Option Outcome = row s g p (member g p) step in
+    let acts : can_act s g p ≡ true = grind arith in
+    let made = made-map (after s g p) r h (rw acts at e) in
     record {
       outcome = made.from;
-      in_group = and_left (is_member s.members (actor step)) (not (is_crashed g (actor step))) a.0;
-      up = true_not (is_crashed g (actor step)) (and_right (is_member s.members (actor step)) (not (is_crashed g (actor step))) a.0);
+      in_group = and_left (is_member s.members p) (not (is_crashed g p)) acts;
+      up = true_not (is_crashed g p) (and_right (is_member s.members p) (not (is_crashed g p)) acts);
       row = made.is;
       gives = made.gives;
     }
@@ -216,23 +165,18 @@ joined_known list known (Data x) c old m h = go (has list x) h
   where
     go : (b : Bool) → has (if b then list else list ++ x ∷ []) m ≡ true → has known m ≡ true
     go true h = old m h
-    go false h = elim (known_push list m x h) [ inl a ↦ old m a | inr e ↦ subst (λ y. has known y ≡ true) (sym e) c ]
+    go false h = elim (known_push list m x h) [ inl a ↦ old m a | inr e ↦ rw e c ]
 joined_known list known _ c old m h = old m h
 
 -- a turn sends no message
 turn_carries : (list : List Message) (n p : ℕ) (m : Member) (a : Move) (c : Standing) (t : Turn) → turn_at n p m a c ≡ Some t
     → MailCarries list t.mail
-turn_carries list n p m Enter c t h =
-    subst (λ (x : Turn). MailCarries list x.mail) (enter-is n p m.last (decided m.got m.last) c t h).gives tt
-turn_carries list n p m (Choose from) c t h =
-    subst (λ (x : Turn). MailCarries list x.mail) (choose-is n m.last (own_ballots m c) c from t h).gives tt
-turn_carries list n p m Adopt c t h =
-    subst (λ (x : Turn). MailCarries list x.mail) (adopt-is n p m.last (own_ballots m c) c t h).gives tt
-turn_carries list n p m Suspect c t h =
-    subst (λ (x : Turn). MailCarries list x.mail) (suspect-is n p m.last (own_ballots m c) c t h).gives tt
+turn_carries list n p m Enter c t h = rw (← (enter-is n p m.last (decided m.got m.last) c t h).gives) tt
+turn_carries list n p m (Choose from) c t h = rw (← (choose-is n m.last (own_ballots m c) c from t h).gives) tt
+turn_carries list n p m Adopt c t h = rw (← (adopt-is n p m.last (own_ballots m c) c t h).gives) tt
+turn_carries list n p m Suspect c t h = rw (← (suspect-is n p m.last (own_ballots m c) c t h).gives) tt
 turn_carries list n p m Conclude c t h =
-    subst (λ (x : Turn). MailCarries list x.mail) (conclude-is n m.last (own_ballots m c) c t h).gives
-    (relay_carries list _ (Dec m.last c.round c.estimate) tt)
+    rw (← (conclude-is n m.last (own_ballots m c) c t h).gives) (relay_carries list _ (Dec m.last c.round c.estimate) tt)
 
 module _ (s : Setting) (g : State) (p : ℕ) (k : KnowsMessages s g) (there : p - 1 < length g.members) (group : is_member s.members p ≡ true)
   where
@@ -241,21 +185,23 @@ module _ (s : Setting) (g : State) (p : ℕ) (k : KnowsMessages s g) (there : p 
 
     -- what the member received before was submitted
     received_before : (x : Message) → has (received (member g p).got) x ≡ true → has g.submitted x ≡ true
-    received_before x h = k.received p x (ap (λ list. has list x) (received-by g p) ∙ h)
+    unfolding received_by
+    received_before = k.received p
 
     knows-outcome : (step : Step) (o : Outcome) → row s g p (member g p) step ≡ Some o → KnowsMessages s (after s g p o)
     knows-outcome step o = by_shape s g p m (λ x. KnowsMessages s (after s g p x)) step o (record {
       submits = λ c good. knows-submitting s g p (submit g p m c) k there c group refl refl refl;
       gets = λ i w at.
           let sent = wire_to-sent g p i w at in
-          let carries = subst (λ x. CarriesOne g.submitted x) sent.wire (k.sent sent.place sent.envelope sent.there) in
+          let carries = rw sent.wire at (k.sent sent.place sent.envelope sent.there) in
           knows-silent s g p (receive s p m w) k there refl (relay_carries g.submitted (is_relayed s p m.got w) w carries)
           (λ x h.
-          joined_known (received m.got) g.submitted w carries received_before x (ap (λ list. has list x) (sym (received-push m.got w)) ∙ h));
-      opens = λ idle some. knows-silent s g p (begin p m) k there refl tt received_before;
+          joined_known (received m.got) g.submitted w carries received_before x (rw (received-push m.got w) at h));
+      opens = λ idle some. knows-silent s g p (begin s p m) k there refl tt received_before;
       turns = λ a c t open_at taken.
           knows-silent s g p (turned m t) k there refl (turn_carries g.submitted s.members p m a c t taken) received_before;
       closes = λ c v open_at has delivers. knows-silent s g p (deliver m v) k there refl tt received_before;
+      follows = λ v idle has delivers. knows-silent s g p (follow m v) k there refl tt received_before;
       marks = λ crashed. knows-silent s g p (plain (record m { crashed = crashed }) Nobody) k there refl tt received_before;
     })
 
@@ -263,11 +209,9 @@ pub knows-next : (s : Setting) (g : State) (step : Step) (h : State) → next s 
     KnowsMessages s g → KnowsMessages s h
 knows-next s g step h e size k =
     let t = next-is s g step h e in
-    subst (λ x. KnowsMessages s x) t.gives
-    (knows-outcome s g (actor step) k (in_members s g (actor step) size t.in_group) t.in_group step t.outcome t.row)
+    rw t.gives at (knows-outcome s g (actor step) k (in_members s g (actor step) size t.in_group) t.in_group step t.outcome t.row)
 
 pub size-next : (s : Setting) (g : State) (step : Step) (h : State) → next s g step ≡ Some h → length g.members ≡ s.members →
     length h.members ≡ s.members
 size-next s g step h e size =
-    let t = next-is s g step h e in
-    ap (λ (x : State). length x.members) (sym t.gives) ∙ after-size s g (actor step) t.outcome ∙ size
+    let t = next-is s g step h e in rw (← t.gives, after-size s g (actor step) t.outcome) size

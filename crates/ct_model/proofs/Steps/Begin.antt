@@ -7,8 +7,9 @@ use Rattle.ct_names.specs.declared.limit.Limit.TheVariants.{Instances}
 use Rattle.ct_model.specs.declared.step.Step.TheVariants.{Begin}
 use Rattle.ct_model.specs.AtValue.{Standing}
 use Rattle.ct_model.specs.When.{when}
+use Rattle.ct_model.specs.Setting.{Setting}
 use Rattle.ct_model.specs.State.{Member, member}
-use Rattle.ct_model.specs.Next.{begin, begin_row, undelivered, is_empty, row, after}
+use Rattle.ct_model.specs.Next.{begin, begin_row, proposed, is_empty, row, after}
 use Rattle.ct_model.specs.Rehearsal.{Rehearsal, state_of}
 use Rattle.ct_model.specs.Cause.{at, first_fault, or_else, cause, overflow}
 use Rattle.ct_model.specs.Lawful.{IsLawful, IsPresent}
@@ -19,49 +20,52 @@ use Rattle.ct_model.proofs.Relay.Messages.{in_members}
 use Rattle.ct_model.proofs.Record.Limits.{own_tests-is, cause-limited, limit-idle, taken_of}
 
 -- what the tests of a Begin say where none fires
-pub record IsReady (m : Member) : Type 0 where
+pub record IsReady (s : Setting) (m : Member) : Type 0 where
   pub idle : m.current ≡ None
-  pub something : is_empty (undelivered m) ≡ false
+  pub something : is_empty (proposed s m) ≡ false
 
-ready : (m : Member) → first_fault (at Busy (is_some m.current) ∷ at Nothing (is_empty (undelivered m)) ∷ []) ≡ None → IsReady m
-ready m h = let a = go m.current (is_empty (undelivered m)) h in record { idle = a.0; something = a.1 }
+ready : (s : Setting) (m : Member) → first_fault (at Busy (is_some m.current) ∷ at Nothing (is_empty (proposed s m)) ∷ []) ≡ None
+    → IsReady s m
+ready s m h = let a = go m.current (is_empty (proposed s m)) h in record { idle = a.0; something = a.1 }
   where
     go : (o : Option Standing) (b : Bool) → first_fault (at Busy (is_some o) ∷ at Nothing b ∷ []) ≡ None → (o ≡ None) × (b ≡ false)
     go (Some c) b h = absurd (cc)
     go None true h = absurd (cc)
     go None false h = (refl, refl)
 
-pub begin-ready : (w : Rehearsal) (p : ℕ) → first_fault (own_tests w (Begin p)) ≡ None → IsReady (member (state_of w) p)
-begin-ready w p h = ready (member (state_of w) p) (sym (ap first_fault (own_tests-is w (Begin p))) ∙ h)
+pub begin-ready : (w : Rehearsal) (p : ℕ) → first_fault (own_tests w (Begin p)) ≡ None → IsReady w.setting (member (state_of w) p)
+begin-ready w p h = ready w.setting (member (state_of w) p) (sym (ap first_fault (own_tests-is w (Begin p))) ∙ h)
 
-pub begin_row-some : (p : ℕ) (m : Member) → IsReady m → begin_row p m ≡ Some (begin p m)
-begin_row-some p m r =
-    ap (λ o. when (is_none o && not (is_empty (undelivered m))) (begin p m)) r.idle ∙ ap (λ b. when (not b) (begin p m)) r.something
+pub begin_row-some : (s : Setting) (p : ℕ) (m : Member) → IsReady s m → begin_row s p m ≡ Some (begin s p m)
+begin_row-some s p m r =
+    ap (λ o. when (is_none o && not (is_empty (proposed s m))) (begin s p m)) r.idle ∙ ap (λ b. when (not b) (begin s p m)) r.something
 
 row-begin : (w : Rehearsal) (p : ℕ) → first_fault (own_tests w (Begin p)) ≡ None →
-    row w.setting (state_of w) p (member (state_of w) p) (Begin p) ≡ Some (begin p (member (state_of w) p))
-row-begin w p h = begin_row-some p (member (state_of w) p) (begin-ready w p h)
+    row w.setting (state_of w) p (member (state_of w) p) (Begin p) ≡ Some (begin w.setting p (member (state_of w) p))
+row-begin w p h = begin_row-some w.setting p (member (state_of w) p) (begin-ready w p h)
 
 pub cause-begin : (w : Rehearsal) (p : ℕ) → IsLawful w → IsPresent w p → first_fault (own_tests w (Begin p)) ≡ None
     → cause w (Begin p) ≡ or_else (first_fault (at (Full Instances) (nat_lt MAX_INSTANCES ((member (state_of w) p).last + 1)) ∷ []))
     (overflow w 0)
 cause-begin w p law present h =
-    cause-limited w (Begin p) present h ∙ limit-idle w (Begin p) (begin p (member (state_of w) p)) law present (row-begin w p h) refl refl
+    cause-limited w (Begin p) present h ∙ limit-idle w (Begin p) (begin w.setting p (member (state_of w) p)) law present
+    (row-begin w p h) refl refl
 
 -- a Begin that is allowed
 pub record IsBeginStep (w : Rehearsal) (p : ℕ) : Type 0 where
   pub idle : (member (state_of w) p).current ≡ None
-  pub something : is_empty (undelivered (member (state_of w) p)) ≡ false
+  pub something : is_empty (proposed w.setting (member (state_of w) p)) ≡ false
   pub few : (member (state_of w) p).last < MAX_INSTANCES
-  pub taken : IsTaken w (Begin p) (begin p (member (state_of w) p))
+  pub taken : IsTaken w (Begin p) (begin w.setting p (member (state_of w) p))
 
 pub begin_taken : (w : Rehearsal) (p : ℕ) → IsLawful w → cause w (Begin p) ≡ None → IsBeginStep w p
 begin_taken w p law none =
     let free = cause-none w (Begin p) none in
     let r = begin-ready w p free.tested in
-    let taken = taken_of w (Begin p) (begin p (member (state_of w) p)) law none (row-begin w p free.tested) in
+    let taken = taken_of w (Begin p) (begin w.setting p (member (state_of w) p)) law none tt (row-begin w p free.tested) in
     let there = in_members w.setting (state_of w) p law.size free.present.in_group in
-    let last : (member (after w.setting (state_of w) p (begin p (member (state_of w) p))) p).last ≡ (member (state_of w) p).last + 1 =
-    ap (λ (m : Member). m.last) (member-same w.setting (state_of w) p (begin p (member (state_of w) p)) there) in
+    let last : (member (after w.setting (state_of w) p (begin w.setting p (member (state_of w) p))) p).last ≡
+    (member (state_of w) p).last + 1 =
+    ap (λ (m : Member). m.last) (member-same w.setting (state_of w) p (begin w.setting p (member (state_of w) p)) there) in
     let within = taken.within.few_instances p in
     record { idle = r.idle; something = r.something; few = omega arith; taken = taken }

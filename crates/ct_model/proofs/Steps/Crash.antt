@@ -25,4 +25,4 @@ cause-crash w p law present =
 -- a Crash that is allowed
 pub crash_taken : (w : Rehearsal) (p : ℕ) → IsLawful w → cause w (Crash p) ≡ None → IsTaken w (Crash p) (crash_outcome w p)
 unfolding crash_outcome
-crash_taken w p law none = taken_of w (Crash p) (crash (member (state_of w) p)) law none refl
+crash_taken w p law none = taken_of w (Crash p) (crash (member (state_of w) p)) law none tt refl

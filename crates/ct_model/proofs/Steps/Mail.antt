@@ -64,6 +64,7 @@ module _ (s : Setting) (g : State) (p : ℕ) (m : Member) where
     opens = λ idle some. nothing refl;
     turns = sends-turn;
     closes = λ c v at decision delivers. nothing refl;
+    follows = λ v idle decision delivers. nothing refl;
     marks = λ crashed. nothing refl;
   })
 

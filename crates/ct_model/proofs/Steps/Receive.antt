@@ -14,7 +14,7 @@ use Rattle.ct_model.specs.Lawful.{IsLawful, IsPresent, IsLetter, is_waiting}
 use Rattle.ct_model.proofs.Basics.Serials.{length-all}
 use Rattle.ct_model.proofs.Record.Envelopes.{letter_wire}
 use Rattle.ct_model.proofs.Record.Taken.{IsTaken}
-use Rattle.ct_model.proofs.Record.Limits.{cause-failed, cause-passed, names-free, limit-overflow, taken_of}
+use Rattle.ct_model.proofs.Record.Limits.{cause-failed, cause-passed, passed-free, limit-overflow, taken_of}
 
 -- whether the member passes the wire on
 abbrev pub passes_on : Rehearsal → ℕ → Wire → Bool
@@ -55,9 +55,10 @@ cause-receive w p k e law present letter waits =
 
 -- what may be received waits there
 pub receive_waits : (w : Rehearsal) (p k : ℕ) → cause w (Receive p k) ≡ None → is_waiting w p k ≡ true
-receive_waits w p k none = names-free w (Receive p k) none
+receive_waits w p k none = passed-free w (Receive p k) NotWaiting (is_waiting w p k) refl none
 
 -- a Receive that is allowed
 pub receive_taken : (w : Rehearsal) (p k : ℕ) (e : Envelope) → IsLawful w → cause w (Receive p k) ≡ None → IsLetter (state_of w) p k e →
     IsTaken w (Receive p k) (receive_outcome w p e.wire)
-receive_taken w p k e law none letter = taken_of w (Receive p k) (receive_outcome w p e.wire) law none (row-receive w p k e letter)
+receive_taken w p k e law none letter =
+    taken_of w (Receive p k) (receive_outcome w p e.wire) law none (receive_waits w p k none) (row-receive w p k e letter)

@@ -1,15 +1,17 @@
 -- What a step of consensus leaves, where its row is there.
-use Rattle.std.proofs.Common.{◌≡◌, ℕ, true, false, not, Option, Some}
+use Rattle.std.proofs.Common.{◌≡◌, ℕ, ◌+◌, true, false, not, Option, Some}
 use Rattle.std.specs.Prelude.{◌&&◌, is_some, is_none, option_and_then, option_map}
 use Rattle.ct_names.specs.Group.{is_majority}
 use Rattle.ct_names.specs.Value.{Value}
 use Rattle.ct_model.specs.When.{when}
 use Rattle.ct_model.specs.AtValue.{Standing, Turn}
+use Rattle.ct_model.specs.Setting.{Setting}
 use Rattle.ct_model.specs.State.{Member}
 use Rattle.ct_model.specs.Received.{Heard, Ballots, heard, estimate_from, is_largest, decided}
 use Rattle.ct_model.specs.Phases.{is_rest, is_gather, is_wait, is_tally, entered, enter, chosen, choose, adopted, adopt, suspected, suspect}
 use Rattle.ct_model.specs.Phases.{concluded, conclude}
-use Rattle.ct_model.specs.Next.{Outcome, turned, round_row, begin, begin_row, deliver, deliver_row, undelivered, is_empty}
+use Rattle.ct_model.specs.Next.{Outcome, turned, round_row, begin, begin_row, deliver, deliver_row, follow, follow_row, proposed}
+use Rattle.ct_model.specs.Next.{is_empty}
 use Rattle.ct_model.proofs.Basics.Tests.{and_left, and_right, true_not}
 use Rattle.ct_model.proofs.Basics.Options.{when-is, made-map, made-then}
 
@@ -27,17 +29,17 @@ round_row-is m step o e =
     let b = made-then step m.current a.from a.is in
     record { standing = b.from; is_open = b.is; turn = a.from; taken = b.gives; gives = a.gives }
 
-pub record IsBegun (p : ℕ) (m : Member) (o : Outcome) : Type 0 where
+pub record IsBegun (s : Setting) (p : ℕ) (m : Member) (o : Outcome) : Type 0 where
   pub idle : is_none m.current ≡ true
-  pub something : is_empty (undelivered m) ≡ false
-  pub gives : begin p m ≡ o
+  pub something : is_empty (proposed s m) ≡ false
+  pub gives : begin s p m ≡ o
 
-pub begin_row-is : (p : ℕ) (m : Member) (o : Outcome) → begin_row p m ≡ Some o → IsBegun p m o
-begin_row-is p m o e =
-    let a = when-is (is_none m.current && not (is_empty (undelivered m))) (begin p m) o e in
+pub begin_row-is : (s : Setting) (p : ℕ) (m : Member) (o : Outcome) → begin_row s p m ≡ Some o → IsBegun s p m o
+begin_row-is s p m o e =
+    let a = when-is (is_none m.current && not (is_empty (proposed s m))) (begin s p m) o e in
     record {
-      idle = and_left (is_none m.current) (not (is_empty (undelivered m))) a.0;
-      something = true_not (is_empty (undelivered m)) (and_right (is_none m.current) (not (is_empty (undelivered m))) a.0);
+      idle = and_left (is_none m.current) (not (is_empty (proposed s m))) a.0;
+      something = true_not (is_empty (proposed s m)) (and_right (is_none m.current) (not (is_empty (proposed s m))) a.0);
       gives = a.1;
     }
 
@@ -53,6 +55,18 @@ deliver_row-is m o e =
     let a = made-then (λ (c : Standing). option_map (deliver m) (decided m.got m.last)) m.current o e in
     let b = made-map (deliver m) (decided m.got m.last) o a.gives in
     record { standing = a.from; is_open = a.is; value = b.from; decision = b.is; gives = b.gives }
+
+pub record IsFollowed (m : Member) (o : Outcome) : Type 0 where
+  pub idle : is_none m.current ≡ true
+  pub value : Value
+  pub decision : decided m.got (m.last + 1) ≡ Some value
+  pub gives : follow m value ≡ o
+
+pub follow_row-is : (m : Member) (o : Outcome) → follow_row m ≡ Some o → IsFollowed m o
+follow_row-is m o e =
+    let a = made-then (λ (v : Value). when (is_none m.current) (follow m v)) (decided m.got (m.last + 1)) o e in
+    let b = when-is (is_none m.current) (follow m a.from) o a.gives in
+    record { idle = b.0; value = a.from; decision = a.is; gives = b.1 }
 
 -- the five turns
 

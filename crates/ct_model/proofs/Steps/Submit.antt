@@ -86,5 +86,5 @@ pub record IsSubmitted (w : Rehearsal) (p : ℕ) (c : Command) : Type 0 where
 pub submit_taken : (w : Rehearsal) (p : ℕ) (c : Command) → IsLawful w → cause w (Submit p c) ≡ None → IsSubmitted w p c
 submit_taken w p c law none =
     let good : is_good c ≡ true = passed-free w (Submit p c) BadCommand (is_good c) refl none in
-    let taken = taken_of w (Submit p c) (submit_outcome w p c) law none (row-submit w p c good) in
+    let taken = taken_of w (Submit p c) (submit_outcome w p c) law none tt (row-submit w p c good) in
     record { good = good; few = rw (own_count w p c) at (taken.within.few_submissions p); taken = taken }

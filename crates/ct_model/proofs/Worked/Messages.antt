@@ -3,27 +3,13 @@ use Rattle.std.proofs.Common.{◌≡◌, ℕ, Bool, true, false, List, [], ◌�
 use Rattle.ct_names.specs.declared.command.Command.TheVariants.{Set, Add, Copy}
 use Rattle.ct_names.specs.declared.refusal.Refusal.{Refusal}
 use Rattle.ct_names.specs.declared.refusal.Refusal.TheVariants.{NoSuchMember, Crashed, NotWaiting, BadCommand}
-use Rattle.ct_names.specs.Group.{members}
-use Rattle.ct_names.specs.Message.{Message}
-use Rattle.ct_names.specs.Order.{is_before, is_message}
-use Rattle.ct_names.specs.Value.{ordered}
 use Rattle.ct_model.specs.declared.step.Step.{Step}
 use Rattle.ct_model.specs.declared.step.Step.TheVariants.{Submit, Receive, Crash, Postpone}
-use Rattle.ct_model.specs.Setting.{Setting}
-use Rattle.ct_model.specs.State.{State, first_state, member, submissions}
-use Rattle.ct_model.specs.Received.{received, received_by}
-use Rattle.ct_model.specs.Next.{wire_to, is_relayed, after, next, stepped}
-use Rattle.ct_model.specs.Run.{run_from, run}
-use Rattle.ct_model.specs.Waiting.{line_after, waiting}
-use Rattle.ct_model.specs.Rehearsal.{state_of, line_of}
-use Rattle.ct_model.specs.Cause.{order, limit, cause}
-
-abbrev group_of : ℕ → Setting
-group_of n = record { members = n }
-
--- messages as origin and number
-short : List Message → List (ℕ × ℕ)
-short list = map (λ m. (m.origin, m.number)) list
+use Rattle.ct_model.specs.State.{State}
+use Rattle.ct_model.specs.Received.{received_by}
+use Rattle.ct_model.specs.Run.{run}
+use Rattle.ct_model.specs.Waiting.{waiting}
+use Rattle.ct_model.proofs.Worked.Common.{group_of, short, after_in, runs_with}
 
 -- how many envelopes were sent, what each of three members received, and who crashed
 outcome : Option State → Option (ℕ × List (List (ℕ × ℕ)) × List Bool)
@@ -36,7 +22,7 @@ outcome o = option_map (λ g. (
 
 -- the cause of a step after the list, for a group of three with four cells
 after_three : List Step → Step → Option Refusal
-after_three steps step = cause (record { setting = group_of 3; cells = 4; steps = steps }) step
+after_three steps step = after_in 3 4 steps step
 
 -- one submission, received by its origin, and by another that relays it
 relayed_once : List Step
@@ -44,8 +30,7 @@ relayed_once = Submit 1 (Set 0 7) ∷ Receive 1 1 ∷ Receive 2 2 ∷ []
 
 -- all that these compute with
 computing : Unit {0}
-unfolding members is_before is_message ordered first_state member submissions received received_by wire_to is_relayed after next stepped
-    run_from run line_after waiting state_of line_of order limit cause outcome short after_three relayed_once
+unfolding runs_with outcome after_three relayed_once
 computing = tt
 
 nothing_yet : outcome (run (group_of 3) []) ≡ Some (0, ([] ∷ [] ∷ [] ∷ []), (false ∷ false ∷ false ∷ []))

@@ -3,6 +3,7 @@
 use Rattle.std.proofs.Common.{◌≡◌, ℕ, List, [], ◌∷◌, Option, Some, None, map, option_map, refl}
 use Rattle.ct_names.specs.declared.command.Command.TheVariants.{Set}
 use Rattle.ct_names.specs.declared.refusal.Refusal.TheVariants.{WrongPhase, TooFew, NotLargest, NoProposal, HasProposal}
+use Rattle.ct_names.specs.declared.limit.TheConstants.{MAX_BOUND}
 use Rattle.ct_names.specs.Group.{members}
 use Rattle.ct_names.specs.Message.{Message}
 use Rattle.ct_names.specs.Order.{is_before, is_message}
@@ -21,7 +22,7 @@ use Rattle.ct_model.specs.Counted.{count_in}
 use Rattle.ct_model.specs.Phases.{enter, choose, adopt, suspect, conclude}
 use Rattle.ct_model.specs.Test.{first_fault}
 use Rattle.ct_model.specs.Faults.{enter_faults, choose_faults, adopt_faults, suspect_faults, conclude_faults}
-use Rattle.ct_model.specs.Next.{undelivered, begin, begin_row, Outcome, turned, round_row, turn_at}
+use Rattle.ct_model.specs.Next.{undelivered, proposed, begin, begin_row, Outcome, turned, round_row, turn_at}
 
 abbrev stands : ℕ → Phase → ℕ → ℕ → Standing ℕ
 stands r phase estimate ts = record { round = r; phase = phase; estimate = estimate; ts = ts }
@@ -39,7 +40,7 @@ two_estimates = Est 1 2 3 8 1 ∷ Est 1 2 1 7 0 ∷ []
 
 -- all that these compute with
 computing : Unit {0}
-unfolding members is_before is_message ordered received proposal ballots enter choose adopt suspect conclude undelivered second
+unfolding members is_before is_message ordered received proposal ballots enter choose adopt suspect conclude undelivered proposed second
     two_estimates
 computing = tt
 
@@ -157,6 +158,9 @@ conclusion_refused = refl
 
 -- Begin proposes what was received and not delivered, in order
 
+group : Setting
+group = record { members = 3; bound = MAX_BOUND }
+
 message : ℕ → ℕ → Message
 message p k = record { origin = p; number = k; command = Set 0 7 }
 
@@ -168,7 +172,7 @@ with_three = record new_member {
   batches = record { instance = 1; messages = message 1 1 ∷ [] } ∷ [];
 }
 
-begins : begin_row 3 with_three
+begins : begin_row group 3 with_three
     ≡ Some (record {
       member = record with_three {
         last = 2;
@@ -184,25 +188,22 @@ begins : begin_row 3 with_three
       proposals = record { member = 3; instance = 2; value = message 1 2 ∷ message 2 1 ∷ [] } ∷ [];
       mail = Nobody;
     })
-unfolding computing message with_three
+unfolding computing message with_three group
 begins = refl
 
-begins_nothing : begin_row 3 new_member ≡ None
-unfolding computing
+begins_nothing : begin_row group 3 new_member ≡ None
+unfolding computing group
 begins_nothing = refl
 
-busy : begin_row 3 (begin 3 with_three).member ≡ None
-unfolding computing message with_three
+busy : begin_row group 3 (begin group 3 with_three).member ≡ None
+unfolding computing message with_three group
 busy = refl
 
 -- the same steps at the member: they are taken in the open instance, and with what was got for its round
 
-group : Setting
-group = record { members = 3 }
-
 -- member 3 after it began instance 2
 begun : Member
-begun = (begin 3 with_three).member
+begun = (begin group 3 with_three).member
 
 -- a step of a round, which member 3 takes
 abbrev taken : Member → Move → Option Outcome

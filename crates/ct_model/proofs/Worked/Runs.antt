@@ -5,29 +5,13 @@ use Rattle.ct_names.specs.declared.limit.Limit.TheVariants.{Cells}
 use Rattle.ct_names.specs.declared.refusal.Refusal.{Refusal}
 use Rattle.ct_names.specs.declared.refusal.Refusal.TheVariants.{NoSuchMember, Crashed, Busy, Nothing, Idle, Decided, Undecided, WrongPhase}
 use Rattle.ct_names.specs.declared.refusal.Refusal.TheVariants.{NoProposal, Full}
-use Rattle.ct_names.specs.Group.{members}
-use Rattle.ct_names.specs.Message.{Message}
-use Rattle.ct_names.specs.Order.{is_before, is_message}
-use Rattle.ct_names.specs.Value.{ordered}
 use Rattle.ct_model.specs.declared.step.Step.{Step}
-use Rattle.ct_model.specs.declared.step.Step.TheVariants.{Submit, Receive, Begin, Enter, Choose, Adopt, Suspect, Conclude, Deliver, Crash}
-use Rattle.ct_model.specs.declared.step.Step.TheVariants.{Postpone}
-use Rattle.ct_model.specs.Setting.{Setting}
-use Rattle.ct_model.specs.State.{State, Member, first_state, member, delivered, submissions}
-use Rattle.ct_model.specs.Received.{received, decided, proposal, ballots}
-use Rattle.ct_model.specs.Phases.{enter, choose, adopt, suspect, conclude}
-use Rattle.ct_model.specs.Next.{wire_to, is_relayed, undelivered, batch_of, after, next, stepped}
-use Rattle.ct_model.specs.Run.{run_from, run}
-use Rattle.ct_model.specs.Waiting.{line_after, waiting}
-use Rattle.ct_model.specs.Rehearsal.{state_of, line_of}
-use Rattle.ct_model.specs.Cause.{order, limit, cause}
-
-abbrev group_of : ℕ → Setting
-group_of n = record { members = n }
-
--- messages as origin and number
-short : List Message → List (ℕ × ℕ)
-short list = map (λ m. (m.origin, m.number)) list
+use Rattle.ct_model.specs.declared.step.Step.TheVariants.{Submit, Receive, Begin, Enter, Choose, Adopt, Suspect, Conclude, Deliver}
+use Rattle.ct_model.specs.declared.step.Step.TheVariants.{Follow, Crash, Postpone, Lose, Repeat}
+use Rattle.ct_model.specs.State.{State, Member, delivered}
+use Rattle.ct_model.specs.Received.{received, decided}
+use Rattle.ct_model.specs.Run.{run}
+use Rattle.ct_model.proofs.Worked.Common.{group_of, short, after_in, runs_with}
 
 -- what a member shows: what it received, what was decided in each of these instances, and what it delivered
 record Shown : Type 0 where
@@ -47,10 +31,6 @@ show instances m = record {
 outcome : List ℕ → Option State → Option (ℕ × List Shown)
 unfolding show
 outcome instances o = option_map (λ g. (length g.sent, map (show instances) g.members)) o
-
--- the cause of a step after the list, for a group of this size with this many cells
-after_in : ℕ → ℕ → List Step → Step → Option Refusal
-after_in n cells steps step = cause (record { setting = group_of n; cells = cells; steps = steps }) step
 
 -- three members: one message, which 1 submits; 3 crashes, and 1 and 2 decide in the first round, which 2 coordinates
 to_crash : List Step
@@ -76,9 +56,7 @@ second_instance = Receive 1 1 ∷ Begin 1 ∷ Enter 1 ∷ Receive 1 7 ∷ Choose
 
 -- all that these compute with
 computing : Unit {0}
-unfolding members is_before is_message ordered first_state member submissions received decided proposal ballots enter choose adopt suspect
-    conclude wire_to is_relayed undelivered batch_of after next stepped run_from run line_after waiting state_of line_of order limit cause
-    outcome show short after_in to_crash to_proposal to_decision to_delivery first_instance second_instance
+unfolding runs_with outcome show to_crash to_proposal to_decision to_delivery first_instance second_instance
 computing = tt
 
 -- the two that are up deliver the message, and the member that is not the coordinator passes the decision on
@@ -107,21 +85,22 @@ two_instances_of_one : outcome (1 ∷ 2 ∷ 3 ∷ []) (run (group_of 1) (first_i
 unfolding computing
 two_instances_of_one = refl
 
--- each of the eleven steps, at a member
+-- each of the fourteen steps, at a member
 all_of : ℕ → List Step
-all_of p = Submit p (Set 0 1) ∷ Receive p 3 ∷ Begin p ∷ Enter p ∷ Choose p 1 ∷ Adopt p ∷ Suspect p ∷ Conclude p ∷ Deliver p ∷ Crash p
-    ∷ Postpone p 3 ∷ []
+all_of p = Submit p (Set 0 1) ∷ Receive p 3 ∷ Begin p ∷ Enter p ∷ Choose p 1 ∷ Adopt p ∷ Suspect p ∷ Conclude p ∷ Deliver p ∷ Follow p
+    ∷ Crash p ∷ Postpone p 3 ∷ Lose p 3 ∷ Repeat p 3 ∷ []
 
-eleven : Refusal → List (Option Refusal)
-eleven r = Some r ∷ Some r ∷ Some r ∷ Some r ∷ Some r ∷ Some r ∷ Some r ∷ Some r ∷ Some r ∷ Some r ∷ Some r ∷ []
+fourteen : Refusal → List (Option Refusal)
+fourteen r = Some r ∷ Some r ∷ Some r ∷ Some r ∷ Some r ∷ Some r ∷ Some r ∷ Some r ∷ Some r ∷ Some r ∷ Some r ∷ Some r ∷ Some r
+    ∷ Some r ∷ []
 
 -- a crashed member takes no step, and a stranger neither
-refused_crashed : map (after_in 3 4 to_crash) (all_of 3) ≡ eleven Crashed
-unfolding computing all_of eleven
+refused_crashed : map (after_in 3 4 to_crash) (all_of 3) ≡ fourteen Crashed
+unfolding computing all_of fourteen
 refused_crashed = refl
 
-refused_stranger : map (after_in 3 4 to_crash) (all_of 4) ≡ eleven NoSuchMember
-unfolding computing all_of eleven
+refused_stranger : map (after_in 3 4 to_crash) (all_of 4) ≡ fourteen NoSuchMember
+unfolding computing all_of fourteen
 refused_stranger = refl
 
 -- nothing may be delivered where there is no cell for it

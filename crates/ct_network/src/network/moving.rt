@@ -1,11 +1,11 @@
-//! Serials that leave a line, or move to its end.
+//! Serials that leave a line, move to its end, or come back to it.
 
-ghost use Rattle.std.specs.Prelude.{◌≡◌, ◌-◌, ◌<◌, true, length, remove, slice_set, IsTrue};
+ghost use Rattle.std.specs.Prelude.{◌≡◌, ◌-◌, ◌<◌, ◌++◌, [], ◌∷◌, true, length, remove, slice_set, IsTrue};
 ghost use Rattle.ct_names.specs.Group.{is_member};
 ghost use Rattle.ct_network.specs.Network.{line_at, put_last};
 
 use crate::network::Network;
-use ct_names::Member;
+use ct_names::{Member, Serial};
 
 impl Network {
     /// The serial at this place of the member's line, which `find` answers, leaves; the others stay in order.
@@ -32,5 +32,16 @@ impl Network {
         let serial = line.as_slice()[place];
         line.leave(place);
         line.join(serial);
+        self.spare -= 1;
+    }
+    /// The serial comes to the end of the member's line, whether or not it was there before. Takes no memory.
+    pub fn put_back(&mut self, member: Member, serial: Serial)
+        requires room { IsTrue self.old.has_room }
+        requires member { is_member (length self.old.lines) member ≡ true }
+        ensures lines { self.new.lines ≡ slice_set self.old.lines (member - 1) (line_at self.old.lines member ++ serial ∷ []) }
+        ensures sent { self.new.sent ≡ self.old.sent }
+    {
+        self.lines[member as usize - 1].join(serial);
+        self.spare -= 1;
     }
 }

@@ -6,13 +6,15 @@ use crate::lines;
 use crate::network::Network;
 use std::alloc::AllocError;
 
+// Room is made in the lines for so many steps at once.
+const AHEAD: usize = 64;
+
 impl Network {
     /// Whether what one step sends can be sent without memory.
     pub fn has_room(&self) -> bool
         ensures { result ≡ self.now.has_room }
     {
-        self.envelopes.capacity() - self.envelopes.len() >= self.lines.len()
-            && lines::are_roomy(&self.lines)
+        self.envelopes.capacity() - self.envelopes.len() >= self.lines.len() && self.spare > 0
     }
 
     /// Makes room for what one step sends. Where memory is refused that room was missing. What was sent and what waits
@@ -25,6 +27,10 @@ impl Network {
         ensures lines { self.new.lines ≡ self.old.lines }
     {
         self.envelopes.reserve(self.lines.len())?;
-        lines::make_room(&mut self.lines)
+        if self.spare == 0 {
+            lines::make_room(&mut self.lines, AHEAD)?;
+            self.spare = AHEAD;
+        }
+        Ok(())
     }
 }

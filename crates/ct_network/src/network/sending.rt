@@ -1,11 +1,11 @@
 //! Mail is sent: its envelopes get the next serials, and these come to the ends of the lines.
 
-ghost use Rattle.std.specs.Prelude.{◌≡◌, ℕ, ◌+◌, ◌<◌, ◌≤◌, ◌++◌, true, length, IsTrue, vec_len, vec_capacity};
+ghost use Rattle.std.specs.Prelude.{◌≡◌, ℕ, ◌+◌, ◌-◌, ◌<◌, ◌≤◌, ◌++◌, true, length, IsTrue, vec_len, vec_capacity};
 ghost use Rattle.ct_names.specs.Group.{is_member};
 ghost use Rattle.ct_model.specs.Waiting.{serials_to};
 ghost use Rattle.ct_model.specs.Wire.{envelopes};
 ghost use Rattle.ct_model.specs.declared.mail.Mail.TheVariants.{One, All};
-ghost use Rattle.ct_network.specs.Lines.{serials_of, are_roomy};
+ghost use Rattle.ct_network.specs.Lines.{serials_of, HaveRoom};
 ghost use Rattle.ct_network.specs.Network.{line_at, IsAddressed};
 
 use crate::line::Line;
@@ -31,10 +31,12 @@ impl Network {
             Mail::Nobody => 0,
             Mail::One(to, wire) => {
                 send_one(&mut self.envelopes, &mut self.lines, to, wire);
+                self.spare -= 1;
                 1
             }
             Mail::All(wire) => {
                 send_to_all(&mut self.envelopes, &mut self.lines, wire);
+                self.spare -= 1;
                 self.lines.len() as u32
             }
         }
@@ -43,12 +45,13 @@ impl Network {
 
 // The wire goes to this member: an envelope is sent, and its serial joins the member's line.
 fn send_one(sent: &mut Vec<Envelope>, lines: &mut Vec<Line>, to: Member, wire: Wire)
-    requires room { IsTrue (are_roomy lines.old.items) }
+    requires room { HaveRoom lines.old.items 1 }
     requires capacity { vec_len sent.old < vec_capacity sent.old }
     requires to { is_member (length lines.old.items) to ≡ true }
     requires few { vec_len sent.old < MAX_ENVELOPES }
     ensures sent { sent.new.items ≡ sent.old.items ++ envelopes (length lines.old.items) (One to wire) }
     ensures members { length lines.new.items ≡ length lines.old.items }
+    ensures room { (least : ℕ) → HaveRoom lines.old.items least → HaveRoom lines.new.items (least - 1) }
     ensures joined { (q : ℕ) → is_member (length lines.old.items) q ≡ true →
         line_at (serials_of lines.new.items) q ≡ line_at (serials_of lines.old.items) q
         ++ serials_to q (length sent.old.items) (envelopes (length lines.old.items) (One to wire)) }
@@ -60,12 +63,13 @@ fn send_one(sent: &mut Vec<Envelope>, lines: &mut Vec<Line>, to: Member, wire: W
 
 // The wire goes to each member in turn: an envelope is sent, and its serial joins the member's line.
 fn send_to_all(sent: &mut Vec<Envelope>, lines: &mut Vec<Line>, wire: Wire)
-    requires room { IsTrue (are_roomy lines.old.items) }
+    requires room { HaveRoom lines.old.items 1 }
     requires capacity { vec_len sent.old + length lines.old.items ≤ vec_capacity sent.old }
     requires few { vec_len sent.old + length lines.old.items ≤ MAX_ENVELOPES }
     requires small { length lines.old.items ≤ MAX_MEMBERS }
     ensures sent { sent.new.items ≡ sent.old.items ++ envelopes (length lines.old.items) (All wire) }
     ensures members { length lines.new.items ≡ length lines.old.items }
+    ensures room { (least : ℕ) → HaveRoom lines.old.items least → HaveRoom lines.new.items (least - 1) }
     ensures joined { (q : ℕ) → is_member (length lines.old.items) q ≡ true →
         line_at (serials_of lines.new.items) q ≡ line_at (serials_of lines.old.items) q
         ++ serials_to q (length sent.old.items) (envelopes (length lines.old.items) (All wire)) }

@@ -2,7 +2,7 @@ ghost use Rattle.std.specs.Prelude.{◌≡◌};
 
 use super::*;
 use ct_board::Board;
-use ct_names::{Group, Member, Message};
+use ct_names::{Group, MAX_BOUND, Member, Message};
 use ct_rehearse::{Desk, Played, play};
 use std::marker::Brand;
 use std::sync::ledger::{Blank, Ledger};
@@ -48,7 +48,7 @@ fn rehearsed<L: Ledger>(alloc: Global, blank: Blank, steps: &[Step]) -> Result<O
     requires whole { L.parts ≡ 1000 }
 {
     let group = Group::new(3).ok_or("a group")?;
-    let world = World::new(alloc, group, 4)?;
+    let world = World::new(alloc, group, 4, MAX_BOUND)?;
     let board = Board::new(alloc, 4)?;
     let (mut desk, mut share) = Desk::<L>::new(blank, world);
     if share.steps() > 1000 || steps.len() > 1000 {
@@ -106,7 +106,13 @@ fn is_in_one_order(world: &World, one: Member, other: Member) -> bool {
 // Whether the world's record leads to the world's report.
 fn is_replayed(alloc: Global, world: &World) -> Result<bool, Fail> {
     let own = report(alloc, world)?;
-    let (again, _board) = World::replay(alloc, world.group(), world.cells(), world.record())?;
+    let (again, _board) = World::replay(
+        alloc,
+        world.group(),
+        world.cells(),
+        world.bound(),
+        world.record(),
+    )?;
     let other = report(alloc, &again)?;
     Ok(own.as_slice() == other.as_slice())
 }

@@ -8,7 +8,7 @@ use std::thread::Threads;
 
 // What is written after three submissions and the crash of member 2, where the members make no turns.
 const LINE: &str =
-    "{\"cells\":64,\"n\":2,\"steps\":[[\"submit\",1,[\"add\",0,1]],[\"submit\",2,[\"add\",1,2]],[\"submit\",1,[\"add\",2,3]],[\"crash\",2]],\"version\":1}\n";
+    "{\"batch\":1048560,\"cells\":64,\"n\":2,\"steps\":[[\"submit\",1,[\"add\",0,1]],[\"submit\",2,[\"add\",1,2]],[\"submit\",1,[\"add\",2,3]],[\"crash\",2]],\"version\":3}\n";
 
 // The options of a free run in these words.
 fn options(alloc: Global, words: &'static [&'static str]) -> Result<FreeOptions, Fail>
@@ -39,6 +39,24 @@ fn written<R: Threads + Wait + Sync>(
     Ok(writer.into_inner())
 }
 
+// The world that the record leads to which a free run of these words writes.
+fn replayed<R: Threads + Wait + Sync>(
+    rt: &R,
+    alloc: Global,
+    words: &'static [&'static str],
+) -> Result<World, Fail> {
+    let text = written(rt, alloc, words)?;
+    let script = read_record(alloc, &text)?;
+    let (world, _board) = World::replay(
+        alloc,
+        script.group,
+        script.cells,
+        script.batch,
+        &script.steps,
+    )?;
+    Ok(world)
+}
+
 // Whether what the run writes is a record of so many members and cells, which is replayed.
 fn is_replayed<R: Threads + Wait + Sync>(
     rt: &R,
@@ -47,14 +65,8 @@ fn is_replayed<R: Threads + Wait + Sync>(
     members: u8,
     cells: u16,
 ) -> Result<bool, Fail> {
-    let text = written(rt, alloc, words)?;
-    let script = read_record(alloc, &text)?;
-    let (world, _board) = World::replay(alloc, script.group, script.cells, &script.steps)?;
-    Ok(
-        script.group.n() == members
-            && script.cells == cells
-            && world.record() == script.steps.as_slice(),
-    )
+    let world = replayed(rt, alloc, words)?;
+    Ok(world.group().n() == members && world.cells() == cells)
 }
 
 #[test]
@@ -92,6 +104,8 @@ fn a_run_with_all_scripts_is_replayed(rt: HostRuntime) -> Result<(), Fail> {
         "--submit=6",
         "--crash=3",
         "--postpone=10",
+        "--lose=10",
+        "--repeat=20",
     ];
     assert!(rt; is_replayed(&rt, rt.alloc(), words, 3, 64)?);
     Ok(())
@@ -139,6 +153,9 @@ fn a_writer_may_fail_after_a_run(rt: HostRuntime) -> Result<(), Fail> {
         submit: 1,
         crash: 0,
         postpone: 0,
+        lose: 0,
+        repeat: 0,
+        batch: 1_048_560,
     };
     let mut one: Vec<Box<dyn Detector>> = Vec::new(alloc);
     one.push(Box::new(alloc, Seeded::new(1, 64))?)?;
@@ -189,6 +206,57 @@ fn members_postpone_where_they_are_asked_to(rt: HostRuntime) -> Result<(), Fail>
     let words = &["ct", "free", "--members=1", "--turns=0", "--postpone=1000"];
     assert!(rt; shows(&rt, rt.alloc(), words, "[\"postpone\",1,")?);
     Ok(())
+}
+
+#[test]
+fn envelopes_are_lost_where_it_is_asked_for(rt: HostRuntime) -> Result<(), Fail> {
+    let words = &["ct", "free", "--members=1", "--turns=100", "--lose=1000"];
+    assert!(rt; shows(&rt, rt.alloc(), words, "[\"lose\",1,")?);
+    Ok(())
+}
+
+// What is lost is there to be repeated.
+#[test]
+fn envelopes_are_repeated_where_it_is_asked_for(rt: HostRuntime) -> Result<(), Fail> {
+    let words = &[
+        "ct",
+        "free",
+        "--members=1",
+        "--turns=0",
+        "--submit=1000",
+        "--lose=1000",
+        "--repeat=1000",
+    ];
+    assert!(rt; shows(&rt, rt.alloc(), words, "[\"repeat\",1,")?);
+    Ok(())
+}
+
+// Whether each of the world's batches has one message.
+fn has_batches_of_one(world: &World) -> bool {
+    (1..=world.posted()).all(|k| world.batch(k.into()).is_some_and(|batch| batch.len() == 1))
+}
+
+// Runs are tried until several messages are delivered.
+#[test]
+fn batches_have_no_more_messages_than_asked_for(rt: HostRuntime) -> Result<(), Fail> {
+    let alloc = rt.alloc();
+    let words = &[
+        "ct",
+        "free",
+        "--members=1",
+        "--turns=100000",
+        "--rate=0",
+        "--batch=1",
+    ];
+    for _ in 0..TRIES {
+        let world = replayed(&rt, alloc, words)?;
+        assert_eq!(rt; world.bound(), 1);
+        assert!(rt; has_batches_of_one(&world));
+        if world.posted() > 1 {
+            return Ok(());
+        }
+    }
+    Err(Fail::from("no two batches were delivered"))
 }
 
 #[test]

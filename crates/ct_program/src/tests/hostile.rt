@@ -14,7 +14,7 @@ fn a_record_cut_short_is_no_json(rt: HostRuntime) {
 
 #[test]
 fn another_version_is_refused(rt: HostRuntime) {
-    let record = "{\"cells\":4,\"n\":3,\"steps\":[],\"version\":3}";
+    let record = "{\"cells\":4,\"n\":3,\"steps\":[],\"version\":4}";
     let fault = fault_of(rt.alloc(), record.as_bytes());
     assert_eq!(rt; fault, Some(ReadFault::Version));
 }

@@ -54,3 +54,16 @@ fn a_decision_to_come_is_told(rt: HostRuntime) {
         "group 3 majority 2 cells 4\nsteps 18 sent 19 posted 0\nmember 1 up instance 1 open\nreceived 1.1\ndecided -\ndelivered -\ntable -\nmember 2 up instance 1 open\nreceived 1.1\ndecided -\ndelivered -\ntable -\nmember 3 up instance 0 idle\nreceived -\ndecided 1:1.1\ndelivered -\ntable -\n";
     assert!(rt; is_report_of(rt.alloc(), record, report));
 }
+
+#[test]
+fn what_a_follower_delivers_is_told(rt: HostRuntime) -> Result<(), Fail> {
+    let alloc = rt.alloc();
+    let record =
+        "{\"batch\":1048560,\"cells\":4,\"n\":3,\"steps\":[[\"submit\",1,[\"set\",0,7]],[\"receive\",1,1],[\"receive\",2,2],[\"begin\",1],[\"begin\",2],[\"enter\",1],[\"enter\",2],[\"receive\",2,7],[\"receive\",2,8],[\"choose\",2,1],[\"receive\",1,9],[\"adopt\",1],[\"receive\",2,10],[\"adopt\",2],[\"receive\",2,12],[\"receive\",2,13],[\"conclude\",2],[\"receive\",3,16],[\"follow\",3]],\"version\":3}";
+    let report =
+        "group 3 majority 2 cells 4\nsteps 19 sent 19 posted 1\nmember 1 up instance 1 open\nreceived 1.1\ndecided -\ndelivered -\ntable -\nmember 2 up instance 1 open\nreceived 1.1\ndecided -\ndelivered -\ntable -\nmember 3 up instance 1 idle\nreceived -\ndecided 1:1.1\ndelivered 1.1\ntable 0=7\n";
+    assert!(rt; is_report_of(alloc, record, report));
+    let written = rewritten(alloc, record.as_bytes())?;
+    assert!(rt; written.as_slice() == record.as_bytes());
+    Ok(())
+}

@@ -22,7 +22,7 @@ fn each_member_has_the_detector_in_its_place(rt: HostRuntime) -> Result<(), Fail
 fn refused_turns_are_counted_as_refused(rt: HostRuntime) -> Result<(), Fail> {
     let alloc = rt.alloc();
     let group = Group::new(1).ok_or("a group")?;
-    let mut world = World::new(alloc, group, 4)?;
+    let mut world = World::new(alloc, group, 4, MAX_BOUND)?;
     let board = Board::new(alloc, 0)?;
     let _ = world.apply(&board, &Step::Submit(1, SEVEN))?;
     let plan = Plan {

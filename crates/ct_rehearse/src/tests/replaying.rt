@@ -49,7 +49,13 @@ fn disturbed(alloc: Global) -> Result<Plan, AllocError>
 
 // Whether the world is that after its record, from nothing.
 fn is_replayed(alloc: Global, world: &World) -> bool {
-    match World::replay(alloc, world.group(), world.cells(), world.record()) {
+    match World::replay(
+        alloc,
+        world.group(),
+        world.cells(),
+        world.bound(),
+        world.record(),
+    ) {
         Ok((again, _board)) => {
             again.record() == world.record()
                 && again.sent() == world.sent()

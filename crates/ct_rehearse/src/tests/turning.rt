@@ -137,9 +137,9 @@ fn tried<L: Ledger>(
     Some(came_of(&turn))
 }
 
-// What comes of a postponement and a crash of a member for which nothing waits, and of a submission by nobody; and the
-// steps that were counted on a part of the share.
-fn disturbances<L: Ledger>(alloc: Global, blank: Blank) -> Result<([Option<Came>; 3], u64), Fail>
+// What comes of a postponement, a loss, a repetition and a crash of a member to which nothing was sent, and of a submission by
+// nobody; and the steps that were counted on a part of the share.
+fn disturbances<L: Ledger>(alloc: Global, blank: Blank) -> Result<([Option<Came>; 5], u64), Fail>
     requires name { blank.name ≡ L.name }
     requires parts { blank.parts ≡ L.parts }
     requires whole { L.parts ≡ 1000 }
@@ -149,6 +149,8 @@ fn disturbances<L: Ledger>(alloc: Global, blank: Blank) -> Result<([Option<Came>
     let mut part = whole.split();
     let turns = [
         tried(&mut desk, &mut part, &board, Disturbance::Postpone(1)),
+        tried(&mut desk, &mut part, &board, Disturbance::Lose(1)),
+        tried(&mut desk, &mut part, &board, Disturbance::Repeat(1, 1)),
         tried(&mut desk, &mut part, &board, Disturbance::Crash(1)),
         tried(&mut desk, &mut part, &board, Disturbance::Submit(2, SEVEN)),
     ];
@@ -159,9 +161,41 @@ fn disturbances<L: Ledger>(alloc: Global, blank: Blank) -> Result<([Option<Came>
 fn turns_say_what_came_of_them(rt: HostRuntime) -> Result<(), Fail> {
     let (turns, steps) = disturbances::<Brand>(rt.alloc(), Blank::new(1000))?;
     assert_eq!(rt; turns[0], Some(Ok(None)));
-    assert_eq!(rt; turns[1], Some(Ok(Some((Step::Crash(1), 0, None)))));
-    assert_eq!(rt; turns[2], Some(Err(Refusal::NoSuchMember)));
+    assert_eq!(rt; turns[1], Some(Ok(None)));
+    assert_eq!(rt; turns[2], Some(Err(Refusal::NotSent)));
+    assert_eq!(rt; turns[3], Some(Ok(Some((Step::Crash(1), 0, None)))));
+    assert_eq!(rt; turns[4], Some(Err(Refusal::NoSuchMember)));
     assert_eq!(rt; steps, 1);
+    Ok(())
+}
+
+// What comes of the loss of the first that waits, and of its repetition twice.
+fn lost_and_repeated<L: Ledger>(alloc: Global, blank: Blank) -> Result<[Option<Came>; 3], Fail>
+    requires name { blank.name ≡ L.name }
+    requires parts { blank.parts ≡ L.parts }
+    requires whole { L.parts ≡ 1000 }
+{
+    let (world, board) = submitted(alloc, 1)?;
+    let (mut desk, mut whole) = Desk::<L>::new(blank, world);
+    let mut part = whole.split();
+    Ok([
+        tried(&mut desk, &mut part, &board, Disturbance::Lose(1)),
+        tried(&mut desk, &mut part, &board, Disturbance::Repeat(1, 1)),
+        tried(&mut desk, &mut part, &board, Disturbance::Repeat(1, 1)),
+    ])
+}
+
+#[test]
+fn what_was_lost_is_repeated_once(rt: HostRuntime) -> Result<(), Fail> {
+    let turns = lost_and_repeated::<Brand>(rt.alloc(), Blank::new(1000))?;
+    assert_eq!(rt;
+        turns,
+        [
+            Some(Ok(Some((Step::Lose(1, 1), 0, None)))),
+            Some(Ok(Some((Step::Repeat(1, 1), 0, None)))),
+            Some(Err(Refusal::StillWaiting))
+        ]
+    );
     Ok(())
 }
 

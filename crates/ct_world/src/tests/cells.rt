@@ -40,6 +40,7 @@ fn a_step_that_is_not_allowed_sets_no_cell(rt: HostRuntime) {
         (Step::Deliver(0), Refusal::NoSuchMember),
         (Step::Deliver(3), Refusal::Crashed),
         (Step::Deliver(1), Refusal::Idle),
+        (Step::Follow(1), Refusal::Undecided),
         (Step::Receive(1, 99), Refusal::NotWaiting),
         (Step::Begin(1), Refusal::Nothing),
         (Step::Enter(2), Refusal::Idle),
@@ -53,6 +54,7 @@ fn an_undecided_delivery_sets_no_cell(rt: HostRuntime) {
     let trial = Trial::of(&rt, rt.alloc(), 3, 4, &ONE_ROUND[..8]);
     let steps = [
         (Step::Deliver(1), Refusal::Undecided),
+        (Step::Follow(1), Refusal::Busy),
         (Step::Begin(1), Refusal::Busy),
         (Step::Enter(1), Refusal::WrongPhase),
         (Step::Choose(2, 1), Refusal::TooFew),

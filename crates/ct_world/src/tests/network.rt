@@ -92,6 +92,27 @@ fn what_does_not_wait_is_neither_received_nor_postponed(rt: HostRuntime) {
 }
 
 #[test]
+fn what_is_lost_is_received_only_when_repeated(rt: HostRuntime) {
+    Trial::new(&rt, rt.alloc(), 3, 4).shows(
+        &rt,
+        &[
+            Fact::Sends(Step::Submit(1, SEVEN), 3),
+            Fact::Sends(Step::Lose(2, 2), 0),
+            Fact::Refused(Step::Receive(2, 2), Refusal::NotWaiting),
+            Fact::Refused(Step::Lose(2, 2), Refusal::NotWaiting),
+            Fact::Refused(Step::Repeat(2, 1), Refusal::NotSent),
+            Fact::Refused(Step::Repeat(2, 4), Refusal::NotSent),
+            Fact::Refused(Step::Repeat(1, 1), Refusal::StillWaiting),
+            Fact::Waiting(2, &[]),
+            Fact::Sends(Step::Repeat(2, 2), 0),
+            Fact::Waiting(2, &[2]),
+            Fact::Sends(Step::Receive(2, 2), 3),
+            Fact::Counts(4, 6, 0),
+        ],
+    );
+}
+
+#[test]
 fn a_prepared_step_is_committed(rt: HostRuntime) {
     let step = Step::Receive(3, 6);
     relayed_once(&rt, rt.alloc()).shows(
@@ -122,7 +143,7 @@ fn a_replay_stops_at_the_first_refused_step(rt: HostRuntime) {
         at: 3,
         refusal: Refusal::NotWaiting,
     };
-    let replayed = World::replay(rt.alloc(), trial::group(&rt, 3), 4, &steps);
+    let replayed = World::replay(rt.alloc(), trial::group(&rt, 3), 4, MAX_BOUND, &steps);
     assert_eq!(rt; replayed.err(), Some(wanted));
     Trial::of(&rt, rt.alloc(), 3, 4, &steps[..2]).shows(&rt, &[Fact::Counts(2, 6, 0)]);
 }

@@ -1,7 +1,7 @@
 use super::*;
 
-// Each of the eleven steps at a member.
-fn every_step(member: Member) -> [Step; 11] {
+// Each of the fourteen steps at a member.
+fn every_step(member: Member) -> [Step; 14] {
     [
         Step::Submit(member, Command::Set(16, 7)),
         Step::Receive(member, 3),
@@ -12,8 +12,11 @@ fn every_step(member: Member) -> [Step; 11] {
         Step::Suspect(member),
         Step::Conclude(member),
         Step::Deliver(member),
+        Step::Follow(member),
         Step::Crash(member),
         Step::Postpone(member, 99),
+        Step::Lose(member, 99),
+        Step::Repeat(member, 99),
     ]
 }
 

@@ -218,3 +218,33 @@ fn a_locked_value_is_proposed_again(rt: HostRuntime) {
         ],
     );
 }
+
+#[test]
+fn a_repeated_ack_counts_once(rt: HostRuntime) {
+    let mut trial = Trial::of(&rt, rt.alloc(), 3, 4, &TWO_PROPOSALS);
+    trial.run(
+        &rt,
+        &[
+            Step::Choose(2, 1),
+            Step::Receive(1, 9),
+            Step::Adopt(1),
+            Step::Receive(2, 10),
+            Step::Adopt(2),
+            Step::Receive(2, 12),
+            Step::Repeat(2, 12),
+            Step::Receive(2, 12),
+            Step::Repeat(2, 12),
+            Step::Receive(2, 12),
+        ],
+    );
+    trial.shows(
+        &rt,
+        &[
+            Fact::Counts(20, 13, 0),
+            Fact::Refused(Step::Conclude(2), Refusal::TooFew),
+            Fact::Done(Step::Receive(2, 13)),
+            Fact::Sends(Step::Conclude(2), 3),
+            Fact::Counts(22, 16, 0),
+        ],
+    );
+}

@@ -27,8 +27,17 @@ impl Trial {
     pub(super) fn new(rt: &impl Abort, alloc: Global, n: u8, cells: u16) -> Trial
         requires { cells ≤ 1024 }
     {
+        Trial::bounded(rt, alloc, n, cells, MAX_BOUND)
+    }
+
+    // The same with this bound on a proposal.
+    pub(super) fn bounded(rt: &impl Abort, alloc: Global, n: u8, cells: u16, bound: u32) -> Trial
+        requires few { cells ≤ 1024 }
+        requires some { 1 ≤ bound }
+        requires bounded { bound ≤ MAX_BOUND }
+    {
         Trial {
-            world: World::new(alloc, group(rt, n), cells).expect(rt, "a world"),
+            world: World::new(alloc, group(rt, n), cells, bound).expect(rt, "a world"),
             board: empty_board(rt, alloc, cells),
         }
     }
@@ -37,7 +46,7 @@ impl Trial {
     pub(crate) fn of(rt: &impl Abort, alloc: Global, n: u8, cells: u16, steps: &[Step]) -> Trial
         requires { cells ≤ 1024 }
     {
-        let replayed = World::replay(alloc, group(rt, n), cells, steps);
+        let replayed = World::replay(alloc, group(rt, n), cells, MAX_BOUND, steps);
         let (world, board) = replayed.expect(rt, "steps that are allowed");
         Trial { world, board }
     }

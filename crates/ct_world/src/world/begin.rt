@@ -1,10 +1,10 @@
-//! Begin: the member opens its next instance, and proposes what it received and didn't deliver.
+//! Begin: the member opens its next instance, and proposes the first of what it received and didn't deliver.
 
 ghost use Rattle.std.specs.Prelude.{◌≡◌, Some, None, OnOk, OnErr};
 ghost use Rattle.ct_model.specs.Cause.{cause};
 ghost use Rattle.ct_world.specs.World.{IsDone};
 
-use super::preparing::reserve;
+use super::preparing::{join, reserve};
 use crate::prepared::Prepared;
 use crate::world::World;
 use ct_model::Step;
@@ -41,8 +41,7 @@ impl World {
         reserve(&mut self.record, &mut self.network)?;
         self.book.prepare()?;
         let seat = &mut self.seats[member as usize - 1];
-        seat.prepare_begin()?;
-        let proposal = seat.caster.undelivered(self.alloc)?;
+        let proposal = seat.prepare_begin(self.alloc, self.bound)?;
         self.prepared = Some(Prepared::Begin(member, proposal));
         Ok(())
     }
@@ -53,13 +52,12 @@ impl World {
         ensures done { IsDone self.old.rehearsal (Step.Begin member) self.new.rehearsal 0 }
         ensures none { self.new.prepared ≡ None }
     {
-        let prepared = self.prepared.take().unwrap();
-        let proposal = prepared.into_proposal().unwrap();
+        let proposal = Prepared::proposal(self.prepared.take()).unwrap();
         let value = self.book.add(proposal).unwrap();
         let seat = &mut self.seats[member as usize - 1];
         let next = seat.instances.last() + 1;
         seat.instances.open(next, value);
         seat.caster.begin();
-        let _ = self.record.push(Step::Begin(member));
+        join(&mut self.record, Step::Begin(member));
     }
 }

@@ -25,6 +25,7 @@ impl World {
         Ok(World {
             group: self.group,
             cells: self.cells,
+            bound: self.bound,
             record: Vec::from_slice(alloc, &self.record)?,
             network: self.network.copy(alloc)?,
             book: self.book.copy(alloc)?,

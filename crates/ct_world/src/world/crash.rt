@@ -4,6 +4,7 @@ ghost use Rattle.std.specs.Prelude.{◌≡◌, Some, None};
 ghost use Rattle.ct_model.specs.Cause.{cause};
 ghost use Rattle.ct_world.specs.World.{IsDone};
 
+use super::preparing::join;
 use crate::world::World;
 use ct_model::Step;
 use ct_names::{Member, Refusal};
@@ -27,6 +28,6 @@ impl World {
         self.prepared = None;
         let seat = &mut self.seats[member as usize - 1];
         seat.crashed = true;
-        let _ = self.record.push(Step::Crash(member));
+        join(&mut self.record, Step::Crash(member));
     }
 }

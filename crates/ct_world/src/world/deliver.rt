@@ -1,17 +1,17 @@
 //! Deliver: the member delivers the decision of its open instance, and closes it.
 
-ghost use Rattle.std.specs.Prelude.{◌≡◌, ◌≤◌, Some, None, IfOk, IfErr, IfSome, IsSome, OnOk, OnErr, option_map};
+ghost use Rattle.std.specs.Prelude.{◌≡◌, Some, None, IfOk, IfErr, OnOk, OnErr};
 ghost use Rattle.ct_model.specs.Cause.{cause};
-ghost use Rattle.ct_world.specs.Posting.{HasPosted, IsRefusedByBoard, IsSet};
+ghost use Rattle.ct_world.specs.Posting.{HasPosted, IsRefusedByBoard};
 ghost use Rattle.ct_world.specs.World.{IsDone};
 
-use super::preparing::reserve;
+use super::delivering::post;
+use super::preparing::{join, reserve};
 use crate::prepared::Prepared;
 use crate::world::World;
-use ct_abcast::Batch;
 use ct_board::{Board, Receipt};
 use ct_model::Step;
-use ct_names::{Limit, Member, Refusal};
+use ct_names::{Member, Refusal};
 use std::alloc::AllocError;
 
 impl World {
@@ -25,13 +25,7 @@ impl World {
         if seat.instances.current().is_none() {
             return Some(Refusal::Idle);
         }
-        if seat.instances.decided(seat.instances.last()).is_none() {
-            return Some(Refusal::Undecided);
-        }
-        if seat.caster.batches() >= self.cells as usize {
-            return Some(Refusal::Full(Limit::Cells));
-        }
-        self.overflow(0)
+        self.cause_of_delivery(seat, seat.instances.last())
     }
 
     // Makes the room for the step, and prepares it.
@@ -44,10 +38,8 @@ impl World {
         let posted = usize::from(self.posted());
         reserve(&mut self.record, &mut self.network)?;
         let seat = &mut self.seats[member as usize - 1];
-        let number = seat.instances.decided(seat.instances.last()).unwrap();
-        let value = self.book.get(number).unwrap();
-        let batch = seat.batch_to_post(self.alloc, value, posted)?;
-        seat.prepare_deliver(value.len())?;
+        let instance = seat.instances.last();
+        let (number, batch) = seat.prepare_delivery(self.alloc, &self.book, instance, posted)?;
         self.prepared = Some(Prepared::Deliver(member, number, batch));
         Ok(())
     }
@@ -65,29 +57,11 @@ impl World {
         ensures err { OnErr result (self.new.rehearsal ≡ self.old.rehearsal) }
         ensures none { self.new.prepared ≡ None }
     {
-        let prepared = self.prepared.take().unwrap();
-        let number = prepared.number().unwrap();
-        let receipt = post(board, prepared.into_batch())?;
+        let number = Prepared::number(&self.prepared).unwrap();
+        let receipt = post(board, Prepared::batch(self.prepared.take()))?;
         let seat = &mut self.seats[member as usize - 1];
         seat.deliver(self.book.get(number).unwrap());
-        let _ = self.record.push(Step::Deliver(member));
+        join(&mut self.record, Step::Deliver(member));
         Ok(receipt)
-    }
-}
-
-// Sets the cell at the number of the batch's instance less 1 to the batch, if there is one.
-fn post(board: &Board, batch: Option<Box<Batch>>) -> Result<Option<Receipt>, Refusal>
-    requires { IfSome batch (λ b. 1 ≤ b.value.instance) }
-    ensures ok { IfOk result (λ receipt. IsSet board.now (option_map (λ b. b.value) batch) receipt) }
-    ensures some { OnErr result (IsSome batch) }
-    ensures refusal { IfErr result (λ refusal. refusal ≡ Refusal.Board) }
-{
-    let Some(batch) = batch else {
-        return Ok(None);
-    };
-    let place = batch.instance() as usize - 1;
-    match board.post(place, batch) {
-        Ok(receipt) => Ok(Some(receipt)),
-        Err(_) => Err(Refusal::Board),
     }
 }

@@ -13,7 +13,7 @@ use ct_names::{Limit, MAX_ENVELOPES, MAX_MEMBERS, MAX_STEPS, Member, Refusal};
 
 impl World {
     /// Whether the step is allowed now, want of memory apart, and why it is not. It is allowed exactly where the next state
-    /// is defined, a serial that it takes or moves waits, and no limit is passed. Takes no memory.
+    /// is defined, a serial that it takes or moves waits, one that it puts back doesn't, and no limit is passed. Takes no memory.
     pub fn enabled(&self, step: &Step) -> Result<(), Refusal>
         ensures value { result ≡ verdict (cause self.now.rehearsal step.now) }
         ensures allowed { OnOk result (IsAllowed self.now.rehearsal step.now) }
@@ -35,7 +35,7 @@ impl World {
         }
     }
 
-    // Where the serial that the step names stands in its line, if it names one, or why the step is not allowed.
+    // Where the serial stands that the step takes or moves, if it does, or why the step is not allowed.
     pub(super) fn find_place(&self, step: &Step) -> Result<Option<usize>, Refusal>
         ensures { IsFound self.now.rehearsal step.now result }
     {
@@ -51,8 +51,11 @@ impl World {
             Step::Suspect(member) => unless(self.cause_of_round(*member, Move::Suspect), None),
             Step::Conclude(member) => unless(self.cause_of_round(*member, Move::Conclude), None),
             Step::Deliver(member) => unless(self.cause_of_deliver(*member), None),
+            Step::Follow(member) => unless(self.cause_of_follow(*member), None),
             Step::Crash(member) => unless(self.cause_of_crash(*member), None),
-            Step::Postpone(member, serial) => self.find_postponed(*member, *serial),
+            Step::Postpone(member, serial) => self.find_waiting(*member, *serial),
+            Step::Lose(member, serial) => self.find_waiting(*member, *serial),
+            Step::Repeat(member, serial) => unless(self.cause_of_repeat(*member, *serial), None),
         }
     }
 

@@ -14,8 +14,8 @@ use ct_model::Step;
 use ct_names::Member;
 
 impl World {
-    /// What a driver does next at a member: the first step that `enabled` allows out of Deliver, Begin, Choose, Adopt,
-    /// Conclude, Enter and Suspect, in this order. Choose names the least member among those whose estimate for the
+    /// What a driver does next at a member: the first step that `enabled` allows out of Deliver, Follow, Begin, Choose,
+    /// Adopt, Conclude, Enter and Suspect, in this order. Choose names the least member among those whose estimate for the
     /// round was heard with the largest ts. None where none of them is allowed, also for a crashed member and for no
     /// member of the group. Takes no memory.
     pub fn next_local(&self, member: Member) -> Option<Step>
@@ -25,6 +25,7 @@ impl World {
         let choice = best_heard(&seat.instances).map(|from| Step::Choose(member, from));
         self.first_allowed(&[
             Some(Step::Deliver(member)),
+            Some(Step::Follow(member)),
             Some(Step::Begin(member)),
             choice,
             Some(Step::Adopt(member)),

@@ -19,7 +19,7 @@ impl World {
     /// world, and whichever members crashed, the record is a run of the algorithm (Chandra and Toueg, sections 4, 6.2
     /// and 7) that ends in this world, which passes no limit; each instance has at most one decided value, which some
     /// member proposed for it; of the sequences that two members delivered one begins the other, without repeats, only of
-    /// messages that were submitted; and each table is what its member's sequence gives.
+    /// messages that were submitted; no batch has more messages than the world's bound; and each table is what its member's sequence gives.
     pub fn outcome(&self, member: Member) -> Option<Outcome<'_>>
         ensures there { is_some result ≡ is_member self.now.rehearsal.setting.members member }
         ensures steps { IfSome result (λ outcome. outcome.record.now ≡ self.now.rehearsal.steps) }

@@ -1,11 +1,12 @@
 //! A step in two halves: what may be refused, and then what cannot fail.
 
-ghost use Rattle.std.specs.Prelude.{◌≡◌, ◌<◌, true, vec_len, vec_capacity, IsSome, IfSome, Some, None, OnOk, OnErr, IfOk, IfErr, unwrap_or};
+ghost use Rattle.std.specs.Prelude.{◌≡◌, ◌<◌, ◌++◌, ◌∷◌, [], true, vec_len, vec_capacity, unwrap_or};
+ghost use Rattle.std.specs.Prelude.{IsSome, IfSome, Some, None, OnOk, OnErr, IfOk, IfErr};
 ghost use Rattle.ct_model.specs.Cause.{cause};
 ghost use Rattle.ct_model.specs.Order.{DeliversNothing};
 ghost use Rattle.ct_model.specs.Rehearsal.{state_of};
 ghost use Rattle.ct_model.specs.Safe.{IsSafe};
-ghost use Rattle.ct_world.specs.Kept.{NeedsNoRoom, IsPlaced};
+ghost use Rattle.ct_world.specs.Kept.{NeedsNoRoom, place_named};
 ghost use Rattle.ct_world.specs.Posting.{HasPosted, IsRefusal, IsRefusedByBoard};
 ghost use Rattle.ct_world.specs.World.{IsDone};
 
@@ -38,27 +39,26 @@ impl World {
         }
     }
 
-    // The room for a step that is allowed, and whose serial, if it names one, stands at the place in its line.
+    // The room for a step that is allowed, and whose serial, if it takes or moves one, stands at the place in its line.
     fn make_room(&mut self, step: &Step, place: Option<usize>) -> Result<(), AllocError>
-        requires placed { IsPlaced self.old.rehearsal step.now place }
+        requires placed { place ≡ place_named self.old.rehearsal step.now }
         requires allowed { cause self.old.rehearsal step.now ≡ None }
         requires none { self.old.prepared ≡ None }
         ensures ok { OnOk result (self.new ≡ record self.old { prepared = Some step.now }) }
         ensures err { OnErr result (self.new ≡ self.old) }
     {
         match *step {
-            Step::Receive(member, serial) => self.prepare_receive(member, serial, place.unwrap()),
+            Step::Receive(member, serial) => self.prepare_receive(member, serial, place),
             Step::Begin(member) => self.prepare_begin(member),
             Step::Deliver(member) => self.prepare_deliver(member),
-            Step::Postpone(member, serial) => {
-                self.prepare_postpone(member, serial, place.unwrap())
-            }
-            step => self.prepare_other(step),
+            Step::Follow(member) => self.prepare_follow(member),
+            step => self.prepare_other(step, place),
         }
     }
 
     // The room for a step that needs none of its own.
-    fn prepare_other(&mut self, step: Step) -> Result<(), AllocError>
+    fn prepare_other(&mut self, step: Step, place: Option<usize>) -> Result<(), AllocError>
+        requires placed { place ≡ place_named self.old.rehearsal step }
         requires allowed { cause self.old.rehearsal step ≡ None }
         requires none { self.old.prepared ≡ None }
         requires plain { NeedsNoRoom step }
@@ -66,12 +66,12 @@ impl World {
         ensures err { OnErr result (self.new ≡ self.old) }
     {
         reserve(&mut self.record, &mut self.network)?;
-        self.prepared = Some(Prepared::Other(step));
+        self.prepared = Some(Prepared::Other(step, place));
         Ok(())
     }
 
-    /// Does the prepared step; none is prepared then. The first Deliver of an instance sets the board's cell at the number
-    /// of the instance less 1 to its batch, and answers the receipt. Takes no memory. It is refused only by the board,
+    /// Does the prepared step; none is prepared then. The first Deliver or Follow of an instance sets the board's cell at the
+    /// number of the instance less 1 to its batch, and answers the receipt. Takes no memory. It is refused only by the board,
     /// where the step would set a cell that is not there or refuses the batch; then nothing else changes.
     pub fn commit(&mut self, board: &Board) -> Result<Effect, Refusal>
         requires { IsSome self.old.prepared }
@@ -87,6 +87,10 @@ impl World {
                 let receipt = self.commit_deliver(board, member)?;
                 Ok(Effect { sent: 0, receipt })
             }
+            Step::Follow(member) => {
+                let receipt = self.commit_follow(board, member)?;
+                Ok(Effect { sent: 0, receipt })
+            }
             step => {
                 let sent = self.commit_other(step);
                 Ok(Effect {
@@ -97,7 +101,7 @@ impl World {
         }
     }
 
-    // Does the prepared step, which is no Deliver, and answers how many envelopes it sent.
+    // Does the prepared step, which is no Deliver and no Follow, and answers how many envelopes it sent.
     fn commit_other(&mut self, step: Step) -> u32
         requires prepared { self.old.prepared ≡ Some step }
         requires plain { DeliversNothing step }
@@ -116,13 +120,21 @@ impl World {
             Step::Adopt(member) => self.commit_round(member, Move::Adopt),
             Step::Suspect(member) => self.commit_round(member, Move::Suspect),
             Step::Conclude(member) => self.commit_round(member, Move::Conclude),
-            Step::Deliver(_) => unreachable!(),
+            Step::Deliver(_) | Step::Follow(_) => unreachable!(),
             Step::Crash(member) => {
                 self.commit_crash(member);
                 0
             }
             Step::Postpone(member, serial) => {
                 self.commit_postpone(member, serial);
+                0
+            }
+            Step::Lose(member, serial) => {
+                self.commit_lose(member, serial);
+                0
+            }
+            Step::Repeat(member, serial) => {
+                self.commit_repeat(member, serial);
                 0
             }
         }
@@ -146,6 +158,14 @@ impl World {
         let _ = self.record();
         done
     }
+}
+
+// The step joins the record, which has room for it.
+pub(super) fn join(steps: &mut Vec<Step>, step: Step)
+    requires { vec_len steps.old < vec_capacity steps.old }
+    ensures { steps.new.items ≡ steps.old.items ++ step ∷ [] }
+{
+    let _ = steps.push(step);
 }
 
 // Room for one more step, and for what a step may send.

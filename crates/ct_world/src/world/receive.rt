@@ -2,11 +2,11 @@
 
 ghost use Rattle.std.specs.Prelude.{◌≡◌, Some, None, OnOk, OnErr};
 ghost use Rattle.ct_model.specs.Cause.{cause};
-ghost use Rattle.ct_world.specs.Kept.{StandsAt, IsFound};
+ghost use Rattle.ct_world.specs.Kept.{place_named, IsFound};
 ghost use Rattle.ct_world.specs.World.{IsDone};
 
 use super::enabling::unless;
-use super::preparing::reserve;
+use super::preparing::{join, reserve};
 use crate::prepared::Prepared;
 use crate::world::World;
 use ct_model::Step;
@@ -29,11 +29,8 @@ impl World {
         let Some(place) = self.network.find(member, serial) else {
             return Err(Refusal::NotWaiting);
         };
-        let passes_on = match self.network.envelope(serial) {
-            Some(envelope) => seat.passes_on(self.group, &envelope.wire),
-            None => unreachable!(),
-        };
-        if passes_on {
+        let envelope = self.network.envelope(serial).unwrap();
+        if seat.passes_on(self.group, &envelope.wire) {
             unless(self.overflow(self.seats.len()), Some(place))
         } else {
             unless(self.overflow(0), Some(place))
@@ -45,9 +42,9 @@ impl World {
         &mut self,
         member: Member,
         serial: Serial,
-        place: usize,
+        place: Option<usize>,
     ) -> Result<(), AllocError>
-        requires placed { StandsAt self.old.rehearsal member serial place }
+        requires placed { place ≡ place_named self.old.rehearsal (Step.Receive member serial) }
         requires allowed { cause self.old.rehearsal (Step.Receive member serial) ≡ None }
         requires none { self.old.prepared ≡ None }
         ensures ok { OnOk result (self.new ≡ record self.old { prepared = Some (Step.Receive member serial) }) }
@@ -55,11 +52,9 @@ impl World {
     {
         reserve(&mut self.record, &mut self.network)?;
         let seat = &mut self.seats[member as usize - 1];
-        match self.network.envelope(serial) {
-            Some(envelope) => seat.prepare_receive(&envelope.wire)?,
-            None => unreachable!(),
-        }
-        self.prepared = Some(Prepared::Receive(member, serial, place));
+        let envelope = self.network.envelope(serial).unwrap();
+        seat.prepare_receive(&envelope.wire)?;
+        self.prepared = Some(Prepared::Other(Step::Receive(member, serial), place));
         Ok(())
     }
 
@@ -69,16 +64,13 @@ impl World {
         ensures done { IsDone self.old.rehearsal (Step.Receive member serial) self.new.rehearsal result }
         ensures none { self.new.prepared ≡ None }
     {
-        let prepared = self.prepared.take().unwrap();
-        let place = prepared.into_place().unwrap();
+        let place = Prepared::place(self.prepared.take()).unwrap();
         let seat = &mut self.seats[member as usize - 1];
-        let mail = match self.network.envelope(serial) {
-            Some(envelope) => seat.receive(self.group, envelope.wire),
-            None => unreachable!(),
-        };
+        let envelope = self.network.envelope(serial).unwrap();
+        let mail = seat.receive(self.group, envelope.wire);
         self.network.leave(member, place);
         let sent = self.network.post(mail);
-        let _ = self.record.push(Step::Receive(member, serial));
+        join(&mut self.record, Step::Receive(member, serial));
         sent
     }
 }

@@ -10,7 +10,7 @@ use crate::replay_fault::ReplayFault;
 use crate::world::World;
 use ct_board::Board;
 use ct_model::Step;
-use ct_names::{Group, MAX_CELLS, Refusal};
+use ct_names::{Group, MAX_BOUND, MAX_CELLS, Refusal};
 use std::alloc::Global;
 
 impl World {
@@ -20,17 +20,20 @@ impl World {
         alloc: Global,
         group: Group,
         cells: u16,
+        bound: u32,
         steps: &[Step],
     ) -> Result<(World, Board), ReplayFault>
-        requires { cells ≤ MAX_CELLS }
-        ensures ok { IfOk result (λ both. both.0 ≡ world_after group cells steps.now) }
+        requires few { cells ≤ MAX_CELLS }
+        requires some { 1 ≤ bound }
+        requires bounded { bound ≤ MAX_BOUND }
+        ensures ok { IfOk result (λ both. both.0 ≡ world_after (record { members = group; bound = bound }) cells steps.now) }
         ensures board { IfOk result (λ both. length both.1 ≡ cells) }
-        ensures allowed { OnOk result (AllowsFirst group cells steps.now (length steps.now)) }
+        ensures allowed { OnOk result (AllowsFirst (record { members = group; bound = bound }) cells steps.now (length steps.now)) }
         ensures runs { IfOk result (λ both. run both.0.rehearsal.setting both.0.rehearsal.steps ≡ Some (state_of both.0.rehearsal)) }
         ensures safe { IfOk result (λ both. IsSafe both.0.rehearsal.setting (state_of both.0.rehearsal)) }
-        ensures err { IfErr result (λ fault. IsFaultOf group cells steps.now fault.at fault.refusal) }
+        ensures err { IfErr result (λ fault. IsFaultOf (record { members = group; bound = bound }) cells steps.now fault.at fault.refusal) }
     {
-        let mut world = match World::new(alloc, group, cells) {
+        let mut world = match World::new(alloc, group, cells, bound) {
             Ok(world) => world,
             Err(refusal) => return Err(ReplayFault { at: 0, refusal }),
         };

@@ -4,6 +4,7 @@ ghost use Rattle.std.specs.Prelude.{◌≡◌, Some, None};
 ghost use Rattle.ct_model.specs.Cause.{cause};
 ghost use Rattle.ct_world.specs.World.{IsDone};
 
+use super::preparing::join;
 use crate::world::World;
 use ct_model::Step;
 use ct_names::{Command, Limit, MAX_SUBMISSIONS, Member, Message, Refusal};
@@ -37,7 +38,7 @@ impl World {
         seat.submitted += 1;
         let message = Message::new(member, seat.submitted, command).unwrap();
         let sent = self.network.post(Mail::All(Wire::Data(message)));
-        let _ = self.record.push(Step::Submit(member, command));
+        join(&mut self.record, Step::Submit(member, command));
         sent
     }
 }

@@ -22,6 +22,12 @@ pulled xs ys a i n h en e =
     ∙ drop_at (drop i m) (take i r ++ drop n r) 1 ld
     ∙ (let next : n ≡ suc i = omega arith in ap (λ k. take i r ++ drop k r) next)
 
-pub returns : goal.returns
-returns c = pulled c.args.kept.now c.rotate_right.new.self c.args.start c.args.at (c.args.start + c.args.at + 1 - c.args.start) c.requires
+pub returns-then-at-gt0 : goal.returns-then-at-gt0
+returns-then-at-gt0 c = pulled c.args.kept.now c.rotate_right.new.self c.args.start c.args.at
+    (c.args.start + c.args.at + 1 - c.args.start) c.requires
     (omega arith) c.rotate_right.ensures.after
+
+pub returns-else-at-gt0 : goal.returns-else-at-gt0
+returns-else-at-gt0 c =
+    let first : c.args.at ≡ 0 = omega arith in
+    sym (drop-drop 1 c.args.start c.args.kept.now) ∙ ap (remove (drop c.args.start c.args.kept.now)) (sym first)

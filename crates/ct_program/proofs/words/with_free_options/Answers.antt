@@ -12,5 +12,8 @@ returns c =
     let cells = with_option _ _ _ _ _ c.in_ok-arg-5.ensures c.option-4.ensures.local rate c.option-4.ensures.rule in
     let submit = with_option _ _ _ _ _ c.in_ok-arg-6.ensures c.option-5.ensures.local cells c.option-5.ensures.rule in
     let crash = with_option _ _ _ _ _ c.in_ok-arg-7.ensures c.option-6.ensures.local submit c.option-6.ensures.rule in
-    IfOk-weaker c.arg-8.result _ _ (λ r adds. with_option _ _ _ _ _ adds c.option-7.ensures.local crash c.option-7.ensures.rule)
-    c.arg-8.ensures
+    let postpone = with_option _ _ _ _ _ c.in_ok-arg-8.ensures c.option-7.ensures.local crash c.option-7.ensures.rule in
+    let lose = with_option _ _ _ _ _ c.in_ok-arg-9.ensures c.option-8.ensures.local postpone c.option-8.ensures.rule in
+    let repeat = with_option _ _ _ _ _ c.in_ok-arg-10.ensures c.option-9.ensures.local lose c.option-9.ensures.rule in
+    IfOk-weaker c.arg-11.result _ _ (λ r adds. with_option _ _ _ _ _ adds c.option-10.ensures.local repeat c.option-10.ensures.rule)
+    c.arg-11.ensures

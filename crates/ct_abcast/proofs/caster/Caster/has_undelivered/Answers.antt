@@ -12,5 +12,5 @@ returns c =
     ∙ (some-length (length c.self.inside.pending.keys)
     ∙ (sym (some-ordered c.self.inside.pending.keys)
     ∙ (ap (λ list. nat_lt 0 (length list)) (pending-set c.self.inside.pending.keys c.self.inside.received.items
-    (joined c.self.inside.delivered.batches) c.self.invariant)
+    (joined c.self.inside.delivered.batches) c.self.invariant.0)
     ∙ ap (λ v. nat_lt 0 (length (undelivered v))) c.self.view_is)))

@@ -1,8 +1,11 @@
-use Rattle.std.proofs.Common.{true, ◌∷◌, ◌≡◌, ◌+◌, ◌<◌, ◌++◌, [], length, refl, ap, sym, ◌∙◌, arith, append-nil, append_assoc}
+use Rattle.std.proofs.Common.{true, ◌∷◌, ◌≡◌, ◌+◌, ◌-◌, ◌<◌, ◌≤◌, ◌++◌, [], length, get_or, refl, ap, sym, ◌∙◌, arith, append-nil}
+use Rattle.std.proofs.Common.{append_assoc}
 use Rattle.std.proofs.lemmas.List.{length-set}
 use Rattle.std.specs.Prelude.{is_ok, vec_len}
 use Rattle.ct_model.specs.Wire.{envelopes}
 use Rattle.ct_model.specs.declared.mail.Mail.TheVariants.{All}
+use Rattle.ct_network.specs.WaitingLine.{WaitingLine}
+use Rattle.ct_network.proofs.Waiting.{room-more}
 use Rattle.ct_network.proofs.Joins.{join_more, join_rest, joined_all}
 use Rattle.ct_network.proofs.Posts.{envelopes-none, envelopes-more}
 use Rattle.ct_network.proofs.network.sending.send_to_all.Goals as goal
@@ -14,6 +17,7 @@ loop-i-init c = record {
   number = omega arith;
   as_many = refl;
   done = λ k d h. absurd (omega arith);
+  room = λ least room k d h. absurd (omega arith);
   rest = λ k d h. refl;
 }
 
@@ -39,9 +43,21 @@ loop-i-preserved c =
       as_many = length-set c.loop-i.lines.items i new ∙ v.as_many;
       done = join_more lines c.loop-i.lines.items i (length old) new v.as_many within v.done v.rest c.index_mut-line.result.now c.len.result
           c.index_mut-line.ensures.value c.join.ensures.serials (c.len.ensures ∙ omega (arith, number, c.args.sent.now.ok.0));
+      room = λ least room.
+          let x = c.index_mut-line.result.now in
+          let had : least ≤ (get_or lines i x).room = room i x within in
+          let is : x.room ≡ (get_or lines i x).room = ap (λ (l : WaitingLine). l.room)
+          (c.index_mut-line.ensures.value ∙ v.rest i x (omega arith)) in
+          room-more c.loop-i.lines.items i (least - 1) new (omega (arith, v.as_many, within)) (v.room least room)
+          (omega (arith, c.join.ensures.room));
       rest = join_rest lines c.loop-i.lines.items i (length old) new v.as_many within v.done v.rest;
     }
 
 pub returns-clause-joined : goal.returns-clause-joined
 returns-clause-joined c = joined_all c.args.lines.now.items c.loop-i.lines.items (length c.args.sent.now.items) c.args.wire
     c.loop-i.invariant.as_many (λ k d h. c.loop-i.invariant.done k d (omega arith))
+
+pub returns-clause-room : goal.returns-clause-room
+returns-clause-room c least room k d h =
+    let v = c.loop-i.invariant in
+    v.room least room k d (omega (arith, v.as_many))

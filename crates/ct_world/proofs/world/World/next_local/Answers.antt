@@ -16,4 +16,4 @@ returns c =
     let choice : c.map-choice.result ≡ option_map (Choose p) c.best_heard.result = search rules in
     c.first_allowed.ensures
     ∙ next_local-is w p c.map-choice.result (choice ∙ ap (option_map (Choose p))
-    (c.best_heard.ensures ∙ best_heard-is w p c.in_ok-seat.seat.now actor))
+    (c.best_heard.ensures ∙ best_heard-is actor))

@@ -4,10 +4,9 @@ use Rattle.ct_world.proofs.Shown.{delivered_is, table_is}
 use Rattle.ct_world.proofs.world.World.outcome.Goals as goal
 
 pub returns-clause-delivered : goal.returns-clause-delivered
-returns-clause-delivered c = c.delivered.ensures ∙ delivered_is c.args.self.now.rehearsal c.args.member c.in_ok-seat.seat.now
-    c.in_ok-seat.ensures.seat
+returns-clause-delivered c = c.delivered.ensures ∙ delivered_is c.in_ok-seat.ensures.seat
 
 pub returns-clause-table : goal.returns-clause-table
 returns-clause-table c =
-    table_is c.args.self.now.rehearsal c.args.member c.in_ok-seat.seat.now c.in_ok-seat.ensures.seat
+    table_is c.in_ok-seat.ensures.seat
     ∙ ap table (sym (returns-clause-delivered c))

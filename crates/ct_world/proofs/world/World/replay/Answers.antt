@@ -27,7 +27,8 @@ returns-in-Err-apply-clause-err c =
       within = c.loop-i-test.true;
       before = c.loop-i.invariant.allowed;
       refused = λ s e.
-          subst (λ t. IsRefusal (first_steps c.args.group c.args.cells steps i) t c.in-Err-apply.refusal)
+          subst (λ t. IsRefusal
+          (first_steps (record { members = c.args.group; bound = c.args.bound }) c.args.cells steps i) t c.in-Err-apply.refusal)
           (get_or_from_slice_get steps i s no_step e)
           (subst (λ (v : WorldView). IsRefusal v.rehearsal (get_or steps i no_step) c.in-Err-apply.refusal) so_far h.refusal);
     })
@@ -39,9 +40,10 @@ loop-i-preserved c =
     let steps = c.args.steps.now in
     let i = c.loop-i.i in
     let here : Step = get_or steps i no_step in
-    let joined : c.apply.new.self.rehearsal ≡ first_steps c.args.group c.args.cells steps (i + 1) =
+    let joined : c.apply.new.self.rehearsal ≡ first_steps (record { members = c.args.group; bound = c.args.bound }) c.args.cells steps
+    (i + 1) =
     h.ok.joined ∙ ap (λ (v : WorldView). extended v.rehearsal here) so_far
-    ∙ ap (λ l. record (first_steps c.args.group c.args.cells steps i) { steps = l })
+    ∙ ap (λ l. record (first_steps (record { members = c.args.group; bound = c.args.bound }) c.args.cells steps i) { steps = l })
     (sym (take_more steps i no_step c.loop-i-test.true)) in
     record {
       so_far = λ t. record { rehearsal = joined t; prepared = h.none t };
@@ -49,8 +51,9 @@ loop-i-preserved c =
         | inl low ↦ c.loop-i.invariant.allowed j s low e
         | inr high ↦ (let same : i ≡ j = omega arith in
             let now : slice_get steps i ≡ Some s = subst (λ m. slice_get steps m ≡ Some s) (sym same) e in
-            subst (λ m. cause (first_steps c.args.group c.args.cells steps m) s ≡ None) same
-            (ap (λ t. cause (first_steps c.args.group c.args.cells steps i) t) (sym (get_or_from_slice_get steps i s no_step now))
+            subst (λ m. cause (first_steps (record { members = c.args.group; bound = c.args.bound }) c.args.cells steps m) s ≡ None) same
+            (ap (λ t. cause (first_steps (record { members = c.args.group; bound = c.args.bound }) c.args.cells steps i) t)
+            (sym (get_or_from_slice_get steps i s no_step now))
             ∙ ap (λ (v : WorldView). cause v.rehearsal here) (sym so_far) ∙ h.allowed))
       ];
     }

@@ -1,0 +1,156 @@
+-- What is pending, in order.
+use Rattle.std.proofs.Common.{◌≡◌, ℕ, suc, ◌+◌, ◌<◌, ◌≤◌, Bool, true, false, cond}
+use Rattle.std.proofs.Common.{not, ◌&&◌, ◌||◌, List, [], ◌∷◌, ◌++◌, length, get_or, take}
+use Rattle.std.proofs.Common.{map, Less, refl, sym, ap, ◌∙◌, subst, arith, length-append}
+use Rattle.std.specs.BTreeMap.{is_at}
+use Rattle.std.specs.List.{AllByRecursion, list_any}
+use Rattle.std.specs.List.Sorted.{IsStrictlySortedBy}
+use Rattle.std.specs.Ordering.{is_eq}
+use Rattle.std.proofs.lemmas.List.{take_all, take_more, take-append-le, map_push}
+use Rattle.std.proofs.lemmas.List.Sums.{length-filter, count_by-le-length}
+use Rattle.ct_names.specs.contracts.message.MessageOrd.TheImpl.{ghosts}
+use Rattle.ct_names.specs.Message.{Message}
+use Rattle.ct_names.specs.Order.{is_message}
+use Rattle.ct_names.specs.Value.{has, minus, first_occurrences, placed, sorted, ordered, IsOrdered}
+use Rattle.ct_names.proofs.Orders.{order, less-before, message-order, same_cmp}
+use Rattle.ct_names.proofs.Receipts.{has-push}
+use Rattle.ct_names.proofs.Sets.{IsBeforeAll, IsRising, set-rising, set-take, same_ordered, has-ordered}
+use Rattle.ct_abcast.specs.Batches.{joined, batch_after}
+use Rattle.ct_abcast.specs.Ordered.{Fed, IsFed}
+use Rattle.ct_abcast.specs.Pending.{IsPending}
+use Rattle.ct_abcast.proofs.Fresh.{is_message-sym}
+use Rattle.ct_abcast.proofs.Pending.{pending-more, pending-same, pending-left, pending-set}
+
+-- the keys of the tree are messages
+
+at-is : (m other : Message) → is_at (ghosts.cmp m) other ≡ is_message m other
+at-is m other = ap is_eq (same_cmp m other) ∙ sym (message-order m other)
+
+tree-has : (list : List Message) (m : Message) → list_any (is_at (ghosts.cmp m)) list ≡ has list m
+tree-has list m =
+    let same : is_at (ghosts.cmp m) ≡ (λ other. is_message other m) = λ i. λ other. (at-is m other ∙ is_message-sym m other) i in
+    ap (λ test. list_any test list) same
+
+-- the keys of the tree after one of them was put in or taken out
+pub tree-updated : (old new : List Message) (message : Message) (b : Bool) →
+    ((q : Message) → list_any (is_at (ghosts.cmp q)) new
+    ≡ cond (is_at (ghosts.cmp message) q) b (list_any (is_at (ghosts.cmp q)) old)) → (m : Message) →
+    has new m ≡ cond (is_message message m) b (has old m)
+tree-updated old new message b h m = sym (tree-has new m) ∙ (h m ∙ (λ i. cond (at-is message m i) b (tree-has old m i)))
+
+before_all-less : (m : Message) (list : List Message) → AllByRecursion (λ other. order m other ≡ Less) list → IsBeforeAll m list
+before_all-less m [] h = tt
+before_all-less m (x ∷ list) h = (less-before m x h.0, before_all-less m list h.1)
+
+rising-strict : (list : List Message) → IsStrictlySortedBy order list → IsRising list
+unfolding IsStrictlySortedBy
+rising-strict [] h = tt
+rising-strict (m ∷ list) h = (before_all-less m list h.0, rising-strict list h.1)
+
+-- the keys of the tree are a set
+pub tree-set : (keys : List Message) → IsStrictlySortedBy ghosts.cmp keys → IsOrdered keys
+tree-set keys h =
+    let cmp_is : ghosts.cmp ≡ order = λ i. λ m other. same_cmp m other i in
+    set-rising keys (rising-strict keys (subst (λ cmp. IsStrictlySortedBy cmp keys) cmp_is h))
+
+-- the first keys, one after another, as a set
+pub set-more : {A : Type 0} (message : A → Message) (set : List Message) (before : List A) (x : A) → set ≡ ordered (map message before) →
+    ordered (set ++ message x ∷ []) ≡ ordered (map message (before ++ x ∷ []))
+set-more message set before x is =
+    ap (λ list. ordered (list ++ message x ∷ [])) is
+    ∙ (same_ordered (ordered list ++ message x ∷ []) (list ++ message x ∷ []) same ∙ ap ordered (sym (map_push message before x)))
+  where
+    list : List Message
+    list = map message before
+
+    same : (m : Message) → has (ordered list ++ message x ∷ []) m ≡ has (list ++ message x ∷ []) m
+    same m =
+        has-push (ordered list) (message x) m
+        ∙ (ap (λ b. b || is_message (message x) m) (has-ordered list m) ∙ sym (has-push list (message x) m))
+
+pub set-first : (set some keys : List Message) (bound : ℕ) → IsOrdered keys → set ≡ ordered some → some ≡ take bound keys →
+    set ≡ take bound (ordered keys)
+set-first set some keys bound h set_is some_is =
+    set_is ∙ (ap ordered some_is ∙ (set-take bound keys h ∙ ap (take bound) (sym h)))
+
+-- a bound that is not below the number of messages bounds nothing
+
+first_occurrences-shorter : (list : List Message) → length (first_occurrences list) ≤ length list
+first_occurrences-shorter [] = omega arith
+first_occurrences-shorter (m ∷ list) =
+    let rest = first_occurrences-shorter list in
+    let test : Message → Bool = λ other. not (is_message m other) in
+    let counted = length-filter test (first_occurrences list) in
+    let others = count_by-le-length test (first_occurrences list) in
+    omega arith
+
+length-placed : (m : Message) (list : List Message) → length (placed m list) ≡ suc (length list)
+length-placed m [] = refl
+length-placed m (other ∷ list) = grind (arith, length-placed m list)
+
+length-sorted : (list : List Message) → length (sorted list) ≡ length list
+length-sorted [] = refl
+length-sorted (m ∷ list) = length-placed m (sorted list) ∙ ap suc (length-sorted list)
+
+pub take-few : (list : List Message) (bound : ℕ) → length list ≤ bound → take bound (ordered list) ≡ ordered list
+unfolding ordered
+take-few list bound few =
+    let all = length-sorted (first_occurrences list) in
+    let once = first_occurrences-shorter list in
+    take_all bound (sorted (first_occurrences list)) (omega arith)
+
+-- what was fed is right when nothing was fed
+pub fed-none : (f : Fed) (received delivered : List Message) → f.fed ≡ 0 → f.messages ≡ [] → IsFed f received delivered
+fed-none f received delivered none empty = record {
+  within = omega arith;
+  pending = λ m. ap (λ list. has list m) empty ∙ ap (λ n. has (take n received) m && not (has delivered m)) (sym none);
+}
+
+-- one more of the received messages is fed
+module _ (f next : Fed) (received delivered : List Message) (message : Message) (h : IsFed f received delivered)
+    (low : f.fed < length received) (is : message ≡ get_or received f.fed message) (moved : next.fed ≡ f.fed + 1) where
+  taken : take next.fed received ≡ take f.fed received ++ message ∷ []
+  taken =
+      ap (λ n. take n received) moved
+      ∙ (take_more received f.fed message low ∙ ap (λ m. take f.fed received ++ m ∷ []) (sym is))
+
+  pub fed-more : false ≡ has delivered message →
+      ((m : Message) → has next.messages m ≡ cond (is_message message m) true (has f.messages m)) → IsFed next received delivered
+  fed-more away updated = record {
+    within = omega arith;
+    pending = pending-more f.messages (take f.fed received) (take next.fed received) message delivered h.pending taken next.messages away
+        updated;
+  }
+
+  pub fed-same : true ≡ has delivered message → next.messages ≡ f.messages → IsFed next received delivered
+  fed-same there same = record {
+    within = omega arith;
+    pending = subst (λ list. IsPending list (take next.fed received) delivered) (sym same)
+        (pending-same f.messages (take f.fed received) (take next.fed received) message delivered h.pending taken there);
+  }
+
+-- one more message is received, and isn't fed yet
+pub fed-kept : (f : Fed) (received new : List Message) (message : Message) (delivered : List Message) → IsFed f received delivered →
+    new ≡ received ++ message ∷ [] → IsFed f new delivered
+fed-kept f received new message delivered h is = record {
+  within = let len = ap length is in let sum = length-append received (message ∷ []) in let low = h.within in omega arith;
+  pending = subst (λ list. IsPending f.messages list delivered)
+      (sym (ap (take f.fed) is ∙ take-append-le f.fed received (message ∷ []) h.within)) h.pending;
+}
+
+-- one more batch is delivered
+pub fed-left : (f next : Fed) (received : List Message) (old new : List (List Message)) (v : List Message) → IsFed f received (joined old) →
+    new ≡ old ++ batch_after old v ∷ [] → ((m : Message) → has next.messages m ≡ (has f.messages m && not (has v m))) → next.fed ≡ f.fed →
+    IsFed next received (joined new)
+fed-left f next received old new v h is left same = record {
+  within = let low = h.within in omega arith;
+  pending = subst (λ n. IsPending next.messages (take n received) (joined new)) (sym same)
+      (pending-left f.messages next.messages (take f.fed received) old new v h.pending is left);
+}
+
+-- the set of what is pending, once all is fed
+pub fed-set : (f : Fed) (received delivered : List Message) → IsFed f received delivered → f.fed ≡ length received →
+    ordered f.messages ≡ ordered (minus received delivered)
+fed-set f received delivered h all =
+    pending-set f.messages received delivered
+    (subst (λ list. IsPending f.messages list delivered) (take_all f.fed received (omega arith)) h.pending)

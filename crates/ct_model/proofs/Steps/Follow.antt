@@ -1,0 +1,77 @@
+-- Follow.
+use Rattle.std.proofs.Common.{◌≡◌, ℕ, ◌+◌, ◌<◌, [], ◌∷◌, length, refl, ap, sym, ◌∙◌, arith, Option, Some, None}
+use Rattle.std.specs.Prelude.{nat_lt, is_some, is_none, option_and_then}
+use Rattle.ct_names.specs.declared.limit.TheConstants.{MAX_INSTANCES}
+use Rattle.ct_names.specs.declared.limit.Limit.TheVariants.{Instances, Cells}
+use Rattle.ct_names.specs.declared.refusal.Refusal.TheVariants.{Busy, Undecided, Full}
+use Rattle.ct_names.specs.Value.{Value}
+use Rattle.ct_model.specs.declared.step.Step.TheVariants.{Follow}
+use Rattle.ct_model.specs.AtValue.{Standing}
+use Rattle.ct_model.specs.When.{when}
+use Rattle.ct_model.specs.State.{Member, member}
+use Rattle.ct_model.specs.Received.{decided}
+use Rattle.ct_model.specs.Next.{follow, follow_row, row, after}
+use Rattle.ct_model.specs.Rehearsal.{Rehearsal, state_of}
+use Rattle.ct_model.specs.Cause.{at, first_fault, or_else, cause, overflow}
+use Rattle.ct_model.specs.Lawful.{IsLawful, IsPresent}
+use Rattle.ct_model.proofs.Record.Causes.{own_tests, cause-none}
+use Rattle.ct_model.proofs.Record.Frame.{member-same}
+use Rattle.ct_model.proofs.Record.Taken.{IsTaken}
+use Rattle.ct_model.proofs.Relay.Messages.{in_members}
+use Rattle.ct_model.proofs.Record.Limits.{own_tests-is, cause-limited, taken_of}
+use Rattle.ct_model.proofs.Steps.Close.{limit-close}
+
+-- what the tests of a Follow say where none fires
+pub record IsBehind (m : Member) : Type 0 where
+  pub idle : m.current ≡ None
+  pub value : Value
+  pub decision : decided m.got (m.last + 1) ≡ Some value
+
+behind : (m : Member) → first_fault (at Busy (is_some m.current) ∷ at Undecided (is_none (decided m.got (m.last + 1))) ∷ []) ≡ None
+    → IsBehind m
+behind m h = let a = go m.current (decided m.got (m.last + 1)) h in record { idle = a.0; value = a.1; decision = a.2 }
+  where
+    go : (o : Option Standing) (d : Option Value) → first_fault (at Busy (is_some o) ∷ at Undecided (is_none d) ∷ []) ≡ None
+        → (o ≡ None) × (v : Value) × (d ≡ Some v)
+    go (Some c) d h = absurd (cc)
+    go None None h = absurd (cc)
+    go None (Some v) h = (refl, v, refl)
+
+pub follow-behind : (w : Rehearsal) (p : ℕ) → first_fault (own_tests w (Follow p)) ≡ None → IsBehind (member (state_of w) p)
+follow-behind w p h = behind (member (state_of w) p) (sym (ap first_fault (own_tests-is w (Follow p))) ∙ h)
+
+follow_row-some : (m : Member) (b : IsBehind m) → follow_row m ≡ Some (follow m b.value)
+follow_row-some m b = ap (λ o. option_and_then (λ v. when (is_none m.current) (follow m v)) o) b.decision
+    ∙ ap (λ (o : Option Standing). when (is_none o) (follow m b.value)) b.idle
+
+row-follow : (w : Rehearsal) (p : ℕ) (b : IsBehind (member (state_of w) p)) →
+    row w.setting (state_of w) p (member (state_of w) p) (Follow p) ≡ Some (follow (member (state_of w) p) b.value)
+row-follow w p b = follow_row-some (member (state_of w) p) b
+
+pub cause-follow : (w : Rehearsal) (p : ℕ) → IsLawful w → IsPresent w p → first_fault (own_tests w (Follow p)) ≡ None →
+    cause w (Follow p) ≡ or_else (first_fault (at (Full Instances) (nat_lt MAX_INSTANCES ((member (state_of w) p).last + 1))
+    ∷ at (Full Cells) (nat_lt w.cells (length (member (state_of w) p).batches + 1)) ∷ [])) (overflow w 0)
+cause-follow w p law present h =
+    let b = follow-behind w p h in
+    cause-limited w (Follow p) present h
+    ∙ limit-close w (Follow p) ((member (state_of w) p).last + 1) b.value law present (row-follow w p b)
+
+-- a Follow that is allowed
+pub record IsFollowStep (w : Rehearsal) (p : ℕ) : Type 0 where
+  pub idle : (member (state_of w) p).current ≡ None
+  pub value : Value
+  pub decision : decided (member (state_of w) p).got ((member (state_of w) p).last + 1) ≡ Some value
+  pub few : (member (state_of w) p).last < MAX_INSTANCES
+  pub taken : IsTaken w (Follow p) (follow (member (state_of w) p) value)
+
+pub follow_taken : (w : Rehearsal) (p : ℕ) → IsLawful w → cause w (Follow p) ≡ None → IsFollowStep w p
+follow_taken w p law none =
+    let free = cause-none w (Follow p) none in
+    let b = follow-behind w p free.tested in
+    let o = follow (member (state_of w) p) b.value in
+    let taken = taken_of w (Follow p) o law none tt (row-follow w p b) in
+    let there = in_members w.setting (state_of w) p law.size free.present.in_group in
+    let last : (member (after w.setting (state_of w) p o) p).last ≡ (member (state_of w) p).last + 1 =
+    ap (λ (m : Member). m.last) (member-same w.setting (state_of w) p o there) in
+    let within = taken.within.few_instances p in
+    record { idle = b.idle; value = b.value; decision = b.decision; few = omega arith; taken = taken }

@@ -1,0 +1,5 @@
+pub mod Listed
+pub mod Pushed
+pub mod Stepping
+pub mod Seen
+pub mod Tracing

@@ -1,0 +1,56 @@
+-- One more register, instance or member of those that a text goes through.
+use Rattle.std.proofs.Common.{◌≡◌, ℕ, suc, ◌+◌, Bool, true, false, cond, List, []}
+use Rattle.std.proofs.Common.{◌∷◌, ◌++◌, Option, Some, None, refl, ap, ◌∙◌, add-one, append-nil}
+use Rattle.std.specs.Prelude.{decimal, slice_index}
+use Rattle.ct_names.specs.MemberSet.{has_member}
+use Rattle.ct_names.specs.Value.{Value}
+use Rattle.ct_model.specs.AtValue.{Wire}
+use Rattle.ct_model.specs.Received.{decided}
+use Rattle.ct_model.specs.Rehearsal.{Rehearsal}
+use Rattle.ct_program.proofs.Pieces.{HasWritten, written_more}
+use Rattle.ct_show.specs.Json.{decision_json, decision_jsons, first_decisions, first_members, first_registers, member_json}
+use Rattle.ct_show.specs.State.{first_in}
+
+pub register_json_written : (values : List ℕ) (i value : ℕ) (old mid new end : List ℕ) (later : Bool) →
+    HasWritten 44 (first_registers values i) old new later → value ≡ slice_index values i
+    → mid ≡ new ++ cond later (44 ∷ []) [] → end ≡ mid ++ decimal value → HasWritten 44 (first_registers values (i + 1)) old end true
+register_json_written values i value old mid new end later h is first second =
+    rw add-one (written_more 44 (first_registers values i) (decimal (slice_index values i)) old mid new end later h first
+    (second ∙ ap (λ x. mid ++ decimal x) is))
+
+pub member_json_written : (w : Rehearsal) (i : ℕ) (old mid new end : List ℕ) (later : Bool) →
+    HasWritten 44 (first_members w i) old new later
+    → mid ≡ new ++ cond later (44 ∷ []) [] → end ≡ mid ++ member_json w (i + 1) → HasWritten 44 (first_members w (i + 1)) old end true
+member_json_written w i old mid new end later h first second =
+    rw add-one (written_more 44 (first_members w i) (member_json w (suc i)) old mid new end later h first (rw add-one at second))
+
+decisions-more : (got : List Wire) (i : ℕ) (o : Option Value) → o ≡ decided got (i + 1) →
+    first_decisions got (i + 1) ≡ first_decisions got i ++ decision_jsons (i + 1) o
+decisions-more got i o e = rw (e, add-one) refl
+
+pub decision_json_written : (got : List Wire) (i : ℕ) (value : Value) (old mid new end : List ℕ) (later : Bool) →
+    HasWritten 44 (first_decisions got i) old new later → Some value ≡ decided got (i + 1)
+    → mid ≡ new ++ cond later (44 ∷ []) [] → end ≡ mid ++ decision_json (i + 1) value →
+    HasWritten 44 (first_decisions got (i + 1)) old end true
+decision_json_written got i value old mid new end later h is first second =
+    rw (decisions-more got i (Some value) is) (written_more 44 (first_decisions got i) (decision_json (i + 1) value) old mid new end later h
+    first second)
+
+pub decision_json_passed : (got : List Wire) (i : ℕ) (old new : List ℕ) (later : Bool) → HasWritten 44 (first_decisions got i) old new later →
+    None ≡ decided got (i + 1)
+    → HasWritten 44 (first_decisions got (i + 1)) old new later
+decision_json_passed got i old new later h is = rw (decisions-more got i None is, append-nil) h
+
+members-more : (set : List ℕ) (i : ℕ) (b : Bool) → has_member set (i + 1) ≡ b →
+    first_in set (i + 1) ≡ first_in set i ++ cond b (decimal (i + 1) ∷ []) []
+members-more set i b e = rw (← e, add-one) refl
+
+pub in_set_written : (set : List ℕ) (i : ℕ) (old mid new end : List ℕ) (later : Bool) → HasWritten 32 (first_in set i) old new later →
+    has_member set (i + 1) ≡ true
+    → mid ≡ new ++ cond later (32 ∷ []) [] → end ≡ mid ++ decimal (i + 1) → HasWritten 32 (first_in set (i + 1)) old end true
+in_set_written set i old mid new end later h is first second =
+    rw (members-more set i true is) (written_more 32 (first_in set i) (decimal (i + 1)) old mid new end later h first second)
+
+pub in_set_passed : (set : List ℕ) (i : ℕ) (old new : List ℕ) (later : Bool) → HasWritten 32 (first_in set i) old new later →
+    has_member set (i + 1) ≡ false → HasWritten 32 (first_in set (i + 1)) old new later
+in_set_passed set i old new later h is = rw (members-more set i false is, append-nil) h

@@ -1,0 +1,34 @@
+use Rattle.std.proofs.Common.{◌≡◌, ℕ, List, Option, Result, Ok, Err}
+use Rattle.std.specs.Prelude.{IfErr, IfSome, IsErrAnd}
+use Rattle.ct_program.specs.declared.program_fault.ProgramFault.{ProgramFault}
+use Rattle.ct_program.specs.Script.{script}
+use Rattle.ct_show.specs.declared.view.View.{View}
+use Rattle.ct_show.specs.Answer.{FailsWith}
+use Rattle.ct_show.proofs.Seen.{fails_seen, reading_seen, shows_seen}
+use Rattle.ct_show.proofs.running.show.Goals as goal
+
+-- the fault that is handed on
+handed : {T : Type 0} (r : Result T ProgramFault) (fault : ProgramFault) (left : Option (List ℕ)) (view : View)
+    (old new : Option (List ℕ)) → IsErrAnd r (λ e. e ≡ fault) → IfSome left (λ input. FailsWith view fault (script input) old new) →
+    IfErr r (λ e. IfSome left (λ input. FailsWith view e (script input) old new))
+handed (Ok x) fault left view old new same h = tt
+handed (Err e) fault left view old new same h = rw same h
+
+pub returns-in_err-answer-clause-fault : goal.returns-in_err-answer-clause-fault
+returns-in_err-answer-clause-fault g c =
+    handed c.from_residual-in_err-answer.result c.in_err-answer.field-0.0 (g.R.Source.left c.args.reader.now) c.args.view.now
+    (g.W.Sink.written c.args.writer.now) _ c.from_residual-in_err-answer.ensures.1
+    (reading_seen (g.R.Source.left c.args.reader.now) c.in_ok-bytes.bytes.items c.args.view.now c.in_ok-bytes.ensures.bytes
+    c.in_err-answer.field-0.0 (g.W.Sink.written c.args.writer.now) _ c.in_err-answer.ensures.fault)
+
+pub returns-in-None-clause-ok : goal.returns-in-None-clause-ok
+returns-in-None-clause-ok g c =
+    shows_seen (g.R.Source.left c.args.reader.now) c.in_ok-bytes.bytes.items c.args.view.now c.in_ok-bytes.ensures.bytes
+    c.in_ok-answer.answer.text.items c.deref.result.now c.in_ok-answer.answer.refused (g.W.Sink.written c.args.writer.now) _
+    c.in_ok-answer.ensures.ok c.deref.ensures.value c.in-Ok.ensures.bytes c.in-None.is
+
+pub returns-clause-fault : goal.returns-clause-fault
+returns-clause-fault g c =
+    fails_seen (g.R.Source.left c.args.reader.now) c.in_ok-bytes.bytes.items c.args.view.now c.in_ok-bytes.ensures.bytes
+    c.in_ok-answer.answer.text.items c.deref.result.now c.in_ok-answer.answer.refused (g.W.Sink.written c.args.writer.now) _
+    c.in_ok-answer.ensures.ok c.deref.ensures.value c.in-Ok.ensures.bytes c.in-Some.fault c.in-Some.is

@@ -1,0 +1,89 @@
+-- What a view of a record shows.
+use Rattle.std.specs.Prelude.{◌≡◌, ℕ, ◌-◌, List, [], ◌++◌, length, Option, Some, None, Result, Err, slice_get, IsOkAnd, ⊤}
+use Rattle.std.specs.Io.KnownBytes.{Appends}
+use Rattle.ct_names.specs.declared.refusal.Refusal.{Refusal}
+use Rattle.ct_model.specs.declared.step.Step.{Step}
+use Rattle.ct_model.specs.Rehearsal.{Rehearsal}
+use Rattle.ct_world.specs.declared.replay_fault.ReplayFault.{ReplayFault}
+use Rattle.ct_world.specs.Replay.{first_steps}
+use Rattle.ct_program.specs.declared.program_fault.ProgramFault.{ProgramFault}
+use Rattle.ct_program.specs.declared.program_fault.ProgramFault.TheVariants.{Replay, Read, Write, Memory, Start, Exchanged}
+use Rattle.ct_program.specs.declared.read_fault.ReadFault.{ReadFault}
+use Rattle.ct_program.specs.Replay.{IsAllowed, IsRefused}
+use Rattle.ct_show.specs.declared.selection.Selection.{Selection}
+use Rattle.ct_show.specs.declared.view.View.{View}
+use Rattle.ct_show.specs.declared.view.View.TheVariants.{Nothing, Report, Steps, State}
+use Rattle.ct_show.specs.Facts.{refused_text}
+use Rattle.ct_show.specs.Json.{report_json}
+use Rattle.ct_show.specs.Lines.{first_lines}
+use Rattle.ct_show.specs.State.{state_text}
+
+-- the lines of the first steps of a record
+abbrev pub lines_to : Selection → Rehearsal → ℕ → List ℕ
+lines_to selection w k = first_lines selection w.setting w.cells w.steps k
+
+-- the line of the step at a place, counted from 0, where it is refused
+abbrev pub refused_line : Rehearsal → ℕ → Option Step → Refusal → List ℕ
+refused_line w number None refusal = []
+refused_line w number (Some step) refusal = refused_text w number step refusal
+
+-- the record as far as the view looks at it
+abbrev pub part_of : View → Rehearsal → Rehearsal
+part_of (State count) w = first_steps w.setting w.cells w.steps count
+part_of _ w = w
+
+-- what is shown of a record whose steps are all allowed
+abbrev pub shown_text : View → Rehearsal → List ℕ
+shown_text Nothing w = []
+shown_text Report w = report_json w
+shown_text (Steps selection) w = lines_to selection w (length w.steps)
+shown_text (State count) w = state_text w
+
+-- what is shown of one whose step of this number is refused: no report and no state; of steps the lines before that step, and its own
+abbrev pub refused_shown : View → Rehearsal → ℕ → Refusal → List ℕ
+refused_shown Nothing w number refusal = []
+refused_shown Report w number refusal = []
+refused_shown (Steps selection) w number refusal =
+    lines_to selection w (number - 1)
+    ++ refused_line (first_steps w.setting w.cells w.steps (number - 1)) number (slice_get w.steps (number - 1)) refusal
+refused_shown (State count) w number refusal = []
+
+-- this text is shown of a part that is looked at, and with it the first refused step, if there is one
+abbrev pub IsShown : View → Rehearsal → List ℕ → Option ReplayFault → Type 0
+IsShown view w text None = IsAllowed w × (text ≡ shown_text view w)
+IsShown view w text (Some fault) =
+    IsRefused w fault.at fault.refusal × (text ≡ refused_shown view w fault.at fault.refusal)
+
+-- this is shown of the record
+abbrev pub IsAnswer : View → Rehearsal → List ℕ → Option ReplayFault → Type 0
+IsAnswer view w text refused = IsShown view (part_of view w) text refused
+
+-- ---- what was written, by what the input says
+
+abbrev pub Shows : View → Result Rehearsal ReadFault → Option (List ℕ) → Option (List ℕ) → Type 0
+Shows view read old new = IsOkAnd read (λ w. IsAllowed (part_of view w) × Appends old new (shown_text view (part_of view w)))
+
+-- with this fault: at a refused step all that is shown of it was written; else nothing is said of what was written
+abbrev pub FailsWith : View → ProgramFault → Result Rehearsal ReadFault → Option (List ℕ) → Option (List ℕ) → Type 0
+FailsWith view (Replay at refusal) read old new =
+    IsOkAnd read (λ w. IsRefused (part_of view w) at refusal × Appends old new (refused_shown view (part_of view w) at refusal))
+FailsWith view (Read fault) read old new = read ≡ Err fault
+FailsWith view Start read old new = ⊥
+FailsWith view Exchanged read old new = ⊥
+FailsWith view _ read old new = ⊤
+
+-- the text and the first refused step are those of the record that was read
+abbrev pub IsAnswerOf : View → Result Rehearsal ReadFault → List ℕ → Option ReplayFault → Type 0
+IsAnswerOf view read text refused = IsOkAnd read (λ w. IsAnswer view w text refused)
+
+-- the fault is that of reading, or memory was refused
+abbrev pub IsOfReading : ProgramFault → Result Rehearsal ReadFault → Type 0
+IsOfReading (Read fault) read = read ≡ Err fault
+IsOfReading Memory read = ⊤
+IsOfReading _ read = ⊥
+
+-- a fault that comes before anything is written
+abbrev pub IsQuiet : ProgramFault → Type 0
+IsQuiet (Replay at refusal) = ⊥
+IsQuiet Write = ⊥
+IsQuiet _ = ⊤

@@ -1,0 +1,97 @@
+-- The line of a refused step, with the facts behind the refusal.
+use Rattle.std.specs.Prelude.{ℕ, zero, suc, ◌==◌, if◌then◌else◌, List, [], ◌∷◌}
+use Rattle.std.specs.Prelude.{◌++◌, length, codes, decimal, Option, Some, None, option_map}
+use Rattle.std.specs.List.{concat}
+use Rattle.ct_names.specs.declared.refusal.Refusal.{Refusal}
+use Rattle.ct_names.specs.declared.refusal.Refusal.TheVariants.{NotSent, StillWaiting}
+use Rattle.ct_names.specs.RefusalText.{refusal_text}
+use Rattle.ct_names.specs.Value.{Value}
+use Rattle.ct_model.specs.Actor.{actor}
+use Rattle.ct_model.specs.declared.phase.Phase.{Phase}
+use Rattle.ct_model.specs.declared.envelope.Envelope.{Envelope}
+use Rattle.ct_model.specs.declared.step.Step.{Step}
+use Rattle.ct_model.specs.declared.step.Step.TheVariants.{Receive, Postpone, Lose, Repeat}
+use Rattle.ct_model.specs.Rehearsal.{Rehearsal, state_of}
+use Rattle.ct_model.specs.StepText.{step_text}
+use Rattle.ct_world.specs.Standing.{heard_by, acked_by, replied_by}
+use Rattle.ct_world.specs.World.{member_of, if_member}
+use Rattle.ct_show.specs.Details.{coordinator_of, coordinator_text, estimate_of, instance_of, size_of}
+use Rattle.ct_show.specs.Lines.{head_text}
+use Rattle.ct_show.specs.Shapes.{estimate_text, phase_text}
+use Rattle.ct_show.specs.Wires.{letter_at, serial_text}
+
+-- an estimate that was heard of a member
+abbrev pub heard_text : ℕ → Option (Value × ℕ) → List ℕ
+heard_text from None = []
+heard_text from (Some e) = concat (codes ", heard " ∷ decimal from ∷ codes " " ∷ estimate_text (Some e) ∷ [])
+
+-- those of the first members
+abbrev pub first_heard : Rehearsal → ℕ → ℕ → List ℕ
+first_heard w p zero = []
+first_heard w p (suc k) = first_heard w p k ++ heard_text (suc k) (if_member w p (heard_by (member_of w p) (suc k)))
+
+-- how many acked the round of p, of those that replied
+unfoldable pub replies_text : Rehearsal → ℕ → List ℕ
+replies_text w p =
+    concat (codes ", acks " ∷ decimal (size_of (if_member w p (acked_by (member_of w p)))) ∷ codes " of "
+    ∷ decimal (size_of (if_member w p (replied_by (member_of w p)))) ∷ [])
+
+-- a round and its phase
+unfoldable pub phase_in : ℕ × Phase → List ℕ
+phase_in r = concat (codes " round " ∷ decimal r.0 ∷ codes " " ∷ phase_text r.1 ∷ [])
+
+-- the estimate of p, those that it heard for the round, and the replies that it got
+unfoldable pub votes_text : Rehearsal → ℕ → List ℕ
+votes_text w p = concat (codes ", estimate " ∷ estimate_of w p ∷ first_heard w p w.setting.members ∷ replies_text w p ∷ [])
+
+-- the coordinator of a round; nobody's before the first one
+abbrev pub led_text : ℕ → ℕ → List ℕ
+led_text r p = if r == 0 then [] else coordinator_text p
+
+-- where p is in its open instance
+unfoldable pub place_in : Rehearsal → ℕ → ℕ × Phase → List ℕ
+place_in w p r = concat (phase_in r ∷ led_text r.0 (coordinator_of w p) ∷ [])
+
+-- its part there
+abbrev pub part_text : Rehearsal → ℕ → Option (ℕ × Phase) → List ℕ
+part_text w p None = codes " idle"
+part_text w p (Some r) = concat (place_in w p r ∷ votes_text w p ∷ [])
+
+-- where a member stands
+unfoldable pub member_facts : Rehearsal → ℕ → List ℕ
+member_facts w p =
+    concat (codes "instance " ∷ decimal (instance_of w p)
+    ∷ part_text w p (if_member w p (option_map (λ c. (c.round, c.phase)) (member_of w p).current)) ∷ [])
+
+-- where an envelope to a member is, as far as the refusal tells
+abbrev pub place_text : ℕ → Refusal → List ℕ
+place_text to NotSent = concat (codes " went to member " ∷ decimal to ∷ [])
+place_text to StillWaiting = codes " is in its line"
+place_text to _ = concat (codes " to " ∷ decimal to ∷ [])
+
+-- how many envelopes were sent, where there is none of the serial
+unfoldable pub missing_text : Rehearsal → ℕ → List ℕ
+missing_text w k =
+    concat (codes "#" ∷ decimal k ∷ codes " was not sent: " ∷ decimal (length (state_of w).sent) ∷ codes " envelopes were" ∷ [])
+
+abbrev pub letter_facts : Rehearsal → ℕ → Option (Envelope (Unit {0})) → Refusal → List ℕ
+letter_facts w k None refusal = missing_text w k
+letter_facts w k (Some e) refusal = serial_text w k ++ place_text e.to refusal
+
+-- an envelope, and where it is
+unfoldable pub serial_facts : Rehearsal → ℕ → Refusal → List ℕ
+serial_facts w k refusal = letter_facts w k (letter_at w k) refusal
+
+-- the envelope that a step names; of another step its member
+abbrev pub facts_text : Rehearsal → Step → Refusal → List ℕ
+facts_text w (Receive p k) refusal = serial_facts w k refusal
+facts_text w (Postpone p k) refusal = serial_facts w k refusal
+facts_text w (Lose p k) refusal = serial_facts w k refusal
+facts_text w (Repeat p k) refusal = serial_facts w k refusal
+facts_text w step refusal = member_facts w (actor step)
+
+-- the line of a step that is refused after the record
+unfoldable pub refused_text : Rehearsal → ℕ → Step → Refusal → List ℕ
+refused_text w number step refusal =
+    concat (head_text number (actor step) ∷ step_text step ∷ codes "  REFUSED " ∷ refusal_text refusal ∷ codes ": "
+    ∷ facts_text w step refusal ∷ codes "\n" ∷ [])

@@ -1,0 +1,9 @@
+pub mod Json
+pub mod Shapes
+pub mod Wires
+pub mod Details
+pub mod Lines
+pub mod Facts
+pub mod Answer
+pub mod Line
+pub mod State

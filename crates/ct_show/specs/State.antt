@@ -1,0 +1,182 @@
+-- What is shown of the state that a record leads to: two lines of the whole, and lines of each member.
+use Rattle.std.specs.Prelude.{ℕ, zero, suc, List, [], ◌∷◌, ◌++◌, length}
+use Rattle.std.specs.Prelude.{codes, decimal, flat_map, is_none, map, Option, Some, None, option_map}
+use Rattle.std.specs.Prelude.{Bool, true, false, if◌then◌else◌}
+use Rattle.std.specs.Option.{option_map_or}
+use Rattle.std.specs.List.{concat}
+use Rattle.ct_names.specs.declared.limit.TheConstants.{MAX_MEMBERS}
+use Rattle.ct_names.specs.declared.refusal.Refusal.{Refusal}
+use Rattle.ct_names.specs.declared.refusal.Refusal.TheVariants.{Crashed, Busy, Idle, WrongPhase, NotLargest}
+use Rattle.ct_names.specs.Group.{majority}
+use Rattle.ct_names.specs.MemberSet.{has_member}
+use Rattle.ct_names.specs.RefusalText.{refusal_text}
+use Rattle.ct_names.specs.Value.{Value}
+use Rattle.ct_model.specs.Cause.{cause, order}
+use Rattle.ct_model.specs.declared.phase.Phase.{Phase}
+use Rattle.ct_model.specs.declared.step.Step.{Step}
+use Rattle.ct_model.specs.declared.step.Step.TheVariants.{Receive, Begin, Enter, Choose, Adopt, Suspect, Conclude, Deliver, Follow}
+use Rattle.ct_model.specs.Rehearsal.{Rehearsal, state_of, line_of}
+use Rattle.ct_model.specs.Senders.{senders}
+use Rattle.ct_model.specs.State.{at_serial, is_crashed}
+use Rattle.ct_model.specs.StepText.{step_text}
+use Rattle.ct_program.specs.Report.{list_text}
+use Rattle.ct_world.specs.Driving.{next_local}
+use Rattle.ct_world.specs.Standing.{estimate_by, heard_by, acked_by, replied_by}
+use Rattle.ct_world.specs.World.{member_of, if_member}
+use Rattle.ct_show.specs.Details.{instance_of}
+use Rattle.ct_show.specs.Facts.{place_in}
+use Rattle.ct_show.specs.Shapes.{estimate_text}
+use Rattle.ct_show.specs.Wires.{serial_text}
+
+-- ---- where a member stands
+
+-- idle, or its round, its phase and its coordinator
+abbrev pub progress_text : Rehearsal → ℕ → Option (ℕ × Phase) → List ℕ
+progress_text w p None = codes " idle"
+progress_text w p (Some r) = place_in w p r
+
+-- whether it is up, and its instance
+unfoldable pub standing_line : Rehearsal → ℕ → List ℕ
+standing_line w p =
+    concat (codes "member " ∷ decimal p ∷ (if is_crashed (state_of w) p then codes " crashed" else codes " up") ∷ codes " instance "
+    ∷ decimal (instance_of w p)
+    ∷ progress_text w p (if_member w p (option_map (λ c. (c.round, c.phase)) (member_of w p).current)) ∷ codes "\n" ∷ [])
+
+-- ---- its estimate, and what it got for its round, where an instance is open
+
+unfoldable pub estimate_line : Option (Value × ℕ) → List ℕ
+estimate_line None = []
+estimate_line (Some e) = concat (codes "  estimate " ∷ estimate_text (Some e) ∷ codes "\n" ∷ [])
+
+unfoldable pub heard_line : ℕ → Option (Value × ℕ) → List ℕ
+heard_line from None = []
+heard_line from (Some e) = concat (codes "  heard    " ∷ decimal from ∷ codes " " ∷ estimate_text (Some e) ∷ codes "\n" ∷ [])
+
+-- what it heard of the first members
+abbrev pub heard_lines : Rehearsal → ℕ → ℕ → List ℕ
+heard_lines w p zero = []
+heard_lines w p (suc k) = heard_lines w p k ++ heard_line (suc k) (if_member w p (heard_by (member_of w p) (suc k)))
+
+-- those of the first members that are in the set
+abbrev pub first_in : List ℕ → ℕ → List (List ℕ)
+first_in set zero = []
+first_in set (suc k) = first_in set k ++ (if has_member set (suc k) then decimal (suc k) ∷ [] else [])
+
+-- a word, and the members of a set; a dash where it has none
+unfoldable pub set_line : List ℕ → Option (List ℕ) → List ℕ
+set_line word None = []
+set_line word (Some set) = concat (word ∷ list_text 32 (first_in set MAX_MEMBERS) ∷ codes "\n" ∷ [])
+
+unfoldable pub votes_lines : Rehearsal → ℕ → List ℕ
+votes_lines w p =
+    concat (estimate_line (if_member w p (estimate_by (member_of w p)))
+    ∷ heard_lines w p w.setting.members
+    ∷ set_line (codes "  acked    ") (if_member w p (acked_by (member_of w p)))
+    ∷ set_line (codes "  replied  ") (if_member w p (replied_by (member_of w p)))
+    ∷ [])
+
+-- ---- its waiting line
+
+abbrev pub sender_text : Option ℕ → List ℕ
+sender_text None = []
+sender_text (Some p) = concat (codes ", sent by " ∷ decimal p ∷ [])
+
+-- an envelope, and whose step sent it, of the senders by serial
+unfoldable pub waiting_line : Rehearsal → List ℕ → ℕ → List ℕ
+waiting_line w from k = concat (codes "  waiting  " ∷ serial_text w k ∷ sender_text (at_serial from k) ∷ codes "\n" ∷ [])
+
+-- ---- what it may do
+
+-- what is refused so is none of the steps that the member could take next: it has crashed, an instance is open or none is,
+-- its phase is another, or another estimate has to be chosen
+abbrev pub is_apart : Refusal → Bool
+is_apart Crashed = true
+is_apart Busy = true
+is_apart Idle = true
+is_apart WrongPhase = true
+is_apart NotLargest = true
+is_apart _ = false
+
+-- a step that is allowed
+unfoldable pub enabled_line : Rehearsal → Step → List ℕ
+enabled_line w step = if is_none (cause w step) then concat (codes "  enabled  " ∷ step_text step ∷ codes "\n" ∷ []) else []
+
+-- one that is refused, and why
+unfoldable pub refusal_line : Step → Refusal → List ℕ
+refusal_line step refusal =
+    if is_apart refusal then []
+    else concat (codes "  refused  " ∷ step_text step ∷ codes " " ∷ refusal_text refusal ∷ codes "\n" ∷ [])
+
+abbrev pub refused_line : Rehearsal → Step → List ℕ
+refused_line w step = option_map_or (refusal_line step) (cause w step) []
+
+-- Choose with each of the first members
+abbrev pub first_choices : ℕ → ℕ → List Step
+first_choices p zero = []
+first_choices p (suc k) = first_choices p k ++ Choose p (suc k) ∷ []
+
+-- its own steps in the order in which a driver tries them, with these choices
+abbrev pub own_steps : ℕ → List Step → List Step
+own_steps p choices = (Deliver p ∷ Follow p ∷ Begin p ∷ []) ++ choices ++ (Adopt p ∷ Conclude p ∷ Enter p ∷ Suspect p ∷ [])
+
+-- those that are allowed, and those that are refused, of the choices its own estimate alone
+unfoldable pub steps_lines : Rehearsal → ℕ → List ℕ
+steps_lines w p =
+    flat_map (enabled_line w) (own_steps p (first_choices p w.setting.members))
+    ++ flat_map (refused_line w) (own_steps p (Choose p p ∷ []))
+
+-- the receipt of the serial at the front of its line, where it is allowed
+abbrev pub first_receipt : Rehearsal → ℕ → List ℕ → Option Step
+first_receipt w p [] = None
+first_receipt w p (k ∷ line) = if is_none (cause w (Receive p k)) then Some (Receive p k) else None
+
+abbrev pub step_or_dash : Option Step → List ℕ
+step_or_dash None = codes "-"
+step_or_dash (Some step) = step_text step
+
+abbrev pub or_text : Option Step → List ℕ
+or_text None = []
+or_text (Some step) = concat (codes " or " ∷ step_text step ∷ [])
+
+-- after a suspicion the receipt, which is tried where the failure detector doesn't suspect
+abbrev pub receipt_text : Step → Option Step → List ℕ
+receipt_text (Suspect p) receipt = or_text receipt
+receipt_text step receipt = []
+
+-- what a driver does next: a step of the member's own, else the receipt
+abbrev pub next_text : Option Step → Option Step → List ℕ
+next_text None receipt = step_or_dash receipt
+next_text (Some step) receipt = step_text step ++ receipt_text step receipt
+
+unfoldable pub next_line : Rehearsal → ℕ → List ℕ
+next_line w p = concat (codes "  next     " ∷ next_text (next_local w p) (first_receipt w p (line_of w p)) ∷ codes "\n" ∷ [])
+
+-- ---- all of it
+
+unfoldable pub member_lines : Rehearsal → List ℕ → ℕ → List ℕ
+member_lines w from p =
+    concat (standing_line w p ∷ votes_lines w p ∷ flat_map (waiting_line w from) (line_of w p) ∷ steps_lines w p ∷ next_line w p ∷ [])
+
+-- those of the first members
+abbrev pub first_members : Rehearsal → List ℕ → ℕ → List ℕ
+first_members w from zero = []
+first_members w from (suc k) = first_members w from k ++ member_lines w from (suc k)
+
+-- what the record begins with
+unfoldable pub group_line : Rehearsal → List ℕ
+group_line w =
+    concat (codes "group " ∷ decimal w.setting.members ∷ codes " majority " ∷ decimal (majority w.setting.members) ∷ codes " cells "
+    ∷ decimal w.cells ∷ codes " batch " ∷ decimal w.setting.bound ∷ codes "\n" ∷ [])
+
+-- what it comes to
+unfoldable pub counts_line : Rehearsal → List ℕ
+counts_line w =
+    concat (codes "steps " ∷ decimal (length w.steps) ∷ codes " sent " ∷ decimal (length (state_of w).sent) ∷ codes " posted "
+    ∷ decimal (length (order (state_of w))) ∷ codes "\n" ∷ [])
+
+-- with these senders of the envelopes
+unfoldable pub state_lines : Rehearsal → List ℕ → List ℕ
+state_lines w from = group_line w ++ (counts_line w ++ first_members w from w.setting.members)
+
+abbrev pub state_text : Rehearsal → List ℕ
+state_text w = state_lines w (senders w.setting w.steps)

@@ -1,0 +1,268 @@
+//! What a step read, and what it came to, shown. The world is the one after the step.
+
+ghost use Rattle.std.specs.Prelude.{◌≡◌, ◌≤◌, ◌++◌, OnOk, string_bytes};
+ghost use Rattle.ct_show.specs.Details.{instance_of, round_of, coordinator_of, coordinator_text, estimate_of};
+ghost use Rattle.ct_show.specs.Details.{estimate_alone, size_of, message_of, message_in, submit_text, begin_text};
+ghost use Rattle.ct_show.specs.Details.{enter_text, choose_text, adopt_text, suspect_text, decision_text};
+ghost use Rattle.ct_show.specs.Details.{acks_text, conclude_text, batch_text, delivery_text, letter_step, detail_text};
+
+use crate::shapes::{push_call, push_estimate, push_set, push_value};
+use crate::wires::{push_round, push_serial};
+use ct_model::Step;
+use ct_names::{Command, Instance, Member, MemberSet, Round, Serial};
+use ct_world::{Letter, Wire, World};
+use std::alloc::AllocError;
+
+// What the step did, where so many envelopes had been sent before it.
+pub(crate) fn push_detail(
+    text: &mut String,
+    world: &World,
+    before: u32,
+    step: Step,
+) -> Result<(), AllocError>
+    requires { before ≤ 1000000 }
+    ensures { OnOk result (string_bytes text.new ≡ string_bytes text.old ++ detail_text world.now.rehearsal before step) }
+{
+    match step {
+        Step::Submit(_, command) => push_submit(text, world, before, command),
+        Step::Receive(_, serial) => push_letter_step(text, "receive  ", world, serial),
+        Step::Begin(member) => push_begin(text, world, member),
+        Step::Enter(member) => push_enter(text, world, member),
+        Step::Choose(member, from) => push_choose(text, world, member, from),
+        Step::Adopt(member) => push_adopt(text, world, member),
+        Step::Suspect(member) => push_suspect(text, world, member),
+        Step::Conclude(member) => push_conclude(text, world, before, member),
+        Step::Deliver(member) => push_delivery(text, "deliver  ", world, member),
+        Step::Follow(member) => push_delivery(text, "follow   ", world, member),
+        Step::Crash(_) => text.push_str("crash"),
+        Step::Postpone(_, serial) => push_letter_step(text, "postpone ", world, serial),
+        Step::Lose(_, serial) => push_letter_step(text, "lose     ", world, serial),
+        Step::Repeat(_, serial) => push_letter_step(text, "repeat   ", world, serial),
+    }
+}
+
+// A step on an envelope.
+#[tactic(auto, unfolding(crate::specs::Details::letter_step))]
+fn push_letter_step(
+    text: &mut String,
+    name: &str,
+    world: &World,
+    serial: Serial,
+) -> Result<(), AllocError>
+    ensures { OnOk result (string_bytes text.new ≡ string_bytes text.old ++ letter_step name.now world.now.rehearsal serial) }
+{
+    text.push_str(name)?;
+    push_serial(text, world, serial)
+}
+
+// The last instance that the member began, 0 before the first.
+#[tactic(auto, unfolding(crate::specs::Details::instance_of))]
+pub(crate) fn instance_of(world: &World, member: Member) -> Instance
+    ensures { result ≡ instance_of world.now.rehearsal member }
+{
+    world.instance(member).unwrap_or((0, false)).0
+}
+
+// The round that the member is in, 0 where it is in none.
+#[tactic(auto, unfolding(crate::specs::Details::round_of))]
+pub(crate) fn round_of(world: &World, member: Member) -> Round
+    ensures { result ≡ round_of world.now.rehearsal member }
+{
+    match world.round(member) {
+        Some((round, _)) => round,
+        None => 0,
+    }
+}
+
+// The coordinator of that round.
+#[tactic(auto, unfolding(crate::specs::Details::coordinator_of))]
+pub(crate) fn coordinator_of(world: &World, member: Member) -> Member
+    ensures { result ≡ coordinator_of world.now.rehearsal member }
+{
+    world.group().coordinator(round_of(world, member))
+}
+
+// How many members the set has; none where there is no set.
+#[tactic(auto, unfolding(crate::specs::Details::size_of))]
+pub(crate) fn size_of(set: Option<MemberSet>) -> u8
+    ensures { result ≡ size_of set }
+{
+    match set {
+        Some(set) => set.len(),
+        None => 0,
+    }
+}
+
+// The member's estimate and ts.
+#[tactic(auto, unfolding(crate::specs::Details::estimate_of))]
+pub(crate) fn push_estimate_of(
+    text: &mut String,
+    world: &World,
+    member: Member,
+) -> Result<(), AllocError>
+    ensures { OnOk result (string_bytes text.new ≡ string_bytes text.old ++ estimate_of world.now.rehearsal member) }
+{
+    push_estimate(text, world.estimate(member))
+}
+
+// The member's estimate alone.
+#[tactic(auto, unfolding(crate::specs::Details::estimate_alone))]
+fn push_estimate_alone(text: &mut String, world: &World, member: Member) -> Result<(), AllocError>
+    ensures { OnOk result (string_bytes text.new ≡ string_bytes text.old ++ estimate_alone world.now.rehearsal member) }
+{
+    push_value(text, world.estimate(member))
+}
+
+// A message and a sign, where the envelope carries a message.
+fn push_message(text: &mut String, letter: Option<Letter>) -> Result<(), AllocError>
+    ensures { OnOk result (string_bytes text.new ≡ string_bytes text.old ++ message_in letter) }
+{
+    match letter {
+        None => Ok(()),
+        Some(letter) => push_message_of(text, &letter.wire),
+    }
+}
+
+fn push_message_of(text: &mut String, wire: &Wire) -> Result<(), AllocError>
+    ensures { OnOk result (string_bytes text.new ≡ string_bytes text.old ++ message_of wire.now) }
+{
+    match *wire {
+        Wire::Data(message) => write!(text, "{message} = "),
+        _ => Ok(()),
+    }
+}
+
+#[tactic(auto, unfolding(crate::specs::Details::submit_text))]
+fn push_submit(
+    text: &mut String,
+    world: &World,
+    before: u32,
+    command: Command,
+) -> Result<(), AllocError>
+    requires { before ≤ 1000000 }
+    ensures { OnOk result (string_bytes text.new ≡ string_bytes text.old ++ submit_text world.now.rehearsal before command) }
+{
+    text.push_str("submit   ")?;
+    push_message(text, world.letter(before + 1))?;
+    push_call(text, command)
+}
+
+#[tactic(auto, unfolding(crate::specs::Details::begin_text))]
+fn push_begin(text: &mut String, world: &World, member: Member) -> Result<(), AllocError>
+    ensures { OnOk result (string_bytes text.new ≡ string_bytes text.old ++ begin_text world.now.rehearsal member) }
+{
+    let instance = instance_of(world, member);
+    write!(text, "begin    instance {instance} proposes ")?;
+    push_estimate_alone(text, world, member)
+}
+
+#[tactic(auto, unfolding(crate::specs::Details::coordinator_text))]
+pub(crate) fn push_coordinator(text: &mut String, coordinator: Member) -> Result<(), AllocError>
+    ensures { OnOk result (string_bytes text.new ≡ string_bytes text.old ++ coordinator_text coordinator) }
+{
+    write!(text, ", coordinator {coordinator}")
+}
+
+#[tactic(auto, unfolding(crate::specs::Details::enter_text))]
+fn push_enter(text: &mut String, world: &World, member: Member) -> Result<(), AllocError>
+    ensures { OnOk result (string_bytes text.new ≡ string_bytes text.old ++ enter_text world.now.rehearsal member) }
+{
+    let instance = instance_of(world, member);
+    let round = round_of(world, member);
+    let coordinator = coordinator_of(world, member);
+    text.push_str("enter    round ")?;
+    push_round(text, instance, round)?;
+    push_coordinator(text, coordinator)
+}
+
+#[tactic(auto, unfolding(crate::specs::Details::choose_text))]
+fn push_choose(
+    text: &mut String,
+    world: &World,
+    member: Member,
+    from: Member,
+) -> Result<(), AllocError>
+    ensures { OnOk result (string_bytes text.new ≡ string_bytes text.old ++ choose_text world.now.rehearsal member from) }
+{
+    write!(text, "choose   estimate of {from}: ")?;
+    push_estimate(text, world.heard_from(member, from))
+}
+
+#[tactic(auto, unfolding(crate::specs::Details::adopt_text))]
+fn push_adopt(text: &mut String, world: &World, member: Member) -> Result<(), AllocError>
+    ensures { OnOk result (string_bytes text.new ≡ string_bytes text.old ++ adopt_text world.now.rehearsal member) }
+{
+    text.push_str("adopt    ")?;
+    push_estimate_of(text, world, member)
+}
+
+#[tactic(auto, unfolding(crate::specs::Details::suspect_text))]
+fn push_suspect(text: &mut String, world: &World, member: Member) -> Result<(), AllocError>
+    ensures { OnOk result (string_bytes text.new ≡ string_bytes text.old ++ suspect_text world.now.rehearsal member) }
+{
+    let coordinator = coordinator_of(world, member);
+    write!(text, "suspect  member {coordinator}; keeps ")?;
+    push_estimate_of(text, world, member)
+}
+
+// Where something was sent since so many envelopes were, the member's estimate is decided.
+#[tactic(auto, unfolding(crate::specs::Details::decision_text))]
+fn push_decision(
+    text: &mut String,
+    world: &World,
+    before: u32,
+    member: Member,
+) -> Result<(), AllocError>
+    ensures { OnOk result (string_bytes text.new ≡ string_bytes text.old ++ decision_text world.now.rehearsal before member) }
+{
+    if world.sent() == before {
+        return text.push_str(": no decision");
+    }
+    text.push_str(": decides ")?;
+    push_estimate_alone(text, world, member)
+}
+
+// How many acked the member's round, of those that replied.
+#[tactic(auto, unfolding(crate::specs::Details::acks_text))]
+fn push_acks(text: &mut String, world: &World, member: Member) -> Result<(), AllocError>
+    ensures { OnOk result (string_bytes text.new ≡ string_bytes text.old ++ acks_text world.now.rehearsal member) }
+{
+    let acks = size_of(world.acked(member));
+    let replies = size_of(world.replied(member));
+    write!(text, "conclude acks {acks} of {replies}")
+}
+
+#[tactic(auto, unfolding(crate::specs::Details::conclude_text))]
+fn push_conclude(
+    text: &mut String,
+    world: &World,
+    before: u32,
+    member: Member,
+) -> Result<(), AllocError>
+    ensures { OnOk result (string_bytes text.new ≡ string_bytes text.old ++ conclude_text world.now.rehearsal before member) }
+{
+    push_acks(text, world, member)?;
+    push_decision(text, world, before, member)
+}
+
+#[tactic(auto, unfolding(crate::specs::Details::batch_text))]
+fn push_batch(text: &mut String, world: &World, instance: Instance) -> Result<(), AllocError>
+    ensures { OnOk result (string_bytes text.new ≡ string_bytes text.old ++ batch_text world.now.rehearsal instance) }
+{
+    push_set(text, world.batch(instance).unwrap_or(&[]))
+}
+
+// A step that delivers the batch of an instance.
+#[tactic(auto, unfolding(crate::specs::Details::delivery_text))]
+fn push_delivery(
+    text: &mut String,
+    name: &str,
+    world: &World,
+    member: Member,
+) -> Result<(), AllocError>
+    ensures { OnOk result (string_bytes text.new ≡ string_bytes text.old ++ delivery_text name.now world.now.rehearsal member) }
+{
+    let instance = instance_of(world, member);
+    write!(text, "{name}instance {instance}: ")?;
+    push_batch(text, world, instance)
+}

@@ -1,0 +1,208 @@
+//! The line of a refused step, with the facts behind the refusal. The world is the one before the step.
+
+ghost use Rattle.std.specs.Prelude.{◌≡◌, ◌++◌, OnOk, option_map, string_bytes};
+ghost use Rattle.ct_show.specs.Facts.{heard_text, first_heard, replies_text, phase_in};
+ghost use Rattle.ct_show.specs.Facts.{led_text, place_in, votes_text, part_text, member_facts};
+ghost use Rattle.ct_show.specs.Facts.{place_text, missing_text, letter_facts, serial_facts, facts_text, refused_text};
+
+use crate::details::{coordinator_of, instance_of, push_coordinator, push_estimate_of, size_of};
+use crate::lines::push_head;
+use crate::shapes::{phase_name, push_estimate};
+use crate::wires::push_serial;
+use ct_model::{Phase, Step};
+use ct_names::{Member, Message, Refusal, Round, Serial};
+use ct_world::{Letter, World};
+use std::alloc::AllocError;
+
+// The line of the step of this number.
+#[tactic(auto, unfolding(crate::specs::Facts::refused_text))]
+pub(crate) fn push_refused(
+    text: &mut String,
+    world: &World,
+    number: usize,
+    step: Step,
+    refusal: Refusal,
+) -> Result<(), AllocError>
+    ensures { OnOk result (string_bytes text.new ≡ string_bytes text.old ++ refused_text world.now.rehearsal number step refusal) }
+{
+    push_head(text, number, step.member())?;
+    write!(text, "{step}  REFUSED {refusal}: ")?;
+    push_facts(text, world, step, refusal)?;
+    text.push_str("\n")
+}
+
+fn push_facts(
+    text: &mut String,
+    world: &World,
+    step: Step,
+    refusal: Refusal,
+) -> Result<(), AllocError>
+    ensures { OnOk result (string_bytes text.new ≡ string_bytes text.old ++ facts_text world.now.rehearsal step refusal) }
+{
+    match step {
+        Step::Receive(_, serial) => push_serial_facts(text, world, serial, refusal),
+        Step::Postpone(_, serial) => push_serial_facts(text, world, serial, refusal),
+        Step::Lose(_, serial) => push_serial_facts(text, world, serial, refusal),
+        Step::Repeat(_, serial) => push_serial_facts(text, world, serial, refusal),
+        step => push_member_facts(text, world, step.member()),
+    }
+}
+
+// The envelope of the serial, and where it is.
+#[tactic(auto, unfolding(crate::specs::Facts::serial_facts))]
+fn push_serial_facts(
+    text: &mut String,
+    world: &World,
+    serial: Serial,
+    refusal: Refusal,
+) -> Result<(), AllocError>
+    ensures { OnOk result (string_bytes text.new ≡ string_bytes text.old ++ serial_facts world.now.rehearsal serial refusal) }
+{
+    push_letter_facts(text, world, serial, world.letter(serial), refusal)
+}
+
+fn push_letter_facts(
+    text: &mut String,
+    world: &World,
+    serial: Serial,
+    letter: Option<Letter>,
+    refusal: Refusal,
+) -> Result<(), AllocError>
+    ensures { OnOk result (string_bytes text.new
+        ≡ string_bytes text.old ++ letter_facts world.now.rehearsal serial letter refusal) }
+{
+    match letter {
+        None => push_missing(text, world, serial),
+        Some(letter) => {
+            push_serial(text, world, serial)?;
+            push_place(text, letter.to, refusal)
+        }
+    }
+}
+
+// How many envelopes were sent, where there is none of the serial.
+#[tactic(auto, unfolding(crate::specs::Facts::missing_text))]
+fn push_missing(text: &mut String, world: &World, serial: Serial) -> Result<(), AllocError>
+    ensures { OnOk result (string_bytes text.new ≡ string_bytes text.old ++ missing_text world.now.rehearsal serial) }
+{
+    let sent = world.sent();
+    write!(text, "#{serial} was not sent: {sent} envelopes were")
+}
+
+// Where an envelope to the member is, as far as the refusal tells.
+fn push_place(text: &mut String, to: Member, refusal: Refusal) -> Result<(), AllocError>
+    ensures { OnOk result (string_bytes text.new ≡ string_bytes text.old ++ place_text to refusal) }
+{
+    match refusal {
+        Refusal::NotSent => write!(text, " went to member {to}"),
+        Refusal::StillWaiting => text.push_str(" is in its line"),
+        _ => write!(text, " to {to}"),
+    }
+}
+
+#[tactic(auto, unfolding(crate::specs::Facts::member_facts))]
+fn push_member_facts(text: &mut String, world: &World, member: Member) -> Result<(), AllocError>
+    ensures { OnOk result (string_bytes text.new ≡ string_bytes text.old ++ member_facts world.now.rehearsal member) }
+{
+    let instance = instance_of(world, member);
+    write!(text, "instance {instance}")?;
+    push_part(text, world, member, world.round(member))
+}
+
+fn push_part(
+    text: &mut String,
+    world: &World,
+    member: Member,
+    round: Option<(Round, Phase)>,
+) -> Result<(), AllocError>
+    ensures { OnOk result (string_bytes text.new ≡ string_bytes text.old ++ part_text world.now.rehearsal member round) }
+{
+    match round {
+        None => text.push_str(" idle"),
+        Some((round, phase)) => {
+            push_place_in(text, world, member, round, phase)?;
+            push_votes(text, world, member)
+        }
+    }
+}
+
+// Where the member is in its open instance.
+#[tactic(auto, unfolding(crate::specs::Facts::place_in))]
+pub(crate) fn push_place_in(
+    text: &mut String,
+    world: &World,
+    member: Member,
+    round: Round,
+    phase: Phase,
+) -> Result<(), AllocError>
+    ensures { OnOk result (string_bytes text.new ≡ string_bytes text.old ++ place_in world.now.rehearsal member (round, phase)) }
+{
+    push_phase(text, round, phase)?;
+    push_led(text, round, coordinator_of(world, member))
+}
+
+// The coordinator of the round, which has none before the first one.
+fn push_led(text: &mut String, round: Round, coordinator: Member) -> Result<(), AllocError>
+    ensures { OnOk result (string_bytes text.new ≡ string_bytes text.old ++ led_text round coordinator) }
+{
+    if round == 0 {
+        Ok(())
+    } else {
+        push_coordinator(text, coordinator)
+    }
+}
+
+#[tactic(auto, unfolding(crate::specs::Facts::phase_in))]
+fn push_phase(text: &mut String, round: Round, phase: Phase) -> Result<(), AllocError>
+    ensures { OnOk result (string_bytes text.new ≡ string_bytes text.old ++ phase_in (round, phase)) }
+{
+    let name = phase_name(phase);
+    write!(text, " round {round} {name}")
+}
+
+#[tactic(auto, unfolding(crate::specs::Facts::votes_text))]
+fn push_votes(text: &mut String, world: &World, member: Member) -> Result<(), AllocError>
+    ensures { OnOk result (string_bytes text.new ≡ string_bytes text.old ++ votes_text world.now.rehearsal member) }
+{
+    text.push_str(", estimate ")?;
+    push_estimate_of(text, world, member)?;
+    push_all_heard(text, world, member)?;
+    push_replies(text, world, member)
+}
+
+fn push_all_heard(text: &mut String, world: &World, member: Member) -> Result<(), AllocError>
+    ensures { OnOk result (string_bytes text.new
+        ≡ string_bytes text.old ++ first_heard world.now.rehearsal member world.now.rehearsal.setting.members) }
+{
+    let n = world.group().n();
+    for i in 0..n {
+        push_heard(text, i + 1, world.heard_from(member, i + 1))?;
+    }
+    Ok(())
+}
+
+fn push_heard(
+    text: &mut String,
+    from: Member,
+    heard: Option<(&[Message], Round)>,
+) -> Result<(), AllocError>
+    ensures { OnOk result (string_bytes text.new
+        ≡ string_bytes text.old ++ heard_text from (option_map (λ e. (e.0.now, e.1)) heard.entry)) }
+{
+    match heard {
+        None => Ok(()),
+        Some(heard) => {
+            write!(text, ", heard {from} ")?;
+            push_estimate(text, Some(heard))
+        }
+    }
+}
+
+#[tactic(auto, unfolding(crate::specs::Facts::replies_text))]
+fn push_replies(text: &mut String, world: &World, member: Member) -> Result<(), AllocError>
+    ensures { OnOk result (string_bytes text.new ≡ string_bytes text.old ++ replies_text world.now.rehearsal member) }
+{
+    let acks = size_of(world.acked(member));
+    let replies = size_of(world.replied(member));
+    write!(text, ", acks {acks} of {replies}")
+}

@@ -1,0 +1,129 @@
+//! Numbers, sets of messages, commands and phases, shown.
+
+ghost use Rattle.std.specs.Prelude.{◌≡◌, ◌++◌, OnOk, option_map, string_bytes};
+ghost use Rattle.ct_show.specs.Shapes.{spaces_before, right_text, names_text, shortened};
+ghost use Rattle.ct_show.specs.Shapes.{set_text, estimate_text, value_text, call_text, phase_text};
+
+use ct_model::Phase;
+use ct_names::{Command, Message, Round};
+use ct_program::push_separator;
+use std::alloc::AllocError;
+
+/// How many messages of a value are shown.
+pub const MOST_SHOWN: usize = 8;
+
+// A number at the right of a column of four places.
+#[tactic(auto, unfolding(crate::specs::Shapes::right_text))]
+pub(crate) fn push_right(text: &mut String, number: usize) -> Result<(), AllocError>
+    ensures { OnOk result (string_bytes text.new ≡ string_bytes text.old ++ right_text number) }
+{
+    let spaces = spaces_before(number);
+    write!(text, "{spaces}{number}")
+}
+
+fn spaces_before(number: usize) -> &'static str
+    ensures { result.now ≡ spaces_before number }
+{
+    if number < 10 {
+        "   "
+    } else if number < 100 {
+        "  "
+    } else if number < 1000 {
+        " "
+    } else {
+        ""
+    }
+}
+
+// The messages of a value.
+#[tactic(auto, unfolding(crate::specs::Shapes::set_text))]
+pub(crate) fn push_set(text: &mut String, messages: &[Message]) -> Result<(), AllocError>
+    ensures { OnOk result (string_bytes text.new ≡ string_bytes text.old ++ set_text messages.now) }
+{
+    text.push('{')?;
+    push_shortened(text, messages)?;
+    text.push('}')
+}
+
+// The names of the messages; of many the first ones, and how many more there are.
+#[tactic(auto, unfolding(crate::specs::Shapes::shortened))]
+fn push_shortened(text: &mut String, messages: &[Message]) -> Result<(), AllocError>
+    ensures { OnOk result (string_bytes text.new ≡ string_bytes text.old ++ shortened messages.now) }
+{
+    if messages.len() <= MOST_SHOWN {
+        push_names(text, messages)
+    } else {
+        push_names(text, &messages[..MOST_SHOWN])?;
+        let more = messages.len() - MOST_SHOWN;
+        write!(text, " and {more} more")
+    }
+}
+
+// The names of the messages, in order.
+#[tactic(auto, unfolding(crate::specs::Shapes::names_text))]
+fn push_names(text: &mut String, messages: &[Message]) -> Result<(), AllocError>
+    ensures { OnOk result (string_bytes text.new ≡ string_bytes text.old ++ names_text messages.now) }
+{
+    for (i, message) in messages.iter().enumerate() {
+        push_separator(text, ',', i > 0)?;
+        write!(text, "{message}")?;
+    }
+    Ok(())
+}
+
+// An estimate and its ts; nothing where there is none.
+#[tactic(auto, unfolding(crate::specs::Shapes::estimate_text))]
+pub(crate) fn push_estimate(
+    text: &mut String,
+    estimate: Option<(&[Message], Round)>,
+) -> Result<(), AllocError>
+    ensures { OnOk result (string_bytes text.new
+        ≡ string_bytes text.old ++ estimate_text (option_map (λ e. (e.0.now, e.1)) estimate.entry)) }
+{
+    match estimate {
+        None => Ok(()),
+        Some((value, ts)) => {
+            push_set(text, value)?;
+            write!(text, " ts {ts}")
+        }
+    }
+}
+
+// The value of an estimate alone.
+#[tactic(auto, unfolding(crate::specs::Shapes::value_text))]
+pub(crate) fn push_value(
+    text: &mut String,
+    estimate: Option<(&[Message], Round)>,
+) -> Result<(), AllocError>
+    ensures { OnOk result (string_bytes text.new
+        ≡ string_bytes text.old ++ value_text (option_map (λ e. (e.0.now, e.1)) estimate.entry)) }
+{
+    match estimate {
+        None => Ok(()),
+        Some((value, _)) => push_set(text, value),
+    }
+}
+
+// The command, as `set(0,7)`.
+#[tactic(auto, unfolding(crate::specs::Shapes::call_text))]
+pub(crate) fn push_call(text: &mut String, command: Command) -> Result<(), AllocError>
+    ensures { OnOk result (string_bytes text.new ≡ string_bytes text.old ++ call_text command) }
+{
+    match command {
+        Command::Set(register, value) => write!(text, "set({register},{value})"),
+        Command::Add(register, amount) => write!(text, "add({register},{amount})"),
+        Command::Copy(from, to) => write!(text, "copy({from},{to})"),
+    }
+}
+
+// The phase's name.
+pub(crate) fn phase_name(phase: Phase) -> &'static str
+    ensures { result.now ≡ phase_text phase }
+{
+    match phase {
+        Phase::Rest => "Rest",
+        Phase::Gather => "Gather",
+        Phase::Wait => "Wait",
+        Phase::Tally => "Tally",
+    }
+}

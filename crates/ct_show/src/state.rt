@@ -1,0 +1,450 @@
+//! The state that a record leads to, shown: two lines of the whole, and lines of each member.
+
+ghost use Rattle.std.specs.Prelude.{◌≡◌, ◌++◌, [], ◌∷◌, if◌then◌else◌, IfOk, OnOk, IsTrue, flat_map, option_map, string_bytes};
+ghost use Rattle.ct_names.specs.Group.{is_member};
+ghost use Rattle.ct_model.specs.Rehearsal.{line_of};
+ghost use Rattle.ct_model.specs.State.{at_serial};
+ghost use Rattle.ct_program.specs.Report.{list_text};
+ghost use Rattle.ct_show.specs.State.{progress_text, standing_line, estimate_line, heard_line};
+ghost use Rattle.ct_show.specs.State.{heard_lines, first_in, set_line, votes_lines};
+ghost use Rattle.ct_show.specs.State.{sender_text, waiting_line, is_apart, enabled_line, refusal_line, refused_line, first_choices};
+ghost use Rattle.ct_show.specs.State.{steps_lines, first_receipt, step_or_dash, or_text, receipt_text, next_text, next_line};
+ghost use Rattle.ct_show.specs.State.{member_lines, first_members, group_line, counts_line, state_lines};
+
+use crate::details::instance_of;
+use crate::facts::push_place_in;
+use crate::shapes::push_estimate;
+use crate::traced::Traced;
+use crate::wires::push_serial;
+use ct_model::{Phase, Step};
+use ct_names::{MAX_MEMBERS, Member, MemberSet, Message, Refusal, Round, Serial};
+use ct_program::push_separator;
+use ct_world::World;
+use std::alloc::{AllocError, Global};
+
+// The state of the world.
+#[tactic(auto, unfolding(crate::specs::State::state_lines))]
+pub(crate) fn state_text(alloc: Global, traced: &Traced) -> Result<Vec<u8>, AllocError>
+    ensures { IfOk result (λ bytes. bytes.items ≡ state_lines traced.now.world.rehearsal traced.now.senders.items) }
+{
+    let mut text = String::new(alloc);
+    push_group(&mut text, &traced.world)?;
+    push_counts(&mut text, &traced.world)?;
+    push_members(&mut text, &traced.world, &traced.senders)?;
+    Ok(text.into_bytes())
+}
+
+#[tactic(auto, unfolding(crate::specs::State::group_line))]
+fn push_group(text: &mut String, world: &World) -> Result<(), AllocError>
+    ensures { OnOk result (string_bytes text.new ≡ string_bytes text.old ++ group_line world.now.rehearsal) }
+{
+    let group = world.group();
+    let n = group.n();
+    let majority = group.majority();
+    let cells = world.cells();
+    let bound = world.bound();
+    write!(
+        text,
+        "group {n} majority {majority} cells {cells} batch {bound}\n"
+    )
+}
+
+#[tactic(auto, unfolding(crate::specs::State::counts_line))]
+fn push_counts(text: &mut String, world: &World) -> Result<(), AllocError>
+    ensures { OnOk result (string_bytes text.new ≡ string_bytes text.old ++ counts_line world.now.rehearsal) }
+{
+    let steps = world.record().len();
+    let sent = world.sent();
+    let posted = world.posted();
+    write!(text, "steps {steps} sent {sent} posted {posted}\n")
+}
+
+fn push_members(text: &mut String, world: &World, senders: &[Member]) -> Result<(), AllocError>
+    ensures { OnOk result (string_bytes text.new ≡ string_bytes text.old
+        ++ first_members world.now.rehearsal senders.now world.now.rehearsal.setting.members) }
+{
+    let n = world.group().n();
+    for i in 0..n {
+        push_member(text, world, senders, i + 1)?;
+    }
+    Ok(())
+}
+
+#[tactic(auto, unfolding(crate::specs::State::member_lines))]
+fn push_member(
+    text: &mut String,
+    world: &World,
+    senders: &[Member],
+    member: Member,
+) -> Result<(), AllocError>
+    requires { IsTrue (is_member world.now.rehearsal.setting.members member) }
+    ensures { OnOk result (string_bytes text.new ≡ string_bytes text.old ++ member_lines world.now.rehearsal senders.now member) }
+{
+    push_standing(text, world, member)?;
+    push_votes(text, world, member)?;
+    let line = world.waiting(member).unwrap_or(&[]);
+    push_waiting(text, world, senders, line)?;
+    push_steps(text, world, member)?;
+    push_next(text, world, member, line)
+}
+
+#[tactic(auto, unfolding(crate::specs::State::standing_line))]
+fn push_standing(text: &mut String, world: &World, member: Member) -> Result<(), AllocError>
+    requires { IsTrue (is_member world.now.rehearsal.setting.members member) }
+    ensures { OnOk result (string_bytes text.new ≡ string_bytes text.old ++ standing_line world.now.rehearsal member) }
+{
+    let state = if world.crashed(member) {
+        "crashed"
+    } else {
+        "up"
+    };
+    let instance = instance_of(world, member);
+    write!(text, "member {member} {state} instance {instance}")?;
+    push_progress(text, world, member, world.round(member))?;
+    text.push_str("\n")
+}
+
+fn push_progress(
+    text: &mut String,
+    world: &World,
+    member: Member,
+    round: Option<(Round, Phase)>,
+) -> Result<(), AllocError>
+    ensures { OnOk result (string_bytes text.new ≡ string_bytes text.old ++ progress_text world.now.rehearsal member round) }
+{
+    match round {
+        None => text.push_str(" idle"),
+        Some((round, phase)) => push_place_in(text, world, member, round, phase),
+    }
+}
+
+// The estimate of the member, and what it got for its round.
+#[tactic(auto, unfolding(crate::specs::State::votes_lines))]
+fn push_votes(text: &mut String, world: &World, member: Member) -> Result<(), AllocError>
+    ensures { OnOk result (string_bytes text.new ≡ string_bytes text.old ++ votes_lines world.now.rehearsal member) }
+{
+    push_estimate_line(text, world.estimate(member))?;
+    push_all_heard(text, world, member)?;
+    push_set_line(text, "  acked    ", world.acked(member))?;
+    push_set_line(text, "  replied  ", world.replied(member))
+}
+
+#[tactic(auto, unfolding(crate::specs::State::estimate_line))]
+fn push_estimate_line(
+    text: &mut String,
+    estimate: Option<(&[Message], Round)>,
+) -> Result<(), AllocError>
+    ensures { OnOk result (string_bytes text.new
+        ≡ string_bytes text.old ++ estimate_line (option_map (λ e. (e.0.now, e.1)) estimate.entry)) }
+{
+    match estimate {
+        None => Ok(()),
+        Some(estimate) => {
+            text.push_str("  estimate ")?;
+            push_estimate(text, Some(estimate))?;
+            text.push_str("\n")
+        }
+    }
+}
+
+fn push_all_heard(text: &mut String, world: &World, member: Member) -> Result<(), AllocError>
+    ensures { OnOk result (string_bytes text.new
+        ≡ string_bytes text.old ++ heard_lines world.now.rehearsal member world.now.rehearsal.setting.members) }
+{
+    let n = world.group().n();
+    for i in 0..n {
+        push_heard(text, i + 1, world.heard_from(member, i + 1))?;
+    }
+    Ok(())
+}
+
+#[tactic(auto, unfolding(crate::specs::State::heard_line))]
+fn push_heard(
+    text: &mut String,
+    from: Member,
+    heard: Option<(&[Message], Round)>,
+) -> Result<(), AllocError>
+    ensures { OnOk result (string_bytes text.new
+        ≡ string_bytes text.old ++ heard_line from (option_map (λ e. (e.0.now, e.1)) heard.entry)) }
+{
+    match heard {
+        None => Ok(()),
+        Some(heard) => {
+            write!(text, "  heard    {from} ")?;
+            push_estimate(text, Some(heard))?;
+            text.push_str("\n")
+        }
+    }
+}
+
+// The word and the members of the set.
+#[tactic(auto, unfolding(crate::specs::State::set_line))]
+fn push_set_line(text: &mut String, word: &str, set: Option<MemberSet>) -> Result<(), AllocError>
+    ensures { OnOk result (string_bytes text.new ≡ string_bytes text.old ++ set_line word.now set) }
+{
+    match set {
+        None => Ok(()),
+        Some(set) => {
+            text.push_str(word)?;
+            push_members_of(text, set)?;
+            text.push_str("\n")
+        }
+    }
+}
+
+fn push_members_of(text: &mut String, set: MemberSet) -> Result<(), AllocError>
+    ensures { OnOk result (string_bytes text.new ≡ string_bytes text.old ++ list_text 32 (first_in set MAX_MEMBERS)) }
+{
+    let mut later = false;
+    for i in 0..MAX_MEMBERS {
+        let member = i + 1;
+        if set.contains(member) {
+            push_separator(text, ' ', later)?;
+            write!(text, "{member}")?;
+            later = true;
+        }
+    }
+    push_dash(text, later)
+}
+
+// A dash where nothing stands before.
+fn push_dash(text: &mut String, later: bool) -> Result<(), AllocError>
+    ensures { OnOk result (string_bytes text.new ≡ string_bytes text.old ++ (if later then [] else (45 ∷ []))) }
+{
+    if later { Ok(()) } else { text.push('-') }
+}
+
+// The envelopes of these serials.
+fn push_waiting(
+    text: &mut String,
+    world: &World,
+    senders: &[Member],
+    line: &[Serial],
+) -> Result<(), AllocError>
+    ensures { OnOk result (string_bytes text.new
+        ≡ string_bytes text.old ++ flat_map (waiting_line world.now.rehearsal senders.now) line.now) }
+{
+    for serial in line {
+        push_envelope(text, world, senders, *serial)?;
+    }
+    Ok(())
+}
+
+#[tactic(auto, unfolding(crate::specs::State::waiting_line))]
+fn push_envelope(
+    text: &mut String,
+    world: &World,
+    senders: &[Member],
+    serial: Serial,
+) -> Result<(), AllocError>
+    ensures { OnOk result (string_bytes text.new
+        ≡ string_bytes text.old ++ waiting_line world.now.rehearsal senders.now serial) }
+{
+    text.push_str("  waiting  ")?;
+    push_serial(text, world, serial)?;
+    push_sender(text, sender_at(senders, serial))?;
+    text.push_str("\n")
+}
+
+// The member of the list at the serial.
+fn sender_at(senders: &[Member], serial: Serial) -> Option<Member>
+    ensures { result ≡ at_serial senders.now serial }
+{
+    let place = (serial as usize).checked_sub(1)?;
+    senders.get(place).copied()
+}
+
+fn push_sender(text: &mut String, sender: Option<Member>) -> Result<(), AllocError>
+    ensures { OnOk result (string_bytes text.new ≡ string_bytes text.old ++ sender_text sender) }
+{
+    match sender {
+        None => Ok(()),
+        Some(sender) => write!(text, ", sent by {sender}"),
+    }
+}
+
+// The steps of its own that the member may take, and those that it may not.
+#[tactic(auto, unfolding(crate::specs::State::steps_lines))]
+fn push_steps(text: &mut String, world: &World, member: Member) -> Result<(), AllocError>
+    ensures { OnOk result (string_bytes text.new ≡ string_bytes text.old ++ steps_lines world.now.rehearsal member) }
+{
+    push_enabled(text, world, &first_steps(member))?;
+    push_choices(text, world, member)?;
+    push_enabled(text, world, &last_steps(member))?;
+    push_refused(text, world, &first_steps(member))?;
+    push_refused(text, world, &[Step::Choose(member, member)])?;
+    push_refused(text, world, &last_steps(member))
+}
+
+// The steps that a driver tries before a choice.
+fn first_steps(member: Member) -> [Step; 3]
+    ensures { result ≡ Step.Deliver member ∷ Step.Follow member ∷ Step.Begin member ∷ [] }
+{
+    [
+        Step::Deliver(member),
+        Step::Follow(member),
+        Step::Begin(member),
+    ]
+}
+
+// Those that it tries after one.
+fn last_steps(member: Member) -> [Step; 4]
+    ensures { result ≡ Step.Adopt member ∷ Step.Conclude member ∷ Step.Enter member ∷ Step.Suspect member ∷ [] }
+{
+    [
+        Step::Adopt(member),
+        Step::Conclude(member),
+        Step::Enter(member),
+        Step::Suspect(member),
+    ]
+}
+
+fn push_choices(text: &mut String, world: &World, member: Member) -> Result<(), AllocError>
+    ensures { OnOk result (string_bytes text.new ≡ string_bytes text.old
+        ++ flat_map (enabled_line world.now.rehearsal) (first_choices member world.now.rehearsal.setting.members)) }
+{
+    let n = world.group().n();
+    for i in 0..n {
+        push_if_enabled(text, world, Step::Choose(member, i + 1))?;
+    }
+    Ok(())
+}
+
+// Those of the steps that are allowed.
+fn push_enabled(text: &mut String, world: &World, steps: &[Step]) -> Result<(), AllocError>
+    ensures { OnOk result (string_bytes text.new ≡ string_bytes text.old ++ flat_map (enabled_line world.now.rehearsal) steps.now) }
+{
+    for step in steps {
+        push_if_enabled(text, world, *step)?;
+    }
+    Ok(())
+}
+
+#[tactic(auto, unfolding(crate::specs::State::enabled_line))]
+fn push_if_enabled(text: &mut String, world: &World, step: Step) -> Result<(), AllocError>
+    ensures { OnOk result (string_bytes text.new ≡ string_bytes text.old ++ enabled_line world.now.rehearsal step) }
+{
+    match world.enabled(&step) {
+        Ok(()) => write!(text, "  enabled  {step}\n"),
+        Err(_) => Ok(()),
+    }
+}
+
+// Those of the steps that are refused.
+fn push_refused(text: &mut String, world: &World, steps: &[Step]) -> Result<(), AllocError>
+    ensures { OnOk result (string_bytes text.new ≡ string_bytes text.old ++ flat_map (refused_line world.now.rehearsal) steps.now) }
+{
+    for step in steps {
+        push_if_refused(text, world, *step)?;
+    }
+    Ok(())
+}
+
+fn push_if_refused(text: &mut String, world: &World, step: Step) -> Result<(), AllocError>
+    ensures { OnOk result (string_bytes text.new ≡ string_bytes text.old ++ refused_line world.now.rehearsal step) }
+{
+    match world.enabled(&step) {
+        Ok(()) => Ok(()),
+        Err(refusal) => push_refusal(text, step, refusal),
+    }
+}
+
+#[tactic(auto, unfolding(crate::specs::State::refusal_line))]
+fn push_refusal(text: &mut String, step: Step, refusal: Refusal) -> Result<(), AllocError>
+    ensures { OnOk result (string_bytes text.new ≡ string_bytes text.old ++ refusal_line step refusal) }
+{
+    if is_apart(refusal) {
+        Ok(())
+    } else {
+        write!(text, "  refused  {step} {refusal}\n")
+    }
+}
+
+// Whether a step that is refused so is none of those that the member could take next.
+fn is_apart(refusal: Refusal) -> bool
+    ensures { result ≡ is_apart refusal }
+{
+    match refusal {
+        Refusal::Crashed => true,
+        Refusal::Busy => true,
+        Refusal::Idle => true,
+        Refusal::WrongPhase => true,
+        Refusal::NotLargest => true,
+        _ => false,
+    }
+}
+
+// What a driver does next at the member, which has this waiting line.
+#[tactic(auto, unfolding(crate::specs::State::next_line))]
+fn push_next(
+    text: &mut String,
+    world: &World,
+    member: Member,
+    line: &[Serial],
+) -> Result<(), AllocError>
+    requires { line.now ≡ line_of world.now.rehearsal member }
+    ensures { OnOk result (string_bytes text.new ≡ string_bytes text.old ++ next_line world.now.rehearsal member) }
+{
+    text.push_str("  next     ")?;
+    push_next_of(
+        text,
+        world.next_local(member),
+        first_receipt(world, member, line),
+    )?;
+    text.push_str("\n")
+}
+
+// The receipt of the first serial of the line, where it is allowed.
+fn first_receipt(world: &World, member: Member, line: &[Serial]) -> Option<Step>
+    ensures { result ≡ first_receipt world.now.rehearsal member line.now }
+{
+    let receipt = Step::Receive(member, *line.first()?);
+    match world.enabled(&receipt) {
+        Ok(()) => Some(receipt),
+        Err(_) => None,
+    }
+}
+
+// A step of the member's own, else the receipt; a suspicion with the receipt that it may come to.
+fn push_next_of(
+    text: &mut String,
+    own: Option<Step>,
+    receipt: Option<Step>,
+) -> Result<(), AllocError>
+    ensures { OnOk result (string_bytes text.new ≡ string_bytes text.old ++ next_text own receipt) }
+{
+    match own {
+        None => push_step(text, receipt),
+        Some(step) => {
+            write!(text, "{step}")?;
+            push_receipt(text, step, receipt)
+        }
+    }
+}
+
+fn push_step(text: &mut String, step: Option<Step>) -> Result<(), AllocError>
+    ensures { OnOk result (string_bytes text.new ≡ string_bytes text.old ++ step_or_dash step) }
+{
+    match step {
+        None => text.push_str("-"),
+        Some(step) => write!(text, "{step}"),
+    }
+}
+
+fn push_receipt(text: &mut String, step: Step, receipt: Option<Step>) -> Result<(), AllocError>
+    ensures { OnOk result (string_bytes text.new ≡ string_bytes text.old ++ receipt_text step receipt) }
+{
+    match step {
+        Step::Suspect(_) => push_or(text, receipt),
+        _ => Ok(()),
+    }
+}
+
+fn push_or(text: &mut String, step: Option<Step>) -> Result<(), AllocError>
+    ensures { OnOk result (string_bytes text.new ≡ string_bytes text.old ++ or_text step) }
+{
+    match step {
+        None => Ok(()),
+        Some(step) => write!(text, " or {step}"),
+    }
+}

@@ -1,0 +1,177 @@
+//! The words after `check`, `report`, `state` and `steps` on a command line.
+
+ghost use Rattle.std.specs.Prelude.{IfSome};
+ghost use Rattle.ct_show.specs.Line.{IsOfSteps, IsOfState};
+
+use crate::selection::Selection;
+use crate::view::View;
+use clap::{Arg, ArgAction, ArgMatches, Command};
+use ct_names::MAX_MEMBERS;
+use ct_program::number_in;
+use std::alloc::{AllocError, Global};
+
+// What stands after the options of `check`.
+const AFTER_CHECK: &str = "Examples:
+  ct_tool check examples/*.json
+  ct_tool check --quiet run.json && ct_tool report run.json
+
+Status, the largest of those of the records:
+  0  each record is replayed
+  1  a step of a record is refused
+  2  an input is no record
+  3  the words of the command line are refused
+  4  a read or a write failed
+  5  memory was refused";
+
+// What stands after the options of `report`.
+const AFTER_REPORT: &str = "Examples:
+  ct_tool walk --members 3 | ct_tool report
+  ct_tool report run.json
+
+Status:
+  0  the report was written
+  1  a step of the record is refused
+  2  the input is no record
+  3  the words of the command line are refused
+  4  a read or a write failed
+  5  memory was refused";
+
+// What stands after the options of `state`.
+const AFTER_STATE: &str = "Examples:
+  ct_tool state run.json
+  ct_tool state run.json --after 20
+
+Status:
+  0  the state was written
+  1  one of the steps is refused
+  2  the input is no record
+  3  the words of the command line are refused
+  4  a read or a write failed
+  5  memory was refused";
+
+// What stands after the options of `steps`.
+const AFTER_STEPS: &str = "Examples:
+  ct_tool walk --members 3 | ct_tool steps
+  ct_tool steps run.json --from 20 --to 40
+  ct_tool steps run.json --member 2
+
+Status:
+  0  the lines were written
+  1  a step of the record is refused; its line is the last one
+  2  the input is no record
+  3  the words of the command line are refused
+  4  a read or a write failed
+  5  memory was refused";
+
+/// The steps that the options of `steps` ask for; None where a value is not of its option's range.
+pub fn steps_view(found: &ArgMatches<'_>) -> Option<View>
+    ensures { IfSome result IsOfSteps }
+{
+    let from = number_in(found.get_str("from")?, 1, u32::MAX)?;
+    let to = number_in(found.get_str("to")?, 1, u32::MAX)?;
+    let member = match found.get_str("member") {
+        None => None,
+        Some(text) => Some(number_in(text, 1, u32::from(MAX_MEMBERS))? as u8),
+    };
+    Some(View::Steps(Selection { from, to, member }))
+}
+
+/// The steps after which `state` shows the state; None where the value is not of its option's range.
+pub fn state_view(found: &ArgMatches<'_>) -> Option<View>
+    ensures { IfSome result IsOfState }
+{
+    Some(View::State(number_in(found.get_str("after")?, 0, u32::MAX)?))
+}
+
+/// The subcommand `check`.
+pub fn check_command<'a>(alloc: Global) -> Result<Command<'a>, AllocError> {
+    Command::new(alloc, "check")
+        .about(
+            "Replays records, and writes a line for each that is refused: the file and the fault",
+        )
+        .after_help(AFTER_CHECK)
+        .arg(
+            Arg::new(alloc, "files")
+                .value_name("FILE")
+                .action(ArgAction::Append)
+                .required(true)
+                .num_args(1..)
+                .help("The files that the records stand in; - for standard input"),
+        )?
+        .arg(
+            Arg::new(alloc, "quiet")
+                .long("quiet")
+                .action(ArgAction::SetTrue)
+                .help("Writes no line"),
+        )
+}
+
+/// The subcommand `report`.
+pub fn report_command<'a>(alloc: Global) -> Result<Command<'a>, AllocError> {
+    Command::new(alloc, "report")
+        .about("Replays a record and writes the report as JSON to standard output")
+        .after_help(AFTER_REPORT)
+        .arg(file(alloc))
+}
+
+/// The subcommand `state`.
+pub fn state_command<'a>(alloc: Global) -> Result<Command<'a>, AllocError> {
+    Command::new(alloc, "state")
+        .about(
+            "Replays the first steps of a record and writes where each member stands, what waits for it, and what it may do next",
+        )
+        .after_help(AFTER_STATE)
+        .arg(file(alloc))?
+        .arg(
+            option(
+                alloc,
+                "after",
+                "How many steps are replayed; all by default",
+            )
+            .default_value("4294967295")
+            .hide_default_value(true),
+        )
+}
+
+/// The subcommand `steps`.
+pub fn steps_command<'a>(alloc: Global) -> Result<Command<'a>, AllocError> {
+    Command::new(alloc, "steps")
+        .about(
+            "Replays a record and writes a line for each step: its number, its member, what it read and what it sent",
+        )
+        .after_help(AFTER_STEPS)
+        .arg(file(alloc))?
+        .arg(option(
+            alloc,
+            "from",
+            "The number of the first step that is shown, from 1 on",
+        )
+        .default_value("1"))?
+        .arg(
+            option(alloc, "to", "The number of the last step that is shown")
+                .default_value("4294967295")
+                .hide_default_value(true),
+        )?
+        .arg(option(
+            alloc,
+            "member",
+            "Shows the steps of this member alone, 1 to 16",
+        ))
+}
+
+// The file that the record stands in.
+fn file<'a>(alloc: Global) -> Arg<'a> {
+    Arg::new(alloc, "file")
+        .value_name("FILE")
+        .action(ArgAction::Set)
+        .default_value("-")
+        .help("The file that the record stands in; - for standard input")
+}
+
+// An option with a value.
+fn option<'a>(alloc: Global, name: &'a str, help: &'a str) -> Arg<'a> {
+    Arg::new(alloc, name)
+        .long(name)
+        .action(ArgAction::Set)
+        .help(help)
+}

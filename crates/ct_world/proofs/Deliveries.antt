@@ -1,0 +1,266 @@
+-- What Deliver and Follow share: why the decision of an instance is not delivered, what has to be there for it, and the seat
+-- after it.
+use Rattle.std.proofs.Common.{◌≡◌, ℕ, ◌+◌, ◌-◌, ◌≤◌, ◌<◌, Bool, true, false, not, List, [], ◌∷◌, ◌++◌, length, set, refl, ap, sym, ◌∙◌}
+use Rattle.std.proofs.Common.{subst, arith, append-nil, slice_get, Option, Some, None, Bor}
+use Rattle.std.specs.Prelude.{nat_lt, is_some, is_none, if◌then◌else◌, option_and_then, option_copied}
+use Rattle.std.proofs.lemmas.Bool.Decides.{nat_tests}
+use Rattle.std.proofs.lemmas.List.{length-map, map-append}
+use Rattle.std.proofs.lemmas.List.Concat.{flat_map-append}
+use Rattle.std.proofs.lemmas.List.Sums.{fold-append}
+use Rattle.ct_names.specs.declared.limit.Limit.TheVariants.{Instances, Cells}
+use Rattle.ct_names.specs.declared.limit.TheConstants.{MAX_INSTANCES}
+use Rattle.ct_names.specs.declared.refusal.Refusal.TheVariants.{Undecided, Full}
+use Rattle.ct_names.specs.Batch.{Batch}
+use Rattle.ct_names.specs.Value.{Value, minus, ordered}
+use Rattle.ct_model.specs.declared.step.Step.{Step}
+use Rattle.ct_model.specs.Actor.{actor}
+use Rattle.ct_model.specs.AtValue.{Standing}
+use Rattle.ct_model.specs.Cause.{Test, at, first_fault, or_else, cause, overflow, order}
+use Rattle.ct_model.specs.Lawful.{IsLawful, IsPresent}
+use Rattle.ct_model.specs.Next.{close, batch_of}
+use Rattle.ct_model.specs.Order.{Joins}
+use Rattle.ct_model.specs.Received.{decided}
+use Rattle.ct_model.specs.Rehearsal.{Rehearsal, state_of, extended}
+use Rattle.ct_model.specs.State.{Member, member, joined}
+use Rattle.ct_model.specs.Waiting.{line_change}
+use Rattle.ct_model.specs.Waiting.LineChange.{Leaves}
+use Rattle.ct_model.proofs.Basics.Options.{some-same}
+use Rattle.ct_model.proofs.Delivery.Order.{order-ahead, order-behind}
+use Rattle.ct_model.proofs.Record.Causes.{own_tests}
+use Rattle.ct_model.proofs.Record.Limits.{cause-tested}
+use Rattle.ct_model.proofs.Record.Taken.{IsTaken, lawful-step}
+use Rattle.ct_abcast.specs.Cast.{batch_of as cast_batch}
+use Rattle.ct_board.specs.Board.{Posted}
+use Rattle.ct_instances.specs.Keeping.{KeepsInstances}
+use Rattle.ct_instances.specs.Kept.{Kept, decision_at}
+use Rattle.ct_instances.specs.Named.{value_at}
+use Rattle.ct_instances.proofs.Named.{named_some, named_is_some}
+use Rattle.ct_table.specs.Table.{zeros, applied, applied_all, table}
+use Rattle.ct_world.specs.declared.prepared.Prepared.{Prepared}
+use Rattle.ct_world.specs.declared.seat.Seat.{Seat}
+use Rattle.ct_world.specs.Kept.{Fields, IsWorld, IsActor, HasDeliveryRoom, delivery_cause, seat_for, seat_of, values_of}
+use Rattle.ct_world.specs.declared.world.World.TheInside.{Inside}
+use Rattle.ct_world.specs.Posting.{HasPosted, IsSet}
+use Rattle.ct_world.specs.Prepared.{number_in, batch_in}
+use Rattle.ct_world.specs.World.{WorldView}
+use Rattle.ct_world.specs.Seats.{Keeps, Content, IsDeliverable, content, with_batch, batch_to_post}
+use Rattle.ct_world.proofs.Insides.{IsAllowed, IsAllowedIn, fields_in, rehearsal_in, view_in}
+use Rattle.ct_world.proofs.Members.{seat-same}
+use Rattle.ct_world.proofs.Posting.{has_posted}
+use Rattle.ct_world.proofs.Posts.{stepped-quiet}
+use Rattle.ct_world.proofs.Proposing.{copied-some, delivered-same, open-same}
+use Rattle.ct_world.proofs.Refines.{refined}
+
+-- why a decision is not delivered, by the seat
+
+pub none-some : {A : Type 0} (o : Option A) → is_none o ≡ not (is_some o)
+none-some None = refl
+none-some (Some x) = refl
+
+pub standing-there : (o : Option Standing) → is_some o ≡ true → (c : Standing) × (o ≡ Some c)
+standing-there None e = absurd (cc)
+standing-there (Some c) e = (c, refl)
+
+module _ {w : Rehearsal} {p : ℕ} {seat : Seat} (a : IsActor w p seat) where
+  pub open_is : is_some seat.instances.part ≡ is_some (member (state_of w) p).current
+  open_is = open-same a.sits.keeps
+
+  undecided_is : (k : ℕ) → is_none (decided (member (state_of w) p).got k) ≡ is_none (decision_at seat.instances k)
+  undecided_is k =
+      none-some (decided (member (state_of w) p).got k)
+      ∙ ap not (sym (named_is_some (values_of (state_of w)) (decision_at seat.instances k) (decided (member (state_of w) p).got k)
+      (a.sits.keeps.instances.decisions k)))
+      ∙ sym (none-some (decision_at seat.instances k))
+
+  batches_are : length seat.caster.batches ≡ length (member (state_of w) p).batches
+  batches_are = ap length a.sits.keeps.batches ∙ length-map (member (state_of w) p).batches (λ (b : Batch). b.messages)
+
+  -- the limits of a step that closes the instance k, where so many batches were delivered
+  abbrev limits_at : ℕ → ℕ → List Test
+  limits_at k count = at (Full Instances) (nat_lt MAX_INSTANCES k) ∷ at (Full Cells) (nat_lt w.cells (count + 1)) ∷ []
+
+  -- where only the test of the decision is left, and these limits
+  pub cause-delivery : (step : Step) (k : ℕ) → IsPresent w (actor step)
+      → first_fault (own_tests w step) ≡ first_fault (at Undecided (is_none (decided (member (state_of w) p).got k)) ∷ [])
+      → (first_fault (own_tests w step) ≡ None → cause w step
+      ≡ or_else (first_fault (limits_at k (length (member (state_of w) p).batches))) (overflow w 0))
+      → cause w step ≡ delivery_cause w seat k
+  cause-delivery step k present own limited = go (is_none (decision_at seat.instances k)) refl
+    where
+      go : (b : Bool) → is_none (decision_at seat.instances k) ≡ b → cause w step ≡ delivery_cause w seat k
+      go true e =
+          cause-tested w step Undecided present (own ∙ ap (λ b. first_fault (at Undecided b ∷ [])) (undecided_is k ∙ e))
+          ∙ sym (ap (λ b. or_else (first_fault (at Undecided b ∷ limits_at k (length seat.caster.batches))) (overflow w 0)) e)
+      go false e =
+          limited (own ∙ ap (λ b. first_fault (at Undecided b ∷ [])) (undecided_is k ∙ e))
+          ∙ ap (λ count. or_else (first_fault (limits_at k count)) (overflow w 0)) (sym batches_are)
+          ∙ sym (ap (λ b. or_else (first_fault (at Undecided b ∷ limits_at k (length seat.caster.batches))) (overflow w 0)) e)
+
+-- the seat after a batch
+
+batch-same : {n p : ℕ} {values : List Value} {m : Member} {seat : Seat} (v : Value) → Keeps n values p m seat →
+    cast_batch seat.caster v ≡ batch_of m v
+unfolding batch_of
+batch-same v k = ap (λ list. ordered (minus v list)) (delivered-same k)
+
+-- the table that one batch more makes
+table-more : (batches : List Batch) (b : Batch) → table (joined (batches ++ b ∷ [])) ≡ applied_all (table (joined batches)) b.messages
+table-more batches b =
+    ap table (flat_map-append (λ (x : Batch). x.messages) batches (b ∷ []) ∙ ap (λ list. joined batches ++ list) (append-nil b.messages))
+    ∙ fold-append (λ so_far m. applied so_far m.command) zeros (joined batches) b.messages
+
+-- a seat that delivered the value for the instance k and has these instances, where k is the last
+pub closed_keeps : {n p : ℕ} {values : List Value} {m : Member} {seat : Seat} (k : ℕ) (v : Value) (last : ℕ) (instances : Kept)
+    → Keeps n values p m seat → last ≡ k → KeepsInstances n values p (close m k v).member instances
+    → Keeps n values p (close m k v).member
+    (record (with_batch seat v) { caster = record (with_batch seat v).caster { instance = last }; instances = instances })
+closed_keeps {n} {p} {values} {m} {seat} k v last instances h is closed = record {
+  crashed = h.crashed;
+  me = h.me;
+  taken = h.taken;
+  received = h.received;
+  batches =
+      ap (λ batch. seat.caster.batches ++ batch ∷ []) same
+      ∙ ap (λ list. list ++ batch_of m v ∷ []) h.batches
+      ∙ sym (map-append (λ (b : Batch). b.messages) m.batches (added ∷ []));
+  table =
+      ap (applied_all seat.table) same
+      ∙ ap (λ values. applied_all values (batch_of m v)) h.table
+      ∙ sym (table-more m.batches added);
+  begun = is;
+  instances = closed;
+}
+  where
+    added : Batch
+    added = record { instance = k; messages = batch_of m v }
+
+    same : cast_batch seat.caster v ≡ batch_of m v
+    same = batch-same v h
+
+-- a step that closes the instance k with its member's decision
+pub record IsClosing (w : Rehearsal) (step : Step) (k : ℕ) : Type 0 where
+  pub value : Value
+  pub decision : decided (member (state_of w) (actor step)).got k ≡ Some value
+  pub taken : IsTaken w step (close (member (state_of w) (actor step)) k value)
+
+module _ {w : Rehearsal} {step : Step} {f : Fields} {k : ℕ} (may : IsAllowed w step f) (due : IsClosing w step k) where
+  pub closed_lawful : IsLawful (extended w step)
+  closed_lawful = lawful-step w step (close (member (state_of w) (actor step)) k due.value) may.world.lawful due.taken
+
+  -- the seat has the decision, and the book its value
+
+  pub has_decision : is_some (decision_at (seat_for f step).instances k) ≡ true
+  has_decision = named_is_some f.book.values (decision_at (seat_for f step).instances k)
+      (decided (member (state_of w) (actor step)).got k) (may.keeps.instances.decisions k) ∙ ap is_some due.decision
+
+  pub value_is : (id : ℕ) → decision_at (seat_for f step).instances k ≡ Some id → value_at f.book.values id ≡ Some due.value
+  value_is id number =
+      let v = named_some f.book.values id (decision_at (seat_for f step).instances k)
+      (decided (member (state_of w) (actor step)).got k) (may.keeps.instances.decisions k) number in
+      v.2 ∙ sym v.1 ∙ due.decision
+
+  pub has_value : (seat : Seat) (i : ℕ) → seat ≡ seat_for f step → i ≡ k
+      → is_some (option_and_then (value_at f.book.values) (decision_at seat.instances i)) ≡ true
+  has_value seat i here is =
+      ap (λ (s : Seat). is_some (option_and_then (value_at f.book.values) (decision_at s.instances i))) here
+      ∙ ap (λ j. is_some (option_and_then (value_at f.book.values) (decision_at (seat_for f step).instances j))) is
+      ∙ go (decision_at (seat_for f step).instances k) refl
+    where
+      go : (o : Option ℕ) → decision_at (seat_for f step).instances k ≡ o → is_some (option_and_then (value_at f.book.values) o) ≡ true
+      go None e = absurd (let none = sym (ap is_some e) ∙ has_decision in cc)
+      go (Some id) e = ap is_some (value_is id e)
+
+  -- what the step posts: by how many batches its seat has
+  joins_posting : {posted : ℕ} {posting : Option Batch} → posted ≡ length (order (state_of w)) →
+      posting ≡ batch_to_post (seat_for f step).caster k due.value posted →
+      Joins (order (state_of w)) (order (state_of (extended w step))) posting
+  joins_posting {posted} count is =
+      subst (λ o. Joins (order (state_of w)) (order (state_of (extended w step))) o) (sym is)
+      (go (nat_lt (length (seat_for f step).caster.batches) posted) refl)
+    where
+      there : length (seat_for f step).caster.batches ≡ length (member (state_of w) (actor step)).batches
+      there = ap length may.keeps.batches ∙ length-map (member (state_of w) (actor step)).batches (λ (b : Batch). b.messages)
+
+      delivers : cast_batch (seat_for f step).caster due.value ≡ batch_of (member (state_of w) (actor step)) due.value
+      delivers = batch-same due.value may.keeps
+
+      go : (b : Bool) → nat_lt (length (seat_for f step).caster.batches) posted ≡ b
+          → Joins (order (state_of w)) (order (state_of (extended w step))) (if b then None
+          else Some (record { instance = k; messages = cast_batch (seat_for f step).caster due.value }))
+      go true e = order-behind w step k due.value may.world.lawful due.taken
+          (let few : length (seat_for f step).caster.batches < posted = grind (arith, nat_tests) in omega (arith, there))
+      go false e =
+          order-ahead w step k due.value may.world.lawful due.taken
+          (let many : posted ≤ length (seat_for f step).caster.batches = grind (arith, nat_tests) in omega (arith, there))
+          ∙ (λ j. order (state_of w) ++ record { instance = k; messages = sym delivers j } ∷ [])
+
+  -- the last instance at a seat where room was made
+  seat_now : (new : Fields) (seat : Seat) → new.seats ≡ set f.seats (actor step - 1) seat → seat_for new step ≡ seat
+  seat_now new seat set_is = ap (λ list. seat_of list (actor step)) set_is ∙ seat-same f.seats (actor step) seat may.within
+
+  pub same_last : (new : Fields) (seat : Seat) → content seat ≡ content (seat_for f step) → new.seats ≡ set f.seats (actor step - 1) seat
+      → (seat_for f step).instances.last ≡ (seat_for new step).instances.last
+  same_last new seat kept set_is = ap (λ (c : Content). c.seat.instances.last) (sym kept)
+      ∙ ap (λ (s : Seat). s.instances.last) (sym (seat_now new seat set_is))
+
+  -- the room that was made for it
+  pub delivery_room : {new : Fields} {i id posted : ℕ} {made : Option Prepared} (seat : Seat) → content seat ≡ content (seat_for f step)
+      → new.seats ≡ set f.seats (actor step - 1) seat → new.book.values ≡ f.book.values → posted ≡ length (order (state_of w)) → i ≡ k
+      → number_in made ≡ Some id → IsDeliverable f.book.values seat i posted id (batch_in made) → HasDeliveryRoom w new step k made
+  delivery_room {new} {i} {id} {posted} {made} seat kept set_is values count instance is found =
+      let ready : IsDeliverable f.book.values seat k posted id (batch_in made) =
+      subst (λ j. IsDeliverable f.book.values seat j posted id (batch_in made)) instance found in
+      let there : seat_for new step ≡ seat = seat_now new seat set_is in
+      let number = ap (λ (c : Content). c.decisions k) (sym kept) ∙ ready.decided in
+      record {
+        number = rw there (is ∙ sym ready.decided);
+        fits = rw there ready.fits;
+        messages = rw there (λ i u named has. ready.messages u (ap (value_at f.book.values) (some-same id i (sym is ∙ named))
+            ∙ ap (λ list. value_at list i) (sym values) ∙ has));
+        posting = joins_posting count (ready.posting due.value (value_is id number)
+            ∙ ap (λ (c : Content). batch_to_post c.seat.caster k due.value posted) kept);
+      }
+
+  -- the fields after it
+  pub closed_steps : {new : Fields} (seat : Seat) → Keeps w.setting.members f.book.values (actor step)
+      (close (member (state_of w) (actor step)) k due.value).member seat → seat.submitted ≡ (seat_for f step).submitted
+      → line_change step ≡ Leaves → new.seats ≡ set f.seats (actor step - 1) seat → new.network.sent ≡ f.network.sent
+      → new.network.lines ≡ f.network.lines → new.book.values ≡ f.book.values → IsWorld (extended w step) new
+  closed_steps seat keeps submitted quiet seats sent lines values = refined may.world due.taken (stepped-quiet seat quiet (record {
+    values = values ∙ sym (append-nil f.book.values);
+    seats = seats;
+    keeps = rw values keeps;
+    submitted = submitted ∙ may.submitted;
+  }) refl sent lines)
+
+  -- with that room
+  module _ {made : Option Prepared} (room : HasDeliveryRoom w f step k made) where
+    pub has_number : is_some (number_in made) ≡ true
+    has_number = ap is_some room.number ∙ has_decision
+
+    module _ {id : ℕ} (is : number_in made ≡ Some id) where
+      numbered_value : value_at f.book.values id ≡ Some due.value
+      numbered_value = value_is id (sym room.number ∙ is)
+
+      pub value_there : (r : Option (Bor Value)) → option_copied r ≡ slice_get f.book.values id → is_some r ≡ true
+      value_there r got = sym (copied-some r (slice_get f.book.values id) got) ∙ ap is_some numbered_value
+
+      module _ {v : Value} (value : value_at f.book.values id ≡ Some v) where
+        pub value_same : v ≡ due.value
+        value_same = some-same v due.value (sym value ∙ numbered_value)
+
+        pub room_there : length v ≤ (seat_for f step).caster.room
+        room_there = room.messages id v is value
+
+-- what such a step posts, where the record has it at its end
+pub posted_in : (a : Inside) {v : WorldView} {step : Step} {k : ℕ} (cells : List ℕ) {steps : List Step} {posting : Option Batch}
+    (receipt : Option Posted) → view_in a ≡ v → IsAllowedIn a step → IsClosing (rehearsal_in a) step k
+    → HasDeliveryRoom (rehearsal_in a) (fields_in a) step k a.prepared → posting ≡ batch_in a.prepared → IsSet cells posting receipt
+    → steps ≡ a.record.items ++ step ∷ [] → HasPosted cells v.rehearsal (record (rehearsal_in a) { steps = steps }) receipt
+posted_in a {v} {step} {k} cells {steps} {posting} receipt view may due room is set pushed =
+    let w : Rehearsal = rehearsal_in a in
+    let posted : HasPosted cells w (extended w step) receipt =
+    has_posted cells w step (batch_in a.prepared) receipt (closed_lawful may due) room.posting (rw is at set) in
+    let new : HasPosted cells w (record w { steps = steps }) receipt =
+    subst (λ ss. HasPosted cells w (record w { steps = ss }) receipt) (sym pushed) posted in
+    subst (λ (x : WorldView). HasPosted cells x.rehearsal (record w { steps = steps }) receipt) view new

@@ -1,0 +1,53 @@
+use Rattle.std.proofs.Common.{◌-◌, set, refl, ap, sym, ◌∙◌, arith}
+use Rattle.std.specs.Prelude.{is_some}
+use Rattle.ct_model.specs.declared.step.Step.TheVariants.{Lose}
+use Rattle.ct_model.specs.Waiting.{without}
+use Rattle.ct_model.proofs.Record.Allowed.{names-free}
+use Rattle.ct_model.proofs.Steps.LineSteps.{lose_taken}
+use Rattle.ct_network.specs.Network.{line_at}
+use Rattle.ct_world.specs.Prepared.{place_in}
+use Rattle.ct_world.proofs.Insides.{rehearsal_in, prepared_in, ready_in, done_in, kept_in}
+use Rattle.ct_world.proofs.LineSteps.{line_mail, line_steps}
+use Rattle.ct_world.proofs.Waits.{lined_member}
+use Rattle.ct_world.proofs.Places.{IsWithout, placed_in, waits-placed}
+use Rattle.ct_world.proofs.world.World.commit_lose.Goals as goal
+use Rattle.ct_world.proofs.world.World.commit_lose.Goals.{After-unwrap-place}
+
+pub unwrap-place-requires : goal.unwrap-place-requires
+unwrap-place-requires c =
+    let room = ready_in c.self.inside c.self.view_is c.self.invariant c.requires in
+    ap is_some (c.place.ensures ∙ ap place_in c.take.ensures.value ∙ room.placed)
+    ∙ waits-placed c.args.serial _ (names-free _ (Lose c.args.member c.args.serial) room.allowed)
+
+pub leave-requires-clause-member : goal.leave-requires-clause-member
+leave-requires-clause-member c =
+    lined_member c.args.member c.self.invariant.world (prepared_in c.self.inside c.self.view_is c.self.invariant c.requires).in_group
+
+-- the place that was found
+placed : (c : After-unwrap-place) → IsWithout c.args.serial (line_at c.self.inside.network.lines c.args.member) c.unwrap-place.result
+placed c =
+    let p = prepared_in c.self.inside c.self.view_is c.self.invariant c.requires in
+    placed_in c.args.member c.args.serial p.world p.in_group
+    (sym (c.place.ensures ∙ ap place_in c.take.ensures.value
+    ∙ (ready_in c.self.inside c.self.view_is c.self.invariant c.requires).placed) ∙ c.unwrap-place.ensures)
+
+pub leave-requires-clause-there : goal.leave-requires-clause-there
+leave-requires-clause-there c = (placed (goal.at.leave-requires-clause-there c).After-unwrap-place).within
+
+pub join-requires : goal.join-requires
+join-requires c = omega (arith, (ready_in c.self.inside c.self.view_is c.self.invariant c.requires).for_step)
+
+pub invariant_of-self : goal.invariant_of-self
+invariant_of-self c =
+    let p = prepared_in c.self.inside c.self.view_is c.self.invariant c.requires in
+    rw c.take.ensures.after (kept_in c.self.inside (Lose c.args.member c.args.serial) c.join.ensures
+    (line_steps p (lose_taken _ _ _ p.world.lawful p.allowed) (without c.args.serial) (λ q line. refl) refl c.leave.ensures.sent
+    (c.leave.ensures.lines ∙ ap (set c.self.inside.network.lines (c.args.member - 1))
+    (placed (goal.at.invariant_of-self c).After-unwrap-place).rest)
+    refl))
+
+pub returns-clause-done : goal.returns-clause-done
+returns-clause-done c =
+    let p = prepared_in c.self.inside c.self.view_is c.self.invariant c.requires in
+    done_in c.self.inside c.self.view_is p c.join.ensures (lose_taken _ _ _ p.world.lawful p.allowed)
+    (line_mail (rehearsal_in c.self.inside) c.args.member)

@@ -1,0 +1,58 @@
+use Rattle.std.proofs.Common.{◌+◌, length, refl, ap, sym, ◌∙◌, arith}
+use Rattle.ct_model.specs.declared.step.Step.TheVariants.{Follow}
+use Rattle.ct_model.specs.Cause.{order}
+use Rattle.ct_model.specs.Rehearsal.{state_of}
+use Rattle.ct_world.specs.declared.prepared.Prepared.TheVariants as made
+use Rattle.ct_world.specs.declared.seat.Seat.{Seat}
+use Rattle.ct_world.specs.Seats.{content}
+use Rattle.ct_world.specs.World.{WorldView}
+use Rattle.ct_world.proofs.Deliveries.{has_value}
+use Rattle.ct_world.proofs.Following.{follow_due, follow_few, follow_room}
+use Rattle.ct_world.proofs.Insides.{allowed_in, within_in, seat_in}
+use Rattle.ct_world.proofs.Preparing.{roomier_in, unprepared_in, kept_ready}
+use Rattle.ct_world.proofs.world.World.prepare_follow.Goals as goal
+
+pub overflow_sub-member : goal.overflow_sub-member
+overflow_sub-member c = (allowed_in c.self.inside (Follow c.args.member) c.self.view_is c.self.invariant c.requires.allowed).low
+
+pub index_mut-seat-requires : goal.index_mut-seat-requires
+index_mut-seat-requires c = within_in c.self.inside
+    (allowed_in c.self.inside (Follow c.args.member) c.self.view_is c.self.invariant c.requires.allowed)
+
+pub overflow_add-instance : goal.overflow_add-instance
+overflow_add-instance c =
+    let p = allowed_in c.self.inside (Follow c.args.member) c.self.view_is c.self.invariant c.requires.allowed in
+    let last = ap (λ (s : Seat). s.instances.last) (seat_in c.self.inside p c.index_mut-seat.ensures.value) in
+    omega (arith, c.last-instance.ensures, follow_few p)
+
+pub prepare_delivery-requires : goal.prepare_delivery-requires
+prepare_delivery-requires c =
+    let p = allowed_in c.self.inside (Follow c.args.member) c.self.view_is c.self.invariant c.requires.allowed in
+    let here = seat_in c.self.inside p c.index_mut-seat.ensures.value in
+    let last = c.last-instance.ensures ∙ ap (λ (s : Seat). s.instances.last) here in
+    has_value p (follow_due p) _ _ here (ap (λ k. k + 1) last)
+
+pub invariant_of-self-in_err-number : goal.invariant_of-self-in_err-number
+invariant_of-self-in_err-number c =
+    let p = allowed_in c.self.inside (Follow c.args.member) c.self.view_is c.self.invariant c.requires.allowed in
+    unprepared_in c.self.inside c.self.view_is c.requires.none c.in_ok-reserve.ensures.record
+    (roomier_in c.self.inside p _ (seat_in c.self.inside p c.index_mut-seat.ensures.value) c.in_err-number.ensures.same refl
+    c.in_ok-reserve.ensures.sent c.in_ok-reserve.ensures.lines refl)
+
+pub invariant_of-self-2 : goal.invariant_of-self-2
+invariant_of-self-2 c =
+    let p = allowed_in c.self.inside (Follow c.args.member) c.self.view_is c.self.invariant c.requires.allowed in
+    let here = seat_in c.self.inside p c.index_mut-seat.ensures.value in
+    let last = c.last-instance.ensures ∙ ap (λ (s : Seat). s.instances.last) here in
+    let posted = c.from-posted.ensures ∙ c.posted.ensures
+    ∙ ap (λ (x : WorldView). length (order (state_of x.rehearsal))) (sym c.self.view_is) in
+    kept_ready c.self.inside (made.Follow c.args.member c.in_ok-number.number c.in_ok-number.batch) c.in_ok-reserve.ensures.record
+    (roomier_in c.self.inside p _ here c.in_ok-number.ensures.same refl c.in_ok-reserve.ensures.sent c.in_ok-reserve.ensures.lines refl)
+    (record {
+      allowed = p.allowed;
+      placed = refl;
+      for_step = omega (arith, c.in_ok-reserve.ensures.for_step);
+      for_sending = c.in_ok-reserve.ensures.for_sending;
+      for_itself = follow_room p c.prepare_delivery.new.self (c.in_ok-number.ensures.same ∙ ap content here) refl refl posted
+          (ap (λ k. k + 1) last) c.in_ok-number.ensures.ok;
+    })
