@@ -20,24 +20,54 @@ fn deliver(caster: &mut Caster, set: &MsgSet) -> Result<(), AllocError> {
     Ok(())
 }
 
+// Whether nothing was received, delivered or begun.
+fn has_nothing(caster: &Caster) -> bool {
+    caster.received().is_empty()
+        && caster.delivered().is_empty()
+        && !caster.has_undelivered()
+        && caster.batches() == 0
+        && caster.batch_at(0).is_none()
+        && caster.instance() == 0
+}
+
+// Whether there is nothing to propose, and the first instance begins.
+fn begins(caster: &mut Caster, alloc: Global) -> Result<bool, AllocError> {
+    let asks_nothing = caster.undelivered(alloc, 1)?.is_empty();
+    if caster.instance() != 0 {
+        return Ok(false);
+    }
+    caster.begin();
+    Ok(asks_nothing && caster.instance() == 1)
+}
+
+fn a_new_one_has_nothing(alloc: Global) -> Result<bool, AllocError> {
+    let mut caster = Caster::new(alloc);
+    if !has_nothing(&caster) {
+        return Ok(false);
+    }
+    begins(&mut caster, alloc)
+}
+
 #[test]
 fn a_new_member_has_nothing(rt: HostRuntime) -> Result<(), Fail> {
-    let mut caster = Caster::new(rt.alloc());
-    assert!(rt; caster.received().is_empty() && caster.delivered().is_empty());
-    assert!(rt; !caster.has_undelivered() && caster.undelivered(rt.alloc(), 1)?.is_empty());
-    assert!(rt; caster.batches() == 0 && caster.batch_at(0).is_none());
-    assert!(rt; caster.instance() == 0);
-    caster.begin();
-    assert_eq!(rt; caster.instance(), 1);
+    assert!(rt; a_new_one_has_nothing(rt.alloc())?);
     Ok(())
+}
+
+fn prepares_five(caster: &mut Caster) -> Result<bool, AllocError> {
+    let had_room = caster.has_room(0);
+    caster.prepare(5)?;
+    Ok(!had_room && caster.has_room(5) && !caster.has_room(1_000_000))
+}
+
+fn prepares_room(alloc: Global) -> Result<bool, AllocError> {
+    let mut caster = Caster::new(alloc);
+    prepares_five(&mut caster)
 }
 
 #[test]
 fn room_is_prepared(rt: HostRuntime) -> Result<(), Fail> {
-    let mut caster = Caster::new(rt.alloc());
-    assert!(rt; !caster.has_room(0));
-    caster.prepare(5)?;
-    assert!(rt; caster.has_room(5) && !caster.has_room(1_000_000));
+    assert!(rt; prepares_room(rt.alloc())?);
     Ok(())
 }
 
@@ -85,6 +115,16 @@ fn asks_twice(
     Ok(one && are_first(caster, alloc, 2, &[a, b])?)
 }
 
+fn asks_of_new(alloc: Global, messages: [Message; 4]) -> Result<bool, AllocError> {
+    let mut caster = Caster::new(alloc);
+    asks_twice(&mut caster, alloc, messages)
+}
+
+fn asks_later_of_new(alloc: Global, messages: [Message; 4]) -> Result<bool, AllocError> {
+    let mut caster = Caster::new(alloc);
+    asks_later(&mut caster, alloc, messages)
+}
+
 // Between two calls some are delivered, one of them before it is received, and one more is received.
 fn asks_later(
     caster: &mut Caster,
@@ -111,21 +151,29 @@ fn overlaps(
     deliver_all(caster, alloc, &[last, next])?;
     let one = are_first(caster, alloc, MAX_BOUND, &[first])?;
     deliver_all(caster, alloc, &[last, first])?;
-    Ok(two && one)
+    Ok(two && one && delivered_all(caster, messages))
 }
 
 // Two decisions share a message: the first delivers it, and each delivers in the order of messages.
 #[test]
 fn decisions_that_overlap_deliver_a_message_once(rt: HostRuntime) -> Result<(), Fail> {
     let messages = [message(1, 2)?, message(2, 1)?, message(3, 1)?];
-    let [first, next, last] = messages;
-    let mut caster = Caster::new(rt.alloc());
-    let asked = overlaps(&mut caster, rt.alloc(), messages)?;
-    assert!(rt; asked && !caster.has_undelivered());
-    assert!(rt; caster.received() == [last, next, first].as_slice());
-    assert!(rt; caster.delivered() == [next, last, first].as_slice());
-    assert!(rt; are_batches(&caster, &[next, last], &[first]));
+    assert!(rt; delivers_once(rt.alloc(), messages)?);
     Ok(())
+}
+
+fn delivers_once(alloc: Global, messages: [Message; 3]) -> Result<bool, AllocError> {
+    let mut caster = Caster::new(alloc);
+    overlaps(&mut caster, alloc, messages)
+}
+
+// Whether all was received from the last to the first, and the first of them was delivered last.
+fn delivered_all(caster: &Caster, messages: [Message; 3]) -> bool {
+    let [first, next, last] = messages;
+    !caster.has_undelivered()
+        && caster.received() == [last, next, first].as_slice()
+        && caster.delivered() == [next, last, first].as_slice()
+        && are_batches(caster, &[next, last], &[first])
 }
 
 // Whether these two batches were delivered.
@@ -139,29 +187,33 @@ fn are_batches(caster: &Caster, one: &[Message], two: &[Message]) -> bool {
 #[test]
 fn the_first_pending_messages_are_in_order(rt: HostRuntime) -> Result<(), Fail> {
     let messages = four()?;
-    let mut caster = Caster::new(rt.alloc());
-    let asked = asks_twice(&mut caster, rt.alloc(), messages)?;
-    assert!(rt; asked);
+    assert!(rt; asks_of_new(rt.alloc(), messages)?);
     Ok(())
 }
 
 #[test]
 fn what_comes_between_two_calls_is_in_order(rt: HostRuntime) -> Result<(), Fail> {
     let messages = four()?;
-    let mut caster = Caster::new(rt.alloc());
-    let asked = asks_later(&mut caster, rt.alloc(), messages)?;
-    assert!(rt; asked);
+    assert!(rt; asks_later_of_new(rt.alloc(), messages)?);
     Ok(())
 }
 
 #[test]
 fn a_message_that_was_delivered_first_is_not_pending(rt: HostRuntime) -> Result<(), Fail> {
     let one = message(1, 1)?;
-    let mut caster = Caster::new(rt.alloc());
-    deliver_all(&mut caster, rt.alloc(), &[one])?;
-    receive(&mut caster, one)?;
-    assert!(rt; !caster.has_undelivered() && caster.received() == [one].as_slice());
+    assert!(rt; delivers_before_receipt(rt.alloc(), one)?);
     Ok(())
+}
+
+fn receives_last(caster: &mut Caster, alloc: Global, one: Message) -> Result<bool, AllocError> {
+    deliver_all(caster, alloc, &[one])?;
+    receive(caster, one)?;
+    Ok(!caster.has_undelivered() && caster.received() == [one].as_slice())
+}
+
+fn delivers_before_receipt(alloc: Global, one: Message) -> Result<bool, AllocError> {
+    let mut caster = Caster::new(alloc);
+    receives_last(&mut caster, alloc, one)
 }
 
 // Whether the batch that the decision of the instance would deliver now has these messages.
@@ -181,52 +233,82 @@ fn delivers_twice(caster: &mut Caster, alloc: Global, set: &MsgSet) -> Result<bo
     deliver(caster, set)?;
     let empty = is_batch(caster, alloc, 4, set, &[])?;
     deliver(caster, set)?;
-    Ok(full && empty)
+    let delivered = caster.delivered() == set.items();
+    Ok(full && empty && delivered && are_batches(caster, set.items(), &[]))
+}
+
+fn delivers_a_set_twice(alloc: Global, messages: &[Message]) -> Result<bool, AllocError> {
+    let set = MsgSet::of(alloc, messages)?;
+    delivers_twice(&mut Caster::new(alloc), alloc, &set)
 }
 
 #[test]
 fn a_set_that_was_delivered_gives_an_empty_batch(rt: HostRuntime) -> Result<(), Fail> {
     let messages = [message(2, 1)?, message(1, 1)?];
-    let set = MsgSet::of(rt.alloc(), &messages)?;
-    let mut caster = Caster::new(rt.alloc());
-    let delivered = delivers_twice(&mut caster, rt.alloc(), &set)?;
-    assert!(rt; delivered && caster.delivered() == set.items());
-    assert!(rt; are_batches(&caster, set.items(), &[]));
+    assert!(rt; delivers_a_set_twice(rt.alloc(), &messages)?);
     Ok(())
 }
 
 #[test]
 fn a_batch_is_compared_with_its_messages(rt: HostRuntime) -> Result<(), Fail> {
-    let alloc = rt.alloc();
     let one = message(2, 1)?;
-    let caster = Caster::new(alloc);
-    let batch = caster.batch(alloc, 1, &MsgSet::of(alloc, &[one])?)?;
-    assert!(rt; batch.is_same(1, &[one]));
-    assert!(rt; !batch.is_same(2, &[one]) && !batch.is_same(1, &[]));
+    assert!(rt; compares(rt.alloc(), one)?);
     Ok(())
+}
+
+fn is_of_one(caster: &Caster, alloc: Global, one: Message) -> Result<bool, AllocError> {
+    let batch = caster.batch(alloc, 1, &MsgSet::of(alloc, &[one])?)?;
+    Ok(batch.is_same(1, &[one]) && !batch.is_same(2, &[one]) && !batch.is_same(1, &[]))
+}
+
+fn compares(alloc: Global, one: Message) -> Result<bool, AllocError> {
+    let caster = Caster::new(alloc);
+    is_of_one(&caster, alloc, one)
+}
+
+// Receives one more. A refusal left no room, and then there is some.
+fn receives_in_spite(caster: &mut Caster, one: Message) -> Result<bool, AllocError> {
+    let before = caster.received().len();
+    let was_refused = caster.prepare(1).is_err();
+    let refused_well = !was_refused || !caster.has_room(1);
+    if was_refused {
+        caster.prepare(1)?;
+    }
+    let stayed = caster.received().len() == before;
+    caster.receive(one);
+    Ok(refused_well && stayed)
+}
+
+fn receives_forty(caster: &mut Caster) -> Result<bool, AllocError> {
+    let mut well = true;
+    for number in 1..=40 {
+        if let Some(one) = Message::new(1, number, Command::Set(0, 7)) {
+            well &= receives_in_spite(caster, one)?;
+        }
+    }
+    Ok(well && caster.received().len() == 40)
+}
+
+fn is_copied(caster: &Caster, alloc: Global) -> Result<bool, AllocError> {
+    let copy = match caster.copy(alloc) {
+        Ok(copy) => copy,
+        Err(_) => caster.copy(alloc)?,
+    };
+    Ok(copy.received() == caster.received() && copy.has_undelivered())
+}
+
+fn stays_so(caster: &mut Caster, alloc: Global) -> Result<bool, AllocError> {
+    Ok(receives_forty(caster)? && is_copied(caster, alloc)?)
+}
+
+fn stays(alloc: Global) -> Result<bool, AllocError> {
+    let mut caster = Caster::new(alloc);
+    stays_so(&mut caster, alloc)
 }
 
 // With `rt try --test --fail-alloc N` the Nth allocation is refused, for N from 1 on in turn.
 #[test]
 fn refused_memory_changes_nothing(rt: HostRuntime) -> Result<(), Fail> {
-    let alloc = rt.alloc();
-    let mut caster = Caster::new(alloc);
-    for number in 1..=40 {
-        let one = message(1, number)?;
-        if caster.prepare(1).is_err() {
-            assert!(rt; !caster.has_room(1), "at {number}");
-            caster.prepare(1)?;
-        }
-        assert!(rt;
-            caster.received().len() == number as usize - 1,
-            "at {number}"
-        );
-        caster.receive(one);
-    }
-    let copy = match caster.copy(alloc) {
-        Ok(copy) => copy,
-        Err(_) => caster.copy(alloc)?,
-    };
-    assert!(rt; copy.received() == caster.received() && copy.has_undelivered());
+    assert!(rt; stays(rt.alloc())?);
     Ok(())
 }

@@ -29,18 +29,36 @@ mod watching;
 const SEVEN: Command = Command::Set(0, 7);
 
 // A world of n members and four cells without steps, and its board.
-fn started(alloc: Global, n: u8) -> Result<(World, Board), Fail> {
-    let group = Group::new(n).ok_or("a group")?;
-    let world = World::new(alloc, group, 4, MAX_BOUND)?;
-    let board = Board::new(alloc, 4)?;
-    Ok((world, board))
+fn started(alloc: Global, n: u8) -> Option<(World, Board)> {
+    with_cells(alloc, n, 4)
+}
+
+// The same with a board of so many cells.
+fn with_cells(alloc: Global, n: u8, cells: usize) -> Option<(World, Board)> {
+    let group = Group::new(n)?;
+    let world = World::new(alloc, group, 4, MAX_BOUND).ok()?;
+    let board = Board::new(alloc, cells).ok()?;
+    Some((world, board))
+}
+
+// Does the steps, and answers whether all were done.
+fn does_all(world: &mut World, board: &Board, steps: &[Step]) -> bool {
+    for step in steps {
+        if world.apply(board, step).is_err() {
+            return false;
+        }
+    }
+    true
 }
 
 // Such a world, in which the first member has submitted a message, and its board.
-fn submitted(alloc: Global, n: u8) -> Result<(World, Board), Fail> {
+fn submitted(alloc: Global, n: u8) -> Option<(World, Board)> {
     let (mut world, board) = started(alloc, n)?;
-    let _ = world.apply(&board, &Step::Submit(1, SEVEN))?;
-    Ok((world, board))
+    if does_all(&mut world, &board, &[Step::Submit(1, SEVEN)]) {
+        Some((world, board))
+    } else {
+        None
+    }
 }
 
 // Detectors of n members that suspect nobody.
@@ -60,15 +78,12 @@ fn ran<R: Threads + Wait + Sync, G: Gate>(
     plan: &Plan,
     detectors: Vec<Box<dyn Detector>>,
     gate: &G,
-) -> Result<Rehearsed, Fail>
+) -> Option<Rehearsed>
     requires { IsWithin plan.now }
 {
     let (world, board) = start;
     if usize::from(world.group().n()) != detectors.len() {
-        return Err(Fail::from("as many detectors as members"));
+        return None;
     }
-    match rehearse(rt, alloc, world, board, plan, detectors, gate) {
-        Ok(done) => Ok(done),
-        Err(_) => Err(Fail::from("run")),
-    }
+    rehearse(rt, alloc, world, board, plan, detectors, gate).ok()
 }

@@ -15,18 +15,18 @@ impl Followed {
         rt: &R,
         alloc: Global,
         hall: &Hall<L>,
-    ) -> Result<Followed, Fail> {
+    ) -> Option<Followed> {
         let board = hall.board();
-        let mut watcher = Watcher::new(alloc, board)?;
-        hall.meet(rt, &mut watcher)?;
+        let mut watcher = Watcher::new(alloc, board).ok()?;
+        hall.meet(rt, &mut watcher).ok()?;
         let mut messages = Vec::new(alloc);
         for _ in 0..board.cells() {
             match watcher.next(board) {
-                Some(batch) => messages.extend_from_slice(batch.messages())?,
+                Some(batch) => messages.extend_from_slice(batch.messages()).ok()?,
                 None => break,
             }
         }
-        Ok(Followed { watcher, messages })
+        Some(Followed { watcher, messages })
     }
 
     // How many batches it was told of, and how many it read.

@@ -55,18 +55,18 @@ fn looked<L: Ledger + Send + Sync, R: Threads + Wait + Sync>(
     rt: &R,
     alloc: Global,
     blank: Blank,
-) -> Result<u32, Fail>
+) -> Option<u32>
     requires name { blank.name ≡ L.name }
     requires parts { blank.parts ≡ L.parts }
     requires whole { L.parts ≡ 1000 }
 {
     let (world, board) = started(alloc, 1)?;
     let (hall, mut share) = Hall::<L>::new(blank, world, board);
-    let detectors = never(alloc, 1)?;
+    let detectors = never(alloc, 1).ok()?;
     if usize::from(hall.group().n()) != detectors.len() {
-        return Err(Fail::from("one member"));
+        return None;
     }
-    let plan = script_alone(alloc)?;
+    let plan = script_alone(alloc).ok()?;
     let gate = Looking {
         hall: &hall,
         alloc,
@@ -76,19 +76,19 @@ fn looked<L: Ledger + Send + Sync, R: Threads + Wait + Sync>(
         .run_free(rt, alloc, &plan, detectors, &gate, &mut share)
         .is_err()
     {
-        return Err(Fail::from("run"));
+        return None;
     }
     let Looking {
         hall: _,
         alloc: _,
         right,
     } = gate;
-    Ok(right.into_inner())
+    Some(right.into_inner())
 }
 
 #[test]
 fn an_entry_is_made_between_the_calls_of_its_gate(rt: HostRuntime) -> Result<(), Fail> {
-    let right = looked::<Brand, _>(&rt, rt.alloc(), Blank::new(1000))?;
-    assert_eq!(rt; right, 6);
+    let right = looked::<Brand, _>(&rt, rt.alloc(), Blank::new(1000));
+    assert_eq!(rt; right, Some(6));
     Ok(())
 }

@@ -110,13 +110,22 @@ fn one_script(alloc: Global) -> Result<Plan, AllocError>
     Ok(Plan { turns: 1, scripts })
 }
 
+// What the gate's calls found, and the steps and envelopes of the world after the run.
+#[derive(Clone, Copy, Debug, PartialEq, Eq)]
+struct Tally {
+    gave_up: bool,
+    right: (u32, u32),
+    steps: usize,
+    sent: u32,
+}
+
 // Two members and the plan's scripts, which wait for one another in their only turns.
 fn met<L: Ledger + Send + Sync, R: Threads + Wait + Sync>(
     rt: &R,
     alloc: Global,
     blank: Blank,
     plan: &Plan,
-) -> Result<(World, Marks), Fail>
+) -> Option<Tally>
     requires name { blank.name ≡ L.name }
     requires parts { blank.parts ≡ L.parts }
     requires whole { L.parts ≡ 1000 }
@@ -125,9 +134,9 @@ fn met<L: Ledger + Send + Sync, R: Threads + Wait + Sync>(
 {
     let (world, board) = submitted(alloc, 2)?;
     let (hall, mut share) = Hall::<L>::new(blank, world, board);
-    let detectors = never(alloc, 2)?;
+    let detectors = never(alloc, 2).ok()?;
     if usize::from(hall.group().n()) != detectors.len() {
-        return Err(Fail::from("two members"));
+        return None;
     }
     let gate = Meeting {
         hall: &hall,
@@ -139,7 +148,7 @@ fn met<L: Ledger + Send + Sync, R: Threads + Wait + Sync>(
         .run_free(rt, alloc, plan, detectors, &gate, &mut share)
         .is_err()
     {
-        return Err(Fail::from("run"));
+        return None;
     }
     let Meeting {
         hall: _,
@@ -147,33 +156,67 @@ fn met<L: Ledger + Send + Sync, R: Threads + Wait + Sync>(
         workers: _,
         marks,
     } = gate;
-    let settled = hall.settled(rt, alloc, &mut share)?;
-    Ok((settled, marks.into_inner()))
+    let settled = hall.settled(rt, alloc, &mut share).ok()?;
+    let marks = marks.into_inner();
+    Some(Tally {
+        gave_up: marks.gave_up,
+        right: (marks.right_before, marks.right_after),
+        steps: settled.record().len(),
+        sent: settled.sent(),
+    })
 }
 
-#[test]
-fn two_members_run_at_the_same_time(rt: HostRuntime) -> Result<(), Fail> {
-    let alloc = rt.alloc();
+fn two_met<L: Ledger + Send + Sync, R: Threads + Wait + Sync>(
+    rt: &R,
+    alloc: Global,
+    blank: Blank,
+) -> Option<Tally>
+    requires name { blank.name ≡ L.name }
+    requires parts { blank.parts ≡ L.parts }
+    requires whole { L.parts ≡ 1000 }
+{
     let plan = Plan {
         turns: 1,
         scripts: Vec::new(alloc),
     };
-    let (settled, marks) = met::<Brand, _>(&rt, alloc, Blank::new(1000), &plan)?;
-    assert!(rt; !marks.gave_up);
-    assert_eq!(rt; (marks.right_before, marks.right_after), (2, 2));
-    assert_eq!(rt; settled.record().len(), 3);
-    assert_eq!(rt; settled.sent(), 4);
+    met::<L, R>(rt, alloc, blank, &plan)
+}
+
+fn three_met<L: Ledger + Send + Sync, R: Threads + Wait + Sync>(
+    rt: &R,
+    alloc: Global,
+    blank: Blank,
+) -> Option<Tally>
+    requires name { blank.name ≡ L.name }
+    requires parts { blank.parts ≡ L.parts }
+    requires whole { L.parts ≡ 1000 }
+{
+    let plan = one_script(alloc).ok()?;
+    met::<L, R>(rt, alloc, blank, &plan)
+}
+
+#[test]
+fn two_members_run_at_the_same_time(rt: HostRuntime) -> Result<(), Fail> {
+    let want = Tally {
+        gave_up: false,
+        right: (2, 2),
+        steps: 3,
+        sent: 4,
+    };
+    let met = two_met::<Brand, _>(&rt, rt.alloc(), Blank::new(1000));
+    assert_eq!(rt; met, Some(want));
     Ok(())
 }
 
 #[test]
 fn two_members_and_a_script_run_at_the_same_time(rt: HostRuntime) -> Result<(), Fail> {
-    let alloc = rt.alloc();
-    let plan = one_script(alloc)?;
-    let (settled, marks) = met::<Brand, _>(&rt, alloc, Blank::new(1000), &plan)?;
-    assert!(rt; !marks.gave_up);
-    assert_eq!(rt; (marks.right_before, marks.right_after), (3, 3));
-    assert_eq!(rt; settled.record().len(), 4);
-    assert_eq!(rt; settled.sent(), 6);
+    let want = Tally {
+        gave_up: false,
+        right: (3, 3),
+        steps: 4,
+        sent: 6,
+    };
+    let met = three_met::<Brand, _>(&rt, rt.alloc(), Blank::new(1000));
+    assert_eq!(rt; met, Some(want));
     Ok(())
 }

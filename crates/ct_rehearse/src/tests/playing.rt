@@ -18,42 +18,54 @@ const DELIVERED: [Step; 12] = [
     Step::Deliver(1),
 ];
 
-// What a list of steps came to, the world after it, and the steps that its share then has.
-#[derive(Drop)]
+// What a list of steps came to, how many batches were posted then, and whether the record has the steps that were meant, as
+// many as the share says.
+#[derive(Clone, Copy, Debug, PartialEq, Eq)]
 struct Seen {
     played: Played,
-    world: World,
-    steps: u64,
+    posted: u16,
+    is_recorded: bool,
 }
 
-// Plays the list in a world of one member and four cells, with this board.
+// Plays the list where the share can still count, and compares the record with what is meant.
+fn compared<L: Ledger>(
+    desk: &mut Desk<L>,
+    share: &mut Share<L>,
+    board: &Board,
+    steps: &[Step],
+    done: &[Step],
+) -> Option<Seen> {
+    if share.steps() > 1000 || steps.len() > 1000 {
+        return None;
+    }
+    let played = play(desk, share, board, steps);
+    let world = desk.world();
+    Some(Seen {
+        played,
+        posted: world.posted(),
+        is_recorded: world.record() == done && share.steps() == done.len() as u64,
+    })
+}
+
+// The same in a world of one member and four cells, with this board.
 fn rehearsed<L: Ledger>(
     alloc: Global,
     blank: Blank,
     board: &Board,
     steps: &[Step],
-) -> Result<Seen, Fail>
+    done: &[Step],
+) -> Option<Seen>
     requires name { blank.name ≡ L.name }
     requires parts { blank.parts ≡ L.parts }
     requires whole { L.parts ≡ 1000 }
 {
     let (world, _board) = started(alloc, 1)?;
     let (mut desk, mut share) = Desk::<L>::new(blank, world);
-    if share.steps() > 1000 || steps.len() > 1000 {
-        return Err(Fail::from("more steps than are meant"));
-    }
-    let played = play(&mut desk, &mut share, board, steps);
-    Ok(Seen {
-        played,
-        world: desk.world().copy(alloc)?,
-        steps: share.steps(),
-    })
+    compared(&mut desk, &mut share, board, steps, done)
 }
 
 #[test]
 fn a_list_goes_on_after_refusals(rt: HostRuntime) -> Result<(), Fail> {
-    let alloc = rt.alloc();
-    let board = Board::new(alloc, 4)?;
     let steps = [
         Step::Submit(1, SEVEN),
         Step::Submit(2, SEVEN),
@@ -63,22 +75,51 @@ fn a_list_goes_on_after_refusals(rt: HostRuntime) -> Result<(), Fail> {
         Step::Crash(1),
         Step::Enter(1),
     ];
-    let seen = rehearsed::<Brand>(alloc, Blank::new(1000), &board, &steps)?;
     let played = Played {
         applied: 4,
         refused: 3,
         short: 0,
     };
-    assert_eq!(rt; seen.played, played);
     let done = [
         Step::Submit(1, SEVEN),
         Step::Receive(1, 1),
         Step::Begin(1),
         Step::Crash(1),
     ];
-    assert!(rt; seen.world.record() == done.as_slice());
-    assert_eq!(rt; seen.steps, 4);
+    let seen = Seen {
+        played,
+        posted: 0,
+        is_recorded: true,
+    };
+    let alloc = rt.alloc();
+    let board = Board::new(alloc, 4)?;
+    let came = rehearsed::<Brand>(alloc, Blank::new(1000), &board, &steps, &done);
+    assert_eq!(rt; came, Some(seen));
     Ok(())
+}
+
+// The list that delivers, of which the last step is recorded where the batch is posted.
+fn delivered<L: Ledger>(alloc: Global, blank: Blank, board: &Board, is_posted: bool) -> Option<Seen>
+    requires name { blank.name ≡ L.name }
+    requires parts { blank.parts ≡ L.parts }
+    requires whole { L.parts ≡ 1000 }
+{
+    let (_, before) = DELIVERED.split_last()?;
+    let done = if is_posted { &DELIVERED } else { before };
+    rehearsed::<L>(alloc, blank, board, &DELIVERED, done)
+}
+
+fn came_to(applied: u64, short: u64, posted: u16) -> Seen {
+    let played = Played {
+        applied,
+        refused: 0,
+        short,
+    };
+    Seen {
+        played,
+        posted,
+        is_recorded: true,
+    }
 }
 
 // A board that has a batch refuses the first batch of another world, which takes the steps before it.
@@ -86,26 +127,11 @@ fn a_list_goes_on_after_refusals(rt: HostRuntime) -> Result<(), Fail> {
 fn a_batch_that_a_board_refuses_is_short(rt: HostRuntime) -> Result<(), Fail> {
     let alloc = rt.alloc();
     let board = Board::new(alloc, 4)?;
-    let first = rehearsed::<Brand>(alloc, Blank::new(1000), &board, &DELIVERED)?;
-    let second = rehearsed::<Brand>(alloc, Blank::new(1000), &board, &DELIVERED)?;
+    let first = delivered::<Brand>(alloc, Blank::new(1000), &board, true);
+    let second = delivered::<Brand>(alloc, Blank::new(1000), &board, false);
     assert_eq!(rt;
-        (
-            first.played.applied,
-            first.played.refused,
-            first.played.short
-        ),
-        (12, 0, 0)
+        [first, second],
+        [Some(came_to(12, 0, 1)), Some(came_to(11, 1, 0))]
     );
-    assert_eq!(rt;
-        (
-            second.played.applied,
-            second.played.refused,
-            second.played.short
-        ),
-        (11, 0, 1)
-    );
-    assert_eq!(rt; first.world.posted(), 1);
-    assert_eq!(rt; second.world.posted(), 0);
-    assert_eq!(rt; second.world.record().len(), 11);
     Ok(())
 }

@@ -70,76 +70,96 @@ fn replays<R: Threads + Wait + Sync>(
     rt: &R,
     alloc: Global,
     detectors: Vec<Box<dyn Detector>>,
-) -> Result<(), Fail> {
-    let plan = disturbed(alloc)?;
+) -> Option<bool> {
+    let plan = disturbed(alloc).ok()?;
     let gate = Counting::new();
     let done = ran(rt, alloc, started(alloc, 3)?, &plan, detectors, &gate)?;
-    if gate.into_calls() != (605, 605) {
-        return Err(Fail::from("605 turns"));
-    }
-    if done.made.steps <= 5 {
-        return Err(Fail::from("steps of members"));
-    }
-    if !is_replayed(alloc, &done.world) {
-        return Err(Fail::from("replayed"));
-    }
-    Ok(())
+    let passed_all = gate.into_calls() == (605, 605);
+    Some(passed_all && done.made.steps > 5 && is_replayed(alloc, &done.world))
 }
 
 #[test]
 fn a_run_that_suspects_nobody_is_replayed(rt: HostRuntime) -> Result<(), Fail> {
     let alloc = rt.alloc();
-    replays(&rt, alloc, never(alloc, 3)?)
+    assert_eq!(rt; replays(&rt, alloc, never(alloc, 3)?), Some(true));
+    Ok(())
+}
+
+fn always(alloc: Global) -> Result<Vec<Box<dyn Detector>>, AllocError> {
+    let mut detectors: Vec<Box<dyn Detector>> = Vec::new(alloc);
+    for _ in 0..3u8 {
+        detectors.push(Box::new(alloc, Always::new())?)?;
+    }
+    Ok(detectors)
 }
 
 #[test]
 fn a_run_that_suspects_always_is_replayed(rt: HostRuntime) -> Result<(), Fail> {
     let alloc = rt.alloc();
-    let mut detectors: Vec<Box<dyn Detector>> = Vec::new(alloc);
-    for _ in 0..3u8 {
-        detectors.push(Box::new(alloc, Always::new())?)?;
-    }
-    replays(&rt, alloc, detectors)
+    assert_eq!(rt; replays(&rt, alloc, always(alloc)?), Some(true));
+    Ok(())
 }
 
-#[test]
-fn a_run_that_suspects_the_listed_is_replayed(rt: HostRuntime) -> Result<(), Fail> {
-    let alloc = rt.alloc();
+fn listed(alloc: Global) -> Result<Vec<Box<dyn Detector>>, AllocError> {
     let mut detectors: Vec<Box<dyn Detector>> = Vec::new(alloc);
     for _ in 0..3u8 {
         let mut listed = MemberSet::new();
         listed.insert(2);
         detectors.push(Box::new(alloc, Listed::new(listed))?)?;
     }
-    replays(&rt, alloc, detectors)
+    Ok(detectors)
+}
+
+#[test]
+fn a_run_that_suspects_the_listed_is_replayed(rt: HostRuntime) -> Result<(), Fail> {
+    let alloc = rt.alloc();
+    assert_eq!(rt; replays(&rt, alloc, listed(alloc)?), Some(true));
+    Ok(())
+}
+
+fn at_each_third(alloc: Global) -> Option<Vec<Box<dyn Detector>>> {
+    let mut detectors: Vec<Box<dyn Detector>> = Vec::new(alloc);
+    for _ in 0..3u8 {
+        let detector = EveryNth::new(3)?;
+        detectors.push(Box::new(alloc, detector).ok()?).ok()?;
+    }
+    Some(detectors)
 }
 
 #[test]
 fn a_run_that_suspects_at_each_third_ask_is_replayed(rt: HostRuntime) -> Result<(), Fail> {
     let alloc = rt.alloc();
+    let detectors = at_each_third(alloc).ok_or("detectors")?;
+    assert_eq!(rt; replays(&rt, alloc, detectors), Some(true));
+    Ok(())
+}
+
+fn at_random(alloc: Global) -> Result<Vec<Box<dyn Detector>>, AllocError> {
     let mut detectors: Vec<Box<dyn Detector>> = Vec::new(alloc);
-    for _ in 0..3u8 {
-        detectors.push(Box::new(alloc, EveryNth::new(3).ok_or("a number")?)?)?;
+    for seed in 1..=3u64 {
+        detectors.push(Box::new(alloc, Seeded::new(seed, 64))?)?;
     }
-    replays(&rt, alloc, detectors)
+    Ok(detectors)
 }
 
 #[test]
 fn a_run_that_suspects_at_random_is_replayed(rt: HostRuntime) -> Result<(), Fail> {
     let alloc = rt.alloc();
+    assert_eq!(rt; replays(&rt, alloc, at_random(alloc)?), Some(true));
+    Ok(())
+}
+
+fn by_turns(alloc: Global) -> Result<Vec<Box<dyn Detector>>, AllocError> {
     let mut detectors: Vec<Box<dyn Detector>> = Vec::new(alloc);
-    for seed in 1..=3u64 {
-        detectors.push(Box::new(alloc, Seeded::new(seed, 64))?)?;
+    for _ in 0..3u8 {
+        detectors.push(Box::new(alloc, Alternating { last: None })?)?;
     }
-    replays(&rt, alloc, detectors)
+    Ok(detectors)
 }
 
 #[test]
 fn a_run_that_suspects_by_turns_is_replayed(rt: HostRuntime) -> Result<(), Fail> {
     let alloc = rt.alloc();
-    let mut detectors: Vec<Box<dyn Detector>> = Vec::new(alloc);
-    for _ in 0..3u8 {
-        detectors.push(Box::new(alloc, Alternating { last: None })?)?;
-    }
-    replays(&rt, alloc, detectors)
+    assert_eq!(rt; replays(&rt, alloc, by_turns(alloc)?), Some(true));
+    Ok(())
 }

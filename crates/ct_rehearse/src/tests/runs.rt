@@ -4,68 +4,78 @@ use super::following::Followed;
 use super::*;
 use ct_names::Message;
 
-// Steps that are made, worlds that are shown, and a watcher that follows.
-#[derive(Drop)]
-struct Shown {
-    made: Made,
-    settled: World,
-    snapshot: World,
-    followed: Followed,
+// Whether the world has so many steps, and its first member delivered the message alone.
+fn has_delivered(world: &World, steps: usize, message: Message) -> bool {
+    world.record().len() == steps
+        && world
+            .delivered(1)
+            .is_some_and(|list| list == [message].as_slice())
 }
 
-// One member, one submission, 100 turns.
+// Whether a watcher follows to the message.
+fn is_followed<L: Ledger, R: Wait>(
+    rt: &R,
+    alloc: Global,
+    hall: &Hall<L>,
+    message: Message,
+) -> Option<bool> {
+    let followed = Followed::of(rt, alloc, hall)?;
+    Some(followed.told_and_read() == (1, 1) && followed.messages() == [message].as_slice())
+}
+
+// Whether the worlds that the hall shows are one, in which the message was delivered.
+fn is_shown<L: Ledger, R: Wait>(
+    rt: &R,
+    alloc: Global,
+    hall: &Hall<L>,
+    share: &mut Share<L>,
+    message: Message,
+) -> Option<bool>
+    requires { share.old.parts ≡ L.parts }
+{
+    let settled = hall.settled(rt, alloc, share).ok()?;
+    let snapshot = hall.snapshot(rt, alloc).ok()?;
+    Some(has_delivered(&settled, 14, message) && snapshot.record() == settled.record())
+}
+
+// One member, one submission, 100 turns: what was made, whether the worlds that are shown have it, and whether a watcher follows.
 fn one_member<L: Ledger + Send + Sync, R: Threads + Wait + Sync>(
     rt: &R,
     alloc: Global,
     blank: Blank,
-) -> Result<Shown, Fail>
+    message: Message,
+) -> Option<(Made, bool, bool)>
     requires name { blank.name ≡ L.name }
     requires parts { blank.parts ≡ L.parts }
     requires whole { L.parts ≡ 1000 }
 {
     let (world, board) = submitted(alloc, 1)?;
     let (hall, mut share) = Hall::<L>::new(blank, world, board);
-    let detectors = never(alloc, 1)?;
+    let detectors = never(alloc, 1).ok()?;
     if usize::from(hall.group().n()) != detectors.len() {
-        return Err(Fail::from("one member"));
+        return None;
     }
     let plan = Plan {
         turns: 100,
         scripts: Vec::new(alloc),
     };
-    let Ok(made) = hall.run_free(rt, alloc, &plan, detectors, &NoGate, &mut share) else {
-        return Err(Fail::from("run"));
-    };
-    let settled = hall.settled(rt, alloc, &mut share)?;
-    let snapshot = hall.snapshot(rt, alloc)?;
-    let followed = Followed::of(rt, alloc, &hall)?;
-    Ok(Shown {
-        made,
-        settled,
-        snapshot,
-        followed,
-    })
+    let made = hall
+        .run_free(rt, alloc, &plan, detectors, &NoGate, &mut share)
+        .ok()?;
+    let shown = is_shown(rt, alloc, &hall, &mut share, message)?;
+    let followed = is_followed(rt, alloc, &hall, message)?;
+    Some((made, shown, followed))
 }
 
 #[test]
 fn one_member_delivers(rt: HostRuntime) -> Result<(), Fail> {
-    let shown = one_member::<Brand, _>(&rt, rt.alloc(), Blank::new(1000))?;
+    let message = Message::new(1, 1, SEVEN).ok_or("good")?;
     let made = Made {
         steps: 13,
         resting: 87,
         refused: 0,
     };
-    assert_eq!(rt; shown.made, made);
-    assert_eq!(rt; shown.settled.record().len(), 14);
-    assert_eq!(rt; shown.snapshot.record(), shown.settled.record());
-    let message = Message::new(1, 1, SEVEN).ok_or("good")?;
-    assert!(rt;
-        shown
-            .settled
-            .delivered(1)
-            .is_some_and(|list| list == [message].as_slice())
-    );
-    assert_eq!(rt; shown.followed.told_and_read(), (1, 1));
-    assert!(rt; shown.followed.messages() == [message].as_slice());
+    let came = one_member::<Brand, _>(&rt, rt.alloc(), Blank::new(1000), message);
+    assert_eq!(rt; came, Some((made, true, true)));
     Ok(())
 }

@@ -20,39 +20,54 @@ fn turned<L: Ledger>(
     Some(came_of(&turn))
 }
 
-// Two members, one submission, detectors that suspect always, 500 turns of each.
-fn suspecting<L: Ledger>(alloc: Global, blank: Blank) -> Result<World, Fail>
+// Makes 500 turns of each of two members, with detectors that suspect always.
+fn all_suspect<L: Ledger>(desk: &mut Desk<L>, share: &mut Share<L>, board: &Board) -> bool {
+    let mut one = Always::new();
+    let mut two = Always::new();
+    for _ in 0..500u32 {
+        let first = turned(desk, share, board, 1, &mut one);
+        let second = turned(desk, share, board, 2, &mut two);
+        if first.is_none() || second.is_none() {
+            return false;
+        }
+    }
+    true
+}
+
+fn has_registers_of_0(world: &World, member: Member) -> bool {
+    match world.table(member) {
+        Some(table) => (0..16).all(|at| table.get(at) == Some(0)),
+        None => false,
+    }
+}
+
+// Whether the member is in a round, and decided and delivered nothing.
+fn is_undecided(world: &World, member: Member) -> bool {
+    world.decided(member, 1).is_none()
+        && world.delivered(member).is_some_and(|list| list.is_empty())
+        && has_registers_of_0(world, member)
+        && world.round(member).is_some()
+}
+
+// Two members, one submission: whether both are undecided after their turns.
+fn suspecting<L: Ledger>(alloc: Global, blank: Blank) -> Option<bool>
     requires name { blank.name ≡ L.name }
     requires parts { blank.parts ≡ L.parts }
     requires whole { L.parts ≡ 1000 }
 {
     let (world, board) = submitted(alloc, 2)?;
     let (mut desk, mut share) = Desk::<L>::new(blank, world);
-    let mut one = Always::new();
-    let mut two = Always::new();
-    for _ in 0..500u32 {
-        let first = turned(&mut desk, &mut share, &board, 1, &mut one);
-        let second = turned(&mut desk, &mut share, &board, 2, &mut two);
-        if first.is_none() || second.is_none() {
-            return Err(Fail::from("more steps than turns"));
-        }
-    }
-    Ok(desk.world().copy(alloc)?)
+    let turned = all_suspect(&mut desk, &mut share, &board);
+    let world = desk.world();
+    Some(turned && is_undecided(world, 1) && is_undecided(world, 2))
 }
 
 #[test]
 fn nobody_decides_where_all_suspect(rt: HostRuntime) -> Result<(), Fail> {
-    let world = suspecting::<Brand>(rt.alloc(), Blank::new(1000))?;
-    for member in 1..=2u8 {
-        assert!(rt; world.decided(member, 1).is_none());
-        assert!(rt; world.delivered(member).is_some_and(|list| list.is_empty()));
-        assert!(rt;
-            world
-                .table(member)
-                .is_some_and(|table| (0..16).all(|at| table.get(at) == Some(0)))
-        );
-        assert!(rt; world.round(member).is_some());
-    }
+    assert_eq!(rt;
+        suspecting::<Brand>(rt.alloc(), Blank::new(1000)),
+        Some(true)
+    );
     Ok(())
 }
 
@@ -74,32 +89,41 @@ fn waiting_in_round_one() -> [Step; 12] {
     ]
 }
 
-// What comes of three turns of a member that waits, with a detector that says yes at the third ask.
-fn asking<L: Ledger>(alloc: Global, blank: Blank) -> Result<[Option<Came>; 3], Fail>
+// What comes of three turns of the first member, with a detector that says yes at the third ask.
+fn asked<L: Ledger>(
+    desk: &mut Desk<L>,
+    share: &mut Share<L>,
+    board: &Board,
+) -> Option<[Option<Came>; 3]> {
+    let mut detector = EveryNth::new(3)?;
+    Some([
+        turned(desk, share, board, 1, &mut detector),
+        turned(desk, share, board, 1, &mut detector),
+        turned(desk, share, board, 1, &mut detector),
+    ])
+}
+
+// The same of a member that waits.
+fn asking<L: Ledger>(alloc: Global, blank: Blank) -> Option<[Option<Came>; 3]>
     requires name { blank.name ≡ L.name }
     requires parts { blank.parts ≡ L.parts }
     requires whole { L.parts ≡ 1000 }
 {
     let (mut world, board) = started(alloc, 3)?;
-    for step in waiting_in_round_one() {
-        let _ = world.apply(&board, &step)?;
+    if !does_all(&mut world, &board, &waiting_in_round_one()) {
+        return None;
     }
     let (mut desk, mut share) = Desk::<L>::new(blank, world);
-    let mut detector = EveryNth::new(3).ok_or("a number")?;
-    Ok([
-        turned(&mut desk, &mut share, &board, 1, &mut detector),
-        turned(&mut desk, &mut share, &board, 1, &mut detector),
-        turned(&mut desk, &mut share, &board, 1, &mut detector),
-    ])
+    asked(&mut desk, &mut share, &board)
 }
 
 #[test]
 fn a_turn_asks_its_detector_once(rt: HostRuntime) -> Result<(), Fail> {
-    let turns = asking::<Brand>(rt.alloc(), Blank::new(1000))?;
+    let turns = asking::<Brand>(rt.alloc(), Blank::new(1000));
     let suspicion = (Step::Suspect(1), 1, None);
     assert_eq!(rt;
         turns,
-        [Some(Ok(None)), Some(Ok(None)), Some(Ok(Some(suspicion)))]
+        Some([Some(Ok(None)), Some(Ok(None)), Some(Ok(Some(suspicion)))])
     );
     Ok(())
 }
@@ -138,8 +162,23 @@ fn tried<L: Ledger>(
 }
 
 // What comes of a postponement, a loss, a repetition and a crash of a member to which nothing was sent, and of a submission by
-// nobody; and the steps that were counted on a part of the share.
-fn disturbances<L: Ledger>(alloc: Global, blank: Blank) -> Result<([Option<Came>; 5], u64), Fail>
+// nobody.
+fn five_tries<L: Ledger>(
+    desk: &mut Desk<L>,
+    part: &mut Share<L>,
+    board: &Board,
+) -> [Option<Came>; 5] {
+    [
+        tried(desk, part, board, Disturbance::Postpone(1)),
+        tried(desk, part, board, Disturbance::Lose(1)),
+        tried(desk, part, board, Disturbance::Repeat(1, 1)),
+        tried(desk, part, board, Disturbance::Crash(1)),
+        tried(desk, part, board, Disturbance::Submit(2, SEVEN)),
+    ]
+}
+
+// What comes of them, and the steps that were counted on a part of the share.
+fn disturbances<L: Ledger>(alloc: Global, blank: Blank) -> Option<([Option<Came>; 5], u64)>
     requires name { blank.name ≡ L.name }
     requires parts { blank.parts ≡ L.parts }
     requires whole { L.parts ≡ 1000 }
@@ -147,30 +186,38 @@ fn disturbances<L: Ledger>(alloc: Global, blank: Blank) -> Result<([Option<Came>
     let (world, board) = started(alloc, 1)?;
     let (mut desk, mut whole) = Desk::<L>::new(blank, world);
     let mut part = whole.split();
-    let turns = [
-        tried(&mut desk, &mut part, &board, Disturbance::Postpone(1)),
-        tried(&mut desk, &mut part, &board, Disturbance::Lose(1)),
-        tried(&mut desk, &mut part, &board, Disturbance::Repeat(1, 1)),
-        tried(&mut desk, &mut part, &board, Disturbance::Crash(1)),
-        tried(&mut desk, &mut part, &board, Disturbance::Submit(2, SEVEN)),
-    ];
-    Ok((turns, part.steps()))
+    let turns = five_tries(&mut desk, &mut part, &board);
+    Some((turns, part.steps()))
 }
 
 #[test]
 fn turns_say_what_came_of_them(rt: HostRuntime) -> Result<(), Fail> {
-    let (turns, steps) = disturbances::<Brand>(rt.alloc(), Blank::new(1000))?;
-    assert_eq!(rt; turns[0], Some(Ok(None)));
-    assert_eq!(rt; turns[1], Some(Ok(None)));
-    assert_eq!(rt; turns[2], Some(Err(Refusal::NotSent)));
-    assert_eq!(rt; turns[3], Some(Ok(Some((Step::Crash(1), 0, None)))));
-    assert_eq!(rt; turns[4], Some(Err(Refusal::NoSuchMember)));
-    assert_eq!(rt; steps, 1);
+    let turns = [
+        Some(Ok(None)),
+        Some(Ok(None)),
+        Some(Err(Refusal::NotSent)),
+        Some(Ok(Some((Step::Crash(1), 0, None)))),
+        Some(Err(Refusal::NoSuchMember)),
+    ];
+    let came = disturbances::<Brand>(rt.alloc(), Blank::new(1000));
+    assert_eq!(rt; came, Some((turns, 1)));
     Ok(())
 }
 
 // What comes of the loss of the first that waits, and of its repetition twice.
-fn lost_and_repeated<L: Ledger>(alloc: Global, blank: Blank) -> Result<[Option<Came>; 3], Fail>
+fn three_tries<L: Ledger>(
+    desk: &mut Desk<L>,
+    part: &mut Share<L>,
+    board: &Board,
+) -> [Option<Came>; 3] {
+    [
+        tried(desk, part, board, Disturbance::Lose(1)),
+        tried(desk, part, board, Disturbance::Repeat(1, 1)),
+        tried(desk, part, board, Disturbance::Repeat(1, 1)),
+    ]
+}
+
+fn lost_and_repeated<L: Ledger>(alloc: Global, blank: Blank) -> Option<[Option<Came>; 3]>
     requires name { blank.name ≡ L.name }
     requires parts { blank.parts ≡ L.parts }
     requires whole { L.parts ≡ 1000 }
@@ -178,29 +225,23 @@ fn lost_and_repeated<L: Ledger>(alloc: Global, blank: Blank) -> Result<[Option<C
     let (world, board) = submitted(alloc, 1)?;
     let (mut desk, mut whole) = Desk::<L>::new(blank, world);
     let mut part = whole.split();
-    Ok([
-        tried(&mut desk, &mut part, &board, Disturbance::Lose(1)),
-        tried(&mut desk, &mut part, &board, Disturbance::Repeat(1, 1)),
-        tried(&mut desk, &mut part, &board, Disturbance::Repeat(1, 1)),
-    ])
+    Some(three_tries(&mut desk, &mut part, &board))
 }
 
 #[test]
 fn what_was_lost_is_repeated_once(rt: HostRuntime) -> Result<(), Fail> {
-    let turns = lost_and_repeated::<Brand>(rt.alloc(), Blank::new(1000))?;
-    assert_eq!(rt;
-        turns,
-        [
-            Some(Ok(Some((Step::Lose(1, 1), 0, None)))),
-            Some(Ok(Some((Step::Repeat(1, 1), 0, None)))),
-            Some(Err(Refusal::StillWaiting))
-        ]
-    );
+    let turns = [
+        Some(Ok(Some((Step::Lose(1, 1), 0, None)))),
+        Some(Ok(Some((Step::Repeat(1, 1), 0, None)))),
+        Some(Err(Refusal::StillWaiting)),
+    ];
+    let came = lost_and_repeated::<Brand>(rt.alloc(), Blank::new(1000));
+    assert_eq!(rt; came, Some(turns));
     Ok(())
 }
 
 // The parts and steps of a share that handed a part out, and took it in again.
-fn parted<L: Ledger>(alloc: Global, blank: Blank) -> Result<[(u64, u64); 3], Fail>
+fn parted<L: Ledger>(alloc: Global, blank: Blank) -> Option<[(u64, u64); 3]>
     requires name { blank.name ≡ L.name }
     requires parts { blank.parts ≡ L.parts }
     requires whole { L.parts ≡ 1000 }
@@ -211,12 +252,12 @@ fn parted<L: Ledger>(alloc: Global, blank: Blank) -> Result<[(u64, u64); 3], Fai
     let first = (part.parts(), part.steps());
     let rest = (share.parts(), share.steps());
     share.join(part);
-    Ok([first, rest, (share.parts(), share.steps())])
+    Some([first, rest, (share.parts(), share.steps())])
 }
 
 #[test]
 fn shares_are_split_and_joined(rt: HostRuntime) -> Result<(), Fail> {
-    let shares = parted::<Brand>(rt.alloc(), Blank::new(1000))?;
-    assert_eq!(rt; shares, [(1, 0), (999, 1), (1000, 1)]);
+    let shares = parted::<Brand>(rt.alloc(), Blank::new(1000));
+    assert_eq!(rt; shares, Some([(1, 0), (999, 1), (1000, 1)]));
     Ok(())
 }

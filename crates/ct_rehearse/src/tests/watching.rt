@@ -44,14 +44,8 @@ fn watch(alloc: Global, board: &Board) -> Result<Seen, AllocError> {
     })
 }
 
-// Does the steps, and answers whether all were done.
 fn post_all(board: &Board, mut world: World, steps: &[Step]) -> bool {
-    for step in steps {
-        if world.apply(board, step).is_err() {
-            return false;
-        }
-    }
-    true
+    does_all(&mut world, board, steps)
 }
 
 // One member delivers its second message before its first, in two instances.
@@ -87,7 +81,7 @@ fn two_instances() -> [Step; 24] {
 #[test]
 fn a_watcher_reads_what_another_thread_posts(rt: HostRuntime) -> Result<(), Fail> {
     let alloc = rt.alloc();
-    let (world, board) = started(alloc, 1)?;
+    let (world, board) = started(alloc, 1).ok_or("a world")?;
     let steps = two_instances();
     let (shared, steps) = (&board, steps.as_slice());
     let (seen, posted) = thread::join(
@@ -126,41 +120,58 @@ fn submissions(alloc: Global) -> Result<Plan, AllocError>
     })
 }
 
+// Whether the watcher was told of all that was posted, read it, and agrees with a member.
+fn has_followed(followed: &Followed, world: &World) -> bool {
+    let posted = usize::from(world.posted());
+    posted > 0
+        && followed.told_and_read() == (posted, posted)
+        && followed
+            .level_with(world)
+            .is_some_and(|member| followed.agrees(world, member))
+}
+
+fn is_followed<L: Ledger, R: Wait>(
+    rt: &R,
+    alloc: Global,
+    hall: &Hall<L>,
+    share: &mut Share<L>,
+) -> Option<bool>
+    requires { share.old.parts ≡ L.parts }
+{
+    let settled = hall.settled(rt, alloc, share).ok()?;
+    let followed = Followed::of(rt, alloc, hall)?;
+    Some(has_followed(&followed, &settled))
+}
+
 // Three members, two submissions.
 fn three_members<L: Ledger + Send + Sync, R: Threads + Wait + Sync>(
     rt: &R,
     alloc: Global,
     blank: Blank,
-) -> Result<(Followed, World), Fail>
+) -> Option<bool>
     requires name { blank.name ≡ L.name }
     requires parts { blank.parts ≡ L.parts }
     requires whole { L.parts ≡ 1000 }
 {
     let (world, board) = started(alloc, 3)?;
     let (hall, mut share) = Hall::<L>::new(blank, world, board);
-    let detectors = never(alloc, 3)?;
+    let detectors = never(alloc, 3).ok()?;
     if usize::from(hall.group().n()) != detectors.len() {
-        return Err(Fail::from("three members"));
+        return None;
     }
-    let plan = submissions(alloc)?;
+    let plan = submissions(alloc).ok()?;
     if hall
         .run_free(rt, alloc, &plan, detectors, &NoGate, &mut share)
         .is_err()
     {
-        return Err(Fail::from("run"));
+        return None;
     }
-    let settled = hall.settled(rt, alloc, &mut share)?;
-    let followed = Followed::of(rt, alloc, &hall)?;
-    Ok((followed, settled))
+    is_followed(rt, alloc, &hall, &mut share)
 }
 
 #[test]
 fn a_watcher_follows_three_members(rt: HostRuntime) -> Result<(), Fail> {
-    let (followed, settled) = three_members::<Brand, _>(&rt, rt.alloc(), Blank::new(1000))?;
-    let posted = usize::from(settled.posted());
-    assert!(rt; posted > 0);
-    assert_eq!(rt; followed.told_and_read(), (posted, posted));
-    let member = followed.level_with(&settled).ok_or("a member")?;
-    assert!(rt; followed.agrees(&settled, member));
+    let followed = three_members::<Brand, _>(&rt, rt.alloc(), Blank::new(1000));
+    assert_eq!(rt; followed, Some(true));
     Ok(())
 }
