@@ -4,10 +4,10 @@ use ct_model::{Phase, Step};
 use ct_names::{
     Command, Group, Instance, Limit, MAX_BOUND, Member, Message, Refusal, Round, Serial,
 };
-use fact::{Fact, Plain};
+use fact::{Fact, Plain, Sent};
 use std::alloc::Global;
 use std::process::Abort;
-use trial::{Posted, Trial};
+use trial::{Posted, Trial, after_instances, after_proposals, after_round, shown, shown_new};
 
 mod bounds;
 mod cells;

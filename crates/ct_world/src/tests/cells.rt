@@ -1,98 +1,88 @@
-ghost use Rattle.std.specs.Prelude.{◌<◌, ◌≤◌};
-
-use super::watching::look_at_all;
 use super::*;
 
-// Of the cells of the board that the world posts on, only the first ones are set, so many.
-fn has_set(rt: &impl Abort, alloc: Global, trial: &Trial, set: usize) {
-    look_at_all(rt, alloc, &trial.board, set);
+// Whether after each step the cells of the batches posted so far are set, and no other; and so many batches are posted then.
+fn sets_one_by_one(trial: &mut Trial, steps: &[Step], posted: u16) -> bool {
+    for step in steps {
+        if !trial.does(step) || !trial.has_set(usize::from(trial.posted())) {
+            return false;
+        }
+    }
+    trial.posted() == posted
 }
 
-// After each step the cells of the batches posted so far are set, and no other.
-fn step_by_step(rt: &impl Abort, alloc: Global, n: u8, steps: &[Step]) -> usize {
-    let mut trial = Trial::new(rt, alloc, n, 20);
-    for step in steps {
-        trial.run(rt, &[*step]);
-        has_set(rt, alloc, &trial, usize::from(trial.posted()));
-    }
-    usize::from(trial.posted())
+fn step_by_step(rt: &(impl Abort + AllocGlobal), n: u8, steps: &[Step], posted: u16) {
+    let mut trial = Trial::new(rt, rt.alloc(), n, 20);
+    assert!(rt; sets_one_by_one(&mut trial, steps, posted));
+    trial.end();
 }
 
 #[test]
 fn a_step_sets_no_cell_but_its_own(rt: HostRuntime) {
-    assert_eq!(rt; step_by_step(&rt, rt.alloc(), 1, &TWO_INSTANCES), 2);
-    assert_eq!(rt; step_by_step(&rt, rt.alloc(), 3, &ONE_ROUND), 1);
-}
-
-// Each of these steps is refused so after the world's own, and the board has as many batches as before.
-fn refuse(rt: &impl Abort, alloc: Global, mut trial: Trial, set: usize, steps: &[(Step, Refusal)]) {
-    has_set(rt, alloc, &trial, set);
-    for (step, refusal) in steps {
-        assert!(rt; trial.apply(step) == Err(*refusal), "{step:?}");
-        has_set(rt, alloc, &trial, set);
-    }
+    step_by_step(&rt, 1, &TWO_INSTANCES, 2);
+    step_by_step(&rt, 3, &ONE_ROUND, 1);
 }
 
 #[test]
 fn a_step_that_is_not_allowed_sets_no_cell(rt: HostRuntime) {
-    let trial = Trial::of(&rt, rt.alloc(), 3, 4, &ONE_ROUND);
-    let steps = [
-        (Step::Deliver(0), Refusal::NoSuchMember),
-        (Step::Deliver(3), Refusal::Crashed),
-        (Step::Deliver(1), Refusal::Idle),
-        (Step::Follow(1), Refusal::Undecided),
-        (Step::Receive(1, 99), Refusal::NotWaiting),
-        (Step::Begin(1), Refusal::Nothing),
-        (Step::Enter(2), Refusal::Idle),
-        (Step::Submit(1, Command::Set(16, 7)), Refusal::BadCommand),
+    static FACTS: &[Fact<'static>] = &[
+        Fact::Cells(1),
+        Fact::Keeps(Step::Deliver(0), Refusal::NoSuchMember, 1),
+        Fact::Keeps(Step::Deliver(3), Refusal::Crashed, 1),
+        Fact::Keeps(Step::Deliver(1), Refusal::Idle, 1),
+        Fact::Keeps(Step::Follow(1), Refusal::Undecided, 1),
+        Fact::Keeps(Step::Receive(1, 99), Refusal::NotWaiting, 1),
+        Fact::Keeps(Step::Begin(1), Refusal::Nothing, 1),
+        Fact::Keeps(Step::Enter(2), Refusal::Idle, 1),
+        Fact::Keeps(Step::Submit(1, Command::Set(16, 7)), Refusal::BadCommand, 1),
     ];
-    refuse(&rt, rt.alloc(), trial, 1, &steps);
+    after_round(&rt, 22, FACTS);
 }
 
 #[test]
 fn an_undecided_delivery_sets_no_cell(rt: HostRuntime) {
-    let trial = Trial::of(&rt, rt.alloc(), 3, 4, &ONE_ROUND[..8]);
-    let steps = [
-        (Step::Deliver(1), Refusal::Undecided),
-        (Step::Follow(1), Refusal::Busy),
-        (Step::Begin(1), Refusal::Busy),
-        (Step::Enter(1), Refusal::WrongPhase),
-        (Step::Choose(2, 1), Refusal::TooFew),
-        (Step::Adopt(1), Refusal::NoProposal),
+    static FACTS: &[Fact<'static>] = &[
+        Fact::Cells(0),
+        Fact::Keeps(Step::Deliver(1), Refusal::Undecided, 0),
+        Fact::Keeps(Step::Follow(1), Refusal::Busy, 0),
+        Fact::Keeps(Step::Begin(1), Refusal::Busy, 0),
+        Fact::Keeps(Step::Enter(1), Refusal::WrongPhase, 0),
+        Fact::Keeps(Step::Choose(2, 1), Refusal::TooFew, 0),
+        Fact::Keeps(Step::Adopt(1), Refusal::NoProposal, 0),
     ];
-    refuse(&rt, rt.alloc(), trial, 0, &steps);
+    after_round(&rt, 8, FACTS);
 }
 
 // A member alone: the cells of its world and board, and how many steps of `TWO_INSTANCES` it did.
 type Alone = (u16, usize);
 
-fn alone(rt: &impl Abort, alloc: Global, which: Alone) -> Trial
-    requires cells { which.0 ≤ 1024 }
-    requires steps { which.1 ≤ 24 }
-{
-    Trial::of(rt, alloc, 1, which.0, &TWO_INSTANCES[..which.1])
+fn alone(rt: &(impl Abort + AllocGlobal), which: Alone) -> Trial {
+    Trial::after(rt, 1, which.0, &TWO_INSTANCES, which.1)
+}
+
+// The next step of the world is refused so, on a board with so many batches, which has as many after it.
+fn keeps_next(trial: &mut Trial, steps: usize, refusal: Refusal, set: usize) -> bool {
+    steps < TWO_INSTANCES.len()
+        && trial.has_set(set)
+        && trial.rejects(&TWO_INSTANCES[steps], refusal)
+        && trial.has_set(set)
 }
 
 // The next step of one world is refused so, on the board of another.
-fn refuse_next(rt: &impl Abort, alloc: Global, one: Alone, other: Alone, refusal: Refusal)
-    requires cells { one.0 ≤ 1024 }
-    requires steps { one.1 < 24 }
-    requires other_cells { other.0 ≤ 1024 }
-    requires other_steps { other.1 ≤ 24 }
-{
-    let mut trial = alone(rt, alloc, one);
-    let mut theirs = alone(rt, alloc, other);
+fn refuse_next(rt: &(impl Abort + AllocGlobal), one: Alone, other: Alone, refusal: Refusal) {
+    let mut trial = alone(rt, one);
+    let mut theirs = alone(rt, other);
     trial.exchange(&mut theirs);
     let set = usize::from(theirs.posted());
-    refuse(rt, alloc, trial, set, &[(TWO_INSTANCES[one.1], refusal)]);
+    assert!(rt; keeps_next(&mut trial, one.1, refusal, set));
+    trial.end();
+    theirs.end();
 }
 
 #[test]
 fn a_refused_delivery_sets_no_cell(rt: HostRuntime) {
-    let alloc = rt.alloc();
-    refuse_next(&rt, alloc, (4, 12), (4, 13), Refusal::Board);
-    refuse_next(&rt, alloc, (4, 12), (4, 24), Refusal::Board);
-    refuse_next(&rt, alloc, (4, 23), (4, 24), Refusal::Board);
-    refuse_next(&rt, alloc, (4, 23), (1, 13), Refusal::Board);
-    refuse_next(&rt, alloc, (1, 23), (4, 13), Refusal::Full(Limit::Cells));
+    refuse_next(&rt, (4, 12), (4, 13), Refusal::Board);
+    refuse_next(&rt, (4, 12), (4, 24), Refusal::Board);
+    refuse_next(&rt, (4, 23), (4, 24), Refusal::Board);
+    refuse_next(&rt, (4, 23), (1, 13), Refusal::Board);
+    refuse_next(&rt, (1, 23), (4, 13), Refusal::Full(Limit::Cells));
 }

@@ -1,38 +1,38 @@
-ghost use Rattle.std.specs.Prelude.{◌<◌, ◌≤◌};
+ghost use Rattle.std.specs.Prelude.{◌<◌};
 
 use super::*;
 
+const SUBMIT: Step = Step::Submit(1, SEVEN);
+
+const POSTPONE: Step = Step::Postpone(1, 1);
+
 #[test]
 fn submissions_are_limited(rt: HostRuntime) {
-    let step = Step::Submit(1, SEVEN);
-    let mut trial = Trial::new(&rt, rt.alloc(), 1, 4);
-    trial.repeat(&rt, 65_535, &step);
-    trial.shows(
-        &rt,
-        &[Fact::Refused(step, Refusal::Full(Limit::Submissions))],
-    );
+    static FACTS: &[Fact<'static>] = &[
+        Fact::Repeated(65_535, SUBMIT),
+        Fact::Refused(SUBMIT, Refusal::Full(Limit::Submissions)),
+    ];
+    shown_new(&rt, 1, FACTS);
 }
 
 #[test]
 fn envelopes_are_limited(rt: HostRuntime) {
-    let step = Step::Submit(1, SEVEN);
-    let mut trial = Trial::new(&rt, rt.alloc(), 16, 4);
-    trial.repeat(&rt, 62_500, &step);
-    trial.shows(
-        &rt,
-        &[
-            Fact::Counts(62_500, 1_000_000, 0),
-            Fact::Refused(step, Refusal::Full(Limit::Envelopes)),
-        ],
-    );
+    static FACTS: &[Fact<'static>] = &[
+        Fact::Repeated(62_500, SUBMIT),
+        Fact::Counts(62_500, 1_000_000, 0),
+        Fact::Refused(SUBMIT, Refusal::Full(Limit::Envelopes)),
+    ];
+    shown_new(&rt, 16, FACTS);
 }
 
 #[test]
 fn steps_are_limited(rt: HostRuntime) {
-    let step = Step::Postpone(1, 1);
-    let mut trial = Trial::of(&rt, rt.alloc(), 1, 4, &[Step::Submit(1, SEVEN)]);
-    trial.repeat(&rt, 999_999, &step);
-    trial.shows(&rt, &[Fact::Refused(step, Refusal::Full(Limit::Steps))]);
+    static STEPS: [Step; 1] = [SUBMIT];
+    static FACTS: &[Fact<'static>] = &[
+        Fact::Repeated(999_999, POSTPONE),
+        Fact::Refused(POSTPONE, Refusal::Full(Limit::Steps)),
+    ];
+    shown(&rt, 1, &STEPS, 1, FACTS);
 }
 
 // A round that one member alone ends without a decision, after so many envelopes. The proposal is never received.
@@ -49,24 +49,25 @@ fn vain_round(sent: Serial) -> [Step; 6]
     ]
 }
 
-fn try_vain_rounds(rt: &impl Abort, trial: &mut Trial) {
-    for round in 0..10_000 {
-        trial.run(rt, &vain_round(3 * round + 1));
+// Whether the rounds are done, so many from the first on.
+pub(super) fn do_vain_rounds(trial: &mut Trial, rounds: u16) -> bool {
+    for round in 0..rounds {
+        if !trial.does_all(&vain_round(3 * u32::from(round) + 1)) {
+            return false;
+        }
     }
+    true
 }
 
 #[test]
 fn rounds_are_limited(rt: HostRuntime) {
-    let steps = [Step::Submit(1, SEVEN), Step::Receive(1, 1), Step::Begin(1)];
-    let mut trial = Trial::of(&rt, rt.alloc(), 1, 4, &steps);
-    try_vain_rounds(&rt, &mut trial);
-    trial.shows(
-        &rt,
-        &[
-            Fact::Counts(60_003, 30_001, 0),
-            Fact::Refused(Step::Enter(1), Refusal::Full(Limit::Rounds)),
-        ],
-    );
+    static STEPS: [Step; 3] = [SUBMIT, Step::Receive(1, 1), Step::Begin(1)];
+    static FACTS: &[Fact<'static>] = &[
+        Fact::VainRounds(10_000),
+        Fact::Counts(60_003, 30_001, 0),
+        Fact::Refused(Step::Enter(1), Refusal::Full(Limit::Rounds)),
+    ];
+    shown(&rt, 1, &STEPS, 3, FACTS);
 }
 
 // One member alone decides what it submits, after so many envelopes.
@@ -74,7 +75,7 @@ fn decided_alone(sent: Serial) -> [Step; 12]
     requires { sent < 1000000 }
 {
     [
-        Step::Submit(1, SEVEN),
+        SUBMIT,
         Step::Receive(1, sent + 1),
         Step::Begin(1),
         Step::Enter(1),
@@ -89,38 +90,34 @@ fn decided_alone(sent: Serial) -> [Step; 12]
     ]
 }
 
-// The same, so many times from the first instance on.
-pub(super) fn decide_alone(rt: &impl Abort, trial: &mut Trial, instances: u32)
-    requires { instances ≤ 1024 }
-{
+// Whether that is done, so many times from the first instance on.
+pub(super) fn decide_alone(trial: &mut Trial, instances: u16) -> bool {
     for instance in 0..instances {
-        trial.run(rt, &decided_alone(5 * instance));
+        if !trial.does_all(&decided_alone(5 * u32::from(instance))) {
+            return false;
+        }
     }
+    true
 }
 
 #[test]
 fn instances_are_limited(rt: HostRuntime) {
-    let mut trial = Trial::new(&rt, rt.alloc(), 1, 1024);
-    decide_alone(&rt, &mut trial, 1024);
-    trial.shows(
-        &rt,
-        &[
-            Fact::Counts(12_288, 5_120, 1024),
-            Fact::Done(Step::Submit(1, SEVEN)),
-            Fact::Done(Step::Receive(1, 5_121)),
-            Fact::Counts(12_290, 5_121, 1024),
-            Fact::Refused(Step::Begin(1), Refusal::Full(Limit::Instances)),
-        ],
-    );
+    static FACTS: &[Fact<'static>] = &[
+        Fact::Alone(1024),
+        Fact::Counts(12_288, 5_120, 1024),
+        Fact::Done(SUBMIT),
+        Fact::Done(Step::Receive(1, 5_121)),
+        Fact::Counts(12_290, 5_121, 1024),
+        Fact::Refused(Step::Begin(1), Refusal::Full(Limit::Instances)),
+    ];
+    Trial::new(&rt, rt.alloc(), 1, 1024).shows(&rt, FACTS);
 }
 
 #[test]
 fn cells_are_limited(rt: HostRuntime) {
-    Trial::of(&rt, rt.alloc(), 1, 1, &TWO_INSTANCES[..23]).shows(
-        &rt,
-        &[
-            Fact::Refused(TWO_INSTANCES[23], Refusal::Full(Limit::Cells)),
-            Fact::Counts(23, 10, 1),
-        ],
-    );
+    static FACTS: &[Fact<'static>] = &[
+        Fact::Refused(Step::Deliver(1), Refusal::Full(Limit::Cells)),
+        Fact::Counts(23, 10, 1),
+    ];
+    Trial::after(&rt, 1, 1, &TWO_INSTANCES, 23).shows(&rt, FACTS);
 }

@@ -1,6 +1,5 @@
-ghost use Rattle.std.specs.Prelude.{◌≡◌, ◌≤◌};
+ghost use Rattle.std.specs.Prelude.{◌≡◌, IfSome};
 
-use super::limits::decide_alone;
 use super::*;
 
 // A board and a watcher of it.
@@ -12,16 +11,18 @@ struct Viewer<'b> {
 }
 
 impl<'b> Viewer<'b> {
-    fn new(rt: &impl Abort, alloc: Global, board: &'b Board) -> Viewer<'b>
-        ensures { result.board.now ≡ board.now }
+    fn new(alloc: Global, board: &'b Board) -> Option<Viewer<'b>>
+        ensures { IfSome result (λ viewer. viewer.board.now ≡ board.now) }
     {
-        let watcher = Watcher::new(alloc, board).expect(rt, "a watcher");
-        Viewer { board, watcher }
+        match Watcher::new(alloc, board) {
+            Ok(watcher) => Some(Viewer { board, watcher }),
+            Err(_) => None,
+        }
     }
 
     // Whether the world answers so, and the watcher is then told of so many batches.
     fn meets(&mut self, trial: &Trial, wanted: Result<(), Refusal>, told: usize) -> bool {
-        trial.world.meet(self.board, &mut self.watcher) == wanted && self.watcher.told() == told
+        trial.world.meet(self.board, &mut self.watcher) == wanted && self.is_told(told)
     }
 
     // Whether the next batch is of this instance and this message, or whether there is none.
@@ -37,11 +38,59 @@ impl<'b> Viewer<'b> {
         }
     }
 
+    // Whether the next batches are these.
+    fn reads_all(&mut self, batches: &[(Instance, Plain)]) -> bool {
+        for batch in batches {
+            if !self.reads(Some(*batch)) {
+                return false;
+            }
+        }
+        true
+    }
+
+    // Whether the world answers so, and the watcher is then told of these batches, and reads them.
+    fn sees(
+        &mut self,
+        trial: &Trial,
+        wanted: Result<(), Refusal>,
+        batches: &[(Instance, Plain)],
+    ) -> bool {
+        self.meets(trial, wanted, batches.len())
+            && self.reads_all(batches)
+            && (wanted.is_err() || self.reads(None))
+    }
+
+    // Whether it reads the only message of each of the first instances, and no more.
+    fn reads_first(&mut self, instances: u16) -> bool {
+        for before in 0..instances {
+            let instance = u32::from(before) + 1;
+            if !self.reads(Some((instance, (1, instance, SEVEN)))) {
+                return false;
+            }
+        }
+        self.reads(None)
+    }
+
+    // The same, told of them or not.
+    fn reads_told(&mut self, trial: &Trial, instances: u16, told: bool) -> bool {
+        (!told || self.meets(trial, Ok(()), usize::from(instances)))
+            && self.reads_first(instances)
+            && self.is_told(0) != told
+    }
+
     // Whether it finds a batch in the cell at the place.
-    fn finds(&mut self, place: usize) -> bool
-        ensures { self.new.board.now ≡ self.old.board.now }
-    {
+    fn finds(&mut self, place: usize) -> bool {
         self.watcher.look(self.board, place).is_some()
+    }
+
+    // Whether it finds a batch in each of the first cells of the board, so many, and in no other.
+    fn finds_first(&mut self, set: usize) -> bool {
+        for place in 0..self.board.cells() {
+            if self.finds(place) != (place < set) {
+                return false;
+            }
+        }
+        true
     }
 
     // Whether it was told of so many batches.
@@ -61,114 +110,125 @@ impl<'b> Viewer<'b> {
     }
 }
 
-// A new watcher of the board meets the world, which answers so. It is then told of these batches, and reads them.
-fn watch(
-    rt: &impl Abort,
+// Whether a new watcher of the board meets the world, which answers so. It is then told of these batches, and reads them.
+pub(super) fn watch(
     alloc: Global,
     trial: &Trial,
     wanted: Result<(), Refusal>,
     batches: &[(Instance, Plain)],
-) {
-    let mut viewer = Viewer::new(rt, alloc, &trial.board);
-    assert!(rt; viewer.meets(trial, wanted, batches.len()));
-    for batch in batches {
-        assert!(rt; viewer.reads(Some(*batch)), "{batch:?}");
+) -> bool {
+    match Viewer::new(alloc, &trial.board) {
+        Some(mut viewer) => viewer.sees(trial, wanted, batches),
+        None => false,
     }
-    assert!(rt; wanted.is_err() || viewer.reads(None));
 }
 
-// A new watcher looks at each cell of the board: the first ones are set, so many, and no other.
-pub(super) fn look_at_all(rt: &impl Abort, alloc: Global, board: &Board, set: usize) {
-    let mut viewer = Viewer::new(rt, alloc, board);
-    for place in 0..board.cells() {
-        assert!(rt; viewer.finds(place) == (place < set), "cell {place}");
+// Whether a new watcher that looks at each cell of the board finds the first ones set, so many, and no other.
+pub(super) fn are_set(alloc: Global, board: &Board, set: usize) -> bool {
+    match Viewer::new(alloc, board) {
+        Some(mut viewer) => viewer.finds_first(set),
+        None => false,
     }
 }
 
 #[test]
 fn a_batch_without_a_cell_is_not_posted(rt: HostRuntime) {
-    let mut trial = Trial::of(&rt, rt.alloc(), 1, 1, &TWO_INSTANCES[..23]);
-    trial.finds(
-        &rt,
-        &[
-            Fact::Refused(TWO_INSTANCES[23], Refusal::Full(Limit::Cells)),
-            Fact::Counts(23, 10, 1),
-        ],
-    );
-    watch(&rt, rt.alloc(), &trial, Ok(()), &[(1, FIVE)]);
-    trial.end();
+    static FACTS: &[Fact<'static>] = &[
+        Fact::Refused(Step::Deliver(1), Refusal::Full(Limit::Cells)),
+        Fact::Counts(23, 10, 1),
+        Fact::Met(Ok(()), &[(1, FIVE)]),
+    ];
+    Trial::after(&rt, 1, 1, &TWO_INSTANCES, 23).shows(&rt, FACTS);
 }
 
-// A watcher reads all batches, and another only the first; then they share.
-fn share(rt: &impl Abort, alloc: Global, board: &Board) {
-    let mut viewer = Viewer::new(rt, alloc, board);
-    assert!(rt; viewer.reads(Some((1, FIVE))) && viewer.reads(Some((2, COPY))));
-    assert!(rt; viewer.reads(None) && viewer.has(0, 5) && viewer.has(1, 5));
-    let mut second = Viewer::new(rt, alloc, board);
-    assert!(rt; second.reads(Some((1, FIVE))));
-    viewer.share(&mut second);
-    assert!(rt; viewer.is_told(0) && second.is_told(0));
-    assert!(rt; second.reads(Some((2, COPY))));
+// Whether it reads all batches.
+fn reads_both(viewer: &mut Viewer<'_>) -> bool
+    ensures { viewer.new.board.now ≡ viewer.old.board.now }
+{
+    viewer.reads(Some((1, FIVE)))
+        && viewer.reads(Some((2, COPY)))
+        && viewer.reads(None)
+        && viewer.has(0, 5)
+        && viewer.has(1, 5)
+}
+
+// Whether the first reads all batches, and the second only the first one; then they share.
+fn share<'b>(viewer: &mut Viewer<'b>, second: &mut Viewer<'b>) -> bool
+    requires { second.old.board.now ≡ viewer.old.board.now }
+{
+    let both = reads_both(viewer);
+    let one = second.reads(Some((1, FIVE)));
+    viewer.share(second);
+    both && one && viewer.is_told(0) && second.is_told(0) && second.reads(Some((2, COPY)))
+}
+
+fn share_both(alloc: Global, board: &Board) -> bool {
+    let Some(mut viewer) = Viewer::new(alloc, board) else {
+        return false;
+    };
+    match Viewer::new(alloc, board) {
+        Some(mut second) => share(&mut viewer, &mut second),
+        None => false,
+    }
 }
 
 #[test]
 fn watchers_share_what_they_read(rt: HostRuntime) {
-    let trial = Trial::of(&rt, rt.alloc(), 1, 4, &TWO_INSTANCES);
-    share(&rt, rt.alloc(), &trial.board);
+    let trial = Trial::after(&rt, 1, 4, &TWO_INSTANCES, 24);
+    assert!(rt; share_both(rt.alloc(), &trial.board));
     trial.end();
 }
 
 #[test]
 fn a_board_with_a_part_of_the_batches_is_refused(rt: HostRuntime) {
-    let mut trial = Trial::of(&rt, rt.alloc(), 1, 4, &TWO_INSTANCES[..13]);
-    let mut other = Trial::new(&rt, rt.alloc(), 1, 4);
-    trial.exchange(&mut other);
-    trial.run(&rt, &TWO_INSTANCES[13..]);
-    watch(&rt, rt.alloc(), &trial, Err(Refusal::Board), &[]);
-    trial.exchange(&mut other);
-    watch(&rt, rt.alloc(), &trial, Err(Refusal::Board), &[]);
-    trial.end();
-    other.end();
+    static THERE: &[Fact<'static>] = &[
+        Fact::TwoInstances(13, 24),
+        Fact::Met(Err(Refusal::Board), &[]),
+    ];
+    static BACK: &[Fact<'static>] = &[Fact::Met(Err(Refusal::Board), &[])];
+    let trial = Trial::after(&rt, 1, 4, &TWO_INSTANCES, 13);
+    let other = Trial::new(&rt, rt.alloc(), 1, 4);
+    trial.exchanged(&rt, other, THERE, BACK);
 }
 
 #[test]
 fn a_cell_that_is_set_refuses_a_batch(rt: HostRuntime) {
-    let deliver = TWO_INSTANCES[12];
-    let mut trial = Trial::new(&rt, rt.alloc(), 1, 4);
-    let mut other = Trial::of(&rt, rt.alloc(), 1, 4, &TWO_INSTANCES[..13]);
-    trial.exchange(&mut other);
-    trial.run(&rt, &TWO_INSTANCES[..12]);
-    trial.finds(
-        &rt,
-        &[
-            Fact::Fails(deliver, Refusal::Board),
-            Fact::Counts(12, 6, 0),
-            Fact::Prepares(deliver, Ok(())),
-            Fact::Commits(Err(Refusal::Board)),
-            Fact::Prepared(None),
-            Fact::Counts(12, 6, 0),
-        ],
-    );
-    trial.exchange(&mut other);
-    trial.finds(&rt, &[Fact::Sends(deliver, 0), Fact::Counts(13, 6, 1)]);
-    trial.end();
-    other.end();
+    const DELIVER: Step = Step::Deliver(1);
+    static THERE: &[Fact<'static>] = &[
+        Fact::TwoInstances(0, 12),
+        Fact::Fails(DELIVER, Refusal::Board),
+        Fact::Counts(12, 6, 0),
+        Fact::Prepares(DELIVER, Ok(())),
+        Fact::Commits(Err(Refusal::Board)),
+        Fact::Prepared(None),
+        Fact::Counts(12, 6, 0),
+    ];
+    static BACK: &[Fact<'static>] = &[Fact::Sends(DELIVER, 0), Fact::Counts(13, 6, 1)];
+    let trial = Trial::new(&rt, rt.alloc(), 1, 4);
+    let other = Trial::after(&rt, 1, 4, &TWO_INSTANCES, 13);
+    trial.exchanged(&rt, other, THERE, BACK);
 }
 
-// A watcher that read the batches of one world meets another, which has none.
-fn read_more(rt: &impl Abort, alloc: Global, trial: &Trial, empty: &Trial) {
-    let mut viewer = Viewer::new(rt, alloc, &trial.board);
-    assert!(rt; viewer.meets(trial, Ok(()), 2));
-    assert!(rt; viewer.reads(Some((1, FIVE))) && viewer.reads(Some((2, COPY))));
-    assert!(rt; viewer.meets(empty, Err(Refusal::Board), 2));
+// Whether the watcher reads the batches of one world, and is then refused by another, which has none.
+fn reads_more(viewer: &mut Viewer<'_>, trial: &Trial, empty: &Trial) -> bool {
+    viewer.meets(trial, Ok(()), 2)
+        && viewer.reads(Some((1, FIVE)))
+        && viewer.reads(Some((2, COPY)))
+        && viewer.meets(empty, Err(Refusal::Board), 2)
+}
+
+fn read_more(trial: &Trial, empty: &Trial) -> bool {
+    match Viewer::new(trial.alloc(), &trial.board) {
+        Some(mut viewer) => reads_more(&mut viewer, trial, empty),
+        None => false,
+    }
 }
 
 #[test]
 fn who_read_more_than_was_posted_is_refused(rt: HostRuntime) {
-    let trial = Trial::of(&rt, rt.alloc(), 1, 4, &TWO_INSTANCES);
+    let trial = Trial::after(&rt, 1, 4, &TWO_INSTANCES, 24);
     let empty = Trial::new(&rt, rt.alloc(), 1, 4);
-    watch(&rt, rt.alloc(), &trial, Ok(()), &[(1, FIVE), (2, COPY)]);
-    read_more(&rt, rt.alloc(), &trial, &empty);
+    assert!(rt; trial.is_met(Ok(()), &[(1, FIVE), (2, COPY)]) && read_more(&trial, &empty));
     trial.end();
     empty.end();
 }
@@ -183,44 +243,47 @@ fn wanted_at(wanted: &[(usize, Posted)], place: usize) -> Option<Posted> {
     None
 }
 
-// Of the steps, only those at these places have a receipt, each of what stands beside it.
-fn post_all(rt: &impl Abort, alloc: Global, n: u8, steps: &[Step], wanted: &[(usize, Posted)]) {
-    let mut trial = Trial::new(rt, alloc, n, 4);
+// Whether, of the steps, only those at these places have a receipt, each of what stands beside it.
+fn posts_all(trial: &mut Trial, steps: &[Step], wanted: &[(usize, Posted)]) -> bool {
     for (i, step) in steps.iter().enumerate() {
-        assert!(rt; trial.post(rt, step) == wanted_at(wanted, i), "{step:?}");
+        if !trial.posts(step, wanted_at(wanted, i)) {
+            return false;
+        }
     }
+    true
+}
+
+fn post_all(rt: &(impl Abort + AllocGlobal), n: u8, steps: &[Step], wanted: &[(usize, Posted)]) {
+    let mut trial = Trial::new(rt, rt.alloc(), n, 4);
+    assert!(rt; posts_all(&mut trial, steps, wanted));
+    trial.end();
 }
 
 #[test]
 fn the_first_deliver_of_an_instance_has_a_receipt(rt: HostRuntime) {
-    let batches = [(12, (0, 1, FIVE)), (23, (1, 2, COPY))];
-    post_all(&rt, rt.alloc(), 1, &TWO_INSTANCES, &batches);
+    static ALONE: [(usize, Posted); 2] = [(12, (0, 1, FIVE)), (23, (1, 2, COPY))];
+    post_all(&rt, 1, &TWO_INSTANCES, &ALONE);
     // The other member's Deliver comes later.
-    post_all(&rt, rt.alloc(), 3, &ONE_ROUND, &[(19, (0, 1, FIRST))]);
+    static OF_THREE: [(usize, Posted); 1] = [(19, (0, 1, FIRST))];
+    post_all(&rt, 3, &ONE_ROUND, &OF_THREE);
 }
 
-// A new watcher reads the only message of each of the first instances, told of them or not.
-fn read_all(rt: &impl Abort, alloc: Global, trial: &Trial, instances: u32, told: bool)
-    requires { instances ≤ 1024 }
-{
-    let mut viewer = Viewer::new(rt, alloc, &trial.board);
-    if told {
-        assert!(rt; viewer.meets(trial, Ok(()), instances as usize));
+// Whether a new watcher reads the only message of each of the first instances, told of them or not.
+pub(super) fn read_first(trial: &Trial, instances: u16, told: bool) -> bool {
+    match Viewer::new(trial.alloc(), &trial.board) {
+        Some(mut viewer) => viewer.reads_told(trial, instances, told),
+        None => false,
     }
-    for instance in 1..instances + 1 {
-        let message = (1, instance, SEVEN);
-        assert!(rt; viewer.reads(Some((instance, message))), "{instance}");
-    }
-    assert!(rt; viewer.reads(None) && viewer.is_told(0) != told);
 }
 
 #[test]
 fn many_batches_are_met_and_read(rt: HostRuntime) {
-    let mut trial = Trial::new(&rt, rt.alloc(), 1, 40);
-    decide_alone(&rt, &mut trial, 20);
-    trial.finds(&rt, &[Fact::Counts(240, 100, 20)]);
-    read_all(&rt, rt.alloc(), &trial, 20, true);
-    read_all(&rt, rt.alloc(), &trial, 20, false);
-    look_at_all(&rt, rt.alloc(), &trial.board, 20);
-    trial.end();
+    static FACTS: &[Fact<'static>] = &[
+        Fact::Alone(20),
+        Fact::Counts(240, 100, 20),
+        Fact::ReadFirst(20, true),
+        Fact::ReadFirst(20, false),
+        Fact::Cells(20),
+    ];
+    Trial::new(&rt, rt.alloc(), 1, 40).shows(&rt, FACTS);
 }
