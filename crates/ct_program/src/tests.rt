@@ -111,63 +111,83 @@ fn replayed(alloc: Global, record: &[u8]) -> (Result<(), ProgramFault>, Vec<u8>)
     (answer, writer.into_inner())
 }
 
-#[test]
-fn a_record_is_reported(rt: HostRuntime) {
-    let (answer, written) = replayed(rt.alloc(), RECORD.as_bytes());
-    assert_eq!(rt; answer, Ok(()));
-    assert!(rt; written.as_slice() == REPORT.as_bytes());
+// Whether a replay of the record has this answer, and writes these bytes.
+fn answers(alloc: Global, record: &str, answer: Result<(), ProgramFault>, bytes: &[u8]) -> bool {
+    let (found, written) = replayed(alloc, record.as_bytes());
+    found == answer && written.as_slice() == bytes
+}
+
+// Whether the record is replayed, and this is its report.
+fn is_report_of(alloc: Global, record: &str, report: &str) -> bool {
+    answers(alloc, record, Ok(()), report.as_bytes())
+}
+
+// Whether a record with these steps is refused at this step, and nothing is written.
+fn is_refused(alloc: Global, steps: &str, at: usize, refusal: Refusal) -> Result<bool, AllocError> {
+    let record = with_steps(alloc, steps)?;
+    Ok(answers(
+        alloc,
+        &record,
+        Err(ProgramFault::Replay { at, refusal }),
+        &[],
+    ))
 }
 
 #[test]
-fn a_record_may_come_byte_by_byte(rt: HostRuntime) {
-    let alloc = rt.alloc();
+fn a_record_is_reported(rt: HostRuntime) {
+    assert!(rt; is_report_of(rt.alloc(), RECORD, REPORT));
+}
+
+// Whether the record is reported that comes byte by byte.
+fn is_reported_byte_by_byte(alloc: Global) -> bool {
     let mut reader = OneByOne {
         bytes: RECORD.as_bytes(),
         next: 0,
     };
     let mut writer = Counted::new(Vec::new(alloc));
     let answer = run_replay(alloc, &mut reader, &mut writer);
-    assert_eq!(rt; answer, Ok(()));
-    assert!(rt; writer.into_inner().as_slice() == REPORT.as_bytes());
+    answer.is_ok() && writer.into_inner().as_slice() == REPORT.as_bytes()
 }
 
 #[test]
-fn a_reader_may_fail(rt: HostRuntime) {
-    let alloc = rt.alloc();
+fn a_record_may_come_byte_by_byte(rt: HostRuntime) {
+    assert!(rt; is_reported_byte_by_byte(rt.alloc()));
+}
+
+// Whether a reader that fails after ten bytes is named, is read no more, and nothing is written.
+fn fails_after_ten_bytes(alloc: Global) -> bool {
     let mut reader = TenBytes {
         given: false,
         failures: 0,
     };
     let mut writer = Counted::new(Vec::new(alloc));
     let answer = run_replay(alloc, &mut reader, &mut writer);
-    assert_eq!(rt; answer, Err(ProgramFault::Reader));
-    assert_eq!(rt; reader.failures, 1);
-    assert!(rt; writer.into_inner().is_empty());
+    answer == Err(ProgramFault::Reader) && reader.failures == 1 && writer.into_inner().is_empty()
+}
+
+#[test]
+fn a_reader_may_fail(rt: HostRuntime) {
+    assert!(rt; fails_after_ten_bytes(rt.alloc()));
+}
+
+// Whether a writer that takes nothing is named, and is asked once.
+fn fails_to_write(alloc: Global) -> bool {
+    let mut reader = Counted::new(RECORD.as_bytes());
+    let mut writer = Closed { failures: 0 };
+    let answer = run_replay(alloc, &mut reader, &mut writer);
+    answer == Err(ProgramFault::Write) && writer.failures == 1
 }
 
 #[test]
 fn a_writer_may_fail(rt: HostRuntime) {
-    let mut reader = Counted::new(RECORD.as_bytes());
-    let mut writer = Closed { failures: 0 };
-    let answer = run_replay(rt.alloc(), &mut reader, &mut writer);
-    assert_eq!(rt; answer, Err(ProgramFault::Write));
-    assert_eq!(rt; writer.failures, 1);
+    assert!(rt; fails_to_write(rt.alloc()));
 }
 
 #[test]
 fn a_refused_step_is_named(rt: HostRuntime) -> Result<(), Fail> {
-    let alloc = rt.alloc();
-    let record = with_steps(
-        alloc,
-        "[[\"submit\",1,[\"set\",0,7]],[\"receive\",1,1],[\"receive\",2,2],[\"crash\",3],[\"receive\",2,2]]",
-    )?;
-    let (answer, written) = replayed(alloc, record.as_bytes());
-    let fault = ProgramFault::Replay {
-        at: 5,
-        refusal: Refusal::NotWaiting,
-    };
-    assert_eq!(rt; answer, Err(fault));
-    assert!(rt; written.is_empty());
+    let steps =
+        "[[\"submit\",1,[\"set\",0,7]],[\"receive\",1,1],[\"receive\",2,2],[\"crash\",3],[\"receive\",2,2]]";
+    assert!(rt; is_refused(rt.alloc(), steps, 5, Refusal::NotWaiting)?);
     Ok(())
 }
 
@@ -175,28 +195,32 @@ fn a_refused_step_is_named(rt: HostRuntime) -> Result<(), Fail> {
 fn spaces_and_the_order_of_keys_are_free(rt: HostRuntime) {
     let record =
         " {\"version\": 1, \"steps\": [[\"submit\", 1, [\"set\", 0, 7]],\n[\"receive\", 1, 1], [\"receive\", 2, 2]], \"n\": 3, \"cells\": 4}\n";
-    let (answer, written) = replayed(rt.alloc(), record.as_bytes());
-    assert_eq!(rt; answer, Ok(()));
-    assert!(rt; written.as_slice() == REPORT.as_bytes());
+    assert!(rt; is_report_of(rt.alloc(), record, REPORT));
+}
+
+// The lines of two faults and of want of memory.
+fn lines(alloc: Global, one: ProgramFault, other: ProgramFault) -> Result<String, AllocError> {
+    format!(in alloc; "{one}, {other}, {}", ProgramFault::Memory)
 }
 
 #[test]
-fn faults_have_lines_and_statuses(rt: HostRuntime) -> Result<(), Fail> {
-    let alloc = rt.alloc();
+fn faults_have_lines_and_statuses(rt: HostRuntime) {
     let refused = ProgramFault::Replay {
         at: 5,
         refusal: Refusal::NotWaiting,
     };
     let shape = ProgramFault::Read(ReadFault::Shape { at: 2 });
-    let text = format!(in alloc; "{refused}, {shape}, {}", ProgramFault::Memory)?;
-    assert_eq!(rt;
-        text.as_str(),
-        "step 5: NotWaiting, record: shape at 2, out of memory"
+    let statuses = [refused, shape, ProgramFault::Write].map(|fault| fault.status());
+    let told = is_text(
+        lines(rt.alloc(), refused, shape),
+        "step 5: NotWaiting, record: shape at 2, out of memory",
     );
-    assert_eq!(rt; refused.status(), 1);
-    assert_eq!(rt; shape.status(), 2);
-    assert_eq!(rt; ProgramFault::Write.status(), 4);
-    Ok(())
+    assert!(rt; told && statuses == [1, 2, 4]);
+}
+
+// Whether it is this text.
+fn is_text(text: Result<String, AllocError>, wanted: &str) -> bool {
+    text.is_ok_and(|text| text.as_str() == wanted)
 }
 
 // ---- reading
@@ -234,35 +258,43 @@ fn brackets(alloc: Global, count: usize) -> Result<Vec<u8>, AllocError> {
     Ok(text)
 }
 
+// The numbers of members, cells and steps that are read.
+fn sizes(alloc: Global, record: &str) -> Result<(u8, u16, usize), ReadFault> {
+    let script = read_record(alloc, record.as_bytes())?;
+    Ok((script.group.n(), script.cells, script.steps.len()))
+}
+
 #[test]
 fn a_record_is_read(rt: HostRuntime) {
-    match read_record(rt.alloc(), RECORD.as_bytes()) {
-        Ok(script) => {
-            assert_eq!(rt; script.group.n(), 3);
-            assert_eq!(rt; script.cells, 4);
-            assert_eq!(rt; script.steps.len(), 3);
-        }
-        Err(fault) => assert!(rt; false, "{fault}"),
-    }
+    assert!(rt; sizes(rt.alloc(), RECORD) == Ok((3, 4, 3)));
+}
+
+fn fault_of_brackets(alloc: Global, count: usize) -> Result<Option<ReadFault>, AllocError> {
+    let text = brackets(alloc, count)?;
+    Ok(fault_of(alloc, &text))
 }
 
 #[test]
 fn deep_nesting_is_no_json(rt: HostRuntime) -> Result<(), Fail> {
-    let alloc = rt.alloc();
-    let deep = brackets(alloc, 200)?;
-    assert_eq!(rt; fault_of(alloc, &deep), Some(ReadFault::NotJson));
-    let shallow = brackets(alloc, 100)?;
-    assert_eq!(rt; fault_of(alloc, &shallow), Some(ReadFault::Shape { at: 0 }));
+    let deep = fault_of_brackets(rt.alloc(), 200)?;
+    let shallow = fault_of_brackets(rt.alloc(), 100)?;
+    let shape = ReadFault::Shape { at: 0 };
+    assert!(rt; deep == Some(ReadFault::NotJson) && shallow == Some(shape));
     Ok(())
+}
+
+// The faults of so many spaces, and of one less.
+fn faults_of_spaces(alloc: Global, count: usize) -> Result<[Option<ReadFault>; 2], AllocError> {
+    let mut text = spaces(alloc, count)?;
+    let long = fault_of(alloc, &text);
+    text.pop();
+    Ok([long, fault_of(alloc, &text)])
 }
 
 #[test]
 fn a_long_record_is_refused_unread(rt: HostRuntime) -> Result<(), Fail> {
-    let alloc = rt.alloc();
-    let mut text = spaces(alloc, 67_108_865)?;
-    assert_eq!(rt; fault_of(alloc, &text), Some(ReadFault::TooLong));
-    text.pop();
-    assert_eq!(rt; fault_of(alloc, &text), Some(ReadFault::NotJson));
+    let faults = faults_of_spaces(rt.alloc(), 67_108_865)?;
+    assert!(rt; faults == [Some(ReadFault::TooLong), Some(ReadFault::NotJson)]);
     Ok(())
 }
 
@@ -271,6 +303,16 @@ fn the_version_is_tested_first(rt: HostRuntime) {
     let record = "{\"cells\":4,\"n\":17,\"steps\":[],\"version\":9}";
     let fault = fault_of(rt.alloc(), record.as_bytes());
     assert_eq!(rt; fault, Some(ReadFault::Version));
+}
+
+// The first of the records whose fault is not that of its whole shape.
+fn not_for_the_whole(alloc: Global, records: &[&'static str]) -> Option<&'static str> {
+    for record in records {
+        if fault_of(alloc, record.as_bytes()) != Some(ReadFault::Shape { at: 0 }) {
+            return Some(*record);
+        }
+    }
+    None
 }
 
 #[test]
@@ -290,10 +332,20 @@ fn the_whole_has_a_shape(rt: HostRuntime) {
         "{\"batch\":1048561,\"cells\":4,\"n\":3,\"steps\":[],\"version\":3}",
         "{\"batch\":\"1\",\"cells\":4,\"n\":3,\"steps\":[],\"version\":3}",
     ];
-    for record in records {
-        let fault = fault_of(rt.alloc(), record.as_bytes());
-        assert_eq!(rt; fault, Some(ReadFault::Shape { at: 0 }), "{record}");
+    assert_eq!(rt; not_for_the_whole(rt.alloc(), &records), None);
+}
+
+// The first of the lists whose fault is not that of its first step's shape.
+fn not_for_the_first(
+    alloc: Global,
+    lists: &[&'static str],
+) -> Result<Option<&'static str>, AllocError> {
+    for list in lists {
+        if fault_of_steps(alloc, *list)? != Some(ReadFault::Shape { at: 1 }) {
+            return Ok(Some(*list));
+        }
     }
+    Ok(None)
 }
 
 #[test]
@@ -308,16 +360,31 @@ fn each_step_has_a_shape(rt: HostRuntime) -> Result<(), Fail> {
         "[[\"crash\",1,1]]",
         "[[]]",
     ];
-    for list in lists {
-        let fault = fault_of_steps(rt.alloc(), list)?;
-        assert_eq!(rt; fault, Some(ReadFault::Shape { at: 1 }), "{list}");
-    }
+    assert_eq!(rt; not_for_the_first(rt.alloc(), &lists)?, None);
     Ok(())
+}
+
+// The fault of a record in which this step is the third.
+fn fault_of_third(alloc: Global, step: &str) -> Result<Option<ReadFault>, AllocError> {
+    let list = format!(in alloc; "[[\"begin\",1],[\"choose\",1,2],{step}]")?;
+    fault_of_steps(alloc, &list)
+}
+
+// The first of the steps that, as a third, is not refused for its shape.
+fn not_for_the_third(
+    alloc: Global,
+    steps: &[&'static str],
+) -> Result<Option<&'static str>, AllocError> {
+    for step in steps {
+        if fault_of_third(alloc, *step)? != Some(ReadFault::Shape { at: 3 }) {
+            return Ok(Some(*step));
+        }
+    }
+    Ok(None)
 }
 
 #[test]
 fn steps_of_a_round_have_a_shape(rt: HostRuntime) -> Result<(), Fail> {
-    let alloc = rt.alloc();
     let odd = [
         "[\"enter\",-1]",
         "[\"enter\",1,1]",
@@ -331,11 +398,7 @@ fn steps_of_a_round_have_a_shape(rt: HostRuntime) -> Result<(), Fail> {
         "[\"Begin\",1]",
         "[\"begin\"]",
     ];
-    for step in odd {
-        let list = format!(in alloc; "[[\"begin\",1],[\"choose\",1,2],{step}]")?;
-        let fault = fault_of_steps(alloc, &list)?;
-        assert_eq!(rt; fault, Some(ReadFault::Shape { at: 3 }), "{step}");
-    }
+    assert_eq!(rt; not_for_the_third(rt.alloc(), &odd)?, None);
     Ok(())
 }
 
@@ -371,10 +434,14 @@ fn rewritten(alloc: Global, record: &[u8]) -> Result<Vec<u8>, ProgramFault> {
     Ok(write_record(alloc, &world)?)
 }
 
+// Whether this text is written of the world that the record leads to.
+fn is_rewritten(alloc: Global, record: &str, text: &str) -> bool {
+    rewritten(alloc, record.as_bytes()).is_ok_and(|bytes| bytes.as_slice() == text.as_bytes())
+}
+
 #[test]
 fn a_record_is_written_as_it_was(rt: HostRuntime) {
-    let written = rewritten(rt.alloc(), RECORD.as_bytes());
-    assert!(rt; written.is_ok_and(|text| text.as_slice() == RECORD.as_bytes()));
+    assert!(rt; is_rewritten(rt.alloc(), RECORD, RECORD));
 }
 
 // A record of three members, of version 1 or 2.
@@ -382,57 +449,89 @@ fn of_version(alloc: Global, steps: &str, version: u8) -> Result<String, AllocEr
     format!(in alloc; "{{\"cells\":4,\"n\":3,\"steps\":{steps},\"version\":{version}}}")
 }
 
+// Whether the steps in this version lead to what the record of the last version leads to.
+fn is_renewed(alloc: Global, steps: &str, version: u8) -> Result<bool, AllocError> {
+    let record = of_version(alloc, steps, version)?;
+    Ok(is_rewritten(alloc, &record, RECORD) && is_report_of(alloc, &record, REPORT))
+}
+
 #[test]
 fn an_older_record_is_written_in_the_last_version(rt: HostRuntime) -> Result<(), Fail> {
-    let alloc = rt.alloc();
-    for version in 1..=2u8 {
-        let steps = "[[\"submit\",1,[\"set\",0,7]],[\"receive\",1,1],[\"receive\",2,2]]";
-        let record = of_version(alloc, steps, version)?;
-        let written = rewritten(alloc, record.as_bytes())?;
-        assert!(rt; written.as_slice() == RECORD.as_bytes());
-        let (answer, report) = replayed(alloc, record.as_bytes());
-        assert_eq!(rt; answer, Ok(()));
-        assert!(rt; report.as_slice() == REPORT.as_bytes());
-    }
+    let steps = "[[\"submit\",1,[\"set\",0,7]],[\"receive\",1,1],[\"receive\",2,2]]";
+    let first = is_renewed(rt.alloc(), steps, 1)?;
+    let second = is_renewed(rt.alloc(), steps, 2)?;
+    assert!(rt; first && second);
     Ok(())
+}
+
+fn fault_in_version(
+    alloc: Global,
+    list: &str,
+    version: u8,
+) -> Result<Option<ReadFault>, AllocError> {
+    let record = of_version(alloc, list, version)?;
+    Ok(fault_of(alloc, record.as_bytes()))
+}
+
+// The faults of a record in which this step is the second, in each version.
+fn faults_in_versions(alloc: Global, step: &str) -> Result<[Option<ReadFault>; 3], AllocError> {
+    let list = format!(in alloc; "[[\"begin\",1],{step}]")?;
+    let first = fault_in_version(alloc, &list, 1)?;
+    let second = fault_in_version(alloc, &list, 2)?;
+    Ok([first, second, fault_of_steps(alloc, &list)?])
 }
 
 #[test]
 fn a_step_has_a_first_version(rt: HostRuntime) -> Result<(), Fail> {
-    let alloc = rt.alloc();
+    let shape = Some(ReadFault::Shape { at: 2 });
     let steps = [
-        ("[\"lose\",1,1]", 2),
-        ("[\"repeat\",1,1]", 2),
-        ("[\"follow\",1]", 3),
+        ("[\"lose\",1,1]", [shape, None, None]),
+        ("[\"repeat\",1,1]", [shape, None, None]),
+        ("[\"follow\",1]", [shape, shape, None]),
     ];
-    for (step, since) in steps {
-        let list = format!(in alloc; "[[\"begin\",1],{step}]")?;
-        for version in 1..=2u8 {
-            let record = of_version(alloc, &list, version)?;
-            let fault = (version < since).then_some(ReadFault::Shape { at: 2 });
-            assert_eq!(rt; fault_of(alloc, record.as_bytes()), fault);
-        }
-        assert_eq!(rt; fault_of_steps(alloc, &list)?, None);
+    for (step, faults) in steps {
+        assert!(rt; faults_in_versions(rt.alloc(), step)? == faults, "{step}");
     }
     Ok(())
 }
 
+// Whether this bound is read.
+fn has_bound(alloc: Global, record: &str, bound: u32) -> bool {
+    read_record(alloc, record.as_bytes()).is_ok_and(|script| script.batch == bound)
+}
+
 #[test]
-fn a_bound_is_read_and_written(rt: HostRuntime) -> Result<(), Fail> {
+fn a_bound_is_read_and_written(rt: HostRuntime) {
     let alloc = rt.alloc();
     let record = "{\"batch\":1,\"cells\":4,\"n\":3,\"steps\":[],\"version\":3}";
-    assert_eq!(rt; read_record(alloc, record.as_bytes())?.batch, 1);
-    let written = rewritten(alloc, record.as_bytes())?;
-    assert!(rt; written.as_slice() == record.as_bytes());
-    Ok(())
+    assert!(rt; has_bound(alloc, record, 1) && is_rewritten(alloc, record, record));
 }
 
 #[test]
 fn an_empty_record_is_written(rt: HostRuntime) {
     let record = "{\"version\":1,\"steps\":[ ],\"n\":3,\"cells\":4}\n";
     let text = "{\"batch\":1048560,\"cells\":4,\"n\":3,\"steps\":[],\"version\":3}";
-    let written = rewritten(rt.alloc(), record.as_bytes());
-    assert!(rt; written.is_ok_and(|bytes| bytes.as_slice() == text.as_bytes()));
+    assert!(rt; is_rewritten(rt.alloc(), record, text));
+}
+
+// Whether these steps are read of the text.
+fn are_read(alloc: Global, text: &str, steps: &[Step]) -> Result<bool, AllocError> {
+    let list = format!(in alloc; "[{text}]")?;
+    let record = with_steps(alloc, &list)?;
+    Ok(read_record(alloc, record.as_bytes()).is_ok_and(|script| script.steps.as_slice() == steps))
+}
+
+// The text of the steps.
+fn text_of(alloc: Global, steps: &[Step]) -> Result<String, AllocError> {
+    let mut text = String::new(alloc);
+    push_steps(&mut text, steps)?;
+    Ok(text)
+}
+
+// Whether the text is written of the steps, which are read of it again.
+fn are_written(alloc: Global, steps: &[Step], text: &str) -> Result<bool, AllocError> {
+    let written = text_of(alloc, steps)?;
+    Ok(written.as_str() == text && are_read(alloc, &written, steps)?)
 }
 
 #[test]
@@ -454,30 +553,23 @@ fn each_step_is_read_and_written_again(rt: HostRuntime) -> Result<(), Fail> {
         Step::Repeat(17, 18),
         Step::Follow(19),
     ];
-    let list = format!(in alloc; "[{EACH_STEP}]")?;
-    let record = with_steps(alloc, &list)?;
-    let script = read_record(alloc, record.as_bytes())?;
-    assert!(rt; script.steps.as_slice() == steps.as_slice());
-    let mut text = String::new(alloc);
-    push_steps(&mut text, &script.steps)?;
-    assert_eq!(rt; text.as_str(), EACH_STEP);
-    let list = format!(in alloc; "[{text}]")?;
-    let again = with_steps(alloc, &list)?;
-    assert!(rt;
-        read_record(alloc, again.as_bytes()).is_ok_and(|script| script.steps.as_slice()
-            == steps.as_slice())
-    );
+    let read = are_read(alloc, EACH_STEP, &steps)?;
+    let written = are_written(alloc, &steps, EACH_STEP)?;
+    assert!(rt; read && written);
     Ok(())
+}
+
+// Whether a record with these steps is written as it was.
+fn is_kept(alloc: Global, steps: &str) -> Result<bool, AllocError> {
+    let record = with_steps(alloc, steps)?;
+    Ok(is_rewritten(alloc, &record, &record))
 }
 
 #[test]
 fn each_step_is_written(rt: HostRuntime) -> Result<(), Fail> {
-    let record = with_steps(
-        rt.alloc(),
-        "[[\"submit\",1,[\"add\",15,18446744073709551615]],[\"submit\",2,[\"copy\",3,4]],[\"postpone\",1,1],[\"crash\",2]]",
-    )?;
-    let written = rewritten(rt.alloc(), record.as_bytes());
-    assert!(rt; written.is_ok_and(|text| text.as_slice() == record.as_bytes()));
+    let steps =
+        "[[\"submit\",1,[\"add\",15,18446744073709551615]],[\"submit\",2,[\"copy\",3,4]],[\"postpone\",1,1],[\"crash\",2]]";
+    assert!(rt; is_kept(rt.alloc(), steps)?);
     Ok(())
 }
 
@@ -491,43 +583,49 @@ fn kind_of(alloc: Global, words: &'static [&'static str]) -> Option<ErrorKind> {
     }
 }
 
+// Whether the words are this call.
+fn is_call(alloc: Global, words: &'static [&'static str], call: Call) -> bool {
+    line(alloc, words).is_ok_and(|found| found == call)
+}
+
 #[test]
 fn replay_is_a_word(rt: HostRuntime) {
-    let call = line(rt.alloc(), &["ct", "replay"]);
-    assert!(rt; matches!(&call, Ok(Call::Replay)));
+    assert!(rt; is_call(rt.alloc(), &["ct", "replay"], Call::Replay));
+}
+
+// Whether that is the kind of clap's fault.
+fn is_kind(alloc: Global, words: &'static [&'static str], kind: ErrorKind) -> bool {
+    kind_of(alloc, words) == Some(kind)
 }
 
 #[test]
 fn other_words_are_refused(rt: HostRuntime) {
     let alloc = rt.alloc();
-    assert_eq!(rt; kind_of(alloc, &["ct"]), Some(ErrorKind::MissingSubcommand));
-    assert_eq!(rt;
-        kind_of(alloc, &["ct", "reply"]),
-        Some(ErrorKind::InvalidSubcommand)
-    );
-    assert_eq!(rt;
-        kind_of(alloc, &["ct", "replay", "x"]),
-        Some(ErrorKind::UnknownArgument)
-    );
-    assert_eq!(rt;
-        kind_of(alloc, &["ct", "--help"]),
-        Some(ErrorKind::DisplayHelp)
-    );
-    assert_eq!(rt;
-        kind_of(alloc, &["ct", "help", "replay"]),
-        Some(ErrorKind::DisplayHelp)
+    assert!(rt;
+        is_kind(alloc, &["ct"], ErrorKind::MissingSubcommand)
+            && is_kind(alloc, &["ct", "reply"], ErrorKind::InvalidSubcommand)
+            && is_kind(alloc, &["ct", "replay", "x"], ErrorKind::UnknownArgument)
+            && is_kind(alloc, &["ct", "--help"], ErrorKind::DisplayHelp)
+            && is_kind(alloc, &["ct", "help", "replay"], ErrorKind::DisplayHelp)
     );
 }
 
+// What clap shows.
+fn shown(alloc: Global, error: &clap::Error) -> Result<String, AllocError> {
+    format!(in alloc; "{error}")
+}
+
+// Whether clap shows this text.
+fn is_shown(alloc: Global, words: &'static [&'static str], text: &str) -> bool {
+    match line(alloc, words) {
+        Err(LineFault::Clap(error)) => is_text(shown(alloc, &error), text),
+        _ => false,
+    }
+}
+
 #[test]
-fn the_version_is_shown(rt: HostRuntime) -> Result<(), Fail> {
-    let alloc = rt.alloc();
-    let Err(LineFault::Clap(error)) = line(alloc, &["ct", "--version"]) else {
-        return Err(Fail::from("no version"));
-    };
-    let text = format!(in alloc; "{error}")?;
-    assert_eq!(rt; text.as_str(), "ct 0.1.0\n");
-    Ok(())
+fn the_version_is_shown(rt: HostRuntime) {
+    assert!(rt; is_shown(rt.alloc(), &["ct", "--version"], "ct 0.1.0\n"));
 }
 
 // Whether the words are refused for a value alone.
@@ -537,21 +635,18 @@ fn is_out_of_range(alloc: Global, words: &'static [&'static str]) -> bool {
 
 #[test]
 fn free_takes_options(rt: HostRuntime) {
-    let call = line(
-        rt.alloc(),
-        &[
-            "ct",
-            "free",
-            "--members",
-            "2",
-            "--turns",
-            "0",
-            "--submit",
-            "3",
-            "--crash",
-            "2",
-        ],
-    );
+    let words = &[
+        "ct",
+        "free",
+        "--members",
+        "2",
+        "--turns",
+        "0",
+        "--submit",
+        "3",
+        "--crash",
+        "2",
+    ];
     let options = FreeOptions {
         members: 2,
         turns: 0,
@@ -565,12 +660,12 @@ fn free_takes_options(rt: HostRuntime) {
         repeat: 0,
         batch: 1_048_560,
     };
-    assert!(rt; matches!(&call, Ok(Call::Free(found)) if *found == options));
+    assert!(rt; is_call(rt.alloc(), words, Call::Free(options)));
 }
 
 #[test]
 fn free_has_defaults(rt: HostRuntime) {
-    let call = line(rt.alloc(), &["ct", "free", "--members=1"]);
+    let words = &["ct", "free", "--members=1"];
     let options = FreeOptions {
         members: 1,
         turns: 1000,
@@ -584,29 +679,26 @@ fn free_has_defaults(rt: HostRuntime) {
         repeat: 0,
         batch: 1_048_560,
     };
-    assert!(rt; matches!(&call, Ok(Call::Free(found)) if *found == options));
+    assert!(rt; is_call(rt.alloc(), words, Call::Free(options)));
 }
 
 #[test]
 fn values_may_be_the_greatest_of_their_ranges(rt: HostRuntime) {
-    let call = line(
-        rt.alloc(),
-        &[
-            "ct",
-            "free",
-            "--members=16",
-            "--turns=100000",
-            "--seed=4294967295",
-            "--rate=256",
-            "--cells=1024",
-            "--submit=1000",
-            "--crash=16",
-            "--postpone=1000",
-            "--lose=1000",
-            "--repeat=1000",
-            "--batch=1048560",
-        ],
-    );
+    let words = &[
+        "ct",
+        "free",
+        "--members=16",
+        "--turns=100000",
+        "--seed=4294967295",
+        "--rate=256",
+        "--cells=1024",
+        "--submit=1000",
+        "--crash=16",
+        "--postpone=1000",
+        "--lose=1000",
+        "--repeat=1000",
+        "--batch=1048560",
+    ];
     let options = FreeOptions {
         members: 16,
         turns: 100_000,
@@ -620,7 +712,7 @@ fn values_may_be_the_greatest_of_their_ranges(rt: HostRuntime) {
         repeat: 1000,
         batch: 1_048_560,
     };
-    assert!(rt; matches!(&call, Ok(Call::Free(found)) if *found == options));
+    assert!(rt; is_call(rt.alloc(), words, Call::Free(options)));
 }
 
 #[test]
@@ -651,36 +743,38 @@ fn other_values_have_ranges(rt: HostRuntime) {
 #[test]
 fn a_free_run_in_other_words_is_refused(rt: HostRuntime) {
     let alloc = rt.alloc();
-    assert_eq!(rt;
-        kind_of(alloc, &["ct", "free", "--turns", "0"]),
-        Some(ErrorKind::MissingRequiredArgument)
-    );
-    assert_eq!(rt;
-        kind_of(alloc, &["ct", "free", "--members"]),
-        Some(ErrorKind::InvalidValue)
-    );
-    assert_eq!(rt;
-        kind_of(alloc, &["ct", "free", "--members=2", "--members=3"]),
-        Some(ErrorKind::ArgumentConflict)
-    );
-    assert_eq!(rt;
-        kind_of(alloc, &["ct", "free", "--members=2", "--speed=1"]),
-        Some(ErrorKind::UnknownArgument)
-    );
-    assert_eq!(rt;
-        kind_of(alloc, &["ct", "replay", "--members=2"]),
-        Some(ErrorKind::UnknownArgument)
+    let twice = &["ct", "free", "--members=2", "--members=3"];
+    let unknown = &["ct", "free", "--members=2", "--speed=1"];
+    assert!(rt;
+        is_kind(
+            alloc,
+            &["ct", "free", "--turns", "0"],
+            ErrorKind::MissingRequiredArgument
+        ) && is_kind(alloc, &["ct", "free", "--members"], ErrorKind::InvalidValue)
+            && is_kind(alloc, twice, ErrorKind::ArgumentConflict)
+            && is_kind(alloc, unknown, ErrorKind::UnknownArgument)
+            && is_kind(
+                alloc,
+                &["ct", "replay", "--members=2"],
+                ErrorKind::UnknownArgument
+            )
     );
 }
 
+// Whether clap answers the words by a text with all these parts.
+fn shows_all(alloc: Global, words: &'static [&'static str], parts: &[&str]) -> bool {
+    match line(alloc, words) {
+        Err(LineFault::Clap(error)) => has_all(shown(alloc, &error), parts),
+        _ => false,
+    }
+}
+
+fn has_all(text: Result<String, AllocError>, parts: &[&str]) -> bool {
+    text.is_ok_and(|text| parts.iter().all(|part| text.contains(*part)))
+}
+
 #[test]
-fn the_help_of_a_free_run_has_defaults(rt: HostRuntime) -> Result<(), Fail> {
-    let alloc = rt.alloc();
-    let Err(LineFault::Clap(error)) = line(alloc, &["ct", "free", "--help"]) else {
-        return Err(Fail::from("no help"));
-    };
-    let text = format!(in alloc; "{error}")?;
-    assert!(rt; text.contains("--members <members>"), "{text}");
-    assert!(rt; text.contains("0 to 100000 [default: 1000]"), "{text}");
-    Ok(())
+fn the_help_of_a_free_run_has_defaults(rt: HostRuntime) {
+    let parts = ["--members <members>", "0 to 100000 [default: 1000]"];
+    assert!(rt; shows_all(rt.alloc(), &["ct", "free", "--help"], &parts));
 }

@@ -3,7 +3,7 @@ ghost use Rattle.std.specs.Prelude.{◌≡◌};
 use super::*;
 use ct_board::Board;
 use ct_names::{Group, MAX_BOUND, Member, Message};
-use ct_rehearse::{Desk, Played, play};
+use ct_rehearse::{Desk, Played, Share, play};
 use std::marker::Brand;
 use std::sync::ledger::{Blank, Ledger};
 
@@ -41,22 +41,39 @@ struct Outcome {
     world: World,
 }
 
-// Plays the list in a world of three members and four cells.
-fn rehearsed<L: Ledger>(alloc: Global, blank: Blank, steps: &[Step]) -> Result<Outcome, Fail>
+// A world of three members and four cells without steps, and its board.
+fn started(alloc: Global) -> Option<(World, Board)> {
+    let group = Group::new(3)?;
+    let board = Board::new(alloc, 4).ok()?;
+    let world = World::new(alloc, group, 4, MAX_BOUND).ok()?;
+    Some((world, board))
+}
+
+// Plays the list on this desk, and takes a copy of its world.
+fn outcome_of<L: Ledger>(
+    alloc: Global,
+    desk: &mut Desk<L>,
+    share: &mut Share<L>,
+    board: &Board,
+    steps: &[Step],
+) -> Option<Outcome> {
+    if share.steps() > 1000 || steps.len() > 1000 {
+        return None;
+    }
+    let played = play(desk, share, board, steps);
+    let world = desk.world().copy(alloc).ok()?;
+    Some(Outcome { played, world })
+}
+
+// Plays the list in such a world.
+fn rehearsed<L: Ledger>(alloc: Global, blank: Blank, steps: &[Step]) -> Option<Outcome>
     requires name { blank.name ≡ L.name }
     requires parts { blank.parts ≡ L.parts }
     requires whole { L.parts ≡ 1000 }
 {
-    let group = Group::new(3).ok_or("a group")?;
-    let world = World::new(alloc, group, 4, MAX_BOUND)?;
-    let board = Board::new(alloc, 4)?;
+    let (world, board) = started(alloc)?;
     let (mut desk, mut share) = Desk::<L>::new(blank, world);
-    if share.steps() > 1000 || steps.len() > 1000 {
-        return Err(Fail::from("more steps than are meant"));
-    }
-    let played = play(&mut desk, &mut share, &board, steps);
-    let world = desk.world().copy(alloc)?;
-    Ok(Outcome { played, world })
+    outcome_of(alloc, &mut desk, &mut share, &board, steps)
 }
 
 // The steps with a crash of the member after so many of them.
@@ -67,20 +84,20 @@ fn with_crash(alloc: Global, after: usize, member: Member) -> Result<Vec<Step>, 
     Ok(steps)
 }
 
-fn crashed(alloc: Global, after: usize, member: Member) -> Result<Outcome, Fail> {
-    let steps = with_crash(alloc, after, member)?;
+fn crashed(alloc: Global, after: usize, member: Member) -> Option<Outcome> {
+    let steps = with_crash(alloc, after, member).ok()?;
     rehearsed::<Brand>(alloc, Blank::new(1000), &steps)
 }
 
 // What came of all lists with one crash: of each member, before the first step and after each.
-fn crashed_everywhere(alloc: Global) -> Result<Vec<Outcome>, Fail> {
+fn crashed_everywhere(alloc: Global) -> Option<Vec<Outcome>> {
     let mut outcomes = Vec::new(alloc);
     for after in 0..=STEPS.len() {
         for member in 1..=3u8 {
-            outcomes.push(crashed(alloc, after, member)?)?;
+            outcomes.push(crashed(alloc, after, member)?).ok()?;
         }
     }
-    Ok(outcomes)
+    Some(outcomes)
 }
 
 fn delivers(world: &World, member: Member) -> bool {
@@ -103,94 +120,129 @@ fn is_in_one_order(world: &World, one: Member, other: Member) -> bool {
     }
 }
 
-// Whether the world's record leads to the world's report.
-fn is_replayed(alloc: Global, world: &World) -> Result<bool, Fail> {
-    let own = report(alloc, world)?;
+// Whether of what any two members delivered one begins the other.
+fn are_in_one_order(world: &World) -> bool {
+    is_in_one_order(world, 1, 2) && is_in_one_order(world, 1, 3) && is_in_one_order(world, 2, 3)
+}
+
+// The report of the world that this world's record leads to.
+fn report_again(alloc: Global, world: &World) -> Option<Vec<u8>> {
     let (again, _board) = World::replay(
         alloc,
         world.group(),
         world.cells(),
         world.bound(),
         world.record(),
-    )?;
-    let other = report(alloc, &again)?;
-    Ok(own.as_slice() == other.as_slice())
+    )
+    .ok()?;
+    report(alloc, &again).ok()
+}
+
+// Whether the world's record leads to the world's report.
+fn is_replayed(alloc: Global, world: &World) -> Option<bool> {
+    let own = report(alloc, world).ok()?;
+    let other = report_again(alloc, world)?;
+    Some(own.as_slice() == other.as_slice())
+}
+
+// Whether all lists with a crash are replayed.
+fn are_replayed(alloc: Global) -> Option<bool> {
+    let outcomes = crashed_everywhere(alloc)?;
+    let all = outcomes
+        .iter()
+        .all(|outcome| is_replayed(alloc, &outcome.world) == Some(true));
+    Some(all && outcomes.len() == 69)
 }
 
 #[test]
 fn lists_with_a_crash_are_replayed(rt: HostRuntime) -> Result<(), Fail> {
-    let outcomes = crashed_everywhere(rt.alloc())?;
-    assert_eq!(rt; outcomes.len(), 69);
-    for outcome in &outcomes {
-        assert!(rt; is_replayed(rt.alloc(), &outcome.world)?);
-    }
+    assert!(rt; are_replayed(rt.alloc()) == Some(true));
     Ok(())
+}
+
+// In how many of all lists with a crash each member delivers, where all leave one order.
+fn all_deliveries(alloc: Global) -> Option<[usize; 3]> {
+    let outcomes = crashed_everywhere(alloc)?;
+    if outcomes
+        .iter()
+        .all(|outcome| are_in_one_order(&outcome.world))
+    {
+        Some([1, 2, 3].map(|member| deliveries(&outcomes, member)))
+    } else {
+        None
+    }
 }
 
 // The numbers are those of the reference in `bench/model.py`, which goes on after a refusal.
 #[test]
 fn lists_with_a_crash_leave_one_order(rt: HostRuntime) -> Result<(), Fail> {
-    let outcomes = crashed_everywhere(rt.alloc())?;
-    for outcome in &outcomes {
-        assert!(rt; is_in_one_order(&outcome.world, 1, 2));
-        assert!(rt; is_in_one_order(&outcome.world, 1, 3));
-        assert!(rt; is_in_one_order(&outcome.world, 2, 3));
-    }
-    assert_eq!(rt; deliveries(&outcomes, 1), 29);
-    assert_eq!(rt; deliveries(&outcomes, 2), 36);
-    assert_eq!(rt; deliveries(&outcomes, 3), 0);
+    assert!(rt; all_deliveries(rt.alloc()) == Some([29, 36, 0]));
     Ok(())
+}
+
+// How many steps were done in all, refused and short.
+fn sums(outcomes: &[Outcome]) -> (u64, u64, u64) {
+    let mut applied: u64 = 0;
+    let mut refused: u64 = 0;
+    let mut short: u64 = 0;
+    for outcome in outcomes {
+        applied = applied.saturating_add(outcome.played.applied);
+        refused = refused.saturating_add(outcome.played.refused);
+        short = short.saturating_add(outcome.played.short);
+    }
+    (applied, refused, short)
 }
 
 #[test]
 fn lists_with_a_crash_are_tried_to_their_end(rt: HostRuntime) -> Result<(), Fail> {
-    let outcomes = crashed_everywhere(rt.alloc())?;
-    let mut applied: u64 = 0;
-    let mut refused: u64 = 0;
-    for outcome in &outcomes {
-        applied = applied.saturating_add(outcome.played.applied);
-        refused = refused.saturating_add(outcome.played.refused);
-        assert_eq!(rt; outcome.played.short, 0);
-    }
-    assert_eq!(rt; (applied, refused), (1166, 421));
+    let tried = crashed_everywhere(rt.alloc()).map(|outcomes| sums(&outcomes));
+    assert!(rt; tried == Some((1166, 421, 0)));
     Ok(())
+}
+
+// What came of the list with this crash, how many envelopes were sent, and which members delivered.
+fn came(alloc: Global, after: usize, member: Member) -> Option<(Played, u32, [bool; 3])> {
+    let outcome = crashed(alloc, after, member)?;
+    let delivered = [1, 2, 3].map(|member| delivers(&outcome.world, member));
+    Some((outcome.played, outcome.world.sent(), delivered))
 }
 
 // The coordinator crashes once it has sent its proposal.
 #[test]
 fn a_proposal_alone_delivers_nothing(rt: HostRuntime) -> Result<(), Fail> {
-    let outcome = crashed(rt.alloc(), 11, 2)?;
     let played = Played {
         applied: 14,
         refused: 9,
         short: 0,
     };
-    assert_eq!(rt; outcome.played, played);
-    assert_eq!(rt; outcome.world.sent(), 12);
-    for member in 1..=3u8 {
-        assert!(rt; !delivers(&outcome.world, member));
-    }
+    assert!(rt; came(rt.alloc(), 11, 2) == Some((played, 12, [false; 3])));
     Ok(())
+}
+
+// Whether the first member delivered the message alone, and the second none.
+fn the_first_delivers(world: &World, message: Message) -> bool {
+    world
+        .delivered(1)
+        .is_some_and(|list| list == [message].as_slice())
+        && !delivers(world, 2)
+}
+
+// What came of the list with a crash of member 2 after step 18, how many envelopes were sent, and whether that holds.
+fn decided_and_crashed(alloc: Global) -> Option<(Played, u32, bool)> {
+    let message = Message::new(1, 1, Command::Set(0, 7))?;
+    let outcome = crashed(alloc, 18, 2)?;
+    let delivers = the_first_delivers(&outcome.world, message);
+    Some((outcome.played, outcome.world.sent(), delivers))
 }
 
 // The coordinator crashes once it has sent its decision.
 #[test]
 fn a_decision_that_was_sent_is_delivered(rt: HostRuntime) -> Result<(), Fail> {
-    let outcome = crashed(rt.alloc(), 18, 2)?;
     let played = Played {
         applied: 21,
         refused: 2,
         short: 0,
     };
-    assert_eq!(rt; outcome.played, played);
-    assert_eq!(rt; outcome.world.sent(), 19);
-    let message = Message::new(1, 1, Command::Set(0, 7)).ok_or("good")?;
-    assert!(rt;
-        outcome
-            .world
-            .delivered(1)
-            .is_some_and(|list| list == [message].as_slice())
-    );
-    assert!(rt; !delivers(&outcome.world, 2));
+    assert!(rt; decided_and_crashed(rt.alloc()) == Some((played, 19, true)));
     Ok(())
 }

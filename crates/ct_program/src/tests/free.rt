@@ -1,4 +1,4 @@
-ghost use Rattle.std.specs.Prelude.{IfOk};
+ghost use Rattle.std.specs.Prelude.{◌≡◌, ◌<◌, IfSome};
 ghost use Rattle.ct_program.specs.FreeOptions.{InRange};
 
 use super::*;
@@ -11,13 +11,24 @@ const LINE: &str =
     "{\"batch\":1048560,\"cells\":64,\"n\":2,\"steps\":[[\"submit\",1,[\"add\",0,1]],[\"submit\",2,[\"add\",1,2]],[\"submit\",1,[\"add\",2,3]],[\"crash\",2]],\"version\":3}\n";
 
 // The options of a free run in these words.
-fn options(alloc: Global, words: &'static [&'static str]) -> Result<FreeOptions, Fail>
-    ensures { IfOk result InRange }
+fn options(alloc: Global, words: &'static [&'static str]) -> Option<FreeOptions>
+    ensures { IfSome result InRange }
 {
     match line(alloc, words) {
-        Ok(Call::Free(options)) => Ok(options),
-        _ => Err(Fail::from("words")),
+        Ok(Call::Free(options)) => Some(options),
+        _ => None,
     }
+}
+
+// The seeded detectors of the options.
+fn detectors(alloc: Global, options: &FreeOptions) -> Result<Vec<Box<dyn Detector>>, AllocError>
+    requires { InRange options.now }
+{
+    let mut detectors: Vec<Box<dyn Detector>> = Vec::new(alloc);
+    for one in seeded(alloc, options)? {
+        detectors.push(Box::new(alloc, one)?)?;
+    }
+    Ok(detectors)
 }
 
 // What a free run of these words writes.
@@ -25,18 +36,31 @@ fn written<R: Threads + Wait + Sync>(
     rt: &R,
     alloc: Global,
     words: &'static [&'static str],
-) -> Result<Vec<u8>, Fail> {
+) -> Option<Vec<u8>> {
     let options = options(alloc, words)?;
-    let mut detectors: Vec<Box<dyn Detector>> = Vec::new(alloc);
-    for one in seeded(alloc, &options)? {
-        detectors.push(Box::new(alloc, one)?)?;
-    }
+    let detectors = detectors(alloc, &options).ok()?;
     if detectors.len() != usize::from(options.members) {
-        return Err(Fail::from("detectors"));
+        return None;
     }
     let mut writer = Counted::new(Vec::new(alloc));
-    free(rt, alloc, &options, detectors, &mut writer)?;
-    Ok(writer.into_inner())
+    if free(rt, alloc, &options, detectors, &mut writer).is_err() {
+        return None;
+    }
+    Some(writer.into_inner())
+}
+
+// The world that the record leads to.
+fn world_of(alloc: Global, record: &[u8]) -> Option<World> {
+    let script = read_record(alloc, record).ok()?;
+    let (world, _board) = World::replay(
+        alloc,
+        script.group,
+        script.cells,
+        script.batch,
+        &script.steps,
+    )
+    .ok()?;
+    Some(world)
 }
 
 // The world that the record leads to which a free run of these words writes.
@@ -44,17 +68,9 @@ fn replayed<R: Threads + Wait + Sync>(
     rt: &R,
     alloc: Global,
     words: &'static [&'static str],
-) -> Result<World, Fail> {
+) -> Option<World> {
     let text = written(rt, alloc, words)?;
-    let script = read_record(alloc, &text)?;
-    let (world, _board) = World::replay(
-        alloc,
-        script.group,
-        script.cells,
-        script.batch,
-        &script.steps,
-    )?;
-    Ok(world)
+    world_of(alloc, &text)
 }
 
 // Whether what the run writes is a record of so many members and cells, which is replayed.
@@ -64,33 +80,31 @@ fn is_replayed<R: Threads + Wait + Sync>(
     words: &'static [&'static str],
     members: u8,
     cells: u16,
-) -> Result<bool, Fail> {
-    let world = replayed(rt, alloc, words)?;
-    Ok(world.group().n() == members && world.cells() == cells)
+) -> bool {
+    replayed(rt, alloc, words).is_some_and(|world| world.group().n() == members
+        && world.cells() == cells)
 }
 
 #[test]
 fn a_free_run_is_written(rt: HostRuntime) -> Result<(), Fail> {
-    let text = written(
-        &rt,
-        rt.alloc(),
-        &[
-            "ct",
-            "free",
-            "--members=2",
-            "--turns=0",
-            "--submit=3",
-            "--crash=2",
-        ],
-    )?;
-    assert!(rt; text.as_slice() == LINE.as_bytes());
+    let words = &[
+        "ct",
+        "free",
+        "--members=2",
+        "--turns=0",
+        "--submit=3",
+        "--crash=2",
+    ];
+    let is_line = written(&rt, rt.alloc(), words).is_some_and(|text| text.as_slice()
+        == LINE.as_bytes());
+    assert!(rt; is_line);
     Ok(())
 }
 
 #[test]
 fn a_run_of_one_member_is_replayed(rt: HostRuntime) -> Result<(), Fail> {
     let words = &["ct", "free", "--members=1", "--turns=200"];
-    assert!(rt; is_replayed(&rt, rt.alloc(), words, 1, 64)?);
+    assert!(rt; is_replayed(&rt, rt.alloc(), words, 1, 64));
     Ok(())
 }
 
@@ -107,7 +121,7 @@ fn a_run_with_all_scripts_is_replayed(rt: HostRuntime) -> Result<(), Fail> {
         "--lose=10",
         "--repeat=20",
     ];
-    assert!(rt; is_replayed(&rt, rt.alloc(), words, 3, 64)?);
+    assert!(rt; is_replayed(&rt, rt.alloc(), words, 3, 64));
     Ok(())
 }
 
@@ -122,7 +136,7 @@ fn a_run_that_suspects_always_is_replayed(rt: HostRuntime) -> Result<(), Fail> {
         "--rate=256",
         "--cells=2",
     ];
-    assert!(rt; is_replayed(&rt, rt.alloc(), words, 5, 2)?);
+    assert!(rt; is_replayed(&rt, rt.alloc(), words, 5, 2));
     Ok(())
 }
 
@@ -137,13 +151,28 @@ fn a_run_that_suspects_never_is_replayed(rt: HostRuntime) -> Result<(), Fail> {
         "--cells=0",
         "--crash=9",
     ];
-    assert!(rt; is_replayed(&rt, rt.alloc(), words, 2, 0)?);
+    assert!(rt; is_replayed(&rt, rt.alloc(), words, 2, 0));
     Ok(())
+}
+
+// What a free run of one member answers whose writer takes nothing.
+fn written_to<R: Threads + Wait + Sync>(
+    rt: &R,
+    alloc: Global,
+    options: &FreeOptions,
+    writer: &mut Closed,
+) -> Result<Result<(), ProgramFault>, AllocError>
+    requires range { InRange options.now }
+    requires one { options.now.members ≡ 1 }
+    requires failures { writer.old.failures < 1000 }
+{
+    let mut one: Vec<Box<dyn Detector>> = Vec::new(alloc);
+    one.push(Box::new(alloc, Seeded::new(1, 64))?)?;
+    Ok(free(rt, alloc, options, one, writer))
 }
 
 #[test]
 fn a_writer_may_fail_after_a_run(rt: HostRuntime) -> Result<(), Fail> {
-    let alloc = rt.alloc();
     let options = FreeOptions {
         members: 1,
         turns: 0,
@@ -157,12 +186,9 @@ fn a_writer_may_fail_after_a_run(rt: HostRuntime) -> Result<(), Fail> {
         repeat: 0,
         batch: 1_048_560,
     };
-    let mut one: Vec<Box<dyn Detector>> = Vec::new(alloc);
-    one.push(Box::new(alloc, Seeded::new(1, 64))?)?;
     let mut writer = Closed { failures: 0 };
-    let answer = free(&rt, alloc, &options, one, &mut writer);
-    assert_eq!(rt; answer, Err(ProgramFault::Write));
-    assert_eq!(rt; writer.failures, 1);
+    let answer = written_to(&rt, rt.alloc(), &options, &mut writer)?;
+    assert!(rt; answer == Err(ProgramFault::Write) && writer.failures == 1);
     Ok(())
 }
 
@@ -177,41 +203,46 @@ fn shows<R: Threads + Wait + Sync>(
     alloc: Global,
     words: &'static [&'static str],
     name: &str,
-) -> Result<bool, Fail> {
+) -> Option<bool> {
     for _ in 0..TRIES {
         let text = written(rt, alloc, words)?;
-        if str::from_utf8(&text)?.contains(name) {
-            return Ok(true);
+        if has_name(&text, name)? {
+            return Some(true);
         }
     }
-    Ok(false)
+    Some(false)
+}
+
+// Whether the text has the name; None where it is no text.
+fn has_name(text: &[u8], name: &str) -> Option<bool> {
+    Some(str::from_utf8(text).ok()?.contains(name))
 }
 
 #[test]
 fn members_receive_in_their_turns(rt: HostRuntime) -> Result<(), Fail> {
     let words = &["ct", "free", "--members=1", "--turns=100000", "--rate=0"];
-    assert!(rt; shows(&rt, rt.alloc(), words, "[\"receive\",1,")?);
+    assert!(rt; shows(&rt, rt.alloc(), words, "[\"receive\",1,") == Some(true));
     Ok(())
 }
 
 #[test]
 fn members_deliver_where_nobody_is_suspected(rt: HostRuntime) -> Result<(), Fail> {
     let words = &["ct", "free", "--members=1", "--turns=100000", "--rate=0"];
-    assert!(rt; shows(&rt, rt.alloc(), words, "[\"deliver\",1]")?);
+    assert!(rt; shows(&rt, rt.alloc(), words, "[\"deliver\",1]") == Some(true));
     Ok(())
 }
 
 #[test]
 fn members_postpone_where_they_are_asked_to(rt: HostRuntime) -> Result<(), Fail> {
     let words = &["ct", "free", "--members=1", "--turns=0", "--postpone=1000"];
-    assert!(rt; shows(&rt, rt.alloc(), words, "[\"postpone\",1,")?);
+    assert!(rt; shows(&rt, rt.alloc(), words, "[\"postpone\",1,") == Some(true));
     Ok(())
 }
 
 #[test]
 fn envelopes_are_lost_where_it_is_asked_for(rt: HostRuntime) -> Result<(), Fail> {
     let words = &["ct", "free", "--members=1", "--turns=100", "--lose=1000"];
-    assert!(rt; shows(&rt, rt.alloc(), words, "[\"lose\",1,")?);
+    assert!(rt; shows(&rt, rt.alloc(), words, "[\"lose\",1,") == Some(true));
     Ok(())
 }
 
@@ -227,7 +258,7 @@ fn envelopes_are_repeated_where_it_is_asked_for(rt: HostRuntime) -> Result<(), F
         "--lose=1000",
         "--repeat=1000",
     ];
-    assert!(rt; shows(&rt, rt.alloc(), words, "[\"repeat\",1,")?);
+    assert!(rt; shows(&rt, rt.alloc(), words, "[\"repeat\",1,") == Some(true));
     Ok(())
 }
 
@@ -236,10 +267,23 @@ fn has_batches_of_one(world: &World) -> bool {
     (1..=world.posted()).all(|k| world.batch(k.into()).is_some_and(|batch| batch.len() == 1))
 }
 
+// How many batches were posted in a run of these words, where each has one message, as the bound says.
+fn posted_by_ones<R: Threads + Wait + Sync>(
+    rt: &R,
+    alloc: Global,
+    words: &'static [&'static str],
+) -> Option<u16> {
+    let world = replayed(rt, alloc, words)?;
+    if world.bound() == 1 && has_batches_of_one(&world) {
+        Some(world.posted())
+    } else {
+        None
+    }
+}
+
 // Runs are tried until several messages are delivered.
 #[test]
 fn batches_have_no_more_messages_than_asked_for(rt: HostRuntime) -> Result<(), Fail> {
-    let alloc = rt.alloc();
     let words = &[
         "ct",
         "free",
@@ -249,10 +293,9 @@ fn batches_have_no_more_messages_than_asked_for(rt: HostRuntime) -> Result<(), F
         "--batch=1",
     ];
     for _ in 0..TRIES {
-        let world = replayed(&rt, alloc, words)?;
-        assert_eq!(rt; world.bound(), 1);
-        assert!(rt; has_batches_of_one(&world));
-        if world.posted() > 1 {
+        let posted = posted_by_ones(&rt, rt.alloc(), words);
+        assert!(rt; posted.is_some());
+        if posted.is_some_and(|number| number > 1) {
             return Ok(());
         }
     }
@@ -262,32 +305,39 @@ fn batches_have_no_more_messages_than_asked_for(rt: HostRuntime) -> Result<(), F
 #[test]
 fn members_suspect_at_the_greatest_rate(rt: HostRuntime) -> Result<(), Fail> {
     let words = &["ct", "free", "--members=2", "--turns=5000", "--rate=256"];
-    assert!(rt; shows(&rt, rt.alloc(), words, "[\"suspect\",")?);
+    assert!(rt; shows(&rt, rt.alloc(), words, "[\"suspect\",") == Some(true));
     Ok(())
+}
+
+// Whether somebody enters a round in a run of these words, where nobody is suspected.
+fn enters_unsuspected<R: Threads + Wait + Sync>(
+    rt: &R,
+    alloc: Global,
+    words: &'static [&'static str],
+) -> Option<bool> {
+    let text = written(rt, alloc, words)?;
+    if has_name(&text, "suspect")? {
+        return None;
+    }
+    has_name(&text, "enter")
 }
 
 // Runs are tried until somebody enters a round, so has a coordinator to ask about.
 #[test]
 fn nobody_is_suspected_at_rate_0(rt: HostRuntime) -> Result<(), Fail> {
-    let alloc = rt.alloc();
     let words = &["ct", "free", "--members=2", "--turns=5000", "--rate=0"];
     for _ in 0..TRIES {
-        let text = written(&rt, alloc, words)?;
-        let text = str::from_utf8(&text)?;
-        assert!(rt; !text.contains("suspect"));
-        if text.contains("enter") {
+        let entered = enters_unsuspected(&rt, rt.alloc(), words);
+        assert!(rt; entered.is_some());
+        if entered == Some(true) {
             return Ok(());
         }
     }
     Err(Fail::from("nobody entered a round"))
 }
 
-// Of 64 asks of the first detector, which it answers with a suspicion, as bits.
-fn suspicions(alloc: Global, words: &'static [&'static str]) -> Result<u64, Fail> {
-    let mut all = seeded(alloc, &options(alloc, words)?)?;
-    let Some(first) = all.first_mut() else {
-        return Err(Fail::from("no detector"));
-    };
+// Which of 64 asks the detector answers with a suspicion, as bits.
+fn suspicions_of(detector: &mut Seeded) -> u64 {
     let mut bits = 0;
     for round in 1..=64 {
         let ask = Ask {
@@ -296,27 +346,32 @@ fn suspicions(alloc: Global, words: &'static [&'static str]) -> Result<u64, Fail
             instance: 1,
             round,
         };
-        bits = bits << 1 | u64::from(first.suspects(ask));
+        bits = bits << 1 | u64::from(detector.suspects(ask));
     }
-    Ok(bits)
+    bits
+}
+
+// The same of the first detector of a free run of these words.
+fn suspicions(alloc: Global, words: &'static [&'static str]) -> Option<u64> {
+    let options = options(alloc, words)?;
+    let mut all = seeded(alloc, &options).ok()?;
+    all.first_mut().map(suspicions_of)
 }
 
 #[test]
 fn seeds_give_detectors_of_their_own(rt: HostRuntime) -> Result<(), Fail> {
     let alloc = rt.alloc();
-    let first = suspicions(alloc, &["ct", "free", "--members=2", "--seed=1"])?;
-    let second = suspicions(alloc, &["ct", "free", "--members=2", "--seed=2"])?;
-    assert!(rt; first != second);
-    assert!(rt; first != 0 && second != 0);
+    let first = suspicions(alloc, &["ct", "free", "--members=2", "--seed=1"]).ok_or("first")?;
+    let second = suspicions(alloc, &["ct", "free", "--members=2", "--seed=2"]).ok_or("second")?;
+    assert!(rt; first != second && first != 0 && second != 0);
     Ok(())
 }
 
 #[test]
 fn rates_are_the_shares_of_suspicions(rt: HostRuntime) -> Result<(), Fail> {
     let alloc = rt.alloc();
-    let none = suspicions(alloc, &["ct", "free", "--members=2", "--rate=0"])?;
-    let all = suspicions(alloc, &["ct", "free", "--members=2", "--rate=256"])?;
-    assert_eq!(rt; none, 0);
-    assert_eq!(rt; all, u64::MAX);
+    let none = suspicions(alloc, &["ct", "free", "--members=2", "--rate=0"]);
+    let all = suspicions(alloc, &["ct", "free", "--members=2", "--rate=256"]);
+    assert!(rt; none == Some(0) && all == Some(u64::MAX));
     Ok(())
 }

@@ -38,7 +38,6 @@ fn a_step_of_another_shape_is_named(rt: HostRuntime) -> Result<(), Fail> {
 
 #[test]
 fn a_first_step_may_be_refused(rt: HostRuntime) -> Result<(), Fail> {
-    let alloc = rt.alloc();
     let lists = [
         ("[[\"submit\",1,[\"set\",255,1]]]", Refusal::BadCommand),
         ("[[\"receive\",1,0]]", Refusal::NotWaiting),
@@ -46,11 +45,7 @@ fn a_first_step_may_be_refused(rt: HostRuntime) -> Result<(), Fail> {
         ("[[\"choose\",1,1]]", Refusal::Idle),
     ];
     for (list, refusal) in lists {
-        let record = with_steps(alloc, list)?;
-        let (answer, written) = replayed(alloc, record.as_bytes());
-        let fault = ProgramFault::Replay { at: 1, refusal };
-        assert_eq!(rt; answer, Err(fault), "{list}");
-        assert!(rt; written.is_empty(), "{list}");
+        assert!(rt; is_refused(rt.alloc(), list, 1, refusal)?, "{list}");
     }
     Ok(())
 }
@@ -82,15 +77,20 @@ impl Sink for Sevens {
     }
 }
 
-#[test]
-fn nothing_is_written_after_a_write_that_failed(rt: HostRuntime) {
+// Whether the writer that fails is named, fails once, and has what it took before.
+fn stops_at_the_failed_write(alloc: Global) -> bool {
     let mut reader = Counted::new(ONE_ROUND.as_bytes());
     let mut writer = Sevens {
-        taken: Vec::new(rt.alloc()),
+        taken: Vec::new(alloc),
         failures: 0,
     };
-    let answer = run_replay(rt.alloc(), &mut reader, &mut writer);
-    assert_eq!(rt; answer, Err(ProgramFault::Write));
-    assert_eq!(rt; writer.failures, 1);
-    assert!(rt; writer.taken.as_slice() == &ONE_ROUND_REPORT.as_bytes()[..14]);
+    let answer = run_replay(alloc, &mut reader, &mut writer);
+    answer == Err(ProgramFault::Write)
+        && writer.failures == 1
+        && writer.taken.as_slice() == &ONE_ROUND_REPORT.as_bytes()[..14]
+}
+
+#[test]
+fn nothing_is_written_after_a_write_that_failed(rt: HostRuntime) {
+    assert!(rt; stops_at_the_failed_write(rt.alloc()));
 }

@@ -13,37 +13,56 @@ fn taken(alloc: Global, record: &[u8]) -> Result<Option<usize>, AllocError> {
 #[test]
 fn what_is_written_of_a_run_is_read_quickly(rt: HostRuntime) -> Result<(), Fail> {
     let alloc = rt.alloc();
-    let written = rewritten(alloc, RUN.as_bytes())?;
-    assert_eq!(rt; taken(alloc, &written)?, Some(17));
-    assert!(rt; written.as_slice() == RUN.as_bytes());
+    let taken = taken(alloc, RUN.as_bytes())?;
+    assert!(rt; is_rewritten(alloc, RUN, RUN) && taken == Some(17));
     Ok(())
+}
+
+// How many steps the quick way takes from a record with this list of steps.
+fn taken_of_steps(alloc: Global, list: &str) -> Result<Option<usize>, AllocError> {
+    let record = with_steps(alloc, list)?;
+    taken(alloc, record.as_bytes())
+}
+
+// The same of a list of these steps.
+fn taken_of_list(alloc: Global, steps: &str) -> Result<Option<usize>, AllocError> {
+    let list = format!(in alloc; "[{steps}]")?;
+    taken_of_steps(alloc, &list)
 }
 
 #[test]
 fn each_step_is_read_quickly(rt: HostRuntime) -> Result<(), Fail> {
-    let alloc = rt.alloc();
-    let list = format!(in alloc; "[{EACH_STEP}]")?;
-    let record = with_steps(alloc, &list)?;
-    assert_eq!(rt; taken(alloc, record.as_bytes())?, Some(14));
-    let none = with_steps(alloc, "[]")?;
-    assert_eq!(rt; taken(alloc, none.as_bytes())?, Some(0));
+    let each = taken_of_list(rt.alloc(), EACH_STEP)?;
+    let none = taken_of_steps(rt.alloc(), "[]")?;
+    assert!(rt; each == Some(14) && none == Some(0));
     Ok(())
+}
+
+// How many steps the quick way takes from the record with this end.
+fn taken_with_end(alloc: Global, end: &str) -> Result<Option<usize>, AllocError> {
+    let record = format!(in alloc; "{RUN}{end}")?;
+    taken(alloc, record.as_bytes())
 }
 
 #[test]
 fn a_line_end_is_read_quickly(rt: HostRuntime) -> Result<(), Fail> {
-    let alloc = rt.alloc();
-    let line = format!(in alloc; "{RUN}\n")?;
-    assert_eq!(rt; taken(alloc, line.as_bytes())?, Some(17));
-    let lines = format!(in alloc; "{line}\n")?;
-    assert_eq!(rt; taken(alloc, lines.as_bytes())?, None);
+    let one = taken_with_end(rt.alloc(), "\n")?;
+    let two = taken_with_end(rt.alloc(), "\n\n")?;
+    assert!(rt; one == Some(17) && two.is_none());
     Ok(())
+}
+
+// How many steps the quick way takes from a record of this step that names no bound.
+fn taken_in_version(alloc: Global, step: &str, version: u8) -> Result<Option<usize>, AllocError> {
+    let record = format!(in alloc;
+        "{{\"cells\":4,\"n\":3,\"steps\":[{step}],\"version\":{version}}}"
+    )?;
+    taken(alloc, record.as_bytes())
 }
 
 // It names no bound, and a step that its version doesn't have isn't taken.
 #[test]
 fn an_older_record_is_read_quickly(rt: HostRuntime) -> Result<(), Fail> {
-    let alloc = rt.alloc();
     for (step, version, wanted) in [
         ("[\"crash\",2]", 1, Some(1)),
         ("[\"lose\",1,1]", 1, None),
@@ -51,35 +70,46 @@ fn an_older_record_is_read_quickly(rt: HostRuntime) -> Result<(), Fail> {
         ("[\"follow\",1]", 2, None),
         ("[\"crash\",2]", 3, None),
     ] {
-        let record = format!(in alloc;
-            "{{\"cells\":4,\"n\":3,\"steps\":[{step}],\"version\":{version}}}"
-        )?;
-        assert_eq!(rt; taken(alloc, record.as_bytes())?, wanted);
+        assert!(rt;
+            taken_in_version(rt.alloc(), step, version)? == wanted,
+            "{step}"
+        );
     }
     Ok(())
+}
+
+// Whether a record of four cells and one step is not read quickly, but read.
+fn is_read_the_long_way(alloc: Global, record: &str) -> Result<bool, AllocError> {
+    let quickly = taken(alloc, record.as_bytes())?;
+    let read = read_record(alloc, record.as_bytes()).is_ok_and(|script| script.cells == 4
+        && script.steps.len() == 1);
+    Ok(quickly.is_none() && read)
 }
 
 // Another order of keys, a space, and other texts of its numbers.
 #[test]
 fn another_text_is_read_the_long_way(rt: HostRuntime) -> Result<(), Fail> {
-    let alloc = rt.alloc();
     for record in [
         "{\"n\":3,\"cells\":4,\"steps\":[[\"crash\",2]],\"version\":1}",
         "{\"batch\":9,\"n\":3,\"cells\":4,\"steps\":[[\"crash\",2]],\"version\":3}",
         "{\"batch\":9,\"cells\":4,\"n\":3,\"steps\":[ [\"crash\",2]],\"version\":3}",
         "{\"batch\":9,\"cells\":4,\"n\":3,\"steps\":[[\"crash\",2]],\"version\":3} ",
     ] {
-        assert_eq!(rt; taken(alloc, record.as_bytes())?, None);
-        let script = read_record(alloc, record.as_bytes())?;
-        assert_eq!(rt; script.cells, 4);
-        assert_eq!(rt; script.steps.len(), 1);
+        assert!(rt; is_read_the_long_way(rt.alloc(), record)?, "{record}");
     }
     Ok(())
 }
 
+// Whether a record of these steps is read in neither way.
+fn is_unread(alloc: Global, steps: &str) -> Result<bool, AllocError> {
+    let list = format!(in alloc; "[{steps}]")?;
+    let record = with_steps(alloc, &list)?;
+    let quickly = taken(alloc, record.as_bytes())?;
+    Ok(quickly.is_none() && read_record(alloc, record.as_bytes()).is_err())
+}
+
 #[test]
 fn what_is_no_record_is_not_read_quickly(rt: HostRuntime) -> Result<(), Fail> {
-    let alloc = rt.alloc();
     for steps in [
         "[\"crash\",02]",
         "[\"crash\",256]",
@@ -88,10 +118,7 @@ fn what_is_no_record_is_not_read_quickly(rt: HostRuntime) -> Result<(), Fail> {
         "[\"receive\",1,4294967296]",
         "[\"submit\",1,[\"set\",0,18446744073709551616]]",
     ] {
-        let list = format!(in alloc; "[{steps}]")?;
-        let record = with_steps(alloc, &list)?;
-        assert_eq!(rt; taken(alloc, record.as_bytes())?, None);
-        assert!(rt; read_record(alloc, record.as_bytes()).is_err());
+        assert!(rt; is_unread(rt.alloc(), steps)?, "{steps}");
     }
     Ok(())
 }
