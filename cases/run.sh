@@ -1,12 +1,13 @@
 #!/usr/bin/env bash
 # Runs the built program `ct` on the cases of table.txt, on the records of ../examples, freely, and with little memory; and
-# the built program `ct_tool` on the cases of tool_table.txt.
+# the built program `ct_tool` on the cases of tool_table.txt, on the schedules of ../examples, and on the implementation in Python there.
+# Compares the man pages and the completions of both with their help.
 #
 #     cases/run.sh [CT [CT_TOOL]]        the built programs; those of ../crates/*/out if left out
 #
 # Prints a line for each failing case and ends with `N passed, M failed`, and with
 # status 0 only where none failed. A run of more than 20 seconds fails, and so does a
-# case that has the name of another. Needs bash 4.4.
+# case that has the name of another. Needs bash 4.4 and Python 3.8.
 set -u
 export LC_ALL=C
 
@@ -191,12 +192,102 @@ check_walks() {
     "$tool" walk --members 3 --seed 1 --lose 40 --repeat 80 --batch 1 >"$folder/output" 2>"$folder/error" &&
         "$ct" replay <"$folder/output" >"$folder/report" || wrong+=" a walk with a follower is not replayed;"
     [[ $(<"$folder/output") == *'["follow",'* ]] || wrong+=" nobody follows in a walk that loses much;"
+    "$tool" walk --members 3 --seed 1 --submit 1 --rate 8 --turns 60 | "$tool" diagram | cmp -s - ../docs/run.svg ||
+        wrong+=" a walk's diagram is not docs/run.svg;"
     if [[ -z $wrong ]]; then
         passed=$((passed + 1))
     else
         failed=$((failed + 1))
         echo "FAILED walks:${wrong%;}"
     fi
+}
+
+# check_pages: the man pages and the completions are those that are made from the programs' help.
+check_pages() {
+    if python3 ../docs/man/make.py "$ct" "$tool" --check >"$folder/output" 2>"$folder/error"; then
+        passed=$((passed + 1))
+    else
+        failed=$((failed + 1))
+        echo "FAILED man pages and completions: $(cat "$folder/output" "$folder/error" | tr '\n' ' ')"
+    fi
+}
+
+# completed WORDS..: what bash offers for the last word of a command line.
+completed() {
+    local COMP_WORDS=("$@") COMP_CWORD=$(($# - 1)) COMPREPLY
+    # shellcheck source=/dev/null
+    source "../docs/completions/$1.bash" && "_$1" && echo "${COMPREPLY[*]-}"
+}
+
+# check_completions: bash offers the subcommands that help names, an option of one, and files where a file is wanted.
+check_completions() {
+    local wrong='' commands
+    commands=$("$tool" --help | sed -n '/^Commands:/,/^$/s/^  \([^ ][^ ]*\).*/\1/p' | tr '\n' ' ')
+    [[ $(completed ct_tool '') == "${commands% }" ]] || wrong+=" not the subcommands of ct_tool;"
+    [[ $(completed ct fre) == free ]] || wrong+=" not a subcommand of ct;"
+    [[ $(completed ct_tool help wal) == walk ]] || wrong+=" not the subcommand that help is wanted of;"
+    [[ $(completed ct free --mem) == --members ]] || wrong+=" not an option;"
+    [[ $(completed ct free --members '') == '' ]] || wrong+=" something where a number is wanted;"
+    [[ $(completed ct_tool walk --until decided '') == '' ]] || wrong+=" something where a second value is wanted;"
+    [[ $(completed ct_tool steps --from 2 suspicion.j) == suspicion.json ]] || wrong+=" not a file;"
+    [[ $(completed ct_tool steps a --fr) == --from ]] || wrong+=" not an option behind a file;"
+    [[ $(completed ct replay '<' suspicion.j) == suspicion.json ]] || wrong+=" not a file behind <;"
+    if [[ -z $wrong ]]; then
+        passed=$((passed + 1))
+    else
+        failed=$((failed + 1))
+        echo "FAILED completions:${wrong%;}"
+    fi
+}
+
+# tally NAME WRONG: counts a case; WRONG says what was wrong with it, or nothing.
+tally() {
+    if [[ -z $2 ]]; then
+        passed=$((passed + 1))
+    else
+        failed=$((failed + 1))
+        echo "FAILED $1:${2%;}"
+    fi
+}
+
+# check_schedule NAME: the record of NAME.schedule has the steps of NAME.json, up to a refused one, and replays to NAME.report.
+check_schedule() {
+    local wrong='' at=''
+    timeout -k 5 20 "$tool" record "$1.schedule" >"$folder/output" 2>"$folder/error" ||
+        wrong+=" no record: '$(start_of "$folder/error")';"
+    if [[ -e $1.fault ]]; then
+        read -r _ at _ <"$1.fault"
+        at=$((${at%:} - 1))
+    fi
+    python3 same_run.py "$folder/output" "$1.json" $at 2>"$folder/error" || wrong+=" its record is not of the run of $1.json;"
+    timeout -k 5 20 "$ct" replay <"$folder/output" >"$folder/report" 2>"$folder/error" || wrong+=" its record is not replayed;"
+    [[ -e $1.fault ]] || cmp -s "$folder/report" "$1.report" || wrong+=" another report than $1.report;"
+    tally "schedule $1" "$wrong"
+}
+
+# check_log NAME: the log is accepted, and replayed; or, beside NAME.fault, refused with a line that begins so and this status.
+check_log() {
+    local wrong='' status fault='' wanted=0
+    timeout -k 5 20 "$tool" record "$1.schedule" >"$folder/output" 2>"$folder/error"
+    status=$?
+    [[ ! -e $1.fault ]] || { read -r fault && read -r wanted; } <"$1.fault"
+    [[ $status == "$wanted" ]] || wrong+=" status $status, not $wanted;"
+    [[ $(<"$folder/error") == "$fault"* ]] || wrong+=" error '$(start_of "$folder/error")', not '$fault';"
+    if [[ -n $fault ]]; then
+        [[ ! -s $folder/output ]] || wrong+=" a refused log has a record;"
+    else
+        [[ ! -s $folder/error ]] || wrong+=" error '$(start_of "$folder/error")';"
+        timeout -k 5 20 "$ct" replay <"$folder/output" >"$folder/report" 2>&1 || wrong+=" its record is not replayed;"
+    fi
+    tally "log $1" "$wrong"
+}
+
+# check_rehearsal WORDS..: the implementation in Python is allowed each step, with these words.
+check_rehearsal() {
+    local wrong=''
+    PYTHONDONTWRITEBYTECODE=1 timeout -k 5 60 python3 ../examples/python/rehearse.py --tool "$tool" "$@" \
+        >"$folder/output" 2>"$folder/error" || wrong+=" '$(start_of "$folder/error")';"
+    tally "rehearse.py $*" "$wrong"
 }
 
 # check_table FILE: the cases of a table.
@@ -220,6 +311,9 @@ check_table() {
     done 9<"$1"
 }
 
+check_pages
+check_completions
+
 program=$tool
 check_table tool_table.txt
 check_walks
@@ -235,6 +329,16 @@ for record in ../examples/*.json; do
         check "$name" replay "$status" '' "$fault" "@$record"
     fi
 done
+
+for schedule in ../examples/*.schedule; do
+    check_schedule "${schedule%.schedule}"
+done
+for schedule in ../examples/python/*.schedule; do
+    check_log "${schedule%.schedule}"
+done
+check_rehearsal --runs 5
+check_rehearsal --runs 5 --members 5 --crash 2 --turns 1500
+check_rehearsal --members 1
 
 check_free_runs 'free runs'
 check_free_runs 'lossy free runs' --lose 20 --repeat 40 --batch 1

@@ -1,12 +1,13 @@
 -- What is said of the bytes that were read holds of the input.
-use Rattle.std.proofs.Common.{◌≡◌, ℕ, List, Option, Some, None, Result, Ok, Err, sym, ap, subst, ◌∙◌, arith}
+use Rattle.std.proofs.Common.{◌≡◌, ℕ, Bool, List, Option, Some, None, Result, Ok, Err, sym, ap, subst, ◌∙◌, arith}
 use Rattle.std.specs.Prelude.{IfSome, IsOkAnd}
 use Rattle.std.specs.Io.KnownBytes.{Appends}
+use Rattle.std.specs.Str.{bytes_eq}
 use Rattle.ct_program.specs.declared.program_fault.ProgramFault.{ProgramFault}
 use Rattle.ct_program.specs.declared.program_fault.ProgramFault.TheVariants.{Replay, Read, Reader, Write, Memory, Start, Exchanged}
 use Rattle.ct_program.specs.Script.{script}
 use Rattle.ct_program.specs.Report.{report_text}
-use Rattle.ct_program.specs.Replay.{IsReplayed, IsReportOf, WritesReport, WritesReportPart, IsFaultIn, read_part}
+use Rattle.ct_program.specs.Replay.{IsReplayed, IsReportOf, TellsReport, WritesReport, WritesReportPart, IsFaultIn, read_part}
 use Rattle.ct_program.specs.Streams.{WritesPart}
 use Rattle.ct_program.proofs.Whole.{script_part}
 
@@ -60,4 +61,17 @@ part_seen None bytes seen text out old new h same r e a = tt
 part_seen (Some input) bytes seen text out old new h same r e a =
     let all : WritesReportPart bytes old new = part_written bytes text old new (subst (λ b. IsReportOf b text) same r)
     (subst (WritesPart old new) e a) in
+    rw (← script_read bytes input h) all
+
+told : (bytes text expected : List ℕ) (same : Bool) → IsReportOf bytes text → same ≡ bytes_eq text expected → TellsReport expected bytes same
+told bytes text expected same h e =
+    ok_weaker (script bytes) (λ w. IsReplayed w × (text ≡ report_text w)) (λ w. IsReplayed w × (same ≡ bytes_eq (report_text w) expected))
+    (λ w both. (both.0, subst (λ t. same ≡ bytes_eq t expected) both.1 e)) h
+
+pub told_seen : (left : Option (List ℕ)) (bytes seen text expected : List ℕ) (same : Bool) →
+    IfSome left (λ input. bytes ≡ read_part input) → seen ≡ bytes → IsReportOf seen text → same ≡ bytes_eq text expected
+    → IfSome left (λ input. TellsReport expected input same)
+told_seen None bytes seen text expected same h is r e = tt
+told_seen (Some input) bytes seen text expected same h is r e =
+    let all : TellsReport expected bytes same = told bytes text expected same (subst (λ b. IsReportOf b text) is r) e in
     rw (← script_read bytes input h) all

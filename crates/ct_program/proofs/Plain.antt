@@ -11,6 +11,7 @@ use Rattle.std.proofs.lemmas.Slice.Eq.{bytes_eq-Decides}
 use Rattle.std.proofs.lemmas.Bool.{lt-ltb, leb-true}
 use Rattle.ct_names.specs.declared.command.Command.{Command}
 use Rattle.ct_model.specs.declared.step.Step.{Step}
+use Rattle.ct_model.specs.declared.step.Step.TheVariants.{Receive}
 use Rattle.ct_model.specs.Rehearsal.{Rehearsal}
 use Rattle.ct_model.specs.StepText as steps
 use Rattle.ct_model.specs.StepText.{Number, Rest, nothing, command, Entry, amount, largest, command_entry, step_entry}
@@ -173,6 +174,14 @@ unfolding step_text
 step_joined name p s bytes a b d e f h0 h1 h2 h3 is =
     h0 ∙ rw (h1, h2, h3, is.text, ← is.named, ← is.of_member)
     (sym (entry_joined (step_entry s).name (step_entry s).first (rest_texts (step_entry s).rest) f))
+
+pub receipt_joined : (p n : ℕ) (bytes a b d e f : List ℕ) → bytes ≡ codes "[\"receive\"," ++ a → a ≡ decimal p ++ b →
+    b ≡ codes "," ++ d → d ≡ decimal n ++ e → e ≡ codes "]" ++ f → bytes ≡ step_text (Receive p n) ++ f
+unfolding step_text
+receipt_joined p n bytes a b d e f h0 h1 h2 h3 h4 =
+    let whole = entry_joined (codes "receive") p (codes "," ∷ decimal n ∷ []) f
+    ∙ ap (λ t. codes "[\"" ++ (codes "receive" ++ (codes "\"," ++ (decimal p ++ t)))) (comma_joined (decimal n) (codes "]" ++ f)) in
+    sym (whole ∙ rw (h0, h1, h2, h3, h4) refl)
 
 pub step_fits : (name : List ℕ) (p : ℕ) (s : Step) (bytes after : List ℕ) → p ≤ 255 → Continues name p bytes s after → StepFits s
 step_fits name p s bytes after small is = (rw is.of_member small, is.fits)

@@ -37,14 +37,14 @@ pub use planning::{losses, postponements, repetitions, submissions};
 pub use program_fault::ProgramFault;
 pub use read_fault::ReadFault;
 pub use reading::read_record;
-pub use replaying::{read_all, run_replay, write_all};
-pub use reporting::report;
+pub use replaying::{gives_report, read_all, run_replay, write_all};
+pub use reporting::{push_decisions, push_messages, push_table, report};
 pub use script::Script;
 pub use seeding::seeded;
 pub use separator::push_separator;
 pub use sink::Sink;
 pub use source::Source;
-pub use words::{found_options, line, number_in, with_free_options};
+pub use words::{found_options, line, number_in, option_in, with_free_options};
 pub use writing::write_record;
 
 #[cfg(test)]

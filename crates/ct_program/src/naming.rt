@@ -7,9 +7,9 @@ use ct_model::Step;
 use ct_names::{Command, Member};
 
 // The largest number of a member or a register, and the largest serial.
-const BYTE: u64 = 255;
+pub(crate) const BYTE: u64 = 255;
 
-const SERIAL: u64 = 4_294_967_295;
+pub(crate) const SERIAL: u64 = 4_294_967_295;
 
 /// The command of a name, a register and one more number.
 #[tactic(auto, unfolding(crate::specs::Script::named_command))]

@@ -1,6 +1,6 @@
 //! From the bytes of a record, where they are those that are written of it, to what it says.
 
-ghost use Rattle.std.specs.Prelude.{◌≡◌, ◌+◌, ◌<◌, ◌≤◌, ◌++◌, ◌∷◌, [], decimal, length, if◌then◌else◌, Ok, IfOk, IfSome, IsTrue};
+ghost use Rattle.std.specs.Prelude.{codes, ◌≡◌, ◌+◌, ◌<◌, ◌≤◌, ◌++◌, ◌∷◌, [], decimal, length, if◌then◌else◌, Ok, IfOk, IfSome, IsTrue};
 ghost use Rattle.std.specs.Prelude.{All, false};
 ghost use Rattle.ct_model.specs.StepText.{command_text, step_text};
 ghost use Rattle.ct_program.specs.Fits.{CommandFits, StepFits, AllFit};
@@ -9,7 +9,7 @@ ghost use Rattle.ct_program.specs.Script.{since, script};
 ghost use Rattle.ct_program.specs.Text.{steps_text};
 ghost use Rattle.ct_program.specs.View.{rehearsal_of};
 
-use crate::naming::{commanded_step, named_command, numbered_step, short_step};
+use crate::naming::{BYTE, SERIAL, commanded_step, named_command, numbered_step, short_step};
 use crate::script::Script;
 use crate::version::{BOUNDED, FIRST, LATEST, since};
 use ct_model::Step;
@@ -61,7 +61,7 @@ fn bound(bytes: &[u8]) -> Option<(bool, u32, &[u8])>
     if batch == 0 {
         return None;
     }
-    Some((true, batch as u32, after(rest, ",")?))
+    Some((true, batch as u32, behind(rest, b',')?))
 }
 
 // The cells and the number of members, which stand before the steps.
@@ -111,7 +111,7 @@ fn steps(alloc: Global, bytes: &[u8]) -> Result<Option<(Vec<Step>, &[u8])>, Allo
     let mut steps = Vec::new(alloc);
     let mut rest = bytes;
     for i in 0..MAX_STEPS + 1 {
-        if let Some(end) = after(rest, "]") {
+        if let Some(end) = behind(rest, b']') {
             return Ok(Some((steps, end)));
         }
         let Some((step, end)) = next_step(rest, i > 0) else {
@@ -123,6 +123,41 @@ fn steps(alloc: Global, bytes: &[u8]) -> Result<Option<(Vec<Step>, &[u8])>, Allo
     Ok(None)
 }
 
+// What follows the byte.
+#[inline(always)]
+fn behind(bytes: &[u8], byte: u8) -> Option<&[u8]>
+    ensures { IfSome result (λ rest. bytes.now ≡ byte ∷ rest.now) }
+{
+    match bytes {
+        [first, rest @ ..] if *first == byte => Some(rest),
+        _ => None,
+    }
+}
+
+// What follows the beginning of a Receive.
+#[inline(always)]
+fn behind_receive(bytes: &[u8]) -> Option<&[u8]>
+    ensures { IfSome result (λ rest. bytes.now ≡ codes "[\"receive\"," ++ rest.now) }
+{
+    match bytes {
+        [
+            b'[',
+            b'"',
+            b'r',
+            b'e',
+            b'c',
+            b'e',
+            b'i',
+            b'v',
+            b'e',
+            b'"',
+            b',',
+            rest @ ..,
+        ] => Some(rest),
+        _ => None,
+    }
+}
+
 // The next step, behind a comma where another stands before it.
 #[inline(always)]
 fn next_step(bytes: &[u8], later: bool) -> Option<(Step, &[u8])>
@@ -130,23 +165,50 @@ fn next_step(bytes: &[u8], later: bool) -> Option<(Step, &[u8])>
     ensures fits { IfSome result (λ r. StepFits r.0) }
 {
     if later {
-        step(after(bytes, ",")?)
+        step(behind(bytes, b',')?)
     } else {
         step(bytes)
     }
 }
 
+// A step; most are receipts.
 #[inline(always)]
 fn step(bytes: &[u8]) -> Option<(Step, &[u8])>
     ensures text { IfSome result (λ r. bytes.now ≡ step_text r.0 ++ r.1.now) }
     ensures fits { IfSome result (λ r. StepFits r.0) }
 {
+    match receipt(bytes) {
+        Some(read) => Some(read),
+        None => named_step(bytes),
+    }
+}
+
+// A Receive.
+#[inline(always)]
+fn receipt(bytes: &[u8]) -> Option<(Step, &[u8])>
+    ensures text { IfSome result (λ r. bytes.now ≡ step_text r.0 ++ r.1.now) }
+    ensures fits { IfSome result (λ r. StepFits r.0) }
+{
+    let rest = behind_receive(bytes)?;
+    let (p, rest) = number(rest, BYTE)?;
+    let rest = behind(rest, b',')?;
+    let (serial, rest) = number(rest, SERIAL)?;
+    let step = Step::Receive(p as u8, serial as u32);
+    Some((step, behind(rest, b']')?))
+}
+
+// Any step.
+#[inline(never)]
+fn named_step(bytes: &[u8]) -> Option<(Step, &[u8])>
+    ensures text { IfSome result (λ r. bytes.now ≡ step_text r.0 ++ r.1.now) }
+    ensures fits { IfSome result (λ r. StepFits r.0) }
+{
     let rest = after(bytes, "[\"")?;
     let (name, rest) = word(rest)?;
-    let rest = after(rest, ",")?;
-    let (p, rest) = number(rest, 255)?;
+    let rest = behind(rest, b',')?;
+    let (p, rest) = number(rest, BYTE)?;
     let (step, rest) = step_of(name, p as u8, rest)?;
-    Some((step, after(rest, "]")?))
+    Some((step, behind(rest, b']')?))
 }
 
 // The step of a name, a member and what follows these, up to the bracket that closes it.
@@ -154,7 +216,7 @@ fn step(bytes: &[u8]) -> Option<(Step, &[u8])>
 fn step_of<'a>(name: &[u8], p: Member, bytes: &'a [u8]) -> Option<(Step, &'a [u8])>
     ensures { IfSome result (λ r. Continues name.now p bytes.now r.0 r.1.now) }
 {
-    let Some(rest) = after(bytes, ",") else {
+    let Some(rest) = behind(bytes, b',') else {
         return Some((short_step(name, p)?, bytes));
     };
     if let Some(rest) = after(rest, "[\"") {
@@ -172,12 +234,12 @@ fn command(bytes: &[u8]) -> Option<(Command, &[u8])>
     ensures fits { IfSome result (λ r. CommandFits r.0) }
 {
     let (name, rest) = word(bytes)?;
-    let rest = after(rest, ",")?;
-    let (register, rest) = number(rest, 255)?;
-    let rest = after(rest, ",")?;
+    let rest = behind(rest, b',')?;
+    let (register, rest) = number(rest, BYTE)?;
+    let rest = behind(rest, b',')?;
     let (n, rest) = number(rest, u64::MAX)?;
     let command = named_command(name, register as u8, n)?;
-    Some((command, after(rest, "]")?))
+    Some((command, behind(rest, b']')?))
 }
 
 // What follows the text.

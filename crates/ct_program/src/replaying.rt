@@ -2,7 +2,8 @@
 
 ghost use Rattle.std.specs.Prelude.{◌≡◌, ◌≢◌, ◌+◌, ◌<◌, ◌^◌, length, vec_len, take, Err, OnOk, OnErr, IfOk, IfErr, IfSome};
 ghost use Rattle.std.specs.Io.KnownBytes.{Appends};
-ghost use Rattle.ct_program.specs.Replay.{IsReportOf, WritesReport, WritesReportPart, IsFaultIn, StopsReading, read_part};
+ghost use Rattle.std.specs.Str.{bytes_eq};
+ghost use Rattle.ct_program.specs.Replay.{IsReportOf, TellsReport, WritesReport, WritesReportPart, IsFaultIn, StopsReading, read_part};
 ghost use Rattle.ct_program.specs.Streams.{WritesPart};
 
 use crate::failed::Failed;
@@ -51,6 +52,28 @@ pub fn run_replay<R: Source, W: Sink>(
         Ok(()) => Ok(()),
         Err(Failed) => Err(ProgramFault::Write),
     }
+}
+
+/// Reads a record to its end, replays it, and tells whether its report is the expected one. The clauses hold where the
+/// reader tells its bytes.
+pub fn gives_report<R: Source>(
+    alloc: Global,
+    reader: &mut R,
+    expected: &[u8],
+) -> Result<bool, ProgramFault>
+    requires { R.failures reader.old < 2 ^ 63 }
+    ensures ok { IfOk result (λ same. IfSome (R.left reader.old) (λ input. TellsReport expected.now input same)) }
+    ensures fault { IfErr result (λ fault. IfSome (R.left reader.old) (IsFaultIn fault)) }
+{
+    let bytes = read_all(alloc, reader)?;
+    let report = answer(alloc, bytes)?;
+    Ok(is_same(&report, expected))
+}
+
+fn is_same(bytes: &[u8], expected: &[u8]) -> bool
+    ensures { result ≡ bytes_eq bytes.now expected.now }
+{
+    bytes == expected
 }
 
 /// All that the source has, or its first bytes, one more than a record may have. Where what the source has is not known,

@@ -103,7 +103,12 @@ fn push_decision_line(text: &mut String, world: &World, member: Member) -> Resul
     text.push('\n')
 }
 
-fn push_messages(text: &mut String, separator: char, messages: &[Message]) -> Result<(), AllocError>
+/// Appends the messages, with the separator, a character of ASCII, between each two; a dash where there are none.
+pub fn push_messages(
+    text: &mut String,
+    separator: char,
+    messages: &[Message],
+) -> Result<(), AllocError>
     requires { separator < 128 }
     ensures { OnOk result (string_bytes text.new ≡ string_bytes text.old ++ messages_text separator messages.now) }
 {
@@ -117,7 +122,8 @@ fn push_messages(text: &mut String, separator: char, messages: &[Message]) -> Re
     Ok(())
 }
 
-fn push_decisions(text: &mut String, world: &World, member: Member) -> Result<(), AllocError>
+/// Appends the decisions that a member of the group got, with spaces; a dash where there are none.
+pub fn push_decisions(text: &mut String, world: &World, member: Member) -> Result<(), AllocError>
     requires { IsTrue (is_member world.now.rehearsal.setting.members member) }
     ensures { OnOk result (string_bytes text.new ≡ string_bytes text.old ++ decisions_text (member_of world.now.rehearsal member).got) }
 {
@@ -154,7 +160,8 @@ fn push_table_line(text: &mut String, table: &Table) -> Result<(), AllocError>
     text.push('\n')
 }
 
-fn push_table(text: &mut String, table: &Table) -> Result<(), AllocError>
+/// Appends the registers of the table that aren't 0, with spaces; a dash where there are none.
+pub fn push_table(text: &mut String, table: &Table) -> Result<(), AllocError>
     ensures { OnOk result (string_bytes text.new ≡ string_bytes text.old ++ table_text table.now) }
 {
     let mut later = false;

@@ -44,22 +44,22 @@ pub fn found_options(found: &ArgMatches<'_>) -> Option<FreeOptions>
     ensures range { IfSome result InRange }
 {
     Some(FreeOptions {
-        members: number(found, "members", 1, MAX_MEMBERS as u32)? as u8,
-        turns: number(found, "turns", 0, 100_000)?,
-        seed: number(found, "seed", 0, u32::MAX)?,
-        rate: number(found, "rate", 0, 256)? as u16,
-        cells: number(found, "cells", 0, MAX_CELLS as u32)? as u16,
-        submit: number(found, "submit", 0, 1000)? as u16,
-        crash: number(found, "crash", 0, MAX_MEMBERS as u32)? as u8,
-        postpone: number(found, "postpone", 0, 1000)? as u16,
-        lose: number(found, "lose", 0, 1000)? as u16,
-        repeat: number(found, "repeat", 0, 1000)? as u16,
-        batch: number(found, "batch", 1, MAX_BOUND)?,
+        members: option_in(found, "members", 1, MAX_MEMBERS as u32)? as u8,
+        turns: option_in(found, "turns", 0, 100_000)?,
+        seed: option_in(found, "seed", 0, u32::MAX)?,
+        rate: option_in(found, "rate", 0, 256)? as u16,
+        cells: option_in(found, "cells", 0, MAX_CELLS as u32)? as u16,
+        submit: option_in(found, "submit", 0, 1000)? as u16,
+        crash: option_in(found, "crash", 0, MAX_MEMBERS as u32)? as u8,
+        postpone: option_in(found, "postpone", 0, 1000)? as u16,
+        lose: option_in(found, "lose", 0, 1000)? as u16,
+        repeat: option_in(found, "repeat", 0, 1000)? as u16,
+        batch: option_in(found, "batch", 1, MAX_BOUND)?,
     })
 }
 
-// The option's value; None where it is no whole number from `low` to `high`.
-fn number(found: &ArgMatches<'_>, name: &str, low: u32, high: u32) -> Option<u32>
+/// The option's value; None where it is no whole number from `low` to `high`.
+pub fn option_in(found: &ArgMatches<'_>, name: &str, low: u32, high: u32) -> Option<u32>
     ensures value { result ≡ option_in (rows_of (found_of found.now)) name.now low high }
     ensures range { IfSome result (λ n. (low ≤ n) × (n ≤ high)) }
 {

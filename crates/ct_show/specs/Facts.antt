@@ -1,9 +1,9 @@
 -- The line of a refused step, with the facts behind the refusal.
-use Rattle.std.specs.Prelude.{ℕ, zero, suc, ◌==◌, if◌then◌else◌, List, [], ◌∷◌}
-use Rattle.std.specs.Prelude.{◌++◌, length, codes, decimal, Option, Some, None, option_map}
+use Rattle.std.specs.Prelude.{ℕ, zero, suc, ◌==◌, Bool, false, if◌then◌else◌, List, [], ◌∷◌}
+use Rattle.std.specs.Prelude.{◌++◌, length, codes, decimal, Option, Some, None, option_map, slice_get}
 use Rattle.std.specs.List.{concat}
 use Rattle.ct_names.specs.declared.refusal.Refusal.{Refusal}
-use Rattle.ct_names.specs.declared.refusal.Refusal.TheVariants.{NotSent, StillWaiting}
+use Rattle.ct_names.specs.declared.refusal.Refusal.TheVariants.{NotSent, NotWaiting, StillWaiting}
 use Rattle.ct_names.specs.RefusalText.{refusal_text}
 use Rattle.ct_names.specs.Value.{Value}
 use Rattle.ct_model.specs.Actor.{actor}
@@ -74,11 +74,44 @@ unfoldable pub missing_text : Rehearsal → ℕ → List ℕ
 missing_text w k =
     concat (codes "#" ∷ decimal k ∷ codes " was not sent: " ∷ decimal (length (state_of w).sent) ∷ codes " envelopes were" ∷ [])
 
+-- the step takes the envelope of the serial out of a line
+abbrev pub takes : Step → ℕ → Bool
+takes (Receive p i) k = i == k
+takes (Lose p i) k = i == k
+takes step k = false
+
+-- the step puts it back
+abbrev pub returns : Step → ℕ → Bool
+returns (Repeat p i) k = i == k
+returns step k = false
+
+abbrev pub taking_or : Option (ℕ × Step) → ℕ → ℕ → Option Step → Option (ℕ × Step)
+taking_or before k number None = before
+taking_or before k number (Some step) = if takes step k then Some (number, step) else (if returns step k then None else before)
+
+-- the last of the first steps that takes it out, after its number, where none puts it back later
+abbrev pub last_taking : List Step → ℕ → ℕ → Option (ℕ × Step)
+last_taking steps k zero = None
+last_taking steps k (suc i) = taking_or (last_taking steps k i) k (suc i) (slice_get steps i)
+
+-- the step of a number
+unfoldable pub left_in : ℕ × Step → List ℕ
+left_in t = concat (codes ", left in step " ∷ decimal t.0 ∷ codes " " ∷ step_text t.1 ∷ [])
+
+abbrev pub left_text : Option (ℕ × Step) → List ℕ
+left_text None = []
+left_text (Some t) = left_in t
+
+-- when the envelope left its line, where the refusal is that it doesn't wait
+abbrev pub leaving_text : Rehearsal → ℕ → Refusal → List ℕ
+leaving_text w k NotWaiting = left_text (last_taking w.steps k (length w.steps))
+leaving_text w k _ = []
+
 abbrev pub letter_facts : Rehearsal → ℕ → Option (Envelope (Unit {0})) → Refusal → List ℕ
 letter_facts w k None refusal = missing_text w k
-letter_facts w k (Some e) refusal = serial_text w k ++ place_text e.to refusal
+letter_facts w k (Some e) refusal = concat (serial_text w k ∷ place_text e.to refusal ∷ leaving_text w k refusal ∷ [])
 
--- an envelope, and where it is
+-- an envelope, where it is, and when it left
 unfoldable pub serial_facts : Rehearsal → ℕ → Refusal → List ℕ
 serial_facts w k refusal = letter_facts w k (letter_at w k) refusal
 

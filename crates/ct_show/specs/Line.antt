@@ -1,6 +1,8 @@
--- What a command line may ask to be shown.
-use Rattle.std.specs.Prelude.{◌≤◌, IfSome, ⊤}
+-- What a command line asks to be shown.
+use Rattle.std.specs.Prelude.{◌≤◌, List, codes, Option, Some, IfSome}
+use Rattle.clap.specs.Words.{Row}
 use Rattle.ct_names.specs.declared.limit.TheConstants.{MAX_MEMBERS}
+use Rattle.ct_program.specs.Line.{◌>>=◌, option_in}
 use Rattle.ct_show.specs.declared.view.View.{View}
 use Rattle.ct_show.specs.declared.view.View.TheVariants.{Steps, State}
 
@@ -9,7 +11,8 @@ abbrev pub IsOfSteps : View → Type 0
 IsOfSteps (Steps s) = (1 ≤ s.from) × (1 ≤ s.to) × IfSome s.member (λ m. (1 ≤ m) × (m ≤ MAX_MEMBERS))
 IsOfSteps _ = ⊥
 
--- a state is asked for
-abbrev pub IsOfState : View → Type 0
-IsOfState (State count) = ⊤
-IsOfState _ = ⊥
+-- the state that the options of `state` ask for, where the value is a whole number of its range
+unfoldable pub state_of : List Row → Option View
+state_of rows = do
+  count ← option_in rows (codes "after") 0 4294967295
+  Some (State count)

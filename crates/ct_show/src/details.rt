@@ -13,8 +13,8 @@ use ct_names::{Command, Instance, Member, MemberSet, Round, Serial};
 use ct_world::{Letter, Wire, World};
 use std::alloc::AllocError;
 
-// What the step did, where so many envelopes had been sent before it.
-pub(crate) fn push_detail(
+/// What the step did, as its line tells it, where so many envelopes had been sent before it.
+pub fn push_detail(
     text: &mut String,
     world: &World,
     before: u32,
@@ -55,17 +55,17 @@ fn push_letter_step(
     push_serial(text, world, serial)
 }
 
-// The last instance that the member began, 0 before the first.
+/// The last instance that the member began, 0 before the first.
 #[tactic(auto, unfolding(crate::specs::Details::instance_of))]
-pub(crate) fn instance_of(world: &World, member: Member) -> Instance
+pub fn instance_of(world: &World, member: Member) -> Instance
     ensures { result ≡ instance_of world.now.rehearsal member }
 {
     world.instance(member).unwrap_or((0, false)).0
 }
 
-// The round that the member is in, 0 where it is in none.
+/// The round that the member is in, 0 where it is in none.
 #[tactic(auto, unfolding(crate::specs::Details::round_of))]
-pub(crate) fn round_of(world: &World, member: Member) -> Round
+pub fn round_of(world: &World, member: Member) -> Round
     ensures { result ≡ round_of world.now.rehearsal member }
 {
     match world.round(member) {
@@ -93,13 +93,9 @@ pub(crate) fn size_of(set: Option<MemberSet>) -> u8
     }
 }
 
-// The member's estimate and ts.
+/// A member's estimate and ts; nothing where it has none.
 #[tactic(auto, unfolding(crate::specs::Details::estimate_of))]
-pub(crate) fn push_estimate_of(
-    text: &mut String,
-    world: &World,
-    member: Member,
-) -> Result<(), AllocError>
+pub fn push_estimate_of(text: &mut String, world: &World, member: Member) -> Result<(), AllocError>
     ensures { OnOk result (string_bytes text.new ≡ string_bytes text.old ++ estimate_of world.now.rehearsal member) }
 {
     push_estimate(text, world.estimate(member))

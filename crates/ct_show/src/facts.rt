@@ -1,8 +1,9 @@
 //! The line of a refused step, with the facts behind the refusal. The world is the one before the step.
 
-ghost use Rattle.std.specs.Prelude.{◌≡◌, ◌++◌, OnOk, option_map, string_bytes};
+ghost use Rattle.std.specs.Prelude.{◌≡◌, ◌++◌, length, Some, OnOk, option_map, string_bytes};
 ghost use Rattle.ct_show.specs.Facts.{heard_text, first_heard, replies_text, phase_in};
 ghost use Rattle.ct_show.specs.Facts.{led_text, place_in, votes_text, part_text, member_facts};
+ghost use Rattle.ct_show.specs.Facts.{takes, returns, taking_or, last_taking, left_in, left_text, leaving_text};
 ghost use Rattle.ct_show.specs.Facts.{place_text, missing_text, letter_facts, serial_facts, facts_text, refused_text};
 
 use crate::details::{coordinator_of, instance_of, push_coordinator, push_estimate_of, size_of};
@@ -31,7 +32,8 @@ pub(crate) fn push_refused(
     text.push_str("\n")
 }
 
-fn push_facts(
+/// Appends the facts behind the refusal of a step: the envelope that the step names, or where its member stands.
+pub fn push_facts(
     text: &mut String,
     world: &World,
     step: Step,
@@ -75,7 +77,8 @@ fn push_letter_facts(
         None => push_missing(text, world, serial),
         Some(letter) => {
             push_serial(text, world, serial)?;
-            push_place(text, letter.to, refusal)
+            push_place(text, letter.to, refusal)?;
+            push_leaving(text, world, serial, refusal)
         }
     }
 }
@@ -100,8 +103,86 @@ fn push_place(text: &mut String, to: Member, refusal: Refusal) -> Result<(), All
     }
 }
 
+// When the envelope left its line, where the refusal is that it doesn't wait.
+fn push_leaving(
+    text: &mut String,
+    world: &World,
+    serial: Serial,
+    refusal: Refusal,
+) -> Result<(), AllocError>
+    ensures { OnOk result (string_bytes text.new ≡ string_bytes text.old ++ leaving_text world.now.rehearsal serial refusal) }
+{
+    match refusal {
+        Refusal::NotWaiting => push_left(text, last_taking(world.record(), serial)),
+        _ => Ok(()),
+    }
+}
+
+fn push_left(text: &mut String, taking: Option<(usize, Step)>) -> Result<(), AllocError>
+    ensures { OnOk result (string_bytes text.new ≡ string_bytes text.old ++ left_text taking) }
+{
+    match taking {
+        None => Ok(()),
+        Some((number, step)) => push_left_in(text, number, step),
+    }
+}
+
+#[tactic(auto, unfolding(crate::specs::Facts::left_in))]
+fn push_left_in(text: &mut String, number: usize, step: Step) -> Result<(), AllocError>
+    ensures { OnOk result (string_bytes text.new ≡ string_bytes text.old ++ left_in (number, step)) }
+{
+    write!(text, ", left in step {number} {step}")
+}
+
+// The last step that takes the envelope of the serial out of a line, after its number, where none puts it back later.
+fn last_taking(steps: &[Step], serial: Serial) -> Option<(usize, Step)>
+    ensures { result ≡ last_taking steps.now serial (length steps.now) }
+{
+    let mut last = None;
+    for (i, step) in steps.iter().enumerate() {
+        last = taking_or(last, serial, i + 1, *step);
+    }
+    last
+}
+
+fn taking_or(
+    before: Option<(usize, Step)>,
+    serial: Serial,
+    number: usize,
+    step: Step,
+) -> Option<(usize, Step)>
+    ensures { result ≡ taking_or before serial number (Some step) }
+{
+    if takes(step, serial) {
+        Some((number, step))
+    } else if returns(step, serial) {
+        None
+    } else {
+        before
+    }
+}
+
+fn takes(step: Step, serial: Serial) -> bool
+    ensures { result ≡ takes step serial }
+{
+    match step {
+        Step::Receive(_, other) | Step::Lose(_, other) => other == serial,
+        _ => false,
+    }
+}
+
+fn returns(step: Step, serial: Serial) -> bool
+    ensures { result ≡ returns step serial }
+{
+    match step {
+        Step::Repeat(_, other) => other == serial,
+        _ => false,
+    }
+}
+
+/// Appends where a member stands.
 #[tactic(auto, unfolding(crate::specs::Facts::member_facts))]
-fn push_member_facts(text: &mut String, world: &World, member: Member) -> Result<(), AllocError>
+pub fn push_member_facts(text: &mut String, world: &World, member: Member) -> Result<(), AllocError>
     ensures { OnOk result (string_bytes text.new ≡ string_bytes text.old ++ member_facts world.now.rehearsal member) }
 {
     let instance = instance_of(world, member);

@@ -1,6 +1,6 @@
 //! A record in, what a view shows of it out.
 
-ghost use Rattle.std.specs.Prelude.{◌≡◌, ◌≢◌, ◌<◌, ◌^◌, IfOk, IfErr, IfSome, OnOk};
+ghost use Rattle.std.specs.Prelude.{◌≡◌, ◌≢◌, ◌+◌, ◌<◌, ◌^◌, Err, IfOk, IfErr, IfSome, OnOk};
 ghost use Rattle.ct_program.specs.Script.{script};
 ghost use Rattle.ct_show.specs.Answer.{Shows, FailsWith, IsAnswerOf, IsOfReading, IsQuiet};
 
@@ -25,6 +25,11 @@ pub fn show<R: Source, W: Sink>(
         Shows view.now (script input) (W.written writer.old) (W.written writer.new))) }
     ensures fault { IfErr result (λ fault. IfSome (R.left reader.old) (λ input.
         FailsWith view.now fault (script input) (W.written writer.old) (W.written writer.new))) }
+    // A stream failed where that is the fault, once, and else not at all.
+    ensures reader { result ≡ Err ProgramFault.Reader → R.failures reader.new ≡ R.failures reader.old + 1 }
+    ensures no_read { result ≢ Err ProgramFault.Reader → R.failures reader.new ≡ R.failures reader.old }
+    ensures writer { result ≡ Err ProgramFault.Write → W.failures writer.new ≡ W.failures writer.old + 1 }
+    ensures no_write { result ≢ Err ProgramFault.Write → W.failures writer.new ≡ W.failures writer.old }
     // Nothing was written but at a refused step, or where the writer failed.
     ensures quiet { IfErr result (λ fault. IsQuiet fault → writer.new ≡ writer.old) }
 {

@@ -116,8 +116,8 @@ pub(crate) fn push_call(text: &mut String, command: Command) -> Result<(), Alloc
     }
 }
 
-// The phase's name.
-pub(crate) fn phase_name(phase: Phase) -> &'static str
+/// The phase's name.
+pub fn phase_name(phase: Phase) -> &'static str
     ensures { result.now ≡ phase_text phase }
 {
     match phase {

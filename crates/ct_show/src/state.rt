@@ -394,8 +394,8 @@ fn push_next(
     text.push_str("\n")
 }
 
-// The receipt of the first serial of the line, where it is allowed.
-fn first_receipt(world: &World, member: Member, line: &[Serial]) -> Option<Step>
+/// The receipt of the first serial of the line, where it is allowed.
+pub fn first_receipt(world: &World, member: Member, line: &[Serial]) -> Option<Step>
     ensures { result ≡ first_receipt world.now.rehearsal member line.now }
 {
     let receipt = Step::Receive(member, *line.first()?);
@@ -405,8 +405,9 @@ fn first_receipt(world: &World, member: Member, line: &[Serial]) -> Option<Step>
     }
 }
 
-// A step of the member's own, else the receipt; a suspicion with the receipt that it may come to.
-fn push_next_of(
+/// Appends what a driver does next: a step of the member's own, else the receipt; a suspicion with the receipt that it may
+/// come to.
+pub fn push_next_of(
     text: &mut String,
     own: Option<Step>,
     receipt: Option<Step>,

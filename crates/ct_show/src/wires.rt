@@ -9,13 +9,9 @@ use ct_names::{Instance, Message, Round, Serial};
 use ct_world::{Letter, Wire, World};
 use std::alloc::AllocError;
 
-// An instance and a round of it.
+/// An instance and a round of it.
 #[tactic(auto, unfolding(crate::specs::Wires::round_text))]
-pub(crate) fn push_round(
-    text: &mut String,
-    instance: Instance,
-    round: Round,
-) -> Result<(), AllocError>
+pub fn push_round(text: &mut String, instance: Instance, round: Round) -> Result<(), AllocError>
     ensures { OnOk result (string_bytes text.new ≡ string_bytes text.old ++ round_text instance round) }
 {
     write!(text, "{instance}/{round}")
@@ -90,13 +86,9 @@ fn push_carried(text: &mut String, world: &World, serial: Serial) -> Result<(), 
     push_letter(text, world.letter(serial), value)
 }
 
-// The serial and what its envelope carries.
+/// The serial and what its envelope carries.
 #[tactic(auto, unfolding(crate::specs::Wires::serial_text))]
-pub(crate) fn push_serial(
-    text: &mut String,
-    world: &World,
-    serial: Serial,
-) -> Result<(), AllocError>
+pub fn push_serial(text: &mut String, world: &World, serial: Serial) -> Result<(), AllocError>
     ensures { OnOk result (string_bytes text.new ≡ string_bytes text.old ++ serial_text world.now.rehearsal serial) }
 {
     write!(text, "#{serial} ")?;

@@ -1,23 +1,25 @@
 //! The words after `check`, `report`, `state` and `steps` on a command line.
 
-ghost use Rattle.std.specs.Prelude.{IfSome};
-ghost use Rattle.ct_show.specs.Line.{IsOfSteps, IsOfState};
+ghost use Rattle.std.specs.Prelude.{◌≡◌, IfSome};
+ghost use Rattle.clap.specs.Words.{found_of, rows_of};
+ghost use Rattle.ct_show.specs.Line.{IsOfSteps, state_of};
 
 use crate::selection::Selection;
 use crate::view::View;
 use clap::{Arg, ArgAction, ArgMatches, Command};
 use ct_names::MAX_MEMBERS;
-use ct_program::number_in;
+use ct_program::{number_in, option_in};
 use std::alloc::{AllocError, Global};
 
 // What stands after the options of `check`.
 const AFTER_CHECK: &str = "Examples:
   ct_tool check examples/*.json
   ct_tool check --quiet run.json && ct_tool report run.json
+  ct_tool check --expect-reports examples/*.json
 
 Status, the largest of those of the records:
   0  each record is replayed
-  1  a step of a record is refused
+  1  a step of a record is refused, or its report is not the expected one
   2  an input is no record
   3  the words of the command line are refused
   4  a read or a write failed
@@ -63,12 +65,12 @@ Status:
   4  a read or a write failed
   5  memory was refused";
 
-/// The steps that the options of `steps` ask for; None where a value is not of its option's range.
+/// The steps that the options of `steps` ask for; None where a value is no whole number of its option's range.
 pub fn steps_view(found: &ArgMatches<'_>) -> Option<View>
     ensures { IfSome result IsOfSteps }
 {
-    let from = number_in(found.get_str("from")?, 1, u32::MAX)?;
-    let to = number_in(found.get_str("to")?, 1, u32::MAX)?;
+    let from = option_in(found, "from", 1, u32::MAX)?;
+    let to = option_in(found, "to", 1, u32::MAX)?;
     let member = match found.get_str("member") {
         None => None,
         Some(text) => Some(number_in(text, 1, u32::from(MAX_MEMBERS))? as u8),
@@ -76,11 +78,12 @@ pub fn steps_view(found: &ArgMatches<'_>) -> Option<View>
     Some(View::Steps(Selection { from, to, member }))
 }
 
-/// The steps after which `state` shows the state; None where the value is not of its option's range.
+/// The steps after which `state` shows the state; None where the value is no whole number of its option's range.
+#[tactic(auto, unfolding(crate::specs::Line::state_of))]
 pub fn state_view(found: &ArgMatches<'_>) -> Option<View>
-    ensures { IfSome result IsOfState }
+    ensures { result ≡ state_of (rows_of (found_of found.now)) }
 {
-    Some(View::State(number_in(found.get_str("after")?, 0, u32::MAX)?))
+    Some(View::State(option_in(found, "after", 0, u32::MAX)?))
 }
 
 /// The subcommand `check`.
@@ -97,6 +100,14 @@ pub fn check_command<'a>(alloc: Global) -> Result<Command<'a>, AllocError> {
                 .required(true)
                 .num_args(1..)
                 .help("The files that the records stand in; - for standard input"),
+        )?
+        .arg(
+            Arg::new(alloc, "expect-reports")
+                .long("expect-reports")
+                .action(ArgAction::SetTrue)
+                .help(
+                    "Compares each report with the one beside the record: NAME.report beside NAME.json",
+                ),
         )?
         .arg(
             Arg::new(alloc, "quiet")

@@ -5,19 +5,30 @@ ghost use Rattle.std.specs.Prelude.{◌<◌, ◌^◌};
 ghost use Rattle.ct_program.specs.Counted.{failures_of};
 
 use clap::{ArgMatches, Command};
-use ct_program::{Counted, ProgramFault};
+use ct_diagram::{DiagramFault, Window, diagram_command, diagram_window, draw};
+use ct_judge::{
+    Judge, LineFault, RecordFault, SessionFault, interact, interact_command, record, record_command,
+};
+use ct_program::{Counted, ProgramFault, gives_report, read_all, write_all, write_record};
 use ct_show::{
     View, check_command, report_command, show, state_command, state_view, steps_command, steps_view,
 };
 use ct_walk::{Call, walk_call, walk_command, write_call};
+use ct_world::World;
 use std::alloc::{AllocError, Global};
 use std::fmt::Display;
 use std::io::{Read, Write};
 use std::process::ExitCode;
 use std::{fs, io};
 
+// A record has another report than the one beside it.
+const ANOTHER_REPORT: u8 = 1;
+
 // The words of the command line were refused.
 const WORDS_REFUSED: u8 = 3;
+
+// A session made no world.
+const NO_RECORD: u8 = 1;
 
 // A stream failed.
 const STREAM_FAILED: u8 = 4;
@@ -53,6 +64,9 @@ fn command<'a>(alloc: Global) -> Result<Command<'a>, AllocError> {
         .about("Makes runs of a group of members that can be made again, and shows runs")
         .subcommand_required(true)
         .subcommand(check_command(alloc)?)?
+        .subcommand(diagram_command(alloc)?)?
+        .subcommand(interact_command(alloc)?)?
+        .subcommand(record_command(alloc)?)?
         .subcommand(report_command(alloc)?)?
         .subcommand(state_command(alloc)?)?
         .subcommand(steps_command(alloc)?)?
@@ -63,6 +77,9 @@ fn command<'a>(alloc: Global) -> Result<Command<'a>, AllocError> {
 fn call(rt: &HostRuntime, matches: &ArgMatches<'_>) -> ExitCode {
     match matches.subcommand() {
         Some(("check", found)) => check(rt, found),
+        Some(("diagram", found)) => diagram(rt, found),
+        Some(("interact", found)) => hold_session(rt, found),
+        Some(("record", found)) => record_schedule(rt, found),
         Some(("report", found)) => view(rt, found, Some(View::Report)),
         Some(("state", found)) => view(rt, found, state_view(found)),
         Some(("steps", found)) => view(rt, found, steps_view(found)),
@@ -82,6 +99,93 @@ fn walk(rt: &HostRuntime, found: &ArgMatches<'_>) -> ExitCode {
     }
 }
 
+// Writes the record of the schedule that the words name.
+fn record_schedule(rt: &HostRuntime, found: &ArgMatches<'_>) -> ExitCode {
+    let Some(name) = found.get_str("file") else {
+        return fail(rt, "no file", WORDS_REFUSED);
+    };
+    let mut writer = Counted::new(io::writer(rt));
+    match record_file(rt, name, &mut writer) {
+        Ok(()) => ExitCode::SUCCESS,
+        Err(fault) => {
+            let status = fault.status();
+            fail(rt, fault, status)
+        }
+    }
+}
+
+// Writes the record of the schedule in the file of this name, or on standard input.
+fn record_file<W: Write>(
+    rt: &HostRuntime,
+    name: &str,
+    writer: &mut Counted<W>,
+) -> Result<(), RecordFault>
+    requires { failures_of writer.old < 2 ^ 63 }
+{
+    if name == "-" {
+        return record_stream(rt, rt.reader(), writer);
+    }
+    match fs::open(rt, name) {
+        Ok(file) => record_stream(rt, file, writer),
+        Err(_) => Err(RecordFault::Read),
+    }
+}
+
+fn record_stream<R: Read + Drop, W: Write>(
+    rt: &HostRuntime,
+    stream: R,
+    writer: &mut Counted<W>,
+) -> Result<(), RecordFault>
+    requires { failures_of writer.old < 2 ^ 63 }
+{
+    let mut reader = Counted::new(stream);
+    record(rt.alloc(), &mut reader, writer)
+}
+
+// Answers the lines on standard input, and writes the record in the end, where a file is named for it.
+fn hold_session(rt: &HostRuntime, found: &ArgMatches<'_>) -> ExitCode {
+    let Ok(input) = io::BufReader::new(rt.alloc(), rt.reader()) else {
+        return fail(rt, "out of memory", NO_MEMORY);
+    };
+    let mut reader = Counted::new(input);
+    let mut writer = Counted::new(io::writer(rt));
+    match interact(rt.alloc(), &mut reader, &mut writer) {
+        Ok(judge) => match found.get_str("record") {
+            None => ExitCode::SUCCESS,
+            Some(name) => keep(rt, judge, name),
+        },
+        // Nobody reads the answers any more.
+        Err(SessionFault::Write) if writer.is_broken() => ExitCode::SUCCESS,
+        Err(fault) => fail(rt, fault, fault.status()),
+    }
+}
+
+// Writes the record of the session to the file of this name.
+fn keep(rt: &HostRuntime, judge: Judge, name: &str) -> ExitCode {
+    let world = match judge.into_world() {
+        Ok(world) => world,
+        Err(LineFault::NoMembers) => return fail(rt, "no members", NO_RECORD),
+        Err(_) => return fail(rt, "out of memory", NO_MEMORY),
+    };
+    let Ok(text) = record_line(rt.alloc(), &world) else {
+        return fail(rt, "out of memory", NO_MEMORY);
+    };
+    let Ok(file) = fs::create(rt, name) else {
+        return fail(rt, "write failed", STREAM_FAILED);
+    };
+    match write_all(&mut Counted::new(file), &text) {
+        Ok(()) => ExitCode::SUCCESS,
+        Err(_) => fail(rt, "write failed", STREAM_FAILED),
+    }
+}
+
+// The world's record and a line feed.
+fn record_line(alloc: Global, world: &World) -> Result<Vec<u8>, AllocError> {
+    let mut text = write_record(alloc, world)?;
+    text.extend_from_slice(b"\n")?;
+    Ok(text)
+}
+
 // Writes what is shown of the record that the words name, where they ask for a view.
 fn view(rt: &HostRuntime, found: &ArgMatches<'_>, view: Option<View>) -> ExitCode {
     let Some(view) = view else {
@@ -96,6 +200,41 @@ fn view(rt: &HostRuntime, found: &ArgMatches<'_>, view: Option<View>) -> ExitCod
         // Nobody reads the lines any more.
         Err(ProgramFault::Write) if writer.is_broken() => ExitCode::SUCCESS,
         Err(fault) => fail(rt, fault, fault.status()),
+    }
+}
+
+// Draws the steps that the words ask for of the record that they name.
+fn diagram(rt: &HostRuntime, found: &ArgMatches<'_>) -> ExitCode {
+    let Some(window) = diagram_window(found) else {
+        return fail(rt, "out of range", WORDS_REFUSED);
+    };
+    let Some(name) = found.get_str("file") else {
+        return fail(rt, "no file", WORDS_REFUSED);
+    };
+    let mut writer = Counted::new(io::writer(rt));
+    match draw_file(rt, name, &mut writer, &window) {
+        Ok(()) => ExitCode::SUCCESS,
+        // Nobody reads the diagram any more.
+        Err(DiagramFault::Program(ProgramFault::Write)) if writer.is_broken() => ExitCode::SUCCESS,
+        Err(fault) => fail(rt, fault, fault.status()),
+    }
+}
+
+// Draws the record in the file of this name, or on standard input.
+fn draw_file<W: Write>(
+    rt: &HostRuntime,
+    name: &str,
+    writer: &mut Counted<W>,
+    window: &Window,
+) -> Result<(), DiagramFault>
+    requires { failures_of writer.old < 2 ^ 63 }
+{
+    if name == "-" {
+        return draw(rt.alloc(), &mut Counted::new(rt.reader()), writer, window);
+    }
+    match fs::open(rt, name) {
+        Ok(file) => draw(rt.alloc(), &mut Counted::new(file), writer, window),
+        Err(_) => Err(DiagramFault::Program(ProgramFault::Reader)),
     }
 }
 
@@ -129,20 +268,57 @@ fn show_stream<R: Read + Drop, W: Write>(
     show(rt.alloc(), &mut reader, writer, view)
 }
 
-// Writes a line for each file whose record has a fault, and ends with the largest status.
+// Writes a line for each file whose record has a fault or, where reports are expected, another report, and ends with the
+// largest status.
 fn check(rt: &HostRuntime, found: &ArgMatches<'_>) -> ExitCode {
     let quiet = found.get_flag("quiet");
+    let expects = found.get_flag("expect-reports");
     let mut worst = 0;
     for name in found.get_strs("files").unwrap_or(&[]) {
-        let mut nothing = Counted::new(io::sink());
-        if let Err(fault) = show_file(rt, name, &mut nothing, &View::Nothing) {
-            worst = worst.max(fault.status());
-            if !quiet && println!(rt; "{name}: {fault}").is_err() {
-                return fail(rt, "write failed", STREAM_FAILED);
-            }
-        }
+        let status = check_file(rt, name, expects, quiet);
+        worst = worst.max(status);
     }
     ExitCode::from(worst)
+}
+
+// Writes the file's line, unless it is quiet or has none, and answers its status.
+fn check_file(rt: &HostRuntime, name: &str, expects: bool, quiet: bool) -> u8 {
+    let (status, written) = match checked(rt, name, expects) {
+        Ok(true) => return 0,
+        Ok(false) if quiet => return ANOTHER_REPORT,
+        Err(fault) if quiet => return fault.status(),
+        Ok(false) => (ANOTHER_REPORT, println!(rt; "{name}: another report")),
+        Err(fault) => (fault.status(), println!(rt; "{name}: {fault}")),
+    };
+    if written.is_ok() {
+        return status;
+    }
+    let _ = eprintln!(rt; "write failed");
+    STREAM_FAILED
+}
+
+// Whether the file's record is replayed and, where that is expected, to the report beside it.
+fn checked(rt: &HostRuntime, name: &str, expects: bool) -> Result<bool, ProgramFault> {
+    if expects {
+        return has_expected_report(rt, name);
+    }
+    let mut nothing = Counted::new(io::sink());
+    show_file(rt, name, &mut nothing, &View::Nothing)?;
+    Ok(true)
+}
+
+// Whether replaying `NAME.json` gives what `NAME.report` has.
+fn has_expected_report(rt: &HostRuntime, name: &str) -> Result<bool, ProgramFault> {
+    let stem = name.strip_suffix(".json").unwrap_or(name);
+    let report = format!(in rt.alloc(); "{stem}.report")?;
+    let Ok(report) = fs::open(rt, &report) else {
+        return Err(ProgramFault::Reader);
+    };
+    let expected = read_all(rt.alloc(), &mut Counted::new(report))?;
+    let Ok(record) = fs::open(rt, name) else {
+        return Err(ProgramFault::Reader);
+    };
+    gives_report(rt.alloc(), &mut Counted::new(record), &expected)
 }
 
 // A call for help or for the version is answered on standard output.

@@ -24,6 +24,3 @@ pub use sight::Sight;
 pub use walking::walk;
 pub use words::{walk_call, walk_command};
 pub use writing::write_call;
-
-#[cfg(test)]
-mod tests;

@@ -34,6 +34,7 @@ impl Prepared {
     }
 
     /// The place of the serial that the step takes or moves.
+    #[inline(always)]
     pub fn place(prepared: Option<Prepared>) -> Option<usize>
         ensures { result ≡ place_in prepared }
     {

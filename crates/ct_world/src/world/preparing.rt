@@ -169,6 +169,7 @@ pub(super) fn join(steps: &mut Vec<Step>, step: Step)
 }
 
 // Room for one more step, and for what a step may send.
+#[inline(always)]
 pub(super) fn reserve(steps: &mut Vec<Step>, network: &mut Network) -> Result<(), AllocError>
     ensures record { steps.new.items ≡ steps.old.items }
     ensures sent { network.new.sent ≡ network.old.sent }

@@ -1,0 +1,22 @@
+-- What is drawn of the bytes that were read, as what the input says.
+use Rattle.std.proofs.Common.{◌≡◌, ℕ, List, Option, Result, Ok, Err, refl, subst}
+use Rattle.std.specs.Prelude.{IfSome}
+use Rattle.std.specs.Io.KnownBytes.{Appends}
+use Rattle.ct_model.specs.Rehearsal.{Rehearsal}
+use Rattle.ct_program.specs.declared.read_fault.ReadFault.{ReadFault}
+use Rattle.ct_program.specs.Replay.{read_part}
+use Rattle.ct_program.specs.Script.{script}
+use Rattle.ct_show.proofs.Seen.{input_seen}
+use Rattle.ct_diagram.specs.declared.window.Window.{Window}
+use Rattle.ct_diagram.specs.Running.{Draws, IsDiagramOf}
+
+pub draws : (window : Window) (read : Result Rehearsal ReadFault) (text out : List ℕ) (old new : Option (List ℕ)) →
+    IsDiagramOf window read text → out ≡ text → Appends old new out → Draws window read old new
+draws window (Err e) text out old new h same a = absurd h
+draws window (Ok w) text out old new h same a = (h.0, h.1, subst (Appends old new) h.2 (subst (Appends old new) same a))
+
+pub draws_seen : (left : Option (List ℕ)) (bytes : List ℕ) (window : Window) (text out : List ℕ) (old new : Option (List ℕ)) →
+    IfSome left (λ input. bytes ≡ read_part input) → IsDiagramOf window (script bytes) text → out ≡ text → Appends old new out →
+    IfSome left (λ input. Draws window (script input) old new)
+draws_seen left bytes window text out old new read h same a =
+    input_seen left bytes bytes (λ r. Draws window r old new) read refl (draws window (script bytes) text out old new h same a)

@@ -1,0 +1,29 @@
+use Rattle.std.proofs.Common.{◌≡◌, List, ℕ, Option, Result, Ok, Err, refl}
+use Rattle.std.specs.Prelude.{IfErr, IfSome, IsErrAnd}
+use Rattle.ct_program.specs.Script.{script}
+use Rattle.ct_show.proofs.Seen.{input_seen}
+use Rattle.ct_diagram.specs.declared.fault.DiagramFault.{DiagramFault}
+use Rattle.ct_diagram.specs.declared.window.Window.{Window}
+use Rattle.ct_diagram.specs.Running.{FailsOn}
+use Rattle.ct_diagram.proofs.Seen.{draws_seen}
+use Rattle.ct_diagram.proofs.running.draw.Goals as goal
+
+-- the fault that is handed on
+handed : {T : Type 0} (r : Result T DiagramFault) (fault : DiagramFault) (left : Option (List ℕ)) (window : Window) →
+    IsErrAnd r (λ e. e ≡ fault) → IfSome left (λ input. FailsOn window fault (script input)) →
+    IfErr r (λ e. IfSome left (λ input. FailsOn window e (script input)))
+handed (Ok x) fault left window same h = tt
+handed (Err e) fault left window same h = rw same h
+
+pub returns-in_err-text-clause-fault : goal.returns-in_err-text-clause-fault
+returns-in_err-text-clause-fault g c =
+    let left = g.R.Source.left c.args.reader.now in
+    let bytes = c.in_ok-bytes.bytes.items in
+    let fault = c.in_err-text.field-0.0 in
+    handed c.from_residual-in_err-text.result fault left c.args.window.now c.from_residual-in_err-text.ensures.1
+    (input_seen left bytes bytes (λ r. FailsOn c.args.window.now fault r) c.in_ok-bytes.ensures.bytes refl c.in_err-text.ensures.fault)
+
+pub returns-in-Ok-clause-ok : goal.returns-in-Ok-clause-ok
+returns-in-Ok-clause-ok g c =
+    draws_seen (g.R.Source.left c.args.reader.now) c.in_ok-bytes.bytes.items c.args.window.now c.in_ok-text.text.items c.deref.result.now
+    (g.W.Sink.written c.args.writer.now) _ c.in_ok-bytes.ensures.bytes c.in_ok-text.ensures.ok c.deref.ensures.value c.in-Ok.ensures.bytes

@@ -1,0 +1,9 @@
+pub mod Window
+pub mod Grid
+pub mod Shades
+pub mod Arrows
+pub mod Marks
+pub mod Frame
+pub mod Diagram
+pub mod Faults
+pub mod Running

@@ -1,0 +1,156 @@
+//! The diagram of a part of a run.
+
+ghost use Rattle.std.specs.Prelude.{◌≡◌, ◌≤◌, ◌+◌, ◌++◌, length, OnOk, IfOk, IfErr, string_bytes, if◌then◌else◌, []};
+ghost use Rattle.ct_names.specs.declared.limit.TheConstants.{MAX_BOUND, MAX_CELLS};
+ghost use Rattle.ct_model.specs.Rehearsal.{state_of};
+ghost use Rattle.ct_program.specs.ProgramFault.{IsOfReplayFault};
+ghost use Rattle.ct_program.specs.Replay.{IsAllowed};
+ghost use Rattle.ct_program.specs.View.{rehearsal_of};
+ghost use Rattle.ct_diagram.specs.Diagram.{whole_layer, shades_layer, arrows_layer, marks_layer, one_of, framed_text};
+ghost use Rattle.ct_diagram.specs.Diagram.{IsDiagram, FailsWith, IsOfReplay};
+ghost use Rattle.ct_diagram.specs.Window.{is_drawn, columns};
+
+use crate::canvas::Canvas;
+use crate::drawn::Drawn;
+use crate::fault::DiagramFault;
+use crate::frame::{push_foot, push_head, push_lanes};
+use crate::window::{MOST_STEPS, Window};
+use ct_board::Board;
+use ct_model::Step;
+use ct_names::{Group, Refusal};
+use ct_program::{ProgramFault, Script};
+use ct_world::{ReplayFault, World};
+use std::alloc::{AllocError, Global};
+
+/// The diagram of the steps of the record that the window has. The steps after the window's last one are not looked at.
+pub fn diagram(alloc: Global, script: &Script, window: &Window) -> Result<Vec<u8>, DiagramFault>
+    ensures ok { IfOk result (λ text. IsDiagram window.now (rehearsal_of script.now) text.items) }
+    ensures err { IfErr result (λ fault. FailsWith window.now fault (rehearsal_of script.now)) }
+{
+    let end = (window.to as usize).min(script.steps.len());
+    let columns = window.columns(end);
+    if columns > MOST_STEPS {
+        return Err(DiagramFault::TooManySteps { steps: columns });
+    }
+    let canvas = drawn(
+        alloc,
+        script.group,
+        script.cells,
+        script.batch,
+        &script.steps[..end],
+        window,
+    )?;
+    Ok(framed(alloc, &canvas, script.group.n(), columns)?)
+}
+
+// The frame round what is drawn.
+#[tactic(auto, unfolding(crate::specs::Diagram::framed_text))]
+fn framed(alloc: Global, canvas: &Canvas, n: u8, columns: usize) -> Result<Vec<u8>, AllocError>
+    requires { columns ≤ 400 }
+    ensures { IfOk result (λ text. text.items ≡ framed_text n columns
+        (string_bytes canvas.now.shades) (string_bytes canvas.now.arrows) (string_bytes canvas.now.marks)) }
+{
+    let mut text = String::new(alloc);
+    push_head(&mut text, n, columns)?;
+    text.push_str(&canvas.shades)?;
+    push_lanes(&mut text, n, columns)?;
+    text.push_str(&canvas.arrows)?;
+    text.push_str(&canvas.marks)?;
+    push_foot(&mut text, n)?;
+    Ok(text.into_bytes())
+}
+
+// What is drawn of these steps, or the first of them that is refused.
+fn drawn(
+    alloc: Global,
+    group: Group,
+    cells: u16,
+    bound: u32,
+    steps: &[Step],
+    window: &Window,
+) -> Result<Canvas, DiagramFault>
+    requires few { cells ≤ MAX_CELLS }
+    requires some { 1 ≤ bound }
+    requires bounded { bound ≤ MAX_BOUND }
+    requires narrow { columns window.now steps.now ≤ 400 }
+    ensures allowed { OnOk result (IsAllowed
+        (record { setting = record { members = group; bound = bound }; cells = cells; steps = steps.now })) }
+    ensures shades { IfOk result (λ canvas. string_bytes canvas.shades ≡ whole_layer shades_layer window.now
+        (record { setting = record { members = group; bound = bound }; cells = cells; steps = steps.now })) }
+    ensures arrows { IfOk result (λ canvas. string_bytes canvas.arrows ≡ whole_layer arrows_layer window.now
+        (record { setting = record { members = group; bound = bound }; cells = cells; steps = steps.now })) }
+    ensures marks { IfOk result (λ canvas. string_bytes canvas.marks ≡ whole_layer marks_layer window.now
+        (record { setting = record { members = group; bound = bound }; cells = cells; steps = steps.now })) }
+    ensures err { IfErr result (λ fault. IsOfReplay fault
+        (record { setting = record { members = group; bound = bound }; cells = cells; steps = steps.now })) }
+{
+    let Ok(mut world) = World::new(alloc, group, cells, bound) else {
+        return Err(DiagramFault::Program(ProgramFault::Memory));
+    };
+    let board = Board::new(alloc, usize::from(cells))?;
+    let mut canvas = Canvas::new(alloc);
+    for (i, step) in steps.iter().enumerate() {
+        let before = sent(&world);
+        if let Err(refusal) = world.apply(&board, step) {
+            return Err(DiagramFault::Program(refused(i + 1, refusal)));
+        }
+        draw_next(
+            &mut canvas,
+            &world,
+            window,
+            before,
+            i + 1,
+            *step,
+            &steps[i + 1..],
+        )?;
+    }
+    Ok(canvas)
+}
+
+// How many envelopes were sent.
+fn sent(world: &World) -> u32
+    ensures value { result ≡ length (state_of world.now.rehearsal).sent }
+    ensures few { result ≤ 1000000 }
+{
+    let _ = world.record();
+    world.sent()
+}
+
+// The fault of the step of this number.
+fn refused(at: usize, refusal: Refusal) -> ProgramFault
+    ensures { IsOfReplayFault (record { at = at; refusal = refusal }) result }
+{
+    ProgramFault::from(ReplayFault { at, refusal })
+}
+
+// Draws the world's last step, where the window has it.
+fn draw_next(
+    canvas: &mut Canvas,
+    world: &World,
+    window: &Window,
+    before: u32,
+    number: usize,
+    step: Step,
+    later: &[Step],
+) -> Result<(), AllocError>
+    requires sent { before ≤ 1000000 }
+    requires near { number + length later.now ≤ window.now.from + 399 }
+    ensures shades { OnOk result (string_bytes canvas.new.shades ≡ string_bytes canvas.old.shades
+        ++ one_of shades_layer window.now world.now.rehearsal before number step later.now) }
+    ensures arrows { OnOk result (string_bytes canvas.new.arrows ≡ string_bytes canvas.old.arrows
+        ++ one_of arrows_layer window.now world.now.rehearsal before number step later.now) }
+    ensures marks { OnOk result (string_bytes canvas.new.marks ≡ string_bytes canvas.old.marks
+        ++ one_of marks_layer window.now world.now.rehearsal before number step later.now) }
+{
+    if window.has(number) {
+        let drawn = Drawn {
+            from: window.from,
+            number,
+            before,
+            step,
+        };
+        canvas.draw(world, drawn, later)
+    } else {
+        Ok(())
+    }
+}

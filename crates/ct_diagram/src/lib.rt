@@ -1,0 +1,21 @@
+//! A run as a space-time diagram.
+#![tactic(auto)]
+
+mod arrows;
+mod canvas;
+mod drawing;
+mod drawn;
+mod fault;
+mod frame;
+mod grid;
+mod marks;
+mod running;
+mod shades;
+mod window;
+mod words;
+
+pub use drawing::diagram;
+pub use fault::DiagramFault;
+pub use running::draw;
+pub use window::{MOST_STEPS, Window};
+pub use words::{diagram_command, diagram_window};

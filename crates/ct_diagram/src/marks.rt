@@ -1,0 +1,285 @@
+//! A mark for each step.
+
+ghost use Rattle.std.specs.Prelude.{◌≡◌, ◌≤◌, ◌+◌, ◌++◌, OnOk, string_bytes};
+ghost use Rattle.ct_model.specs.Actor.{actor};
+ghost use Rattle.ct_show.specs.Details.{instance_of, round_of};
+ghost use Rattle.ct_show.specs.Wires.{round_text};
+ghost use Rattle.ct_diagram.specs.Marks.{letter_of, class_of, kind_at, dot_text, circle_text, letter_text, sign_text};
+ghost use Rattle.ct_diagram.specs.Marks.{entered_text, falling_text, changed_text, note_text, who_text, title_text, mark_text};
+ghost use Rattle.ct_diagram.specs.Marks.{name_text, first_names, names_text, marks};
+
+use crate::arrows::kind_of;
+use crate::drawn::Drawn;
+use crate::grid::{x_of, y_of};
+use ct_model::Step;
+use ct_names::Member;
+use ct_show::{instance_of, push_detail, push_estimate_of, push_round, round_of};
+use ct_world::{Letter, World};
+use std::alloc::AllocError;
+
+// The mark of the world's last step.
+pub(crate) fn push_marks(text: &mut String, world: &World, drawn: Drawn) -> Result<(), AllocError>
+    requires sent { drawn.before ≤ 1000000 }
+    requires after { drawn.from ≤ drawn.number }
+    requires near { drawn.number ≤ drawn.from + 400 }
+    ensures { OnOk result (string_bytes text.new ≡ string_bytes text.old ++ marks world.now.rehearsal drawn) }
+{
+    let x = x_of(drawn.from, drawn.number);
+    push_mark(text, world, drawn, x, y_of(drawn.step.member()))
+}
+
+#[tactic(auto, unfolding(crate::specs::Marks::mark_text))]
+fn push_mark(
+    text: &mut String,
+    world: &World,
+    drawn: Drawn,
+    x: usize,
+    y: usize,
+) -> Result<(), AllocError>
+    requires sent { drawn.before ≤ 1000000 }
+    requires low { y ≤ 30000 }
+    ensures { OnOk result (string_bytes text.new ≡ string_bytes text.old ++ mark_text world.now.rehearsal drawn x y) }
+{
+    push_note(text, world, drawn.step, x, y)?;
+    push_title(text, world, drawn.before, drawn.number, drawn.step)?;
+    push_sign(text, world, drawn, x, y)?;
+    text.push_str("</g>\n")?;
+    push_names(text, world, drawn.number, x)
+}
+
+// What is read where the pointer rests on the mark.
+#[tactic(auto, unfolding(crate::specs::Marks::title_text))]
+fn push_title(
+    text: &mut String,
+    world: &World,
+    before: u32,
+    number: usize,
+    step: Step,
+) -> Result<(), AllocError>
+    requires { before ≤ 1000000 }
+    ensures { OnOk result (string_bytes text.new ≡ string_bytes text.old ++ title_text world.now.rehearsal before number step) }
+{
+    push_who(text, number, step.member())?;
+    push_detail(text, world, before, step)?;
+    text.push_str("</title>")
+}
+
+#[tactic(auto, unfolding(crate::specs::Marks::who_text))]
+fn push_who(text: &mut String, number: usize, member: Member) -> Result<(), AllocError>
+    ensures { OnOk result (string_bytes text.new ≡ string_bytes text.old ++ who_text number member) }
+{
+    write!(text, "<g><title>step {number}, member {member}: ")
+}
+
+// A dot for a receipt, a letter in a circle for another step.
+fn push_sign(
+    text: &mut String,
+    world: &World,
+    drawn: Drawn,
+    x: usize,
+    y: usize,
+) -> Result<(), AllocError>
+    requires { y ≤ 30000 }
+    ensures { OnOk result (string_bytes text.new ≡ string_bytes text.old ++ sign_text world.now.rehearsal drawn.before drawn.step x y) }
+{
+    match drawn.step {
+        Step::Receive(_, serial) => push_dot(text, kind_at(world.letter(serial)), x, y),
+        step => push_lettered(
+            text,
+            class_of(world, drawn.before, step),
+            letter_of(step),
+            x,
+            y,
+        ),
+    }
+}
+
+// A dot in the colour of what is received.
+#[tactic(auto, unfolding(crate::specs::Marks::dot_text))]
+fn push_dot(text: &mut String, kind: &str, x: usize, y: usize) -> Result<(), AllocError>
+    ensures { OnOk result (string_bytes text.new ≡ string_bytes text.old ++ dot_text kind.now x y) }
+{
+    write!(text, "<circle class='dot {kind}' cx='{x}' cy='{y}' r='4'/>")
+}
+
+fn push_lettered(
+    text: &mut String,
+    class: &str,
+    letter: &str,
+    x: usize,
+    y: usize,
+) -> Result<(), AllocError>
+    requires { y ≤ 30000 }
+    ensures { OnOk result (string_bytes text.new ≡ string_bytes text.old ++ (circle_text class.now x y ++ letter_text letter.now x y)) }
+{
+    push_circle(text, class, x, y)?;
+    push_letter(text, letter, x, y)
+}
+
+#[tactic(auto, unfolding(crate::specs::Marks::circle_text))]
+fn push_circle(text: &mut String, class: &str, x: usize, y: usize) -> Result<(), AllocError>
+    ensures { OnOk result (string_bytes text.new ≡ string_bytes text.old ++ circle_text class.now x y) }
+{
+    write!(text, "<circle class='{class}' cx='{x}' cy='{y}' r='9'/>")
+}
+
+#[tactic(auto, unfolding(crate::specs::Marks::letter_text))]
+fn push_letter(text: &mut String, letter: &str, x: usize, y: usize) -> Result<(), AllocError>
+    requires { y ≤ 30000 }
+    ensures { OnOk result (string_bytes text.new ≡ string_bytes text.old ++ letter_text letter.now x y) }
+{
+    let low = y + 4;
+    write!(text, "<text x='{x}' y='{low}'>{letter}</text>")
+}
+
+// The kind of what an envelope carries.
+fn kind_at(letter: Option<Letter>) -> &'static str
+    ensures { result.now ≡ kind_at letter }
+{
+    match letter {
+        None => "",
+        Some(letter) => kind_of(&letter.wire),
+    }
+}
+
+// The letter of a step.
+fn letter_of(step: Step) -> &'static str
+    ensures { result.now ≡ letter_of step }
+{
+    match step {
+        Step::Submit(_, _) => "S",
+        Step::Receive(_, _) => "",
+        Step::Begin(_) => "B",
+        Step::Enter(_) => "E",
+        Step::Choose(_, _) => "C",
+        Step::Adopt(_) => "A",
+        Step::Suspect(_) => "N",
+        Step::Conclude(_) => "K",
+        Step::Deliver(_) => "D",
+        Step::Follow(_) => "F",
+        Step::Crash(_) => "X",
+        Step::Postpone(_, _) => "P",
+        Step::Lose(_, _) => "L",
+        Step::Repeat(_, _) => "R",
+    }
+}
+
+// How the mark of the world's last step looks.
+fn class_of(world: &World, before: u32, step: Step) -> &'static str
+    ensures { result.now ≡ class_of world.now.rehearsal before step }
+{
+    match step {
+        Step::Conclude(_) => {
+            if world.sent() == before {
+                "own"
+            } else {
+                "decision"
+            }
+        }
+        Step::Suspect(_) | Step::Crash(_) => "alarm",
+        Step::Deliver(_) | Step::Follow(_) => "delivery",
+        Step::Postpone(_, _) | Step::Lose(_, _) | Step::Repeat(_, _) => "net",
+        _ => "own",
+    }
+}
+
+// The round that is entered, or the estimate where it changes.
+fn push_note(
+    text: &mut String,
+    world: &World,
+    step: Step,
+    x: usize,
+    y: usize,
+) -> Result<(), AllocError>
+    requires { y ≤ 30000 }
+    ensures { OnOk result (string_bytes text.new ≡ string_bytes text.old ++ note_text world.now.rehearsal step x y) }
+{
+    match step {
+        Step::Enter(member) => push_entered(text, world, member, x, y),
+        Step::Begin(member) | Step::Choose(member, _) | Step::Adopt(member) => {
+            push_changed(text, world, member, x, y)
+        }
+        _ => Ok(()),
+    }
+}
+
+#[tactic(auto, unfolding(crate::specs::Marks::entered_text))]
+fn push_entered(
+    text: &mut String,
+    world: &World,
+    member: Member,
+    x: usize,
+    y: usize,
+) -> Result<(), AllocError>
+    ensures { OnOk result (string_bytes text.new ≡ string_bytes text.old ++ entered_text world.now.rehearsal member x y) }
+{
+    let high = y.saturating_sub(20);
+    write!(text, "<text class='round' x='{x}' y='{high}'>")?;
+    push_round_of(text, world, member)?;
+    text.push_str("</text>\n")
+}
+
+fn push_round_of(text: &mut String, world: &World, member: Member) -> Result<(), AllocError>
+    ensures { OnOk result (string_bytes text.new ≡ string_bytes text.old
+        ++ round_text (instance_of world.now.rehearsal member) (round_of world.now.rehearsal member)) }
+{
+    push_round(text, instance_of(world, member), round_of(world, member))
+}
+
+#[tactic(auto, unfolding(crate::specs::Marks::changed_text))]
+fn push_changed(
+    text: &mut String,
+    world: &World,
+    member: Member,
+    x: usize,
+    y: usize,
+) -> Result<(), AllocError>
+    requires { y ≤ 30000 }
+    ensures { OnOk result (string_bytes text.new ≡ string_bytes text.old ++ changed_text world.now.rehearsal member x y) }
+{
+    push_falling(text, x, y + 26)?;
+    push_estimate_of(text, world, member)?;
+    text.push_str("</text>\n")
+}
+
+// A text begins here, which falls to the right.
+#[tactic(auto, unfolding(crate::specs::Marks::falling_text))]
+fn push_falling(text: &mut String, x: usize, y: usize) -> Result<(), AllocError>
+    ensures { OnOk result (string_bytes text.new ≡ string_bytes text.old ++ falling_text x y) }
+{
+    write!(
+        text,
+        "<text class='note' x='{x}' y='{y}' transform='rotate(18 {x} {y})'>"
+    )
+}
+
+// The members' names once more, above their lines, at each fortieth step.
+fn push_names(text: &mut String, world: &World, number: usize, x: usize) -> Result<(), AllocError>
+    ensures { OnOk result (string_bytes text.new ≡ string_bytes text.old ++ names_text world.now.rehearsal.setting.members number x) }
+{
+    if number % 40 == 0 {
+        push_first_names(text, world.group().n(), x)
+    } else {
+        Ok(())
+    }
+}
+
+fn push_first_names(text: &mut String, n: u8, x: usize) -> Result<(), AllocError>
+    ensures { OnOk result (string_bytes text.new ≡ string_bytes text.old ++ first_names x n) }
+{
+    for i in 0..n {
+        push_name(text, i + 1, x)?;
+    }
+    Ok(())
+}
+
+#[tactic(auto, unfolding(crate::specs::Marks::name_text))]
+fn push_name(text: &mut String, member: Member, x: usize) -> Result<(), AllocError>
+    ensures { OnOk result (string_bytes text.new ≡ string_bytes text.old ++ name_text x member) }
+{
+    let high = y_of(member).saturating_sub(28);
+    write!(
+        text,
+        "<text class='again' x='{x}' y='{high}'>member {member}</text>\n"
+    )
+}

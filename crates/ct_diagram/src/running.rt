@@ -1,0 +1,55 @@
+//! A record in, its diagram out.
+
+ghost use Rattle.std.specs.Prelude.{◌≡◌, ◌≢◌, ◌<◌, ◌^◌, IfOk, IfErr, IfSome, OnOk};
+ghost use Rattle.ct_program.specs.Script.{script};
+ghost use Rattle.ct_show.specs.Answer.{IsOfReading};
+ghost use Rattle.ct_diagram.specs.Running.{Draws, FailsOn, IsDiagramOf, IsRead};
+
+use crate::drawing::diagram;
+use crate::fault::DiagramFault;
+use crate::window::Window;
+use ct_program::{Failed, ProgramFault, Script, Sink, Source, read_all, read_record, write_all};
+use std::alloc::Global;
+
+/// Reads a record to its end and writes the diagram of the steps that the window has. The whole text is made before the first
+/// write. What the contract says of the input holds where the reader tells its bytes, and what it says of the output where the
+/// writer does.
+pub fn draw<R: Source, W: Sink>(
+    alloc: Global,
+    reader: &mut R,
+    writer: &mut W,
+    window: &Window,
+) -> Result<(), DiagramFault>
+    requires reads { R.failures reader.old < 2 ^ 63 }
+    requires writes { W.failures writer.old < 2 ^ 63 }
+    // The input is a record whose steps up to the window's last one are allowed, and what was written is their diagram.
+    ensures ok { OnOk result (IfSome (R.left reader.old) (λ input.
+        Draws window.now (script input) (W.written writer.old) (W.written writer.new))) }
+    ensures fault { IfErr result (λ fault. IfSome (R.left reader.old) (λ input. FailsOn window.now fault (script input))) }
+    // Nothing was written but where the writer failed.
+    ensures quiet { IfErr result (λ fault. fault ≢ DiagramFault.Program ProgramFault.Write → writer.new ≡ writer.old) }
+{
+    let bytes = read_all(alloc, reader)?;
+    let text = drawn(alloc, bytes, window)?;
+    match write_all(writer, &text) {
+        Ok(()) => Ok(()),
+        Err(Failed) => Err(DiagramFault::Program(ProgramFault::Write)),
+    }
+}
+
+// The diagram of the record, whose bytes are freed before it is drawn.
+fn drawn(alloc: Global, bytes: Vec<u8>, window: &Window) -> Result<Vec<u8>, DiagramFault>
+    ensures ok { IfOk result (λ text. IsDiagramOf window.now (script bytes.items) text.items) }
+    ensures fault { IfErr result (λ fault. FailsOn window.now fault (script bytes.items)) }
+{
+    let script = record_of(alloc, &bytes)?;
+    drop(bytes);
+    diagram(alloc, &script, window)
+}
+
+fn record_of(alloc: Global, bytes: &[u8]) -> Result<Script, ProgramFault>
+    ensures ok { IfOk result (λ found. IsRead found (script bytes.now)) }
+    ensures fault { IfErr result (λ fault. IsOfReading fault (script bytes.now)) }
+{
+    Ok(read_record(alloc, bytes)?)
+}

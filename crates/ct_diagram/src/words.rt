@@ -1,0 +1,67 @@
+//! The words after `diagram` on a command line.
+
+ghost use Rattle.std.specs.Prelude.{IfSome, ◌≤◌};
+
+use crate::window::Window;
+use clap::{Arg, ArgAction, ArgMatches, Command};
+use ct_program::number_in;
+use std::alloc::{AllocError, Global};
+
+// What stands after the options.
+const AFTER: &str = "Examples:
+  ct_tool diagram run.json > run.svg
+  ct_tool diagram run.json --from 120 --to 180 > part.svg
+  ct_tool walk --members 3 --until decided 1 | ct_tool diagram > run.svg
+
+Status:
+  0  the diagram was written
+  1  a step of the record is refused; --to draws what comes before it
+  2  the input is no record
+  3  the words of the command line are refused, or ask for more than 400 steps
+  4  a read or a write failed
+  5  memory was refused";
+
+/// The window that the options of `diagram` ask for; None where a value is not of its option's range.
+pub fn diagram_window(found: &ArgMatches<'_>) -> Option<Window>
+    ensures from { IfSome result (λ window. 1 ≤ window.from) }
+    ensures to { IfSome result (λ window. 1 ≤ window.to) }
+{
+    let from = number_in(found.get_str("from")?, 1, u32::MAX)?;
+    let to = number_in(found.get_str("to")?, 1, u32::MAX)?;
+    Some(Window { from, to })
+}
+
+/// The subcommand `diagram`.
+pub fn diagram_command<'a>(alloc: Global) -> Result<Command<'a>, AllocError> {
+    Command::new(alloc, "diagram")
+        .about(
+            "Replays a record and writes a picture of at most 400 of its steps as SVG: a line for each member, an arrow for each envelope",
+        )
+        .after_help(AFTER)
+        .arg(
+            Arg::new(alloc, "file")
+                .value_name("FILE")
+                .action(ArgAction::Set)
+                .default_value("-")
+                .help("The file that the record stands in; - for standard input"),
+        )?
+        .arg(number(
+            alloc,
+            "from",
+            "The number of the first step that is drawn, from 1 on",
+        )
+        .default_value("1"))?
+        .arg(
+            number(alloc, "to", "The number of the last step that is drawn")
+                .default_value("4294967295")
+                .hide_default_value(true),
+        )
+}
+
+// An option with a number.
+fn number<'a>(alloc: Global, name: &'a str, help: &'a str) -> Arg<'a> {
+    Arg::new(alloc, name)
+        .long(name)
+        .action(ArgAction::Set)
+        .help(help)
+}

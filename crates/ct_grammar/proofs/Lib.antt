@@ -1,0 +1,5 @@
+mod DigitsRead
+mod FirstWord
+mod Lengths
+mod PartsRead
+mod TextJoined

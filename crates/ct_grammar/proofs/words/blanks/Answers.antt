@@ -1,0 +1,13 @@
+use Rattle.std.proofs.Common.{◌≡◌, length, sym, ◌∙◌, arith}
+use Rattle.std.proofs.lemmas.List.Sums.{prefix_len_is}
+use Rattle.ct_grammar.specs.Words.{is_blank}
+use Rattle.ct_grammar.proofs.words.blanks.Goals as goal
+
+pub returns-then-not-is_blank : goal.returns-then-not-is_blank
+returns-then-not-is_blank c = sym (prefix_len_is is_blank c.args.text.now c.loop-i.i 0 (omega arith) c.loop-i.invariant
+    (λ _. sym c.is_blank.ensures ∙ c.if-not-is_blank.true))
+
+pub returns : goal.returns
+returns c =
+    let all : c.loop-i.i ≡ length c.args.text.now = omega arith in
+    sym (prefix_len_is is_blank c.args.text.now (length c.args.text.now) 0 (omega arith) (rw (← all) c.loop-i.invariant) (λ l. absurd (omega arith)))

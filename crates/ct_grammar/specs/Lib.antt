@@ -1,0 +1,6 @@
+pub mod Acts
+pub mod Facts
+pub mod Lines
+pub mod Numbers
+pub mod Picks
+pub mod Words

@@ -1,0 +1,20 @@
+-- Bytes that are text, and bytes that are none.
+use Rattle.std.proofs.Common.{◌≡◌, ℕ, List, Bool, true, false, None, ap, refl}
+use Rattle.std.specs.Str.{IsUtf8, is_utf8}
+use Rattle.std.proofs.lemmas.Str.{IsUtf8-from_is_utf8, is_utf8-from_IsUtf8}
+use Rattle.ct_grammar.specs.Lines.{line_of}
+use Rattle.ct_judge.specs.Judging.{line_in}
+
+pub text_line : (bytes text : List ℕ) → text ≡ bytes → IsUtf8 bytes → line_of text ≡ line_in bytes
+unfolding line_in
+text_line bytes text same h = rw (is_utf8-from_IsUtf8 bytes h) (ap line_of same)
+
+by_test : (bytes : List ℕ) (b : Bool) → is_utf8 bytes ≡ b → ¬ (IsUtf8 bytes) → b ≡ false
+by_test bytes true e h = absurd (h (IsUtf8-from_is_utf8 bytes e))
+by_test bytes false e h = refl
+
+pub no_line : (bytes : List ℕ) → ¬ (IsUtf8 bytes) → None ≡ line_in bytes
+unfolding line_in
+no_line bytes h =
+    let wrong : is_utf8 bytes ≡ false = by_test bytes (is_utf8 bytes) refl h in
+    rw wrong refl

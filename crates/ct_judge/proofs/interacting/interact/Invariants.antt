@@ -1,0 +1,10 @@
+use Rattle.std.proofs.Common.{◌≡◌}
+use Rattle.ct_judge.proofs.Hearing.{HasHeard}
+use Rattle.ct_judge.proofs.interacting.interact.Given as goal
+
+abbrev pub invariant-loop : goal.invariant-loop
+invariant-loop g l = record {
+  heard : HasHeard (g.R.Source.left l.fn.reader) (g.R.Source.left l.reader) l.session (g.W.Sink.written l.fn.writer) (g.W.Sink.written l.writer);
+  reads : g.R.Source.failures l.reader ≡ g.R.Source.failures l.fn.reader;
+  writes : g.W.Sink.failures l.writer ≡ g.W.Sink.failures l.fn.writer;
+}

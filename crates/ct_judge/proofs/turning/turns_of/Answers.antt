@@ -1,0 +1,12 @@
+use Rattle.std.proofs.Common.{rules, ◌≡◌, Ok, false, arith, sym, ◌∙◌, ap}
+use Rattle.ct_judge.specs.Turning.{after_turn}
+use Rattle.ct_judge.proofs.Trying.{rest_on}
+use Rattle.ct_judge.proofs.turning.turns_of.Goals as goal
+
+pub returns-then-not-branch-clause-ok : goal.returns-then-not-branch-clause-ok
+returns-then-not-branch-clause-ok c =
+    let rests : c.in_ok-turn.field-0 ≡ false = search rules in
+    let same : c.turn.new.stage ≡ c.loop-i.stage = c.in_ok-turn.ensures.rests (ap Ok rests) in
+    let fixed : c.loop-i.stage ≡ after_turn c.args.suspected.now c.loop-i.stage c.args.member = sym same ∙ c.in_ok-turn.ensures.ok in
+    same ∙ rest_on c.args.suspected.now c.args.stage.now c.loop-i.stage c.args.member c.loop-i.i c.args.count
+    (omega (arith, c.loop-i-test.true)) c.loop-i.invariant fixed

@@ -1,0 +1,13 @@
+pub mod Acting
+pub mod Answers
+pub mod Facts
+pub mod Faults
+pub mod Judging
+pub mod Picking
+pub mod Recording
+pub mod Schedule
+pub mod SessionFaults
+pub mod Sessions
+pub mod Standing
+pub mod Telling
+pub mod Turning

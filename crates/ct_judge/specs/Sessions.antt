@@ -1,0 +1,75 @@
+-- Whole sessions.
+use Rattle.std.specs.Prelude.{◌≡◌, ℕ, ◌==◌, nat_lt, List, [], ◌∷◌, ◌++◌, length, Option, Some, None, ⊤, if◌then◌else◌}
+use Rattle.std.specs.Io.KnownBytes.{Appends, Consumes, IsAtEnd}
+use Rattle.ct_grammar.specs.declared.line.Line.{Line}
+use Rattle.ct_judge.specs.Answers.{answer, standing_after}
+use Rattle.ct_judge.specs.Judging.{line_in}
+use Rattle.ct_judge.specs.Standing.{Standing, start}
+use Rattle.ct_judge.specs.declared.session.TheConstants.{LONGEST}
+
+-- where a session stands, and the bytes of its line that is not over yet: one more than a line may have at most
+pub record Hearing : Type 0 where
+  pub standing : Standing
+  pub line : List ℕ
+
+abbrev pub opening : Hearing
+opening = record { standing = start; line = [] }
+
+-- the line with one byte more
+unfoldable pub kept : List ℕ → ℕ → List ℕ
+kept line byte = if nat_lt LONGEST (length line) then line else line ++ byte ∷ []
+
+-- the line that these bytes are, where it is not too long
+unfoldable pub line_if : List ℕ → Option Line
+line_if line = if nat_lt LONGEST (length line) then None else line_in line
+
+-- the answer to the line
+unfoldable pub answer_at : Hearing → List ℕ
+answer_at t = answer t.standing (line_if t.line)
+
+-- the line is over
+unfoldable pub line_over : Hearing → Hearing
+line_over t = record { standing = standing_after t.standing (line_if t.line); line = [] }
+
+-- what a session says in all, and where it ends
+pub record Session : Type 0 where
+  pub text : List ℕ
+  pub standing : Standing
+
+-- this is said first
+abbrev pub said_first : List ℕ → Session → Session
+said_first text s = record { text = text ++ s.text; standing = s.standing }
+
+-- the end ends the line, if one has begun
+abbrev pub at_end : Hearing → List ℕ → Session
+at_end t [] = record { text = []; standing = t.standing }
+at_end t (byte ∷ bytes) = record { text = answer_at t; standing = (line_over t).standing }
+
+-- what is said at a byte: a line feed ends the line, which is answered
+abbrev pub said_at : Hearing → ℕ → List ℕ
+said_at t byte = if byte == 10 then answer_at t else []
+
+-- after a byte: another one joins the line
+abbrev pub after_byte : Hearing → ℕ → Hearing
+after_byte t byte = if byte == 10 then line_over t else record t { line = kept t.line byte }
+
+-- the session in which these bytes are heard
+abbrev pub session : Hearing → List ℕ → Session
+session t [] = at_end t t.line
+session t (byte ∷ bytes) = said_first (said_at t byte) (session (after_byte t byte) bytes)
+
+-- ---- reading
+
+-- the next byte was read, or there is none
+abbrev pub TakesByte : Option (List ℕ) → Option (List ℕ) → Option ℕ → Type 0
+TakesByte old new None = IsAtEnd old
+TakesByte old new (Some byte) = Consumes old new (byte ∷ [])
+
+-- the input makes this session, and what is written is what it says
+abbrev pub IsEnd : Option (List ℕ) → Standing → Type 0
+IsEnd None s = ⊤
+IsEnd (Some input) s = s ≡ (session opening input).standing
+
+abbrev pub Says : Option (List ℕ) → Option (List ℕ) → Option (List ℕ) → Type 0
+Says None old new = ⊤
+Says (Some input) old new = Appends old new (session opening input).text

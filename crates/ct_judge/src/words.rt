@@ -1,0 +1,72 @@
+//! The words after `interact` and `record` on a command line.
+
+use clap::{Arg, ArgAction, Command};
+use std::alloc::{AllocError, Global};
+
+// What stands after the options of `interact`.
+const AFTER_INTERACT: &str = "Lines are those of `record`, and questions:
+  enabled 2                    the steps that a member may take by itself
+  next 2                       what a driver would try
+  state 2                      where a member stands
+  report                       the report as JSON
+
+Examples:
+  ct_tool interact
+  ct_tool interact --record run.json < run.txt
+
+Status:
+  0  the input came to its end
+  1  a record is asked for, and the number of members was not given
+  3  the words of the command line are refused
+  4  a read or a write failed
+  5  memory was refused";
+
+// What stands after the options of `record`.
+const AFTER_RECORD: &str = "Lines:
+  members 3                    the number of members, before all else
+  1 submit set 0 7             a step of a member
+  2 receive data 1.1 from 1    an envelope by what it carries, or by its serial: #2
+  all enter                    a step of each member that is up
+  1 turns 20 suspecting 2,3    turns as a driver makes them
+  expect 1 delivered 1.1       what has to be so
+  expect 1 refuses enter Idle
+
+Examples:
+  ct_tool record run.txt > run.json
+  ct_tool record run.txt | ct_tool report
+
+Status:
+  0  the record was written
+  1  a line is refused
+  2  the input is too long
+  3  the words of the command line are refused
+  4  a read or a write failed
+  5  memory was refused";
+
+/// The subcommand `interact`.
+pub fn interact_command<'a>(alloc: Global) -> Result<Command<'a>, AllocError> {
+    Command::new(alloc, "interact")
+        .about("Judges the lines on standard input as they come, and answers each with one line")
+        .after_help(AFTER_INTERACT)
+        .arg(
+            Arg::new(alloc, "record")
+                .long("record")
+                .value_name("FILE")
+                .action(ArgAction::Set)
+                .help("Writes the record of the session to this file in the end"),
+        )
+}
+
+/// The subcommand `record`.
+pub fn record_command<'a>(alloc: Global) -> Result<Command<'a>, AllocError> {
+    Command::new(alloc, "record")
+        .about("Judges a schedule line by line and writes its record as JSON to standard output")
+        .after_help(AFTER_RECORD)
+        .arg(
+            Arg::new(alloc, "file")
+                .value_name("FILE")
+                .action(ArgAction::Set)
+                .default_value("-")
+                .help("The file that the schedule stands in; - for standard input"),
+        )
+}

@@ -1,0 +1,11 @@
+//! The tests of the libraries of `ct_tool`, which use their public calls alone: here none of these crates is proved once more.
+#![tactic(auto)]
+
+#[cfg(test)]
+mod diagrams;
+#[cfg(test)]
+mod schedules;
+#[cfg(test)]
+mod shown;
+#[cfg(test)]
+mod walks;

@@ -1,0 +1,166 @@
+use ct_judge::*;
+use ct_program::Counted;
+use std::alloc::Global;
+use std::test::Fail;
+
+// The first steps of a group of one.
+const SHORT: &str = "members 1
+cells 4
+batch 7 # nothing is cut
+
+1 submit set 0 7
+1 receive data 1.1 from 1
+all begin
+expect 1 instance 1
+";
+
+const SHORT_RECORD: &str =
+    "{\"batch\":7,\"cells\":4,\"n\":1,\"steps\":[[\"submit\",1,[\"set\",0,7]],[\"receive\",1,1],[\"begin\",1]],\"version\":3}\n";
+
+// Three members decide, and the second crashes.
+const DECIDED: &str = "members 3
+1 submit set 0 7
+1 receive data 1.1
+2 receive data 1.1 from 1
+1 begin
+expect 3 idle
+2 begin
+1 enter
+2 enter
+2 receive est 1/1 from 2
+2 receive est 1/1 from 1
+2 choose 1
+expect 2 phase Wait
+1 turns 30
+3 turns 30
+2 turns 30
+1 turns 30
+crash 2
+all turns 30 suspecting 2
+expect 1 delivered 1.1
+expect 3 delivered 1.1
+expect 1 table 0=7
+expect 2 crashed
+expect 1 refuses enter Idle
+expect 1 refuses receive data 3.1 NotThere";
+
+// A session with a line of each kind of answer.
+const SPOKEN: &str = "1 begin
+members 2
+1 submit set 0 7
+enabled 1
+2 receive data 1.1
+expect 2 delivered 1.1
+next 2
+state 2
+begin
+crash 2
+";
+
+const ANSWERS: &str = "no members
+ok
+ok 1-2
+enabled
+ok 3-4
+not met: delivered -
+next [\"begin\",2]
+state instance 0 idle
+not understood
+ok
+";
+
+// Whether a session says this.
+fn is_answered(alloc: Global, lines: &str, answers: &str) -> Result<bool, SessionFault> {
+    let mut reader = Counted::new(lines.as_bytes());
+    let mut writer = Counted::new(Vec::new(alloc));
+    interact(alloc, &mut reader, &mut writer)?;
+    Ok(writer.into_inner().as_slice() == answers.as_bytes())
+}
+
+fn is_recorded(alloc: Global, schedule: &str, record: &str) -> Result<bool, RecordFault> {
+    let text = recorded(alloc, schedule.as_bytes())?;
+    Ok(text.as_slice() == record.as_bytes())
+}
+
+// Whether the line of this number is refused with this text.
+fn is_refused(alloc: Global, schedule: &str, line: usize, said: &str) -> bool {
+    match recorded(alloc, schedule.as_bytes()) {
+        Err(RecordFault::Line { at, text, .. }) => at == line && text.as_str() == said,
+        _ => false,
+    }
+}
+
+#[test]
+fn a_record_of_a_schedule(rt: HostRuntime) -> Result<(), Fail> {
+    assert!(rt; is_recorded(rt.alloc(), SHORT, SHORT_RECORD)?);
+    Ok(())
+}
+
+#[test]
+fn a_schedule_with_turns(rt: HostRuntime) -> Result<(), Fail> {
+    assert!(rt; recorded(rt.alloc(), DECIDED.as_bytes()).is_ok());
+    Ok(())
+}
+
+#[test]
+fn a_session(rt: HostRuntime) -> Result<(), Fail> {
+    assert!(rt; is_answered(rt.alloc(), SPOKEN, ANSWERS)?);
+    Ok(())
+}
+
+#[test]
+fn refused_lines(rt: HostRuntime) -> Result<(), Fail> {
+    let alloc = rt.alloc();
+    assert!(rt;
+        is_refused(
+            alloc,
+            "members 2\n1 begin",
+            2,
+            "refused Nothing: instance 0 idle"
+        )
+    );
+    assert!(rt; is_refused(alloc, "members 2\n1 begins", 2, "not understood"));
+    assert!(rt; is_refused(alloc, "1 begin", 1, "no members"));
+    assert!(rt; is_refused(alloc, "", 1, "no members"));
+    assert!(rt;
+        is_refused(
+            alloc,
+            "members 2\ncrash 1\ncells 3\n",
+            3,
+            "the group is settled"
+        )
+    );
+    Ok(())
+}
+
+#[test]
+fn refused_names(rt: HostRuntime) -> Result<(), Fail> {
+    let alloc = rt.alloc();
+    assert!(rt;
+        is_refused(
+            alloc,
+            "members 2\n1 receive data 2.1",
+            2,
+            "not there: no envelope that is so named waits at member 1"
+        )
+    );
+    assert!(rt;
+        is_refused(
+            alloc,
+            "members 2\n1 submit set 0 7\n2 receive data 1.1 from 2",
+            3,
+            "not there: no envelope that is so named waits at member 2"
+        )
+    );
+    assert!(rt; is_refused(alloc, "members 2\n3 turns 4", 2, "no member 3"));
+    assert!(rt; is_refused(alloc, "members 2\n\nexpect 2 crashed", 3, "not met: up"));
+    assert!(rt;
+        is_refused(
+            alloc,
+            "members 2\nexpect 1 delivered 1.1",
+            2,
+            "not met: delivered -"
+        )
+    );
+    Ok(())
+}

@@ -1,0 +1,214 @@
+use ct_names::Refusal;
+use ct_program::{Counted, ProgramFault, read_record};
+use ct_show::*;
+use ct_world::ReplayFault;
+use std::alloc::Global;
+use std::test::Fail;
+
+// One member decides what it submitted.
+const RUN: &str =
+    "{\"cells\":4,\"n\":1,\"steps\":[[\"submit\",1,[\"set\",0,7]],[\"receive\",1,1],[\"begin\",1],[\"enter\",1],[\"receive\",1,2],[\"choose\",1,1],[\"receive\",1,3],[\"adopt\",1],[\"receive\",1,4],[\"conclude\",1],[\"receive\",1,5],[\"deliver\",1]],\"version\":1}";
+
+// It receives its message twice.
+const TWICE: &str =
+    "{\"cells\":4,\"n\":1,\"steps\":[[\"submit\",1,[\"set\",0,7]],[\"receive\",1,1],[\"receive\",1,1]],\"version\":1}";
+
+// Its message is lost and repeated, and then repeated while it waits.
+const LOST: &str =
+    "{\"batch\":7,\"cells\":4,\"n\":1,\"steps\":[[\"submit\",1,[\"set\",0,7]],[\"lose\",1,1],[\"repeat\",1,1],[\"repeat\",1,1]],\"version\":3}";
+
+// An envelope of another member is repeated.
+const OTHERS: &str =
+    "{\"batch\":7,\"cells\":4,\"n\":2,\"steps\":[[\"submit\",1,[\"set\",0,7]],[\"crash\",2],[\"repeat\",1,2]],\"version\":3}";
+
+// An envelope that was never sent is repeated.
+const UNSENT: &str = "{\"batch\":7,\"cells\":4,\"n\":1,\"steps\":[[\"repeat\",1,0]],\"version\":3}";
+
+// It proposes nine messages.
+const NINE: &str =
+    "{\"cells\":4,\"n\":1,\"steps\":[[\"submit\",1,[\"set\",0,7]],[\"submit\",1,[\"set\",0,7]],[\"submit\",1,[\"set\",0,7]],[\"submit\",1,[\"set\",0,7]],[\"submit\",1,[\"set\",0,7]],[\"submit\",1,[\"set\",0,7]],[\"submit\",1,[\"set\",0,7]],[\"submit\",1,[\"set\",0,7]],[\"submit\",1,[\"set\",0,7]],[\"receive\",1,1],[\"receive\",1,2],[\"receive\",1,3],[\"receive\",1,4],[\"receive\",1,5],[\"receive\",1,6],[\"receive\",1,7],[\"receive\",1,8],[\"receive\",1,9],[\"begin\",1]],\"version\":1}";
+
+// The second member passes on what the first one sent.
+const RELAYED: &str =
+    "{\"batch\":7,\"cells\":4,\"n\":2,\"steps\":[[\"submit\",1,[\"set\",0,7]],[\"receive\",2,2],[\"crash\",1]],\"version\":3}";
+
+const LINES: &str = "   1   1  submit   1.1 = set(0,7)  -> #1 Data 1.1 to 1
+   2   1  receive  #1 Data 1.1
+   3   1  begin    instance 1 proposes {1.1}
+   4   1  enter    round 1/1, coordinator 1  -> #2 Est 1/1 from 1 {1.1} ts 0 to 1
+   5   1  receive  #2 Est 1/1 from 1 {1.1} ts 0
+   6   1  choose   estimate of 1: {1.1} ts 0  -> #3 Prop 1/1 {1.1} to 1
+   7   1  receive  #3 Prop 1/1 {1.1}
+   8   1  adopt    {1.1} ts 1  -> #4 Ack 1/1 from 1 to 1
+   9   1  receive  #4 Ack 1/1 from 1
+  10   1  conclude acks 1 of 1: decides {1.1}  -> #5 Dec 1/1 {1.1} to 1
+  11   1  receive  #5 Dec 1/1 {1.1}
+  12   1  deliver  instance 1: {1.1}
+";
+
+const SECOND: &str = "   2   1  receive  #1 Data 1.1\n";
+
+const NINETEENTH: &str =
+    "  19   1  begin    instance 1 proposes {1.1,1.2,1.3,1.4,1.5,1.6,1.7,1.8 and 1 more}\n";
+
+const TWICE_LINES: &str = "   1   1  submit   1.1 = set(0,7)  -> #1 Data 1.1 to 1
+   2   1  receive  #1 Data 1.1
+   3   1  [\"receive\",1,1]  REFUSED NotWaiting: #1 Data 1.1 to 1, left in step 2 [\"receive\",1,1]
+";
+
+const LOST_LINES: &str = "   1   1  submit   1.1 = set(0,7)  -> #1 Data 1.1 to 1
+   2   1  lose     #1 Data 1.1
+   3   1  repeat   #1 Data 1.1
+   4   1  [\"repeat\",1,1]  REFUSED StillWaiting: #1 Data 1.1 is in its line
+";
+
+const OTHERS_LINES: &str = "   1   1  submit   1.1 = set(0,7)  -> #1..2 Data 1.1 to all
+   2   2  crash
+   3   1  [\"repeat\",1,2]  REFUSED NotSent: #2 Data 1.1 went to member 2
+";
+
+const UNSENT_LINES: &str =
+    "   1   1  [\"repeat\",1,0]  REFUSED NotSent: #0 was not sent: 0 envelopes were\n";
+
+const RELAYED_STATE: &str = "group 2 majority 2 cells 4 batch 7
+steps 2 sent 4 posted 0
+member 1 up instance 0 idle
+  waiting  #1 Data 1.1, sent by 1
+  waiting  #3 Data 1.1, sent by 2
+  refused  [\"follow\",1] Undecided
+  refused  [\"begin\",1] Nothing
+  next     [\"receive\",1,1]
+member 2 up instance 0 idle
+  waiting  #4 Data 1.1, sent by 2
+  enabled  [\"begin\",2]
+  refused  [\"follow\",2] Undecided
+  next     [\"begin\",2]
+";
+
+// After its estimate was heard.
+const HEARD_STATE: &str = "group 1 majority 1 cells 4 batch 1048560
+steps 5 sent 2 posted 0
+member 1 up instance 1 round 1 Gather, coordinator 1
+  estimate {1.1} ts 0
+  heard    1 {1.1} ts 0
+  acked    -
+  replied  -
+  enabled  [\"choose\",1,1]
+  refused  [\"deliver\",1] Undecided
+  next     [\"choose\",1,1]
+";
+
+const JSON: &str =
+    "{\"group\":1,\"majority\":1,\"cells\":4,\"batch\":1048560,\"steps\":12,\"sent\":5,\"posted\":1,\"members\":[{\"member\":1,\"up\":true,\"instance\":1,\"open\":false,\"received\":[\"1.1\"],\"decided\":[{\"instance\":1,\"messages\":[\"1.1\"]}],\"delivered\":[\"1.1\"],\"table\":[7,0,0,0,0,0,0,0,0,0,0,0,0,0,0,0]}]}
+";
+
+const ALL: View = View::Steps(Selection {
+    from: 1,
+    to: 100,
+    member: None,
+});
+
+// Whether the view shows this text of the record, and this refused step.
+fn is_shown(
+    alloc: Global,
+    record: &str,
+    view: &View,
+    text: &str,
+    refused: Option<ReplayFault>,
+) -> Result<bool, Fail> {
+    let script = read_record(alloc, record.as_bytes())?;
+    let answer = shown(alloc, &script, view)?;
+    Ok(answer.text.as_slice() == text.as_bytes() && answer.refused == refused)
+}
+
+// A fault at the step of this number.
+fn fault(at: usize, refusal: Refusal) -> Option<ReplayFault> {
+    Some(ReplayFault { at, refusal })
+}
+
+#[test]
+fn lines_of_a_run(rt: HostRuntime) -> Result<(), Fail> {
+    assert!(rt; is_shown(rt.alloc(), RUN, &ALL, LINES, None)?);
+    Ok(())
+}
+
+#[test]
+fn lines_of_some_steps(rt: HostRuntime) -> Result<(), Fail> {
+    let second = View::Steps(Selection {
+        from: 2,
+        to: 2,
+        member: Some(1),
+    });
+    assert!(rt; is_shown(rt.alloc(), RUN, &second, SECOND, None)?);
+    Ok(())
+}
+
+#[test]
+fn a_long_value_is_cut(rt: HostRuntime) -> Result<(), Fail> {
+    let last = View::Steps(Selection {
+        from: 19,
+        to: 19,
+        member: None,
+    });
+    assert!(rt; is_shown(rt.alloc(), NINE, &last, NINETEENTH, None)?);
+    Ok(())
+}
+
+#[test]
+fn the_state_after_some_steps(rt: HostRuntime) -> Result<(), Fail> {
+    assert!(rt; is_shown(rt.alloc(), RELAYED, &View::State(2), RELAYED_STATE, None)?);
+    assert!(rt; is_shown(rt.alloc(), RUN, &View::State(5), HEARD_STATE, None)?);
+    Ok(())
+}
+
+#[test]
+fn no_state_after_a_refused_step(rt: HostRuntime) -> Result<(), Fail> {
+    let refused = fault(3, Refusal::NotWaiting);
+    assert!(rt; is_shown(rt.alloc(), TWICE, &View::State(7), "", refused)?);
+    Ok(())
+}
+
+#[test]
+fn the_report_of_a_run(rt: HostRuntime) -> Result<(), Fail> {
+    assert!(rt; is_shown(rt.alloc(), RUN, &View::Report, JSON, None)?);
+    Ok(())
+}
+
+#[test]
+fn a_refused_step_is_the_last_line(rt: HostRuntime) -> Result<(), Fail> {
+    let refused = fault(3, Refusal::NotWaiting);
+    assert!(rt; is_shown(rt.alloc(), TWICE, &ALL, TWICE_LINES, refused)?);
+    assert!(rt; is_shown(rt.alloc(), TWICE, &View::Nothing, "", refused)?);
+    assert!(rt; is_shown(rt.alloc(), TWICE, &View::Report, "", refused)?);
+    Ok(())
+}
+
+#[test]
+fn losses_and_repetitions(rt: HostRuntime) -> Result<(), Fail> {
+    let waits = fault(4, Refusal::StillWaiting);
+    assert!(rt; is_shown(rt.alloc(), LOST, &ALL, LOST_LINES, waits)?);
+    let of_another = fault(3, Refusal::NotSent);
+    assert!(rt; is_shown(rt.alloc(), OTHERS, &ALL, OTHERS_LINES, of_another)?);
+    let unsent = fault(1, Refusal::NotSent);
+    assert!(rt; is_shown(rt.alloc(), UNSENT, &ALL, UNSENT_LINES, unsent)?);
+    Ok(())
+}
+
+#[test]
+fn a_record_is_shown(rt: HostRuntime) -> Result<(), Fail> {
+    let mut reader = Counted::new(RUN.as_bytes());
+    let mut writer = Counted::new(Vec::new(rt.alloc()));
+    show(rt.alloc(), &mut reader, &mut writer, &ALL)?;
+    assert_eq!(rt; writer.into_inner().as_slice(), LINES.as_bytes());
+    Ok(())
+}
+
+#[test]
+fn a_refused_record_is_a_fault(rt: HostRuntime) -> Result<(), Fail> {
+    let mut reader = Counted::new(TWICE.as_bytes());
+    let mut writer = Counted::new(Vec::new(rt.alloc()));
+    let ended = show(rt.alloc(), &mut reader, &mut writer, &View::Report);
+    let refusal = Refusal::NotWaiting;
+    assert_eq!(rt; ended, Err(ProgramFault::Replay { at: 3, refusal }));
+    Ok(())
+}

@@ -1,0 +1,290 @@
+ghost use Rattle.std.specs.Prelude.{◌≡◌, ◌+◌, ◌≤◌, None};
+ghost use Rattle.ct_names.specs.declared.limit.TheConstants.{MAX_BOUND};
+ghost use Rattle.ct_walk.specs.Options.{IsInRange};
+
+use ct_model::Step;
+use ct_names::{MAX_BOUND, Round};
+use ct_program::FreeOptions;
+use ct_walk::*;
+use ct_world::World;
+use std::alloc::Global;
+use std::test::Fail;
+
+// The options of a walk of three members, the others as the command line has them by default.
+fn options(seed: u32) -> WalkOptions
+    ensures { result ≡ record {
+      run = record {
+        members = 3;
+        turns = 1000;
+        seed = seed;
+        rate = 64;
+        cells = 64;
+        submit = 8;
+        crash = 0;
+        postpone = 0;
+        lose = 0;
+        repeat = 0;
+        batch = MAX_BOUND;
+      };
+      every = 0;
+      until = None;
+    } }
+{
+    WalkOptions {
+        run: FreeOptions {
+            members: 3,
+            turns: 1000,
+            seed,
+            rate: 64,
+            cells: 64,
+            submit: 8,
+            crash: 0,
+            postpone: 0,
+            lose: 0,
+            repeat: 0,
+            batch: MAX_BOUND,
+        },
+        every: 0,
+        until: None,
+    }
+}
+
+#[test]
+fn walks_of_three_members_decide(rt: HostRuntime) -> Result<(), Fail> {
+    for seed in 0..20 {
+        assert_eq!(rt; posts(rt.alloc(), &options(seed))?, (true, 8));
+    }
+    Ok(())
+}
+
+// Whether the walk posts a batch, and how many submissions it has.
+fn posts(alloc: Global, options: &WalkOptions) -> Result<(bool, usize), WalkFault>
+    requires { IsInRange options.now }
+{
+    let world = walk(alloc, options)?;
+    Ok((world.posted() > 0, submissions(&world)))
+}
+
+fn submissions(world: &World) -> usize {
+    world
+        .record()
+        .iter()
+        .filter(|step| is_submission(step))
+        .count()
+}
+
+fn is_submission(step: &Step) -> bool {
+    match step {
+        Step::Submit(_, _) => true,
+        _ => false,
+    }
+}
+
+// Whether the walk of the options has the record of the world.
+fn has_record(alloc: Global, options: &WalkOptions, world: &World) -> Result<bool, WalkFault>
+    requires { IsInRange options.now }
+{
+    Ok(walk(alloc, options)?.record() == world.record())
+}
+
+// Whether the walks of the options, and of the others, have the record of a walk of the options.
+fn compared(
+    alloc: Global,
+    options: &WalkOptions,
+    others: &WalkOptions,
+) -> Result<[bool; 2], WalkFault>
+    requires options { IsInRange options.now }
+    requires others { IsInRange others.now }
+{
+    let world = walk(alloc, options)?;
+    let same = has_record(alloc, options, &world)?;
+    Ok([same, has_record(alloc, others, &world)?])
+}
+
+#[test]
+fn the_same_options_give_the_same_record(rt: HostRuntime) -> Result<(), Fail> {
+    assert_eq!(rt;
+        compared(rt.alloc(), &options(1), &options(2))?,
+        [true, false]
+    );
+    Ok(())
+}
+
+// Whether eight submissions come first, and then the crash.
+fn begins_with_all(world: &World) -> bool {
+    world
+        .record()
+        .get(..8)
+        .is_some_and(|first| first.iter().all(is_submission))
+        && world.record().get(8) == Some(&Step::Crash(2))
+        && world.crashed(2)
+}
+
+fn submits_first(alloc: Global, options: &WalkOptions) -> Result<bool, WalkFault>
+    requires { IsInRange options.now }
+{
+    Ok(begins_with_all(&walk(alloc, options)?))
+}
+
+// How many submissions the walk has, and whether the second member crashed.
+fn submits(alloc: Global, options: &WalkOptions) -> Result<(usize, bool), WalkFault>
+    requires { IsInRange options.now }
+{
+    let world = walk(alloc, options)?;
+    Ok((submissions(&world), world.crashed(2)))
+}
+
+#[test]
+fn submissions_are_spread(rt: HostRuntime) -> Result<(), Fail> {
+    let mut spread = options(1);
+    spread.every = 1;
+    spread.run.crash = 2;
+    assert!(rt; submits_first(rt.alloc(), &spread)?);
+    spread.every = 1000;
+    spread.run.postpone = 5;
+    assert_eq!(rt; submits(rt.alloc(), &spread)?, (3, false));
+    Ok(())
+}
+
+fn is_loss(step: &Step) -> bool {
+    match step {
+        Step::Lose(_, _) => true,
+        _ => false,
+    }
+}
+
+fn is_repetition(step: &Step) -> bool {
+    match step {
+        Step::Repeat(_, _) => true,
+        _ => false,
+    }
+}
+
+// Whether the walk has a loss, and whether it has a repetition.
+fn lost_and_repeated(alloc: Global, options: &WalkOptions) -> Result<(bool, bool), WalkFault>
+    requires { IsInRange options.now }
+{
+    let world = walk(alloc, options)?;
+    let record = world.record();
+    Ok((record.iter().any(is_loss), record.iter().any(is_repetition)))
+}
+
+#[test]
+fn envelopes_are_lost_and_repeated(rt: HostRuntime) -> Result<(), Fail> {
+    let mut lossy = options(1);
+    lossy.run.lose = 20;
+    assert_eq!(rt; lost_and_repeated(rt.alloc(), &lossy)?, (true, false));
+    lossy.run.repeat = 20;
+    assert_eq!(rt; lost_and_repeated(rt.alloc(), &lossy)?, (true, true));
+    Ok(())
+}
+
+// Whether the bound is 1, and several batches have one message each.
+fn is_bounded(world: &World) -> bool {
+    world.bound() == 1
+        && world.posted() > 1
+        && (1..=world.posted()).all(|k| world.batch(k.into()).is_some_and(|batch| batch.len() == 1))
+}
+
+fn is_bounded_walk(alloc: Global, options: &WalkOptions) -> Result<bool, WalkFault>
+    requires { IsInRange options.now }
+{
+    Ok(is_bounded(&walk(alloc, options)?))
+}
+
+#[test]
+fn batches_are_bounded(rt: HostRuntime) -> Result<(), Fail> {
+    let mut bounded = options(1);
+    bounded.run.batch = 1;
+    assert!(rt; is_bounded_walk(rt.alloc(), &bounded)?);
+    Ok(())
+}
+
+fn is_decided(world: &World) -> bool {
+    (1..=3).any(|member| world.last_decided(member) == Some(1))
+}
+
+fn is_in_round(world: &World, wanted: Round) -> bool {
+    (1..=3).any(|member| world.round(member).is_some_and(|round| round.0 == wanted))
+}
+
+// Whether the world's record is the begin of the walk's, and not all of it.
+fn is_part(alloc: Global, whole: &WalkOptions, world: &World) -> Result<bool, WalkFault>
+    requires { IsInRange whole.now }
+{
+    let whole = walk(alloc, whole)?;
+    let is_shorter = world.record().len() < whole.record().len();
+    Ok(is_shorter && whole.record().starts_with(world.record()))
+}
+
+fn stops_at_a_decision(
+    alloc: Global,
+    until: &WalkOptions,
+    whole: &WalkOptions,
+) -> Result<bool, WalkFault>
+    requires until { IsInRange until.now }
+    requires whole { IsInRange whole.now }
+{
+    let world = walk(alloc, until)?;
+    Ok(is_decided(&world) && is_part(alloc, whole, &world)?)
+}
+
+fn stops_in_round(alloc: Global, until: &WalkOptions, wanted: Round) -> Result<bool, WalkFault>
+    requires { IsInRange until.now }
+{
+    Ok(is_in_round(&walk(alloc, until)?, wanted))
+}
+
+#[test]
+fn a_walk_stops_at_what_it_is_made_until(rt: HostRuntime) -> Result<(), Fail> {
+    let mut until = options(3);
+    until.until = Some(Sight::Decided(1));
+    assert!(rt; stops_at_a_decision(rt.alloc(), &until, &options(3))?);
+    until.until = Some(Sight::Round(2));
+    assert!(rt; stops_in_round(rt.alloc(), &until, 2)?);
+    Ok(())
+}
+
+// Whether the walk that is found comes to the round, where one is found.
+fn found_round(
+    alloc: Global,
+    sought: &WalkOptions,
+    seeds: u32,
+    wanted: Round,
+) -> Result<Option<bool>, WalkFault>
+    requires range { IsInRange sought.now }
+    requires seeds { 1 + seeds ≤ 4294967295 }
+{
+    let found = find(alloc, sought, 1, seeds)?;
+    match &found {
+        Some(world) => Ok(Some(is_in_round(world, wanted))),
+        None => Ok(None),
+    }
+}
+
+#[test]
+fn the_first_seed_that_shows_it_is_found(rt: HostRuntime) -> Result<(), Fail> {
+    let mut sought = options(0);
+    sought.until = Some(Sight::Round(6));
+    assert_eq!(rt; found_round(rt.alloc(), &sought, 100, 6)?, Some(true));
+    sought.until = Some(Sight::Round(5000));
+    assert_eq!(rt; found_round(rt.alloc(), &sought, 2, 5000)?, None);
+    Ok(())
+}
+
+#[test]
+fn one_member_and_no_turns_are_walked(rt: HostRuntime) -> Result<(), Fail> {
+    let mut alone = options(1);
+    alone.run.members = 1;
+    assert_eq!(rt; posts(rt.alloc(), &alone)?, (true, 8));
+    alone.run.turns = 0;
+    alone.run.submit = 0;
+    assert_eq!(rt; steps_of(rt.alloc(), &alone)?, 0);
+    Ok(())
+}
+
+fn steps_of(alloc: Global, options: &WalkOptions) -> Result<usize, WalkFault>
+    requires { IsInRange options.now }
+{
+    Ok(walk(alloc, options)?.record().len())
+}

@@ -1,0 +1,99 @@
+# Completion of ct in bash: its subcommands, their options, and files where a file is wanted.
+# docs/man/make.py writes this file from what ct --help prints.
+
+# What follows each subcommand, and with an empty word what follows the program: its options, those that take values
+# with what each value is, and its operands. `command` is a subcommand, `file` a file, `a|b` one of these words, `any`
+# what isn't known; with + behind it any number of words.
+_ct_words() {
+    case $1 in
+    '')
+        commands='replay free help'
+        options='-h --help -V --version'
+        values=''
+        operands='command'
+        ;;
+    replay)
+        options='-h --help'
+        values=''
+        operands=''
+        ;;
+    free)
+        options='--members --turns --seed --rate --cells --submit --crash --postpone --lose --repeat --batch -h --help'
+        values='--members=any --turns=any --seed=any --rate=any --cells=any --submit=any --crash=any --postpone=any --lose=any'
+        values+=' --repeat=any --batch=any'
+        operands=''
+        ;;
+    help)
+        options=''
+        values=''
+        operands='command+'
+        ;;
+    *)
+        options='' values='' operands=''
+        ;;
+    esac
+}
+
+# Leaves in `wanted` what the values of the option are.
+_ct_wants() {
+    local value
+    wanted=()
+    for value in $values; do
+        [[ $value != "$1="* ]] || IFS=, read -ra wanted <<<"${value#*=}"
+    done
+}
+
+# Answers for a word of this kind.
+_ct_answer() {
+    case $1 in
+    command)
+        mapfile -t COMPREPLY < <(compgen -W "$commands" -- "$2")
+        ;;
+    file)
+        compopt -o filenames -o bashdefault -o default 2>/dev/null
+        mapfile -t COMPREPLY < <(compgen -f -- "$2")
+        ;;
+    any) ;;
+    *)
+        mapfile -t COMPREPLY < <(compgen -W "${1//|/ }" -- "$2")
+        ;;
+    esac
+}
+
+# Goes through the words before the one that is completed, to know what is wanted there.
+_ct() {
+    local commands options values operands wanted=() left command='' plain='' at before kind
+    local word=${COMP_WORDS[COMP_CWORD]}
+    COMPREPLY=()
+    _ct_words ''
+    read -ra left <<<"$operands"
+    for ((at = 1; at < COMP_CWORD; at++)); do
+        before=${COMP_WORDS[at]}
+        if [[ $before == '=' ]]; then
+            continue
+        elif [[ $before == [\<\>]* ]]; then
+            wanted=(file "${wanted[@]}")
+        elif [[ ! $plain && $before == -- ]]; then
+            plain=yes wanted=()
+        elif [[ ! $plain && $before == -?* ]]; then
+            _ct_wants "$before"
+        elif [[ ${#wanted[@]} -gt 0 ]]; then
+            [[ ${wanted[0]} == *+ ]] || wanted=("${wanted[@]:1}")
+        elif [[ ! $command ]]; then
+            command=$before
+            _ct_words "$command"
+            read -ra left <<<"$operands"
+        elif [[ ${left[0]-} != *+ ]]; then
+            left=("${left[@]:1}")
+        fi
+    done
+    [[ $word != [\<\>]* ]] || wanted=(file)
+    [[ $word != [=\<\>]* ]] || word=''
+    kind=${wanted[0]-${left[0]-}}
+    if [[ ! $plain && ( $word == -* || ! $kind ) ]]; then
+        kind=${options// /|}
+    fi
+    _ct_answer "${kind%+}" "$word"
+}
+
+complete -F _ct ct

@@ -1,0 +1,44 @@
+#!/usr/bin/env python3
+"""Runs broadcast.py against a session of `ct_tool`, which judges each step as it happens.
+
+    rehearse.py [--tool PROGRAM] [--runs R] [--members N] [--seed S] [--turns T] [--submit M] [--crash C]
+
+With --runs R runs the seeds S, S + 1, .. are rehearsed. Ends with status 0 where each step is allowed and each member delivered what
+the judge says, else with the first line that is refused and status 1.
+"""
+import sys
+
+import broadcast
+import session
+
+
+def rehearse(options):
+    """The number of lines, and of messages that the member with most of them delivered."""
+    with session.Session(options.tool) as judge:
+        run = broadcast.Run(options, judge.tell)
+        try:
+            run.play()
+            for line in run.expectations():
+                judge.tell(line)
+        except session.Refused as fault:
+            raise session.Refused(f"seed {options.seed}, line {judge.lines}: {fault}") from None
+        return judge.lines, max(len(member.delivered) for member in run.members.values())
+
+
+def main():
+    made = broadcast.parser(__doc__)
+    made.add_argument("--tool", default=session.TOOL, metavar="PROGRAM", help="the built ct_tool (default that of crates/)")
+    made.add_argument("--runs", type=int, default=1, metavar="R", help="how many seeds (default 1)")
+    options = broadcast.parsed(made)
+    for options.seed in range(options.seed, options.seed + options.runs):
+        try:
+            lines, delivered = rehearse(options)
+        except session.Refused as fault:
+            print(fault, file=sys.stderr)
+            return 1
+        print(f"seed {options.seed}: {lines} lines, {delivered} delivered")
+    return 0
+
+
+if __name__ == "__main__":
+    sys.exit(main())

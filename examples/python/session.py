@@ -1,0 +1,56 @@
+"""A session with `ct_tool interact`: one line in, one answer out."""
+import os
+import subprocess
+
+HERE = os.path.dirname(os.path.abspath(__file__))
+TOOL = os.path.join(HERE, "..", "..", "crates", "ct_tool", "out", "ct_tool")
+TAKEN = ("ok", "enabled", "next", "state", "report")   # how an answer to a line that was taken begins
+
+
+class Refused(Exception):
+    """A line that the session refused; its text is the answer."""
+
+
+class Session:
+    """A run that is judged line by line. Use it in `with`, or call `close`.
+
+    tool: the program; record: a file that the record is written to in the end.
+    """
+
+    def __init__(self, tool=TOOL, record=None):
+        words = [tool, "interact"] + (["--record", record] if record else [])
+        self.lines = 0   # lines told, the refused ones too
+        self.process = subprocess.Popen(words, stdin=subprocess.PIPE, stdout=subprocess.PIPE, universal_newlines=True,
+                                        bufsize=1)
+
+    def tell(self, line):
+        """The serials of the envelopes that the line's steps sent, or Refused."""
+        words = self.ask(line).split()
+        if words[0] != "ok":
+            raise AssertionError(f"a question is to be asked: {line}")
+        first, _, last = words[1].partition("-") if len(words) > 1 else ("1", "", "0")
+        return range(int(first), int(last or first) + 1)
+
+    def ask(self, line):
+        """The answer to the line, without its line feed, or Refused."""
+        self.process.stdin.write(line.rstrip("\n") + "\n")
+        answer = self.process.stdout.readline()
+        self.lines += 1
+        if not answer.endswith("\n"):
+            raise EOFError(f"no answer to line {self.lines}: {line}")
+        answer = answer[:-1]
+        if answer.split(" ")[0] not in TAKEN:
+            raise Refused(answer)
+        return answer
+
+    def close(self):
+        """Ends the session and gives its status."""
+        self.process.stdin.close()
+        self.process.stdout.close()
+        return self.process.wait()
+
+    def __enter__(self):
+        return self
+
+    def __exit__(self, *_):
+        self.close()
