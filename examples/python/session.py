@@ -2,8 +2,7 @@
 import os
 import subprocess
 
-HERE = os.path.dirname(os.path.abspath(__file__))
-TOOL = os.path.join(HERE, "..", "..", "crates", "ct_tool", "out", "ct_tool")
+TOOL = os.path.join(os.path.dirname(os.path.abspath(__file__)), "..", "..", "crates", "ct_tool", "out", "ct_tool")
 TAKEN = ("ok", "enabled", "next", "state", "report")   # how an answer to a line that was taken begins
 
 
@@ -12,24 +11,20 @@ class Refused(Exception):
 
 
 class Session:
-    """A run that is judged line by line. Use it in `with`, or call `close`.
-
-    tool: the program; record: a file that the record is written to in the end.
-    """
+    """A run that `tool` judges line by line, and whose record it writes to `record` in the end. Use it in `with`, or `close` it."""
 
     def __init__(self, tool=TOOL, record=None):
         words = [tool, "interact"] + (["--record", record] if record else [])
         self.lines = 0   # lines told, the refused ones too
-        self.process = subprocess.Popen(words, stdin=subprocess.PIPE, stdout=subprocess.PIPE, universal_newlines=True,
-                                        bufsize=1)
+        self.process = subprocess.Popen(words, stdin=subprocess.PIPE, stdout=subprocess.PIPE, text=True, bufsize=1)
 
     def tell(self, line):
         """The serials of the envelopes that the line's steps sent, or Refused."""
-        words = self.ask(line).split()
-        if words[0] != "ok":
+        word, _, serials = self.ask(line).partition(" ")
+        if word != "ok":
             raise AssertionError(f"a question is to be asked: {line}")
-        first, _, last = words[1].partition("-") if len(words) > 1 else ("1", "", "0")
-        return range(int(first), int(last or first) + 1)
+        first, _, last = serials.partition("-")
+        return range(int(first), int(last or first) + 1) if serials else range(0)
 
     def ask(self, line):
         """The answer to the line, without its line feed, or Refused."""
@@ -38,10 +33,9 @@ class Session:
         self.lines += 1
         if not answer.endswith("\n"):
             raise EOFError(f"no answer to line {self.lines}: {line}")
-        answer = answer[:-1]
-        if answer.split(" ")[0] not in TAKEN:
-            raise Refused(answer)
-        return answer
+        if answer.split()[0] not in TAKEN:
+            raise Refused(answer[:-1])
+        return answer[:-1]
 
     def close(self):
         """Ends the session and gives its status."""

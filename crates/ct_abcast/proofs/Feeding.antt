@@ -1,20 +1,20 @@
 -- What is pending, in order.
-use Rattle.std.proofs.Common.{◌≡◌, ℕ, suc, ◌+◌, ◌<◌, ◌≤◌, Bool, true, false, cond}
-use Rattle.std.proofs.Common.{not, ◌&&◌, ◌||◌, List, [], ◌∷◌, ◌++◌, length, get_or, take}
-use Rattle.std.proofs.Common.{map, Less, refl, sym, ap, ◌∙◌, subst, arith, length-append}
+use Rattle.std.proofs.Common.{◌≡◌, ℕ, ◌+◌, ◌<◌, ◌≤◌, Bool, true, false, cond, not, ◌&&◌, ◌||◌, List, [], ◌∷◌, ◌++◌, length, get_or, take}
+use Rattle.std.proofs.Common.{map, sym, ap, ◌∙◌, subst, arith, length-append}
 use Rattle.std.specs.BTreeMap.{is_at}
-use Rattle.std.specs.List.{AllByRecursion, list_any}
+use Rattle.std.specs.List.{list_any}
 use Rattle.std.specs.List.Sorted.{IsStrictlySortedBy}
 use Rattle.std.specs.Ordering.{is_eq}
 use Rattle.std.proofs.lemmas.List.{take_all, take_more, take-append-le, map_push}
-use Rattle.std.proofs.lemmas.List.Sums.{length-filter, count_by-le-length}
 use Rattle.ct_names.specs.contracts.message.MessageOrd.TheImpl.{ghosts}
 use Rattle.ct_names.specs.Message.{Message}
 use Rattle.ct_names.specs.Order.{is_message}
-use Rattle.ct_names.specs.Value.{has, minus, first_occurrences, placed, sorted, ordered, IsOrdered}
-use Rattle.ct_names.proofs.Orders.{order, less-before, message-order, same_cmp}
+use Rattle.ct_names.specs.Value.{has, minus, ordered, IsOrdered}
+use Rattle.ct_names.proofs.Orders.{order, message-order, same_cmp}
 use Rattle.ct_names.proofs.Receipts.{has-push}
-use Rattle.ct_names.proofs.Sets.{IsBeforeAll, IsRising, set-rising, set-take, same_ordered, has-ordered}
+use Rattle.ct_names.proofs.Sorting.{rising-strict}
+use Rattle.ct_names.proofs.Values.{length-ordered}
+use Rattle.ct_names.proofs.Sets.{set-rising, set-take, same_ordered, has-ordered}
 use Rattle.ct_abcast.specs.Batches.{joined, batch_after}
 use Rattle.ct_abcast.specs.Ordered.{Fed, IsFed}
 use Rattle.ct_abcast.specs.Pending.{IsPending}
@@ -37,15 +37,6 @@ pub tree-updated : (old new : List Message) (message : Message) (b : Bool) →
     ≡ cond (is_at (ghosts.cmp message) q) b (list_any (is_at (ghosts.cmp q)) old)) → (m : Message) →
     has new m ≡ cond (is_message message m) b (has old m)
 tree-updated old new message b h m = sym (tree-has new m) ∙ (h m ∙ (λ i. cond (at-is message m i) b (tree-has old m i)))
-
-before_all-less : (m : Message) (list : List Message) → AllByRecursion (λ other. order m other ≡ Less) list → IsBeforeAll m list
-before_all-less m [] h = tt
-before_all-less m (x ∷ list) h = (less-before m x h.0, before_all-less m list h.1)
-
-rising-strict : (list : List Message) → IsStrictlySortedBy order list → IsRising list
-unfolding IsStrictlySortedBy
-rising-strict [] h = tt
-rising-strict (m ∷ list) h = (before_all-less m list h.0, rising-strict list h.1)
 
 -- the keys of the tree are a set
 pub tree-set : (keys : List Message) → IsStrictlySortedBy ghosts.cmp keys → IsOrdered keys
@@ -70,34 +61,11 @@ set-more message set before x is =
 
 pub set-first : (set some keys : List Message) (bound : ℕ) → IsOrdered keys → set ≡ ordered some → some ≡ take bound keys →
     set ≡ take bound (ordered keys)
-set-first set some keys bound h set_is some_is =
-    set_is ∙ (ap ordered some_is ∙ (set-take bound keys h ∙ ap (take bound) (sym h)))
+set-first set some keys bound h set_is some_is = grind (arith, set-take bound keys h)
 
 -- a bound that is not below the number of messages bounds nothing
-
-first_occurrences-shorter : (list : List Message) → length (first_occurrences list) ≤ length list
-first_occurrences-shorter [] = omega arith
-first_occurrences-shorter (m ∷ list) =
-    let rest = first_occurrences-shorter list in
-    let test : Message → Bool = λ other. not (is_message m other) in
-    let counted = length-filter test (first_occurrences list) in
-    let others = count_by-le-length test (first_occurrences list) in
-    omega arith
-
-length-placed : (m : Message) (list : List Message) → length (placed m list) ≡ suc (length list)
-length-placed m [] = refl
-length-placed m (other ∷ list) = grind (arith, length-placed m list)
-
-length-sorted : (list : List Message) → length (sorted list) ≡ length list
-length-sorted [] = refl
-length-sorted (m ∷ list) = length-placed m (sorted list) ∙ ap suc (length-sorted list)
-
 pub take-few : (list : List Message) (bound : ℕ) → length list ≤ bound → take bound (ordered list) ≡ ordered list
-unfolding ordered
-take-few list bound few =
-    let all = length-sorted (first_occurrences list) in
-    let once = first_occurrences-shorter list in
-    take_all bound (sorted (first_occurrences list)) (omega arith)
+take-few list bound few = take_all bound (ordered list) (omega (arith, length-ordered list))
 
 -- what was fed is right when nothing was fed
 pub fed-none : (f : Fed) (received delivered : List Message) → f.fed ≡ 0 → f.messages ≡ [] → IsFed f received delivered
@@ -110,9 +78,7 @@ fed-none f received delivered none empty = record {
 module _ (f next : Fed) (received delivered : List Message) (message : Message) (h : IsFed f received delivered)
     (low : f.fed < length received) (is : message ≡ get_or received f.fed message) (moved : next.fed ≡ f.fed + 1) where
   taken : take next.fed received ≡ take f.fed received ++ message ∷ []
-  taken =
-      ap (λ n. take n received) moved
-      ∙ (take_more received f.fed message low ∙ ap (λ m. take f.fed received ++ m ∷ []) (sym is))
+  taken = grind (arith, take_more received f.fed message low)
 
   pub fed-more : false ≡ has delivered message →
       ((m : Message) → has next.messages m ≡ cond (is_message message m) true (has f.messages m)) → IsFed next received delivered

@@ -2,6 +2,7 @@
 use Rattle.std.proofs.Common.{◌≡◌, ℕ, zero, suc, ◌-◌, ◌≤◌, ◌<◌, List, [], ◌∷◌, ◌++◌, length, get_or, take, drop, slice_get, Some, None}
 use Rattle.std.proofs.Common.{refl, sym, ap, ◌∙◌, subst, arith, length-append, length-drop, Option, inl, inr}
 use Rattle.std.specs.Prelude.{slice_range}
+use Rattle.std.proofs.lemmas.Grind.{get_or_default_zero}
 use Rattle.std.proofs.lemmas.List.{drop_all, drop-append-le, take-append-le, take_all}
 use Rattle.std.proofs.lemmas.List.Folds.{drop_split}
 use Rattle.std.proofs.lemmas.Option.{slice_get_past}
@@ -10,7 +11,7 @@ use Rattle.std.specs.Option.{option_map}
 use Rattle.std.specs.Slice.{IsGetRangeResult}
 use denote.Ref.{Bor}
 use Rattle.ct_names.specs.Message.{Message}
-use Rattle.ct_names.specs.Value.{Value, minus, ordered, IsOrdered}
+use Rattle.ct_names.specs.Value.{Value, minus, IsOrdered}
 use Rattle.ct_names.proofs.Sets.{set-minus}
 use Rattle.ct_abcast.specs.Batches.{joined, batch_after}
 use Rattle.ct_abcast.specs.Ends.{parts, AreEnds}
@@ -26,8 +27,7 @@ ends-low start (end ∷ ends) last h = let low = ends-low end ends last h.1 in o
 joined-from : (start : ℕ) (ends : List ℕ) (list : List Message) → AreEnds start ends (length list) →
     joined (parts start ends list) ≡ drop start list
 joined-from start [] list h = sym (drop_all start list (omega (arith, h)))
-joined-from start (end ∷ ends) list h =
-    ap (λ rest. slice_range list start end ++ rest) (joined-from end ends list h.1) ∙ sym (drop_split list start end h.0)
+joined-from start (end ∷ ends) list h = grind (arith, joined-from end ends list h.1, drop_split list start end h.0)
 
 -- the parts joined are the list
 pub joined-parts : (ends : List ℕ) (list : List Message) → AreEnds 0 ends (length list) → joined (parts 0 ends list) ≡ list
@@ -43,10 +43,7 @@ range-append list more start end low high =
 parts-from : (start : ℕ) (ends : List ℕ) (list more : List Message) → AreEnds start ends (length list) →
     parts start (ends ++ length (list ++ more) ∷ []) (list ++ more) ≡ parts start ends list ++ more ∷ []
 parts-from start [] list more h =
-    let rest : drop start (list ++ more) ≡ more = ap (λ n. drop n (list ++ more)) h ∙ drop-append_seam list more in
-    let size : length (list ++ more) - start ≡ length more = let l = length-append list more in omega (arith, h) in
-    ap (λ part. part ∷ []) (ap (λ n. take n (drop start (list ++ more))) size ∙ ap (λ zs. take (length more) zs) rest
-    ∙ take_all (length more) more (omega arith))
+    grind (arith, drop-append_seam list more, length-append list more, take_all (length more) more (omega arith))
 parts-from start (end ∷ ends) list more h =
     let high = ends-low end ends (length list) h.1 in
     let first = range-append list more start end h.0 high in
@@ -78,18 +75,11 @@ part-from start (end ∷ ends) list (suc k) h low =
     let p = part-from end ends list k h.1 (omega arith) in
     record { rising = p.rising; within = p.within; part = p.part }
 
-within-default : (ends : List ℕ) (k d : ℕ) → k < length ends → get_or ends k d ≡ get_or ends k 0
-within-default [] k d low = absurd (omega arith)
-within-default (end ∷ ends) zero d low = refl
-within-default (end ∷ ends) (suc k) d low = within-default ends k d (omega arith)
-
 -- a part but the first starts where the part before ends
 pub start-before : (ends : List ℕ) (k start : ℕ) → 0 < k → k < length ends → start ≡ get_or ends (k - 1) start →
     start ≡ get_or (0 ∷ ends) k 0
 start-before ends zero start low high is = absurd (omega arith)
-start-before ends (suc k) start low high is =
-    let same : suc k - 1 ≡ k = omega arith in
-    is ∙ (ap (λ j. get_or ends j start) same ∙ within-default ends k start (omega arith))
+start-before ends (suc k) start low high is = grind (arith, get_or_default_zero ends k start (omega arith))
 
 -- what `get` of the range lends
 part-got : (list : List Message) (from to : ℕ) (r : Option (Bor (List Message))) → from ≤ to → to ≤ length list →
@@ -123,12 +113,9 @@ delivered-ends ends next list all more h all_is next_is =
 
 pub delivered-parts : (ends next : List ℕ) (list all more : List Message) → AreEnds 0 ends (length list) → all ≡ list ++ more →
     next ≡ ends ++ length all ∷ [] → parts 0 next all ≡ parts 0 ends list ++ more ∷ []
-delivered-parts ends next list all more h all_is next_is =
-    ap (λ z. parts 0 z all) next_is
-    ∙ (ap (λ z. parts 0 (ends ++ length z ∷ []) z) all_is ∙ parts-push ends list more h)
+delivered-parts ends next list all more h all_is next_is = grind (arith, parts-push ends list more h)
 
 -- what is new of the set is the batch
 pub batch-is : (ends : List ℕ) (list : List Message) (v : Value) → AreEnds 0 ends (length list) → IsOrdered v →
     minus v list ≡ batch_after (parts 0 ends list) v
-batch-is ends list v h set =
-    sym (set-minus v list set) ∙ ap (λ z. ordered (minus v z)) (sym (joined-parts ends list h))
+batch-is ends list v h set = grind (arith, set-minus v list set, joined-parts ends list h)

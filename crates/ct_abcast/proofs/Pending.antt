@@ -57,9 +57,7 @@ pub taken-more : (pending before now : List Message) (messages more : List Messa
     ((m : Message) → has before m ≡ (has pending m && not (has messages m))) → more ≡ messages ++ message ∷ [] →
     ((m : Message) → has now m ≡ cond (is_message message m) false (has before m)) → (m : Message) →
     has now m ≡ (has pending m && not (has more m))
-taken-more pending before now messages more message h is updated m =
-    let more_is : has more m ≡ (has messages m || is_message message m) = rw is (has-push messages message m) in
-    grind (arith, updated m, h m, more_is)
+taken-more pending before now messages more message h is updated m = grind (arith, has-push messages message m)
 
 -- what stays pending after one more batch
 pub pending-left : (pending now received : List Message) (old new : List (List Message)) (v : List Message) →

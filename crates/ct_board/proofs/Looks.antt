@@ -1,4 +1,5 @@
 -- What a look and a comparison make of a list of notes, at one place.
+use Rattle.std.proofs.lemmas.Bool.Decides.{nat_tests}
 use Rattle.std.proofs.Common.{◌≡◌, ℕ, ◌+◌, ◌<◌, List, [], ◌∷◌, ◌++◌, take, Option, Some, None, length, get_or, set, replicate, sym, ◌∙◌, ap}
 use Rattle.std.proofs.Common.{arith, IfSome, IfNone, Bor, get_or-set_other, get_or-set_same, inl, inr}
 use Rattle.std.specs.Option.{MatchOption}
@@ -20,13 +21,11 @@ Tells answer old new = MatchOption answer ((old ≡ None) × (new ≡ None)) (λ
 
 known_at : (notes : List (Note Batch)) (i : ℕ) (at : Note Batch) → i < length notes → at ≡ get_or notes i at →
     get_or (known_of notes) i None ≡ at.known
-known_at notes i at below is =
-    get_or-map (λ (n : Note Batch). n.known) notes i at None below ∙ ap (λ (n : Note Batch). n.known) (sym is)
+known_at notes i at below is = grind (arith, nat_tests, get_or-map (λ (n : Note Batch). n.known) notes i at None below)
 
 cell_at : (notes : List (Note Batch)) (i : ℕ) (at : Note Batch) → i < length notes → at ≡ get_or notes i at →
     get_or (cells_of notes) i 0 ≡ at.cell
-cell_at notes i at below is =
-    get_or-map (λ (n : Note Batch). n.cell) notes i at 0 below ∙ ap (λ (n : Note Batch). n.cell) (sym is)
+cell_at notes i at below is = grind (arith, nat_tests, get_or-map (λ (n : Note Batch). n.cell) notes i at 0 below)
 
 -- two notes of one cell that know the same are the same
 same_note : (a b : Note Batch) → a.cell ≡ b.cell → a.known ≡ b.known → a ≡ b
@@ -41,8 +40,7 @@ cells_of-set notes i at new is cell =
 pub known_of-set : (answer : Option (Bor Batch)) (notes : List (Note Batch)) (i : ℕ) (old : Option Batch) (new : Note Batch) →
     Tells answer old new.known → IfSome answer (λ batch. known_of (set notes i new) ≡ set (known_of notes) i (Some batch.now))
 known_of-set None notes i old new tells = tt
-known_of-set (Some batch) notes i old new tells =
-    map-set (λ (n : Note Batch). n.known) notes i new ∙ ap (λ k. set (known_of notes) i k) tells.0
+known_of-set (Some batch) notes i old new tells = grind (arith, nat_tests, map-set (λ (n : Note Batch). n.known) notes i new)
 
 -- with no answer nothing changes
 pub notes_same : (answer : Option (Bor Batch)) (notes : List (Note Batch)) (i : ℕ) (at new : Note Batch) → at ≡ get_or notes i at →

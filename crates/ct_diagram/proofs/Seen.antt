@@ -3,12 +3,21 @@ use Rattle.std.proofs.Common.{◌≡◌, ℕ, List, Option, Result, Ok, Err, ref
 use Rattle.std.specs.Prelude.{IfSome}
 use Rattle.std.specs.Io.KnownBytes.{Appends}
 use Rattle.ct_model.specs.Rehearsal.{Rehearsal}
+use Rattle.ct_program.specs.declared.program_fault.ProgramFault.TheVariants as of
 use Rattle.ct_program.specs.declared.read_fault.ReadFault.{ReadFault}
 use Rattle.ct_program.specs.Replay.{read_part}
 use Rattle.ct_program.specs.Script.{script}
 use Rattle.ct_show.proofs.Seen.{input_seen}
+use Rattle.ct_diagram.specs.declared.fault.DiagramFault.{DiagramFault}
+use Rattle.ct_diagram.specs.declared.fault.DiagramFault.TheVariants.{Program}
 use Rattle.ct_diagram.specs.declared.window.Window.{Window}
-use Rattle.ct_diagram.specs.Running.{Draws, IsDiagramOf}
+use Rattle.ct_diagram.specs.Running.{Draws, FailsOn, IsDiagramOf, IsOfDrawing}
+
+pub drawing_fails : (window : Window) (fault : DiagramFault) (read : Result Rehearsal ReadFault) → IsOfDrawing window fault read →
+    FailsOn window fault read
+drawing_fails window (Program of.Reader) read h = absurd h
+drawing_fails window (Program of.Write) read h = absurd h
+drawing_fails window fault read h = h
 
 pub draws : (window : Window) (read : Result Rehearsal ReadFault) (text out : List ℕ) (old new : Option (List ℕ)) →
     IsDiagramOf window read text → out ≡ text → Appends old new out → Draws window read old new

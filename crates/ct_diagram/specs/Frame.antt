@@ -1,7 +1,8 @@
 -- What stands around the steps: how things look, the members' lines, and what the signs mean.
 use Rattle.std.specs.Prelude.{ℕ, zero, suc, ◌+◌, ◌-◌, ◌*◌, ◌/◌, nat_lt, if◌then◌else◌, List, [], ◌∷◌, ◌++◌, codes, decimal}
 use Rattle.std.specs.List.{concat}
-use Rattle.ct_diagram.specs.declared.frame.TheConstants.{STYLE, LEGEND}
+use Rattle.ct_show.specs.declared.details.TheConstants.{LETTERS, OTHER_LETTERS}
+use Rattle.ct_diagram.specs.declared.frame.TheConstants.{STYLE, LINES, SHADES}
 use Rattle.ct_diagram.specs.declared.grid.TheConstants.{COLUMN, FIRST, ROW}
 use Rattle.ct_diagram.specs.Grid.{x_of, y_of}
 
@@ -41,6 +42,11 @@ lanes_text columns (suc k) = lanes_text columns k ++ lane_text columns (suc k)
 unfoldable pub below_text : ℕ → List ℕ
 below_text low = concat (codes "<g transform='translate(12 " ∷ decimal low ∷ codes ")'>\n" ∷ [])
 
+unfoldable pub legend_text : List ℕ
+legend_text =
+    concat (LINES.now ∷ codes "<text class='legend' x='0' y='18'>Steps: " ∷ LETTERS.now
+    ∷ codes ",</text>\n<text class='legend' x='0' y='32'>" ∷ OTHER_LETTERS.now ∷ codes ".\n " ∷ SHADES.now ∷ [])
+
 -- what they mean, below the members, and the end
 abbrev pub foot_text : ℕ → List ℕ
-foot_text n = below_text (ROW * n + 90) ++ LEGEND.now
+foot_text n = below_text (ROW * n + 90) ++ legend_text

@@ -5,33 +5,16 @@ use Rattle.std.specs.List.{concat}
 use Rattle.ct_model.specs.Actor.{actor}
 use Rattle.ct_model.specs.declared.envelope.Envelope.{Envelope}
 use Rattle.ct_model.specs.declared.step.Step.{Step}
-use Rattle.ct_model.specs.declared.step.Step.TheVariants.{Submit, Receive, Begin, Enter, Choose, Adopt, Suspect, Conclude, Deliver}
+use Rattle.ct_model.specs.declared.step.Step.TheVariants.{Receive, Begin, Enter, Choose, Adopt, Suspect, Conclude, Deliver}
 use Rattle.ct_model.specs.declared.step.Step.TheVariants.{Follow, Crash, Postpone, Lose, Repeat}
 use Rattle.ct_model.specs.Rehearsal.{Rehearsal, state_of}
-use Rattle.ct_show.specs.Details.{detail_text, instance_of, round_of, estimate_of}
+use Rattle.ct_show.specs.Details.{detail_text, estimate_of, instance_of, letter_of, round_of}
 use Rattle.ct_show.specs.Wires.{letter_at, round_text}
 use Rattle.ct_diagram.specs.Arrows.{kind_of}
 use Rattle.ct_diagram.specs.declared.drawn.Drawn.{Drawn}
 use Rattle.ct_diagram.specs.Grid.{x_of, y_of}
 
 -- ---- the sign
-
--- the letter of a step that is no receipt
-abbrev pub letter_of : Step → List ℕ
-letter_of (Submit p c) = codes "S"
-letter_of (Receive p k) = []
-letter_of (Begin p) = codes "B"
-letter_of (Enter p) = codes "E"
-letter_of (Choose p from) = codes "C"
-letter_of (Adopt p) = codes "A"
-letter_of (Suspect p) = codes "N"
-letter_of (Conclude p) = codes "K"
-letter_of (Deliver p) = codes "D"
-letter_of (Follow p) = codes "F"
-letter_of (Crash p) = codes "X"
-letter_of (Postpone p k) = codes "P"
-letter_of (Lose p k) = codes "L"
-letter_of (Repeat p k) = codes "R"
 
 -- how the mark of the record's last step looks, before which so many envelopes had been sent: a Conclude that sends decides
 abbrev pub class_of : Rehearsal → ℕ → Step → List ℕ

@@ -29,6 +29,12 @@ FailsOn window (Program Write) read = ⊤
 FailsOn window (Program Memory) read = ⊤
 FailsOn window fault read = IsOkAnd read (λ w. FailsWith window fault w)
 
+-- the same of a fault that comes before anything is written: it is of no stream
+abbrev pub IsOfDrawing : Window → DiagramFault → Result Rehearsal ReadFault → Type 0
+IsOfDrawing window (Program Reader) read = ⊥
+IsOfDrawing window (Program Write) read = ⊥
+IsOfDrawing window fault read = FailsOn window fault read
+
 -- this is the diagram of the record that was read
 abbrev pub IsDiagramOf : Window → Result Rehearsal ReadFault → List ℕ → Type 0
 IsDiagramOf window read text = IsOkAnd read (λ w. IsDiagram window w text)

@@ -1,7 +1,9 @@
 -- Which steps are drawn.
-use Rattle.std.specs.Prelude.{ℕ, ◌+◌, ◌-◌, Bool, ◌&&◌, nat_le, List, length}
+use Rattle.std.specs.Prelude.{ℕ, ◌+◌, ◌-◌, Bool, ◌&&◌, nat_le, List, length, codes, Option, Some}
+use Rattle.clap.specs.Words.{Row}
 use Rattle.ct_model.specs.declared.step.Step.{Step}
 use Rattle.ct_model.specs.Rehearsal.{Rehearsal}
+use Rattle.ct_program.specs.Line.{◌>>=◌, option_in}
 use Rattle.ct_world.specs.Replay.{first_steps}
 use Rattle.ct_diagram.specs.declared.window.Window.{Window}
 
@@ -16,3 +18,10 @@ part_of window w = first_steps w.setting w.cells w.steps window.to
 -- how many steps of such a record are drawn
 abbrev pub columns : Window → List Step → ℕ
 columns window steps = (length steps + 1) - window.from
+
+-- the window that the options of `diagram` ask for, where each value is a whole number of its range
+unfoldable pub window_of : List Row → Option Window
+window_of rows = do
+  from ← option_in rows (codes "from") 1 4294967295
+  to ← option_in rows (codes "to") 1 4294967295
+  Some (record { from = from; to = to })

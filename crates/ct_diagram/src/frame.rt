@@ -2,9 +2,10 @@
 
 ghost use Rattle.std.specs.Prelude.{◌≡◌, ◌≤◌, ◌++◌, OnOk, string_bytes};
 ghost use Rattle.ct_diagram.specs.Frame.{width, sizes_text, head_text, name_text, line_text, lane_text};
-ghost use Rattle.ct_diagram.specs.Frame.{lanes_text, below_text, foot_text};
+ghost use Rattle.ct_diagram.specs.Frame.{lanes_text, below_text, legend_text, foot_text};
 
 use crate::grid::{COLUMN, FIRST, ROW, x_of, y_of};
+use ct_show::{LETTERS, OTHER_LETTERS};
 use std::alloc::AllocError;
 
 // How things look.
@@ -60,21 +61,19 @@ path.stub{stroke-dasharray:3 3;marker-end:none}
 <rect y='36' style='width:100%;height:100%;fill:#fff'/>
 ";
 
-// What the signs mean, and the end.
-const LEGEND: &str = "<path class='data' d='M0 -4H30'/><text class='legend' x='34' y='0'>data</text>
+// What the lines of envelopes mean.
+const LINES: &str = "<path class='data' d='M0 -4H30'/><text class='legend' x='34' y='0'>data</text>
 <path class='est' d='M70 -4H100'/><text class='legend' x='104' y='0'>estimate</text>
 <path class='prop' d='M160 -4H190'/><text class='legend' x='194' y='0'>proposal</text>
 <path class='ack' d='M250 -4H280'/><text class='legend' x='284' y='0'>ack</text>
 <path class='nack' d='M315 -4H345'/><text class='legend' x='349' y='0'>nack</text>
 <path class='dec' d='M385 -4H415'/><text class='legend' x='419' y='0'>decision</text>
 <path class='data stub' d='M475 -4H505'/><text class='legend' x='509' y='0'>not received here</text>
-<text class='legend' x='0' y='18'>Steps: S submit, dot receive, B begin, E enter a round, C choose, A adopt, N suspect,
- K conclude (filled: decides),</text>
-<text class='legend' x='0' y='32'>D deliver, F follow, X crash, P postpone, L lose, R repeat.
- Behind them: odd rounds blue, even ones orange, crashed grey.</text>
-</g>
-</svg>
 ";
+
+// What the shades behind the steps mean, and the end.
+const SHADES: &str =
+    "Behind them: odd rounds blue, even ones orange, crashed grey.</text>\n</g>\n</svg>\n";
 
 // What stands before the steps: sizes for so many members and columns, and how things look.
 pub(crate) fn push_head(text: &mut String, n: u8, columns: usize) -> Result<(), AllocError>
@@ -150,7 +149,19 @@ pub(crate) fn push_foot(text: &mut String, n: u8) -> Result<(), AllocError>
     ensures { OnOk result (string_bytes text.new ≡ string_bytes text.old ++ foot_text n) }
 {
     push_below(text, ROW * usize::from(n) + 90)?;
-    text.push_str(LEGEND)
+    push_legend(text)
+}
+
+#[tactic(auto, unfolding(crate::specs::Frame::legend_text))]
+fn push_legend(text: &mut String) -> Result<(), AllocError>
+    ensures { OnOk result (string_bytes text.new ≡ string_bytes text.old ++ legend_text) }
+{
+    text.push_str(LINES)?;
+    write!(
+        text,
+        "<text class='legend' x='0' y='18'>Steps: {LETTERS},</text>\n<text class='legend' x='0' y='32'>{OTHER_LETTERS}.\n "
+    )?;
+    text.push_str(SHADES)
 }
 
 #[tactic(auto, unfolding(crate::specs::Frame::below_text))]

@@ -2,9 +2,9 @@
 
 ghost use Rattle.std.specs.Prelude.{◌≡◌, ◌≤◌, ◌+◌, ◌++◌, OnOk, string_bytes};
 ghost use Rattle.ct_model.specs.Actor.{actor};
-ghost use Rattle.ct_show.specs.Details.{instance_of, round_of};
+ghost use Rattle.ct_show.specs.Details.{instance_of, letter_of, round_of};
 ghost use Rattle.ct_show.specs.Wires.{round_text};
-ghost use Rattle.ct_diagram.specs.Marks.{letter_of, class_of, kind_at, dot_text, circle_text, letter_text, sign_text};
+ghost use Rattle.ct_diagram.specs.Marks.{class_of, kind_at, dot_text, circle_text, letter_text, sign_text};
 ghost use Rattle.ct_diagram.specs.Marks.{entered_text, falling_text, changed_text, note_text, who_text, title_text, mark_text};
 ghost use Rattle.ct_diagram.specs.Marks.{name_text, first_names, names_text, marks};
 
@@ -13,7 +13,7 @@ use crate::drawn::Drawn;
 use crate::grid::{x_of, y_of};
 use ct_model::Step;
 use ct_names::Member;
-use ct_show::{instance_of, push_detail, push_estimate_of, push_round, round_of};
+use ct_show::{instance_of, letter_of, push_detail, push_estimate_of, push_round, round_of};
 use ct_world::{Letter, World};
 use std::alloc::AllocError;
 
@@ -139,28 +139,6 @@ fn kind_at(letter: Option<Letter>) -> &'static str
     match letter {
         None => "",
         Some(letter) => kind_of(&letter.wire),
-    }
-}
-
-// The letter of a step.
-fn letter_of(step: Step) -> &'static str
-    ensures { result.now ≡ letter_of step }
-{
-    match step {
-        Step::Submit(_, _) => "S",
-        Step::Receive(_, _) => "",
-        Step::Begin(_) => "B",
-        Step::Enter(_) => "E",
-        Step::Choose(_, _) => "C",
-        Step::Adopt(_) => "A",
-        Step::Suspect(_) => "N",
-        Step::Conclude(_) => "K",
-        Step::Deliver(_) => "D",
-        Step::Follow(_) => "F",
-        Step::Crash(_) => "X",
-        Step::Postpone(_, _) => "P",
-        Step::Lose(_, _) => "L",
-        Step::Repeat(_, _) => "R",
     }
 }
 

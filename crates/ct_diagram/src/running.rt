@@ -1,9 +1,9 @@
 //! A record in, its diagram out.
 
-ghost use Rattle.std.specs.Prelude.{◌≡◌, ◌≢◌, ◌<◌, ◌^◌, IfOk, IfErr, IfSome, OnOk};
+ghost use Rattle.std.specs.Prelude.{◌≡◌, ◌≢◌, ◌+◌, ◌<◌, ◌^◌, Err, IfOk, IfErr, IfSome, OnOk};
 ghost use Rattle.ct_program.specs.Script.{script};
 ghost use Rattle.ct_show.specs.Answer.{IsOfReading};
-ghost use Rattle.ct_diagram.specs.Running.{Draws, FailsOn, IsDiagramOf, IsRead};
+ghost use Rattle.ct_diagram.specs.Running.{Draws, FailsOn, IsDiagramOf, IsOfDrawing, IsRead};
 
 use crate::drawing::diagram;
 use crate::fault::DiagramFault;
@@ -26,6 +26,11 @@ pub fn draw<R: Source, W: Sink>(
     ensures ok { OnOk result (IfSome (R.left reader.old) (λ input.
         Draws window.now (script input) (W.written writer.old) (W.written writer.new))) }
     ensures fault { IfErr result (λ fault. IfSome (R.left reader.old) (λ input. FailsOn window.now fault (script input))) }
+    // A stream failed where that is the fault, once, and else not at all.
+    ensures reader { result ≡ Err (DiagramFault.Program ProgramFault.Reader) → R.failures reader.new ≡ R.failures reader.old + 1 }
+    ensures no_read { result ≢ Err (DiagramFault.Program ProgramFault.Reader) → R.failures reader.new ≡ R.failures reader.old }
+    ensures writer { result ≡ Err (DiagramFault.Program ProgramFault.Write) → W.failures writer.new ≡ W.failures writer.old + 1 }
+    ensures no_write { result ≢ Err (DiagramFault.Program ProgramFault.Write) → W.failures writer.new ≡ W.failures writer.old }
     // Nothing was written but where the writer failed.
     ensures quiet { IfErr result (λ fault. fault ≢ DiagramFault.Program ProgramFault.Write → writer.new ≡ writer.old) }
 {
@@ -40,7 +45,7 @@ pub fn draw<R: Source, W: Sink>(
 // The diagram of the record, whose bytes are freed before it is drawn.
 fn drawn(alloc: Global, bytes: Vec<u8>, window: &Window) -> Result<Vec<u8>, DiagramFault>
     ensures ok { IfOk result (λ text. IsDiagramOf window.now (script bytes.items) text.items) }
-    ensures fault { IfErr result (λ fault. FailsOn window.now fault (script bytes.items)) }
+    ensures fault { IfErr result (λ fault. IsOfDrawing window.now fault (script bytes.items)) }
 {
     let script = record_of(alloc, &bytes)?;
     drop(bytes);

@@ -1,10 +1,12 @@
 //! The words after `diagram` on a command line.
 
-ghost use Rattle.std.specs.Prelude.{IfSome, ◌≤◌};
+ghost use Rattle.std.specs.Prelude.{◌≡◌};
+ghost use Rattle.clap.specs.Words.{found_of, rows_of};
+ghost use Rattle.ct_diagram.specs.Window.{window_of};
 
 use crate::window::Window;
 use clap::{Arg, ArgAction, ArgMatches, Command};
-use ct_program::number_in;
+use ct_program::option_in;
 use std::alloc::{AllocError, Global};
 
 // What stands after the options.
@@ -21,13 +23,13 @@ Status:
   4  a read or a write failed
   5  memory was refused";
 
-/// The window that the options of `diagram` ask for; None where a value is not of its option's range.
+/// The window that the options of `diagram` ask for; None where a value is no whole number of its option's range.
+#[tactic(auto, unfolding(crate::specs::Window::window_of))]
 pub fn diagram_window(found: &ArgMatches<'_>) -> Option<Window>
-    ensures from { IfSome result (λ window. 1 ≤ window.from) }
-    ensures to { IfSome result (λ window. 1 ≤ window.to) }
+    ensures { result ≡ window_of (rows_of (found_of found.now)) }
 {
-    let from = number_in(found.get_str("from")?, 1, u32::MAX)?;
-    let to = number_in(found.get_str("to")?, 1, u32::MAX)?;
+    let from = option_in(found, "from", 1, u32::MAX)?;
+    let to = option_in(found, "to", 1, u32::MAX)?;
     Some(Window { from, to })
 }
 

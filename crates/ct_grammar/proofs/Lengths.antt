@@ -28,6 +28,8 @@ pick_long (a ∷ b ∷ c ∷ []) h = refl
 pick_long (a ∷ b ∷ c ∷ d ∷ []) h = absurd (omega arith)
 pick_long (a ∷ b ∷ c ∷ d ∷ e ∷ ws) h = refl
 
+pub ruleset pick_lengths = (pick_short, pick_three, pick_long)
+
 pub command_short : (ws : List (Bor Word)) → length ws < 3 → command_of (map (λ w. w.now) ws) ≡ None
 unfolding command_of
 command_short [] h = refl
@@ -42,6 +44,8 @@ command_long (a ∷ []) h = refl
 command_long (a ∷ b ∷ []) h = refl
 command_long (a ∷ b ∷ c ∷ []) h = absurd (omega arith)
 command_long (a ∷ b ∷ c ∷ d ∷ ws) h = refl
+
+pub ruleset command_lengths = (command_short, command_long)
 
 pub turns_none : (who : Who) (ws : List (Bor Word)) → length ws < 1 → turns_of who (map (λ w. w.now) ws) ≡ None
 unfolding turns_of
@@ -62,3 +66,5 @@ turns_long who (a ∷ []) h = absurd (omega arith)
 turns_long who (a ∷ b ∷ []) h = refl
 turns_long who (a ∷ b ∷ c ∷ []) h = absurd (omega arith)
 turns_long who (a ∷ b ∷ c ∷ d ∷ ws) h = refl
+
+pub ruleset turns_lengths = (turns_none, turns_two, turns_long)

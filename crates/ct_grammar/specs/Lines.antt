@@ -61,12 +61,20 @@ question_of name words =
     if bytes_eq name (codes "state") then option_map (λ p. Ask (State p)) (member_of words) else (
     if bytes_eq name (codes "report") then report_of words else step_of name words)))
 
+-- a number from 1 to this one, alone
+unfoldable pub size_of : ℕ → List Word → Option ℕ
+size_of high words = only words >>= number_in 1 high
+
+-- a number of cells, alone
+unfoldable pub cells_of : List Word → Option ℕ
+cells_of words = only words >>= number_of MAX_CELLS
+
 -- the size of the group, the number of cells, the bound on a proposal, or a crash; otherwise questions and what members do
 unfoldable pub heading_of : Word → List Word → Option Line
 heading_of name words =
-    if bytes_eq name (codes "members") then option_map Members (only words >>= number_in 1 MAX_MEMBERS) else (
-    if bytes_eq name (codes "cells") then option_map Cells (only words >>= number_of MAX_CELLS) else (
-    if bytes_eq name (codes "batch") then option_map Batch (only words >>= number_in 1 MAX_BOUND) else (
+    if bytes_eq name (codes "members") then option_map Members (size_of MAX_MEMBERS words) else (
+    if bytes_eq name (codes "cells") then option_map Cells (cells_of words) else (
+    if bytes_eq name (codes "batch") then option_map Batch (size_of MAX_BOUND words) else (
     if bytes_eq name (codes "crash") then option_map (λ p. Act (One p) Crash) (member_of words) else question_of name words)))
 
 -- a member, and what is expected of it

@@ -26,7 +26,7 @@ fn named_command(name: &str, register: u8, n: u64) -> Option<Command>
 }
 
 // A command.
-#[tactic(auto, using(crate::proofs::Lengths::command_short, crate::proofs::Lengths::command_long), unfolding(crate::specs::Acts::command_of))]
+#[tactic(auto, using(crate::proofs::Lengths::command_lengths), unfolding(crate::specs::Acts::command_of))]
 fn command(words: &[&str]) -> Option<Command>
     ensures { result ≡ command_of (map (λ word. word.now) words.now) }
 {

@@ -48,6 +48,3 @@ pub use question::Question;
 pub use reading::line_of;
 pub use text::Text;
 pub use who::Who;
-
-#[cfg(test)]
-mod tests;

@@ -63,7 +63,7 @@ fn sent_from(kind: &str, name: &str, from: &str, p: &[u8]) -> Option<Pick>
 }
 
 /// A serial, or what is carried, of a sender where one is named.
-#[tactic(auto, using(crate::proofs::Lengths::pick_short, crate::proofs::Lengths::pick_three, crate::proofs::Lengths::pick_long), unfolding(crate::specs::Picks::pick_of))]
+#[tactic(auto, using(crate::proofs::Lengths::pick_lengths), unfolding(crate::specs::Picks::pick_of))]
 pub(crate) fn pick(words: &[&str]) -> Option<Pick>
     ensures { result ≡ pick_of (map (λ word. word.now) words.now) }
 {

@@ -1,7 +1,8 @@
 //! From the text of a line to what it says.
 
-ghost use Rattle.std.specs.Prelude.{◌≡◌, ◌∷◌, IfOk, map};
+ghost use Rattle.std.specs.Prelude.{◌≡◌, ◌≤◌, IfOk, IfSome, map};
 ghost use Rattle.ct_grammar.specs.Lines.{who_of, suspecting, turns_of, done_by, step_of, report_of, member_of, question_of};
+ghost use Rattle.ct_grammar.specs.Lines.{cells_of, size_of};
 ghost use Rattle.ct_grammar.specs.Lines.{heading_of, expected_of, named, of_words, line_of};
 
 use crate::act::Act;
@@ -69,16 +70,29 @@ fn heading(name: &str, words: &[&str]) -> Option<Line>
     ensures { result ≡ heading_of name.now (map (λ word. word.now) words.now) }
 {
     match name {
-        "members" => Some(Line::Members(
-            number_in(only(words)?.as_bytes(), 1, MAX_MEMBERS as u64)? as u8,
-        )),
-        "cells" => Some(Line::Cells(number(only(words)?.as_bytes(), MAX_CELLS as u64)? as u16)),
-        "batch" => Some(Line::Batch(
-            number_in(only(words)?.as_bytes(), 1, MAX_BOUND as u64)? as u32,
-        )),
+        "members" => Some(Line::Members(size(words, MAX_MEMBERS as u64)? as u8)),
+        "cells" => Some(Line::Cells(cells(words)?)),
+        "batch" => Some(Line::Batch(size(words, MAX_BOUND as u64)? as u32)),
         "crash" => Some(Line::Act(Who::One(member(words)?), Act::Crash)),
         _ => question(name, words),
     }
+}
+
+// A number from 1 to this one, alone.
+#[tactic(auto, unfolding(crate::specs::Lines::size_of))]
+fn size(words: &[&str], high: u64) -> Option<u64>
+    ensures value { result ≡ size_of high (map (λ word. word.now) words.now) }
+    ensures within { IfSome result (λ n. n ≤ high) }
+{
+    number_in(only(words)?.as_bytes(), 1, high)
+}
+
+// A number of cells, alone.
+#[tactic(auto, unfolding(crate::specs::Lines::cells_of))]
+fn cells(words: &[&str]) -> Option<u16>
+    ensures { result ≡ cells_of (map (λ word. word.now) words.now) }
+{
+    Some(number(only(words)?.as_bytes(), MAX_CELLS as u64)? as u16)
 }
 
 // The member that stands behind a question's name.
@@ -148,7 +162,7 @@ fn done_by(who: Who, words: &[&str]) -> Option<Line>
 }
 
 // What stands behind `turns`: how many, and the members that are suspected, where some are.
-#[tactic(auto, using(crate::proofs::Lengths::turns_none, crate::proofs::Lengths::turns_two, crate::proofs::Lengths::turns_long), unfolding(crate::specs::Lines::turns_of))]
+#[tactic(auto, using(crate::proofs::Lengths::turns_lengths), unfolding(crate::specs::Lines::turns_of))]
 fn turns(who: Who, words: &[&str]) -> Option<Line>
     ensures { result ≡ turns_of who (map (λ word. word.now) words.now) }
 {

@@ -1,8 +1,6 @@
 -- What is kept of a member's instances stays what its state says: as the list of values grows, a wire is noted, room is
 -- made, and an instance is opened, closed, and followed.
-use Rattle.std.proofs.Common.{◌≡◌, ℕ, ◌+◌, List, [], ◌∷◌, ◌++◌, length, filter_map, Option, Some, None, option_map}
-use Rattle.std.proofs.Common.{refl, ap, sym, ◌∙◌, arith}
-use Rattle.std.specs.List.{cons_option}
+use Rattle.std.proofs.Common.{◌≡◌, ℕ, ◌+◌, List, [], ◌∷◌, ◌++◌, length, Option, Some, None, option_map, refl, ap, sym, ◌∙◌, arith}
 use Rattle.std.specs.Option.{option_or}
 use Rattle.std.proofs.lemmas.List.Elements.{filter_map-append}
 use Rattle.ct_names.specs.Value.{Value}
@@ -11,7 +9,7 @@ use Rattle.ct_model.specs.declared.wire.Wire.{Wire as AnyWire}
 use Rattle.ct_model.specs.AtValue.{Wire}
 use Rattle.ct_model.specs.State.{Member, new_member}
 use Rattle.ct_names.specs.Batch.{Batch}
-use Rattle.ct_model.specs.Received.{Ballots, head, decision_of, decided, ballots}
+use Rattle.ct_model.specs.Received.{Ballots, decision_of, decided, ballots}
 use Rattle.ct_model.specs.Counted.{count_in, NamesSomebody}
 use Rattle.ct_model.specs.Mapped.{ballots_map}
 use Rattle.ct_model.proofs.Numbers.Counts.{ballots-push, ballots-none, count_in-map}
@@ -70,19 +68,14 @@ keeps-new n values p = record {
 pub decided-push : {V : Type 0} (got : List (AnyWire V)) (w : AnyWire V) (k : ℕ) →
     decided (got ++ w ∷ []) k ≡ option_or (decided got k) (decision_of k w)
 unfolding decided
-decided-push {V} got w k =
-    ap head (filter_map-append (decision_of k) got (w ∷ [])) ∙ go (filter_map (decision_of k) got) (decision_of k w)
-  where
-    go : (xs : List V) (o : Option V) → head (xs ++ cons_option o []) ≡ option_or (head xs) o
-    go xs o = grind arith
+decided-push {V} got w k = grind (arith, filter_map-append (decision_of k) got (w ∷ []))
 
 or-map : {A B : Type 0} (f : A → B) (a b : Option A) → option_or (option_map f a) (option_map f b) ≡ option_map f (option_or a b)
 or-map f a b = grind arith
 
 ballots-noted : (values : List Value) (a : Ballots ℕ) (t : Ballots Value) (k r : ℕ) (x : AnyWire ℕ) (w : Wire) → NamesBallots values a t →
     NamesWire values x w → NamesBallots values (count_in a k r x) (count_in t k r w)
-ballots-noted values a t k r x w h e =
-    sym (count_in-map (value_at values) a k r x) ∙ rw (h, e) (count_in-map Some t k r w)
+ballots-noted values a t k r x w h e = grind (arith, count_in-map (value_at values) a k r x, count_in-map Some t k r w)
 
 decision-noted : (values : List Value) (a : Option ℕ) (o : Option Value) (k : ℕ) (x : AnyWire ℕ) (w : Wire) → NamesDecision values a o →
     NamesWire values x w → NamesDecision values (option_or a (decision_of k x)) (option_or o (decision_of k w))

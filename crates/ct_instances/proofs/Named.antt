@@ -20,7 +20,7 @@ use Rattle.ct_model.specs.Counted.{NamesSomebody}
 use Rattle.ct_model.specs.Mapped.{wire_map, envelope_map, without_value, heard_map, ballots_map, standing_map}
 use Rattle.ct_model.specs.Waiting.{serials_to}
 use Rattle.ct_model.proofs.Numbers.Naturality.{envelopes-map}
-use Rattle.ct_model.proofs.Basics.Options.{some-none}
+use Rattle.ct_model.proofs.Record.Senders.{get-front}
 use Rattle.ct_instances.specs.Named.{value_at, NamesWire, NamesMail, NamesEnvelope, NamesEnvelopes, NamesStanding, NamesBallots}
 use Rattle.ct_instances.specs.Named.{NamesDecision}
 
@@ -83,11 +83,7 @@ module _ {V U : Type 0} (f : V → U) where
 
   -- without the values, the type of values is all one
   without_value-map : (e : AnyEnvelope V) → without_value (envelope_map f e) ≡ without_value e
-  without_value-map e = ap (λ w. let x : AnyEnvelope (Unit {0}) = record { to = e.to; wire = w } in x) (go e.wire)
-    where
-      go : (w : AnyWire V) → wire_map {U = Unit {0}} (λ _. tt) (wire_map f w) ≡ wire_map {U = Unit {0}} (λ _. tt) w
-      go (Data m) = refl
-      go _ = refl
+  without_value-map e = grind arith
 
 -- functions that agree where the first one has a value
 
@@ -116,12 +112,6 @@ module _ {A B : Type 0} (f g : A → Option B) (agree : (a : A) (b : B) → f a 
 
 -- growth: what the list names, a longer one names too
 
-pub value_at-grown : {A : Type 0} (values more : List A) (id : ℕ) (v : A) → slice_get values id ≡ Some v →
-    slice_get (values ++ more) id ≡ Some v
-value_at-grown [] more id v h = some-none v h
-value_at-grown (x ∷ values) more zero v h = h
-value_at-grown (x ∷ values) more (suc id) v h = value_at-grown values more id v h
-
 -- the value that joins the list has the next number
 pub value_at-last : {A : Type 0} (values : List A) (v : A) → slice_get (values ++ v ∷ []) (length values) ≡ Some v
 value_at-last [] v = refl
@@ -136,18 +126,18 @@ module _ (values more : List Value) where
       NamesEnvelopes (values ++ more) xs es
   grows_envelopes =
       list-kept (envelope_map (value_at values)) (envelope_map Some) (envelope_map grown) (envelope_map Some)
-      (envelope-kept (value_at values) grown (value_at-grown values more))
+      (envelope-kept (value_at values) grown (get-front values more))
 
   pub grows_standing : (x : Option (AnyStanding ℕ)) (c : Option Standing) → NamesStanding values x c → NamesStanding (values ++ more) x c
   grows_standing =
       option-kept (standing_map (value_at values)) (standing_map Some) (standing_map grown) (standing_map Some)
-      (standing-kept (value_at values) grown (value_at-grown values more))
+      (standing-kept (value_at values) grown (get-front values more))
 
   pub grows_ballots : (x : Ballots ℕ) (t : Ballots Value) → NamesBallots values x t → NamesBallots (values ++ more) x t
-  grows_ballots = ballots-kept (value_at values) grown (value_at-grown values more)
+  grows_ballots = ballots-kept (value_at values) grown (get-front values more)
 
   pub grows_decision : (d : Option ℕ) (o : Option Value) → NamesDecision values d o → NamesDecision (values ++ more) d o
-  grows_decision = option-kept (value_at values) Some grown Some (value_at-grown values more)
+  grows_decision = option-kept (value_at values) Some grown Some (get-front values more)
 
 module _ (values : List Value) where
   -- decisions

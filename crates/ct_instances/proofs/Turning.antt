@@ -1,6 +1,5 @@
 -- The steps of the open instance: with values by number they are refused and taken as with the values themselves.
-use Rattle.std.proofs.Common.{◌≡◌, ℕ, false, List, [], ◌∷◌, ◌+◌, Option, Some, None, is_none, option_map, refl, ap, sym}
-use Rattle.std.proofs.Common.{◌∙◌, subst}
+use Rattle.std.proofs.Common.{◌≡◌, ℕ, false, List, [], ◌∷◌, ◌+◌, Option, Some, None, is_none, option_map, refl, ap, sym, ◌∙◌, subst}
 use Rattle.std.specs.Prelude.{nat_lt, ◌&&◌}
 use Rattle.std.specs.Option.{option_map_or}
 use Rattle.ct_names.specs.declared.limit.TheConstants.{MAX_ROUNDS}
@@ -62,9 +61,6 @@ module _ (s : Setting) (values : List Value) (p : ℕ) (m : Member) (kept : Kept
   own-decision = rw (← h.last) (h.decisions kept.last)
 
   -- what is read of the open instance
-
-  pub keeps-open : is_none kept.part ≡ is_none m.current
-  keeps-open = met is_none is_none refl (λ c x is e. refl)
 
   pub keeps-round : option_map (λ c. c.standing.round) kept.part ≡ option_map (λ c. c.round) m.current
   keeps-round =

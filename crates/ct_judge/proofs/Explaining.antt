@@ -17,8 +17,8 @@ module _ (s t : Standing) (line : Line) (text : List ℕ) where
       ap (λ (f : LineFault). Err (record { fault = f; text = fault_text (world_of s) line f })) one
       ∙ ap (λ l. Err (record { fault = fault; text = l })) (ap (λ v. fault_text (world_of v) line fault) (sym same) ∙ sym is)
 
-  pub explained_fault : (r : Result Standing LineFault) (fault : LineFault) → is_short fault ≡ false → IsFaultOf r fault → IsKept s t fault →
-      text ≡ fault_text (world_of t) line fault → explained s line r ≡ Err (record { fault = fault; text = text })
+  pub explained_fault : (r : Result Standing LineFault) (fault : LineFault) → is_short fault ≡ false → IsFaultOf r fault →
+      IsKept s t fault → text ≡ fault_text (world_of t) line fault → explained s line r ≡ Err (record { fault = fault; text = text })
   explained_fault r NotUnderstood short h k is = explained_err r NotUnderstood h k is
   explained_fault r NoMembers short h k is = explained_err r NoMembers h k is
   explained_fault r Settled short h k is = explained_err r Settled h k is

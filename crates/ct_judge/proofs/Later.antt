@@ -11,6 +11,8 @@ later_same old new e = record { more = []; is = e ∙ ap (λ l. record old { ste
 pub later_step : (old new : Rehearsal) (step : Step) → new ≡ extended old step → IsLater old new
 later_step old new step e = record { more = step ∷ []; is = e }
 
+pub ruleset later_once = (later_same, later_step)
+
 pub later_on : (old mid new : Rehearsal) → IsLater old mid → IsLater mid new → IsLater old new
 later_on old mid new first then = record {
   more = first.more ++ then.more;

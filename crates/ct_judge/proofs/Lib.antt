@@ -3,6 +3,5 @@ pub mod Faulty
 pub mod Hearing
 pub mod Later
 pub mod Reading
-pub mod Tracing
 pub mod Trying
 pub mod Utf8

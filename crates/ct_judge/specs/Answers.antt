@@ -1,16 +1,13 @@
 -- What a session answers.
-use Rattle.std.specs.Prelude.{ℕ, ◌+◌, ◌==◌, List, [], ◌∷◌, ◌++◌, length, codes, decimal, flat_map, is_none, Option, Some, None, Result, Ok, Err}
+use Rattle.std.specs.Prelude.{ℕ, ◌+◌, ◌==◌, List, [], ◌∷◌, ◌++◌, length, codes, decimal, Option, Some, None, Result, Ok, Err}
 use Rattle.std.specs.Prelude.{if◌then◌else◌}
 use Rattle.std.specs.List.{concat}
 use Rattle.ct_names.specs.Group.{is_member}
-use Rattle.ct_model.specs.Cause.{cause}
-use Rattle.ct_model.specs.declared.step.Step.{Step}
 use Rattle.ct_model.specs.Rehearsal.{Rehearsal, line_of, state_of}
-use Rattle.ct_model.specs.StepText.{step_text}
 use Rattle.ct_world.specs.Driving.{next_local}
 use Rattle.ct_show.specs.Facts.{member_facts}
 use Rattle.ct_show.specs.Json.{report_json}
-use Rattle.ct_show.specs.State.{first_choices, first_receipt, next_text, own_steps}
+use Rattle.ct_show.specs.State.{first_receipt, next_text, own_enabled}
 use Rattle.ct_grammar.specs.declared.line.Line.{Line}
 use Rattle.ct_grammar.specs.declared.line.Line.TheVariants.{Ask}
 use Rattle.ct_grammar.specs.declared.question.Question.{Question}
@@ -21,13 +18,9 @@ use Rattle.ct_judge.specs.Telling.{Explained, explained}
 
 -- ---- answers to questions
 
--- a step that is allowed
-unfoldable pub enabled_step : Rehearsal → Step → List ℕ
-enabled_step w step = if is_none (cause w step) then concat (codes " " ∷ step_text step ∷ []) else []
-
 -- the steps that p may take by itself
 unfoldable pub enabled_text : Rehearsal → ℕ → List ℕ
-enabled_text w p = concat (codes "enabled" ∷ flat_map (enabled_step w) (own_steps p (first_choices p w.setting.members)) ∷ codes "\n" ∷ [])
+enabled_text w p = concat (codes "enabled" ∷ own_enabled (codes " ") (codes "") w p ∷ codes "\n" ∷ [])
 
 -- what a driver does next at p
 unfoldable pub next_answer : Rehearsal → ℕ → List ℕ

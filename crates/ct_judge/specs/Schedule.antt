@@ -5,6 +5,7 @@ use Rattle.std.specs.Io.KnownBytes.{Appends}
 use Rattle.ct_model.specs.Rehearsal.{Rehearsal, state_of}
 use Rattle.ct_model.specs.Run.{run}
 use Rattle.ct_model.specs.Safe.{IsSafe}
+use Rattle.ct_program.specs.Streams.{WritesPart}
 use Rattle.ct_program.specs.Text.{record_text}
 use Rattle.ct_judge.specs.Acting.{go_on}
 use Rattle.ct_judge.specs.Standing.{Standing, start, world_of}
@@ -90,3 +91,7 @@ IsRecordOf r text = IsOkAnd r (λ w. text ≡ record_text w ++ 10 ∷ [])
 -- that is what was written
 abbrev pub Writes : Result Rehearsal Stopped → Option (List ℕ) → Option (List ℕ) → Type 0
 Writes r old new = IsOkAnd r (λ w. Appends old new (record_text w ++ 10 ∷ []))
+
+-- some first bytes of it are what was written
+abbrev pub WritesPartOf : Result Rehearsal Stopped → Option (List ℕ) → Option (List ℕ) → Type 0
+WritesPartOf r old new = IsOkAnd r (λ w. WritesPart old new (record_text w ++ 10 ∷ []))

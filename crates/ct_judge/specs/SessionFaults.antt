@@ -1,5 +1,5 @@
--- The statuses of faults of sessions.
-use Rattle.std.specs.Prelude.{ℕ}
+-- The faults of sessions.
+use Rattle.std.specs.Prelude.{◌≡◌, ◌⊎◌, ◌+◌, ◌-◌, ◌≤◌, ◌^◌, ℕ, List, Option, length, IfSome, ⊤}
 use Rattle.ct_judge.specs.declared.session_fault.SessionFault.{SessionFault}
 use Rattle.ct_judge.specs.declared.session_fault.SessionFault.TheVariants.{Read, Write, Memory, Board}
 
@@ -8,3 +8,17 @@ session_status Read = 4
 session_status Write = 4
 session_status Memory = 5
 session_status Board = 5
+
+-- want of memory, or of the board
+abbrev pub IsShort : SessionFault → Type 0
+IsShort Memory = ⊤
+IsShort Board = ⊤
+IsShort _ = ⊥
+
+-- the writer failed once more, or memory or the board was short and it did not fail
+abbrev pub StopsAnswering : SessionFault → ℕ → ℕ → Type 0
+StopsAnswering fault old new = ((fault ≡ Write) × (new ≡ old + 1)) ⊎ (IsShort fault × (new ≡ old))
+
+-- a read failed, or the input did not end within 2^64 - 1 reads
+abbrev pub StopsReading : Option (List ℕ) → ℕ → ℕ → Type 0
+StopsReading left old new = (new ≡ old + 1) ⊎ (IfSome left (λ input. 2 ^ 64 - 1 ≤ length input) × (new ≡ old))

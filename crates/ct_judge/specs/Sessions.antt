@@ -1,6 +1,7 @@
 -- Whole sessions.
 use Rattle.std.specs.Prelude.{◌≡◌, ℕ, ◌==◌, nat_lt, List, [], ◌∷◌, ◌++◌, length, Option, Some, None, ⊤, if◌then◌else◌}
-use Rattle.std.specs.Io.KnownBytes.{Appends, Consumes, IsAtEnd}
+use Rattle.std.specs.Io.KnownBytes.{Appends}
+use Rattle.ct_program.specs.Streams.{WritesPart}
 use Rattle.ct_grammar.specs.declared.line.Line.{Line}
 use Rattle.ct_judge.specs.Answers.{answer, standing_after}
 use Rattle.ct_judge.specs.Judging.{line_in}
@@ -58,12 +59,19 @@ abbrev pub session : Hearing → List ℕ → Session
 session t [] = at_end t t.line
 session t (byte ∷ bytes) = said_first (said_at t byte) (session (after_byte t byte) bytes)
 
--- ---- reading
+-- ---- bytes that come together
 
--- the next byte was read, or there is none
-abbrev pub TakesByte : Option (List ℕ) → Option (List ℕ) → Option ℕ → Type 0
-TakesByte old new None = IsAtEnd old
-TakesByte old new (Some byte) = Consumes old new (byte ∷ [])
+-- where a session stands after these bytes
+abbrev pub after_bytes : Hearing → List ℕ → Hearing
+after_bytes t [] = t
+after_bytes t (byte ∷ bytes) = after_bytes (after_byte t byte) bytes
+
+-- what is said at these bytes
+abbrev pub said_by : Hearing → List ℕ → List ℕ
+said_by t [] = []
+said_by t (byte ∷ bytes) = said_at t byte ++ said_by (after_byte t byte) bytes
+
+-- ---- the session of an input
 
 -- the input makes this session, and what is written is what it says
 abbrev pub IsEnd : Option (List ℕ) → Standing → Type 0
@@ -73,3 +81,8 @@ IsEnd (Some input) s = s ≡ (session opening input).standing
 abbrev pub Says : Option (List ℕ) → Option (List ℕ) → Option (List ℕ) → Type 0
 Says None old new = ⊤
 Says (Some input) old new = Appends old new (session opening input).text
+
+-- what is written are some first bytes of what it says
+abbrev pub SaysPart : Option (List ℕ) → Option (List ℕ) → Option (List ℕ) → Type 0
+SaysPart None old new = ⊤
+SaysPart (Some input) old new = WritesPart old new (session opening input).text

@@ -34,7 +34,7 @@ pub(crate) fn step_of(stage: &Stage, member: Member, act: Act) -> Option<Step>
 }
 
 // The member does it.
-#[tactic(auto, using(crate::proofs::Faulty::kept, crate::proofs::Later::later_same, crate::proofs::Later::later_step), unfolding(crate::specs::Acting::done))]
+#[tactic(auto, using(crate::proofs::Faulty::kept, crate::proofs::Later::later_once), unfolding(crate::specs::Acting::done))]
 pub(crate) fn act_one(stage: &mut Stage, member: Member, act: Act) -> Result<(), LineFault>
     ensures ok { OnOk result (done stage.old member act ≡ Ok stage.new) }
     ensures err { IfErr result (IsFaultOf (done stage.old member act)) }

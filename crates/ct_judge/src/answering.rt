@@ -1,15 +1,13 @@
 //! What a session answers to lines that are taken.
 
-ghost use Rattle.std.specs.Prelude.{◌≡◌, ◌≤◌, ◌++◌, OnOk, IsTrue, flat_map, string_bytes};
+ghost use Rattle.std.specs.Prelude.{◌≡◌, ◌≤◌, ◌++◌, OnOk, IsTrue, string_bytes};
 ghost use Rattle.ct_names.specs.Group.{is_member};
-ghost use Rattle.ct_show.specs.State.{first_choices, own_steps};
-ghost use Rattle.ct_judge.specs.Answers.{asked_text, enabled_step, enabled_text, if_known, next_answer, ok_text, report_answer};
+ghost use Rattle.ct_judge.specs.Answers.{asked_text, enabled_text, if_known, next_answer, ok_text, report_answer};
 ghost use Rattle.ct_judge.specs.Answers.{state_answer};
 
 use ct_grammar::Question;
-use ct_model::Step;
 use ct_names::Member;
-use ct_show::{first_receipt, push_member_facts, push_next_of, report_json};
+use ct_show::{first_receipt, push_member_facts, push_next_of, push_own_enabled, report_json};
 use ct_world::World;
 use std::alloc::{AllocError, Global};
 
@@ -52,65 +50,8 @@ fn push_enabled(text: &mut String, world: &World, member: Member) -> Result<(), 
     ensures { OnOk result (string_bytes text.new ≡ string_bytes text.old ++ enabled_text world.now.rehearsal member) }
 {
     text.push_str("enabled")?;
-    push_steps(text, world, member)?;
+    push_own_enabled(text, " ", "", world, member)?;
     text.push_str("\n")
-}
-
-fn push_steps(text: &mut String, world: &World, member: Member) -> Result<(), AllocError>
-    ensures { OnOk result (string_bytes text.new ≡ string_bytes text.old
-        ++ flat_map (enabled_step world.now.rehearsal) (own_steps member (first_choices member world.now.rehearsal.setting.members))) }
-{
-    push_allowed(
-        text,
-        world,
-        &[
-            Step::Deliver(member),
-            Step::Follow(member),
-            Step::Begin(member),
-        ],
-    )?;
-    push_choices(text, world, member)?;
-    push_allowed(
-        text,
-        world,
-        &[
-            Step::Adopt(member),
-            Step::Conclude(member),
-            Step::Enter(member),
-            Step::Suspect(member),
-        ],
-    )
-}
-
-fn push_choices(text: &mut String, world: &World, member: Member) -> Result<(), AllocError>
-    ensures { OnOk result (string_bytes text.new ≡ string_bytes text.old
-        ++ flat_map (enabled_step world.now.rehearsal) (first_choices member world.now.rehearsal.setting.members)) }
-{
-    let n = world.group().n();
-    for i in 0..n {
-        push_if_allowed(text, world, Step::Choose(member, i + 1))?;
-    }
-    Ok(())
-}
-
-// Those of the steps that are allowed.
-fn push_allowed(text: &mut String, world: &World, steps: &[Step]) -> Result<(), AllocError>
-    ensures { OnOk result (string_bytes text.new ≡ string_bytes text.old ++ flat_map (enabled_step world.now.rehearsal) steps.now) }
-{
-    for step in steps {
-        push_if_allowed(text, world, *step)?;
-    }
-    Ok(())
-}
-
-#[tactic(auto, unfolding(crate::specs::Answers::enabled_step))]
-fn push_if_allowed(text: &mut String, world: &World, step: Step) -> Result<(), AllocError>
-    ensures { OnOk result (string_bytes text.new ≡ string_bytes text.old ++ enabled_step world.now.rehearsal step) }
-{
-    match world.enabled(&step) {
-        Ok(()) => write!(text, " {step}"),
-        Err(_) => Ok(()),
-    }
 }
 
 // The same for what a driver does next at the member.

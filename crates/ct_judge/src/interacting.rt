@@ -1,17 +1,23 @@
 //! Sessions: each line is answered as it comes.
 
-ghost use Rattle.std.specs.Prelude.{◌≡◌, ◌<◌, ◌^◌, OnOk, IfOk};
+ghost use Rattle.std.specs.Prelude.{◌≡◌, ◌≢◌, ◌+◌, ◌<◌, ◌^◌, Err, OnOk, OnErr, IfOk, IfErr, length, vec_len};
 ghost use Rattle.std.specs.Io.KnownBytes.{Appends};
-ghost use Rattle.ct_judge.specs.Sessions.{IsEnd, Says, TakesByte, after_byte, answer_at, at_end, line_over, said_at};
+ghost use Rattle.ct_program.specs.Streams.{WritesPart};
+ghost use Rattle.ct_judge.specs.SessionFaults.{StopsAnswering, StopsReading};
+ghost use Rattle.ct_judge.specs.Sessions.{IsEnd, Says, SaysPart, after_bytes, at_end, opening, said_by};
 
 use crate::judge::Judge;
 use crate::session::Session;
-use crate::session_fault::{SessionFault, fault_of};
+use crate::session_fault::SessionFault;
 use ct_program::{Failed, Sink, Source, write_all};
 use std::alloc::Global;
 
-/// Reads lines to the end of the input and answers each with one line, and hands out the judge. What the contract says of the
-/// input holds where the reader tells its bytes, and what it says of the output where the writer does.
+// How many bytes are read at a time; as many bytes of answers are written before more of what was read is heard.
+const BLOCK: usize = 65_536;
+
+/// Reads lines to the end of the input and answers each with one line, and hands out the judge. The answers to the lines that a
+/// read ends are written before the next read. What the contract says of the input holds where the reader tells its bytes, and
+/// what it says of the output where the writer does.
 pub fn interact<R: Source, W: Sink>(
     alloc: Global,
     reader: &mut R,
@@ -22,71 +28,116 @@ pub fn interact<R: Source, W: Sink>(
     // What was written is what the session of the input says, and it ends where that ends.
     ensures standing { IfOk result (IsEnd (R.left reader.old)) }
     ensures text { OnOk result (Says (R.left reader.old) (W.written writer.old) (W.written writer.new)) }
+    // After a fault it is some first bytes of that.
+    ensures part { OnErr result (SaysPart (R.left reader.old) (W.written writer.old) (W.written writer.new)) }
+    // A stream failed where that is the fault, once, and else not at all; or the input did not end within 2^64 - 1 reads.
+    ensures reader { result ≡ Err SessionFault.Read → StopsReading (R.left reader.old) (R.failures reader.old) (R.failures reader.new) }
+    ensures no_read { result ≢ Err SessionFault.Read → R.failures reader.new ≡ R.failures reader.old }
+    ensures writer { result ≡ Err SessionFault.Write → W.failures writer.new ≡ W.failures writer.old + 1 }
+    ensures no_write { result ≢ Err SessionFault.Write → W.failures writer.new ≡ W.failures writer.old }
 {
+    let mut block = block(alloc)?;
     let mut session = Session::new(alloc);
-    for _ in 0..u64::MAX {
-        let Some(byte) = next_byte(reader)? else {
-            return end(session, writer);
+    listen(alloc, &mut session, reader, writer, &mut block)?;
+    Ok(session.into_judge())
+}
+
+// Hears the input to its end, as much of it at a time as the block has room for.
+fn listen<R: Source, W: Sink>(
+    alloc: Global,
+    session: &mut Session,
+    reader: &mut R,
+    writer: &mut W,
+    block: &mut [u8],
+) -> Result<(), SessionFault>
+    requires opening { session.old ≡ opening }
+    requires reads { R.failures reader.old < 2 ^ 63 }
+    requires writes { W.failures writer.old < 2 ^ 63 }
+    requires room { 0 < length block.old }
+    ensures standing { OnOk result (IsEnd (R.left reader.old) session.new.standing) }
+    ensures text { OnOk result (Says (R.left reader.old) (W.written writer.old) (W.written writer.new)) }
+    ensures part { OnErr result (SaysPart (R.left reader.old) (W.written writer.old) (W.written writer.new)) }
+    ensures reader { result ≡ Err SessionFault.Read → StopsReading (R.left reader.old) (R.failures reader.old) (R.failures reader.new) }
+    ensures no_read { result ≢ Err SessionFault.Read → R.failures reader.new ≡ R.failures reader.old }
+    ensures writer { result ≡ Err SessionFault.Write → W.failures writer.new ≡ W.failures writer.old + 1 }
+    ensures no_write { result ≢ Err SessionFault.Write → W.failures writer.new ≡ W.failures writer.old }
+{
+    for i in 0..u64::MAX {
+        let _ = i;
+        let Ok(n) = reader.read(block) else {
+            return Err(SessionFault::Read);
         };
-        hear(&mut session, writer, byte)?;
+        if n == 0 {
+            return end(alloc, session, writer);
+        }
+        hear(alloc, session, writer, &block[..n])?;
     }
     Err(SessionFault::Read)
 }
 
-// Hears a byte, and answers the line that it ends, if it does.
-#[tactic(auto, using(crate::proofs::Hearing::wrote_nothing))]
-fn hear<W: Sink>(session: &mut Session, writer: &mut W, byte: u8) -> Result<(), SessionFault>
-    requires { W.failures writer.old < 2 ^ 63 }
-    ensures after { OnOk result (session.new ≡ after_byte session.old byte) }
-    ensures text { OnOk result (Appends (W.written writer.old) (W.written writer.new) (said_at session.old byte)) }
-    ensures same { OnOk result (W.failures writer.new ≡ W.failures writer.old) }
+// Room for one read.
+fn block(alloc: Global) -> Result<Vec<u8>, SessionFault>
+    ensures room { IfOk result (λ block. 0 < vec_len block) }
+    ensures err { OnErr result (result ≡ Err SessionFault.Memory) }
 {
-    if byte == b'\n' {
-        return answer(session, writer);
+    match vec![in alloc; 0u8; BLOCK] {
+        Ok(block) => Ok(block),
+        Err(_) => Err(SessionFault::Memory),
     }
-    session.join(byte)?;
+}
+
+// Hears the bytes, and writes the answers to the lines that they end.
+fn hear<W: Sink>(
+    alloc: Global,
+    session: &mut Session,
+    writer: &mut W,
+    bytes: &[u8],
+) -> Result<(), SessionFault>
+    requires { W.failures writer.old < 2 ^ 63 }
+    ensures after { OnOk result (session.new ≡ after_bytes session.old bytes.now) }
+    ensures text { OnOk result (Appends (W.written writer.old) (W.written writer.new) (said_by session.old bytes.now)) }
+    ensures part { OnErr result (WritesPart (W.written writer.old) (W.written writer.new) (said_by session.old bytes.now)) }
+    ensures ok { OnOk result (W.failures writer.new ≡ W.failures writer.old) }
+    ensures err { IfErr result (λ fault. StopsAnswering fault (W.failures writer.old) (W.failures writer.new)) }
+{
+    let mut answers = String::new(alloc);
+    for byte in bytes {
+        session.hear(*byte, &mut answers)?;
+        if answers.len() >= BLOCK {
+            put(writer, &answers)?;
+            answers.clear();
+        }
+    }
+    put(writer, &answers)
+}
+
+// The end ends the line, if one has begun.
+fn end<W: Sink>(alloc: Global, session: &mut Session, writer: &mut W) -> Result<(), SessionFault>
+    requires { W.failures writer.old < 2 ^ 63 }
+    ensures standing { OnOk result (session.new.standing ≡ (at_end session.old session.old.line).standing) }
+    ensures text { OnOk result (Appends (W.written writer.old) (W.written writer.new) (at_end session.old session.old.line).text) }
+    ensures part { OnErr result (WritesPart (W.written writer.old) (W.written writer.new) (at_end session.old session.old.line).text) }
+    ensures ok { OnOk result (W.failures writer.new ≡ W.failures writer.old) }
+    ensures err { IfErr result (λ fault. StopsAnswering fault (W.failures writer.old) (W.failures writer.new)) }
+{
+    let mut answer = String::new(alloc);
+    if session.has_begun() {
+        session.answer(&mut answer)?;
+        put(writer, &answer)?;
+    }
     Ok(())
 }
 
-// Ends the line, and writes its answer.
-fn answer<W: Sink>(session: &mut Session, writer: &mut W) -> Result<(), SessionFault>
+// Writes all the text.
+fn put<W: Sink>(writer: &mut W, text: &str) -> Result<(), SessionFault>
     requires { W.failures writer.old < 2 ^ 63 }
-    ensures over { OnOk result (session.new ≡ line_over session.old) }
-    ensures text { OnOk result (Appends (W.written writer.old) (W.written writer.new) (answer_at session.old)) }
-    ensures same { OnOk result (W.failures writer.new ≡ W.failures writer.old) }
+    ensures text { OnOk result (Appends (W.written writer.old) (W.written writer.new) text.now) }
+    ensures part { OnErr result (WritesPart (W.written writer.old) (W.written writer.new) text.now) }
+    ensures ok { OnOk result (W.failures writer.new ≡ W.failures writer.old) }
+    ensures err { IfErr result (λ fault. (fault ≡ SessionFault.Write) × (W.failures writer.new ≡ W.failures writer.old + 1)) }
 {
-    let text = match session.answer() {
-        Ok(text) => text,
-        Err(stop) => return Err(fault_of(&stop)),
-    };
     match write_all(writer, text.as_bytes()) {
         Ok(()) => Ok(()),
         Err(Failed) => Err(SessionFault::Write),
     }
-}
-
-// The end ends the line, if one has begun.
-fn end<W: Sink>(session: Session, writer: &mut W) -> Result<Judge, SessionFault>
-    requires { W.failures writer.old < 2 ^ 63 }
-    ensures standing { IfOk result (λ judge. judge ≡ (at_end session session.line).standing) }
-    ensures text { OnOk result (Appends (W.written writer.old) (W.written writer.new) (at_end session session.line).text) }
-{
-    let mut session = session;
-    if session.has_begun() {
-        answer(&mut session, writer)?;
-    }
-    Ok(session.into_judge())
-}
-
-// The next byte; None at the end.
-fn next_byte<R: Source>(reader: &mut R) -> Result<Option<u8>, SessionFault>
-    requires { R.failures reader.old < 2 ^ 63 }
-    ensures taken { IfOk result (TakesByte (R.left reader.old) (R.left reader.new)) }
-    ensures same { OnOk result (R.failures reader.new ≡ R.failures reader.old) }
-{
-    let mut byte = [0u8; 1];
-    let Ok(n) = reader.read(&mut byte) else {
-        return Err(SessionFault::Read);
-    };
-    Ok(if n == 0 { None } else { Some(byte[0]) })
 }

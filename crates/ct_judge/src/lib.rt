@@ -29,5 +29,4 @@ pub use record_fault::RecordFault;
 pub use recording::{record, recorded};
 pub use session::LONGEST;
 pub use session_fault::SessionFault;
-pub use stop::Stop;
 pub use words::{interact_command, record_command};

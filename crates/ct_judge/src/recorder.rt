@@ -1,6 +1,6 @@
 //! The bytes of a schedule, told line by line.
 
-ghost use Rattle.std.specs.Prelude.{◌≡◌, ◌≤◌, ◌+◌, ◌<◌, ◌^◌, Ok, OnOk, IfOk, IfErr};
+ghost use Rattle.std.specs.Prelude.{◌≡◌, ◌≢◌, ◌≤◌, ◌+◌, ◌<◌, ◌^◌, Ok, Err, OnOk, IfOk, IfErr};
 ghost use Rattle.ct_judge.specs.Schedule.{IsFaultIn, after_byte, beginning, ended, world_at};
 ghost use Rattle.ct_judge.specs.Standing.{world_of};
 
@@ -48,6 +48,7 @@ impl Recorder {
         requires { self.old.number < 2 ^ 63 }
         ensures ok { OnOk result (after_byte self.old byte ≡ Ok self.new) }
         ensures fault { IfErr result (IsFaultIn (after_byte self.old byte)) }
+        ensures short { result ≢ Err RecordFault.TooLong }
         ensures number { self.new.number ≤ self.old.number + 1 }
     {
         if byte == b'\n' {
@@ -65,6 +66,7 @@ impl Recorder {
         requires { self.old.number < 2 ^ 63 }
         ensures ok { OnOk result (ended self.old ≡ Ok self.new) }
         ensures fault { IfErr result (IsFaultIn (ended self.old)) }
+        ensures short { result ≢ Err RecordFault.TooLong }
         ensures number { self.new.number ≤ self.old.number + 1 }
     {
         match tell(self.alloc, &mut self.judge, &self.line) {
@@ -87,6 +89,7 @@ impl Recorder {
     pub(crate) fn finish(self) -> Result<World, RecordFault>
         ensures ok { IfOk result (λ world. world_at self.number (world_of self.standing) ≡ Ok world.rehearsal) }
         ensures fault { IfErr result (IsFaultIn (world_at self.number (world_of self.standing))) }
+        ensures short { result ≢ Err RecordFault.TooLong }
     {
         let Recorder {
             alloc,

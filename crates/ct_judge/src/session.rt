@@ -1,11 +1,13 @@
 //! The lines of a session and their answers.
 
-ghost use Rattle.std.specs.Prelude.{◌≡◌, ◌≤◌, ◌++◌, Some, OnOk, IfOk, codes, length, nat_lt, string_bytes};
+ghost use Rattle.std.specs.Prelude.{◌≡◌, ◌≤◌, ◌++◌, Some, OnOk, IfOk, IfErr, codes, length, nat_lt, string_bytes};
 ghost use Rattle.ct_judge.specs.Answers.{answer, question_text, standing_after, taken_text};
-ghost use Rattle.ct_judge.specs.Sessions.{answer_at, kept, line_if, line_over, opening};
+ghost use Rattle.ct_judge.specs.SessionFaults.{IsShort};
+ghost use Rattle.ct_judge.specs.Sessions.{after_byte, answer_at, kept, line_if, line_over, opening, said_at};
 
 use crate::answering::{push_answer, push_ok};
 use crate::judge::{Judge, line_in};
+use crate::session_fault::SessionFault;
 use crate::stop::Stop;
 use crate::telling::tell_line;
 use ct_grammar::{Line, Question};
@@ -62,9 +64,22 @@ impl Session {
         judge
     }
 
+    // Hears a byte: a line feed ends the line, whose answer joins the text; another byte joins the line.
+    pub(crate) fn hear(&mut self, byte: u8, text: &mut String) -> Result<(), SessionFault>
+        ensures after { OnOk result (self.new ≡ after_byte self.old byte) }
+        ensures text { OnOk result (string_bytes text.new ≡ string_bytes text.old ++ said_at self.old byte) }
+        ensures err { IfErr result IsShort }
+    {
+        if byte == b'\n' {
+            return self.answer(text);
+        }
+        self.join(byte)?;
+        Ok(())
+    }
+
     // Another byte of the line.
     #[tactic(auto, unfolding(crate::specs::Sessions::kept))]
-    pub(crate) fn join(&mut self, byte: u8) -> Result<(), AllocError>
+    fn join(&mut self, byte: u8) -> Result<(), AllocError>
         ensures { OnOk result (self.new ≡ record self.old { line = kept self.old.line byte }) }
     {
         if self.line.len() > LONGEST {
@@ -76,16 +91,17 @@ impl Session {
         }
     }
 
-    // Ends the line, and answers it.
+    // Ends the line, and its answer joins the text.
     #[tactic(auto, unfolding(crate::specs::Sessions::answer_at, crate::specs::Sessions::line_over))]
-    pub(crate) fn answer(&mut self) -> Result<String, Stop>
-        ensures text { IfOk result (λ text. string_bytes text ≡ answer_at self.old) }
+    pub(crate) fn answer(&mut self, text: &mut String) -> Result<(), SessionFault>
+        ensures text { OnOk result (string_bytes text.new ≡ string_bytes text.old ++ answer_at self.old) }
         ensures after { OnOk result (self.new ≡ line_over self.old) }
+        ensures err { IfErr result IsShort }
     {
         let line = line_if(self.alloc, &self.line)?;
-        let text = answered(self.alloc, &mut self.judge, line)?;
+        tell(self.alloc, text, &mut self.judge, line)?;
         self.line.clear();
-        Ok(text)
+        Ok(())
     }
 }
 
@@ -101,55 +117,70 @@ fn line_if(alloc: Global, bytes: &[u8]) -> Result<Option<Line>, AllocError>
 }
 
 // Tells the judge the line, if it is one, and answers it.
-fn answered(alloc: Global, judge: &mut Judge, line: Option<Line>) -> Result<String, Stop>
-    ensures text { IfOk result (λ text. string_bytes text ≡ answer judge.old line) }
+fn tell(
+    alloc: Global,
+    text: &mut String,
+    judge: &mut Judge,
+    line: Option<Line>,
+) -> Result<(), SessionFault>
+    ensures text { OnOk result (string_bytes text.new ≡ string_bytes text.old ++ answer judge.old line) }
     ensures after { OnOk result (judge.new ≡ standing_after judge.old line) }
+    ensures err { IfErr result IsShort }
 {
     match line {
-        None => Ok(String::from_str(alloc, "not understood\n")?),
-        Some(line) => answered_line(alloc, judge, &line),
+        None => Ok(text.push_str("not understood\n")?),
+        Some(line) => tell_and_answer(alloc, text, judge, &line),
     }
 }
 
-fn answered_line(alloc: Global, judge: &mut Judge, line: &Line) -> Result<String, Stop>
-    ensures text { IfOk result (λ text. string_bytes text ≡ answer judge.old (Some line.now)) }
+fn tell_and_answer(
+    alloc: Global,
+    text: &mut String,
+    judge: &mut Judge,
+    line: &Line,
+) -> Result<(), SessionFault>
+    ensures text { OnOk result (string_bytes text.new ≡ string_bytes text.old ++ answer judge.old (Some line.now)) }
     ensures after { OnOk result (judge.new ≡ standing_after judge.old (Some line.now)) }
+    ensures err { IfErr result IsShort }
 {
     let before = judge.sent();
     match tell_line(alloc, judge, line) {
-        Ok(()) => Ok(text_of(alloc, judge, line, before)?),
-        Err(Stop::Told(_, text)) => Ok(ended(text)?),
-        Err(Stop::Memory) => Err(Stop::Memory),
-        Err(Stop::BoardRefused) => Err(Stop::BoardRefused),
+        Ok(()) => Ok(push_taken(alloc, text, judge, line, before)?),
+        Err(Stop::Told(_, fault)) => Ok(push_line(text, &fault)?),
+        Err(Stop::Memory) => Err(SessionFault::Memory),
+        Err(Stop::BoardRefused) => Err(SessionFault::Board),
     }
 }
 
-// The text and a line feed.
-fn ended(text: String) -> Result<String, AllocError>
-    ensures { IfOk result (λ line. string_bytes line ≡ string_bytes text ++ codes "\n") }
+// The words and a line feed.
+fn push_line(text: &mut String, words: &str) -> Result<(), AllocError>
+    ensures { OnOk result (string_bytes text.new ≡ string_bytes text.old ++ (words.now ++ codes "\n")) }
 {
-    let mut text = text;
-    text.push_str("\n")?;
-    Ok(text)
+    text.push_str(words)?;
+    text.push_str("\n")
 }
 
 // The answer to a line that was taken, where so many envelopes had been sent.
-fn text_of(alloc: Global, judge: &Judge, line: &Line, before: u32) -> Result<String, AllocError>
+fn push_taken(
+    alloc: Global,
+    text: &mut String,
+    judge: &Judge,
+    line: &Line,
+    before: u32,
+) -> Result<(), AllocError>
     requires { before ≤ 1000000 }
-    ensures { IfOk result (λ text. string_bytes text ≡ taken_text before line.now judge.now) }
+    ensures { OnOk result (string_bytes text.new ≡ string_bytes text.old ++ taken_text before line.now judge.now) }
 {
-    let mut text = String::new(alloc);
     match line {
-        Line::Ask(question) => push_question(alloc, &mut text, judge, *question)?,
-        Line::Blank => push_ok(&mut text, before, judge.sent())?,
-        Line::Members(_) => push_ok(&mut text, before, judge.sent())?,
-        Line::Cells(_) => push_ok(&mut text, before, judge.sent())?,
-        Line::Batch(_) => push_ok(&mut text, before, judge.sent())?,
-        Line::Act(..) => push_ok(&mut text, before, judge.sent())?,
-        Line::Turns(..) => push_ok(&mut text, before, judge.sent())?,
-        Line::Expect(..) => push_ok(&mut text, before, judge.sent())?,
+        Line::Ask(question) => push_question(alloc, text, judge, *question),
+        Line::Blank => push_ok(text, before, judge.sent()),
+        Line::Members(_) => push_ok(text, before, judge.sent()),
+        Line::Cells(_) => push_ok(text, before, judge.sent()),
+        Line::Batch(_) => push_ok(text, before, judge.sent()),
+        Line::Act(..) => push_ok(text, before, judge.sent()),
+        Line::Turns(..) => push_ok(text, before, judge.sent()),
+        Line::Expect(..) => push_ok(text, before, judge.sent()),
     }
-    Ok(text)
 }
 
 // The answer to a question.

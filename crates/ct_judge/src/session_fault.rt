@@ -3,7 +3,6 @@
 ghost use Rattle.std.specs.Prelude.{◌≡◌};
 ghost use Rattle.ct_judge.specs.SessionFaults.{session_status};
 
-use crate::stop::Stop;
 use std::alloc::AllocError;
 use thiserror::Error;
 
@@ -33,14 +32,6 @@ impl SessionFault {
             SessionFault::Read | SessionFault::Write => 4,
             SessionFault::Memory | SessionFault::Board => 5,
         }
-    }
-}
-
-// The fault of a line that could not be answered.
-pub(crate) fn fault_of(stop: &Stop) -> SessionFault {
-    match stop {
-        Stop::BoardRefused => SessionFault::Board,
-        _ => SessionFault::Memory,
     }
 }
 

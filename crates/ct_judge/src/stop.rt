@@ -3,14 +3,14 @@
 use crate::line_fault::LineFault;
 use std::alloc::AllocError;
 
-/// Why a line was not taken.
+// Why a line was not taken.
 #[derive(Drop)]
-pub enum Stop {
-    /// The line is refused; and the text of that.
+pub(crate) enum Stop {
+    // The line is refused; and the text of that.
     Told(LineFault, String),
-    /// Memory was refused.
+    // Memory was refused.
     Memory,
-    /// A cell of the board refused a batch.
+    // A cell of the board refused a batch.
     BoardRefused,
 }
 

@@ -4,8 +4,8 @@ ghost use Rattle.std.specs.Prelude.{◌≡◌, ◌++◌, Result, Ok, Err, OnOk, 
 ghost use Rattle.ct_judge.specs.Facts.{there};
 ghost use Rattle.ct_judge.specs.Judging.{taken};
 ghost use Rattle.ct_judge.specs.Standing.{Standing, world_of};
-ghost use Rattle.ct_judge.specs.Telling.{Explained, IsStopKept, IsStopOf, explained, fault_text, member_text, not_met_text, refused_text, told};
-ghost use Rattle.ct_judge.specs.Telling.{unmet_text};
+ghost use Rattle.ct_judge.specs.Telling.{Explained, IsStopKept, IsStopOf, explained, fault_text, member_text, not_met_text};
+ghost use Rattle.ct_judge.specs.Telling.{refused_text, told, unmet_text};
 
 use crate::facts::push_there;
 use crate::judge::{Judge, line_in};

@@ -76,9 +76,7 @@ split-number c = grind (arith, nat_tests)
 
 shifted : (b first : ℕ) → 1 ≤ first → b / 2 ^ (first + 1 - 1) ≡ b / 2 ^ (first - 1) / 2
 shifted b first h =
-    let e : first + 1 - 1 ≡ suc (first - 1) = omega arith in
-    ap (λ k. b / 2 ^ k) e ∙ (ap (λ z. b / z) (pow-succ' 2 (first - 1) ∙ mul_comm 2 (2 ^ (first - 1)))
-    ∙ sym (div-div-eq-div-mul b (2 ^ (first - 1)) 2))
+    grind (arith, pow-succ' 2 (first - 1), mul_comm 2 (2 ^ (first - 1)), div-div-eq-div-mul b (2 ^ (first - 1)) 2)
 
 number_of-bits : (b first n c : ℕ) → 1 ≤ first → b / 2 ^ (first - 1) ≡ c → c < 2 ^ n → number_of (map (has_bit b) (counting first n)) ≡ c
 number_of-bits b first zero c h e low = omega arith
@@ -162,8 +160,7 @@ members_of-zero = nothing everyone
 pub has_member-bit : (bits one : ℕ) (set : List ℕ) → members_of bits ≡ set → IsMember MAX_MEMBERS one →
     (bit_and (bits / 2 ^ (one - 1)) 1 == 1) ≡ has_member set one
 has_member-bit bits one set is h =
-    ap (λ z. z == 1) (shr_and_one bits (one - 1))
-    ∙ (sym (has_member-filter (has_bit bits) one (in-everyone one h)) ∙ ap (λ s. has_member s one) is)
+    grind (arith, shr_and_one bits (one - 1), has_member-filter (has_bit bits) one (in-everyone one h), in-everyone one h)
 
 pub has_member-none : (bits one : ℕ) (set : List ℕ) → members_of bits ≡ set → (IsMember MAX_MEMBERS one → ⊥) → false ≡ has_member set one
 has_member-none bits one set is out = sym (has_member-outside (has_bit bits) one out) ∙ ap (λ s. has_member s one) is

@@ -17,7 +17,7 @@ before_all-less : (m : Message) (list : List Message) → AllByRecursion (λ oth
 before_all-less m [] h = tt
 before_all-less m (x ∷ list) h = (less-before m x h.0, before_all-less m list h.1)
 
-rising-strict : (list : List Message) → IsStrictlySortedBy order list → IsRising list
+pub rising-strict : (list : List Message) → IsStrictlySortedBy order list → IsRising list
 unfolding IsStrictlySortedBy
 rising-strict [] h = tt
 rising-strict (m ∷ list) h = (before_all-less m list h.0, rising-strict list h.1)

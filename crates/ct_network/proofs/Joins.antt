@@ -14,7 +14,7 @@ use Rattle.ct_network.specs.WaitingLine.{WaitingLine}
 use Rattle.ct_network.specs.Lines.{serials_of}
 use Rattle.ct_network.specs.Network.{line_at}
 use Rattle.ct_network.proofs.Waiting.{line_there, serials-set}
-use Rattle.ct_network.proofs.Posts.{serials_to-all}
+use Rattle.ct_model.proofs.Basics.Serials.{serials_to-all}
 
 -- one serial joins the line of one member
 pub join_one : (lines : List WaitingLine) (to base : ℕ) (w : Wire ℕ) (old new : WaitingLine) → is_member (length lines) to ≡ true →
@@ -81,4 +81,4 @@ joined_all old new base w as_many done q member =
     ∙ done (q - 1) none (omega arith)
     ∙ ap (λ s. (get_or old (q - 1) none).serials ++ s ∷ []) same
     ∙ ap (λ ls. ls ++ (base + q) ∷ []) (sym (get_or-map (λ (l : WaitingLine). l.serials) old (q - 1) none [] (omega arith)))
-    ∙ ap (λ ks. line_at (serials_of old) q ++ ks) (sym (serials_to-all (length old) q base w low high))
+    ∙ ap (λ ks. line_at (serials_of old) q ++ ks) (sym (serials_to-all w (length old) q base low high))

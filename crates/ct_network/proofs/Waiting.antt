@@ -1,4 +1,5 @@
 -- Lists of waiting lines.
+use Rattle.std.proofs.lemmas.Bool.Decides.{nat_tests}
 use Rattle.std.proofs.Common.{◌≡◌, ℕ, ◌+◌, ◌-◌, ◌<◌, ◌≤◌, Bool, true, false, List, [], length, get_or, set, refl, ap, sym}
 use Rattle.std.proofs.Common.{◌∙◌, subst, arith, inl, inr}
 use Rattle.std.specs.Prelude.{◌==◌}
@@ -18,10 +19,7 @@ line_there lines i line within is = ap (λ (l : WaitingLine). l.serials) is ∙ 
 -- a place of what waits at a member is one of its line
 pub waiting_there : (lines : List WaitingLine) (seen : List (List ℕ)) (p i : ℕ) (line : WaitingLine) → p - 1 < length lines →
     serials_of lines ≡ seen → line ≡ get_or lines (p - 1) line → i < length (line_at seen p) → i < length line.serials
-waiting_there lines seen p i line within is at h =
-    let same : line.serials ≡ line_at seen p = line_there lines (p - 1) line within at ∙ ap (λ ls. line_at ls p) is in
-    let as_many = ap length same in
-    omega arith
+waiting_there lines seen p i line within is at h = grind (arith, nat_tests, line_there lines (p - 1) line within at)
 
 pub serials-set : (lines : List WaitingLine) (i : ℕ) (new : WaitingLine) →
     serials_of (set lines i new) ≡ set (serials_of lines) i new.serials
@@ -39,8 +37,7 @@ pub room-set : (lines : List WaitingLine) (i n least : ℕ) (new : WaitingLine) 
 room-set lines i n least new within room h k d low = go (i == k) refl
   where
     go : (b : Bool) → (i == k) ≡ b → least ≤ (get_or (set lines i new) k d).room
-    go true e = subst (λ j. least ≤ (get_or (set lines i new) j d).room) (eqb-true i k e)
-        (rw (get_or-set_same lines i new d within) h)
+    go true e = grind (arith, nat_tests, eqb-true i k e, get_or-set_same lines i new d within)
     go false e = rw (get_or-set_other lines i k new d (λ s. eqb-false i k e (sym s))) (room k d low)
 
 -- a line keeps its room
@@ -50,15 +47,6 @@ room-kept lines i least old new within is h room =
     let here : least ≤ (get_or lines i old).room = room i old within in
     let same : old.room ≡ (get_or lines i old).room = ap (λ (l : WaitingLine). l.room) is in
     rw (length-set lines i new) (room-set lines i (length lines) least new within room (omega arith))
-
--- a line has room for one less
-pub room-used : (lines : List WaitingLine) (i least : ℕ) (old new : WaitingLine) → i < length lines → old ≡ get_or lines i old →
-    old.room ≤ new.room + 1 → HaveRoom lines least → HaveRoom (set lines i new) (least - 1)
-room-used lines i least old new within is h room =
-    let here : least ≤ (get_or lines i old).room = room i old within in
-    let same : old.room ≡ (get_or lines i old).room = ap (λ (l : WaitingLine). l.room) is in
-    let fewer : HaveRoom lines (least - 1) = λ k d low. let most : least ≤ (get_or lines k d).room = room k d low in omega arith in
-    rw (length-set lines i new) (room-set lines i (length lines) (least - 1) new within fewer (omega arith))
 
 -- one more of the lines has room
 pub room-more : (lines : List WaitingLine) (i least : ℕ) (new : WaitingLine) → i < length lines → HaveFirstRoom i lines least →

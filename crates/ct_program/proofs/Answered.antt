@@ -4,7 +4,7 @@ use Rattle.std.specs.Prelude.{IfSome, IsOkAnd}
 use Rattle.std.specs.Io.KnownBytes.{Appends}
 use Rattle.std.specs.Str.{bytes_eq}
 use Rattle.ct_program.specs.declared.program_fault.ProgramFault.{ProgramFault}
-use Rattle.ct_program.specs.declared.program_fault.ProgramFault.TheVariants.{Replay, Read, Reader, Write, Memory, Start, Exchanged}
+use Rattle.ct_program.specs.declared.program_fault.ProgramFault.TheVariants.{Replay, Read, Start, Exchanged}
 use Rattle.ct_program.specs.Script.{script}
 use Rattle.ct_program.specs.Report.{report_text}
 use Rattle.ct_program.specs.Replay.{IsReplayed, IsReportOf, TellsReport, WritesReport, WritesReportPart, IsFaultIn, read_part}
@@ -18,11 +18,9 @@ script_read bytes input e = ap script e ∙ script_part 67108865 input (omega ar
 fault_of_input : (fault : ProgramFault) (bytes input : List ℕ) → script bytes ≡ script input → IsFaultIn fault bytes → IsFaultIn fault input
 fault_of_input (Replay at refusal) bytes input e h = rw (← e) h
 fault_of_input (Read fault) bytes input e h = sym e ∙ h
-fault_of_input Reader bytes input e h = tt
-fault_of_input Write bytes input e h = tt
-fault_of_input Memory bytes input e h = tt
 fault_of_input Start bytes input e h = absurd h
 fault_of_input Exchanged bytes input e h = absurd h
+fault_of_input _ bytes input e h = tt
 
 pub fault_seen : (fault : ProgramFault) (left : Option (List ℕ)) (bytes seen : List ℕ) → IfSome left (λ input. bytes ≡ read_part input) →
     seen ≡ bytes → IsFaultIn fault seen → IfSome left (IsFaultIn fault)
@@ -63,7 +61,8 @@ part_seen (Some input) bytes seen text out old new h same r e a =
     (subst (WritesPart old new) e a) in
     rw (← script_read bytes input h) all
 
-told : (bytes text expected : List ℕ) (same : Bool) → IsReportOf bytes text → same ≡ bytes_eq text expected → TellsReport expected bytes same
+told : (bytes text expected : List ℕ) (same : Bool) → IsReportOf bytes text → same ≡ bytes_eq text expected
+    → TellsReport expected bytes same
 told bytes text expected same h e =
     ok_weaker (script bytes) (λ w. IsReplayed w × (text ≡ report_text w)) (λ w. IsReplayed w × (same ≡ bytes_eq (report_text w) expected))
     (λ w both. (both.0, subst (λ t. same ≡ bytes_eq t expected) both.1 e)) h

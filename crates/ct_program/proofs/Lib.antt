@@ -13,7 +13,8 @@ pub mod Numbers
 pub mod Fitting
 pub mod Lengths
 pub mod Names
-pub mod LineEnd
 pub mod Stored
 pub mod Written
 pub mod Plain
+pub mod Keys
+pub mod Members

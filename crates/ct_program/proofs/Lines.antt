@@ -1,9 +1,10 @@
 -- What clap makes of the program's words.
-use Rattle.std.proofs.Common.{◌≡◌, true, false, List, [], ◌∷◌, Option, Some, None, option_map, option_and_then, Box, box_value, codes, refl}
-use Rattle.std.proofs.Common.{ap, ap₂, ◌∙◌, sym, subst, inl, inr, IsSomeAnd, ◌⊎◌}
+use Rattle.std.proofs.Common.{arith, ◌≡◌, true, false, List, [], ◌∷◌, Option, Some, None, option_map, option_and_then, Box, box_value}
+use Rattle.std.proofs.Common.{codes, refl, ap, ap₂, ◌∙◌, sym, subst, inl, inr, IsSomeAnd, ◌⊎◌}
+use Rattle.std.proofs.lemmas.Bool.Decides.{nat_tests}
 use Rattle.std.specs.declared.alloc.Global.{Global}
-use Rattle.clap.specs.Words.{AddsArg, AddsSubcommand, App, HasKind, HasMatchesOf, Row, Rule, Shape, Text, app_of, fault_of, is_simple}
-use Rattle.clap.specs.Words.{is_simple_and_free, kind_of, rule_of, shape_of, subcommand_name_of, subcommand_of, subcommand_rows}
+use Rattle.clap.specs.Words.{AddsArg, AddsSubcommand, App, HasKind, HasMatchesOf, Row, Rule, Text, app_of, fault_of, is_simple}
+use Rattle.clap.specs.Words.{is_simple_and_free, kind_of, rule_of, subcommand_name_of, subcommand_of, subcommand_rows}
 use Rattle.clap.specs.Words.{subcommand_rows_of, with_rule, with_subcommand}
 use Rattle.clap.specs.declared.builder.arg.Arg.{Arg}
 use Rattle.clap.specs.declared.builder.command.Command.{Command}
@@ -14,7 +15,6 @@ use Rattle.clap.specs.declared.parser.matches.SubCommand.{SubCommand}
 use Rattle.clap.specs.declared.error.Error.{Error}
 use Rattle.clap.specs.declared.error.kind.ErrorKind.TheVariants.{OutOfMemory}
 use Rattle.clap.proofs.OnLiterals.{clap_on_literals}
-use Rattle.clap.proofs.SimpleLemmas.{plain_fields}
 use Rattle.ct_program.specs.declared.call.Call.TheVariants.{Free, Replay}
 use Rattle.ct_program.specs.Line.{call_at, call_of, faults_of, options_of, program}
 use Rattle.ct_program.proofs.Subcommands.{accepted}
@@ -72,10 +72,7 @@ free_at : (found : Option (Text × List Row)) (rows : List Row) → option_map (
     option_map (λ p. p.1) found ≡ Some rows
     → option_and_then (λ p. call_at p.0 p.1) found ≡ option_map Free (options_of rows)
 free_at None rows named has = absurd (cc)
-free_at (Some p) rows named has =
-    let name_is : p.0 ≡ codes "free" = cc in
-    let rows_are : p.1 ≡ rows = cc in
-    rw (name_is, rows_are) refl
+free_at (Some p) rows named has = grind (arith, nat_tests)
 
 named_found : (m : ArgMatches) → option_map (λ p. p.0) (subcommand_rows_of m) ≡ subcommand_name_of m
 named_found m = go (out-ArgMatches m).subcommand
@@ -130,7 +127,4 @@ with_option old new a app rule adds local old_is rule_is = adds.shape local ∙ 
 -- the subcommand has no global argument, as its shape tells
 pub with_command : (old sub new : Command) (app below : App) → AddsSubcommand old sub new → below.top.is_plain ≡ true → app_of old ≡ app →
     app_of sub ≡ below → app_of new ≡ with_subcommand app below.top
-with_command old sub new app below adds plain old_is sub_is =
-    let top_is : shape_of sub ≡ below.top = ap (λ (a : App). a.top) sub_is in
-    let fields = plain_fields sub (ap (λ (s : Shape). s.is_plain) top_is ∙ plain) in
-    adds.shape fields.globals ∙ ap₂ with_subcommand old_is top_is
+with_command old sub new app below adds plain old_is sub_is = grind (arith, nat_tests)

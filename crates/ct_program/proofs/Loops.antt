@@ -1,10 +1,10 @@
 -- Reading steps one after the other.
-use Rattle.std.proofs.Common.{◌≡◌, ℕ, suc, ◌+◌, ◌<◌, ◌≤◌, List, [], ◌∷◌, ◌++◌, length, get_or, Some, None, Result, Ok, Err, refl, sym, ap}
-use Rattle.std.proofs.Common.{◌∙◌, add-one, append_assoc, append-nil}
+use Rattle.std.proofs.Common.{arith, ◌≡◌, ℕ, suc, ◌+◌, ◌<◌, ◌≤◌, List, [], ◌∷◌, ◌++◌, length, get_or, Some, None, Result, Ok, Err, refl}
+use Rattle.std.proofs.Common.{sym, ap, ◌∙◌, add-one, append_assoc, append-nil}
+use Rattle.std.proofs.lemmas.Bool.Decides.{nat_tests}
 use Rattle.std.specs.Prelude.{drop, map}
 use Rattle.std.proofs.Math.Seq.{drop-cons}
 use Rattle.std.proofs.lemmas.List.{drop_all, length-map, get_or-map}
-use Rattle.serde_json.specs.Data.{Data}
 use Rattle.serde_json.specs.View.{view}
 use Rattle.serde_json.specs.declared.value.Value.{Value}
 use Rattle.ct_model.specs.declared.step.Step.{Step}
@@ -15,9 +15,6 @@ use Rattle.ct_program.specs.Script.{◌>>=◌, step_in, steps_of}
 -- what was read before, and what is still read
 abbrev pub with_front : List Step → Result (List Step) ReadFault → Result (List Step) ReadFault
 with_front front read = read >>= λ ss. Ok (front ++ ss)
-
-pub steps_start : (version : ℕ) (ds : List Data) → with_front [] (steps_of version 1 ds) ≡ steps_of version 1 ds
-steps_start version ds = elim (steps_of version 1 ds) as (λ r. with_front [] r ≡ r) [ Ok ss ↦ refl | Err e ↦ refl ]
 
 regroup : (front : List Step) (s : Step) (read : Result (List Step) ReadFault) →
     with_front front (read >>= λ ss. Ok (s ∷ ss)) ≡ with_front (front ++ s ∷ []) read
@@ -47,9 +44,7 @@ pub steps_stop : (version : ℕ) (front : List Step) (i : ℕ) (vs : List Value)
     → with_front front (steps_of version (i + 1) (drop i (map view vs))) ≡ total → total ≡ Err (Shape (i + 1))
 unfolding steps_of
 steps_stop version front i vs d total lt here h so_far =
-    let one : with_front front (steps_of version (i + 1) (drop i (map view vs))) ≡ Err (Shape (i + 1)) = rw
-    (split vs i d lt, ← here, ← h) refl in
-    sym so_far ∙ one
+    grind (arith, nat_tests, with_front front (steps_of version (i + 1) (drop i (map view vs))), split vs i d lt)
 
 pub steps_end : (version : ℕ) (front : List Step) (i : ℕ) (vs : List Value) (total : Result (List Step) ReadFault) → length vs ≤ i →
     with_front front (steps_of version (i + 1) (drop i (map view vs))) ≡ total → total ≡ Ok front

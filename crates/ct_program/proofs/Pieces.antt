@@ -19,9 +19,8 @@ written_none byte old = record { text = sym (append-nil old); any = refl }
 
 join-push : (byte : ℕ) (texts : List (List ℕ)) (last : List ℕ) →
     join_with_byte byte (texts ++ last ∷ []) ≡ join_with_byte byte texts ++ (cond (is_any texts) (byte ∷ []) [] ++ last)
-join-push byte [] last = refl
-join-push byte (t ∷ []) last = refl
 join-push byte (t ∷ u ∷ texts) last = ap (λ s. t ++ (byte ∷ s)) (join-push byte (u ∷ texts) last) ∙ simp append_assoc
+join-push byte _ last = refl
 
 any-push : {A : Type 0} (xs : List A) (x : A) → true ≡ is_any (xs ++ x ∷ [])
 any-push [] x = refl

@@ -1,28 +1,32 @@
--- What the reader of the written form takes from the front of the bytes, put together.
+-- What the reader of records takes from the front of the bytes, put together.
 use Rattle.std.proofs.Common.{◌≡◌, ℕ, ◌+◌, ◌*◌, ◌/◌, ◌%◌, ◌<◌, ◌≤◌, ◌^◌, Bool, true, false, List, [], ◌∷◌, ◌++◌, length, take, get_or}
-use Rattle.std.proofs.Common.{codes, decimal, Option, Some, None, Ok, refl, sym, ap, ◌∙◌, arith, append_assoc, append-nil, inl, inr}
-use Rattle.std.specs.Prelude.{map, nat_lt, if◌then◌else◌, option_and_then}
-use Rattle.std.specs.List.{concat}
+use Rattle.std.proofs.Common.{codes, decimal, Option, Some, None, refl, sym, ap, ◌∙◌, arith, append_assoc, inl, inr, add-one}
+use Rattle.std.specs.Prelude.{◌⊎◌, ◌==◌, ◌||◌, IfSome, drop, map, nat_lt, if◌then◌else◌, option_and_then}
 use Rattle.std.specs.Str.{bytes_eq}
-use Rattle.std.proofs.lemmas.List.{take_more, map-append, length-map}
-use Rattle.std.proofs.lemmas.List.Folds.{concat-append}
+use Rattle.std.proofs.Math.Seq.{drop-cons}
+use Rattle.std.proofs.lemmas.List.{take_more}
 use Rattle.std.proofs.lemmas.Fmt.{decimal_digit, decimal_step}
 use Rattle.std.proofs.lemmas.Slice.Eq.{bytes_eq-Decides}
-use Rattle.std.proofs.lemmas.Bool.{lt-ltb, leb-true}
+use Rattle.std.proofs.lemmas.Bool.{lt-ltb, leb-true, eqb-true, or_cases}
+use Rattle.json.specs.Token.{begin_object, end_object, begin_array, end_array, string}
+use Rattle.json.specs.Lex.{Lexeme, token, comma, colon, string_token, lex, between, in_string}
+use Rattle.json.specs.Print.{escape, quoted}
+use Rattle.json.specs.Word.{is_space, ends_word}
+use Rattle.json.proofs.OnLiterals.{json_on_literals}
+use Rattle.json.proofs.Printed.Decimals.{IsNumber-decimal}
+use Rattle.json.proofs.Printed.Numbers.{lex-number}
+use Rattle.json.proofs.Printed.Strings.{content-escape, lex-escape}
 use Rattle.ct_names.specs.declared.command.Command.{Command}
 use Rattle.ct_model.specs.declared.step.Step.{Step}
 use Rattle.ct_model.specs.declared.step.Step.TheVariants.{Receive}
-use Rattle.ct_model.specs.Rehearsal.{Rehearsal}
 use Rattle.ct_model.specs.StepText as steps
 use Rattle.ct_model.specs.StepText.{Number, Rest, nothing, command, Entry, amount, largest, command_entry, step_entry}
-use Rattle.ct_model.specs.StepText.{entry_text, command_text, rest_texts, step_text}
-use Rattle.ct_program.specs.Fits.{CommandFits, StepFits, IsStorable}
-use Rattle.ct_program.specs.Plain.{Continues, bound_text, sizes_text, IsVersion}
+use Rattle.ct_program.specs.Fits.{CommandFits, StepFits}
+use Rattle.ct_program.specs.Plain.{lexemes, number_lexeme, command_lexemes, step_lexemes, comma_if, steps_lexemes}
+use Rattle.ct_program.specs.Plain.{Begins, IsPlain, Continues}
 use Rattle.ct_program.specs.Script.{named, fits, rest_fits, commands, named_command, alone, with_number, with_command}
-use Rattle.ct_program.specs.Script.{short_step, numbered_step, commanded_step, script}
-use Rattle.ct_program.specs.Text.{steps_text}
-use Rattle.ct_program.proofs.Joins.{rest_of, rest_of-join}
-use Rattle.ct_program.proofs.Written.{IsOf, version_trip, version_line_trip}
+use Rattle.ct_program.specs.Script.{short_step, numbered_step, commanded_step}
+use Rattle.ct_program.proofs.Names.{step_name, command_name}
 
 -- ---- numbers
 
@@ -81,33 +85,116 @@ command_is name register n c small e = go (named command_entry name (commands re
         let first : (command_entry d).first ≡ register = ap (λ t. t.0) has.1 in
         rw (← both.1) (has.0, first, ap (λ t. t.1) has.1, (rw first small, leb-true _ _ both.0))
 
+-- what holds of what is there, said in another way
+pub if_some : {A : Type 0} (P Q : A → Type 0) (o : Option A) → ((x : A) → P x → Q x) → IfSome o P → IfSome o Q
+if_some P Q None f h = tt
+if_some P Q (Some x) f h = f x h
+
+-- ---- one lexeme
+
+pub commas : (bytes rest : List ℕ) → Begins bytes 44 rest → lexemes bytes ≡ comma ∷ lexemes rest
+unfolding lex
+commas bytes rest h = h.text
+
+pub colons : (bytes rest : List ℕ) → Begins bytes 58 rest → lexemes bytes ≡ colon ∷ lexemes rest
+unfolding lex
+colons bytes rest h = h.text
+
+pub opens : (bytes rest : List ℕ) → Begins bytes 91 rest → lexemes bytes ≡ token begin_array ∷ lexemes rest
+unfolding lex
+opens bytes rest h = h.text
+
+pub closes : (bytes rest : List ℕ) → Begins bytes 93 rest → lexemes bytes ≡ token end_array ∷ lexemes rest
+unfolding lex
+closes bytes rest h = h.text
+
+pub opens_object : (bytes rest : List ℕ) → Begins bytes 123 rest → lexemes bytes ≡ token begin_object ∷ lexemes rest
+unfolding lex
+opens_object bytes rest h = h.text
+
+pub closes_object : (bytes rest : List ℕ) → Begins bytes 125 rest → lexemes bytes ≡ token end_object ∷ lexemes rest
+unfolding lex
+closes_object bytes rest h = h.text
+
+-- white space, one byte at a time
+are_spaces : (x : ℕ) → is_space x ≡ true → (x ≡ 32) ⊎ ((x ≡ 9) ⊎ ((x ≡ 10) ⊎ (x ≡ 13)))
+are_spaces x h = go (or_cases _ _ h)
+  where
+    first : ((x == 32) ≡ true) ⊎ ((x == 9) ≡ true) → (x ≡ 32) ⊎ ((x ≡ 9) ⊎ ((x ≡ 10) ⊎ (x ≡ 13)))
+    first (inl e) = inl (eqb-true x 32 e)
+    first (inr e) = inr (inl (eqb-true x 9 e))
+
+    more : (((x == 32) || (x == 9)) ≡ true) ⊎ ((x == 10) ≡ true) → (x ≡ 32) ⊎ ((x ≡ 9) ⊎ ((x ≡ 10) ⊎ (x ≡ 13)))
+    more (inl e) = first (or_cases _ _ e)
+    more (inr e) = inr (inr (inl (eqb-true x 10 e)))
+
+    go : ((((x == 32) || (x == 9)) || (x == 10)) ≡ true) ⊎ ((x == 13) ≡ true) → (x ≡ 32) ⊎ ((x ≡ 9) ⊎ ((x ≡ 10) ⊎ (x ≡ 13)))
+    go (inl e) = more (or_cases _ _ e)
+    go (inr e) = inr (inr (inr (eqb-true x 13 e)))
+
+pub space_skipped : (bytes rest : List ℕ) (x : ℕ) → is_space x ≡ true → bytes ≡ x ∷ rest →
+    (lexemes bytes ≡ lexemes rest) × (ends_word bytes ≡ true)
+unfolding lex
+space_skipped bytes rest x h e = go (are_spaces x h)
+  where
+    go : (x ≡ 32) ⊎ ((x ≡ 9) ⊎ ((x ≡ 10) ⊎ (x ≡ 13))) → (lexemes bytes ≡ lexemes rest) × (ends_word bytes ≡ true)
+    go (inl i) = rw (e, i) (refl, refl)
+    go (inr (inl i)) = rw (e, i) (refl, refl)
+    go (inr (inr (inl i))) = rw (e, i) (refl, refl)
+    go (inr (inr (inr i))) = rw (e, i) (refl, refl)
+
+-- the first i bytes are white space
+pub record Skipped (bytes : List ℕ) (i : ℕ) : Type 0 where
+  pub same : lexemes bytes ≡ lexemes (drop i bytes)
+  pub ends : ends_word (drop i bytes) ≡ true → ends_word bytes ≡ true
+
+pub skipped_none : (bytes : List ℕ) → Skipped bytes 0
+skipped_none bytes = record { same = refl; ends = λ h. h }
+
+pub skipped_more : (bytes : List ℕ) (i b : ℕ) → i < length bytes → is_space (get_or bytes i b) ≡ true → Skipped bytes i →
+    Skipped bytes (i + 1)
+skipped_more bytes i b within space h =
+    let split : drop i bytes ≡ get_or bytes i b ∷ drop (i + 1) bytes = rw add-one (drop-cons bytes i b within) in
+    let more = space_skipped (drop i bytes) (drop (i + 1) bytes) (get_or bytes i b) space split in
+    record { same = h.same ∙ more.0; ends = λ e. h.ends more.1 }
+
+-- the bracket that closes an object is the last
+pub object_ends : (bytes rest t : List ℕ) → Begins bytes 125 rest → lexemes rest ≡ lexemes t → (length t == 0) ≡ true →
+    lexemes bytes ≡ token end_object ∷ []
+unfolding lex
+object_ends bytes rest [] h same none = h.text ∙ ap (λ l. token end_object ∷ l) same
+object_ends bytes rest (x ∷ t) h same none = absurd (omega (arith, eqb-true (length (x ∷ t)) 0 none))
+
+lex-quoted : (s r : List ℕ) → lexemes (quoted s ++ r) ≡ token (string s) ∷ lexemes r
+unfolding lex
+lex-quoted s r =
+    ap (λ l. lex between (34 ∷ l)) (append_assoc (escape s) (34 ∷ []) r)
+    ∙ ap (λ o. token (string_token o) ∷ lex in_string (escape s ++ 34 ∷ r)) (content-escape s r)
+    ∙ ap (λ l. token (string s) ∷ l) (lex-escape s r)
+
+-- a word between quotation marks
+pub word_first : (s bytes r : List ℕ) → lexemes bytes ≡ lexemes (34 ∷ (s ++ 34 ∷ r)) → IsPlain s →
+    lexemes bytes ≡ token (string s) ∷ lexemes r
+word_first s bytes r e h =
+    let joined : quoted s ++ r ≡ 34 ∷ (s ++ 34 ∷ r) = ap (λ t. t ++ r) h ∙ ap (λ t. 34 ∷ t) (append_assoc s (34 ∷ []) r) in
+    e ∙ sym (ap lexemes joined) ∙ lex-quoted s r
+
+-- a number before white space or a mark
+pub number_first : (n : ℕ) (bytes t r : List ℕ) → n < 2 ^ 64 → lexemes bytes ≡ lexemes t → t ≡ decimal n ++ r → ends_word r ≡ true →
+    lexemes bytes ≡ number_lexeme n ∷ lexemes r
+number_first n bytes t r fits same is ended = same ∙ ap lexemes is ∙ lex-number (decimal n) r (IsNumber-decimal n fits) ended
+
 -- ---- entries
 
-entry_joined : (name : List ℕ) (first : ℕ) (rest : List (List ℕ)) (after : List ℕ) →
-    entry_text name first rest ++ after
-    ≡ codes "[\"" ++ (name ++ (codes "\"," ++ (decimal first ++ (concat rest ++ (codes "]" ++ after)))))
-entry_joined name first rest after =
-    ap (λ t. (codes "[\"" ++ (name ++ (codes "\"," ++ (decimal first ++ t)))) ++ after) (concat-append rest (codes "]" ∷ []))
-    ∙ ap (λ t. codes "[\"" ++ t)
-    (append_assoc name (codes "\"," ++ (decimal first ++ (concat rest ++ codes "]"))) after
-    ∙ ap (λ t. name ++ (codes "\"," ++ t))
-    (append_assoc (decimal first) (concat rest ++ codes "]") after
-    ∙ ap (λ t. decimal first ++ t) (append_assoc (concat rest) (codes "]") after)))
-
-comma_joined : (x after : List ℕ) → concat (codes "," ∷ x ∷ []) ++ after ≡ codes "," ++ (x ++ after)
-comma_joined x after = ap (λ t. codes "," ++ (t ++ after)) (append-nil x)
-
-pub command_joined : (name : List ℕ) (register n : ℕ) (c : Command) (bytes a b d e : List ℕ) → register ≤ 255 →
-    named_command name register n ≡ Some c → bytes ≡ name ++ 34 ∷ a → a ≡ codes "," ++ b → b ≡ decimal register ++ d →
-    d ≡ codes "," ++ (decimal n ++ (codes "]" ++ e)) → 91 ∷ 34 ∷ bytes ≡ command_text c ++ e
-unfolding command_text
-command_joined name register n c bytes a b d e small is h0 h1 h2 h3 =
+pub command_lexed : (name : List ℕ) (register n : ℕ) (c : Command) (bytes a b d e f after : List ℕ) → register ≤ 255 →
+    named_command name register n ≡ Some c → (IsPlain name → lexemes bytes ≡ token (string name) ∷ lexemes a) → Begins a 44 b →
+    (ends_word d ≡ true → lexemes b ≡ number_lexeme register ∷ lexemes d) → Begins d 44 e →
+    (ends_word f ≡ true → lexemes e ≡ number_lexeme n ∷ lexemes f) → Begins f 93 after →
+    token begin_array ∷ lexemes bytes ≡ command_lexemes c (lexemes after)
+command_lexed name register n c bytes a b d e f after small is h0 h1 h2 h3 h4 h5 =
     let has = command_is name register n c small is in
-    let x = decimal (amount (command_entry c).rest) in
-    let whole = entry_joined (command_entry c).name (command_entry c).first (codes "," ∷ x ∷ []) e
-    ∙ ap (λ t. codes "[\"" ++ ((command_entry c).name ++ (codes "\"," ++ (decimal (command_entry c).first ++ t))))
-    (comma_joined x (codes "]" ++ e)) in
-    sym (whole ∙ rw (has.0, has.1, has.2, h0, h1, h2, h3) refl)
+    let plain : IsPlain name = rw (← has.0) (command_name c).plain in
+    rw (has.0, has.1, has.2, h0 plain, commas a b h1, h2 (h3.ends refl), commas d e h3, h4 (h5.ends refl), closes f after h5) refl
 
 -- a member and what stands behind it
 abbrev member_and_rest : Step → ℕ × Rest
@@ -119,7 +206,7 @@ unfolding short_step
 short_continues name p s bytes e =
     let has = named_has step_entry member_and_rest (p, nothing) name (alone p) s refl e in
     let rest : (step_entry s).rest ≡ nothing = ap (λ t. t.1) has.1 in
-    record { named = has.0; of_member = ap (λ t. t.0) has.1; text = rw rest refl; fits = rw rest tt }
+    record { named = has.0; of_member = ap (λ t. t.0) has.1; fits = rw rest tt; text = λ ended. rw rest refl; ends = λ ended. ended }
 
 -- the number that the rest is
 abbrev number_of : Rest → Option ℕ
@@ -136,13 +223,13 @@ is_numbered n nothing e = absurd cc
 is_numbered n (steps.number x) e = (x, refl, cc e)
 is_numbered n (command c) e = absurd cc
 
-pub numbered_continues : (name : List ℕ) (p n : ℕ) (s : Step) (bytes a b : List ℕ) → numbered_step name p n ≡ Some s →
-    bytes ≡ codes "," ++ a → a ≡ decimal n ++ b → Continues name p bytes s b
+pub numbered_continues : (name : List ℕ) (p n : ℕ) (s : Step) (bytes a after : List ℕ) → numbered_step name p n ≡ Some s →
+    Begins bytes 44 a → (ends_word after ≡ true → lexemes a ≡ number_lexeme n ∷ lexemes after) → Continues name p bytes s after
 unfolding numbered_step
-numbered_continues name p n s bytes a b e h0 h1 = go (named step_entry name (with_number p n)) refl e
+numbered_continues name p n s bytes a after e h0 h1 = go (named step_entry name (with_number p n)) refl e
   where
     go : (o : Option Step) → named step_entry name (with_number p n) ≡ o →
-        option_and_then (λ s. if rest_fits (step_entry s).rest then Some s else None) o ≡ Some s → Continues name p bytes s b
+        option_and_then (λ s. if rest_fits (step_entry s).rest then Some s else None) o ≡ Some s → Continues name p bytes s after
     go None found is = absurd cc
     go (Some d) found is =
         let both = if_fits (rest_fits (step_entry d).rest) d s is in
@@ -151,77 +238,68 @@ numbered_continues name p n s bytes a b e h0 h1 = go (named step_entry name (wit
         rw (← both.1) (record {
           named = has.0;
           of_member = ap (λ t. t.0) has.1;
-          text = h0 ∙ ap (λ t. codes "," ++ t) h1 ∙ sym (rw (rest.1, rest.2) (comma_joined (decimal n) b));
           fits = rw rest.1 (leb-true _ _ (ap rest_fits (sym rest.1) ∙ both.0));
+          text = λ ended. rw (rest.1, rest.2, commas bytes a h0, h1 ended) refl;
+          ends = λ ended. h0.ends refl;
         })
 
-pub commanded_continues : (name : List ℕ) (p : ℕ) (c : Command) (s : Step) (bytes a b d : List ℕ) → commanded_step name p c ≡ Some s →
-    CommandFits c → bytes ≡ codes "," ++ a → a ≡ codes "[\"" ++ b → 91 ∷ 34 ∷ b ≡ command_text c ++ d → Continues name p bytes s d
+pub commanded_continues : (name : List ℕ) (p : ℕ) (c : Command) (s : Step) (bytes a b after : List ℕ) → commanded_step name p c ≡ Some s →
+    CommandFits c → Begins bytes 44 a → Begins a 91 b → token begin_array ∷ lexemes b ≡ command_lexemes c (lexemes after) →
+    Continues name p bytes s after
 unfolding commanded_step
-commanded_continues name p c s bytes a b d e small h0 h1 h2 =
+commanded_continues name p c s bytes a b after e small h0 h1 h2 =
     let has = named_has step_entry member_and_rest (p, command c) name (with_command p c) s refl e in
     let rest : (step_entry s).rest ≡ command c = ap (λ t. t.1) has.1 in
     record {
       named = has.0;
       of_member = ap (λ t. t.0) has.1;
-      text = h0 ∙ ap (λ t. codes "," ++ t) (h1 ∙ h2) ∙ sym (rw rest (comma_joined (command_text c) d));
       fits = rw rest small;
+      text = λ ended. rw rest (commas bytes a h0 ∙ ap (λ l. comma ∷ l) (opens a b h1 ∙ h2));
+      ends = λ ended. h0.ends refl;
     }
 
-pub step_joined : (name : List ℕ) (p : ℕ) (s : Step) (bytes a b d e f : List ℕ) → bytes ≡ codes "[\"" ++ a → a ≡ name ++ 34 ∷ b →
-    b ≡ codes "," ++ d → d ≡ decimal p ++ e → Continues name p e s (codes "]" ++ f) → bytes ≡ step_text s ++ f
-unfolding step_text
-step_joined name p s bytes a b d e f h0 h1 h2 h3 is =
-    h0 ∙ rw (h1, h2, h3, is.text, ← is.named, ← is.of_member)
-    (sym (entry_joined (step_entry s).name (step_entry s).first (rest_texts (step_entry s).rest) f))
+pub step_lexed : (name : List ℕ) (p : ℕ) (s : Step) (bytes a b d e f after : List ℕ) → Begins bytes 91 a →
+    (IsPlain name → lexemes a ≡ token (string name) ∷ lexemes b) → Begins b 44 d →
+    (ends_word e ≡ true → lexemes d ≡ number_lexeme p ∷ lexemes e) → Continues name p e s f → Begins f 93 after →
+    lexemes bytes ≡ step_lexemes s (lexemes after)
+step_lexed name p s bytes a b d e f after h0 h1 h2 h3 is h5 =
+    let plain : IsPlain name = rw (← is.named) (step_name s).plain in
+    let ended = h5.ends refl in
+    rw (is.named, is.of_member, opens bytes a h0, h1 plain, commas b d h2, h3 (is.ends ended), is.text ended, closes f after h5) refl
 
-pub receipt_joined : (p n : ℕ) (bytes a b d e f : List ℕ) → bytes ≡ codes "[\"receive\"," ++ a → a ≡ decimal p ++ b →
-    b ≡ codes "," ++ d → d ≡ decimal n ++ e → e ≡ codes "]" ++ f → bytes ≡ step_text (Receive p n) ++ f
-unfolding step_text
-receipt_joined p n bytes a b d e f h0 h1 h2 h3 h4 =
-    let whole = entry_joined (codes "receive") p (codes "," ∷ decimal n ∷ []) f
-    ∙ ap (λ t. codes "[\"" ++ (codes "receive" ++ (codes "\"," ++ (decimal p ++ t)))) (comma_joined (decimal n) (codes "]" ++ f)) in
-    sym (whole ∙ rw (h0, h1, h2, h3, h4) refl)
+receive_first : (r : List ℕ) → lexemes (codes "\"receive\"" ++ r) ≡ token (string (codes "receive")) ∷ lexemes r
+unfolding json_on_literals
+receive_first r = word_first (codes "receive") (codes "\"receive\"" ++ r) r refl refl
+
+pub receipt_lexed : (p n : ℕ) (bytes a t b d e f g after : List ℕ) → Begins bytes 91 a → lexemes a ≡ lexemes t →
+    t ≡ codes "\"receive\"" ++ b → Begins b 44 d → (ends_word e ≡ true → lexemes d ≡ number_lexeme p ∷ lexemes e) → Begins e 44 f →
+    (ends_word g ≡ true → lexemes f ≡ number_lexeme n ∷ lexemes g) → Begins g 93 after →
+    lexemes bytes ≡ step_lexemes (Receive p n) (lexemes after)
+receipt_lexed p n bytes a t b d e f g after h0 same is h1 h2 h3 h4 h5 =
+    let name : lexemes a ≡ token (string (codes "receive")) ∷ lexemes b = same ∙ ap lexemes is ∙ receive_first b in
+    rw (opens bytes a h0, name, commas b d h1, h2 (h3.ends refl), commas e f h3, h4 (h5.ends refl), closes g after h5) refl
 
 pub step_fits : (name : List ℕ) (p : ℕ) (s : Step) (bytes after : List ℕ) → p ≤ 255 → Continues name p bytes s after → StepFits s
 step_fits name p s bytes after small is = (rw is.of_member small, is.fits)
 
 -- ---- the list of the steps
 
-rest_push_later : (c : ℕ) (xs : List (List ℕ)) (x : List ℕ) → rest_of c true (xs ++ x ∷ []) ≡ rest_of c true xs ++ c ∷ x
-rest_push_later c [] x = ap (λ t. c ∷ t) (append-nil x)
-rest_push_later c (y ∷ ys) x =
-    ap (λ t. c ∷ (y ++ t)) (rest_push_later c ys x) ∙ ap (λ t. c ∷ t) (sym (append_assoc y (rest_of c true ys) (c ∷ x)))
+push_later : (ss : List Step) (s : Step) (after : List Lexeme) →
+    steps_lexemes true (ss ++ s ∷ []) after ≡ steps_lexemes true ss (comma ∷ step_lexemes s after)
+push_later [] s after = refl
+push_later (t ∷ ss) s after = ap (λ l. comma ∷ step_lexemes t l) (push_later ss s after)
 
--- one more piece, behind a separator where others stand before it
-rest_push : (c : ℕ) (later : Bool) (xs : List (List ℕ)) (x : List ℕ) → later ≡ nat_lt 0 (length xs) →
-    rest_of c false (xs ++ x ∷ []) ≡ rest_of c false xs ++ ((if later then c ∷ [] else []) ++ x)
-rest_push c later [] x e = rw e (append-nil x)
-rest_push c later (y ∷ ys) x e =
-    let some : later ≡ true = e ∙ lt-ltb 0 (length (y ∷ ys)) (omega arith) in
-    rw some (ap (λ t. y ++ t) (rest_push_later c ys x) ∙ sym (append_assoc y (rest_of c true ys) (c ∷ x)))
+-- one more step, behind a comma where others stand before it
+steps_push : (ss : List Step) (s : Step) (later : Bool) (after : List Lexeme) → later ≡ nat_lt 0 (length ss) →
+    steps_lexemes false (ss ++ s ∷ []) after ≡ steps_lexemes false ss (comma_if later (step_lexemes s after))
+steps_push [] s later after e = rw e refl
+steps_push (t ∷ ss) s later after e =
+    let some : later ≡ true = e ∙ lt-ltb 0 (length (t ∷ ss)) (omega arith) in
+    rw some (ap (step_lexemes t) (push_later ss s after))
 
 pub steps_joined : (ss : List Step) (s : Step) (later : Bool) (bytes a b : List ℕ) → later ≡ nat_lt 0 (length ss) →
-    bytes ≡ rest_of 44 false (map step_text ss) ++ a → a ≡ (if later then 44 ∷ [] else []) ++ (step_text s ++ b) →
-    bytes ≡ rest_of 44 false (map step_text (ss ++ s ∷ [])) ++ b
+    lexemes bytes ≡ token begin_array ∷ steps_lexemes false ss (lexemes a) → lexemes a ≡ comma_if later (step_lexemes s (lexemes b)) →
+    lexemes bytes ≡ token begin_array ∷ steps_lexemes false (ss ++ s ∷ []) (lexemes b)
 steps_joined ss s later bytes a b e h0 h1 =
-    let so_far = rest_of 44 false (map step_text ss) in
-    let comma : List ℕ = if later then 44 ∷ [] else [] in
-    let grown : rest_of 44 false (map step_text (ss ++ s ∷ [])) ≡ so_far ++ (comma ++ step_text s) =
-    ap (rest_of 44 false) (map-append step_text ss (s ∷ []))
-    ∙ rest_push 44 later (map step_text ss) (step_text s) (e ∙ ap (nat_lt 0) (sym (length-map ss step_text))) in
-    h0 ∙ ap (λ t. so_far ++ t) (h1 ∙ sym (append_assoc comma (step_text s) b)) ∙ sym (append_assoc so_far (comma ++ step_text s) b)
-    ∙ ap (λ t. t ++ b) (sym grown)
-
-pub steps_end : (ss : List Step) (bytes a b : List ℕ) → bytes ≡ rest_of 44 false (map step_text ss) ++ a → a ≡ codes "]" ++ b →
-    bytes ≡ steps_text ss ++ 93 ∷ b
-steps_end ss bytes a b h0 h1 = h0 ∙ ap (λ t. rest_of 44 false (map step_text ss) ++ t) h1 ∙ ap (λ t. t ++ 93 ∷ b)
-    (rest_of-join 44 (map step_text ss))
-
--- ---- the whole
-
-pub plain_script : (named : Bool) (version : ℕ) (w : Rehearsal) (bytes a b d : List ℕ) → IsOf named version w → IsStorable w →
-    bytes ≡ bound_text named w.setting.bound a → a ≡ sizes_text w.cells w.setting.members b → b ≡ steps_text w.steps ++ 93 ∷ d →
-    IsVersion version d → script bytes ≡ Ok w
-plain_script named version w bytes a b d is fit h0 h1 h2 (inl h3) = rw (h0, h1, h2, h3) (version_trip named version w is fit)
-plain_script named version w bytes a b d is fit h0 h1 h2 (inr h3) = rw (h0, h1, h2, h3) (version_line_trip named version w is fit)
+    h0 ∙ ap (λ l. token begin_array ∷ steps_lexemes false ss l) h1
+    ∙ ap (λ l. token begin_array ∷ l) (sym (steps_push ss s later (lexemes b) e))

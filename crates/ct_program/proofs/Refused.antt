@@ -7,11 +7,9 @@ use Rattle.ct_model.specs.declared.step.Step.{Step}
 use Rattle.ct_model.specs.Rehearsal.{Rehearsal}
 use Rattle.ct_world.specs.Replay.{IsFaultOf}
 use Rattle.ct_world.specs.declared.replay_fault.ReplayFault.{ReplayFault}
-use Rattle.ct_program.specs.declared.read_fault.ReadFault.{ReadFault}
-use Rattle.ct_program.specs.declared.read_fault.ReadFault.TheVariants.{TooLong, NotJson, Shape, Version, OutOfMemory}
+use Rattle.ct_program.specs.declared.read_fault.ReadFault.TheVariants.{OutOfMemory}
 use Rattle.ct_program.specs.declared.program_fault.ProgramFault.{ProgramFault}
-use Rattle.ct_program.specs.Gives.{Fails}
-use Rattle.ct_program.specs.ProgramFault.{of_read_fault, IsOfReplayFault}
+use Rattle.ct_program.specs.ProgramFault.{IsOfReplayFault}
 use Rattle.ct_program.specs.Script.{script}
 use Rattle.ct_program.specs.Replay.{IsRefused, IsFaultIn}
 
@@ -35,11 +33,3 @@ replay_refused input w steps replay fault e same h (inl memory) = rw memory.1 tt
 replay_refused input w steps replay fault e same h (inr refused) =
     rw refused.1 (rw e (is_refused w replay.at replay.refusal
     (subst (λ ss. IsFaultOf w.setting w.cells ss replay.at replay.refusal) same h) refused.0))
-
-pub reading_failed : (input : List ℕ) (read : ReadFault) (fault : ProgramFault) → Fails read (script input) → fault ≡ of_read_fault read →
-    IsFaultIn fault input
-reading_failed input TooLong fault h e = rw e h
-reading_failed input NotJson fault h e = rw e h
-reading_failed input (Shape at) fault h e = rw e h
-reading_failed input Version fault h e = rw e h
-reading_failed input OutOfMemory fault h e = rw e tt

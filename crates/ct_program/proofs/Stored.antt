@@ -1,7 +1,8 @@
 -- The value that a record is, and that its text reads as that value.
-use Rattle.std.proofs.Common.{◌≡◌, ℕ, ◌+◌, ◌*◌, ◌^◌, ◌<◌, ◌≤◌, Bool, true, false, List, [], ◌∷◌, ◌++◌, length, codes, decimal, Some}
+use Rattle.std.proofs.Common.{◌≡◌, ℕ, ◌+◌, ◌*◌, ◌^◌, ◌<◌, ◌≤◌, true, false, List, [], ◌∷◌, ◌++◌, length, codes, decimal, Some}
 use Rattle.std.proofs.Common.{refl, sym, ap, ap₂, ◌∙◌, arith, append_assoc, append-nil}
 use Rattle.std.specs.Prelude.{map, option_map, option_and_then}
+use Rattle.std.specs.Fmt.{digits}
 use Rattle.std.specs.List.{concat}
 use Rattle.std.proofs.lemmas.List.Folds.{concat-append}
 use Rattle.json.specs.Json as json
@@ -9,11 +10,11 @@ use Rattle.json.specs.Lex.{tokens}
 use Rattle.json.specs.Tree as tree
 use Rattle.json.proofs.OnLiterals.{json_on_literals}
 use Rattle.json.proofs.Printed.Decimals.{IsNumber-decimal}
-use Rattle.json.specs.Spaced.{IsGap}
+use Rattle.json.proofs.Printed.Tokens.{tokens-print}
 use Rattle.json.proofs.Printed.Trees.{value-json_tokens, ArePrintable-json_tokens}
-use Rattle.serde_json.specs.Data.{Data, array, string, number, object, unsigned, Items, no_items, item, Members, no_members, member}
+use Rattle.serde_json.specs.Data.{Data, number, Items, no_items, item}
 use Rattle.serde_json.specs.Read.{read, of_json, of_items}
-use Rattle.serde_json.specs.Written.{outline, items_outline, members_outline, compact_text, items_text}
+use Rattle.serde_json.specs.Written.{outline, items_outline, compact_text, items_text}
 use Rattle.serde_json.proofs.Numbers.{number_of-decimal}
 use Rattle.serde_json.proofs.Texts.{print-outline}
 use Rattle.ct_names.specs.declared.command.Command.{Command}
@@ -23,48 +24,12 @@ use Rattle.ct_model.specs.StepText as steps
 use Rattle.ct_model.specs.StepText.{Number, byte, serial, value, amount, largest, Rest, nothing, command, command_entry, step_entry}
 use Rattle.ct_model.specs.StepText.{entry_text, command_text, rest_texts, step_text}
 use Rattle.ct_program.specs.Fits.{NumberFits, CommandFits, RestFits, StepFits, AllFit, IsStorable}
-use Rattle.ct_program.specs.Plain.{sizes_text, version_text, whole_text}
 use Rattle.ct_program.specs.Text.{steps_text}
+use Rattle.ct_program.specs.Values.{num, entry_data, command_data, rest_data, step_data, steps_data, record_data}
 use Rattle.ct_program.proofs.Joins.{rest_of, rest_of-join}
-use Rattle.ct_program.proofs.LineEnd.{tokens-gap}
 use Rattle.ct_program.proofs.Lengths as lengths
 use Rattle.ct_program.proofs.Lengths.{Text}
 use Rattle.ct_program.proofs.Names.{IsName, command_name, step_name}
-
-abbrev num : ℕ → Data
-num n = number (unsigned n)
-
--- an array of a name, a number and these items
-abbrev pub entry_data : List ℕ → ℕ → Items → Data
-entry_data name first rest = array (item (string name) (item (num first) rest))
-
-abbrev pub command_data : Command → Data
-command_data c = entry_data (command_entry c).name (command_entry c).first (item (num (amount (command_entry c).rest)) no_items)
-
-abbrev pub rest_data : Rest → Items
-rest_data nothing = no_items
-rest_data (steps.number x) = item (num (amount x)) no_items
-rest_data (command c) = item (command_data c) no_items
-
-abbrev pub step_data : Step → Data
-step_data s = entry_data (step_entry s).name (step_entry s).first (rest_data (step_entry s).rest)
-
-abbrev pub steps_data : List Step → Items
-steps_data [] = no_items
-steps_data (s ∷ ss) = item (step_data s) (steps_data ss)
-
-abbrev with_bound : Bool → ℕ → Members → Members
-with_bound true bound ms = member (codes "batch") (num bound) ms
-with_bound false bound ms = ms
-
-abbrev sizes_members : ℕ → Rehearsal → Members
-sizes_members version w =
-    member (codes "cells") (num w.cells) (member (codes "n") (num w.setting.members) (member (codes "steps") (array (steps_data w.steps))
-    (member (codes "version") (num version) no_members)))
-
--- the value of a record of the version, in which the bound is named or not
-abbrev pub record_data : Bool → ℕ → Rehearsal → Data
-record_data named version w = object (with_bound named w.setting.bound (sizes_members version w))
 
 -- ---- values that are read as they are written
 
@@ -77,10 +42,10 @@ record IsStored (d : Data) (t : List ℕ) (deep wide : ℕ) : Type 0 where
   text : Text t wide
 
 -- the same of the entries of an array behind its first, with the commas before them
-record AreStored (ds : Items) (t : List ℕ) (deep wide : ℕ) : Type 0 where
-  again : of_items (items_outline ds) ≡ Some ds
+pub record AreStored (ds : Items) (t : List ℕ) (deep wide : ℕ) : Type 0 where
+  pub again : of_items (items_outline ds) ≡ Some ds
   numbers : tree.ItemsHaveNumbers (items_outline ds)
-  shallow : tree.items_depth (items_outline ds) ≤ deep
+  pub shallow : tree.items_depth (items_outline ds) ≤ deep
   compact : items_text true ds ≡ t ++ 93 ∷ []
   text : Text t wide
 
@@ -176,7 +141,7 @@ step_stored s h =
     entry_stored (step_entry s).name (step_entry s).first _ (rest_texts (step_entry s).rest) 1 38 (step_name s) h.0
     (rest_stored (step_entry s).rest h.1)
 
-steps_stored : (ss : List Step) → AllFit ss → AreStored (steps_data ss) (rest_of 44 true (map step_text ss)) 2 (55 * length ss)
+pub steps_stored : (ss : List Step) → AllFit ss → AreStored (steps_data ss) (rest_of 44 true (map step_text ss)) 2 (55 * length ss)
 steps_stored [] h = wider _ _ 2 0 _ (none_stored 2) (omega arith)
 steps_stored (s ∷ ss) h =
     wider _ _ 2 (1 + (54 + 55 * length ss)) _
@@ -202,92 +167,50 @@ list_stored (s ∷ ss) h =
 pub steps_width : (ss : List Step) → AllFit ss → Text (steps_text ss) (55 * length ss)
 steps_width ss h = rw (← rest_of-join 44 (map step_text ss)) (list_stored ss h).text
 
--- what stands for a value reads as it, also before spaces and line feeds
-printed_reads : (d : Data) (gap : List ℕ) → IsGap gap → of_json (outline d) ≡ Some d → tree.HasNumbers (outline d)
-    → tree.depth (outline d) ≤ 127 → read (compact_text d ++ gap) ≡ Some d
-printed_reads d gap is again numbers shallow =
+-- what stands for a value reads as it
+printed_reads : (d : Data) → of_json (outline d) ≡ Some d → tree.HasNumbers (outline d) → tree.depth (outline d) ≤ 127
+    → read (compact_text d) ≡ Some d
+printed_reads d again numbers shallow =
     let ts = tree.json_tokens (outline d) in
-    let printed = tokens-gap ts gap (ArePrintable-json_tokens (outline d) numbers) is in
-    let text : tokens (compact_text d ++ gap) ≡ ts ++ [] =
-    ap (λ t. tokens (t ++ gap)) (sym (print-outline d)) ∙ printed ∙ sym (append-nil ts) in
+    let text : tokens (compact_text d) ≡ ts ++ [] =
+    ap tokens (sym (print-outline d)) ∙ tokens-print ts (ArePrintable-json_tokens (outline d) numbers) ∙ sym (append-nil ts) in
     ap (λ xs. option_and_then of_json (option_and_then (λ p. json.if_last p.0 p.1) (json.value 127 xs))) text
     ∙ ap (λ o. option_and_then of_json (option_and_then (λ p. json.if_last p.0 p.1) o)) (value-json_tokens (outline d) 127 [] shallow)
     ∙ again
 
--- what stands behind the bound, in one piece or two
-sizes_compact : (version : ℕ) (w : Rehearsal) (gap : List ℕ) → IsList w.steps →
-    sizes_text w.cells w.setting.members (items_text false (steps_data w.steps) ++ version_text version []) ++ gap
-    ≡ sizes_text w.cells w.setting.members (steps_text w.steps ++ 93 ∷ version_text version gap)
-sizes_compact version w gap h =
+-- the text of a record, piece by piece
+abbrev pub whole_text : Rehearsal → List ℕ
+whole_text w =
+    codes "{\"batch\":" ++ (decimal w.setting.bound ++ (codes ",\"cells\":" ++ (decimal w.cells ++ (codes ",\"n\":"
+    ++ (decimal w.setting.members ++ (codes ",\"steps\":[" ++ (steps_text w.steps ++ codes "],\"version\":3}")))))))
+
+record_compact : (w : Rehearsal) → IsList w.steps → compact_text (record_data true 3 w) ≡ whole_text w
+unfolding json_on_literals digits
+record_compact w h =
     let list = h.compact ∙ ap (λ t. t ++ 93 ∷ []) (rest_of-join 44 (map step_text w.steps)) in
-    let from_steps = codes ",\"steps\":[" ++ ((steps_text w.steps ++ 93 ∷ []) ++ version_text version []) in
-    ap (λ t. sizes_text w.cells w.setting.members (t ++ version_text version []) ++ gap) list
-    ∙ ap (λ t. codes "\"cells\":" ++ t)
-    (append_assoc (decimal w.cells) (codes ",\"n\":" ++ (decimal w.setting.members ++ from_steps)) gap
-    ∙ ap (λ t. decimal w.cells ++ (codes ",\"n\":" ++ t))
-    (append_assoc (decimal w.setting.members) from_steps gap
-    ∙ ap (λ t. decimal w.setting.members ++ (codes ",\"steps\":[" ++ t))
-    (append_assoc (steps_text w.steps ++ 93 ∷ []) (version_text version []) gap
-    ∙ append_assoc (steps_text w.steps) (93 ∷ []) (version_text version [] ++ gap)
-    ∙ ap (λ t. steps_text w.steps ++ 93 ∷ (codes ",\"version\":" ++ t)) (append_assoc (decimal version) (codes "}") gap))))
+    let before : List ℕ → List ℕ =
+    λ t. codes "{\"batch\":" ++ (decimal w.setting.bound ++ (codes ",\"cells\":" ++ (decimal w.cells ++ (codes ",\"n\":"
+    ++ (decimal w.setting.members ++ (codes ",\"steps\":[" ++ t)))))) in
+    ap (λ t. before (t ++ codes ",\"version\":3}")) list
+    ∙ ap before (append_assoc (steps_text w.steps) (93 ∷ []) (codes ",\"version\":3}"))
 
-record_compact : (named : Bool) (version : ℕ) (w : Rehearsal) (gap : List ℕ) → IsList w.steps →
-    compact_text (record_data named version w) ++ gap ≡ whole_text named version w gap
-unfolding json_on_literals
-record_compact true version w gap h =
-    let bound = decimal w.setting.bound in
-    ap (λ t. codes "{\"batch\":" ++ t)
-    (append_assoc bound _ gap ∙ ap (λ t. bound ++ (codes "," ++ t)) (sizes_compact version w gap h))
-record_compact false version w gap h = ap (λ t. codes "{" ++ t) (sizes_compact version w gap h)
-
--- the value's parts are read as they are written, and it is not deep
-record IsReadable (d : Data) : Type 0 where
-  again : of_json (outline d) ≡ Some d
-  numbers : tree.HasNumbers (outline d)
-  shallow : tree.depth (outline d) ≤ 127
-
-sizes_numbers : (version : ℕ) (w : Rehearsal) → version ≤ 3 → IsStorable w →
-    tree.MembersHaveNumbers (members_outline (sizes_members version w))
-sizes_numbers version w le h = (
-  IsNumber-decimal w.cells (omega (arith, h.few_cells)),
-  (
-    IsNumber-decimal w.setting.members (omega (arith, h.few_members)),
-    ((steps_stored w.steps h.fit).numbers, (IsNumber-decimal version (omega arith), tt)),
-  ),
-)
-
-record_readable : (named : Bool) (version : ℕ) (w : Rehearsal) → version ≤ 3 → IsStorable w → IsReadable (record_data named version w)
-record_readable true version w le h =
+pub record_reads : (w : Rehearsal) → IsStorable w → read (whole_text w) ≡ Some (record_data true 3 w)
+record_reads w h =
     let steps = steps_stored w.steps h.fit in
-    record {
-      again =
-          rw (
-            number_of-decimal w.setting.bound (omega (arith, h.few_bound)),
-            number_of-decimal w.cells (omega (arith, h.few_cells)),
-            number_of-decimal w.setting.members (omega (arith, h.few_members)),
-            steps.again,
-            number_of-decimal version (omega arith),
-          ) refl;
-      numbers = (IsNumber-decimal w.setting.bound (omega (arith, h.few_bound)), sizes_numbers version w le h);
-      shallow = omega (arith, steps.shallow);
-    }
-record_readable false version w le h =
-    let steps = steps_stored w.steps h.fit in
-    record {
-      again =
-          rw (
-            number_of-decimal w.cells (omega (arith, h.few_cells)),
-            number_of-decimal w.setting.members (omega (arith, h.few_members)),
-            steps.again,
-            number_of-decimal version (omega arith),
-          ) refl;
-      numbers = sizes_numbers version w le h;
-      shallow = omega (arith, steps.shallow);
-    }
-
-pub record_reads : (named : Bool) (version : ℕ) (w : Rehearsal) (gap : List ℕ) → IsGap gap → version ≤ 3 → IsStorable w →
-    read (whole_text named version w gap) ≡ Some (record_data named version w)
-record_reads named version w gap is le h =
-    let known = record_readable named version w le h in
-    ap read (sym (record_compact named version w gap (list_stored w.steps h.fit)))
-    ∙ printed_reads (record_data named version w) gap is known.again known.numbers known.shallow
+    let again : of_json (outline (record_data true 3 w)) ≡ Some (record_data true 3 w) =
+    rw (
+      number_of-decimal w.setting.bound (omega (arith, h.few_bound)),
+      number_of-decimal w.cells (omega (arith, h.few_cells)),
+      number_of-decimal w.setting.members (omega (arith, h.few_members)),
+      steps.again,
+      number_of-decimal 3 (omega arith),
+    ) refl in
+    let numbers : tree.HasNumbers (outline (record_data true 3 w)) = (
+      IsNumber-decimal w.setting.bound (omega (arith, h.few_bound)),
+      (
+        IsNumber-decimal w.cells (omega (arith, h.few_cells)),
+        (IsNumber-decimal w.setting.members (omega (arith, h.few_members)), (steps.numbers, (IsNumber-decimal 3 (omega arith), tt))),
+      ),
+    ) in
+    let shallow : tree.depth (outline (record_data true 3 w)) ≤ 127 = omega (arith, steps.shallow) in
+    ap read (sym (record_compact w (list_stored w.steps h.fit))) ∙ printed_reads (record_data true 3 w) again numbers shallow

@@ -1,19 +1,20 @@
 -- The subcommand of words that clap accepts: `help` is answered by a fault.
-use Rattle.std.proofs.Common.{◌≡◌, ◌∙◌, ◌&&◌, ◌⊎◌, ℕ, Bool, true, false, true≢false, cond, List, [], ◌∷◌, ◌++◌, Option, Some, None}
-use Rattle.std.proofs.Common.{option_map, codes, refl, sym, ap, subst, inl, inr, IfSome, IsSomeAnd}
+use Rattle.std.proofs.Common.{arith, ◌≡◌, ◌∙◌, ◌&&◌, ◌⊎◌, ℕ, Bool, true, false, true≢false, cond, List, [], ◌∷◌, ◌++◌, Option, Some, None}
+use Rattle.std.proofs.Common.{option_map, codes, refl, sym, ap, subst, IfSome, IsSomeAnd}
+use Rattle.std.proofs.lemmas.Bool.Decides.{nat_tests}
 use Rattle.std.specs.Prelude.{fold, is_some}
 use Rattle.std.specs.Str.{bytes_eq}
 use Rattle.std.proofs.Math.Bool.{or-false}
 use Rattle.std.proofs.lemmas.Slice.Eq.{bytes_eq-Decides}
 use Rattle.clap.specs.Kinds.{Kinds, or_else}
 use Rattle.clap.specs.Walk.{Held, Names, Outcome, Rule, Step, Text, Waiting, Walk, idle, option, positional, done, waits, plain, refused}
-use Rattle.clap.specs.Walk.{next, trailing, subcommand, value, after_flag, after_step, answers_to, arg_by_index, bundle, finished}
+use Rattle.clap.specs.Walk.{next, trailing, subcommand, value, after_flag, after_step, answers_to, bundle, finished}
 use Rattle.clap.specs.Walk.{long_or_other, nothing_held, plain_word, settled, short_or_plain, stop_after, subcommand_met}
-use Rattle.clap.specs.Walk.{subcommand_or_other, to_positional, walk, walk_from, walked, walked_from, word_met}
+use Rattle.clap.specs.Walk.{subcommand_or_other, walk, walk_from, walked, walked_from, word_met}
 use Rattle.clap.specs.Lexer.{long_of, short_of}
 use Rattle.clap.specs.Faults.{built_fault, check_fault, defaults_fault, entered_fault, level_fault, other_fault, settle_fault, step_fault}
 use Rattle.clap.specs.Faults.{turn_fault, walk_fault, word_fault}
-use Rattle.clap.specs.Simple.{App, Shape, entered, label_of, names_of, rows_at}
+use Rattle.clap.specs.Simple.{App, Shape, entered, label_of, names_of}
 use Rattle.clap.specs.declared.error.kind.ErrorKind.TheVariants.{DisplayHelp, InvalidSubcommand, MissingSubcommand}
 use Rattle.clap.proofs.WalkLemmas.{walk_stopped}
 
@@ -25,10 +26,9 @@ or_else_none (k ∷ ks) b e = absurd (cc)
 
 -- the subcommand that the step enters
 abbrev entered_by : Step → Option Text
-entered_by (next waiting) = None
-entered_by (trailing position) = None
 entered_by (subcommand name) = Some name
 entered_by value = None
+entered_by _ = None
 
 plain_enters : (c : List Rule) (waiting : Waiting) (word : Text) (h : Held) → entered_by (plain_word c waiting word h).1 ≡ None
 plain_enters c idle word h = refl
@@ -71,11 +71,7 @@ step_stops : (c : List Rule) (word : Text) (w : Walk) (h : Held) (step : Step) �
 step_stops c word w h (next waiting) e = e
 step_stops c word w h (trailing position) e = e
 step_stops c word w h (subcommand name) e = refl
-step_stops c word w h value e = go (arg_by_index c w.position)
-  where
-    go : (a : Option Rule) → (to_positional c a word w h).stopped ≡ None
-    go None = e
-    go (Some a) = refl
+step_stops c word w h value e = grind (arith, nat_tests)
 
 -- ---- the walk never stops at `help`
 
@@ -113,11 +109,7 @@ turn_other s names w word enabled goes passes =
 -- what was entered stays, with the words after it
 entered_stays : (c : List Rule) (names : Names) (w : Walk) (p : Text × List Text) (words : List Text) → w.stopped ≡ Some p
     → (fold (walked c names) w words).stopped ≡ Some (p.0, p.1 ++ words)
-entered_stays c names w p words e =
-    let at : ◌≡◌ {A = Walk} w (record w { stopped = Some (p.0, p.1) }) =
-    ap (λ (o : Option (Text × List Text)). record w { stopped = o }) e in
-    ap (λ (v : Walk). (fold (walked c names) v words).stopped) at
-    ∙ sym (ap (λ (v : Walk). v.stopped) (walk_stopped c names w p.0 p.1 words))
+entered_stays c names w p words e = grind (arith, nat_tests, walk_stopped c names w p.0 p.1 words)
 
 rest_other : (s : Shape) (names : Names) (w : Walk) (rest : List Text) (stop : Option (Text × List Text)) → w.stopped ≡ stop → IsOther stop
     → (w.stopped ≡ None → IsOther (fold (walked s.rules names) w rest).stopped) → IsOther (fold (walked s.rules names) w rest).stopped
@@ -164,28 +156,14 @@ level_parts s names h words has below no_help required e =
 entered_first : (a : App) (x y z : Shape) (p : Text × List Text) → a.subs ≡ x ∷ y ∷ z ∷ [] → is_some (entered a (Some p)) ≡ true →
     answers_to p.0 (label_of z) ≡ false
     → IfSome (entered a (Some p)) (λ q. (q.0 ≡ x.name) ⊎ (q.0 ≡ y.name))
-entered_first a x y z p subs found other = rw subs (go (answers_to p.0 (label_of x)) (answers_to p.0 (label_of y))
-    (rw (subs, other) at found))
-  where
-    go : (b c : Bool) → is_some (option_map (λ s. rows_at s p.1) (cond b (Some x) (cond c (Some y) None))) ≡ true
-        → IfSome (option_map (λ s. rows_at s p.1) (cond b (Some x) (cond c (Some y) (cond (answers_to p.0 (label_of z)) (Some z) None))))
-        (λ q. (q.0 ≡ x.name) ⊎ (q.0 ≡ y.name))
-    go true c f = inl refl
-    go false true f = inr refl
-    go false false f = absurd (true≢false (sym f))
+entered_first a x y z p subs found other = grind (arith, nat_tests)
 
 both_known : {X : Type 0} (o : Option X) (P : X → Type 0) → is_some o ≡ true → IfSome o P → IsSomeAnd o P
 both_known None P found p = absurd (true≢false (sym found))
 both_known (Some x) P found p = p
 
 help_unnamed : (word : Text) → bytes_eq word (codes "help") ≡ false → bytes_eq (codes "help") word ≡ false
-help_unnamed word e = go (bytes_eq (codes "help") word) refl
-  where
-    go : (b : Bool) → bytes_eq (codes "help") word ≡ b → b ≡ false
-    go false f = refl
-    go true f =
-        let same : codes "help" ≡ word = (bytes_eq-Decides (codes "help") word).0 f in
-        absurd (true≢false (sym ((bytes_eq-Decides word (codes "help")).1 (sym same)) ∙ e))
+help_unnamed word e = grind (arith, nat_tests, bytes_eq-Decides (codes "help") word, bytes_eq-Decides word (codes "help"))
 
 -- words without fault name a subcommand, of three where the last is `help`
 pub accepted : (a : App) (x y z : Shape) (words : List Text) → a.subs ≡ x ∷ y ∷ z ∷ [] → label_of z ≡ (codes "help", []) →

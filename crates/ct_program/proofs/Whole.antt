@@ -1,4 +1,5 @@
 -- From bytes to a value.
+use Rattle.std.proofs.lemmas.Bool.Decides.{nat_tests}
 use Rattle.std.proofs.Common.{◌≡◌, ℕ, ◌≤◌, ◌<◌, Bool, true, false, cond, List, length, Option, Some, None, Err, refl, arith, le-ltb, lt-ltb}
 use Rattle.std.proofs.Common.{inl, inr}
 use Rattle.std.specs.Prelude.{take}
@@ -23,9 +24,7 @@ script_bad bytes short h =
 
 pub script_read : (bytes : List ℕ) (d : Data) → length bytes ≤ max_len → IsUtf8 bytes → read bytes ≡ Some d → script bytes ≡ of_value d
 unfolding script
-script_read bytes d short text h =
-    let some : data_of bytes ≡ Some d = rw (is_utf8-from_IsUtf8 bytes text) h in
-    rw (le-ltb _ _ short, some) refl
+script_read bytes d short text h = grind (arith, nat_tests, is_utf8-from_IsUtf8 bytes text, le-ltb _ _ short)
 
 pub not_true : false ≡ true → ⊥
 not_true e = cc

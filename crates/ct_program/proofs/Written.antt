@@ -1,11 +1,9 @@
 -- The value of what is written says what the record says.
 use Rattle.std.proofs.Common.{◌≡◌, ℕ, ◌+◌, ◌*◌, ◌≤◌, Bool, true, false, List, [], ◌∷◌, length, codes, decimal, Some, None, Ok, refl}
 use Rattle.std.proofs.Common.{sym, ap, ◌∙◌, arith}
-use Rattle.std.proofs.Common.{le-leb, inr}
+use Rattle.std.proofs.Common.{le-leb}
 use Rattle.std.specs.Prelude.{◌==◌, All}
-use Rattle.std.specs.Fmt.{digits}
 use Rattle.std.proofs.lemmas.List.Elements.{All-head, All-tail}
-use Rattle.json.specs.Spaced.{IsGap}
 use Rattle.serde_json.specs.Data.{number, unsigned}
 use Rattle.ct_names.specs.declared.command.Command.{Command}
 use Rattle.ct_names.specs.declared.limit.TheConstants.{MAX_BOUND}
@@ -15,45 +13,29 @@ use Rattle.ct_model.specs.Rehearsal.{Rehearsal}
 use Rattle.ct_model.specs.StepText as steps
 use Rattle.ct_model.specs.StepText.{Rest, nothing, command, amount, largest, command_entry, step_entry}
 use Rattle.ct_program.specs.Fits.{CommandFits, RestFits, StepFits, AllFit, IsStorable}
-use Rattle.ct_program.specs.Plain.{bound_text, version_text, whole_text}
 use Rattle.ct_program.specs.Text.{record_text}
 use Rattle.ct_program.specs.Script.{whole_of, named_command, command_of, named, short_step, numbered_step, commanded_step, long_step}
 use Rattle.ct_program.specs.Script.{step_of, since, step_in, bound_in, steps_of, rehearsal_in, of_value, list_of, rest_fits, script}
 use Rattle.ct_program.proofs.Lengths as lengths
 use Rattle.ct_program.proofs.Lengths.{Text}
 use Rattle.ct_program.proofs.Names.{alike, step_found, command_found}
-use Rattle.ct_program.proofs.Stored.{entry_data, command_data, rest_data, step_data, steps_data, record_data, record_reads, amount_fits}
-use Rattle.ct_program.proofs.Stored.{steps_width}
+use Rattle.ct_program.specs.Values.{entry_data, command_data, rest_data, step_data, steps_data, record_data}
+use Rattle.ct_program.proofs.Stored.{whole_text, record_reads, amount_fits, steps_width}
 use Rattle.ct_program.proofs.Whole.{script_read}
 
 -- ---- the text is short
 
-bound_width : (named : Bool) (bound : ℕ) (t : List ℕ) (wide : ℕ) → bound ≤ MAX_BOUND → Text t wide →
-    Text (bound_text named bound t) (9 + (20 + (1 + wide)))
-bound_width true bound t wide few h =
-    lengths.then (codes "{\"batch\":") _ 9 _ (lengths.plain (codes "{\"batch\":") refl)
-    (lengths.then (decimal bound) _ 20 _ (lengths.value bound (omega arith))
-    (lengths.then (codes ",") t 1 wide (lengths.plain (codes ",") refl) h))
-bound_width false bound t wide few h =
-    lengths.weaker _ (1 + wide) _ (lengths.then (codes "{") t 1 wide (lengths.plain (codes "{") refl) h) (omega arith)
-
-version_width : (version : ℕ) (gap : List ℕ) → version ≤ 3 → Text gap 1 → Text (93 ∷ version_text version gap) (12 + (3 + (1 + 1)))
-version_width version gap le h =
-    lengths.then (codes "],\"version\":") _ 12 _ (lengths.plain (codes "],\"version\":") refl)
-    (lengths.then (decimal version) _ 3 _ (lengths.byte version (omega arith))
-    (lengths.then (codes "}") gap 1 1 (lengths.plain (codes "}") refl) h))
-
-whole_width : (named : Bool) (version : ℕ) (w : Rehearsal) (gap : List ℕ) → version ≤ 3 → Text gap 1 → IsStorable w →
-    Text (whole_text named version w gap) (9 + (20 + (1 + (8 + (20 + (5 + (3 + (10 + (55 * length w.steps + 17)))))))))
-whole_width named version w gap le narrow h =
+whole_width : (w : Rehearsal) → IsStorable w → Text (whole_text w) (9 + (20 + (9 + (20 + (5 + (3 + (10 + (55 * length w.steps + 14))))))))
+whole_width w h =
     let literal = lengths.plain in
-    bound_width named w.setting.bound _ _ h.few_bound
-    (lengths.then (codes "\"cells\":") _ 8 _ (literal (codes "\"cells\":") refl)
+    lengths.then (codes "{\"batch\":") _ 9 _ (literal (codes "{\"batch\":") refl)
+    (lengths.then (decimal w.setting.bound) _ 20 _ (lengths.value w.setting.bound (omega (arith, h.few_bound)))
+    (lengths.then (codes ",\"cells\":") _ 9 _ (literal (codes ",\"cells\":") refl)
     (lengths.then (decimal w.cells) _ 20 _ (lengths.value w.cells (omega (arith, h.few_cells)))
     (lengths.then (codes ",\"n\":") _ 5 _ (literal (codes ",\"n\":") refl)
     (lengths.then (decimal w.setting.members) _ 3 _ (lengths.byte w.setting.members (omega (arith, h.few_members)))
     (lengths.then (codes ",\"steps\":[") _ 10 _ (literal (codes ",\"steps\":[") refl)
-    (lengths.then _ _ (55 * length w.steps) _ (steps_width w.steps h.fit) (version_width version gap le narrow)))))))
+    (lengths.then _ _ (55 * length w.steps) 14 (steps_width w.steps h.fit) (literal (codes "],\"version\":3}") refl))))))))
 
 -- ---- the value says what the record says
 
@@ -121,7 +103,7 @@ steps_are version at (s ∷ ss) h known =
       steps_are version (at + 1) ss h.1 (All-tail (λ s. since s ≤ version) s ss known),
     ) refl
 
-record_is : (named : Bool) (version : ℕ) (w : Rehearsal) → IsOf named version w → IsStorable w →
+pub record_is : (named : Bool) (version : ℕ) (w : Rehearsal) → IsOf named version w → IsStorable w →
     of_value (record_data named version w) ≡ Ok w
 unfolding of_value rehearsal_in bound_in
 record_is true version w is h =
@@ -144,34 +126,21 @@ record_is false version w is h =
 
 -- ---- the whole
 
--- a space or a line feed behind the text changes nothing
-gap_trip : (named : Bool) (version : ℕ) (w : Rehearsal) (gap : List ℕ) → IsGap gap → Text gap 1 → IsOf named version w →
-    IsStorable w → script (whole_text named version w gap) ≡ Ok w
-gap_trip named version w gap is narrow of h =
-    let width = whole_width named version w gap of.last narrow h in
-    script_read (whole_text named version w gap) (record_data named version w) (omega (arith, width.short, h.few_steps)) width.utf8
-    (record_reads named version w gap is of.last h) ∙ record_is named version w of h
-
-pub version_trip : (named : Bool) (version : ℕ) (w : Rehearsal) → IsOf named version w → IsStorable w →
-    script (whole_text named version w []) ≡ Ok w
-version_trip named version w = gap_trip named version w [] tt (lengths.weaker [] 0 1 (lengths.plain [] refl) (omega arith))
-
-pub version_line_trip : (named : Bool) (version : ℕ) (w : Rehearsal) → IsOf named version w → IsStorable w →
-    script (whole_text named version w (10 ∷ [])) ≡ Ok w
-version_line_trip named version w = gap_trip named version w (10 ∷ []) (inr refl, tt) (lengths.plain (10 ∷ []) refl)
-
 -- every step is one of version 3
 is_known : (s : Step) → since s ≤ 3
 is_known (Follow p) = omega arith
 is_known _ = omega arith
 
-record_whole : (w : Rehearsal) → record_text w ≡ whole_text true 3 w []
-unfolding record_text digits
+record_whole : (w : Rehearsal) → record_text w ≡ whole_text w
+unfolding record_text
 record_whole w = refl
 
 pub round_trip : (w : Rehearsal) → IsStorable w → script (record_text w) ≡ Ok w
 round_trip w h =
-    ap script (record_whole w) ∙ version_trip true 3 w (record {
+    let width = whole_width w h in
+    ap script (record_whole w)
+    ∙ script_read (whole_text w) (record_data true 3 w) (omega (arith, width.short, h.few_steps)) width.utf8 (record_reads w h)
+    ∙ record_is true 3 w (record {
       first = omega arith;
       last = omega arith;
       names = refl;

@@ -14,4 +14,5 @@ pub mod Seeding
 pub mod FreeRun
 pub mod Text
 pub mod Fits
+pub mod Values
 pub mod Plain

@@ -11,5 +11,6 @@ steps_text steps = join_with_byte 44 (map step_text steps)
 
 unfoldable pub record_text : Rehearsal → List ℕ
 record_text w =
-    concat (codes "{\"batch\":" ∷ decimal w.setting.bound ∷ codes ",\"cells\":" ∷ decimal w.cells ∷ codes ",\"n\":" ∷ decimal w.setting.members
+    concat (codes "{\"batch\":" ∷ decimal w.setting.bound ∷ codes ",\"cells\":" ∷ decimal w.cells
+    ∷ codes ",\"n\":" ∷ decimal w.setting.members
     ∷ codes ",\"steps\":[" ∷ steps_text w.steps ∷ codes "],\"version\":3}" ∷ [])

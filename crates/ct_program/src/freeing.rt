@@ -66,27 +66,27 @@ fn rehearsed<R: Threads + Wait + Sync>(
     ensures { IfErr result (λ fault. (fault ≡ ProgramFault.Memory) ⊎ (fault ≡ ProgramFault.Start)) }
 {
     let plan = plan(alloc, options)?;
-    let world = first_world(alloc, options)?;
-    let Ok(board) = Board::new(alloc, usize::from(options.cells)) else {
-        return Err(ProgramFault::Memory);
-    };
+    let (world, board) = first_world(alloc, options)?;
     match rehearse(rt, alloc, world, board, &plan, detectors, &NoGate) {
         Ok(done) => Ok(done.world),
         Err(fault) => Err(ProgramFault::from(fault.cause)),
     }
 }
 
-// The world before the run.
-fn first_world(alloc: Global, options: &FreeOptions) -> Result<World, ProgramFault>
+// The world before the run, and its board.
+fn first_world(alloc: Global, options: &FreeOptions) -> Result<(World, Board), ProgramFault>
     requires { InRange options.now }
-    ensures ok { IfOk result (λ world. world ≡ world_after (setting_of options.now) options.now.cells []) }
+    ensures ok { IfOk result (λ made. made.0 ≡ world_after (setting_of options.now) options.now.cells []) }
     ensures err { IfErr result (λ fault. fault ≡ ProgramFault.Memory) }
 {
     let Some(group) = Group::new(options.members) else {
         unreachable!()
     };
-    match World::new(alloc, group, options.cells, options.batch) {
-        Ok(world) => Ok(world),
+    let Ok(world) = World::new(alloc, group, options.cells, options.batch) else {
+        return Err(ProgramFault::Memory);
+    };
+    match Board::new(alloc, usize::from(options.cells)) {
+        Ok(board) => Ok((world, board)),
         Err(_) => Err(ProgramFault::Memory),
     }
 }

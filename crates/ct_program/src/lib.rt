@@ -10,6 +10,7 @@ mod kind;
 mod law;
 mod line_fault;
 mod naming;
+mod parts;
 mod planning;
 mod program_fault;
 mod quick;

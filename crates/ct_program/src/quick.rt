@@ -1,115 +1,117 @@
-//! From the bytes of a record, where they are those that are written of it, to what it says.
+//! From the bytes of a record, where its names have no escapes and its numbers are digits alone, to what it says.
 
-ghost use Rattle.std.specs.Prelude.{codes, ◌≡◌, ◌+◌, ◌<◌, ◌≤◌, ◌++◌, ◌∷◌, [], decimal, length, if◌then◌else◌, Ok, IfOk, IfSome, IsTrue};
-ghost use Rattle.std.specs.Prelude.{All, false};
-ghost use Rattle.ct_model.specs.StepText.{command_text, step_text};
-ghost use Rattle.ct_program.specs.Fits.{CommandFits, StepFits, AllFit};
-ghost use Rattle.ct_program.specs.Plain.{Continues, bound_text, sizes_text, IsVersion};
-ghost use Rattle.ct_program.specs.Script.{since, script};
-ghost use Rattle.ct_program.specs.Text.{steps_text};
+ghost use Rattle.std.specs.Prelude.{◌≡◌, ◌+◌, ◌<◌, ◌≤◌, ◌++◌, ◌∷◌, codes, decimal, length, true, false, [], Ok, IfOk, IfSome, IsTrue};
+ghost use Rattle.json.specs.Lex.{token, comma, colon};
+ghost use Rattle.json.specs.Token.{begin_array, end_array, end_object, string};
+ghost use Rattle.json.specs.Word.{ends_word, is_space};
+ghost use Rattle.ct_program.specs.Fits.{CommandFits, StepFits};
+ghost use Rattle.ct_program.specs.Plain.{lexemes, number_lexeme, command_lexemes, step_lexemes, comma_if, steps_lexemes};
+ghost use Rattle.ct_program.specs.Plain.{Begins, IsPlain, Continues, PartsFit, StepsFit, Takes, Closes, members_of};
+ghost use Rattle.ct_program.specs.Script.{max_len, script};
 ghost use Rattle.ct_program.specs.View.{rehearsal_of};
 
 use crate::naming::{BYTE, SERIAL, commanded_step, named_command, numbered_step, short_step};
+use crate::parts::Parts;
 use crate::script::Script;
-use crate::version::{BOUNDED, FIRST, LATEST, since};
 use ct_model::Step;
-use ct_names::{Command, Group, MAX_BOUND, MAX_CELLS, MAX_MEMBERS, MAX_STEPS, Member};
+use ct_names::{Command, MAX_STEPS, Member};
 use std::alloc::{AllocError, Global};
 
-/// What the record says, where its bytes are those that were written of it in its version, also with a line end behind
-/// them.
+// How many keys a record has at most.
+const KEYS: usize = 5;
+
+/// What the record says, where its names have no escapes and its numbers are digits alone. White space may stand between
+/// any tokens, and the keys in any order.
 pub(crate) fn plain(alloc: Global, bytes: &[u8]) -> Result<Option<Script>, AllocError>
+    requires { length bytes.now ≤ max_len }
     ensures { IfOk result (λ o. IfSome o (λ s. script bytes.now ≡ Ok (rehearsal_of s))) }
 {
-    let Some((named, batch, rest)) = bound(bytes) else {
+    let Some(rest) = behind(bytes, b'{') else {
         return Ok(None);
     };
-    let Some((cells, n, rest)) = sizes(rest) else {
-        return Ok(None);
-    };
-    let Some(group) = Group::new(n) else {
-        return Ok(None);
-    };
-    let Some((steps, rest)) = steps(alloc, rest)? else {
-        return Ok(None);
-    };
-    let Some(version) = version(rest) else {
-        return Ok(None);
-    };
-    if named != (version == BOUNDED) || !has_all(version, &steps) {
+    if !simdutf8::is_utf8(bytes) {
         return Ok(None);
     }
-    Ok(Some(Script {
-        group,
-        cells,
-        batch,
-        steps,
-    }))
-}
-
-// Whether the bound is named, and the bound, which is the largest where it is not.
-fn bound(bytes: &[u8]) -> Option<(bool, u32, &[u8])>
-    ensures text { IfSome result (λ r. bytes.now ≡ bound_text r.0 r.1 r.2.now) }
-    ensures some { IfSome result (λ r. 1 ≤ r.1) }
-    ensures bounded { IfSome result (λ r. r.1 ≤ MAX_BOUND) }
-    ensures largest { IfSome result (λ r. r.0 ≡ false → r.1 ≡ MAX_BOUND) }
-{
-    let Some(rest) = after(bytes, "{\"batch\":") else {
-        return Some((false, MAX_BOUND, after(bytes, "{")?));
-    };
-    let (batch, rest) = number(rest, MAX_BOUND as u64)?;
-    if batch == 0 {
-        return None;
-    }
-    Some((true, batch as u32, behind(rest, b',')?))
-}
-
-// The cells and the number of members, which stand before the steps.
-fn sizes(bytes: &[u8]) -> Option<(u16, u8, &[u8])>
-    ensures text { IfSome result (λ r. bytes.now ≡ sizes_text r.0 r.1 r.2.now) }
-    ensures cells { IfSome result (λ r. r.0 ≤ MAX_CELLS) }
-{
-    let rest = after(bytes, "\"cells\":")?;
-    let (cells, rest) = number(rest, MAX_CELLS as u64)?;
-    let rest = after(rest, ",\"n\":")?;
-    let (n, rest) = number(rest, MAX_MEMBERS as u64)?;
-    let rest = after(rest, ",\"steps\":[")?;
-    Some((cells as u16, n as u8, rest))
-}
-
-// The version, where that alone stands behind the steps.
-fn version(bytes: &[u8]) -> Option<u64>
-    ensures text { IfSome result (λ version. IsVersion version bytes.now) }
-    ensures first { IfSome result (λ version. 1 ≤ version) }
-    ensures last { IfSome result (λ version. version ≤ 3) }
-{
-    let rest = after(bytes, ",\"version\":")?;
-    let (version, rest) = number(rest, LATEST)?;
-    if version < FIRST {
-        return None;
-    }
-    match after(rest, "}")? {
-        [] | b"\n" => Some(version),
-        _ => None,
+    match members(alloc, rest)? {
+        Some(parts) => Ok(parts.script()),
+        None => Ok(None),
     }
 }
 
-// Whether records of the version have each of the steps.
-fn has_all(version: u64, steps: &[Step]) -> bool
-    ensures { IsTrue result → All (λ s. since s ≤ version) steps.now }
+// The members behind the bracket that opens an object, where it is the last of the bytes.
+fn members(alloc: Global, bytes: &[u8]) -> Result<Option<Parts>, AllocError>
+    ensures members { IfOk result (λ o. IfSome o (λ parts. Closes bytes.now (members_of parts))) }
+    ensures fit { IfOk result (λ o. IfSome o PartsFit) }
 {
-    steps.iter().all(|step| since(*step) <= version)
+    let mut parts = Parts {
+        batch: None,
+        cells: None,
+        n: None,
+        steps: None,
+        version: None,
+    };
+    let mut rest = bytes;
+    for _ in 0..KEYS {
+        let Some((more, after)) = member(alloc, parts, rest)? else {
+            return Ok(None);
+        };
+        parts = more;
+        let Some(next) = behind(after, b',') else {
+            if closes(after) {
+                return Ok(Some(parts));
+            }
+            return Ok(None);
+        };
+        rest = next;
+    }
+    Ok(None)
 }
 
-// The steps, up to the bracket that closes their list, and what follows it.
+// Whether the bracket that closes an object stands there alone.
+fn closes(bytes: &[u8]) -> bool
+    ensures lexemes { IsTrue result → lexemes bytes.now ≡ token end_object ∷ [] }
+    ensures ends { IsTrue result → ends_word bytes.now ≡ true }
+{
+    match behind(bytes, b'}') {
+        Some(rest) => trimmed(rest).is_empty(),
+        None => false,
+    }
+}
+
+// One more member, and what follows it.
+fn member(alloc: Global, parts: Parts, bytes: &[u8]) -> Result<Option<(Parts, &[u8])>, AllocError>
+    ensures member { IfOk result (λ o. IfSome o (λ r. Takes bytes.now (members_of parts) (members_of r.0) r.1.now)) }
+    ensures fit { IfOk result (λ o. IfSome o (λ r. PartsFit parts → PartsFit r.0)) }
+{
+    let Some((key, value)) = key(bytes) else {
+        return Ok(None);
+    };
+    if let Some((n, rest)) = amount(value, u64::MAX) {
+        let Some(more) = parts.with(key, n) else {
+            return Ok(None);
+        };
+        return Ok(Some((more, rest)));
+    }
+    let Some((steps, rest)) = steps(alloc, value)? else {
+        return Ok(None);
+    };
+    let Some(more) = parts.with_steps(key, steps) else {
+        return Ok(None);
+    };
+    Ok(Some((more, rest)))
+}
+
+// The steps, from the bracket that opens their list to the one that closes it, and what follows it.
 #[inline(never)]
 fn steps(alloc: Global, bytes: &[u8]) -> Result<Option<(Vec<Step>, &[u8])>, AllocError>
-    ensures text { IfOk result (λ o. IfSome o (λ r. bytes.now ≡ steps_text r.0.items ++ 93 ∷ r.1.now)) }
-    ensures fit { IfOk result (λ o. IfSome o (λ r. AllFit r.0.items)) }
-    ensures few { IfOk result (λ o. IfSome o (λ r. length r.0.items ≤ MAX_STEPS)) }
+    ensures text { IfOk result (λ o. IfSome o (λ r.
+        lexemes bytes.now ≡ token begin_array ∷ steps_lexemes false r.0.items (token end_array ∷ lexemes r.1.now))) }
+    ensures fit { IfOk result (λ o. IfSome o (λ r. StepsFit r.0.items)) }
 {
     let mut steps = Vec::new(alloc);
-    let mut rest = bytes;
+    let Some(mut rest) = behind(bytes, b'[') else {
+        return Ok(None);
+    };
     for i in 0..MAX_STEPS + 1 {
         if let Some(end) = behind(rest, b']') {
             return Ok(Some((steps, end)));
@@ -123,25 +125,68 @@ fn steps(alloc: Global, bytes: &[u8]) -> Result<Option<(Vec<Step>, &[u8])>, Allo
     Ok(None)
 }
 
-// What follows the byte.
+// What follows the white space. Where the first byte is none, nothing is looked at but that.
 #[inline(always)]
-fn behind(bytes: &[u8], byte: u8) -> Option<&[u8]>
-    ensures { IfSome result (λ rest. bytes.now ≡ byte ∷ rest.now) }
+fn trimmed(bytes: &[u8]) -> &[u8]
+    ensures same { lexemes bytes.now ≡ lexemes result.now }
+    ensures ends { ends_word result.now ≡ true → ends_word bytes.now ≡ true }
 {
     match bytes {
+        [first, ..] if *first > b' ' => bytes,
+        _ => past_spaces(bytes),
+    }
+}
+
+#[inline(never)]
+fn past_spaces(bytes: &[u8]) -> &[u8]
+    ensures same { lexemes bytes.now ≡ lexemes result.now }
+    ensures ends { ends_word result.now ≡ true → ends_word bytes.now ≡ true }
+{
+    for i in 0..bytes.len() {
+        if !is_space(bytes[i]) {
+            return &bytes[i..];
+        }
+    }
+    &[]
+}
+
+// Whether the byte is white space.
+#[inline(always)]
+fn is_space(byte: u8) -> bool
+    ensures { result ≡ is_space byte }
+{
+    byte == b' ' || byte == b'\t' || byte == b'\n' || byte == b'\r'
+}
+
+// What follows the byte, which may stand behind white space.
+#[inline(always)]
+fn behind(bytes: &[u8], byte: u8) -> Option<&[u8]>
+    ensures { IfSome result (λ rest. Begins bytes.now byte rest.now) }
+{
+    match bytes {
+        [first, rest @ ..] if *first == byte => Some(rest),
+        [first, ..] if *first > b' ' => None,
+        _ => behind_spaces(bytes, byte),
+    }
+}
+
+#[inline(never)]
+fn behind_spaces(bytes: &[u8], byte: u8) -> Option<&[u8]>
+    ensures { IfSome result (λ rest. Begins bytes.now byte rest.now) }
+{
+    match past_spaces(bytes) {
         [first, rest @ ..] if *first == byte => Some(rest),
         _ => None,
     }
 }
 
-// What follows the beginning of a Receive.
+// What follows the name of a Receive.
 #[inline(always)]
 fn behind_receive(bytes: &[u8]) -> Option<&[u8]>
-    ensures { IfSome result (λ rest. bytes.now ≡ codes "[\"receive\"," ++ rest.now) }
+    ensures { IfSome result (λ rest. bytes.now ≡ codes "\"receive\"" ++ rest.now) }
 {
     match bytes {
         [
-            b'[',
             b'"',
             b'r',
             b'e',
@@ -151,7 +196,6 @@ fn behind_receive(bytes: &[u8]) -> Option<&[u8]>
             b'v',
             b'e',
             b'"',
-            b',',
             rest @ ..,
         ] => Some(rest),
         _ => None,
@@ -161,7 +205,7 @@ fn behind_receive(bytes: &[u8]) -> Option<&[u8]>
 // The next step, behind a comma where another stands before it.
 #[inline(always)]
 fn next_step(bytes: &[u8], later: bool) -> Option<(Step, &[u8])>
-    ensures text { IfSome result (λ r. bytes.now ≡ (if later then 44 ∷ [] else []) ++ (step_text r.0 ++ r.1.now)) }
+    ensures text { IfSome result (λ r. lexemes bytes.now ≡ comma_if later (step_lexemes r.0 (lexemes r.1.now))) }
     ensures fits { IfSome result (λ r. StepFits r.0) }
 {
     if later {
@@ -174,7 +218,7 @@ fn next_step(bytes: &[u8], later: bool) -> Option<(Step, &[u8])>
 // A step; most are receipts.
 #[inline(always)]
 fn step(bytes: &[u8]) -> Option<(Step, &[u8])>
-    ensures text { IfSome result (λ r. bytes.now ≡ step_text r.0 ++ r.1.now) }
+    ensures text { IfSome result (λ r. lexemes bytes.now ≡ step_lexemes r.0 (lexemes r.1.now)) }
     ensures fits { IfSome result (λ r. StepFits r.0) }
 {
     match receipt(bytes) {
@@ -186,13 +230,15 @@ fn step(bytes: &[u8]) -> Option<(Step, &[u8])>
 // A Receive.
 #[inline(always)]
 fn receipt(bytes: &[u8]) -> Option<(Step, &[u8])>
-    ensures text { IfSome result (λ r. bytes.now ≡ step_text r.0 ++ r.1.now) }
+    ensures text { IfSome result (λ r. lexemes bytes.now ≡ step_lexemes r.0 (lexemes r.1.now)) }
     ensures fits { IfSome result (λ r. StepFits r.0) }
 {
-    let rest = behind_receive(bytes)?;
-    let (p, rest) = number(rest, BYTE)?;
+    let rest = behind(bytes, b'[')?;
+    let rest = behind_receive(trimmed(rest))?;
     let rest = behind(rest, b',')?;
-    let (serial, rest) = number(rest, SERIAL)?;
+    let (p, rest) = amount(rest, BYTE)?;
+    let rest = behind(rest, b',')?;
+    let (serial, rest) = amount(rest, SERIAL)?;
     let step = Step::Receive(p as u8, serial as u32);
     Some((step, behind(rest, b']')?))
 }
@@ -200,13 +246,13 @@ fn receipt(bytes: &[u8]) -> Option<(Step, &[u8])>
 // Any step.
 #[inline(never)]
 fn named_step(bytes: &[u8]) -> Option<(Step, &[u8])>
-    ensures text { IfSome result (λ r. bytes.now ≡ step_text r.0 ++ r.1.now) }
+    ensures text { IfSome result (λ r. lexemes bytes.now ≡ step_lexemes r.0 (lexemes r.1.now)) }
     ensures fits { IfSome result (λ r. StepFits r.0) }
 {
-    let rest = after(bytes, "[\"")?;
+    let rest = behind(bytes, b'[')?;
     let (name, rest) = word(rest)?;
     let rest = behind(rest, b',')?;
-    let (p, rest) = number(rest, BYTE)?;
+    let (p, rest) = amount(rest, BYTE)?;
     let (step, rest) = step_of(name, p as u8, rest)?;
     Some((step, behind(rest, b']')?))
 }
@@ -219,44 +265,63 @@ fn step_of<'a>(name: &[u8], p: Member, bytes: &'a [u8]) -> Option<(Step, &'a [u8
     let Some(rest) = behind(bytes, b',') else {
         return Some((short_step(name, p)?, bytes));
     };
-    if let Some(rest) = after(rest, "[\"") {
+    if let Some(rest) = behind(rest, b'[') {
         let (command, rest) = command(rest)?;
         return Some((commanded_step(name, p, command)?, rest));
     }
-    let (n, rest) = number(rest, u64::MAX)?;
+    let (n, rest) = amount(rest, u64::MAX)?;
     Some((numbered_step(name, p, n)?, rest))
 }
 
-// The command behind the bracket and the quotation mark that begin it.
+// The command behind the bracket that opens it.
 #[inline(never)]
 fn command(bytes: &[u8]) -> Option<(Command, &[u8])>
-    ensures text { IfSome result (λ r. 91 ∷ 34 ∷ bytes.now ≡ command_text r.0 ++ r.1.now) }
+    ensures text { IfSome result (λ r. token begin_array ∷ lexemes bytes.now ≡ command_lexemes r.0 (lexemes r.1.now)) }
     ensures fits { IfSome result (λ r. CommandFits r.0) }
 {
     let (name, rest) = word(bytes)?;
     let rest = behind(rest, b',')?;
-    let (register, rest) = number(rest, BYTE)?;
+    let (register, rest) = amount(rest, BYTE)?;
     let rest = behind(rest, b',')?;
-    let (n, rest) = number(rest, u64::MAX)?;
+    let (n, rest) = amount(rest, u64::MAX)?;
     let command = named_command(name, register as u8, n)?;
     Some((command, behind(rest, b']')?))
 }
 
-// What follows the text.
-#[inline(always)]
-fn after<'a>(bytes: &'a [u8], text: &str) -> Option<&'a [u8]>
-    ensures { IfSome result (λ rest. bytes.now ≡ text.now ++ rest.now) }
+// The key that stands before a colon, and what follows that.
+fn key(bytes: &[u8]) -> Option<(&[u8], &[u8])>
+    ensures { IfSome result (λ r. IsPlain r.0.now → lexemes bytes.now ≡ token (string r.0.now) ∷ colon ∷ lexemes r.1.now) }
 {
-    bytes.strip_prefix(text.as_bytes())
+    let (key, rest) = word(bytes)?;
+    Some((key, behind(rest, b':')?))
+}
+
+// The letters between two quotation marks, and what follows the second.
+#[inline(always)]
+fn word(bytes: &[u8]) -> Option<(&[u8], &[u8])>
+    ensures { IfSome result (λ r. IsPlain r.0.now → lexemes bytes.now ≡ token (string r.0.now) ∷ lexemes r.1.now) }
+{
+    let (word, rest) = letters(behind(bytes, b'"')?)?;
+    Some((word, rest))
 }
 
 // The letters up to the next quotation mark, and what follows the mark.
 #[inline(always)]
-fn word(bytes: &[u8]) -> Option<(&[u8], &[u8])>
+fn letters(bytes: &[u8]) -> Option<(&[u8], &[u8])>
     ensures { IfSome result (λ r. bytes.now ≡ r.0.now ++ 34 ∷ r.1.now) }
 {
     let end = bytes.iter().position(|byte| *byte == b'"')?;
     Some((&bytes[..end], &bytes[end + 1..]))
+}
+
+// The number, and what follows it.
+#[inline(always)]
+fn amount(bytes: &[u8], high: u64) -> Option<(u64, &[u8])>
+    ensures text { IfSome result (λ r. ends_word r.1.now ≡ true → lexemes bytes.now ≡ number_lexeme r.0 ∷ lexemes r.1.now) }
+    ensures within { IfSome result (λ r. r.0 ≤ high) }
+{
+    let (n, rest) = number(trimmed(bytes), high)?;
+    Some((n, rest))
 }
 
 // The number that the first digits write, without a zero before it, and what follows them.

@@ -242,8 +242,8 @@ fn with_steps(alloc: Global, steps: &str) -> Result<String, AllocError> {
     format!(in alloc; "{{\"batch\":1048560,\"cells\":4,\"n\":3,\"steps\":{steps},\"version\":3}}")
 }
 
-fn spaces(alloc: Global, count: usize) -> Result<Vec<u8>, AllocError> {
-    Ok(vec![in alloc; b' '; count]?)
+fn zeros(alloc: Global, count: usize) -> Result<Vec<u8>, AllocError> {
+    Ok(vec![in alloc; b'0'; count]?)
 }
 
 // So many opening brackets, and then as many closing ones.
@@ -283,9 +283,9 @@ fn deep_nesting_is_no_json(rt: HostRuntime) -> Result<(), Fail> {
     Ok(())
 }
 
-// The faults of so many spaces, and of one less.
-fn faults_of_spaces(alloc: Global, count: usize) -> Result<[Option<ReadFault>; 2], AllocError> {
-    let mut text = spaces(alloc, count)?;
+// The faults of so many zeros, and of one less.
+fn faults_of_zeros(alloc: Global, count: usize) -> Result<[Option<ReadFault>; 2], AllocError> {
+    let mut text = zeros(alloc, count)?;
     let long = fault_of(alloc, &text);
     text.pop();
     Ok([long, fault_of(alloc, &text)])
@@ -293,7 +293,7 @@ fn faults_of_spaces(alloc: Global, count: usize) -> Result<[Option<ReadFault>; 2
 
 #[test]
 fn a_long_record_is_refused_unread(rt: HostRuntime) -> Result<(), Fail> {
-    let faults = faults_of_spaces(rt.alloc(), 67_108_865)?;
+    let faults = faults_of_zeros(rt.alloc(), 67_108_865)?;
     assert!(rt; faults == [Some(ReadFault::TooLong), Some(ReadFault::NotJson)]);
     Ok(())
 }

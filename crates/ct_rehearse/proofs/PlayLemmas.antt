@@ -1,24 +1,24 @@
 -- What one more step of a list comes to.
 use Rattle.std.proofs.Common.{◌≡◌, inl, inr, ℕ, ◌+◌, Bool, true, false, not, ◌&&◌, List, [], ◌∷◌, ◌++◌, length, Option, Some, None, refl}
-use Rattle.std.proofs.Common.{sym, ap, ◌∙◌, append_assoc, append-nil, add-zero, add_assoc, length-append, arith}
+use Rattle.std.proofs.Common.{sym, ap, ◌∙◌, append_assoc, append-nil, add-zero, add_assoc, arith}
 use Rattle.std.specs.Prelude.{is_none, unwrap_or, option_and_then, if◌then◌else◌}
 use Rattle.std.specs.Option.{option_map_or}
+use Rattle.std.proofs.lemmas.List.{length_push}
 use Rattle.ct_names.specs.declared.refusal.Refusal.{Refusal}
 use Rattle.ct_names.specs.declared.refusal.Refusal.TheVariants.{OutOfMemory}
 use Rattle.ct_model.specs.declared.step.Step.{Step}
 use Rattle.ct_model.specs.declared.step.Step.TheVariants.{Enter, Choose, Adopt, Suspect, Conclude, Deliver}
 use Rattle.ct_model.specs.Setting.{Setting}
-use Rattle.ct_model.specs.State.{State, Member}
+use Rattle.ct_model.specs.State.{State, Member, member}
 use Rattle.ct_model.specs.AtValue.{Standing}
 use Rattle.ct_model.specs.Test.{Test, first_fault}
 use Rattle.ct_model.specs.Actor.{actor}
 use Rattle.ct_model.specs.Next.{next}
-use Rattle.ct_model.specs.State.{member}
 use Rattle.ct_model.specs.Rehearsal.{Rehearsal, extended, state_of, line_of}
 use Rattle.ct_model.specs.Cause.{cause, limit, limits, or_else, presence, tests}
 use Rattle.ct_model.specs.Passed.{extended_by, passed}
 use Rattle.ct_model.proofs.Record.Passed.{passed-snoc}
-use Rattle.ct_model.proofs.Basics.Tests.{and_left, and_right}
+use Rattle.ct_model.proofs.Basics.Tests.{and_left, and_right, true_not}
 use Rattle.ct_world.specs.Posting.{IsRefusal}
 use Rattle.ct_world.specs.World.{WorldView}
 use Rattle.ct_rehearse.specs.Shares.{Held, risen_by}
@@ -89,14 +89,10 @@ cause-cause w step =
     (or_else-cause _ _ (fault-cause (tests w.setting (state_of w) (member (state_of w) p) (line_of w p) step)
     (own-causes w.setting (state_of w) (member (state_of w) p) (line_of w p) step)) (limit-cause w step))
 
-false_of : (b : Bool) → not b ≡ true → b ≡ false
-false_of true h = sym h
-false_of false h = refl
-
 not_short : (o : Option Refusal) (refusal : Refusal) → is_cause o ≡ true → refusal ≡ unwrap_or o OutOfMemory → is_none o ≡ is_short refusal
 unfolding is_cause
 not_short None refusal h e = rw e refl
-not_short (Some first) refusal h e = rw e (sym (false_of (is_short first) h))
+not_short (Some first) refusal h e = rw e (sym (true_not (is_short first) h))
 
 -- a refused step was short exactly where it has no cause
 refused-short : (w : Rehearsal) (step : Step) (refusal : Refusal) → IsRefusal w step refusal → is_none (cause w step) ≡ is_short refusal
@@ -104,9 +100,6 @@ refused-short w step refusal (inl e) = not_short (cause w step) refusal (cause-c
 refused-short w step refusal (inr b) = rw (b.allowed, b.named) refl
 
 -- one mark more
-
-length-snoc : {A : Type 0} (xs : List A) (x : A) → length (xs ++ x ∷ []) ≡ length xs + 1
-length-snoc xs x = simp length-append
 
 marked-snoc : (marks : List Bool) (steps : List Step) (mark : Bool) (step : Step) → length marks ≡ length steps →
     marked (marks ++ mark ∷ []) (steps ++ step ∷ []) ≡ marked marks steps ++ marked (mark ∷ []) (step ∷ [])
@@ -139,9 +132,9 @@ has-stepped old tried new p step h =
     let grown = marked-snoc h.marks tried true step h.each in
     record {
       marks = h.marks ++ true ∷ [];
-      each = omega (arith, length-snoc h.marks true, length-snoc tried step, h.each);
+      each = omega (arith, length_push h.marks true, length_push tried step, h.each);
       joined = rw (grown, h.joined) (rw append_assoc refl);
-      applied = rw grown (omega (arith, length-snoc (marked h.marks tried) step, h.applied));
+      applied = rw grown (omega (arith, length_push (marked h.marks tried) step, h.applied));
       short = unmarked-snoc old h.marks tried true step h.each ∙ rw add-zero h.short;
     }
 
@@ -152,7 +145,7 @@ has-left old tried new p q step applied short h =
     let kept = marked-snoc h.marks tried false step h.each in
     record {
       marks = h.marks ++ false ∷ [];
-      each = omega (arith, length-snoc h.marks false, length-snoc tried step, h.each);
+      each = omega (arith, length_push h.marks false, length_push tried step, h.each);
       joined = rw (kept, append-nil) h.joined;
       applied = rw (kept, append-nil) (h.applied ∙ sym applied);
       short = unmarked-snoc old h.marks tried false step h.each ∙ rw (← h.joined, h.short, add-zero) (sym short);
@@ -195,7 +188,7 @@ played-stepped : (old : WorldView) (had : Held) (tried : List Step) (new : World
     → IsPlayed old had (tried ++ step ∷ []) (record { rehearsal = extended new.rehearsal step; prepared = None }) (risen_by has 1)
     (record p { applied = p.applied + 1 })
 played-stepped old had tried new has p step free h = record {
-  total = omega (arith, length-snoc tried step, h.total);
+  total = omega (arith, length_push tried step, h.total);
   share = rw h.share (rw add_assoc refl);
   prepared = sym (prepared-snoc old.prepared tried step);
   all = λ none. passed-stepped old.rehearsal tried new.rehearsal step free (h.all none);
@@ -212,14 +205,14 @@ played-refused old had tried new has p step refusal e h = go (is_short refusal) 
         IsPlayed old had (tried ++ step ∷ []) (record new { prepared = None }) has
         (if b then record p { short = p.short + 1 } else record p { refused = p.refused + 1 })
     go true e = record {
-      total = omega (arith, length-snoc tried step, h.total);
+      total = omega (arith, length_push tried step, h.total);
       share = h.share;
       prepared = sym (prepared-snoc old.prepared tried step);
       all = λ none. absurd (omega (arith, none));
       some = has-left old.rehearsal tried new.rehearsal p (record p { short = p.short + 1 }) step refl (rw e refl) h.some;
     }
     go false e = record {
-      total = omega (arith, length-snoc tried step, h.total);
+      total = omega (arith, length_push tried step, h.total);
       share = h.share;
       prepared = sym (prepared-snoc old.prepared tried step);
       all = λ none. passed-left old.rehearsal tried new.rehearsal step e (h.all none);

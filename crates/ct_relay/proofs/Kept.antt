@@ -18,25 +18,14 @@ module _ (order : List RelayId) (marks : Marks) (others : List RelayId) (kept : 
       (here : origin < ORIGINS → slice_index seen.last origin ≡ max (slice_index marks.last origin) number)
       (elsewhere : StaysElsewhere origin marks.last seen.last) where
     grown : (o : ℕ) → o < ORIGINS → slice_index marks.last o ≤ slice_index seen.last o
-    grown o small = at (o == origin) refl
-      where
-        at : (b : Bool) → (o == origin) ≡ b → slice_index marks.last o ≤ slice_index seen.last o
-        at true e =
-            let same : o ≡ origin = eqb-true o origin e in
-            let at_most : slice_index marks.last origin ≤ slice_index seen.last origin = omega (arith, here (omega arith)) in
-            rw same at_most
-        at false e = omega (arith, elsewhere o (eqb-false o origin e))
+    grown o small = grind (arith, slice_index marks.last o, slice_index marks.last origin, slice_index seen.last origin)
 
     within-seen : (o n : ℕ) → o < ORIGINS → IsIn (Data o n) (order ++ Data origin number ∷ []) → n ≤ slice_index seen.last o
     within-seen o n small there = by (Lists.IsIn-append_cases (Data o n) order (Data origin number ∷ []) there)
       where
         by : IsIn (Data o n) order ⊎ IsIn (Data o n) (Data origin number ∷ []) → n ≤ slice_index seen.last o
         by (inl before) = le_trans (kept.within o n small before) (grown o small)
-        by (inr (inl e)) =
-            let same : o ≡ origin = cc in
-            let n_same : n ≡ number = cc in
-            let at_most : number ≤ slice_index seen.last origin = omega (arith, here (omega arith)) in
-            rw (same, n_same) at_most
+        by (inr (inl e)) = grind (arith, slice_index seen.last origin)
         by (inr (inr none)) = absurd none
 
     -- it is the next one: the mark `all` is raised
@@ -75,9 +64,7 @@ module _ (order : List RelayId) (marks : Marks) (others : List RelayId) (kept : 
       still-covered (Data o n) covered = (covered.0, covered.1, at (o == origin) refl)
         where
           at : (b : Bool) → (o == origin) ≡ b → n ≤ slice_index raised.all o
-          at true e =
-              let o_same : o ≡ origin = eqb-true o origin e in
-              omega (arith, covered.2, ap (λ x. slice_index raised.all x) o_same, ap (λ x. slice_index marks.all x) o_same, all_here)
+          at true e = grind (arith, eqb-true o origin e)
           at false e = omega (arith, covered.2, all-elsewhere o e)
 
       kept-raised : (id : RelayId) → IsIn id order ⊎ IsIn id it → IsIn id others ⊎ IsCovered raised id
@@ -142,12 +129,8 @@ module _ (order : List RelayId) (marks : Marks) (others : List RelayId) (kept : 
 
   decision-within : (instance round o n : ℕ) → o < ORIGINS → IsIn (Data o n) (order ++ Dec instance round ∷ []) →
       n ≤ slice_index marks.last o
-  decision-within instance round o n small there = by (Lists.IsIn-append_cases (Data o n) order (Dec instance round ∷ []) there)
-    where
-      by : IsIn (Data o n) order ⊎ IsIn (Data o n) (Dec instance round ∷ []) → n ≤ slice_index marks.last o
-      by (inl before) = kept.within o n small before
-      by (inr (inl it)) = absurd (cc)
-      by (inr (inr none)) = absurd none
+  decision-within instance round o n small there =
+      grind (arith, Lists.IsIn-append_cases (Data o n) order (Dec instance round ∷ []) there)
 
   pub decision-kept : (instance round : ℕ) → (IsIn (Dec instance round) order → ⊥) →
       IsKept (order ++ Dec instance round ∷ []) marks (with_id others (Dec instance round))

@@ -1,6 +1,5 @@
 -- What was taken stands in the list once, and is found there.
-use Rattle.std.proofs.Common.{◌≡◌, Bool, true, false, not, cond, ◌==◌, List, [], ◌∷◌, ◌++◌, refl, sym, subst, ap₂, inl, inr}
-use Rattle.std.proofs.Common.{eq-eqb, eqb-true, rules}
+use Rattle.std.proofs.Common.{arith, ◌≡◌, true, false, ◌==◌, List, [], ◌∷◌, ◌++◌, refl, sym, subst, ap₂, inl, inr, eq-eqb, eqb-true}
 use Rattle.std.specs.List.{list_any}
 use Rattle.ct_names.specs.Membership.{IsIn, IsWithoutRepeats}
 use Rattle.ct_names.proofs.Lists
@@ -14,7 +13,7 @@ is_id-refl : (id : RelayId) → is_id id id ≡ true
 is_id-refl (Data origin number) = Lists.both _ _ (eq-eqb origin origin refl) (eq-eqb number number refl)
 is_id-refl (Dec instance round) = Lists.both _ _ (eq-eqb instance instance refl) (eq-eqb round round refl)
 
-same-is_id : (x y : RelayId) → is_id x y ≡ true → x ≡ y
+pub same-is_id : (x y : RelayId) → is_id x y ≡ true → x ≡ y
 same-is_id (Data origin number) (Data other n) e =
     ap₂ (λ o k. Data o k) (eqb-true _ _ (Lists.both-left (origin == other) _ e)) (eqb-true _ _ (Lists.both-right (origin == other) _ e))
 same-is_id (Data origin number) (Dec k r) e = absurd (cc)
@@ -45,11 +44,4 @@ once-last ids id absent once = Lists.IsWithoutRepeats-append ids (id ∷ []) onc
 
 -- a set takes one more as the list does
 pub insert_key-with_id : (ids : List RelayId) (id : RelayId) → insert_key equal.eq ids id ≡ with_id ids id
-insert_key-with_id ids id = subst (λ found. cond found ids (ids ++ id ∷ []) ≡ with_id ids id) (sym same) (at (list_any (is_id id) ids))
-  where
-    same : list_any (equal.eq id) ids ≡ list_any (is_id id) ids
-    same = search rules
-
-    at : (b : Bool) → cond b ids (ids ++ id ∷ []) ≡ cond (not b) (ids ++ id ∷ []) ids
-    at true = refl
-    at false = refl
+insert_key-with_id ids id = grind arith

@@ -1,6 +1,5 @@
 -- Sets of members are rising lists.
-use Rattle.std.proofs.Common.{◌≡◌, ℕ, zero, suc, ◌+◌, ◌≤◌, ◌<◌, Bool, true, List, [], ◌∷◌, filter, refl, sym, ap, ◌∙◌, arith}
-use Rattle.std.proofs.Common.{subst}
+use Rattle.std.proofs.Common.{◌≡◌, ℕ, zero, suc, ◌+◌, ◌≤◌, ◌<◌, Bool, true, List, [], ◌∷◌, filter, refl, sym, ap, ◌∙◌, arith, subst}
 use Rattle.std.specs.Prelude.{◌==◌, ◌||◌, nat_lt, if◌then◌else◌}
 use Rattle.std.proofs.Math.Bool.{or_comm}
 use Rattle.std.proofs.lemmas.Bool.{cond_both}
@@ -88,8 +87,7 @@ unfolding members
 placed f p h = inserted-filter p f 1 16 h.0 (let high = h.1 in omega arith)
 
 pub same-insert : (set : List ℕ) (p : ℕ) → IsSet set → IsMember MAX_MEMBERS p → with_member set p ≡ inserted p set
-same-insert set p is h =
-    swapped set p ∙ (sym (placed (has_member set) p h) ∙ ap (inserted p) (sym is))
+same-insert set p is h = grind (arith, nat_tests, swapped set p, placed (has_member set) p h, inserted p)
 
 pub set-insert : (set : List ℕ) (p : ℕ) → IsSet (with_member set p)
 set-insert set p = filter-has_member (λ q. (q == p) || has_member set q)

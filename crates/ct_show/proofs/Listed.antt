@@ -36,9 +36,9 @@ decision_json_written got i value old mid new end later h is first second =
     rw (decisions-more got i (Some value) is) (written_more 44 (first_decisions got i) (decision_json (i + 1) value) old mid new end later h
     first second)
 
-pub decision_json_passed : (got : List Wire) (i : ℕ) (old new : List ℕ) (later : Bool) → HasWritten 44 (first_decisions got i) old new later →
-    None ≡ decided got (i + 1)
-    → HasWritten 44 (first_decisions got (i + 1)) old new later
+pub decision_json_passed : (got : List Wire) (i : ℕ) (old new : List ℕ) (later : Bool) →
+    HasWritten 44 (first_decisions got i) old new later → None ≡ decided got (i + 1) →
+    HasWritten 44 (first_decisions got (i + 1)) old new later
 decision_json_passed got i old new later h is = rw (decisions-more got i None is, append-nil) h
 
 members-more : (set : List ℕ) (i : ℕ) (b : Bool) → has_member set (i + 1) ≡ b →

@@ -88,14 +88,14 @@ unfoldable pub decision_text : Rehearsal → ℕ → ℕ → List ℕ
 decision_text w before p =
     if length (state_of w).sent == before then codes ": no decision" else concat (codes ": decides " ∷ estimate_alone w p ∷ [])
 
--- how many acked the round, of those that replied
-unfoldable pub acks_text : Rehearsal → ℕ → List ℕ
-acks_text w p =
-    concat (codes "conclude acks " ∷ decimal (size_of (if_member w p (acked_by (member_of w p)))) ∷ codes " of "
+-- after a word how many acked the round, of those that replied
+unfoldable pub acks_text : List ℕ → Rehearsal → ℕ → List ℕ
+acks_text word w p =
+    concat (word ∷ codes " acks " ∷ decimal (size_of (if_member w p (acked_by (member_of w p)))) ∷ codes " of "
     ∷ decimal (size_of (if_member w p (replied_by (member_of w p)))) ∷ [])
 
 unfoldable pub conclude_text : Rehearsal → ℕ → ℕ → List ℕ
-conclude_text w before p = acks_text w p ++ decision_text w before p
+conclude_text w before p = acks_text (codes "conclude") w p ++ decision_text w before p
 
 -- the batch of the instance
 unfoldable pub batch_text : Rehearsal → ℕ → List ℕ
@@ -126,3 +126,22 @@ detail_text w before (Crash p) = codes "crash"
 detail_text w before (Postpone p k) = letter_step (codes "postpone ") w k
 detail_text w before (Lose p k) = letter_step (codes "lose     ") w k
 detail_text w before (Repeat p k) = letter_step (codes "repeat   ") w k
+
+-- ---- in a picture
+
+-- the letter that stands for a step; none for a receipt
+abbrev pub letter_of : Step → List ℕ
+letter_of (Submit p c) = codes "S"
+letter_of (Receive p k) = []
+letter_of (Begin p) = codes "B"
+letter_of (Enter p) = codes "E"
+letter_of (Choose p from) = codes "C"
+letter_of (Adopt p) = codes "A"
+letter_of (Suspect p) = codes "N"
+letter_of (Conclude p) = codes "K"
+letter_of (Deliver p) = codes "D"
+letter_of (Follow p) = codes "F"
+letter_of (Crash p) = codes "X"
+letter_of (Postpone p k) = codes "P"
+letter_of (Lose p k) = codes "L"
+letter_of (Repeat p k) = codes "R"

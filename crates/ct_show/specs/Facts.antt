@@ -13,28 +13,24 @@ use Rattle.ct_model.specs.declared.step.Step.{Step}
 use Rattle.ct_model.specs.declared.step.Step.TheVariants.{Receive, Postpone, Lose, Repeat}
 use Rattle.ct_model.specs.Rehearsal.{Rehearsal, state_of}
 use Rattle.ct_model.specs.StepText.{step_text}
-use Rattle.ct_world.specs.Standing.{heard_by, acked_by, replied_by}
+use Rattle.ct_world.specs.Standing.{heard_by}
 use Rattle.ct_world.specs.World.{member_of, if_member}
-use Rattle.ct_show.specs.Details.{coordinator_of, coordinator_text, estimate_of, instance_of, size_of}
+use Rattle.ct_show.specs.Details.{acks_text, coordinator_of, coordinator_text, estimate_of, instance_of}
 use Rattle.ct_show.specs.Lines.{head_text}
 use Rattle.ct_show.specs.Shapes.{estimate_text, phase_text}
 use Rattle.ct_show.specs.Wires.{letter_at, serial_text}
 
--- an estimate that was heard of a member
-abbrev pub heard_text : ℕ → Option (Value × ℕ) → List ℕ
-heard_text from None = []
-heard_text from (Some e) = concat (codes ", heard " ∷ decimal from ∷ codes " " ∷ estimate_text (Some e) ∷ [])
+-- an estimate that was heard of a member, between these texts
+unfoldable pub heard_text : (before after : List ℕ) → ℕ → Option (Value × ℕ) → List ℕ
+heard_text before after from None = []
+heard_text before after from (Some e) =
+    concat (before ∷ decimal from ∷ codes " " ∷ estimate_text (Some e) ∷ after ∷ [])
 
 -- those of the first members
-abbrev pub first_heard : Rehearsal → ℕ → ℕ → List ℕ
-first_heard w p zero = []
-first_heard w p (suc k) = first_heard w p k ++ heard_text (suc k) (if_member w p (heard_by (member_of w p) (suc k)))
-
--- how many acked the round of p, of those that replied
-unfoldable pub replies_text : Rehearsal → ℕ → List ℕ
-replies_text w p =
-    concat (codes ", acks " ∷ decimal (size_of (if_member w p (acked_by (member_of w p)))) ∷ codes " of "
-    ∷ decimal (size_of (if_member w p (replied_by (member_of w p)))) ∷ [])
+abbrev pub first_heard : (before after : List ℕ) → Rehearsal → ℕ → ℕ → List ℕ
+first_heard before after w p zero = []
+first_heard before after w p (suc k) =
+    first_heard before after w p k ++ heard_text before after (suc k) (if_member w p (heard_by (member_of w p) (suc k)))
 
 -- a round and its phase
 unfoldable pub phase_in : ℕ × Phase → List ℕ
@@ -42,7 +38,9 @@ phase_in r = concat (codes " round " ∷ decimal r.0 ∷ codes " " ∷ phase_tex
 
 -- the estimate of p, those that it heard for the round, and the replies that it got
 unfoldable pub votes_text : Rehearsal → ℕ → List ℕ
-votes_text w p = concat (codes ", estimate " ∷ estimate_of w p ∷ first_heard w p w.setting.members ∷ replies_text w p ∷ [])
+votes_text w p =
+    concat (codes ", estimate " ∷ estimate_of w p ∷ first_heard (codes ", heard ") (codes "") w p w.setting.members
+    ∷ acks_text (codes ",") w p ∷ [])
 
 -- the coordinator of a round; nobody's before the first one
 abbrev pub led_text : ℕ → ℕ → List ℕ

@@ -1,6 +1,6 @@
 -- What is shown of the state that a record leads to: two lines of the whole, and lines of each member.
 use Rattle.std.specs.Prelude.{ℕ, zero, suc, List, [], ◌∷◌, ◌++◌, length}
-use Rattle.std.specs.Prelude.{codes, decimal, flat_map, is_none, map, Option, Some, None, option_map}
+use Rattle.std.specs.Prelude.{codes, decimal, flat_map, is_none, Option, Some, None, option_map}
 use Rattle.std.specs.Prelude.{Bool, true, false, if◌then◌else◌}
 use Rattle.std.specs.Option.{option_map_or}
 use Rattle.std.specs.List.{concat}
@@ -21,10 +21,10 @@ use Rattle.ct_model.specs.State.{at_serial, is_crashed}
 use Rattle.ct_model.specs.StepText.{step_text}
 use Rattle.ct_program.specs.Report.{list_text}
 use Rattle.ct_world.specs.Driving.{next_local}
-use Rattle.ct_world.specs.Standing.{estimate_by, heard_by, acked_by, replied_by}
+use Rattle.ct_world.specs.Standing.{estimate_by, acked_by, replied_by}
 use Rattle.ct_world.specs.World.{member_of, if_member}
 use Rattle.ct_show.specs.Details.{instance_of}
-use Rattle.ct_show.specs.Facts.{place_in}
+use Rattle.ct_show.specs.Facts.{first_heard, place_in}
 use Rattle.ct_show.specs.Shapes.{estimate_text}
 use Rattle.ct_show.specs.Wires.{serial_text}
 
@@ -48,15 +48,6 @@ unfoldable pub estimate_line : Option (Value × ℕ) → List ℕ
 estimate_line None = []
 estimate_line (Some e) = concat (codes "  estimate " ∷ estimate_text (Some e) ∷ codes "\n" ∷ [])
 
-unfoldable pub heard_line : ℕ → Option (Value × ℕ) → List ℕ
-heard_line from None = []
-heard_line from (Some e) = concat (codes "  heard    " ∷ decimal from ∷ codes " " ∷ estimate_text (Some e) ∷ codes "\n" ∷ [])
-
--- what it heard of the first members
-abbrev pub heard_lines : Rehearsal → ℕ → ℕ → List ℕ
-heard_lines w p zero = []
-heard_lines w p (suc k) = heard_lines w p k ++ heard_line (suc k) (if_member w p (heard_by (member_of w p) (suc k)))
-
 -- those of the first members that are in the set
 abbrev pub first_in : List ℕ → ℕ → List (List ℕ)
 first_in set zero = []
@@ -70,7 +61,7 @@ set_line word (Some set) = concat (word ∷ list_text 32 (first_in set MAX_MEMBE
 unfoldable pub votes_lines : Rehearsal → ℕ → List ℕ
 votes_lines w p =
     concat (estimate_line (if_member w p (estimate_by (member_of w p)))
-    ∷ heard_lines w p w.setting.members
+    ∷ first_heard (codes "  heard    ") (codes "\n") w p w.setting.members
     ∷ set_line (codes "  acked    ") (if_member w p (acked_by (member_of w p)))
     ∷ set_line (codes "  replied  ") (if_member w p (replied_by (member_of w p)))
     ∷ [])
@@ -97,9 +88,9 @@ is_apart WrongPhase = true
 is_apart NotLargest = true
 is_apart _ = false
 
--- a step that is allowed
-unfoldable pub enabled_line : Rehearsal → Step → List ℕ
-enabled_line w step = if is_none (cause w step) then concat (codes "  enabled  " ∷ step_text step ∷ codes "\n" ∷ []) else []
+-- a step that is allowed, between these texts
+unfoldable pub enabled_text : (before after : List ℕ) → Rehearsal → Step → List ℕ
+enabled_text before after w step = if is_none (cause w step) then concat (before ∷ step_text step ∷ after ∷ []) else []
 
 -- one that is refused, and why
 unfoldable pub refusal_line : Step → Refusal → List ℕ
@@ -119,10 +110,14 @@ first_choices p (suc k) = first_choices p k ++ Choose p (suc k) ∷ []
 abbrev pub own_steps : ℕ → List Step → List Step
 own_steps p choices = (Deliver p ∷ Follow p ∷ Begin p ∷ []) ++ choices ++ (Adopt p ∷ Conclude p ∷ Enter p ∷ Suspect p ∷ [])
 
--- those that are allowed, and those that are refused, of the choices its own estimate alone
+-- those that are allowed, each between these texts
+unfoldable pub own_enabled : (before after : List ℕ) → Rehearsal → ℕ → List ℕ
+own_enabled before after w p = flat_map (enabled_text before after w) (own_steps p (first_choices p w.setting.members))
+
+-- the same, and those that are refused, of the choices its own estimate alone
 unfoldable pub steps_lines : Rehearsal → ℕ → List ℕ
 steps_lines w p =
-    flat_map (enabled_line w) (own_steps p (first_choices p w.setting.members))
+    own_enabled (codes "  enabled  ") (codes "\n") w p
     ++ flat_map (refused_line w) (own_steps p (Choose p p ∷ []))
 
 -- the receipt of the serial at the front of its line, where it is allowed

@@ -4,7 +4,7 @@ ghost use Rattle.std.specs.Prelude.{◌≡◌, ◌≤◌, ◌++◌, OnOk, string
 ghost use Rattle.ct_show.specs.Details.{instance_of, round_of, coordinator_of, coordinator_text, estimate_of};
 ghost use Rattle.ct_show.specs.Details.{estimate_alone, size_of, message_of, message_in, submit_text, begin_text};
 ghost use Rattle.ct_show.specs.Details.{enter_text, choose_text, adopt_text, suspect_text, decision_text};
-ghost use Rattle.ct_show.specs.Details.{acks_text, conclude_text, batch_text, delivery_text, letter_step, detail_text};
+ghost use Rattle.ct_show.specs.Details.{acks_text, conclude_text, batch_text, delivery_text, letter_step, detail_text, letter_of};
 
 use crate::shapes::{push_call, push_estimate, push_set, push_value};
 use crate::wires::{push_round, push_serial};
@@ -38,6 +38,35 @@ pub fn push_detail(
         Step::Postpone(_, serial) => push_letter_step(text, "postpone ", world, serial),
         Step::Lose(_, serial) => push_letter_step(text, "lose     ", world, serial),
         Step::Repeat(_, serial) => push_letter_step(text, "repeat   ", world, serial),
+    }
+}
+
+/// What the letters of steps stand for, in the words of a legend, of those up to a Conclude; a receipt is a dot there.
+pub const LETTERS: &str =
+    "S submit, dot receive, B begin, E enter a round, C choose, A adopt, N suspect,\n K conclude (filled: decides)";
+
+/// The same of the other steps.
+pub const OTHER_LETTERS: &str = "D deliver, F follow, X crash, P postpone, L lose, R repeat";
+
+/// The letter that stands for a step in a picture; none for a receipt.
+pub fn letter_of(step: Step) -> &'static str
+    ensures { result.now ≡ letter_of step }
+{
+    match step {
+        Step::Submit(_, _) => "S",
+        Step::Receive(_, _) => "",
+        Step::Begin(_) => "B",
+        Step::Enter(_) => "E",
+        Step::Choose(_, _) => "C",
+        Step::Adopt(_) => "A",
+        Step::Suspect(_) => "N",
+        Step::Conclude(_) => "K",
+        Step::Deliver(_) => "D",
+        Step::Follow(_) => "F",
+        Step::Crash(_) => "X",
+        Step::Postpone(_, _) => "P",
+        Step::Lose(_, _) => "L",
+        Step::Repeat(_, _) => "R",
     }
 }
 
@@ -84,7 +113,7 @@ pub(crate) fn coordinator_of(world: &World, member: Member) -> Member
 
 // How many members the set has; none where there is no set.
 #[tactic(auto, unfolding(crate::specs::Details::size_of))]
-pub(crate) fn size_of(set: Option<MemberSet>) -> u8
+fn size_of(set: Option<MemberSet>) -> u8
     ensures { result ≡ size_of set }
 {
     match set {
@@ -218,14 +247,19 @@ fn push_decision(
     push_estimate_alone(text, world, member)
 }
 
-// How many acked the member's round, of those that replied.
+// After the word how many acked the member's round, of those that replied.
 #[tactic(auto, unfolding(crate::specs::Details::acks_text))]
-fn push_acks(text: &mut String, world: &World, member: Member) -> Result<(), AllocError>
-    ensures { OnOk result (string_bytes text.new ≡ string_bytes text.old ++ acks_text world.now.rehearsal member) }
+pub(crate) fn push_acks(
+    text: &mut String,
+    word: &str,
+    world: &World,
+    member: Member,
+) -> Result<(), AllocError>
+    ensures { OnOk result (string_bytes text.new ≡ string_bytes text.old ++ acks_text word.now world.now.rehearsal member) }
 {
     let acks = size_of(world.acked(member));
     let replies = size_of(world.replied(member));
-    write!(text, "conclude acks {acks} of {replies}")
+    write!(text, "{word} acks {acks} of {replies}")
 }
 
 #[tactic(auto, unfolding(crate::specs::Details::conclude_text))]
@@ -237,7 +271,7 @@ fn push_conclude(
 ) -> Result<(), AllocError>
     ensures { OnOk result (string_bytes text.new ≡ string_bytes text.old ++ conclude_text world.now.rehearsal before member) }
 {
-    push_acks(text, world, member)?;
+    push_acks(text, "conclude", world, member)?;
     push_decision(text, world, before, member)
 }
 

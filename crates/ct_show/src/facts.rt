@@ -1,12 +1,12 @@
 //! The line of a refused step, with the facts behind the refusal. The world is the one before the step.
 
 ghost use Rattle.std.specs.Prelude.{◌≡◌, ◌++◌, length, Some, OnOk, option_map, string_bytes};
-ghost use Rattle.ct_show.specs.Facts.{heard_text, first_heard, replies_text, phase_in};
+ghost use Rattle.ct_show.specs.Facts.{heard_text, first_heard, phase_in};
 ghost use Rattle.ct_show.specs.Facts.{led_text, place_in, votes_text, part_text, member_facts};
 ghost use Rattle.ct_show.specs.Facts.{takes, returns, taking_or, last_taking, left_in, left_text, leaving_text};
 ghost use Rattle.ct_show.specs.Facts.{place_text, missing_text, letter_facts, serial_facts, facts_text, refused_text};
 
-use crate::details::{coordinator_of, instance_of, push_coordinator, push_estimate_of, size_of};
+use crate::details::{coordinator_of, instance_of, push_acks, push_coordinator, push_estimate_of};
 use crate::lines::push_head;
 use crate::shapes::{phase_name, push_estimate};
 use crate::wires::push_serial;
@@ -247,43 +247,45 @@ fn push_votes(text: &mut String, world: &World, member: Member) -> Result<(), Al
 {
     text.push_str(", estimate ")?;
     push_estimate_of(text, world, member)?;
-    push_all_heard(text, world, member)?;
-    push_replies(text, world, member)
+    push_all_heard(text, ", heard ", "", world, member)?;
+    push_acks(text, ",", world, member)
 }
 
-fn push_all_heard(text: &mut String, world: &World, member: Member) -> Result<(), AllocError>
-    ensures { OnOk result (string_bytes text.new
-        ≡ string_bytes text.old ++ first_heard world.now.rehearsal member world.now.rehearsal.setting.members) }
+// The estimates that the member heard for its round, each between these texts.
+pub(crate) fn push_all_heard(
+    text: &mut String,
+    before: &str,
+    after: &str,
+    world: &World,
+    member: Member,
+) -> Result<(), AllocError>
+    ensures { OnOk result (string_bytes text.new ≡ string_bytes text.old
+        ++ first_heard before.now after.now world.now.rehearsal member world.now.rehearsal.setting.members) }
 {
     let n = world.group().n();
     for i in 0..n {
-        push_heard(text, i + 1, world.heard_from(member, i + 1))?;
+        push_heard(text, before, after, i + 1, world.heard_from(member, i + 1))?;
     }
     Ok(())
 }
 
+#[tactic(auto, unfolding(crate::specs::Facts::heard_text))]
 fn push_heard(
     text: &mut String,
+    before: &str,
+    after: &str,
     from: Member,
     heard: Option<(&[Message], Round)>,
 ) -> Result<(), AllocError>
     ensures { OnOk result (string_bytes text.new
-        ≡ string_bytes text.old ++ heard_text from (option_map (λ e. (e.0.now, e.1)) heard.entry)) }
+        ≡ string_bytes text.old ++ heard_text before.now after.now from (option_map (λ e. (e.0.now, e.1)) heard.entry)) }
 {
     match heard {
         None => Ok(()),
         Some(heard) => {
-            write!(text, ", heard {from} ")?;
-            push_estimate(text, Some(heard))
+            write!(text, "{before}{from} ")?;
+            push_estimate(text, Some(heard))?;
+            text.push_str(after)
         }
     }
-}
-
-#[tactic(auto, unfolding(crate::specs::Facts::replies_text))]
-fn push_replies(text: &mut String, world: &World, member: Member) -> Result<(), AllocError>
-    ensures { OnOk result (string_bytes text.new ≡ string_bytes text.old ++ replies_text world.now.rehearsal member) }
-{
-    let acks = size_of(world.acked(member));
-    let replies = size_of(world.replied(member));
-    write!(text, ", acks {acks} of {replies}")
 }

@@ -16,13 +16,15 @@ mod wires;
 mod words;
 
 pub use answer::{Answer, shown};
-pub use details::{instance_of, push_detail, push_estimate_of, round_of};
+pub use details::{
+    LETTERS, OTHER_LETTERS, instance_of, letter_of, push_detail, push_estimate_of, round_of,
+};
 pub use facts::{push_facts, push_member_facts};
 pub use json::report_json;
 pub use running::show;
 pub use selection::Selection;
 pub use shapes::phase_name;
-pub use state::{first_receipt, push_next_of};
+pub use state::{first_receipt, push_next_of, push_own_enabled};
 pub use view::View;
 pub use wires::{push_round, push_serial};
 pub use words::{

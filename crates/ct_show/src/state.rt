@@ -5,14 +5,13 @@ ghost use Rattle.ct_names.specs.Group.{is_member};
 ghost use Rattle.ct_model.specs.Rehearsal.{line_of};
 ghost use Rattle.ct_model.specs.State.{at_serial};
 ghost use Rattle.ct_program.specs.Report.{list_text};
-ghost use Rattle.ct_show.specs.State.{progress_text, standing_line, estimate_line, heard_line};
-ghost use Rattle.ct_show.specs.State.{heard_lines, first_in, set_line, votes_lines};
-ghost use Rattle.ct_show.specs.State.{sender_text, waiting_line, is_apart, enabled_line, refusal_line, refused_line, first_choices};
-ghost use Rattle.ct_show.specs.State.{steps_lines, first_receipt, step_or_dash, or_text, receipt_text, next_text, next_line};
+ghost use Rattle.ct_show.specs.State.{progress_text, standing_line, estimate_line, first_in, set_line, votes_lines};
+ghost use Rattle.ct_show.specs.State.{sender_text, waiting_line, is_apart, enabled_text, own_enabled, refusal_line, refused_line};
+ghost use Rattle.ct_show.specs.State.{first_choices, steps_lines, first_receipt, step_or_dash, or_text, receipt_text, next_text, next_line};
 ghost use Rattle.ct_show.specs.State.{member_lines, first_members, group_line, counts_line, state_lines};
 
 use crate::details::instance_of;
-use crate::facts::push_place_in;
+use crate::facts::{push_all_heard, push_place_in};
 use crate::shapes::push_estimate;
 use crate::traced::Traced;
 use crate::wires::push_serial;
@@ -124,7 +123,7 @@ fn push_votes(text: &mut String, world: &World, member: Member) -> Result<(), Al
     ensures { OnOk result (string_bytes text.new ≡ string_bytes text.old ++ votes_lines world.now.rehearsal member) }
 {
     push_estimate_line(text, world.estimate(member))?;
-    push_all_heard(text, world, member)?;
+    push_all_heard(text, "  heard    ", "\n", world, member)?;
     push_set_line(text, "  acked    ", world.acked(member))?;
     push_set_line(text, "  replied  ", world.replied(member))
 }
@@ -142,36 +141,6 @@ fn push_estimate_line(
         Some(estimate) => {
             text.push_str("  estimate ")?;
             push_estimate(text, Some(estimate))?;
-            text.push_str("\n")
-        }
-    }
-}
-
-fn push_all_heard(text: &mut String, world: &World, member: Member) -> Result<(), AllocError>
-    ensures { OnOk result (string_bytes text.new
-        ≡ string_bytes text.old ++ heard_lines world.now.rehearsal member world.now.rehearsal.setting.members) }
-{
-    let n = world.group().n();
-    for i in 0..n {
-        push_heard(text, i + 1, world.heard_from(member, i + 1))?;
-    }
-    Ok(())
-}
-
-#[tactic(auto, unfolding(crate::specs::State::heard_line))]
-fn push_heard(
-    text: &mut String,
-    from: Member,
-    heard: Option<(&[Message], Round)>,
-) -> Result<(), AllocError>
-    ensures { OnOk result (string_bytes text.new
-        ≡ string_bytes text.old ++ heard_line from (option_map (λ e. (e.0.now, e.1)) heard.entry)) }
-{
-    match heard {
-        None => Ok(()),
-        Some(heard) => {
-            write!(text, "  heard    {from} ")?;
-            push_estimate(text, Some(heard))?;
             text.push_str("\n")
         }
     }
@@ -268,12 +237,27 @@ fn push_sender(text: &mut String, sender: Option<Member>) -> Result<(), AllocErr
 fn push_steps(text: &mut String, world: &World, member: Member) -> Result<(), AllocError>
     ensures { OnOk result (string_bytes text.new ≡ string_bytes text.old ++ steps_lines world.now.rehearsal member) }
 {
-    push_enabled(text, world, &first_steps(member))?;
-    push_choices(text, world, member)?;
-    push_enabled(text, world, &last_steps(member))?;
+    push_own_enabled(text, "  enabled  ", "\n", world, member)?;
     push_refused(text, world, &first_steps(member))?;
     push_refused(text, world, &[Step::Choose(member, member)])?;
     push_refused(text, world, &last_steps(member))
+}
+
+/// Appends the steps of its own that the member may take, each between these texts, in the order in which a driver tries them.
+#[tactic(auto, unfolding(crate::specs::State::own_enabled))]
+pub fn push_own_enabled(
+    text: &mut String,
+    before: &str,
+    after: &str,
+    world: &World,
+    member: Member,
+) -> Result<(), AllocError>
+    ensures { OnOk result (string_bytes text.new ≡ string_bytes text.old
+        ++ own_enabled before.now after.now world.now.rehearsal member) }
+{
+    push_enabled(text, before, after, world, &first_steps(member))?;
+    push_choices(text, before, after, world, member)?;
+    push_enabled(text, before, after, world, &last_steps(member))
 }
 
 // The steps that a driver tries before a choice.
@@ -299,33 +283,53 @@ fn last_steps(member: Member) -> [Step; 4]
     ]
 }
 
-fn push_choices(text: &mut String, world: &World, member: Member) -> Result<(), AllocError>
+fn push_choices(
+    text: &mut String,
+    before: &str,
+    after: &str,
+    world: &World,
+    member: Member,
+) -> Result<(), AllocError>
     ensures { OnOk result (string_bytes text.new ≡ string_bytes text.old
-        ++ flat_map (enabled_line world.now.rehearsal) (first_choices member world.now.rehearsal.setting.members)) }
+        ++ flat_map (enabled_text before.now after.now world.now.rehearsal) (first_choices member world.now.rehearsal.setting.members)) }
 {
     let n = world.group().n();
     for i in 0..n {
-        push_if_enabled(text, world, Step::Choose(member, i + 1))?;
+        push_if_enabled(text, before, after, world, Step::Choose(member, i + 1))?;
     }
     Ok(())
 }
 
 // Those of the steps that are allowed.
-fn push_enabled(text: &mut String, world: &World, steps: &[Step]) -> Result<(), AllocError>
-    ensures { OnOk result (string_bytes text.new ≡ string_bytes text.old ++ flat_map (enabled_line world.now.rehearsal) steps.now) }
+fn push_enabled(
+    text: &mut String,
+    before: &str,
+    after: &str,
+    world: &World,
+    steps: &[Step],
+) -> Result<(), AllocError>
+    ensures { OnOk result (string_bytes text.new
+        ≡ string_bytes text.old ++ flat_map (enabled_text before.now after.now world.now.rehearsal) steps.now) }
 {
     for step in steps {
-        push_if_enabled(text, world, *step)?;
+        push_if_enabled(text, before, after, world, *step)?;
     }
     Ok(())
 }
 
-#[tactic(auto, unfolding(crate::specs::State::enabled_line))]
-fn push_if_enabled(text: &mut String, world: &World, step: Step) -> Result<(), AllocError>
-    ensures { OnOk result (string_bytes text.new ≡ string_bytes text.old ++ enabled_line world.now.rehearsal step) }
+#[tactic(auto, unfolding(crate::specs::State::enabled_text))]
+fn push_if_enabled(
+    text: &mut String,
+    before: &str,
+    after: &str,
+    world: &World,
+    step: Step,
+) -> Result<(), AllocError>
+    ensures { OnOk result (string_bytes text.new
+        ≡ string_bytes text.old ++ enabled_text before.now after.now world.now.rehearsal step) }
 {
     match world.enabled(&step) {
-        Ok(()) => write!(text, "  enabled  {step}\n"),
+        Ok(()) => write!(text, "{before}{step}{after}"),
         Err(_) => Ok(()),
     }
 }

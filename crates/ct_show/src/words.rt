@@ -1,13 +1,13 @@
 //! The words after `check`, `report`, `state` and `steps` on a command line.
 
-ghost use Rattle.std.specs.Prelude.{◌≡◌, IfSome};
+ghost use Rattle.std.specs.Prelude.{◌≡◌, option_map};
 ghost use Rattle.clap.specs.Words.{found_of, rows_of};
-ghost use Rattle.ct_show.specs.Line.{IsOfSteps, state_of};
+ghost use Rattle.ct_show.specs.Line.{member_of, state_of, steps_of};
 
 use crate::selection::Selection;
 use crate::view::View;
 use clap::{Arg, ArgAction, ArgMatches, Command};
-use ct_names::MAX_MEMBERS;
+use ct_names::{MAX_MEMBERS, Member};
 use ct_program::{number_in, option_in};
 use std::alloc::{AllocError, Global};
 
@@ -66,16 +66,24 @@ Status:
   5  memory was refused";
 
 /// The steps that the options of `steps` ask for; None where a value is no whole number of its option's range.
+#[tactic(auto, unfolding(crate::specs::Line::steps_of))]
 pub fn steps_view(found: &ArgMatches<'_>) -> Option<View>
-    ensures { IfSome result IsOfSteps }
+    ensures { result ≡ steps_of (rows_of (found_of found.now)) }
 {
     let from = option_in(found, "from", 1, u32::MAX)?;
     let to = option_in(found, "to", 1, u32::MAX)?;
-    let member = match found.get_str("member") {
-        None => None,
-        Some(text) => Some(number_in(text, 1, u32::from(MAX_MEMBERS))? as u8),
-    };
+    let member = member_of(found.get_str("member"))?;
     Some(View::Steps(Selection { from, to, member }))
+}
+
+// The member that the text names, where there is one; None where it names none.
+fn member_of(text: Option<&str>) -> Option<Option<Member>>
+    ensures { result ≡ member_of (option_map (λ t. t.now) text.entry) }
+{
+    match text {
+        None => Some(None),
+        Some(text) => Some(Some(number_in(text, 1, u32::from(MAX_MEMBERS))? as u8)),
+    }
 }
 
 /// The steps after which `state` shows the state; None where the value is no whole number of its option's range.

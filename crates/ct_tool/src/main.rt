@@ -144,10 +144,7 @@ fn record_stream<R: Read + Drop, W: Write>(
 
 // Answers the lines on standard input, and writes the record in the end, where a file is named for it.
 fn hold_session(rt: &HostRuntime, found: &ArgMatches<'_>) -> ExitCode {
-    let Ok(input) = io::BufReader::new(rt.alloc(), rt.reader()) else {
-        return fail(rt, "out of memory", NO_MEMORY);
-    };
-    let mut reader = Counted::new(input);
+    let mut reader = Counted::new(rt.reader());
     let mut writer = Counted::new(io::writer(rt));
     match interact(rt.alloc(), &mut reader, &mut writer) {
         Ok(judge) => match found.get_str("record") {

@@ -90,31 +90,31 @@ pub fn walk_command<'a>(alloc: Global) -> Result<Command<'a>, AllocError> {
         .after_help(AFTER);
     with_free_options(alloc, command, TURNS)?
         .arg(every(alloc))?
-        .arg(pair(
+        .arg(sight_arg(
             alloc,
             "until",
-            "Stops once a member got the decision of instance N (decided N), or is in round N of an instance or in a later one (round N)",
+            "Stops once a member got the decision of instance N (decided), or is in round N of an instance or in a later one (round)",
         ))?
         .arg(
-            pair(
+            sight_arg(
                 alloc,
                 "find",
-                "Tries the seeds of --seeds in place of --seed until a walk shows this, and writes that walk, stopped as by --until",
+                "Tries the seeds of --seeds in place of --seed until a walk comes to this, and writes that walk, stopped as by --until",
             )
             .requires_arg("seeds")?
             .conflicts_with("until")?,
         )?
-        .arg(text(
-            alloc,
-            "seeds",
-            "The seeds that --find tries, from A to B, as A..B",
+        .arg(
+            text(alloc, "seeds", "The seeds that --find tries, from A to B")
+                .value_name("A..B")
+                .requires_arg("find")?,
         )
-        .requires_arg("find")?)
 }
 
 fn every<'a>(alloc: Global) -> Arg<'a> {
     Arg::new(alloc, "every")
         .long("every")
+        .value_name("N")
         .action(ArgAction::Set)
         .default_value("0")
         .help(
@@ -122,9 +122,11 @@ fn every<'a>(alloc: Global) -> Arg<'a> {
         )
 }
 
-// An option with two values, that need not be given.
-fn pair<'a>(alloc: Global, name: &'a str, help: &'a str) -> Arg<'a> {
-    text(alloc, name, help).num_args(2)
+// An option that names what can be shown of a walk, that need not be given.
+fn sight_arg<'a>(alloc: Global, name: &'a str, help: &'a str) -> Arg<'a> {
+    text(alloc, name, help)
+        .num_args(2)
+        .value_names(&["decided|round", "N"])
 }
 
 // An option with a value, that need not be given.

@@ -1,5 +1,5 @@
 -- The largest instance with a decision, from what is kept of a member's instances.
-use Rattle.std.proofs.Common.{◌≡◌, ℕ, ◌≤◌, ◌==◌, true, List, [], ◌∷◌, Option, Some, None, filter_map, fold, refl, sym, ap, subst, ◌∙◌}
+use Rattle.std.proofs.Common.{◌≡◌, ℕ, ◌≤◌, ◌==◌, true, List, [], ◌∷◌, Option, Some, filter_map, fold, refl, sym, ap, subst, ◌∙◌}
 use Rattle.std.proofs.Common.{arith, inl, inr, ◌⊎◌, eq-eqb, eqb-true}
 use Rattle.std.specs.Prelude.{max, nat_eq, is_some, option_and_then}
 use Rattle.std.specs.List.{reduce}
@@ -56,8 +56,7 @@ same_largest (x ∷ xs) (y ∷ ys) to from =
 -- the instances with a decision, among the entries
 
 entry-some : (o : Option Entry) → is_some (option_and_then (λ e. e.decision) o) ≡ true → is_some o ≡ true
-entry-some (Some e) h = refl
-entry-some None h = h
+entry-some o h = grind arith
 
 in-entries : (kept : Kept) (k : ℕ) → is_some (decision_at kept k) ≡ true → IsIn k (decided_instances kept)
 in-entries kept k some =
@@ -70,17 +69,10 @@ in-entries kept k some =
 
 is_decision : (w : Wire) (k : ℕ) → decided_instance w ≡ Some k → (v : Value) × (decision_of k w ≡ Some v)
 is_decision (Dec j r v) k e = let same : (j == k) ≡ true = eq-eqb j k (cc) in (v, rw same refl)
-is_decision (Data m) k e = cc
-is_decision (Est j r p v t) k e = cc
-is_decision (Prop j r v) k e = cc
-is_decision (Ack j r p) k e = cc
-is_decision (Nack j r p) k e = cc
+is_decision _ k e = cc
 
 has_instance : (w : Wire) (k : ℕ) (v : Value) → decision_of k w ≡ Some v → decided_instance w ≡ Some k
-has_instance (Dec j r u) k v e = elim (true_or_false (j == k)) [
-  | inl is ↦ ap Some (eqb-true j k is)
-  | inr not ↦ let none : decision_of k (Dec j r u) ≡ None = rw not refl in absurd (cc)
-]
+has_instance (Dec j r u) k v e = grind (arith, true_or_false (j == k))
 has_instance (Data m) k v e = cc
 has_instance (Est j r p u t) k v e = cc
 has_instance (Prop j r u) k v e = cc

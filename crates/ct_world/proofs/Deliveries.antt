@@ -1,8 +1,10 @@
 -- What Deliver and Follow share: why the decision of an instance is not delivered, what has to be there for it, and the seat
 -- after it.
 use Rattle.std.proofs.Common.{◌≡◌, ℕ, ◌+◌, ◌-◌, ◌≤◌, ◌<◌, Bool, true, false, not, List, [], ◌∷◌, ◌++◌, length, set, refl, ap, sym, ◌∙◌}
-use Rattle.std.proofs.Common.{subst, arith, append-nil, slice_get, Option, Some, None, Bor}
-use Rattle.std.specs.Prelude.{nat_lt, is_some, is_none, if◌then◌else◌, option_and_then, option_copied}
+use Rattle.std.proofs.Common.{subst, arith, append-nil, get_or, slice_get, Option, Some, None, Bor}
+use Rattle.std.specs.Prelude.{nat_lt, is_some, is_none, if◌then◌else◌, option_and_then, option_copied, option_map, IfSome}
+use Rattle.std.specs.declared.alloc.Global.{Global}
+use Rattle.std.specs.declared.boxed.Box.{Box}
 use Rattle.std.proofs.lemmas.Bool.Decides.{nat_tests}
 use Rattle.std.proofs.lemmas.List.{length-map, map-append}
 use Rattle.std.proofs.lemmas.List.Concat.{flat_map-append}
@@ -44,9 +46,9 @@ use Rattle.ct_world.specs.Posting.{HasPosted, IsSet}
 use Rattle.ct_world.specs.Prepared.{number_in, batch_in}
 use Rattle.ct_world.specs.World.{WorldView}
 use Rattle.ct_world.specs.Seats.{Keeps, Content, IsDeliverable, content, with_batch, batch_to_post}
-use Rattle.ct_world.proofs.Insides.{IsAllowed, IsAllowedIn, fields_in, rehearsal_in, view_in}
+use Rattle.ct_world.proofs.Insides.{IsAllowed, IsAllowedIn, fields_in, rehearsal_in, seat_in, view_in}
 use Rattle.ct_world.proofs.Members.{seat-same}
-use Rattle.ct_world.proofs.Posting.{has_posted}
+use Rattle.ct_world.proofs.Posting.{has_posted, posting_low}
 use Rattle.ct_world.proofs.Posts.{stepped-quiet}
 use Rattle.ct_world.proofs.Proposing.{copied-some, delivered-same, open-same}
 use Rattle.ct_world.proofs.Refines.{refined}
@@ -54,8 +56,7 @@ use Rattle.ct_world.proofs.Refines.{refined}
 -- why a decision is not delivered, by the seat
 
 pub none-some : {A : Type 0} (o : Option A) → is_none o ≡ not (is_some o)
-none-some None = refl
-none-some (Some x) = refl
+none-some o = grind arith
 
 pub standing-there : (o : Option Standing) → is_some o ≡ true → (c : Standing) × (o ≡ Some c)
 standing-there None e = absurd (cc)
@@ -91,10 +92,7 @@ module _ {w : Rehearsal} {p : ℕ} {seat : Seat} (a : IsActor w p seat) where
       go true e =
           cause-tested w step Undecided present (own ∙ ap (λ b. first_fault (at Undecided b ∷ [])) (undecided_is k ∙ e))
           ∙ sym (ap (λ b. or_else (first_fault (at Undecided b ∷ limits_at k (length seat.caster.batches))) (overflow w 0)) e)
-      go false e =
-          limited (own ∙ ap (λ b. first_fault (at Undecided b ∷ [])) (undecided_is k ∙ e))
-          ∙ ap (λ count. or_else (first_fault (limits_at k count)) (overflow w 0)) (sym batches_are)
-          ∙ sym (ap (λ b. or_else (first_fault (at Undecided b ∷ limits_at k (length seat.caster.batches))) (overflow w 0)) e)
+      go false e = grind (arith, undecided_is k, batches_are)
 
 -- the seat after a batch
 
@@ -200,8 +198,7 @@ module _ {w : Rehearsal} {step : Step} {f : Fields} {k : ℕ} (may : IsAllowed w
 
   pub same_last : (new : Fields) (seat : Seat) → content seat ≡ content (seat_for f step) → new.seats ≡ set f.seats (actor step - 1) seat
       → (seat_for f step).instances.last ≡ (seat_for new step).instances.last
-  same_last new seat kept set_is = ap (λ (c : Content). c.seat.instances.last) (sym kept)
-      ∙ ap (λ (s : Seat). s.instances.last) (sym (seat_now new seat set_is))
+  same_last new seat kept set_is = grind (arith, seat_now new seat set_is)
 
   -- the room that was made for it
   pub delivery_room : {new : Fields} {i id posted : ℕ} {made : Option Prepared} (seat : Seat) → content seat ≡ content (seat_for f step)
@@ -233,34 +230,51 @@ module _ {w : Rehearsal} {step : Step} {f : Fields} {k : ℕ} (may : IsAllowed w
     submitted = submitted ∙ may.submitted;
   }) refl sent lines)
 
-  -- with that room
-  module _ {made : Option Prepared} (room : HasDeliveryRoom w f step k made) where
-    pub has_number : is_some (number_in made) ≡ true
-    has_number = ap is_some room.number ∙ has_decision
+-- a prepared step that closes the instance k, with the room that was made for it
+pub record IsDelivery (a : Inside) (step : Step) (k : ℕ) : Type 0 where
+  pub may : IsAllowedIn a step
+  pub due : IsClosing (rehearsal_in a) step k
+  pub room : HasDeliveryRoom (rehearsal_in a) (fields_in a) step k a.prepared
 
-    module _ {id : ℕ} (is : number_in made ≡ Some id) where
-      numbered_value : value_at f.book.values id ≡ Some due.value
-      numbered_value = value_is id (sym room.number ∙ is)
+module _ {a : Inside} {step : Step} {k : ℕ} (d : IsDelivery a step k) where
+  pub has_number : {o : Option ℕ} → o ≡ number_in a.prepared → is_some o ≡ true
+  has_number is = ap is_some (is ∙ d.room.number) ∙ has_decision d.may d.due
 
-      pub value_there : (r : Option (Bor Value)) → option_copied r ≡ slice_get f.book.values id → is_some r ≡ true
-      value_there r got = sym (copied-some r (slice_get f.book.values id) got) ∙ ap is_some numbered_value
+  -- the batch that it posts has a place
+  pub batch_low : {from : Option Prepared} (o : Option (Box Batch Global)) → option_map (λ b. b.value) o ≡ batch_in from →
+      from ≡ a.prepared → IfSome o (λ b. 1 ≤ b.value.instance)
+  batch_low o is from =
+      posting_low (rehearsal_in a) step (λ b. b.value) o (closed_lawful d.may d.due) (rw (is ∙ ap batch_in from) d.room.posting)
 
-      module _ {v : Value} (value : value_at f.book.values id ≡ Some v) where
-        pub value_same : v ≡ due.value
-        value_same = some-same v due.value (sym value ∙ numbered_value)
+  -- at the seat that an index gives
+  pub seat_fits : {s : Seat} → s ≡ get_or a.seats.items (actor step - 1) s → s.caster.fits_batch ≡ true
+  seat_fits here = ap (λ (s : Seat). s.caster.fits_batch) (seat_in a d.may here) ∙ d.room.fits
 
-        pub room_there : length v ≤ (seat_for f step).caster.room
-        room_there = room.messages id v is value
+  -- the value of its number
+  module _ {o : Option ℕ} {id : ℕ} (from : o ≡ number_in a.prepared) (is : o ≡ Some id) where
+    numbered_value : value_at a.book.values id ≡ Some d.due.value
+    numbered_value = value_is d.may d.due id (sym d.room.number ∙ sym from ∙ is)
+
+    module _ (r : Option (Bor Value)) (got : option_copied r ≡ slice_get a.book.values id) where
+      pub value_there : is_some r ≡ true
+      value_there = sym (copied-some r (slice_get a.book.values id) got) ∙ ap is_some numbered_value
+
+      module _ {v : Bor Value} (there : r ≡ Some v) where
+        pub value_same : v.now ≡ d.due.value
+        value_same = some-same v.now d.due.value (sym (ap option_copied there) ∙ got ∙ numbered_value)
+
+        pub room_there : {s : Seat} → s ≡ get_or a.seats.items (actor step - 1) s → length v.now ≤ s.caster.room
+        room_there here = subst (λ (s : Seat). length v.now ≤ s.caster.room) (sym (seat_in a d.may here))
+            (d.room.messages id v.now (sym from ∙ is) (sym got ∙ ap option_copied there))
 
 -- what such a step posts, where the record has it at its end
 pub posted_in : (a : Inside) {v : WorldView} {step : Step} {k : ℕ} (cells : List ℕ) {steps : List Step} {posting : Option Batch}
-    (receipt : Option Posted) → view_in a ≡ v → IsAllowedIn a step → IsClosing (rehearsal_in a) step k
-    → HasDeliveryRoom (rehearsal_in a) (fields_in a) step k a.prepared → posting ≡ batch_in a.prepared → IsSet cells posting receipt
+    (receipt : Option Posted) → view_in a ≡ v → IsDelivery a step k → posting ≡ batch_in a.prepared → IsSet cells posting receipt
     → steps ≡ a.record.items ++ step ∷ [] → HasPosted cells v.rehearsal (record (rehearsal_in a) { steps = steps }) receipt
-posted_in a {v} {step} {k} cells {steps} {posting} receipt view may due room is set pushed =
+posted_in a {v} {step} {k} cells {steps} {posting} receipt view d is set pushed =
     let w : Rehearsal = rehearsal_in a in
     let posted : HasPosted cells w (extended w step) receipt =
-    has_posted cells w step (batch_in a.prepared) receipt (closed_lawful may due) room.posting (rw is at set) in
+    has_posted cells w step (batch_in a.prepared) receipt (closed_lawful d.may d.due) d.room.posting (rw is at set) in
     let new : HasPosted cells w (record w { steps = steps }) receipt =
     subst (λ ss. HasPosted cells w (record w { steps = ss }) receipt) (sym pushed) posted in
     subst (λ (x : WorldView). HasPosted cells x.rehearsal (record w { steps = steps }) receipt) view new

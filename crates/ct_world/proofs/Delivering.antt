@@ -27,9 +27,11 @@ use Rattle.ct_world.specs.declared.prepared.Prepared.TheVariants as made
 use Rattle.ct_world.specs.declared.seat.Seat.{Seat}
 use Rattle.ct_world.specs.Kept.{Fields, IsWorld, IsActor, HasDeliveryRoom, HasOwnRoom, delivery_cause, seat_of}
 use Rattle.ct_world.specs.Seats.{Keeps, Content, IsDeliverable, content, with_delivery}
-use Rattle.ct_world.proofs.Deliveries.{IsClosing, cause-delivery, closed_keeps, closed_steps, delivery_room, none-some, open_is, same_last}
-use Rattle.ct_world.proofs.Deliveries.{standing-there}
-use Rattle.ct_world.proofs.Insides.{IsAllowed}
+use Rattle.ct_world.proofs.Deliveries.{IsClosing, IsDelivery, cause-delivery, closed_keeps, closed_steps, delivery_room, none-some}
+use Rattle.ct_world.proofs.Deliveries.{open_is, same_last, standing-there}
+use Rattle.ct_world.specs.declared.world.World.TheInside.{Inside}
+use Rattle.ct_world.specs.World.{WorldView}
+use Rattle.ct_world.proofs.Insides.{IsAllowed, IsKeptIn, prepared_in, ready_in, view_in}
 use Rattle.ct_world.proofs.Proposing.{open-same}
 use Rattle.ct_world.proofs.Rooms.{keeps-roomier}
 
@@ -101,3 +103,10 @@ module _ {w : Rehearsal} {p : ℕ} {f : Fields} (may : IsAllowed w (Deliver p) f
       subst (λ k. HasDeliveryRoom w new (Deliver p) k (Some (made.Deliver p id batch)))
       (same_last may deliver_due new seat kept set_is)
       (delivery_room may deliver_due seat kept set_is values count instance refl found)
+
+-- the step where it is prepared
+abbrev pub deliver_in : (a : Inside) {v : WorldView} {p : ℕ} → view_in a ≡ v → IsKeptIn a → v.prepared ≡ Some (Deliver p) →
+    IsDelivery a (Deliver p) (seat_of a.seats.items p).instances.last
+deliver_in a view kept is =
+    let may = prepared_in a view kept is in
+    record { may = may; due = deliver_due may; room = (ready_in a view kept is).for_itself }

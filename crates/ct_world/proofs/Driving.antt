@@ -1,6 +1,6 @@
 -- What a driver does next at a member.
-use Rattle.std.proofs.Common.{◌≡◌, ℕ, Bool, true, false, cond, List, [], ◌∷◌, ◌++◌, Option, Some, None, Result, Ok, Err, Bor, find}
-use Rattle.std.proofs.Common.{flat_map, map, option_map, option_and_then, is_none, refl, ap, sym, ◌∙◌, subst}
+use Rattle.std.proofs.Common.{arith, ◌≡◌, ℕ, List, [], ◌∷◌, ◌++◌, Option, Some, None, Result, Ok, Err, Bor, find, flat_map, map}
+use Rattle.std.proofs.Common.{option_map, option_and_then, is_none, refl, ap, sym, ◌∙◌, subst}
 use Rattle.std.specs.Prelude.{MatchResult}
 use Rattle.std.specs.Option.{option_to_list}
 use Rattle.std.specs.Result.{result_ok}
@@ -35,16 +35,7 @@ best-map {V} f t = go t.estimates
     go : (es : List (Heard V)) → option_map (λ e. e.member) (find (λ e. is_largest (ballots_map f t) e.ts) (map (heard_map f) es))
         ≡ option_map (λ e. e.member) (find (λ e. is_largest t e.ts) es)
     go [] = refl
-    go (e ∷ es) = by (is_largest t e.ts) (is_largest-map f t e.ts) (go es)
-      where
-        by : (b : Bool) → is_largest (ballots_map f t) e.ts ≡ b
-            → option_map (λ e. e.member) (find (λ e. is_largest (ballots_map f t) e.ts) (map (heard_map f) es))
-            ≡ option_map (λ e. e.member) (find (λ e. is_largest t e.ts) es)
-            → option_map (λ e. e.member) (cond (is_largest (ballots_map f t) e.ts) (Some (heard_map f e))
-            (find (λ e. is_largest (ballots_map f t) e.ts) (map (heard_map f) es)))
-            ≡ option_map (λ e. e.member) (cond b (Some e) (find (λ e. is_largest t e.ts) es))
-        by true is later = rw is refl
-        by false is later = rw is later
+    go (e ∷ es) = grind (arith, is_largest-map f t e.ts, go es)
 
 -- the member may take steps
 
@@ -68,9 +59,7 @@ module _ {w : Rehearsal} {p : ℕ} {seat : Seat} (a : IsActor w p seat) where
       go None None e = refl
       go None (Some x) e = absurd (cc)
       go (Some c) None e = absurd (cc)
-      go (Some c) (Some x) e =
-          best_at c.standing.round
-          ∙ ap (λ r. best (ballots (member_of w p).got (member_of w p).last r)) (some-same c.standing.round x.round e)
+      go (Some c) (Some x) e = grind (arith, best_at c.standing.round, some-same c.standing.round x.round e)
 
 -- the member may take no step
 

@@ -1,5 +1,5 @@
 -- Follow: why it is refused, by the seat, and the seat after it.
-use Rattle.std.proofs.Common.{◌≡◌, ℕ, ◌+◌, ◌-◌, ◌^◌, ◌<◌, Bool, true, false, List, [], ◌∷◌, ◌++◌, length, set, refl, ap, sym, ◌∙◌}
+use Rattle.std.proofs.Common.{◌≡◌, ℕ, ◌+◌, ◌-◌, ◌<◌, Bool, true, false, List, [], ◌∷◌, ◌++◌, length, set, refl, ap, sym, ◌∙◌}
 use Rattle.std.proofs.Common.{subst, arith, Option, Some, None, option_map}
 use Rattle.std.specs.Prelude.{is_some, is_none}
 use Rattle.std.specs.declared.alloc.Global.{Global}
@@ -24,8 +24,10 @@ use Rattle.ct_world.specs.declared.prepared.Prepared.TheVariants as made
 use Rattle.ct_world.specs.declared.seat.Seat.{Seat}
 use Rattle.ct_world.specs.Kept.{Fields, IsWorld, IsActor, HasDeliveryRoom, HasOwnRoom, delivery_cause, seat_of}
 use Rattle.ct_world.specs.Seats.{Keeps, Content, IsDeliverable, content, with_batch, with_next}
-use Rattle.ct_world.proofs.Deliveries.{IsClosing, cause-delivery, closed_keeps, closed_steps, delivery_room, open_is, same_last}
-use Rattle.ct_world.proofs.Insides.{IsAllowed}
+use Rattle.ct_world.proofs.Deliveries.{IsClosing, IsDelivery, cause-delivery, closed_keeps, closed_steps, delivery_room, open_is, same_last}
+use Rattle.ct_world.specs.declared.world.World.TheInside.{Inside}
+use Rattle.ct_world.specs.World.{WorldView}
+use Rattle.ct_world.proofs.Insides.{IsAllowed, IsKeptIn, prepared_in, ready_in, view_in}
 use Rattle.ct_world.proofs.Proposing.{nothing-some, open-same}
 use Rattle.ct_world.proofs.Rooms.{keeps-roomier}
 
@@ -35,8 +37,7 @@ module _ {w : Rehearsal} {p : ℕ} {seat : Seat} (a : IsActor w p seat) where
 
   tests-follow : (busy : Bool) → is_some seat.instances.part ≡ busy →
       first_fault (own_tests w (Follow p)) ≡ first_fault (at Busy busy ∷ at Undecided (is_none (decided m.got (m.last + 1))) ∷ [])
-  tests-follow busy e = ap first_fault (own_tests-is w (Follow p))
-      ∙ ap (λ b. first_fault (at Busy b ∷ at Undecided (is_none (decided m.got (m.last + 1))) ∷ [])) (sym (open_is a) ∙ e)
+  tests-follow busy e = grind (arith, own_tests-is w (Follow p), open_is a)
 
   pub follow_busy : is_some seat.instances.part ≡ true → cause w (Follow p) ≡ Some Busy
   follow_busy e = cause-tested w (Follow p) Busy a.present (tests-follow true e)
@@ -45,13 +46,6 @@ module _ {w : Rehearsal} {p : ℕ} {seat : Seat} (a : IsActor w p seat) where
   follow_cause e =
       cause-delivery a (Follow p) (m.last + 1) a.present (tests-follow false e) (cause-follow w p a.lawful a.present)
       ∙ ap (λ k. delivery_cause w seat (k + 1)) (sym a.sits.keeps.instances.last)
-
-  -- the number of the next instance fits
-  pub follow_fits : seat.instances.last + 1 < 2 ^ 32
-  follow_fits =
-      let last : seat.instances.last ≡ m.last = a.sits.keeps.instances.last in
-      let few = a.lawful.within.few_instances p in
-      omega arith
 
 -- the seat after it, whose last instance is the next one
 followed_keeps : {n p : ℕ} {values : List Value} {m : Member} {seat new : Seat} (v : Value) → seat.instances.part ≡ None
@@ -108,3 +102,10 @@ module _ {w : Rehearsal} {p : ℕ} {f : Fields} (may : IsAllowed w (Follow p) f)
       subst (λ k. HasDeliveryRoom w new (Follow p) (k + 1) (Some (made.Follow p id batch)))
       (same_last may follow_due new seat kept set_is)
       (delivery_room may follow_due seat kept set_is values count instance refl found)
+
+-- the step where it is prepared
+abbrev pub follow_in : (a : Inside) {v : WorldView} {p : ℕ} → view_in a ≡ v → IsKeptIn a → v.prepared ≡ Some (Follow p) →
+    IsDelivery a (Follow p) ((seat_of a.seats.items p).instances.last + 1)
+follow_in a view kept is =
+    let may = prepared_in a view kept is in
+    record { may = may; due = follow_due may; room = (ready_in a view kept is).for_itself }

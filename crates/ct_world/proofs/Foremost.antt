@@ -1,5 +1,5 @@
 -- The seat of the least of the members that delivered most batches.
-use Rattle.std.proofs.Common.{◌≡◌, ℕ, ◌+◌, ◌-◌, ◌<◌, ◌≤◌, Bool, true, false, List, [], ◌∷◌, ◌++◌, length, map, get_or, take, refl, ap, sym}
+use Rattle.std.proofs.Common.{◌≡◌, ℕ, ◌+◌, ◌-◌, ◌<◌, ◌≤◌, true, false, List, [], ◌∷◌, ◌++◌, length, map, get_or, take, refl, ap, sym}
 use Rattle.std.proofs.Common.{◌∙◌, subst, arith}
 use Rattle.std.specs.Prelude.{nat_lt, if◌then◌else◌}
 use Rattle.std.proofs.lemmas.Bool.Decides.{nat_tests}
@@ -18,36 +18,18 @@ use Rattle.ct_world.specs.Kept.{Fields, IsWorld, no_seat}
 longest-push : {A : Type 0} (lists : List (List A)) (best last : List A) →
     longest best (lists ++ last ∷ []) ≡ (if nat_lt (length (longest best lists)) (length last) then last else longest best lists)
 longest-push [] best last = refl
-longest-push {A} (list ∷ lists) best last = go (nat_lt (length best) (length list)) (longest-push lists list last)
-    (longest-push lists best last)
-  where
-    go : (b : Bool) → longest list (lists ++ last ∷ []) ≡ (if nat_lt (length (longest list lists)) (length last) then last
-        else longest list lists)
-        → longest best (lists ++ last ∷ []) ≡ (if nat_lt (length (longest best lists)) (length last) then last else longest best lists)
-        → (if b then longest list (lists ++ last ∷ []) else longest best (lists ++ last ∷ []))
-        ≡ (if nat_lt (length (if b then longest list lists else longest best lists)) (length last) then last
-        else (if b then longest list lists else longest best lists))
-    go true new old = new
-    go false new old = old
+longest-push (list ∷ lists) best last = grind (arith, longest-push lists list last, longest-push lists best last)
 
 longest-one : {A : Type 0} (list : List A) → longest [] (list ∷ []) ≡ list
 longest-one [] = refl
-longest-one (x ∷ list) = let test : nat_lt 0 (length (x ∷ list)) ≡ true = grind (arith, nat_tests) in
-    ap (λ b. if b then x ∷ list else []) test
+longest-one (x ∷ list) = grind arith
 
 -- the longest of the images is the image of the longest
 longest-map : {A B : Type 0} (f : A → B) (lists : List (List A)) (best : List A) →
     longest (map f best) (map (map f) lists) ≡ map f (longest best lists)
 longest-map f [] best = refl
-longest-map {A} {B} f (list ∷ lists) best = rw (length-map best f, length-map list f)
-    (go (nat_lt (length best) (length list)) (longest-map f lists list) (longest-map f lists best))
-  where
-    go : (b : Bool) → longest (map f list) (map (map f) lists) ≡ map f (longest list lists) →
-        longest (map f best) (map (map f) lists) ≡ map f (longest best lists)
-        → (if b then longest (map f list) (map (map f) lists) else longest (map f best) (map (map f) lists))
-        ≡ map f (if b then longest list lists else longest best lists)
-    go true new old = new
-    go false new old = old
+longest-map f (list ∷ lists) best =
+    grind (arith, length-map best f, length-map list f, longest-map f lists list, longest-map f lists best)
 
 abbrev pub batches_at : List Seat → ℕ → List (List Message)
 batches_at seats i = (get_or seats i no_seat).caster.batches
@@ -131,8 +113,4 @@ module _ (w : Rehearsal) (f : Fields) (world : IsWorld w f) where
 
     pub foremost-few : length (batches_at f.seats best) ≤ MAX_CELLS
     foremost-few =
-        let same : length (batches_at f.seats best) ≡ length (order (state_of w)) =
-        ap length foremost-order ∙ length-map (order (state_of w)) (λ (b : Batch). b.messages) in
-        let few : length (order (state_of w)) ≤ w.cells = world.lawful.within.few_batches in
-        let cells : w.cells ≤ MAX_CELLS = world.fixed.few_cells in
-        omega arith
+        grind (arith, nat_tests, batches_at f.seats best, foremost-order, length-map (order (state_of w)) (λ (b : Batch). b.messages))

@@ -1,25 +1,14 @@
 -- Members and their seats.
-use Rattle.std.proofs.Common.{◌≡◌, ◌≢◌, ℕ, ◌-◌, ◌<◌, ◌≤◌, true, List, length, get_or, set, ◌∙◌, arith}
-use Rattle.std.specs.Prelude.{nat_le}
-use Rattle.std.proofs.lemmas.Bool.Decides.{nat_tests}
+use Rattle.std.proofs.Common.{◌≡◌, ◌≢◌, ℕ, ◌-◌, ◌<◌, true, List, length, get_or, set, ◌∙◌, arith}
 use Rattle.std.proofs.lemmas.List.{get_or_default, get_or-set_same, get_or-set_other}
 use Rattle.ct_names.specs.Group.{is_member}
+pub use Rattle.ct_names.proofs.Groups.{member_from_one as member_low, member_to_n as member_high}
 use Rattle.ct_world.specs.declared.seat.Seat.{Seat}
 use Rattle.ct_world.specs.Kept.{no_seat, seat_of}
-use Rattle.ct_model.proofs.Basics.Tests.{and_left, and_right}
-
-pub member_low : (n p : ℕ) → is_member n p ≡ true → 1 ≤ p
-member_low n p m = let a = and_left (nat_le 1 p) (nat_le p n) m in grind (arith, nat_tests)
-
-pub member_high : (n p : ℕ) → is_member n p ≡ true → p ≤ n
-member_high n p m = let a = and_right (nat_le 1 p) (nat_le p n) m in grind (arith, nat_tests)
 
 -- members that differ have places that differ
 pub apart : (n p q : ℕ) → is_member n p ≡ true → is_member n q ≡ true → q ≢ p → q - 1 ≢ p - 1
-apart n p q mp mq ne same =
-    let a = member_low n p mp in
-    let b = member_low n q mq in
-    ne (omega arith)
+apart n p q mp mq ne same = grind (arith, member_low n p mp, member_low n q mq)
 
 pub place : (n p : ℕ) → is_member n p ≡ true → p - 1 < n
 place n p m = let a = member_low n p m in let b = member_high n p m in omega arith

@@ -12,22 +12,14 @@ use Rattle.ct_model.specs.Cause.{cause}
 use Rattle.ct_model.specs.Rehearsal.{Rehearsal, line_of}
 use Rattle.ct_model.specs.Waiting.{has_serial}
 use Rattle.ct_model.specs.Lawful.{is_distinct}
+use Rattle.ct_model.proofs.Basics.Options.{some-same}
+use Rattle.ct_model.proofs.Basics.Tests.{and_right}
 use Rattle.ct_network.specs.Network.{line_at, place_of, put_last}
 use Rattle.ct_world.specs.Kept.{Fields, IsWorld, place_named, IsFound, IsUnless}
 use Rattle.ct_world.proofs.Waits.{lined_member}
 
-and_true_left : (a b : Bool) → (a && b) ≡ true → a ≡ true
-and_true_left true b h = refl
-and_true_left false b h = h
-
-and_true_right : (a b : Bool) → (a && b) ≡ true → b ≡ true
-and_true_right true b h = h
-and_true_right false b h = absurd (cc)
-
 step_place : (b : Bool) (l len : ℕ) (t : Bool) → nat_lt l len ≡ t → nat_lt (if (not b) then (1 + l) else 0) (suc len) ≡ (b || t)
-step_place true l len t ih = grind (arith, nat_tests)
-step_place false l len true ih = grind (arith, nat_tests)
-step_place false l len false ih = grind (arith, nat_tests)
+step_place b l len t ih = grind arith
 
 place_any : {X : Type 0} (p : X → Bool) (xs : List X) → nat_lt (position_or_len p xs) (length xs) ≡ list_any p xs
 place_any p [] = refl
@@ -35,36 +27,19 @@ place_any p (x ∷ xs) = step_place (p x) (position_or_len p xs) (length xs) (li
 
 -- a place is found where an element passes
 pub is_some-position : {X : Type 0} (p : X → Bool) (xs : List X) → is_some (position p xs) ≡ list_any p xs
-is_some-position p xs = go (nat_lt (position_or_len p xs) (length xs)) (position_or_len p xs) ∙ place_any p xs
-  where
-    go : (b : Bool) (i : ℕ) → is_some (if b then Some i else None) ≡ b
-    go true i = refl
-    go false i = refl
+is_some-position p xs = grind (arith, place_any p xs)
 
 pub position_is : {X : Type 0} (p : X → Bool) (xs : List X) → list_any p xs ≡ true → position p xs ≡ Some (position_or_len p xs)
 position_is p xs h = rw (place_any p xs, h) refl
 
 none_left : (k : ℕ) (xs : List ℕ) → has_serial k xs ≡ false → filter (λ q. not (q == k)) xs ≡ xs
 none_left k [] h = refl
-none_left k (x ∷ xs) h = go (x == k) h (none_left k xs)
-  where
-    go : (b : Bool) → (b || has_serial k xs) ≡ false → (has_serial k xs ≡ false → filter (λ q. not (q == k)) xs ≡ xs) →
-        (if (not b) then x ∷ filter (λ q. not (q == k)) xs else filter (λ q. not (q == k)) xs) ≡ x ∷ xs
-    go true h ih = absurd (cc)
-    go false h ih = ap (λ r. x ∷ r) (ih h)
+none_left k (x ∷ xs) h = grind (arith, none_left k xs)
 
 -- the first goes, and no other is like it
 same_first : (k x : ℕ) (xs : List ℕ) → true ≡ (x == k) → (not (has_serial x xs) && is_distinct xs) ≡ true →
     filter (λ q. not (q == k)) (x ∷ xs) ≡ xs
-same_first k x xs is d =
-    let e : x ≡ k = grind (arith, nat_tests) in
-    let away : not (has_serial x xs) ≡ true = and_true_left (not (has_serial x xs)) (is_distinct xs) d in
-    let gone : has_serial k xs ≡ false = subst (λ y. has_serial y xs ≡ false) e (not_true (has_serial x xs) away) in
-    rw (← is) (none_left k xs gone)
-  where
-    not_true : (b : Bool) → not b ≡ true → b ≡ false
-    not_true true h = absurd (cc)
-    not_true false h = refl
+same_first k x xs is d = grind (arith, none_left k xs)
 
 kept_first : (k x : ℕ) (xs : List ℕ) → false ≡ (x == k) → x ∷ filter (λ q. not (q == k)) xs ≡ filter (λ q. not (q == k)) (x ∷ xs)
 kept_first k x xs is = rw (← is) refl
@@ -83,7 +58,7 @@ pub record IsWithout (k : ℕ) (xs : List ℕ) (i : ℕ) : Type 0 where
 -- the place of the only k: without it, what is left is all but k
 pub without : (k : ℕ) (xs : List ℕ) → is_distinct xs ≡ true → has_serial k xs ≡ true → IsWithout k xs (position_or_len (λ q. q == k) xs)
 without k [] d h = absurd (cc)
-without k (x ∷ xs) d h = go (x == k) refl h (without k xs (and_true_right (not (has_serial x xs)) (is_distinct xs) d))
+without k (x ∷ xs) d h = go (x == k) refl h (without k xs (and_right (not (has_serial x xs)) (is_distinct xs) d))
   where
     go : (b : Bool) → b ≡ (x == k) → (b || has_serial k xs) ≡ true →
         (has_serial k xs ≡ true → IsWithout k xs (position_or_len (λ q. q == k) xs)) →
@@ -112,14 +87,11 @@ waits-placed k xs there = is_some-position (λ q. q == k) xs ∙ there
 pub stands-nowhere : (k : ℕ) (xs : List ℕ) → None ≡ place_of k xs → has_serial k xs ≡ false
 stands-nowhere k xs is = sym (is_some-position (λ q. q == k) xs) ∙ sym (ap is_some is)
 
-some_same : (x y : ℕ) → Some x ≡ Some y → x ≡ y
-some_same x y h = cc
-
 -- the line without the serial at its place
 pub placed : (k i : ℕ) (xs : List ℕ) → place_of k xs ≡ Some i → is_distinct xs ≡ true → IsWithout k xs i
 placed k i xs is d =
     let there = stands-there k xs is in
-    let e : position_or_len (λ q. q == k) xs ≡ i = some_same (position_or_len (λ q. q == k) xs) i
+    let e : position_or_len (λ q. q == k) xs ≡ i = some-same (position_or_len (λ q. q == k) xs) i
     (sym (position_is (λ q. q == k) xs there) ∙ is) in
     subst (λ j. IsWithout k xs j) e (without k xs d there)
 
@@ -135,9 +107,7 @@ module _ {w : Rehearsal} {f : Fields} (p k : ℕ) (world : IsWorld w f) (group :
   -- which the network finds
   pub found_in : (if is_member (length f.network.lines) p then place_of k (line_at f.network.lines p) else None)
       ≡ place_of k (line_of w p)
-  found_in =
-      ap (λ b. if b then place_of k (line_at f.network.lines p) else None) (lined_member p world group)
-      ∙ ap (place_of k) (world.line p group)
+  found_in = grind (arith, lined_member p world group)
 
 -- the step is allowed at the place unless a limit is passed
 pub unless-found : (w : Rehearsal) (step : Step) {fault : Option Refusal} {i : Option ℕ} (found : Result (Option ℕ) Refusal)

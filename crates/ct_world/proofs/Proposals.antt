@@ -58,10 +58,7 @@ first-number s = refl
 -- there are no more proposals than steps
 pub few-proposals : (s : Setting) (steps : List Step) (h : State) → run s steps ≡ Some h → length h.proposals ≤ length steps
 unfolding run
-few-proposals s steps h e =
-    let all = run-number s (first_state s) steps h e in
-    let none = first-number s in
-    omega arith
+few-proposals s steps h e = grind (arith, run-number s (first_state s) steps h e, first-number s)
 
 pub few-values : (w : Rehearsal) → IsLawful w → length (values_of (state_of w)) ≤ MAX_STEPS
 few-values w law =

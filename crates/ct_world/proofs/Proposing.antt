@@ -1,13 +1,12 @@
 -- Begin: why it is refused, by the seat, and the seat after it.
-use Rattle.std.proofs.Common.{◌≡◌, ℕ, zero, suc, take, ◌+◌, ◌-◌, ◌≤◌, ◌<◌, Bool, true, false, not, List, [], ◌∷◌, ◌++◌, length, set}
-use Rattle.std.proofs.Common.{refl, ap, sym, ◌∙◌}
-use Rattle.std.proofs.Common.{arith, Option, Some, None, option_map, Bor}
+use Rattle.std.proofs.Common.{◌≡◌, ℕ, zero, suc, take, ◌+◌, ◌-◌, ◌≤◌, ◌<◌, Bool, true, false, not, List, [], ◌∷◌, ◌++◌, length, set, refl}
+use Rattle.std.proofs.Common.{ap, sym, ◌∙◌, arith, Option, Some, None, option_map, Bor}
 use Rattle.std.specs.Prelude.{option_copied, nat_lt, is_some, map}
 use Rattle.std.proofs.lemmas.Bool.Decides.{nat_tests}
 use Rattle.ct_names.specs.declared.limit.TheConstants.{MAX_INSTANCES}
 use Rattle.ct_names.specs.declared.refusal.Refusal.TheVariants.{Busy, Nothing, Full}
 use Rattle.ct_names.specs.declared.limit.Limit.TheVariants.{Instances}
-use Rattle.ct_names.specs.Value.{Value, minus, ordered}
+use Rattle.ct_names.specs.Value.{Value}
 use Rattle.ct_model.specs.declared.step.Step.TheVariants.{Begin}
 use Rattle.ct_model.specs.Received.{received}
 use Rattle.ct_model.specs.State.{Member, member, joined as model_joined}
@@ -38,8 +37,7 @@ use Rattle.ct_world.proofs.Posts.{stepped-quiet}
 use Rattle.ct_world.proofs.Refines.{refined}
 
 some-mapped : {A B : Type 0} (f : A → B) (o : Option A) → is_some (option_map f o) ≡ is_some o
-some-mapped f None = refl
-some-mapped f (Some x) = refl
+some-mapped f o = grind arith
 
 -- what a call that gives a reference found
 pub copied-some : {A : Type 0} (r : Option (Bor A)) (o : Option A) → option_copied r ≡ o → is_some o ≡ is_some r
@@ -64,9 +62,7 @@ delivered-same {m = m} k = ap joined k.batches ∙ joined-mapped m.batches
 undelivered-same : {n p : ℕ} {values : List Value} {m : Member} {seat : Seat} → Keeps n values p m seat →
     cast_undelivered seat.caster ≡ undelivered m
 unfolding undelivered
-undelivered-same {m = m} {seat = seat} k =
-    ap (λ list. ordered (minus list (joined seat.caster.batches))) k.received
-    ∙ ap (λ list. ordered (minus (received m.got) list)) (delivered-same k)
+undelivered-same {m = m} {seat = seat} k = grind (arith, delivered-same k)
 
 proposed-same : (s : Setting) {n p : ℕ} {values : List Value} {m : Member} {seat : Seat} → Keeps n values p m seat →
     take s.bound (cast_undelivered seat.caster) ≡ proposed s m
@@ -85,10 +81,7 @@ empty-length (x ∷ xs) = let some : nat_lt 0 (length (x ∷ xs)) ≡ true = gri
 module _ {w : Rehearsal} {p : ℕ} {seat : Seat} (a : IsActor w p seat) where
   tests-by : (b c : Bool) → is_some (member (state_of w) p).current ≡ b → is_empty (proposed w.setting (member (state_of w) p)) ≡ c →
       first_fault (own_tests w (Begin p)) ≡ first_fault (at Busy b ∷ at Nothing c ∷ [])
-  tests-by b c e f =
-      ap first_fault (own_tests-is w (Begin p))
-      ∙ ap (λ b. first_fault (at Busy b ∷ at Nothing (is_empty (proposed w.setting (member (state_of w) p))) ∷ [])) e
-      ∙ ap (λ c. first_fault (at Busy b ∷ at Nothing c ∷ [])) f
+  tests-by b c e f = grind (arith, own_tests-is w (Begin p))
 
   open_is : is_some seat.instances.part ≡ is_some (member (state_of w) p).current
   open_is = open-same a.sits.keeps
@@ -112,10 +105,7 @@ module _ {w : Rehearsal} {p : ℕ} {seat : Seat} (a : IsActor w p seat) where
 
   pub begin_full : is_some seat.instances.part ≡ false → nat_lt 0 (length (cast_undelivered seat.caster)) ≡ true →
       MAX_INSTANCES ≤ seat.instances.last → cause w (Begin p) ≡ Some (Full Instances)
-  begin_full e f many =
-      let last : seat.instances.last ≡ (member (state_of w) p).last = a.sits.keeps.instances.last in
-      let t : nat_lt MAX_INSTANCES ((member (state_of w) p).last + 1) ≡ true = grind (arith, nat_tests) in
-      cause-begin w p a.lawful a.present (tested e f) ∙ ap (λ b. or_else (first_fault (at (Full Instances) b ∷ [])) (overflow w 0)) t
+  begin_full e f many = grind (arith, cause-begin w p a.lawful a.present (tested e f), tested e f)
 
   pub begin_free : is_some seat.instances.part ≡ false → nat_lt 0 (length (cast_undelivered seat.caster)) ≡ true →
       seat.instances.last < MAX_INSTANCES → cause w (Begin p) ≡ overflow w 0
@@ -142,8 +132,7 @@ begun_keeps s {n} {p} {values} {m} {seat} k = record {
 }
 
 pub nothing-some : {A : Type 0} (o : Option A) → is_some o ≡ false → o ≡ None
-nothing-some None e = refl
-nothing-some (Some x) e = absurd (cc)
+nothing-some o e = grind arith
 
 module _ {w : Rehearsal} {p : ℕ} {f : Fields} (may : IsAllowed w (Begin p) f) where
   step : IsBeginStep w p
@@ -191,7 +180,4 @@ begin_room w seats p seat {v} {new} within set_is value entry room =
     }
 
 pub begin_number : {w : Rehearsal} {f : Fields} → IsWorld w f → length f.book.values < 4294967295
-begin_number {w} world =
-    let few = few-values w world.lawful in
-    let same = ap length world.values in
-    omega arith
+begin_number {w} world = grind (arith, few-values w world.lawful)

@@ -1,10 +1,9 @@
 -- A member that got a wire: what is kept of it afterwards, and whether it passes the wire on.
 use Rattle.std.proofs.Common.{◌≡◌, ℕ, Bool, true, false, not, List, [], ◌∷◌, ◌++◌, refl, ap, sym, ◌∙◌, subst, arith, Some, None}
-use Rattle.std.specs.Prelude.{◌&&◌, ◌||◌, ◌==◌, if◌then◌else◌}
+use Rattle.std.specs.Prelude.{◌&&◌, ◌||◌, ◌==◌}
 use Rattle.std.specs.List.{list_any}
 use Rattle.std.proofs.lemmas.Bool.Decides.{nat_tests}
 use Rattle.std.proofs.lemmas.List.Folds.{list_any-append}
-use Rattle.ct_names.specs.Group.{coordinator}
 use Rattle.ct_names.specs.Membership.{IsIn}
 use Rattle.ct_names.specs.Message.{Message}
 use Rattle.ct_names.specs.Value.{Value, has}
@@ -15,7 +14,7 @@ use Rattle.ct_model.specs.declared.wire.Wire.{Wire as AnyWire}
 use Rattle.ct_model.specs.declared.wire.Wire.TheVariants.{Data, Est, Prop, Ack, Nack, Dec}
 use Rattle.ct_model.specs.Setting.{Setting}
 use Rattle.ct_model.specs.State.{State, Member, member}
-use Rattle.ct_model.specs.Received.{received, is_decision, has_decision, message_of}
+use Rattle.ct_model.specs.Received.{received, is_decision, message_of}
 use Rattle.ct_model.specs.Counted.{NamesSomebody}
 use Rattle.ct_model.specs.Knowledge.{KnowsMessages}
 use Rattle.ct_model.specs.Mapped.{wire_map}
@@ -24,6 +23,7 @@ use Rattle.ct_model.proofs.Relay.Messages.{received-by}
 use Rattle.ct_model.proofs.Consensus.Readings.{received-got, got-received}
 use Rattle.ct_model.proofs.Relay.Receipts.{received-push}
 use Rattle.ct_model.proofs.Basics.Tests.{and_left, and_right, same_number}
+use Rattle.ct_relay.proofs.Receipts.{same-is_id}
 use Rattle.ct_relay.specs.Taken.{is_id, is_first, with_id}
 use Rattle.ct_relay.specs.declared.relay_id.RelayId.{RelayId}
 use Rattle.ct_relay.specs.declared.relay_id.RelayId.TheVariants as id
@@ -36,9 +36,6 @@ use Rattle.ct_world.specs.Seats.{has_name, was_got, Keeps, HasReceived, ids_with
 -- a message of this origin and number was got exactly where the message itself was received, if no other such was
 module _ (got : List Wire) (m : Message) (only : (x : Message) → has (received got) x ≡ true → x.origin ≡ m.origin → x.number ≡ m.number →
     x ≡ m) where
-  named : RelayId
-  named = id.Data m.origin m.number
-
   name_of_one : (w : Wire) → IsIn w got → has_name (id.Data m.origin m.number) w ≡ true → IsIn m (received got)
   name_of_one (Data x) there e =
       let heard : IsIn x (received got) = got-received got x there in
@@ -46,11 +43,7 @@ module _ (got : List Wire) (m : Message) (only : (x : Message) → has (received
       (same_number x.origin m.origin (and_left (x.origin == m.origin) (x.number == m.number) e))
       (same_number x.number m.number (and_right (x.origin == m.origin) (x.number == m.number) e)) in
       subst (λ y. IsIn y (received got)) same heard
-  name_of_one (Est k r p v t) there e = absurd (cc)
-  name_of_one (Prop k r v) there e = absurd (cc)
-  name_of_one (Ack k r p) there e = absurd (cc)
-  name_of_one (Nack k r p) there e = absurd (cc)
-  name_of_one (Dec k r v) there e = absurd (cc)
+  name_of_one _ there e = absurd (cc)
 
   self_name : has_name {V = Value} (id.Data m.origin m.number) (Data m) ≡ true
   self_name = grind (arith, nat_tests)
@@ -64,12 +57,7 @@ module _ (got : List Wire) (m : Message) (only : (x : Message) → has (received
   to_name e = list_any-found (has_name (id.Data m.origin m.number)) (Data m) got (received-got got m (in-has (received got) m e)) self_name
 
   pub got_by_name : was_got got (id.Data m.origin m.number) ≡ has (received got) m
-  got_by_name = same_tests (was_got got (id.Data m.origin m.number)) (has (received got) m) from_name to_name
-    where
-      same_tests : (a b : Bool) → (a ≡ true → b ≡ true) → (b ≡ true → a ≡ true) → a ≡ b
-      same_tests true b f g = sym (f refl)
-      same_tests false true f g = g refl
-      same_tests false false f g = refl
+  got_by_name = grind (arith, from_name, to_name)
 
 -- what is known of messages gives that
 pub known_name : (s : Setting) (g : State) (p : ℕ) (m : Message) → KnowsMessages s g → has g.submitted m ≡ true →
@@ -80,49 +68,16 @@ known_name s g p m k submitted = got_by_name (member g p).got m
 -- the names taken
 
 de_morgan : (a b : Bool) → not (a || (b || false)) ≡ (not a && not b)
-de_morgan true b = refl
-de_morgan false true = refl
-de_morgan false false = refl
+de_morgan a b = grind arith
 
 first-push : (ids : List RelayId) (name other : RelayId) → is_first (ids ++ name ∷ []) other
     ≡ (is_first ids other && not (is_id other name))
 first-push ids name other = ap not (list_any-append (is_id other) ids (name ∷ []))
     ∙ de_morgan (list_any (is_id other) ids) (is_id other name)
 
--- names that are alike have the same place
-alike : (name other : RelayId) → is_id other name ≡ true → other ≡ name
-alike (id.Data o n) (id.Data x y) e =
-    let a = same_number x o (and_left (x == o) (y == n) e) in
-    let b = same_number y n (and_right (x == o) (y == n) e) in
-    ap (λ z. id.Data z y) a ∙ ap (id.Data o) b
-alike (id.Data o n) (id.Dec x y) e = absurd (cc)
-alike (id.Dec o n) (id.Data x y) e = absurd (cc)
-alike (id.Dec o n) (id.Dec x y) e =
-    let a = same_number x o (and_left (x == o) (y == n) e) in
-    let b = same_number y n (and_right (x == o) (y == n) e) in
-    ap (λ z. id.Dec z y) a ∙ ap (id.Dec o) b
-
 first-with : (ids : List RelayId) (name other : RelayId) → is_first (with_id ids name) other
     ≡ (is_first ids other && not (is_id other name))
-first-with ids name other = go (is_first ids name) refl (is_id other name) refl
-  where
-    and_nothing : (b : Bool) → (b && false) ≡ false
-    and_nothing true = refl
-    and_nothing false = refl
-
-    and_all : (b : Bool) → (b && true) ≡ b
-    and_all true = refl
-    and_all false = refl
-
-    go : (b : Bool) → is_first ids name ≡ b → (t : Bool) → is_id other name ≡ t →
-        is_first (if is_first ids name then (ids ++ name ∷ []) else ids) other ≡ (is_first ids other && not (is_id other name))
-    go true e t f = ap (λ c. is_first (if c then (ids ++ name ∷ []) else ids) other) e ∙ first-push ids name other
-    go false e true f =
-        ap (λ c. is_first (if c then (ids ++ name ∷ []) else ids) other) e
-        ∙ ap (is_first ids) (alike name other f) ∙ e ∙ sym (ap (λ c. is_first ids other && not c) f ∙ and_nothing (is_first ids other))
-    go false e false f =
-        ap (λ c. is_first (if c then (ids ++ name ∷ []) else ids) other) e
-        ∙ sym (ap (λ c. is_first ids other && not c) f ∙ and_all (is_first ids other))
+first-with ids name other = grind (arith, first-push ids name other, same-is_id other name)
 
 both_swapped : (a b c d : ℕ) → ((a == b) && (c == d)) ≡ ((b == a) && (d == c))
 both_swapped a b c d = grind (arith, nat_tests)
@@ -135,11 +90,7 @@ no_name (id.Dec k r) x dec data_ = dec k r
 
 still : (ids : List RelayId) (x : AnyWire ℕ) (other : RelayId) → has_name other x ≡ false →
     is_first ids other ≡ (is_first ids other && not (has_name other x))
-still ids x other e = all (is_first ids other) ∙ ap (λ b. is_first ids other && not b) (sym e)
-  where
-    all : (b : Bool) → b ≡ (b && true)
-    all true = refl
-    all false = refl
+still ids x other e = grind arith
 
 -- the names taken after a receipt
 first-received : (ids : List RelayId) (x : AnyWire ℕ) (other : RelayId) →
@@ -148,8 +99,7 @@ first-received ids (Data m) (id.Data o n) = first-with ids (id.Data m.origin m.n
     ∙ ap (λ b. is_first ids (id.Data o n) && not b) (both_swapped o m.origin n m.number)
 first-received ids (Data m) (id.Dec k r) = first-with ids (id.Data m.origin m.number) (id.Dec k r)
 first-received ids (Dec k r v) (id.Data o n) = first-with ids (id.Dec k r) (id.Data o n)
-first-received ids (Dec k r v) (id.Dec j q) = first-with ids (id.Dec k r) (id.Dec j q)
-    ∙ ap (λ b. is_first ids (id.Dec j q) && not b) (both_swapped j k q r)
+first-received ids (Dec k r v) (id.Dec j q) = grind (arith, first-with ids (id.Dec k r) (id.Dec j q), both_swapped j k q r)
 first-received ids (Est k r p v t) other = still ids (Est k r p v t) other (no_name other (Est k r p v t) (λ k r. refl) (λ o n. refl))
 first-received ids (Prop k r v) other = still ids (Prop k r v) other (no_name other (Prop k r v) (λ k r. refl) (λ o n. refl))
 first-received ids (Ack k r p) other = still ids (Ack k r p) other (no_name other (Ack k r p) (λ k r. refl) (λ o n. refl))
@@ -162,11 +112,7 @@ same_name values (id.Data o n) x w e = sym (name_mapped (value_at values) o n x)
   where
     name_mapped : {V U : Type 0} (f : V → U) (o n : ℕ) (w : AnyWire V) → has_name (id.Data o n) (wire_map f w) ≡ has_name (id.Data o n) w
     name_mapped f o n (Data m) = refl
-    name_mapped f o n (Est k r p v t) = refl
-    name_mapped f o n (Prop k r v) = refl
-    name_mapped f o n (Ack k r p) = refl
-    name_mapped f o n (Nack k r p) = refl
-    name_mapped f o n (Dec k r v) = refl
+    name_mapped f o n _ = refl
 
 -- a wire of a round is passed on by nobody
 abbrev of_round : {V : Type 0} → AnyWire V → Bool
@@ -179,20 +125,13 @@ of_round-named values x w e = sym (of_round-mapped (value_at values) x) ∙ ap o
   where
     of_round-mapped : {V U : Type 0} (f : V → U) (w : AnyWire V) → of_round (wire_map f w) ≡ of_round w
     of_round-mapped f (Data m) = refl
-    of_round-mapped f (Est k r p v t) = refl
-    of_round-mapped f (Prop k r v) = refl
-    of_round-mapped f (Ack k r p) = refl
-    of_round-mapped f (Nack k r p) = refl
-    of_round-mapped f (Dec k r v) = refl
+    of_round-mapped f _ = refl
 
 kept_back : (s : Setting) (p : ℕ) (got : List Wire) (w : Wire) → true ≡ of_round w → is_relayed s p got w ≡ false
 unfolding is_relayed
 kept_back s p got (Data m) e = absurd (cc)
-kept_back s p got (Est k r q v t) e = refl
-kept_back s p got (Prop k r v) e = refl
-kept_back s p got (Ack k r q) e = refl
-kept_back s p got (Nack k r q) e = refl
 kept_back s p got (Dec k r v) e = absurd (cc)
+kept_back s p got _ e = refl
 
 -- what is known of a message that the wire carries
 abbrev pub IsKnown : List Wire → Wire → Type 0
@@ -200,32 +139,13 @@ IsKnown got (Data m) = was_got got (id.Data m.origin m.number) ≡ has (received
 IsKnown got _ = Unit {0}
 
 module _ {n p : ℕ} {values : List Value} {m : Member} {seat : Seat} (k : Keeps n values p m seat) where
-  first_is : (msg : Message) → IsKnown m.got (Data msg) → is_first seat.relay.ids (id.Data msg.origin msg.number)
-      ≡ not (has (received m.got) msg)
-  first_is msg known = k.taken (id.Data msg.origin msg.number) ∙ ap not known
-
   received_silent : (w : Wire) → message_of w ≡ None → received (m.got ++ w ∷ []) ≡ received m.got
   received_silent (Data msg) e = absurd (cc)
-  received_silent (Est j r q v t) e = received-push m.got (Est j r q v t)
-  received_silent (Prop j r v) e = received-push m.got (Prop j r v)
-  received_silent (Ack j r q) e = received-push m.got (Ack j r q)
-  received_silent (Nack j r q) e = received-push m.got (Nack j r q)
-  received_silent (Dec j r v) e = received-push m.got (Dec j r v)
+  received_silent x e = received-push m.got x
 
   received_push : (x : AnyWire ℕ) (w : Wire) → NamesWire values x w → IsKnown m.got w →
       received_with seat.relay.ids seat.caster.received x ≡ received (m.got ++ w ∷ [])
-  received_push (Data msg) w e known =
-      let is : w ≡ Data msg = named_data values msg w e in
-      subst (λ y. received_with seat.relay.ids seat.caster.received (Data msg) ≡ received (m.got ++ y ∷ [])) (sym is)
-      (ap (λ b. if b then (seat.caster.received ++ msg ∷ []) else seat.caster.received)
-      (first_is msg (subst (λ y. IsKnown m.got y) is known))
-      ∙ ap (λ list. if not (has (received m.got) msg) then (list ++ msg ∷ []) else list) k.received
-      ∙ turned_test (has (received m.got) msg) (received m.got) (received m.got ++ msg ∷ [])
-      ∙ sym (received-push m.got (Data msg)))
-    where
-      turned_test : (b : Bool) (old new : List Message) → (if not b then new else old) ≡ (if b then old else new)
-      turned_test true old new = refl
-      turned_test false old new = refl
+  received_push (Data msg) w e known = grind (arith, named_data values msg w e, received-push m.got (Data msg))
   received_push (Est j r q v t) w e known = k.received ∙ sym (received_silent w (sym (named_message values (Est j r q v t) w e)))
   received_push (Prop j r v) w e known = k.received ∙ sym (received_silent w (sym (named_message values (Prop j r v) w e)))
   received_push (Ack j r q) w e known = k.received ∙ sym (received_silent w (sym (named_message values (Ack j r q) w e)))
@@ -254,28 +174,10 @@ module _ {n p : ℕ} {values : List Value} {m : Member} {seat : Seat} (k : Keeps
   pub passes : (s : Setting) (x : AnyWire ℕ) (w : Wire) → s.members ≡ n → NamesWire values x w → IsKnown m.got w →
       is_passed_on n seat.relay x ≡ is_relayed s p m.got w
   unfolding is_relayed
-  passes s (Data msg) w same e known =
-      let is : w ≡ Data msg = named_data values msg w e in
-      subst (λ y. is_passed_on n seat.relay (Data msg) ≡ is_relayed s p m.got y) (sym is)
-      (ap (λ b. b && not (msg.origin == seat.relay.me)) (first_is msg (subst (λ y. IsKnown m.got y) is known))
-      ∙ ap (λ q. not (has (received m.got) msg) && not (msg.origin == q)) k.me)
+  passes s (Data msg) w same e known = grind (arith, named_data values msg w e)
   passes s (Dec j r v) w same e known = other w e
     where
       other : (w : Wire) → NamesWire values (Dec j r v) w → is_passed_on n seat.relay (Dec j r v) ≡ is_relayed s p m.got w
-      other (Dec i q u) f =
-          let a : j ≡ i = cc in
-          let b : r ≡ q = cc in
-          ap (λ z. z && not (coordinator n r == seat.relay.me)) (k.taken (id.Dec j r))
-          ∙ ap (λ z. not (has_decision m.got j r) && not (coordinator n r == z)) k.me
-          ∙ ap (λ z. not (has_decision m.got j r) && not (coordinator z r == p)) (sym same)
-          ∙ ap (λ z. not (has_decision m.got z r) && not (coordinator s.members r == p)) a
-          ∙ ap (λ z. not (has_decision m.got i z) && not (coordinator s.members z == p)) b
-      other (Data msg) f = absurd (cc)
-      other (Est i q z u t) f = absurd (cc)
-      other (Prop i q u) f = absurd (cc)
-      other (Ack i q z) f = absurd (cc)
-      other (Nack i q z) f = absurd (cc)
-  passes s (Est j r q v t) w same e known = sym (kept_back s p m.got w (of_round-named values (Est j r q v t) w e))
-  passes s (Prop j r v) w same e known = sym (kept_back s p m.got w (of_round-named values (Prop j r v) w e))
-  passes s (Ack j r q) w same e known = sym (kept_back s p m.got w (of_round-named values (Ack j r q) w e))
-  passes s (Nack j r q) w same e known = sym (kept_back s p m.got w (of_round-named values (Nack j r q) w e))
+      other (Dec i q u) f = grind arith
+      other _ f = absurd (cc)
+  passes s x w same e known = sym (kept_back s p m.got w (of_round-named values x w e))

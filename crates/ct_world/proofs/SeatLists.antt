@@ -1,5 +1,5 @@
 -- Lists of seats that are made one by one.
-use Rattle.std.proofs.Common.{◌≡◌, ℕ, ◌+◌, ◌<◌, ◌≤◌, List, [], ◌∷◌, ◌++◌, length, map, get_or, take, refl, ap, sym, ◌∙◌, subst, arith, inl}
+use Rattle.std.proofs.Common.{◌≡◌, ℕ, ◌+◌, ◌<◌, ◌≤◌, List, [], ◌∷◌, ◌++◌, length, get_or, take, refl, ap, sym, ◌∙◌, subst, arith, inl}
 use Rattle.std.proofs.Common.{inr, length-append}
 use Rattle.std.proofs.lemmas.Bool.{cases_lt}
 use Rattle.std.proofs.lemmas.List.{length-map, map-append, get_or_append_left, get_or_push, take_more, take_all}
@@ -36,10 +36,7 @@ same-none = refl
 pub same-more : (old new : List Seat) (i : ℕ) (s t : Seat) → AreSameSeats (take i old) new → i < length old → s ≡ get_or old i s
     → content t ≡ content s → AreSameSeats (take (i + 1) old) (new ++ t ∷ [])
 same-more old new i s t a within is same =
-    map-append content new (t ∷ [])
-    ∙ (λ j. a j ++ same j ∷ [])
-    ∙ sym (map-append content (take i old) (s ∷ []))
-    ∙ ap (map content) (ap (λ x. take i old ++ x ∷ []) is ∙ sym (take_more old i s within))
+    grind (arith, map-append content new (t ∷ []), map-append content (take i old) (s ∷ []), take_more old i s within)
 
 pub same-all : (old new : List Seat) (i : ℕ) → length old ≤ i → AreSameSeats (take i old) new → AreSameSeats old new
 same-all old new i all a = subst (λ xs. AreSameSeats xs new) (take_all i old all) a

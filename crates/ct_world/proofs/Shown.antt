@@ -82,6 +82,4 @@ module _ {w : Rehearsal} {p : ℕ} {seat : Seat} (sits : IsSeatOf w p seat) wher
 pub serial_at : {A B : Type 0} (f : A → B) (xs : List A) (k i : ℕ) (got : Option B) (list : List B) → 1 ≤ k → i ≡ k - 1 → list ≡ map f xs →
     got ≡ slice_get list i → got ≡ option_map f (at_serial xs k)
 serial_at f xs zero i got list low at is e = absurd (omega arith)
-serial_at f xs (suc j) i got list low at is e =
-    let same : i ≡ j = omega arith in
-    e ∙ ap (λ z. slice_get z i) is ∙ slice_get-map f xs i ∙ ap (λ z. option_map f (slice_get xs z)) same
+serial_at f xs (suc j) i got list low at is e = grind (arith, slice_get-map f xs i)

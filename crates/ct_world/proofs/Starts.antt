@@ -1,5 +1,5 @@
 -- A world without steps.
-use Rattle.std.proofs.Common.{◌≡◌, ℕ, ◌+◌, ◌-◌, true, List, [], length, replicate, refl, ap, sym, ◌∙◌, subst, arith}
+use Rattle.std.proofs.Common.{◌≡◌, ℕ, ◌-◌, true, List, [], length, replicate, refl, ap, sym, ◌∙◌, arith}
 use Rattle.std.proofs.lemmas.List.{length-replicate, get_or-replicate}
 use Rattle.ct_names.specs.Group.{is_member}
 use Rattle.ct_names.specs.Value.{Value}
@@ -12,7 +12,7 @@ use Rattle.ct_instances.proofs.Keeping.{keeps-new}
 use Rattle.ct_world.specs.declared.seat.Seat.{Seat}
 use Rattle.ct_world.specs.Seats.{Keeps, Content, content, new_seat, AreNewSeats}
 use Rattle.ct_world.proofs.Rooms.{keeps-roomier}
-use Rattle.ct_world.specs.Kept.{Fields, IsFixed, IsWorld, values_of, no_seat, seat_of}
+use Rattle.ct_world.specs.Kept.{Fields, IsFixed, IsWorld, values_of, seat_of}
 use Rattle.ct_world.proofs.Members.{member_low, place}
 
 received-none : received {V = Value} [] ≡ []
@@ -38,10 +38,7 @@ new_keeps n values p seat h = keeps-roomier (new_seat n p) h (record {
 
 module _ (s : Setting) (cells : ℕ) (f : Fields) (new : AreNewSeats s.members s.members f.seats) where
   seat_new : (p : ℕ) → is_member s.members p ≡ true → content (seat_of f.seats p) ≡ content (new_seat s.members p)
-  seat_new p group =
-      let low = member_low s.members p group in
-      let at : p - 1 + 1 ≡ p = omega arith in
-      subst (λ q. content (seat_of f.seats p) ≡ content (new_seat s.members q)) at (new.each (p - 1) no_seat (place s.members p group))
+  seat_new p group = grind (arith, member_low s.members p group, place s.members p group)
 
   -- nothing sent, nothing proposed and new seats are the world of a record without steps
   pub world-empty : IsFixed s cells → f.network.sent ≡ [] → f.network.lines ≡ replicate s.members [] → f.book.values ≡ [] →

@@ -17,12 +17,9 @@ use Rattle.ct_model.specs.State.{submissions}
 use Rattle.ct_model.specs.Next.{next_message}
 use Rattle.ct_model.specs.Rehearsal.{Rehearsal, state_of, extended}
 use Rattle.ct_model.proofs.Record.Frame.{length-after-sent, submissions-next}
-use Rattle.ct_model.proofs.Basics.Options.{some-same}
 use Rattle.ct_model.proofs.Basics.Serials.{length-all}
 use Rattle.ct_model.proofs.Steps.Submit.{submit_outcome, submit_outcome-is, submit_taken}
 use Rattle.ct_model.proofs.Basics.Tests.{self_number}
-use Rattle.ct_model.specs.Mapped.{wire_map}
-use Rattle.ct_network.proofs.Posts.{length-envelopes-map}
 use Rattle.ct_model.proofs.Record.Taken.{IsTaken}
 use Rattle.ct_instances.specs.Named.{NamesMail}
 use Rattle.ct_instances.proofs.Named.{named_length}
@@ -35,27 +32,14 @@ use Rattle.ct_world.proofs.Refines.{refined, seat-kept}
 pub next_made : (r : Option Message) (m : Message) (p k : ℕ) (c : Command) (list : List Message) →
     r ≡ (if is_good c then Some (record { origin = p; number = k + 1; command = c }) else None) → is_good c ≡ true → r ≡ Some m →
     k ≡ submissions list p → m ≡ next_message list p c
-next_made r m p k c list made good is count =
-    let n : k + 1 ≡ 1 + submissions list p = omega arith in
-    some-same m (next_message list p c) (sym is ∙ made ∙ ap (λ b. if b then Some (record { origin = p; number = k + 1; command = c })
-    else None) good ∙ ap (λ i. Some (record { origin = p; number = i; command = c })) n)
+next_made r m p k c list made good is count = grind arith
 
 pub good_made : (r : Option Message) (m : Message) (c : Command) → r ≡ (if is_good c then Some m else None) → is_good c ≡ true → IsSome r
 good_made r m c made good = subst (λ x. IsSome x) (sym (made ∙ ap (λ b. if b then Some m else None) good)) refl
 
 one_more : (w : Rehearsal) (p : ℕ) (c : Command) (k : ℕ) → k ≡ submissions (state_of w).submitted p →
     k + 1 ≡ submissions (state_of w).submitted p + submissions (next_message (state_of w).submitted p c ∷ []) p
-one_more w p c k count =
-    let one : submissions (next_message (state_of w).submitted p c ∷ []) p ≡ 1 =
-    submissions-next (state_of w).submitted p p c ∙ ap (λ b. if b then 1 else 0) (self_number p) in
-    omega arith
-
-no_value : Value
-no_value = []
-
--- each member gets one envelope
-number-all : (n : ℕ) (x : AnyWire ℕ) → length (envelopes n (All x)) ≡ n
-number-all n x = sym (length-envelopes-map (λ id. no_value) n (All x)) ∙ length-all n (wire_map (λ id. no_value) x)
+one_more w p c k count = grind (arith, submissions-next (state_of w).submitted p p c, self_number p)
 
 module _ {w : Rehearsal} {p : ℕ} {c : Command} {f : Fields} (may : IsAllowed w (Submit p c) f) where
   pub submitted_taken : IsTaken w (Submit p c) (submit_outcome w p c)
@@ -64,8 +48,8 @@ module _ {w : Rehearsal} {p : ℕ} {c : Command} {f : Fields} (may : IsAllowed w
   -- as many envelopes are sent as there are members
   pub submit_mail : (x : AnyWire ℕ) → length (envelopes w.setting.members (submit_outcome w p c).mail)
       ≡ length (envelopes (length f.network.lines) (All x))
-  submit_mail x = rw (submit_outcome-is w p c) (length-all w.setting.members (Data (next_message (state_of w).submitted p c)))
-      ∙ sym (number-all (length f.network.lines) x ∙ may.world.lined)
+  submit_mail x = rw (submit_outcome-is w p c) (length-all (Data (next_message (state_of w).submitted p c)) w.setting.members)
+      ∙ sym (length-all x (length f.network.lines) ∙ may.world.lined)
 
   -- the mail fits
   pub submit_few : (x : AnyWire ℕ) → length f.network.sent + length (envelopes (length f.network.lines) (All x)) ≤ MAX_ENVELOPES

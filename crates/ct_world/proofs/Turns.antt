@@ -1,8 +1,6 @@
 -- The five steps of a round: what the instances of the member and the network did is the step.
 use Rattle.std.proofs.Common.{◌≡◌, ℕ, ◌+◌, ◌-◌, ◌<◌, ◌≤◌, true, List, length, set, refl, ap, sym, ◌∙◌, subst, append-nil, arith, Option}
 use Rattle.std.proofs.Common.{Some}
-use Rattle.std.specs.Prelude.{nat_le}
-use Rattle.std.proofs.lemmas.Bool.Decides.{nat_tests}
 use Rattle.ct_names.specs.declared.limit.TheConstants.{MAX_ENVELOPES}
 use Rattle.ct_names.specs.Group.{is_member, IsMember}
 use Rattle.ct_names.specs.Value.{Value}
@@ -19,7 +17,6 @@ use Rattle.ct_model.proofs.Record.Frame.{length-after-sent}
 use Rattle.ct_model.proofs.Record.Allowed.{names-free}
 use Rattle.ct_model.proofs.Record.Limits.{taken_of}
 use Rattle.ct_model.proofs.Record.Taken.{IsTaken}
-use Rattle.ct_model.proofs.Basics.Tests.{and_both}
 use Rattle.ct_network.specs.Network.{IsAddressed}
 use Rattle.ct_instances.specs.Kept.{Kept}
 use Rattle.ct_instances.specs.Keeping.{KeepsInstances}
@@ -60,20 +57,16 @@ turned_at {w} {step} by {f} {kept} {mail} may is t =
     }
 
 group_member : (n p : ℕ) → IsMember n p → is_member n p ≡ true
-group_member n p h =
-    let low : nat_le 1 p ≡ true = (let a = h.0 in grind (arith, nat_tests)) in
-    let high : nat_le p n ≡ true = (let a = h.1 in grind (arith, nat_tests)) in
-    and_both (nat_le 1 p) (nat_le p n) low high
+group_member n p h = grind arith
 
 -- mail goes to members where the mail with the values themselves does
 named_addressed : (values : List Value) (n : ℕ) (x : AnyMail ℕ) (mail : Mail) → NamesMail values x mail →
     ((to : ℕ) (w : Wire) → mail ≡ One to w → IsMember n to) → IsAddressed n x
 named_addressed values n Nobody mail h to_member = tt
-named_addressed values n (One to x) Nobody h to_member = absurd (cc)
 named_addressed values n (One to x) (One q w) h to_member =
     let same : to ≡ q = cc in
     ap (is_member n) same ∙ group_member n q (to_member q w refl)
-named_addressed values n (One to x) (All w) h to_member = absurd (cc)
+named_addressed values n (One to x) _ h to_member = absurd (cc)
 named_addressed values n (All x) mail h to_member = tt
 
 module _ {w : Rehearsal} {step : Step} {f : Fields} {kept : Kept} {mail : AnyMail ℕ} (may : IsAllowed w step f)

@@ -1,15 +1,14 @@
 -- What waits at a member: its envelope, in the record and in the network.
-use Rattle.std.proofs.Common.{◌≡◌, ℕ, zero, suc, ◌-◌, ◌≤◌, Bool, true, false, refl, List, [], ◌∷◌, length, slice_get, Some, None}
-use Rattle.std.proofs.Common.{option_map, ap, sym, ◌∙◌}
+use Rattle.std.proofs.Common.{◌≡◌, ℕ, zero, suc, ◌-◌, ◌≤◌, true, false, List, [], ◌∷◌, length, slice_get, Some, option_map, ap, sym, ◌∙◌}
 use Rattle.std.proofs.Common.{subst, arith, inl, inr}
-use Rattle.std.specs.Prelude.{◌==◌, Option, is_some, option_and_then}
+use Rattle.std.specs.Prelude.{◌==◌, Option, is_some}
 use Rattle.std.specs.Option.{option_map_or}
 use Rattle.std.proofs.lemmas.Option.{slice_get-map}
 use Rattle.ct_names.specs.Group.{is_member}
 use Rattle.ct_names.specs.Membership.{IsIn}
 use Rattle.ct_model.specs.AtValue.{Wire, Envelope}
 use Rattle.ct_model.specs.declared.envelope.Envelope.{Envelope as AnyEnvelope}
-use Rattle.ct_model.specs.declared.wire.Wire.TheVariants.{Data, Est, Prop, Ack, Nack, Dec}
+use Rattle.ct_model.specs.declared.wire.Wire.TheVariants.{Data}
 use Rattle.ct_model.specs.Counted.{NamesSomebody}
 use Rattle.ct_model.specs.Knowledge.{KnowsMessages, CarriesOne}
 use Rattle.ct_model.specs.Lawful.{IsLetter, is_waiting}
@@ -27,9 +26,7 @@ use Rattle.ct_model.proofs.Record.Addressees.{sender_named}
 use Rattle.ct_world.proofs.Insides.{IsKeptIn, view_in, fields_in}
 use Rattle.ct_world.proofs.Receipts.{IsKnown, known_name}
 use Rattle.ct_world.proofs.Shown.{without_value_at}
-use Rattle.ct_model.specs.Mapped.{without_value}
-use Rattle.ct_model.specs.Next.{wire_to, addressed}
-use Rattle.ct_model.specs.When.{when}
+use Rattle.ct_model.specs.Next.{wire_to}
 
 -- the member's line
 pub lined_member : {w : Rehearsal} {f : Fields} (p : ℕ) → IsWorld w f → is_member w.setting.members p ≡ true →
@@ -54,11 +51,7 @@ wire_sent g i e there = found (wires g) i e.wire (slice_get-map (λ (z : Envelop
 -- a message that it carries was submitted
 known_wire : (s : Setting) (g : State) (p : ℕ) (w : Wire) → KnowsMessages s g → CarriesOne g.submitted w → IsKnown (member g p).got w
 known_wire s g p (Data m) k submitted = known_name s g p m k submitted
-known_wire s g p (Est i r q v t) k submitted = tt
-known_wire s g p (Prop i r v) k submitted = tt
-known_wire s g p (Ack i r q) k submitted = tt
-known_wire s g p (Nack i r q) k submitted = tt
-known_wire s g p (Dec i r v) k submitted = tt
+known_wire s g p _ k submitted = tt
 
 -- the envelope x of the network waits at p
 pub record IsAwaited (w : Rehearsal) (f : Fields) (p k : ℕ) (x : AnyEnvelope ℕ) : Type 0 where
@@ -105,23 +98,4 @@ module _ {w : Rehearsal} {f : Fields} (p k : ℕ) (world : IsWorld w f) where
   pub sent_to : {o : Option (AnyEnvelope ℕ)} → o ≡ at_serial f.network.sent k →
       is_some (wire_to (state_of w) p k) ≡ option_map_or (λ x. x.to == p) o false
   unfolding wire_to
-  sent_to is =
-      by_wire (at_serial (state_of w).sent k)
-      ∙ ap (λ o. option_map_or (λ x. x.to == p) o false)
-      (sym (without_value_at f.book.values f.network.sent (state_of w).sent k world.sent))
-      ∙ by_number (at_serial f.network.sent k)
-      ∙ ap (λ o. option_map_or (λ (x : AnyEnvelope ℕ). x.to == p) o false) (sym is)
-    where
-      by_wire : (o : Option Envelope) → is_some (option_and_then (addressed p) o)
-          ≡ option_map_or (λ x. x.to == p) (option_map without_value o) false
-      by_wire None = refl
-      by_wire (Some e) = go (e.to == p)
-        where
-          go : (b : Bool) → is_some (when b e.wire) ≡ b
-          go true = refl
-          go false = refl
-
-      by_number : (o : Option (AnyEnvelope ℕ)) → option_map_or (λ x. x.to == p) (option_map without_value o) false
-          ≡ option_map_or (λ x. x.to == p) o false
-      by_number None = refl
-      by_number (Some x) = refl
+  sent_to is = grind (arith, without_value_at f.book.values f.network.sent (state_of w).sent k world.sent)

@@ -1,5 +1,5 @@
 -- What follows where an optional value is there.
-use Rattle.std.proofs.Common.{◌≡◌, Bool, true, false, Option, Some, None, option_map, option_and_then, refl}
+use Rattle.std.proofs.Common.{arith, ◌≡◌, Bool, true, false, Option, Some, None, option_map, option_and_then, refl}
 use Rattle.std.specs.Prelude.{is_none, is_some}
 use Rattle.ct_model.specs.When.{when}
 
@@ -10,12 +10,10 @@ pub some-none : {A B : Type 0} (x : A) → None ≡ Some x → B
 some-none x e = cc
 
 pub not_none : {A : Type 0} (o : Option A) → is_none o ≡ false → is_some o ≡ true
-not_none None e = absurd (cc)
-not_none (Some x) e = refl
+not_none o e = grind arith
 
 pub when-some : {A : Type 0} (b : Bool) (x : A) → is_some (when b x) ≡ true → b ≡ true
-when-some true x e = refl
-when-some false x e = absurd (cc)
+when-some b x e = grind arith
 
 pub when-is : {A : Type 0} (b : Bool) (x y : A) → when b x ≡ Some y → (b ≡ true) × (x ≡ y)
 when-is true x y e = (refl, some-same x y e)

@@ -7,7 +7,9 @@ use Rattle.std.proofs.lemmas.List.{length-map}
 use Rattle.std.proofs.lemmas.Bool.Decides.{nat_tests}
 use Rattle.ct_names.specs.Group.{members, counting}
 use Rattle.ct_names.proofs.Groups.{length-counting}
-use Rattle.ct_model.specs.AtValue.{Wire, Envelope}
+use Rattle.ct_model.specs.AtValue.{Envelope}
+use Rattle.ct_model.specs.declared.wire.Wire.{Wire as AnyWire}
+use Rattle.ct_model.specs.declared.envelope.Envelope.{Envelope as AnyEnvelope}
 use Rattle.ct_model.specs.Wire.{envelopes}
 use Rattle.ct_model.specs.declared.mail.Mail.TheVariants.{All}
 use Rattle.ct_model.specs.Waiting.{has_serial, serials_to}
@@ -54,22 +56,25 @@ serials_to-distinct p before [] = refl
 serials_to-distinct p before (e ∷ es) =
     grind (arith, serials_to-within p (before + 1) (before + 1) es, serials_to-distinct p (before + 1) es)
 
-module _ (p : ℕ) (w : Wire) where
-  none_below : (before a n : ℕ) → p < a → serials_to p before (map (λ to. record { to = to; wire = w }) (counting a n)) ≡ []
-  none_below before a zero h = refl
-  none_below before a (suc n) h = grind (arith, nat_tests, none_below (before + 1) (a + 1) n (omega arith))
+-- one wire to all
+module _ {V : Type 0} (w : AnyWire V) where
+  abbrev letter : ℕ → AnyEnvelope V
+  letter to = record { to = to; wire = w }
 
-  one_at : (before a n i : ℕ) → p ≡ a + i → i < n → serials_to p before (map (λ to. record { to = to; wire = w }) (counting a n))
-      ≡ (before + i + 1) ∷ []
-  one_at before a zero i e h = absurd (omega arith)
-  one_at before a (suc n) zero e h = grind (arith, nat_tests, none_below (before + 1) (a + 1) n (omega arith))
-  one_at before a (suc n) (suc i) e h = grind (arith, nat_tests, one_at (before + 1) (a + 1) n i (omega arith) (omega arith))
+  none_below : (p before a n : ℕ) → p < a → serials_to p before (map letter (counting a n)) ≡ []
+  none_below p before a zero h = refl
+  none_below p before a (suc n) h = grind (arith, none_below p (before + 1) (a + 1) n (omega arith))
 
--- a member gets one of the envelopes to all
-pub serials_to-all : (n p before : ℕ) (w : Wire) → 1 ≤ p → p ≤ n → serials_to p before (envelopes n (All w)) ≡ (before + p) ∷ []
-unfolding members
-serials_to-all n p before w l h = one_at p w before 1 n (p - 1) (omega arith) (omega arith) ∙ ap (λ k. k ∷ []) (omega arith)
+  one_at : (p before a n i : ℕ) → p ≡ a + i → i < n → serials_to p before (map letter (counting a n)) ≡ (before + i + 1) ∷ []
+  one_at p before a zero i e h = absurd (omega arith)
+  one_at p before a (suc n) zero e h = grind (arith, none_below p (before + 1) (a + 1) n (omega arith))
+  one_at p before a (suc n) (suc i) e h = grind (arith, one_at p (before + 1) (a + 1) n i (omega arith) (omega arith))
 
-pub length-all : (n : ℕ) (w : Wire) → length (envelopes n (All w)) ≡ n
-unfolding members
-length-all n w = length-map (members n) (λ to. let e : Envelope = record { to = to; wire = w } in e) ∙ length-counting 1 n
+  -- a member gets one of the envelopes
+  pub serials_to-all : (n p before : ℕ) → 1 ≤ p → p ≤ n → serials_to p before (envelopes n (All w)) ≡ (before + p) ∷ []
+  unfolding members
+  serials_to-all n p before l h = one_at p before 1 n (p - 1) (omega arith) (omega arith) ∙ ap (λ k. k ∷ []) (omega arith)
+
+  pub length-all : (n : ℕ) → length (envelopes n (All w)) ≡ n
+  unfolding members
+  length-all n = length-map (members n) letter ∙ length-counting 1 n

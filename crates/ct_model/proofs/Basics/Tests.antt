@@ -1,5 +1,5 @@
 -- Facts on tests of two values.
-use Rattle.std.proofs.Common.{◌≡◌, ℕ, Bool, true, false, ◌&&◌, ap, arith}
+use Rattle.std.proofs.Common.{◌≡◌, ℕ, Bool, true, false, ◌&&◌, arith}
 use Rattle.std.specs.Prelude.{◌==◌}
 use Rattle.std.proofs.lemmas.Bool.{and_parts}
 use Rattle.std.proofs.lemmas.Bool.Decides.{nat_tests}
@@ -28,7 +28,3 @@ number_other a b h = grind (arith, nat_tests)
 -- the two orders of a comparison
 pub swapped : (a b : ℕ) → (a == b) ≡ (b == a)
 swapped a b = grind (arith, nat_tests)
-
--- equal numbers pass a test alike
-pub at_equal : (f : ℕ → Bool) (i k : ℕ) → (i == k) ≡ true → f i ≡ f k
-at_equal f i k h = ap f (same_number i k h)

@@ -5,7 +5,7 @@ use Rattle.ct_names.specs.Membership.{IsIn, IsWithoutRepeats}
 use Rattle.ct_names.specs.Value.{Value}
 use Rattle.ct_model.specs.AtValue.{Wire, Standing}
 use Rattle.ct_model.specs.Setting.{Setting}
-use Rattle.ct_model.specs.declared.wire.Wire.TheVariants.{Data, Est, Prop, Ack, Nack, Dec}
+use Rattle.ct_model.specs.declared.wire.Wire.TheVariants.{Est, Prop, Ack, Dec}
 use Rattle.ct_model.specs.State.{State, Member, member}
 use Rattle.ct_model.specs.Phases.{is_rest, is_gather, is_wait, is_tally}
 use Rattle.ct_model.specs.Safe.{IsLocked, IsProposed}
@@ -76,12 +76,11 @@ pub record IsFoundedAck (s : Setting) (g : State) (k r q : ℕ) : Type 0 where
 
 -- what holds of a wire that was sent, from then on
 abbrev pub IsFounded : Setting → State → Wire → Type 0
-IsFounded s g (Data m) = Unit {0}
 IsFounded s g (Est k r q v ts) = IsFoundedEst s g k r q v ts
 IsFounded s g (Prop k r v) = IsFoundedProp s g k r v
 IsFounded s g (Ack k r q) = IsFoundedAck s g k r q
-IsFounded s g (Nack k r q) = Unit {0}
 IsFounded s g (Dec k r v) = IsLocked s g k r v
+IsFounded s g _ = Unit {0}
 
 -- what holds of the standing of q in its open instance k: among others, who coordinates a round and waits for its own
 -- proposal has it as estimate, and so has who tallies

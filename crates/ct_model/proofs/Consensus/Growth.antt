@@ -1,6 +1,5 @@
 -- What is founded and sound stays so as the state grows.
-use Rattle.std.proofs.Common.{◌≡◌, ℕ, ◌+◌, ◌≤◌, Bool, true, List, [], ◌∷◌, length, filter, Some, None, sym, ◌∙◌}
-use Rattle.std.proofs.Common.{arith, le_trans}
+use Rattle.std.proofs.Common.{◌≡◌, ℕ, ◌+◌, ◌≤◌, Bool, true, List, [], ◌∷◌, length, filter, Some, None, sym, ◌∙◌, arith, le_trans}
 use Rattle.ct_names.specs.Group.{coordinator, IsMember, IsMajority, everyone}
 use Rattle.ct_names.specs.Membership.{IsIn}
 use Rattle.ct_names.specs.Value.{Value}

@@ -153,8 +153,7 @@ unfolding ballots
 acked-of got k r = refl
 
 ack-wire : (k r p : ℕ) (w : Wire) → is_ack k r p w ≡ true → w ≡ Ack k r p
-ack-wire k r p (Ack j i q) h = grind (arith, nat_tests)
-ack-wire k r p _ h = absurd (cc)
+ack-wire k r p w h = grind arith
 
 pub acker-got : (got : List Wire) (k r p : ℕ) → IsIn p (ackers got k r) → IsIn (Ack k r p) got
 acker-got got k r p h =

@@ -2,8 +2,8 @@
 use Rattle.std.proofs.Common.{◌≡◌, ℕ, suc, zero, ◌+◌, ◌-◌, ◌<◌, ◌≤◌, true, List, [], ◌∷◌, ◌++◌, Option, Some, None, refl, sym, ap, ◌∙◌}
 use Rattle.std.proofs.Common.{subst, inl, inr, arith, filter_map, unwrap_or, true≢false, length}
 use Rattle.std.specs.Prelude.{is_none}
-use Rattle.std.specs.List.{cons_option}
 use Rattle.std.proofs.lemmas.Bool.{cases_eq}
+use Rattle.std.proofs.lemmas.List.Elements.{filter_map-append}
 use Rattle.ct_names.specs.Value.{Value, ordered, minus}
 use Rattle.ct_model.specs.declared.step.Step.{Step}
 use Rattle.ct_model.specs.Actor.{actor}
@@ -33,9 +33,7 @@ pub deliveries-same : (f g : ℕ → Value) (c : ℕ) → ((k : ℕ) → 1 ≤ k
 unfolding deliveries
 deliveries-same f g zero h = refl
 deliveries-same f g (suc c) h =
-    let rest : deliveries f c ≡ deliveries g c = deliveries-same f g c (λ k lo hi. h k lo (omega arith)) in
-    let here : f (suc c) ≡ g (suc c) = h (suc c) (omega arith) (omega arith) in
-    rw (rest, here) refl
+    grind (arith, deliveries-same f g c (λ k lo hi. h k lo (omega arith)))
 
 -- the decision for an instance, and the empty set where there is none
 pub decision : List Wire → ℕ → Value
@@ -63,15 +61,6 @@ pub record HasClosed (m : Member) : Type 0 where
 head-append : {A : Type 0} (xs ys : List A) (x : A) → head xs ≡ Some x → head (xs ++ ys) ≡ Some x
 head-append [] ys x e = some-none x e
 head-append (y ∷ xs) ys x e = e
-
-cons-append : {B : Type 0} (o : Option B) (zs ws : List B) → cons_option o (zs ++ ws) ≡ cons_option o zs ++ ws
-cons-append None zs ws = refl
-cons-append (Some z) zs ws = refl
-
-filter_map-append : {A B : Type 0} (f : A → Option B) (xs ys : List A) → filter_map f (xs ++ ys) ≡ filter_map f xs ++ filter_map f ys
-filter_map-append f [] ys = refl
-filter_map-append f (x ∷ xs) ys = ap (λ z. cons_option (f x) z) (filter_map-append f xs ys)
-    ∙ cons-append (f x) (filter_map f xs) (filter_map f ys)
 
 pub decided-more : (got more : List Wire) (k : ℕ) (v : Value) → decided got k ≡ Some v → decided (got ++ more) k ≡ Some v
 unfolding decided

@@ -1,15 +1,14 @@
 -- No value that is proposed or decided has more messages than the bound, and no batch has.
-use Rattle.std.proofs.Common.{◌≡◌, ℕ, zero, suc, ◌≤◌, Bool, not, List, [], ◌∷◌, Some, length, filter, refl, ap, ◌∙◌, subst, arith, inl, inr}
+use Rattle.std.proofs.Common.{◌≡◌, ℕ, zero, suc, ◌≤◌, List, [], ◌∷◌, Some, length, subst, arith, inl, inr}
 use Rattle.std.proofs.Math.Nat.{min-le_left}
 use Rattle.std.proofs.lemmas.List.{length-take}
-use Rattle.std.proofs.lemmas.List.Sums.{length-filter, count_by-le-length}
 use Rattle.ct_names.specs.Batch.{Batch}
 use Rattle.ct_names.specs.Group.{IsMember}
 use Rattle.ct_names.specs.Membership.{IsIn}
 use Rattle.ct_names.specs.Message.{Message}
-use Rattle.ct_names.specs.Order.{is_message}
-use Rattle.ct_names.specs.Value.{Value, minus, first_occurrences, placed, sorted, ordered}
+use Rattle.ct_names.specs.Value.{Value, minus, ordered}
 use Rattle.ct_names.proofs.Lists
+use Rattle.ct_names.proofs.Values.{length-ordered}
 use Rattle.ct_model.specs.declared.step.Step.{Step}
 use Rattle.ct_model.specs.Actor.{actor}
 use Rattle.ct_model.specs.Setting.{Setting}
@@ -25,31 +24,10 @@ use Rattle.ct_model.proofs.Delivery.Proposals.{proposes-row, proposals-cases}
 
 -- what is left of a set is no longer than the set
 
-filter-shorter : {A : Type 0} (test : A → Bool) (xs : List A) → length (filter test xs) ≤ length xs
-filter-shorter test xs = rw (length-filter test xs) (count_by-le-length test xs)
-
-first_occurrences-shorter : (list : List Message) → length (first_occurrences list) ≤ length list
-first_occurrences-shorter [] = omega arith
-first_occurrences-shorter (m ∷ list) =
-    let rest = first_occurrences-shorter list in
-    let others = filter-shorter (λ other. not (is_message m other)) (first_occurrences list) in
-    omega arith
-
-length-placed : (m : Message) (list : List Message) → length (placed m list) ≡ suc (length list)
-length-placed m [] = refl
-length-placed m (other ∷ list) = grind (arith, length-placed m list)
-
-length-sorted : (list : List Message) → length (sorted list) ≡ length list
-length-sorted [] = refl
-length-sorted (m ∷ list) = length-placed m (sorted list) ∙ ap suc (length-sorted list)
-
 length-minus : (v other : List Message) → length (ordered (minus v other)) ≤ length v
-unfolding ordered
 length-minus v other =
-    let all = length-sorted (first_occurrences (minus v other)) in
-    let once = first_occurrences-shorter (minus v other) in
-    let kept : length (minus v other) ≤ length v = filter-shorter _ v in
-    omega arith
+    let kept : length (minus v other) ≤ length v = Lists.filter-shorter _ v in
+    omega (arith, length-ordered (minus v other))
 
 -- proposals
 

@@ -1,6 +1,5 @@
 -- Where of each two lists one begins the other, each begins the longest.
-use Rattle.std.proofs.Common.{◌≤◌, List, [], ◌∷◌, refl, sym, ◌∙◌, inl, inr, ◌⊎◌, arith}
-use Rattle.std.proofs.Common.{append-nil, length, length-append}
+use Rattle.std.proofs.Common.{◌≤◌, List, [], ◌∷◌, refl, sym, ◌∙◌, inl, inr, ◌⊎◌, arith, append-nil, length, length-append}
 use Rattle.std.specs.Prelude.{nat_lt}
 use Rattle.std.proofs.lemmas.Bool.{cond_both}
 use Rattle.std.proofs.lemmas.Bool.Decides.{nat_tests}

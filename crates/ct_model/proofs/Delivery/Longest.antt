@@ -1,6 +1,5 @@
 -- The batches of the least member whose list is longest.
-use Rattle.std.proofs.Common.{◌≡◌, ℕ, zero, suc, ◌-◌, ◌≤◌, ◌<◌, List, [], ◌∷◌, length, map, refl, ap, ◌∙◌, arith, ◌⊎◌}
-use Rattle.std.proofs.Common.{inl, inr, sym}
+use Rattle.std.proofs.Common.{◌≡◌, ℕ, zero, suc, ◌-◌, ◌≤◌, ◌<◌, List, [], ◌∷◌, length, map, refl, ap, ◌∙◌, arith, ◌⊎◌, inl, inr, sym}
 use Rattle.std.specs.Prelude.{nat_lt, if◌then◌else◌, slice_index_or}
 use Rattle.std.proofs.lemmas.Bool.{cases_eq}
 use Rattle.std.proofs.lemmas.Bool.Decides.{nat_tests}

@@ -1,10 +1,8 @@
 -- What a step does to the order of batches: a Deliver or Follow of who delivered as many as anyone adds its batch, and any
 -- other step leaves it.
-use Rattle.std.proofs.Common.{◌≡◌, ℕ, ◌+◌, ◌-◌, ◌≤◌, ◌<◌, true, List, [], ◌∷◌, ◌++◌, Some, length, refl, ap, sym, ◌∙◌, subst, arith}
-use Rattle.std.proofs.Common.{append-nil}
-use Rattle.std.proofs.lemmas.Bool.Decides.{nat_tests}
+use Rattle.std.proofs.Common.{◌≡◌, ℕ, ◌-◌, ◌≤◌, ◌<◌, List, [], ◌∷◌, ◌++◌, Some, length, refl, ap, sym, ◌∙◌, subst, arith, append-nil}
 use Rattle.std.proofs.lemmas.List.{length-append}
-use Rattle.ct_names.specs.Group.{IsMember, is_member}
+use Rattle.ct_names.specs.Group.{IsMember}
 use Rattle.ct_names.specs.Prefix.{IsPrefix}
 use Rattle.ct_names.specs.Value.{Value}
 use Rattle.ct_model.specs.declared.step.Step.{Step}
@@ -16,6 +14,7 @@ use Rattle.ct_model.specs.Rehearsal.{Rehearsal, state_of, extended}
 use Rattle.ct_model.specs.Cause.{order}
 use Rattle.ct_model.specs.Lawful.{IsLawful}
 use Rattle.ct_model.specs.Order.{DeliversNothing}
+use Rattle.ct_model.proofs.Basics.Groups.{member_is}
 use Rattle.ct_model.proofs.Steps.Shapes.{by_shape}
 use Rattle.ct_model.proofs.Relay.Messages.{in_members, next-is}
 use Rattle.ct_model.proofs.Record.Frame.{order-kept, at_place, member-other}
@@ -44,16 +43,10 @@ order-still s g h step d e =
     ap order (sym t.gives) ∙ order-kept s g (actor step) t.outcome
     (batches-row s g (actor step) (member g (actor step)) step t.outcome d t.row)
 
-is_member-fact : (n p : ℕ) → is_member n p ≡ true → IsMember n p
-is_member-fact n p e = grind (arith, nat_tests)
-
 -- a list that begins another of its length is that list
 prefix-equal : {A : Type 0} (xs ys : List A) → IsPrefix xs ys → length ys ≤ length xs → xs ≡ ys
 prefix-equal xs ys ([], e) le = sym (append-nil xs) ∙ e
-prefix-equal xs ys (z ∷ rest, e) le =
-    let sum : length (xs ++ z ∷ rest) ≡ length xs + length (z ∷ rest) = length-append xs (z ∷ rest) in
-    let same : length (xs ++ z ∷ rest) ≡ length ys = ap length e in
-    absurd (omega arith)
+prefix-equal xs ys (z ∷ rest, e) le = grind (arith, length-append xs (z ∷ rest))
 
 -- a step that closes an instance
 module _ (w : Rehearsal) (step : Step) (k : ℕ) (v : Value) (law : IsLawful w)
@@ -90,7 +83,7 @@ module _ (w : Rehearsal) (step : Step) (k : ℕ) (v : Value) (law : IsLawful w)
       order (state_of (extended w step)) ≡ order (state_of w)
       ++ record { instance = k; messages = batch_of (member (state_of w) (actor step)) v } ∷ []
   order-ahead many =
-      let is : IsMember w.setting.members p = is_member-fact w.setting.members p taken.present.in_group in
+      let is : IsMember w.setting.members p = member_is w.setting.members p taken.present.in_group in
       let same : m.batches ≡ order (state_of w) = prefix-equal m.batches (order (state_of w)) (begins w law p is) many in
       let more = length-close m k v in
       ap order after_step

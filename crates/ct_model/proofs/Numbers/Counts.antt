@@ -15,9 +15,8 @@ use Rattle.ct_names.proofs.Lists
 use Rattle.ct_names.proofs.MemberSets.{with_member-filter}
 use Rattle.ct_model.specs.Wire.{Wire}
 use Rattle.ct_model.specs.declared.wire.Wire.TheVariants.{Est, Prop, Ack, Nack}
-use Rattle.ct_model.specs.Received.{Heard, Ballots, ballots, head, estimate_of, heard_from, proposal_of, proposal, is_ack, is_reply}
-use Rattle.ct_model.specs.Counted.{no_ballots, with_estimate, count_in}
-use Rattle.ct_model.specs.Counted.{NamesSomebody}
+use Rattle.ct_model.specs.Received.{Heard, Ballots, ballots, estimate_of, heard_from, proposal_of, proposal, is_ack, is_reply}
+use Rattle.ct_model.specs.Counted.{no_ballots, with_estimate, count_in, NamesSomebody}
 use Rattle.ct_model.specs.Mapped.{wire_map, heard_map, ballots_map}
 use Rattle.ct_model.proofs.Basics.Tests.{same_number}
 
@@ -122,14 +121,7 @@ estimates-push {V} got k r w from =
 proposal-push : {V : Type 0} (got : List (Wire V)) (k r : ℕ) (w : Wire V) →
     proposal (got ++ w ∷ []) k r ≡ joined_proposal (proposal_of k r w) (proposal got k r)
 unfolding proposal
-proposal-push {V} got k r w =
-    rw (filter_map-append (proposal_of k r) got (w ∷ [])) (go (filter_map (proposal_of k r) got) (proposal_of k r w))
-  where
-    go : (vs : List V) (o : Option V) → head (vs ++ cons_option o []) ≡ joined_proposal o (head vs)
-    go [] None = refl
-    go [] (Some v) = refl
-    go (v ∷ vs) None = refl
-    go (v ∷ vs) (Some _) = refl
+proposal-push {V} got k r w = grind (arith, filter_map-append (proposal_of k r) got (w ∷ []))
 
 -- whether the wire acks the round or replies to it, and who it says does
 abbrev acks : {V : Type 0} → ℕ → ℕ → Wire V → Bool
@@ -147,13 +139,10 @@ voter (Nack j s p) = p
 voter _ = 1
 
 ack-is : {V : Type 0} (k r : ℕ) (w : Wire V) (q : ℕ) → is_ack k r q w ≡ (acks k r w && (voter w == q))
-ack-is k r (Ack j s p) q = refl
-ack-is k r _ q = refl
+ack-is k r w q = grind arith
 
 reply-is : {V : Type 0} (k r : ℕ) (w : Wire V) (q : ℕ) → is_reply k r q w ≡ (replies k r w && (voter w == q))
-reply-is k r (Ack j s p) q = refl
-reply-is k r (Nack j s p) q = refl
-reply-is k r _ q = refl
+reply-is k r w q = grind arith
 
 from_everyone : {V : Type 0} (k r : ℕ) (w : Wire V) → NamesSomebody w → IsFromEveryone (estimate_of k r w)
 from_everyone k r (Est j s p v ts) h e is = grind arith

@@ -1,6 +1,5 @@
 -- Another type of values changes nothing that is read off the wires, and no step of a round.
-use Rattle.std.proofs.Common.{◌≡◌, ℕ, Bool, ◌==◌, nat_le, List, [], ◌∷◌, map, find, Option}
-use Rattle.std.proofs.Common.{option_map, refl, sym, arith}
+use Rattle.std.proofs.Common.{◌≡◌, ℕ, Bool, ◌==◌, nat_le, List, [], ◌∷◌, map, find, Option, option_map, refl, sym, arith}
 use Rattle.std.proofs.lemmas.List.Folds.{list_all-map}
 use Rattle.std.proofs.lemmas.Simd.{map-map}
 use Rattle.ct_names.specs.Group.{members}
@@ -8,8 +7,7 @@ use Rattle.ct_model.specs.Wire.{Mail, envelopes}
 use Rattle.ct_model.specs.declared.mail.Mail.TheVariants.{All}
 use Rattle.ct_model.specs.State.{Standing}
 use Rattle.ct_model.specs.Received.{Heard, Ballots, heard, estimate_from, is_largest}
-use Rattle.ct_model.specs.Phases.{enter, choose, adopt, suspect}
-use Rattle.ct_model.specs.Phases.{conclude}
+use Rattle.ct_model.specs.Phases.{enter, choose, adopt, suspect, conclude}
 use Rattle.ct_model.specs.Faults.{has_largest, choose_faults, adopt_faults, suspect_faults, conclude_faults}
 use Rattle.ct_model.specs.Mapped.{envelope_map, mail_map, heard_map, ballots_map, standing_map, turn_map}
 

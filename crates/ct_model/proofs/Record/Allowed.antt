@@ -1,11 +1,9 @@
 -- A step has no cause exactly where it is allowed.
-use Rattle.std.proofs.Common.{◌≡◌, ℕ, ◌+◌, Bool, true, false, not, [], ◌∷◌, length, refl, ap, sym, ◌∙◌, subst, Option, Some, None}
-use Rattle.std.specs.Prelude.{is_some, is_none, option_and_then}
-use Rattle.std.specs.Option.{option_map_or}
+use Rattle.std.proofs.Common.{arith, ◌≡◌, ℕ, ◌+◌, Bool, true, false, not, [], ◌∷◌, length, refl, ap, sym, ◌∙◌, subst, Option, Some, None}
+use Rattle.std.specs.Prelude.{is_some, is_none}
 use Rattle.ct_names.specs.declared.limit.TheConstants.{MAX_ENVELOPES, MAX_INSTANCES, MAX_ROUNDS, MAX_STEPS, MAX_SUBMISSIONS}
 use Rattle.ct_names.specs.declared.refusal.Refusal.{Refusal}
-use Rattle.ct_names.specs.declared.refusal.Refusal.TheVariants.{NotWaiting, Busy, Nothing, WrongPhase, TooFew, NotLargest, NoProposal}
-use Rattle.ct_names.specs.declared.refusal.Refusal.TheVariants.{HasProposal, Decided, Undecided, BadCommand, NotSent, StillWaiting}
+use Rattle.ct_names.specs.declared.refusal.Refusal.TheVariants.{NotWaiting, Busy, Nothing, Undecided, BadCommand, NotSent, StillWaiting}
 use Rattle.ct_names.specs.Value.{Value}
 use Rattle.ct_names.specs.Command.{is_good}
 use Rattle.ct_model.specs.declared.moves.Move.{Move}
@@ -16,10 +14,8 @@ use Rattle.ct_model.specs.declared.step.Step.TheVariants.{Follow, Crash, Postpon
 use Rattle.ct_model.specs.Actor.{actor}
 use Rattle.ct_model.specs.State.{State, member, submissions}
 use Rattle.ct_model.specs.AtValue.{Standing, Turn}
-use Rattle.ct_model.specs.Received.{Ballots, Heard, decided, heard, is_largest}
+use Rattle.ct_model.specs.Received.{Ballots, decided}
 use Rattle.ct_model.specs.Moves.{step_of, turn_of, faults_of}
-use Rattle.ct_model.specs.Phases.{is_rest, is_gather, is_wait, is_tally}
-use Rattle.ct_model.specs.Faults.{lacks, has_largest}
 use Rattle.ct_model.specs.Next.{Outcome, row, wire_to, begin, deliver, follow, turned, turn_at, submit, proposed, is_empty}
 use Rattle.ct_model.specs.Next.{own_ballots, after, next}
 use Rattle.ct_model.specs.Rehearsal.{Rehearsal, state_of, line_of, extended}
@@ -106,38 +102,20 @@ none-one a r e = rw e refl
 none-two : (a b : Bool) (r s : Refusal) → a ≡ false → b ≡ false → first_fault (at r a ∷ at s b ∷ []) ≡ None
 none-two a b r s e f = rw (e, f) refl
 
-none-three : (a b c : Bool) (r s t : Refusal) → a ≡ false → b ≡ false → c ≡ false → first_fault (at r a ∷ at s b ∷ at t c ∷ []) ≡ None
-none-three a b c r s t e f g = rw (e, f, g) refl
-
 none-some : {A : Type 0} (o : Option A) → is_none o ≡ true → is_some o ≡ false
-none-some None e = refl
-none-some (Some x) e = absurd (cc)
+none-some o e = grind arith
 
 some-not_none : {A : Type 0} (o : Option A) → is_some o ≡ true → is_none o ≡ false
-some-not_none None e = absurd (cc)
-some-not_none (Some x) e = refl
+some-not_none o e = grind arith
 
 -- the tests of a step of a round that is taken
 turn-tested : (n p k : ℕ) (d : Option Value) (b : Ballots Value) (c : Standing) (a : Move) (turn : Turn) → turn_of n p k d b c a ≡ Some turn
     → first_fault (faults_of n d b c a) ≡ None
-turn-tested n p k d b c moves.Enter turn taken =
-    let r = enter-is n p k d c turn taken in
-    none-two (not (is_rest c.phase)) (is_some d) WrongPhase Decided (ap not r.rests) r.undecided
-turn-tested n p k d b c (moves.Choose from) turn taken =
-    let r = choose-is n k b c from turn taken in
-    let largest : has_largest b from ≡ true = ap (λ e. option_map_or (λ (x : Heard Value). is_largest b x.ts) e false) r.from_is
-    ∙ r.largest in
-    none-three (not (is_gather c.phase)) (lacks n (heard b)) (not (has_largest b from)) WrongPhase TooFew NotLargest
-    (ap not r.gathers) (ap not r.majority) (ap not largest)
-turn-tested n p k d b c moves.Adopt turn taken =
-    let r = adopt-is n p k b c turn taken in
-    none-two (not (is_wait c.phase)) (is_none b.proposal) WrongPhase NoProposal (ap not r.waits) (ap is_none r.proposal_is)
-turn-tested n p k d b c moves.Suspect turn taken =
-    let r = suspect-is n p k b c turn taken in
-    none-two (not (is_wait c.phase)) (is_some b.proposal) WrongPhase HasProposal (ap not r.waits) r.no_proposal
-turn-tested n p k d b c moves.Conclude turn taken =
-    let r = conclude-is n k b c turn taken in
-    none-two (not (is_tally c.phase)) (lacks n b.replied) WrongPhase TooFew (ap not r.tallies) (ap not r.majority)
+turn-tested n p k d b c moves.Enter turn taken = grind (arith, enter-is n p k d c turn taken)
+turn-tested n p k d b c (moves.Choose from) turn taken = grind (arith, choose-is n k b c from turn taken)
+turn-tested n p k d b c moves.Adopt turn taken = grind (arith, adopt-is n p k b c turn taken)
+turn-tested n p k d b c moves.Suspect turn taken = grind (arith, suspect-is n p k b c turn taken)
+turn-tested n p k d b c moves.Conclude turn taken = grind (arith, conclude-is n k b c turn taken)
 
 move-free : (w : Rehearsal) (p : ℕ) (a : Move) (o : Outcome)
     → row w.setting (state_of w) (actor (step_of p a)) (member (state_of w) (actor (step_of p a))) (step_of p a) ≡ Some o
@@ -200,9 +178,7 @@ within-free cells steps g p within =
 limit-free : (w : Rehearsal) (step : Step) (h : State) → next w.setting (state_of w) step ≡ Some h →
     IsWithin w.cells h (length w.steps + 1) → limit w step ≡ None
 unfolding limit
-limit-free w step h e within =
-    ap (option_and_then (λ g. first_fault (limits w.cells (length w.steps + 1) g (actor step)))) e
-    ∙ within-free w.cells (length w.steps + 1) h (actor step) within
+limit-free w step h e within = grind (arith, within-free w.cells (length w.steps + 1) h (actor step) within)
 
 -- what is allowed has no cause
 pub allowed-free : (w : Rehearsal) (step : Step) → IsAllowed w step → cause w step ≡ None

@@ -1,7 +1,7 @@
 -- The first test that fires, and the limits of a step that only sends.
-use Rattle.std.proofs.Common.{◌≡◌, ℕ, ◌+◌, ◌≤◌, ◌<◌, Bool, true, false, not, List, [], ◌∷◌, length, refl, ap, sym, ◌∙◌, arith, Option, Some}
+use Rattle.std.proofs.Common.{◌≡◌, ℕ, ◌+◌, ◌≤◌, ◌<◌, true, false, not, List, [], ◌∷◌, length, refl, ap, sym, ◌∙◌, arith, Option, Some}
 use Rattle.std.proofs.Common.{None}
-use Rattle.std.specs.Prelude.{nat_lt, if◌then◌else◌}
+use Rattle.std.specs.Prelude.{nat_lt}
 use Rattle.std.proofs.lemmas.Bool.Decides.{nat_tests}
 use Rattle.ct_names.specs.declared.limit.TheConstants.{MAX_ENVELOPES, MAX_STEPS}
 use Rattle.ct_names.specs.Group.{is_member}
@@ -23,12 +23,7 @@ or_else-none (Some r) rest h = absurd (cc)
 -- where no test fires, the first doesn't and no later one does
 pub first_fault-none : (test : Test) (rest : List Test) → first_fault (test ∷ rest) ≡ None →
     (test.fires ≡ false) × (first_fault rest ≡ None)
-first_fault-none test rest h = go test.fires refl h
-  where
-    go : (b : Bool) → test.fires ≡ b → (if b then Some test.refusal else first_fault rest) ≡ None →
-        (test.fires ≡ false) × (first_fault rest ≡ None)
-    go true e h = absurd (cc)
-    go false e h = (e, h)
+first_fault-none test rest h = (grind arith, grind arith)
 
 pub present-none : (w : Rehearsal) (p : ℕ) → IsPresent w p → first_fault (presence w.setting (state_of w) p) ≡ None
 present-none w p h = rw (h.in_group, h.up) refl
@@ -50,8 +45,7 @@ cause-is w step = refl
 
 pub cause-present : (w : Rehearsal) (step : Step) → IsPresent w (actor step) →
     cause w step ≡ or_else (first_fault (own_tests w step)) (limit w step)
-cause-present w step h = cause-is w step ∙ ap (λ o. or_else o (or_else (first_fault (own_tests w step)) (limit w step)))
-    (present-none w (actor step) h)
+cause-present w step h = grind (arith, cause-is w step, present-none w (actor step) h)
 
 -- what no refusal says
 pub record IsFree (w : Rehearsal) (step : Step) : Type 0 where

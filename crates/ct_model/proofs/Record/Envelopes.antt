@@ -1,7 +1,6 @@
 -- What waits is an envelope to the member.
-use Rattle.std.proofs.Common.{◌≡◌, ℕ, zero, suc, ◌+◌, ◌-◌, Bool, true, false, not, List, [], ◌∷◌, ◌++◌, refl, ap, sym, ◌∙◌, subst}
-use Rattle.std.proofs.Common.{arith, Some}
-use Rattle.std.proofs.Common.{inl, inr}
+use Rattle.std.proofs.Common.{◌≡◌, ℕ, zero, suc, ◌+◌, ◌-◌, Bool, true, false, not, List, [], ◌∷◌, ◌++◌, refl, ap, sym, ◌∙◌, subst, arith}
+use Rattle.std.proofs.Common.{Some, inl, inr}
 use Rattle.std.specs.Prelude.{Option, None, is_some, ◌==◌, slice_get, if◌then◌else◌, option_and_then}
 use Rattle.std.proofs.lemmas.Bool.Decides.{nat_tests}
 use Rattle.ct_model.specs.AtValue.{Envelope, Wire}
@@ -88,9 +87,7 @@ waiting_letter w p k law h =
 
 wire_is : (g : State) (p k : ℕ) (e : Envelope) (i : ℕ) → k ≡ suc i → slice_get g.sent i ≡ Some e → e.to ≡ p → wire_to g p k ≡ Some e.wire
 unfolding wire_to
-wire_is g p k e i at there to =
-    let same : (e.to == p) ≡ true = number_same e.to p to in
-    subst (λ j. option_and_then (addressed p) (at_serial g.sent j) ≡ Some e.wire) (sym at) (rw (there, same) refl)
+wire_is g p k e i at there to = grind (arith, number_same e.to p to)
 
 -- its wire is what p gets
 pub letter_wire : (g : State) (p k : ℕ) (e : Envelope) → IsLetter g p k e → wire_to g p k ≡ Some e.wire

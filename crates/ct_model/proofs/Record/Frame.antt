@@ -1,6 +1,5 @@
 -- What an outcome leaves of the state.
-use Rattle.std.proofs.Common.{◌≡◌, ◌≢◌, ℕ, Bool, true, false, zero, suc, ◌-◌, ◌+◌, ◌<◌, List, [], ◌∷◌, ◌++◌, length, map, refl, ap, ◌∙◌}
-use Rattle.std.proofs.Common.{set}
+use Rattle.std.proofs.Common.{◌≡◌, ◌≢◌, ℕ, zero, suc, ◌-◌, ◌+◌, ◌<◌, List, [], ◌∷◌, ◌++◌, length, map, refl, ap, ◌∙◌, set, arith}
 use Rattle.std.specs.Prelude.{filter, ◌==◌, slice_index_or, if◌then◌else◌}
 use Rattle.std.proofs.lemmas.List.{length-append, length-set, get_or-set_same, get_or-set_other}
 use Rattle.std.proofs.lemmas.List.Elements.{filter-append}
@@ -64,8 +63,4 @@ submissions-none p = refl
 pub submissions-next : (list : List Message) (p q : ℕ) (c : Command)
     → submissions (next_message list p c ∷ []) q ≡ (if p == q then 1 else 0)
 unfolding submissions
-submissions-next list p q c = go (p == q)
-  where
-    go : (b : Bool) → length (if b then next_message list p c ∷ [] else []) ≡ (if b then 1 else 0)
-    go true = refl
-    go false = refl
+submissions-next list p q c = grind arith

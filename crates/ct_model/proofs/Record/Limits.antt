@@ -2,7 +2,7 @@
 use Rattle.std.proofs.Common.{◌≡◌, ◌≢◌, ℕ, ◌+◌, ◌-◌, ◌≤◌, Bool, true, false, not, List, [], ◌∷◌, length, refl, ap, sym, ◌∙◌, arith, Some}
 use Rattle.std.proofs.Common.{None, inl, inr}
 use Rattle.std.specs.Option.{option_map_or}
-use Rattle.std.specs.Prelude.{nat_lt, ◌==◌, ◌++◌, option_and_then, if◌then◌else◌}
+use Rattle.std.specs.Prelude.{nat_lt, ◌==◌, ◌++◌, if◌then◌else◌}
 use Rattle.std.proofs.lemmas.Bool.{cases_eq}
 use Rattle.std.proofs.lemmas.List.{append-nil}
 use Rattle.ct_names.specs.declared.limit.TheConstants.{MAX_ENVELOPES, MAX_INSTANCES, MAX_ROUNDS, MAX_STEPS, MAX_SUBMISSIONS}
@@ -62,8 +62,7 @@ pub limit-of : (w : Rehearsal) (step : Step) (o : Outcome) → IsPresent w (acto
     row w.setting (state_of w) (actor step) (member (state_of w) (actor step)) step ≡ Some o →
     limit w step ≡ first_fault (limits w.cells (length w.steps + 1) (after w.setting (state_of w) (actor step) o) (actor step))
 unfolding limit
-limit-of w step o present e = ap (λ x. option_and_then (λ h. first_fault (limits w.cells (length w.steps + 1) h (actor step))) x)
-    (next-row w.setting (state_of w) step o present.in_group present.up e)
+limit-of w step o present e = grind (arith, next-row w.setting (state_of w) step o present.in_group present.up e)
 
 -- nobody submits but the actor
 
@@ -163,13 +162,7 @@ taken_of w step o law none names is =
 -- the first test that fires is the first of some, or of the others
 pub first_fault-append : (some rest : List Test) → first_fault (some ++ rest) ≡ or_else (first_fault some) (first_fault rest)
 first_fault-append [] rest = refl
-first_fault-append (test ∷ some) rest = go test.fires (first_fault-append some rest)
-  where
-    go : (b : Bool) → first_fault (some ++ rest) ≡ or_else (first_fault some) (first_fault rest)
-        → (if b then Some test.refusal else first_fault (some ++ rest))
-        ≡ or_else (if b then Some test.refusal else first_fault some) (first_fault rest)
-    go true e = refl
-    go false e = e
+first_fault-append (test ∷ some) rest = grind (arith, first_fault-append some rest)
 
 -- the limits of a step with this outcome, one by one
 module _ (w : Rehearsal) (step : Step) (o : Outcome) (law : IsLawful w) (present : IsPresent w (actor step))

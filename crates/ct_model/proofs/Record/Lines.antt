@@ -1,5 +1,5 @@
 -- A waiting line after one more step.
-use Rattle.std.proofs.Common.{◌≡◌, ℕ, Bool, true, false, not, List, [], ◌∷◌, ◌++◌, refl, ap, sym, ◌∙◌, subst, true≢false}
+use Rattle.std.proofs.Common.{◌≡◌, ℕ, Bool, true, false, not, List, [], ◌∷◌, ◌++◌, refl, arith}
 use Rattle.std.specs.Prelude.{◌==◌, ◌&&◌, ◌||◌, fold, if◌then◌else◌}
 use Rattle.ct_model.specs.declared.step.Step.{Step}
 use Rattle.ct_model.specs.Setting.{Setting}
@@ -10,8 +10,7 @@ use Rattle.ct_model.specs.Waiting.{waiting}
 use Rattle.ct_model.specs.Waiting.LineChange.{Takes, Defers, Restores, Leaves}
 use Rattle.ct_model.specs.Lawful.{is_distinct, gone_after, is_gone}
 use Rattle.std.proofs.lemmas.List.Sums.{fold-append}
-use Rattle.ct_model.proofs.Basics.Tests.{and_left, and_right, and_both, and_true, and_false, or_false, true_not, same_number, self_number}
-use Rattle.ct_model.proofs.Basics.Tests.{number_other, swapped}
+use Rattle.ct_model.proofs.Basics.Tests.{and_both, self_number, swapped}
 use Rattle.ct_model.proofs.Basics.Serials.{has_serial-append, has_serial-filter, is_distinct-append, is_distinct-filter}
 
 line_from-push : (s : Setting) (p : ℕ) (g : State) (line : List ℕ) (steps : List Step) (step : Step)
@@ -27,29 +26,18 @@ waiting-push s p steps step = line_from-push s p (first_state s) [] steps step
 -- what waits once still does after a change, where what is put back didn't wait
 
 parted : (k j : ℕ) (line : List ℕ) → has_serial j (without k line) ≡ true → has_serial j (alone k line) ≡ false
-parted k j line m =
-    let other = and_right (has_serial j line) (not (j == k)) (sym (has_serial-filter (λ i. not (i == k)) j line) ∙ m) in
-    let differs : (j == k) ≡ false = true_not (j == k) other in
-    has_serial-filter (λ i. i == k) j line ∙ ap (λ b. has_serial j line && b) differs ∙ and_false (has_serial j line)
+parted k j line m = grind (arith, has_serial-filter (λ i. not (i == k)) j line, has_serial-filter (λ i. i == k) j line)
 
 apart : (k j : ℕ) (line : List ℕ) → has_serial k line ≡ false → has_serial j line ≡ true → has_serial j (k ∷ []) ≡ false
-apart k j line away m =
-    or_false (k == j) ∙ number_other k j (λ same. true≢false (sym m ∙ subst (λ i. has_serial i line ≡ false) same away))
+apart k j line away m = grind arith
 
 pub changed-distinct : (p : ℕ) (change : LineChange) (line : List ℕ) → is_distinct line ≡ true →
     ((k : ℕ) → restores p k change ≡ true → has_serial k line ≡ false) → is_distinct (changed p change line) ≡ true
-changed-distinct p (Takes q k) line d away = go (q == p)
-  where
-    go : (b : Bool) → is_distinct (if b then without k line else line) ≡ true
-    go true = is_distinct-filter (λ i. not (i == k)) line d
-    go false = d
-changed-distinct p (Defers q k) line d away = go (q == p)
-  where
-    go : (b : Bool) → is_distinct (if b then without k line ++ alone k line else line) ≡ true
-    go true =
-        is_distinct-append (without k line) (alone k line)
-        (is_distinct-filter (λ i. not (i == k)) line d) (is_distinct-filter (λ i. i == k) line d) (λ j m. parted k j line m)
-    go false = d
+changed-distinct p (Takes q k) line d away = grind (arith, is_distinct-filter (λ i. not (i == k)) line d)
+changed-distinct p (Defers q k) line d away =
+    let parts = is_distinct-append (without k line) (alone k line)
+    (is_distinct-filter (λ i. not (i == k)) line d) (is_distinct-filter (λ i. i == k) line d) (λ j m. parted k j line m) in
+    grind arith
 changed-distinct p (Restores q k) line d away = go (q == p) (λ e. away k (and_both (q == p) (k == k) e (self_number k)))
   where
     go : (b : Bool) → (b ≡ true → has_serial k line ≡ false) → is_distinct (if b then line ++ k ∷ [] else line) ≡ true
@@ -59,37 +47,16 @@ changed-distinct p Leaves line d away = d
 
 -- what waits after a change waited before and isn't taken, or is put back
 
-both_parts : (l e : Bool) → ((l && not e) || (l && e)) ≡ ((l && true) || false)
-both_parts true true = refl
-both_parts true false = refl
-both_parts false e = refl
-
 as_before : (l : Bool) → l ≡ ((l && true) || false)
-as_before true = refl
-as_before false = refl
+as_before l = grind arith
 
 pub changed-has : (p k : ℕ) (change : LineChange) (line : List ℕ)
     → has_serial k (changed p change line) ≡ ((has_serial k line && not (takes p k change)) || restores p k change)
-changed-has p k (Takes q i) line = go (q == p)
-  where
-    go : (b : Bool) → has_serial k (if b then without i line else line) ≡ ((has_serial k line && not (b && (i == k))) || false)
-    go true =
-        has_serial-filter (λ j. not (j == i)) k line ∙ ap (λ e. has_serial k line && not e) (swapped k i)
-        ∙ sym (or_false (has_serial k line && not (i == k)))
-    go false = as_before (has_serial k line)
-changed-has p k (Defers q i) line = go (q == p)
-  where
-    go : (b : Bool) → has_serial k (if b then without i line ++ alone i line else line) ≡ ((has_serial k line && true) || false)
-    go true =
-        has_serial-append k (without i line) (alone i line)
-        ∙ rw (has_serial-filter (λ j. not (j == i)) k line, has_serial-filter (λ j. j == i) k line)
-        (both_parts (has_serial k line) (k == i))
-    go false = as_before (has_serial k line)
-changed-has p k (Restores q i) line = go (q == p)
-  where
-    go : (b : Bool) → has_serial k (if b then line ++ i ∷ [] else line) ≡ ((has_serial k line && true) || (b && (i == k)))
-    go true = has_serial-append k line (i ∷ []) ∙ rw (or_false (i == k), and_true (has_serial k line)) refl
-    go false = as_before (has_serial k line)
+changed-has p k (Takes q i) line = grind (arith, has_serial-filter (λ j. not (j == i)) k line, swapped k i)
+changed-has p k (Defers q i) line =
+    let without_is = has_serial-filter (λ j. not (j == i)) k line in
+    grind (arith, has_serial-append k (without i line) (alone i line), has_serial-filter (λ j. j == i) k line)
+changed-has p k (Restores q i) line = grind (arith, has_serial-append k line (i ∷ []))
 changed-has p k Leaves line = as_before (has_serial k line)
 
 pub is_gone-push : (p : ℕ) (steps : List Step) (step : Step) (k : ℕ)
@@ -100,21 +67,8 @@ is_gone-push p steps step k = fold-append (λ gone x. gone_after p k gone (line_
 
 alone-none : (k : ℕ) (line : List ℕ) → has_serial k line ≡ false → alone k line ≡ []
 alone-none k [] h = refl
-alone-none k (i ∷ line) h = go (i == k) h (alone-none k line)
-  where
-    go : (b : Bool) → (b || has_serial k line) ≡ false → (has_serial k line ≡ false → alone k line ≡ [])
-        → (if b then i ∷ alone k line else alone k line) ≡ []
-    go true h rest = absurd (cc)
-    go false h rest = rest h
+alone-none k (i ∷ line) h = grind (arith, alone-none k line)
 
 pub alone-is : (k : ℕ) (line : List ℕ) → is_distinct line ≡ true → has_serial k line ≡ true → alone k line ≡ k ∷ []
 alone-is k [] d m = absurd (cc)
-alone-is k (i ∷ line) d m = go (i == k) refl m (alone-is k line (and_right (not (has_serial i line)) (is_distinct line) d))
-  where
-    go : (b : Bool) → (i == k) ≡ b → (b || has_serial k line) ≡ true → (has_serial k line ≡ true → alone k line ≡ k ∷ [])
-        → (if b then i ∷ alone k line else alone k line) ≡ k ∷ []
-    go true here m rest =
-        let same : i ≡ k = same_number i k here in
-        let away : has_serial i line ≡ false = true_not (has_serial i line) (and_left (not (has_serial i line)) (is_distinct line) d) in
-        ap (λ ks. i ∷ ks) (alone-none k line (subst (λ j. has_serial j line ≡ false) same away)) ∙ ap (λ j. j ∷ []) same
-    go false here m rest = rest m
+alone-is k (i ∷ line) d m = grind (arith, alone-none k line, alone-is k line)

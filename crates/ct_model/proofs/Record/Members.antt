@@ -1,5 +1,5 @@
 -- The members after a step.
-use Rattle.std.proofs.Common.{◌≡◌, ◌≢◌, ℕ, ◌≤◌, ◌⊎◌, arith}
+use Rattle.std.proofs.Common.{◌≡◌, ◌≢◌, ℕ, ◌⊎◌, arith}
 use Rattle.std.proofs.lemmas.Bool.{cases_eq}
 use Rattle.ct_names.specs.Group.{IsMember}
 use Rattle.ct_model.specs.Setting.{Setting}
@@ -16,10 +16,7 @@ member-same s g p o holds is = same_place s g p o (in_place s g p holds is)
 
 pub member-other : (s : Setting) (g : State) (p q : ℕ) (o : Outcome) → IsMember s.members p → IsMember s.members q → q ≢ p →
     member (after s g p o) q ≡ member g q
-member-other s g p q o m h ne =
-    let low : 1 ≤ p = m.0 in
-    let also : 1 ≤ q = h.0 in
-    other_place s g p q o (λ e. ne (omega arith))
+member-other s g p q o m h ne = grind (arith, other_place s g p q o (λ e. ne (omega arith)))
 
 pub p_or_other : (q p : ℕ) → (q ≡ p) ⊎ (q ≢ p)
 p_or_other q p = cases_eq q p

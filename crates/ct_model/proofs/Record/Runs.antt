@@ -1,5 +1,5 @@
 -- A run and one more step.
-use Rattle.std.proofs.Common.{◌≡◌, List, [], ◌∷◌, ◌++◌, Option, Some, None, refl, ap, subst}
+use Rattle.std.proofs.Common.{arith, ◌≡◌, List, [], ◌∷◌, ◌++◌, Option, Some, None, refl, ap, subst}
 use Rattle.std.specs.Prelude.{option_and_then, unwrap_or}
 use Rattle.std.proofs.lemmas.List.Sums.{fold-append}
 use Rattle.ct_model.specs.declared.step.Step.{Step}
@@ -20,8 +20,7 @@ unfolding run_from
 run_from-push s g [] step = at_end (next s g step)
   where
     at_end : (o : Option State) → option_and_then (λ h. Some h) o ≡ o
-    at_end None = refl
-    at_end (Some h) = refl
+    at_end o = grind arith
 run_from-push s g (x ∷ steps) step = onwards (next s g x) (λ h. run_from-push s h steps step)
   where
     onwards : (o : Option State) → ((h : State) → run_from s h (steps ++ step ∷ [])

@@ -2,21 +2,19 @@
 use Rattle.std.proofs.Common.{◌≡◌, ℕ, suc, zero, ◌+◌, ◌≤◌, ◌<◌, List, [], ◌∷◌, ◌++◌, Some, refl, sym, ap, ◌∙◌, inl, inr, arith, length}
 use Rattle.std.proofs.Common.{replicate}
 use Rattle.std.specs.Prelude.{slice_get}
-use Rattle.ct_names.specs.Group.{members, counting, IsMember}
+use Rattle.ct_names.specs.Group.{members, IsMember}
 use Rattle.ct_names.specs.Membership.{IsIn}
-use Rattle.ct_names.specs.Value.{Value}
+use Rattle.ct_names.proofs.Groups.{in-counting}
 use Rattle.ct_names.proofs.Lists
 use Rattle.ct_model.specs.AtValue.{Wire, Envelope}
 use Rattle.ct_model.specs.Wire.{envelopes}
-use Rattle.ct_model.specs.declared.wire.Wire.TheVariants.{Dec}
 use Rattle.ct_model.specs.declared.mail.Mail.TheVariants.{All}
 use Rattle.ct_model.specs.State.{at_serial}
 use Rattle.ct_model.proofs.Basics.Options.{some-none}
-use Rattle.ct_model.proofs.Record.Members.{p_or_other}
 
 -- places in a list that grows
 
-get-front : {A : Type 0} (xs ys : List A) (i : ℕ) (x : A) → slice_get xs i ≡ Some x → slice_get (xs ++ ys) i ≡ Some x
+pub get-front : {A : Type 0} (xs ys : List A) (i : ℕ) (x : A) → slice_get xs i ≡ Some x → slice_get (xs ++ ys) i ≡ Some x
 get-front [] ys i x e = some-none x e
 get-front (y ∷ xs) ys zero x e = e
 get-front (y ∷ xs) ys (suc i) x e = get-front xs ys i x e
@@ -27,9 +25,7 @@ at-front xs ys (suc i) x e = get-front xs ys i x e
 
 get-back : {A : Type 0} (xs ys : List A) (i : ℕ) → slice_get (xs ++ ys) (i + length xs) ≡ slice_get ys i
 get-back [] ys i = ap (λ z. slice_get ys z) (let e : i + 0 ≡ i = omega arith in e)
-get-back (x ∷ xs) ys i =
-    let e : i + suc (length xs) ≡ suc (i + length xs) = omega arith in
-    ap (λ z. slice_get (x ∷ (xs ++ ys)) z) e ∙ get-back xs ys i
+get-back (x ∷ xs) ys i = grind (arith, get-back xs ys i)
 
 record IsPlaced {A : Type 0} (x : A) (xs : List A) : Type 0 where
   pub place : ℕ
@@ -76,13 +72,6 @@ posted-new from sent new x e len h =
       envelope = get-back sent new r.place ∙ r.is;
     }
 
-in-counting : (first more q : ℕ) → first ≤ q → q < first + more → IsIn q (counting first more)
-in-counting first zero q lo hi = absurd (omega arith)
-in-counting first (suc more) q lo hi = elim (p_or_other q first) [
-  | inl e ↦ inl e
-  | inr ne ↦ inr (in-counting (first + 1) more q (omega arith) (omega arith))
-]
-
 in-members : (n q : ℕ) → IsMember n q → IsIn q (members n)
 unfolding members
 in-members n q is = let low : 1 ≤ q = is.0 in let high : q ≤ n = is.1 in in-counting 1 n q is.0 (omega arith)
@@ -93,8 +82,3 @@ letter q w = record { to = q; wire = w }
 
 pub in-all : (n q : ℕ) (w : Wire) → IsMember n q → IsIn (letter q w) (envelopes n (All w))
 in-all n q w is = Lists.IsIn-map (λ to. letter to w) q (members n) (in-members n q is)
-
--- a step of p sent q a decision of the round
-pub record IsDecPosted (from : List ℕ) (sent : List Envelope) (p q k r : ℕ) : Type 0 where
-  pub value : Value
-  pub posted : IsPosted from sent p (letter q (Dec k r value))

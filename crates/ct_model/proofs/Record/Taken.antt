@@ -2,7 +2,6 @@
 use Rattle.std.proofs.Common.{◌≡◌, ℕ, ◌+◌, ◌<◌, ◌≤◌, Bool, true, false, List, [], ◌∷◌, ◌++◌, length, drop, refl, ap, sym, ◌∙◌, arith}
 use Rattle.std.proofs.Common.{Some, inl, inr}
 use Rattle.std.specs.Prelude.{not, ◌==◌, ◌&&◌, ◌||◌, option_and_then}
-use Rattle.std.proofs.lemmas.Bool.Decides.{nat_tests}
 use Rattle.std.proofs.lemmas.List.{drop_at, length_push}
 use Rattle.ct_names.specs.Group.{is_member}
 use Rattle.ct_model.specs.declared.step.Step.{Step}
@@ -11,7 +10,7 @@ use Rattle.ct_model.specs.AtValue.{Envelope}
 use Rattle.ct_model.specs.Setting.{Setting}
 use Rattle.ct_model.specs.Wire.{envelopes}
 use Rattle.ct_model.specs.State.{State, member, is_crashed}
-use Rattle.ct_model.specs.Next.{Outcome, row, after, next, can_act, stepped}
+use Rattle.ct_model.specs.Next.{Outcome, row, after, next, stepped}
 use Rattle.ct_model.specs.Run.{run}
 use Rattle.ct_model.specs.Waiting.{LineChange, has_serial, serials_to, line_change, takes, restores, changed, line_after}
 use Rattle.ct_model.specs.Waiting.LineChange.{Takes, Restores}
@@ -37,9 +36,7 @@ pub next-row : (s : Setting) (g : State) (step : Step) (o : Outcome) → is_memb
     next s g step ≡ Some (after s g (actor step) o)
 unfolding next
 next-row s g step o group up e =
-    let acts : can_act s g (actor step) ≡ true = and_both (is_member s.members (actor step)) (not (is_crashed g (actor step))) group
-    (ap not up) in
-    rw (acts, e) refl
+    grind (arith, and_both (is_member s.members (actor step)) (not (is_crashed g (actor step))) group (ap not up))
 
 sent_within : (g : State) (p k : ℕ) → has_serial k (serials_to p 0 g.sent) ≡ true → k ≤ length g.sent
 sent_within g p k m = let b = serials_to-within p 0 k g.sent m in omega arith
@@ -50,10 +47,7 @@ waiting_within w law p k m = sent_within (state_of w) p k (was_sent w p k law m)
 -- a serial that wasn't sent isn't taken
 not_early : (w : Rehearsal) → IsLawful w → (change : LineChange) → Waits w change → (p k : ℕ) → length (state_of w).sent < k
     → takes p k change ≡ false
-not_early w law (Takes q i) waits p k m =
-    let b : i ≤ length (state_of w).sent = waiting_within w law q i waits in
-    let differs : (i == k) ≡ false = grind (arith, nat_tests) in
-    rw differs (and_false (q == p))
+not_early w law (Takes q i) waits p k m = grind (arith, waiting_within w law q i waits, and_false (q == p))
 not_early w law _ waits p k m = refl
 
 -- a serial that is put back was sent to the member, and doesn't wait there

@@ -32,7 +32,7 @@ use Rattle.ct_model.proofs.Record.Frame.{submissions-append, submissions-next}
 use Rattle.ct_model.proofs.Steps.Rows.{enter-is, choose-is, adopt-is, suspect-is, conclude-is}
 use Rattle.ct_model.proofs.Steps.Shapes.{by_shape}
 use Rattle.ct_model.proofs.Record.Envelopes.{wire_to-sent}
-use Rattle.ct_model.proofs.Consensus.Sent.{Carries, carries-mail, get-wire}
+use Rattle.ct_model.proofs.Consensus.Sent.{carries-mail, get-wire}
 use Rattle.ct_model.proofs.Relay.Receipts.{received-push, joined_by}
 
 known_push : (list : List Message) (m x : Message) → has (list ++ x ∷ []) m ≡ true → (has list m ≡ true) ⊎ (m ≡ x)
@@ -62,12 +62,8 @@ MailCarries list (All w) = CarriesOne list w
 
 mail_carries : (n : ℕ) (list : List Message) (mail : Mail) (i : ℕ) (e : Envelope) → MailCarries list mail →
     slice_get (envelopes n mail) i ≡ Some e → CarriesOne list e.wire
-mail_carries n list mail i e c h = go mail c (carries-mail n mail e.wire (get-wire (envelopes n mail) i e h))
-  where
-    go : (mail : Mail) → MailCarries list mail → Carries mail e.wire → CarriesOne list e.wire
-    go Nobody c never = absurd never
-    go (One to w) c same = rw same c
-    go (All w) c same = rw same c
+mail_carries n list Nobody i e c h = absurd (carries-mail n Nobody e.wire (get-wire (envelopes n Nobody) i e h))
+mail_carries n list x i e c h = rw (carries-mail n x e.wire (get-wire (envelopes n x) i e h)) c
 
 pub received-by : (g : State) (p : ℕ) → received_by g p ≡ received (member g p).got
 unfolding received_by

@@ -1,5 +1,5 @@
 -- What is received, after one more wire.
-use Rattle.std.proofs.Common.{◌≡◌, List, [], ◌∷◌, ◌++◌, refl, ap, ◌∙◌, filter_map}
+use Rattle.std.proofs.Common.{arith, ◌≡◌, List, [], ◌∷◌, ◌++◌, refl, ap, ◌∙◌, filter_map}
 use Rattle.std.specs.Prelude.{if◌then◌else◌}
 use Rattle.std.proofs.lemmas.List.{append-nil}
 use Rattle.std.proofs.lemmas.List.Elements.{filter_map-append}
@@ -7,7 +7,7 @@ use Rattle.ct_names.specs.Message.{Message}
 use Rattle.ct_names.specs.Value.{has, first_occurrences}
 use Rattle.ct_names.proofs.Receipts.{first_occurrences-push}
 use Rattle.ct_model.specs.AtValue.{Wire}
-use Rattle.ct_model.specs.declared.wire.Wire.TheVariants.{Data, Est, Prop, Ack, Nack, Dec}
+use Rattle.ct_model.specs.declared.wire.Wire.TheVariants.{Data}
 use Rattle.ct_model.specs.Received.{message_of, received}
 
 -- one more message, unless it is there
@@ -22,9 +22,7 @@ received-parts got w = ap first_occurrences (filter_map-append message_of got (w
 
 received-silent : (got : List Wire) (w : Wire) → filter_map message_of (w ∷ []) ≡ [] → received (got ++ w ∷ []) ≡ received got
 unfolding received
-received-silent got w e =
-    received-parts got w ∙ ap (λ ms. first_occurrences (filter_map message_of got ++ ms)) e
-    ∙ ap first_occurrences (append-nil (filter_map message_of got))
+received-silent got w e = grind (arith, received-parts got w, append-nil (filter_map message_of got))
 
 received-data : (got : List Wire) (m : Message) → received (got ++ Data m ∷ []) ≡ joined_by (received got) (Data m)
 unfolding received
@@ -32,8 +30,4 @@ received-data got m = received-parts got (Data m) ∙ first_occurrences-push (fi
 
 pub received-push : (got : List Wire) (w : Wire) → received (got ++ w ∷ []) ≡ joined_by (received got) w
 received-push got (Data m) = received-data got m
-received-push got (Est k r p v t) = received-silent got (Est k r p v t) refl
-received-push got (Prop k r v) = received-silent got (Prop k r v) refl
-received-push got (Ack k r p) = received-silent got (Ack k r p) refl
-received-push got (Nack k r p) = received-silent got (Nack k r p) refl
-received-push got (Dec k r v) = received-silent got (Dec k r v) refl
+received-push got x = received-silent got x refl

@@ -1,12 +1,10 @@
 -- Begin.
-use Rattle.std.proofs.Common.{◌≡◌, ℕ, ◌+◌, ◌<◌, Bool, true, false, not, [], ◌∷◌, refl, ap, sym, ◌∙◌, arith, Option, Some, None}
-use Rattle.std.specs.Prelude.{nat_lt, ◌&&◌, is_some, is_none}
+use Rattle.std.proofs.Common.{◌≡◌, ℕ, ◌+◌, ◌<◌, false, [], ◌∷◌, refl, ap, sym, ◌∙◌, arith, Some, None}
+use Rattle.std.specs.Prelude.{nat_lt, is_some}
 use Rattle.ct_names.specs.declared.limit.TheConstants.{MAX_INSTANCES}
 use Rattle.ct_names.specs.declared.refusal.Refusal.TheVariants.{Busy, Nothing, Full}
 use Rattle.ct_names.specs.declared.limit.Limit.TheVariants.{Instances}
 use Rattle.ct_model.specs.declared.step.Step.TheVariants.{Begin}
-use Rattle.ct_model.specs.AtValue.{Standing}
-use Rattle.ct_model.specs.When.{when}
 use Rattle.ct_model.specs.Setting.{Setting}
 use Rattle.ct_model.specs.State.{Member, member}
 use Rattle.ct_model.specs.Next.{begin, begin_row, proposed, is_empty, row, after}
@@ -26,19 +24,13 @@ pub record IsReady (s : Setting) (m : Member) : Type 0 where
 
 ready : (s : Setting) (m : Member) → first_fault (at Busy (is_some m.current) ∷ at Nothing (is_empty (proposed s m)) ∷ []) ≡ None
     → IsReady s m
-ready s m h = let a = go m.current (is_empty (proposed s m)) h in record { idle = a.0; something = a.1 }
-  where
-    go : (o : Option Standing) (b : Bool) → first_fault (at Busy (is_some o) ∷ at Nothing b ∷ []) ≡ None → (o ≡ None) × (b ≡ false)
-    go (Some c) b h = absurd (cc)
-    go None true h = absurd (cc)
-    go None false h = (refl, refl)
+ready s m h = record { idle = grind arith; something = grind arith }
 
 pub begin-ready : (w : Rehearsal) (p : ℕ) → first_fault (own_tests w (Begin p)) ≡ None → IsReady w.setting (member (state_of w) p)
 begin-ready w p h = ready w.setting (member (state_of w) p) (sym (ap first_fault (own_tests-is w (Begin p))) ∙ h)
 
 pub begin_row-some : (s : Setting) (p : ℕ) (m : Member) → IsReady s m → begin_row s p m ≡ Some (begin s p m)
-begin_row-some s p m r =
-    ap (λ o. when (is_none o && not (is_empty (proposed s m))) (begin s p m)) r.idle ∙ ap (λ b. when (not b) (begin s p m)) r.something
+begin_row-some s p m r = grind arith
 
 row-begin : (w : Rehearsal) (p : ℕ) → first_fault (own_tests w (Begin p)) ≡ None →
     row w.setting (state_of w) p (member (state_of w) p) (Begin p) ≡ Some (begin w.setting p (member (state_of w) p))

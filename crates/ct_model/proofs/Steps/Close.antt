@@ -44,10 +44,7 @@ module _ (w : Rehearsal) (step : Step) (k : ℕ) (v : Value) (law : IsLawful w) 
 
   larger : (b : Bool) (cells old new : ℕ) → b ≡ nat_lt old new → old ≤ cells → nat_lt cells (if b then new else old) ≡ nat_lt cells new
   larger true cells old new e few = refl
-  larger false cells old new e few =
-      let a : nat_lt cells old ≡ false = grind (arith, nat_tests) in
-      let b : nat_lt cells new ≡ false = grind (arith, nat_tests) in
-      a ∙ sym b
+  larger false cells old new e few = grind arith
 
   pub limit-close : limit w step ≡ or_else (first_fault
       (at (Full Instances) (nat_lt MAX_INSTANCES k)

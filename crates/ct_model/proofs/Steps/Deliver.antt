@@ -1,6 +1,6 @@
 -- Deliver.
-use Rattle.std.proofs.Common.{◌≡◌, ℕ, ◌+◌, [], ◌∷◌, length, refl, ap, sym, ◌∙◌, Option, Some, None}
-use Rattle.std.specs.Prelude.{nat_lt, is_none, option_and_then, option_map}
+use Rattle.std.proofs.Common.{arith, ◌≡◌, ℕ, ◌+◌, [], ◌∷◌, length, refl, ap, sym, ◌∙◌, Option, Some, None}
+use Rattle.std.specs.Prelude.{nat_lt, is_none}
 use Rattle.ct_names.specs.declared.limit.TheConstants.{MAX_INSTANCES}
 use Rattle.ct_names.specs.declared.limit.Limit.TheVariants.{Instances, Cells}
 use Rattle.ct_names.specs.declared.refusal.Refusal.TheVariants.{Undecided, Full}
@@ -47,8 +47,7 @@ deliver-due w p h =
 
 pub deliver_row-some : (m : Member) (c : Standing) (v : Value) → m.current ≡ Some c → decided m.got m.last ≡ Some v →
     deliver_row m ≡ Some (deliver m v)
-deliver_row-some m c v e d = ap (λ o. option_and_then (λ (c : Standing). option_map (deliver m) (decided m.got m.last)) o) e
-    ∙ ap (option_map (deliver m)) d
+deliver_row-some m c v e d = grind arith
 
 row-deliver : (w : Rehearsal) (p : ℕ) (d : IsDue (member (state_of w) p)) →
     row w.setting (state_of w) p (member (state_of w) p) (Deliver p) ≡ Some (deliver (member (state_of w) p) d.value)

@@ -1,13 +1,12 @@
 -- Follow.
 use Rattle.std.proofs.Common.{◌≡◌, ℕ, ◌+◌, ◌<◌, [], ◌∷◌, length, refl, ap, sym, ◌∙◌, arith, Option, Some, None}
-use Rattle.std.specs.Prelude.{nat_lt, is_some, is_none, option_and_then}
+use Rattle.std.specs.Prelude.{nat_lt, is_some, is_none}
 use Rattle.ct_names.specs.declared.limit.TheConstants.{MAX_INSTANCES}
 use Rattle.ct_names.specs.declared.limit.Limit.TheVariants.{Instances, Cells}
 use Rattle.ct_names.specs.declared.refusal.Refusal.TheVariants.{Busy, Undecided, Full}
 use Rattle.ct_names.specs.Value.{Value}
 use Rattle.ct_model.specs.declared.step.Step.TheVariants.{Follow}
 use Rattle.ct_model.specs.AtValue.{Standing}
-use Rattle.ct_model.specs.When.{when}
 use Rattle.ct_model.specs.State.{Member, member}
 use Rattle.ct_model.specs.Received.{decided}
 use Rattle.ct_model.specs.Next.{follow, follow_row, row, after}
@@ -41,8 +40,7 @@ pub follow-behind : (w : Rehearsal) (p : ℕ) → first_fault (own_tests w (Foll
 follow-behind w p h = behind (member (state_of w) p) (sym (ap first_fault (own_tests-is w (Follow p))) ∙ h)
 
 follow_row-some : (m : Member) (b : IsBehind m) → follow_row m ≡ Some (follow m b.value)
-follow_row-some m b = ap (λ o. option_and_then (λ v. when (is_none m.current) (follow m v)) o) b.decision
-    ∙ ap (λ (o : Option Standing). when (is_none o) (follow m b.value)) b.idle
+follow_row-some m b = grind arith
 
 row-follow : (w : Rehearsal) (p : ℕ) (b : IsBehind (member (state_of w) p)) →
     row w.setting (state_of w) p (member (state_of w) p) (Follow p) ≡ Some (follow (member (state_of w) p) b.value)

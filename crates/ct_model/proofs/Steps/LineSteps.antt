@@ -1,5 +1,5 @@
 -- Postpone, Lose and Repeat: they change nothing but a waiting line.
-use Rattle.std.proofs.Common.{◌≡◌, ℕ, Bool, true, false, [], ◌∷◌, refl, sym, ap, ◌∙◌, Option, Some, None}
+use Rattle.std.proofs.Common.{◌≡◌, ℕ, Bool, true, false, [], ◌∷◌, refl, sym, ap, ◌∙◌, Option, Some, None, arith}
 use Rattle.std.specs.Prelude.{is_some, is_none, option_map}
 use Rattle.ct_names.specs.declared.refusal.Refusal.TheVariants.{NotWaiting, NotSent, StillWaiting}
 use Rattle.ct_model.specs.declared.step.Step.{Step}
@@ -16,17 +16,15 @@ use Rattle.ct_model.proofs.Record.Causes.{own_tests, cause-none, first_fault-non
 use Rattle.ct_model.specs.Lawful.{IsLawful, IsPresent, NamesWaiting, is_waiting}
 use Rattle.ct_model.proofs.Record.Envelopes.{waiting_letter, letter_wire}
 use Rattle.ct_model.proofs.Record.Taken.{IsTaken}
-use Rattle.ct_model.proofs.Record.Limits.{own_tests-is, cause-tested, cause-limited}
-use Rattle.ct_model.proofs.Record.Limits.{cause-failed, cause-passed, passed-free, limit-overflow}
-use Rattle.ct_model.proofs.Record.Limits.{taken_of}
+use Rattle.ct_model.proofs.Record.Limits.{own_tests-is, cause-tested, cause-limited, cause-failed, cause-passed, passed-free}
+use Rattle.ct_model.proofs.Record.Limits.{limit-overflow, taken_of}
 
 -- the outcome of each
 unfoldable pub line_outcome : Rehearsal → ℕ → Outcome
 line_outcome w p = plain (member (state_of w) p) Nobody
 
 row-there : (m : Member) (o : Option Wire) → is_some o ≡ true → option_map (λ w. plain m Nobody) o ≡ Some (plain m Nobody)
-row-there m None there = absurd (cc)
-row-there m (Some x) there = refl
+row-there m o there = grind arith
 
 module _ (w : Rehearsal) (step : Step) (k : ℕ)
     (is : row w.setting (state_of w) (actor step) (member (state_of w) (actor step)) step
@@ -92,21 +90,11 @@ module _ (w : Rehearsal) (p k : ℕ) (present : IsPresent w p) where
   pub cause-repeat-unsent : is_some (wire_to (state_of w) p k) ≡ false → cause w (Repeat p k) ≡ Some NotSent
   cause-repeat-unsent unsent =
       cause-tested w (Repeat p k) NotSent present
-      (ap first_fault (own_tests-is w (Repeat p k)) ∙ go (wire_to (state_of w) p k) unsent)
-    where
-      go : (o : Option Wire) → is_some o ≡ false →
-          first_fault (at NotSent (is_none o) ∷ at StillWaiting (is_waiting w p k) ∷ []) ≡ Some NotSent
-      go None h = refl
-      go (Some x) h = absurd (cc)
+      (ap first_fault (own_tests-is w (Repeat p k)) ∙ grind arith)
 
   tested : is_some (wire_to (state_of w) p k) ≡ true → (b : Bool) → is_waiting w p k ≡ b →
       first_fault (own_tests w (Repeat p k)) ≡ first_fault (at StillWaiting b ∷ [])
-  tested sent b e = ap first_fault (own_tests-is w (Repeat p k)) ∙ go (wire_to (state_of w) p k) sent
-    where
-      go : (o : Option Wire) → is_some o ≡ true →
-          first_fault (at NotSent (is_none o) ∷ at StillWaiting (is_waiting w p k) ∷ []) ≡ first_fault (at StillWaiting b ∷ [])
-      go None h = absurd (cc)
-      go (Some x) h = ap (λ c. first_fault (at StillWaiting c ∷ [])) e
+  tested sent b e = ap first_fault (own_tests-is w (Repeat p k)) ∙ grind arith
 
   pub cause-repeat-waiting : is_some (wire_to (state_of w) p k) ≡ true → is_waiting w p k ≡ true → cause w (Repeat p k) ≡ Some StillWaiting
   cause-repeat-waiting sent waits = cause-tested w (Repeat p k) StillWaiting present (tested sent true waits)

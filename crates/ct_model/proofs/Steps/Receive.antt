@@ -28,7 +28,7 @@ unfolding receive_outcome
 receive_outcome-is w p x = refl
 
 pub either_number : (n : ℕ) (x : Wire) (b : Bool) → length (envelopes n (if b then All x else Nobody)) ≡ (if b then n else 0)
-either_number n x true = length-all n x
+either_number n x true = length-all x n
 either_number n x false = refl
 
 pub cause-receive-away : (w : Rehearsal) (p k : ℕ) → IsPresent w p → is_waiting w p k ≡ false → cause w (Receive p k) ≡ Some NotWaiting

@@ -1,19 +1,18 @@
 -- What holds of each step of a round alike.
-use Rattle.std.proofs.Common.{◌≡◌, ℕ, ◌+◌, ◌≤◌, Bool, true, false, not, length, subst, arith, List, [], ◌∷◌, ◌++◌, refl, ap, sym, ◌∙◌}
+use Rattle.std.proofs.Common.{◌≡◌, ℕ, ◌+◌, ◌≤◌, Bool, true, false, length, subst, arith, List, [], ◌∷◌, ◌++◌, refl, ap, sym, ◌∙◌}
 use Rattle.std.proofs.Common.{Option, Some, None}
 use Rattle.std.specs.Prelude.{nat_lt, ◌&&◌, is_some, option_map, if◌then◌else◌}
 use Rattle.ct_names.specs.declared.limit.Limit.TheVariants.{Rounds}
-use Rattle.ct_names.specs.declared.refusal.Refusal.TheVariants.{WrongPhase, Full, Decided}
+use Rattle.ct_names.specs.declared.refusal.Refusal.TheVariants.{Full, Decided}
 use Rattle.ct_model.specs.declared.moves.Move.{Move}
 use Rattle.ct_model.specs.declared.moves.Move.TheVariants.{Enter, Choose, Adopt, Suspect, Conclude}
 use Rattle.ct_model.specs.Actor.{actor}
 use Rattle.ct_names.specs.Group.{is_majority}
 use Rattle.ct_names.specs.Value.{Value}
 use Rattle.ct_model.specs.AtValue.{Standing as AtSets, Turn}
-use Rattle.ct_model.specs.When.{when}
 use Rattle.ct_model.specs.Wire.{envelopes}
 use Rattle.ct_model.specs.declared.wire.Wire.TheVariants.{Prop, Dec}
-use Rattle.ct_model.specs.Phases.{is_rest, entered, enter, chosen, adopted, suspected, concluded}
+use Rattle.ct_model.specs.Phases.{entered, enter, chosen, adopted, suspected, concluded}
 use Rattle.ct_model.specs.Faults.{enter_faults}
 use Rattle.std.specs.Option.{option_map_or}
 use Rattle.std.proofs.lemmas.Bool.Decides.{nat_tests}
@@ -41,22 +40,18 @@ use Rattle.ct_model.specs.Waiting.LineChange.{Leaves}
 -- of the step with its member
 
 pub actor-move : (p : ℕ) (a : Move) → actor (step_of p a) ≡ p
-actor-move p Enter = refl
-actor-move p _ = refl
+actor-move p a = grind arith
 
 pub line_change-move : (p : ℕ) (a : Move) → line_change (step_of p a) ≡ Leaves
-line_change-move p Enter = refl
-line_change-move p _ = refl
+line_change-move p a = grind arith
 
 pub row-move : (s : Setting) (g : State) (p q : ℕ) (m : Member) (a : Move) →
     row s g q m (step_of p a) ≡ round_row m (turn_at s.members q m a)
-row-move s g p q m Enter = refl
-row-move s g p q m _ = refl
+row-move s g p q m a = grind arith
 
 pub tests-move : (s : Setting) (g : State) (m : Member) (line : List ℕ) (p : ℕ) (a : Move) →
     tests s g m line (step_of p a) ≡ open_tests m (faults_at s.members m a)
-tests-move s g m line p Enter = refl
-tests-move s g m line p _ = refl
+tests-move s g m line p a = grind arith
 
 -- a value is only passed on
 
@@ -82,13 +77,7 @@ faults-map f n d t c Conclude = conclude_faults-map f n t c
 enter-free : (n me k : ℕ) (decision : Option Value) (c : AtSets) →
     first_fault (enter_faults c ++ at Decided (is_some decision) ∷ []) ≡ None → enter n me k decision c ≡ Some (entered n me k c)
 unfolding enter
-enter-free n me k decision c h = go (is_rest c.phase) (is_some decision) h
-  where
-    go : (a b : Bool) → first_fault (at WrongPhase (not a) ∷ at Decided b ∷ []) ≡ None →
-        when (a && not b) (entered n me k c) ≡ Some (entered n me k c)
-    go true true h = absurd (cc)
-    go true false h = refl
-    go false b h = absurd (cc)
+enter-free n me k decision c h = grind arith
 
 -- it is taken: its turn, the round then, and how many envelopes it sends
 pub record IsFree (n p k : ℕ) (d : Option Value) (t : Ballots Value) (c : AtSets) (a : Move) : Type 0 where
@@ -106,8 +95,7 @@ turn-free n p k d t c (Choose from) h =
       turn = chosen k c best.0;
       turns = choose-taken n k t c from best.0 h best.1;
       round = refl;
-      number =
-          length-all n (Prop k c.round best.0.value);
+      number = length-all (Prop k c.round best.0.value) n;
     }
 turn-free n p k d t c Adopt h =
     let v = adopt-proposed n p k t c h in

@@ -10,8 +10,7 @@ use Rattle.ct_model.specs.State.{Member}
 use Rattle.ct_model.specs.Received.{Heard, Ballots, heard, estimate_from, is_largest, decided}
 use Rattle.ct_model.specs.Phases.{is_rest, is_gather, is_wait, is_tally, entered, enter, chosen, choose, adopted, adopt, suspected, suspect}
 use Rattle.ct_model.specs.Phases.{concluded, conclude}
-use Rattle.ct_model.specs.Next.{Outcome, turned, round_row, begin, begin_row, deliver, deliver_row, follow, follow_row, proposed}
-use Rattle.ct_model.specs.Next.{is_empty}
+use Rattle.ct_model.specs.Next.{Outcome, turned, round_row, begin, begin_row, deliver, deliver_row, follow, follow_row, proposed, is_empty}
 use Rattle.ct_model.proofs.Basics.Tests.{and_left, and_right, true_not}
 use Rattle.ct_model.proofs.Basics.Options.{when-is, made-map, made-then}
 

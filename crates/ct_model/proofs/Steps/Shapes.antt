@@ -15,8 +15,7 @@ use Rattle.ct_model.specs.declared.mail.Mail.TheVariants.{Nobody}
 use Rattle.ct_model.specs.State.{State, Member}
 use Rattle.ct_model.specs.Received.{decided}
 use Rattle.ct_model.specs.Next.{Outcome, plain, row, submit, receive, wire_to, begin, proposed, is_empty, turned, turn_at, round_row}
-use Rattle.ct_model.specs.Next.{line_row}
-use Rattle.ct_model.specs.Next.{deliver, follow, crash}
+use Rattle.ct_model.specs.Next.{line_row, deliver, follow, crash}
 use Rattle.ct_model.specs.Order.{DeliversNothing}
 use Rattle.ct_model.proofs.Basics.Options.{some-same, when-is, made-map}
 use Rattle.ct_model.proofs.Steps.Rows.{round_row-is, begin_row-is, deliver_row-is, follow_row-is}

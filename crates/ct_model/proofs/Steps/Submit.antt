@@ -50,7 +50,7 @@ module _ (w : Rehearsal) (p : ℕ) (c : Command) (law : IsLawful w) (present : I
 
   mail_number : length (envelopes w.setting.members (submit_outcome w p c).mail) ≡ w.setting.members
   unfolding submit_outcome
-  mail_number = length-all w.setting.members (Data (next_message (state_of w).submitted p c))
+  mail_number = length-all (Data (next_message (state_of w).submitted p c)) w.setting.members
 
   cause-good : is_good c ≡ true
       → cause w (Submit p c)
@@ -67,9 +67,7 @@ module _ (w : Rehearsal) (p : ℕ) (c : Command) (law : IsLawful w) (present : I
 
   pub cause-submit-full : is_good c ≡ true → MAX_SUBMISSIONS ≤ submissions (state_of w).submitted p →
       cause w (Submit p c) ≡ Some (Full Submissions)
-  cause-submit-full good many =
-      let t : nat_lt MAX_SUBMISSIONS (submissions (state_of w).submitted p + 1) ≡ true = grind (arith, nat_tests) in
-      cause-good good ∙ rw t refl
+  cause-submit-full good many = grind (arith, cause-good good)
 
   pub cause-submit-sends : is_good c ≡ true → submissions (state_of w).submitted p < MAX_SUBMISSIONS →
       cause w (Submit p c) ≡ overflow w w.setting.members

@@ -1,9 +1,9 @@
 -- A step of a round is taken where none of its tests fires, and refused where one does.
-use Rattle.std.proofs.Common.{◌≡◌, ℕ, Bool, true, false, not, ◌&&◌, [], ◌∷◌, Option, Some, None, refl, sym, ap, ◌∙◌}
-use Rattle.std.specs.Prelude.{is_some, is_none, option_and_then}
+use Rattle.std.proofs.Common.{◌≡◌, ℕ, Bool, true, false, not, ◌&&◌, [], ◌∷◌, Option, Some, None, refl, ap, ◌∙◌, arith}
+use Rattle.std.specs.Prelude.{is_none, option_and_then}
 use Rattle.std.specs.Option.{option_map_or}
 use Rattle.ct_names.specs.declared.refusal.Refusal.{Refusal}
-use Rattle.ct_names.specs.declared.refusal.Refusal.TheVariants.{WrongPhase, TooFew, NotLargest, NoProposal, HasProposal}
+use Rattle.ct_names.specs.declared.refusal.Refusal.TheVariants.{WrongPhase, TooFew, NotLargest, NoProposal}
 use Rattle.ct_names.specs.Group.{is_majority}
 use Rattle.ct_model.specs.When.{when}
 use Rattle.ct_model.specs.State.{Standing}
@@ -11,15 +11,12 @@ use Rattle.ct_model.specs.Received.{Heard, Ballots, heard, estimate_from, is_lar
 use Rattle.ct_model.specs.Phases.{is_gather, is_wait, is_tally, chosen, choose, adopted, adopt, suspected, suspect, concluded, conclude}
 use Rattle.ct_model.specs.Test.{at, first_fault}
 use Rattle.ct_model.specs.Faults.{has_largest, choose_faults, adopt_faults, suspect_faults, conclude_faults}
-use Rattle.ct_model.proofs.Basics.Tests.{and_both}
 
 -- where two tests guard a value
 
 taken-two : {A : Type 0} (a b : Bool) (x : A) (r s : Refusal) → first_fault (at r (not a) ∷ at s (not b) ∷ []) ≡ None →
     when (a && b) x ≡ Some x
-taken-two true true x r s h = refl
-taken-two true false x r s h = absurd (cc)
-taken-two false b x r s h = absurd (cc)
+taken-two a b x r s h = grind arith
 
 -- enter
 
@@ -36,10 +33,7 @@ largest-heard {V} t from h = go (estimate_from t from) h
 module _ {V : Type 0} (n k : ℕ) (t : Ballots V) (c : Standing V) (from : ℕ) where
   three : (a b l : Bool) → first_fault (at WrongPhase (not a) ∷ at TooFew (not b) ∷ at NotLargest (not l) ∷ []) ≡ None →
       (a && b ≡ true) × (l ≡ true)
-  three true true true h = (refl, refl)
-  three true true false h = absurd (cc)
-  three true false l h = absurd (cc)
-  three false b l h = absurd (cc)
+  three a b l h = (grind arith, grind arith)
 
   pub choose-heard : first_fault (choose_faults n t c from) ≡ None → (e : Heard V) × (estimate_from t from ≡ Some e)
   choose-heard h = largest-heard t from (three (is_gather c.phase) (is_majority n (heard t)) (has_largest t from) h).1
@@ -47,11 +41,7 @@ module _ {V : Type 0} (n k : ℕ) (t : Ballots V) (c : Standing V) (from : ℕ) 
   pub choose-taken : (e : Heard V) → first_fault (choose_faults n t c from) ≡ None → estimate_from t from ≡ Some e →
       choose n k t c from ≡ Some (chosen k c e)
   unfolding choose
-  choose-taken e h is =
-      let w = three (is_gather c.phase) (is_majority n (heard t)) (has_largest t from) h in
-      let l : is_largest t e.ts ≡ true = sym (ap (λ o. option_map_or (λ x. is_largest t x.ts) o false) is) ∙ w.1 in
-      ap (option_and_then (λ x. when (is_gather c.phase && is_majority n (heard t) && is_largest t x.ts) (chosen k c x))) is
-      ∙ ap (λ b. when b (chosen k c e)) (and_both (is_gather c.phase && is_majority n (heard t)) (is_largest t e.ts) w.0 l)
+  choose-taken e h is = grind (arith, three (is_gather c.phase) (is_majority n (heard t)) (has_largest t from) h)
 
 -- adopt
 
@@ -67,24 +57,13 @@ module _ {V : Type 0} (n me k : ℕ) (t : Ballots V) (c : Standing V) where
   pub adopt-taken : (v : V) → first_fault (adopt_faults t c) ≡ None → t.proposal ≡ Some v → adopt n me k t c ≡ Some (adopted n me k c v)
   unfolding adopt
   adopt-taken v h is = ap (option_and_then (λ x. when (is_wait c.phase) (adopted n me k c x))) is
-      ∙ go (is_wait c.phase) (is_none t.proposal) h
-    where
-      go : (b l : Bool) → first_fault (at WrongPhase (not b) ∷ at NoProposal l ∷ []) ≡ None →
-          when b (adopted n me k c v) ≡ Some (adopted n me k c v)
-      go true l h = refl
-      go false l h = absurd (cc)
+      ∙ grind arith
 
   -- suspect
 
   pub suspect-taken : first_fault (suspect_faults t c) ≡ None → suspect n me k t c ≡ Some (suspected n me k c)
   unfolding suspect
-  suspect-taken h = go (is_wait c.phase) (is_some t.proposal) h
-    where
-      go : (a b : Bool) → first_fault (at WrongPhase (not a) ∷ at HasProposal b ∷ []) ≡ None →
-          when (a && not b) (suspected n me k c) ≡ Some (suspected n me k c)
-      go true true h = absurd (cc)
-      go true false h = refl
-      go false b h = absurd (cc)
+  suspect-taken h = grind arith
 
 -- conclude
 

@@ -1,5 +1,6 @@
 use super::*;
 use crate::quick::plain;
+use crate::reading::MAX_LEN;
 
 // A run with steps of each kind, but none that is refused.
 const RUN: &str =
@@ -7,6 +8,9 @@ const RUN: &str =
 
 // How many steps the quick way takes from the record, where it takes them all.
 fn taken(alloc: Global, record: &[u8]) -> Result<Option<usize>, AllocError> {
+    if record.len() > MAX_LEN {
+        return Ok(None);
+    }
     Ok(plain(alloc, record)?.map(|script| script.steps.len()))
 }
 
@@ -45,10 +49,25 @@ fn taken_with_end(alloc: Global, end: &str) -> Result<Option<usize>, AllocError>
 }
 
 #[test]
-fn a_line_end_is_read_quickly(rt: HostRuntime) -> Result<(), Fail> {
-    let one = taken_with_end(rt.alloc(), "\n")?;
-    let two = taken_with_end(rt.alloc(), "\n\n")?;
-    assert!(rt; one == Some(17) && two.is_none());
+fn white_space_at_the_end_is_read_quickly(rt: HostRuntime) -> Result<(), Fail> {
+    let spaces = taken_with_end(rt.alloc(), "\n \t\r\n")?;
+    let more = taken_with_end(rt.alloc(), "\n}")?;
+    assert!(rt; spaces == Some(17) && more.is_none());
+    Ok(())
+}
+
+// White space between all tokens, and the keys in another order.
+const SPACED: &str =
+    " {\t\"version\" : 3 ,\n\"n\":\r\n3,\"batch\" : 9, \"steps\" : [ [ \"crash\" , 2 ] ,\n[\n\"submit\", 1, [ \"set\" , 0 , 7 ] ], [ \"receive\" ,1 , 1 ] ] ,\"cells\":4 }\n";
+
+const UNSPACED: &str =
+    "{\"batch\":9,\"cells\":4,\"n\":3,\"steps\":[[\"crash\",2],[\"submit\",1,[\"set\",0,7]],[\"receive\",1,1]],\"version\":3}";
+
+#[test]
+fn white_space_and_another_order_are_read_quickly(rt: HostRuntime) -> Result<(), Fail> {
+    let alloc = rt.alloc();
+    let taken = taken(alloc, SPACED.as_bytes())?;
+    assert!(rt; taken == Some(3) && is_rewritten(alloc, SPACED, UNSPACED));
     Ok(())
 }
 
@@ -86,14 +105,13 @@ fn is_read_the_long_way(alloc: Global, record: &str) -> Result<bool, AllocError>
     Ok(quickly.is_none() && read)
 }
 
-// Another order of keys, a space, and other texts of its numbers.
+// An escape in a name or in a key, and more than five members, of which two have the same key.
 #[test]
 fn another_text_is_read_the_long_way(rt: HostRuntime) -> Result<(), Fail> {
     for record in [
-        "{\"n\":3,\"cells\":4,\"steps\":[[\"crash\",2]],\"version\":1}",
-        "{\"batch\":9,\"n\":3,\"cells\":4,\"steps\":[[\"crash\",2]],\"version\":3}",
-        "{\"batch\":9,\"cells\":4,\"n\":3,\"steps\":[ [\"crash\",2]],\"version\":3}",
-        "{\"batch\":9,\"cells\":4,\"n\":3,\"steps\":[[\"crash\",2]],\"version\":3} ",
+        "{\"n\":3,\"cells\":4,\"steps\":[[\"cr\\u0061sh\",2]],\"version\":1}",
+        "{\"n\":3,\"cell\\u0073\":4,\"steps\":[[\"crash\",2]],\"version\":1}",
+        "{\"n\":4,\"n\":3,\"batch\":9,\"cells\":4,\"steps\":[[\"crash\",2]],\"version\":3}",
     ] {
         assert!(rt; is_read_the_long_way(rt.alloc(), record)?, "{record}");
     }

@@ -5,7 +5,7 @@ use Rattle.ct_show.proofs.Seen.{input_seen}
 use Rattle.ct_diagram.specs.declared.fault.DiagramFault.{DiagramFault}
 use Rattle.ct_diagram.specs.declared.window.Window.{Window}
 use Rattle.ct_diagram.specs.Running.{FailsOn}
-use Rattle.ct_diagram.proofs.Seen.{draws_seen}
+use Rattle.ct_diagram.proofs.Seen.{drawing_fails, draws_seen}
 use Rattle.ct_diagram.proofs.running.draw.Goals as goal
 
 -- the fault that is handed on
@@ -21,7 +21,8 @@ returns-in_err-text-clause-fault g c =
     let bytes = c.in_ok-bytes.bytes.items in
     let fault = c.in_err-text.field-0.0 in
     handed c.from_residual-in_err-text.result fault left c.args.window.now c.from_residual-in_err-text.ensures.1
-    (input_seen left bytes bytes (λ r. FailsOn c.args.window.now fault r) c.in_ok-bytes.ensures.bytes refl c.in_err-text.ensures.fault)
+    (input_seen left bytes bytes (λ r. FailsOn c.args.window.now fault r) c.in_ok-bytes.ensures.bytes refl
+    (drawing_fails c.args.window.now fault (script bytes) c.in_err-text.ensures.fault))
 
 pub returns-in-Ok-clause-ok : goal.returns-in-Ok-clause-ok
 returns-in-Ok-clause-ok g c =

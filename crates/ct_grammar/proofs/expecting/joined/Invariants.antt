@@ -6,4 +6,5 @@ use Rattle.ct_grammar.proofs.expecting.joined.Given as goal
 
 -- the words that are left still stand behind the text
 abbrev pub invariant-loop-word : goal.invariant-loop-word
-invariant-loop-word l = string_bytes l.text ++ spaced (map (λ word. word.now) (drop l.word-index l.others)) ≡ text_of (map (λ word. word.now) l.fn.words)
+invariant-loop-word l =
+    string_bytes l.text ++ spaced (map (λ word. word.now) (drop l.word-index l.others)) ≡ text_of (map (λ word. word.now) l.fn.words)

@@ -10,4 +10,5 @@ returns-then-not-is_blank c = sym (prefix_len_is is_blank c.args.text.now c.loop
 pub returns : goal.returns
 returns c =
     let all : c.loop-i.i ≡ length c.args.text.now = omega arith in
-    sym (prefix_len_is is_blank c.args.text.now (length c.args.text.now) 0 (omega arith) (rw (← all) c.loop-i.invariant) (λ l. absurd (omega arith)))
+    sym (prefix_len_is is_blank c.args.text.now (length c.args.text.now) 0 (omega arith) (rw (← all) c.loop-i.invariant)
+    (λ l. absurd (omega arith)))

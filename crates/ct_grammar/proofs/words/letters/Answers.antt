@@ -10,4 +10,5 @@ returns-then-is_blank c = sym (position_or_len_is is_blank c.args.text.now c.loo
 pub returns : goal.returns
 returns c =
     let all : c.loop-i.i ≡ length c.args.text.now = omega arith in
-    sym (position_or_len_is is_blank c.args.text.now (length c.args.text.now) 0 (omega arith) (rw (← all) c.loop-i.invariant) (λ l. absurd (omega arith)))
+    sym (position_or_len_is is_blank c.args.text.now (length c.args.text.now) 0 (omega arith) (rw (← all) c.loop-i.invariant)
+    (λ l. absurd (omega arith)))

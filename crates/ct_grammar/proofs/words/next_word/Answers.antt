@@ -29,7 +29,8 @@ returns-then-begins_comment-clause-words c =
     let word : c.split_at.result.0.now ≡ take (position_or_len is_blank c.range_from-rest.result.now) c.range_from-rest.result.now = cc in
     let behind : c.split_at.result.1.now ≡ drop (position_or_len is_blank c.range_from-rest.result.now) c.range_from-rest.result.now = cc in
     let first : BeginsWith c.args.line.now c.split_at.result.0.now c.split_at.result.1.now =
-    first_of c.args.line.now c.range_from-rest.result.now c.split_at.result.0.now c.split_at.result.1.now rest word behind (grind (arith, nat_tests)) in
+    first_of c.args.line.now c.range_from-rest.result.now c.split_at.result.0.now c.split_at.result.1.now rest word behind
+    (grind (arith, nat_tests)) in
     let comment : begins_comment c.split_at.result.0.now ≡ true = cc in
     before_comment _ _ _ first comment
 
@@ -39,6 +40,7 @@ returns-clause-words c =
     let word : c.split_at.result.0.now ≡ take (position_or_len is_blank c.range_from-rest.result.now) c.range_from-rest.result.now = cc in
     let behind : c.split_at.result.1.now ≡ drop (position_or_len is_blank c.range_from-rest.result.now) c.range_from-rest.result.now = cc in
     let first : BeginsWith c.args.line.now c.split_at.result.0.now c.split_at.result.1.now =
-    first_of c.args.line.now c.range_from-rest.result.now c.split_at.result.0.now c.split_at.result.1.now rest word behind (grind (arith, nat_tests)) in
+    first_of c.args.line.now c.range_from-rest.result.now c.split_at.result.0.now c.split_at.result.1.now rest word behind
+    (grind (arith, nat_tests)) in
     let no_comment : begins_comment c.split_at.result.0.now ≡ false = cc in
     one_more _ _ _ first no_comment

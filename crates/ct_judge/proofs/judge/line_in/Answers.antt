@@ -7,7 +7,8 @@ use Rattle.ct_judge.proofs.judge.line_in.Goals as goal
 pub returns-in-Ok : goal.returns-in-Ok
 returns-in-Ok c =
     let h = c.in-Ok.ensures.cases in
-    subst (λ (v : Option Line). IfOk c.line_of.result (λ line. line ≡ v)) (text_line c.args.bytes.now c.in-Ok.text.now h.0 h.1) c.line_of.ensures
+    subst (λ (v : Option Line). IfOk c.line_of.result (λ line. line ≡ v)) (text_line c.args.bytes.now c.in-Ok.text.now h.0 h.1)
+    c.line_of.ensures
 
 pub returns-in-Err : goal.returns-in-Err
 returns-in-Err c = no_line c.args.bytes.now c.in-Err.ensures.cases.0

@@ -1,4 +1,4 @@
-use Rattle.std.proofs.Common.{◌≡◌, ℕ, ◌==◌, Bool, true, false, not, Option, refl, ap, ◌∙◌}
+use Rattle.std.proofs.Common.{arith, ◌≡◌, ℕ, ◌==◌, Bool, not, Option, ap, ◌∙◌}
 use Rattle.std.specs.Prelude.{unwrap_or, slice_index, if◌then◌else◌, Some, None}
 use Rattle.std.specs.Bool.{then_some}
 use Rattle.std.proofs.lemmas.Option.{unwrap_or-slice_get}
@@ -6,8 +6,7 @@ use Rattle.ct_program.specs.Report.{nonzero}
 use Rattle.ct_program.proofs.reporting.value_of.Goals as goal
 
 some_if : (b : Bool) (value : ℕ) → then_some (not b) value ≡ (if b then None else Some value)
-some_if true value = refl
-some_if false value = refl
+some_if b value = grind arith
 
 pub returns : goal.returns
 returns c =

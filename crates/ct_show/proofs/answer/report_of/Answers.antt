@@ -11,5 +11,5 @@ returns-in-Err-clause-ok c =
     let fault = c.in-Err.fault in
     let w = rehearsal_of c.args.script.now in
     answer_without Report w c.without_text.result fault
-    (subst (λ (steps : List Step). IsFaultOf w.setting w.cells steps fault.at fault.refusal) c.deref.ensures.value c.in-Err.ensures.err) refl
-    c.without_text.ensures.text c.without_text.ensures.fault c.without_text.ensures.not_memory
+    (subst (λ (steps : List Step). IsFaultOf w.setting w.cells steps fault.at fault.refusal) c.deref.ensures.value c.in-Err.ensures.err)
+    refl c.without_text.ensures.text c.without_text.ensures.fault c.without_text.ensures.not_memory

@@ -1,27 +1,20 @@
-use Rattle.std.proofs.Common.{◌≡◌, ◌≤◌, refl, ap, sym, ◌∙◌, subst, arith, length}
-use Rattle.std.specs.Prelude.{is_some, option_copied}
+use Rattle.std.proofs.Common.{◌≡◌, refl, ap, ◌∙◌, subst, arith}
+use Rattle.std.specs.Prelude.{is_some}
 use Rattle.ct_model.specs.declared.step.Step.TheVariants.{Deliver}
 use Rattle.ct_world.specs.declared.seat.Seat.{Seat}
 use Rattle.ct_world.specs.Prepared.{batch_in}
 use Rattle.ct_world.specs.Seats.{content, with_delivery}
-use Rattle.ct_world.proofs.Deliveries.{closed_lawful, has_number, posted_in, room_there, value_same, value_there}
-use Rattle.ct_world.proofs.Delivering.{deliver_due, deliver_open, deliver_steps}
-use Rattle.ct_world.proofs.Insides.{rehearsal_in, prepared_in, ready_in, within_in, seat_in, done_in, kept_in}
-use Rattle.ct_world.proofs.Posting.{posting_low}
+use Rattle.ct_world.proofs.Deliveries.{batch_low, has_number, posted_in, room_there, seat_fits, value_same, value_there}
+use Rattle.ct_world.proofs.Delivering.{deliver_in, deliver_open, deliver_steps}
+use Rattle.ct_world.proofs.Insides.{prepared_in, ready_in, within_in, seat_in, done_in, kept_in}
 use Rattle.ct_world.proofs.world.World.commit_deliver.Goals as goal
 
 pub unwrap-number-requires : goal.unwrap-number-requires
-unwrap-number-requires c =
-    let p = prepared_in c.self.inside c.self.view_is c.self.invariant c.requires in
-    let room = (ready_in c.self.inside c.self.view_is c.self.invariant c.requires).for_itself in
-    ap is_some c.number.ensures ∙ has_number p (deliver_due p) room
+unwrap-number-requires c = has_number (deliver_in c.self.inside c.self.view_is c.self.invariant c.requires) c.number.ensures
 
 pub post-requires : goal.post-requires
 post-requires c =
-    let p = prepared_in c.self.inside c.self.view_is c.self.invariant c.requires in
-    let room = (ready_in c.self.inside c.self.view_is c.self.invariant c.requires).for_itself in
-    posting_low (rehearsal_in c.self.inside) (Deliver c.args.member) (λ b. b.value) c.batch.result (closed_lawful p (deliver_due p))
-    (rw (c.batch.ensures ∙ ap batch_in c.take.ensures.value) room.posting)
+    batch_low (deliver_in c.self.inside c.self.view_is c.self.invariant c.requires) c.batch.result c.batch.ensures c.take.ensures.value
 
 pub overflow_sub-member : goal.overflow_sub-member
 overflow_sub-member c = (prepared_in c.self.inside c.self.view_is c.self.invariant c.requires).low
@@ -31,9 +24,8 @@ index_mut-seat-requires c = within_in c.self.inside (prepared_in c.self.inside c
 
 pub unwrap-requires : goal.unwrap-requires
 unwrap-requires c =
-    let p = prepared_in c.self.inside c.self.view_is c.self.invariant c.requires in
-    let room = (ready_in c.self.inside c.self.view_is c.self.invariant c.requires).for_itself in
-    value_there p (deliver_due p) room (sym c.number.ensures ∙ c.unwrap-number.ensures) c.get.result c.get.ensures
+    value_there (deliver_in c.self.inside c.self.view_is c.self.invariant c.requires) c.number.ensures c.unwrap-number.ensures
+    c.get.result c.get.ensures
 
 pub deliver-requires-clause-open : goal.deliver-requires-clause-open
 deliver-requires-clause-open c =
@@ -42,39 +34,31 @@ deliver-requires-clause-open c =
 
 pub deliver-requires-clause-fits : goal.deliver-requires-clause-fits
 deliver-requires-clause-fits c =
-    let p = prepared_in c.self.inside c.self.view_is c.self.invariant c.requires in
-    let room = (ready_in c.self.inside c.self.view_is c.self.invariant c.requires).for_itself in
-    ap (λ (s : Seat). s.caster.fits_batch) (seat_in c.self.inside p c.index_mut-seat.ensures.value) ∙ room.fits
+    seat_fits (deliver_in c.self.inside c.self.view_is c.self.invariant c.requires) c.index_mut-seat.ensures.value
 
 pub deliver-requires-clause-room : goal.deliver-requires-clause-room
 deliver-requires-clause-room c =
-    let p = prepared_in c.self.inside c.self.view_is c.self.invariant c.requires in
-    let room = (ready_in c.self.inside c.self.view_is c.self.invariant c.requires).for_itself in
-    subst (λ (s : Seat). length c.unwrap.result.now ≤ s.caster.room) (sym (seat_in c.self.inside p c.index_mut-seat.ensures.value))
-    (room_there p (deliver_due p) room (sym c.number.ensures ∙ c.unwrap-number.ensures) (sym c.get.ensures ∙ ap option_copied c.unwrap.ensures))
+    room_there (deliver_in c.self.inside c.self.view_is c.self.invariant c.requires) c.number.ensures
+    c.unwrap-number.ensures c.get.result c.get.ensures c.unwrap.ensures c.index_mut-seat.ensures.value
 
 pub join-requires : goal.join-requires
 join-requires c = omega (arith, (ready_in c.self.inside c.self.view_is c.self.invariant c.requires).for_step)
 
 pub invariant_of-self-2 : goal.invariant_of-self-2
 invariant_of-self-2 c =
-    let p = prepared_in c.self.inside c.self.view_is c.self.invariant c.requires in
-    let room = (ready_in c.self.inside c.self.view_is c.self.invariant c.requires).for_itself in
-    let same = value_same p (deliver_due p) room (sym c.number.ensures ∙ c.unwrap-number.ensures) (sym c.get.ensures ∙ ap option_copied c.unwrap.ensures) in
+    let d = deliver_in c.self.inside c.self.view_is c.self.invariant c.requires in
     rw c.take.ensures.after (kept_in c.self.inside (Deliver c.args.member) c.join.ensures
-    (deliver_steps p c.deliver.new.self same
+    (deliver_steps d.may c.deliver.new.self (value_same d c.number.ensures c.unwrap-number.ensures _ c.get.ensures c.unwrap.ensures)
     (subst (λ (s : Seat). content c.deliver.new.self ≡ content (with_delivery s c.unwrap.result.now))
-    (seat_in c.self.inside p c.index_mut-seat.ensures.value) c.deliver.ensures)
+    (seat_in c.self.inside d.may c.index_mut-seat.ensures.value) c.deliver.ensures)
     refl refl refl refl))
 
 pub returns-clause-done : goal.returns-clause-done
 returns-clause-done c =
-    let p = prepared_in c.self.inside c.self.view_is c.self.invariant c.requires in
-    done_in c.self.inside c.self.view_is p c.join.ensures (deliver_due p).taken refl
+    let d = deliver_in c.self.inside c.self.view_is c.self.invariant c.requires in
+    done_in c.self.inside c.self.view_is d.may c.join.ensures d.due.taken refl
 
 pub returns-clause-posted : goal.returns-clause-posted
 returns-clause-posted c =
-    let p = prepared_in c.self.inside c.self.view_is c.self.invariant c.requires in
-    let room = (ready_in c.self.inside c.self.view_is c.self.invariant c.requires).for_itself in
-    posted_in c.self.inside _ _ c.self.view_is p (deliver_due p) room (c.batch.ensures ∙ ap batch_in c.take.ensures.value)
-    c.in_ok-receipt.ensures.ok c.join.ensures
+    posted_in c.self.inside _ _ c.self.view_is (deliver_in c.self.inside c.self.view_is c.self.invariant c.requires)
+    (c.batch.ensures ∙ ap batch_in c.take.ensures.value) c.in_ok-receipt.ensures.ok c.join.ensures

@@ -48,8 +48,7 @@ tell-requires-clause-known c =
 -- when the watcher was told
 
 posted : (c : After-tell) → c.batches-posted.result ≡ length (order (state_of c.args.self.now.rehearsal))
-posted c = c.batches-posted.ensures ∙ ap length c.foremost-first.ensures.value
-    ∙ length-map (order (state_of c.args.self.now.rehearsal)) (λ (b : Batch). b.messages)
+posted c = grind (arith, length-map (order (state_of c.args.self.now.rehearsal)) (λ (b : Batch). b.messages))
 
 found : (c : After-tell) → IsMet (order (state_of c.args.self.now.rehearsal)) c.loop-place.watcher
 found c =

@@ -1,9 +1,0 @@
-use Rattle.std.proofs.Common.{◌≡◌, ◌++◌}
-use Rattle.std.specs.Prelude.{flat_map, string_bytes}
-use Rattle.ct_show.specs.State.{first_choices}
-use Rattle.ct_judge.specs.Answers.{enabled_step}
-use Rattle.ct_judge.proofs.answering.push_choices.Given as goal
-
-abbrev pub invariant-loop-i : goal.invariant-loop-i
-invariant-loop-i l =
-    string_bytes l.text ≡ string_bytes l.fn.text ++ flat_map (enabled_step l.world.rehearsal) (first_choices l.member l.i)
