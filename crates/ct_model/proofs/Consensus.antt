@@ -4,11 +4,7 @@ pub mod Readings
 pub mod Sent
 pub mod Growth
 pub mod Obligations
-pub mod RoundFacts
-pub mod Enter
-pub mod Choose
-pub mod Reply
-pub mod Conclude
+pub mod Turns
 pub mod Opening
 pub mod Others
 pub mod Runs

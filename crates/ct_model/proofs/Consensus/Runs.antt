@@ -2,19 +2,15 @@
 use Rattle.std.proofs.Common.{◌≡◌, ℕ, List, Some}
 use Rattle.ct_names.specs.Group.{IsMember}
 use Rattle.ct_model.specs.declared.step.Step.{Step}
-use Rattle.ct_model.specs.declared.moves.Move.{Move}
-use Rattle.ct_model.specs.declared.moves.Move.TheVariants.{Enter, Choose, Adopt, Suspect, Conclude}
 use Rattle.ct_model.specs.Actor.{actor}
-use Rattle.ct_model.specs.AtValue.{Wire, Standing, Turn}
+use Rattle.ct_model.specs.AtValue.{Wire}
 use Rattle.ct_model.specs.Setting.{Setting}
 use Rattle.ct_model.specs.declared.wire.Wire.TheVariants.{Prop, Ack}
-use Rattle.ct_model.specs.State.{State, Member, member, first_state}
-use Rattle.ct_model.specs.Next.{Outcome, row, turn_at, turned, next}
+use Rattle.ct_model.specs.State.{State, member, first_state}
+use Rattle.ct_model.specs.Next.{Outcome, row, next}
 use Rattle.ct_model.specs.Run.{run}
 use Rattle.ct_model.proofs.Consensus.Sent.{Sent, Sent-wire}
-use Rattle.ct_model.proofs.Consensus.Choose.{allowed-choose}
-use Rattle.ct_model.proofs.Consensus.Conclude.{allowed-conclude}
-use Rattle.ct_model.proofs.Consensus.Enter.{allowed-enter}
+use Rattle.ct_model.proofs.Consensus.Turns.{allowed-turn}
 use Rattle.ct_model.proofs.Consensus.Facts.{Holds}
 use Rattle.ct_model.proofs.Record.Start.{member-first, size-first}
 use Rattle.ct_model.proofs.Basics.Groups.{member_is}
@@ -23,28 +19,16 @@ use Rattle.ct_model.proofs.Relay.Messages.{next-is}
 use Rattle.ct_model.proofs.Consensus.Opening.{allowed-begin, allowed-deliver, allowed-follow}
 use Rattle.ct_model.proofs.Basics.Options.{some-none}
 use Rattle.ct_model.proofs.Record.Runs.{kept-run}
-use Rattle.ct_model.proofs.Consensus.Reply.{allowed-adopt, allowed-suspect}
 use Rattle.ct_model.proofs.Steps.Shapes.{by_shape}
 use Rattle.ct_model.proofs.Consensus.Others.{allowed-submit, allowed-receive, allowed-mark}
 
 module _ (s : Setting) (g : State) (p : ℕ) (holds : Holds s g) (is : IsMember s.members p) where
-  abbrev m : Member
-  m = member g p
-
-  allowed-turn : (a : Move) (c : Standing) (t : Turn) → (member g p).current ≡ Some c → turn_at s.members p (member g p) a c ≡ Some t
-      → IsAllowed s g p (turned (member g p) t)
-  allowed-turn Enter = allowed-enter s g p holds is
-  allowed-turn (Choose from) = allowed-choose s g p holds is from
-  allowed-turn Adopt = allowed-adopt s g p holds is
-  allowed-turn Suspect = allowed-suspect s g p holds is
-  allowed-turn Conclude = allowed-conclude s g p holds is
-
   allowed-step : (step : Step) (o : Outcome) → row s g p (member g p) step ≡ Some o → IsAllowed s g p o
-  allowed-step step o = by_shape s g p m (IsAllowed s g p) step o (record {
+  allowed-step step o = by_shape s g p (member g p) (IsAllowed s g p) step o (record {
     submits = λ c good. allowed-submit s g p holds is c;
     gets = λ k w at. allowed-receive s g p holds is w (Sent-wire g p k w at);
     opens = λ idle some. allowed-begin s g p holds is;
-    turns = allowed-turn;
+    turns = λ a c t at x. allowed-turn s g p holds is c at a t x;
     closes = λ c v open_at has delivers. allowed-deliver s g p holds is v;
     follows = λ v idle has delivers. allowed-follow s g p holds is v;
     marks = λ crashed. allowed-mark s g p holds is crashed;
