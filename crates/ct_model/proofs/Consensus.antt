@@ -5,7 +5,6 @@ pub mod Sent
 pub mod Growth
 pub mod Obligations
 pub mod Turns
-pub mod Opening
 pub mod Others
 pub mod Runs
 pub mod Locking

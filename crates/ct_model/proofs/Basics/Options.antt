@@ -1,6 +1,6 @@
 -- What follows where an optional value is there.
 use Rattle.std.proofs.Common.{arith, ◌≡◌, Bool, true, false, Option, Some, None, option_map, option_and_then, refl}
-use Rattle.std.specs.Prelude.{is_none, is_some}
+use Rattle.std.specs.Prelude.{◌&&◌, is_none, is_some}
 use Rattle.ct_model.specs.When.{when}
 
 pub some-same : {A : Type 0} (x y : A) → Some x ≡ Some y → x ≡ y
@@ -18,6 +18,10 @@ when-some b x e = grind arith
 pub when-is : {A : Type 0} (b : Bool) (x y : A) → when b x ≡ Some y → (b ≡ true) × (x ≡ y)
 when-is true x y e = (refl, some-same x y e)
 when-is false x y e = some-none y e
+
+pub when-both : {A : Type 0} (a b : Bool) (x y : A) → when (a && b) x ≡ Some y → (a ≡ true) × (b ≡ true) × (x ≡ y)
+when-both true b x y e = let r = when-is b x y e in (refl, r.0, r.1)
+when-both false b x y e = some-none y e
 
 pub record Made {A B : Type 0} (f : A → B) (o : Option A) (y : B) : Type 0 where
   pub from : A

@@ -1,21 +1,26 @@
--- The shapes of outcomes that leave the open instance alone keep the facts.
-use Rattle.std.proofs.Common.{◌≡◌, ℕ, Bool, true, List, [], ◌∷◌, ◌++◌, refl, sym, ◌∙◌, subst, inl, inr, true≢false}
-use Rattle.ct_names.specs.declared.command.Command.{Command}
+-- The shapes of outcomes that turn in no round keep the facts, and so every step does.
+use Rattle.std.proofs.Common.{◌≡◌, ℕ, ◌+◌, true, List, [], ◌∷◌, Some, refl, sym, ◌∙◌, subst, inl, inr, arith, true≢false}
 use Rattle.ct_names.specs.Group.{IsMember}
 use Rattle.ct_names.specs.Membership.{IsIn}
+use Rattle.ct_names.specs.Value.{Value}
 use Rattle.ct_names.proofs.Lists
-use Rattle.ct_model.specs.AtValue.{Wire}
+use Rattle.ct_model.specs.declared.phase.Phase.TheVariants.{Rest}
+use Rattle.ct_model.specs.declared.step.Step.{Step}
+use Rattle.ct_model.specs.AtValue.{Wire, Standing}
 use Rattle.ct_model.specs.Setting.{Setting}
 use Rattle.ct_model.specs.declared.wire.Wire.TheVariants.{Est, Prop, Ack}
 use Rattle.ct_model.specs.declared.mail.Mail.TheVariants.{Nobody}
-use Rattle.ct_model.specs.State.{State, member}
-use Rattle.ct_model.specs.Next.{Outcome, plain, submit, receive, is_relayed, after}
-use Rattle.ct_model.proofs.Consensus.Sent.{Sent, Carries}
+use Rattle.ct_model.specs.State.{State, Member, member}
+use Rattle.ct_model.specs.Next.{Outcome, plain, row, submit, receive, is_relayed, begin, close, proposed, after}
+use Rattle.ct_model.proofs.Consensus.Sent.{Sent, Carries, Sent-wire}
 use Rattle.ct_model.proofs.Consensus.Facts.{IsFounded, IsSound, Holds}
-use Rattle.ct_model.proofs.Consensus.Growth.{Grows, IsFounded-grows, IsSound-grows}
-use Rattle.ct_model.proofs.Consensus.Growth.Advance.{stays}
+use Rattle.ct_model.proofs.Consensus.Growth.{Advance, IsFounded-grows, IsSound-grows}
+use Rattle.ct_model.proofs.Consensus.Growth.Advance.{stays, opens, closes}
 use Rattle.ct_model.proofs.Consensus.Obligations.{IsAllowed, grows}
+use Rattle.ct_model.proofs.Consensus.Turns.{allowed-turn}
+use Rattle.ct_model.proofs.Basics.Options.{some-same, some-none}
 use Rattle.ct_model.proofs.Steps.Mail.{carried-if}
+use Rattle.ct_model.proofs.Steps.Shapes.{by_shape}
 
 -- wires that aren't of a round's votes
 abbrev IsApart : Wire → Type 0
@@ -24,29 +29,6 @@ IsApart (Prop k r v) = ⊥
 IsApart (Ack k r q) = ⊥
 IsApart _ = Unit {0}
 
-allowed-silent : (s : Setting) (g : State) (p : ℕ) (o : Outcome) → Holds s g → IsMember s.members p → o.member.last ≡ (member g p).last →
-    o.member.current ≡ (member g p).current → ((w : Wire) → IsIn w o.member.got → Sent g w) → ((w : Wire) → Carries o.mail w → IsApart w) →
-    ((w : Wire) → Carries o.mail w → IsFounded s (after s g p o) w) → IsAllowed s g p o
-allowed-silent s g p o holds is last current got apart founded =
-    let up : Grows s g (after s g p o) = grows s g p o holds is (stays last current) in
-    record {
-      advance = stays last current;
-      got = got;
-      sound = λ c x.
-          subst (λ k. IsSound s (after s g p o) p k c) (sym last)
-          (IsSound-grows s g (after s g p o) up p (member g p).last c (holds.sound p is c (sym current ∙ x)));
-      founded = founded;
-      first_proposal = λ k r v w x sent. absurd (apart (Prop k r v) x);
-      estimate_after_ack = λ k r later q v ts x sent lt. absurd (apart (Est k later q v ts) x);
-      ack_after_estimate = λ k r later q v ts x sent lt. absurd (apart (Ack k r q) x);
-    }
-
-pub allowed-submit : (s : Setting) (g : State) (p : ℕ) → Holds s g → IsMember s.members p → (c : Command)
-    → IsAllowed s g p (submit g p (member g p) c)
-allowed-submit s g p holds is c =
-    allowed-silent s g p (submit g p (member g p) c) holds is refl refl (λ w x. holds.got p is w x)
-    (λ w same. rw same tt) (λ w same. rw same tt)
-
 relayed_apart : (s : Setting) (p : ℕ) (got : List Wire) (w : Wire) → is_relayed s p got w ≡ true → IsApart w
 unfolding is_relayed
 relayed_apart s p got (Est k r q v ts) h = true≢false (sym h)
@@ -54,27 +36,77 @@ relayed_apart s p got (Prop k r v) h = true≢false (sym h)
 relayed_apart s p got (Ack k r q) h = true≢false (sym h)
 relayed_apart s p got _ h = tt
 
-got-more : (g : State) (got : List Wire) (w : Wire) → ((x : Wire) → IsIn x got → Sent g x) → Sent g w → (x : Wire) →
-    IsIn x (got ++ w ∷ []) → Sent g x
-got-more g got w old new x h = elim (Lists.IsIn-append_cases x got (w ∷ []) h) [
-  | inl a ↦ old x a
-  | inr b ↦ elim b [ inl e ↦ rw e new | inr never ↦ absurd never ]
-]
+module _ (s : Setting) (g : State) (p : ℕ) (holds : Holds s g) (is : IsMember s.members p) where
+  abbrev m : Member
+  m = member g p
 
-pub allowed-receive : (s : Setting) (g : State) (p : ℕ) → Holds s g → IsMember s.members p → (w : Wire) → Sent g w
-    → IsAllowed s g p (receive s p (member g p) w)
-allowed-receive s g p holds is w sent =
-    let u : Outcome = receive s p (member g p) w in
-    let up : Grows s g (after s g p u) = grows s g p u holds is (stays refl refl) in
-    allowed-silent s g p u holds is refl refl
-    (got-more g (member g p).got w (λ x h. holds.got p is x h) sent)
-    (λ x c. let r = carried-if (is_relayed s p (member g p).got w) w x c in rw r.1 (relayed_apart s p (member g p).got w r.0))
-    (λ x c.
-    let r = carried-if (is_relayed s p (member g p).got w) w x c in
-    rw r.1 (IsFounded-grows s g (after s g p u) up w (holds.founded w sent)))
+  -- what is left to show where no vote is sent
+  allowed-apart : (o : Outcome) → Advance m o.member → ((w : Wire) → IsIn w o.member.got → Sent g w) →
+      ((c : Standing) → o.member.current ≡ Some c → IsSound s (after s g p o) p o.member.last c) →
+      ((w : Wire) → Carries o.mail w → IsApart w × IsFounded s (after s g p o) w) → IsAllowed s g p o
+  allowed-apart o advance got sound sends = record {
+    advance = advance;
+    got = got;
+    sound = sound;
+    founded = λ w x. (sends w x).1;
+    first_proposal = λ k r v w x sent. absurd (sends (Prop k r v) x).0;
+    estimate_after_ack = λ k r later q v ts x sent lt. absurd (sends (Est k later q v ts) x).0;
+    ack_after_estimate = λ k r later q v ts x sent lt. absurd (sends (Ack k r q) x).0;
+  }
 
-pub allowed-mark : (s : Setting) (g : State) (p : ℕ) → Holds s g → IsMember s.members p → (crashed : Bool)
-    → IsAllowed s g p (plain (record (member g p) { crashed = crashed }) Nobody)
-allowed-mark s g p holds is crashed =
-    allowed-silent s g p (plain (record (member g p) { crashed = crashed }) Nobody) holds is refl refl
-    (λ w x. holds.got p is w x) (λ w x. absurd x) (λ w x. absurd x)
+  -- where the instances stay
+  allowed-silent : (o : Outcome) → o.member.last ≡ m.last → o.member.current ≡ m.current → ((w : Wire) → IsIn w o.member.got → Sent g w) →
+      ((w : Wire) → Carries o.mail w → IsApart w × IsFounded s (after s g p o) w) → IsAllowed s g p o
+  allowed-silent o last current got = allowed-apart o (stays last current) got
+      (λ c x. subst (λ k. IsSound s (after s g p o) p k c) (sym last)
+      (IsSound-grows s g (after s g p o) (grows s g p o holds is (stays last current)) p m.last c (holds.sound p is c (sym current ∙ x))))
+
+  allowed-receive : (w : Wire) → Sent g w → IsAllowed s g p (receive s p m w)
+  allowed-receive w sent =
+      let o : Outcome = receive s p m w in
+      allowed-silent o refl refl (λ x h. elim (Lists.IsIn-append_cases x m.got (w ∷ []) h) [
+        | inl a ↦ holds.got p is x a
+        | inr b ↦ elim b [ inl e ↦ rw e sent | inr never ↦ absurd never ]
+      ])
+      (λ x c.
+      let r = carried-if (is_relayed s p m.got w) w x c in
+      rw r.1 (
+        relayed_apart s p m.got w r.0,
+        IsFounded-grows s g (after s g p o) (grows s g p o holds is (stays refl refl)) w (holds.founded w sent),
+      ))
+
+  -- the standing in a new instance
+  abbrev fresh : Standing
+  fresh = record { round = 0; phase = Rest; estimate = proposed s m; ts = 0 }
+
+  begun_sound : IsSound s (after s g p (begin s p m)) p (m.last + 1) fresh
+  unfolding after
+  begun_sound = record {
+    ts_low = omega arith;
+    started = λ x. absurd (cc);
+    gathers = λ x. absurd (cc);
+    tallies = λ x. absurd (cc);
+    proposed = record {
+      by = p;
+      is_in = Lists.IsIn-append_right _ g.proposals (begin s p m).proposals (inl refl);
+    };
+    carried = λ some. absurd (omega arith);
+    waits_own = λ x own. absurd (cc);
+    tallies_own = λ x. absurd (cc);
+  }
+
+  -- the member closes an instance, and moves on so
+  allowed-close : (k : ℕ) (v : Value) → Advance m (close m k v).member → IsAllowed s g p (close m k v)
+  allowed-close k v advance = allowed-apart (close m k v) advance (λ w x. holds.got p is w x) (λ d x. some-none d x) (λ w x. absurd x)
+
+  pub allowed-step : (step : Step) (o : Outcome) → row s g p (member g p) step ≡ Some o → IsAllowed s g p o
+  allowed-step step o = by_shape s g p m (IsAllowed s g p) step o (record {
+    submits = λ c good. allowed-silent (submit g p m c) refl refl (λ w x. holds.got p is w x) (λ w same. rw same (tt, tt));
+    gets = λ k w at. allowed-receive w (Sent-wire g p k w at);
+    opens = λ idle some. allowed-apart (begin s p m) (opens refl) (λ w x. holds.got p is w x)
+        (λ d x. subst (λ z. IsSound s (after s g p (begin s p m)) p (m.last + 1) z) (some-same fresh d x) begun_sound) (λ w x. absurd x);
+    turns = λ a c t at x. allowed-turn s g p holds is c at a t x;
+    closes = λ c v open_at has delivers. allowed-close m.last v (closes refl refl);
+    follows = λ v idle has delivers. allowed-close (m.last + 1) v (opens refl);
+    marks = λ crashed. allowed-silent (plain (record m { crashed = crashed }) Nobody) refl refl (λ w x. holds.got p is w x) (λ w x. absurd x);
+  })

@@ -1,38 +1,22 @@
 -- The facts hold after every run.
-use Rattle.std.proofs.Common.{◌≡◌, ℕ, List, Some}
+use Rattle.std.proofs.Common.{◌≡◌, List, Some}
 use Rattle.ct_names.specs.Group.{IsMember}
 use Rattle.ct_model.specs.declared.step.Step.{Step}
 use Rattle.ct_model.specs.Actor.{actor}
 use Rattle.ct_model.specs.AtValue.{Wire}
 use Rattle.ct_model.specs.Setting.{Setting}
-use Rattle.ct_model.specs.declared.wire.Wire.TheVariants.{Prop, Ack}
-use Rattle.ct_model.specs.State.{State, member, first_state}
-use Rattle.ct_model.specs.Next.{Outcome, row, next}
+use Rattle.ct_model.specs.State.{State, first_state}
+use Rattle.ct_model.specs.Next.{next}
 use Rattle.ct_model.specs.Run.{run}
-use Rattle.ct_model.proofs.Consensus.Sent.{Sent, Sent-wire}
-use Rattle.ct_model.proofs.Consensus.Turns.{allowed-turn}
+use Rattle.ct_model.proofs.Consensus.Sent.{Sent}
 use Rattle.ct_model.proofs.Consensus.Facts.{Holds}
 use Rattle.ct_model.proofs.Record.Start.{member-first, size-first}
 use Rattle.ct_model.proofs.Basics.Groups.{member_is}
-use Rattle.ct_model.proofs.Consensus.Obligations.{IsAllowed, kept}
+use Rattle.ct_model.proofs.Consensus.Obligations.{kept}
 use Rattle.ct_model.proofs.Relay.Messages.{next-is}
-use Rattle.ct_model.proofs.Consensus.Opening.{allowed-begin, allowed-deliver, allowed-follow}
 use Rattle.ct_model.proofs.Basics.Options.{some-none}
 use Rattle.ct_model.proofs.Record.Runs.{kept-run}
-use Rattle.ct_model.proofs.Steps.Shapes.{by_shape}
-use Rattle.ct_model.proofs.Consensus.Others.{allowed-submit, allowed-receive, allowed-mark}
-
-module _ (s : Setting) (g : State) (p : ℕ) (holds : Holds s g) (is : IsMember s.members p) where
-  allowed-step : (step : Step) (o : Outcome) → row s g p (member g p) step ≡ Some o → IsAllowed s g p o
-  allowed-step step o = by_shape s g p (member g p) (IsAllowed s g p) step o (record {
-    submits = λ c good. allowed-submit s g p holds is c;
-    gets = λ k w at. allowed-receive s g p holds is w (Sent-wire g p k w at);
-    opens = λ idle some. allowed-begin s g p holds is;
-    turns = λ a c t at x. allowed-turn s g p holds is c at a t x;
-    closes = λ c v open_at has delivers. allowed-deliver s g p holds is v;
-    follows = λ v idle has delivers. allowed-follow s g p holds is v;
-    marks = λ crashed. allowed-mark s g p holds is crashed;
-  })
+use Rattle.ct_model.proofs.Consensus.Others.{allowed-step}
 
 pub Holds-next : (s : Setting) (g : State) (step : Step) (h : State) → next s g step ≡ Some h → Holds s g → Holds s h
 Holds-next s g step h e holds =
@@ -50,9 +34,9 @@ Holds-first s = record {
   got = λ p is w x. absurd (rw (member-first s p) at x);
   sound = λ p is c x. some-none c (rw (member-first s p) at x);
   founded = λ w x. absurd (nothing_sent s w x);
-  one_proposal = λ k r v w x y. absurd (nothing_sent s (Prop k r v) x);
-  ts_after_ack = λ k r later q v ts x y lt. absurd (nothing_sent s (Ack k r q) x);
+  one_proposal = λ k r v w x y. absurd (nothing_sent s _ x);
+  ts_after_ack = λ k r later q v ts x y lt. absurd (nothing_sent s _ x);
 }
 
 pub Holds-run : (s : Setting) (steps : List Step) (g : State) → run s steps ≡ Some g → Holds s g
-Holds-run s = kept-run (Holds s) s (Holds-first s) (λ g step h e holds. Holds-next s g step h e holds)
+Holds-run s = kept-run (Holds s) s (Holds-first s) (Holds-next s)

@@ -9,17 +9,17 @@ use Rattle.ct_model.specs.declared.step.Step.{Step}
 use Rattle.ct_model.specs.Actor.{actor}
 use Rattle.ct_model.specs.AtValue.{Wire, Standing, Turn}
 use Rattle.ct_model.specs.Setting.{Setting}
-use Rattle.ct_model.specs.State.{State, Member, joined, member, new_member, first_state}
+use Rattle.ct_model.specs.State.{State, Member, joined, member, new_member}
 use Rattle.ct_names.specs.Batch.{Batch}
 use Rattle.ct_model.specs.Received.{head, decision_of, decided}
 use Rattle.ct_model.specs.Next.{Outcome, row, turned, begin, close, deliver, follow, batch_of, after, next}
 use Rattle.ct_model.specs.Run.{run}
-use Rattle.ct_model.proofs.Record.Start.{member-first, size-first}
+use Rattle.ct_model.proofs.Record.Start.{member-first}
 use Rattle.ct_model.proofs.Record.Frame.{member-same, member-other, at_place}
-use Rattle.ct_model.proofs.Relay.Messages.{next-is, in_members, size-next}
+use Rattle.ct_model.proofs.Relay.Messages.{next-is, in_members}
 use Rattle.ct_model.proofs.Basics.Options.{some-none}
 use Rattle.ct_model.proofs.Steps.Shapes.{by_shape}
-use Rattle.ct_model.proofs.Record.Runs.{kept-run}
+use Rattle.ct_model.proofs.Record.Runs.{kept-sized}
 
 -- the batches that decisions give, up to an instance
 unfoldable pub deliveries : (ℕ → Value) → ℕ → List Batch
@@ -173,14 +173,6 @@ closed-new = record {
   decided = λ k lo hi. absurd (omega arith);
 }
 
-closed-first : (s : Setting) → HaveClosed (first_state s)
-closed-first s p = subst (λ m. HasClosed m) (sym (member-first s p)) closed-new
-
--- the group has its size, and each member closed its instances
-pub record KnowsInstances (s : Setting) (g : State) : Type 0 where
-  pub size : length g.members ≡ s.members
-  pub closed : HaveClosed g
-
-pub closed-run : (s : Setting) (steps : List Step) (g : State) → run s steps ≡ Some g → KnowsInstances s g
-closed-run s = kept-run (KnowsInstances s) s (record { size = size-first s; closed = closed-first s })
-    (λ g step h e f. record { size = size-next s g step h e f.size; closed = closed-next s g step h e f.size f.closed })
+-- after every run the group has its size, and each member closed its instances
+pub closed-run : (s : Setting) (steps : List Step) (g : State) → run s steps ≡ Some g → (length g.members ≡ s.members) × HaveClosed g
+closed-run s = kept-sized HaveClosed s (λ p. rw (member-first s p) closed-new) (closed-next s)

@@ -82,7 +82,7 @@ module _ (s : Setting) (steps : List Step) (g : State) (runs : run s steps ≡ S
 
   pub batches-few : (p : ℕ) (b : Batch) → IsMember s.members p → IsIn b (member g p).batches → length b.messages ≤ s.bound
   batches-few p b is h =
-      let a = (closed-run s steps g runs).closed p in
+      let a = (closed-run s steps g runs).1 p in
       deliveries-few (decision (member g p).got) s.bound a.closed
       (λ k lo hi.
       let d = a.decided k lo hi in

@@ -146,7 +146,7 @@ deliveries-place f (suc c) i b e =
 module _ (s : Setting) (steps : List Step) (g : State) (runs : run s steps ≡ Some g) where
   pub batches-prefix : IsAgreed s g → (p q : ℕ) → IsMember s.members p → IsMember s.members q →
       IsPrefix (member g p).batches (member g q).batches ⊎ IsPrefix (member g q).batches (member g p).batches
-  batches-prefix agree = one_order s g agree (closed-run s steps g runs).closed
+  batches-prefix agree = one_order s g agree (closed-run s steps g runs).1
 
   pub delivered-prefix : IsAgreed s g → (p q : ℕ) → IsMember s.members p → IsMember s.members q →
       IsPrefix (delivered_by g p) (delivered_by g q) ⊎ IsPrefix (delivered_by g q) (delivered_by g p)
@@ -157,12 +157,12 @@ module _ (s : Setting) (steps : List Step) (g : State) (runs : run s steps ≡ S
 
   pub delivered-once : (p : ℕ) → IsWithoutRepeats (delivered_by g p)
   delivered-once p =
-      let a = (closed-run s steps g runs).closed p in
+      let a = (closed-run s steps g runs).1 p in
       rw a.batches (once-deliveries (decision (member g p).got) a.closed)
 
   pub delivered-submitted : IsAgreed s g → (p : ℕ) (m : Message) → IsMember s.members p → IsIn m (delivered_by g p) → IsIn m g.submitted
   delivered-submitted agree p m is h =
-      let a = (closed-run s steps g runs).closed p in
+      let a = (closed-run s steps g runs).1 p in
       let f : ℕ → Value = decision (member g p).got in
       let from : IsOfInstance f a.closed m = from-deliveries f a.closed m (rw a.batches at h) in
       let one : HasDecision (member g p).got from.instance = a.decided from.instance from.first from.closed in
@@ -175,12 +175,12 @@ module _ (s : Setting) (steps : List Step) (g : State) (runs : run s steps ≡ S
   unfolding order
   order-prefix agree p is =
       let f = closed-run s steps g runs in
-      longest-prefix [] (lists_of g) (in_one_order s g agree f.closed f.size) (member g p).batches (member-in g p)
+      longest-prefix [] (lists_of g) (in_one_order s g agree f.1 f.0) (member g p).batches (member-in g p)
 
   -- the batch at a place from 0 is of the instance of that number from 1
   pub order-place : (p i : ℕ) (b : Batch) → slice_get (member g p).batches i ≡ Some b → b.instance ≡ i + 1
   order-place p i b e =
-      let a = (closed-run s steps g runs).closed p in
+      let a = (closed-run s steps g runs).1 p in
       deliveries-place (decision (member g p).got) a.closed i b (rw a.batches at e)
 
   -- and so in the order of the whole group

@@ -1,5 +1,5 @@
 -- The messages that are proposed were submitted.
-use Rattle.std.proofs.Common.{◌≡◌, ℕ, List, Some, sym, ap, subst, inl, inr, ◌⊎◌, length, take, drop}
+use Rattle.std.proofs.Common.{◌≡◌, ℕ, List, Some, sym, ap, subst, inl, inr, ◌⊎◌, take, drop}
 use Rattle.std.proofs.lemmas.List.{take-append-drop}
 use Rattle.ct_names.specs.Membership.{IsIn}
 use Rattle.ct_names.specs.Message.{Message}
@@ -14,11 +14,11 @@ use Rattle.ct_model.specs.State.{State, Member, Proposal, member, delivered, fir
 use Rattle.ct_model.specs.Received.{received}
 use Rattle.ct_model.specs.Next.{Outcome, row, undelivered, proposed, after, next}
 use Rattle.ct_model.specs.Run.{run}
-use Rattle.ct_model.proofs.Record.Start.{knows-first, size-first}
+use Rattle.ct_model.proofs.Record.Start.{knows-first}
 use Rattle.ct_model.proofs.Record.Frame.{after-submitted}
-use Rattle.ct_model.proofs.Relay.Messages.{next-is, received-by, knows-next, size-next}
+use Rattle.ct_model.proofs.Relay.Messages.{next-is, received-by, knows-next}
 use Rattle.ct_model.proofs.Steps.Shapes.{by_shape}
-use Rattle.ct_model.proofs.Record.Runs.{kept-run}
+use Rattle.ct_model.proofs.Record.Runs.{kept-sized}
 
 -- each message of a proposal was submitted
 abbrev pub ProposesSubmitted : State → Type 0
@@ -76,27 +76,7 @@ proposes-next s g step h e k old =
     subst (λ x. ProposesSubmitted x) t.gives
     (proposes-after s g p t.outcome k (proposes-row s g p (member g p) step t.outcome t.row) old)
 
-proposes-first : (s : Setting) → ProposesSubmitted (first_state s)
-unfolding first_state
-proposes-first s x h m inside = absurd h
-
-record KnowsProposals (s : Setting) (g : State) : Type 0 where
-  size : length g.members ≡ s.members
-  messages : KnowsMessages s g
-  proposals : ProposesSubmitted g
-
-knows_proposals-run : (s : Setting) (steps : List Step) (g : State) → run s steps ≡ Some g → KnowsProposals s g
-knows_proposals-run s = kept-run (KnowsProposals s) s (record {
-  size = size-first s;
-  messages = knows-first s;
-  proposals =
-      proposes-first s;
-})
-    (λ g step h e k. record {
-      size = size-next s g step h e k.size;
-      messages = knows-next s g step h e k.size k.messages;
-      proposals = proposes-next s g step h e k.messages k.proposals;
-    })
-
 pub proposes-run : (s : Setting) (steps : List Step) (g : State) → run s steps ≡ Some g → ProposesSubmitted g
-proposes-run s steps g e = (knows_proposals-run s steps g e).proposals
+unfolding first_state
+proposes-run s steps g e = (kept-sized (λ g. KnowsMessages s g × ProposesSubmitted g) s (knows-first s, λ x never. absurd never)
+    (λ g step h e size k. (knows-next s g step h e size k.0, proposes-next s g step h e k.0 k.1)) steps g e).1.1

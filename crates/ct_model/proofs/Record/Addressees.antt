@@ -1,5 +1,5 @@
 -- Who is named is a member: the sender that a wire names, and the one to whom a step sends one envelope.
-use Rattle.std.proofs.Common.{◌≡◌, ℕ, ◌≤◌, ◌<◌, List, [], ◌∷◌, Some, sym, subst, inl, inr, arith}
+use Rattle.std.proofs.Common.{◌≡◌, ℕ, ◌≤◌, ◌<◌, List, Some, inl, inr, arith}
 use Rattle.ct_names.specs.declared.limit.TheConstants.{MAX_MEMBERS}
 use Rattle.ct_names.specs.Group.{IsMember}
 use Rattle.ct_names.specs.Membership.{IsIn}
@@ -8,15 +8,15 @@ use Rattle.ct_model.specs.Actor.{actor}
 use Rattle.ct_model.specs.AtValue.{Wire, Mail}
 use Rattle.ct_model.specs.Counted.{NamesSomebody}
 use Rattle.ct_model.specs.Setting.{Setting}
-use Rattle.ct_model.specs.declared.wire.Wire.TheVariants.{Est, Ack, Nack}
+use Rattle.ct_model.specs.declared.wire.Wire.TheVariants.{Data, Est, Prop, Ack, Nack, Dec}
 use Rattle.ct_model.specs.declared.mail.Mail.TheVariants.{One}
 use Rattle.ct_model.specs.State.{State, Member, member, first_state, wires}
 use Rattle.ct_model.specs.Next.{Outcome, row, next}
-use Rattle.ct_model.specs.Run.{run, run_from}
+use Rattle.ct_model.specs.Run.{run}
 use Rattle.ct_model.proofs.Consensus.Sent.{Sent, Carries, Sent-cases}
 use Rattle.ct_model.proofs.Basics.Groups.{member_is, coordinator_is}
 use Rattle.ct_model.proofs.Relay.Messages.{next-is}
-use Rattle.ct_model.proofs.Basics.Options.{some-same, made-then}
+use Rattle.ct_model.proofs.Record.Runs.{kept-run}
 use Rattle.ct_model.proofs.Steps.Mail.{IsSending, row-sends}
 use Rattle.ct_model.proofs.Steps.Mail.IsSending.{nothing, message, relay, estimate, proposal, ack, nack, decision}
 
@@ -34,62 +34,46 @@ IsToMember n _ = Unit {0}
 
 to_member : (s : Setting) (g : State) (p : ℕ) (m : Member) (mail : Mail) → 0 < s.members → IsSending s g p m mail →
     IsToMember s.members mail
-to_member s g p m mail some (nothing e) = subst (λ x. IsToMember s.members x) (sym e) tt
-to_member s g p m mail some (message new origin e) = subst (λ x. IsToMember s.members x) (sym e) tt
-to_member s g p m mail some (relay w sent relayed e) = subst (λ x. IsToMember s.members x) (sym e) tt
-to_member s g p m mail some (estimate k r v ts e) = subst (λ x. IsToMember s.members x) (sym e) (coordinator_is s.members r some)
-to_member s g p m mail some (proposal k r v e) = subst (λ x. IsToMember s.members x) (sym e) tt
-to_member s g p m mail some (ack k r e) = subst (λ x. IsToMember s.members x) (sym e) (coordinator_is s.members r some)
-to_member s g p m mail some (nack k r e) = subst (λ x. IsToMember s.members x) (sym e) (coordinator_is s.members r some)
-to_member s g p m mail some (decision c at tallies e) = subst (λ x. IsToMember s.members x) (sym e) tt
+to_member s g p m mail some (nothing e) = rw e tt
+to_member s g p m mail some (message new origin e) = rw e tt
+to_member s g p m mail some (relay w sent relayed e) = rw e tt
+to_member s g p m mail some (estimate k r v ts e) = rw e (coordinator_is s.members r some)
+to_member s g p m mail some (proposal k r v e) = rw e tt
+to_member s g p m mail some (ack k r e) = rw e (coordinator_is s.members r some)
+to_member s g p m mail some (nack k r e) = rw e (coordinator_is s.members r some)
+to_member s g p m mail some (decision c at tallies e) = rw e tt
 
 -- where a step sends one envelope, it goes to a member
 pub addressed-step : (s : Setting) (g : State) (p : ℕ) (m : Member) (step : Step) (o : Outcome) (to : ℕ) (w : Wire) → 0 < s.members →
     row s g p m step ≡ Some o → o.mail ≡ One to w → IsMember s.members to
 addressed-step s g p m step o to w some e mail =
-    subst (λ x. IsToMember s.members x) mail (to_member s g p m o.mail some (row-sends s g p m step o e))
+    rw mail at (to_member s g p m o.mail some (row-sends s g p m step o e))
 
--- what a step of a member sends names members
-names-sending : (s : Setting) (g : State) (p : ℕ) (m : Member) (mail : Mail) → IsMember s.members p →
-    ((w : Wire) → Sent g w → NamesMember s.members w) → IsSending s g p m mail → (w : Wire) → Carries mail w → NamesMember s.members w
-names-sending s g p m mail is old (nothing e) w c = absurd (subst (λ z. Carries z w) e c)
-names-sending s g p m mail is old (message new origin e) w c = subst (λ x. NamesMember s.members x) (sym (subst (λ z. Carries z w) e c)) tt
-names-sending s g p m mail is old (relay x sent relayed e) w c =
-    subst (λ z. NamesMember s.members z) (sym (subst (λ z. Carries z w) e c)) (old x sent)
-names-sending s g p m mail is old (estimate k r v ts e) w c = subst (λ x. NamesMember s.members x) (sym (subst (λ z. Carries z w) e c)) is
-names-sending s g p m mail is old (proposal k r v e) w c = subst (λ x. NamesMember s.members x) (sym (subst (λ z. Carries z w) e c)) tt
-names-sending s g p m mail is old (ack k r e) w c = subst (λ x. NamesMember s.members x) (sym (subst (λ z. Carries z w) e c)) is
-names-sending s g p m mail is old (nack k r e) w c = subst (λ x. NamesMember s.members x) (sym (subst (λ z. Carries z w) e c)) is
-names-sending s g p m mail is old (decision d at tallies e) w c =
-    subst (λ x. NamesMember s.members x) (sym (subst (λ z. Carries z w) e c)) tt
+-- what was sent names members
+abbrev Names : Setting → State → Type 0
+Names s g = (w : Wire) → Sent g w → NamesMember s.members w
 
-named-next : (s : Setting) (g : State) (step : Step) (h : State) → next s g step ≡ Some h →
-    ((w : Wire) → Sent g w → NamesMember s.members w) → (w : Wire) → Sent h w → NamesMember s.members w
+-- and so does what a step of a member sends
+names-sending : (s : Setting) (g : State) (p : ℕ) (m : Member) (mail : Mail) → IsMember s.members p → Names s g → IsSending s g p m mail →
+    (w : Wire) → Carries mail w → NamesMember s.members w
+names-sending s g p m mail is old (nothing e) w c = absurd (rw e at c)
+names-sending s g p m mail is old (message new origin e) w c = let same : w ≡ Data new = rw e at c in rw same tt
+names-sending s g p m mail is old (relay x sent relayed e) w c = let same : w ≡ x = rw e at c in rw same (old x sent)
+names-sending s g p m mail is old (estimate k r v ts e) w c = let same : w ≡ Est k r p v ts = rw e at c in rw same is
+names-sending s g p m mail is old (proposal k r v e) w c = let same : w ≡ Prop k r v = rw e at c in rw same tt
+names-sending s g p m mail is old (ack k r e) w c = let same : w ≡ Ack k r p = rw e at c in rw same is
+names-sending s g p m mail is old (nack k r e) w c = let same : w ≡ Nack k r p = rw e at c in rw same is
+names-sending s g p m mail is old (decision d at tallies e) w c = let same : w ≡ Dec m.last d.round d.estimate = rw e at c in rw same tt
+
+named-next : (s : Setting) (g : State) (step : Step) (h : State) → next s g step ≡ Some h → Names s g → Names s h
 named-next s g step h e old w sent =
     let t = next-is s g step h e in
     let p : ℕ = actor step in
-    elim (Sent-cases s g p t.outcome w (subst (λ x. Sent x w) (sym t.gives) sent)) [
+    elim (Sent-cases s g p t.outcome w (rw (← t.gives) at sent)) [
       | inl a ↦ old w a
       | inr c ↦ names-sending s g p (member g p) t.outcome.mail (member_is s.members p t.in_group) old
           (row-sends s g p (member g p) step t.outcome t.row) w c
     ]
-
-named-run_from : (s : Setting) (g h : State) (steps : List Step) → run_from s g steps ≡ Some h →
-    ((w : Wire) → Sent g w → NamesMember s.members w) → (w : Wire) → Sent h w → NamesMember s.members w
-unfolding run_from
-named-run_from s g h [] e old w sent = old w (subst (λ x. Sent x w) (sym (some-same g h e)) sent)
-named-run_from s g h (step ∷ steps) e old w sent =
-    let made = made-then (λ mid. run_from s mid steps) (next s g step) h e in
-    named-run_from s made.from h steps made.gives (named-next s g step made.from made.is old) w sent
-
-named-first : (s : Setting) (w : Wire) → Sent (first_state s) w → NamesMember s.members w
-unfolding first_state
-named-first s w sent = absurd sent
-
--- what was sent in a run names members
-pub named : (s : Setting) (steps : List Step) (g : State) → run s steps ≡ Some g → (w : Wire) → IsIn w (wires g) → NamesMember s.members w
-unfolding run
-named s steps g e w sent = named-run_from s (first_state s) g steps e (named-first s) w sent
 
 names_somebody : (n : ℕ) (w : Wire) → n ≤ MAX_MEMBERS → NamesMember n w → NamesSomebody w
 names_somebody n (Est k r p v t) few h = let high : p ≤ n = h.1 in (h.0, omega arith)
@@ -100,4 +84,5 @@ names_somebody n _ few h = tt
 -- in a group of at most 16 it names one of everyone
 pub sender_named : (s : Setting) (steps : List Step) (g : State) → s.members ≤ MAX_MEMBERS → run s steps ≡ Some g → (w : Wire) →
     IsIn w (wires g) → NamesSomebody w
-sender_named s steps g few e w sent = names_somebody s.members w few (named s steps g e w sent)
+sender_named s steps g few e w sent =
+    names_somebody s.members w few (kept-run (Names s) s (λ x never. absurd (unfold first_state in never)) (named-next s) steps g e w sent)

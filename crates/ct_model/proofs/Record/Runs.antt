@@ -1,5 +1,5 @@
 -- A run and one more step.
-use Rattle.std.proofs.Common.{arith, ◌≡◌, List, [], ◌∷◌, ◌++◌, Option, Some, None, refl, ap, subst}
+use Rattle.std.proofs.Common.{arith, ◌≡◌, List, [], ◌∷◌, ◌++◌, Option, Some, None, refl, ap, subst, length}
 use Rattle.std.specs.Prelude.{option_and_then, unwrap_or}
 use Rattle.std.proofs.lemmas.List.Sums.{fold-append}
 use Rattle.ct_model.specs.declared.step.Step.{Step}
@@ -9,6 +9,8 @@ use Rattle.ct_model.specs.Next.{next, stepped}
 use Rattle.ct_model.specs.Run.{run, run_from}
 use Rattle.ct_model.specs.Rehearsal.{Rehearsal, state_of, extended}
 use Rattle.ct_model.proofs.Basics.Options.{some-same, made-then}
+use Rattle.ct_model.proofs.Record.Start.{size-first}
+use Rattle.ct_model.proofs.Relay.Messages.{size-next}
 
 pub state_of-push : (w : Rehearsal) (step : Step) → state_of (extended w step) ≡ stepped w.setting (state_of w) step
 unfolding state_of
@@ -55,3 +57,10 @@ pub kept-run : (P : State → Type 0) (s : Setting) → P (first_state s) →
     P g
 unfolding run
 kept-run P s first keeps steps g e = kept-run_from P s keeps (first_state s) g steps e first
+
+-- so does what a step keeps where there are as many members as were set, which there are
+pub kept-sized : (P : State → Type 0) (s : Setting) → P (first_state s) →
+    ((g : State) (step : Step) (h : State) → next s g step ≡ Some h → length g.members ≡ s.members → P g → P h) → (steps : List Step)
+    (g : State) → run s steps ≡ Some g → (length g.members ≡ s.members) × P g
+kept-sized P s first keeps = kept-run (λ g. (length g.members ≡ s.members) × P g) s (size-first s, first)
+    (λ g step h e k. (size-next s g step h e k.0, keeps g step h e k.0 k.1))

@@ -41,10 +41,14 @@ owner s _ = 0
 abbrev pub IsOwned : Setting → State → ℕ → Mail → Wire → Type 0
 IsOwned s g p mail w = (Sent g w ⊎ (owner s w ≡ p)) × (mail ≡ All w)
 
--- what a step does to messages and decisions
-pub record IsMade (s : Setting) (g : State) (p : ℕ) (o : Outcome) : Type 0 where
+-- what a step gets
+pub record IsGetting (s : Setting) (g : State) (p : ℕ) (o : Outcome) : Type 0 where
   pub more : (w : Wire) → IsIn w (member g p).got → IsIn w o.member.got
   pub got_now : GotNow s g p o
+
+-- what a step does to messages and decisions
+pub record IsMade (s : Setting) (g : State) (p : ℕ) (o : Outcome) : Type 0 where
+  pub gets : IsGetting s g p o
   pub owned : (w : Wire) → IsShared w → Carries o.mail w → IsOwned s g p o.mail w
 
 sending-owned : (s : Setting) (g : State) (p : ℕ) (mail : Mail) → Holds s g → IsMember s.members p → IsSending s g p (member g p) mail →
@@ -62,16 +66,8 @@ sending-owned s g p mail holds is (decision d at tallies e) w shared c =
     let same : w ≡ Dec (member g p).last d.round d.estimate = rw e at c in
     (inr (rw same ((holds.sound p is d at).tallies tallies)), rw same e)
 
--- what a step gets
-record IsGetting (s : Setting) (g : State) (p : ℕ) (o : Outcome) : Type 0 where
-  more : (w : Wire) → IsIn w (member g p).got → IsIn w o.member.got
-  got_now : GotNow s g p o
-
 gets-nothing : (s : Setting) (g : State) (p : ℕ) (o : Outcome) → o.member.got ≡ (member g p).got → IsGetting s g p o
-gets-nothing s g p o same = record {
-  more = λ w h. rw same h;
-  got_now = λ w h. inl (rw same at h);
-}
+gets-nothing s g p o same = record { more = λ w h. rw same h; got_now = λ w h. inl (rw same at h) }
 
 gets-one : (s : Setting) (g : State) (p : ℕ) (w : Wire) → Sent g w → IsGetting s g p (receive s p (member g p) w)
 gets-one s g p w sent =
@@ -102,9 +98,4 @@ pub made-step : (s : Setting) (g : State) (step : Step) (o : Outcome) → Holds 
     row s g (actor step) (member g (actor step)) step ≡ Some o → IsMade s g (actor step) o
 made-step s g step o holds is e =
     let p : ℕ = actor step in
-    let gets = step-gets s g p step o e in
-    record {
-      more = gets.more;
-      got_now = gets.got_now;
-      owned = sending-owned s g p o.mail holds is (row-sends s g p (member g p) step o e);
-    }
+    record { gets = step-gets s g p step o e; owned = sending-owned s g p o.mail holds is (row-sends s g p (member g p) step o e) }

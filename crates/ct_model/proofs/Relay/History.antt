@@ -158,7 +158,7 @@ module _ (s : Setting) (done : List Step) (from : List ℕ) (g : State) (step : 
   ]
 
   on_now : (w : Wire) → IsShared w → IsIn w o.member.got → (q : ℕ) → IsMember s.members q → Spread p q w
-  on_now w shared inside q isq = elim (made.got_now w inside) [
+  on_now w shared inside q isq = elim (made.gets.got_now w inside) [
     | inl old ↦ spread-kept p q w (hist.on p is w shared old q isq)
     | inr got ↦ elim (Lists.true_or_false (is_relayed s p (member g p).got w)) [
       | inl relayed ↦ spread-all q w shared isq (got.mail ∙ ap (λ b. cond b (All w) Nobody) relayed)
@@ -182,7 +182,7 @@ module _ (s : Setting) (done : List Step) (from : List ℕ) (g : State) (step : 
 
   still_got : (x : ℕ) (w : Wire) → IsMember s.members x → IsIn w (member g x).got → IsIn w (member h x).got
   still_got x w isx inside = elim (p_or_other x p) [
-    | inl e ↦ rw (e, member-same s g p o holds is) (made.more w (rw e at inside))
+    | inl e ↦ rw (e, member-same s g p o holds is) (made.gets.more w (rw e at inside))
     | inr ne ↦ rw (member-other s g p x o is isx ne) inside
   ]
 

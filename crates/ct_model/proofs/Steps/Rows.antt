@@ -1,6 +1,7 @@
 -- What a step of consensus leaves, where its row is there.
 use Rattle.std.proofs.Common.{◌≡◌, ℕ, ◌+◌, true, false, not, Option, Some}
 use Rattle.std.specs.Prelude.{◌&&◌, is_some, is_none, option_and_then, option_map}
+use Rattle.std.proofs.lemmas.Bool.{and_parts}
 use Rattle.ct_names.specs.Group.{is_majority}
 use Rattle.ct_names.specs.Value.{Value}
 use Rattle.ct_model.specs.When.{when}
@@ -11,8 +12,8 @@ use Rattle.ct_model.specs.Received.{Heard, Ballots, heard, estimate_from, is_lar
 use Rattle.ct_model.specs.Phases.{is_rest, is_gather, is_wait, is_tally, entered, enter, chosen, choose, adopted, adopt, suspected, suspect}
 use Rattle.ct_model.specs.Phases.{concluded, conclude}
 use Rattle.ct_model.specs.Next.{Outcome, turned, round_row, begin, begin_row, deliver, deliver_row, follow, follow_row, proposed, is_empty}
-use Rattle.ct_model.proofs.Basics.Tests.{and_left, and_right, true_not}
-use Rattle.ct_model.proofs.Basics.Options.{when-is, made-map, made-then}
+use Rattle.ct_model.proofs.Basics.Tests.{true_not}
+use Rattle.ct_model.proofs.Basics.Options.{when-is, when-both, made-map, made-then}
 
 -- a step of a round was taken at this standing, with this turn
 pub record IsTurned (m : Member) (step : Standing → Option Turn) (o : Outcome) : Type 0 where
@@ -35,12 +36,8 @@ pub record IsBegun (s : Setting) (p : ℕ) (m : Member) (o : Outcome) : Type 0 w
 
 pub begin_row-is : (s : Setting) (p : ℕ) (m : Member) (o : Outcome) → begin_row s p m ≡ Some o → IsBegun s p m o
 begin_row-is s p m o e =
-    let a = when-is (is_none m.current && not (is_empty (proposed s m))) (begin s p m) o e in
-    record {
-      idle = and_left (is_none m.current) (not (is_empty (proposed s m))) a.0;
-      something = true_not (is_empty (proposed s m)) (and_right (is_none m.current) (not (is_empty (proposed s m))) a.0);
-      gives = a.1;
-    }
+    let a = when-both (is_none m.current) (not (is_empty (proposed s m))) (begin s p m) o e in
+    record { idle = a.0; something = true_not (is_empty (proposed s m)) a.1; gives = a.2 }
 
 pub record IsDelivered (m : Member) (o : Outcome) : Type 0 where
   pub standing : Standing
@@ -78,12 +75,8 @@ pub enter-is : (n me k : ℕ) (decision : Option Value) (c : Standing) (t : Turn
     IsEntered n me k decision c t
 unfolding enter
 enter-is n me k decision c t e =
-    let a = when-is (is_rest c.phase && not (is_some decision)) (entered n me k c) t e in
-    record {
-      rests = and_left (is_rest c.phase) (not (is_some decision)) a.0;
-      undecided = true_not (is_some decision) (and_right (is_rest c.phase) (not (is_some decision)) a.0);
-      gives = a.1;
-    }
+    let a = when-both (is_rest c.phase) (not (is_some decision)) (entered n me k c) t e in
+    record { rests = a.0; undecided = true_not (is_some decision) a.1; gives = a.2 }
 
 pub record IsChosen (n k : ℕ) (t : Ballots Value) (c : Standing) (from : ℕ) (turn : Turn) : Type 0 where
   pub best : Heard Value
@@ -99,16 +92,9 @@ unfolding choose
 choose-is n k t c from turn e =
     let a = made-then (λ (h : Heard Value). when (is_gather c.phase && is_majority n (heard t) && is_largest t h.ts) (chosen k c h))
     (estimate_from t from) turn e in
-    let b = when-is (is_gather c.phase && is_majority n (heard t) && is_largest t a.from.ts) (chosen k c a.from) turn a.gives in
-    let two = and_left (is_gather c.phase && is_majority n (heard t)) (is_largest t a.from.ts) b.0 in
-    record {
-      best = a.from;
-      from_is = a.is;
-      gathers = and_left (is_gather c.phase) (is_majority n (heard t)) two;
-      majority = and_right (is_gather c.phase) (is_majority n (heard t)) two;
-      largest = and_right (is_gather c.phase && is_majority n (heard t)) (is_largest t a.from.ts) b.0;
-      gives = b.1;
-    }
+    let b = when-both (is_gather c.phase && is_majority n (heard t)) (is_largest t a.from.ts) (chosen k c a.from) turn a.gives in
+    let two = and_parts (is_gather c.phase) (is_majority n (heard t)) b.0 in
+    record { best = a.from; from_is = a.is; gathers = two.0; majority = two.1; largest = b.1; gives = b.2 }
 
 pub record IsAdopted (n me k : ℕ) (t : Ballots Value) (c : Standing) (turn : Turn) : Type 0 where
   pub value : Value
@@ -132,12 +118,8 @@ pub suspect-is : (n me k : ℕ) (t : Ballots Value) (c : Standing) (turn : Turn)
     IsSuspected n me k t c turn
 unfolding suspect
 suspect-is n me k t c turn e =
-    let a = when-is (is_wait c.phase && not (is_some t.proposal)) (suspected n me k c) turn e in
-    record {
-      waits = and_left (is_wait c.phase) (not (is_some t.proposal)) a.0;
-      no_proposal = true_not (is_some t.proposal) (and_right (is_wait c.phase) (not (is_some t.proposal)) a.0);
-      gives = a.1;
-    }
+    let a = when-both (is_wait c.phase) (not (is_some t.proposal)) (suspected n me k c) turn e in
+    record { waits = a.0; no_proposal = true_not (is_some t.proposal) a.1; gives = a.2 }
 
 pub record IsConcluded (n k : ℕ) (t : Ballots Value) (c : Standing) (turn : Turn) : Type 0 where
   pub tallies : is_tally c.phase ≡ true
@@ -147,9 +129,5 @@ pub record IsConcluded (n k : ℕ) (t : Ballots Value) (c : Standing) (turn : Tu
 pub conclude-is : (n k : ℕ) (t : Ballots Value) (c : Standing) (turn : Turn) → conclude n k t c ≡ Some turn → IsConcluded n k t c turn
 unfolding conclude
 conclude-is n k t c turn e =
-    let a = when-is (is_tally c.phase && is_majority n t.replied) (concluded n k t c) turn e in
-    record {
-      tallies = and_left (is_tally c.phase) (is_majority n t.replied) a.0;
-      majority = and_right (is_tally c.phase) (is_majority n t.replied) a.0;
-      gives = a.1;
-    }
+    let a = when-both (is_tally c.phase) (is_majority n t.replied) (concluded n k t c) turn e in
+    record { tallies = a.0; majority = a.1; gives = a.2 }
