@@ -12,6 +12,13 @@ some-none x e = cc
 pub not_none : {A : Type 0} (o : Option A) → is_none o ≡ false → is_some o ≡ true
 not_none o e = grind arith
 
+pub none-is : {A : Type 0} (o : Option A) → is_none o ≡ true → o ≡ None
+none-is o e = grind arith
+
+pub some-of : {A : Type 0} (o : Option A) → is_none o ≡ false → (x : A) × (o ≡ Some x)
+some-of None e = absurd (cc)
+some-of (Some x) e = (x, refl)
+
 pub when-some : {A : Type 0} (b : Bool) (x : A) → is_some (when b x) ≡ true → b ≡ true
 when-some b x e = grind arith
 

@@ -17,7 +17,7 @@ use Rattle.ct_model.specs.Run.{run}
 use Rattle.ct_model.proofs.Record.Start.{member-first}
 use Rattle.ct_model.proofs.Record.Frame.{member-same, member-other, at_place}
 use Rattle.ct_model.proofs.Relay.Messages.{next-is, in_members}
-use Rattle.ct_model.proofs.Basics.Options.{some-none}
+use Rattle.ct_model.proofs.Basics.Options.{some-none, none-is}
 use Rattle.ct_model.proofs.Steps.Shapes.{by_shape}
 use Rattle.ct_model.proofs.Record.Runs.{kept-sized}
 
@@ -83,10 +83,6 @@ closed-got m w f = record {
       let d = f.decided k lo hi in
       record { value = d.value; is = decided-more m.got (w ∷ []) k d.value d.is };
 }
-
-none-is : {A : Type 0} (o : Option A) → is_none o ≡ true → o ≡ None
-none-is None h = refl
-none-is (Some x) h = absurd (true≢false (sym h))
 
 closed-begin : (s : Setting) (p : ℕ) (m : Member) → is_none m.current ≡ true → HasClosed m → HasClosed (begin s p m).member
 closed-begin s p m idle f = record {

@@ -96,17 +96,14 @@ cause-allowed w (Repeat p k) law none = taken-allowed w (Repeat p k) (line_outco
 
 -- where a row gives an outcome and what the step names waits or not, as the step asks, no test of its own fires
 
+some-not_none : {A : Type 0} (o : Option A) → is_some o ≡ true → is_none o ≡ false
+some-not_none o e = grind arith
+
 none-one : (a : Bool) (r : Refusal) → a ≡ false → first_fault (at r a ∷ []) ≡ None
 none-one a r e = rw e refl
 
 none-two : (a b : Bool) (r s : Refusal) → a ≡ false → b ≡ false → first_fault (at r a ∷ at s b ∷ []) ≡ None
 none-two a b r s e f = rw (e, f) refl
-
-none-some : {A : Type 0} (o : Option A) → is_none o ≡ true → is_some o ≡ false
-none-some o e = grind arith
-
-some-not_none : {A : Type 0} (o : Option A) → is_some o ≡ true → is_none o ≡ false
-some-not_none o e = grind arith
 
 -- the tests of a step of a round that is taken
 turn-tested : (n p k : ℕ) (d : Option Value) (b : Ballots Value) (c : Standing) (a : Move) (turn : Turn) → turn_of n p k d b c a ≡ Some turn
@@ -137,9 +134,10 @@ row-free w (Submit p c) o is names =
 row-free w (Receive p k) o is names = ap first_fault (own_tests-is w (Receive p k))
     ∙ none-one (not (is_waiting w p k)) NotWaiting (ap not names)
 row-free w (Begin p) o is names =
-    let r = begin_row-is w.setting p (member (state_of w) p) o is in
-    ap first_fault (own_tests-is w (Begin p)) ∙ none-two (is_some (member (state_of w) p).current)
-    (is_empty (proposed w.setting (member (state_of w) p))) Busy Nothing (none-some (member (state_of w) p).current r.idle) r.something
+    let m = member (state_of w) p in
+    let r = (begin_row-is w.setting p m o is).0 in
+    ap first_fault (own_tests-is w (Begin p))
+    ∙ none-two (is_some m.current) (is_empty (proposed w.setting m)) Busy Nothing (ap is_some r.idle) r.something
 row-free w (Enter p) o is names = move-free w p moves.Enter o is
 row-free w (Choose p from) o is names = move-free w p (moves.Choose from) o is
 row-free w (Adopt p) o is names = move-free w p moves.Adopt o is
@@ -147,13 +145,13 @@ row-free w (Suspect p) o is names = move-free w p moves.Suspect o is
 row-free w (Conclude p) o is names = move-free w p moves.Conclude o is
 row-free w (Deliver p) o is names =
     let m = member (state_of w) p in
-    let d = deliver_row-is m o is in
+    let d = (deliver_row-is m o is).0 in
     tests-deliver w p d.standing d.is_open ∙ none-one (is_none (decided m.got m.last)) Undecided (ap is_none d.decision)
 row-free w (Follow p) o is names =
     let m = member (state_of w) p in
-    let d = follow_row-is m o is in
+    let d = (follow_row-is m o is).0 in
     ap first_fault (own_tests-is w (Follow p)) ∙ none-two (is_some m.current) (is_none (decided m.got (m.last + 1))) Busy Undecided
-    (none-some m.current d.idle) (ap is_none d.decision)
+    (ap is_some d.idle) (ap is_none d.decision)
 row-free w (Crash p) o is names = ap first_fault (own_tests-is w (Crash p))
 row-free w (Postpone p k) o is names = ap first_fault (own_tests-is w (Postpone p k))
     ∙ none-one (not (is_waiting w p k)) NotWaiting (ap not names)

@@ -15,19 +15,8 @@ abbrev pub joined_by : List Message → Wire → List Message
 joined_by list (Data m) = if has list m then list else list ++ m ∷ []
 joined_by list _ = list
 
-received-parts : (got : List Wire) (w : Wire) → received (got ++ w ∷ [])
-    ≡ first_occurrences (filter_map message_of got ++ filter_map message_of (w ∷ []))
-unfolding received
-received-parts got w = ap first_occurrences (filter_map-append message_of got (w ∷ []))
-
-received-silent : (got : List Wire) (w : Wire) → filter_map message_of (w ∷ []) ≡ [] → received (got ++ w ∷ []) ≡ received got
-unfolding received
-received-silent got w e = grind (arith, received-parts got w, append-nil (filter_map message_of got))
-
-received-data : (got : List Wire) (m : Message) → received (got ++ Data m ∷ []) ≡ joined_by (received got) (Data m)
-unfolding received
-received-data got m = received-parts got (Data m) ∙ first_occurrences-push (filter_map message_of got) m
-
 pub received-push : (got : List Wire) (w : Wire) → received (got ++ w ∷ []) ≡ joined_by (received got) w
-received-push got (Data m) = received-data got m
-received-push got x = received-silent got x refl
+unfolding received
+received-push got (Data m) =
+    ap first_occurrences (filter_map-append message_of got (Data m ∷ [])) ∙ first_occurrences-push (filter_map message_of got) m
+received-push got x = ap first_occurrences (filter_map-append message_of got (x ∷ []) ∙ append-nil (filter_map message_of got))

@@ -15,26 +15,23 @@ use Rattle.ct_model.proofs.Record.Frame.{member-same}
 use Rattle.ct_model.proofs.Record.Causes.{own_tests, cause-none}
 use Rattle.ct_model.proofs.Record.Taken.{IsTaken}
 use Rattle.ct_model.proofs.Relay.Messages.{in_members}
+use Rattle.ct_model.proofs.Steps.Rows.{IsReady}
 use Rattle.ct_model.proofs.Record.Limits.{own_tests-is, cause-limited, limit-idle, taken_of}
 
 -- what the tests of a Begin say where none fires
-pub record IsReady (s : Setting) (m : Member) : Type 0 where
-  pub idle : m.current ≡ None
-  pub something : is_empty (proposed s m) ≡ false
-
 ready : (s : Setting) (m : Member) → first_fault (at Busy (is_some m.current) ∷ at Nothing (is_empty (proposed s m)) ∷ []) ≡ None
     → IsReady s m
 ready s m h = record { idle = grind arith; something = grind arith }
 
-pub begin-ready : (w : Rehearsal) (p : ℕ) → first_fault (own_tests w (Begin p)) ≡ None → IsReady w.setting (member (state_of w) p)
-begin-ready w p h = ready w.setting (member (state_of w) p) (sym (ap first_fault (own_tests-is w (Begin p))) ∙ h)
-
-pub begin_row-some : (s : Setting) (p : ℕ) (m : Member) → IsReady s m → begin_row s p m ≡ Some (begin s p m)
+begin_row-some : (s : Setting) (p : ℕ) (m : Member) → IsReady s m → begin_row s p m ≡ Some (begin s p m)
 begin_row-some s p m r = grind arith
 
-row-begin : (w : Rehearsal) (p : ℕ) → first_fault (own_tests w (Begin p)) ≡ None →
-    row w.setting (state_of w) p (member (state_of w) p) (Begin p) ≡ Some (begin w.setting p (member (state_of w) p))
-row-begin w p h = begin_row-some w.setting p (member (state_of w) p) (begin-ready w p h)
+module _ (w : Rehearsal) (p : ℕ) (h : first_fault (own_tests w (Begin p)) ≡ None) where
+  begin-ready : IsReady w.setting (member (state_of w) p)
+  begin-ready = ready w.setting (member (state_of w) p) (sym (ap first_fault (own_tests-is w (Begin p))) ∙ h)
+
+  row-begin : row w.setting (state_of w) p (member (state_of w) p) (Begin p) ≡ Some (begin w.setting p (member (state_of w) p))
+  row-begin = begin_row-some w.setting p (member (state_of w) p) begin-ready
 
 pub cause-begin : (w : Rehearsal) (p : ℕ) → IsLawful w → IsPresent w p → first_fault (own_tests w (Begin p)) ≡ None
     → cause w (Begin p) ≡ or_else (first_fault (at (Full Instances) (nat_lt MAX_INSTANCES ((member (state_of w) p).last + 1)) ∷ []))

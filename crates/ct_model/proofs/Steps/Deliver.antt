@@ -13,10 +13,12 @@ use Rattle.ct_model.specs.Next.{deliver, deliver_row, row}
 use Rattle.ct_model.specs.Rehearsal.{Rehearsal, state_of}
 use Rattle.ct_model.specs.Cause.{at, first_fault, or_else, cause, overflow}
 use Rattle.ct_model.specs.Lawful.{IsLawful, IsPresent}
-use Rattle.ct_model.proofs.Record.Causes.{low, own_tests, cause-none}
+use Rattle.ct_model.proofs.Record.Causes.{low, own_tests, cause-none, first_fault-none}
 use Rattle.ct_model.proofs.Record.Taken.{IsTaken}
 use Rattle.ct_model.proofs.Record.Limits.{own_tests-is, cause-limited, taken_of}
+use Rattle.ct_model.proofs.Basics.Options.{some-of}
 use Rattle.ct_model.proofs.Steps.Close.{limit-close}
+use Rattle.ct_model.proofs.Steps.Rows.{IsDue}
 use Rattle.ct_model.proofs.Steps.Rounds.{open-at, open-standing}
 
 pub tests-deliver : (w : Rehearsal) (p : ℕ) (c : Standing) → (member (state_of w) p).current ≡ Some c →
@@ -27,31 +29,19 @@ tests-deliver w p c e = ap first_fault (own_tests-is w (Deliver p))
     c e
 
 -- what the tests of a Deliver say where none fires
-pub record IsDue (m : Member) : Type 0 where
-  pub standing : Standing
-  pub is_open : m.current ≡ Some standing
-  pub value : Value
-  pub decision : decided m.got m.last ≡ Some value
-
-pub deliver-due : (w : Rehearsal) (p : ℕ) → first_fault (own_tests w (Deliver p)) ≡ None → IsDue (member (state_of w) p)
+deliver-due : (w : Rehearsal) (p : ℕ) → first_fault (own_tests w (Deliver p)) ≡ None → IsDue (member (state_of w) p)
 deliver-due w p h =
-    let a = open-standing (member (state_of w) p) (λ x. at Undecided
-    (is_none (decided (member (state_of w) p).got (member (state_of w) p).last)) ∷ [])
-    (sym (ap first_fault (own_tests-is w (Deliver p))) ∙ h) in
-    let b = go (decided (member (state_of w) p).got (member (state_of w) p).last) a.2 in
+    let undecided = at Undecided (is_none (decided (member (state_of w) p).got (member (state_of w) p).last)) in
+    let a = open-standing (member (state_of w) p) (λ x. undecided ∷ []) (sym (ap first_fault (own_tests-is w (Deliver p))) ∙ h) in
+    let b = some-of (decided (member (state_of w) p).got (member (state_of w) p).last) (first_fault-none undecided [] a.2).0 in
     record { standing = a.0; is_open = a.1; value = b.0; decision = b.1 }
-  where
-    go : (o : Option Value) → first_fault (at Undecided (is_none o) ∷ []) ≡ None → (v : Value) × (o ≡ Some v)
-    go None h = absurd (cc)
-    go (Some v) h = (v, refl)
 
-pub deliver_row-some : (m : Member) (c : Standing) (v : Value) → m.current ≡ Some c → decided m.got m.last ≡ Some v →
-    deliver_row m ≡ Some (deliver m v)
-deliver_row-some m c v e d = grind arith
+deliver_row-some : (m : Member) (d : IsDue m) → deliver_row m ≡ Some (deliver m d.value)
+deliver_row-some m d = grind arith
 
 row-deliver : (w : Rehearsal) (p : ℕ) (d : IsDue (member (state_of w) p)) →
     row w.setting (state_of w) p (member (state_of w) p) (Deliver p) ≡ Some (deliver (member (state_of w) p) d.value)
-row-deliver w p d = deliver_row-some (member (state_of w) p) d.standing d.value d.is_open d.decision
+row-deliver w p d = deliver_row-some (member (state_of w) p) d
 
 pub cause-deliver : (w : Rehearsal) (p : ℕ) → IsLawful w → IsPresent w p → first_fault (own_tests w (Deliver p)) ≡ None →
     cause w (Deliver p) ≡ or_else (first_fault (at (Full Cells) (nat_lt w.cells (length (member (state_of w) p).batches + 1)) ∷ []))

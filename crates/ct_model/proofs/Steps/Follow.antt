@@ -18,25 +18,16 @@ use Rattle.ct_model.proofs.Record.Frame.{member-same}
 use Rattle.ct_model.proofs.Record.Taken.{IsTaken}
 use Rattle.ct_model.proofs.Relay.Messages.{in_members}
 use Rattle.ct_model.proofs.Record.Limits.{own_tests-is, cause-limited, taken_of}
+use Rattle.ct_model.proofs.Basics.Options.{some-of}
 use Rattle.ct_model.proofs.Steps.Close.{limit-close}
+use Rattle.ct_model.proofs.Steps.Rows.{IsBehind}
 
 -- what the tests of a Follow say where none fires
-pub record IsBehind (m : Member) : Type 0 where
-  pub idle : m.current ≡ None
-  pub value : Value
-  pub decision : decided m.got (m.last + 1) ≡ Some value
-
 behind : (m : Member) → first_fault (at Busy (is_some m.current) ∷ at Undecided (is_none (decided m.got (m.last + 1))) ∷ []) ≡ None
     → IsBehind m
-behind m h = let a = go m.current (decided m.got (m.last + 1)) h in record { idle = a.0; value = a.1; decision = a.2 }
-  where
-    go : (o : Option Standing) (d : Option Value) → first_fault (at Busy (is_some o) ∷ at Undecided (is_none d) ∷ []) ≡ None
-        → (o ≡ None) × (v : Value) × (d ≡ Some v)
-    go (Some c) d h = absurd (cc)
-    go None None h = absurd (cc)
-    go None (Some v) h = (refl, v, refl)
+behind m h = let v = some-of (decided m.got (m.last + 1)) (grind arith) in record { idle = grind arith; value = v.0; decision = v.1 }
 
-pub follow-behind : (w : Rehearsal) (p : ℕ) → first_fault (own_tests w (Follow p)) ≡ None → IsBehind (member (state_of w) p)
+follow-behind : (w : Rehearsal) (p : ℕ) → first_fault (own_tests w (Follow p)) ≡ None → IsBehind (member (state_of w) p)
 follow-behind w p h = behind (member (state_of w) p) (sym (ap first_fault (own_tests-is w (Follow p))) ∙ h)
 
 follow_row-some : (m : Member) (b : IsBehind m) → follow_row m ≡ Some (follow m b.value)

@@ -1,5 +1,5 @@
 -- What a step of consensus leaves, where its row is there.
-use Rattle.std.proofs.Common.{◌≡◌, ℕ, ◌+◌, true, false, not, Option, Some}
+use Rattle.std.proofs.Common.{◌≡◌, ℕ, ◌+◌, true, false, not, Option, Some, None}
 use Rattle.std.specs.Prelude.{◌&&◌, is_some, is_none, option_and_then, option_map}
 use Rattle.std.proofs.lemmas.Bool.{and_parts}
 use Rattle.ct_names.specs.Group.{is_majority}
@@ -13,7 +13,7 @@ use Rattle.ct_model.specs.Phases.{is_rest, is_gather, is_wait, is_tally, entered
 use Rattle.ct_model.specs.Phases.{concluded, conclude}
 use Rattle.ct_model.specs.Next.{Outcome, turned, round_row, begin, begin_row, deliver, deliver_row, follow, follow_row, proposed, is_empty}
 use Rattle.ct_model.proofs.Basics.Tests.{true_not}
-use Rattle.ct_model.proofs.Basics.Options.{when-is, when-both, made-map, made-then}
+use Rattle.ct_model.proofs.Basics.Options.{none-is, when-is, when-both, made-map, made-then}
 
 -- a step of a round was taken at this standing, with this turn
 pub record IsTurned (m : Member) (step : Standing → Option Turn) (o : Outcome) : Type 0 where
@@ -29,40 +29,38 @@ round_row-is m step o e =
     let b = made-then step m.current a.from a.is in
     record { standing = b.from; is_open = b.is; turn = a.from; taken = b.gives; gives = a.gives }
 
-pub record IsBegun (s : Setting) (p : ℕ) (m : Member) (o : Outcome) : Type 0 where
-  pub idle : is_none m.current ≡ true
+-- why Begin, Deliver and Follow are enabled
+pub record IsReady (s : Setting) (m : Member) : Type 0 where
+  pub idle : m.current ≡ None
   pub something : is_empty (proposed s m) ≡ false
-  pub gives : begin s p m ≡ o
 
-pub begin_row-is : (s : Setting) (p : ℕ) (m : Member) (o : Outcome) → begin_row s p m ≡ Some o → IsBegun s p m o
-begin_row-is s p m o e =
-    let a = when-both (is_none m.current) (not (is_empty (proposed s m))) (begin s p m) o e in
-    record { idle = a.0; something = true_not (is_empty (proposed s m)) a.1; gives = a.2 }
-
-pub record IsDelivered (m : Member) (o : Outcome) : Type 0 where
+pub record IsDue (m : Member) : Type 0 where
   pub standing : Standing
   pub is_open : m.current ≡ Some standing
   pub value : Value
   pub decision : decided m.got m.last ≡ Some value
-  pub gives : deliver m value ≡ o
 
-pub deliver_row-is : (m : Member) (o : Outcome) → deliver_row m ≡ Some o → IsDelivered m o
+pub record IsBehind (m : Member) : Type 0 where
+  pub idle : m.current ≡ None
+  pub value : Value
+  pub decision : decided m.got (m.last + 1) ≡ Some value
+
+pub begin_row-is : (s : Setting) (p : ℕ) (m : Member) (o : Outcome) → begin_row s p m ≡ Some o → IsReady s m × (begin s p m ≡ o)
+begin_row-is s p m o e =
+    let a = when-both (is_none m.current) (not (is_empty (proposed s m))) (begin s p m) o e in
+    (record { idle = none-is m.current a.0; something = true_not (is_empty (proposed s m)) a.1 }, a.2)
+
+pub deliver_row-is : (m : Member) (o : Outcome) → deliver_row m ≡ Some o → (d : IsDue m) × (deliver m d.value ≡ o)
 deliver_row-is m o e =
     let a = made-then (λ (c : Standing). option_map (deliver m) (decided m.got m.last)) m.current o e in
     let b = made-map (deliver m) (decided m.got m.last) o a.gives in
-    record { standing = a.from; is_open = a.is; value = b.from; decision = b.is; gives = b.gives }
+    (record { standing = a.from; is_open = a.is; value = b.from; decision = b.is }, b.gives)
 
-pub record IsFollowed (m : Member) (o : Outcome) : Type 0 where
-  pub idle : is_none m.current ≡ true
-  pub value : Value
-  pub decision : decided m.got (m.last + 1) ≡ Some value
-  pub gives : follow m value ≡ o
-
-pub follow_row-is : (m : Member) (o : Outcome) → follow_row m ≡ Some o → IsFollowed m o
+pub follow_row-is : (m : Member) (o : Outcome) → follow_row m ≡ Some o → (b : IsBehind m) × (follow m b.value ≡ o)
 follow_row-is m o e =
     let a = made-then (λ (v : Value). when (is_none m.current) (follow m v)) (decided m.got (m.last + 1)) o e in
     let b = when-is (is_none m.current) (follow m a.from) o a.gives in
-    record { idle = b.0; value = a.from; decision = a.is; gives = b.1 }
+    (record { idle = none-is m.current b.0; value = a.from; decision = a.is }, b.1)
 
 -- the five turns
 

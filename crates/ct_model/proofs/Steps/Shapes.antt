@@ -1,5 +1,5 @@
 -- The few shapes that the outcome of a step has.
-use Rattle.std.proofs.Common.{◌≡◌, ℕ, ◌+◌, Bool, true, false, Some, subst}
+use Rattle.std.proofs.Common.{◌≡◌, ℕ, ◌+◌, Bool, true, false, Some, subst, ap}
 use Rattle.std.specs.Prelude.{is_none}
 use Rattle.ct_names.specs.declared.command.Command.{Command}
 use Rattle.ct_names.specs.Command.{is_good}
@@ -46,16 +46,16 @@ module _ (s : Setting) (g : State) (p : ℕ) (m : Member) where
     pub by_shape : (step : Step) (o : Outcome) → HoldsOfShapes step P → row s g p m step ≡ Some o → P o
     by_shape (Submit _ c) o holds e = let r = when-is (is_good c) (submit g p m c) o e in subst P r.1 (holds.submits c r.0)
     by_shape (Receive _ k) o holds e = let r = made-map (receive s p m) (wire_to g p k) o e in subst P r.gives (holds.gets k r.from r.is)
-    by_shape (Begin _) o holds e = let r = begin_row-is s p m o e in subst P r.gives (holds.opens r.idle r.something)
+    by_shape (Begin _) o holds e = let r = begin_row-is s p m o e in subst P r.1 (holds.opens (ap is_none r.0.idle) r.0.something)
     by_shape (Enter q) o holds e = by_turn (Enter q) moves.Enter o holds e
     by_shape (Choose q from) o holds e = by_turn (Choose q from) (moves.Choose from) o holds e
     by_shape (Adopt q) o holds e = by_turn (Adopt q) moves.Adopt o holds e
     by_shape (Suspect q) o holds e = by_turn (Suspect q) moves.Suspect o holds e
     by_shape (Conclude q) o holds e = by_turn (Conclude q) moves.Conclude o holds e
     by_shape (Deliver _) o holds e =
-        let r = deliver_row-is m o e in subst P r.gives (holds.closes r.standing r.value r.is_open r.decision (λ never. never))
+        let r = deliver_row-is m o e in subst P r.1 (holds.closes r.0.standing r.0.value r.0.is_open r.0.decision (λ never. never))
     by_shape (Follow _) o holds e =
-        let r = follow_row-is m o e in subst P r.gives (holds.follows r.value r.idle r.decision (λ never. never))
+        let r = follow_row-is m o e in subst P r.1 (holds.follows r.0.value (ap is_none r.0.idle) r.0.decision (λ never. never))
     by_shape (Crash _) o holds e = subst P (some-same (crash m) o e) (holds.marks true)
     by_shape (Postpone q k) o holds e = by_line (Postpone q k) k o holds e
     by_shape (Lose q k) o holds e = by_line (Lose q k) k o holds e
