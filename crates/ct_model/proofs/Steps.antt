@@ -2,7 +2,6 @@
 pub mod Rows
 pub mod Shapes
 pub mod Mail
-pub mod Turns
 pub mod RoundSteps
 pub mod Rounds
 pub mod Submit

@@ -14,7 +14,7 @@ use Rattle.ct_names.specs.MemberSet.{with_member}
 use Rattle.ct_names.proofs.Lists
 use Rattle.ct_names.proofs.MemberSets.{with_member-filter}
 use Rattle.ct_model.specs.Wire.{Wire}
-use Rattle.ct_model.specs.declared.wire.Wire.TheVariants.{Est, Prop, Ack, Nack}
+use Rattle.ct_model.specs.declared.wire.Wire.TheVariants.{Est, Ack, Nack}
 use Rattle.ct_model.specs.Received.{Heard, Ballots, ballots, estimate_of, heard_from, proposal_of, proposal, is_ack, is_reply}
 use Rattle.ct_model.specs.Counted.{no_ballots, with_estimate, count_in, NamesSomebody}
 use Rattle.ct_model.specs.Mapped.{wire_map, heard_map, ballots_map}
@@ -158,11 +158,7 @@ counted t k r w = record {
 }
 
 counted-in : {V : Type 0} (t : Ballots V) (k r : ℕ) (w : Wire V) → counted t k r w ≡ count_in t k r w
-counted-in t k r (Est j s p v ts) = grind arith
-counted-in t k r (Prop j s v) = grind arith
-counted-in t k r (Ack j s p) = grind arith
-counted-in t k r (Nack j s p) = grind arith
-counted-in t k r _ = refl
+counted-in t k r w = grind arith
 
 -- the ballots grow by what one more wire counts for
 pub ballots-push : {V : Type 0} (got : List (Wire V)) (k r : ℕ) (w : Wire V) → NamesSomebody w →
@@ -189,9 +185,4 @@ with_estimate-map f e (x ∷ es) = grind (arith, with_estimate-map f e es)
 
 pub count_in-map : {V U : Type 0} (f : V → U) (t : Ballots V) (k r : ℕ) (w : Wire V) →
     count_in (ballots_map f t) k r (wire_map f w) ≡ ballots_map f (count_in t k r w)
-count_in-map f t k r (Est j s p v ts) =
-    grind (arith, with_estimate-map f (record { member = p; value = v; ts = ts }) t.estimates)
-count_in-map f t k r (Prop j s v) = grind arith
-count_in-map f t k r (Ack j s p) = grind arith
-count_in-map f t k r (Nack j s p) = grind arith
-count_in-map f t k r _ = refl
+count_in-map f t k r w = grind (arith, with_estimate-map f)

@@ -1,7 +1,6 @@
 -- A step has no cause exactly where it is allowed.
 use Rattle.std.proofs.Common.{arith, ◌≡◌, ℕ, ◌+◌, Bool, true, false, not, [], ◌∷◌, length, refl, ap, sym, ◌∙◌, subst, Option, Some, None}
 use Rattle.std.specs.Prelude.{is_some, is_none}
-use Rattle.ct_names.specs.declared.limit.TheConstants.{MAX_ENVELOPES, MAX_INSTANCES, MAX_ROUNDS, MAX_STEPS, MAX_SUBMISSIONS}
 use Rattle.ct_names.specs.declared.refusal.Refusal.{Refusal}
 use Rattle.ct_names.specs.declared.refusal.Refusal.TheVariants.{NotWaiting, Busy, Nothing, Undecided, BadCommand, NotSent, StillWaiting}
 use Rattle.ct_names.specs.Value.{Value}
@@ -12,18 +11,18 @@ use Rattle.ct_model.specs.declared.step.Step.{Step}
 use Rattle.ct_model.specs.declared.step.Step.TheVariants.{Submit, Receive, Begin, Enter, Choose, Adopt, Suspect, Conclude, Deliver}
 use Rattle.ct_model.specs.declared.step.Step.TheVariants.{Follow, Crash, Postpone, Lose, Repeat}
 use Rattle.ct_model.specs.Actor.{actor}
-use Rattle.ct_model.specs.State.{State, member, submissions}
+use Rattle.ct_model.specs.State.{State, member}
 use Rattle.ct_model.specs.AtValue.{Standing, Turn}
 use Rattle.ct_model.specs.Received.{Ballots, decided}
 use Rattle.ct_model.specs.Moves.{step_of, turn_of, faults_of}
 use Rattle.ct_model.specs.Next.{Outcome, row, wire_to, begin, deliver, follow, turned, turn_at, submit, proposed, is_empty}
 use Rattle.ct_model.specs.Next.{own_ballots, after, next}
 use Rattle.ct_model.specs.Rehearsal.{Rehearsal, state_of, line_of, extended}
-use Rattle.ct_model.specs.Cause.{at, first_fault, faults_at, limits, limit, or_else, cause, order, round_of}
+use Rattle.ct_model.specs.Cause.{at, first_fault, faults_at, limits, limit, or_else, cause}
 use Rattle.ct_model.specs.Lawful.{IsLawful, IsWithin, IsPresent, NamesWaiting, is_waiting}
 use Rattle.ct_model.specs.Allowed.{IsAllowed}
 use Rattle.ct_model.proofs.Basics.Options.{when-is}
-use Rattle.ct_model.proofs.Record.Causes.{own_tests, cause-none, cause-present, low}
+use Rattle.ct_model.proofs.Record.Causes.{own_tests, cause-none, cause-present}
 use Rattle.ct_model.proofs.Record.Taken.{IsTaken, next-step, lawful-step}
 use Rattle.ct_model.proofs.Record.Envelopes.{waiting_letter}
 use Rattle.ct_model.proofs.Relay.Messages.{next-is}
@@ -163,15 +162,7 @@ row-free w (Repeat p k) o is names =
 
 -- where no limit is passed none is the cause
 within-free : (cells steps : ℕ) (g : State) (p : ℕ) → IsWithin cells g steps → first_fault (limits cells steps g p) ≡ None
-within-free cells steps g p within =
-    rw (
-      low MAX_SUBMISSIONS (submissions g.submitted p) (within.few_submissions p),
-      low MAX_INSTANCES (member g p).last (within.few_instances p),
-      low MAX_ROUNDS (round_of (member g p)) (within.few_rounds p),
-      low MAX_ENVELOPES (length g.sent) within.few_envelopes,
-      low cells (length (order g)) within.few_batches,
-      low MAX_STEPS steps within.few_steps,
-    ) refl
+within-free cells steps g p within = grind (arith, within.few_submissions p, within.few_instances p, within.few_rounds p)
 
 limit-free : (w : Rehearsal) (step : Step) (h : State) → next w.setting (state_of w) step ≡ Some h →
     IsWithin w.cells h (length w.steps + 1) → limit w step ≡ None

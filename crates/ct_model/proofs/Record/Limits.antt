@@ -23,7 +23,7 @@ use Rattle.ct_model.proofs.Basics.Tests.{false_not, number_other}
 use Rattle.ct_model.proofs.Record.Frame.{after-submitted, length-after-sent, order-kept, member-same, member-other, at_place}
 use Rattle.ct_model.proofs.Record.Frame.{submissions-append, submissions-next, submissions-none}
 use Rattle.ct_model.proofs.Steps.Shapes.{by_shape}
-use Rattle.ct_model.proofs.Record.Causes.{own_tests, cause-present, cause-none, IsKept, first_fault-none, low, under, overflow-is}
+use Rattle.ct_model.proofs.Record.Causes.{own_tests, cause-present, cause-none, IsKept, first_fault-none, low, overflow-is}
 use Rattle.ct_model.proofs.Record.Taken.{IsTaken, next-row}
 use Rattle.ct_model.proofs.Relay.Messages.{in_members}
 
@@ -90,26 +90,14 @@ pub record IsUnder (cells steps : ℕ) (g : State) (p : ℕ) : Type 0 where
   pub few_steps : steps ≤ MAX_STEPS
 
 pub limits-none : (cells steps : ℕ) (g : State) (p : ℕ) → first_fault (limits cells steps g p) ≡ None → IsUnder cells steps g p
-limits-none cells steps g p h =
-    let t6 : List Test = at (Full Steps) (nat_lt MAX_STEPS steps) ∷ [] in
-    let t5 : List Test = at (Full Cells) (nat_lt cells (length (order g))) ∷ t6 in
-    let t4 : List Test = at (Full Envelopes) (nat_lt MAX_ENVELOPES (length g.sent)) ∷ t5 in
-    let t3 : List Test = at (Full Rounds) (nat_lt MAX_ROUNDS (round_of (member g p))) ∷ t4 in
-    let t2 : List Test = at (Full Instances) (nat_lt MAX_INSTANCES (member g p).last) ∷ t3 in
-    let a = first_fault-none (at (Full Submissions) (nat_lt MAX_SUBMISSIONS (submissions g.submitted p))) t2 h in
-    let b = first_fault-none (at (Full Instances) (nat_lt MAX_INSTANCES (member g p).last)) t3 a.1 in
-    let c = first_fault-none (at (Full Rounds) (nat_lt MAX_ROUNDS (round_of (member g p)))) t4 b.1 in
-    let d = first_fault-none (at (Full Envelopes) (nat_lt MAX_ENVELOPES (length g.sent))) t5 c.1 in
-    let e = first_fault-none (at (Full Cells) (nat_lt cells (length (order g)))) t6 d.1 in
-    let f = first_fault-none (at (Full Steps) (nat_lt MAX_STEPS steps)) [] e.1 in
-    record {
-      few_submissions = under MAX_SUBMISSIONS (submissions g.submitted p) a.0;
-      few_instances = under MAX_INSTANCES (member g p).last b.0;
-      few_rounds = under MAX_ROUNDS (round_of (member g p)) c.0;
-      few_envelopes = under MAX_ENVELOPES (length g.sent) d.0;
-      few_batches = under cells (length (order g)) e.0;
-      few_steps = under MAX_STEPS steps f.0;
-    }
+limits-none cells steps g p h = record {
+  few_submissions = grind arith;
+  few_instances = grind arith;
+  few_rounds = grind arith;
+  few_envelopes = grind arith;
+  few_batches = grind arith;
+  few_steps = grind arith;
+}
 
 module _ (w : Rehearsal) (step : Step) (o : Outcome) (law : IsLawful w)
     (is : row w.setting (state_of w) (actor step) (member (state_of w) (actor step)) step ≡ Some o)

@@ -1,5 +1,5 @@
 -- Deliver.
-use Rattle.std.proofs.Common.{arith, ◌≡◌, ℕ, ◌+◌, [], ◌∷◌, length, refl, ap, sym, ◌∙◌, Option, Some, None}
+use Rattle.std.proofs.Common.{arith, ◌≡◌, ℕ, ◌+◌, [], ◌∷◌, length, ap, sym, ◌∙◌, Some, None}
 use Rattle.std.specs.Prelude.{nat_lt, is_none}
 use Rattle.ct_names.specs.declared.limit.TheConstants.{MAX_INSTANCES}
 use Rattle.ct_names.specs.declared.limit.Limit.TheVariants.{Instances, Cells}

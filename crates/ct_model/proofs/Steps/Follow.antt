@@ -1,12 +1,11 @@
 -- Follow.
-use Rattle.std.proofs.Common.{◌≡◌, ℕ, ◌+◌, ◌<◌, [], ◌∷◌, length, refl, ap, sym, ◌∙◌, arith, Option, Some, None}
+use Rattle.std.proofs.Common.{◌≡◌, ℕ, ◌+◌, ◌<◌, [], ◌∷◌, length, ap, sym, ◌∙◌, arith, Some, None}
 use Rattle.std.specs.Prelude.{nat_lt, is_some, is_none}
 use Rattle.ct_names.specs.declared.limit.TheConstants.{MAX_INSTANCES}
 use Rattle.ct_names.specs.declared.limit.Limit.TheVariants.{Instances, Cells}
 use Rattle.ct_names.specs.declared.refusal.Refusal.TheVariants.{Busy, Undecided, Full}
 use Rattle.ct_names.specs.Value.{Value}
 use Rattle.ct_model.specs.declared.step.Step.TheVariants.{Follow}
-use Rattle.ct_model.specs.AtValue.{Standing}
 use Rattle.ct_model.specs.State.{Member, member}
 use Rattle.ct_model.specs.Received.{decided}
 use Rattle.ct_model.specs.Next.{follow, follow_row, row, after}

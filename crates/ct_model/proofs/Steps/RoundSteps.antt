@@ -1,9 +1,10 @@
 -- What holds of each step of a round alike.
-use Rattle.std.proofs.Common.{◌≡◌, ℕ, ◌+◌, ◌≤◌, Bool, true, false, length, subst, arith, List, [], ◌∷◌, ◌++◌, refl, ap, sym, ◌∙◌}
+use Rattle.std.proofs.Common.{◌≡◌, ℕ, ◌+◌, ◌≤◌, Bool, true, false, not, length, subst, arith, List, [], ◌∷◌, ◌++◌, refl, ap, sym, ◌∙◌}
 use Rattle.std.proofs.Common.{Option, Some, None}
 use Rattle.std.specs.Prelude.{nat_lt, ◌&&◌, is_some, option_map, if◌then◌else◌}
 use Rattle.ct_names.specs.declared.limit.Limit.TheVariants.{Rounds}
-use Rattle.ct_names.specs.declared.refusal.Refusal.TheVariants.{Full, Decided}
+use Rattle.ct_names.specs.declared.refusal.Refusal.{Refusal}
+use Rattle.ct_names.specs.declared.refusal.Refusal.TheVariants.{Full, Decided, WrongPhase, TooFew}
 use Rattle.ct_model.specs.declared.moves.Move.{Move}
 use Rattle.ct_model.specs.declared.moves.Move.TheVariants.{Enter, Choose, Adopt, Suspect, Conclude}
 use Rattle.ct_model.specs.Actor.{actor}
@@ -12,14 +13,16 @@ use Rattle.ct_names.specs.Value.{Value}
 use Rattle.ct_model.specs.AtValue.{Standing as AtSets, Turn}
 use Rattle.ct_model.specs.Wire.{envelopes}
 use Rattle.ct_model.specs.declared.wire.Wire.TheVariants.{Prop, Dec}
-use Rattle.ct_model.specs.Phases.{entered, enter, chosen, adopted, suspected, concluded}
-use Rattle.ct_model.specs.Faults.{enter_faults}
+use Rattle.ct_model.specs.Phases.{is_tally, entered, enter, chosen, choose, adopted, adopt, suspected, suspect, concluded, conclude}
+use Rattle.ct_model.specs.Faults.{enter_faults, choose_faults, adopt_faults, suspect_faults, conclude_faults}
+use Rattle.ct_model.specs.When.{when}
+use Rattle.ct_model.proofs.Basics.Options.{some-of}
 use Rattle.std.specs.Option.{option_map_or}
 use Rattle.std.proofs.lemmas.Bool.Decides.{nat_tests}
 use Rattle.ct_names.specs.declared.limit.TheConstants.{MAX_ROUNDS}
 use Rattle.ct_model.specs.Setting.{Setting}
 use Rattle.ct_model.specs.State.{State, Member, Standing, member}
-use Rattle.ct_model.specs.Received.{Ballots, decided}
+use Rattle.ct_model.specs.Received.{Heard, Ballots, estimate_from, decided}
 use Rattle.ct_model.specs.Mapped.{ballots_map, standing_map, turn_map}
 use Rattle.ct_model.specs.Moves.{step_of, turn_of, faults_of, sent_by, is_enter}
 use Rattle.ct_model.specs.Next.{row, round_row, own_ballots, turn_at}
@@ -31,9 +34,7 @@ use Rattle.ct_model.proofs.Record.Limits.{own_tests-is}
 use Rattle.ct_model.proofs.Steps.Rounds.{open-at, round_row-some, cause-turned}
 use Rattle.ct_model.proofs.Basics.Serials.{length-all}
 use Rattle.ct_model.proofs.Steps.Receive.{either_number}
-use Rattle.ct_model.proofs.Steps.Turns.{choose-heard, choose-taken, adopt-proposed, adopt-taken, suspect-taken, conclude-taken}
-use Rattle.ct_model.proofs.Numbers.Naturality.{enter-map, choose-map, adopt-map, suspect-map, conclude-map, choose_faults-map}
-use Rattle.ct_model.proofs.Numbers.Naturality.{adopt_faults-map, suspect_faults-map, conclude_faults-map}
+use Rattle.ct_model.proofs.Numbers.Naturality.{heard-map, estimate_from-map, is_largest-map}
 use Rattle.ct_model.specs.Waiting.{line_change}
 use Rattle.ct_model.specs.Waiting.LineChange.{Leaves}
 
@@ -57,27 +58,41 @@ tests-move s g m line p a = grind arith
 
 pub turn-map : {V U : Type 0} (f : V → U) (n me k : ℕ) (d : Option V) (t : Ballots V) (c : Standing V) (a : Move) →
     turn_of n me k (option_map f d) (ballots_map f t) (standing_map f c) a ≡ option_map (turn_map f) (turn_of n me k d t c a)
-turn-map f n me k d t c Enter = enter-map f n me k d c
-turn-map f n me k d t c (Choose from) = choose-map f n k t c from
-turn-map f n me k d t c Adopt = adopt-map f n me k t c
-turn-map f n me k d t c Suspect = suspect-map f n me k t c
-turn-map f n me k d t c Conclude = conclude-map f n k t c
+unfolding enter choose adopt suspect conclude
+turn-map f n me k d t c a = grind (arith, estimate_from-map f t, is_largest-map f t, heard-map f t)
 
 pub faults-map : {V U : Type 0} (f : V → U) (n : ℕ) (d : Option V) (t : Ballots V) (c : Standing V) (a : Move) →
     faults_of n (option_map f d) (ballots_map f t) (standing_map f c) a ≡ faults_of n d t c a
-faults-map f n None t c Enter = refl
-faults-map f n (Some v) t c Enter = refl
-faults-map f n d t c (Choose from) = choose_faults-map f n t c from
-faults-map f n d t c Adopt = adopt_faults-map f t c
-faults-map f n d t c Suspect = suspect_faults-map f t c
-faults-map f n d t c Conclude = conclude_faults-map f n t c
+faults-map f n d t c a = grind (arith, estimate_from-map f t, is_largest-map f t, heard-map f t)
 
 -- where none of its tests fires
 
-enter-free : (n me k : ℕ) (decision : Option Value) (c : AtSets) →
-    first_fault (enter_faults c ++ at Decided (is_some decision) ∷ []) ≡ None → enter n me k decision c ≡ Some (entered n me k c)
-unfolding enter
-enter-free n me k decision c h = grind arith
+taken-two : {A : Type 0} (a b : Bool) (x : A) (r s : Refusal) → first_fault (at r (not a) ∷ at s (not b) ∷ []) ≡ None →
+    when (a && b) x ≡ Some x
+taken-two a b x r s h = grind arith
+
+module _ (n me k : ℕ) (d : Option Value) (t : Ballots Value) (c : AtSets) where
+  enter-free : first_fault (enter_faults c ++ at Decided (is_some d) ∷ []) ≡ None → enter n me k d c ≡ Some (entered n me k c)
+  unfolding enter
+  enter-free h = grind arith
+
+  -- the estimate that was heard has the largest ts
+  choose-free : (from : ℕ) → first_fault (choose_faults n t c from) ≡ None →
+      (e : Heard Value) × (choose n k t c from ≡ Some (chosen k c e))
+  unfolding choose
+  choose-free from h = let e = some-of (estimate_from t from) (grind arith) in (e.0, grind (arith, e.1))
+
+  adopt-free : first_fault (adopt_faults t c) ≡ None → (v : Value) × (adopt n me k t c ≡ Some (adopted n me k c v))
+  unfolding adopt
+  adopt-free h = let v = some-of t.proposal (grind arith) in (v.0, grind (arith, v.1))
+
+  suspect-free : first_fault (suspect_faults t c) ≡ None → suspect n me k t c ≡ Some (suspected n me k c)
+  unfolding suspect
+  suspect-free h = grind arith
+
+  conclude-free : first_fault (conclude_faults n t c) ≡ None → conclude n k t c ≡ Some (concluded n k t c)
+  unfolding conclude
+  conclude-free h = taken-two (is_tally c.phase) (is_majority n t.replied) (concluded n k t c) WrongPhase TooFew h
 
 -- it is taken: its turn, the round then, and how many envelopes it sends
 pub record IsFree (n p k : ℕ) (d : Option Value) (t : Ballots Value) (c : AtSets) (a : Move) : Type 0 where
@@ -88,25 +103,18 @@ pub record IsFree (n p k : ℕ) (d : Option Value) (t : Ballots Value) (c : AtSe
 
 pub turn-free : (n p k : ℕ) (d : Option Value) (t : Ballots Value) (c : AtSets) (a : Move) → first_fault (faults_of n d t c a) ≡ None →
     IsFree n p k d t c a
-turn-free n p k d t c Enter h = record { turn = entered n p k c; turns = enter-free n p k d c h; round = refl; number = refl }
+turn-free n p k d t c Enter h = record { turn = entered n p k c; turns = enter-free n p k d t c h; round = refl; number = refl }
 turn-free n p k d t c (Choose from) h =
-    let best = choose-heard n k t c from h in
-    record {
-      turn = chosen k c best.0;
-      turns = choose-taken n k t c from best.0 h best.1;
-      round = refl;
-      number = length-all (Prop k c.round best.0.value) n;
-    }
+    let e = choose-free n p k d t c from h in
+    record { turn = chosen k c e.0; turns = e.1; round = refl; number = length-all (Prop k c.round e.0.value) n }
 turn-free n p k d t c Adopt h =
-    let v = adopt-proposed n p k t c h in
-    record { turn = adopted n p k c v.0; turns = adopt-taken n p k t c v.0 h v.1; round = refl; number = refl }
-turn-free n p k d t c Suspect h = record { turn = suspected n p k c; turns = suspect-taken n p k t c h; round = refl; number = refl }
+    let v = adopt-free n p k d t c h in record { turn = adopted n p k c v.0; turns = v.1; round = refl; number = refl }
+turn-free n p k d t c Suspect h = record { turn = suspected n p k c; turns = suspect-free n p k d t c h; round = refl; number = refl }
 turn-free n p k d t c Conclude h = record {
   turn = concluded n k t c;
-  turns = conclude-taken n k t c h;
+  turns = conclude-free n p k d t c h;
   round = refl;
-  number =
-      either_number n (Dec k c.round c.estimate) (is_majority n t.acked);
+  number = either_number n (Dec k c.round c.estimate) (is_majority n t.acked);
 }
 
 within-round : (enters : Bool) (after now : ℕ) → after ≡ (if enters then now + 1 else now) → now ≤ MAX_ROUNDS →
