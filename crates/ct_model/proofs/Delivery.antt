@@ -1,9 +1,7 @@
 -- Batches, their order, and that every state of a run is safe.
 pub mod Batches
 pub mod Proposals
-pub mod Comparable
 pub mod Prefixes
-pub mod Bounds
 pub mod Longest
 pub mod Order
 pub mod Safety

@@ -1,7 +1,8 @@
--- The batches of the least member whose list is longest.
+-- The longest of some lists of batches, and the batches of the least member whose list is longest.
 use Rattle.std.proofs.Common.{◌≡◌, ℕ, zero, suc, ◌-◌, ◌≤◌, ◌<◌, List, [], ◌∷◌, length, map, refl, ap, ◌∙◌, arith, ◌⊎◌, inl, inr, sym}
+use Rattle.std.proofs.Common.{append-nil, length-append}
 use Rattle.std.specs.Prelude.{nat_lt, if◌then◌else◌, slice_index_or}
-use Rattle.std.proofs.lemmas.Bool.{cases_eq}
+use Rattle.std.proofs.lemmas.Bool.{cases_eq, cond_both}
 use Rattle.std.proofs.lemmas.Bool.Decides.{nat_tests}
 use Rattle.std.proofs.lemmas.List.{nil_from_length}
 use Rattle.ct_names.specs.Membership.{IsIn}
@@ -9,9 +10,44 @@ use Rattle.ct_model.specs.Setting.{Setting}
 use Rattle.ct_model.specs.State.{State, Member, member, new_member}
 use Rattle.ct_names.specs.Batch.{Batch}
 use Rattle.ct_model.specs.Next.{Outcome, after}
-use Rattle.ct_model.specs.Cause.{order}
-use Rattle.ct_model.proofs.Delivery.Comparable.{longest-in, longest-most}
+use Rattle.ct_model.specs.Cause.{order, longest}
 use Rattle.ct_model.proofs.Record.Frame.{after-size, member-same, member-other, at_place}
+use Rattle.ct_names.specs.Prefix.{IsPrefix}
+
+-- where one of two lists begins the other, the shorter one does
+prefix-shorter : {A : Type 0} (xs ys : List A) → IsPrefix xs ys ⊎ IsPrefix ys xs → length xs ≤ length ys → IsPrefix xs ys
+prefix-shorter xs ys (inl a) le = a
+prefix-shorter xs ys (inr ([], e)) le = ([], append-nil xs ∙ sym e ∙ append-nil ys)
+prefix-shorter xs ys (inr (z ∷ rest, e)) le =
+    absurd (grind (arith, length-append ys (z ∷ rest)))
+
+-- of each two of the lists one begins the other
+abbrev pub InOneOrder : List (List Batch) → Type 0
+InOneOrder lists = (xs ys : List Batch) → IsIn xs lists → IsIn ys lists → IsPrefix xs ys ⊎ IsPrefix ys xs
+
+-- the longest is one of the lists
+pub longest-in : (best : List Batch) (lists : List (List Batch)) → IsIn (longest best lists) (best ∷ lists)
+longest-in best [] = inl refl
+longest-in best (l ∷ rest) =
+    cond_both (nat_lt (length best) (length l)) (longest l rest) (longest best rest) (λ z. IsIn z (best ∷ l ∷ rest))
+    (λ e. inr (longest-in l rest)) (λ e. elim (longest-in best rest) [ inl a ↦ inl a | inr a ↦ inr (inr a) ])
+
+-- and none is longer
+pub longest-most : (best : List Batch) (lists : List (List Batch)) (xs : List Batch) → IsIn xs (best ∷ lists) →
+    length xs ≤ length (longest best lists)
+longest-most best [] xs (inl e) = grind arith
+longest-most best [] xs (inr never) = absurd never
+longest-most best (l ∷ rest) xs (inl e) =
+    grind (arith, nat_tests, longest-most l rest l (inl refl), longest-most best rest xs (inl e))
+longest-most best (l ∷ rest) xs (inr (inl e)) =
+    grind (arith, nat_tests, longest-most l rest xs (inl e), longest-most best rest best (inl refl))
+longest-most best (l ∷ rest) xs (inr (inr i)) =
+    grind (arith, longest-most l rest xs (inr i), longest-most best rest xs (inr i))
+
+pub longest-prefix : (best : List Batch) (lists : List (List Batch)) → InOneOrder (best ∷ lists) → (xs : List Batch) →
+    IsIn xs (best ∷ lists) → IsPrefix xs (longest best lists)
+longest-prefix best lists h xs is =
+    prefix-shorter xs (longest best lists) (h xs (longest best lists) is (longest-in best lists)) (longest-most best lists xs is)
 
 -- the batches of each member
 abbrev pub lists_of : State → List (List Batch)

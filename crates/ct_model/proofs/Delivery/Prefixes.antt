@@ -22,8 +22,7 @@ use Rattle.ct_model.specs.Safe.{IsAgreed, IsProposed, delivered_by}
 use Rattle.ct_names.specs.Prefix.{IsPrefix}
 use Rattle.ct_model.proofs.Delivery.Batches.{deliveries, deliveries-same, decision, decision-is, HasDecision, HasClosed, HaveClosed}
 use Rattle.ct_model.proofs.Delivery.Batches.{closed-run}
-use Rattle.ct_model.proofs.Delivery.Comparable.{InOneOrder, longest-prefix, longest-in}
-use Rattle.ct_model.proofs.Delivery.Longest.{lists_of, member-in, of_member}
+use Rattle.ct_model.proofs.Delivery.Longest.{lists_of, member-in, of_member, InOneOrder, longest-prefix, longest-in}
 use Rattle.ct_model.proofs.Basics.Options.{some-same, some-none}
 use Rattle.ct_model.proofs.Delivery.Proposals.{proposes-run}
 

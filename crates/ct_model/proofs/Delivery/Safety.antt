@@ -6,7 +6,7 @@ use Rattle.ct_model.specs.Safe.{IsSafe}
 use Rattle.ct_model.specs.Setting.{Setting}
 use Rattle.ct_model.specs.State.{State}
 use Rattle.ct_model.proofs.Consensus.Locking.{agreed-run}
-use Rattle.ct_model.proofs.Delivery.Bounds.{batches-few}
+use Rattle.ct_model.proofs.Delivery.Proposals.{batches-few}
 use Rattle.ct_model.proofs.Delivery.Prefixes.{batches-prefix, delivered-prefix, delivered-once, delivered-submitted}
 
 pub safe-run : (s : Setting) (steps : List Step) (g : State) → run s steps ≡ Some g → IsSafe s g

@@ -1,10 +1,6 @@
 -- A step has no cause exactly where it is allowed.
-use Rattle.std.proofs.Common.{arith, ◌≡◌, ℕ, ◌+◌, Bool, true, false, not, [], ◌∷◌, length, refl, ap, sym, ◌∙◌, subst, Option, Some, None}
-use Rattle.std.specs.Prelude.{is_some, is_none}
-use Rattle.ct_names.specs.declared.refusal.Refusal.{Refusal}
-use Rattle.ct_names.specs.declared.refusal.Refusal.TheVariants.{NotWaiting, Busy, Nothing, Undecided, BadCommand, NotSent, StillWaiting}
+use Rattle.std.proofs.Common.{arith, ◌≡◌, ℕ, ◌+◌, length, ap, sym, ◌∙◌, subst, Option, Some, None}
 use Rattle.ct_names.specs.Value.{Value}
-use Rattle.ct_names.specs.Command.{is_good}
 use Rattle.ct_model.specs.declared.moves.Move.{Move}
 use Rattle.ct_model.specs.declared.moves.Move.TheVariants as moves
 use Rattle.ct_model.specs.declared.step.Step.{Step}
@@ -15,13 +11,12 @@ use Rattle.ct_model.specs.State.{State, member}
 use Rattle.ct_model.specs.AtValue.{Standing, Turn}
 use Rattle.ct_model.specs.Received.{Ballots, decided}
 use Rattle.ct_model.specs.Moves.{step_of, turn_of, faults_of}
-use Rattle.ct_model.specs.Next.{Outcome, row, wire_to, begin, deliver, follow, turned, turn_at, submit, proposed, is_empty}
+use Rattle.ct_model.specs.Next.{Outcome, row, begin, deliver, follow, turned, turn_at}
 use Rattle.ct_model.specs.Next.{own_ballots, after, next}
 use Rattle.ct_model.specs.Rehearsal.{Rehearsal, state_of, line_of, extended}
-use Rattle.ct_model.specs.Cause.{at, first_fault, faults_at, limits, limit, or_else, cause}
-use Rattle.ct_model.specs.Lawful.{IsLawful, IsWithin, IsPresent, NamesWaiting, is_waiting}
+use Rattle.ct_model.specs.Cause.{first_fault, faults_at, limits, limit, or_else, cause}
+use Rattle.ct_model.specs.Lawful.{IsLawful, IsWithin, IsPresent, NamesWaiting}
 use Rattle.ct_model.specs.Allowed.{IsAllowed}
-use Rattle.ct_model.proofs.Basics.Options.{when-is}
 use Rattle.ct_model.proofs.Record.Causes.{own_tests, cause-none, cause-present}
 use Rattle.ct_model.proofs.Record.Taken.{IsTaken, next-step, lawful-step}
 use Rattle.ct_model.proofs.Record.Envelopes.{waiting_letter}
@@ -30,11 +25,11 @@ use Rattle.ct_model.proofs.Record.Limits.{own_tests-is, taken_of}
 use Rattle.ct_model.proofs.Steps.Submit.{submit_outcome, submit_taken}
 use Rattle.ct_model.proofs.Steps.Receive.{receive_outcome, receive_waits, receive_taken}
 use Rattle.ct_model.proofs.Steps.Begin.{begin_taken}
-use Rattle.ct_model.proofs.Steps.Rows.{round_row-is, begin_row-is, deliver_row-is, follow_row-is, enter-is, choose-is, adopt-is}
+use Rattle.ct_model.proofs.Steps.Rows.{round_row-is, enter-is, choose-is, adopt-is}
 use Rattle.ct_model.proofs.Steps.Rows.{suspect-is, conclude-is}
 use Rattle.ct_model.proofs.Steps.Rounds.{open-at, open-standing, round_row-some}
 use Rattle.ct_model.proofs.Steps.RoundSteps.{row-move, tests-move, turn-free}
-use Rattle.ct_model.proofs.Steps.Deliver.{tests-deliver, deliver_taken}
+use Rattle.ct_model.proofs.Steps.Deliver.{deliver_taken}
 use Rattle.ct_model.proofs.Steps.Follow.{follow_taken}
 use Rattle.ct_model.proofs.Steps.Crash.{crash_outcome, crash_taken}
 use Rattle.ct_model.proofs.Steps.LineSteps.{line_outcome, postpone_taken, lose_taken, repeat_taken}
@@ -95,15 +90,6 @@ cause-allowed w (Repeat p k) law none = taken-allowed w (Repeat p k) (line_outco
 
 -- where a row gives an outcome and what the step names waits or not, as the step asks, no test of its own fires
 
-some-not_none : {A : Type 0} (o : Option A) → is_some o ≡ true → is_none o ≡ false
-some-not_none o e = grind arith
-
-none-one : (a : Bool) (r : Refusal) → a ≡ false → first_fault (at r a ∷ []) ≡ None
-none-one a r e = rw e refl
-
-none-two : (a b : Bool) (r s : Refusal) → a ≡ false → b ≡ false → first_fault (at r a ∷ at s b ∷ []) ≡ None
-none-two a b r s e f = rw (e, f) refl
-
 -- the tests of a step of a round that is taken
 turn-tested : (n p k : ℕ) (d : Option Value) (b : Ballots Value) (c : Standing) (a : Move) (turn : Turn) → turn_of n p k d b c a ≡ Some turn
     → first_fault (faults_of n d b c a) ≡ None
@@ -127,38 +113,20 @@ move-free w p a o is =
 
 row-free : (w : Rehearsal) (step : Step) (o : Outcome) → row w.setting (state_of w) (actor step) (member (state_of w) (actor step)) step
     ≡ Some o → NamesWaiting w step → first_fault (own_tests w step) ≡ None
-row-free w (Submit p c) o is names =
-    let good = (when-is (is_good c) (submit (state_of w) p (member (state_of w) p) c) o is).0 in
-    ap first_fault (own_tests-is w (Submit p c)) ∙ none-one (not (is_good c)) BadCommand (ap not good)
-row-free w (Receive p k) o is names = ap first_fault (own_tests-is w (Receive p k))
-    ∙ none-one (not (is_waiting w p k)) NotWaiting (ap not names)
-row-free w (Begin p) o is names =
-    let m = member (state_of w) p in
-    let r = (begin_row-is w.setting p m o is).0 in
-    ap first_fault (own_tests-is w (Begin p))
-    ∙ none-two (is_some m.current) (is_empty (proposed w.setting m)) Busy Nothing (ap is_some r.idle) r.something
+row-free w (Submit p c) o is names = ap first_fault (own_tests-is w (Submit p c)) ∙ grind arith
+row-free w (Receive p k) o is names = ap first_fault (own_tests-is w (Receive p k)) ∙ grind arith
+row-free w (Begin p) o is names = ap first_fault (own_tests-is w (Begin p)) ∙ grind arith
 row-free w (Enter p) o is names = move-free w p moves.Enter o is
 row-free w (Choose p from) o is names = move-free w p (moves.Choose from) o is
 row-free w (Adopt p) o is names = move-free w p moves.Adopt o is
 row-free w (Suspect p) o is names = move-free w p moves.Suspect o is
 row-free w (Conclude p) o is names = move-free w p moves.Conclude o is
-row-free w (Deliver p) o is names =
-    let m = member (state_of w) p in
-    let d = (deliver_row-is m o is).0 in
-    tests-deliver w p d.standing d.is_open ∙ none-one (is_none (decided m.got m.last)) Undecided (ap is_none d.decision)
-row-free w (Follow p) o is names =
-    let m = member (state_of w) p in
-    let d = (follow_row-is m o is).0 in
-    ap first_fault (own_tests-is w (Follow p)) ∙ none-two (is_some m.current) (is_none (decided m.got (m.last + 1))) Busy Undecided
-    (ap is_some d.idle) (ap is_none d.decision)
+row-free w (Deliver p) o is names = ap first_fault (own_tests-is w (Deliver p)) ∙ grind arith
+row-free w (Follow p) o is names = ap first_fault (own_tests-is w (Follow p)) ∙ grind arith
 row-free w (Crash p) o is names = ap first_fault (own_tests-is w (Crash p))
-row-free w (Postpone p k) o is names = ap first_fault (own_tests-is w (Postpone p k))
-    ∙ none-one (not (is_waiting w p k)) NotWaiting (ap not names)
-row-free w (Lose p k) o is names = ap first_fault (own_tests-is w (Lose p k)) ∙ none-one (not (is_waiting w p k)) NotWaiting (ap not names)
-row-free w (Repeat p k) o is names =
-    ap first_fault (own_tests-is w (Repeat p k))
-    ∙ none-two (is_none (wire_to (state_of w) p k)) (is_waiting w p k) NotSent StillWaiting
-    (some-not_none (wire_to (state_of w) p k) names.sent) names.away
+row-free w (Postpone p k) o is names = ap first_fault (own_tests-is w (Postpone p k)) ∙ grind arith
+row-free w (Lose p k) o is names = ap first_fault (own_tests-is w (Lose p k)) ∙ grind arith
+row-free w (Repeat p k) o is names = ap first_fault (own_tests-is w (Repeat p k)) ∙ grind arith
 
 -- where no limit is passed none is the cause
 within-free : (cells steps : ℕ) (g : State) (p : ℕ) → IsWithin cells g steps → first_fault (limits cells steps g p) ≡ None

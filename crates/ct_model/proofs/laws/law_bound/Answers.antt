@@ -1,5 +1,5 @@
 use Rattle.ct_model.proofs.Consensus.Locking.{agreed-run}
-use Rattle.ct_model.proofs.Delivery.Bounds.{decided-few, batches-few}
+use Rattle.ct_model.proofs.Delivery.Proposals.{decided-few, batches-few}
 use Rattle.ct_model.proofs.laws.law_bound.Goals as goal
 
 pub returns-clause-decisions : goal.returns-clause-decisions
