@@ -42,7 +42,7 @@ module _ (w : Rehearsal) (step : Step) (k : ℕ)
   unfolding line_outcome
   line_taken none names = taken_of w step (plain (member (state_of w) (actor step)) Nobody) law none names rowed
 
-waiting_sent : (w : Rehearsal) (p k : ℕ) → IsLawful w → is_waiting w p k ≡ true → is_some (wire_to (state_of w) p k) ≡ true
+pub waiting_sent : (w : Rehearsal) (p k : ℕ) → IsLawful w → is_waiting w p k ≡ true → is_some (wire_to (state_of w) p k) ≡ true
 waiting_sent w p k law waits = let l = waiting_letter w p k law waits in ap is_some (letter_wire (state_of w) p k l.0 l.1)
 
 -- Postpone

@@ -70,32 +70,26 @@ follows : outcome (run (group_of 3) followed)
           ∷ record { last = 1; is_open = false; delivered = (1, 1) ∷ [] }
           ∷ [],
     )
-unfolding computing
-follows = refl
+follows = unfold computing in refl
 
 -- what was delivered is not proposed again, and the instance that was followed is not followed again
 relays_late : option_map (λ g. length g.sent) (run (group_of 3) (followed ++ Receive 3 3 ∷ [])) ≡ Some 22
-unfolding computing
-relays_late = refl
+relays_late = unfold computing in refl
 
 refused_after : map (after_in 3 4 (followed ++ Receive 3 3 ∷ [])) (Begin 3 ∷ Follow 3 ∷ Deliver 3 ∷ []) ≡ Some Nothing ∷ Some Undecided
     ∷ Some Idle ∷ []
-unfolding computing
-refused_after = refl
+refused_after = unfold computing in refl
 
 -- the instance of a Follow is the next one, none is open, and its batch has a cell
 refused_before : map (after_in 3 4 to_decision) (Follow 3 ∷ Follow 2 ∷ []) ≡ Some Undecided ∷ Some Busy ∷ []
-unfolding computing
-refused_before = refl
+refused_before = unfold computing in refl
 
 refused_open : map (after_in 3 4 (to_decision ++ Receive 3 3 ∷ Begin 3 ∷ Receive 3 16 ∷ [])) (Follow 3 ∷ Deliver 3 ∷ []) ≡ Some Busy ∷ None
     ∷ []
-unfolding computing
-refused_open = refl
+refused_open = unfold computing in refl
 
 refused_cells : map (λ cells. after_in 3 cells (to_decision ++ Receive 3 16 ∷ []) (Follow 3)) (0 ∷ 1 ∷ []) ≡ Some (Full Cells) ∷ None ∷ []
-unfolding computing
-refused_cells = refl
+refused_cells = unfold computing in refl
 
 -- the row of a member that has the decision of instance 2 alone: it follows after instance 1, unless that is open still
 with_second : Member
@@ -104,23 +98,19 @@ with_second = record new_member { got = Dec 2 1 [] ∷ []; last = 1 }
 rows_of_second : map (λ m. option_map (λ o. shown o.member) (follow_row m))
     (with_second ∷ record with_second { current = Some (record { round = 0; phase = Rest; estimate = []; ts = 0 }) }
     ∷ record with_second { last = 0 } ∷ []) ≡ Some (record { last = 2; is_open = false; delivered = [] }) ∷ None ∷ None ∷ []
-unfolding computing with_second
-rows_of_second = refl
+rows_of_second = unfold computing with_second in refl
 
 -- a proposal has the first messages in order, not those that came first
 one_at_a_time : map (λ steps. outcome (run (one_of 1) (two_messages ++ steps))) (first_instance ∷ (first_instance ++ second_instance) ∷ [])
     ≡ Some (6, 1, 1, (record { last = 1; is_open = false; delivered = (1, 1) ∷ [] } ∷ []))
     ∷ Some (10, 2, 2, (record { last = 2; is_open = false; delivered = (1, 1) ∷ (1, 2) ∷ [] } ∷ [])) ∷ []
-unfolding computing
-one_at_a_time = refl
+one_at_a_time = unfold computing in refl
 
 two_at_once : outcome (run (one_of 2) (two_messages ++ first_instance))
     ≡ Some (6, 1, 1, (record { last = 1; is_open = false; delivered = (1, 1) ∷ (1, 2) ∷ [] } ∷ []))
-unfolding computing
-two_at_once = refl
+two_at_once = unfold computing in refl
 
 -- what the bound left over may be proposed next
 refused_then : map (λ bound. cause (record { setting = one_of bound; cells = 4; steps = two_messages ++ first_instance }) (Begin 1))
     (1 ∷ 2 ∷ []) ≡ None ∷ Some Nothing ∷ []
-unfolding computing
-refused_then = refl
+refused_then = unfold computing in refl

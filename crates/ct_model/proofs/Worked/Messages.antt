@@ -34,66 +34,53 @@ unfolding runs_with outcome after_three relayed_once
 computing = tt
 
 nothing_yet : outcome (run (group_of 3) []) ≡ Some (0, ([] ∷ [] ∷ [] ∷ []), (false ∷ false ∷ false ∷ []))
-unfolding computing
-nothing_yet = refl
+nothing_yet = unfold computing in refl
 
 -- a first receipt by another than the origin is relayed to all
 first_receipts : outcome (run (group_of 3) relayed_once) ≡ Some (6, (((1, 1) ∷ []) ∷ ((1, 1) ∷ []) ∷ [] ∷ []), (false ∷ false ∷ false ∷ []))
-unfolding computing
-first_receipts = refl
+first_receipts = unfold computing in refl
 
 lines_then : map (waiting (group_of 3) relayed_once) (1 ∷ 2 ∷ 3 ∷ []) ≡ (4 ∷ []) ∷ (5 ∷ []) ∷ (3 ∷ 6 ∷ []) ∷ []
-unfolding computing
-lines_then = refl
+lines_then = unfold computing in refl
 
 -- what is got twice is neither received nor relayed twice
 second_receipts : outcome (run (group_of 3) (relayed_once ++ Receive 1 4 ∷ Receive 2 5 ∷ []))
     ≡ Some (6, (((1, 1) ∷ []) ∷ ((1, 1) ∷ []) ∷ [] ∷ []), (false ∷ false ∷ false ∷ []))
-unfolding computing
-second_receipts = refl
+second_receipts = unfold computing in refl
 
 -- a postponed serial stands last, and may be received out of turn
 postponed : map (waiting (group_of 3) (relayed_once ++ Postpone 3 3 ∷ [])) (1 ∷ 2 ∷ 3 ∷ []) ≡ (4 ∷ []) ∷ (5 ∷ []) ∷ (6 ∷ 3 ∷ []) ∷ []
-unfolding computing
-postponed = refl
+postponed = unfold computing in refl
 
 reordered : outcome (run (group_of 3) (relayed_once ++ Postpone 3 3 ∷ Receive 3 6 ∷ Receive 3 3 ∷ []))
     ≡ Some (9, (((1, 1) ∷ []) ∷ ((1, 1) ∷ []) ∷ ((1, 1) ∷ []) ∷ []), (false ∷ false ∷ false ∷ []))
-unfolding computing
-reordered = refl
+reordered = unfold computing in refl
 
 -- an origin's second message may be received first
 out_of_order : outcome (run (group_of 1) (Submit 1 (Copy 0 1) ∷ Submit 1 (Set 0 5) ∷ Receive 1 2 ∷ Receive 1 1 ∷ []))
     ≡ Some (2, (((1, 2) ∷ (1, 1) ∷ []) ∷ [] ∷ [] ∷ []), (false ∷ []))
-unfolding computing
-out_of_order = refl
+out_of_order = unfold computing in refl
 
 -- envelopes to a crashed member stay waiting
 crashed : outcome (run (group_of 3) (relayed_once ++ Crash 3 ∷ []))
     ≡ Some (6, (((1, 1) ∷ []) ∷ ((1, 1) ∷ []) ∷ [] ∷ []), (false ∷ false ∷ true ∷ []))
-unfolding computing
-crashed = refl
+crashed = unfold computing in refl
 
 lines_of_crashed : waiting (group_of 3) (relayed_once ++ Crash 3 ∷ []) 3 ≡ 3 ∷ 6 ∷ []
-unfolding computing
-lines_of_crashed = refl
+lines_of_crashed = unfold computing in refl
 
 -- a crashed member takes no step, and no step is a stranger's
 refused_crashed : map (after_three (Crash 3 ∷ [])) (Submit 3 (Set 16 1) ∷ Receive 3 1 ∷ Crash 3 ∷ Postpone 3 1 ∷ []) ≡ Some Crashed
     ∷ Some Crashed ∷ Some Crashed ∷ Some Crashed ∷ []
-unfolding computing
-refused_crashed = refl
+refused_crashed = unfold computing in refl
 
 refused_strangers : map (after_three []) (Submit 4 (Set 0 1) ∷ Receive 0 1 ∷ Crash 4 ∷ Postpone 255 1 ∷ []) ≡ Some NoSuchMember
     ∷ Some NoSuchMember ∷ Some NoSuchMember ∷ Some NoSuchMember ∷ []
-unfolding computing
-refused_strangers = refl
+refused_strangers = unfold computing in refl
 
 refused_others : map (after_three relayed_once) (Submit 1 (Set 16 1) ∷ Receive 2 2 ∷ Receive 1 2 ∷ Receive 3 0 ∷ Postpone 3 7 ∷ [])
     ≡ Some BadCommand ∷ Some NotWaiting ∷ Some NotWaiting ∷ Some NotWaiting ∷ Some NotWaiting ∷ []
-unfolding computing
-refused_others = refl
+refused_others = unfold computing in refl
 
 allowed : map (after_three relayed_once) (Submit 2 (Add 15 1) ∷ Receive 3 6 ∷ Crash 1 ∷ Postpone 3 3 ∷ []) ≡ None ∷ None ∷ None ∷ None ∷ []
-unfolding computing
-allowed = refl
+allowed = unfold computing in refl

@@ -33,30 +33,24 @@ computing = tt
 
 -- an ack that is got again doesn't count again
 acked_by_one : after_in 3 4 repeated_ack (Conclude 2) ≡ Some TooFew
-unfolding computing
-acked_by_one = refl
+acked_by_one = unfold computing in refl
 
 acked_by_two : sent_by_three (repeated_ack ++ Receive 2 13 ∷ Conclude 2 ∷ []) ≡ Some 16
-unfolding computing
-acked_by_two = refl
+acked_by_two = unfold computing in refl
 
 -- what is lost is not received; it may be repeated, and then is received and relayed
 refused_lost : map (after_in 3 4 lost) (Receive 2 2 ∷ Lose 2 2 ∷ Repeat 2 1 ∷ Repeat 1 1 ∷ Repeat 2 4 ∷ Repeat 2 2 ∷ []) ≡ Some NotWaiting
     ∷ Some NotWaiting ∷ Some NotSent ∷ Some StillWaiting ∷ Some NotSent ∷ None ∷ []
-unfolding computing
-refused_lost = refl
+refused_lost = unfold computing in refl
 
 received_none : option_map (λ g. short (received_by g 2)) (run (group_of 3) lost) ≡ Some []
-unfolding computing
-received_none = refl
+received_none = unfold computing in refl
 
 relayed_late : sent_by_three (lost ++ Repeat 2 2 ∷ Receive 2 2 ∷ []) ≡ Some 6
-unfolding computing
-relayed_late = refl
+relayed_late = unfold computing in refl
 
 -- a serial waits where the last step that took it from the line or put it back put it back; it then stands last
 lines_of_two : map (λ steps. waiting (group_of 3) (lost ++ Submit 3 (Set 0 1) ∷ steps) 2)
     ([] ∷ (Repeat 2 2 ∷ []) ∷ (Repeat 2 2 ∷ Lose 2 2 ∷ []) ∷ (Repeat 2 2 ∷ Receive 2 2 ∷ []) ∷ []) ≡ (5 ∷ []) ∷ (5 ∷ 2 ∷ []) ∷ (5 ∷ [])
     ∷ (5 ∷ 8 ∷ []) ∷ []
-unfolding computing
-lines_of_two = refl
+lines_of_two = unfold computing in refl

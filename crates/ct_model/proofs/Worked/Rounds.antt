@@ -53,108 +53,86 @@ first_count : second (Est 1 2 3 8 1 ∷ Est 1 2 3 9 2 ∷ Est 1 1 2 9 0 ∷ Est 
       acked = 3 ∷ [];
       replied = 2 ∷ 3 ∷ [];
     }
-unfolding computing
-first_count = refl
+first_count = unfold computing in refl
 
 one_more : count_in (second two_estimates) 1 2 (Est 1 2 2 9 1) ≡ second (Est 1 2 3 8 1 ∷ Est 1 2 1 7 0 ∷ Est 1 2 2 9 1 ∷ [])
-unfolding computing
-one_more = refl
+one_more = unfold computing in refl
 
 nobody_else : count_in (second two_estimates) 1 2 (Ack 1 2 17)
     ≡ record { estimates = (second two_estimates).estimates; proposal = None; acked = []; replied = [] }
-unfolding computing
-nobody_else = refl
+nobody_else = unfold computing in refl
 
 -- Enter
 enters_as_coordinator : enter 3 2 1 None (stands 0 Rest 7 0) ≡ Some (turn (stands 1 Gather 7 0) (One 2 (Est 1 1 2 7 0)))
-unfolding computing
-enters_as_coordinator = refl
+enters_as_coordinator = unfold computing in refl
 
 enters_as_other : enter 3 1 1 None (stands 1 Rest 7 1) ≡ Some (turn (stands 2 Wait 7 1) (One 3 (Est 1 2 1 7 1)))
-unfolding computing
-enters_as_other = refl
+enters_as_other = unfold computing in refl
 
 no_entry : enter 3 1 1 (Some 7) (stands 1 Rest 7 1) ∷ enter 3 1 1 None (stands 1 Wait 7 1) ∷ [] ≡ None ∷ None ∷ []
-unfolding computing
-no_entry = refl
+no_entry = unfold computing in refl
 
 entry_refused : map (λ phase. first_fault (enter_faults (stands 1 phase 7 1))) (Rest ∷ Gather ∷ Wait ∷ Tally ∷ []) ≡ None ∷ Some WrongPhase
     ∷ Some WrongPhase ∷ Some WrongPhase ∷ []
-unfolding computing
-entry_refused = refl
+entry_refused = unfold computing in refl
 
 -- Choose takes the estimate, leaves ts, and proposes to all; one with a smaller ts, or of who wasn't heard, is refused
 chooses : choose 3 1 (second two_estimates) (stands 2 Gather 6 0) 3 ≡ Some (turn (stands 2 Wait 8 0) (All (Prop 1 2 8)))
-unfolding computing
-chooses = refl
+chooses = unfold computing in refl
 
 no_choice : map (choose 3 1 (second two_estimates) (stands 2 Gather 6 0)) (1 ∷ 2 ∷ []) ≡ None ∷ None ∷ []
-unfolding computing
-no_choice = refl
+no_choice = unfold computing in refl
 
 choice_refused : map (λ from. first_fault (choose_faults 3 (second two_estimates) (stands 2 Gather 6 0) from)) (1 ∷ 2 ∷ 3 ∷ [])
     ≡ Some NotLargest ∷ Some NotLargest ∷ None ∷ []
-unfolding computing
-choice_refused = refl
+choice_refused = unfold computing in refl
 
 -- a second estimate of one member makes no majority
 too_few_heard : first_fault (choose_faults 3 (second (Est 1 2 3 8 1 ∷ Est 1 2 3 9 2 ∷ Est 1 1 1 7 0 ∷ [])) (stands 2 Gather 6 0) 3)
     ≡ Some TooFew
-unfolding computing
-too_few_heard = refl
+too_few_heard = unfold computing in refl
 
 no_gathering : first_fault (choose_faults 3 (second two_estimates) (stands 2 Wait 6 0) 3) ≡ Some WrongPhase
-unfolding computing
-no_gathering = refl
+no_gathering = unfold computing in refl
 
 -- of equal ts either may be taken
 either_of_two : map (choose 3 1 (second (Est 1 2 1 7 1 ∷ Est 1 2 2 9 1 ∷ [])) (stands 2 Gather 6 0)) (1 ∷ 2 ∷ [])
     ≡ Some (turn (stands 2 Wait 7 0) (All (Prop 1 2 7))) ∷ Some (turn (stands 2 Wait 9 0) (All (Prop 1 2 9))) ∷ []
-unfolding computing
-either_of_two = refl
+either_of_two = unfold computing in refl
 
 -- Adopt takes the first proposal, sets ts, and acks; the coordinator then tallies
 adopts : adopt 3 1 1 (second (Prop 1 2 8 ∷ Prop 1 2 9 ∷ [])) (stands 2 Wait 7 0) ≡ Some (turn (stands 2 Rest 8 2) (One 3 (Ack 1 2 1)))
-unfolding computing
-adopts = refl
+adopts = unfold computing in refl
 
 adopts_its_own : adopt 3 3 1 (second (Prop 1 2 8 ∷ [])) (stands 2 Wait 8 0) ≡ Some (turn (stands 2 Tally 8 2) (One 3 (Ack 1 2 3)))
-unfolding computing
-adopts_its_own = refl
+adopts_its_own = unfold computing in refl
 
 adoption_refused : first_fault (adopt_faults (second (Prop 1 1 8 ∷ [])) (stands 2 Wait 7 0))
     ∷ first_fault (adopt_faults (second (Prop 1 2 8 ∷ [])) (stands 2 Rest 7 0)) ∷ [] ≡ Some NoProposal ∷ Some WrongPhase ∷ []
-unfolding computing
-adoption_refused = refl
+adoption_refused = unfold computing in refl
 
 -- Suspect leaves estimate and ts, and sends a nack
 suspects : suspect 3 1 1 (second (Prop 1 1 8 ∷ [])) (stands 2 Wait 7 1) ≡ Some (turn (stands 2 Rest 7 1) (One 3 (Nack 1 2 1)))
-unfolding computing
-suspects = refl
+suspects = unfold computing in refl
 
 suspects_itself : suspect 3 3 1 (second []) (stands 2 Wait 8 0) ≡ Some (turn (stands 2 Tally 8 0) (One 3 (Nack 1 2 3)))
-unfolding computing
-suspects_itself = refl
+suspects_itself = unfold computing in refl
 
 suspicion_refused : first_fault (suspect_faults (second (Prop 1 2 8 ∷ [])) (stands 2 Wait 7 0))
     ∷ first_fault (suspect_faults (second []) (stands 2 Tally 7 0)) ∷ [] ≡ Some HasProposal ∷ Some WrongPhase ∷ []
-unfolding computing
-suspicion_refused = refl
+suspicion_refused = unfold computing in refl
 
 -- Conclude sends the decision where a majority acked; nacks count as replies alone, and a reply got twice counts once
 concludes : conclude 3 1 (second (Ack 1 2 1 ∷ Nack 1 2 2 ∷ Ack 1 2 3 ∷ [])) (stands 2 Tally 8 2)
     ≡ Some (turn (stands 2 Rest 8 2) (All (Dec 1 2 8)))
-unfolding computing
-concludes = refl
+concludes = unfold computing in refl
 
 concludes_nothing : conclude 3 1 (second (Ack 1 2 1 ∷ Nack 1 2 2 ∷ [])) (stands 2 Tally 8 2) ≡ Some (turn (stands 2 Rest 8 2) Nobody)
-unfolding computing
-concludes_nothing = refl
+concludes_nothing = unfold computing in refl
 
 conclusion_refused : first_fault (conclude_faults 3 (second (Ack 1 2 1 ∷ Ack 1 2 1 ∷ Ack 1 1 2 ∷ [])) (stands 2 Tally 8 2))
     ∷ first_fault (conclude_faults 3 (second (Ack 1 2 1 ∷ Ack 1 2 2 ∷ [])) (stands 2 Rest 8 2)) ∷ [] ≡ Some TooFew ∷ Some WrongPhase ∷ []
-unfolding computing
-conclusion_refused = refl
+conclusion_refused = unfold computing in refl
 
 -- Begin proposes what was received and not delivered, in order
 
@@ -188,16 +166,13 @@ begins : begin_row group 3 with_three
       proposals = record { member = 3; instance = 2; value = message 1 2 ∷ message 2 1 ∷ [] } ∷ [];
       mail = Nobody;
     })
-unfolding computing message with_three group
-begins = refl
+begins = unfold computing message with_three group in refl
 
 begins_nothing : begin_row group 3 new_member ≡ None
-unfolding computing group
-begins_nothing = refl
+begins_nothing = unfold computing group in refl
 
 busy : begin_row group 3 (begin group 3 with_three).member ≡ None
-unfolding computing message with_three group
-busy = refl
+busy = unfold computing message with_three group in refl
 
 -- the same steps at the member: they are taken in the open instance, and with what was got for its round
 
@@ -215,18 +190,15 @@ enters_its_instance : taken begun Enter ≡ Some (turned begun
       mail =
           One 2 (Est 2 1 3 (message 1 2 ∷ message 2 1 ∷ []) 0);
     }))
-unfolding computing message with_three group begun decided
-enters_its_instance = refl
+enters_its_instance = unfold computing message with_three group begun decided in refl
 
 -- the decision of another instance doesn't keep it from entering, that of its own does
 enters_undecided : map (λ k. option_map (λ o. o.mail) (taken (record begun { got = Dec k 1 [] ∷ [] }) Enter)) (1 ∷ 2 ∷ [])
     ≡ Some (One 2 (Est 2 1 3 (message 1 2 ∷ message 2 1 ∷ []) 0)) ∷ None ∷ []
-unfolding computing message with_three group begun decided
-enters_undecided = refl
+enters_undecided = unfold computing message with_three group begun decided in refl
 
 idle : map (taken with_three) (Enter ∷ Choose 1 ∷ Adopt ∷ Suspect ∷ Conclude ∷ []) ≡ None ∷ None ∷ None ∷ None ∷ None ∷ []
-unfolding computing with_three group
-idle = refl
+idle = unfold computing with_three group in refl
 
 -- member 3 in round 1 of instance 2
 entered_member : List (Wire Value) → Phase → Member
@@ -239,21 +211,17 @@ entered_member got phase = record new_member {
 
 adopts_of_its_round : map (λ r. option_map (λ o. o.mail) (taken (entered_member (Prop 2 r [] ∷ []) Wait) Adopt)) (1 ∷ 2 ∷ [])
     ≡ Some (One 2 (Ack 2 1 3)) ∷ None ∷ []
-unfolding computing group entered_member
-adopts_of_its_round = refl
+adopts_of_its_round = unfold computing group entered_member in refl
 
 suspects_in_its_round : map (λ r. option_map (λ o. o.mail) (taken (entered_member (Prop 2 r [] ∷ []) Wait) Suspect)) (1 ∷ 2 ∷ []) ≡ None
     ∷ Some (One 2 (Nack 2 1 3)) ∷ []
-unfolding computing group entered_member
-suspects_in_its_round = refl
+suspects_in_its_round = unfold computing group entered_member in refl
 
 chooses_in_its_instance : map (λ k. option_map (λ o. o.mail)
     (taken (entered_member (Est k 1 1 (message 1 1 ∷ []) 0 ∷ Est k 1 3 [] 0 ∷ []) Gather) (Choose 1))) (1 ∷ 2 ∷ []) ≡ None
     ∷ Some (All (Prop 2 1 (message 1 1 ∷ []))) ∷ []
-unfolding computing group entered_member message
-chooses_in_its_instance = refl
+chooses_in_its_instance = unfold computing group entered_member message in refl
 
 concludes_its_round : map (λ r. option_map (λ o. o.mail) (taken (entered_member (Ack 2 r 1 ∷ Ack 2 r 3 ∷ []) Tally) Conclude)) (1 ∷ 2 ∷ [])
     ≡ Some (All (Dec 2 1 [])) ∷ None ∷ []
-unfolding computing group entered_member
-concludes_its_round = refl
+concludes_its_round = unfold computing group entered_member in refl

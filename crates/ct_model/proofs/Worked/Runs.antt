@@ -68,8 +68,7 @@ one_message_of_three : outcome (1 ∷ []) (run (group_of 3) (to_crash ++ to_prop
           ∷ record { received = []; decided = None ∷ []; delivered = [] }
           ∷ [],
     )
-unfolding computing
-one_message_of_three = refl
+one_message_of_three = unfold computing in refl
 
 -- messages are delivered as they are decided, not as they were submitted
 two_instances_of_one : outcome (1 ∷ 2 ∷ 3 ∷ []) (run (group_of 1) (first_instance ++ Deliver 1 ∷ second_instance ++ Deliver 1 ∷ []))
@@ -82,8 +81,7 @@ two_instances_of_one : outcome (1 ∷ 2 ∷ 3 ∷ []) (run (group_of 1) (first_i
       }
           ∷ [],
     )
-unfolding computing
-two_instances_of_one = refl
+two_instances_of_one = unfold computing in refl
 
 -- each of the fourteen steps, at a member
 all_of : ℕ → List Step
@@ -96,35 +94,28 @@ fourteen r = Some r ∷ Some r ∷ Some r ∷ Some r ∷ Some r ∷ Some r ∷ S
 
 -- a crashed member takes no step, and a stranger neither
 refused_crashed : map (after_in 3 4 to_crash) (all_of 3) ≡ fourteen Crashed
-unfolding computing all_of fourteen
-refused_crashed = refl
+refused_crashed = unfold computing all_of fourteen in refl
 
 refused_stranger : map (after_in 3 4 to_crash) (all_of 4) ≡ fourteen NoSuchMember
-unfolding computing all_of fourteen
-refused_stranger = refl
+refused_stranger = unfold computing all_of fourteen in refl
 
 -- nothing may be delivered where there is no cell for it
 refused_cells : map (λ cells. after_in 1 cells first_instance (Deliver 1)) (0 ∷ 1 ∷ []) ≡ Some (Full Cells) ∷ None ∷ []
-unfolding computing
-refused_cells = refl
+refused_cells = unfold computing in refl
 
 -- before an instance, in one, and in one that is decided
 refused_idle : map (after_in 3 4 to_crash) (Begin 1 ∷ Enter 1 ∷ Choose 2 1 ∷ Adopt 1 ∷ Suspect 1 ∷ Conclude 2 ∷ Deliver 1 ∷ []) ≡ None
     ∷ Some Idle ∷ Some Idle ∷ Some Idle ∷ Some Idle ∷ Some Idle ∷ Some Idle ∷ []
-unfolding computing
-refused_idle = refl
+refused_idle = unfold computing in refl
 
 refused_nothing : map (after_in 3 4 []) (Begin 1 ∷ []) ≡ Some Nothing ∷ []
-unfolding computing
-refused_nothing = refl
+refused_nothing = unfold computing in refl
 
 refused_in_instance : map (after_in 3 4 (to_crash ++ to_proposal))
     (Begin 1 ∷ Enter 1 ∷ Choose 2 1 ∷ Adopt 1 ∷ Suspect 1 ∷ Conclude 2 ∷ Deliver 1 ∷ []) ≡ Some Busy ∷ Some WrongPhase ∷ Some WrongPhase
     ∷ Some NoProposal ∷ None ∷ Some WrongPhase ∷ Some Undecided ∷ []
-unfolding computing
-refused_in_instance = refl
+refused_in_instance = unfold computing in refl
 
 refused_decided : map (after_in 3 4 (to_crash ++ to_proposal ++ to_decision)) (Enter 2 ∷ Deliver 2 ∷ Enter 1 ∷ Deliver 1 ∷ [])
     ≡ Some Decided ∷ None ∷ None ∷ Some Undecided ∷ []
-unfolding computing
-refused_decided = refl
+refused_decided = unfold computing in refl
