@@ -32,8 +32,7 @@ received-got got m h =
 
 pub got-received : (got : List Wire) (m : Message) → IsIn (Data m) got → IsIn m (received got)
 unfolding received
-got-received got m h =
-    Values.first_occurrences-in (filter_map message_of got) m (Lists.IsIn-filter_map message_of (Data m) m got refl h)
+got-received got m h = Values.first_occurrences-in (filter_map message_of got) m (Lists.IsIn-filter_map message_of (Data m) m got refl h)
 
 pub record IsDecision (k : ℕ) (v : Value) (w : Wire) : Type 0 where
   pub round : ℕ
@@ -149,8 +148,7 @@ largest-in t ts e is h = leb-true e.ts ts (Lists.passes-list_all (λ (x : Heard 
 -- who acked a round, among the ballots
 
 pub acked-of : (got : List Wire) (k r : ℕ) → (ballots got k r).acked ≡ ackers got k r
-unfolding ballots
-acked-of got k r = refl
+acked-of got k r = unfold ballots in refl
 
 ack-wire : (k r p : ℕ) (w : Wire) → is_ack k r p w ≡ true → w ≡ Ack k r p
 ack-wire k r p w h = grind arith

@@ -32,8 +32,7 @@ deliveries decision (suc k) =
 pub deliveries-same : (f g : ℕ → Value) (c : ℕ) → ((k : ℕ) → 1 ≤ k → k ≤ c → f k ≡ g k) → deliveries f c ≡ deliveries g c
 unfolding deliveries
 deliveries-same f g zero h = refl
-deliveries-same f g (suc c) h =
-    grind (arith, deliveries-same f g c (λ k lo hi. h k lo (omega arith)))
+deliveries-same f g (suc c) h = grind (arith, deliveries-same f g c (λ k lo hi. h k lo (omega arith)))
 
 -- the decision for an instance, and the empty set where there is none
 pub decision : List Wire → ℕ → Value
@@ -161,13 +160,7 @@ closed-next s g step h e size all =
 
 closed-new : HasClosed new_member
 unfolding deliveries
-closed-new = record {
-  closed = 0;
-  idle = λ e. refl;
-  busy = λ c e. some-none c e;
-  batches = refl;
-  decided = λ k lo hi. absurd (omega arith);
-}
+closed-new = record { closed = 0; idle = λ e. refl; busy = λ c e. some-none c e; batches = refl; decided = λ k lo hi. absurd (omega arith) }
 
 -- after every run the group has its size, and each member closed its instances
 pub closed-run : (s : Setting) (steps : List Step) (g : State) → run s steps ≡ Some g → (length g.members ≡ s.members) × HaveClosed g

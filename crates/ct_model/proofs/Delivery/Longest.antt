@@ -18,8 +18,7 @@ use Rattle.ct_names.specs.Prefix.{IsPrefix}
 prefix-shorter : {A : Type 0} (xs ys : List A) → IsPrefix xs ys ⊎ IsPrefix ys xs → length xs ≤ length ys → IsPrefix xs ys
 prefix-shorter xs ys (inl a) le = a
 prefix-shorter xs ys (inr ([], e)) le = ([], append-nil xs ∙ sym e ∙ append-nil ys)
-prefix-shorter xs ys (inr (z ∷ rest, e)) le =
-    absurd (grind (arith, length-append ys (z ∷ rest)))
+prefix-shorter xs ys (inr (z ∷ rest, e)) le = absurd (grind (arith, length-append ys (z ∷ rest)))
 
 -- of each two of the lists one begins the other
 abbrev pub InOneOrder : List (List Batch) → Type 0
@@ -37,12 +36,10 @@ pub longest-most : (best : List Batch) (lists : List (List Batch)) (xs : List Ba
     length xs ≤ length (longest best lists)
 longest-most best [] xs (inl e) = grind arith
 longest-most best [] xs (inr never) = absurd never
-longest-most best (l ∷ rest) xs (inl e) =
-    grind (arith, nat_tests, longest-most l rest l (inl refl), longest-most best rest xs (inl e))
+longest-most best (l ∷ rest) xs (inl e) = grind (arith, nat_tests, longest-most l rest l (inl refl), longest-most best rest xs (inl e))
 longest-most best (l ∷ rest) xs (inr (inl e)) =
     grind (arith, nat_tests, longest-most l rest xs (inl e), longest-most best rest best (inl refl))
-longest-most best (l ∷ rest) xs (inr (inr i)) =
-    grind (arith, longest-most l rest xs (inr i), longest-most best rest xs (inr i))
+longest-most best (l ∷ rest) xs (inr (inr i)) = grind (arith, longest-most l rest xs (inr i), longest-most best rest xs (inr i))
 
 pub longest-prefix : (best : List Batch) (lists : List (List Batch)) → InOneOrder (best ∷ lists) → (xs : List Batch) →
     IsIn xs (best ∷ lists) → IsPrefix xs (longest best lists)

@@ -65,8 +65,7 @@ unfolding after
 proposals-cases s g p o x h = Lists.IsIn-append_cases x g.proposals o.proposals h
 
 submitted-old : (s : Setting) (g : State) (p : ℕ) (o : Outcome) (m : Message) → IsIn m g.submitted → IsIn m (after s g p o).submitted
-submitted-old s g p o m h =
-    subst (λ list. IsIn m list) (sym (after-submitted s g p o)) (Lists.IsIn-append_left m g.submitted o.submitted h)
+submitted-old s g p o m h = subst (λ list. IsIn m list) (sym (after-submitted s g p o)) (Lists.IsIn-append_left m g.submitted o.submitted h)
 
 proposes-after : (s : Setting) (g : State) (p : ℕ) (o : Outcome) → KnowsMessages s g → IsProposing s (member g p) o →
     ProposesSubmitted g → ProposesSubmitted (after s g p o)

@@ -173,8 +173,7 @@ ballots-push got k r w h =
 
 -- before any wire there are none
 pub ballots-none : {V : Type 0} (k r : ℕ) → ballots {V = V} [] k r ≡ no_ballots
-unfolding ballots proposal members
-ballots-none k r = refl
+ballots-none k r = unfold ballots proposal members in refl
 
 -- another type of values counts alike
 

@@ -46,8 +46,7 @@ to_member s g p m mail some (decision c at tallies e) = rw e tt
 -- where a step sends one envelope, it goes to a member
 pub addressed-step : (s : Setting) (g : State) (p : ℕ) (m : Member) (step : Step) (o : Outcome) (to : ℕ) (w : Wire) → 0 < s.members →
     row s g p m step ≡ Some o → o.mail ≡ One to w → IsMember s.members to
-addressed-step s g p m step o to w some e mail =
-    rw mail at (to_member s g p m o.mail some (row-sends s g p m step o e))
+addressed-step s g p m step o to w some e mail = rw mail at (to_member s g p m o.mail some (row-sends s g p m step o e))
 
 -- what was sent names members
 abbrev Names : Setting → State → Type 0

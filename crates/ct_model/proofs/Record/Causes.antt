@@ -40,8 +40,7 @@ own_tests w step = tests w.setting (state_of w) (member (state_of w) (actor step
 
 pub cause-is : (w : Rehearsal) (step : Step) → cause w step ≡ or_else (first_fault (presence w.setting (state_of w) (actor step)))
     (or_else (first_fault (own_tests w step)) (limit w step))
-unfolding cause own_tests
-cause-is w step = refl
+cause-is w step = unfold cause own_tests in refl
 
 pub cause-present : (w : Rehearsal) (step : Step) → IsPresent w (actor step) →
     cause w step ≡ or_else (first_fault (own_tests w step)) (limit w step)
@@ -78,8 +77,7 @@ under bound k h = grind (arith, nat_tests)
 pub overflow-is : (w : Rehearsal) (more : ℕ) → overflow w more
     ≡ first_fault (at (Full Envelopes) (nat_lt MAX_ENVELOPES (length (state_of w).sent + more))
     ∷ at (Full Steps) (nat_lt MAX_STEPS (length w.steps + 1)) ∷ [])
-unfolding overflow
-overflow-is w more = refl
+overflow-is w more = unfold overflow in refl
 
 pub overflow-sent : (w : Rehearsal) (more : ℕ) → MAX_ENVELOPES < length (state_of w).sent + more → overflow w more ≡ Some (Full Envelopes)
 overflow-sent w more many = overflow-is w more ∙ rw (high MAX_ENVELOPES (length (state_of w).sent + more) many) refl

@@ -78,11 +78,7 @@ waiting_letter w p k law h =
     let r = serial_at p 0 k (state_of w).sent (was_sent w p k law h) in
     let at : k - 1 ≡ r.0 = omega (arith, r.2.place) in (
       r.1,
-      record {
-        there = rw at r.2.there;
-        to = r.2.to;
-        positive = omega (arith, r.2.place);
-      },
+      record { there = rw at r.2.there; to = r.2.to; positive = omega (arith, r.2.place) },
     )
 
 wire_is : (g : State) (p k : ℕ) (e : Envelope) (i : ℕ) → k ≡ suc i → slice_get g.sent i ≡ Some e → e.to ≡ p → wire_to g p k ≡ Some e.wire

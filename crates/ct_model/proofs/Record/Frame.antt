@@ -12,16 +12,14 @@ use Rattle.ct_model.specs.Next.{Outcome, next_message, after}
 use Rattle.ct_model.specs.Cause.{order, longest}
 
 pub after-sent : (s : Setting) (g : State) (p : ℕ) (o : Outcome) → (after s g p o).sent ≡ g.sent ++ envelopes s.members o.mail
-unfolding after
-after-sent s g p o = refl
+after-sent s g p o = unfold after in refl
 
 pub length-after-sent : (s : Setting) (g : State) (p : ℕ) (o : Outcome) →
     length (after s g p o).sent ≡ length g.sent + length (envelopes s.members o.mail)
 length-after-sent s g p o = ap length (after-sent s g p o) ∙ length-append g.sent (envelopes s.members o.mail)
 
 pub after-submitted : (s : Setting) (g : State) (p : ℕ) (o : Outcome) → (after s g p o).submitted ≡ g.submitted ++ o.submitted
-unfolding after
-after-submitted s g p o = refl
+after-submitted s g p o = unfold after in refl
 
 pub after-size : (s : Setting) (g : State) (p : ℕ) (o : Outcome) → length (after s g p o).members ≡ length g.members
 unfolding after
@@ -56,8 +54,7 @@ unfolding member
 at_place f g q p same = ap (λ i. f (slice_index_or g.members i new_member)) same
 
 pub submissions-none : (p : ℕ) → submissions [] p ≡ 0
-unfolding submissions
-submissions-none p = refl
+submissions-none p = unfold submissions in refl
 
 -- how many submissions of q the next message of p makes
 pub submissions-next : (list : List Message) (p q : ℕ) (c : Command)

@@ -30,8 +30,7 @@ use Rattle.ct_model.proofs.Relay.Messages.{in_members}
 -- the tests of its own that a step has
 pub own_tests-is : (w : Rehearsal) (step : Step) → own_tests w step
     ≡ tests w.setting (state_of w) (member (state_of w) (actor step)) (line_of w (actor step)) step
-unfolding own_tests
-own_tests-is w step = refl
+own_tests-is w step = unfold own_tests in refl
 
 -- the first of them that fires is the cause, and where none does, the limit is
 pub cause-tested : (w : Rehearsal) (step : Step) (r : Refusal) → IsPresent w (actor step) → first_fault (own_tests w step) ≡ Some r →
@@ -174,9 +173,7 @@ module _ (w : Rehearsal) (step : Step) (o : Outcome) (law : IsLawful w) (present
       ∙ low MAX_SUBMISSIONS (submissions g.submitted p) (law.within.few_submissions p)
 
   -- where it submits nothing
-  pub limit-silent : o.submitted ≡ []
-      → limit w step
-      ≡ first_fault (at (Full Instances) (nat_lt MAX_INSTANCES o.member.last)
+  pub limit-silent : o.submitted ≡ [] → limit w step ≡ first_fault (at (Full Instances) (nat_lt MAX_INSTANCES o.member.last)
       ∷ at (Full Rounds) (nat_lt MAX_ROUNDS (round_of o.member))
       ∷ at (Full Envelopes) (nat_lt MAX_ENVELOPES (length (state_of w).sent + length (envelopes w.setting.members o.mail)))
       ∷ at (Full Cells) (nat_lt w.cells (length (order (after w.setting (state_of w) (actor step) o))))
@@ -197,8 +194,7 @@ module _ (w : Rehearsal) (step : Step) (o : Outcome) (law : IsLawful w) (present
       ap (λ list. nat_lt w.cells (length list)) (order-kept w.setting g p o same) ∙ low w.cells (length (order g)) law.within.few_batches
 
   -- where it submits and delivers nothing
-  pub limit-idle : o.submitted ≡ [] → o.member.batches ≡ (member (state_of w) (actor step)).batches
-      → limit w step
+  pub limit-idle : o.submitted ≡ [] → o.member.batches ≡ (member (state_of w) (actor step)).batches → limit w step
       ≡ or_else (first_fault (at (Full Instances) (nat_lt MAX_INSTANCES o.member.last)
       ∷ at (Full Rounds) (nat_lt MAX_ROUNDS (round_of o.member)) ∷ []))
       (overflow w (length (envelopes w.setting.members o.mail)))
@@ -212,8 +208,7 @@ module _ (w : Rehearsal) (step : Step) (o : Outcome) (law : IsLawful w) (present
       ∙ ap (or_else (first_fault own)) (sym (overflow-is w more))
 
   -- where its member keeps its instances and batches
-  pub limit-kept : IsKept (member (state_of w) (actor step)) o.member
-      → limit w step
+  pub limit-kept : IsKept (member (state_of w) (actor step)) o.member → limit w step
       ≡ first_fault (at (Full Submissions) (nat_lt MAX_SUBMISSIONS
       (submissions (after w.setting (state_of w) (actor step) o).submitted (actor step)))
       ∷ at (Full Envelopes) (nat_lt MAX_ENVELOPES (length (state_of w).sent + length (envelopes w.setting.members o.mail)))

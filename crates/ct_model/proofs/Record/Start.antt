@@ -13,8 +13,7 @@ use Rattle.ct_model.specs.Lawful.{IsWithin, IsLawful}
 use Rattle.ct_model.specs.Knowledge.{KnowsMessages}
 
 pub state-first : (s : Setting) (cells : ℕ) → state_of (empty s cells) ≡ first_state s
-unfolding state_of
-state-first s cells = refl
+state-first s cells = unfold state_of in refl
 
 get_or-same : (n i : ℕ) (x : Member) → get_or (replicate n x) i x ≡ x
 get_or-same zero i x = refl
@@ -39,20 +38,17 @@ unfolding first_state
 size-first s = length-replicate s.members new_member
 
 pub sent-first : (s : Setting) → (first_state s).sent ≡ []
-unfolding first_state
-sent-first s = refl
+sent-first s = unfold first_state in refl
 
 pub submissions-first : (s : Setting) (p : ℕ) → submissions (first_state s).submitted p ≡ 0
-unfolding first_state submissions
-submissions-first s p = refl
+submissions-first s p = unfold first_state submissions in refl
 
 pub received-first : (s : Setting) (p : ℕ) → received_by (first_state s) p ≡ []
 unfolding received_by received
 received-first s p = ap (λ (m : Member). received m.got) (member-first s p)
 
 pub line-first : (s : Setting) (cells p : ℕ) → line_of (empty s cells) p ≡ []
-unfolding line_of waiting
-line-first s cells p = refl
+line-first s cells p = unfold line_of waiting in refl
 
 within-first : (s : Setting) (cells : ℕ) → IsWithin cells (first_state s) 0
 within-first s cells = record {

@@ -98,8 +98,7 @@ module _ (w : Rehearsal) (step : Step) (o : Outcome) (law : IsLawful w) (taken :
   coming p = serials_to p (length (state_of w).sent) sends
 
   -- the line as the step changes it, and what it sends comes after
-  pub line-step : (p : ℕ)
-      → line_of (extended w step) p
+  pub line-step : (p : ℕ) → line_of (extended w step) p
       ≡ changed p (line_change step) (line_of w p) ++ serials_to p (length (state_of w).sent) (envelopes w.setting.members o.mail)
   unfolding line_of state_of line_after
   line-step p =

@@ -57,8 +57,7 @@ sending-owned s g p mail holds is (nothing e) w shared c = absurd (rw e at c)
 sending-owned s g p mail holds is (message new origin e) w shared c =
     let same : w ≡ Data new = rw e at c in (inr (rw same origin), rw same e)
 sending-owned s g p mail holds is (relay x sent relayed e) w shared c = let same : w ≡ x = rw e at c in (inl (rw same sent), rw same e)
-sending-owned s g p mail holds is (estimate k r v ts e) w shared c =
-    let same : w ≡ Est k r p v ts = rw e at c in absurd (rw same at shared)
+sending-owned s g p mail holds is (estimate k r v ts e) w shared c = let same : w ≡ Est k r p v ts = rw e at c in absurd (rw same at shared)
 sending-owned s g p mail holds is (proposal k r v e) w shared c = let same : w ≡ Prop k r v = rw e at c in absurd (rw same at shared)
 sending-owned s g p mail holds is (ack k r e) w shared c = let same : w ≡ Ack k r p = rw e at c in absurd (rw same at shared)
 sending-owned s g p mail holds is (nack k r e) w shared c = let same : w ≡ Nack k r p = rw e at c in absurd (rw same at shared)

@@ -24,5 +24,4 @@ knows-run s steps g e = (kept-sized (KnowsMessages s) s (knows-first s) (knows-n
 
 pub received_submitted : (s : Setting) (steps : List Step) (g : State) → run s steps ≡ Some g → (p : ℕ) (m : Message) →
     IsMember s.members p → IsIn m (received_by g p) → IsIn m g.submitted
-received_submitted s steps g e p m is h =
-    in-has g.submitted m ((knows-run s steps g e).received p m (has-in (received_by g p) m h))
+received_submitted s steps g e p m is h = in-has g.submitted m ((knows-run s steps g e).received p m (has-in (received_by g p) m h))

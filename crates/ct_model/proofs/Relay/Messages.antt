@@ -66,8 +66,7 @@ mail_carries n list Nobody i e c h = absurd (carries-mail n Nobody e.wire (get-w
 mail_carries n list x i e c h = rw (carries-mail n x e.wire (get-wire (envelopes n x) i e h)) c
 
 pub received-by : (g : State) (p : ℕ) → received_by g p ≡ received (member g p).got
-unfolding received_by
-received-by g p = refl
+received-by g p = unfold received_by in refl
 
 module _ (s : Setting) (g : State) (p : ℕ) (o : Outcome) (k : KnowsMessages s g) (there : p - 1 < length g.members) where
   -- a message that a member has received after the step was received before, or by the actor in it
@@ -209,5 +208,4 @@ knows-next s g step h e size k =
 
 pub size-next : (s : Setting) (g : State) (step : Step) (h : State) → next s g step ≡ Some h → length g.members ≡ s.members →
     length h.members ≡ s.members
-size-next s g step h e size =
-    let t = next-is s g step h e in rw (← t.gives, after-size s g (actor step) t.outcome) size
+size-next s g step h e size = let t = next-is s g step h e in rw (← t.gives, after-size s g (actor step) t.outcome) size

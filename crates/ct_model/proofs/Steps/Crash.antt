@@ -13,8 +13,7 @@ unfoldable pub crash_outcome : Rehearsal → ℕ → Outcome
 crash_outcome w p = crash (member (state_of w) p)
 
 pub crash_outcome-is : (w : Rehearsal) (p : ℕ) → crash_outcome w p ≡ crash (member (state_of w) p)
-unfolding crash_outcome
-crash_outcome-is w p = refl
+crash_outcome-is w p = unfold crash_outcome in refl
 
 pub cause-crash : (w : Rehearsal) (p : ℕ) → IsLawful w → IsPresent w p → cause w (Crash p) ≡ overflow w 0
 cause-crash w p law present =

@@ -24,8 +24,7 @@ unfoldable pub receive_outcome : Rehearsal → ℕ → Wire → Outcome
 receive_outcome w p x = receive w.setting p (member (state_of w) p) x
 
 pub receive_outcome-is : (w : Rehearsal) (p : ℕ) (x : Wire) → receive_outcome w p x ≡ receive w.setting p (member (state_of w) p) x
-unfolding receive_outcome
-receive_outcome-is w p x = refl
+receive_outcome-is w p x = unfold receive_outcome in refl
 
 pub either_number : (n : ℕ) (x : Wire) (b : Bool) → length (envelopes n (if b then All x else Nobody)) ≡ (if b then n else 0)
 either_number n x true = length-all x n

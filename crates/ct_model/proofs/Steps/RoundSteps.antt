@@ -77,8 +77,7 @@ module _ (n me k : ℕ) (d : Option Value) (t : Ballots Value) (c : AtSets) wher
   enter-free h = grind arith
 
   -- the estimate that was heard has the largest ts
-  choose-free : (from : ℕ) → first_fault (choose_faults n t c from) ≡ None →
-      (e : Heard Value) × (choose n k t c from ≡ Some (chosen k c e))
+  choose-free : (from : ℕ) → first_fault (choose_faults n t c from) ≡ None → (e : Heard Value) × (choose n k t c from ≡ Some (chosen k c e))
   unfolding choose
   choose-free from h = let e = some-of (estimate_from t from) (grind arith) in (e.0, grind (arith, e.1))
 

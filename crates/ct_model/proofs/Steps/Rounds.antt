@@ -41,8 +41,7 @@ module _ (w : Rehearsal) (step : Step) (t : Turn) (law : IsLawful w) (present : 
     (is : row w.setting (state_of w) (actor step) (member (state_of w) (actor step)) step
     ≡ Some (turned (member (state_of w) (actor step)) t)) where
   -- such a step passes only the limit on rounds, or overflows
-  pub cause-turned : first_fault (own_tests w step) ≡ None
-      → cause w step
+  pub cause-turned : first_fault (own_tests w step) ≡ None → cause w step
       ≡ or_else (first_fault (at (Full Rounds) (nat_lt MAX_ROUNDS t.after.round) ∷ []))
       (overflow w (length (envelopes w.setting.members t.mail)))
   cause-turned h =

@@ -30,8 +30,7 @@ module _ (s : Setting) (g : State) (p : ℕ) (m : Member) where
     pub turns : (a : Move) (c : Standing) (t : Turn) → m.current ≡ Some c → turn_at s.members p m a c ≡ Some t → P (turned m t)
     pub closes : (c : Standing) (v : Value) → m.current ≡ Some c → decided m.got m.last ≡ Some v → (DeliversNothing step → ⊥)
         → P (deliver m v)
-    pub follows : (v : Value) → is_none m.current ≡ true → decided m.got (m.last + 1) ≡ Some v → (DeliversNothing step → ⊥)
-        → P (follow m v)
+    pub follows : (v : Value) → is_none m.current ≡ true → decided m.got (m.last + 1) ≡ Some v → (DeliversNothing step → ⊥) → P (follow m v)
     pub marks : (crashed : Bool) → P (plain (record m { crashed = crashed }) Nobody)
 
   module _ (P : Outcome → Type 0) where

@@ -26,8 +26,7 @@ unfoldable pub submit_outcome : Rehearsal → ℕ → Command → Outcome
 submit_outcome w p c = submit (state_of w) p (member (state_of w) p) c
 
 pub submit_outcome-is : (w : Rehearsal) (p : ℕ) (c : Command) → submit_outcome w p c ≡ submit (state_of w) p (member (state_of w) p) c
-unfolding submit_outcome
-submit_outcome-is w p c = refl
+submit_outcome-is w p c = unfold submit_outcome in refl
 
 row-submit : (w : Rehearsal) (p : ℕ) (c : Command) → is_good c ≡ true
     → row w.setting (state_of w) p (member (state_of w) p) (Submit p c) ≡ Some (submit_outcome w p c)
@@ -52,8 +51,7 @@ module _ (w : Rehearsal) (p : ℕ) (c : Command) (law : IsLawful w) (present : I
   unfolding submit_outcome
   mail_number = length-all (Data (next_message (state_of w).submitted p c)) w.setting.members
 
-  cause-good : is_good c ≡ true
-      → cause w (Submit p c)
+  cause-good : is_good c ≡ true → cause w (Submit p c)
       ≡ first_fault (at (Full Submissions) (nat_lt MAX_SUBMISSIONS (submissions (state_of w).submitted p + 1))
       ∷ at (Full Envelopes) (nat_lt MAX_ENVELOPES (length (state_of w).sent + w.setting.members))
       ∷ at (Full Steps) (nat_lt MAX_STEPS (length w.steps + 1))

@@ -60,16 +60,15 @@ unfolding runs_with outcome shown to_decision followed one_of two_messages first
 computing = tt
 
 -- a member that begins and closes an instance at once delivers, and proposes and sends nothing
-follows : outcome (run (group_of 3) followed)
-    ≡ Some (
-      19,
-      2,
-      1,
-      record { last = 1; is_open = true; delivered = [] }
-          ∷ record { last = 1; is_open = true; delivered = [] }
-          ∷ record { last = 1; is_open = false; delivered = (1, 1) ∷ [] }
-          ∷ [],
-    )
+follows : outcome (run (group_of 3) followed) ≡ Some (
+  19,
+  2,
+  1,
+  record { last = 1; is_open = true; delivered = [] }
+      ∷ record { last = 1; is_open = true; delivered = [] }
+      ∷ record { last = 1; is_open = false; delivered = (1, 1) ∷ [] }
+      ∷ [],
+)
 follows = unfold computing in refl
 
 -- what was delivered is not proposed again, and the instance that was followed is not followed again

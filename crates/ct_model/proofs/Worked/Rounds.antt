@@ -150,22 +150,15 @@ with_three = record new_member {
   batches = record { instance = 1; messages = message 1 1 ∷ [] } ∷ [];
 }
 
-begins : begin_row group 3 with_three
-    ≡ Some (record {
-      member = record with_three {
-        last = 2;
-        current = Some (record {
-          round = 0;
-          phase = Rest;
-          estimate =
-              message 1 2 ∷ message 2 1 ∷ [];
-          ts = 0;
-        });
-      };
-      submitted = [];
-      proposals = record { member = 3; instance = 2; value = message 1 2 ∷ message 2 1 ∷ [] } ∷ [];
-      mail = Nobody;
-    })
+begins : begin_row group 3 with_three ≡ Some (record {
+  member = record with_three {
+    last = 2;
+    current = Some (record { round = 0; phase = Rest; estimate = message 1 2 ∷ message 2 1 ∷ []; ts = 0 });
+  };
+  submitted = [];
+  proposals = record { member = 3; instance = 2; value = message 1 2 ∷ message 2 1 ∷ [] } ∷ [];
+  mail = Nobody;
+})
 begins = unfold computing message with_three group in refl
 
 begins_nothing : begin_row group 3 new_member ≡ None

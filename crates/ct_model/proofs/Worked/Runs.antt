@@ -60,14 +60,13 @@ unfolding runs_with outcome show to_crash to_proposal to_decision to_delivery fi
 computing = tt
 
 -- the two that are up deliver the message, and the member that is not the coordinator passes the decision on
-one_message_of_three : outcome (1 ∷ []) (run (group_of 3) (to_crash ++ to_proposal ++ to_decision ++ to_delivery))
-    ≡ Some (
-      19,
-      record { received = (1, 1) ∷ []; decided = Some ((1, 1) ∷ []) ∷ []; delivered = (1, 1) ∷ [] }
-          ∷ record { received = (1, 1) ∷ []; decided = Some ((1, 1) ∷ []) ∷ []; delivered = (1, 1) ∷ [] }
-          ∷ record { received = []; decided = None ∷ []; delivered = [] }
-          ∷ [],
-    )
+one_message_of_three : outcome (1 ∷ []) (run (group_of 3) (to_crash ++ to_proposal ++ to_decision ++ to_delivery)) ≡ Some (
+  19,
+  record { received = (1, 1) ∷ []; decided = Some ((1, 1) ∷ []) ∷ []; delivered = (1, 1) ∷ [] }
+      ∷ record { received = (1, 1) ∷ []; decided = Some ((1, 1) ∷ []) ∷ []; delivered = (1, 1) ∷ [] }
+      ∷ record { received = []; decided = None ∷ []; delivered = [] }
+      ∷ [],
+)
 one_message_of_three = unfold computing in refl
 
 -- messages are delivered as they are decided, not as they were submitted
