@@ -8,10 +8,6 @@ use Rattle.ct_names.specs.Group.{is_member, coordinator, IsMember}
 pub member_is : (n p : ℕ) → is_member n p ≡ true → IsMember n p
 member_is n p h = grind (arith, nat_tests)
 
--- a group with a member has one, and more
-pub some_member : (n p : ℕ) → IsMember n p → 0 < n
-some_member n p is = omega arith
-
 -- the coordinator of a round is a member
 pub coordinator_is : (n round : ℕ) → 0 < n → IsMember n (coordinator n round)
 coordinator_is n round some = omega (arith, mod-lt round some)

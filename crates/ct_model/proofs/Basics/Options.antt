@@ -9,9 +9,6 @@ some-same x y e = cc
 pub some-none : {A B : Type 0} (x : A) → None ≡ Some x → B
 some-none x e = cc
 
-pub not_none : {A : Type 0} (o : Option A) → is_none o ≡ false → is_some o ≡ true
-not_none o e = grind arith
-
 pub none-is : {A : Type 0} (o : Option A) → is_none o ≡ true → o ≡ None
 none-is o e = grind arith
 

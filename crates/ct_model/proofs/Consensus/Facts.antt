@@ -1,5 +1,5 @@
 -- The facts that every step keeps.
-use Rattle.std.proofs.Common.{◌≡◌, ℕ, ◌+◌, ◌-◌, ◌<◌, ◌≤◌, List, true, false, length, ◌⊎◌, arith, Some}
+use Rattle.std.proofs.Common.{◌≡◌, ℕ, ◌+◌, ◌<◌, ◌≤◌, List, true, false, length, ◌⊎◌, Some}
 use Rattle.ct_names.specs.Group.{coordinator, IsMember, IsMajority}
 use Rattle.ct_names.specs.Membership.{IsIn, IsWithoutRepeats}
 use Rattle.ct_names.specs.Value.{Value}
@@ -103,7 +103,3 @@ pub record Holds (s : Setting) (g : State) : Type 0 where
   pub founded : (w : Wire) → Sent g w → IsFounded s g w
   pub one_proposal : (k r : ℕ) (v w : Value) → Sent g (Prop k r v) → Sent g (Prop k r w) → v ≡ w
   pub ts_after_ack : (k r later q : ℕ) (v : Value) (ts : ℕ) → Sent g (Ack k r q) → Sent g (Est k later q v ts) → r < later → r ≤ ts
-
--- the place of a member among the members
-pub in_place : (s : Setting) (g : State) (p : ℕ) → Holds s g → IsMember s.members p → p - 1 < length g.members
-in_place s g p holds is = omega (arith, holds.size)

@@ -11,7 +11,6 @@ use Rattle.ct_model.specs.Wire.{envelopes}
 use Rattle.ct_model.specs.declared.mail.Mail.TheVariants.{Nobody, One, All}
 use Rattle.ct_model.specs.State.{State, wires}
 use Rattle.ct_model.specs.Next.{Outcome, after, wire_to}
-use Rattle.ct_model.proofs.Basics.Groups.{some_member}
 use Rattle.ct_model.proofs.Record.Envelopes.{wire_to-sent}
 use Rattle.ct_model.proofs.Basics.Options.{some-none}
 
@@ -54,7 +53,7 @@ Sent-old s g p o w h = rw map-append (Lists.IsIn-append_left w (wires g) (map (�
 pub Sent-new : (s : Setting) (g : State) (p : ℕ) (o : Outcome) (w : Wire) → IsMember s.members p → Carries o.mail w → Sent (after s g p o) w
 unfolding after
 Sent-new s g p o w is c = rw map-append (Lists.IsIn-append_right w (wires g) (map (λ e. e.wire) (envelopes s.members o.mail))
-    (mail-carries s.members o.mail w (some_member s.members p is) c))
+    (mail-carries s.members o.mail w (omega arith) c))
 
 -- what was sent after a step was sent before it, or the step sends it
 pub Sent-cases : (s : Setting) (g : State) (p : ℕ) (o : Outcome) (w : Wire) → Sent (after s g p o) w → Sent g w ⊎ Carries o.mail w

@@ -1,18 +1,17 @@
 -- A member's batches are what its decisions give: one for each instance that it closed, in order.
-use Rattle.std.proofs.Common.{◌≡◌, ℕ, suc, zero, ◌+◌, ◌-◌, ◌<◌, ◌≤◌, true, List, [], ◌∷◌, ◌++◌, Some, None, refl, sym, ap, ◌∙◌}
-use Rattle.std.proofs.Common.{subst, inl, inr, arith, filter_map, unwrap_or, length}
-use Rattle.std.specs.Prelude.{is_none}
+use Rattle.std.proofs.Common.{◌≡◌, ℕ, suc, zero, ◌+◌, ◌-◌, ◌≤◌, List, [], ◌∷◌, ◌++◌, Some, None, refl, sym, ap, ◌∙◌}
+use Rattle.std.proofs.Common.{inl, inr, arith, filter_map, unwrap_or, length}
 use Rattle.std.proofs.lemmas.Bool.{cases_eq}
 use Rattle.std.proofs.lemmas.List.Elements.{filter_map-append}
 use Rattle.ct_names.specs.Value.{Value, ordered, minus}
 use Rattle.ct_model.specs.declared.step.Step.{Step}
 use Rattle.ct_model.specs.Actor.{actor}
-use Rattle.ct_model.specs.AtValue.{Wire, Standing, Turn}
+use Rattle.ct_model.specs.AtValue.{Wire, Standing}
 use Rattle.ct_model.specs.Setting.{Setting}
 use Rattle.ct_model.specs.State.{State, Member, joined, member, new_member}
 use Rattle.ct_names.specs.Batch.{Batch}
 use Rattle.ct_model.specs.Received.{head, decision_of, decided}
-use Rattle.ct_model.specs.Next.{Outcome, row, turned, begin, close, deliver, follow, batch_of, after, next}
+use Rattle.ct_model.specs.Next.{Outcome, row, close, batch_of, after, next}
 use Rattle.ct_model.specs.Run.{run}
 use Rattle.ct_model.proofs.Record.Start.{member-first}
 use Rattle.ct_model.proofs.Record.Frame.{member-same, member-other, at_place}
@@ -83,24 +82,6 @@ closed-got m w f = record {
       record { value = d.value; is = decided-more m.got (w ∷ []) k d.value d.is };
 }
 
-closed-begin : (s : Setting) (p : ℕ) (m : Member) → is_none m.current ≡ true → HasClosed m → HasClosed (begin s p m).member
-closed-begin s p m idle f = record {
-  closed = f.closed;
-  idle = λ e. some-none _ (sym e);
-  busy = λ c e. let l : f.closed ≡ m.last = f.idle (none-is m.current idle) in omega arith;
-  batches = f.batches;
-  decided = f.decided;
-}
-
-closed-turned : (m : Member) (c : Standing) (t : Turn) → m.current ≡ Some c → HasClosed m → HasClosed (turned m t).member
-closed-turned m c t open_at f = record {
-  closed = f.closed;
-  idle = λ e. some-none t.after (sym e);
-  busy = λ d e. f.busy c open_at;
-  batches = f.batches;
-  decided = f.decided;
-}
-
 -- the next instance after those that it closed is closed
 closed-close : (m : Member) (last : ℕ) (v : Value) → decided m.got last ≡ Some v → (f : HasClosed m) → suc f.closed ≡ last
     → HasClosed (close m last v).member
@@ -118,24 +99,28 @@ closed-close m last v has f l = record {
   ];
 }
 
-closed-deliver : (m : Member) (c : Standing) (v : Value) → m.current ≡ Some c → decided m.got m.last ≡ Some v → HasClosed m →
-    HasClosed (deliver m v).member
-closed-deliver m c v open_at has f = closed-close m m.last v has f (f.busy c open_at)
-
-closed-follow : (m : Member) (v : Value) → is_none m.current ≡ true → decided m.got (m.last + 1) ≡ Some v → HasClosed m →
-    HasClosed (follow m v).member
-closed-follow m v idle has f =
-    let l : f.closed ≡ m.last = f.idle (none-is m.current idle) in closed-close m (m.last + 1) v has f (omega arith)
-
 closed-row : (s : Setting) (g : State) (p : ℕ) (m : Member) (step : Step) (o : Outcome) → row s g p m step ≡ Some o → HasClosed m
     → HasClosed o.member
 closed-row s g p m step o e f = by_shape s g p m (λ x. HasClosed x.member) step o (record {
   submits = λ c good. f;
   gets = λ k w at. closed-got m w f;
-  opens = λ idle some. closed-begin s p m idle f;
-  turns = λ a c t open_at taken. closed-turned m c t open_at f;
-  closes = λ c v open_at has delivers. closed-deliver m c v open_at has f;
-  follows = λ v idle has delivers. closed-follow m v idle has f;
+  opens = λ idle some. record {
+    closed = f.closed;
+    idle = λ e. some-none _ (sym e);
+    busy = λ c e. let l : f.closed ≡ m.last = f.idle (none-is m.current idle) in omega arith;
+    batches = f.batches;
+    decided = f.decided;
+  };
+  turns = λ a c t open_at taken. record {
+    closed = f.closed;
+    idle = λ e. some-none t.after (sym e);
+    busy = λ d e. f.busy c open_at;
+    batches = f.batches;
+    decided = f.decided;
+  };
+  closes = λ c v open_at has delivers. closed-close m m.last v has f (f.busy c open_at);
+  follows = λ v idle has delivers.
+      let l : f.closed ≡ m.last = f.idle (none-is m.current idle) in closed-close m (m.last + 1) v has f (omega arith);
   marks = λ crashed. record { closed = f.closed; idle = f.idle; busy = f.busy; batches = f.batches; decided = f.decided };
 }) e
 
@@ -143,20 +128,18 @@ closed-row s g p m step o e f = by_shape s g p m (λ x. HasClosed x.member) step
 abbrev pub HaveClosed : State → Type 0
 HaveClosed g = (p : ℕ) → HasClosed (member g p)
 
-closed-after : (s : Setting) (g : State) (p : ℕ) (o : Outcome) → p - 1 < length g.members → HasClosed o.member → HaveClosed g →
-    HaveClosed (after s g p o)
-closed-after s g p o there mine all q = elim (cases_eq (q - 1) (p - 1)) [
-  | inl same ↦ subst (λ m. HasClosed m) (sym (at_place (λ m. m) (after s g p o) q p same ∙ member-same s g p o there)) mine
-  | inr other ↦ subst (λ m. HasClosed m) (sym (member-other s g p q o other)) (all q)
-]
-
 closed-next : (s : Setting) (g : State) (step : Step) (h : State) → next s g step ≡ Some h → length g.members ≡ s.members → HaveClosed g →
     HaveClosed h
-closed-next s g step h e size all =
+closed-next s g step h e size all q =
     let t = next-is s g step h e in
     let p : ℕ = actor step in
-    subst (λ x. HaveClosed x) t.gives
-    (closed-after s g p t.outcome (in_members s g p size t.in_group) (closed-row s g p (member g p) step t.outcome t.row (all p)) all)
+    rw (← t.gives) (elim (cases_eq (q - 1) (p - 1)) [
+      | inl same ↦ rw (
+        at_place (λ m. m) (after s g p t.outcome) q p same,
+        member-same s g p t.outcome (in_members s g p size t.in_group),
+      ) (closed-row s g p (member g p) step t.outcome t.row (all p))
+      | inr other ↦ rw (member-other s g p q t.outcome other) (all q)
+    ])
 
 closed-new : HasClosed new_member
 unfolding deliveries

@@ -67,20 +67,15 @@ proposals-cases s g p o x h = Lists.IsIn-append_cases x g.proposals o.proposals 
 submitted-old : (s : Setting) (g : State) (p : ℕ) (o : Outcome) (m : Message) → IsIn m g.submitted → IsIn m (after s g p o).submitted
 submitted-old s g p o m h = subst (λ list. IsIn m list) (sym (after-submitted s g p o)) (Lists.IsIn-append_left m g.submitted o.submitted h)
 
-proposes-after : (s : Setting) (g : State) (p : ℕ) (o : Outcome) → KnowsMessages s g → IsProposing s (member g p) o →
-    ProposesSubmitted g → ProposesSubmitted (after s g p o)
-proposes-after s g p o k new old x is m inside = elim (proposals-cases s g p o x is) [
-  | inl a ↦ submitted-old s g p o m (old x a m inside)
-  | inr b ↦ submitted-old s g p o m (proposed-submitted s g p m k (subst (λ v. IsIn m v) (new x b) inside))
-]
-
 proposes-next : (s : Setting) (g : State) (step : Step) (h : State) → next s g step ≡ Some h → KnowsMessages s g → ProposesSubmitted g →
     ProposesSubmitted h
 proposes-next s g step h e k old =
     let t = next-is s g step h e in
     let p : ℕ = actor step in
-    subst (λ x. ProposesSubmitted x) t.gives
-    (proposes-after s g p t.outcome k (proposes-row s g p (member g p) step t.outcome t.row) old)
+    subst (λ x. ProposesSubmitted x) t.gives (λ x is m inside. submitted-old s g p t.outcome m (elim (proposals-cases s g p t.outcome x is) [
+      | inl a ↦ old x a m inside
+      | inr b ↦ proposed-submitted s g p m k (rw (proposes-row s g p (member g p) step t.outcome t.row x b) at inside)
+    ]))
 
 pub proposes-run : (s : Setting) (steps : List Step) (g : State) → run s steps ≡ Some g → ProposesSubmitted g
 unfolding first_state

@@ -138,12 +138,6 @@ voter (Ack j s p) = p
 voter (Nack j s p) = p
 voter _ = 1
 
-ack-is : {V : Type 0} (k r : ℕ) (w : Wire V) (q : ℕ) → is_ack k r q w ≡ (acks k r w && (voter w == q))
-ack-is k r w q = grind arith
-
-reply-is : {V : Type 0} (k r : ℕ) (w : Wire V) (q : ℕ) → is_reply k r q w ≡ (replies k r w && (voter w == q))
-reply-is k r w q = grind arith
-
 from_everyone : {V : Type 0} (k r : ℕ) (w : Wire V) → NamesSomebody w → IsFromEveryone (estimate_of k r w)
 from_everyone k r (Est j s p v ts) h e is = grind arith
 from_everyone k r _ h e is = absurd (cc)
@@ -167,8 +161,8 @@ unfolding ballots
 ballots-push got k r w h =
     let es = estimates-push got k r w (from_everyone k r w h) in
     let v = proposal-push got k r w in
-    let acked = set-push got w (is_ack k r) (acks k r w) (voter w) (ack-is k r w) in
-    let replied = set-push got w (is_reply k r) (replies k r w) (voter w) (reply-is k r w) in
+    let acked = set-push got w (is_ack k r) (acks k r w) (voter w) (λ q. grind arith) in
+    let replied = set-push got w (is_reply k r) (replies k r w) (voter w) (λ q. grind arith) in
     (λ i. record { estimates = es i; proposal = v i; acked = acked i; replied = replied i }) ∙ counted-in (ballots got k r) k r w
 
 -- before any wire there are none

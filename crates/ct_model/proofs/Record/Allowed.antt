@@ -2,12 +2,10 @@
 use Rattle.std.specs.Prelude.{is_none}
 use Rattle.std.proofs.Common.{arith, ◌≡◌, ℕ, ◌+◌, false, length, ap, sym, ◌∙◌, subst, Some, None}
 use Rattle.ct_model.specs.declared.step.Step.{Step}
-use Rattle.ct_model.specs.declared.step.Step.TheVariants.{Receive}
-use Rattle.ct_model.specs.declared.step.Step.TheVariants.{Postpone, Lose, Repeat}
+use Rattle.ct_model.specs.declared.step.Step.TheVariants.{Receive, Postpone, Lose, Repeat}
 use Rattle.ct_model.specs.Actor.{actor}
 use Rattle.ct_model.specs.State.{State, member}
-use Rattle.ct_model.specs.Next.{Outcome, row}
-use Rattle.ct_model.specs.Next.{after, next}
+use Rattle.ct_model.specs.Next.{Outcome, row, after, next}
 use Rattle.ct_model.specs.Rehearsal.{Rehearsal, state_of, line_of, extended}
 use Rattle.ct_model.specs.Cause.{first_fault, tests, limits, limit, or_else, cause}
 use Rattle.ct_model.specs.Lawful.{IsLawful, IsWithin, IsPresent, NamesWaiting}
@@ -15,7 +13,7 @@ use Rattle.ct_model.specs.Allowed.{IsAllowed}
 use Rattle.ct_model.specs.Phases.{enter, choose, adopt, suspect, conclude}
 use Rattle.ct_model.proofs.Basics.Options.{some-of}
 use Rattle.ct_model.proofs.Record.Causes.{own_tests, cause-none, cause-present}
-use Rattle.ct_model.proofs.Record.Taken.{IsTaken, next-step, lawful-step}
+use Rattle.ct_model.proofs.Record.Taken.{next-step, lawful-step}
 use Rattle.ct_model.proofs.Relay.Messages.{next-is}
 use Rattle.ct_model.proofs.Record.Limits.{own_tests-is, taken_of}
 use Rattle.ct_model.proofs.Steps.Receive.{receive_waits}
@@ -31,14 +29,6 @@ names-free w _ none = tt
 
 -- what has no cause is allowed
 
-taken-allowed : (w : Rehearsal) (step : Step) (o : Outcome) → IsLawful w → IsTaken w step o → IsAllowed w step
-taken-allowed w step o law taken = record {
-  after = after w.setting (state_of w) (actor step) o;
-  enabled = next-step w step o law taken;
-  waits = taken.names;
-  within = taken.within;
-}
-
 enabled : (w : Rehearsal) (step : Step) → IsLawful w → NamesWaiting w step
     → first_fault (tests w.setting (state_of w) (member (state_of w) (actor step)) (line_of w (actor step)) step) ≡ None
     → is_none (row w.setting (state_of w) (actor step) (member (state_of w) (actor step)) step) ≡ false
@@ -50,7 +40,13 @@ cause-allowed w step law none =
     let names = names-free w step none in
     let tested = sym (ap first_fault (own_tests-is w step)) ∙ (cause-none w step none).tested in
     let o = some-of (row w.setting (state_of w) (actor step) (member (state_of w) (actor step)) step) (enabled w step law names tested) in
-    taken-allowed w step o.0 law (taken_of w step o.0 law none names o.1)
+    let taken = taken_of w step o.0 law none names o.1 in
+    record {
+      after = after w.setting (state_of w) (actor step) o.0;
+      enabled = next-step w step o.0 law taken;
+      waits = taken.names;
+      within = taken.within;
+    }
 
 -- where a row gives an outcome and what the step names waits or not, as the step asks, no test of its own fires
 

@@ -47,9 +47,6 @@ changed-distinct p Leaves line d away = d
 
 -- what waits after a change waited before and isn't taken, or is put back
 
-as_before : (l : Bool) → l ≡ ((l && true) || false)
-as_before l = grind arith
-
 pub changed-has : (p k : ℕ) (change : LineChange) (line : List ℕ)
     → has_serial k (changed p change line) ≡ ((has_serial k line && not (takes p k change)) || restores p k change)
 changed-has p k (Takes q i) line = grind (arith, has_serial-filter (λ j. not (j == i)) k line, swapped k i)
@@ -57,7 +54,7 @@ changed-has p k (Defers q i) line =
     let without_is = has_serial-filter (λ j. not (j == i)) k line in
     grind (arith, has_serial-append k (without i line) (alone i line), has_serial-filter (λ j. j == i) k line)
 changed-has p k (Restores q i) line = grind (arith, has_serial-append k line (i ∷ []))
-changed-has p k Leaves line = as_before (has_serial k line)
+changed-has p k Leaves line = grind arith
 
 pub is_gone-push : (p : ℕ) (steps : List Step) (step : Step) (k : ℕ)
     → is_gone p (steps ++ step ∷ []) k ≡ gone_after p k (is_gone p steps k) (line_change step)

@@ -6,13 +6,13 @@ use Rattle.ct_model.specs.Setting.{Setting}
 use Rattle.ct_model.specs.State.{State, member}
 use Rattle.ct_model.specs.Next.{Outcome, after}
 use Rattle.ct_model.proofs.Record.Frame.{member-same as same_place, member-other as other_place}
-use Rattle.ct_model.proofs.Consensus.Facts.{Holds, in_place}
+use Rattle.ct_model.proofs.Consensus.Facts.{Holds}
 pub use Rattle.ct_model.proofs.Consensus.Sent.{Sent, Carries, Sent-cases, Sent-wire}
 
 -- the actor is as the step leaves it, and the others as they were
 
 pub member-same : (s : Setting) (g : State) (p : ℕ) (o : Outcome) → Holds s g → IsMember s.members p → member (after s g p o) p ≡ o.member
-member-same s g p o holds is = same_place s g p o (in_place s g p holds is)
+member-same s g p o holds is = same_place s g p o (omega (arith, holds.size))
 
 pub member-other : (s : Setting) (g : State) (p q : ℕ) (o : Outcome) → IsMember s.members p → IsMember s.members q → q ≢ p →
     member (after s g p o) q ≡ member g q

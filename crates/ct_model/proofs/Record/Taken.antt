@@ -16,8 +16,7 @@ use Rattle.ct_model.specs.Waiting.{LineChange, has_serial, serials_to, line_chan
 use Rattle.ct_model.specs.Waiting.LineChange.{Takes, Restores}
 use Rattle.ct_model.specs.Rehearsal.{Rehearsal, state_of, line_of, extended}
 use Rattle.ct_model.specs.Lawful.{is_distinct, is_gone, Waits, IsAway, IsWithin, IsLawful, IsPresent, NamesWaiting}
-use Rattle.ct_model.proofs.Basics.Tests.{and_left, and_right, and_both, and_true, and_false, or_cases, or_true, or_false, not_true}
-use Rattle.ct_model.proofs.Basics.Tests.{same_number}
+use Rattle.ct_model.proofs.Basics.Tests.{and_left, and_right, and_both, and_false, or_cases, not_true, same_number}
 use Rattle.ct_model.proofs.Record.Runs.{state_of-push, run-push, stepped-next}
 use Rattle.ct_model.proofs.Record.Envelopes.{was_sent, sent_serial}
 use Rattle.ct_model.proofs.Record.Lines.{waiting-push, changed-distinct, changed-has, is_gone-push}
@@ -58,24 +57,10 @@ restored w (Restores q i) away p k e =
     rw (← member, ← serial) away
 restored w _ waits p k e = absurd (cc)
 
--- of a serial: it was sent before, it was gone before, the step takes it, the step sends it
-taken_or_sent : (old was now new : Bool) → (new ≡ true → (was ≡ false) × (now ≡ false))
-    → (((old && not was) && not now) || new) ≡ ((old || new) && not (was || now))
-taken_or_sent true true now false h = refl
-taken_or_sent true false now false h = or_false (not now)
-taken_or_sent false was now false h = refl
-taken_or_sent true false false true h = refl
-taken_or_sent false false false true h = refl
-taken_or_sent old true now true h = absurd (let e = (h refl).0 in cc)
-taken_or_sent old false true true h = absurd (let e = (h refl).1 in cc)
-
--- and the step puts it back
+-- of a serial: it was sent before, it was gone before, the step takes it, puts it back, sends it
 or_back : (old was now back new : Bool) → (new ≡ true → (was ≡ false) × (now ≡ false)) → (back ≡ true → old ≡ true)
     → ((((old && not was) && not now) || back) || new) ≡ ((old || new) && not ((was || now) && not back))
-or_back old was now false new fresh sent =
-    rw (or_false ((old && not was) && not now), and_true (was || now)) (taken_or_sent old was now new fresh)
-or_back true was now true new fresh sent = rw (or_true (not was && not now), and_false (was || now)) refl
-or_back false was now true new fresh sent = absurd (let e = sent refl in cc)
+or_back old was now back new fresh sent = grind arith
 
 module _ (w : Rehearsal) (step : Step) (o : Outcome) (law : IsLawful w) (taken : IsTaken w step o) where
   sends : List Envelope

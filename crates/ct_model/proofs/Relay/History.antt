@@ -86,12 +86,8 @@ kept_back s p got (Dec k r v) shared h = elim (and_cases (not (has_decision got 
 kept_back s p got _ shared h = absurd shared
 
 -- the envelope of the serial comes to the member in the step
-record IsComeNow (g : State) (o : Outcome) (j : ℕ) : Type 0 where
-  pub envelope : Envelope
-  pub at : at_serial g.sent j ≡ Some envelope
-  pub got : IsIn envelope.wire o.member.got
-
-come-receive : (s : Setting) (g : State) (q j : ℕ) (o : Outcome) → row s g q (member g q) (Receive q j) ≡ Some o → IsComeNow g o j
+come-receive : (s : Setting) (g : State) (q j : ℕ) (o : Outcome) → row s g q (member g q) (Receive q j) ≡ Some o →
+    (e : Envelope) × (at_serial g.sent j ≡ Some e) × IsIn e.wire o.member.got
 unfolding wire_to
 come-receive s g q j o e =
     let made = made-map (receive s q (member g q)) (wire_to g q j) o e in
@@ -99,7 +95,7 @@ come-receive s g q j o e =
     let wire : f.from.wire ≡ made.from = (when-is (f.from.to == q) f.from.wire made.from f.gives).1 in
     let got : IsIn made.from (receive s q (member g q) made.from).member.got =
     Lists.IsIn-append_right made.from (member g q).got (made.from ∷ []) (inl refl) in
-    record { envelope = f.from; at = f.is; got = rw wire (subst (λ z. IsIn made.from z.member.got) made.gives got) }
+    (f.from, f.is, rw wire (subst (λ z. IsIn made.from z.member.got) made.gives got))
 
 module _ (s : Setting) (done : List Step) (from : List ℕ) (g : State) (step : Step) (o : Outcome) (hist : IsHistory s done from g)
     (holds : Holds s g) (is : IsMember s.members (actor step)) (made : IsMade s g (actor step) o)
@@ -194,12 +190,8 @@ module _ (s : Setting) (done : List Step) (from : List ℕ) (g : State) (step : 
     | inr last ↦ elim last [
       | inl same ↦
           let c = come-receive s g q j o (rw (← same) at rowed) in
-          let got : IsIn c.envelope.wire (member h p).got = rw (member-same s g p o holds is) c.got in
-          record {
-            envelope = c.envelope;
-            at = still_at j c.envelope c.at;
-            got = subst (λ z. IsIn c.envelope.wire (member h z).got) (sym (ap actor same)) got;
-          }
+          let got : IsIn c.0.wire (member h p).got = rw (member-same s g p o holds is) c.2 in
+          record { envelope = c.0; at = still_at j c.0 c.1; got = subst (λ z. IsIn c.0.wire (member h z).got) (sym (ap actor same)) got }
       | inr never ↦ absurd never
     ]
   ]

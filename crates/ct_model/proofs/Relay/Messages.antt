@@ -13,23 +13,22 @@ use Rattle.ct_names.proofs.Receipts.{has-push}
 use Rattle.ct_names.proofs.Values.{same_message, is_message-refl}
 use Rattle.ct_model.specs.declared.step.Step.{Step}
 use Rattle.ct_model.specs.declared.moves.Move.{Move}
-use Rattle.ct_model.specs.declared.moves.Move.TheVariants.{Enter, Choose, Adopt, Suspect, Conclude}
 use Rattle.ct_model.specs.Actor.{actor}
 use Rattle.ct_model.specs.AtValue.{Wire, Envelope, Mail, Standing, Turn}
 use Rattle.ct_model.specs.Knowledge.{CarriesOne, KnowsMessages}
 use Rattle.ct_model.specs.Setting.{Setting}
 use Rattle.ct_model.specs.Wire.{envelopes}
-use Rattle.ct_model.specs.declared.wire.Wire.TheVariants.{Data, Dec}
+use Rattle.ct_model.specs.declared.wire.Wire.TheVariants.{Data}
 use Rattle.ct_model.specs.declared.mail.Mail.TheVariants.{Nobody, One, All}
 use Rattle.ct_model.specs.State.{State, Member, member, is_crashed, submissions}
-use Rattle.ct_model.specs.Received.{received, received_by, decided}
-use Rattle.ct_model.specs.Next.{Outcome, plain, row, submit, receive, begin, turned, turn_at, own_ballots, deliver, follow}
+use Rattle.ct_model.specs.Received.{received, received_by}
+use Rattle.ct_model.specs.Next.{Outcome, plain, row, submit, receive, begin, turned, turn_at, deliver, follow}
 use Rattle.ct_model.specs.Next.{next_message, is_relayed, after, next, can_act}
 use Rattle.ct_model.proofs.Basics.Tests.{and_left, and_right, true_not}
 use Rattle.ct_model.proofs.Basics.Options.{made-map}
 use Rattle.ct_model.proofs.Record.Frame.{after-sent, after-submitted, after-size, member-same, member-other, at_place}
 use Rattle.ct_model.proofs.Record.Frame.{submissions-append, submissions-next}
-use Rattle.ct_model.proofs.Steps.Rows.{enter-is, choose-is, adopt-is, suspect-is, conclude-is}
+use Rattle.ct_model.specs.Phases.{enter, choose, adopt, suspect, conclude}
 use Rattle.ct_model.proofs.Steps.Shapes.{by_shape}
 use Rattle.ct_model.proofs.Record.Envelopes.{wire_to-sent}
 use Rattle.ct_model.proofs.Consensus.Sent.{carries-mail, get-wire}
@@ -166,12 +165,8 @@ joined_known list known _ c old m h = old m h
 -- a turn sends no message
 turn_carries : (list : List Message) (n p : ℕ) (m : Member) (a : Move) (c : Standing) (t : Turn) → turn_at n p m a c ≡ Some t
     → MailCarries list t.mail
-turn_carries list n p m Enter c t h = rw (← (enter-is n p m.last (decided m.got m.last) c t h).gives) tt
-turn_carries list n p m (Choose from) c t h = rw (← (choose-is n m.last (own_ballots m c) c from t h).gives) tt
-turn_carries list n p m Adopt c t h = rw (← (adopt-is n p m.last (own_ballots m c) c t h).gives) tt
-turn_carries list n p m Suspect c t h = rw (← (suspect-is n p m.last (own_ballots m c) c t h).gives) tt
-turn_carries list n p m Conclude c t h =
-    rw (← (conclude-is n m.last (own_ballots m c) c t h).gives) (relay_carries list _ (Dec m.last c.round c.estimate) tt)
+unfolding enter choose adopt suspect conclude
+turn_carries list n p m a c t h = grind arith
 
 module _ (s : Setting) (g : State) (p : ℕ) (k : KnowsMessages s g) (there : p - 1 < length g.members) (group : is_member s.members p ≡ true)
   where

@@ -11,7 +11,6 @@ use Rattle.ct_model.specs.declared.mail.Mail.TheVariants.{Nobody}
 use Rattle.ct_model.specs.Next.{Outcome, plain, line_row, row, wire_to}
 use Rattle.ct_model.specs.Rehearsal.{Rehearsal, state_of}
 use Rattle.ct_model.specs.Cause.{at, first_fault, limit, cause, overflow}
-use Rattle.ct_model.proofs.Basics.Options.{not_none}
 use Rattle.ct_model.proofs.Record.Causes.{own_tests, cause-none, first_fault-none}
 use Rattle.ct_model.specs.Lawful.{IsLawful, IsPresent, NamesWaiting, is_waiting}
 use Rattle.ct_model.proofs.Record.Envelopes.{waiting_letter, letter_wire}
@@ -109,7 +108,7 @@ repeat_away w p k none =
     let tested = sym (ap first_fault (own_tests-is w (Repeat p k))) ∙ (cause-none w (Repeat p k) none).tested in
     let waiting = at StillWaiting (is_waiting w p k) in
     let sent = first_fault-none (at NotSent (is_none (wire_to (state_of w) p k))) (waiting ∷ []) tested in
-    record { sent = not_none (wire_to (state_of w) p k) sent.0; away = (first_fault-none waiting [] sent.1).0 }
+    record { sent = let missing = sent.0 in grind arith; away = (first_fault-none waiting [] sent.1).0 }
 
 -- a Repeat that is allowed
 pub repeat_taken : (w : Rehearsal) (p k : ℕ) → IsLawful w → cause w (Repeat p k) ≡ None → IsTaken w (Repeat p k) (line_outcome w p)
