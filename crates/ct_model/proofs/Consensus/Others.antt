@@ -105,5 +105,6 @@ module _ (s : Setting) (g : State) (p : ℕ) (holds : Holds s g) (is : IsMember 
     turns = λ a c t at x. allowed-turn s g p holds is c at a t x;
     closes = λ c v open_at has delivers. allowed-close m.last v (closes refl refl);
     follows = λ v idle has delivers. allowed-close (m.last + 1) v (opens refl);
-    marks = λ crashed. allowed-silent (plain (record m { crashed = crashed }) Nobody) refl refl (λ w x. holds.got p is w x) (λ w x. absurd x);
+    marks = λ crashed. allowed-silent (plain (record m { crashed = crashed }) Nobody) refl refl (λ w x. holds.got p is w x)
+        (λ w x. absurd x);
   })

@@ -16,8 +16,8 @@ use Rattle.ct_model.specs.Phases.{is_gather, is_wait, is_tally, entered, chosen,
 use Rattle.ct_model.specs.Next.{turn_at, own_ballots, turned, after}
 use Rattle.ct_model.specs.Safe.{IsProposed, IsLocked}
 use Rattle.ct_model.proofs.Consensus.Sent.{Sent, Carries, Sent-new}
-use Rattle.ct_model.proofs.Consensus.Facts.{Reached, HasRound, HasTs, HasChosen, IsCarried, IsHeard, IsFounded, IsFoundedEst, IsFoundedProp}
-use Rattle.ct_model.proofs.Consensus.Facts.{IsFoundedAck, IsSound, Holds}
+use Rattle.ct_model.proofs.Consensus.Facts.{Reached, HasRound, HasTs, HasChosen, IsCarried, IsHeard, IsFounded, IsFoundedEst}
+use Rattle.ct_model.proofs.Consensus.Facts.{IsFoundedProp, IsFoundedAck, IsSound, Holds}
 use Rattle.ct_model.proofs.Consensus.Facts.Reached.{earlier, now}
 use Rattle.ct_model.proofs.Consensus.Growth.{IsOnward, Grows, IsProposed-grows, IsCarried-grows, IsLocked-grows, IsMajority-more, acked-more}
 use Rattle.ct_model.proofs.Consensus.Growth.Advance.{turns}

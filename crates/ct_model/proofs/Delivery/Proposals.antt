@@ -72,7 +72,8 @@ proposes-next : (s : Setting) (g : State) (step : Step) (h : State) → next s g
 proposes-next s g step h e k old =
     let t = next-is s g step h e in
     let p : ℕ = actor step in
-    subst (λ x. ProposesSubmitted x) t.gives (λ x is m inside. submitted-old s g p t.outcome m (elim (proposals-cases s g p t.outcome x is) [
+    subst (λ x. ProposesSubmitted x) t.gives
+    (λ x is m inside. submitted-old s g p t.outcome m (elim (proposals-cases s g p t.outcome x is) [
       | inl a ↦ old x a m inside
       | inr b ↦ proposed-submitted s g p m k (rw (proposes-row s g p (member g p) step t.outcome t.row x b) at inside)
     ]))

@@ -34,14 +34,7 @@ IsToMember n _ = Unit {0}
 
 to_member : (s : Setting) (g : State) (p : ℕ) (m : Member) (mail : Mail) → 0 < s.members → IsSending s g p m mail →
     IsToMember s.members mail
-to_member s g p m mail some (nothing e) = rw e tt
-to_member s g p m mail some (message new origin e) = rw e tt
-to_member s g p m mail some (relay w sent relayed e) = rw e tt
-to_member s g p m mail some (estimate k r v ts e) = rw e (coordinator_is s.members r some)
-to_member s g p m mail some (proposal k r v e) = rw e tt
-to_member s g p m mail some (ack k r e) = rw e (coordinator_is s.members r some)
-to_member s g p m mail some (nack k r e) = rw e (coordinator_is s.members r some)
-to_member s g p m mail some (decision c at tallies e) = rw e tt
+to_member s g p m mail some h = grind (arith, coordinator_is s.members)
 
 -- where a step sends one envelope, it goes to a member
 pub addressed-step : (s : Setting) (g : State) (p : ℕ) (m : Member) (step : Step) (o : Outcome) (to : ℕ) (w : Wire) → 0 < s.members →
