@@ -48,14 +48,7 @@ Names s g = (w : Wire) → Sent g w → NamesMember s.members w
 -- and so does what a step of a member sends
 names-sending : (s : Setting) (g : State) (p : ℕ) (m : Member) (mail : Mail) → IsMember s.members p → Names s g → IsSending s g p m mail →
     (w : Wire) → Carries mail w → NamesMember s.members w
-names-sending s g p m mail is old (nothing e) w c = absurd (rw e at c)
-names-sending s g p m mail is old (message new origin e) w c = let same : w ≡ Data new = rw e at c in rw same tt
-names-sending s g p m mail is old (relay x sent relayed e) w c = let same : w ≡ x = rw e at c in rw same (old x sent)
-names-sending s g p m mail is old (estimate k r v ts e) w c = let same : w ≡ Est k r p v ts = rw e at c in rw same is
-names-sending s g p m mail is old (proposal k r v e) w c = let same : w ≡ Prop k r v = rw e at c in rw same tt
-names-sending s g p m mail is old (ack k r e) w c = let same : w ≡ Ack k r p = rw e at c in rw same is
-names-sending s g p m mail is old (nack k r e) w c = let same : w ≡ Nack k r p = rw e at c in rw same is
-names-sending s g p m mail is old (decision d at tallies e) w c = let same : w ≡ Dec m.last d.round d.estimate = rw e at c in rw same tt
+names-sending s g p m mail is old h w c = grind (arith, old)
 
 named-next : (s : Setting) (g : State) (step : Step) (h : State) → next s g step ≡ Some h → Names s g → Names s h
 named-next s g step h e old w sent =
@@ -68,10 +61,7 @@ named-next s g step h e old w sent =
     ]
 
 names_somebody : (n : ℕ) (w : Wire) → n ≤ MAX_MEMBERS → NamesMember n w → NamesSomebody w
-names_somebody n (Est k r p v t) few h = let high : p ≤ n = h.1 in (h.0, omega arith)
-names_somebody n (Ack k r p) few h = let high : p ≤ n = h.1 in (h.0, omega arith)
-names_somebody n (Nack k r p) few h = let high : p ≤ n = h.1 in (h.0, omega arith)
-names_somebody n _ few h = tt
+names_somebody n w few h = grind arith
 
 -- in a group of at most 16 it names one of everyone
 pub sender_named : (s : Setting) (steps : List Step) (g : State) → s.members ≤ MAX_MEMBERS → run s steps ≡ Some g → (w : Wire) →
