@@ -20,12 +20,10 @@ pub when-some : {A : Type 0} (b : Bool) (x : A) → is_some (when b x) ≡ true 
 when-some b x e = grind arith
 
 pub when-is : {A : Type 0} (b : Bool) (x y : A) → when b x ≡ Some y → (b ≡ true) × (x ≡ y)
-when-is true x y e = (refl, some-same x y e)
-when-is false x y e = some-none y e
+when-is b x y e = grind arith
 
 pub when-both : {A : Type 0} (a b : Bool) (x y : A) → when (a && b) x ≡ Some y → (a ≡ true) × (b ≡ true) × (x ≡ y)
-when-both true b x y e = let r = when-is b x y e in (refl, r.0, r.1)
-when-both false b x y e = some-none y e
+when-both a b x y e = grind arith
 
 pub record Made {A B : Type 0} (f : A → B) (o : Option A) (y : B) : Type 0 where
   pub from : A

@@ -1,5 +1,5 @@
 -- What the outcome of a step has to show, so that the facts hold after it.
-use Rattle.std.proofs.Common.{◌≡◌, ℕ, ◌≤◌, ◌<◌, Some, refl, sym, ◌∙◌, inl, inr}
+use Rattle.std.proofs.Common.{arith, ◌≡◌, ℕ, ◌≤◌, ◌<◌, Some, refl, sym, ◌∙◌, inl, inr}
 use Rattle.ct_names.specs.Group.{IsMember}
 use Rattle.ct_names.specs.Membership.{IsIn}
 use Rattle.ct_names.specs.Value.{Value}
@@ -7,7 +7,6 @@ use Rattle.ct_names.proofs.Lists
 use Rattle.ct_model.specs.AtValue.{Wire, Mail, Standing}
 use Rattle.ct_model.specs.Setting.{Setting}
 use Rattle.ct_model.specs.declared.wire.Wire.TheVariants.{Est, Prop, Ack}
-use Rattle.ct_model.specs.declared.mail.Mail.TheVariants.{Nobody}
 use Rattle.ct_model.specs.State.{State, member}
 use Rattle.ct_model.specs.Next.{Outcome, after}
 use Rattle.ct_model.proofs.Consensus.Sent.{Sent, Carries, Sent-old, Sent-cases}
@@ -41,8 +40,7 @@ grows s g p o holds is advance = record {
 }
 
 one_wire : (mail : Mail) (w x : Wire) → Carries mail w → Carries mail x → w ≡ x
-one_wire Nobody w x a b = absurd a
-one_wire _ w x a b = a ∙ sym b
+one_wire mail w x a b = grind arith
 
 module _ (s : Setting) (g : State) (p : ℕ) (o : Outcome) (holds : Holds s g) (is : IsMember s.members p) (ok : IsAllowed s g p o) where
   -- the state after the step

@@ -1,5 +1,5 @@
 -- The shapes of outcomes that turn in no round keep the facts, and so every step does.
-use Rattle.std.proofs.Common.{◌≡◌, ℕ, ◌+◌, true, List, [], ◌∷◌, Some, refl, sym, ◌∙◌, subst, inl, inr, arith, true≢false}
+use Rattle.std.proofs.Common.{◌≡◌, ℕ, ◌+◌, true, List, [], ◌∷◌, Some, refl, sym, ◌∙◌, subst, inl, inr, arith}
 use Rattle.ct_names.specs.Group.{IsMember}
 use Rattle.ct_names.specs.Membership.{IsIn}
 use Rattle.ct_names.specs.Value.{Value}
@@ -31,10 +31,7 @@ IsApart _ = Unit {0}
 
 relayed_apart : (s : Setting) (p : ℕ) (got : List Wire) (w : Wire) → is_relayed s p got w ≡ true → IsApart w
 unfolding is_relayed
-relayed_apart s p got (Est k r q v ts) h = true≢false (sym h)
-relayed_apart s p got (Prop k r v) h = true≢false (sym h)
-relayed_apart s p got (Ack k r q) h = true≢false (sym h)
-relayed_apart s p got _ h = tt
+relayed_apart s p got w h = grind arith
 
 module _ (s : Setting) (g : State) (p : ℕ) (holds : Holds s g) (is : IsMember s.members p) where
   abbrev m : Member

@@ -21,8 +21,7 @@ in-head [] x e = some-none x e
 in-head (y ∷ xs) x e = inl (sym (some-same y x e))
 
 message-wire : (w : Wire) (m : Message) → message_of w ≡ Some m → w ≡ Data m
-message-wire (Data x) m e = cc
-message-wire _ m e = some-none m e
+message-wire w m e = grind arith
 
 pub received-got : (got : List Wire) (m : Message) → IsIn m (received got) → IsIn (Data m) got
 unfolding received
@@ -72,8 +71,7 @@ is_decision-wire k r _ h = absurd (cc)
 -- the proposal of a round is that of a Prop that was got
 
 proposal-wire : (k r : ℕ) (w : Wire) (v : Value) → proposal_of k r w ≡ Some v → w ≡ Prop k r v
-proposal-wire k r (Prop j i x) v e = grind (arith, nat_tests)
-proposal-wire k r _ v e = some-none v e
+proposal-wire k r w v e = grind (arith, nat_tests)
 
 pub proposal-got : (got : List Wire) (k r : ℕ) (v : Value) → (ballots got k r).proposal ≡ Some v → IsIn (Prop k r v) got
 unfolding ballots proposal
@@ -84,8 +82,7 @@ proposal-got got k r v e =
 -- the estimates of a round are those of Ests that were got, one of each member
 
 estimate-wire : (k r : ℕ) (w : Wire) (e : Heard Value) → estimate_of k r w ≡ Some e → w ≡ Est k r e.member e.value e.ts
-estimate-wire k r (Est j i p x t) e is = grind (arith, nat_tests)
-estimate-wire k r _ e is = some-none e is
+estimate-wire k r w e is = grind (arith, nat_tests)
 
 heard_from-got : (got : List Wire) (k r p : ℕ) (e : Heard Value) → heard_from got k r p ≡ Some e →
     IsIn (Est k r e.member e.value e.ts) got × (e.member ≡ p)

@@ -8,7 +8,7 @@ use Rattle.ct_model.specs.Actor.{actor}
 use Rattle.ct_model.specs.AtValue.{Wire, Mail}
 use Rattle.ct_model.specs.Counted.{NamesSomebody}
 use Rattle.ct_model.specs.Setting.{Setting}
-use Rattle.ct_model.specs.declared.wire.Wire.TheVariants.{Data, Est, Prop, Ack, Nack, Dec}
+use Rattle.ct_model.specs.declared.wire.Wire.TheVariants.{Est, Ack, Nack}
 use Rattle.ct_model.specs.declared.mail.Mail.TheVariants.{One}
 use Rattle.ct_model.specs.State.{State, Member, member, first_state, wires}
 use Rattle.ct_model.specs.Next.{Outcome, row, next}
@@ -18,7 +18,6 @@ use Rattle.ct_model.proofs.Basics.Groups.{member_is, coordinator_is}
 use Rattle.ct_model.proofs.Relay.Messages.{next-is}
 use Rattle.ct_model.proofs.Record.Runs.{kept-run}
 use Rattle.ct_model.proofs.Steps.Mail.{IsSending, row-sends}
-use Rattle.ct_model.proofs.Steps.Mail.IsSending.{nothing, message, relay, estimate, proposal, ack, nack, decision}
 
 -- a wire that names its sender names a member of the group of n
 abbrev pub NamesMember : ℕ → Wire → Type 0

@@ -16,8 +16,7 @@ use Rattle.ct_model.specs.Lawful.{IsPresent}
 use Rattle.ct_model.proofs.Basics.Tests.{false_not}
 
 pub or_else-none : (o rest : Option Refusal) → or_else o rest ≡ None → (o ≡ None) × (rest ≡ None)
-or_else-none None rest h = (refl, h)
-or_else-none (Some r) rest h = absurd (cc)
+or_else-none o rest h = grind arith
 
 -- where no test fires, the first doesn't and no later one does
 pub first_fault-none : (test : Test) (rest : List Test) → first_fault (test ∷ rest) ≡ None →

@@ -1,5 +1,5 @@
 -- What a step sends of messages and decisions, and what it adds to what its member got.
-use Rattle.std.proofs.Common.{◌≡◌, ℕ, cond, List, [], ◌∷◌, refl, inl, inr, ◌⊎◌, Some}
+use Rattle.std.proofs.Common.{arith, ◌≡◌, ℕ, cond, List, [], ◌∷◌, refl, inl, inr, ◌⊎◌, Some}
 use Rattle.ct_names.specs.Group.{coordinator, IsMember}
 use Rattle.ct_names.specs.Membership.{IsIn}
 use Rattle.ct_names.proofs.Lists
@@ -7,7 +7,7 @@ use Rattle.ct_model.specs.declared.step.Step.{Step}
 use Rattle.ct_model.specs.Actor.{actor}
 use Rattle.ct_model.specs.AtValue.{Wire, Mail}
 use Rattle.ct_model.specs.Setting.{Setting}
-use Rattle.ct_model.specs.declared.wire.Wire.TheVariants.{Data, Est, Prop, Ack, Nack, Dec}
+use Rattle.ct_model.specs.declared.wire.Wire.TheVariants.{Data, Dec}
 use Rattle.ct_model.specs.declared.mail.Mail.TheVariants.{Nobody, All}
 use Rattle.ct_model.specs.State.{State, member}
 use Rattle.ct_model.specs.Next.{Outcome, plain, row, submit, receive, begin, turned, deliver, follow, is_relayed}
@@ -15,7 +15,6 @@ use Rattle.ct_model.proofs.Consensus.Facts.{Holds}
 use Rattle.ct_model.proofs.Consensus.Sent.{Sent, Carries, Sent-wire}
 use Rattle.ct_model.proofs.Steps.Shapes.{by_shape}
 use Rattle.ct_model.proofs.Steps.Mail.{IsSending, row-sends}
-use Rattle.ct_model.proofs.Steps.Mail.IsSending.{nothing, message, relay, estimate, proposal, ack, nack, decision}
 
 -- a wire that p got in the step; where it is relayed, the step sends it to all
 pub record IsGotNow (s : Setting) (g : State) (p : ℕ) (o : Outcome) (w : Wire) : Type 0 where
@@ -53,17 +52,7 @@ pub record IsMade (s : Setting) (g : State) (p : ℕ) (o : Outcome) : Type 0 whe
 
 sending-owned : (s : Setting) (g : State) (p : ℕ) (mail : Mail) → Holds s g → IsMember s.members p → IsSending s g p (member g p) mail →
     (w : Wire) → IsShared w → Carries mail w → IsOwned s g p mail w
-sending-owned s g p mail holds is (nothing e) w shared c = absurd (rw e at c)
-sending-owned s g p mail holds is (message new origin e) w shared c =
-    let same : w ≡ Data new = rw e at c in (inr (rw same origin), rw same e)
-sending-owned s g p mail holds is (relay x sent relayed e) w shared c = let same : w ≡ x = rw e at c in (inl (rw same sent), rw same e)
-sending-owned s g p mail holds is (estimate k r v ts e) w shared c = let same : w ≡ Est k r p v ts = rw e at c in absurd (rw same at shared)
-sending-owned s g p mail holds is (proposal k r v e) w shared c = let same : w ≡ Prop k r v = rw e at c in absurd (rw same at shared)
-sending-owned s g p mail holds is (ack k r e) w shared c = let same : w ≡ Ack k r p = rw e at c in absurd (rw same at shared)
-sending-owned s g p mail holds is (nack k r e) w shared c = let same : w ≡ Nack k r p = rw e at c in absurd (rw same at shared)
-sending-owned s g p mail holds is (decision d at tallies e) w shared c =
-    let same : w ≡ Dec (member g p).last d.round d.estimate = rw e at c in
-    (inr (rw same ((holds.sound p is d at).tallies tallies)), rw same e)
+sending-owned s g p mail holds is h w shared c = grind (arith, holds.sound p is)
 
 gets-nothing : (s : Setting) (g : State) (p : ℕ) (o : Outcome) → o.member.got ≡ (member g p).got → IsGetting s g p o
 gets-nothing s g p o same = record { more = λ w h. rw same h; got_now = λ w h. inl (rw same at h) }

@@ -1,5 +1,5 @@
 -- What has been sent and received, kept by every step.
-use Rattle.std.proofs.Common.{◌≡◌, ℕ, false, cond, not, ◌==◌, List, [], ◌∷◌, ◌++◌, Some, refl, sym, ap, ◌∙◌, subst}
+use Rattle.std.proofs.Common.{arith, ◌≡◌, ℕ, false, cond, not, ◌==◌, List, [], ◌∷◌, ◌++◌, Some, refl, sym, ap, ◌∙◌, subst}
 use Rattle.std.proofs.Common.{inl, inr, ◌⊎◌, eqb-true, length, length-append, replicate}
 use Rattle.std.proofs.lemmas.Bool.{and_cases}
 use Rattle.std.proofs.lemmas.List.{length-replicate}
@@ -44,14 +44,10 @@ like-same (Dec k r v) shared = (v, refl)
 like-same _ shared = shared
 
 like-shared : (w x : Wire) → IsLike w x → IsShared x
-like-shared (Data m) x same = rw same tt
-like-shared (Dec k r v) x same = rw same.1 tt
-like-shared _ x same = absurd same
+like-shared w x same = grind arith
 
 like-trans : (w x y : Wire) → IsLike w x → IsLike x y → IsLike w y
-like-trans (Data m) x y a b = rw a at b
-like-trans (Dec k r v) x y a b = rw a.1 at b
-like-trans _ x y a b = absurd a
+like-trans w x y a b = grind arith
 
 -- a step of x sent q something like the wire
 pub record IsSpread (from : List ℕ) (sent : List Envelope) (x q : ℕ) (w : Wire) : Type 0 where

@@ -150,17 +150,11 @@ pub in_members : (s : Setting) (g : State) (p : ℕ) → length g.members ≡ s.
 in_members s g p size group = grind (arith, nat_tests)
 
 relay_carries : (list : List Message) (b : Bool) (w : Wire) → CarriesOne list w → MailCarries list (if b then All w else Nobody)
-relay_carries list true w h = h
-relay_carries list false w h = tt
+relay_carries list b w h = grind arith
 
 joined_known : (list known : List Message) (w : Wire) → CarriesOne known w → ((m : Message) → has list m ≡ true → has known m ≡ true) →
     (m : Message) → has (joined_by list w) m ≡ true → has known m ≡ true
-joined_known list known (Data x) c old m h = go (has list x) h
-  where
-    go : (b : Bool) → has (if b then list else list ++ x ∷ []) m ≡ true → has known m ≡ true
-    go true h = old m h
-    go false h = elim (known_push list m x h) [ inl a ↦ old m a | inr e ↦ rw e c ]
-joined_known list known _ c old m h = old m h
+joined_known list known w c old m h = grind (arith, known_push list m, old)
 
 -- a turn sends no message
 turn_carries : (list : List Message) (n p : ℕ) (m : Member) (a : Move) (c : Standing) (t : Turn) → turn_at n p m a c ≡ Some t

@@ -1,5 +1,5 @@
 -- A step that closes an instance: how many batches there are after it, and which limit it passes.
-use Rattle.std.proofs.Common.{◌≡◌, ℕ, ◌+◌, ◌-◌, ◌≤◌, ◌<◌, Bool, true, false, List, [], ◌∷◌, length, refl, ap, sym, ◌∙◌, arith, Some}
+use Rattle.std.proofs.Common.{◌≡◌, ℕ, ◌+◌, ◌-◌, ◌≤◌, ◌<◌, Bool, false, List, [], ◌∷◌, length, refl, ap, sym, ◌∙◌, arith, Some}
 use Rattle.std.specs.Prelude.{nat_lt, if◌then◌else◌}
 use Rattle.std.proofs.lemmas.List.{length_push}
 use Rattle.std.proofs.lemmas.Bool.Decides.{nat_tests}
@@ -43,8 +43,7 @@ module _ (w : Rehearsal) (step : Step) (k : ℕ) (v : Value) (law : IsLawful w) 
       ∙ ap (λ j. if nat_lt (length (order (state_of w))) j then j else length (order (state_of w))) more
 
   larger : (b : Bool) (cells old new : ℕ) → b ≡ nat_lt old new → old ≤ cells → nat_lt cells (if b then new else old) ≡ nat_lt cells new
-  larger true cells old new e few = refl
-  larger false cells old new e few = grind arith
+  larger b cells old new e few = grind arith
 
   pub limit-close : limit w step ≡ or_else (first_fault
       (at (Full Instances) (nat_lt MAX_INSTANCES k)

@@ -1,5 +1,5 @@
 -- What the row of a step sends.
-use Rattle.std.proofs.Common.{◌≡◌, ℕ, ◌+◌, Bool, true, false, Some, refl, subst}
+use Rattle.std.proofs.Common.{arith, ◌≡◌, ℕ, ◌+◌, Bool, true, false, Some, refl, subst}
 use Rattle.std.specs.Prelude.{if◌then◌else◌}
 use Rattle.ct_names.specs.Group.{coordinator}
 use Rattle.ct_names.specs.Message.{Message}
@@ -70,5 +70,4 @@ module _ (s : Setting) (g : State) (p : ℕ) (m : Member) where
 
 -- what is sent if a test passes
 pub carried-if : (b : Bool) (w x : Wire) → Carries (if b then All w else Nobody) x → (b ≡ true) × (x ≡ w)
-carried-if true w x c = (refl, c)
-carried-if false w x c = absurd c
+carried-if b w x c = grind arith

@@ -1,5 +1,5 @@
 -- Receive.
-use Rattle.std.proofs.Common.{◌≡◌, ℕ, Bool, true, false, length, refl, ap, ◌∙◌, Some, None}
+use Rattle.std.proofs.Common.{arith, ◌≡◌, ℕ, Bool, true, false, length, refl, ap, ◌∙◌, Some, None}
 use Rattle.std.specs.Prelude.{option_map, if◌then◌else◌}
 use Rattle.ct_names.specs.declared.refusal.Refusal.TheVariants.{NotWaiting}
 use Rattle.ct_model.specs.declared.step.Step.TheVariants.{Receive}
@@ -27,8 +27,7 @@ pub receive_outcome-is : (w : Rehearsal) (p : ℕ) (x : Wire) → receive_outcom
 receive_outcome-is w p x = unfold receive_outcome in refl
 
 pub either_number : (n : ℕ) (x : Wire) (b : Bool) → length (envelopes n (if b then All x else Nobody)) ≡ (if b then n else 0)
-either_number n x true = length-all x n
-either_number n x false = refl
+either_number n x b = grind (arith, length-all x n)
 
 pub cause-receive-away : (w : Rehearsal) (p k : ℕ) → IsPresent w p → is_waiting w p k ≡ false → cause w (Receive p k) ≡ Some NotWaiting
 cause-receive-away w p k present away = cause-failed w (Receive p k) NotWaiting (is_waiting w p k) refl present away

@@ -1,5 +1,5 @@
 -- What holds of each step of a round alike.
-use Rattle.std.proofs.Common.{◌≡◌, ℕ, ◌+◌, ◌≤◌, Bool, true, false, not, length, subst, arith, List, [], ◌∷◌, ◌++◌, refl, ap, sym, ◌∙◌}
+use Rattle.std.proofs.Common.{◌≡◌, ℕ, ◌+◌, ◌≤◌, Bool, not, length, subst, arith, List, [], ◌∷◌, ◌++◌, refl, ap, sym, ◌∙◌}
 use Rattle.std.proofs.Common.{Option, Some, None}
 use Rattle.std.specs.Prelude.{nat_lt, ◌&&◌, is_some, option_map, if◌then◌else◌}
 use Rattle.ct_names.specs.declared.limit.Limit.TheVariants.{Rounds}
@@ -118,8 +118,7 @@ turn-free n p k d t c Conclude h = record {
 
 within-round : (enters : Bool) (after now : ℕ) → after ≡ (if enters then now + 1 else now) → now ≤ MAX_ROUNDS →
     nat_lt MAX_ROUNDS after ≡ (enters && nat_lt MAX_ROUNDS (now + 1))
-within-round true after now e few = ap (nat_lt MAX_ROUNDS) e
-within-round false after now e few = grind (arith, nat_tests)
+within-round enters after now e few = grind (arith, nat_tests)
 
 -- why it is refused then: a limit
 module _ (w : Rehearsal) (p : ℕ) (a : Move) where
