@@ -19,7 +19,8 @@ use Rattle.ct_model.proofs.Consensus.Sent.{Sent, Carries, Sent-new}
 use Rattle.ct_model.proofs.Consensus.Facts.{Reached, HasRound, HasTs, HasChosen, IsCarried, IsHeard, IsFounded, IsFoundedEst}
 use Rattle.ct_model.proofs.Consensus.Facts.{IsFoundedProp, IsFoundedAck, IsSound, Holds}
 use Rattle.ct_model.proofs.Consensus.Facts.Reached.{earlier, now}
-use Rattle.ct_model.proofs.Consensus.Growth.{IsOnward, Grows, IsProposed-grows, IsCarried-grows, IsLocked-grows, IsMajority-more, acked-more}
+use Rattle.ct_model.proofs.Consensus.Growth.{IsOnward, Grows, IsProposed-grows, IsCarried-grows, IsLocked-grows, IsMajority-more}
+use Rattle.ct_model.proofs.Consensus.Growth.{acked-more}
 use Rattle.ct_model.proofs.Consensus.Growth.Advance.{turns}
 use Rattle.ct_model.proofs.Consensus.Obligations.{IsAllowed, grows}
 use Rattle.ct_model.proofs.Consensus.Readings
