@@ -33,8 +33,8 @@ use Rattle.ct_instances.specs.Kept.{has_room_open}
 use Rattle.ct_world.proofs.Insides.{IsAllowed}
 use Rattle.ct_world.proofs.Members.{seat-same}
 use Rattle.ct_world.proofs.Proposals.{few-values}
-use Rattle.ct_world.proofs.Posts.{stepped-quiet}
-use Rattle.ct_world.proofs.Refines.{refined}
+use Rattle.ct_world.proofs.Posts.{left-plain}
+use Rattle.ct_world.proofs.Refines.{refined-quiet, seat-kept}
 
 some-mapped : {A B : Type 0} (f : A → B) (o : Option A) → is_some (option_map f o) ≡ is_some o
 some-mapped f o = grind arith
@@ -120,16 +120,8 @@ begun seat id = record seat { instances = opened seat.instances id; caster = rec
 
 begun_keeps : (s : Setting) {n p : ℕ} {values : List Value} {m : Member} {seat : Seat} → Keeps n values p m seat →
     Keeps n (values ++ proposed s m ∷ []) p (begin s p m).member (begun seat (length values))
-begun_keeps s {n} {p} {values} {m} {seat} k = record {
-  crashed = k.crashed;
-  me = k.me;
-  taken = k.taken;
-  received = k.received;
-  batches = k.batches;
-  table = k.table;
-  begun = ap (λ i. i + 1) k.begun;
-  instances = keeps-opened n values p m seat.instances (proposed s m) k.instances;
-}
+begun_keeps s {n} {p} {values} {m} {seat} k = seat-kept k k.crashed refl refl refl refl refl refl (ap (λ i. i + 1) k.begun)
+    (keeps-opened n values p m seat.instances (proposed s m) k.instances)
 
 pub nothing-some : {A : Type 0} (o : Option A) → is_some o ≡ false → o ≡ None
 nothing-some o e = grind arith
@@ -149,12 +141,14 @@ module _ {w : Rehearsal} {p : ℕ} {f : Fields} (may : IsAllowed w (Begin p) f) 
   begin_steps {new} seats sent lines values =
       let grown : new.book.values ≡ f.book.values ++ proposed w.setting (member (state_of w) p) ∷ [] =
       values ∙ ap (λ v. f.book.values ++ v ∷ []) (proposed-same w.setting may.keeps) in
-      refined may.world step.taken (stepped-quiet (begun (seat_of f.seats p) (length f.book.values)) refl (record {
+      refined-quiet may.world step.taken (left-plain may.world.lined refl sent lines) (record {
+        seat = begun (seat_of f.seats p) (length f.book.values);
+        named = refl;
         values = grown;
         seats = seats;
         keeps = rw grown (begun_keeps w.setting may.keeps);
         submitted = may.submitted;
-      }) refl sent lines)
+      })
 
   -- no instance is open at the seat, and fewer than 1,024 began
 

@@ -4,16 +4,14 @@ use Rattle.std.proofs.Common.{subst, arith, append-nil}
 use Rattle.std.specs.Prelude.{Option, ◌==◌, if◌then◌else◌}
 use Rattle.std.proofs.lemmas.List.{length-set}
 use Rattle.ct_names.specs.declared.limit.TheConstants.{MAX_ENVELOPES}
-use Rattle.ct_names.specs.Group.{is_member}
 use Rattle.ct_model.specs.declared.step.Step.TheVariants.{Receive}
 use Rattle.ct_model.specs.Cause.{cause, overflow}
 use Rattle.ct_model.specs.Counted.{NamesSomebody}
 use Rattle.ct_model.specs.Lawful.{is_waiting}
-use Rattle.ct_model.specs.Next.{receive, is_relayed}
+use Rattle.ct_model.specs.Next.{is_relayed}
 use Rattle.ct_model.specs.Rehearsal.{Rehearsal, state_of, extended}
 use Rattle.ct_model.specs.State.{member, at_serial}
-use Rattle.ct_model.specs.Waiting.{changed, without, serials_to}
-use Rattle.ct_model.specs.Waiting.LineChange.{Takes}
+use Rattle.ct_model.specs.Waiting.{without}
 use Rattle.ct_model.specs.Wire.{envelopes}
 use Rattle.ct_model.specs.declared.envelope.Envelope.{Envelope as AnyEnvelope}
 use Rattle.ct_model.specs.declared.mail.Mail.{Mail as AnyMail}
@@ -30,9 +28,9 @@ use Rattle.ct_world.specs.Seats.{HasReceived, CanReceive, is_passed_on, passed_o
 use Rattle.ct_world.specs.Kept.{Fields, IsWorld, IsActor, values_of, seat_of}
 use Rattle.ct_world.proofs.Insides.{IsAllowed}
 use Rattle.ct_world.proofs.Members.{seat-same}
-use Rattle.ct_world.proofs.Posts.{IsPosted, changed_line}
+use Rattle.ct_world.proofs.Posts.{IsPosted, left-changed}
 use Rattle.ct_world.proofs.Receipts.{receive_keeps, passes}
-use Rattle.ct_world.proofs.Refines.{IsStepped, refined}
+use Rattle.ct_world.proofs.Refines.{refined}
 use Rattle.ct_world.proofs.Waits.{IsAwaited, awaited-is}
 
 -- why it is refused
@@ -113,39 +111,18 @@ module _ {w : Rehearsal} {p k : ℕ} {f : Fields} {x : AnyEnvelope ℕ} (may : I
 
   module _ {new : Fields} {seat : Seat} {mail : AnyMail ℕ} {left : NetworkView} (t : HasTaken w.setting.members p k f new x seat mail left)
     where
-      lined : length left.lines ≡ w.setting.members
-      lined = left_lined _ _ _ t.lines may.world.lined
-
-      line : (q : ℕ) → is_member w.setting.members q ≡ true → line_at new.network.lines q ≡ changed q (Takes p k)
-          (line_at f.network.lines q)
-          ++ serials_to q (length f.network.sent) (envelopes w.setting.members mail)
-      line q group =
-          t.posted.joined q (ap (λ n. is_member n q) lined ∙ group)
-          ∙ ap (λ n. line_at left.lines q ++ serials_to q (length left.sent) (envelopes n mail)) lined
-          ∙ ap (λ (es : List (AnyEnvelope ℕ)). line_at left.lines q ++ serials_to q (length es) (envelopes w.setting.members mail))
-          t.sent
-          ∙ ap (λ ks. ks ++ serials_to q (length f.network.sent) (envelopes w.setting.members mail))
-          (ap (λ ls. line_at ls q) t.lines
-          ∙ changed_line f.network.lines w.setting.members p q (without k) may.world.lined may.in_group group)
-
-      stepped : IsStepped w (Receive p k) (receive_outcome w p carried.envelope.wire) f new
-      stepped = rw (receive_outcome-is w p carried.envelope.wire) (record {
-        posts = envelopes w.setting.members mail;
-        seat = seat;
-        values = t.values ∙ sym (append-nil f.book.values);
-        posted = rw t.values (named_posts f.book.values w.setting.members mail
-            (receive w.setting p (member (state_of w) p) carried.envelope.wire).mail
-            (rw (receive_outcome-is w p carried.envelope.wire) at (named_mail t.mail_is)));
-        sent = t.posted.sent ∙ ap (λ n. left.sent ++ envelopes n mail) lined ∙ ap (λ es. es ++ envelopes w.setting.members mail) t.sent;
-        lined = t.posted.lined ∙ lined ∙ sym may.world.lined;
-        line = line;
-        seats = t.seats;
-        keeps = rw t.values (receive_keeps may.keeps x.wire carried.envelope.wire names carried.somebody carried.known t.received);
-        submitted = t.received.submitted ∙ may.submitted;
-      })
-
       pub receive_steps : IsWorld (extended w (Receive p k)) new
-      receive_steps = refined may.world received_taken stepped
+      receive_steps = refined {mail = mail} {left = left} may.world received_taken
+          (left-changed (without k) (λ q line. refl) may.world.lined may.in_group t.sent t.lines)
+          (rw (receive_outcome-is w p carried.envelope.wire) (record {
+            seat = seat;
+            named = rw t.values (rw (receive_outcome-is w p carried.envelope.wire) at (named_mail t.mail_is));
+            values = t.values ∙ sym (append-nil f.book.values);
+            seats = t.seats;
+            keeps = rw t.values (receive_keeps may.keeps x.wire carried.envelope.wire names carried.somebody carried.known t.received);
+            submitted = t.received.submitted ∙ may.submitted;
+          }))
+          t.posted
 
 -- room for it
 pub receive_room : (seats : List Seat) (p : ℕ) (seat : Seat) {o : Option (AnyEnvelope ℕ)} {x : AnyEnvelope ℕ} → p - 1 < length seats →

@@ -29,7 +29,7 @@ use Rattle.ct_model.proofs.Record.Addressees.{addressed-step}
 use Rattle.ct_world.proofs.Insides.{IsAllowed}
 use Rattle.ct_model.specs.Waiting.{line_change}
 use Rattle.ct_model.specs.Waiting.LineChange.{Leaves}
-use Rattle.ct_world.proofs.Posts.{IsPosted, stepped-sending}
+use Rattle.ct_world.proofs.Posts.{IsPosted, left-plain}
 use Rattle.ct_world.proofs.Refines.{refined, seat-kept}
 
 -- the member's instances took a step of a round, with this mail; it is the step of the record
@@ -103,11 +103,11 @@ module _ {w : Rehearsal} {step : Step} {f : Fields} {kept : Kept} {mail : AnyMai
       new.seats ≡ set f.seats (actor step - 1) (record (seat_of f.seats (actor step)) { instances = kept }) →
       new.book.values ≡ f.book.values → IsPosted f.network new.network mail → IsWorld (extended w step) new
   turn_steps plain seats values posted =
-      refined may.world t.taken
-      (stepped-sending (record (seat_of f.seats (actor step)) { instances = kept }) may.world plain (record {
+      refined {mail = mail} {left = f.network} may.world t.taken (left-plain may.world.lined plain refl refl) (record {
+        seat = record (seat_of f.seats (actor step)) { instances = kept };
+        named = subst (λ vs. NamesMail vs mail t.turn.mail) (sym values) t.named;
         values = values ∙ sym (append-nil f.book.values);
         seats = seats;
-        keeps = rw values (seat-kept may.keeps may.keeps.crashed refl refl refl refl refl refl t.keeps);
+        keeps = rw values (seat-kept may.keeps may.keeps.crashed refl refl refl refl refl refl may.keeps.begun t.keeps);
         submitted = may.submitted;
-      })
-      (subst (λ vs. NamesMail vs mail t.turn.mail) (sym values) t.named) posted)
+      }) posted
