@@ -24,26 +24,20 @@ overflow_sub-member c = (prepared_in c.self.inside c.self.view_is c.self.invaria
 pub index_mut-seat-requires : goal.index_mut-seat-requires
 index_mut-seat-requires c = within_in c.self.inside (prepared_in c.self.inside c.self.view_is c.self.invariant c.requires)
 
-pub receive-mail-requires-clause-room : goal.receive-mail-requires-clause-room
-receive-mail-requires-clause-room c =
+pub receive-mail-requires : goal.receive-mail-requires
+receive-mail-requires c =
     let p = prepared_in c.self.inside c.self.view_is c.self.invariant c.requires in
-    subst (λ (s : Seat). CanReceive s c.unwrap-envelope.result.wire) (sym (seat_in c.self.inside p c.index_mut-seat.ensures.value))
-    ((ready_in c.self.inside c.self.view_is c.self.invariant c.requires).for_itself c.unwrap-envelope.result
-    (sym c.envelope.ensures ∙ c.unwrap-envelope.ensures))
-
-pub receive-mail-requires-clause-sender : goal.receive-mail-requires-clause-sender
-receive-mail-requires-clause-sender c =
-    received_named (prepared_in c.self.inside c.self.view_is c.self.invariant c.requires)
-    (sym c.envelope.ensures ∙ c.unwrap-envelope.ensures)
+    let there = sym c.envelope.ensures ∙ c.unwrap-envelope.ensures in
+    record {
+      room = subst (λ (s : Seat). CanReceive s c.unwrap-envelope.result.wire) (sym (seat_in c.self.inside p c.index_mut-seat.ensures.value))
+          ((ready_in c.self.inside c.self.view_is c.self.invariant c.requires).for_itself c.unwrap-envelope.result there);
+      sender = received_named p there;
+    }
 
 pub unwrap-envelope-requires : goal.unwrap-envelope-requires
 unwrap-envelope-requires c =
     ap is_some c.envelope.ensures ∙ awaited-some c.args.member c.args.serial c.self.invariant.world
     (receive_awaits (prepared_in c.self.inside c.self.view_is c.self.invariant c.requires))
-
-pub leave-requires-clause-member : goal.leave-requires-clause-member
-leave-requires-clause-member c =
-    lined_member c.args.member c.self.invariant.world (prepared_in c.self.inside c.self.view_is c.self.invariant c.requires).in_group
 
 -- the place that was found
 placed : (c : After-unwrap-place) → IsWithout c.args.serial (line_at c.self.inside.network.lines c.args.member) c.unwrap-place.result
@@ -53,8 +47,11 @@ placed c =
     (sym (c.place.ensures ∙ ap place_in c.take.ensures.value
     ∙ (ready_in c.self.inside c.self.view_is c.self.invariant c.requires).placed) ∙ c.unwrap-place.ensures)
 
-pub leave-requires-clause-there : goal.leave-requires-clause-there
-leave-requires-clause-there c = (placed (goal.at.leave-requires-clause-there c).After-unwrap-place).within
+pub leave-requires : goal.leave-requires
+leave-requires c = record {
+  member = lined_member c.args.member c.self.invariant.world (prepared_in c.self.inside c.self.view_is c.self.invariant c.requires).in_group;
+  there = (placed (goal.at.leave-requires c).After-unwrap-place).within;
+}
 
 pub post-sent-requires-clause-room : goal.post-sent-requires-clause-room
 post-sent-requires-clause-room c =

@@ -6,12 +6,11 @@ use Rattle.ct_world.proofs.LineSteps.{line_mail, line_steps}
 use Rattle.ct_world.proofs.Waits.{lined_member}
 use Rattle.ct_world.proofs.world.World.commit_repeat.Goals as goal
 
-pub put_back-requires-clause-room : goal.put_back-requires-clause-room
-put_back-requires-clause-room c = (ready_in c.self.inside c.self.view_is c.self.invariant c.requires).for_sending
-
-pub put_back-requires-clause-member : goal.put_back-requires-clause-member
-put_back-requires-clause-member c =
-    lined_member c.args.member c.self.invariant.world (prepared_in c.self.inside c.self.view_is c.self.invariant c.requires).in_group
+pub put_back-requires : goal.put_back-requires
+put_back-requires c = record {
+  room = (ready_in c.self.inside c.self.view_is c.self.invariant c.requires).for_sending;
+  member = lined_member c.args.member c.self.invariant.world (prepared_in c.self.inside c.self.view_is c.self.invariant c.requires).in_group;
+}
 
 pub join-requires : goal.join-requires
 join-requires c = omega (arith, (ready_in c.self.inside c.self.view_is c.self.invariant c.requires).for_step)
