@@ -67,11 +67,11 @@ module _ {w : Rehearsal} {p : ℕ} {seat : Seat} (a : IsActor w p seat) where
   open_is = open-same a.sits.keeps
 
   undecided_is : (k : ℕ) → is_none (decided (member (state_of w) p).got k) ≡ is_none (decision_at seat.instances k)
-  undecided_is k =
-      none-some (decided (member (state_of w) p).got k)
-      ∙ ap not (sym (named_is_some (values_of (state_of w)) (decision_at seat.instances k) (decided (member (state_of w) p).got k)
-      (a.sits.keeps.instances.decisions k)))
-      ∙ sym (none-some (decision_at seat.instances k))
+  undecided_is k = grind (
+    arith,
+    named_is_some (values_of (state_of w)) (decision_at seat.instances k) (decided (member (state_of w) p).got k)
+    (a.sits.keeps.instances.decisions k),
+  )
 
   batches_are : length seat.caster.batches ≡ length (member (state_of w) p).batches
   batches_are = ap length a.sits.keeps.batches ∙ length-map (member (state_of w) p).batches (λ (b : Batch). b.messages)
@@ -86,13 +86,7 @@ module _ {w : Rehearsal} {p : ℕ} {seat : Seat} (a : IsActor w p seat) where
       → (first_fault (own_tests w step) ≡ None → cause w step
       ≡ or_else (first_fault (limits_at k (length (member (state_of w) p).batches))) (overflow w 0))
       → cause w step ≡ delivery_cause w seat k
-  cause-delivery step k present own limited = go (is_none (decision_at seat.instances k)) refl
-    where
-      go : (b : Bool) → is_none (decision_at seat.instances k) ≡ b → cause w step ≡ delivery_cause w seat k
-      go true e =
-          cause-tested w step Undecided present (own ∙ ap (λ b. first_fault (at Undecided b ∷ [])) (undecided_is k ∙ e))
-          ∙ sym (ap (λ b. or_else (first_fault (at Undecided b ∷ limits_at k (length seat.caster.batches))) (overflow w 0)) e)
-      go false e = grind (arith, undecided_is k, batches_are)
+  cause-delivery step k present own limited = grind (arith, undecided_is k, batches_are, cause-tested w step Undecided present)
 
 -- the seat after a batch
 
@@ -117,14 +111,8 @@ closed_keeps {n} {p} {values} {m} {seat} k v last instances h is closed = record
   me = h.me;
   taken = h.taken;
   received = h.received;
-  batches =
-      ap (λ batch. seat.caster.batches ++ batch ∷ []) same
-      ∙ ap (λ list. list ++ batch_of m v ∷ []) h.batches
-      ∙ sym (map-append (λ (b : Batch). b.messages) m.batches (added ∷ []));
-  table =
-      ap (applied_all seat.table) same
-      ∙ ap (λ values. applied_all values (batch_of m v)) h.table
-      ∙ sym (table-more m.batches added);
+  batches = grind (arith, same, h.batches, map-append (λ (b : Batch). b.messages) m.batches (added ∷ []));
+  table = grind (arith, same, h.table, table-more m.batches added);
   begun = is;
   instances = closed;
 }
@@ -273,10 +261,5 @@ module _ {a : Inside} {step : Step} {k : ℕ} {after : Seat → Value → Seat} 
 pub posted_in : (a : Inside) {v : WorldView} {step : Step} {k : ℕ} {after : Seat → Value → Seat} (cells : List ℕ) {steps : List Step} {posting : Option Batch}
     (receipt : Option Posted) → view_in a ≡ v → IsDelivery a step k after → posting ≡ batch_in a.prepared → IsSet cells posting receipt
     → steps ≡ a.record.items ++ step ∷ [] → HasPosted cells v.rehearsal (record (rehearsal_in a) { steps = steps }) receipt
-posted_in a {v} {step} cells {steps} {posting} receipt view d is set pushed =
-    let w : Rehearsal = rehearsal_in a in
-    let posted : HasPosted cells w (extended w step) receipt =
-    has_posted cells w step (batch_in a.prepared) receipt (closed_lawful d.may d.due) d.room.posting (rw is at set) in
-    let new : HasPosted cells w (record w { steps = steps }) receipt =
-    subst (λ ss. HasPosted cells w (record w { steps = ss }) receipt) (sym pushed) posted in
-    subst (λ (x : WorldView). HasPosted cells x.rehearsal (record w { steps = steps }) receipt) view new
+posted_in a {step = step} cells receipt view d is set pushed = rw (← view, pushed)
+    (has_posted cells (rehearsal_in a) step (batch_in a.prepared) receipt (closed_lawful d.may d.due) d.room.posting (rw is at set))

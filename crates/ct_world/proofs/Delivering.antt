@@ -1,5 +1,5 @@
 -- Deliver: why it is refused, by the seat, and the seat after it.
-use Rattle.std.proofs.Common.{◌≡◌, ℕ, ◌+◌, ◌-◌, true, false, not, List, [], ◌∷◌, ◌++◌, length, set, refl, ap, sym, ◌∙◌, subst}
+use Rattle.std.proofs.Common.{arith, ◌≡◌, ℕ, ◌+◌, ◌-◌, true, false, not, List, [], ◌∷◌, ◌++◌, length, set, refl, ap, sym, ◌∙◌, subst}
 use Rattle.std.proofs.Common.{Option, Some, None, option_map}
 use Rattle.std.specs.Prelude.{nat_lt, is_some, is_none}
 use Rattle.std.specs.Option.{option_map_or}
@@ -37,11 +37,7 @@ module _ {w : Rehearsal} {p : ℕ} {seat : Seat} (a : IsActor w p seat) where
   m = member (state_of w) p
 
   pub deliver_idle : is_some seat.instances.part ≡ false → cause w (Deliver p) ≡ Some Idle
-  deliver_idle e =
-      let none : is_none m.current ≡ true = none-some m.current ∙ ap not (sym (open_is a) ∙ e) in
-      let due : Standing → List Test = λ c. at Undecided (is_none (decided m.got m.last)) ∷ [] in
-      cause-tested w (Deliver p) Idle a.present (ap first_fault (own_tests-is w (Deliver p))
-      ∙ ap (λ b. first_fault (at Idle b ∷ option_map_or due m.current [])) none)
+  deliver_idle e = cause-tested w (Deliver p) Idle a.present (grind (arith, own_tests-is w (Deliver p), open_is a))
 
   pub deliver_cause : is_some seat.instances.part ≡ true → cause w (Deliver p) ≡ delivery_cause w seat seat.instances.last
   deliver_cause e =

@@ -19,17 +19,13 @@ use Rattle.ct_world.proofs.Members.{apart, place}
 pub changed_line : (lines : List (List ℕ)) (n p q : ℕ) (change : List ℕ → List ℕ)
     → length lines ≡ n → is_member n p ≡ true → is_member n q ≡ true
     → line_at (set lines (p - 1) (change (line_at lines p))) q ≡ (if p == q then change (line_at lines q) else line_at lines q)
-changed_line lines n p q change lined here there =
-    elim (cases_eq q p) [
-      | inl e ↦
-          let all : List (List ℕ) = set lines (p - 1) (change (line_at lines p)) in
-          subst (λ r. line_at all r ≡ (if p == r then change (line_at lines r) else line_at lines r)) (sym e)
-          (get_or-set_same lines (p - 1) (change (line_at lines p)) [] (let a = place n p here in omega arith)
-          ∙ ap (λ b. if b then change (line_at lines p) else line_at lines p) (sym (self_number p)))
-      | inr ne ↦
-          get_or-set_other lines (p - 1) (q - 1) (change (line_at lines p)) [] (apart n p q here there ne)
-          ∙ ap (λ b. if b then change (line_at lines q) else line_at lines q) (sym (number_other p q (λ e. ne (sym e))))
-    ]
+changed_line lines n p q change lined here there = grind (
+  arith,
+  get_or-set_same lines (p - 1) (change (line_at lines p)) [],
+  get_or-set_other lines (p - 1) (q - 1) (change (line_at lines p)) [],
+  place n p here,
+  apart n p q here there,
+)
 
 -- what the network's post did
 pub record IsPosted (old new : NetworkView) (mail : AnyMail ℕ) : Type 0 where

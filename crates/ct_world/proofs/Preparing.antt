@@ -29,10 +29,8 @@ roomier_in a {step} p seat here same values sent lines seats = world-roomier p.w
 -- still no step is prepared
 pub unprepared_in : (a : Inside) {v : WorldView} {steps : List Step} {new : Fields} → view_in a ≡ v → v.prepared ≡ None →
     steps ≡ a.record.items → IsWorld (rehearsal_in a) new → IsKept (record (rehearsal_in a) { steps = steps }) a.prepared new
-unprepared_in a {v} {steps} {new} view none same world = record {
-  world = subst (λ ss. IsWorld (record (rehearsal_in a) { steps = ss }) new) (sym same) world;
-  ready = λ s e. some-none s (sym (ap (λ (x : WorldView). x.prepared) view ∙ none) ∙ e);
-}
+unprepared_in a view none same world =
+    rw same (record { world = world; ready = λ s e. some-none s (sym (ap (λ (x : WorldView). x.prepared) view ∙ none) ∙ e) })
 
 -- what a step has that needs no room of its own
 pub no_room : (w : Rehearsal) (f : Fields) (prepared : Option Prepared) (step : Step) → NeedsNoRoom step → HasOwnRoom w f step prepared

@@ -110,9 +110,7 @@ module _ {w : Rehearsal} {p : ℕ} {seat : Seat} (a : IsActor w p seat) where
   pub begin_free : is_some seat.instances.part ≡ false → nat_lt 0 (length (cast_undelivered seat.caster)) ≡ true →
       seat.instances.last < MAX_INSTANCES → cause w (Begin p) ≡ overflow w 0
   begin_free e f few =
-      let last : seat.instances.last ≡ (member (state_of w) p).last = a.sits.keeps.instances.last in
-      let t : nat_lt MAX_INSTANCES ((member (state_of w) p).last + 1) ≡ false = grind (arith, nat_tests) in
-      cause-begin w p a.lawful a.present (tested e f) ∙ ap (λ b. or_else (first_fault (at (Full Instances) b ∷ [])) (overflow w 0)) t
+      grind (arith, nat_tests, a.sits.keeps.instances.last, cause-begin w p a.lawful a.present (tested e f))
 
 -- the seat after its next instance was opened with a value
 abbrev pub begun : Seat → ℕ → Seat

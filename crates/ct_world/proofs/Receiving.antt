@@ -3,7 +3,6 @@ use Rattle.std.proofs.Common.{◌≡◌, ℕ, ◌+◌, ◌-◌, ◌<◌, ◌≤�
 use Rattle.std.proofs.Common.{subst, arith, append-nil}
 use Rattle.std.specs.Prelude.{Option, ◌==◌, if◌then◌else◌}
 use Rattle.std.proofs.lemmas.List.{length-set}
-use Rattle.ct_names.specs.declared.limit.TheConstants.{MAX_ENVELOPES}
 use Rattle.ct_model.specs.declared.step.Step.TheVariants.{Receive}
 use Rattle.ct_model.specs.Cause.{cause, overflow}
 use Rattle.ct_model.specs.Counted.{NamesSomebody}
@@ -12,17 +11,15 @@ use Rattle.ct_model.specs.Next.{is_relayed}
 use Rattle.ct_model.specs.Rehearsal.{Rehearsal, state_of, extended}
 use Rattle.ct_model.specs.State.{member, at_serial}
 use Rattle.ct_model.specs.Waiting.{without}
-use Rattle.ct_model.specs.Wire.{envelopes}
 use Rattle.ct_model.specs.declared.envelope.Envelope.{Envelope as AnyEnvelope}
 use Rattle.ct_model.specs.declared.mail.Mail.{Mail as AnyMail}
 use Rattle.ct_model.specs.declared.mail.Mail.TheVariants.{Nobody, All}
-use Rattle.ct_model.proofs.Record.Frame.{length-after-sent}
 use Rattle.ct_model.proofs.Basics.Options.{some-same}
 use Rattle.ct_model.proofs.Steps.Receive.{receive_outcome, receive_outcome-is, receive_taken, receive_waits, cause-receive}
 use Rattle.ct_model.proofs.Record.Taken.{IsTaken}
 use Rattle.ct_network.specs.Network.{NetworkView, line_at}
 use Rattle.ct_instances.specs.Named.{NamesWire, NamesMail}
-use Rattle.ct_instances.proofs.Named.{named_all, named_sender, named_wire, named_posts, named_length}
+use Rattle.ct_instances.proofs.Named.{named_all, named_sender, named_wire}
 use Rattle.ct_world.specs.declared.seat.Seat.{Seat}
 use Rattle.ct_world.specs.Seats.{HasReceived, CanReceive, is_passed_on, passed_on}
 use Rattle.ct_world.specs.Kept.{Fields, IsWorld, IsActor, values_of, seat_of}
@@ -82,7 +79,7 @@ module _ {w : Rehearsal} {p k : ℕ} {f : Fields} {x : AnyEnvelope ℕ} (may : I
   -- the mail
 
   module _ {mail : AnyMail ℕ} (mail_is : mail ≡ passed_on w.setting.members (seat_of f.seats p).relay x.wire) where
-    named_mail : NamesMail f.book.values mail (receive_outcome w p carried.envelope.wire).mail
+    pub named_mail : NamesMail f.book.values mail (receive_outcome w p carried.envelope.wire).mail
     named_mail =
         let b : Bool = is_relayed w.setting p (member (state_of w) p).got carried.envelope.wire in
         rw (receive_outcome-is w p carried.envelope.wire)
@@ -90,24 +87,6 @@ module _ {w : Rehearsal} {p k : ℕ} {f : Fields} {x : AnyEnvelope ℕ} (may : I
         (sym (mail_is ∙ ap (λ t. if t then All x.wire else Nobody)
         (passes may.keeps w.setting x.wire carried.envelope.wire refl names carried.known)))
         (named_all f.book.values b x.wire carried.envelope.wire names))
-
-    pub number_posted : {n : ℕ} → n ≡ w.setting.members →
-        length (envelopes w.setting.members (receive_outcome w p carried.envelope.wire).mail) ≡ length (envelopes n mail)
-    number_posted members =
-        let mo = (receive_outcome w p carried.envelope.wire).mail in
-        sym (named_length f.book.values (envelopes w.setting.members mail) (envelopes w.setting.members mo)
-        (named_posts f.book.values w.setting.members mail mo named_mail))
-        ∙ ap (λ j. length (envelopes j mail)) (sym members)
-
-    pub few_posted : {n : ℕ} {sent : List (AnyEnvelope ℕ)} → n ≡ w.setting.members → sent ≡ f.network.sent →
-        length sent + length (envelopes n mail) ≤ MAX_ENVELOPES
-    few_posted members same =
-        let few = received_taken.within.few_envelopes in
-        let all = length-after-sent w.setting (state_of w) p (receive_outcome w p carried.envelope.wire) in
-        let number = number_posted members in
-        let was = named_length f.book.values f.network.sent (state_of w).sent may.world.sent in
-        let as_many = ap length same in
-        omega arith
 
   module _ {new : Fields} {seat : Seat} {mail : AnyMail ℕ} {left : NetworkView} (t : HasTaken w.setting.members p k f new x seat mail left)
     where

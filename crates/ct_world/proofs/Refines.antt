@@ -1,9 +1,10 @@
 -- The fields after a step are those of the longer record.
-use Rattle.std.proofs.Common.{◌≡◌, ℕ, ◌+◌, ◌-◌, ◌<◌, true, List, ◌++◌, length, map, set, refl, ap, sym, ◌∙◌, subst, arith, inl, inr}
+use Rattle.std.proofs.Common.{◌≡◌, ℕ, ◌+◌, ◌-◌, ◌<◌, ◌≤◌, true, List, ◌++◌, length, map, set, refl, ap, sym, ◌∙◌, subst, arith, inl, inr}
 use Rattle.std.specs.Prelude.{not}
 use Rattle.std.proofs.lemmas.Bool.{cases_eq}
 use Rattle.std.proofs.lemmas.List.{map-append, length-set}
 use Rattle.ct_names.specs.Group.{is_member}
+use Rattle.ct_names.specs.declared.limit.TheConstants.{MAX_ENVELOPES}
 use Rattle.ct_names.specs.Value.{Value}
 use Rattle.ct_model.specs.declared.step.Step.{Step}
 use Rattle.ct_model.specs.Actor.{actor}
@@ -17,7 +18,7 @@ use Rattle.ct_instances.specs.Keeping.{KeepsInstances}
 use Rattle.ct_model.specs.Next.{Outcome, after}
 use Rattle.ct_model.specs.Waiting.{line_change, changed, serials_to}
 use Rattle.ct_model.specs.Rehearsal.{Rehearsal, state_of, line_of, extended}
-use Rattle.ct_model.proofs.Record.Frame.{after-sent, after-submitted, member-same, member-other, submissions-append}
+use Rattle.ct_model.proofs.Record.Frame.{after-sent, after-submitted, length-after-sent, member-same, member-other, submissions-append}
 use Rattle.ct_model.proofs.Relay.Messages.{knows-next, in_members}
 use Rattle.ct_model.proofs.Record.Limits.{row-submits}
 use Rattle.ct_model.proofs.Record.Taken.{IsTaken, next-step, state-step, line-step, lawful-step}
@@ -172,3 +173,21 @@ module _ {w : Rehearsal} {step : Step} {o : Outcome} {f new : Fields} {mail : An
 pub refined-quiet : {w : Rehearsal} {step : Step} {o : Outcome} {f new : Fields} → IsWorld w f → IsTaken w step o →
     IsLeft step w.setting.members f.network new.network → IsTurnedInto w step o f new Nobody → IsWorld (extended w step) new
 refined-quiet {new = new} world taken l s = refined world taken l s (posted-nothing new.network)
+
+-- the mail of a step that is taken
+module _ {w : Rehearsal} {step : Step} {o : Outcome} {f : Fields} {n : ℕ} (mail : AnyMail ℕ) (world : IsWorld w f)
+    (taken : IsTaken w step o) (named : NamesMail f.book.values mail o.mail) (members : n ≡ w.setting.members) where
+  -- it is as many envelopes as with the values themselves
+  pub mail-number : length (envelopes w.setting.members o.mail) ≡ length (envelopes n mail)
+  mail-number = sym (ap (λ k. length (envelopes k mail)) members ∙ named_length f.book.values (envelopes w.setting.members mail)
+      (envelopes w.setting.members o.mail) (named_posts f.book.values w.setting.members mail o.mail named))
+
+  -- and they fit
+  pub mail-few : {sent : List (AnyEnvelope ℕ)} → sent ≡ f.network.sent → length sent + length (envelopes n mail) ≤ MAX_ENVELOPES
+  mail-few same =
+      let number = mail-number in
+      let few = taken.within.few_envelopes in
+      let all = length-after-sent w.setting (state_of w) (actor step) o in
+      let was = named_length f.book.values f.network.sent (state_of w).sent world.sent in
+      let as_many = ap length same in
+      omega arith

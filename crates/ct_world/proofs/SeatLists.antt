@@ -30,9 +30,6 @@ new-all n k seats e a = subst (λ j. AreNewSeats n j seats) e a
 pub same_length : (old new : List Seat) → AreSameSeats old new → length new ≡ length old
 same_length old new same = sym (length-map new content) ∙ ap length same ∙ length-map old content
 
-pub same-none : AreSameSeats [] []
-same-none = refl
-
 pub same-more : (old new : List Seat) (i : ℕ) (s t : Seat) → AreSameSeats (take i old) new → i < length old → s ≡ get_or old i s
     → content t ≡ content s → AreSameSeats (take (i + 1) old) (new ++ t ∷ [])
 same-more old new i s t a within is same =

@@ -42,11 +42,8 @@ module _ (values : List Value) (xs : List (AnyEnvelope ℕ)) (es : List Envelope
   pub carried_named : NamesDecision values (value_of x.wire) (carried es k)
   carried_named =
       let found = named_at values xs es k x names there in
-      let e : Envelope = found.0 in
-      let is : at_serial es k ≡ Some e = found.1 in
-      let same : NamesEnvelope values x e = found.2 in
-      named_value values x.wire e.wire (named_wire values x e same)
-      ∙ ap (option_map Some) (ap (λ (o : Option Envelope). option_and_then (λ z. value_of z.wire) o) (sym is))
+      named_value values x.wire found.0.wire (named_wire values x found.0 found.2)
+      ∙ ap (λ (o : Option Envelope). option_map Some (option_and_then (λ z. value_of z.wire) o)) (sym found.1)
 
   -- it carries none
   pub carried_none : value_of x.wire ≡ None → carried es k ≡ None

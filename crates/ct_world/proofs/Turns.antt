@@ -40,22 +40,6 @@ pub record IsTurned (w : Rehearsal) (step : Step) (f : Fields) (kept : Kept) (ma
       (record (member (state_of w) (actor step)) { current = Some turn.after }) kept
   pub taken : IsTaken w step (turned (member (state_of w) (actor step)) turn)
 
-pub turned_at : {w : Rehearsal} {step : Step} (by : Standing → Option Turn) {f : Fields} {kept : Kept} {mail : AnyMail ℕ} →
-    IsAllowed w step f
-    → row w.setting (state_of w) (actor step) (member (state_of w) (actor step)) step ≡ round_row (member (state_of w) (actor step)) by
-    → IsTurnedBy (member (state_of w) (actor step)) f.book.values by w.setting.members (actor step) (record { after = kept; mail = mail })
-    → IsTurned w step f kept mail
-turned_at {w} {step} by {f} {kept} {mail} may is t =
-    let m : Member = member (state_of w) (actor step) in
-    let stepped : Stepped = record { after = kept; mail = mail } in
-    record {
-      turn = t.turn;
-      named = t.mail;
-      keeps = t.keeps;
-      taken = taken_of w step (turned m t.turn) may.world.lawful may.allowed (names-free w step may.allowed)
-          (is ∙ turned-row m f.book.values by w.setting.members (actor step) stepped t);
-    }
-
 group_member : (n p : ℕ) → IsMember n p → is_member n p ≡ true
 group_member n p h = grind arith
 
@@ -71,13 +55,7 @@ named_addressed values n (All x) mail h to_member = tt
 
 module _ {w : Rehearsal} {step : Step} {f : Fields} {kept : Kept} {mail : AnyMail ℕ} (may : IsAllowed w step f)
     (t : IsTurned w step f kept mail) where
-  -- as many envelopes as with the values themselves
-  number : length (envelopes w.setting.members mail) ≡ length (envelopes w.setting.members t.turn.mail)
-  number = named_length f.book.values (envelopes w.setting.members mail) (envelopes w.setting.members t.turn.mail)
-      (named_posts f.book.values w.setting.members mail t.turn.mail t.named)
-
   -- what the network's post asks for
-
   pub turn_addressed : IsAddressed (length f.network.lines) mail
   turn_addressed =
       let some : 0 < w.setting.members = omega (arith, may.within, may.world.seated) in
@@ -85,18 +63,6 @@ module _ {w : Rehearsal} {step : Step} {f : Fields} {kept : Kept} {mail : AnyMai
       (named_addressed f.book.values w.setting.members mail t.turn.mail t.named
       (λ to x e. addressed-step w.setting (state_of w) (actor step) (member (state_of w) (actor step)) step
       (turned (member (state_of w) (actor step)) t.turn) to x some t.taken.row e))
-
-  pub turn_few : length f.network.sent + length (envelopes (length f.network.lines) mail) ≤ MAX_ENVELOPES
-  turn_few =
-      let few = t.taken.within.few_envelopes in
-      let grown = length-after-sent w.setting (state_of w) (actor step) (turned (member (state_of w) (actor step)) t.turn) in
-      let sent = named_length f.book.values f.network.sent (state_of w).sent may.world.sent in
-      let more = number in
-      rw may.world.lined (omega arith)
-
-  pub turn_number : {sent : ℕ} → sent ≡ length (envelopes (length f.network.lines) mail) →
-      length (envelopes w.setting.members t.turn.mail) ≡ sent
-  turn_number e = sym (e ∙ ap (λ n. length (envelopes n mail)) may.world.lined ∙ number)
 
   -- after the post the fields are those of the longer record
   pub turn_steps : {new : Fields} → line_change step ≡ Leaves →

@@ -1,10 +1,10 @@
-use Rattle.std.proofs.Common.{◌+◌, [], take, sym, subst}
+use Rattle.std.proofs.Common.{◌+◌, [], take, refl, sym, subst}
 use Rattle.ct_world.specs.Seats.{AreSameSeats}
-use Rattle.ct_world.proofs.SeatLists.{same-none, same-more, same-all}
+use Rattle.ct_world.proofs.SeatLists.{same-more, same-all}
 use Rattle.ct_world.proofs.seats.copy_seats.Goals as goal
 
 pub loop-i-init : goal.loop-i-init
-loop-i-init c = subst (λ copies. AreSameSeats [] copies) (sym c.new-copies.ensures.items) same-none
+loop-i-init c = subst (λ copies. AreSameSeats [] copies) (sym c.new-copies.ensures.items) refl
 
 pub loop-i-preserved : goal.loop-i-preserved
 loop-i-preserved c =

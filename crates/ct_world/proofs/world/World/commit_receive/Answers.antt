@@ -6,7 +6,8 @@ use Rattle.ct_world.specs.declared.seat.Seat.{Seat}
 use Rattle.ct_world.specs.Prepared.{place_in}
 use Rattle.ct_world.specs.Seats.{CanReceive, HasReceived, passed_on}
 use Rattle.ct_world.proofs.Insides.{prepared_in, ready_in, within_in, seat_in, done_in, kept_in}
-use Rattle.ct_world.proofs.Receiving.{few_posted, left_lined, number_posted, received_named, received_taken, receive_awaits, receive_steps}
+use Rattle.ct_world.proofs.Receiving.{left_lined, named_mail, received_named, received_taken, receive_awaits, receive_steps}
+use Rattle.ct_world.proofs.Refines.{mail-few, mail-number}
 use Rattle.ct_world.proofs.Waits.{awaited-some, lined_member}
 use Rattle.ct_world.proofs.Places.{IsWithout, placed_in, waits-placed}
 use Rattle.ct_world.proofs.world.World.commit_receive.Goals as goal
@@ -60,9 +61,9 @@ post-sent-requires-clause-room c =
 pub post-sent-requires-clause-few : goal.post-sent-requires-clause-few
 post-sent-requires-clause-few c =
     let p = prepared_in c.self.inside c.self.view_is c.self.invariant c.requires in
-    few_posted p (sym c.envelope.ensures ∙ c.unwrap-envelope.ensures)
-    (c.receive-mail.ensures.mail ∙ ap (λ (s : Seat). passed_on c.self.inside.group s.relay c.unwrap-envelope.result.wire)
-    (seat_in c.self.inside p c.index_mut-seat.ensures.value))
+    let there = sym c.envelope.ensures ∙ c.unwrap-envelope.ensures in
+    mail-few _ p.world (received_taken p there) (named_mail p there (c.receive-mail.ensures.mail ∙ ap (λ (s : Seat). passed_on c.self.inside.group s.relay c.unwrap-envelope.result.wire)
+    (seat_in c.self.inside p c.index_mut-seat.ensures.value)))
     (left_lined _ _ _ c.leave.ensures.lines p.world.lined) c.leave.ensures.sent
 
 pub join-requires : goal.join-requires
@@ -89,9 +90,8 @@ invariant_of-self c =
 pub returns-clause-done : goal.returns-clause-done
 returns-clause-done c =
     let p = prepared_in c.self.inside c.self.view_is c.self.invariant c.requires in
-    done_in c.self.inside c.self.view_is p c.join.ensures (received_taken p (sym c.envelope.ensures ∙ c.unwrap-envelope.ensures))
-    (number_posted p (sym c.envelope.ensures ∙ c.unwrap-envelope.ensures)
-    (c.receive-mail.ensures.mail ∙ ap (λ (s : Seat). passed_on c.self.inside.group s.relay c.unwrap-envelope.result.wire)
-    (seat_in c.self.inside p c.index_mut-seat.ensures.value))
-    (left_lined _ _ _ c.leave.ensures.lines p.world.lined)
-    ∙ sym c.post-sent.ensures.number)
+    let there = sym c.envelope.ensures ∙ c.unwrap-envelope.ensures in
+    done_in c.self.inside c.self.view_is p c.join.ensures (received_taken p there)
+    (mail-number _ p.world (received_taken p there) (named_mail p there (c.receive-mail.ensures.mail ∙ ap (λ (s : Seat). passed_on c.self.inside.group s.relay c.unwrap-envelope.result.wire)
+    (seat_in c.self.inside p c.index_mut-seat.ensures.value)))
+    (left_lined _ _ _ c.leave.ensures.lines p.world.lined) ∙ sym c.post-sent.ensures.number)
