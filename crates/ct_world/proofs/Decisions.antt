@@ -1,6 +1,6 @@
 -- The largest instance with a decision, from what is kept of a member's instances.
-use Rattle.std.proofs.Common.{◌≡◌, ℕ, ◌≤◌, ◌==◌, true, List, [], ◌∷◌, Option, Some, filter_map, fold, refl, sym, ap, subst, ◌∙◌}
-use Rattle.std.proofs.Common.{arith, inl, inr, ◌⊎◌, eq-eqb, eqb-true}
+use Rattle.std.proofs.Common.{◌≡◌, ℕ, ◌≤◌, ◌==◌, true, List, [], ◌∷◌, Option, Some, filter_map, fold, refl, sym, ap, subst, ◌∙◌, arith, inl}
+use Rattle.std.proofs.Common.{inr, ◌⊎◌, eq-eqb, eqb-true}
 use Rattle.std.specs.Prelude.{max, nat_eq, is_some, option_and_then}
 use Rattle.std.specs.List.{reduce}
 use Rattle.std.specs.Map.{keys_of, lookup}

@@ -1,7 +1,7 @@
 -- What Deliver and Follow share: why the decision of an instance is not delivered, what has to be there for it, and the seat
 -- after it.
-use Rattle.std.proofs.Common.{◌≡◌, ℕ, ◌+◌, ◌-◌, ◌≤◌, ◌<◌, Bool, true, false, not, List, [], ◌∷◌, ◌++◌, length, set, refl, ap, sym, ◌∙◌}
-use Rattle.std.proofs.Common.{subst, arith, append-nil, get_or, slice_get, Option, Some, None, Bor}
+use Rattle.std.proofs.Common.{◌≡◌, ℕ, ◌+◌, ◌-◌, ◌≤◌, ◌<◌, Bool, true, false, List, [], ◌∷◌, ◌++◌, length, set, refl, ap, sym, ◌∙◌, subst}
+use Rattle.std.proofs.Common.{arith, append-nil, get_or, slice_get, Option, Some, None, Bor}
 use Rattle.std.specs.Prelude.{nat_lt, is_some, is_none, if◌then◌else◌, option_and_then, option_copied, option_map, IfSome}
 use Rattle.std.specs.declared.alloc.Global.{Global}
 use Rattle.std.specs.declared.boxed.Box.{Box}
@@ -55,9 +55,6 @@ use Rattle.ct_world.proofs.Refines.{refined-quiet}
 
 -- why a decision is not delivered, by the seat
 
-pub none-some : {A : Type 0} (o : Option A) → is_none o ≡ not (is_some o)
-none-some o = grind arith
-
 pub standing-there : (o : Option Standing) → is_some o ≡ true → (c : Standing) × (o ≡ Some c)
 standing-there None e = absurd (cc)
 standing-there (Some c) e = (c, refl)
@@ -70,7 +67,7 @@ module _ {w : Rehearsal} {p : ℕ} {seat : Seat} (a : IsActor w p seat) where
   undecided_is k = grind (
     arith,
     named_is_some (values_of (state_of w)) (decision_at seat.instances k) (decided (member (state_of w) p).got k)
-    (a.sits.keeps.instances.decisions k),
+        (a.sits.keeps.instances.decisions k),
   )
 
   batches_are : length seat.caster.batches ≡ length (member (state_of w) p).batches

@@ -1,7 +1,6 @@
 -- What a step makes of the network.
-use Rattle.std.proofs.Common.{◌≡◌, ℕ, ◌-◌, true, List, [], ◌++◌, length, set, refl, ap, sym, ◌∙◌, subst, arith, append-nil, inl, inr}
+use Rattle.std.proofs.Common.{◌≡◌, ℕ, ◌-◌, true, List, [], ◌++◌, length, set, refl, ap, sym, ◌∙◌, arith, append-nil}
 use Rattle.std.specs.Prelude.{◌==◌, if◌then◌else◌}
-use Rattle.std.proofs.lemmas.Bool.{cases_eq}
 use Rattle.std.proofs.lemmas.List.{length-set, get_or-set_same, get_or-set_other}
 use Rattle.ct_names.specs.Group.{is_member}
 use Rattle.ct_model.specs.declared.step.Step.{Step}
@@ -11,7 +10,6 @@ use Rattle.ct_model.specs.Wire.{envelopes}
 use Rattle.ct_model.specs.declared.mail.Mail.TheVariants.{Nobody}
 use Rattle.ct_model.specs.Waiting.{line_change, changed, serials_to}
 use Rattle.ct_model.specs.Waiting.LineChange.{Leaves}
-use Rattle.ct_model.proofs.Basics.Tests.{self_number, number_other}
 use Rattle.ct_network.specs.Network.{NetworkView, line_at}
 use Rattle.ct_world.proofs.Members.{apart, place}
 

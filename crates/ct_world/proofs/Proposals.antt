@@ -1,5 +1,5 @@
 -- A step proposes one value at most, so there are no more values than steps.
-use Rattle.std.proofs.Common.{◌≡◌, ℕ, ◌+◌, ◌≤◌, List, [], ◌∷◌, length, refl, ap, sym, ◌∙◌, subst, arith, Some}
+use Rattle.std.proofs.Common.{◌≡◌, ℕ, ◌+◌, ◌≤◌, List, [], ◌∷◌, length, refl, ap, subst, arith, Some}
 use Rattle.std.proofs.lemmas.List.{length-append, length-map}
 use Rattle.ct_names.specs.declared.limit.TheConstants.{MAX_STEPS}
 use Rattle.ct_model.specs.declared.step.Step.{Step}

@@ -8,16 +8,14 @@ use Rattle.ct_names.specs.declared.refusal.Refusal.TheVariants.{Busy, Nothing, F
 use Rattle.ct_names.specs.declared.limit.Limit.TheVariants.{Instances}
 use Rattle.ct_names.specs.Value.{Value}
 use Rattle.ct_model.specs.declared.step.Step.TheVariants.{Begin}
-use Rattle.ct_model.specs.Received.{received}
 use Rattle.ct_model.specs.State.{Member, member, joined as model_joined}
 use Rattle.ct_names.specs.Batch.{Batch}
 use Rattle.ct_model.specs.Next.{begin, undelivered, proposed, is_empty}
 use Rattle.ct_model.specs.Setting.{Setting}
 use Rattle.ct_model.specs.Rehearsal.{Rehearsal, state_of, extended}
-use Rattle.ct_model.specs.Cause.{at, first_fault, or_else, cause, overflow}
+use Rattle.ct_model.specs.Cause.{at, first_fault, cause, overflow}
 use Rattle.ct_model.proofs.Record.Causes.{own_tests}
 use Rattle.ct_model.proofs.Steps.Begin.{IsBeginStep, begin_taken, cause-begin}
-use Rattle.ct_model.proofs.Record.Taken.{IsTaken}
 use Rattle.ct_model.proofs.Record.Limits.{own_tests-is, cause-tested}
 use Rattle.ct_abcast.specs.Batches.{joined}
 use Rattle.ct_abcast.specs.Cast.{undelivered as cast_undelivered}
@@ -127,9 +125,6 @@ nothing-some o e = grind arith
 module _ {w : Rehearsal} {p : ℕ} {f : Fields} (may : IsAllowed w (Begin p) f) where
   step : IsBeginStep w p
   step = begin_taken w p may.world.lawful may.allowed
-
-  pub begin_taking : IsTaken w (Begin p) (begin w.setting p (member (state_of w) p))
-  begin_taking = step.taken
 
   -- a Begin opens the instance and writes the value into the book
   pub begin_steps : {new : Fields} → new.seats ≡ set f.seats (p - 1) (begun (seat_of f.seats p) (length f.book.values)) →

@@ -1,6 +1,6 @@
 -- What is read off a world's fields.
-use Rattle.std.proofs.Common.{◌≡◌, ℕ, zero, suc, ◌-◌, ◌≤◌, List, map, slice_get, Option, Some, None, option_map, refl, ap}
-use Rattle.std.proofs.Common.{sym, ◌∙◌, subst, arith}
+use Rattle.std.proofs.Common.{◌≡◌, ℕ, zero, suc, ◌-◌, ◌≤◌, List, map, slice_get, Option, Some, None, option_map, refl, ap, sym, ◌∙◌, subst}
+use Rattle.std.proofs.Common.{arith}
 use Rattle.std.specs.Prelude.{option_and_then}
 use Rattle.std.proofs.lemmas.Option.{slice_get-map}
 use Rattle.ct_names.specs.Value.{Value}
@@ -13,7 +13,7 @@ use Rattle.ct_model.specs.Received.{received_by}
 use Rattle.ct_model.specs.Rehearsal.{Rehearsal, state_of}
 use Rattle.ct_abcast.specs.Batches.{joined}
 use Rattle.ct_table.specs.Table.{table}
-use Rattle.ct_instances.specs.Named.{NamesEnvelopes, NamesEnvelope, NamesDecision}
+use Rattle.ct_instances.specs.Named.{NamesEnvelopes, NamesDecision}
 use Rattle.ct_instances.proofs.Named.{named_without_value, named_at, named_value, named_wire, named_some, named_none}
 use Rattle.ct_world.specs.declared.seat.Seat.{Seat}
 use Rattle.ct_world.specs.Kept.{IsSeatOf}

@@ -1,5 +1,5 @@
 -- What is read of a member's part in its open instance, and what its seat keeps of it.
-use Rattle.std.proofs.Common.{◌≡◌, ℕ, List, Option, Some, None, option_map, slice_get, refl, ap, sym, ◌∙◌, subst, arith}
+use Rattle.std.proofs.Common.{◌≡◌, ℕ, List, Option, Some, None, option_map, slice_get, ap, sym, ◌∙◌, subst, arith}
 use Rattle.std.specs.Prelude.{option_and_then}
 use Rattle.ct_names.specs.Value.{Value}
 use Rattle.ct_model.specs.AtValue.{Standing}

@@ -1,29 +1,20 @@
 -- The five steps of a round: what the instances of the member and the network did is the step.
-use Rattle.std.proofs.Common.{◌≡◌, ℕ, ◌+◌, ◌-◌, ◌<◌, ◌≤◌, true, List, length, set, refl, ap, sym, ◌∙◌, subst, append-nil, arith, Option}
-use Rattle.std.proofs.Common.{Some}
-use Rattle.ct_names.specs.declared.limit.TheConstants.{MAX_ENVELOPES}
+use Rattle.std.proofs.Common.{◌≡◌, ℕ, ◌-◌, ◌<◌, true, List, length, set, refl, ap, sym, ◌∙◌, subst, append-nil, arith, Some}
 use Rattle.ct_names.specs.Group.{is_member, IsMember}
 use Rattle.ct_names.specs.Value.{Value}
 use Rattle.ct_model.specs.declared.step.Step.{Step}
 use Rattle.ct_model.specs.Actor.{actor}
-use Rattle.ct_model.specs.AtValue.{Wire, Mail, Standing, Turn}
+use Rattle.ct_model.specs.AtValue.{Wire, Mail, Turn}
 use Rattle.ct_model.specs.declared.mail.Mail.{Mail as AnyMail}
-use Rattle.ct_model.specs.Wire.{envelopes}
 use Rattle.ct_model.specs.declared.mail.Mail.TheVariants.{Nobody, One, All}
-use Rattle.ct_model.specs.State.{Member, member}
-use Rattle.ct_model.specs.Next.{row, round_row, turned}
+use Rattle.ct_model.specs.State.{member}
+use Rattle.ct_model.specs.Next.{row, turned}
 use Rattle.ct_model.specs.Rehearsal.{Rehearsal, state_of, extended}
-use Rattle.ct_model.proofs.Record.Frame.{length-after-sent}
-use Rattle.ct_model.proofs.Record.Allowed.{names-free}
-use Rattle.ct_model.proofs.Record.Limits.{taken_of}
 use Rattle.ct_model.proofs.Record.Taken.{IsTaken}
 use Rattle.ct_network.specs.Network.{IsAddressed}
 use Rattle.ct_instances.specs.Kept.{Kept}
 use Rattle.ct_instances.specs.Keeping.{KeepsInstances}
 use Rattle.ct_instances.specs.Named.{NamesMail}
-use Rattle.ct_instances.specs.Steps.{Stepped}
-use Rattle.ct_instances.proofs.Named.{named_posts, named_length}
-use Rattle.ct_instances.proofs.Turning.{IsTurnedBy, turned-row}
 use Rattle.ct_world.specs.Kept.{Fields, IsWorld, seat_of}
 use Rattle.ct_model.proofs.Record.Addressees.{addressed-step}
 use Rattle.ct_world.proofs.Insides.{IsAllowed}

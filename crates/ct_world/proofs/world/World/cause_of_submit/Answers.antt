@@ -1,4 +1,4 @@
-use Rattle.std.proofs.Common.{◌≡◌, ap, sym, ◌∙◌, arith}
+use Rattle.std.proofs.Common.{ap, sym, ◌∙◌, arith}
 use Rattle.ct_model.specs.declared.step.Step.TheVariants.{Submit}
 use Rattle.ct_model.specs.Cause.{overflow}
 use Rattle.ct_model.proofs.Record.Causes.{cause-absent}

@@ -1,4 +1,4 @@
-use Rattle.std.proofs.Common.{◌≡◌, ℕ, List, None, Some, Bor, ap, option_map, ◌∙◌, slice_get}
+use Rattle.std.proofs.Common.{ℕ, List, None, Some, Bor, ap, option_map, ◌∙◌, slice_get}
 use Rattle.ct_names.specs.Message.{Message}
 use Rattle.ct_names.specs.Value.{Value}
 use Rattle.ct_world.proofs.Standings.{heard_none, heard_some}
