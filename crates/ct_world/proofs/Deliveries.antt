@@ -144,14 +144,7 @@ module _ {w : Rehearsal} {step : Step} {f : Fields} {k : ℕ} (may : IsAllowed w
 
   pub has_value : (seat : Seat) (i : ℕ) → seat ≡ seat_for f step → i ≡ k
       → is_some (option_and_then (value_at f.book.values) (decision_at seat.instances i)) ≡ true
-  has_value seat i here is =
-      ap (λ (s : Seat). is_some (option_and_then (value_at f.book.values) (decision_at s.instances i))) here
-      ∙ ap (λ j. is_some (option_and_then (value_at f.book.values) (decision_at (seat_for f step).instances j))) is
-      ∙ go (decision_at (seat_for f step).instances k) refl
-    where
-      go : (o : Option ℕ) → decision_at (seat_for f step).instances k ≡ o → is_some (option_and_then (value_at f.book.values) o) ≡ true
-      go None e = absurd (let none = sym (ap is_some e) ∙ has_decision in cc)
-      go (Some id) e = ap is_some (value_is id e)
+  has_value seat i here is = grind (arith, has_decision, value_is)
 
   -- what the step posts: by how many batches its seat has
   joins_posting : {posted : ℕ} {posting : Option Batch} → posted ≡ length (order (state_of w)) →
@@ -181,7 +174,8 @@ module _ {w : Rehearsal} {step : Step} {f : Fields} {k : ℕ} (may : IsAllowed w
   pub delivery_room : {new : Fields} {i id posted : ℕ} {made : Option Prepared} (of : ℕ → ℕ) → k ≡ of (seat_for f step).instances.last
       → (seat : Seat) → content seat ≡ content (seat_for f step) → new.seats ≡ set f.seats (actor step - 1) seat
       → new.book.values ≡ f.book.values → posted ≡ length (order (state_of w)) → i ≡ k → number_in made ≡ Some id
-      → IsDeliverable f.book.values seat i posted id (batch_in made) → HasDeliveryRoom w new step (of (seat_for new step).instances.last) made
+      → IsDeliverable f.book.values seat i posted id (batch_in made)
+      → HasDeliveryRoom w new step (of (seat_for new step).instances.last) made
   delivery_room {new} {i} {id} {posted} {made} of of_last seat kept set_is values count instance is found =
       let ready : IsDeliverable f.book.values seat k posted id (batch_in made) =
       subst (λ j. IsDeliverable f.book.values seat j posted id (batch_in made)) instance found in
@@ -255,8 +249,9 @@ module _ {a : Inside} {step : Step} {k : ℕ} {after : Seat → Value → Seat} 
             (d.room.messages id v.now (sym from ∙ is) (sym got ∙ ap option_copied there))
 
 -- what such a step posts, where the record has it at its end
-pub posted_in : (a : Inside) {v : WorldView} {step : Step} {k : ℕ} {after : Seat → Value → Seat} (cells : List ℕ) {steps : List Step} {posting : Option Batch}
-    (receipt : Option Posted) → view_in a ≡ v → IsDelivery a step k after → posting ≡ batch_in a.prepared → IsSet cells posting receipt
+pub posted_in : (a : Inside) {v : WorldView} {step : Step} {k : ℕ} {after : Seat → Value → Seat} (cells : List ℕ)
+    {steps : List Step} {posting : Option Batch} (receipt : Option Posted) → view_in a ≡ v → IsDelivery a step k after → posting ≡ batch_in
+    a.prepared → IsSet cells posting receipt
     → steps ≡ a.record.items ++ step ∷ [] → HasPosted cells v.rehearsal (record (rehearsal_in a) { steps = steps }) receipt
 posted_in a {step = step} cells receipt view d is set pushed = rw (← view, pushed)
     (has_posted cells (rehearsal_in a) step (batch_in a.prepared) receipt (closed_lawful d.may d.due) d.room.posting (rw is at set))

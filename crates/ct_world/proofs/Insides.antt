@@ -1,5 +1,6 @@
 -- The fields of a world, taken together.
-use Rattle.std.proofs.Common.{◌≡◌, ℕ, ◌+◌, ◌-◌, ◌<◌, ◌≤◌, true, List, [], ◌∷◌, ◌++◌, length, get_or, refl, ap, ◌∙◌, sym, subst, Some, None, arith}
+use Rattle.std.proofs.Common.{◌≡◌, ℕ, ◌+◌, ◌-◌, ◌<◌, ◌≤◌, true, List, [], ◌∷◌, ◌++◌, length, get_or, refl, ap, ◌∙◌, sym, subst, Some, None}
+use Rattle.std.proofs.Common.{arith}
 use Rattle.std.specs.Prelude.{option_map, vec_len, vec_capacity}
 use Rattle.ct_names.specs.Group.{is_member}
 use Rattle.ct_model.specs.declared.step.Step.{Step}
@@ -38,6 +39,7 @@ pub record IsAllowed (w : Rehearsal) (step : Step) (f : Fields) : Type 0 where
   pub world : IsWorld w f
   pub allowed : cause w step ≡ None
   pub in_group : is_member w.setting.members (actor step) ≡ true
+  pub lined : is_member (length f.network.lines) (actor step) ≡ true
   pub low : 1 ≤ actor step
   pub within : actor step - 1 < length f.seats
   pub keeps : Keeps w.setting.members f.book.values (actor step) (member (state_of w) (actor step)) (seat_of f.seats (actor step))
@@ -49,17 +51,15 @@ IsAllowedIn a step = IsAllowed (rehearsal_in a) step (fields_in a)
 allowed_at : {w : Rehearsal} {step : Step} {f : Fields} → IsWorld w f → cause w step ≡ None → IsAllowed w step f
 allowed_at {w} {step} world allowed =
     let present = (cause-none w step allowed).present in
-    let within = place w.setting.members (actor step) present.in_group in
-    let count = world.submitted (actor step) present.in_group in
-    let none = submissions-none (actor step) in
     record {
       world = world;
       allowed = allowed;
       in_group = present.in_group;
+      lined = ap (λ n. is_member n (actor step)) world.lined ∙ present.in_group;
       low = member_low w.setting.members (actor step) present.in_group;
-      within = omega (arith, world.seated);
+      within = omega (arith, world.seated, place w.setting.members (actor step) present.in_group);
       keeps = world.seat (actor step) present.in_group;
-      submitted = omega arith;
+      submitted = omega (arith, world.submitted (actor step) present.in_group, submissions-none (actor step));
     }
 
 -- the step is allowed where its cause is None

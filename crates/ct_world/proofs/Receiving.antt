@@ -1,6 +1,6 @@
 -- Receive.
-use Rattle.std.proofs.Common.{◌≡◌, ℕ, ◌-◌, ◌<◌, Bool, true, not, List, length, set, filter, Some, refl, ap, sym, ◌∙◌, subst, append-nil}
-use Rattle.std.specs.Prelude.{Option, ◌==◌, if◌then◌else◌}
+use Rattle.std.proofs.Common.{◌≡◌, ℕ, ◌-◌, ◌<◌, Bool, true, List, length, set, Some, refl, ap, sym, ◌∙◌, subst, append-nil}
+use Rattle.std.specs.Prelude.{Option, if◌then◌else◌}
 use Rattle.std.proofs.lemmas.List.{length-set}
 use Rattle.ct_model.specs.declared.step.Step.TheVariants.{Receive}
 use Rattle.ct_model.specs.Cause.{cause, overflow}
@@ -46,16 +46,6 @@ pub left_lined : (lines : List (List ℕ)) {left : List (List ℕ)} {n : ℕ} (i
     length lines ≡ n → length left ≡ n
 left_lined lines i line is lined = ap length is ∙ length-set lines i line ∙ lined
 
--- what the step does to the fields
-pub record HasTaken (n p k : ℕ) (f new : Fields) (x : AnyEnvelope ℕ) (seat : Seat) (mail : AnyMail ℕ) (left : NetworkView) : Type 0 where
-  pub received : HasReceived (seat_of f.seats p) x.wire seat
-  pub mail_is : mail ≡ passed_on n (seat_of f.seats p).relay x.wire
-  pub lines : left.lines ≡ set f.network.lines (p - 1) (filter (λ other. not (other == k)) (line_at f.network.lines p))
-  pub sent : left.sent ≡ f.network.sent
-  pub posted : IsPosted left new.network mail
-  pub seats : new.seats ≡ set f.seats (p - 1) seat
-  pub values : new.book.values ≡ f.book.values
-
 -- a Receive that is allowed waits
 pub receive_awaits : {w : Rehearsal} {p k : ℕ} {f : Fields} → IsAllowed w (Receive p k) f → is_waiting w p k ≡ true
 receive_awaits {w} {p} {k} may = receive_waits w p k may.allowed
@@ -87,20 +77,23 @@ module _ {w : Rehearsal} {p k : ℕ} {f : Fields} {x : AnyEnvelope ℕ} (may : I
         (passes may.keeps w.setting x.wire carried.envelope.wire refl names carried.known)))
         (named_all f.book.values b x.wire carried.envelope.wire names))
 
-  module _ {new : Fields} {seat : Seat} {mail : AnyMail ℕ} {left : NetworkView} (t : HasTaken w.setting.members p k f new x seat mail left)
-    where
-      pub receive_steps : IsWorld (extended w (Receive p k)) new
-      receive_steps = refined {mail = mail} {left = left} may.world received_taken
-          (left-changed (without k) (λ q line. refl) may.world.lined may.in_group t.sent t.lines)
-          (rw (receive_outcome-is w p carried.envelope.wire) (record {
-            seat = seat;
-            named = rw t.values (rw (receive_outcome-is w p carried.envelope.wire) at (named_mail t.mail_is));
-            values = t.values ∙ sym (append-nil f.book.values);
-            seats = t.seats;
-            keeps = rw t.values (receive_keeps may.keeps x.wire carried.envelope.wire names carried.somebody carried.known t.received);
-            submitted = t.received.submitted ∙ may.submitted;
-          }))
-          t.posted
+  -- the fields after it
+  pub receive_steps : {new : Fields} {seat : Seat} {mail : AnyMail ℕ} {left : NetworkView} → HasReceived (seat_of f.seats p) x.wire seat
+      → mail ≡ passed_on w.setting.members (seat_of f.seats p).relay x.wire → left.sent ≡ f.network.sent
+      → left.lines ≡ set f.network.lines (p - 1) (without k (line_at f.network.lines p)) → IsPosted left new.network mail
+      → new.seats ≡ set f.seats (p - 1) seat → new.book.values ≡ f.book.values → IsWorld (extended w (Receive p k)) new
+  receive_steps {seat = seat} {mail = mail} {left = left} received mail_is sent lines posted seats values =
+      refined {mail = mail} {left = left} may.world received_taken
+      (left-changed (without k) (λ q line. refl) may.world.lined may.in_group sent lines)
+      (rw (receive_outcome-is w p carried.envelope.wire) (record {
+        seat = seat;
+        named = rw values (rw (receive_outcome-is w p carried.envelope.wire) at (named_mail mail_is));
+        values = values ∙ sym (append-nil f.book.values);
+        seats = seats;
+        keeps = rw values (receive_keeps may.keeps x.wire carried.envelope.wire names carried.somebody carried.known received);
+        submitted = received.submitted ∙ may.submitted;
+      }))
+      posted
 
 -- room for it
 pub receive_room : (seats : List Seat) (p : ℕ) (seat : Seat) {o : Option (AnyEnvelope ℕ)} {x : AnyEnvelope ℕ} → p - 1 < length seats →

@@ -30,7 +30,8 @@ pub deliver-requires : goal.deliver-requires
 deliver-requires c =
     let d = deliver_in c.self.inside c.self.view_is c.self.invariant c.requires in
     record {
-      «open» = ap (λ (s : Seat). is_some s.instances.part) (seat_in c.self.inside d.may c.index_mut-seat.ensures.value) ∙ deliver_open d.may;
+      «open» = ap (λ (s : Seat). is_some s.instances.part) (seat_in c.self.inside d.may c.index_mut-seat.ensures.value)
+          ∙ deliver_open d.may;
       fits = seat_fits d c.index_mut-seat.ensures.value;
       room = room_there d c.number.ensures c.unwrap-number.ensures c.get.result c.get.ensures c.unwrap.ensures
           c.index_mut-seat.ensures.value;
@@ -42,7 +43,8 @@ join-requires c = omega (arith, (ready_in c.self.inside c.self.view_is c.self.in
 pub invariant_of-self-2 : goal.invariant_of-self-2
 invariant_of-self-2 c =
     let d = deliver_in c.self.inside c.self.view_is c.self.invariant c.requires in
-    rw c.take.ensures.after (kept_in c.self.inside (Deliver c.args.member) c.join.ensures (delivery_steps d c.deliver.new.self c.index_mut-seat.ensures.value
+    rw c.take.ensures.after (kept_in c.self.inside (Deliver c.args.member) c.join.ensures
+    (delivery_steps d c.deliver.new.self c.index_mut-seat.ensures.value
     (value_same d c.number.ensures c.unwrap-number.ensures _ c.get.ensures c.unwrap.ensures) c.deliver.ensures refl refl refl refl))
 
 pub returns-clause-done : goal.returns-clause-done

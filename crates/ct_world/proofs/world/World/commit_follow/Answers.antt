@@ -48,7 +48,8 @@ join-requires c = omega (arith, (ready_in c.self.inside c.self.view_is c.self.in
 pub invariant_of-self-2 : goal.invariant_of-self-2
 invariant_of-self-2 c =
     let d = follow_in c.self.inside c.self.view_is c.self.invariant c.requires in
-    rw c.take.ensures.after (kept_in c.self.inside (Follow c.args.member) c.join.ensures (delivery_steps d c.follow.new.self c.index_mut-seat.ensures.value
+    rw c.take.ensures.after (kept_in c.self.inside (Follow c.args.member) c.join.ensures
+    (delivery_steps d c.follow.new.self c.index_mut-seat.ensures.value
     (value_same d c.number.ensures c.unwrap-number.ensures _ c.get.ensures c.unwrap.ensures) c.follow.ensures refl refl refl refl))
 
 pub returns-clause-done : goal.returns-clause-done

@@ -8,7 +8,6 @@ use Rattle.ct_network.specs.Network.{line_at}
 use Rattle.ct_world.specs.Prepared.{place_in}
 use Rattle.ct_world.proofs.Insides.{rehearsal_in, prepared_in, ready_in, done_in, kept_in}
 use Rattle.ct_world.proofs.LineSteps.{line_mail, line_steps}
-use Rattle.ct_world.proofs.Waits.{lined_member}
 use Rattle.ct_world.proofs.Places.{IsWithout, placed_in, waits-placed}
 use Rattle.ct_world.proofs.world.World.commit_lose.Goals as goal
 use Rattle.ct_world.proofs.world.World.commit_lose.Goals.{After-unwrap-place}
@@ -29,7 +28,7 @@ placed c =
 
 pub leave-requires : goal.leave-requires
 leave-requires c = record {
-  member = lined_member c.args.member c.self.invariant.world (prepared_in c.self.inside c.self.view_is c.self.invariant c.requires).in_group;
+  member = (prepared_in c.self.inside c.self.view_is c.self.invariant c.requires).lined;
   there = (placed (goal.at.leave-requires c).After-unwrap-place).within;
 }
 

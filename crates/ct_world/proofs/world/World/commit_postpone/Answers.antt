@@ -8,7 +8,6 @@ use Rattle.ct_network.specs.Network.{line_at}
 use Rattle.ct_world.specs.Prepared.{place_in}
 use Rattle.ct_world.proofs.Insides.{rehearsal_in, prepared_in, ready_in, done_in, kept_in}
 use Rattle.ct_world.proofs.LineSteps.{line_mail, line_steps, waits_once}
-use Rattle.ct_world.proofs.Waits.{lined_member}
 use Rattle.ct_world.proofs.Places.{IsWithout, placed_in, put-is, waits-placed}
 use Rattle.ct_world.proofs.world.World.commit_postpone.Goals as goal
 use Rattle.ct_world.proofs.world.World.commit_postpone.Goals.{After-unwrap-place}
@@ -30,7 +29,7 @@ placed c =
 pub postpone-requires : goal.postpone-requires
 postpone-requires c = record {
   room = (ready_in c.self.inside c.self.view_is c.self.invariant c.requires).for_sending;
-  member = lined_member c.args.member c.self.invariant.world (prepared_in c.self.inside c.self.view_is c.self.invariant c.requires).in_group;
+  member = (prepared_in c.self.inside c.self.view_is c.self.invariant c.requires).lined;
   there = (placed (goal.at.postpone-requires c).After-unwrap-place).within;
 }
 

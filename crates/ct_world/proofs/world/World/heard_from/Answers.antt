@@ -33,5 +33,6 @@ returns c =
     let sits = c.in_ok-seat.ensures.seat in
     let got = c.in_ok-set.ensures
     ∙ ap (λ (vs : List Value). slice_get vs c.in_ok-value.value) (world_seen c.self.inside c.self.view_is c.self.invariant).values in
-    rw (sits.in_group, c.items.ensures.value) (heard_some sits c.in_ok-current.ensures.value c.in_ok-inbox.ensures.value c.round-round.ensures
+    rw (sits.in_group, c.items.ensures.value)
+    (heard_some sits c.in_ok-current.ensures.value c.in_ok-inbox.ensures.value c.round-round.ensures
     c.args.from c.in_ok-value.value c.in_ok-ts.ts (Some c.in_ok-set.set.now) c.in_ok-value.ensures c.in_ok-ts.ensures got)

@@ -40,8 +40,8 @@ invariant_of-self-2 c =
     let last = c.last-instance.ensures ∙ ap (λ (s : Seat). s.instances.last) here in
     let posted = c.from-posted.ensures ∙ c.posted.ensures
     ∙ ap (λ (x : WorldView). length (order (state_of x.rehearsal))) (sym c.self.view_is) in
-    kept_ready c.self.inside (made.Deliver c.args.member c.in_ok-number.number c.in_ok-number.batch) p refl c.in_ok-reserve.ensures.record (omega (arith, c.in_ok-reserve.ensures.for_step))
-    c.in_ok-reserve.ensures.for_sending
+    kept_ready c.self.inside (made.Deliver c.args.member c.in_ok-number.number c.in_ok-number.batch) p refl
+    c.in_ok-reserve.ensures.record (omega (arith, c.in_ok-reserve.ensures.for_step)) c.in_ok-reserve.ensures.for_sending
     (roomier_in c.self.inside p _ here c.in_ok-number.ensures.same refl c.in_ok-reserve.ensures.sent c.in_ok-reserve.ensures.lines refl)
-    (delivery_room p (deliver_due p) (λ k. k) refl c.prepare_delivery.new.self (c.in_ok-number.ensures.same ∙ ap content here) refl refl posted
-    last refl c.in_ok-number.ensures.ok)
+    (delivery_room p (deliver_due p) (λ k. k) refl c.prepare_delivery.new.self
+    (c.in_ok-number.ensures.same ∙ ap content here) refl refl posted last refl c.in_ok-number.ensures.ok)
