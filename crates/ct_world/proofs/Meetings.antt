@@ -1,5 +1,5 @@
 -- A watcher that looks at the batches of the order.
-use Rattle.std.proofs.Common.{◌≡◌, ℕ, ◌+◌, ◌≤◌, List, Option, Some, length, map, ap, sym, ◌∙◌, arith}
+use Rattle.std.proofs.Common.{◌≡◌, ℕ, ◌+◌, List, Option, Some, map, ap, sym, ◌∙◌}
 use Rattle.std.specs.Prelude.{slice_get}
 use Rattle.std.proofs.lemmas.Option.{slice_get-map}
 use Rattle.ct_names.specs.Batch.{Batch}
@@ -10,8 +10,7 @@ use Rattle.ct_model.specs.Run.{run}
 use Rattle.ct_model.proofs.Basics.Options.{made-map}
 use Rattle.ct_model.proofs.Delivery.Prefixes.{order-instance}
 use Rattle.ct_board.specs.Known.{Keeps, Knows}
-use Rattle.ct_board.specs.Watched.{Watched}
-use Rattle.ct_board.proofs.Meeting.{KnowsBelow, IsMet, knows_more, met}
+use Rattle.ct_board.proofs.Meeting.{KnowsBelow, knows_more}
 
 same_batch : (b found : Batch) (instance : ℕ) (messages : List Message) → b.instance ≡ instance → b.messages ≡ messages →
     found ≡ record { instance = instance; messages = messages } → b ≡ found
@@ -28,9 +27,3 @@ finds_more w old new n found messages runs here is before keeps known =
     let same : t.from ≡ found = same_batch t.from found (n + 1) messages
     (order-instance w.setting w.steps (state_of w) runs n t.from t.is) t.gives is in
     knows_more (order (state_of w)) old new n found before keeps known (t.is ∙ ap Some same)
-
--- it found all of them
-pub is_met : (w : Rehearsal) (watcher : Watched) (n : ℕ) → length (order (state_of w)) ≤ n →
-    KnowsBelow (order (state_of w)) watcher.notes n → watcher.read ≤ length (order (state_of w)) →
-    watcher.told ≤ length (order (state_of w)) → IsMet (order (state_of w)) watcher
-is_met w watcher n all known read told = met (order (state_of w)) watcher (λ k b less at. known k b (omega arith) at) read told

@@ -8,8 +8,8 @@ use Rattle.ct_model.specs.Rehearsal.{state_of}
 use Rattle.ct_model.specs.Run.{run}
 use Rattle.ct_board.specs.Known.{somes}
 use Rattle.ct_board.specs.Watched.{Watched, batches_told}
-use Rattle.ct_board.proofs.Meeting.{IsMet}
-use Rattle.ct_world.proofs.Meetings.{finds_more, is_met}
+use Rattle.ct_board.proofs.Meeting.{IsMet, met}
+use Rattle.ct_world.proofs.Meetings.{finds_more}
 use Rattle.ct_world.proofs.world.World.meet.Goals as goal
 use Rattle.ct_world.proofs.world.World.meet.Goals.{After-loop-place}
 
@@ -41,8 +41,8 @@ posted c = grind (arith, length-map (order (state_of c.args.self.now.rehearsal))
 found : (c : After-loop-place) → IsMet (order (state_of c.args.self.now.rehearsal)) c.loop-place.watcher
 found c =
     let old = c.loop-place.invariant in
-    is_met c.args.self.now.rehearsal c.loop-place.watcher c.loop-place.place
-    (omega (arith, posted c, c.loop-place-test.false)) old.known
+    met (order (state_of c.args.self.now.rehearsal)) c.loop-place.watcher
+    (λ k b less at. old.known k b (omega (arith, posted c, c.loop-place-test.false)) at)
     (omega (arith, posted c, old.read, c.read.ensures.number, c.if-posted-read.false))
     (omega (arith, posted c, old.told, c.told.ensures.number, c.if-posted-told.false))
 
