@@ -75,11 +75,10 @@ after-proposals w p o = map-append (λ (x : Proposal). x.value) (state_of w).pro
 module _ {w : Rehearsal} {step : Step} {o : Outcome} {f new : Fields} {mail : AnyMail ℕ} {left : NetworkView} (world : IsWorld w f)
     (taken : IsTaken w step o) (l : IsLeft step w.setting.members f.network left) (s : IsTurnedInto w step o f new mail)
     (posted : IsPosted left new.network mail) where
-  h : State
+  abbrev h : State
   h = after w.setting (state_of w) (actor step) o
 
   state_is : state_of (extended w step) ≡ h
-  unfolding h
   state_is = state-step w step o world.lawful taken
 
   there : actor step - 1 < length (state_of w).members
@@ -89,7 +88,6 @@ module _ {w : Rehearsal} {step : Step} {o : Outcome} {f new : Fields} {mail : An
   within = let a = place w.setting.members (actor step) taken.present.in_group in omega (arith, world.seated)
 
   values : new.book.values ≡ values_of h
-  unfolding h
   values = s.values ∙ ap (λ vs. vs ++ map (λ (x : Proposal). x.value) o.proposals) world.values ∙ sym (after-proposals w (actor step) o)
 
   abbrev posts : List (AnyEnvelope ℕ)
@@ -99,7 +97,6 @@ module _ {w : Rehearsal} {step : Step} {o : Outcome} {f new : Fields} {mail : An
   posts_named = named_posts new.book.values w.setting.members mail o.mail s.named
 
   sent : NamesEnvelopes new.book.values new.network.sent h.sent
-  unfolding h
   sent =
       let grown : NamesEnvelopes new.book.values f.network.sent (state_of w).sent =
       subst (λ vs. NamesEnvelopes vs f.network.sent (state_of w).sent) (sym s.values)
@@ -126,7 +123,6 @@ module _ {w : Rehearsal} {step : Step} {o : Outcome} {f new : Fields} {mail : An
       (seat-grown (map (λ (x : Proposal). x.value) o.proposals) (world.seat q group))
 
   seat : (q : ℕ) → is_member w.setting.members q ≡ true → Keeps w.setting.members new.book.values q (member h q) (seat_of new.seats q)
-  unfolding h
   seat q group = rw s.seats (elim (cases_eq q (actor step)) [
     | inl e ↦ subst (λ r. Keeps w.setting.members new.book.values r (member (after w.setting (state_of w) (actor step) o) r)
         (seat_of (set f.seats (actor step - 1) s.seat) r)) (sym e)
@@ -137,7 +133,6 @@ module _ {w : Rehearsal} {step : Step} {o : Outcome} {f new : Fields} {mail : An
   ])
 
   submitted : (q : ℕ) → is_member w.setting.members q ≡ true → (seat_of new.seats q).submitted ≡ submissions h.submitted q
-  unfolding h
   submitted q group = rw (
     s.seats,
     after-submitted w.setting (state_of w) (actor step) o,
@@ -154,7 +149,6 @@ module _ {w : Rehearsal} {step : Step} {o : Outcome} {f new : Fields} {mail : An
   ])
 
   pub refined : IsWorld (extended w step) new
-  unfolding h
   refined = record {
     lawful = lawful-step w step o world.lawful taken;
     messages = rw state_is (knows-next w.setting (state_of w) step (after w.setting (state_of w) (actor step) o)

@@ -39,14 +39,13 @@ some_there values o u id ts got h a b g = grind arith
 module _ {w : Rehearsal} {p : ℕ} {seat : Seat} (sits : IsSeatOf w p seat) {c : Part} (is_open : Some c ≡ seat.instances.part)
     {rounds : Rounds} (read : Some rounds ≡ option_map (λ (d : Part). open_rounds seat.instances) seat.instances.part)
     {r : ℕ} (at : r ≡ c.standing.round) where
-  values : List Value
+  abbrev values : List Value
   values = values_of (state_of w)
 
-  m : Member
+  abbrev m : Member
   m = member_of w p
 
   kept : KeepsInstances w.setting.members values p m seat.instances
-  unfolding values m
   kept = sits.keeps.instances
 
   found : (x : Standing) × (m.current ≡ Some x) × (standing_map (value_at values) c.standing ≡ standing_map Some x)
@@ -65,7 +64,6 @@ module _ {w : Rehearsal} {p : ℕ} {seat : Seat} (sits : IsSeatOf w p seat) {c :
       ∙ ap (λ n. ballots_map Some (ballots m.got m.last n)) (at ∙ standing_round values c.standing found.0 found.2)
 
   pub heard_is : Some (heard (ballots_at rounds r)) ≡ all_heard_by (member_of w p)
-  unfolding m
   heard_is =
       ap Some (sym (heard-map (value_at values) (ballots_at rounds r)) ∙ ap heard own ∙ heard-map Some (own_ballots m found.0))
       ∙ ap (λ (o : Option Standing). option_map (λ z. heard (own_ballots m z)) o) (sym found.1)
@@ -84,12 +82,10 @@ module _ {w : Rehearsal} {p : ℕ} {seat : Seat} (sits : IsSeatOf w p seat) {c :
     -- nothing is read of an estimate that wasn't heard
     pub heard_none : {A : Type 0} (f : Heard ℕ → A) → None ≡ option_map f (estimate_from (ballots_at rounds r) from) →
         None ≡ heard_by (member_of w p) from
-    unfolding m
     heard_none f e = sym (none_there values _ _ f named e) ∙ shown
 
     -- what is read of one that was
     pub heard_some : (id ts : ℕ) (got : Option Value) → Some id ≡ option_map (λ e. e.value) (estimate_from (ballots_at rounds r) from) →
         Some ts ≡ option_map (λ e. e.ts) (estimate_from (ballots_at rounds r) from) → got ≡ slice_get (values_of (state_of w)) id →
         option_map (λ v. (v, ts)) got ≡ heard_by (member_of w p) from
-    unfolding values m
     heard_some id ts got a b g = some_there values _ _ id ts got named a b g ∙ shown
