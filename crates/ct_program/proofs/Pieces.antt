@@ -27,18 +27,12 @@ any-push [] x = refl
 any-push (y ∷ xs) x = refl
 
 -- one more text
-pub written_more : {byte : ℕ} {texts all : List (List ℕ)} {old mid new end : List ℕ} {later : Bool} (last : List ℕ)
-    → all ≡ texts ++ last ∷ [] → HasWritten byte texts old new later → mid ≡ new ++ cond later (byte ∷ []) [] → end ≡ mid ++ last
-    → HasWritten byte all old end true
-written_more {byte} {texts} last is h first second = rw is (record {
+pub written_more : (byte : ℕ) (texts : List (List ℕ)) (last old mid new end : List ℕ) (later : Bool) → HasWritten byte texts old new later →
+    mid ≡ new ++ cond later (byte ∷ []) [] → end ≡ mid ++ last → HasWritten byte (texts ++ last ∷ []) old end true
+written_more byte texts last old mid new end later h first second = record {
   text = rw (second, first, h.text, h.any, join-push byte texts last) (simp append_assoc);
   any = any-push texts last;
-})
-
--- no more
-pub written_still : {byte : ℕ} {texts all : List (List ℕ)} {old new : List ℕ} {later : Bool} → all ≡ texts ++ [] →
-    HasWritten byte texts old new later → HasWritten byte all old new later
-written_still is h = rw (is, append-nil) h
+}
 
 dashed : (byte : ℕ) (texts : List (List ℕ)) (old new end : List ℕ) (later : Bool) → HasWritten byte texts old new later →
     end ≡ new ++ cond later [] (45 ∷ []) → end ≡ old ++ list_text byte texts

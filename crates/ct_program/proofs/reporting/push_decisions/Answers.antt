@@ -3,8 +3,8 @@ use Rattle.std.specs.Prelude.{string_bytes}
 use Rattle.ct_model.specs.Received.{decided}
 use Rattle.ct_world.specs.Decided.{last_decided}
 use Rattle.ct_world.specs.World.{member_of}
-use Rattle.ct_program.proofs.Pieces.{written_more, written_none, written_still}
-use Rattle.ct_program.proofs.Found.{told_of, decisions-more, decisions_written}
+use Rattle.ct_program.proofs.Pieces.{written_none}
+use Rattle.ct_program.proofs.Found.{told_of, decision_taken, decision_passed, decisions_written}
 use Rattle.ct_program.proofs.reporting.push_decisions.Goals as goal
 use Rattle.ct_program.proofs.reporting.push_decisions.Goals.{in-Some+in_ok-push_separator+in_ok-push_decision, in_default}
 
@@ -18,12 +18,12 @@ loop-i-preserved c =
     let k = c.loop-i.i + 1 in
     elim c.match-decided.branch [
       | in-Some+in_ok-push_separator+in_ok-push_decision x ↦
-          rw (x.text-is, x.later-is) (written_more _ (decisions-more got c.loop-i.i _
-          (told_of w c.args.member _ (decided got k) c.requires x.in-Some.ensures)) c.loop-i.invariant x.in_ok-push_separator.ensures
+          rw (x.text-is, x.later-is) (decision_taken got c.loop-i.i x.in-Some.messages.now _ _ _ _ _ c.loop-i.invariant
+          (told_of w c.args.member _ (decided got k) c.requires x.in-Some.ensures) x.in_ok-push_separator.ensures
           x.in_ok-push_decision.ensures)
       | in_default x ↦
-          rw (x.text-is, x.later-is) (written_still (decisions-more got c.loop-i.i _
-          (told_of w c.args.member _ (decided got k) c.requires x.in_default.ensures)) c.loop-i.invariant)
+          rw (x.text-is, x.later-is) (decision_passed got c.loop-i.i _ _ _ c.loop-i.invariant
+          (told_of w c.args.member _ (decided got k) c.requires x.in_default.ensures))
     ]
 
 pub returns : goal.returns

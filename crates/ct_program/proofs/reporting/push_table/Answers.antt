@@ -1,7 +1,7 @@
 use Rattle.std.proofs.Common.{◌≡◌, arith}
 use Rattle.std.specs.Prelude.{string_bytes}
-use Rattle.ct_program.proofs.Pieces.{written_more, written_none, written_still}
-use Rattle.ct_program.proofs.Found.{registers-more, table_written}
+use Rattle.ct_program.proofs.Pieces.{written_none}
+use Rattle.ct_program.proofs.Found.{register_taken, register_passed, table_written}
 use Rattle.ct_program.proofs.reporting.push_table.Goals as goal
 use Rattle.ct_program.proofs.reporting.push_table.Goals.{in-Some+in_ok-push_separator+in_ok-push_register, in_default}
 
@@ -11,10 +11,10 @@ loop-register-init c = written_none 32 (string_bytes c.args.text.now)
 pub loop-register-preserved : goal.loop-register-preserved
 loop-register-preserved c = elim c.match-value_of.branch [
   | in-Some+in_ok-push_separator+in_ok-push_register x ↦
-      rw (x.text-is, x.later-is) (written_more _ (registers-more c.args.table.now c.loop-register.register _ x.in-Some.ensures)
-      c.loop-register.invariant x.in_ok-push_separator.ensures x.in_ok-push_register.ensures)
-  | in_default x ↦ rw (x.text-is, x.later-is) (written_still
-      (registers-more c.args.table.now c.loop-register.register _ x.in_default.ensures) c.loop-register.invariant)
+      rw (x.text-is, x.later-is) (register_taken c.args.table.now c.loop-register.register x.in-Some.value _ _ _ _ _
+      c.loop-register.invariant x.in-Some.ensures x.in_ok-push_separator.ensures x.in_ok-push_register.ensures)
+  | in_default x ↦ rw (x.text-is, x.later-is) (register_passed c.args.table.now c.loop-register.register _ _ _ c.loop-register.invariant
+      x.in_default.ensures)
 ]
 
 pub returns : goal.returns
