@@ -1,5 +1,5 @@
 -- The subcommand of words that clap accepts: `help` is answered by a fault.
-use Rattle.std.proofs.Common.{arith, ◌≡◌, ◌∙◌, ◌&&◌, ◌⊎◌, ℕ, Bool, true, false, true≢false, cond, List, [], ◌∷◌, ◌++◌, Option, Some, None}
+use Rattle.std.proofs.Common.{arith, ◌≡◌, ◌∙◌, ◌⊎◌, ℕ, Bool, true, false, true≢false, cond, List, [], ◌∷◌, ◌++◌, Option, Some, None}
 use Rattle.std.proofs.Common.{option_map, codes, refl, sym, ap, subst, IfSome, IsSomeAnd}
 use Rattle.std.proofs.lemmas.Bool.Decides.{nat_tests}
 use Rattle.std.specs.Prelude.{fold, is_some}
@@ -7,15 +7,14 @@ use Rattle.std.specs.Str.{bytes_eq}
 use Rattle.std.proofs.Math.Bool.{or-false}
 use Rattle.std.proofs.lemmas.Slice.Eq.{bytes_eq-Decides}
 use Rattle.clap.specs.Kinds.{Kinds, or_else}
-use Rattle.clap.specs.Walk.{Held, Names, Outcome, Rule, Step, Text, Waiting, Walk, idle, option, positional, done, waits, plain, refused}
-use Rattle.clap.specs.Walk.{next, trailing, subcommand, value, after_flag, after_step, answers_to, bundle, finished}
-use Rattle.clap.specs.Walk.{long_or_other, nothing_held, plain_word, settled, short_or_plain, stop_after, subcommand_met}
-use Rattle.clap.specs.Walk.{subcommand_or_other, walk, walk_from, walked, walked_from, word_met}
+use Rattle.clap.specs.Walk.{Held, Names, Outcome, Rule, Step, Text, Waiting, Walk, idle, done, waits, next, trailing, subcommand, value}
+use Rattle.clap.specs.Walk.{after_flag, after_step, answers_to, bundle, finished, long_or_other, nothing_held, plain_word, settled}
+use Rattle.clap.specs.Walk.{short_or_plain, stop_after, subcommand_met, subcommand_or_other, walk, walk_from, walked, walked_from, word_met}
 use Rattle.clap.specs.Lexer.{long_of, short_of}
 use Rattle.clap.specs.Faults.{built_fault, check_fault, defaults_fault, entered_fault, level_fault, other_fault, settle_fault, step_fault}
 use Rattle.clap.specs.Faults.{turn_fault, walk_fault, word_fault}
 use Rattle.clap.specs.Simple.{App, Shape, entered, label_of, names_of}
-use Rattle.clap.specs.declared.error.kind.ErrorKind.TheVariants.{DisplayHelp, InvalidSubcommand, MissingSubcommand}
+use Rattle.clap.specs.declared.error.kind.ErrorKind.TheVariants.{MissingSubcommand}
 use Rattle.clap.proofs.WalkLemmas.{walk_stopped}
 
 or_else_none : (a b : Kinds) → or_else a b ≡ [] → (a ≡ []) × (b ≡ [])
@@ -32,15 +31,13 @@ entered_by _ = None
 
 plain_enters : (c : List Rule) (waiting : Waiting) (word : Text) (h : Held) → entered_by (plain_word c waiting word h).1 ≡ None
 plain_enters c idle word h = refl
-plain_enters c (option id) word h = refl
-plain_enters c positional word h = refl
+plain_enters c _ word h = refl
 
 flag_enters : (c : List Rule) (waiting : Waiting) (word : Text) (h : Held) (o : Outcome) →
     entered_by (after_flag c waiting word h o).1 ≡ None
 flag_enters c waiting word h done = refl
 flag_enters c waiting word h (waits id) = refl
-flag_enters c waiting word h plain = plain_enters c waiting word h
-flag_enters c waiting word h refused = plain_enters c waiting word h
+flag_enters c waiting word h _ = plain_enters c waiting word h
 
 short_enters : (c : List Rule) (waiting : Waiting) (word : Text) (flags : Option Text) (h : Held) →
     entered_by (short_or_plain c waiting word flags h).1 ≡ None
@@ -83,11 +80,7 @@ named_other : (s : Shape) (is_trailing : Bool) (name : Option Text) (word : Text
     → cond is_trailing [] (other_fault s name word h) ≡ [] → IsOther (option_map (λ n. (n, [])) (cond is_trailing None name))
 named_other s true name word h enabled e = tt
 named_other s false None word h enabled e = tt
-named_other s false (Some n) word h enabled e = go (bytes_eq n (codes "help")) (rw enabled at e)
-  where
-    go : (b : Bool) → cond (b && true) (DisplayHelp ∷ InvalidSubcommand ∷ []) [] ≡ [] → b ≡ false
-    go false f = refl
-    go true f = absurd (cc)
+named_other s false (Some n) word h enabled e = grind (arith, nat_tests)
 
 turn_other : (s : Shape) (names : Names) (w : Walk) (word : Text) → s.disable_help_subcommand ≡ false → w.stopped ≡ None →
     turn_fault s names w word ≡ []
@@ -130,11 +123,10 @@ walk_other s names w (word ∷ rest) enabled goes passes =
 -- ---- what clap accepts
 
 ends_none : (a b c d e : Kinds) → or_else a (or_else b (or_else c (or_else d e))) ≡ [] → (a ≡ []) × (e ≡ [])
-ends_none [] [] [] [] e h = (refl, h)
-ends_none [] [] [] (k ∷ ks) e h = absurd (cc)
-ends_none [] [] (k ∷ ks) d e h = absurd (cc)
-ends_none [] (k ∷ ks) c d e h = absurd (cc)
-ends_none (k ∷ ks) b c d e h = absurd (cc)
+ends_none a b c d e h =
+    let first = or_else_none a (or_else b (or_else c (or_else d e))) h in
+    let third = or_else_none c (or_else d e) (or_else_none b (or_else c (or_else d e)) first.1).1 in
+    (first.0, (or_else_none d e third.1).1)
 
 -- a level without fault has a walk without fault, and a subcommand where one is required
 level_parts : (s : Shape) (names : Names) (h : Held) (words : List Text) (has : Bool) (below : Kinds) → s.arg_required_else_help ≡ false →

@@ -1,6 +1,6 @@
 -- The largest instance with a decision, from what is kept of a member's instances.
-use Rattle.std.proofs.Common.{◌≡◌, ℕ, ◌≤◌, ◌==◌, true, List, [], ◌∷◌, Option, Some, filter_map, fold, refl, sym, ap, subst, ◌∙◌}
-use Rattle.std.proofs.Common.{arith, inl, inr, ◌⊎◌, eq-eqb, eqb-true}
+use Rattle.std.proofs.Common.{◌≡◌, ℕ, ◌≤◌, ◌==◌, true, List, [], ◌∷◌, Option, Some, filter_map, fold, refl, sym, ap, subst, ◌∙◌, arith, inl}
+use Rattle.std.proofs.Common.{inr, ◌⊎◌, eq-eqb, eqb-true}
 use Rattle.std.specs.Prelude.{max, nat_eq, is_some, option_and_then}
 use Rattle.std.specs.List.{reduce}
 use Rattle.std.specs.Map.{keys_of, lookup}
@@ -12,7 +12,7 @@ use Rattle.ct_names.proofs.Lists.{IsIn-filter, IsIn-filter_passes, IsIn-filter_m
 use Rattle.ct_model.specs.AtValue.{Wire}
 use Rattle.ct_model.specs.Rehearsal.{Rehearsal}
 use Rattle.ct_names.specs.Group.{is_member}
-use Rattle.ct_model.specs.declared.wire.Wire.TheVariants.{Data, Est, Prop, Ack, Nack, Dec}
+use Rattle.ct_model.specs.declared.wire.Wire.TheVariants.{Dec}
 use Rattle.ct_model.specs.Received.{head, decision_of, decided}
 use Rattle.ct_instances.specs.declared.entry.Entry.{Entry}
 use Rattle.ct_instances.specs.Kept.{Kept, entry_of, decision_at}
@@ -73,11 +73,7 @@ is_decision _ k e = cc
 
 has_instance : (w : Wire) (k : ℕ) (v : Value) → decision_of k w ≡ Some v → decided_instance w ≡ Some k
 has_instance (Dec j r u) k v e = grind (arith, true_or_false (j == k))
-has_instance (Data m) k v e = cc
-has_instance (Est j r p u t) k v e = cc
-has_instance (Prop j r u) k v e = cc
-has_instance (Ack j r p) k v e = cc
-has_instance (Nack j r p) k v e = cc
+has_instance _ k v e = cc
 
 head-some : {A : Type 0} (x : A) (xs : List A) → IsIn x xs → is_some (head xs) ≡ true
 head-some x [] h = absurd h

@@ -1,7 +1,7 @@
 -- What Deliver and Follow share: why the decision of an instance is not delivered, what has to be there for it, and the seat
 -- after it.
-use Rattle.std.proofs.Common.{◌≡◌, ℕ, ◌+◌, ◌-◌, ◌≤◌, ◌<◌, Bool, true, false, not, List, [], ◌∷◌, ◌++◌, length, set, refl, ap, sym, ◌∙◌}
-use Rattle.std.proofs.Common.{subst, arith, append-nil, get_or, slice_get, Option, Some, None, Bor}
+use Rattle.std.proofs.Common.{◌≡◌, ℕ, ◌+◌, ◌-◌, ◌≤◌, ◌<◌, Bool, true, false, List, [], ◌∷◌, ◌++◌, length, set, refl, ap, sym, ◌∙◌, subst}
+use Rattle.std.proofs.Common.{arith, append-nil, get_or, slice_get, Option, Some, None, Bor}
 use Rattle.std.specs.Prelude.{nat_lt, is_some, is_none, if◌then◌else◌, option_and_then, option_copied, option_map, IfSome}
 use Rattle.std.specs.declared.alloc.Global.{Global}
 use Rattle.std.specs.declared.boxed.Box.{Box}
@@ -49,14 +49,11 @@ use Rattle.ct_world.specs.Seats.{Keeps, Content, IsDeliverable, content, with_ba
 use Rattle.ct_world.proofs.Insides.{IsAllowed, IsAllowedIn, fields_in, rehearsal_in, seat_in, view_in}
 use Rattle.ct_world.proofs.Members.{seat-same}
 use Rattle.ct_world.proofs.Posting.{has_posted, posting_low}
-use Rattle.ct_world.proofs.Posts.{stepped-quiet}
+use Rattle.ct_world.proofs.Posts.{left-plain}
 use Rattle.ct_world.proofs.Proposing.{copied-some, delivered-same, open-same}
-use Rattle.ct_world.proofs.Refines.{refined}
+use Rattle.ct_world.proofs.Refines.{refined-quiet}
 
 -- why a decision is not delivered, by the seat
-
-pub none-some : {A : Type 0} (o : Option A) → is_none o ≡ not (is_some o)
-none-some o = grind arith
 
 pub standing-there : (o : Option Standing) → is_some o ≡ true → (c : Standing) × (o ≡ Some c)
 standing-there None e = absurd (cc)
@@ -67,11 +64,11 @@ module _ {w : Rehearsal} {p : ℕ} {seat : Seat} (a : IsActor w p seat) where
   open_is = open-same a.sits.keeps
 
   undecided_is : (k : ℕ) → is_none (decided (member (state_of w) p).got k) ≡ is_none (decision_at seat.instances k)
-  undecided_is k =
-      none-some (decided (member (state_of w) p).got k)
-      ∙ ap not (sym (named_is_some (values_of (state_of w)) (decision_at seat.instances k) (decided (member (state_of w) p).got k)
-      (a.sits.keeps.instances.decisions k)))
-      ∙ sym (none-some (decision_at seat.instances k))
+  undecided_is k = grind (
+    arith,
+    named_is_some (values_of (state_of w)) (decision_at seat.instances k) (decided (member (state_of w) p).got k)
+        (a.sits.keeps.instances.decisions k),
+  )
 
   batches_are : length seat.caster.batches ≡ length (member (state_of w) p).batches
   batches_are = ap length a.sits.keeps.batches ∙ length-map (member (state_of w) p).batches (λ (b : Batch). b.messages)
@@ -86,13 +83,7 @@ module _ {w : Rehearsal} {p : ℕ} {seat : Seat} (a : IsActor w p seat) where
       → (first_fault (own_tests w step) ≡ None → cause w step
       ≡ or_else (first_fault (limits_at k (length (member (state_of w) p).batches))) (overflow w 0))
       → cause w step ≡ delivery_cause w seat k
-  cause-delivery step k present own limited = go (is_none (decision_at seat.instances k)) refl
-    where
-      go : (b : Bool) → is_none (decision_at seat.instances k) ≡ b → cause w step ≡ delivery_cause w seat k
-      go true e =
-          cause-tested w step Undecided present (own ∙ ap (λ b. first_fault (at Undecided b ∷ [])) (undecided_is k ∙ e))
-          ∙ sym (ap (λ b. or_else (first_fault (at Undecided b ∷ limits_at k (length seat.caster.batches))) (overflow w 0)) e)
-      go false e = grind (arith, undecided_is k, batches_are)
+  cause-delivery step k present own limited = grind (arith, undecided_is k, batches_are, cause-tested w step Undecided present)
 
 -- the seat after a batch
 
@@ -117,14 +108,8 @@ closed_keeps {n} {p} {values} {m} {seat} k v last instances h is closed = record
   me = h.me;
   taken = h.taken;
   received = h.received;
-  batches =
-      ap (λ batch. seat.caster.batches ++ batch ∷ []) same
-      ∙ ap (λ list. list ++ batch_of m v ∷ []) h.batches
-      ∙ sym (map-append (λ (b : Batch). b.messages) m.batches (added ∷ []));
-  table =
-      ap (applied_all seat.table) same
-      ∙ ap (λ values. applied_all values (batch_of m v)) h.table
-      ∙ sym (table-more m.batches added);
+  batches = grind (arith, same, h.batches, map-append (λ (b : Batch). b.messages) m.batches (added ∷ []));
+  table = grind (arith, same, h.table, table-more m.batches added);
   begun = is;
   instances = closed;
 }
@@ -159,14 +144,7 @@ module _ {w : Rehearsal} {step : Step} {f : Fields} {k : ℕ} (may : IsAllowed w
 
   pub has_value : (seat : Seat) (i : ℕ) → seat ≡ seat_for f step → i ≡ k
       → is_some (option_and_then (value_at f.book.values) (decision_at seat.instances i)) ≡ true
-  has_value seat i here is =
-      ap (λ (s : Seat). is_some (option_and_then (value_at f.book.values) (decision_at s.instances i))) here
-      ∙ ap (λ j. is_some (option_and_then (value_at f.book.values) (decision_at (seat_for f step).instances j))) is
-      ∙ go (decision_at (seat_for f step).instances k) refl
-    where
-      go : (o : Option ℕ) → decision_at (seat_for f step).instances k ≡ o → is_some (option_and_then (value_at f.book.values) o) ≡ true
-      go None e = absurd (let none = sym (ap is_some e) ∙ has_decision in cc)
-      go (Some id) e = ap is_some (value_is id e)
+  has_value seat i here is = grind (arith, has_decision, value_is)
 
   -- what the step posts: by how many batches its seat has
   joins_posting : {posted : ℕ} {posting : Option Batch} → posted ≡ length (order (state_of w)) →
@@ -192,51 +170,54 @@ module _ {w : Rehearsal} {step : Step} {f : Fields} {k : ℕ} (may : IsAllowed w
           (let many : posted ≤ length (seat_for f step).caster.batches = grind (arith, nat_tests) in omega (arith, there))
           ∙ (λ j. order (state_of w) ++ record { instance = k; messages = sym delivers j } ∷ [])
 
-  -- the last instance at a seat where room was made
-  seat_now : (new : Fields) (seat : Seat) → new.seats ≡ set f.seats (actor step - 1) seat → seat_for new step ≡ seat
-  seat_now new seat set_is = ap (λ list. seat_of list (actor step)) set_is ∙ seat-same f.seats (actor step) seat may.within
-
-  pub same_last : (new : Fields) (seat : Seat) → content seat ≡ content (seat_for f step) → new.seats ≡ set f.seats (actor step - 1) seat
-      → (seat_for f step).instances.last ≡ (seat_for new step).instances.last
-  same_last new seat kept set_is = grind (arith, seat_now new seat set_is)
-
-  -- the room that was made for it
-  pub delivery_room : {new : Fields} {i id posted : ℕ} {made : Option Prepared} (seat : Seat) → content seat ≡ content (seat_for f step)
-      → new.seats ≡ set f.seats (actor step - 1) seat → new.book.values ≡ f.book.values → posted ≡ length (order (state_of w)) → i ≡ k
-      → number_in made ≡ Some id → IsDeliverable f.book.values seat i posted id (batch_in made) → HasDeliveryRoom w new step k made
-  delivery_room {new} {i} {id} {posted} {made} seat kept set_is values count instance is found =
+  -- the room that was made for it, where k is of the last instance
+  pub delivery_room : {new : Fields} {i id posted : ℕ} {made : Option Prepared} (of : ℕ → ℕ) → k ≡ of (seat_for f step).instances.last
+      → (seat : Seat) → content seat ≡ content (seat_for f step) → new.seats ≡ set f.seats (actor step - 1) seat
+      → new.book.values ≡ f.book.values → posted ≡ length (order (state_of w)) → i ≡ k → number_in made ≡ Some id
+      → IsDeliverable f.book.values seat i posted id (batch_in made)
+      → HasDeliveryRoom w new step (of (seat_for new step).instances.last) made
+  delivery_room {new} {i} {id} {posted} {made} of of_last seat kept set_is values count instance is found =
       let ready : IsDeliverable f.book.values seat k posted id (batch_in made) =
       subst (λ j. IsDeliverable f.book.values seat j posted id (batch_in made)) instance found in
-      let there : seat_for new step ≡ seat = seat_now new seat set_is in
+      let there : seat_for new step ≡ seat =
+      ap (λ list. seat_of list (actor step)) set_is ∙ seat-same f.seats (actor step) seat may.within in
       let number = ap (λ (c : Content). c.decisions k) (sym kept) ∙ ready.decided in
-      record {
+      subst (λ j. HasDeliveryRoom w new step j made)
+      (of_last ∙ ap of (sym (ap (λ (s : Seat). s.instances.last) there ∙ ap (λ (c : Content). c.seat.instances.last) kept))) (record {
         number = rw there (is ∙ sym ready.decided);
         fits = rw there ready.fits;
         messages = rw there (λ i u named has. ready.messages u (ap (value_at f.book.values) (some-same id i (sym is ∙ named))
             ∙ ap (λ list. value_at list i) (sym values) ∙ has));
         posting = joins_posting count (ready.posting due.value (value_is id number)
             ∙ ap (λ (c : Content). batch_to_post c.seat.caster k due.value posted) kept);
-      }
+      })
 
-  -- the fields after it
-  pub closed_steps : {new : Fields} (seat : Seat) → Keeps w.setting.members f.book.values (actor step)
-      (close (member (state_of w) (actor step)) k due.value).member seat → seat.submitted ≡ (seat_for f step).submitted
-      → line_change step ≡ Leaves → new.seats ≡ set f.seats (actor step - 1) seat → new.network.sent ≡ f.network.sent
-      → new.network.lines ≡ f.network.lines → new.book.values ≡ f.book.values → IsWorld (extended w step) new
-  closed_steps seat keeps submitted quiet seats sent lines values = refined may.world due.taken (stepped-quiet seat quiet (record {
-    values = values ∙ sym (append-nil f.book.values);
-    seats = seats;
-    keeps = rw values keeps;
-    submitted = submitted ∙ may.submitted;
-  }) refl sent lines)
-
--- a prepared step that closes the instance k, with the room that was made for it
-pub record IsDelivery (a : Inside) (step : Step) (k : ℕ) : Type 0 where
+-- a prepared step that closes the instance k, with the room that was made for it, and what it makes of the seat
+pub record IsDelivery (a : Inside) (step : Step) (k : ℕ) (after : Seat → Value → Seat) : Type 0 where
   pub may : IsAllowedIn a step
   pub due : IsClosing (rehearsal_in a) step k
   pub room : HasDeliveryRoom (rehearsal_in a) (fields_in a) step k a.prepared
+  pub quiet : line_change step ≡ Leaves
+  pub submitted : (after (seat_for (fields_in a) step) due.value).submitted ≡ (seat_for (fields_in a) step).submitted
+  pub keeps : (new : Seat) → content new ≡ content (after (seat_for (fields_in a) step) due.value) → Keeps a.group a.book.values
+      (actor step) (close (member (state_of (rehearsal_in a)) (actor step)) k due.value).member new
 
-module _ {a : Inside} {step : Step} {k : ℕ} (d : IsDelivery a step k) where
+module _ {a : Inside} {step : Step} {k : ℕ} {after : Seat → Value → Seat} (d : IsDelivery a step k after) where
+  -- the fields after it
+  pub delivery_steps : {s : Seat} {v : Value} {f : Fields} (new : Seat) → s ≡ get_or a.seats.items (actor step - 1) s → v ≡ d.due.value
+      → content new ≡ content (after s v) → f.seats ≡ set a.seats.items (actor step - 1) new → f.network.sent ≡ a.network.sent
+      → f.network.lines ≡ a.network.lines → f.book.values ≡ a.book.values → IsWorld (extended (rehearsal_in a) step) f
+  delivery_steps {s} new here value is seats sent lines values =
+      let same = is ∙ ap content (ap (after s) value ∙ ap (λ x. after x d.due.value) (seat_in a d.may here)) in
+      refined-quiet d.may.world d.due.taken (left-plain d.may.world.lined d.quiet sent lines) (record {
+        seat = new;
+        named = refl;
+        values = values ∙ sym (append-nil a.book.values);
+        seats = seats;
+        keeps = rw values (d.keeps new same);
+        submitted = ap (λ (c : Content). c.seat.submitted) same ∙ d.submitted ∙ d.may.submitted;
+      })
+
   pub has_number : {o : Option ℕ} → o ≡ number_in a.prepared → is_some o ≡ true
   has_number is = ap is_some (is ∙ d.room.number) ∙ has_decision d.may d.due
 
@@ -268,13 +249,9 @@ module _ {a : Inside} {step : Step} {k : ℕ} (d : IsDelivery a step k) where
             (d.room.messages id v.now (sym from ∙ is) (sym got ∙ ap option_copied there))
 
 -- what such a step posts, where the record has it at its end
-pub posted_in : (a : Inside) {v : WorldView} {step : Step} {k : ℕ} (cells : List ℕ) {steps : List Step} {posting : Option Batch}
-    (receipt : Option Posted) → view_in a ≡ v → IsDelivery a step k → posting ≡ batch_in a.prepared → IsSet cells posting receipt
+pub posted_in : (a : Inside) {v : WorldView} {step : Step} {k : ℕ} {after : Seat → Value → Seat} (cells : List ℕ)
+    {steps : List Step} {posting : Option Batch} (receipt : Option Posted) → view_in a ≡ v → IsDelivery a step k after → posting ≡ batch_in
+    a.prepared → IsSet cells posting receipt
     → steps ≡ a.record.items ++ step ∷ [] → HasPosted cells v.rehearsal (record (rehearsal_in a) { steps = steps }) receipt
-posted_in a {v} {step} {k} cells {steps} {posting} receipt view d is set pushed =
-    let w : Rehearsal = rehearsal_in a in
-    let posted : HasPosted cells w (extended w step) receipt =
-    has_posted cells w step (batch_in a.prepared) receipt (closed_lawful d.may d.due) d.room.posting (rw is at set) in
-    let new : HasPosted cells w (record w { steps = steps }) receipt =
-    subst (λ ss. HasPosted cells w (record w { steps = ss }) receipt) (sym pushed) posted in
-    subst (λ (x : WorldView). HasPosted cells x.rehearsal (record w { steps = steps }) receipt) view new
+posted_in a {step = step} cells receipt view d is set pushed = rw (← view, pushed)
+    (has_posted cells (rehearsal_in a) step (batch_in a.prepared) receipt (closed_lawful d.may d.due) d.room.posting (rw is at set))

@@ -1,21 +1,16 @@
 -- Deliver: why it is refused, by the seat, and the seat after it.
-use Rattle.std.proofs.Common.{◌≡◌, ℕ, ◌+◌, ◌-◌, true, false, not, List, [], ◌∷◌, ◌++◌, length, set, refl, ap, sym, ◌∙◌, subst}
-use Rattle.std.proofs.Common.{Option, Some, None, option_map}
-use Rattle.std.specs.Prelude.{nat_lt, is_some, is_none}
-use Rattle.std.specs.Option.{option_map_or}
-use Rattle.std.specs.declared.alloc.Global.{Global}
-use Rattle.std.specs.declared.boxed.Box.{Box}
+use Rattle.std.proofs.Common.{arith, ◌≡◌, ℕ, ◌+◌, ◌-◌, true, false, List, [], ◌∷◌, ◌++◌, length, refl, ap, sym, ◌∙◌, subst, Some, None}
+use Rattle.std.specs.Prelude.{nat_lt, is_some}
 use Rattle.ct_names.specs.declared.limit.Limit.TheVariants.{Instances, Cells}
 use Rattle.ct_names.specs.declared.limit.TheConstants.{MAX_INSTANCES}
-use Rattle.ct_names.specs.declared.refusal.Refusal.TheVariants.{Idle, Undecided, Full}
+use Rattle.ct_names.specs.declared.refusal.Refusal.TheVariants.{Idle, Full}
 use Rattle.ct_names.specs.Batch.{Batch}
 use Rattle.ct_names.specs.Value.{Value}
 use Rattle.ct_model.specs.declared.step.Step.TheVariants.{Deliver}
-use Rattle.ct_model.specs.AtValue.{Standing}
-use Rattle.ct_model.specs.Cause.{Test, at, first_fault, or_else, cause, overflow, order}
+use Rattle.ct_model.specs.Cause.{at, first_fault, or_else, cause, overflow}
 use Rattle.ct_model.specs.Next.{close, batch_of}
 use Rattle.ct_model.specs.Received.{decided}
-use Rattle.ct_model.specs.Rehearsal.{Rehearsal, state_of, extended}
+use Rattle.ct_model.specs.Rehearsal.{Rehearsal, state_of}
 use Rattle.ct_model.specs.State.{Member, member}
 use Rattle.ct_model.proofs.Record.Causes.{low}
 use Rattle.ct_model.proofs.Record.Limits.{own_tests-is, cause-tested}
@@ -23,12 +18,10 @@ use Rattle.ct_model.proofs.Record.Taken.{IsTaken}
 use Rattle.ct_model.proofs.Steps.Deliver.{tests-deliver, cause-deliver, IsDeliverStep, deliver_taken}
 use Rattle.ct_instances.specs.Keeping.{KeepsInstances}
 use Rattle.ct_instances.proofs.Keeping.{keeps-closed}
-use Rattle.ct_world.specs.declared.prepared.Prepared.TheVariants as made
 use Rattle.ct_world.specs.declared.seat.Seat.{Seat}
-use Rattle.ct_world.specs.Kept.{Fields, IsWorld, IsActor, HasDeliveryRoom, HasOwnRoom, delivery_cause, seat_of}
-use Rattle.ct_world.specs.Seats.{Keeps, Content, IsDeliverable, content, with_delivery}
-use Rattle.ct_world.proofs.Deliveries.{IsClosing, IsDelivery, cause-delivery, closed_keeps, closed_steps, delivery_room, none-some}
-use Rattle.ct_world.proofs.Deliveries.{open_is, same_last, standing-there}
+use Rattle.ct_world.specs.Kept.{Fields, IsActor, delivery_cause, seat_of}
+use Rattle.ct_world.specs.Seats.{Keeps, content, with_delivery}
+use Rattle.ct_world.proofs.Deliveries.{IsClosing, IsDelivery, cause-delivery, closed_keeps, open_is, standing-there}
 use Rattle.ct_world.specs.declared.world.World.TheInside.{Inside}
 use Rattle.ct_world.specs.World.{WorldView}
 use Rattle.ct_world.proofs.Insides.{IsAllowed, IsKeptIn, prepared_in, ready_in, view_in}
@@ -40,11 +33,7 @@ module _ {w : Rehearsal} {p : ℕ} {seat : Seat} (a : IsActor w p seat) where
   m = member (state_of w) p
 
   pub deliver_idle : is_some seat.instances.part ≡ false → cause w (Deliver p) ≡ Some Idle
-  deliver_idle e =
-      let none : is_none m.current ≡ true = none-some m.current ∙ ap not (sym (open_is a) ∙ e) in
-      let due : Standing → List Test = λ c. at Undecided (is_none (decided m.got m.last)) ∷ [] in
-      cause-tested w (Deliver p) Idle a.present (ap first_fault (own_tests-is w (Deliver p))
-      ∙ ap (λ b. first_fault (at Idle b ∷ option_map_or due m.current [])) none)
+  deliver_idle e = cause-tested w (Deliver p) Idle a.present (grind (arith, own_tests-is w (Deliver p), open_is a))
 
   pub deliver_cause : is_some seat.instances.part ≡ true → cause w (Deliver p) ≡ delivery_cause w seat seat.instances.last
   deliver_cause e =
@@ -56,7 +45,7 @@ module _ {w : Rehearsal} {p : ℕ} {seat : Seat} (a : IsActor w p seat) where
       ∙ ap (delivery_cause w seat) (sym a.sits.keeps.instances.last)
 
 -- the seat after it, whose last instance is the one that was open
-delivered_keeps : {n p : ℕ} {values : List Value} {m : Member} {seat new : Seat} (v : Value) → Keeps n values p m seat
+pub delivered_keeps : {n p : ℕ} {values : List Value} {m : Member} {seat new : Seat} (v : Value) → Keeps n values p m seat
     → content new ≡ content (with_delivery seat v) → Keeps n values p (close m seat.instances.last v).member new
 delivered_keeps {n} {p} {values} {m} {seat} v h same =
     let k : ℕ = seat.instances.last in
@@ -83,30 +72,16 @@ module _ {w : Rehearsal} {p : ℕ} {f : Fields} (may : IsAllowed w (Deliver p) f
     taken = subst (λ k. IsTaken w (Deliver p) (close (member (state_of w) p) k step.value)) (sym last_is) step.taken;
   }
 
-  -- the fields after it
-  pub deliver_steps : {new : Fields} {v : Value} (seat : Seat) → v ≡ deliver_due.value
-      → content seat ≡ content (with_delivery (seat_of f.seats p) v) → new.seats ≡ set f.seats (p - 1) seat
-      → new.network.sent ≡ f.network.sent → new.network.lines ≡ f.network.lines → new.book.values ≡ f.book.values
-      → IsWorld (extended w (Deliver p)) new
-  deliver_steps seat same delivered = closed_steps may deliver_due seat
-      (delivered_keeps deliver_due.value may.keeps
-      (subst (λ x. content seat ≡ content (with_delivery (seat_of f.seats p) x)) same delivered))
-      (ap (λ (c : Content). c.seat.submitted) delivered) refl
-
-  -- the room that was made for it
-  pub deliver_room : {new : Fields} {i id posted : ℕ} {batch : Option (Box Batch Global)} (seat : Seat) → content seat ≡ content
-      (seat_of f.seats p) → new.seats ≡ set f.seats (p - 1) seat → new.book.values ≡ f.book.values
-      → posted ≡ length (order (state_of w)) → i ≡ (seat_of f.seats p).instances.last
-      → IsDeliverable f.book.values seat i posted id (option_map (λ b. b.value) batch)
-      → HasOwnRoom w new (Deliver p) (Some (made.Deliver p id batch))
-  deliver_room {new} {i} {id} {posted} {batch} seat kept set_is values count instance found =
-      subst (λ k. HasDeliveryRoom w new (Deliver p) k (Some (made.Deliver p id batch)))
-      (same_last may deliver_due new seat kept set_is)
-      (delivery_room may deliver_due seat kept set_is values count instance refl found)
-
 -- the step where it is prepared
 abbrev pub deliver_in : (a : Inside) {v : WorldView} {p : ℕ} → view_in a ≡ v → IsKeptIn a → v.prepared ≡ Some (Deliver p) →
-    IsDelivery a (Deliver p) (seat_of a.seats.items p).instances.last
+    IsDelivery a (Deliver p) (seat_of a.seats.items p).instances.last with_delivery
 deliver_in a view kept is =
     let may = prepared_in a view kept is in
-    record { may = may; due = deliver_due may; room = (ready_in a view kept is).for_itself }
+    record {
+      may = may;
+      due = deliver_due may;
+      room = (ready_in a view kept is).for_itself;
+      quiet = refl;
+      submitted = refl;
+      keeps = λ new same. delivered_keeps (deliver_due may).value may.keeps same;
+    }

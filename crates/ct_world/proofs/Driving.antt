@@ -1,6 +1,6 @@
 -- What a driver does next at a member.
-use Rattle.std.proofs.Common.{arith, ◌≡◌, ℕ, List, [], ◌∷◌, ◌++◌, Option, Some, None, Result, Ok, Err, Bor, find, flat_map, map}
-use Rattle.std.proofs.Common.{option_map, option_and_then, is_none, refl, ap, sym, ◌∙◌, subst}
+use Rattle.std.proofs.Common.{arith, ◌≡◌, ℕ, List, [], ◌∷◌, ◌++◌, Option, Some, None, Result, Ok, Err, Bor, find, flat_map, map, option_map}
+use Rattle.std.proofs.Common.{option_and_then, is_none, refl, ap, sym, ◌∙◌, subst}
 use Rattle.std.specs.Prelude.{MatchResult}
 use Rattle.std.specs.Option.{option_to_list}
 use Rattle.std.specs.Result.{result_ok}
@@ -8,6 +8,7 @@ use Rattle.ct_names.specs.declared.refusal.Refusal.{Refusal}
 use Rattle.ct_names.specs.Value.{Value}
 use Rattle.ct_model.specs.declared.step.Step.{Step}
 use Rattle.ct_model.specs.declared.step.Step.TheVariants.{Begin, Enter, Choose, Adopt, Suspect, Conclude, Deliver, Follow}
+use Rattle.ct_model.specs.Actor.{actor}
 use Rattle.ct_model.specs.AtValue.{Standing}
 use Rattle.ct_model.specs.Received.{Heard, Ballots, ballots, is_largest}
 use Rattle.ct_model.specs.Mapped.{heard_map, ballots_map}
@@ -64,28 +65,17 @@ module _ {w : Rehearsal} {p : ℕ} {seat : Seat} (a : IsActor w p seat) where
 -- the member may take no step
 
 module _ (w : Rehearsal) (p : ℕ) (refusal : Refusal) (a : IsAbsent w p refusal) where
+  none_of : (xs : List ((step : Step) × IsAbsent w (actor step) refusal)) → find (λ step. is_none (cause w step)) (map (λ x. x.0) xs) ≡ None
+  none_of [] = refl
+  none_of (x ∷ xs) = rw (cause-absent w x.0 refusal x.1) (none_of xs)
+
   refused : (o : Option ℕ) → find (λ step. is_none (cause w step))
       ((Deliver p ∷ Follow p ∷ Begin p ∷ []) ++ option_to_list (option_map (Choose p) o)
       ++ (Adopt p ∷ Conclude p ∷ Enter p ∷ Suspect p ∷ [])) ≡ None
-  refused None = rw (
-    cause-absent w (Deliver p) refusal a,
-    cause-absent w (Follow p) refusal a,
-    cause-absent w (Begin p) refusal a,
-    cause-absent w (Adopt p) refusal a,
-    cause-absent w (Conclude p) refusal a,
-    cause-absent w (Enter p) refusal a,
-    cause-absent w (Suspect p) refusal a,
-  ) refl
-  refused (Some q) = rw (
-    cause-absent w (Deliver p) refusal a,
-    cause-absent w (Follow p) refusal a,
-    cause-absent w (Begin p) refusal a,
-    cause-absent w (Choose p q) refusal a,
-    cause-absent w (Adopt p) refusal a,
-    cause-absent w (Conclude p) refusal a,
-    cause-absent w (Enter p) refusal a,
-    cause-absent w (Suspect p) refusal a,
-  ) refl
+  refused None = none_of ((Deliver p, a) ∷ (Follow p, a) ∷ (Begin p, a) ∷ (Adopt p, a) ∷ (Conclude p, a) ∷ (Enter p, a)
+      ∷ (Suspect p, a) ∷ [])
+  refused (Some q) = none_of ((Deliver p, a) ∷ (Follow p, a) ∷ (Begin p, a) ∷ (Choose p q, a) ∷ (Adopt p, a) ∷ (Conclude p, a)
+      ∷ (Enter p, a) ∷ (Suspect p, a) ∷ [])
 
   -- so none is next
   pub next_local-absent : next_local w p ≡ None

@@ -1,18 +1,15 @@
 -- Follow: why it is refused, by the seat, and the seat after it.
-use Rattle.std.proofs.Common.{◌≡◌, ℕ, ◌+◌, ◌-◌, ◌<◌, Bool, true, false, List, [], ◌∷◌, ◌++◌, length, set, refl, ap, sym, ◌∙◌}
-use Rattle.std.proofs.Common.{subst, arith, Option, Some, None, option_map}
+use Rattle.std.proofs.Common.{◌≡◌, ℕ, ◌+◌, ◌-◌, ◌<◌, Bool, true, false, List, [], ◌∷◌, ◌++◌, refl, ap, sym, ◌∙◌, subst, arith, Some, None}
 use Rattle.std.specs.Prelude.{is_some, is_none}
-use Rattle.std.specs.declared.alloc.Global.{Global}
-use Rattle.std.specs.declared.boxed.Box.{Box}
 use Rattle.ct_names.specs.declared.limit.TheConstants.{MAX_INSTANCES}
 use Rattle.ct_names.specs.declared.refusal.Refusal.TheVariants.{Busy, Undecided}
 use Rattle.ct_names.specs.Batch.{Batch}
 use Rattle.ct_names.specs.Value.{Value}
 use Rattle.ct_model.specs.declared.step.Step.TheVariants.{Follow}
-use Rattle.ct_model.specs.Cause.{at, first_fault, cause, order}
+use Rattle.ct_model.specs.Cause.{at, first_fault, cause}
 use Rattle.ct_model.specs.Next.{close, batch_of}
 use Rattle.ct_model.specs.Received.{decided}
-use Rattle.ct_model.specs.Rehearsal.{Rehearsal, state_of, extended}
+use Rattle.ct_model.specs.Rehearsal.{Rehearsal, state_of}
 use Rattle.ct_model.specs.State.{Member, member}
 use Rattle.ct_model.proofs.Record.Causes.{own_tests}
 use Rattle.ct_model.proofs.Record.Limits.{own_tests-is, cause-tested}
@@ -20,11 +17,10 @@ use Rattle.ct_model.proofs.Record.Taken.{IsTaken}
 use Rattle.ct_model.proofs.Steps.Follow.{cause-follow, IsFollowStep, follow_taken}
 use Rattle.ct_instances.specs.Keeping.{KeepsInstances}
 use Rattle.ct_instances.proofs.Keeping.{keeps-followed}
-use Rattle.ct_world.specs.declared.prepared.Prepared.TheVariants as made
 use Rattle.ct_world.specs.declared.seat.Seat.{Seat}
-use Rattle.ct_world.specs.Kept.{Fields, IsWorld, IsActor, HasDeliveryRoom, HasOwnRoom, delivery_cause, seat_of}
-use Rattle.ct_world.specs.Seats.{Keeps, Content, IsDeliverable, content, with_batch, with_next}
-use Rattle.ct_world.proofs.Deliveries.{IsClosing, IsDelivery, cause-delivery, closed_keeps, closed_steps, delivery_room, open_is, same_last}
+use Rattle.ct_world.specs.Kept.{Fields, IsActor, delivery_cause, seat_of}
+use Rattle.ct_world.specs.Seats.{Keeps, content, with_batch, with_next}
+use Rattle.ct_world.proofs.Deliveries.{IsClosing, IsDelivery, cause-delivery, closed_keeps, open_is}
 use Rattle.ct_world.specs.declared.world.World.TheInside.{Inside}
 use Rattle.ct_world.specs.World.{WorldView}
 use Rattle.ct_world.proofs.Insides.{IsAllowed, IsKeptIn, prepared_in, ready_in, view_in}
@@ -48,7 +44,7 @@ module _ {w : Rehearsal} {p : ℕ} {seat : Seat} (a : IsActor w p seat) where
       ∙ ap (λ k. delivery_cause w seat (k + 1)) (sym a.sits.keeps.instances.last)
 
 -- the seat after it, whose last instance is the next one
-followed_keeps : {n p : ℕ} {values : List Value} {m : Member} {seat new : Seat} (v : Value) → seat.instances.part ≡ None
+pub followed_keeps : {n p : ℕ} {values : List Value} {m : Member} {seat new : Seat} (v : Value) → seat.instances.part ≡ None
     → Keeps n values p m seat → content new ≡ content (with_batch (with_next seat) v)
     → Keeps n values p (close m (seat.instances.last + 1) v).member new
 followed_keeps {n} {p} {values} {m} {seat} v idle h same =
@@ -82,30 +78,16 @@ module _ {w : Rehearsal} {p : ℕ} {f : Fields} (may : IsAllowed w (Follow p) f)
     taken = subst (λ k. IsTaken w (Follow p) (close (member (state_of w) p) (k + 1) step.value)) (sym last_is) step.taken;
   }
 
-  -- the fields after it
-  pub follow_steps : {new : Fields} {v : Value} (seat : Seat) → v ≡ follow_due.value
-      → content seat ≡ content (with_batch (with_next (seat_of f.seats p)) v) → new.seats ≡ set f.seats (p - 1) seat
-      → new.network.sent ≡ f.network.sent → new.network.lines ≡ f.network.lines → new.book.values ≡ f.book.values
-      → IsWorld (extended w (Follow p)) new
-  follow_steps seat same followed = closed_steps may follow_due seat
-      (followed_keeps follow_due.value follow_idle may.keeps
-      (subst (λ x. content seat ≡ content (with_batch (with_next (seat_of f.seats p)) x)) same followed))
-      (ap (λ (c : Content). c.seat.submitted) followed) refl
-
-  -- the room that was made for it
-  pub follow_room : {new : Fields} {i id posted : ℕ} {batch : Option (Box Batch Global)} (seat : Seat) → content seat ≡ content
-      (seat_of f.seats p) → new.seats ≡ set f.seats (p - 1) seat → new.book.values ≡ f.book.values
-      → posted ≡ length (order (state_of w)) → i ≡ (seat_of f.seats p).instances.last + 1
-      → IsDeliverable f.book.values seat i posted id (option_map (λ b. b.value) batch)
-      → HasOwnRoom w new (Follow p) (Some (made.Follow p id batch))
-  follow_room {new} {i} {id} {posted} {batch} seat kept set_is values count instance found =
-      subst (λ k. HasDeliveryRoom w new (Follow p) (k + 1) (Some (made.Follow p id batch)))
-      (same_last may follow_due new seat kept set_is)
-      (delivery_room may follow_due seat kept set_is values count instance refl found)
-
 -- the step where it is prepared
 abbrev pub follow_in : (a : Inside) {v : WorldView} {p : ℕ} → view_in a ≡ v → IsKeptIn a → v.prepared ≡ Some (Follow p) →
-    IsDelivery a (Follow p) ((seat_of a.seats.items p).instances.last + 1)
+    IsDelivery a (Follow p) ((seat_of a.seats.items p).instances.last + 1) (λ seat v. with_batch (with_next seat) v)
 follow_in a view kept is =
     let may = prepared_in a view kept is in
-    record { may = may; due = follow_due may; room = (ready_in a view kept is).for_itself }
+    record {
+      may = may;
+      due = follow_due may;
+      room = (ready_in a view kept is).for_itself;
+      quiet = refl;
+      submitted = refl;
+      keeps = λ new same. followed_keeps (follow_due may).value (follow_idle may) may.keeps same;
+    }

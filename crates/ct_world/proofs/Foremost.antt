@@ -1,6 +1,6 @@
 -- The seat of the least of the members that delivered most batches.
-use Rattle.std.proofs.Common.{◌≡◌, ℕ, ◌+◌, ◌-◌, ◌<◌, ◌≤◌, true, false, List, [], ◌∷◌, ◌++◌, length, map, get_or, take, refl, ap, sym}
-use Rattle.std.proofs.Common.{◌∙◌, subst, arith}
+use Rattle.std.proofs.Common.{◌≡◌, ℕ, ◌+◌, ◌-◌, ◌<◌, ◌≤◌, true, List, [], ◌∷◌, ◌++◌, length, map, get_or, take, refl, ap, sym, ◌∙◌, subst}
+use Rattle.std.proofs.Common.{arith}
 use Rattle.std.specs.Prelude.{nat_lt, if◌then◌else◌}
 use Rattle.std.proofs.lemmas.Bool.Decides.{nat_tests}
 use Rattle.std.proofs.lemmas.List.{length-map, map_more, take_all, get_or-map, get_or_read, same_lists}
@@ -56,15 +56,10 @@ module _ (seats : List Seat) (i best : ℕ) (foremost : IsForemost seats i best)
       ∙ ap (λ list. if nat_lt (length list) (length (batches_at seats i)) then batches_at seats i else list) foremost.is
 
   pub foremost-more : length (batches_at seats best) < length (batches_at seats i) → IsForemost seats (i + 1) i
-  foremost-more more =
-      let test : nat_lt (length (batches_at seats best)) (length (batches_at seats i)) ≡ true = grind (arith, nat_tests) in
-      record { before = omega arith; is = one_more ∙ ap (λ b. if b then batches_at seats i else batches_at seats best) test }
+  foremost-more more = record { before = omega arith; is = grind (arith, nat_tests, one_more) }
 
   pub foremost-same : length (batches_at seats i) ≤ length (batches_at seats best) → IsForemost seats (i + 1) best
-  foremost-same few =
-      let test : nat_lt (length (batches_at seats best)) (length (batches_at seats i)) ≡ false = grind (arith, nat_tests) in
-      let before : best < i = foremost.before in
-      record { before = omega arith; is = one_more ∙ ap (λ b. if b then batches_at seats i else batches_at seats best) test }
+  foremost-same few = record { before = omega (arith, foremost.before); is = grind (arith, nat_tests, one_more) }
 
 -- the batches of a seat that is read
 pub batches_read : (seats : List Seat) (i : ℕ) (s : Seat) → i < length seats → s ≡ get_or seats i s →
@@ -87,18 +82,13 @@ module _ (w : Rehearsal) (f : Fields) (world : IsWorld w f) where
   batches_are =
       let seated : length f.seats ≡ w.setting.members = world.seated in
       let size : length (state_of w).members ≡ w.setting.members = world.lawful.size in
-      let left : length (all_batches f.seats) ≡ length f.seats = length-map f.seats (λ (s : Seat). s.caster.batches) in
-      let lists : length (map (λ (m : Member). m.batches) (state_of w).members) ≡ length (state_of w).members =
-      length-map (state_of w).members (λ (m : Member). m.batches) in
-      let right : length (map messages (map (λ (m : Member). m.batches) (state_of w).members))
-      ≡ length (map (λ (m : Member). m.batches) (state_of w).members) =
-      length-map (map (λ (m : Member). m.batches) (state_of w).members) messages in
-      same_lists (all_batches f.seats) (map messages (map (λ (m : Member). m.batches) (state_of w).members)) (omega arith)
+      same_lists (all_batches f.seats) (map messages (map (λ (m : Member). m.batches) (state_of w).members)) (simp length-map (omega arith))
       (λ k d h.
+      let within : k < length f.seats = simp length-map at h in
       get_or-map (λ (s : Seat). s.caster.batches) f.seats k no_seat d (omega arith)
       ∙ place_is k (omega arith)
       ∙ ap messages (sym (get_or-map (λ (m : Member). m.batches) (state_of w).members k new_member [] (omega arith)))
-      ∙ sym (get_or-map messages (map (λ (m : Member). m.batches) (state_of w).members) k [] d (omega arith)))
+      ∙ sym (get_or-map messages (map (λ (m : Member). m.batches) (state_of w).members) k [] d (simp length-map (omega arith))))
 
   module _ (best : ℕ) (foremost : IsForemost f.seats w.setting.members best) where
     -- its batches are the order

@@ -1,5 +1,6 @@
 -- The fields of a world, taken together.
-use Rattle.std.proofs.Common.{◌≡◌, ℕ, ◌+◌, ◌-◌, ◌<◌, ◌≤◌, true, List, [], ◌∷◌, ◌++◌, length, get_or, ap, ◌∙◌, sym, subst, Some, None, arith}
+use Rattle.std.proofs.Common.{◌≡◌, ℕ, ◌+◌, ◌-◌, ◌<◌, ◌≤◌, true, List, [], ◌∷◌, ◌++◌, length, get_or, refl, ap, ◌∙◌, sym, subst, Some, None}
+use Rattle.std.proofs.Common.{arith}
 use Rattle.std.specs.Prelude.{option_map, vec_len, vec_capacity}
 use Rattle.ct_names.specs.Group.{is_member}
 use Rattle.ct_model.specs.declared.step.Step.{Step}
@@ -38,6 +39,7 @@ pub record IsAllowed (w : Rehearsal) (step : Step) (f : Fields) : Type 0 where
   pub world : IsWorld w f
   pub allowed : cause w step ≡ None
   pub in_group : is_member w.setting.members (actor step) ≡ true
+  pub lined : is_member (length f.network.lines) (actor step) ≡ true
   pub low : 1 ≤ actor step
   pub within : actor step - 1 < length f.seats
   pub keeps : Keeps w.setting.members f.book.values (actor step) (member (state_of w) (actor step)) (seat_of f.seats (actor step))
@@ -49,17 +51,15 @@ IsAllowedIn a step = IsAllowed (rehearsal_in a) step (fields_in a)
 allowed_at : {w : Rehearsal} {step : Step} {f : Fields} → IsWorld w f → cause w step ≡ None → IsAllowed w step f
 allowed_at {w} {step} world allowed =
     let present = (cause-none w step allowed).present in
-    let within = place w.setting.members (actor step) present.in_group in
-    let count = world.submitted (actor step) present.in_group in
-    let none = submissions-none (actor step) in
     record {
       world = world;
       allowed = allowed;
       in_group = present.in_group;
+      lined = ap (λ n. is_member n (actor step)) world.lined ∙ present.in_group;
       low = member_low w.setting.members (actor step) present.in_group;
-      within = omega (arith, world.seated);
+      within = omega (arith, world.seated, place w.setting.members (actor step) present.in_group);
       keeps = world.seat (actor step) present.in_group;
-      submitted = omega arith;
+      submitted = omega (arith, world.submitted (actor step) present.in_group, submissions-none (actor step));
     }
 
 -- the step is allowed where its cause is None
@@ -87,21 +87,17 @@ seat_in a {step} {s} p e = seat_found a.seats.items (actor step) s p.within e
 pub done_in : (a : Inside) {v : WorldView} {step : Step} {o : Outcome} {steps : List Step} {more : ℕ} → view_in a ≡ v →
     IsAllowedIn a step → steps ≡ a.record.items ++ step ∷ [] → IsTaken (rehearsal_in a) step o → length (envelopes a.group o.mail) ≡ more →
     IsDone v.rehearsal step (record (rehearsal_in a) { steps = steps }) more
-done_in a {v} {step} {o} {steps} {more} view p pushed taken number =
+done_in a {v} {step} {o} view p pushed taken number =
     let w : Rehearsal = rehearsal_in a in
-    let is : record w { steps = steps } ≡ extended w step = ap (λ ss. record w { steps = ss }) pushed in
     let state = state-step w step o p.world.lawful taken in
-    subst (λ (x : WorldView). IsDone x.rehearsal step (record w { steps = steps }) more) view (record {
-      joined = is;
-      next = next-step w step o p.world.lawful taken ∙ ap (λ g. Some g) (sym state ∙ ap state_of (sym is));
-      sent_more = ap (λ r. length (state_of r).sent) is ∙ ap (λ (g : State). length g.sent) state
-          ∙ length-after-sent w.setting (state_of w) (actor step) o ∙ ap (λ k. length (state_of w).sent + k) number;
+    rw (← view, pushed) (record {
+      joined = refl;
+      next = next-step w step o p.world.lawful taken ∙ ap (λ g. Some g) (sym state);
+      sent_more = ap (λ (g : State). length g.sent) state ∙ length-after-sent w.setting (state_of w) (actor step) o
+          ∙ ap (λ k. length (state_of w).sent + k) number;
     })
 
 -- a world with one step more and none prepared
 pub kept_in : (a : Inside) (step : Step) {steps : List Step} {f : Fields} → steps ≡ a.record.items ++ step ∷ [] →
     IsWorld (extended (rehearsal_in a) step) f → IsKept (record (rehearsal_in a) { steps = steps }) None f
-kept_in a step {steps} {f} pushed world = record {
-  world = subst (λ ss. IsWorld (record (rehearsal_in a) { steps = ss }) f) (sym pushed) world;
-  ready = λ s e. some-none s e;
-}
+kept_in a step pushed world = rw pushed (record { world = world; ready = λ s e. some-none s e })

@@ -1,30 +1,16 @@
 -- A watcher that looks at the batches of the order.
-use Rattle.std.proofs.Common.{◌≡◌, ℕ, zero, suc, ◌+◌, ◌≤◌, List, [], ◌∷◌, Option, Some, length, map, refl, ap, sym, ◌∙◌, arith}
+use Rattle.std.proofs.Common.{◌≡◌, ℕ, ◌+◌, List, Option, Some, map, ap, sym, ◌∙◌}
 use Rattle.std.specs.Prelude.{slice_get}
+use Rattle.std.proofs.lemmas.Option.{slice_get-map}
 use Rattle.ct_names.specs.Batch.{Batch}
 use Rattle.ct_names.specs.Message.{Message}
 use Rattle.ct_model.specs.Cause.{order}
 use Rattle.ct_model.specs.Rehearsal.{Rehearsal, state_of}
 use Rattle.ct_model.specs.Run.{run}
-use Rattle.ct_model.proofs.Basics.Options.{some-same, some-none}
+use Rattle.ct_model.proofs.Basics.Options.{made-map}
 use Rattle.ct_model.proofs.Delivery.Prefixes.{order-instance}
 use Rattle.ct_board.specs.Known.{Keeps, Knows}
-use Rattle.ct_board.specs.Watched.{Watched}
-use Rattle.ct_board.proofs.Meeting.{KnowsBelow, IsMet, knows_more, met}
-
--- the batch whose messages stand at a place
-record IsThere (list : List Batch) (n : ℕ) (messages : List Message) : Type 0 where
-  batch : Batch
-  at : slice_get list n ≡ Some batch
-  has : batch.messages ≡ messages
-
-there : (list : List Batch) (n : ℕ) (messages : List Message) → slice_get (map (λ (b : Batch). b.messages) list) n ≡ Some messages →
-    IsThere list n messages
-there [] n messages e = some-none messages e
-there (x ∷ list) zero messages e = record { batch = x; at = refl; has = some-same x.messages messages e }
-there (x ∷ list) (suc n) messages e =
-    let t = there list n messages e in
-    record { batch = t.batch; at = t.at; has = t.has }
+use Rattle.ct_board.proofs.Meeting.{KnowsBelow, knows_more}
 
 same_batch : (b found : Batch) (instance : ℕ) (messages : List Message) → b.instance ≡ instance → b.messages ≡ messages →
     found ≡ record { instance = instance; messages = messages } → b ≡ found
@@ -36,13 +22,8 @@ pub finds_more : (w : Rehearsal) (old new : List (Option Batch)) (n : ℕ) (foun
     found ≡ record { instance = n + 1; messages = messages } → KnowsBelow (order (state_of w)) old n → Keeps old new → Knows new n found →
     KnowsBelow (order (state_of w)) new (n + 1)
 finds_more w old new n found messages runs here is before keeps known =
-    let t = there (order (state_of w)) n messages here in
-    let same : t.batch ≡ found = same_batch t.batch found (n + 1) messages
-    (order-instance w.setting w.steps (state_of w) runs n t.batch t.at) t.has is in
-    knows_more (order (state_of w)) old new n found before keeps known (t.at ∙ ap Some same)
-
--- it found all of them
-pub is_met : (w : Rehearsal) (watcher : Watched) (n : ℕ) → length (order (state_of w)) ≤ n →
-    KnowsBelow (order (state_of w)) watcher.notes n → watcher.read ≤ length (order (state_of w)) →
-    watcher.told ≤ length (order (state_of w)) → IsMet (order (state_of w)) watcher
-is_met w watcher n all known read told = met (order (state_of w)) watcher (λ k b less at. known k b (omega arith) at) read told
+    let t = made-map (λ (b : Batch). b.messages) (slice_get (order (state_of w)) n) messages
+    (sym (slice_get-map (λ (b : Batch). b.messages) (order (state_of w)) n) ∙ here) in
+    let same : t.from ≡ found = same_batch t.from found (n + 1) messages
+    (order-instance w.setting w.steps (state_of w) runs n t.from t.is) t.gives is in
+    knows_more (order (state_of w)) old new n found before keeps known (t.is ∙ ap Some same)

@@ -41,15 +41,6 @@ same_first : (k x : ℕ) (xs : List ℕ) → true ≡ (x == k) → (not (has_ser
     filter (λ q. not (q == k)) (x ∷ xs) ≡ xs
 same_first k x xs is d = grind (arith, none_left k xs)
 
-kept_first : (k x : ℕ) (xs : List ℕ) → false ≡ (x == k) → x ∷ filter (λ q. not (q == k)) xs ≡ filter (λ q. not (q == k)) (x ∷ xs)
-kept_first k x xs is = rw (← is) refl
-
-later : (x : ℕ) (xs : List ℕ) (i : ℕ) → remove (x ∷ xs) (1 + i) ≡ x ∷ remove xs i
-later x xs i = rw one-add refl
-
-later_item : (x : ℕ) (xs : List ℕ) (i : ℕ) → slice_index_or (x ∷ xs) (1 + i) 0 ≡ slice_index_or xs i 0
-later_item x xs i = rw one-add refl
-
 pub record IsWithout (k : ℕ) (xs : List ℕ) (i : ℕ) : Type 0 where
   pub within : i < length xs
   pub rest : remove xs i ≡ filter (λ q. not (q == k)) xs
@@ -70,9 +61,8 @@ without k (x ∷ xs) d h = go (x == k) refl h (without k xs (and_right (not (has
         let r = ih h in
         record {
           within = omega (arith, r.within);
-          rest = later x xs (position_or_len (λ q. q == k) xs) ∙ ap (λ l. x ∷ l) r.rest
-              ∙ kept_first k x xs is;
-          item = later_item x xs (position_or_len (λ q. q == k) xs) ∙ r.item;
+          rest = rw (one-add, r.rest, ← is) refl;
+          item = rw one-add r.item;
         }
 
 -- a serial that has a place is there

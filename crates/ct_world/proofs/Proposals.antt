@@ -1,5 +1,5 @@
 -- A step proposes one value at most, so there are no more values than steps.
-use Rattle.std.proofs.Common.{◌≡◌, ℕ, ◌+◌, ◌≤◌, List, [], ◌∷◌, length, refl, ap, sym, ◌∙◌, subst, arith, Some}
+use Rattle.std.proofs.Common.{◌≡◌, ℕ, ◌+◌, ◌≤◌, List, [], ◌∷◌, length, refl, ap, subst, arith, Some}
 use Rattle.std.proofs.lemmas.List.{length-append, length-map}
 use Rattle.ct_names.specs.declared.limit.TheConstants.{MAX_STEPS}
 use Rattle.ct_model.specs.declared.step.Step.{Step}
@@ -37,9 +37,8 @@ next-number : (s : Setting) (g : State) (step : Step) (h : State) → next s g s
 next-number s g step h e =
     let made = next-is s g step h e in
     let one = row-proposes s g (actor step) (member g (actor step)) step made.outcome made.row in
-    let number : length h.proposals ≡ length g.proposals + length made.outcome.proposals =
-    ap (λ (x : State). length x.proposals) (sym made.gives) ∙ after-number s g (actor step) made.outcome in
-    omega arith
+    let same = ap (λ (x : State). length x.proposals) made.gives in
+    omega (arith, after-number s g (actor step) made.outcome)
 
 run-number : (s : Setting) (g : State) (steps : List Step) (h : State) → run_from s g steps ≡ Some h →
     length h.proposals ≤ length g.proposals + length steps
@@ -61,9 +60,9 @@ unfolding run
 few-proposals s steps h e = grind (arith, run-number s (first_state s) steps h e, first-number s)
 
 pub few-values : (w : Rehearsal) → IsLawful w → length (values_of (state_of w)) ≤ MAX_STEPS
-few-values w law =
-    let number : length (values_of (state_of w)) ≡ length (state_of w).proposals =
-    length-map (state_of w).proposals (λ (x : Proposal). x.value) in
-    let all = few-proposals w.setting w.steps (state_of w) law.runs in
-    let few = law.within.few_steps in
-    omega arith
+few-values w law = omega (
+  arith,
+  length-map (state_of w).proposals (λ (x : Proposal). x.value),
+  few-proposals w.setting w.steps (state_of w) law.runs,
+  law.within.few_steps,
+)

@@ -8,16 +8,14 @@ use Rattle.ct_names.specs.declared.refusal.Refusal.TheVariants.{Busy, Nothing, F
 use Rattle.ct_names.specs.declared.limit.Limit.TheVariants.{Instances}
 use Rattle.ct_names.specs.Value.{Value}
 use Rattle.ct_model.specs.declared.step.Step.TheVariants.{Begin}
-use Rattle.ct_model.specs.Received.{received}
 use Rattle.ct_model.specs.State.{Member, member, joined as model_joined}
 use Rattle.ct_names.specs.Batch.{Batch}
 use Rattle.ct_model.specs.Next.{begin, undelivered, proposed, is_empty}
 use Rattle.ct_model.specs.Setting.{Setting}
 use Rattle.ct_model.specs.Rehearsal.{Rehearsal, state_of, extended}
-use Rattle.ct_model.specs.Cause.{at, first_fault, or_else, cause, overflow}
+use Rattle.ct_model.specs.Cause.{at, first_fault, cause, overflow}
 use Rattle.ct_model.proofs.Record.Causes.{own_tests}
 use Rattle.ct_model.proofs.Steps.Begin.{IsBeginStep, begin_taken, cause-begin}
-use Rattle.ct_model.proofs.Record.Taken.{IsTaken}
 use Rattle.ct_model.proofs.Record.Limits.{own_tests-is, cause-tested}
 use Rattle.ct_abcast.specs.Batches.{joined}
 use Rattle.ct_abcast.specs.Cast.{undelivered as cast_undelivered}
@@ -33,8 +31,8 @@ use Rattle.ct_instances.specs.Kept.{has_room_open}
 use Rattle.ct_world.proofs.Insides.{IsAllowed}
 use Rattle.ct_world.proofs.Members.{seat-same}
 use Rattle.ct_world.proofs.Proposals.{few-values}
-use Rattle.ct_world.proofs.Posts.{stepped-quiet}
-use Rattle.ct_world.proofs.Refines.{refined}
+use Rattle.ct_world.proofs.Posts.{left-plain}
+use Rattle.ct_world.proofs.Refines.{refined-quiet, seat-kept}
 
 some-mapped : {A B : Type 0} (f : A → B) (o : Option A) → is_some (option_map f o) ≡ is_some o
 some-mapped f o = grind arith
@@ -110,9 +108,7 @@ module _ {w : Rehearsal} {p : ℕ} {seat : Seat} (a : IsActor w p seat) where
   pub begin_free : is_some seat.instances.part ≡ false → nat_lt 0 (length (cast_undelivered seat.caster)) ≡ true →
       seat.instances.last < MAX_INSTANCES → cause w (Begin p) ≡ overflow w 0
   begin_free e f few =
-      let last : seat.instances.last ≡ (member (state_of w) p).last = a.sits.keeps.instances.last in
-      let t : nat_lt MAX_INSTANCES ((member (state_of w) p).last + 1) ≡ false = grind (arith, nat_tests) in
-      cause-begin w p a.lawful a.present (tested e f) ∙ ap (λ b. or_else (first_fault (at (Full Instances) b ∷ [])) (overflow w 0)) t
+      grind (arith, nat_tests, a.sits.keeps.instances.last, cause-begin w p a.lawful a.present (tested e f))
 
 -- the seat after its next instance was opened with a value
 abbrev pub begun : Seat → ℕ → Seat
@@ -120,16 +116,8 @@ begun seat id = record seat { instances = opened seat.instances id; caster = rec
 
 begun_keeps : (s : Setting) {n p : ℕ} {values : List Value} {m : Member} {seat : Seat} → Keeps n values p m seat →
     Keeps n (values ++ proposed s m ∷ []) p (begin s p m).member (begun seat (length values))
-begun_keeps s {n} {p} {values} {m} {seat} k = record {
-  crashed = k.crashed;
-  me = k.me;
-  taken = k.taken;
-  received = k.received;
-  batches = k.batches;
-  table = k.table;
-  begun = ap (λ i. i + 1) k.begun;
-  instances = keeps-opened n values p m seat.instances (proposed s m) k.instances;
-}
+begun_keeps s {n} {p} {values} {m} {seat} k = seat-kept k k.crashed refl refl refl refl refl refl (ap (λ i. i + 1) k.begun)
+    (keeps-opened n values p m seat.instances (proposed s m) k.instances)
 
 pub nothing-some : {A : Type 0} (o : Option A) → is_some o ≡ false → o ≡ None
 nothing-some o e = grind arith
@@ -137,9 +125,6 @@ nothing-some o e = grind arith
 module _ {w : Rehearsal} {p : ℕ} {f : Fields} (may : IsAllowed w (Begin p) f) where
   step : IsBeginStep w p
   step = begin_taken w p may.world.lawful may.allowed
-
-  pub begin_taking : IsTaken w (Begin p) (begin w.setting p (member (state_of w) p))
-  begin_taking = step.taken
 
   -- a Begin opens the instance and writes the value into the book
   pub begin_steps : {new : Fields} → new.seats ≡ set f.seats (p - 1) (begun (seat_of f.seats p) (length f.book.values)) →
@@ -149,12 +134,14 @@ module _ {w : Rehearsal} {p : ℕ} {f : Fields} (may : IsAllowed w (Begin p) f) 
   begin_steps {new} seats sent lines values =
       let grown : new.book.values ≡ f.book.values ++ proposed w.setting (member (state_of w) p) ∷ [] =
       values ∙ ap (λ v. f.book.values ++ v ∷ []) (proposed-same w.setting may.keeps) in
-      refined may.world step.taken (stepped-quiet (begun (seat_of f.seats p) (length f.book.values)) refl (record {
+      refined-quiet may.world step.taken (left-plain may.world.lined refl sent lines) (record {
+        seat = begun (seat_of f.seats p) (length f.book.values);
+        named = refl;
         values = grown;
         seats = seats;
         keeps = rw grown (begun_keeps w.setting may.keeps);
         submitted = may.submitted;
-      }) refl sent lines)
+      })
 
   -- no instance is open at the seat, and fewer than 1,024 began
 

@@ -11,7 +11,7 @@ use Rattle.ct_names.proofs.Lists.{found-list_any, list_any-found}
 use Rattle.ct_names.proofs.Values.{in-has, has-in}
 use Rattle.ct_model.specs.AtValue.{Wire}
 use Rattle.ct_model.specs.declared.wire.Wire.{Wire as AnyWire}
-use Rattle.ct_model.specs.declared.wire.Wire.TheVariants.{Data, Est, Prop, Ack, Nack, Dec}
+use Rattle.ct_model.specs.declared.wire.Wire.TheVariants.{Data, Dec}
 use Rattle.ct_model.specs.Setting.{Setting}
 use Rattle.ct_model.specs.State.{State, Member, member}
 use Rattle.ct_model.specs.Received.{received, is_decision, message_of}
@@ -100,10 +100,7 @@ first-received ids (Data m) (id.Data o n) = first-with ids (id.Data m.origin m.n
 first-received ids (Data m) (id.Dec k r) = first-with ids (id.Data m.origin m.number) (id.Dec k r)
 first-received ids (Dec k r v) (id.Data o n) = first-with ids (id.Dec k r) (id.Data o n)
 first-received ids (Dec k r v) (id.Dec j q) = grind (arith, first-with ids (id.Dec k r) (id.Dec j q), both_swapped j k q r)
-first-received ids (Est k r p v t) other = still ids (Est k r p v t) other (no_name other (Est k r p v t) (λ k r. refl) (λ o n. refl))
-first-received ids (Prop k r v) other = still ids (Prop k r v) other (no_name other (Prop k r v) (λ k r. refl) (λ o n. refl))
-first-received ids (Ack k r p) other = still ids (Ack k r p) other (no_name other (Ack k r p) (λ k r. refl) (λ o n. refl))
-first-received ids (Nack k r p) other = still ids (Nack k r p) other (no_name other (Nack k r p) (λ k r. refl) (λ o n. refl))
+first-received ids x other = still ids x other (no_name other x (λ k r. refl) (λ o n. refl))
 
 -- wires of one meaning have the same names
 same_name : (values : List Value) (name : RelayId) (x : AnyWire ℕ) (w : Wire) → NamesWire values x w → has_name name x ≡ has_name name w
@@ -146,11 +143,7 @@ module _ {n p : ℕ} {values : List Value} {m : Member} {seat : Seat} (k : Keeps
   received_push : (x : AnyWire ℕ) (w : Wire) → NamesWire values x w → IsKnown m.got w →
       received_with seat.relay.ids seat.caster.received x ≡ received (m.got ++ w ∷ [])
   received_push (Data msg) w e known = grind (arith, named_data values msg w e, received-push m.got (Data msg))
-  received_push (Est j r q v t) w e known = k.received ∙ sym (received_silent w (sym (named_message values (Est j r q v t) w e)))
-  received_push (Prop j r v) w e known = k.received ∙ sym (received_silent w (sym (named_message values (Prop j r v) w e)))
-  received_push (Ack j r q) w e known = k.received ∙ sym (received_silent w (sym (named_message values (Ack j r q) w e)))
-  received_push (Nack j r q) w e known = k.received ∙ sym (received_silent w (sym (named_message values (Nack j r q) w e)))
-  received_push (Dec j r v) w e known = k.received ∙ sym (received_silent w (sym (named_message values (Dec j r v) w e)))
+  received_push x w e known = k.received ∙ sym (received_silent w (sym (named_message values x w e)))
 
   -- the seat keeps what the member is after it got the wire
   pub receive_keeps : {new : Seat} (x : AnyWire ℕ) (w : Wire) → NamesWire values x w → NamesSomebody w → IsKnown m.got w →

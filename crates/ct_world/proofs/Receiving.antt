@@ -1,38 +1,32 @@
 -- Receive.
-use Rattle.std.proofs.Common.{◌≡◌, ℕ, ◌+◌, ◌-◌, ◌<◌, ◌≤◌, Bool, true, not, List, ◌++◌, length, set, filter, Some, refl, ap, sym, ◌∙◌}
-use Rattle.std.proofs.Common.{subst, arith, append-nil}
-use Rattle.std.specs.Prelude.{Option, ◌==◌, if◌then◌else◌}
+use Rattle.std.proofs.Common.{◌≡◌, ℕ, ◌-◌, ◌<◌, Bool, true, List, length, set, Some, refl, ap, sym, ◌∙◌, subst, append-nil}
+use Rattle.std.specs.Prelude.{Option, if◌then◌else◌}
 use Rattle.std.proofs.lemmas.List.{length-set}
-use Rattle.ct_names.specs.declared.limit.TheConstants.{MAX_ENVELOPES}
-use Rattle.ct_names.specs.Group.{is_member}
 use Rattle.ct_model.specs.declared.step.Step.TheVariants.{Receive}
 use Rattle.ct_model.specs.Cause.{cause, overflow}
 use Rattle.ct_model.specs.Counted.{NamesSomebody}
 use Rattle.ct_model.specs.Lawful.{is_waiting}
-use Rattle.ct_model.specs.Next.{receive, is_relayed}
+use Rattle.ct_model.specs.Next.{is_relayed}
 use Rattle.ct_model.specs.Rehearsal.{Rehearsal, state_of, extended}
 use Rattle.ct_model.specs.State.{member, at_serial}
-use Rattle.ct_model.specs.Waiting.{changed, without, serials_to}
-use Rattle.ct_model.specs.Waiting.LineChange.{Takes}
-use Rattle.ct_model.specs.Wire.{envelopes}
+use Rattle.ct_model.specs.Waiting.{without}
 use Rattle.ct_model.specs.declared.envelope.Envelope.{Envelope as AnyEnvelope}
 use Rattle.ct_model.specs.declared.mail.Mail.{Mail as AnyMail}
 use Rattle.ct_model.specs.declared.mail.Mail.TheVariants.{Nobody, All}
-use Rattle.ct_model.proofs.Record.Frame.{length-after-sent}
 use Rattle.ct_model.proofs.Basics.Options.{some-same}
 use Rattle.ct_model.proofs.Steps.Receive.{receive_outcome, receive_outcome-is, receive_taken, receive_waits, cause-receive}
 use Rattle.ct_model.proofs.Record.Taken.{IsTaken}
 use Rattle.ct_network.specs.Network.{NetworkView, line_at}
 use Rattle.ct_instances.specs.Named.{NamesWire, NamesMail}
-use Rattle.ct_instances.proofs.Named.{named_all, named_sender, named_wire, named_posts, named_length}
+use Rattle.ct_instances.proofs.Named.{named_all, named_sender, named_wire}
 use Rattle.ct_world.specs.declared.seat.Seat.{Seat}
 use Rattle.ct_world.specs.Seats.{HasReceived, CanReceive, is_passed_on, passed_on}
 use Rattle.ct_world.specs.Kept.{Fields, IsWorld, IsActor, values_of, seat_of}
 use Rattle.ct_world.proofs.Insides.{IsAllowed}
 use Rattle.ct_world.proofs.Members.{seat-same}
-use Rattle.ct_world.proofs.Posts.{IsPosted, changed_line}
+use Rattle.ct_world.proofs.Posts.{IsPosted, left-changed}
 use Rattle.ct_world.proofs.Receipts.{receive_keeps, passes}
-use Rattle.ct_world.proofs.Refines.{IsStepped, refined}
+use Rattle.ct_world.proofs.Refines.{refined}
 use Rattle.ct_world.proofs.Waits.{IsAwaited, awaited-is}
 
 -- why it is refused
@@ -51,16 +45,6 @@ cause_by {w} {f} {p} k {seat = seat} {x} world actor members waits is passed =
 pub left_lined : (lines : List (List ℕ)) {left : List (List ℕ)} {n : ℕ} (i : ℕ) (line : List ℕ) → left ≡ set lines i line →
     length lines ≡ n → length left ≡ n
 left_lined lines i line is lined = ap length is ∙ length-set lines i line ∙ lined
-
--- what the step does to the fields
-pub record HasTaken (n p k : ℕ) (f new : Fields) (x : AnyEnvelope ℕ) (seat : Seat) (mail : AnyMail ℕ) (left : NetworkView) : Type 0 where
-  pub received : HasReceived (seat_of f.seats p) x.wire seat
-  pub mail_is : mail ≡ passed_on n (seat_of f.seats p).relay x.wire
-  pub lines : left.lines ≡ set f.network.lines (p - 1) (filter (λ other. not (other == k)) (line_at f.network.lines p))
-  pub sent : left.sent ≡ f.network.sent
-  pub posted : IsPosted left new.network mail
-  pub seats : new.seats ≡ set f.seats (p - 1) seat
-  pub values : new.book.values ≡ f.book.values
 
 -- a Receive that is allowed waits
 pub receive_awaits : {w : Rehearsal} {p k : ℕ} {f : Fields} → IsAllowed w (Receive p k) f → is_waiting w p k ≡ true
@@ -84,7 +68,7 @@ module _ {w : Rehearsal} {p k : ℕ} {f : Fields} {x : AnyEnvelope ℕ} (may : I
   -- the mail
 
   module _ {mail : AnyMail ℕ} (mail_is : mail ≡ passed_on w.setting.members (seat_of f.seats p).relay x.wire) where
-    named_mail : NamesMail f.book.values mail (receive_outcome w p carried.envelope.wire).mail
+    pub named_mail : NamesMail f.book.values mail (receive_outcome w p carried.envelope.wire).mail
     named_mail =
         let b : Bool = is_relayed w.setting p (member (state_of w) p).got carried.envelope.wire in
         rw (receive_outcome-is w p carried.envelope.wire)
@@ -93,59 +77,23 @@ module _ {w : Rehearsal} {p k : ℕ} {f : Fields} {x : AnyEnvelope ℕ} (may : I
         (passes may.keeps w.setting x.wire carried.envelope.wire refl names carried.known)))
         (named_all f.book.values b x.wire carried.envelope.wire names))
 
-    pub number_posted : {n : ℕ} → n ≡ w.setting.members →
-        length (envelopes w.setting.members (receive_outcome w p carried.envelope.wire).mail) ≡ length (envelopes n mail)
-    number_posted members =
-        let mo = (receive_outcome w p carried.envelope.wire).mail in
-        sym (named_length f.book.values (envelopes w.setting.members mail) (envelopes w.setting.members mo)
-        (named_posts f.book.values w.setting.members mail mo named_mail))
-        ∙ ap (λ j. length (envelopes j mail)) (sym members)
-
-    pub few_posted : {n : ℕ} {sent : List (AnyEnvelope ℕ)} → n ≡ w.setting.members → sent ≡ f.network.sent →
-        length sent + length (envelopes n mail) ≤ MAX_ENVELOPES
-    few_posted members same =
-        let few = received_taken.within.few_envelopes in
-        let all = length-after-sent w.setting (state_of w) p (receive_outcome w p carried.envelope.wire) in
-        let number = number_posted members in
-        let was = named_length f.book.values f.network.sent (state_of w).sent may.world.sent in
-        let as_many = ap length same in
-        omega arith
-
-  module _ {new : Fields} {seat : Seat} {mail : AnyMail ℕ} {left : NetworkView} (t : HasTaken w.setting.members p k f new x seat mail left)
-    where
-      lined : length left.lines ≡ w.setting.members
-      lined = left_lined _ _ _ t.lines may.world.lined
-
-      line : (q : ℕ) → is_member w.setting.members q ≡ true → line_at new.network.lines q ≡ changed q (Takes p k)
-          (line_at f.network.lines q)
-          ++ serials_to q (length f.network.sent) (envelopes w.setting.members mail)
-      line q group =
-          t.posted.joined q (ap (λ n. is_member n q) lined ∙ group)
-          ∙ ap (λ n. line_at left.lines q ++ serials_to q (length left.sent) (envelopes n mail)) lined
-          ∙ ap (λ (es : List (AnyEnvelope ℕ)). line_at left.lines q ++ serials_to q (length es) (envelopes w.setting.members mail))
-          t.sent
-          ∙ ap (λ ks. ks ++ serials_to q (length f.network.sent) (envelopes w.setting.members mail))
-          (ap (λ ls. line_at ls q) t.lines
-          ∙ changed_line f.network.lines w.setting.members p q (without k) may.world.lined may.in_group group)
-
-      stepped : IsStepped w (Receive p k) (receive_outcome w p carried.envelope.wire) f new
-      stepped = rw (receive_outcome-is w p carried.envelope.wire) (record {
-        posts = envelopes w.setting.members mail;
+  -- the fields after it
+  pub receive_steps : {new : Fields} {seat : Seat} {mail : AnyMail ℕ} {left : NetworkView} → HasReceived (seat_of f.seats p) x.wire seat
+      → mail ≡ passed_on w.setting.members (seat_of f.seats p).relay x.wire → left.sent ≡ f.network.sent
+      → left.lines ≡ set f.network.lines (p - 1) (without k (line_at f.network.lines p)) → IsPosted left new.network mail
+      → new.seats ≡ set f.seats (p - 1) seat → new.book.values ≡ f.book.values → IsWorld (extended w (Receive p k)) new
+  receive_steps {seat = seat} {mail = mail} {left = left} received mail_is sent lines posted seats values =
+      refined {mail = mail} {left = left} may.world received_taken
+      (left-changed (without k) (λ q line. refl) may.world.lined may.in_group sent lines)
+      (rw (receive_outcome-is w p carried.envelope.wire) (record {
         seat = seat;
-        values = t.values ∙ sym (append-nil f.book.values);
-        posted = rw t.values (named_posts f.book.values w.setting.members mail
-            (receive w.setting p (member (state_of w) p) carried.envelope.wire).mail
-            (rw (receive_outcome-is w p carried.envelope.wire) at (named_mail t.mail_is)));
-        sent = t.posted.sent ∙ ap (λ n. left.sent ++ envelopes n mail) lined ∙ ap (λ es. es ++ envelopes w.setting.members mail) t.sent;
-        lined = t.posted.lined ∙ lined ∙ sym may.world.lined;
-        line = line;
-        seats = t.seats;
-        keeps = rw t.values (receive_keeps may.keeps x.wire carried.envelope.wire names carried.somebody carried.known t.received);
-        submitted = t.received.submitted ∙ may.submitted;
-      })
-
-      pub receive_steps : IsWorld (extended w (Receive p k)) new
-      receive_steps = refined may.world received_taken stepped
+        named = rw values (rw (receive_outcome-is w p carried.envelope.wire) at (named_mail mail_is));
+        values = values ∙ sym (append-nil f.book.values);
+        seats = seats;
+        keeps = rw values (receive_keeps may.keeps x.wire carried.envelope.wire names carried.somebody carried.known received);
+        submitted = received.submitted ∙ may.submitted;
+      }))
+      posted
 
 -- room for it
 pub receive_room : (seats : List Seat) (p : ℕ) (seat : Seat) {o : Option (AnyEnvelope ℕ)} {x : AnyEnvelope ℕ} → p - 1 < length seats →

@@ -1,8 +1,8 @@
 -- Lists of seats that are made one by one.
-use Rattle.std.proofs.Common.{◌≡◌, ℕ, ◌+◌, ◌<◌, ◌≤◌, List, [], ◌∷◌, ◌++◌, length, get_or, take, refl, ap, sym, ◌∙◌, subst, arith, inl}
-use Rattle.std.proofs.Common.{inr, length-append}
+use Rattle.std.proofs.Common.{◌≡◌, ℕ, ◌+◌, ◌<◌, List, [], ◌∷◌, ◌++◌, length, get_or, take, refl, ap, sym, ◌∙◌, subst, arith, inl, inr}
+use Rattle.std.proofs.Common.{length-append}
 use Rattle.std.proofs.lemmas.Bool.{cases_lt}
-use Rattle.std.proofs.lemmas.List.{length-map, map-append, get_or_append_left, get_or_push, take_more, take_all}
+use Rattle.std.proofs.lemmas.List.{length-map, map-append, get_or_append_left, get_or_push, take_more}
 use Rattle.ct_world.specs.declared.seat.Seat.{Seat}
 use Rattle.ct_world.specs.Seats.{AreNewSeats, AreSameSeats, content, new_seat}
 
@@ -24,19 +24,10 @@ new-more n k seats s a new =
       ];
     }
 
-pub new-all : (n k : ℕ) (seats : List Seat) → k ≡ n → AreNewSeats n k seats → AreNewSeats n n seats
-new-all n k seats e a = subst (λ j. AreNewSeats n j seats) e a
-
 pub same_length : (old new : List Seat) → AreSameSeats old new → length new ≡ length old
 same_length old new same = sym (length-map new content) ∙ ap length same ∙ length-map old content
-
-pub same-none : AreSameSeats [] []
-same-none = refl
 
 pub same-more : (old new : List Seat) (i : ℕ) (s t : Seat) → AreSameSeats (take i old) new → i < length old → s ≡ get_or old i s
     → content t ≡ content s → AreSameSeats (take (i + 1) old) (new ++ t ∷ [])
 same-more old new i s t a within is same =
     grind (arith, map-append content new (t ∷ []), map-append content (take i old) (s ∷ []), take_more old i s within)
-
-pub same-all : (old new : List Seat) (i : ℕ) → length old ≤ i → AreSameSeats (take i old) new → AreSameSeats old new
-same-all old new i all a = subst (λ xs. AreSameSeats xs new) (take_all i old all) a

@@ -1,7 +1,7 @@
 -- What is read off a world's fields.
-use Rattle.std.proofs.Common.{◌≡◌, ℕ, zero, suc, ◌-◌, ◌≤◌, List, [], ◌∷◌, ◌++◌, map, slice_get, Option, Some, None, option_map, refl, ap}
-use Rattle.std.proofs.Common.{sym, ◌∙◌, subst, arith}
-use Rattle.std.specs.Prelude.{option_and_then, flat_map}
+use Rattle.std.proofs.Common.{◌≡◌, ℕ, zero, suc, ◌-◌, ◌≤◌, List, map, slice_get, Option, Some, None, option_map, refl, ap, sym, ◌∙◌, subst}
+use Rattle.std.proofs.Common.{arith}
+use Rattle.std.specs.Prelude.{option_and_then}
 use Rattle.std.proofs.lemmas.Option.{slice_get-map}
 use Rattle.ct_names.specs.Value.{Value}
 use Rattle.ct_model.specs.AtValue.{Envelope}
@@ -9,16 +9,16 @@ use Rattle.ct_model.specs.declared.envelope.Envelope.{Envelope as AnyEnvelope}
 use Rattle.ct_model.specs.Mapped.{without_value}
 use Rattle.ct_model.specs.Wire.{value_of}
 use Rattle.ct_model.specs.State.{at_serial, delivered}
-use Rattle.ct_names.specs.Batch.{Batch}
 use Rattle.ct_model.specs.Received.{received_by}
 use Rattle.ct_model.specs.Rehearsal.{Rehearsal, state_of}
 use Rattle.ct_abcast.specs.Batches.{joined}
 use Rattle.ct_table.specs.Table.{table}
-use Rattle.ct_instances.specs.Named.{NamesEnvelopes, NamesEnvelope, NamesDecision}
+use Rattle.ct_instances.specs.Named.{NamesEnvelopes, NamesDecision}
 use Rattle.ct_instances.proofs.Named.{named_without_value, named_at, named_value, named_wire, named_some, named_none}
 use Rattle.ct_world.specs.declared.seat.Seat.{Seat}
 use Rattle.ct_world.specs.Kept.{IsSeatOf}
 use Rattle.ct_world.specs.World.{member_of, of_member}
+use Rattle.ct_world.proofs.Proposing.{delivered-same}
 
 -- envelopes without their values
 
@@ -42,11 +42,8 @@ module _ (values : List Value) (xs : List (AnyEnvelope ℕ)) (es : List Envelope
   pub carried_named : NamesDecision values (value_of x.wire) (carried es k)
   carried_named =
       let found = named_at values xs es k x names there in
-      let e : Envelope = found.0 in
-      let is : at_serial es k ≡ Some e = found.1 in
-      let same : NamesEnvelope values x e = found.2 in
-      named_value values x.wire e.wire (named_wire values x e same)
-      ∙ ap (option_map Some) (ap (λ (o : Option Envelope). option_and_then (λ z. value_of z.wire) o) (sym is))
+      named_value values x.wire found.0.wire (named_wire values x found.0 found.2)
+      ∙ ap (λ (o : Option Envelope). option_map Some (option_and_then (λ z. value_of z.wire) o)) (sym found.1)
 
   -- it carries none
   pub carried_none : value_of x.wire ≡ None → carried es k ≡ None
@@ -69,11 +66,7 @@ module _ {w : Rehearsal} {p : ℕ} {seat : Seat} (sits : IsSeatOf w p seat) wher
   received_is = sits.keeps.received
 
   pub delivered_is : joined seat.caster.batches ≡ delivered (member_of w p)
-  delivered_is = ap joined sits.keeps.batches ∙ go (member_of w p).batches
-    where
-      go : (bs : List Batch) → joined (map (λ b. b.messages) bs) ≡ (flat_map (λ b. b.messages) bs)
-      go [] = refl
-      go (b ∷ bs) = ap (λ ms. b.messages ++ ms) (go bs)
+  delivered_is = delivered-same sits.keeps
 
   pub table_is : seat.table ≡ table (delivered (member_of w p))
   table_is = sits.keeps.table

@@ -1,5 +1,5 @@
 -- What is read of a member's part in its open instance, and what its seat keeps of it.
-use Rattle.std.proofs.Common.{◌≡◌, ℕ, List, Option, Some, None, option_map, slice_get, refl, ap, sym, ◌∙◌, subst}
+use Rattle.std.proofs.Common.{◌≡◌, ℕ, List, Option, Some, None, option_map, slice_get, ap, sym, ◌∙◌, subst, arith}
 use Rattle.std.specs.Prelude.{option_and_then}
 use Rattle.ct_names.specs.Value.{Value}
 use Rattle.ct_model.specs.AtValue.{Standing}
@@ -29,32 +29,23 @@ IsSame values o u = option_map (heard_map (value_at values)) o ≡ option_map (h
 none_there : {A : Type 0} (values : List Value) (o : Option (Heard ℕ)) (u : Option (Heard Value)) (f : Heard ℕ → A) → IsSame values o u →
     None ≡ option_map f o
     → option_map {T = Heard Value} {U = Value × ℕ} (λ e. (e.value, e.ts)) u ≡ None
-none_there values None None f h e = refl
-none_there values None (Some x) f h e = absurd (cc)
-none_there values (Some y) u f h e = absurd (cc)
+none_there values o u f h e = grind arith
 
 some_there : (values : List Value) (o : Option (Heard ℕ)) (u : Option (Heard Value)) (id ts : ℕ) (got : Option Value) → IsSame values o u →
     Some id ≡ option_map (λ e. e.value) o → Some ts ≡ option_map (λ e. e.ts) o → got ≡ slice_get values id →
     option_map {T = Value} {U = Value × ℕ} (λ v. (v, ts)) got ≡ option_map (λ e. (e.value, e.ts)) u
-some_there values None u id ts got h a b g = absurd (cc)
-some_there values (Some y) None id ts got h a b g = absurd (cc)
-some_there values (Some y) (Some x) id ts got h a b g =
-    let same = some-same (heard_map (value_at values) y) (heard_map Some x) h in
-    let value : slice_get values y.value ≡ Some x.value = ap (λ (z : Heard (Option Value)). z.value) same in
-    let at : ts ≡ x.ts = some-same ts y.ts b ∙ ap (λ (z : Heard (Option Value)). z.ts) same in
-    rw (g, some-same id y.value a, value, at) refl
+some_there values o u id ts got h a b g = grind arith
 
-module _ (w : Rehearsal) (p : ℕ) (seat : Seat) (sits : IsSeatOf w p seat) (c : Part) (is_open : Some c ≡ seat.instances.part)
-    (rounds : Rounds) (read : Some rounds ≡ option_map (λ (d : Part). open_rounds seat.instances) seat.instances.part)
-    (r : ℕ) (at : r ≡ c.standing.round) where
-  values : List Value
+module _ {w : Rehearsal} {p : ℕ} {seat : Seat} (sits : IsSeatOf w p seat) {c : Part} (is_open : Some c ≡ seat.instances.part)
+    {rounds : Rounds} (read : Some rounds ≡ option_map (λ (d : Part). open_rounds seat.instances) seat.instances.part)
+    {r : ℕ} (at : r ≡ c.standing.round) where
+  abbrev values : List Value
   values = values_of (state_of w)
 
-  m : Member
+  abbrev m : Member
   m = member_of w p
 
   kept : KeepsInstances w.setting.members values p m seat.instances
-  unfolding values m
   kept = sits.keeps.instances
 
   found : (x : Standing) × (m.current ≡ Some x) × (standing_map (value_at values) c.standing ≡ standing_map Some x)
@@ -73,7 +64,6 @@ module _ (w : Rehearsal) (p : ℕ) (seat : Seat) (sits : IsSeatOf w p seat) (c :
       ∙ ap (λ n. ballots_map Some (ballots m.got m.last n)) (at ∙ standing_round values c.standing found.0 found.2)
 
   pub heard_is : Some (heard (ballots_at rounds r)) ≡ all_heard_by (member_of w p)
-  unfolding m
   heard_is =
       ap Some (sym (heard-map (value_at values) (ballots_at rounds r)) ∙ ap heard own ∙ heard-map Some (own_ballots m found.0))
       ∙ ap (λ (o : Option Standing). option_map (λ z. heard (own_ballots m z)) o) (sym found.1)
@@ -92,12 +82,10 @@ module _ (w : Rehearsal) (p : ℕ) (seat : Seat) (sits : IsSeatOf w p seat) (c :
     -- nothing is read of an estimate that wasn't heard
     pub heard_none : {A : Type 0} (f : Heard ℕ → A) → None ≡ option_map f (estimate_from (ballots_at rounds r) from) →
         None ≡ heard_by (member_of w p) from
-    unfolding m
     heard_none f e = sym (none_there values _ _ f named e) ∙ shown
 
     -- what is read of one that was
     pub heard_some : (id ts : ℕ) (got : Option Value) → Some id ≡ option_map (λ e. e.value) (estimate_from (ballots_at rounds r) from) →
         Some ts ≡ option_map (λ e. e.ts) (estimate_from (ballots_at rounds r) from) → got ≡ slice_get (values_of (state_of w)) id →
         option_map (λ v. (v, ts)) got ≡ heard_by (member_of w p) from
-    unfolding values m
     heard_some id ts got a b g = some_there values _ _ id ts got named a b g ∙ shown

@@ -15,21 +15,18 @@ use Rattle.ct_world.proofs.Rooms.{keeps-roomier}
 use Rattle.ct_world.specs.Kept.{Fields, IsFixed, IsWorld, values_of, seat_of}
 use Rattle.ct_world.proofs.Members.{member_low, place}
 
-received-none : received {V = Value} [] ≡ []
-unfolding received
-received-none = refl
-
 proposals-first : (s : Setting) → values_of (first_state s) ≡ []
 unfolding first_state
 proposals-first s = refl
 
 -- a new seat is that of a new member
 new_keeps : (n : ℕ) (values : List Value) (p : ℕ) (seat : Seat) → content seat ≡ content (new_seat n p) → Keeps n values p new_member seat
+unfolding received
 new_keeps n values p seat h = keeps-roomier (new_seat n p) h (record {
   crashed = refl;
   me = refl;
   taken = λ name. refl;
-  received = sym received-none;
+  received = refl;
   batches = refl;
   table = refl;
   begun = refl;

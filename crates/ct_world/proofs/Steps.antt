@@ -9,8 +9,8 @@ use Rattle.ct_instances.proofs.Keeping.{keeps-same}
 use Rattle.ct_world.specs.declared.seat.Seat.{Seat}
 use Rattle.ct_world.specs.Kept.{Fields, IsWorld, seat_of}
 use Rattle.ct_world.proofs.Insides.{IsAllowed}
-use Rattle.ct_world.proofs.Posts.{stepped-quiet}
-use Rattle.ct_world.proofs.Refines.{refined, seat-kept}
+use Rattle.ct_world.proofs.Posts.{left-plain}
+use Rattle.ct_world.proofs.Refines.{refined-quiet, seat-kept}
 
 -- a Crash marks the seat
 pub crash_steps : {w : Rehearsal} {p : ℕ} {f new : Fields} → IsAllowed w (Crash p) f →
@@ -19,15 +19,17 @@ pub crash_steps : {w : Rehearsal} {p : ℕ} {f new : Fields} → IsAllowed w (Cr
 crash_steps {w} {p} {f} may seats sent lines values =
     let m : Member = member (state_of w) p in
     let seat : Seat = record (seat_of f.seats p) { crashed = true } in
-    refined may.world (crash_taken w p may.world.lawful may.allowed)
-    (rw (crash_outcome-is w p) (stepped-quiet seat refl (record {
+    refined-quiet may.world (crash_taken w p may.world.lawful may.allowed) (left-plain may.world.lined refl sent lines)
+    (rw (crash_outcome-is w p) (record {
+      seat = seat;
+      named = refl;
       values = values ∙ sym (append-nil f.book.values);
       seats = seats;
-      keeps = rw values (seat-kept may.keeps refl refl refl refl refl refl refl
+      keeps = rw values (seat-kept may.keeps refl refl refl refl refl refl refl may.keeps.begun
           (keeps-same w.setting.members f.book.values p m (record m { crashed = true }) seat.instances refl refl refl
           may.keeps.instances));
       submitted = may.submitted;
-    }) refl sent lines))
+    }))
 
 pub crash_mail : (w : Rehearsal) (p : ℕ) → length (envelopes w.setting.members (crash_outcome w p).mail) ≡ 0
 crash_mail w p = rw (crash_outcome-is w p) refl

@@ -25,7 +25,7 @@ use Rattle.ct_instances.specs.Named.{NamesMail}
 use Rattle.ct_instances.proofs.Named.{named_length}
 use Rattle.ct_world.specs.Kept.{Fields, IsWorld, seat_of}
 use Rattle.ct_world.proofs.Insides.{IsAllowed}
-use Rattle.ct_world.proofs.Posts.{IsPosted, stepped-sending}
+use Rattle.ct_world.proofs.Posts.{IsPosted, left-plain}
 use Rattle.ct_world.proofs.Refines.{refined, seat-kept}
 
 -- the message that is made is the next one
@@ -67,11 +67,12 @@ module _ {w : Rehearsal} {p : ℕ} {c : Command} {f : Fields} (may : IsAllowed w
   submit_steps {new} m made seats values posted =
       let named : NamesMail new.book.values (All (Data m)) (All (Data (next_message (state_of w).submitted p c))) =
       ap (λ x. let mail : AnyMail (Option Value) = All (Data x) in mail) made in
-      refined may.world submitted_taken
-      (rw (submit_outcome-is w p c) (stepped-sending (record (seat_of f.seats p) { submitted = (seat_of f.seats p).submitted + 1 })
-      may.world refl (record {
+      refined {mail = All (Data m)} {left = f.network} may.world submitted_taken
+      (left-plain may.world.lined refl refl refl) (rw (submit_outcome-is w p c) (record {
+        seat = record (seat_of f.seats p) { submitted = (seat_of f.seats p).submitted + 1 };
+        named = named;
         values = values ∙ sym (append-nil f.book.values);
         seats = seats;
-        keeps = rw values (seat-kept may.keeps may.keeps.crashed refl refl refl refl refl refl may.keeps.instances);
+        keeps = rw values (seat-kept may.keeps may.keeps.crashed refl refl refl refl refl refl may.keeps.begun may.keeps.instances);
         submitted = one_more w p c (seat_of f.seats p).submitted (may.world.submitted p may.in_group);
-      }) named posted))
+      })) posted

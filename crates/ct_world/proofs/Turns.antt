@@ -1,35 +1,26 @@
 -- The five steps of a round: what the instances of the member and the network did is the step.
-use Rattle.std.proofs.Common.{◌≡◌, ℕ, ◌+◌, ◌-◌, ◌<◌, ◌≤◌, true, List, length, set, refl, ap, sym, ◌∙◌, subst, append-nil, arith, Option}
-use Rattle.std.proofs.Common.{Some}
-use Rattle.ct_names.specs.declared.limit.TheConstants.{MAX_ENVELOPES}
+use Rattle.std.proofs.Common.{◌≡◌, ℕ, ◌-◌, ◌<◌, true, List, length, set, refl, ap, sym, ◌∙◌, subst, append-nil, arith, Some}
 use Rattle.ct_names.specs.Group.{is_member, IsMember}
 use Rattle.ct_names.specs.Value.{Value}
 use Rattle.ct_model.specs.declared.step.Step.{Step}
 use Rattle.ct_model.specs.Actor.{actor}
-use Rattle.ct_model.specs.AtValue.{Wire, Mail, Standing, Turn}
+use Rattle.ct_model.specs.AtValue.{Wire, Mail, Turn}
 use Rattle.ct_model.specs.declared.mail.Mail.{Mail as AnyMail}
-use Rattle.ct_model.specs.Wire.{envelopes}
 use Rattle.ct_model.specs.declared.mail.Mail.TheVariants.{Nobody, One, All}
-use Rattle.ct_model.specs.State.{Member, member}
-use Rattle.ct_model.specs.Next.{row, round_row, turned}
+use Rattle.ct_model.specs.State.{member}
+use Rattle.ct_model.specs.Next.{row, turned}
 use Rattle.ct_model.specs.Rehearsal.{Rehearsal, state_of, extended}
-use Rattle.ct_model.proofs.Record.Frame.{length-after-sent}
-use Rattle.ct_model.proofs.Record.Allowed.{names-free}
-use Rattle.ct_model.proofs.Record.Limits.{taken_of}
 use Rattle.ct_model.proofs.Record.Taken.{IsTaken}
 use Rattle.ct_network.specs.Network.{IsAddressed}
 use Rattle.ct_instances.specs.Kept.{Kept}
 use Rattle.ct_instances.specs.Keeping.{KeepsInstances}
 use Rattle.ct_instances.specs.Named.{NamesMail}
-use Rattle.ct_instances.specs.Steps.{Stepped}
-use Rattle.ct_instances.proofs.Named.{named_posts, named_length}
-use Rattle.ct_instances.proofs.Turning.{IsTurnedBy, turned-row}
 use Rattle.ct_world.specs.Kept.{Fields, IsWorld, seat_of}
 use Rattle.ct_model.proofs.Record.Addressees.{addressed-step}
 use Rattle.ct_world.proofs.Insides.{IsAllowed}
 use Rattle.ct_model.specs.Waiting.{line_change}
 use Rattle.ct_model.specs.Waiting.LineChange.{Leaves}
-use Rattle.ct_world.proofs.Posts.{IsPosted, stepped-sending}
+use Rattle.ct_world.proofs.Posts.{IsPosted, left-plain}
 use Rattle.ct_world.proofs.Refines.{refined, seat-kept}
 
 -- the member's instances took a step of a round, with this mail; it is the step of the record
@@ -39,22 +30,6 @@ pub record IsTurned (w : Rehearsal) (step : Step) (f : Fields) (kept : Kept) (ma
   pub keeps : KeepsInstances w.setting.members f.book.values (actor step)
       (record (member (state_of w) (actor step)) { current = Some turn.after }) kept
   pub taken : IsTaken w step (turned (member (state_of w) (actor step)) turn)
-
-pub turned_at : {w : Rehearsal} {step : Step} (by : Standing → Option Turn) {f : Fields} {kept : Kept} {mail : AnyMail ℕ} →
-    IsAllowed w step f
-    → row w.setting (state_of w) (actor step) (member (state_of w) (actor step)) step ≡ round_row (member (state_of w) (actor step)) by
-    → IsTurnedBy (member (state_of w) (actor step)) f.book.values by w.setting.members (actor step) (record { after = kept; mail = mail })
-    → IsTurned w step f kept mail
-turned_at {w} {step} by {f} {kept} {mail} may is t =
-    let m : Member = member (state_of w) (actor step) in
-    let stepped : Stepped = record { after = kept; mail = mail } in
-    record {
-      turn = t.turn;
-      named = t.mail;
-      keeps = t.keeps;
-      taken = taken_of w step (turned m t.turn) may.world.lawful may.allowed (names-free w step may.allowed)
-          (is ∙ turned-row m f.book.values by w.setting.members (actor step) stepped t);
-    }
 
 group_member : (n p : ℕ) → IsMember n p → is_member n p ≡ true
 group_member n p h = grind arith
@@ -71,13 +46,7 @@ named_addressed values n (All x) mail h to_member = tt
 
 module _ {w : Rehearsal} {step : Step} {f : Fields} {kept : Kept} {mail : AnyMail ℕ} (may : IsAllowed w step f)
     (t : IsTurned w step f kept mail) where
-  -- as many envelopes as with the values themselves
-  number : length (envelopes w.setting.members mail) ≡ length (envelopes w.setting.members t.turn.mail)
-  number = named_length f.book.values (envelopes w.setting.members mail) (envelopes w.setting.members t.turn.mail)
-      (named_posts f.book.values w.setting.members mail t.turn.mail t.named)
-
   -- what the network's post asks for
-
   pub turn_addressed : IsAddressed (length f.network.lines) mail
   turn_addressed =
       let some : 0 < w.setting.members = omega (arith, may.within, may.world.seated) in
@@ -86,28 +55,16 @@ module _ {w : Rehearsal} {step : Step} {f : Fields} {kept : Kept} {mail : AnyMai
       (λ to x e. addressed-step w.setting (state_of w) (actor step) (member (state_of w) (actor step)) step
       (turned (member (state_of w) (actor step)) t.turn) to x some t.taken.row e))
 
-  pub turn_few : length f.network.sent + length (envelopes (length f.network.lines) mail) ≤ MAX_ENVELOPES
-  turn_few =
-      let few = t.taken.within.few_envelopes in
-      let grown = length-after-sent w.setting (state_of w) (actor step) (turned (member (state_of w) (actor step)) t.turn) in
-      let sent = named_length f.book.values f.network.sent (state_of w).sent may.world.sent in
-      let more = number in
-      rw may.world.lined (omega arith)
-
-  pub turn_number : {sent : ℕ} → sent ≡ length (envelopes (length f.network.lines) mail) →
-      length (envelopes w.setting.members t.turn.mail) ≡ sent
-  turn_number e = sym (e ∙ ap (λ n. length (envelopes n mail)) may.world.lined ∙ number)
-
   -- after the post the fields are those of the longer record
   pub turn_steps : {new : Fields} → line_change step ≡ Leaves →
       new.seats ≡ set f.seats (actor step - 1) (record (seat_of f.seats (actor step)) { instances = kept }) →
       new.book.values ≡ f.book.values → IsPosted f.network new.network mail → IsWorld (extended w step) new
   turn_steps plain seats values posted =
-      refined may.world t.taken
-      (stepped-sending (record (seat_of f.seats (actor step)) { instances = kept }) may.world plain (record {
+      refined {mail = mail} {left = f.network} may.world t.taken (left-plain may.world.lined plain refl refl) (record {
+        seat = record (seat_of f.seats (actor step)) { instances = kept };
+        named = subst (λ vs. NamesMail vs mail t.turn.mail) (sym values) t.named;
         values = values ∙ sym (append-nil f.book.values);
         seats = seats;
-        keeps = rw values (seat-kept may.keeps may.keeps.crashed refl refl refl refl refl refl t.keeps);
+        keeps = rw values (seat-kept may.keeps may.keeps.crashed refl refl refl refl refl refl may.keeps.begun t.keeps);
         submitted = may.submitted;
-      })
-      (subst (λ vs. NamesMail vs mail t.turn.mail) (sym values) t.named) posted)
+      }) posted

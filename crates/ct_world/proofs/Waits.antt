@@ -1,11 +1,8 @@
 -- What waits at a member: its envelope, in the record and in the network.
-use Rattle.std.proofs.Common.{◌≡◌, ℕ, zero, suc, ◌-◌, ◌≤◌, true, false, List, [], ◌∷◌, length, slice_get, Some, option_map, ap, sym, ◌∙◌}
-use Rattle.std.proofs.Common.{subst, arith, inl, inr}
+use Rattle.std.proofs.Common.{◌≡◌, ℕ, zero, suc, ◌-◌, ◌≤◌, true, false, List, length, slice_get, Some, ap, sym, ◌∙◌, subst, arith}
 use Rattle.std.specs.Prelude.{◌==◌, Option, is_some}
 use Rattle.std.specs.Option.{option_map_or}
-use Rattle.std.proofs.lemmas.Option.{slice_get-map}
 use Rattle.ct_names.specs.Group.{is_member}
-use Rattle.ct_names.specs.Membership.{IsIn}
 use Rattle.ct_model.specs.AtValue.{Wire, Envelope}
 use Rattle.ct_model.specs.declared.envelope.Envelope.{Envelope as AnyEnvelope}
 use Rattle.ct_model.specs.declared.wire.Wire.TheVariants.{Data}
@@ -14,9 +11,10 @@ use Rattle.ct_model.specs.Knowledge.{KnowsMessages, CarriesOne}
 use Rattle.ct_model.specs.Lawful.{IsLetter, is_waiting}
 use Rattle.ct_model.specs.Rehearsal.{Rehearsal, state_of}
 use Rattle.ct_model.specs.Setting.{Setting}
-use Rattle.ct_model.specs.State.{State, member, wires, at_serial}
+use Rattle.ct_model.specs.State.{State, member, at_serial}
 use Rattle.ct_model.proofs.Record.Envelopes.{waiting_letter}
-use Rattle.ct_model.proofs.Basics.Options.{some-same, some-none}
+use Rattle.ct_model.proofs.Basics.Options.{some-same}
+use Rattle.ct_model.proofs.Consensus.Sent.{get-wire}
 use Rattle.ct_instances.specs.Named.{NamesEnvelope}
 use Rattle.ct_instances.proofs.Named.{named_back}
 use Rattle.ct_world.specs.Kept.{Fields, IsWorld}
@@ -37,16 +35,6 @@ lined_member p world group = ap (λ n. is_member n p) world.lined ∙ group
 serial_of : {A : Type 0} (list : List A) (k : ℕ) (x : A) → 1 ≤ k → slice_get list (k - 1) ≡ Some x → at_serial list k ≡ Some x
 serial_of list zero x low e = absurd (omega arith)
 serial_of list (suc i) x low e = subst (λ j. slice_get list j ≡ Some x) (let back : suc i - 1 ≡ i = omega arith in back) e
-
-found : {A : Type 0} (list : List A) (i : ℕ) (x : A) → slice_get list i ≡ Some x → IsIn x list
-found [] i x e = some-none x e
-found (y ∷ list) zero x e = inl (sym (some-same y x e))
-found (y ∷ list) (suc i) x e = inr (found list i x e)
-
--- its wire is among those that were sent
-wire_sent : (g : State) (i : ℕ) (e : Envelope) → slice_get g.sent i ≡ Some e → IsIn e.wire (wires g)
-wire_sent g i e there = found (wires g) i e.wire (slice_get-map (λ (z : Envelope). z.wire) g.sent i
-    ∙ ap (option_map (λ (z : Envelope). z.wire)) there)
 
 -- a message that it carries was submitted
 known_wire : (s : Setting) (g : State) (p : ℕ) (w : Wire) → KnowsMessages s g → CarriesOne g.submitted w → IsKnown (member g p).got w
@@ -76,7 +64,7 @@ module _ {w : Rehearsal} {f : Fields} (p k : ℕ) (world : IsWorld w f) (waits :
           letter = e.1;
           names = back.2;
           somebody = sender_named w.setting w.steps (state_of w) world.fixed.few_members world.lawful.runs e.0.wire
-              (wire_sent (state_of w) (k - 1) e.0 e.1.there);
+              (get-wire (state_of w).sent (k - 1) e.0 e.1.there);
           known = known_wire w.setting (state_of w) p e.0.wire world.messages (world.messages.sent (k - 1) e.0 e.1.there);
         },
       )

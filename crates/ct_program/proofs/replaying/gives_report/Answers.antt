@@ -1,9 +1,9 @@
-use Rattle.std.proofs.Common.{refl, subst}
+use Rattle.std.proofs.Common.{refl}
 use Rattle.std.specs.Prelude.{◌≡◌, IfSome}
 use Rattle.std.specs.Str.{bytes_eq}
 use Rattle.ct_program.specs.Replay.{IsFaultIn}
 use Rattle.ct_program.proofs.Refused.{err_seen}
-use Rattle.ct_program.proofs.Answered.{fault_seen, told_seen}
+use Rattle.ct_program.proofs.Answered.{fault_seen, report_seen}
 use Rattle.ct_program.proofs.replaying.gives_report.Goals as goal
 
 pub returns-in_err-report-clause-fault : goal.returns-in_err-report-clause-fault
@@ -16,5 +16,5 @@ returns-in_err-report-clause-fault g c =
 
 pub returns-clause-ok : goal.returns-clause-ok
 returns-clause-ok g c =
-    told_seen (g.R.Source.left c.args.reader.now) _ _ _ c.args.expected.now _ c.in_ok-bytes.ensures.bytes refl c.in_ok-report.ensures.ok
-    (subst (λ t. c.is_same.result ≡ bytes_eq t c.args.expected.now) c.deref.ensures.value c.is_same.ensures)
+    report_seen (g.R.Source.left c.args.reader.now) _ _ _ _ (λ t. c.is_same.result ≡ bytes_eq t c.args.expected.now)
+    c.in_ok-bytes.ensures.bytes refl c.in_ok-report.ensures.ok c.deref.ensures.value c.is_same.ensures

@@ -1,8 +1,10 @@
 use Rattle.std.proofs.Common.{refl}
 use Rattle.std.specs.Prelude.{◌≡◌, IfSome}
+use Rattle.std.specs.Io.KnownBytes.{Appends}
+use Rattle.ct_program.specs.Streams.{WritesPart}
 use Rattle.ct_program.specs.Replay.{IsFaultIn}
 use Rattle.ct_program.proofs.Refused.{err_seen}
-use Rattle.ct_program.proofs.Answered.{fault_seen, ok_seen, part_seen}
+use Rattle.ct_program.proofs.Answered.{fault_seen, report_seen}
 use Rattle.ct_program.proofs.replaying.run_replay.Goals as goal
 
 pub returns-in_err-text-clause-fault : goal.returns-in_err-text-clause-fault
@@ -15,10 +17,10 @@ returns-in_err-text-clause-fault g c =
 
 pub returns-in-Ok-clause-ok : goal.returns-in-Ok-clause-ok
 returns-in-Ok-clause-ok g c =
-    ok_seen (g.R.Source.left c.args.reader.now) _ _ _ _ (g.W.Sink.written c.args.writer.now) _ c.in_ok-bytes.ensures.bytes refl
-    c.in_ok-text.ensures.ok c.deref.ensures.value c.in-Ok.ensures.bytes
+    report_seen (g.R.Source.left c.args.reader.now) _ _ _ _ (Appends (g.W.Sink.written c.args.writer.now) _) c.in_ok-bytes.ensures.bytes
+    refl c.in_ok-text.ensures.ok c.deref.ensures.value c.in-Ok.ensures.bytes
 
 pub returns-clause-part : goal.returns-clause-part
 returns-clause-part g c = λ _.
-    part_seen (g.R.Source.left c.args.reader.now) _ _ _ _ (g.W.Sink.written c.args.writer.now) _ c.in_ok-bytes.ensures.bytes refl
-    c.in_ok-text.ensures.ok c.deref.ensures.value c.in-Err.ensures.part
+    report_seen (g.R.Source.left c.args.reader.now) _ _ _ _ (WritesPart (g.W.Sink.written c.args.writer.now) _) c.in_ok-bytes.ensures.bytes
+    refl c.in_ok-text.ensures.ok c.deref.ensures.value c.in-Err.ensures.part

@@ -1,10 +1,11 @@
-use Rattle.std.proofs.Common.{◌+◌, [], take, sym, subst}
+use Rattle.std.proofs.Common.{◌+◌, [], take, refl, sym, subst}
+use Rattle.std.proofs.lemmas.List.{take_all}
 use Rattle.ct_world.specs.Seats.{AreSameSeats}
-use Rattle.ct_world.proofs.SeatLists.{same-none, same-more, same-all}
+use Rattle.ct_world.proofs.SeatLists.{same-more}
 use Rattle.ct_world.proofs.seats.copy_seats.Goals as goal
 
 pub loop-i-init : goal.loop-i-init
-loop-i-init c = subst (λ copies. AreSameSeats [] copies) (sym c.new-copies.ensures.items) same-none
+loop-i-init c = subst (λ copies. AreSameSeats [] copies) (sym c.new-copies.ensures.items) refl
 
 pub loop-i-preserved : goal.loop-i-preserved
 loop-i-preserved c =
@@ -13,4 +14,5 @@ loop-i-preserved c =
     c.loop-i-test.true c.index-seats-i.is c.in_ok-copy.ensures)
 
 pub returns : goal.returns
-returns c = same-all c.args.seats.now c.loop-i.copies.items c.loop-i.i c.loop-i-test.false c.loop-i.invariant
+returns c = subst (λ seats. AreSameSeats seats c.loop-i.copies.items) (take_all c.loop-i.i c.args.seats.now c.loop-i-test.false)
+    c.loop-i.invariant

@@ -1,6 +1,6 @@
-use Rattle.std.proofs.Common.{◌+◌, sym, subst, arith}
+use Rattle.std.proofs.Common.{◌≡◌, ◌+◌, sym, subst, arith}
 use Rattle.ct_world.specs.Seats.{AreNewSeats}
-use Rattle.ct_world.proofs.SeatLists.{new-none, new-more, new-all}
+use Rattle.ct_world.proofs.SeatLists.{new-none, new-more}
 use Rattle.ct_world.proofs.seats.new_seats.Goals as goal
 
 pub loop-i-init : goal.loop-i-init
@@ -12,5 +12,6 @@ loop-i-preserved c =
     (new-more c.args.group c.loop-i.i c.loop-i.seats.items c.new.result c.loop-i.invariant c.new.ensures)
 
 pub returns : goal.returns
-returns c = new-all c.args.group c.loop-i.i c.loop-i.seats.items
-    (omega (arith, c.n-i-end.ensures.value, c.loop-i-test.false, c.loop-i.auto.i-end)) c.loop-i.invariant
+returns c =
+    let all : c.loop-i.i ≡ c.args.group = omega (arith, c.n-i-end.ensures.value, c.loop-i-test.false, c.loop-i.auto.i-end) in
+    subst (λ k. AreNewSeats c.args.group k c.loop-i.seats.items) all c.loop-i.invariant

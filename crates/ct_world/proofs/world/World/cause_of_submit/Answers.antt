@@ -1,9 +1,9 @@
-use Rattle.std.proofs.Common.{◌≡◌, ap, sym, ◌∙◌, arith}
+use Rattle.std.proofs.Common.{ap, sym, ◌∙◌, arith}
 use Rattle.ct_model.specs.declared.step.Step.TheVariants.{Submit}
 use Rattle.ct_model.specs.Cause.{overflow}
 use Rattle.ct_model.proofs.Record.Causes.{cause-absent}
 use Rattle.ct_model.proofs.Steps.Submit.{cause-submit-bad, cause-submit-full, cause-submit-sends}
-use Rattle.ct_world.specs.World.{WorldView}
+use Rattle.ct_world.proofs.Waits.{world_seen}
 use Rattle.ct_world.proofs.world.World.cause_of_submit.Goals as goal
 
 pub returns-in-Err : goal.returns-in-Err
@@ -23,8 +23,8 @@ pub returns : goal.returns
 returns c =
     let w = c.args.self.now.rehearsal in
     let count = c.in-Ok.ensures.sits.submitted in
-    let seats : c.len.result ≡ w.setting.members = c.len.ensures ∙ c.self.inside.seats.ok.0 ∙ c.self.invariant.world.seated
-    ∙ ap (λ (v : WorldView). v.rehearsal.setting.members) c.self.view_is in
-    c.overflow.ensures ∙ ap (overflow w) seats ∙ sym (cause-submit-sends w c.args.member c.args.command.now c.in-Ok.ensures.lawful
+    c.overflow.ensures
+    ∙ ap (overflow w) (c.len.ensures ∙ c.self.inside.seats.ok.0 ∙ (world_seen c.self.inside c.self.view_is c.self.invariant).seated)
+    ∙ sym (cause-submit-sends w c.args.member c.args.command.now c.in-Ok.ensures.lawful
     c.in-Ok.ensures.present (sym c.good.ensures ∙ c.if-not-good.false)
     (omega (arith, c.if-seat-ge-MAX_SUBMISSIONS.false)))

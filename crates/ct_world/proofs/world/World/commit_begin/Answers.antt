@@ -4,13 +4,14 @@ use Rattle.ct_names.specs.declared.limit.TheConstants.{MAX_INSTANCES}
 use Rattle.ct_names.specs.Value.{Value}
 use Rattle.ct_model.specs.declared.step.Step.TheVariants.{Begin}
 use Rattle.ct_model.proofs.Basics.Options.{some-same}
+use Rattle.ct_model.proofs.Steps.Begin.{begin_taken}
 use Rattle.ct_abcast.specs.Cast.{Cast}
 use Rattle.ct_instances.specs.Kept.{Kept, has_room_open}
 use Rattle.ct_instances.specs.Steps.{opened}
 use Rattle.ct_world.specs.declared.seat.Seat.{Seat}
 use Rattle.ct_world.specs.Prepared.{proposal_in}
 use Rattle.ct_world.proofs.Insides.{prepared_in, ready_in, within_in, seat_in, done_in, kept_in}
-use Rattle.ct_world.proofs.Proposing.{begun, begin_taking, begin_idle, begin_few, begin_few_begun, begin_number, begin_steps}
+use Rattle.ct_world.proofs.Proposing.{begun, begin_idle, begin_few, begin_few_begun, begin_number, begin_steps}
 use Rattle.ct_world.proofs.world.World.commit_begin.Goals as goal
 
 pub unwrap-proposal-requires : goal.unwrap-proposal-requires
@@ -80,4 +81,4 @@ invariant_of-self c =
 pub returns-clause-done : goal.returns-clause-done
 returns-clause-done c =
     let p = prepared_in c.self.inside c.self.view_is c.self.invariant c.requires in
-    done_in c.self.inside c.self.view_is p c.join.ensures (begin_taking p) refl
+    done_in c.self.inside c.self.view_is p c.join.ensures (begin_taken _ c.args.member p.world.lawful p.allowed).taken refl

@@ -1,11 +1,10 @@
-use Rattle.std.proofs.Common.{◌≡◌, refl, ap, ◌∙◌, subst, arith}
+use Rattle.std.proofs.Common.{refl, ap, ◌∙◌, arith}
 use Rattle.std.specs.Prelude.{is_some}
 use Rattle.ct_model.specs.declared.step.Step.TheVariants.{Deliver}
 use Rattle.ct_world.specs.declared.seat.Seat.{Seat}
 use Rattle.ct_world.specs.Prepared.{batch_in}
-use Rattle.ct_world.specs.Seats.{content, with_delivery}
-use Rattle.ct_world.proofs.Deliveries.{batch_low, has_number, posted_in, room_there, seat_fits, value_same, value_there}
-use Rattle.ct_world.proofs.Delivering.{deliver_in, deliver_open, deliver_steps}
+use Rattle.ct_world.proofs.Deliveries.{batch_low, delivery_steps, has_number, posted_in, room_there, seat_fits, value_same, value_there}
+use Rattle.ct_world.proofs.Delivering.{deliver_in, deliver_open}
 use Rattle.ct_world.proofs.Insides.{prepared_in, ready_in, within_in, seat_in, done_in, kept_in}
 use Rattle.ct_world.proofs.world.World.commit_deliver.Goals as goal
 
@@ -27,19 +26,16 @@ unwrap-requires c =
     value_there (deliver_in c.self.inside c.self.view_is c.self.invariant c.requires) c.number.ensures c.unwrap-number.ensures
     c.get.result c.get.ensures
 
-pub deliver-requires-clause-open : goal.deliver-requires-clause-open
-deliver-requires-clause-open c =
-    let p = prepared_in c.self.inside c.self.view_is c.self.invariant c.requires in
-    ap (λ (s : Seat). is_some s.instances.part) (seat_in c.self.inside p c.index_mut-seat.ensures.value) ∙ deliver_open p
-
-pub deliver-requires-clause-fits : goal.deliver-requires-clause-fits
-deliver-requires-clause-fits c =
-    seat_fits (deliver_in c.self.inside c.self.view_is c.self.invariant c.requires) c.index_mut-seat.ensures.value
-
-pub deliver-requires-clause-room : goal.deliver-requires-clause-room
-deliver-requires-clause-room c =
-    room_there (deliver_in c.self.inside c.self.view_is c.self.invariant c.requires) c.number.ensures
-    c.unwrap-number.ensures c.get.result c.get.ensures c.unwrap.ensures c.index_mut-seat.ensures.value
+pub deliver-requires : goal.deliver-requires
+deliver-requires c =
+    let d = deliver_in c.self.inside c.self.view_is c.self.invariant c.requires in
+    record {
+      «open» = ap (λ (s : Seat). is_some s.instances.part) (seat_in c.self.inside d.may c.index_mut-seat.ensures.value)
+          ∙ deliver_open d.may;
+      fits = seat_fits d c.index_mut-seat.ensures.value;
+      room = room_there d c.number.ensures c.unwrap-number.ensures c.get.result c.get.ensures c.unwrap.ensures
+          c.index_mut-seat.ensures.value;
+    }
 
 pub join-requires : goal.join-requires
 join-requires c = omega (arith, (ready_in c.self.inside c.self.view_is c.self.invariant c.requires).for_step)
@@ -48,10 +44,8 @@ pub invariant_of-self-2 : goal.invariant_of-self-2
 invariant_of-self-2 c =
     let d = deliver_in c.self.inside c.self.view_is c.self.invariant c.requires in
     rw c.take.ensures.after (kept_in c.self.inside (Deliver c.args.member) c.join.ensures
-    (deliver_steps d.may c.deliver.new.self (value_same d c.number.ensures c.unwrap-number.ensures _ c.get.ensures c.unwrap.ensures)
-    (subst (λ (s : Seat). content c.deliver.new.self ≡ content (with_delivery s c.unwrap.result.now))
-    (seat_in c.self.inside d.may c.index_mut-seat.ensures.value) c.deliver.ensures)
-    refl refl refl refl))
+    (delivery_steps d c.deliver.new.self c.index_mut-seat.ensures.value
+    (value_same d c.number.ensures c.unwrap-number.ensures _ c.get.ensures c.unwrap.ensures) c.deliver.ensures refl refl refl refl))
 
 pub returns-clause-done : goal.returns-clause-done
 returns-clause-done c =

@@ -8,7 +8,6 @@ use Rattle.ct_network.specs.Network.{line_at}
 use Rattle.ct_world.specs.Prepared.{place_in}
 use Rattle.ct_world.proofs.Insides.{rehearsal_in, prepared_in, ready_in, done_in, kept_in}
 use Rattle.ct_world.proofs.LineSteps.{line_mail, line_steps, waits_once}
-use Rattle.ct_world.proofs.Waits.{lined_member}
 use Rattle.ct_world.proofs.Places.{IsWithout, placed_in, put-is, waits-placed}
 use Rattle.ct_world.proofs.world.World.commit_postpone.Goals as goal
 use Rattle.ct_world.proofs.world.World.commit_postpone.Goals.{After-unwrap-place}
@@ -19,13 +18,6 @@ unwrap-place-requires c =
     ap is_some (c.place.ensures ∙ ap place_in c.take.ensures.value ∙ room.placed)
     ∙ waits-placed c.args.serial _ (names-free _ (Postpone c.args.member c.args.serial) room.allowed)
 
-pub postpone-requires-clause-room : goal.postpone-requires-clause-room
-postpone-requires-clause-room c = (ready_in c.self.inside c.self.view_is c.self.invariant c.requires).for_sending
-
-pub postpone-requires-clause-member : goal.postpone-requires-clause-member
-postpone-requires-clause-member c =
-    lined_member c.args.member c.self.invariant.world (prepared_in c.self.inside c.self.view_is c.self.invariant c.requires).in_group
-
 -- the place that was found
 placed : (c : After-unwrap-place) → IsWithout c.args.serial (line_at c.self.inside.network.lines c.args.member) c.unwrap-place.result
 placed c =
@@ -34,8 +26,12 @@ placed c =
     (sym (c.place.ensures ∙ ap place_in c.take.ensures.value
     ∙ (ready_in c.self.inside c.self.view_is c.self.invariant c.requires).placed) ∙ c.unwrap-place.ensures)
 
-pub postpone-requires-clause-there : goal.postpone-requires-clause-there
-postpone-requires-clause-there c = (placed (goal.at.postpone-requires-clause-there c).After-unwrap-place).within
+pub postpone-requires : goal.postpone-requires
+postpone-requires c = record {
+  room = (ready_in c.self.inside c.self.view_is c.self.invariant c.requires).for_sending;
+  member = (prepared_in c.self.inside c.self.view_is c.self.invariant c.requires).lined;
+  there = (placed (goal.at.postpone-requires c).After-unwrap-place).within;
+}
 
 pub join-requires : goal.join-requires
 join-requires c = omega (arith, (ready_in c.self.inside c.self.view_is c.self.invariant c.requires).for_step)

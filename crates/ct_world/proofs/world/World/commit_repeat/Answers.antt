@@ -3,15 +3,13 @@ use Rattle.ct_model.specs.declared.step.Step.TheVariants.{Repeat}
 use Rattle.ct_model.proofs.Steps.LineSteps.{repeat_taken}
 use Rattle.ct_world.proofs.Insides.{rehearsal_in, prepared_in, ready_in, done_in, kept_in}
 use Rattle.ct_world.proofs.LineSteps.{line_mail, line_steps}
-use Rattle.ct_world.proofs.Waits.{lined_member}
 use Rattle.ct_world.proofs.world.World.commit_repeat.Goals as goal
 
-pub put_back-requires-clause-room : goal.put_back-requires-clause-room
-put_back-requires-clause-room c = (ready_in c.self.inside c.self.view_is c.self.invariant c.requires).for_sending
-
-pub put_back-requires-clause-member : goal.put_back-requires-clause-member
-put_back-requires-clause-member c =
-    lined_member c.args.member c.self.invariant.world (prepared_in c.self.inside c.self.view_is c.self.invariant c.requires).in_group
+pub put_back-requires : goal.put_back-requires
+put_back-requires c = record {
+  room = (ready_in c.self.inside c.self.view_is c.self.invariant c.requires).for_sending;
+  member = (prepared_in c.self.inside c.self.view_is c.self.invariant c.requires).lined;
+}
 
 pub join-requires : goal.join-requires
 join-requires c = omega (arith, (ready_in c.self.inside c.self.view_is c.self.invariant c.requires).for_step)

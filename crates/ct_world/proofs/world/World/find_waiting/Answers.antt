@@ -1,57 +1,41 @@
-use Rattle.std.proofs.Common.{◌≡◌, sym, ◌∙◌, Some}
+use Rattle.std.proofs.Common.{sym, ◌∙◌}
 use Rattle.ct_model.specs.declared.step.Step.TheVariants.{Postpone, Lose}
 use Rattle.ct_model.specs.Rehearsal.{line_of}
 use Rattle.ct_model.proofs.Record.Causes.{cause-absent}
 use Rattle.ct_model.proofs.Steps.LineSteps.{cause-postpone, cause-postpone-away, cause-lose, cause-lose-away}
-use Rattle.ct_network.specs.Network.{place_of}
 use Rattle.ct_world.proofs.Places.{found_in, stands-there, stands-nowhere, unless-found}
 use Rattle.ct_world.proofs.Waits.{world_seen}
 use Rattle.ct_world.proofs.world.World.find_waiting.Goals as goal
-use Rattle.ct_world.proofs.world.World.find_waiting.Goals.{After-unless}
 
-pub returns-in-Err-clause-postponed : goal.returns-in-Err-clause-postponed
-returns-in-Err-clause-postponed c =
-    cause-absent c.args.self.now.rehearsal (Postpone c.args.member c.args.serial) c.in-Err.refusal c.in-Err.ensures
+pub returns-in-Err : goal.returns-in-Err
+returns-in-Err c = record {
+  postponed = cause-absent c.args.self.now.rehearsal (Postpone c.args.member c.args.serial) c.in-Err.refusal c.in-Err.ensures;
+  lost = cause-absent c.args.self.now.rehearsal (Lose c.args.member c.args.serial) c.in-Err.refusal c.in-Err.ensures;
+}
 
-pub returns-in-Err-clause-lost : goal.returns-in-Err-clause-lost
-returns-in-Err-clause-lost c =
-    cause-absent c.args.self.now.rehearsal (Lose c.args.member c.args.serial) c.in-Err.refusal c.in-Err.ensures
-
-pub returns-in_default-find-clause-postponed : goal.returns-in_default-find-clause-postponed
-returns-in_default-find-clause-postponed c =
-    let world = world_seen c.self.inside c.self.view_is c.self.invariant in
-    let actor = c.in_default.ensures in
-    cause-postpone-away c.args.self.now.rehearsal c.args.member c.args.serial actor.present (stands-nowhere c.args.serial
-    (line_of c.args.self.now.rehearsal c.args.member)
-    (c.in_default-find.ensures ∙ found_in c.args.member c.args.serial world actor.present.in_group))
-
-pub returns-in_default-find-clause-lost : goal.returns-in_default-find-clause-lost
-returns-in_default-find-clause-lost c =
-    let world = world_seen c.self.inside c.self.view_is c.self.invariant in
-    let actor = c.in_default.ensures in
-    cause-lose-away c.args.self.now.rehearsal c.args.member c.args.serial actor.present (stands-nowhere c.args.serial
-    (line_of c.args.self.now.rehearsal c.args.member)
-    (c.in_default-find.ensures ∙ found_in c.args.member c.args.serial world actor.present.in_group))
-
--- where it stands
-stands : (c : After-unless) → place_of c.args.serial (line_of c.args.self.now.rehearsal c.args.member) ≡ Some c.in-Some.place
-stands c = sym (found_in c.args.member c.args.serial (world_seen c.self.inside c.self.view_is c.self.invariant)
-    c.in_default.ensures.present.in_group) ∙ sym c.in-Some.ensures
-
-pub returns-clause-postponed : goal.returns-clause-postponed
-returns-clause-postponed c =
+pub returns-in_default-find : goal.returns-in_default-find
+returns-in_default-find c =
     let w = c.args.self.now.rehearsal in
-    let actor = c.in_default.ensures in
-    unless-found w (Postpone c.args.member c.args.serial) c.unless.result
-    (cause-postpone w c.args.member c.args.serial actor.lawful actor.present
-    (stands-there c.args.serial (line_of w c.args.member) (stands c)) ∙ sym c.overflow.ensures)
-    (sym (stands c)) c.unless.ensures
+    let present = c.in_default.ensures.present in
+    let away = stands-nowhere c.args.serial (line_of w c.args.member) (c.in_default-find.ensures
+    ∙ found_in c.args.member c.args.serial (world_seen c.self.inside c.self.view_is c.self.invariant) present.in_group) in
+    record {
+      postponed = cause-postpone-away w c.args.member c.args.serial present away;
+      lost = cause-lose-away w c.args.member c.args.serial present away;
+    }
 
-pub returns-clause-lost : goal.returns-clause-lost
-returns-clause-lost c =
+pub returns : goal.returns
+returns c =
     let w = c.args.self.now.rehearsal in
+    let p = c.args.member in
+    let k = c.args.serial in
     let actor = c.in_default.ensures in
-    unless-found w (Lose c.args.member c.args.serial) c.unless.result
-    (cause-lose w c.args.member c.args.serial actor.lawful actor.present
-    (stands-there c.args.serial (line_of w c.args.member) (stands c)) ∙ sym c.overflow.ensures)
-    (sym (stands c)) c.unless.ensures
+    let stands = sym (found_in p k (world_seen c.self.inside c.self.view_is c.self.invariant) actor.present.in_group)
+    ∙ sym c.in-Some.ensures in
+    let there = stands-there k (line_of w p) stands in
+    record {
+      postponed = unless-found w (Postpone p k) c.unless.result
+          (cause-postpone w p k actor.lawful actor.present there ∙ sym c.overflow.ensures) (sym stands) c.unless.ensures;
+      lost = unless-found w (Lose p k) c.unless.result
+          (cause-lose w p k actor.lawful actor.present there ∙ sym c.overflow.ensures) (sym stands) c.unless.ensures;
+    }

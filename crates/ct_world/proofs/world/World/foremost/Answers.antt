@@ -31,11 +31,11 @@ new c = c.batches-in-loop-i.ensures ∙ batches_read c.self.inside.seats.items c
 pub loop-i-preserved : goal.loop-i-preserved
 loop-i-preserved c = elim c.if-batches.branch [
   | then-batches w ↦ subst (λ k. IsForemost c.self.inside.seats.items (c.loop-i.i + 1) k) (sym w.best-is)
-      (foremost-more c.self.inside.seats.items c.loop-i.i c.loop-i.best c.loop-i.invariant (within c) (let o = old c in let n = new c in
-      omega (arith, w.if-batches)))
+      (foremost-more c.self.inside.seats.items c.loop-i.i c.loop-i.best c.loop-i.invariant (within c)
+      (omega (arith, old c, new c, w.if-batches)))
   | else-batches w ↦ subst (λ k. IsForemost c.self.inside.seats.items (c.loop-i.i + 1) k) (sym w.best-is)
-      (foremost-same c.self.inside.seats.items c.loop-i.i c.loop-i.best c.loop-i.invariant (within c) (let o = old c in let n = new c in
-      omega (arith, w.if-batches)))
+      (foremost-same c.self.inside.seats.items c.loop-i.i c.loop-i.best c.loop-i.invariant (within c)
+      (omega (arith, old c, new c, w.if-batches)))
 ]
 
 foremost : (c : After-index-2) → IsForemost c.self.inside.seats.items c.self.inside.group c.loop-i.best

@@ -1,51 +1,38 @@
-use Rattle.std.proofs.Common.{◌≡◌, ℕ, List, None, Some, Bor, ap, option_map, ◌∙◌, slice_get}
+use Rattle.std.proofs.Common.{ℕ, List, None, Some, Bor, ap, option_map, ◌∙◌, slice_get}
 use Rattle.ct_names.specs.Message.{Message}
 use Rattle.ct_names.specs.Value.{Value}
-use Rattle.ct_model.specs.Rehearsal.{state_of}
-use Rattle.ct_world.specs.Kept.{values_of}
-use Rattle.ct_world.specs.World.{WorldView}
 use Rattle.ct_world.proofs.Standings.{heard_none, heard_some}
+use Rattle.ct_world.proofs.Waits.{world_seen}
 use Rattle.ct_world.proofs.world.World.heard_from.Goals as goal
 
 pub returns-in_err-value : goal.returns-in_err-value
 returns-in_err-value c =
     let sits = c.in_ok-seat.ensures.seat in
-    let w = c.args.self.now.rehearsal in
     rw sits.in_group (ap (option_map (λ (e : Bor (List Message) × ℕ). (e.0.now, e.1))) c.from_residual-in_err-value.ensures
-    ∙ heard_none w c.args.member c.in_ok-seat.seat.now sits c.in_ok-current.field-0.now
-    c.in_ok-current.ensures.value c.in_ok-inbox.inbox.now c.in_ok-inbox.ensures.value c.round-round.result c.round-round.ensures
+    ∙ heard_none sits c.in_ok-current.ensures.value c.in_ok-inbox.ensures.value c.round-round.ensures
     c.args.from (λ e. e.value) c.in_err-value.ensures)
 
 pub returns-in_err-ts : goal.returns-in_err-ts
 returns-in_err-ts c =
     let sits = c.in_ok-seat.ensures.seat in
-    let w = c.args.self.now.rehearsal in
     rw sits.in_group (ap (option_map (λ (e : Bor (List Message) × ℕ). (e.0.now, e.1))) c.from_residual-in_err-ts.ensures
-    ∙ heard_none w c.args.member c.in_ok-seat.seat.now sits c.in_ok-current.field-0.now
-    c.in_ok-current.ensures.value c.in_ok-inbox.inbox.now c.in_ok-inbox.ensures.value c.round-round.result c.round-round.ensures
+    ∙ heard_none sits c.in_ok-current.ensures.value c.in_ok-inbox.ensures.value c.round-round.ensures
     c.args.from (λ e. e.ts) c.in_err-ts.ensures)
 
 pub returns-in_err-set : goal.returns-in_err-set
 returns-in_err-set c =
     let sits = c.in_ok-seat.ensures.seat in
-    let w = c.args.self.now.rehearsal in
-    let values : c.self.inside.book.values ≡ values_of (state_of w) = c.self.invariant.world.values
-    ∙ ap (λ (v : WorldView). values_of (state_of v.rehearsal)) c.self.view_is in
-    let got : None ≡ slice_get (values_of (state_of w)) c.in_ok-value.value = c.in_err-set.ensures
-    ∙ ap (λ (vs : List Value). slice_get vs c.in_ok-value.value) values in
+    let got = c.in_err-set.ensures
+    ∙ ap (λ (vs : List Value). slice_get vs c.in_ok-value.value) (world_seen c.self.inside c.self.view_is c.self.invariant).values in
     rw sits.in_group (ap (option_map (λ (e : Bor (List Message) × ℕ). (e.0.now, e.1))) c.from_residual-in_err-set.ensures
-    ∙ heard_some w c.args.member c.in_ok-seat.seat.now sits c.in_ok-current.field-0.now
-    c.in_ok-current.ensures.value c.in_ok-inbox.inbox.now c.in_ok-inbox.ensures.value c.round-round.result c.round-round.ensures
+    ∙ heard_some sits c.in_ok-current.ensures.value c.in_ok-inbox.ensures.value c.round-round.ensures
     c.args.from c.in_ok-value.value c.in_ok-ts.ts None c.in_ok-value.ensures c.in_ok-ts.ensures got)
 
 pub returns : goal.returns
 returns c =
     let sits = c.in_ok-seat.ensures.seat in
-    let w = c.args.self.now.rehearsal in
-    let values : c.self.inside.book.values ≡ values_of (state_of w) = c.self.invariant.world.values
-    ∙ ap (λ (v : WorldView). values_of (state_of v.rehearsal)) c.self.view_is in
-    let got : Some c.in_ok-set.set.now ≡ slice_get (values_of (state_of w)) c.in_ok-value.value = c.in_ok-set.ensures
-    ∙ ap (λ (vs : List Value). slice_get vs c.in_ok-value.value) values in
-    rw (sits.in_group, c.items.ensures.value) (heard_some w c.args.member c.in_ok-seat.seat.now sits c.in_ok-current.field-0.now
-    c.in_ok-current.ensures.value c.in_ok-inbox.inbox.now c.in_ok-inbox.ensures.value c.round-round.result c.round-round.ensures
+    let got = c.in_ok-set.ensures
+    ∙ ap (λ (vs : List Value). slice_get vs c.in_ok-value.value) (world_seen c.self.inside c.self.view_is c.self.invariant).values in
+    rw (sits.in_group, c.items.ensures.value)
+    (heard_some sits c.in_ok-current.ensures.value c.in_ok-inbox.ensures.value c.round-round.ensures
     c.args.from c.in_ok-value.value c.in_ok-ts.ts (Some c.in_ok-set.set.now) c.in_ok-value.ensures c.in_ok-ts.ensures got)

@@ -8,10 +8,10 @@ use Rattle.ct_model.specs.Rehearsal.{state_of}
 use Rattle.ct_model.specs.Run.{run}
 use Rattle.ct_board.specs.Known.{somes}
 use Rattle.ct_board.specs.Watched.{Watched, batches_told}
-use Rattle.ct_board.proofs.Meeting.{IsMet}
-use Rattle.ct_world.proofs.Meetings.{finds_more, is_met}
+use Rattle.ct_board.proofs.Meeting.{IsMet, met}
+use Rattle.ct_world.proofs.Meetings.{finds_more}
 use Rattle.ct_world.proofs.world.World.meet.Goals as goal
-use Rattle.ct_world.proofs.world.World.meet.Goals.{After-tell}
+use Rattle.ct_world.proofs.world.World.meet.Goals.{After-loop-place}
 
 pub loop-place-preserved : goal.loop-place-preserved
 loop-place-preserved c =
@@ -33,41 +33,33 @@ loop-place-preserved c =
           (c.if-is_same.ensures.0 refl) old.known look.keeps look.known;
     }
 
-pub tell-requires-clause-known : goal.tell-requires-clause-known
-tell-requires-clause-known c =
-    let old = c.loop-place.invariant in
-    let posted : c.batches-posted.result ≡ length (order (state_of c.args.self.now.rehearsal)) =
-    c.batches-posted.ensures ∙ ap length c.foremost-first.ensures.value
-    ∙ length-map (order (state_of c.args.self.now.rehearsal)) (λ (b : Batch). b.messages) in
-    let found = is_met c.args.self.now.rehearsal c.loop-place.watcher c.loop-place.place
-    (omega (arith, posted, c.loop-place-test.false)) old.known
-    (omega (arith, posted, old.read, c.read.ensures.number, c.if-posted-read.false))
-    (omega (arith, posted, old.told, c.told.ensures.number, c.if-posted-told.false)) in
-    subst (λ k. All IsSome (take k c.loop-place.watcher.notes)) (sym posted) found.known
+-- when all batches were found
 
--- when the watcher was told
-
-posted : (c : After-tell) → c.batches-posted.result ≡ length (order (state_of c.args.self.now.rehearsal))
+posted : (c : After-loop-place) → c.batches-posted.result ≡ length (order (state_of c.args.self.now.rehearsal))
 posted c = grind (arith, length-map (order (state_of c.args.self.now.rehearsal)) (λ (b : Batch). b.messages))
 
-found : (c : After-tell) → IsMet (order (state_of c.args.self.now.rehearsal)) c.loop-place.watcher
+found : (c : After-loop-place) → IsMet (order (state_of c.args.self.now.rehearsal)) c.loop-place.watcher
 found c =
     let old = c.loop-place.invariant in
-    is_met c.args.self.now.rehearsal c.loop-place.watcher c.loop-place.place
-    (omega (arith, posted c, c.loop-place-test.false)) old.known
+    met (order (state_of c.args.self.now.rehearsal)) c.loop-place.watcher
+    (λ k b less at. old.known k b (omega (arith, posted c, c.loop-place-test.false)) at)
     (omega (arith, posted c, old.read, c.read.ensures.number, c.if-posted-read.false))
     (omega (arith, posted c, old.told, c.told.ensures.number, c.if-posted-told.false))
 
+pub tell-requires-clause-known : goal.tell-requires-clause-known
+tell-requires-clause-known c =
+    let at = (goal.at.tell-requires-clause-known c).After-loop-place in
+    subst (λ k. All IsSome (take k c.loop-place.watcher.notes)) (sym (posted at)) (found at).known
+
 pub returns-clause-read : goal.returns-clause-read
 returns-clause-read c = subst (λ list. IsPrefix list (order (state_of c.args.self.now.rehearsal))) c.loop-place.invariant.batches_read
-    (found c).read
+    (found (goal.at.returns-clause-read c).After-loop-place).read
 
 pub returns-clause-told : goal.returns-clause-told
 returns-clause-told c = subst (λ list. IsPrefix list (order (state_of c.args.self.now.rehearsal))) c.loop-place.invariant.batches_told
-    (found c).told
+    (found (goal.at.returns-clause-told c).After-loop-place).told
 
 pub returns-clause-tells : goal.returns-clause-tells
 returns-clause-tells c =
-    ap batches_told c.tell.ensures.told
-    ∙ ap (λ k. somes (take k c.loop-place.watcher.notes)) (posted c)
-    ∙ (found c).same
+    let at = (goal.at.returns-clause-tells c).After-loop-place in
+    ap batches_told c.tell.ensures.told ∙ ap (λ k. somes (take k c.loop-place.watcher.notes)) (posted at) ∙ (found at).same

@@ -31,16 +31,9 @@ invariant_of-self-in_err-proposal c =
 pub invariant_of-self-2 : goal.invariant_of-self-2
 invariant_of-self-2 c =
     let p = allowed_in c.self.inside (Begin c.args.member) c.self.view_is c.self.invariant c.requires.allowed in
-    kept_ready c.self.inside (made.Begin c.args.member c.in_ok-proposal.proposal) c.in_ok-reserve.ensures.record
+    kept_ready c.self.inside (made.Begin c.args.member c.in_ok-proposal.proposal) p refl
+    c.in_ok-reserve.ensures.record (omega (arith, c.in_ok-reserve.ensures.for_step)) c.in_ok-reserve.ensures.for_sending
     (roomier_in c.self.inside p _ (seat_in c.self.inside p c.index_mut-seat.ensures.value) c.in_ok-proposal.ensures.same
     c.in_ok-prepare.ensures.values c.in_ok-reserve.ensures.sent c.in_ok-reserve.ensures.lines refl)
-    (record {
-      allowed = p.allowed;
-      placed = refl;
-      for_step = omega (arith, c.in_ok-reserve.ensures.for_step);
-      for_sending = c.in_ok-reserve.ensures.for_sending;
-      for_itself = begin_room
-          (rehearsal_in c.self.inside) c.self.inside.seats.items c.args.member c.prepare_begin.new.self p.within refl
-          c.in_ok-proposal.ensures.proposal
-          c.in_ok-proposal.ensures.room c.in_ok-prepare.ensures.ok;
-    })
+    (begin_room (rehearsal_in c.self.inside) c.self.inside.seats.items c.args.member c.prepare_begin.new.self p.within refl
+    c.in_ok-proposal.ensures.proposal c.in_ok-proposal.ensures.room c.in_ok-prepare.ensures.ok)

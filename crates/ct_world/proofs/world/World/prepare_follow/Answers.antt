@@ -6,8 +6,8 @@ use Rattle.ct_world.specs.declared.prepared.Prepared.TheVariants as made
 use Rattle.ct_world.specs.declared.seat.Seat.{Seat}
 use Rattle.ct_world.specs.Seats.{content}
 use Rattle.ct_world.specs.World.{WorldView}
-use Rattle.ct_world.proofs.Deliveries.{has_value}
-use Rattle.ct_world.proofs.Following.{follow_due, follow_few, follow_room}
+use Rattle.ct_world.proofs.Deliveries.{delivery_room, has_value}
+use Rattle.ct_world.proofs.Following.{follow_due, follow_few}
 use Rattle.ct_world.proofs.Insides.{allowed_in, within_in, seat_in}
 use Rattle.ct_world.proofs.Preparing.{roomier_in, unprepared_in, kept_ready}
 use Rattle.ct_world.proofs.world.World.prepare_follow.Goals as goal
@@ -46,13 +46,8 @@ invariant_of-self-2 c =
     let last = c.last-instance.ensures ∙ ap (λ (s : Seat). s.instances.last) here in
     let posted = c.from-posted.ensures ∙ c.posted.ensures
     ∙ ap (λ (x : WorldView). length (order (state_of x.rehearsal))) (sym c.self.view_is) in
-    kept_ready c.self.inside (made.Follow c.args.member c.in_ok-number.number c.in_ok-number.batch) c.in_ok-reserve.ensures.record
+    kept_ready c.self.inside (made.Follow c.args.member c.in_ok-number.number c.in_ok-number.batch) p refl
+    c.in_ok-reserve.ensures.record (omega (arith, c.in_ok-reserve.ensures.for_step)) c.in_ok-reserve.ensures.for_sending
     (roomier_in c.self.inside p _ here c.in_ok-number.ensures.same refl c.in_ok-reserve.ensures.sent c.in_ok-reserve.ensures.lines refl)
-    (record {
-      allowed = p.allowed;
-      placed = refl;
-      for_step = omega (arith, c.in_ok-reserve.ensures.for_step);
-      for_sending = c.in_ok-reserve.ensures.for_sending;
-      for_itself = follow_room p c.prepare_delivery.new.self (c.in_ok-number.ensures.same ∙ ap content here) refl refl posted
-          (ap (λ k. k + 1) last) c.in_ok-number.ensures.ok;
-    })
+    (delivery_room p (follow_due p) (λ k. k + 1) refl c.prepare_delivery.new.self
+    (c.in_ok-number.ensures.same ∙ ap content here) refl refl posted (ap (λ k. k + 1) last) refl c.in_ok-number.ensures.ok)

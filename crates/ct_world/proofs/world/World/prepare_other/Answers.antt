@@ -8,12 +8,7 @@ use Rattle.ct_world.proofs.world.World.prepare_other.Goals as goal
 pub invariant_of-self-2 : goal.invariant_of-self-2
 invariant_of-self-2 c =
     let p = allowed_in c.self.inside c.args.step c.self.view_is c.self.invariant c.requires.allowed in
-    kept_ready c.self.inside (made.Other c.args.step c.args.place) c.reserve.ensures.record
+    kept_ready c.self.inside (made.Other c.args.step c.args.place) p (rw (← c.self.view_is) at c.requires.placed)
+    c.reserve.ensures.record (omega (arith, c.in_ok-reserve.ensures.for_step)) c.in_ok-reserve.ensures.for_sending
     (world-roomier p.world (record { values = refl; sent = c.reserve.ensures.sent; lines = c.reserve.ensures.lines; same = refl }))
-    (record {
-      allowed = p.allowed;
-      placed = rw (← c.self.view_is) at c.requires.placed;
-      for_step = omega (arith, c.in_ok-reserve.ensures.for_step);
-      for_sending = c.in_ok-reserve.ensures.for_sending;
-      for_itself = no_room _ _ _ c.args.step c.requires.plain;
-    })
+    (no_room _ _ _ c.args.step c.requires.plain)

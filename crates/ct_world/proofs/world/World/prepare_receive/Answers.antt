@@ -33,14 +33,9 @@ invariant_of-self-in_err-prepare_receive c =
 pub invariant_of-self-2 : goal.invariant_of-self-2
 invariant_of-self-2 c =
     let p = allowed_in c.self.inside (Receive c.args.member c.args.serial) c.self.view_is c.self.invariant c.requires.allowed in
-    kept_ready c.self.inside (made.Other (Receive c.args.member c.args.serial) c.args.place) c.in_ok-reserve.ensures.record
+    kept_ready c.self.inside (made.Other (Receive c.args.member c.args.serial) c.args.place) p (rw (← c.self.view_is) at c.requires.placed)
+    c.in_ok-reserve.ensures.record (omega (arith, c.in_ok-reserve.ensures.for_step)) c.in_ok-reserve.ensures.for_sending
     (roomier_in c.self.inside p _ (seat_in c.self.inside p c.index_mut-seat.ensures.value) c.in_ok-prepare_receive.ensures.same refl
     c.in_ok-reserve.ensures.sent c.in_ok-reserve.ensures.lines refl)
-    (record {
-      allowed = p.allowed;
-      placed = rw (← c.self.view_is) at c.requires.placed;
-      for_step = omega (arith, c.in_ok-reserve.ensures.for_step);
-      for_sending = c.in_ok-reserve.ensures.for_sending;
-      for_itself = receive_room c.self.inside.seats.items c.args.member c.prepare_receive.new.self p.within
-          (sym c.envelope.ensures ∙ c.unwrap-envelope.ensures) c.in_ok-prepare_receive.ensures.ok;
-    })
+    (receive_room c.self.inside.seats.items c.args.member c.prepare_receive.new.self p.within
+    (sym c.envelope.ensures ∙ c.unwrap-envelope.ensures) c.in_ok-prepare_receive.ensures.ok)

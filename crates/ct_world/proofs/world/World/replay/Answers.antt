@@ -1,4 +1,4 @@
-use Rattle.std.proofs.Common.{◌≡◌, ◌+◌, get_or, Some, None, sym, ap, ◌∙◌, subst, arith, inl, inr, add-one}
+use Rattle.std.proofs.Common.{◌≡◌, ℕ, ◌+◌, get_or, Some, None, sym, ap, ◌∙◌, subst, arith, inl, inr, add-one}
 use Rattle.std.specs.Prelude.{slice_get}
 use Rattle.std.proofs.lemmas.List.{take_more}
 use Rattle.std.proofs.lemmas.Option.{get_or_from_slice_get}
@@ -19,18 +19,13 @@ no_step = Submit 0 (Set 0 0)
 
 pub returns-in-Err-apply-clause-err : goal.returns-in-Err-apply-clause-err
 returns-in-Err-apply-clause-err c =
-    let h = c.in-Err-apply.ensures in
-    let so_far = c.loop-i.invariant.so_far in
     let steps = c.args.steps.now in
     let i = c.loop-i.i in
     rw add-one (record {
       within = c.loop-i-test.true;
       before = c.loop-i.invariant.allowed;
-      refused = λ s e.
-          subst (λ t. IsRefusal
-          (first_steps (record { members = c.args.group; bound = c.args.bound }) c.args.cells steps i) t c.in-Err-apply.refusal)
-          (get_or_from_slice_get steps i s no_step e)
-          (subst (λ (v : WorldView). IsRefusal v.rehearsal (get_or steps i no_step) c.in-Err-apply.refusal) so_far h.refusal);
+      refused = λ s e. subst (λ (v : WorldView). IsRefusal v.rehearsal s c.in-Err-apply.refusal) c.loop-i.invariant.so_far
+          (rw (← get_or_from_slice_get steps i s no_step e) c.in-Err-apply.ensures.refusal);
     })
 
 pub loop-i-preserved : goal.loop-i-preserved
@@ -40,20 +35,17 @@ loop-i-preserved c =
     let steps = c.args.steps.now in
     let i = c.loop-i.i in
     let here : Step = get_or steps i no_step in
-    let joined : c.apply.new.self.rehearsal ≡ first_steps (record { members = c.args.group; bound = c.args.bound }) c.args.cells steps
-    (i + 1) =
+    let w = λ (k : ℕ). first_steps (record { members = c.args.group; bound = c.args.bound }) c.args.cells steps k in
+    let joined : c.apply.new.self.rehearsal ≡ w (i + 1) =
     h.ok.joined ∙ ap (λ (v : WorldView). extended v.rehearsal here) so_far
-    ∙ ap (λ l. record (first_steps (record { members = c.args.group; bound = c.args.bound }) c.args.cells steps i) { steps = l })
-    (sym (take_more steps i no_step c.loop-i-test.true)) in
+    ∙ ap (λ l. record (w i) { steps = l }) (sym (take_more steps i no_step c.loop-i-test.true)) in
     record {
       so_far = λ t. record { rehearsal = joined t; prepared = h.none t };
       allowed = λ j s b e. elim (cases_lt j i) [
         | inl low ↦ c.loop-i.invariant.allowed j s low e
         | inr high ↦ (let same : i ≡ j = omega arith in
-            let now : slice_get steps i ≡ Some s = subst (λ m. slice_get steps m ≡ Some s) (sym same) e in
-            subst (λ m. cause (first_steps (record { members = c.args.group; bound = c.args.bound }) c.args.cells steps m) s ≡ None) same
-            (ap (λ t. cause (first_steps (record { members = c.args.group; bound = c.args.bound }) c.args.cells steps i) t)
-            (sym (get_or_from_slice_get steps i s no_step now))
+            subst (λ m. cause (w m) s ≡ None) same (ap (cause (w i))
+            (sym (get_or_from_slice_get steps i s no_step (subst (λ m. slice_get steps m ≡ Some s) (sym same) e)))
             ∙ ap (λ (v : WorldView). cause v.rehearsal here) (sym so_far) ∙ h.allowed))
       ];
     }
