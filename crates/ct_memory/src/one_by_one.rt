@@ -4,7 +4,7 @@ use crate::fault::Fault;
 use ct_board::Board;
 use ct_model::Step;
 use ct_names::{Member, Refusal};
-use ct_program::read_record;
+use ct_program::{Script, read_record};
 use ct_world::World;
 use std::alloc::Global;
 
@@ -12,18 +12,46 @@ use std::alloc::Global;
 /// it was before. The world after all steps, and the number of the last step that was refused; 0 where none was.
 pub fn do_one_by_one(alloc: Global, record: &[u8]) -> Result<(World, usize), Fault> {
     let script = read_record(alloc, record)?;
-    let mut world = World::new(alloc, script.group, script.cells, script.batch)?;
+    let (world, board) = started(alloc, &script)?;
+    do_all(alloc, world, &board, &script.steps)
+}
+
+// The world of the record before its steps, and its board.
+fn started(alloc: Global, script: &Script) -> Result<(World, Board), Fault> {
+    let world = World::new(alloc, script.group, script.cells, script.batch)?;
     let board = Board::new(alloc, usize::from(script.cells))?;
+    Ok((world, board))
+}
+
+// Does the steps one by one. The world after them, and the number of the last step that was refused.
+fn do_all(
+    alloc: Global,
+    mut world: World,
+    board: &Board,
+    steps: &[Step],
+) -> Result<(World, usize), Fault> {
     let mut refused = 0;
-    for (i, step) in script.steps.iter().enumerate() {
-        // A copy has no room to spare, so each step has to ask for memory.
-        let mut next = world.copy(alloc)?;
-        if !do_at_last(&world, &mut next, &board, step)? {
+    for (i, step) in steps.iter().enumerate() {
+        let (next, is_first) = stepped(alloc, &world, board, step)?;
+        if !is_first {
             refused = i + 1;
         }
         world = next;
     }
     Ok((world, refused))
+}
+
+// The world after the step, and whether it was done at the first try. It is done in a copy of the world before it, which
+// has no room to spare, so that each step has to ask for memory.
+fn stepped(
+    alloc: Global,
+    before: &World,
+    board: &Board,
+    step: &Step,
+) -> Result<(World, bool), Fault> {
+    let mut world = before.copy(alloc)?;
+    let is_first = do_at_last(before, &mut world, board, step)?;
+    Ok((world, is_first))
 }
 
 // Does the step in a copy of the world before it. Whether it was done at the first try.

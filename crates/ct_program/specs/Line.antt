@@ -26,12 +26,16 @@ required_rule name = record (new_rule name) { long = Some name; action = Some Se
 abbrev pub option_rule : Text → Text → Rule
 option_rule name default = record (new_rule name) { long = Some name; action = Some Set; defaults = default ∷ [] }
 
+-- the options after `members` and `turns`
+abbrev pub further_rules : List Rule
+further_rules =
+    option_rule (codes "seed") (codes "0") ∷ option_rule (codes "rate") (codes "64") ∷ option_rule (codes "cells") (codes "64")
+    ∷ option_rule (codes "submit") (codes "8") ∷ option_rule (codes "crash") (codes "0") ∷ option_rule (codes "postpone") (codes "0")
+    ∷ option_rule (codes "lose") (codes "0") ∷ option_rule (codes "repeat") (codes "0") ∷ option_rule (codes "batch") (codes "1048560") ∷ []
+
+-- the options of a free run
 abbrev pub free_rules : List Rule
-free_rules =
-    required_rule (codes "members") ∷ option_rule (codes "turns") (codes "1000") ∷ option_rule (codes "seed") (codes "0")
-    ∷ option_rule (codes "rate") (codes "64") ∷ option_rule (codes "cells") (codes "64") ∷ option_rule (codes "submit") (codes "8")
-    ∷ option_rule (codes "crash") (codes "0") ∷ option_rule (codes "postpone") (codes "0") ∷ option_rule (codes "lose") (codes "0")
-    ∷ option_rule (codes "repeat") (codes "0") ∷ option_rule (codes "batch") (codes "1048560") ∷ []
+free_rules = required_rule (codes "members") ∷ option_rule (codes "turns") (codes "1000") ∷ further_rules
 
 -- the subcommand `free`
 abbrev pub free_app : App

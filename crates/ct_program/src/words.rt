@@ -113,6 +113,55 @@ fn free<'a>(alloc: Global) -> Result<Command<'a>, AllocError>
     with_free_options(alloc, command, turns)
 }
 
+// The options of a free run but for `members` and `turns`: each with its name, the value where none is given, and its help.
+const OPTIONS: [(&str, &str, &str); 9] = [
+    (
+        "seed",
+        "0",
+        "Where the random answers come from, 0 to 4294967295: the failure detector of member m is seeded with this number plus m",
+    ),
+    (
+        "rate",
+        "64",
+        "How many of 256 answers of a failure detector suspect the coordinator, 0 to 256",
+    ),
+    (
+        "cells",
+        "64",
+        "How many batches of messages there is room for, 0 to 1024",
+    ),
+    (
+        "submit",
+        "8",
+        "How many commands are submitted, 0 to 1000, by the members in turn",
+    ),
+    (
+        "crash",
+        "0",
+        "The member that crashes after the submissions, 1 to 16, or 0 for none",
+    ),
+    (
+        "postpone",
+        "0",
+        "How many times a waiting envelope is postponed, 0 to 1000, at the members in turn",
+    ),
+    (
+        "lose",
+        "0",
+        "How many times a waiting envelope is lost, 0 to 1000, at the members in turn",
+    ),
+    (
+        "repeat",
+        "0",
+        "How many envelopes are repeated, 0 to 1000: those of serial 1, 2 and so on, at the members in turn",
+    ),
+    (
+        "batch",
+        "1048560",
+        "How many messages a member proposes at most for an instance, 1 to 1048560",
+    ),
+];
+
 /// The command, and after its own arguments the options of a free run. This is the help of the option `turns`.
 pub fn with_free_options<'a>(
     alloc: Global,
@@ -121,63 +170,24 @@ pub fn with_free_options<'a>(
 ) -> Result<Command<'a>, AllocError>
     ensures { IfOk result (λ longer. app_of longer ≡ fold with_rule (app_of command.entry) free_rules) }
 {
-    command
-        .arg(required(alloc, "members", "The number of members, 1 to 16"))?
-        .arg(option(alloc, "turns", "1000", turns))?
-        .arg(option(
-            alloc,
-            "seed",
-            "0",
-            "Where the random answers come from, 0 to 4294967295: the failure detector of member m is seeded with this number plus m",
-        ))?
-        .arg(option(
-            alloc,
-            "rate",
-            "64",
-            "How many of 256 answers of a failure detector suspect the coordinator, 0 to 256",
-        ))?
-        .arg(option(
-            alloc,
-            "cells",
-            "64",
-            "How many batches of messages there is room for, 0 to 1024",
-        ))?
-        .arg(option(
-            alloc,
-            "submit",
-            "8",
-            "How many commands are submitted, 0 to 1000, by the members in turn",
-        ))?
-        .arg(option(
-            alloc,
-            "crash",
-            "0",
-            "The member that crashes after the submissions, 1 to 16, or 0 for none",
-        ))?
-        .arg(option(
-            alloc,
-            "postpone",
-            "0",
-            "How many times a waiting envelope is postponed, 0 to 1000, at the members in turn",
-        ))?
-        .arg(option(
-            alloc,
-            "lose",
-            "0",
-            "How many times a waiting envelope is lost, 0 to 1000, at the members in turn",
-        ))?
-        .arg(option(
-            alloc,
-            "repeat",
-            "0",
-            "How many envelopes are repeated, 0 to 1000: those of serial 1, 2 and so on, at the members in turn",
-        ))?
-        .arg(option(
-            alloc,
-            "batch",
-            "1048560",
-            "How many messages a member proposes at most for an instance, 1 to 1048560",
-        ))
+    let members = required(alloc, "members", "The number of members, 1 to 16");
+    let turns = option(alloc, "turns", "1000", turns);
+    with_options(alloc, command.arg(members)?.arg(turns)?, &OPTIONS)
+}
+
+// The command with these options too.
+fn with_options<'a>(
+    alloc: Global,
+    mut command: Command<'a>,
+    options: &[(&'a str, &'a str, &'a str)],
+) -> Result<Command<'a>, AllocError>
+    ensures { IfOk result (λ longer. app_of longer
+        ≡ fold (λ app o. with_rule app (option_rule o.0.now o.1.now)) (app_of command.entry) options.now) }
+{
+    for (name, default, help) in options {
+        command = command.arg(option(alloc, name, default, help))?;
+    }
+    Ok(command)
 }
 
 // An option that has to be given.
