@@ -9,8 +9,8 @@ use Rattle.ct_relay.specs.declared.firsts.TheConstants.{ORIGINS}
 use Rattle.ct_relay.specs.declared.relay_id.RelayId.{RelayId}
 use Rattle.ct_relay.specs.declared.relay_id.RelayId.TheVariants.{Data, Dec}
 use Rattle.ct_relay.specs.Taken.{is_id, with_id}
-use Rattle.ct_relay.specs.Marks.{Marks, StaysElsewhere, IsCovered, IsKept}
-use Rattle.ct_relay.proofs.Receipts.{found-in, once-last}
+use Rattle.ct_relay.specs.Marks.{Marks, StaysElsewhere, IsCovered, HasLost, IsKept}
+use Rattle.ct_relay.proofs.Receipts.{found-in, once-last, out, was-in, still-in}
 
 module _ (order : List RelayId) (marks : Marks) (others : List RelayId) (kept : IsKept order marks others) where
   -- a message was taken: the mark `last` of its origin is no longer below its number
@@ -135,6 +135,63 @@ module _ (order : List RelayId) (marks : Marks) (others : List RelayId) (kept : 
   pub decision-kept : (instance round : ℕ) → (IsIn (Dec instance round) order → ⊥) →
       IsKept (order ++ Dec instance round ∷ []) marks (with_id others (Dec instance round))
   decision-kept instance round absent = added-kept (Dec instance round) absent marks refl (decision-within instance round)
+
+-- what the marks cover leaves the others
+pub lost-kept : (order : List RelayId) (marks : Marks) (others left : List RelayId) (origin from to : ℕ) → IsKept order marks others →
+    origin < ORIGINS → slice_index marks.all origin ≡ to → HasLost origin from to others left → IsKept order marks left
+lost-kept order marks others left origin from to kept small all lost = record {
+  once = kept.once;
+  others_taken = λ id there. kept.others_taken id (lost.were id there);
+  covered_taken = kept.covered_taken;
+  kept = λ id there. at id (kept.kept id there);
+  within = kept.within;
+}
+  where
+    at : (id : RelayId) → IsIn id others ⊎ IsCovered marks id → IsIn id left ⊎ IsCovered marks id
+    at id (inr covered) = inr covered
+    at id (inl there) = elim (lost.are id there) [
+      | inl i ↦ inl i
+      | inr gone ↦ inr (subst (IsCovered marks) (sym gone.3) (small, omega (arith, gone.1), omega (arith, gone.2, all)))
+    ]
+
+-- one more message leaves the others
+pub lost-next : (origin from before : ℕ) (old now next : List RelayId) → from ≤ before → HasLost origin from before old now →
+    ((q : RelayId) → list_any (is_id q) next ≡ cond (is_id (Data origin (before + 1)) q) false (list_any (is_id q) now)) →
+    HasLost origin from (before + 1) old next
+lost-next origin from before old now next least lost updated = record {
+  were = λ id there. lost.were id (was-in now next (Data origin (before + 1)) updated id there);
+  are = λ id there. at id (lost.are id there);
+}
+  where
+    at : (id : RelayId) → IsIn id now ⊎ ((k : ℕ) × (from < k) × (k ≤ before) × (id ≡ Data origin k)) →
+        IsIn id next ⊎ ((k : ℕ) × (from < k) × (k ≤ before + 1) × (id ≡ Data origin k))
+    at id (inr gone) = inr (gone.0, gone.1, omega (arith, gone.2), gone.3)
+    at id (inl there) = elim (still-in now next (Data origin (before + 1)) updated id there) [
+      | inl i ↦ inl i
+      | inr same ↦ inr (before + 1, omega arith, omega arith, same)
+    ]
+
+-- the next message is not there, so none leaves
+pub lost-last : (origin from before : ℕ) (old now next : List RelayId) → HasLost origin from before old now →
+    list_any (is_id (Data origin (before + 1))) now ≡ false →
+    ((q : RelayId) → list_any (is_id q) next ≡ cond (is_id (Data origin (before + 1)) q) false (list_any (is_id q) now)) →
+    HasLost origin from before old next × (IsIn (Data origin (before + 1)) old → ⊥)
+lost-last origin from before old now next lost absent updated = (record {
+  were = λ id there. lost.were id (was-in now next (Data origin (before + 1)) updated id there);
+  are = λ id there. at id (lost.are id there);
+}, λ there. gone (lost.are (Data origin (before + 1)) there))
+  where
+    at : (id : RelayId) → IsIn id now ⊎ ((k : ℕ) × (from < k) × (k ≤ before) × (id ≡ Data origin k)) →
+        IsIn id next ⊎ ((k : ℕ) × (from < k) × (k ≤ before) × (id ≡ Data origin k))
+    at id (inr left) = inr left
+    at id (inl there) = elim (still-in now next (Data origin (before + 1)) updated id there) [
+      | inl i ↦ inl i
+      | inr same ↦ absurd (out now (Data origin (before + 1)) absent (subst (λ x. IsIn x now) same there))
+    ]
+
+    gone : IsIn (Data origin (before + 1)) now ⊎ ((k : ℕ) × (from < k) × (k ≤ before) × (Data origin (before + 1) ≡ Data origin k)) → ⊥
+    gone (inl there) = out now (Data origin (before + 1)) absent there
+    gone (inr past) = grind arith
 
 -- all messages from one number to another, and the next
 pub all-next : (others : List RelayId) (origin from to : ℕ) → ((k : ℕ) → from < k → k ≤ to → IsIn (Data origin k) others) →

@@ -49,3 +49,8 @@ pub record IsKept (order : List RelayId) (marks : Marks) (others : List RelayId)
   pub covered_taken : (id : RelayId) → IsCovered marks id → IsIn id order
   pub kept : (id : RelayId) → IsIn id order → IsIn id others ⊎ IsCovered marks id
   pub within : (origin number : ℕ) → origin < ORIGINS → IsIn (Data origin number) order → number ≤ slice_index marks.last origin
+
+-- of the others the messages of the origin from one number, which stays, to another are gone, and no more
+pub record HasLost (origin from to : ℕ) (old new : List RelayId) : Type 0 where
+  pub were : (id : RelayId) → IsIn id new → IsIn id old
+  pub are : (id : RelayId) → IsIn id old → IsIn id new ⊎ ((k : ℕ) × (from < k) × (k ≤ to) × (id ≡ Data origin k))

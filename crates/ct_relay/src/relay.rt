@@ -4,7 +4,8 @@ ghost use Rattle.std.specs.Prelude.{◌≡◌, ℕ, ◌+◌, ◌<◌, ◌≤◌,
 ghost use Rattle.ct_names.specs.Membership.{IsIn, IsWithoutRepeats};
 ghost use Rattle.ct_relay.specs.declared.relay_id.RelayId.TheVariants.{Data};
 ghost use Rattle.ct_relay.specs.declared.relay_id.RelayId.{RelayId as Id};
-ghost use Rattle.ct_relay.specs.Marks.{told_of, is_next_of, IsKept};
+ghost use Rattle.indexmap.specs.IndexSet.{spare};
+ghost use Rattle.ct_relay.specs.Marks.{told_of, is_next_of, HasLost, IsKept};
 ghost use Rattle.ct_relay.specs.Taken.{is_first, with_id, action_of};
 
 use crate::action::Action;
@@ -22,8 +23,7 @@ pub struct Relay {
     // All that was taken, in the order of first receipt.
     order: Vec<RelayId>,
     firsts: Firsts,
-    // What was taken besides: decisions, and messages that came before one with a smaller number. These stay here when the
-    // smaller ones have come, and are no longer looked for.
+    // What was taken besides: decisions, and messages that came before one with a smaller number, until that has come.
     others: IndexSet<RelayId>,
 }
 
@@ -122,7 +122,7 @@ impl Relay {
         let deliver = self.first(id);
         if deliver {
             self.order.push(id).unwrap();
-            if !cover(&mut self.firsts, &self.others, id) {
+            if !cover(&mut self.firsts, &mut self.others, id) {
                 self.others.insert(id).unwrap();
             }
         }
@@ -143,11 +143,13 @@ fn told(firsts: &Firsts, id: RelayId) -> Option<bool>
     }
 }
 
-// Notes that it was taken. Whether the marks cover it now: where they don't it has to stand with the others.
-fn cover(firsts: &mut Firsts, others: &IndexSet<RelayId>, id: RelayId) -> bool
+// Notes that it was taken. Whether the marks cover it now: where they don't it has to stand with the others. What the marks
+// come to cover leaves the others.
+fn cover(firsts: &mut Firsts, others: &mut IndexSet<RelayId>, id: RelayId) -> bool
     ensures next { result ≡ is_next_of firsts.old id }
-    ensures kept { (order : List Id) → IsKept order firsts.old others.now.keys → (IsIn id order → ⊥)
-        → IsKept (order ++ id ∷ []) firsts.new (if result then others.now.keys else with_id others.now.keys id) }
+    ensures kept { (order : List Id) → IsKept order firsts.old others.old.keys → (IsIn id order → ⊥)
+        → IsKept (order ++ id ∷ []) firsts.new (if result then others.new.keys else with_id others.new.keys id) }
+    ensures room { spare others.old ≤ spare others.new }
 {
     let RelayId::Data { origin, number } = id else {
         return false;
@@ -156,26 +158,27 @@ fn cover(firsts: &mut Firsts, others: &IndexSet<RelayId>, id: RelayId) -> bool
     if !firsts.is_next(origin, number) {
         return false;
     }
-    let all = all_from(others, origin, number, firsts.last(origin));
+    let all = take_from(others, origin, number, firsts.last(origin));
     firsts.raise(origin, all);
     true
 }
 
-// The number, `last` at most, to which the others have all messages of the origin after `number`. In all calls together each
-// message is passed once.
-fn all_from(others: &IndexSet<RelayId>, origin: Member, number: u32, last: u32) -> u32
+// The number, `last` at most, to which the others have all messages of the origin after `number`. These leave the others.
+fn take_from(others: &mut IndexSet<RelayId>, origin: Member, number: u32, last: u32) -> u32
     requires { number ≤ last }
     ensures least { number ≤ result }
     ensures largest { result ≤ last }
-    ensures all { (k : ℕ) → number < k → k ≤ result → IsIn (Data origin k) others.now.keys }
-    ensures next { result < last → IsIn (Data origin (result + 1)) others.now.keys → ⊥ }
+    ensures all { (k : ℕ) → number < k → k ≤ result → IsIn (Data origin k) others.old.keys }
+    ensures next { result < last → IsIn (Data origin (result + 1)) others.old.keys → ⊥ }
+    ensures left { HasLost origin number result others.old.keys others.new.keys }
+    ensures room { spare others.old ≤ spare others.new }
 {
     for before in number..last {
         let next = RelayId::Data {
             origin,
             number: before + 1,
         };
-        if !others.contains(&next) {
+        if !others.swap_remove(&next) {
             return before;
         }
     }

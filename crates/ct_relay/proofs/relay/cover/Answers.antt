@@ -2,7 +2,7 @@ use Rattle.std.proofs.Common.{◌≡◌, ◌<◌, ◌+◌, arith}
 use Rattle.std.specs.Prelude.{slice_index}
 use Rattle.std.proofs.lemmas.Bool.Decides.{nat_tests}
 use Rattle.ct_relay.specs.declared.firsts.TheConstants.{ORIGINS}
-use Rattle.ct_relay.proofs.Kept.{raised-kept, seen-kept, decision-kept}
+use Rattle.ct_relay.proofs.Kept.{raised-kept, lost-kept, seen-kept, decision-kept}
 use Rattle.ct_relay.proofs.relay.cover.Goals as goal
 
 pub returns-in_default-clause-kept : goal.returns-in_default-clause-kept
@@ -20,7 +20,8 @@ returns-clause-kept c = λ order kept absent.
     let small : c.in-Data.origin < ORIGINS = grind (arith, nat_tests, c.if-not-is_next.ensures) in
     let next : c.in-Data.number ≡ slice_index c.args.firsts.now.all c.in-Data.origin + 1 =
     grind (arith, nat_tests, c.if-not-is_next.ensures, c.see.ensures.all) in
-    rw c.in-Data.is
-    (raised-kept order _ _ kept c.see.new.self c.in-Data.origin c.in-Data.number c.see.ensures.last c.see.ensures.elsewhere
-    c.raise.new.self c.all_from-all.result (rw c.in-Data.is at absent) small next c.see.ensures.all c.raise.ensures.all
-    c.raise.ensures.elsewhere c.raise.ensures.last c.all_from-all.ensures.least c.all_from-all.ensures.all)
+    let all = c.take_from-all.ensures in
+    let raised = raised-kept order _ _ kept c.see.new.self c.in-Data.origin c.in-Data.number c.see.ensures.last c.see.ensures.elsewhere
+    c.raise.new.self c.take_from-all.result (rw c.in-Data.is at absent) small next c.see.ensures.all c.raise.ensures.all
+    c.raise.ensures.elsewhere c.raise.ensures.last all.least all.all in
+    rw c.in-Data.is (lost-kept _ _ _ _ c.in-Data.origin c.in-Data.number c.take_from-all.result raised small c.raise.ensures.all all.left)

@@ -10,14 +10,14 @@ use Rattle.ct_relay.proofs.relay.Relay.take.Goals.{then-deliver+then-not-cover, 
 pub invariant_of-self : goal.invariant_of-self
 invariant_of-self c =
     let order = c.self.inside.order.items in
-    let others = c.self.inside.others.keys in
     let id = c.args.id in
     elim c.if-deliver.branch [
       | then-deliver+then-not-cover w ↦
           let first : is_first order id ≡ true = search rules in
           let items : w.push.new.self.items ≡ order ++ id ∷ [] = search rules in
-          let inserted : OnOk w.insert.result (w.insert.new.self.keys ≡ insert_key equal.eq others id) = w.insert.ensures.keys in
-          let keys = rw w.unwrap-then-not-cover.ensures at inserted ∙ insert_key-with_id others id in
+          let left = w.cover.new.others.keys in
+          let inserted : OnOk w.insert.result (w.insert.new.self.keys ≡ insert_key equal.eq left id) = w.insert.ensures.keys in
+          let keys = rw w.unwrap-then-not-cover.ensures at inserted ∙ insert_key-with_id left id in
           rw (w.self-inside-is, items, keys) (w.if-not-cover.ensures.kept order c.self.invariant (first-missing order id first))
       | then-deliver+else-not-cover w ↦
           let first : is_first order id ≡ true = search rules in
