@@ -22,7 +22,7 @@ use Rattle.ct_model.specs.declared.step.Step.TheVariants.{Receive}
 use Rattle.ct_model.specs.StepText as steps
 use Rattle.ct_model.specs.StepText.{Number, Rest, nothing, command, Entry, amount, largest, command_entry, step_entry}
 use Rattle.ct_program.specs.Fits.{CommandFits, StepFits}
-use Rattle.ct_program.specs.Plain.{lexemes, number_lexeme, command_lexemes, step_lexemes, comma_if, steps_lexemes}
+use Rattle.ct_program.specs.Plain.{lexemes, number_lexeme, command_lexemes, step_lexemes, receive_lexemes, comma_if, steps_lexemes}
 use Rattle.ct_program.specs.Plain.{Begins, IsPlain, Continues}
 use Rattle.ct_program.specs.Script.{named, fits, rest_fits, commands, named_command, alone, with_number, with_command}
 use Rattle.ct_program.specs.Script.{short_step, numbered_step, commanded_step}
@@ -271,13 +271,22 @@ receive_first : (r : List ℕ) → lexemes (codes "\"receive\"" ++ r) ≡ token 
 unfolding json_on_literals
 receive_first r = word_first (codes "receive") (codes "\"receive\"" ++ r) r refl refl
 
-pub receipt_lexed : (p n : ℕ) (bytes a t b d e f g after : List ℕ) → Begins bytes 91 a → lexemes a ≡ lexemes t →
-    t ≡ codes "\"receive\"" ++ b → Begins b 44 d → (ends_word e ≡ true → lexemes d ≡ number_lexeme p ∷ lexemes e) → Begins e 44 f →
+pub receive_compact : (bytes r : List ℕ) → bytes ≡ codes "[\"receive\"," ++ r → lexemes bytes ≡ receive_lexemes (lexemes r)
+unfolding lex
+receive_compact bytes r is = ap lexemes is ∙ ap (λ l. token begin_array ∷ l) (receive_first (44 ∷ r))
+
+pub receive_spaced : (bytes a t b after : List ℕ) → Begins bytes 91 a → lexemes a ≡ lexemes t → t ≡ codes "\"receive\"" ++ b →
+    Begins b 44 after → lexemes bytes ≡ receive_lexemes (lexemes after)
+receive_spaced bytes a t b after h0 same is h1 =
+    let name : lexemes a ≡ token (string (codes "receive")) ∷ lexemes b = same ∙ ap lexemes is ∙ receive_first b in
+    rw (opens bytes a h0, name, commas b after h1) refl
+
+pub receipt_lexed : (p n : ℕ) (bytes d e f g after : List ℕ) → lexemes bytes ≡ receive_lexemes (lexemes d) →
+    (ends_word e ≡ true → lexemes d ≡ number_lexeme p ∷ lexemes e) → Begins e 44 f →
     (ends_word g ≡ true → lexemes f ≡ number_lexeme n ∷ lexemes g) → Begins g 93 after →
     lexemes bytes ≡ step_lexemes (Receive p n) (lexemes after)
-receipt_lexed p n bytes a t b d e f g after h0 same is h1 h2 h3 h4 h5 =
-    let name : lexemes a ≡ token (string (codes "receive")) ∷ lexemes b = same ∙ ap lexemes is ∙ receive_first b in
-    rw (opens bytes a h0, name, commas b d h1, h2 (h3.ends refl), commas e f h3, h4 (h5.ends refl), closes g after h5) refl
+receipt_lexed p n bytes d e f g after h0 h1 h2 h3 h4 =
+    rw (h0, h1 (h2.ends refl), commas e f h2, h3 (h4.ends refl), closes g after h4) refl
 
 pub step_fits : (name : List ℕ) (p : ℕ) (s : Step) (bytes after : List ℕ) → p ≤ 255 → Continues name p bytes s after → StepFits s
 step_fits name p s bytes after small is = (rw is.of_member small, is.fits)

@@ -1,11 +1,11 @@
 //! From the bytes of a record, where its names have no escapes and its numbers are digits alone, to what it says.
 
-ghost use Rattle.std.specs.Prelude.{◌≡◌, ◌+◌, ◌<◌, ◌≤◌, ◌++◌, ◌∷◌, codes, decimal, length, true, false, [], Ok, IfOk, IfSome, IsTrue};
+ghost use Rattle.std.specs.Prelude.{◌≡◌, ◌+◌, ◌*◌, ◌^◌, ◌<◌, ◌≤◌, ◌++◌, ◌∷◌, codes, decimal, length, true, false, [], Ok, IfOk, IfSome, IsTrue};
 ghost use Rattle.json.specs.Lex.{token, comma, colon};
 ghost use Rattle.json.specs.Token.{begin_array, end_array, end_object, string};
 ghost use Rattle.json.specs.Word.{ends_word, is_space};
 ghost use Rattle.ct_program.specs.Fits.{CommandFits, StepFits};
-ghost use Rattle.ct_program.specs.Plain.{lexemes, number_lexeme, command_lexemes, step_lexemes, comma_if, steps_lexemes};
+ghost use Rattle.ct_program.specs.Plain.{lexemes, number_lexeme, command_lexemes, step_lexemes, receive_lexemes, comma_if, steps_lexemes};
 ghost use Rattle.ct_program.specs.Plain.{Begins, IsPlain, Continues, PartsFit, StepsFit, Takes, Closes, members_of};
 ghost use Rattle.ct_program.specs.Script.{max_len, script};
 ghost use Rattle.ct_program.specs.View.{rehearsal_of};
@@ -180,9 +180,52 @@ fn behind_spaces(bytes: &[u8], byte: u8) -> Option<&[u8]>
     }
 }
 
-// What follows the name of a Receive.
+// What follows the name of a Receive and the comma behind it.
 #[inline(always)]
 fn behind_receive(bytes: &[u8]) -> Option<&[u8]>
+    ensures { IfSome result (λ rest. lexemes bytes.now ≡ receive_lexemes (lexemes rest.now)) }
+{
+    match behind_compact_receive(bytes) {
+        Some(rest) => Some(rest),
+        None => behind_spaced_receive(bytes),
+    }
+}
+
+// The same without white space.
+#[inline(always)]
+fn behind_compact_receive(bytes: &[u8]) -> Option<&[u8]>
+    ensures { IfSome result (λ rest. bytes.now ≡ codes "[\"receive\"," ++ rest.now) }
+{
+    match bytes {
+        [
+            b'[',
+            b'"',
+            b'r',
+            b'e',
+            b'c',
+            b'e',
+            b'i',
+            b'v',
+            b'e',
+            b'"',
+            b',',
+            rest @ ..,
+        ] => Some(rest),
+        _ => None,
+    }
+}
+
+// The same with white space between any tokens.
+#[inline(never)]
+fn behind_spaced_receive(bytes: &[u8]) -> Option<&[u8]>
+    ensures { IfSome result (λ rest. lexemes bytes.now ≡ receive_lexemes (lexemes rest.now)) }
+{
+    let rest = behind(bytes, b'[')?;
+    let rest = behind_name(trimmed(rest))?;
+    behind(rest, b',')
+}
+
+fn behind_name(bytes: &[u8]) -> Option<&[u8]>
     ensures { IfSome result (λ rest. bytes.now ≡ codes "\"receive\"" ++ rest.now) }
 {
     match bytes {
@@ -233,9 +276,7 @@ fn receipt(bytes: &[u8]) -> Option<(Step, &[u8])>
     ensures text { IfSome result (λ r. lexemes bytes.now ≡ step_lexemes r.0 (lexemes r.1.now)) }
     ensures fits { IfSome result (λ r. StepFits r.0) }
 {
-    let rest = behind(bytes, b'[')?;
-    let rest = behind_receive(trimmed(rest))?;
-    let rest = behind(rest, b',')?;
+    let rest = behind_receive(bytes)?;
     let (p, rest) = amount(rest, BYTE)?;
     let rest = behind(rest, b',')?;
     let (serial, rest) = amount(rest, SERIAL)?;
@@ -333,26 +374,40 @@ fn number(bytes: &[u8], high: u64) -> Option<(u64, &[u8])>
     if bytes.is_empty() {
         return None;
     }
-    let mut n = digit(bytes[0])?;
+    let mut n = u64::from(digit(bytes[0]));
+    if n > 9 {
+        return None;
+    }
     if n == 0 {
         return Some((0, &bytes[1..]));
     }
     for i in 1..bytes.len() {
-        let Some(next) = digit(bytes[i]) else {
+        let next = digit(bytes[i]);
+        if next > 9 {
             return (n <= high).then_some((n, &bytes[i..]));
-        };
-        n = n.checked_mul(10)?.checked_add(next)?;
+        }
+        n = with_digit(n, u64::from(next))?;
     }
     None
 }
 
-// The number that the digit writes.
+// The number with one more digit behind it. Only a large one is tested for its size.
 #[inline(always)]
-fn digit(byte: u8) -> Option<u64>
-    ensures { IfSome result (λ n. (n < 10) × (byte ≡ 48 + n)) }
+fn with_digit(n: u64, digit: u64) -> Option<u64>
+    requires { digit < 10 }
+    ensures sum { IfSome result (λ next. next ≡ n * 10 + digit) }
+    ensures fits { IfSome result (λ next. n * 10 + digit < 2 ^ 64) }
 {
-    if byte < b'0' || b'9' < byte {
-        return None;
+    if n < u64::MAX / 10 {
+        return Some(n * 10 + digit);
     }
-    Some((byte - b'0') as u64)
+    n.checked_mul(10)?.checked_add(digit)
+}
+
+// The number that the byte writes, where that is below 10: no other byte is a digit.
+#[inline(always)]
+fn digit(byte: u8) -> u8
+    ensures { result < 10 → byte ≡ 48 + result }
+{
+    byte.wrapping_sub(b'0')
 }
