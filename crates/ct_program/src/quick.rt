@@ -20,6 +20,9 @@ use std::alloc::{AllocError, Global};
 // How many keys a record has at most.
 const KEYS: usize = 5;
 
+// The last digit of the largest number.
+const LAST_DIGIT: u8 = 5;
+
 /// What the record says, where its names have no escapes and its numbers are digits alone. White space may stand between
 /// any tokens, and the keys in any order.
 pub(crate) fn plain(alloc: Global, bytes: &[u8]) -> Result<Option<Script>, AllocError>
@@ -386,22 +389,21 @@ fn number(bytes: &[u8], high: u64) -> Option<(u64, &[u8])>
         if next > 9 {
             return (n <= high).then_some((n, &bytes[i..]));
         }
-        n = with_digit(n, u64::from(next))?;
+        if overflows(n, next) {
+            return None;
+        }
+        n = n * 10 + u64::from(next);
     }
     None
 }
 
-// The number with one more digit behind it. Only a large one is tested for its size.
+// Whether the number with this digit behind it is too large.
 #[inline(always)]
-fn with_digit(n: u64, digit: u64) -> Option<u64>
+fn overflows(n: u64, digit: u8) -> bool
     requires { digit < 10 }
-    ensures sum { IfSome result (λ next. next ≡ n * 10 + digit) }
-    ensures fits { IfSome result (λ next. n * 10 + digit < 2 ^ 64) }
+    ensures { result ≡ false → n * 10 + digit < 2 ^ 64 }
 {
-    if n < u64::MAX / 10 {
-        return Some(n * 10 + digit);
-    }
-    n.checked_mul(10)?.checked_add(digit)
+    n >= u64::MAX / 10 && (n > u64::MAX / 10 || digit > LAST_DIGIT)
 }
 
 // The number that the byte writes, where that is below 10: no other byte is a digit.
