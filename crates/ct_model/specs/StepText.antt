@@ -6,6 +6,8 @@ use Rattle.ct_names.specs.declared.command.Command.TheVariants.{Set, Add, Copy}
 use Rattle.ct_model.specs.declared.step.Step.{Step}
 use Rattle.ct_model.specs.declared.step.Step.TheVariants.{Submit, Receive, Begin, Enter, Choose, Adopt, Suspect, Conclude, Deliver}
 use Rattle.ct_model.specs.declared.step.Step.TheVariants.{Follow, Crash, Postpone, Lose, Repeat}
+use Rattle.ct_model.specs.declared.step.Tail.{Tail}
+use Rattle.ct_model.specs.declared.step.Tail.TheVariants.{Nothing, Number as NumberBehind, Command as CommandBehind}
 
 -- ---- what an entry has
 
@@ -80,3 +82,9 @@ rest_texts (command c) = codes "," ∷ command_text c ∷ []
 
 unfoldable pub step_text : Step → List ℕ
 step_text s = entry_text (step_entry s).name (step_entry s).first (rest_texts (step_entry s).rest)
+
+-- what the code writes behind a step's member
+abbrev pub tail_text : Tail → List ℕ
+tail_text Nothing = []
+tail_text (NumberBehind n) = concat (rest_texts (number (value n)))
+tail_text (CommandBehind c) = concat (rest_texts (command c))

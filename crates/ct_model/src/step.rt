@@ -1,8 +1,9 @@
 //! The atomic steps of a rehearsal.
 
 ghost use Rattle.std.specs.Prelude.{◌≡◌, Some};
+ghost use Rattle.std.specs.List.{concat};
 ghost use Rattle.ct_model.specs.Actor.{actor};
-ghost use Rattle.ct_model.specs.StepText.{step_text};
+ghost use Rattle.ct_model.specs.StepText.{amount, command_entry, step_entry, rest_texts, step_text, tail_text};
 
 use ct_names::{Command, Member, Serial};
 use std::fmt;
@@ -65,36 +66,74 @@ impl Step {
             Step::Repeat(member, _) => member,
         }
     }
+
+    /// What it is shown by: its word, its member and what stands behind the member.
+    fn entry(&self) -> (&'static str, Member, Tail)
+        ensures word { result.0.now ≡ (step_entry self.now).name }
+        ensures first { result.1 ≡ (step_entry self.now).first }
+        ensures tail { tail_text result.2 ≡ concat (rest_texts (step_entry self.now).rest) }
+    {
+        match *self {
+            Step::Submit(p, command) => ("submit", p, Tail::Command(command)),
+            Step::Receive(p, serial) => ("receive", p, Tail::Number(u64::from(serial))),
+            Step::Begin(p) => ("begin", p, Tail::Nothing),
+            Step::Enter(p) => ("enter", p, Tail::Nothing),
+            Step::Choose(p, from) => ("choose", p, Tail::Number(u64::from(from))),
+            Step::Adopt(p) => ("adopt", p, Tail::Nothing),
+            Step::Suspect(p) => ("suspect", p, Tail::Nothing),
+            Step::Conclude(p) => ("conclude", p, Tail::Nothing),
+            Step::Deliver(p) => ("deliver", p, Tail::Nothing),
+            Step::Follow(p) => ("follow", p, Tail::Nothing),
+            Step::Crash(p) => ("crash", p, Tail::Nothing),
+            Step::Postpone(p, serial) => ("postpone", p, Tail::Number(u64::from(serial))),
+            Step::Lose(p, serial) => ("lose", p, Tail::Number(u64::from(serial))),
+            Step::Repeat(p, serial) => ("repeat", p, Tail::Number(u64::from(serial))),
+        }
+    }
+}
+
+/// What stands behind a step's member.
+#[derive(Clone, Copy)]
+enum Tail {
+    Nothing,
+    Number(u64),
+    Command(Command),
+}
+
+impl fmt::Display for Tail {
+    ghost output = { λ tail. Some (tail_text tail) };
+
+    #[tactic(auto, unfolding(crate::specs::StepText::command_text))]
+    fn fmt<W: fmt::Write>(&self, f: &mut fmt::Formatter<W>) -> fmt::Result {
+        match *self {
+            Tail::Nothing => Ok(()),
+            Tail::Number(number) => write!(f, ",{number}"),
+            Tail::Command(command) => {
+                let (word, register, number) = command_entry(command);
+                write!(f, ",[\"{word}\",{register},{number}]")
+            }
+        }
+    }
+}
+
+/// What a command is shown by: its word and its numbers.
+fn command_entry(command: Command) -> (&'static str, u8, u64)
+    ensures word { result.0.now ≡ (command_entry command).name }
+    ensures first { result.1 ≡ (command_entry command).first }
+    ensures rest { result.2 ≡ amount (command_entry command).rest }
+{
+    match command {
+        Command::Set(register, value) => ("set", register, value),
+        Command::Add(register, value) => ("add", register, value),
+        Command::Copy(from, to) => ("copy", from, u64::from(to)),
+    }
 }
 
 impl fmt::Display for Step {
     ghost output = { λ step. Some (step_text step) };
 
-    #[tactic(auto, unfolding(crate::specs::StepText::step_text, crate::specs::StepText::command_text))]
     fn fmt<W: fmt::Write>(&self, f: &mut fmt::Formatter<W>) -> fmt::Result {
-        match *self {
-            Step::Submit(p, Command::Set(to, value)) => {
-                write!(f, "[\"submit\",{p},[\"set\",{to},{value}]]")
-            }
-            Step::Submit(p, Command::Add(to, amount)) => {
-                write!(f, "[\"submit\",{p},[\"add\",{to},{amount}]]")
-            }
-            Step::Submit(p, Command::Copy(from, to)) => {
-                write!(f, "[\"submit\",{p},[\"copy\",{from},{to}]]")
-            }
-            Step::Receive(p, serial) => write!(f, "[\"receive\",{p},{serial}]"),
-            Step::Begin(p) => write!(f, "[\"begin\",{p}]"),
-            Step::Enter(p) => write!(f, "[\"enter\",{p}]"),
-            Step::Choose(p, from) => write!(f, "[\"choose\",{p},{from}]"),
-            Step::Adopt(p) => write!(f, "[\"adopt\",{p}]"),
-            Step::Suspect(p) => write!(f, "[\"suspect\",{p}]"),
-            Step::Conclude(p) => write!(f, "[\"conclude\",{p}]"),
-            Step::Deliver(p) => write!(f, "[\"deliver\",{p}]"),
-            Step::Follow(p) => write!(f, "[\"follow\",{p}]"),
-            Step::Crash(p) => write!(f, "[\"crash\",{p}]"),
-            Step::Postpone(p, serial) => write!(f, "[\"postpone\",{p},{serial}]"),
-            Step::Lose(p, serial) => write!(f, "[\"lose\",{p},{serial}]"),
-            Step::Repeat(p, serial) => write!(f, "[\"repeat\",{p},{serial}]"),
-        }
+        let (word, member, tail) = self.entry();
+        write!(f, "[\"{word}\",{member}{tail}]")
     }
 }
