@@ -176,10 +176,13 @@ pub lost-last : (origin from before : ℕ) (old now next : List RelayId) → Has
     list_any (is_id (Data origin (before + 1))) now ≡ false →
     ((q : RelayId) → list_any (is_id q) next ≡ cond (is_id (Data origin (before + 1)) q) false (list_any (is_id q) now)) →
     HasLost origin from before old next × (IsIn (Data origin (before + 1)) old → ⊥)
-lost-last origin from before old now next lost absent updated = (record {
-  were = λ id there. lost.were id (was-in now next (Data origin (before + 1)) updated id there);
-  are = λ id there. at id (lost.are id there);
-}, λ there. gone (lost.are (Data origin (before + 1)) there))
+lost-last origin from before old now next lost absent updated = (
+  record {
+    were = λ id there. lost.were id (was-in now next (Data origin (before + 1)) updated id there);
+    are = λ id there. at id (lost.are id there);
+  },
+  λ there. gone (lost.are (Data origin (before + 1)) there),
+)
   where
     at : (id : RelayId) → IsIn id now ⊎ ((k : ℕ) × (from < k) × (k ≤ before) × (id ≡ Data origin k)) →
         IsIn id next ⊎ ((k : ℕ) × (from < k) × (k ≤ before) × (id ≡ Data origin k))
