@@ -9,6 +9,3 @@ mod ordered;
 
 pub use batch::Batch;
 pub use caster::Caster;
-
-#[cfg(test)]
-mod tests;

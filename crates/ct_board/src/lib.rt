@@ -10,6 +10,3 @@ mod watcher;
 pub use board::Board;
 pub use receipt::Receipt;
 pub use watcher::Watcher;
-
-#[cfg(test)]
-mod tests;

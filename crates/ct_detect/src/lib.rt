@@ -17,6 +17,3 @@ pub use every_nth::EveryNth;
 pub use listed::Listed;
 pub use never::Never;
 pub use seeded::Seeded;
-
-#[cfg(test)]
-mod tests;

@@ -5,6 +5,3 @@ mod entry;
 mod instances;
 
 pub use instances::Instances;
-
-#[cfg(test)]
-mod tests;

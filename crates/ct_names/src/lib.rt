@@ -28,6 +28,3 @@ pub use msg_set::MsgSet;
 pub use numbers::{Instance, Member, Round, Serial};
 pub use refusal::Refusal;
 pub use value_id::ValueId;
-
-#[cfg(test)]
-mod tests;

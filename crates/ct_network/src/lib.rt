@@ -7,6 +7,3 @@ mod network;
 
 pub use ct_model::Envelope;
 pub use network::Network;
-
-#[cfg(test)]
-mod tests;

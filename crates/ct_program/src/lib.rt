@@ -36,8 +36,9 @@ pub use law::law_round_trip;
 pub use line_fault::LineFault;
 pub use planning::{losses, postponements, repetitions, submissions};
 pub use program_fault::ProgramFault;
+pub use quick::read_plain;
 pub use read_fault::ReadFault;
-pub use reading::read_record;
+pub use reading::{MAX_LEN, read_record};
 pub use replaying::{gives_report, read_all, run_replay, write_all};
 pub use reporting::{push_decisions, push_messages, push_table, report};
 pub use script::Script;
@@ -47,6 +48,3 @@ pub use sink::Sink;
 pub use source::Source;
 pub use words::{found_options, line, number_in, option_in, with_free_options};
 pub use writing::write_record;
-
-#[cfg(test)]
-mod tests;

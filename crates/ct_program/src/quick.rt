@@ -23,9 +23,10 @@ const KEYS: usize = 5;
 // The last digit of the largest number.
 const LAST_DIGIT: u8 = 5;
 
-/// What the record says, where its names have no escapes and its numbers are digits alone. White space may stand between
-/// any tokens, and the keys in any order.
-pub(crate) fn plain(alloc: Global, bytes: &[u8]) -> Result<Option<Script>, AllocError>
+/// What the record says, where its names have no escapes and its numbers are digits alone, read in one pass over its bytes.
+/// White space may stand between any tokens, and the keys in any order. `None` says nothing of the record: `read_record`
+/// reads it another way.
+pub fn read_plain(alloc: Global, bytes: &[u8]) -> Result<Option<Script>, AllocError>
     requires { length bytes.now ≤ max_len }
     ensures { IfOk result (λ o. IfSome o (λ s. script bytes.now ≡ Ok (rehearsal_of s))) }
 {

@@ -10,7 +10,7 @@ ghost use Rattle.ct_program.specs.Script.{keys, bound_in, steps_of};
 ghost use Rattle.ct_program.specs.Script.{rehearsal_in, of_value, max_len, script};
 
 use crate::naming::{commanded_step, named_command, numbered_step, short_step};
-use crate::quick::plain;
+use crate::quick::read_plain;
 use crate::read_fault::ReadFault;
 use crate::script::Script;
 use crate::version::{BOUNDED, FIRST, LATEST, since};
@@ -19,8 +19,8 @@ use ct_names::{Command, Group, MAX_BOUND, MAX_CELLS, MAX_MEMBERS, Member};
 use serde_json::{Map, Value};
 use std::alloc::Global;
 
-// How many bytes a record may have.
-pub(crate) const MAX_LEN: usize = 67_108_864;
+/// How many bytes a record may have.
+pub const MAX_LEN: usize = 67_108_864;
 
 // The record as a whole has another shape.
 const ODD: ReadFault = ReadFault::Shape { at: 0 };
@@ -35,7 +35,7 @@ pub fn read_record(alloc: Global, bytes: &[u8]) -> Result<Script, ReadFault>
     if bytes.len() > MAX_LEN {
         return Err(ReadFault::TooLong);
     }
-    if let Some(script) = plain(alloc, bytes)? {
+    if let Some(script) = read_plain(alloc, bytes)? {
         return Ok(script);
     }
     match Value::from_slice(alloc, bytes) {

@@ -38,6 +38,3 @@ pub use rehearsing::rehearse;
 pub use run_fault::RunFault;
 pub use share::Share;
 pub use turns::{disturb, turn, turn_answered};
-
-#[cfg(test)]
-mod tests;

@@ -1,5 +1,6 @@
 -- What was taken stands in the list once, and is found there.
-use Rattle.std.proofs.Common.{arith, ◌≡◌, ◌⊎◌, Bool, true, false, cond, ◌||◌, ◌∙◌, ◌==◌, List, [], ◌∷◌, ◌++◌, refl, sym, subst, ap₂, inl, inr, eq-eqb, eqb-true}
+use Rattle.std.proofs.Common.{arith, ◌≡◌, ◌⊎◌, Bool, true, false, cond, ◌||◌, ◌∙◌, ◌==◌, List, [], ◌∷◌, ◌++◌}
+use Rattle.std.proofs.Common.{refl, sym, subst, ap₂, inl, inr, eq-eqb, eqb-true}
 use Rattle.std.specs.List.{list_any}
 use Rattle.ct_names.specs.Membership.{IsIn, IsWithoutRepeats}
 use Rattle.ct_names.proofs.Lists

@@ -10,6 +10,3 @@ mod relay_id;
 pub use action::Action;
 pub use relay::Relay;
 pub use relay_id::RelayId;
-
-#[cfg(test)]
-mod tests;

@@ -8,6 +8,3 @@ mod tally;
 pub use consensus::Consensus;
 pub use ct_model::{Mail, Wire};
 pub use inbox::Inbox;
-
-#[cfg(test)]
-mod tests;

@@ -16,6 +16,3 @@ pub use letter::{Letter, Wire};
 pub use outcome::Outcome;
 pub use replay_fault::ReplayFault;
 pub use world::World;
-
-#[cfg(test)]
-mod tests;

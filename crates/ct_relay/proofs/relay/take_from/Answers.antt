@@ -20,7 +20,8 @@ loop-before-preserved c =
     let there : list_any (is_id (Data c.args.origin (c.loop-before.before + 1))) now ≡ true = search rules in
     record {
       all = all-next _ c.args.origin _ _ v.all (v.left.were _ (found-in now _ there));
-      left = lost-next c.args.origin c.args.number _ _ now _ (omega arith) v.left (same-updated now c.swap_remove.new.self.keys (Data c.args.origin (c.loop-before.before + 1)) c.swap_remove.ensures.updates.0);
+      left = lost-next c.args.origin c.args.number _ _ now _ (omega arith) v.left
+          (same-updated now c.swap_remove.new.self.keys (Data c.args.origin (c.loop-before.before + 1)) c.swap_remove.ensures.updates.0);
       room = omega (arith, v.room, c.swap_remove.ensures.room.0);
     }
 

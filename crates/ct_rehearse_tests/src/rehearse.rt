@@ -1,0 +1,92 @@
+ghost use Rattle.ct_rehearse.specs.Plans.{IsWithin};
+
+use ct_board::Board;
+use ct_detect::{Detector, Never};
+use ct_model::Step;
+use ct_names::{Command, Group, MAX_BOUND};
+use ct_rehearse::{
+    Desk, Disturbance, Gate, Hall, Made, NoGate, Plan, Played, Rehearsed, RunFault, Share, Turn,
+    disturb, play, rehearse, turn,
+};
+use ct_world::World;
+use std::alloc::{AllocError, Global};
+use std::marker::Brand;
+use std::sync::Wait;
+use std::sync::ledger::{Blank, Ledger};
+use std::test::Fail;
+use std::thread::Threads;
+
+mod counting;
+mod detecting;
+mod following;
+mod looking;
+mod meeting;
+mod numbering;
+mod plans;
+mod playing;
+mod replaying;
+mod runs;
+mod turning;
+mod watching;
+
+const SEVEN: Command = Command::Set(0, 7);
+
+// A world of n members and four cells without steps, and its board.
+fn started(alloc: Global, n: u8) -> Option<(World, Board)> {
+    with_cells(alloc, n, 4)
+}
+
+// The same with a board of so many cells.
+fn with_cells(alloc: Global, n: u8, cells: usize) -> Option<(World, Board)> {
+    let group = Group::new(n)?;
+    let world = World::new(alloc, group, 4, MAX_BOUND).ok()?;
+    let board = Board::new(alloc, cells).ok()?;
+    Some((world, board))
+}
+
+// Does the steps, and answers whether all were done.
+fn does_all(world: &mut World, board: &Board, steps: &[Step]) -> bool {
+    for step in steps {
+        if world.apply(board, step).is_err() {
+            return false;
+        }
+    }
+    true
+}
+
+// Such a world, in which the first member has submitted a message, and its board.
+fn submitted(alloc: Global, n: u8) -> Option<(World, Board)> {
+    let (mut world, board) = started(alloc, n)?;
+    if does_all(&mut world, &board, &[Step::Submit(1, SEVEN)]) {
+        Some((world, board))
+    } else {
+        None
+    }
+}
+
+// Detectors of n members that suspect nobody.
+fn never(alloc: Global, n: u8) -> Result<Vec<Box<dyn Detector>>, AllocError> {
+    let mut detectors: Vec<Box<dyn Detector>> = Vec::new(alloc);
+    for _ in 0..n {
+        detectors.push(Box::new(alloc, Never::new())?)?;
+    }
+    Ok(detectors)
+}
+
+// What a rehearsal from this world on comes to.
+fn ran<R: Threads + Wait + Sync, G: Gate>(
+    rt: &R,
+    alloc: Global,
+    start: (World, Board),
+    plan: &Plan,
+    detectors: Vec<Box<dyn Detector>>,
+    gate: &G,
+) -> Option<Rehearsed>
+    requires { IsWithin plan.now }
+{
+    let (world, board) = start;
+    if usize::from(world.group().n()) != detectors.len() {
+        return None;
+    }
+    rehearse(rt, alloc, world, board, plan, detectors, gate).ok()
+}

@@ -1,0 +1,22 @@
+//! The tests of the world and of the crates that it stands on, a module each. They use public calls alone, so that none of
+//! these crates is proved once more with them.
+#![tactic(auto)]
+
+#[cfg(test)]
+mod abcast;
+#[cfg(test)]
+mod board;
+#[cfg(test)]
+mod instances;
+#[cfg(test)]
+mod names;
+#[cfg(test)]
+mod network;
+#[cfg(test)]
+mod relay;
+#[cfg(test)]
+mod rounds;
+#[cfg(test)]
+mod table;
+#[cfg(test)]
+mod world;
