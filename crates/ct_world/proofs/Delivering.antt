@@ -1,5 +1,5 @@
 -- Deliver: why it is refused, by the seat, and the seat after it.
-use Rattle.std.proofs.Common.{arith, ◌≡◌, ℕ, ◌+◌, ◌-◌, true, false, List, [], ◌∷◌, ◌++◌, length, refl, ap, sym, ◌∙◌, subst, Some, None}
+use Rattle.std.proofs.Common.{arith, ◌≡◌, ℕ, ◌+◌, true, false, List, [], ◌∷◌, ◌++◌, length, refl, ap, sym, ◌∙◌, subst, Some, None}
 use Rattle.std.specs.Prelude.{nat_lt, is_some}
 use Rattle.ct_names.specs.declared.limit.Limit.TheVariants.{Instances, Cells}
 use Rattle.ct_names.specs.declared.limit.TheConstants.{MAX_INSTANCES}

@@ -48,7 +48,7 @@ pub record IsAllowed (w : Rehearsal) (step : Step) (f : Fields) : Type 0 where
 abbrev pub IsAllowedIn : Inside → Step → Type 0
 IsAllowedIn a step = IsAllowed (rehearsal_in a) step (fields_in a)
 
-allowed_at : {w : Rehearsal} {step : Step} {f : Fields} → IsWorld w f → cause w step ≡ None → IsAllowed w step f
+pub allowed_at : {w : Rehearsal} {step : Step} {f : Fields} → IsWorld w f → cause w step ≡ None → IsAllowed w step f
 allowed_at {w} {step} world allowed =
     let present = (cause-none w step allowed).present in
     record {

@@ -26,11 +26,16 @@ roomier_in a {step} p seat here same values sent lines seats = world-roomier p.w
   same = subst (AreSameSeats a.seats.items) (sym seats) (same_set a.seats.items (actor step) seat (same ∙ ap content here));
 })
 
+-- a world in which still no step is prepared
+pub idle_in : (a : Inside) {v : WorldView} {w : Rehearsal} {new : Fields} → view_in a ≡ v → v.prepared ≡ None → IsWorld w new →
+    IsKept w a.prepared new
+idle_in a view none world =
+    record { world = world; ready = λ s e. some-none s (sym (ap (λ (x : WorldView). x.prepared) view ∙ none) ∙ e) }
+
 -- still no step is prepared
 pub unprepared_in : (a : Inside) {v : WorldView} {steps : List Step} {new : Fields} → view_in a ≡ v → v.prepared ≡ None →
     steps ≡ a.record.items → IsWorld (rehearsal_in a) new → IsKept (record (rehearsal_in a) { steps = steps }) a.prepared new
-unprepared_in a view none same world =
-    rw same (record { world = world; ready = λ s e. some-none s (sym (ap (λ (x : WorldView). x.prepared) view ∙ none) ∙ e) })
+unprepared_in a view none same world = rw same (idle_in a view none world)
 
 -- what a step has that needs no room of its own
 pub no_room : (w : Rehearsal) (f : Fields) (prepared : Option Prepared) (step : Step) → NeedsNoRoom step → HasOwnRoom w f step prepared

@@ -1,5 +1,5 @@
 -- Receive.
-use Rattle.std.proofs.Common.{◌≡◌, ℕ, ◌-◌, ◌<◌, Bool, true, List, length, set, Some, refl, ap, sym, ◌∙◌, subst, append-nil}
+use Rattle.std.proofs.Common.{◌≡◌, ℕ, ◌-◌, ◌<◌, Bool, true, List, [], ◌∷◌, length, arith, set, Some, refl, ap, sym, ◌∙◌, subst, append-nil}
 use Rattle.std.specs.Prelude.{Option, if◌then◌else◌}
 use Rattle.std.proofs.lemmas.List.{length-set}
 use Rattle.ct_model.specs.declared.step.Step.TheVariants.{Receive}
@@ -94,6 +94,11 @@ module _ {w : Rehearsal} {p k : ℕ} {f : Fields} {x : AnyEnvelope ℕ} (may : I
         submitted = received.submitted ∙ may.submitted;
       }))
       posted
+
+-- a seat that was exchanged twice
+pub set_again : {A : Type 0} (xs : List A) (i : ℕ) (x y : A) → set (set xs i x) i y ≡ set xs i y
+set_again [] i x y = refl
+set_again (z ∷ xs) i x y = grind (arith, set_again xs (i - 1) x y)
 
 -- room for it
 pub receive_room : (seats : List Seat) (p : ℕ) (seat : Seat) {o : Option (AnyEnvelope ℕ)} {x : AnyEnvelope ℕ} → p - 1 < length seats →

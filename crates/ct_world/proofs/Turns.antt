@@ -8,7 +8,7 @@ use Rattle.ct_model.specs.AtValue.{Wire, Mail, Turn}
 use Rattle.ct_model.specs.declared.mail.Mail.{Mail as AnyMail}
 use Rattle.ct_model.specs.declared.mail.Mail.TheVariants.{Nobody, One, All}
 use Rattle.ct_model.specs.State.{member}
-use Rattle.ct_model.specs.Next.{row, turned}
+use Rattle.ct_model.specs.Next.{turned}
 use Rattle.ct_model.specs.Rehearsal.{Rehearsal, state_of, extended}
 use Rattle.ct_model.proofs.Record.Taken.{IsTaken}
 use Rattle.ct_network.specs.Network.{IsAddressed}

@@ -17,6 +17,7 @@ use ct_network::Network;
 use std::alloc::Global;
 use std::marker::Model;
 
+mod applying;
 mod begin;
 mod copying;
 mod crash;

@@ -139,25 +139,6 @@ impl World {
             }
         }
     }
-
-    /// Does the step: `prepare`, then `commit`. It refuses as `enabled`, with OutOfMemory, or as `commit` with Board, and
-    /// then changes nothing but that no step is prepared. Done or refused, the state is safe, as `record` says.
-    pub fn apply(&mut self, board: &Board, step: &Step) -> Result<Effect, Refusal>
-        ensures allowed { OnOk result (cause self.old.rehearsal step.now ≡ None) }
-        ensures ok { IfOk result (λ effect. IsDone self.old.rehearsal step.now self.new.rehearsal effect.sent) }
-        ensures posted { IfOk result (λ effect. HasPosted board.now self.old.rehearsal self.new.rehearsal effect.receipt) }
-        ensures refusal { IfErr result (λ refusal. IsRefusal self.old.rehearsal step.now refusal) }
-        ensures err { OnErr result (self.new.rehearsal ≡ self.old.rehearsal) }
-        ensures none { self.new.prepared ≡ None }
-        ensures safe { IsSafe self.new.rehearsal.setting (state_of self.new.rehearsal) }
-    {
-        let prepared = self.prepare(step);
-        let _ = self.record();
-        prepared?;
-        let done = self.commit(board);
-        let _ = self.record();
-        done
-    }
 }
 
 // The step joins the record, which has room for it.

@@ -1,6 +1,6 @@
 //! Receive: an envelope leaves the line; what comes for the first time from another is relayed to all.
 
-ghost use Rattle.std.specs.Prelude.{◌≡◌, Some, None, OnOk, OnErr};
+ghost use Rattle.std.specs.Prelude.{◌≡◌, Some, None, OnOk, OnErr, IfOk, IfErr, unwrap_or};
 ghost use Rattle.ct_model.specs.Cause.{cause};
 ghost use Rattle.ct_world.specs.Kept.{place_named, IsFound};
 ghost use Rattle.ct_world.specs.World.{IsDone};
@@ -72,5 +72,34 @@ impl World {
         let sent = self.network.post(mail);
         join(&mut self.record, Step::Receive(member, serial));
         sent
+    }
+
+    // Does the step at once, as `prepare` and then `commit`, and says how many envelopes it sent. Most steps are receipts.
+    pub(super) fn receive_at_once(&mut self, member: Member, serial: Serial) -> Result<u32, Refusal>
+        requires none { self.old.prepared ≡ None }
+        ensures allowed { OnOk result (cause self.old.rehearsal (Step.Receive member serial) ≡ None) }
+        ensures done { IfOk result (λ sent. IsDone self.old.rehearsal (Step.Receive member serial) self.new.rehearsal sent) }
+        ensures refusal { IfErr result (λ refusal.
+            refusal ≡ unwrap_or (cause self.old.rehearsal (Step.Receive member serial)) Refusal.OutOfMemory) }
+        ensures err { OnErr result (self.new.rehearsal ≡ self.old.rehearsal) }
+        ensures none { self.new.prepared ≡ None }
+    {
+        let place = match self.find_received(member, serial) {
+            Ok(place) => place.unwrap(),
+            Err(refusal) => return Err(refusal),
+        };
+        let Ok(()) = reserve(&mut self.record, &mut self.network) else {
+            return Err(Refusal::OutOfMemory);
+        };
+        let seat = &mut self.seats[member as usize - 1];
+        let envelope = self.network.envelope(serial).unwrap();
+        let Ok(()) = seat.prepare_receive(&envelope.wire) else {
+            return Err(Refusal::OutOfMemory);
+        };
+        let mail = seat.receive(self.group, envelope.wire);
+        self.network.leave(member, place);
+        let relayed = self.network.post(mail);
+        join(&mut self.record, Step::Receive(member, serial));
+        Ok(relayed)
     }
 }

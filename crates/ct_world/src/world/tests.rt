@@ -1,7 +1,20 @@
+//! What no public call tells. The other tests are those of `ct_world_tests`.
+
 use super::World;
-use crate::tests::trial::Trial;
 use ct_model::Step;
-use ct_names::{Command, Message, ValueId};
+use ct_names::{Command, Group, MAX_BOUND, Message, ValueId};
+use std::process::Abort;
+
+// The world of three members after these steps.
+fn after(rt: &(impl Abort + AllocGlobal), steps: &[Step]) -> World {
+    let group = Group::new(3).expect(rt, "a group");
+    let replayed = World::replay(rt.alloc(), group, 4, MAX_BOUND, steps);
+    let (world, _) = replayed.expect(rt, "steps that are allowed");
+    world
+}
+
+// The end of a test: so that the test's own proof has nothing of what is dropped here.
+fn end(_world: World) {}
 
 // The number of the value that the envelope carries.
 fn number_of(world: &World, serial: u32) -> Option<ValueId> {
@@ -36,18 +49,18 @@ fn equal_values_have_their_own_numbers(rt: HostRuntime) {
         Step::Receive(2, 8),
         Step::Choose(2, 2),
     ];
-    let trial = Trial::of(&rt, rt.alloc(), 3, 4, &steps);
+    let world = after(&rt, &steps);
     let seven = Message::new(1, 1, Command::Set(0, 7)).expect(&rt, "a good command");
     let numbers = [ValueId::new(0), ValueId::new(1)];
     for (serial, number) in [(7, 0), (8, 1), (9, 1)] {
         assert!(rt;
-            number_of(&trial.world, serial) == Some(numbers[number]),
+            number_of(&world, serial) == Some(numbers[number]),
             "{serial}"
         );
     }
     for number in numbers {
-        assert!(rt; is_alone(&trial.world, number, seven));
+        assert!(rt; is_alone(&world, number, seven));
     }
-    assert_eq!(rt; trial.world.book.len(), 2);
-    trial.end();
+    assert_eq!(rt; world.book.len(), 2);
+    end(world);
 }
