@@ -93,14 +93,16 @@ answers_written old mid new waiting rest whole h a = record {
 pub answers_all : (old mid new : Option (List ℕ)) (waiting rest whole : List ℕ) → IsAnswering old mid waiting rest whole → rest ≡ [] →
     Appends mid new waiting → Appends old new whole
 answers_all old mid new waiting rest whole h none a =
-    let all : whole ≡ h.written ++ waiting = h.is ∙ ap (λ l. h.written ++ (waiting ++ l)) none ∙ ap (λ l. h.written ++ l) (append-nil waiting) in
+    let all : whole ≡ h.written ++ waiting = h.is ∙ ap (λ l. h.written ++ (waiting ++ l)) none
+    ∙ ap (λ l. h.written ++ l) (append-nil waiting) in
     subst (Appends old new) (sym all) (appends_more old mid new h.written waiting h.wrote a)
 
 pub answers_part : (old mid new : Option (List ℕ)) (waiting rest whole : List ℕ) → IsAnswering old mid waiting rest whole →
     WritesPart mid new waiting → WritesPart old new whole
 answers_part old mid new waiting rest whole h part = part_more old mid new h.written waiting rest whole h.wrote part h.is
 
-pub answers_stop : (old new : Option (List ℕ)) (waiting rest whole : List ℕ) → IsAnswering old new waiting rest whole → WritesPart old new whole
+pub answers_stop : (old new : Option (List ℕ)) (waiting rest whole : List ℕ) → IsAnswering old new waiting rest whole →
+    WritesPart old new whole
 answers_stop old new waiting rest whole h = part_only old new h.written (waiting ++ rest) whole h.wrote h.is
 
 -- ---- the whole session
@@ -142,7 +144,8 @@ begins input old = record { said = []; heard = heard_nothing input; wrote = wrot
 said_twice : (a b : List ℕ) (s : Session) → said_first a (said_first b s) ≡ said_first (a ++ b) s
 said_twice a b s = ap (λ l. record { text = l; standing = s.standing }) (sym (append_assoc a b s.text))
 
-session_on : (t : Hearing) (bytes rest : List ℕ) → session t (bytes ++ rest) ≡ said_first (said_by t bytes) (session (after_bytes t bytes) rest)
+session_on : (t : Hearing) (bytes rest : List ℕ) → session t (bytes ++ rest) ≡
+    said_first (said_by t bytes) (session (after_bytes t bytes) rest)
 session_on t [] rest = refl
 session_on t (byte ∷ bytes) rest =
     ap (said_first (said_at t byte)) (session_on (after_byte t byte) bytes rest)

@@ -177,7 +177,8 @@ plain_script bytes rest found w short utf8 begins all says =
 -- ---- a record with all its parts
 
 pub parts_say : (batch cells n version_in : Option ℕ) (steps : Option (List Step)) (version : ℕ) (w : Rehearsal) →
-    version_in ≡ Some version → cells ≡ Some w.cells → n ≡ Some w.setting.members → steps ≡ Some w.steps → IsBound version batch w.setting.bound →
+    version_in ≡ Some version → cells ≡ Some w.cells → n ≡ Some w.setting.members → steps ≡ Some w.steps
+    → IsBound version batch w.setting.bound →
     All (λ s. since s ≤ version) w.steps → IsStorable w → of_value (object (members_from batch cells n steps version_in)) ≡ Ok w
 unfolding json_on_literals
 parts_say batch cells n version_in steps version w hv hc hn hs bound known fit = go bound.is

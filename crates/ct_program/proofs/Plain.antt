@@ -158,6 +158,15 @@ skipped_more bytes i b within space h =
     let more = space_skipped (drop i bytes) (drop (i + 1) bytes) (get_or bytes i b) space split in
     record { same = h.same ∙ more.0; ends = λ e. h.ends more.1 }
 
+-- a line end and two spaces are white space
+pub line_end_skipped : (bytes rest : List ℕ) → bytes ≡ codes "\n  " ++ rest →
+    (lexemes bytes ≡ lexemes rest) × (ends_word rest ≡ true → ends_word bytes ≡ true)
+line_end_skipped bytes rest is =
+    let line = space_skipped bytes (32 ∷ 32 ∷ rest) 10 refl is in
+    let first = space_skipped (32 ∷ 32 ∷ rest) (32 ∷ rest) 32 refl refl in
+    let second = space_skipped (32 ∷ rest) rest 32 refl refl in
+    (line.0 ∙ first.0 ∙ second.0, λ _. line.1)
+
 -- the bracket that closes an object is the last
 pub object_ends : (bytes rest t : List ℕ) → Begins bytes 125 rest → lexemes rest ≡ lexemes t → (length t == 0) ≡ true →
     lexemes bytes ≡ token end_object ∷ []

@@ -7,7 +7,6 @@ use Rattle.ct_model.specs.declared.step.Step.{Step}
 use Rattle.ct_model.specs.Rehearsal.{Rehearsal}
 use Rattle.ct_world.specs.Replay.{IsFaultOf}
 use Rattle.ct_world.specs.declared.replay_fault.ReplayFault.{ReplayFault}
-use Rattle.ct_program.specs.declared.read_fault.ReadFault.TheVariants.{OutOfMemory}
 use Rattle.ct_program.specs.declared.program_fault.ProgramFault.{ProgramFault}
 use Rattle.ct_program.specs.ProgramFault.{IsOfReplayFault}
 use Rattle.ct_program.specs.Script.{script}

@@ -1,12 +1,13 @@
 //! From the bytes of a record, where its names have no escapes and its numbers are digits alone, to what it says.
 
-ghost use Rattle.std.specs.Prelude.{◌≡◌, ◌+◌, ◌*◌, ◌^◌, ◌<◌, ◌≤◌, ◌++◌, ◌∷◌, codes, decimal, length, true, false, [], Ok, IfOk, IfSome, IsTrue};
+ghost use Rattle.std.specs.Prelude.{◌≡◌, ◌+◌, ◌*◌, ◌^◌, ◌<◌, ◌≤◌, ◌++◌, ◌∷◌, codes, decimal, length};
+ghost use Rattle.std.specs.Prelude.{true, false, [], Ok, IfOk, IfSome, IsTrue};
 ghost use Rattle.json.specs.Lex.{token, comma, colon};
 ghost use Rattle.json.specs.Token.{begin_array, end_array, end_object, string};
 ghost use Rattle.json.specs.Word.{ends_word, is_space};
 ghost use Rattle.ct_program.specs.Fits.{CommandFits, StepFits};
 ghost use Rattle.ct_program.specs.Plain.{lexemes, number_lexeme, command_lexemes, step_lexemes, receive_lexemes, comma_if, steps_lexemes};
-ghost use Rattle.ct_program.specs.Plain.{Begins, IsPlain, Continues, PartsFit, StepsFit, Takes, Closes, members_of};
+ghost use Rattle.ct_program.specs.Plain.{Begins, IsPlain, Continues, HasNext, PartsFit, StepsFit, Takes, Closes, members_of};
 ghost use Rattle.ct_program.specs.Script.{max_len, script};
 ghost use Rattle.ct_program.specs.View.{rehearsal_of};
 
@@ -120,10 +121,9 @@ fn steps(alloc: Global, bytes: &[u8]) -> Result<Option<(Vec<Step>, &[u8])>, Allo
         if let Some(end) = behind(rest, b']') {
             return Ok(Some((steps, end)));
         }
-        let Some((step, end)) = next_step(rest, i > 0) else {
+        let Some(end) = add_step(&mut steps, rest, i > 0)? else {
             return Ok(None);
         };
-        steps.push(step)?;
         rest = end;
     }
     Ok(None)
@@ -146,12 +146,36 @@ fn past_spaces(bytes: &[u8]) -> &[u8]
     ensures same { lexemes bytes.now ≡ lexemes result.now }
     ensures ends { ends_word result.now ≡ true → ends_word bytes.now ≡ true }
 {
-    for i in 0..bytes.len() {
-        if !is_space(bytes[i]) {
-            return &bytes[i..];
+    let rest = past_line_end(bytes);
+    for i in 0..rest.len() {
+        if !is_space(rest[i]) {
+            return &rest[i..];
         }
     }
     &[]
+}
+
+// What follows a line end and the two spaces behind it, where the bytes begin with these: so the steps of an indented record
+// do, which are many.
+#[inline(always)]
+fn past_line_end(bytes: &[u8]) -> &[u8]
+    ensures same { lexemes bytes.now ≡ lexemes result.now }
+    ensures ends { ends_word result.now ≡ true → ends_word bytes.now ≡ true }
+{
+    match behind_line_end(bytes) {
+        Some(rest) => rest,
+        None => bytes,
+    }
+}
+
+#[inline(always)]
+fn behind_line_end(bytes: &[u8]) -> Option<&[u8]>
+    ensures { IfSome result (λ rest. bytes.now ≡ codes "\n  " ++ rest.now) }
+{
+    match bytes {
+        [b'\n', b' ', b' ', rest @ ..] => Some(rest),
+        _ => None,
+    }
 }
 
 // Whether the byte is white space.
@@ -174,7 +198,7 @@ fn behind(bytes: &[u8], byte: u8) -> Option<&[u8]>
     }
 }
 
-#[inline(never)]
+#[inline(always)]
 fn behind_spaces(bytes: &[u8], byte: u8) -> Option<&[u8]>
     ensures { IfSome result (λ rest. Begins bytes.now byte rest.now) }
 {
@@ -249,28 +273,39 @@ fn behind_name(bytes: &[u8]) -> Option<&[u8]>
     }
 }
 
-// The next step, behind a comma where another stands before it.
+// Adds the next step, behind a comma where another stands before it, and answers what follows it. Most steps are receipts:
+// each way ends by its own push, so that these stay in registers.
 #[inline(always)]
-fn next_step(bytes: &[u8], later: bool) -> Option<(Step, &[u8])>
-    ensures text { IfSome result (λ r. lexemes bytes.now ≡ comma_if later (step_lexemes r.0 (lexemes r.1.now))) }
-    ensures fits { IfSome result (λ r. StepFits r.0) }
+fn add_step<'a>(
+    steps: &mut Vec<Step>,
+    bytes: &'a [u8],
+    later: bool,
+) -> Result<Option<&'a [u8]>, AllocError>
+    ensures { IfOk result (λ o. IfSome o (λ rest. HasNext steps.old.items steps.new.items later bytes.now rest.now)) }
 {
-    if later {
-        step(behind(bytes, b',')?)
-    } else {
-        step(bytes)
+    let Some(start) = behind_another(bytes, later) else {
+        return Ok(None);
+    };
+    if let Some((step, rest)) = receipt(start) {
+        steps.push(step)?;
+        return Ok(Some(rest));
     }
+    let Some((step, rest)) = named_step(start) else {
+        return Ok(None);
+    };
+    steps.push(step)?;
+    Ok(Some(rest))
 }
 
-// A step; most are receipts.
+// What follows the comma, where another step stands before this one.
 #[inline(always)]
-fn step(bytes: &[u8]) -> Option<(Step, &[u8])>
-    ensures text { IfSome result (λ r. lexemes bytes.now ≡ step_lexemes r.0 (lexemes r.1.now)) }
-    ensures fits { IfSome result (λ r. StepFits r.0) }
+fn behind_another(bytes: &[u8], later: bool) -> Option<&[u8]>
+    ensures { IfSome result (λ rest. lexemes bytes.now ≡ comma_if later (lexemes rest.now)) }
 {
-    match receipt(bytes) {
-        Some(read) => Some(read),
-        None => named_step(bytes),
+    if later {
+        behind(bytes, b',')
+    } else {
+        Some(bytes)
     }
 }
 
@@ -404,7 +439,16 @@ fn overflows(n: u64, digit: u8) -> bool
     requires { digit < 10 }
     ensures { result ≡ false → n * 10 + digit < 2 ^ 64 }
 {
-    n >= u64::MAX / 10 && (n > u64::MAX / 10 || digit > LAST_DIGIT)
+    n >= u64::MAX / 10 && is_past_last(n, digit)
+}
+
+// The same of a number that is larger than most.
+#[inline(never)]
+fn is_past_last(n: u64, digit: u8) -> bool
+    requires { digit < 10 }
+    ensures { result ≡ false → n * 10 + digit < 2 ^ 64 }
+{
+    n > u64::MAX / 10 || digit > LAST_DIGIT
 }
 
 // The number that the byte writes, where that is below 10: no other byte is a digit.

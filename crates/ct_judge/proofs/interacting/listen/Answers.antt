@@ -46,7 +46,8 @@ loop-i-preserved g c =
     let old = g.W.Sink.written c.args.writer.now in
     let new = g.W.Sink.written c.hear.new.writer in
     record {
-      heard = hears input left next c.loop-i.session c.hear.new.session (take n c.read.new.buffer) old (g.W.Sink.written c.loop-i.writer) new
+      heard = hears input left next c.loop-i.session c.hear.new.session (take n c.read.new.buffer) old
+          (g.W.Sink.written c.loop-i.writer) new
           c.loop-i.i c.in-Ok.ensures.bytes.0 some c.in_ok-hear.ensures.after c.in_ok-hear.ensures.text h;
       reads = c.in-Ok.ensures.ok ∙ c.loop-i.invariant.reads;
       writes = c.in_ok-hear.ensures.ok ∙ c.loop-i.invariant.writes;
