@@ -1,4 +1,5 @@
-ghost use Rattle.ct_rehearse.specs.Plans.{IsWithin};
+ghost use Rattle.std.specs.Prelude.{◌≡◌, ◌≤◌, OnSome};
+ghost use Rattle.ct_rehearse.specs.Plans.{IsWithin, entries};
 
 use ct_board::Board;
 use ct_detect::{Detector, Never};
@@ -71,6 +72,28 @@ fn never(alloc: Global, n: u8) -> Result<Vec<Box<dyn Detector>>, AllocError> {
         detectors.push(Box::new(alloc, Never::new())?)?;
     }
     Ok(detectors)
+}
+
+// What the turns of a plan in this hall come to, whose members suspect nobody.
+fn ran_in<L: Ledger + Send + Sync, R: Threads + Wait + Sync, G: Gate>(
+    rt: &R,
+    alloc: Global,
+    hall: &Hall<L>,
+    share: &mut Share<L>,
+    plan: &Plan,
+    gate: &G,
+) -> Option<Made>
+    requires plan { IsWithin plan.now }
+    requires entries { entries plan.now ≤ 100000 }
+    requires parts { share.old.parts ≡ 1000 }
+    requires steps { share.old.steps ≤ 1000000 }
+    ensures { OnSome result (share.new.parts ≡ 1000) }
+{
+    let detectors = never(alloc, hall.group().n()).ok()?;
+    if usize::from(hall.group().n()) != detectors.len() {
+        return None;
+    }
+    hall.run_free(rt, alloc, plan, detectors, gate, share).ok()
 }
 
 // What a rehearsal from this world on comes to.

@@ -62,22 +62,13 @@ fn looked<L: Ledger + Send + Sync, R: Threads + Wait + Sync>(
 {
     let (world, board) = started(alloc, 1)?;
     let (hall, mut share) = Hall::<L>::new(blank, world, board);
-    let detectors = never(alloc, 1).ok()?;
-    if usize::from(hall.group().n()) != detectors.len() {
-        return None;
-    }
     let plan = script_alone(alloc).ok()?;
     let gate = Looking {
         hall: &hall,
         alloc,
         right: Mutex::new(0),
     };
-    if hall
-        .run_free(rt, alloc, &plan, detectors, &gate, &mut share)
-        .is_err()
-    {
-        return None;
-    }
+    ran_in(rt, alloc, &hall, &mut share, &plan, &gate)?;
     let Looking {
         hall: _,
         alloc: _,

@@ -134,22 +134,13 @@ fn met<L: Ledger + Send + Sync, R: Threads + Wait + Sync>(
 {
     let (world, board) = submitted(alloc, 2)?;
     let (hall, mut share) = Hall::<L>::new(blank, world, board);
-    let detectors = never(alloc, 2).ok()?;
-    if usize::from(hall.group().n()) != detectors.len() {
-        return None;
-    }
     let gate = Meeting {
         hall: &hall,
         alloc,
-        workers: detectors.len() + plan.scripts.len(),
+        workers: usize::from(hall.group().n()) + plan.scripts.len(),
         marks: Mutex::new(Marks::none()),
     };
-    if hall
-        .run_free(rt, alloc, plan, detectors, &gate, &mut share)
-        .is_err()
-    {
-        return None;
-    }
+    ran_in(rt, alloc, &hall, &mut share, plan, &gate)?;
     let Meeting {
         hall: _,
         alloc: _,

@@ -35,15 +35,9 @@ fn disturbed<L: Ledger + Send + Sync, R: Threads + Wait + Sync>(
 {
     let (world, board) = submitted(alloc, 2)?;
     let (hall, mut share) = Hall::<L>::new(blank, world, board);
-    let detectors = never(alloc, 2).ok()?;
-    if usize::from(hall.group().n()) != detectors.len() {
-        return None;
-    }
     let plan = scripted(alloc).ok()?;
     let gate = Counting::new();
-    let made = hall
-        .run_free(rt, alloc, &plan, detectors, &gate, &mut share)
-        .ok()?;
+    let made = ran_in(rt, alloc, &hall, &mut share, &plan, &gate)?;
     let settled = hall.settled(rt, alloc, &mut share).ok()?;
     Some((made, gate.into_calls(), settled.record() == steps))
 }

@@ -23,6 +23,14 @@ fn is_followed<L: Ledger, R: Wait>(
     Some(followed.told_and_read() == (1, 1) && followed.messages() == [message].as_slice())
 }
 
+// Whether a copy of the hall's world has the same record.
+fn is_seen<L: Ledger, R: Wait>(rt: &R, alloc: Global, hall: &Hall<L>, world: &World) -> bool {
+    match hall.snapshot(rt, alloc) {
+        Ok(snapshot) => snapshot.record() == world.record(),
+        Err(_) => false,
+    }
+}
+
 // Whether the worlds that the hall shows are one, in which the message was delivered.
 fn is_shown<L: Ledger, R: Wait>(
     rt: &R,
@@ -30,12 +38,13 @@ fn is_shown<L: Ledger, R: Wait>(
     hall: &Hall<L>,
     share: &mut Share<L>,
     message: Message,
-) -> Option<bool>
+) -> bool
     requires { share.old.parts ≡ L.parts }
 {
-    let settled = hall.settled(rt, alloc, share).ok()?;
-    let snapshot = hall.snapshot(rt, alloc).ok()?;
-    Some(has_delivered(&settled, 14, message) && snapshot.record() == settled.record())
+    match hall.settled(rt, alloc, share) {
+        Ok(settled) => has_delivered(&settled, 14, message) && is_seen(rt, alloc, hall, &settled),
+        Err(_) => false,
+    }
 }
 
 // One member, one submission, 100 turns: what was made, whether the worlds that are shown have it, and whether a watcher follows.
@@ -51,18 +60,12 @@ fn one_member<L: Ledger + Send + Sync, R: Threads + Wait + Sync>(
 {
     let (world, board) = submitted(alloc, 1)?;
     let (hall, mut share) = Hall::<L>::new(blank, world, board);
-    let detectors = never(alloc, 1).ok()?;
-    if usize::from(hall.group().n()) != detectors.len() {
-        return None;
-    }
     let plan = Plan {
         turns: 100,
         scripts: Vec::new(alloc),
     };
-    let made = hall
-        .run_free(rt, alloc, &plan, detectors, &NoGate, &mut share)
-        .ok()?;
-    let shown = is_shown(rt, alloc, &hall, &mut share, message)?;
+    let made = ran_in(rt, alloc, &hall, &mut share, &plan, &NoGate)?;
+    let shown = is_shown(rt, alloc, &hall, &mut share, message);
     let followed = is_followed(rt, alloc, &hall, message)?;
     Some((made, shown, followed))
 }

@@ -155,17 +155,8 @@ fn three_members<L: Ledger + Send + Sync, R: Threads + Wait + Sync>(
 {
     let (world, board) = started(alloc, 3)?;
     let (hall, mut share) = Hall::<L>::new(blank, world, board);
-    let detectors = never(alloc, 3).ok()?;
-    if usize::from(hall.group().n()) != detectors.len() {
-        return None;
-    }
     let plan = submissions(alloc).ok()?;
-    if hall
-        .run_free(rt, alloc, &plan, detectors, &NoGate, &mut share)
-        .is_err()
-    {
-        return None;
-    }
+    ran_in(rt, alloc, &hall, &mut share, &plan, &NoGate)?;
     is_followed(rt, alloc, &hall, &mut share)
 }
 
