@@ -5,8 +5,8 @@ ghost use Rattle.clap.specs.Words.{found_of, rows_of};
 ghost use Rattle.ct_diagram.specs.Window.{window_of};
 
 use crate::window::Window;
-use clap::{Arg, ArgAction, ArgMatches, Command};
-use ct_program::option_in;
+use clap::{ArgMatches, Command};
+use ct_program::{file_argument, option_in, value_option};
 use std::alloc::{AllocError, Global};
 
 // What stands after the options.
@@ -40,30 +40,19 @@ pub fn diagram_command<'a>(alloc: Global) -> Result<Command<'a>, AllocError> {
             "Replays a record and writes a picture of at most 400 of its steps as SVG: a line for each member, an arrow for each envelope",
         )
         .after_help(AFTER)
-        .arg(
-            Arg::new(alloc, "file")
-                .value_name("FILE")
-                .action(ArgAction::Set)
-                .default_value("-")
-                .help("The file that the record stands in; - for standard input"),
-        )?
-        .arg(number(
+        .arg(file_argument(
+            alloc,
+            "The file that the record stands in; - for standard input",
+        ))?
+        .arg(value_option(
             alloc,
             "from",
             "The number of the first step that is drawn, from 1 on",
         )
         .default_value("1"))?
         .arg(
-            number(alloc, "to", "The number of the last step that is drawn")
+            value_option(alloc, "to", "The number of the last step that is drawn")
                 .default_value("4294967295")
                 .hide_default_value(true),
         )
-}
-
-// An option with a number.
-fn number<'a>(alloc: Global, name: &'a str, help: &'a str) -> Arg<'a> {
-    Arg::new(alloc, name)
-        .long(name)
-        .action(ArgAction::Set)
-        .help(help)
 }

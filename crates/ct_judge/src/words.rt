@@ -1,6 +1,7 @@
 //! The words after `interact` and `record` on a command line.
 
-use clap::{Arg, ArgAction, Command};
+use clap::Command;
+use ct_program::{file_argument, value_option};
 use std::alloc::{AllocError, Global};
 
 // What stands after the options of `interact`.
@@ -48,13 +49,12 @@ pub fn interact_command<'a>(alloc: Global) -> Result<Command<'a>, AllocError> {
     Command::new(alloc, "interact")
         .about("Judges the lines on standard input as they come, and answers each with one line")
         .after_help(AFTER_INTERACT)
-        .arg(
-            Arg::new(alloc, "record")
-                .long("record")
-                .value_name("FILE")
-                .action(ArgAction::Set)
-                .help("Writes the record of the session to this file in the end"),
+        .arg(value_option(
+            alloc,
+            "record",
+            "Writes the record of the session to this file in the end",
         )
+        .value_name("FILE"))
 }
 
 /// The subcommand `record`.
@@ -62,11 +62,8 @@ pub fn record_command<'a>(alloc: Global) -> Result<Command<'a>, AllocError> {
     Command::new(alloc, "record")
         .about("Judges a schedule line by line and writes its record as JSON to standard output")
         .after_help(AFTER_RECORD)
-        .arg(
-            Arg::new(alloc, "file")
-                .value_name("FILE")
-                .action(ArgAction::Set)
-                .default_value("-")
-                .help("The file that the schedule stands in; - for standard input"),
-        )
+        .arg(file_argument(
+            alloc,
+            "The file that the schedule stands in; - for standard input",
+        ))
 }

@@ -46,5 +46,7 @@ pub use seeding::seeded;
 pub use separator::push_separator;
 pub use sink::Sink;
 pub use source::Source;
-pub use words::{found_options, line, number_in, option_in, with_free_options};
+pub use words::{
+    file_argument, found_options, line, number_in, option_in, value_option, with_free_options,
+};
 pub use writing::write_record;

@@ -162,6 +162,23 @@ const OPTIONS: [(&str, &str, &str); 9] = [
     ),
 ];
 
+/// The argument `file` of a subcommand, which is `-` where none is given: standard input.
+pub fn file_argument<'a>(alloc: Global, help: &'a str) -> Arg<'a> {
+    Arg::new(alloc, "file")
+        .value_name("FILE")
+        .action(ArgAction::Set)
+        .default_value("-")
+        .help(help)
+}
+
+/// An option with a value, which need not be given.
+pub fn value_option<'a>(alloc: Global, name: &'a str, help: &'a str) -> Arg<'a> {
+    Arg::new(alloc, name)
+        .long(name)
+        .action(ArgAction::Set)
+        .help(help)
+}
+
 /// The command, and after its own arguments the options of a free run. This is the help of the option `turns`.
 pub fn with_free_options<'a>(
     alloc: Global,

@@ -8,8 +8,11 @@ use crate::selection::Selection;
 use crate::view::View;
 use clap::{Arg, ArgAction, ArgMatches, Command};
 use ct_names::{MAX_MEMBERS, Member};
-use ct_program::{number_in, option_in};
+use ct_program::{file_argument, number_in, option_in, value_option};
 use std::alloc::{AllocError, Global};
+
+// The help of the argument `file`.
+const FILE: &str = "The file that the record stands in; - for standard input";
 
 // What stands after the options of `check`.
 const AFTER_CHECK: &str = "Examples:
@@ -130,7 +133,7 @@ pub fn report_command<'a>(alloc: Global) -> Result<Command<'a>, AllocError> {
     Command::new(alloc, "report")
         .about("Replays a record and writes the report as JSON to standard output")
         .after_help(AFTER_REPORT)
-        .arg(file(alloc))
+        .arg(file_argument(alloc, FILE))
 }
 
 /// The subcommand `state`.
@@ -140,9 +143,9 @@ pub fn state_command<'a>(alloc: Global) -> Result<Command<'a>, AllocError> {
             "Replays the first steps of a record and writes where each member stands, what waits for it, and what it may do next",
         )
         .after_help(AFTER_STATE)
-        .arg(file(alloc))?
+        .arg(file_argument(alloc, FILE))?
         .arg(
-            option(
+            value_option(
                 alloc,
                 "after",
                 "How many steps are replayed; all by default",
@@ -159,38 +162,21 @@ pub fn steps_command<'a>(alloc: Global) -> Result<Command<'a>, AllocError> {
             "Replays a record and writes a line for each step: its number, its member, what it read and what it sent",
         )
         .after_help(AFTER_STEPS)
-        .arg(file(alloc))?
-        .arg(option(
+        .arg(file_argument(alloc, FILE))?
+        .arg(value_option(
             alloc,
             "from",
             "The number of the first step that is shown, from 1 on",
         )
         .default_value("1"))?
         .arg(
-            option(alloc, "to", "The number of the last step that is shown")
+            value_option(alloc, "to", "The number of the last step that is shown")
                 .default_value("4294967295")
                 .hide_default_value(true),
         )?
-        .arg(option(
+        .arg(value_option(
             alloc,
             "member",
             "Shows the steps of this member alone, 1 to 16",
         ))
-}
-
-// The file that the record stands in.
-fn file<'a>(alloc: Global) -> Arg<'a> {
-    Arg::new(alloc, "file")
-        .value_name("FILE")
-        .action(ArgAction::Set)
-        .default_value("-")
-        .help("The file that the record stands in; - for standard input")
-}
-
-// An option with a value.
-fn option<'a>(alloc: Global, name: &'a str, help: &'a str) -> Arg<'a> {
-    Arg::new(alloc, name)
-        .long(name)
-        .action(ArgAction::Set)
-        .help(help)
 }

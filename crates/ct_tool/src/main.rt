@@ -15,9 +15,11 @@ use ct_show::{
 };
 use ct_walk::{Call, walk_call, walk_command, write_call};
 use ct_world::World;
+use either::{Either, Left, Right};
 use std::alloc::{AllocError, Global};
 use std::fmt::Display;
-use std::io::{Read, Write};
+use std::fs::File;
+use std::io::{StdinLock, Write};
 use std::process::ExitCode;
 use std::{fs, io};
 
@@ -114,7 +116,7 @@ fn record_schedule(rt: &HostRuntime, found: &ArgMatches<'_>) -> ExitCode {
     }
 }
 
-// Writes the record of the schedule in the file of this name, or on standard input.
+// Writes the record of the schedule in the file of this name.
 fn record_file<W: Write>(
     rt: &HostRuntime,
     name: &str,
@@ -122,24 +124,18 @@ fn record_file<W: Write>(
 ) -> Result<(), RecordFault>
     requires { failures_of writer.old < 2 ^ 63 }
 {
-    if name == "-" {
-        return record_stream(rt, rt.reader(), writer);
-    }
-    match fs::open(rt, name) {
-        Ok(file) => record_stream(rt, file, writer),
+    match open(rt, name) {
+        Ok(file) => record(rt.alloc(), &mut Counted::new(file), writer),
         Err(_) => Err(RecordFault::Read),
     }
 }
 
-fn record_stream<R: Read + Drop, W: Write>(
-    rt: &HostRuntime,
-    stream: R,
-    writer: &mut Counted<W>,
-) -> Result<(), RecordFault>
-    requires { failures_of writer.old < 2 ^ 63 }
-{
-    let mut reader = Counted::new(stream);
-    record(rt.alloc(), &mut reader, writer)
+// The file of this name, or standard input where the name is `-`.
+fn open(rt: &HostRuntime, name: &str) -> io::Result<Either<StdinLock<'static>, File>> {
+    if name == "-" {
+        return Ok(Left(rt.reader()));
+    }
+    Ok(Right(fs::open(rt, name)?))
 }
 
 // Answers the lines on standard input, and writes the record in the end, where a file is named for it.
@@ -217,7 +213,7 @@ fn diagram(rt: &HostRuntime, found: &ArgMatches<'_>) -> ExitCode {
     }
 }
 
-// Draws the record in the file of this name, or on standard input.
+// Draws the record in the file of this name.
 fn draw_file<W: Write>(
     rt: &HostRuntime,
     name: &str,
@@ -226,16 +222,13 @@ fn draw_file<W: Write>(
 ) -> Result<(), DiagramFault>
     requires { failures_of writer.old < 2 ^ 63 }
 {
-    if name == "-" {
-        return draw(rt.alloc(), &mut Counted::new(rt.reader()), writer, window);
-    }
-    match fs::open(rt, name) {
+    match open(rt, name) {
         Ok(file) => draw(rt.alloc(), &mut Counted::new(file), writer, window),
         Err(_) => Err(DiagramFault::Program(ProgramFault::Reader)),
     }
 }
 
-// Shows the record in the file of this name, or on standard input.
+// Shows the record in the file of this name.
 fn show_file<W: Write>(
     rt: &HostRuntime,
     name: &str,
@@ -244,25 +237,10 @@ fn show_file<W: Write>(
 ) -> Result<(), ProgramFault>
     requires { failures_of writer.old < 2 ^ 63 }
 {
-    if name == "-" {
-        return show_stream(rt, rt.reader(), writer, view);
-    }
-    match fs::open(rt, name) {
-        Ok(file) => show_stream(rt, file, writer, view),
+    match open(rt, name) {
+        Ok(file) => show(rt.alloc(), &mut Counted::new(file), writer, view),
         Err(_) => Err(ProgramFault::Reader),
     }
-}
-
-fn show_stream<R: Read + Drop, W: Write>(
-    rt: &HostRuntime,
-    stream: R,
-    writer: &mut Counted<W>,
-    view: &View,
-) -> Result<(), ProgramFault>
-    requires { failures_of writer.old < 2 ^ 63 }
-{
-    let mut reader = Counted::new(stream);
-    show(rt.alloc(), &mut reader, writer, view)
 }
 
 // Writes a line for each file whose record has a fault or, where reports are expected, another report, and ends with the
@@ -312,10 +290,10 @@ fn has_expected_report(rt: &HostRuntime, name: &str) -> Result<bool, ProgramFaul
         return Err(ProgramFault::Reader);
     };
     let expected = read_all(rt.alloc(), &mut Counted::new(report))?;
-    let Ok(record) = fs::open(rt, name) else {
-        return Err(ProgramFault::Reader);
-    };
-    gives_report(rt.alloc(), &mut Counted::new(record), &expected)
+    match open(rt, name) {
+        Ok(record) => gives_report(rt.alloc(), &mut Counted::new(record), &expected),
+        Err(_) => Err(ProgramFault::Reader),
+    }
 }
 
 // A call for help or for the version is answered on standard output.

@@ -6,8 +6,8 @@ ghost use Rattle.ct_walk.specs.Line.{IsCallInRange, IsSeedsInRange};
 use crate::call::{Call, Seeds};
 use crate::options::WalkOptions;
 use crate::sight::Sight;
-use clap::{Arg, ArgAction, ArgMatches, Command};
-use ct_program::{found_options, number_in, with_free_options};
+use clap::{Arg, ArgMatches, Command};
+use ct_program::{found_options, number_in, value_option, with_free_options};
 use std::alloc::{AllocError, Global};
 
 // The help of the option `turns`.
@@ -105,34 +105,25 @@ pub fn walk_command<'a>(alloc: Global) -> Result<Command<'a>, AllocError> {
             .conflicts_with("until")?,
         )?
         .arg(
-            text(alloc, "seeds", "The seeds that --find tries, from A to B")
+            value_option(alloc, "seeds", "The seeds that --find tries, from A to B")
                 .value_name("A..B")
                 .requires_arg("find")?,
         )
 }
 
 fn every<'a>(alloc: Global) -> Arg<'a> {
-    Arg::new(alloc, "every")
-        .long("every")
-        .value_name("N")
-        .action(ArgAction::Set)
-        .default_value("0")
-        .help(
-            "Makes the submissions and the crash at the turns N, 2N, 3N and so on, 0 to 100000; at 0 their turns are drawn like all others",
-        )
+    value_option(
+        alloc,
+        "every",
+        "Makes the submissions and the crash at the turns N, 2N, 3N and so on, 0 to 100000; at 0 their turns are drawn like all others",
+    )
+    .value_name("N")
+    .default_value("0")
 }
 
 // An option that names what can be shown of a walk, that need not be given.
 fn sight_arg<'a>(alloc: Global, name: &'a str, help: &'a str) -> Arg<'a> {
-    text(alloc, name, help)
+    value_option(alloc, name, help)
         .num_args(2)
         .value_names(&["decided|round", "N"])
-}
-
-// An option with a value, that need not be given.
-fn text<'a>(alloc: Global, name: &'a str, help: &'a str) -> Arg<'a> {
-    Arg::new(alloc, name)
-        .long(name)
-        .action(ArgAction::Set)
-        .help(help)
 }
