@@ -18,6 +18,14 @@ use Rattle.ct_program.specs.declared.line_fault.LineFault.TheVariants.{Clap, Ran
 
 -- ---- what clap reads
 
+-- the argument `file`, which is `-` where none is given
+abbrev pub file_rule : Rule
+file_rule = record (new_rule (codes "file")) { action = Some Set; value_names = 1; defaults = codes "-" ∷ [] }
+
+-- an option with one value, which need not be given
+abbrev pub value_rule : Text → Rule
+value_rule name = record (new_rule name) { long = Some name; action = Some Set }
+
 -- an option that has to be given, with one value
 abbrev pub required_rule : Text → Rule
 required_rule name = record (new_rule name) { long = Some name; action = Some Set; required = true }

@@ -3,8 +3,8 @@
 ghost use Rattle.std.specs.Prelude.{◌≡◌, ◌≤◌, ℕ, List, [], ◌∷◌, false, fold, map, codes, Some, None, Err, OnOk, IfOk, IfErr, IfSome};
 ghost use Rattle.clap.specs.Words.{app_of, found_of, rows_of, rule_of, with_rule};
 ghost use Rattle.ct_program.specs.FreeOptions.{FreeInRange, InRange};
-ghost use Rattle.ct_program.specs.Line.{program, free_app, free_rules, option_rule, required_rule, faults_of, call_of, option_in};
-ghost use Rattle.ct_program.specs.Line.{options_of, whole_in, IsOfKind, IsMemory};
+ghost use Rattle.ct_program.specs.Line.{program, free_app, free_rules, file_rule, option_rule, required_rule, value_rule};
+ghost use Rattle.ct_program.specs.Line.{faults_of, call_of, option_in, options_of, whole_in, IsOfKind, IsMemory};
 
 use crate::call::Call;
 use crate::free_options::FreeOptions;
@@ -163,7 +163,10 @@ const OPTIONS: [(&str, &str, &str); 9] = [
 ];
 
 /// The argument `file` of a subcommand, which is `-` where none is given: standard input.
-pub fn file_argument<'a>(alloc: Global, help: &'a str) -> Arg<'a> {
+pub fn file_argument<'a>(alloc: Global, help: &'a str) -> Arg<'a>
+    ensures rule { rule_of result ≡ file_rule }
+    ensures local { result.global ≡ false }
+{
     Arg::new(alloc, "file")
         .value_name("FILE")
         .action(ArgAction::Set)
@@ -172,11 +175,12 @@ pub fn file_argument<'a>(alloc: Global, help: &'a str) -> Arg<'a> {
 }
 
 /// An option with a value, which need not be given.
-pub fn value_option<'a>(alloc: Global, name: &'a str, help: &'a str) -> Arg<'a> {
-    Arg::new(alloc, name)
-        .long(name)
-        .action(ArgAction::Set)
-        .help(help)
+pub fn value_option<'a>(alloc: Global, name: &'a str, help: &'a str) -> Arg<'a>
+    ensures rule { rule_of result ≡ value_rule name.entry.now }
+    ensures local { result.global ≡ false }
+{
+    let option = Arg::new(alloc, name).long(name).help(help);
+    option.action(ArgAction::Set)
 }
 
 /// The command, and after its own arguments the options of a free run. This is the help of the option `turns`.
