@@ -28,11 +28,11 @@ value_rule name = record (new_rule name) { long = Some name; action = Some Set }
 
 -- an option that has to be given, with one value
 abbrev pub required_rule : Text → Rule
-required_rule name = record (new_rule name) { long = Some name; action = Some Set; required = true }
+required_rule name = record (value_rule name) { required = true }
 
 -- an option with one value, which is `default` where none is given
 abbrev pub option_rule : Text → Text → Rule
-option_rule name default = record (new_rule name) { long = Some name; action = Some Set; defaults = default ∷ [] }
+option_rule name default = record (value_rule name) { defaults = default ∷ [] }
 
 -- the options after `members` and `turns`
 abbrev pub further_rules : List Rule

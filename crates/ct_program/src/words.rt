@@ -216,11 +216,7 @@ fn required<'a>(alloc: Global, name: &'a str, help: &'a str) -> Arg<'a>
     ensures rule { rule_of result ≡ required_rule name.entry.now }
     ensures local { result.global ≡ false }
 {
-    Arg::new(alloc, name)
-        .long(name)
-        .action(ArgAction::Set)
-        .required(true)
-        .help(help)
+    value_option(alloc, name, help).required(true)
 }
 
 // An option that has the value `default` where none is given.
@@ -228,9 +224,5 @@ fn option<'a>(alloc: Global, name: &'a str, default: &'a str, help: &'a str) -> 
     ensures rule { rule_of result ≡ option_rule name.entry.now default.entry.now }
     ensures local { result.global ≡ false }
 {
-    Arg::new(alloc, name)
-        .long(name)
-        .action(ArgAction::Set)
-        .default_value(default)
-        .help(help)
+    value_option(alloc, name, help).default_value(default)
 }
