@@ -183,6 +183,14 @@ pub fn value_option<'a>(alloc: Global, name: &'a str, help: &'a str) -> Arg<'a>
     option.action(ArgAction::Set)
 }
 
+/// An option with a value, which is `default` where none is given.
+pub fn default_option<'a>(alloc: Global, name: &'a str, default: &'a str, help: &'a str) -> Arg<'a>
+    ensures rule { rule_of result ≡ option_rule name.entry.now default.entry.now }
+    ensures local { result.global ≡ false }
+{
+    value_option(alloc, name, help).default_value(default)
+}
+
 /// The command, and after its own arguments the options of a free run. This is the help of the option `turns`.
 pub fn with_free_options<'a>(
     alloc: Global,
@@ -192,7 +200,7 @@ pub fn with_free_options<'a>(
     ensures { IfOk result (λ longer. app_of longer ≡ fold with_rule (app_of command.entry) free_rules) }
 {
     let members = required(alloc, "members", "The number of members, 1 to 16");
-    let turns = option(alloc, "turns", "1000", turns);
+    let turns = default_option(alloc, "turns", "1000", turns);
     with_options(alloc, command.arg(members)?.arg(turns)?, &OPTIONS)
 }
 
@@ -206,7 +214,7 @@ fn with_options<'a>(
         ≡ fold (λ app o. with_rule app (option_rule o.0.now o.1.now)) (app_of command.entry) options.now) }
 {
     for (name, default, help) in options {
-        command = command.arg(option(alloc, name, default, help))?;
+        command = command.arg(default_option(alloc, name, default, help))?;
     }
     Ok(command)
 }
@@ -217,12 +225,4 @@ fn required<'a>(alloc: Global, name: &'a str, help: &'a str) -> Arg<'a>
     ensures local { result.global ≡ false }
 {
     value_option(alloc, name, help).required(true)
-}
-
-// An option that has the value `default` where none is given.
-fn option<'a>(alloc: Global, name: &'a str, default: &'a str, help: &'a str) -> Arg<'a>
-    ensures rule { rule_of result ≡ option_rule name.entry.now default.entry.now }
-    ensures local { result.global ≡ false }
-{
-    value_option(alloc, name, help).default_value(default)
 }
