@@ -1,3 +1,4 @@
+pub mod Line
 pub mod Window
 pub mod Grid
 pub mod Shades

@@ -1,12 +1,13 @@
 //! The words after `diagram` on a command line.
 
-ghost use Rattle.std.specs.Prelude.{◌≡◌};
-ghost use Rattle.clap.specs.Words.{found_of, rows_of};
+ghost use Rattle.std.specs.Prelude.{◌≡◌, IfOk};
+ghost use Rattle.clap.specs.Words.{app_of, found_of, rows_of};
+ghost use Rattle.ct_diagram.specs.Line.{diagram_app};
 ghost use Rattle.ct_diagram.specs.Window.{window_of};
 
 use crate::window::Window;
 use clap::{ArgMatches, Command};
-use ct_program::{file_argument, option_in, value_option};
+use ct_program::{default_option, file_argument, option_in};
 use std::alloc::{AllocError, Global};
 
 // What stands after the options.
@@ -34,7 +35,9 @@ pub fn diagram_window(found: &ArgMatches<'_>) -> Option<Window>
 }
 
 /// The subcommand `diagram`.
-pub fn diagram_command<'a>(alloc: Global) -> Result<Command<'a>, AllocError> {
+pub fn diagram_command<'a>(alloc: Global) -> Result<Command<'a>, AllocError>
+    ensures { IfOk result (λ command. app_of command ≡ diagram_app) }
+{
     Command::new(alloc, "diagram")
         .about(
             "Replays a record and writes a picture of at most 400 of its steps as SVG: a line for each member, an arrow for each envelope",
@@ -44,15 +47,17 @@ pub fn diagram_command<'a>(alloc: Global) -> Result<Command<'a>, AllocError> {
             alloc,
             "The file that the record stands in; - for standard input",
         ))?
-        .arg(value_option(
+        .arg(default_option(
             alloc,
             "from",
+            "1",
             "The number of the first step that is drawn, from 1 on",
+        ))?
+        .arg(default_option(
+            alloc,
+            "to",
+            "4294967295",
+            "The number of the last step that is drawn",
         )
-        .default_value("1"))?
-        .arg(
-            value_option(alloc, "to", "The number of the last step that is drawn")
-                .default_value("4294967295")
-                .hide_default_value(true),
-        )
+        .hide_default_value(true))
 }

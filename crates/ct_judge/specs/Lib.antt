@@ -3,6 +3,7 @@ pub mod Answers
 pub mod Facts
 pub mod Faults
 pub mod Judging
+pub mod Line
 pub mod Picking
 pub mod Recording
 pub mod Schedule

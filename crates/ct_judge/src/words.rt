@@ -1,5 +1,9 @@
 //! The words after `interact` and `record` on a command line.
 
+ghost use Rattle.std.specs.Prelude.{◌≡◌, IfOk};
+ghost use Rattle.clap.specs.Words.{app_of};
+ghost use Rattle.ct_judge.specs.Line.{interact_app, record_app};
+
 use clap::Command;
 use ct_program::{file_argument, value_option};
 use std::alloc::{AllocError, Global};
@@ -45,7 +49,9 @@ Status:
   5  memory was refused";
 
 /// The subcommand `interact`.
-pub fn interact_command<'a>(alloc: Global) -> Result<Command<'a>, AllocError> {
+pub fn interact_command<'a>(alloc: Global) -> Result<Command<'a>, AllocError>
+    ensures { IfOk result (λ command. app_of command ≡ interact_app) }
+{
     Command::new(alloc, "interact")
         .about("Judges the lines on standard input as they come, and answers each with one line")
         .after_help(AFTER_INTERACT)
@@ -58,7 +64,9 @@ pub fn interact_command<'a>(alloc: Global) -> Result<Command<'a>, AllocError> {
 }
 
 /// The subcommand `record`.
-pub fn record_command<'a>(alloc: Global) -> Result<Command<'a>, AllocError> {
+pub fn record_command<'a>(alloc: Global) -> Result<Command<'a>, AllocError>
+    ensures { IfOk result (λ command. app_of command ≡ record_app) }
+{
     Command::new(alloc, "record")
         .about("Judges a schedule line by line and writes its record as JSON to standard output")
         .after_help(AFTER_RECORD)

@@ -1,10 +1,47 @@
--- What a command line asks to be shown.
-use Rattle.std.specs.Prelude.{ℕ, List, codes, Option, Some, None}
-use Rattle.clap.specs.Words.{Row, Text, first_of}
+-- What a command line asks to be shown. `clap` gives what its commands make of words.
+use Rattle.std.specs.Prelude.{ℕ, true, List, [], ◌∷◌, fold, codes, Option, Some, None}
+use Rattle.clap.specs.Lexer.{usize_max}
+use Rattle.clap.specs.Words.{App, Row, Rule, Text, first_of, new_app, new_rule, with_rule}
+use Rattle.clap.specs.declared.builder.action.ArgAction.TheVariants.{Append, SetTrue}
 use Rattle.ct_names.specs.declared.limit.TheConstants.{MAX_MEMBERS}
-use Rattle.ct_program.specs.Line.{◌>>=◌, option_in, whole_in}
+use Rattle.ct_program.specs.Line.{◌>>=◌, file_rule, option_in, option_rule, value_rule, whole_in}
 use Rattle.ct_show.specs.declared.view.View.{View}
 use Rattle.ct_show.specs.declared.view.View.TheVariants.{Steps, State}
+
+-- ---- what clap reads
+
+-- an option with no value
+abbrev pub flag_rule : Text → Rule
+flag_rule name = record (new_rule name) { long = Some name; action = Some SetTrue }
+
+-- one file or several
+abbrev pub files_rule : Rule
+files_rule = record (new_rule (codes "files")) {
+  value_names = 1;
+  action = Some Append;
+  required = true;
+  range = Some (record { start_inclusive = 1; end_inclusive = usize_max });
+}
+
+-- the subcommand `check`
+abbrev pub check_app : App
+check_app = fold with_rule (new_app (codes "check")) (files_rule ∷ flag_rule (codes "expect-reports") ∷ flag_rule (codes "quiet") ∷ [])
+
+-- the subcommand `report`
+abbrev pub report_app : App
+report_app = with_rule (new_app (codes "report")) file_rule
+
+-- the subcommand `state`
+abbrev pub state_app : App
+state_app = fold with_rule (new_app (codes "state")) (file_rule ∷ option_rule (codes "after") (codes "4294967295") ∷ [])
+
+-- the subcommand `steps`
+abbrev pub steps_app : App
+steps_app =
+    fold with_rule (new_app (codes "steps"))
+    (file_rule ∷ option_rule (codes "from") (codes "1") ∷ option_rule (codes "to") (codes "4294967295") ∷ value_rule (codes "member") ∷ [])
+
+-- ---- what the options ask for
 
 -- the member that the text names, where there is one
 abbrev pub member_of : Option Text → Option (Option ℕ)

@@ -1,14 +1,15 @@
 //! The words after `check`, `report`, `state` and `steps` on a command line.
 
-ghost use Rattle.std.specs.Prelude.{◌≡◌, option_map};
-ghost use Rattle.clap.specs.Words.{found_of, rows_of};
+ghost use Rattle.std.specs.Prelude.{◌≡◌, false, IfOk, option_map};
+ghost use Rattle.clap.specs.Words.{app_of, found_of, rows_of, rule_of};
 ghost use Rattle.ct_show.specs.Line.{member_of, state_of, steps_of};
+ghost use Rattle.ct_show.specs.Line.{check_app, files_rule, flag_rule, report_app, state_app, steps_app};
 
 use crate::selection::Selection;
 use crate::view::View;
 use clap::{Arg, ArgAction, ArgMatches, Command};
 use ct_names::{MAX_MEMBERS, Member};
-use ct_program::{file_argument, number_in, option_in, value_option};
+use ct_program::{default_option, file_argument, number_in, option_in, value_option};
 use std::alloc::{AllocError, Global};
 
 // The help of the argument `file`.
@@ -98,38 +99,49 @@ pub fn state_view(found: &ArgMatches<'_>) -> Option<View>
 }
 
 /// The subcommand `check`.
-pub fn check_command<'a>(alloc: Global) -> Result<Command<'a>, AllocError> {
+pub fn check_command<'a>(alloc: Global) -> Result<Command<'a>, AllocError>
+    ensures { IfOk result (λ command. app_of command ≡ check_app) }
+{
     Command::new(alloc, "check")
         .about(
             "Replays records, and writes a line for each that is refused: the file and the fault",
         )
         .after_help(AFTER_CHECK)
-        .arg(
-            Arg::new(alloc, "files")
-                .value_name("FILE")
-                .action(ArgAction::Append)
-                .required(true)
-                .num_args(1..)
-                .help("The files that the records stand in; - for standard input"),
-        )?
-        .arg(
-            Arg::new(alloc, "expect-reports")
-                .long("expect-reports")
-                .action(ArgAction::SetTrue)
-                .help(
-                    "Compares each report with the one beside the record: NAME.report beside NAME.json",
-                ),
-        )?
-        .arg(
-            Arg::new(alloc, "quiet")
-                .long("quiet")
-                .action(ArgAction::SetTrue)
-                .help("Writes no line"),
-        )
+        .arg(files(alloc))?
+        .arg(flag(
+            alloc,
+            "expect-reports",
+            "Compares each report with the one beside the record: NAME.report beside NAME.json",
+        ))?
+        .arg(flag(alloc, "quiet", "Writes no line"))
+}
+
+// One file or several.
+fn files<'a>(alloc: Global) -> Arg<'a>
+    ensures rule { rule_of result ≡ files_rule }
+    ensures local { result.global ≡ false }
+{
+    Arg::new(alloc, "files")
+        .value_name("FILE")
+        .action(ArgAction::Append)
+        .required(true)
+        .num_args(1..)
+        .help("The files that the records stand in; - for standard input")
+}
+
+// An option with no value.
+fn flag<'a>(alloc: Global, name: &'a str, help: &'a str) -> Arg<'a>
+    ensures rule { rule_of result ≡ flag_rule name.entry.now }
+    ensures local { result.global ≡ false }
+{
+    let option = Arg::new(alloc, name).long(name).help(help);
+    option.action(ArgAction::SetTrue)
 }
 
 /// The subcommand `report`.
-pub fn report_command<'a>(alloc: Global) -> Result<Command<'a>, AllocError> {
+pub fn report_command<'a>(alloc: Global) -> Result<Command<'a>, AllocError>
+    ensures { IfOk result (λ command. app_of command ≡ report_app) }
+{
     Command::new(alloc, "report")
         .about("Replays a record and writes the report as JSON to standard output")
         .after_help(AFTER_REPORT)
@@ -137,43 +149,47 @@ pub fn report_command<'a>(alloc: Global) -> Result<Command<'a>, AllocError> {
 }
 
 /// The subcommand `state`.
-pub fn state_command<'a>(alloc: Global) -> Result<Command<'a>, AllocError> {
+pub fn state_command<'a>(alloc: Global) -> Result<Command<'a>, AllocError>
+    ensures { IfOk result (λ command. app_of command ≡ state_app) }
+{
     Command::new(alloc, "state")
         .about(
             "Replays the first steps of a record and writes where each member stands, what waits for it, and what it may do next",
         )
         .after_help(AFTER_STATE)
         .arg(file_argument(alloc, FILE))?
-        .arg(
-            value_option(
-                alloc,
-                "after",
-                "How many steps are replayed; all by default",
-            )
-            .default_value("4294967295")
-            .hide_default_value(true),
+        .arg(default_option(
+            alloc,
+            "after",
+            "4294967295",
+            "How many steps are replayed; all by default",
         )
+        .hide_default_value(true))
 }
 
 /// The subcommand `steps`.
-pub fn steps_command<'a>(alloc: Global) -> Result<Command<'a>, AllocError> {
+pub fn steps_command<'a>(alloc: Global) -> Result<Command<'a>, AllocError>
+    ensures { IfOk result (λ command. app_of command ≡ steps_app) }
+{
     Command::new(alloc, "steps")
         .about(
             "Replays a record and writes a line for each step: its number, its member, what it read and what it sent",
         )
         .after_help(AFTER_STEPS)
         .arg(file_argument(alloc, FILE))?
-        .arg(value_option(
+        .arg(default_option(
             alloc,
             "from",
+            "1",
             "The number of the first step that is shown, from 1 on",
+        ))?
+        .arg(default_option(
+            alloc,
+            "to",
+            "4294967295",
+            "The number of the last step that is shown",
         )
-        .default_value("1"))?
-        .arg(
-            value_option(alloc, "to", "The number of the last step that is shown")
-                .default_value("4294967295")
-                .hide_default_value(true),
-        )?
+        .hide_default_value(true))?
         .arg(value_option(
             alloc,
             "member",
