@@ -1,1 +1,4 @@
+pub mod Bound
+pub mod Cuts
+pub mod Found
 pub mod Looping

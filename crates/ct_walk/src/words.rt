@@ -1,13 +1,18 @@
 //! The words after `walk` on a command line.
 
-ghost use Rattle.std.specs.Prelude.{IfSome};
-ghost use Rattle.ct_walk.specs.Line.{IsCallInRange, IsSeedsInRange};
+ghost use Rattle.std.specs.Prelude.{◌≡◌, false, map, IfOk, IfSome};
+ghost use Rattle.clap.specs.Words.{app_of, found_of, rows_of, rule_of};
+ghost use Rattle.ct_walk.specs.Line.{every_rule, find_rule, seeds_rule, sight_rule, walk_app};
+ghost use Rattle.ct_walk.specs.Line.{seeds_of, sight_in, sight_of, walk_call, walk_options, IsCallInRange, IsSeedsInRange};
+ghost use Rattle.ct_walk.specs.Options.{IsInRange};
 
 use crate::call::{Call, Seeds};
 use crate::options::WalkOptions;
 use crate::sight::Sight;
 use clap::{Arg, ArgMatches, Command};
-use ct_program::{found_options, number_in, value_option, with_free_options};
+use ct_program::{
+    default_option, found_options, number_in, option_in, value_option, with_free_options,
+};
 use std::alloc::{AllocError, Global};
 
 // The help of the option `turns`.
@@ -30,25 +35,35 @@ Status:
 
 /// What the options of `walk` ask for; None where a value is not of its option's range.
 pub fn walk_call(found: &ArgMatches<'_>) -> Option<Call>
-    ensures { IfSome result IsCallInRange }
+    ensures exact { result ≡ walk_call (rows_of (found_of found.now)) }
+    ensures range { IfSome result IsCallInRange }
 {
-    let run = found_options(found)?;
-    let every = number_in(found.get_str("every")?, 0, 100_000)?;
     match found.get_str("seeds") {
-        None => {
-            let until = sight(found, "until")?;
-            Some(Call::Walk(WalkOptions { run, every, until }))
-        }
+        None => Some(Call::Walk(walk_options(found, "until")?)),
         Some(text) => {
             let seeds = seeds(text)?;
-            let until = sight(found, "find")?;
-            Some(Call::Find(WalkOptions { run, every, until }, seeds))
+            Some(Call::Find(walk_options(found, "find")?, seeds))
         }
     }
 }
 
+// The options of a walk that is made until what the option of that name says.
+#[tactic(auto, unfolding(crate::specs::Line::walk_options))]
+fn walk_options(found: &ArgMatches<'_>, name: &str) -> Option<WalkOptions>
+    ensures exact { result ≡ walk_options (rows_of (found_of found.now)) name.now }
+    ensures range { IfSome result IsInRange }
+{
+    Some(WalkOptions {
+        run: found_options(found)?,
+        every: option_in(found, "every", 0, 100_000)?,
+        until: sight(found, name)?,
+    })
+}
+
 // What the option names, where it is given; None where it names nothing that can be shown.
-fn sight(found: &ArgMatches<'_>, name: &str) -> Option<Option<Sight>> {
+fn sight(found: &ArgMatches<'_>, name: &str) -> Option<Option<Sight>>
+    ensures { result ≡ sight_in (rows_of (found_of found.now)) name.now }
+{
     match found.get_strs(name) {
         None => Some(None),
         Some(texts) => Some(Some(sight_of(texts)?)),
@@ -56,7 +71,9 @@ fn sight(found: &ArgMatches<'_>, name: &str) -> Option<Option<Sight>> {
 }
 
 // `decided` and an instance, or `round` and a round.
-fn sight_of(texts: &[&str]) -> Option<Sight> {
+fn sight_of(texts: &[&str]) -> Option<Sight>
+    ensures { result ≡ sight_of (map (λ text. text.now) texts.now) }
+{
     let [kind, number] = texts else {
         return None;
     };
@@ -69,8 +86,10 @@ fn sight_of(texts: &[&str]) -> Option<Sight> {
 }
 
 // The seeds from the first number to the last one, with two points between them.
+#[tactic(auto, unfolding(crate::specs::Line::seeds_of))]
 fn seeds(text: &str) -> Option<Seeds>
-    ensures { IfSome result IsSeedsInRange }
+    ensures exact { result ≡ seeds_of text.now }
+    ensures range { IfSome result IsSeedsInRange }
 {
     let (first, last) = text.split_once("..")?;
     let first = number_in(first, 0, u32::MAX - 1)?;
@@ -82,7 +101,9 @@ fn seeds(text: &str) -> Option<Seeds>
 }
 
 /// The subcommand `walk`.
-pub fn walk_command<'a>(alloc: Global) -> Result<Command<'a>, AllocError> {
+pub fn walk_command<'a>(alloc: Global) -> Result<Command<'a>, AllocError>
+    ensures { IfOk result (λ command. app_of command ≡ walk_app) }
+{
     let command = Command::new(alloc, "walk")
         .about(
             "Runs a group of members in one thread, each turn's member drawn from the seed, and writes the record of the run to standard output; the same options give the same record",
@@ -95,35 +116,51 @@ pub fn walk_command<'a>(alloc: Global) -> Result<Command<'a>, AllocError> {
             "until",
             "Stops once a member got the decision of instance N (decided), or is in round N of an instance or in a later one (round)",
         ))?
-        .arg(
-            sight_arg(
-                alloc,
-                "find",
-                "Tries the seeds of --seeds in place of --seed until a walk comes to this, and writes that walk, stopped as by --until",
-            )
-            .requires_arg("seeds")?
-            .conflicts_with("until")?,
-        )?
-        .arg(
-            value_option(alloc, "seeds", "The seeds that --find tries, from A to B")
-                .value_name("A..B")
-                .requires_arg("find")?,
-        )
+        .arg(find_arg(alloc)?)?
+        .arg(seeds_arg(alloc)?)
 }
 
-fn every<'a>(alloc: Global) -> Arg<'a> {
-    value_option(
+fn every<'a>(alloc: Global) -> Arg<'a>
+    ensures rule { rule_of result ≡ every_rule }
+    ensures local { result.global ≡ false }
+{
+    default_option(
         alloc,
         "every",
+        "0",
         "Makes the submissions and the crash at the turns N, 2N, 3N and so on, 0 to 100000; at 0 their turns are drawn like all others",
     )
     .value_name("N")
-    .default_value("0")
 }
 
 // An option that names what can be shown of a walk, that need not be given.
-fn sight_arg<'a>(alloc: Global, name: &'a str, help: &'a str) -> Arg<'a> {
+fn sight_arg<'a>(alloc: Global, name: &'a str, help: &'a str) -> Arg<'a>
+    ensures rule { rule_of result ≡ sight_rule name.entry.now }
+    ensures local { result.global ≡ false }
+{
     value_option(alloc, name, help)
         .num_args(2)
         .value_names(&["decided|round", "N"])
+}
+
+fn find_arg<'a>(alloc: Global) -> Result<Arg<'a>, AllocError>
+    ensures rule { IfOk result (λ find. rule_of find ≡ find_rule) }
+    ensures local { IfOk result (λ find. find.global ≡ false) }
+{
+    sight_arg(
+        alloc,
+        "find",
+        "Tries the seeds of --seeds in place of --seed until a walk comes to this, and writes that walk, stopped as by --until",
+    )
+    .requires_arg("seeds")?
+    .conflicts_with("until")
+}
+
+fn seeds_arg<'a>(alloc: Global) -> Result<Arg<'a>, AllocError>
+    ensures rule { IfOk result (λ seeds. rule_of seeds ≡ seeds_rule) }
+    ensures local { IfOk result (λ seeds. seeds.global ≡ false) }
+{
+    value_option(alloc, "seeds", "The seeds that --find tries, from A to B")
+        .value_name("A..B")
+        .requires_arg("find")
 }

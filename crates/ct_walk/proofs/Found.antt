@@ -1,0 +1,66 @@
+-- What is read of the options that `clap` found.
+use Rattle.std.specs.Borrow.{Bor}
+use Rattle.std.specs.Prelude.{◌≡◌, ◌≢◌, ◌≤◌, ◌<◌, ℕ, Bool, true, false, List, [], ◌∷◌, get_or, length, map, codes}
+use Rattle.std.specs.Prelude.{Option, Some, None, option_map}
+use Rattle.std.specs.Str.{bytes_eq}
+use Rattle.std.proofs.Common.{◌∙◌, ap, ap₂, arith, refl}
+use Rattle.std.proofs.lemmas.Slice.Eq.{bytes_eq-Decides}
+use Rattle.clap.specs.Words.{Text, first_value, matched_of, raw_values, rows_of}
+use Rattle.clap.specs.declared.parser.matches.Found.{Found}
+use Rattle.clap.proofs.WalkLemmas.{first_value-rows, raw_values-rows}
+use Rattle.ct_program.specs.Line.{◌>>=◌, whole_in}
+use Rattle.ct_walk.specs.declared.call.Call.{Call}
+use Rattle.ct_walk.specs.declared.call.Call.TheVariants.{Walk, Find}
+use Rattle.ct_walk.specs.declared.call.Seeds.{Seeds}
+use Rattle.ct_walk.specs.declared.options.WalkOptions.{WalkOptions}
+use Rattle.ct_walk.specs.declared.sight.Sight.{Sight}
+use Rattle.ct_walk.specs.Line.{call_with, given_sight, seeds_of, sight_in, sight_of, walk_call, walk_options}
+
+pub no_sight : (f : Found) (name : Text) → None ≡ option_map raw_values (matched_of f name) → Some None ≡ sight_in (rows_of f) name
+no_sight f name none = ap given_sight (none ∙ raw_values-rows f name)
+
+pub some_sight : (f : Found) (name : Text) (texts : List Text) (sight : Option Sight) →
+    Some texts ≡ option_map raw_values (matched_of f name) → sight ≡ sight_of texts → option_map Some sight ≡ sight_in (rows_of f) name
+some_sight f name texts sight some is = ap (option_map Some) is ∙ ap given_sight (some ∙ raw_values-rows f name)
+
+abbrev the_none : Option Sight
+the_none = None
+
+is_other : (kind word : Text) → kind ≢ word → bytes_eq kind word ≡ false
+is_other kind word other = go (bytes_eq kind word) refl
+  where
+    go : (b : Bool) → bytes_eq kind word ≡ b → bytes_eq kind word ≡ false
+    go false e = e
+    go true e = absurd (other ((bytes_eq-Decides kind word).0 e))
+
+other_kind : (kind number : Text) → kind ≢ codes "round" → kind ≢ codes "decided" → None ≡ sight_of (kind ∷ number ∷ [])
+other_kind kind number round decided =
+    rw (is_other kind (codes "decided") decided, is_other kind (codes "round") round) (go (whole_in 1 4294967295 number))
+  where
+    go : (n : Option ℕ) → None ≡ (n >>= λ n. the_none)
+    go None = refl
+    go (Some n) = refl
+
+-- two texts of which the first is neither word
+pub other_texts : (texts : List (Bor (List ℕ))) (d : Bor (List ℕ)) → 2 ≤ length texts → length texts < 3 →
+    (get_or texts 0 d).now ≢ codes "round" → (get_or texts 0 d).now ≢ codes "decided" → None ≡ sight_of (map (λ text. text.now) texts)
+other_texts [] d many few round decided = absurd (omega arith)
+other_texts (a ∷ []) d many few round decided = absurd (omega arith)
+other_texts (a ∷ b ∷ []) d many few round decided = other_kind a.now b.now round decided
+other_texts (a ∷ b ∷ c ∷ texts) d many few round decided = absurd (omega arith)
+
+pub one_walk : (f : Found) (options : Option WalkOptions) → None ≡ first_value f (codes "seeds") →
+    options ≡ walk_options (rows_of f) (codes "until") → option_map Walk options ≡ walk_call (rows_of f)
+one_walk f options none is = ap (option_map Walk) is ∙ ap (call_with (rows_of f)) (none ∙ first_value-rows f (codes "seeds"))
+
+abbrev pub tries : Option Seeds → Option WalkOptions → Option Call
+tries seeds options = do
+  some ← seeds
+  walk ← options
+  Some (Find walk some)
+
+pub many_walks : (f : Found) (text : Text) (seeds : Option Seeds) (options : Option WalkOptions) →
+    Some text ≡ first_value f (codes "seeds") → seeds ≡ seeds_of text → options ≡ walk_options (rows_of f) (codes "find") →
+    tries seeds options ≡ walk_call (rows_of f)
+many_walks f text seeds options some seeds_are is =
+    ap₂ tries seeds_are is ∙ ap (call_with (rows_of f)) (some ∙ first_value-rows f (codes "seeds"))
