@@ -11,7 +11,8 @@ returns c =
     ap app_of_fields c.after_help.ensures ∙ ap app_of_fields c.about.ensures ∙ c.new.ensures.app in
     let file = with_option _ _ _ _ _ c.in_ok-arg.ensures c.file_argument.ensures.local start c.file_argument.ensures.rule in
     let from = with_option _ _ _ _ _ c.in_ok-arg-2.ensures c.default_option.ensures.local file c.default_option.ensures.rule in
-    let to = with_option _ _ _ _ _ c.in_ok-arg-3.ensures
-    (ap (λ a. a.global) c.hide_default_value.ensures ∙ c.default_option-2.ensures.local) from (ap rule_of c.hide_default_value.ensures ∙ c.default_option-2.ensures.rule) in
+    let to_local = ap (λ a. a.global) c.hide_default_value.ensures ∙ c.default_option-2.ensures.local in
+    let to_is = ap rule_of c.hide_default_value.ensures ∙ c.default_option-2.ensures.rule in
+    let to = with_option _ _ _ _ _ c.in_ok-arg-3.ensures to_local from to_is in
     IfOk-weaker c.arg-4.result _ _ (λ r adds. with_option _ _ _ _ _ adds c.value_option.ensures.local to c.value_option.ensures.rule)
     c.arg-4.ensures
