@@ -7,7 +7,7 @@ ghost use Rattle.ct_diagram.specs.Window.{window_of};
 
 use crate::window::Window;
 use clap::{ArgMatches, Command};
-use ct_program::{default_option, file_argument, option_in};
+use ct_program::{default_option, file_argument, option_in, subcommand};
 use std::alloc::{AllocError, Global};
 
 // What stands after the options.
@@ -38,26 +38,27 @@ pub fn diagram_window(found: &ArgMatches<'_>) -> Option<Window>
 pub fn diagram_command<'a>(alloc: Global) -> Result<Command<'a>, AllocError>
     ensures { IfOk result (λ command. app_of command ≡ diagram_app) }
 {
-    Command::new(alloc, "diagram")
-        .about(
-            "Replays a record and writes a picture of at most 400 of its steps as SVG: a line for each member, an arrow for each envelope",
-        )
-        .after_help(AFTER)
-        .arg(file_argument(
-            alloc,
-            "The file that the record stands in; - for standard input",
-        ))?
-        .arg(default_option(
-            alloc,
-            "from",
-            "1",
-            "The number of the first step that is drawn, from 1 on",
-        ))?
-        .arg(default_option(
-            alloc,
-            "to",
-            "4294967295",
-            "The number of the last step that is drawn",
-        )
-        .hide_default_value(true))
+    subcommand(
+        alloc,
+        "diagram",
+        "Replays a record and writes a picture of at most 400 of its steps as SVG: a line for each member, an arrow for each envelope",
+        AFTER,
+    )
+    .arg(file_argument(
+        alloc,
+        "The file that the record stands in; - for standard input",
+    ))?
+    .arg(default_option(
+        alloc,
+        "from",
+        "1",
+        "The number of the first step that is drawn, from 1 on",
+    ))?
+    .arg(default_option(
+        alloc,
+        "to",
+        "4294967295",
+        "The number of the last step that is drawn",
+    )
+    .hide_default_value(true))
 }

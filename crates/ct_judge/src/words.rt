@@ -5,7 +5,7 @@ ghost use Rattle.clap.specs.Words.{app_of};
 ghost use Rattle.ct_judge.specs.Line.{interact_app, record_app};
 
 use clap::Command;
-use ct_program::{file_argument, value_option};
+use ct_program::{file_argument, subcommand, value_option};
 use std::alloc::{AllocError, Global};
 
 // What stands after the options of `interact`.
@@ -52,26 +52,32 @@ Status:
 pub fn interact_command<'a>(alloc: Global) -> Result<Command<'a>, AllocError>
     ensures { IfOk result (λ command. app_of command ≡ interact_app) }
 {
-    Command::new(alloc, "interact")
-        .about("Judges the lines on standard input as they come, and answers each with one line")
-        .after_help(AFTER_INTERACT)
-        .arg(value_option(
-            alloc,
-            "record",
-            "Writes the record of the session to this file in the end",
-        )
-        .value_name("FILE"))
+    subcommand(
+        alloc,
+        "interact",
+        "Judges the lines on standard input as they come, and answers each with one line",
+        AFTER_INTERACT,
+    )
+    .arg(value_option(
+        alloc,
+        "record",
+        "Writes the record of the session to this file in the end",
+    )
+    .value_name("FILE"))
 }
 
 /// The subcommand `record`.
 pub fn record_command<'a>(alloc: Global) -> Result<Command<'a>, AllocError>
     ensures { IfOk result (λ command. app_of command ≡ record_app) }
 {
-    Command::new(alloc, "record")
-        .about("Judges a schedule line by line and writes its record as JSON to standard output")
-        .after_help(AFTER_RECORD)
-        .arg(file_argument(
-            alloc,
-            "The file that the schedule stands in; - for standard input",
-        ))
+    subcommand(
+        alloc,
+        "record",
+        "Judges a schedule line by line and writes its record as JSON to standard output",
+        AFTER_RECORD,
+    )
+    .arg(file_argument(
+        alloc,
+        "The file that the schedule stands in; - for standard input",
+    ))
 }

@@ -47,7 +47,7 @@ pub use separator::push_separator;
 pub use sink::Sink;
 pub use source::Source;
 pub use words::{
-    default_option, file_argument, found_options, line, number_in, option_in, value_option,
-    with_free_options,
+    default_option, file_argument, found_options, line, number_in, option_in, subcommand,
+    value_option, with_free_options,
 };
 pub use writing::write_record;

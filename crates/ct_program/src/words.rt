@@ -1,7 +1,7 @@
 //! The words of a command line.
 
 ghost use Rattle.std.specs.Prelude.{◌≡◌, ◌≤◌, ℕ, List, [], ◌∷◌, false, fold, map, codes, Some, None, Err, OnOk, IfOk, IfErr, IfSome};
-ghost use Rattle.clap.specs.Words.{app_of, found_of, rows_of, rule_of, with_rule};
+ghost use Rattle.clap.specs.Words.{app_of, found_of, new_app, rows_of, rule_of, with_rule};
 ghost use Rattle.ct_program.specs.FreeOptions.{FreeInRange, InRange};
 ghost use Rattle.ct_program.specs.Line.{program, free_app, free_rules, file_rule, option_rule, required_rule, value_rule};
 ghost use Rattle.ct_program.specs.Line.{faults_of, call_of, option_in, options_of, whole_in, IsOfKind, IsMemory};
@@ -90,11 +90,12 @@ const STATUSES: &str = "Status:
 fn command<'a>(alloc: Global) -> Result<Command<'a>, AllocError>
     ensures { IfOk result (λ command. app_of command ≡ program) }
 {
-    let replay = Command::new(alloc, "replay")
-        .about(
-            "Reads a record from standard input, replays it and writes the report to standard output",
-        )
-        .after_help(STATUSES);
+    let replay = subcommand(
+        alloc,
+        "replay",
+        "Reads a record from standard input, replays it and writes the report to standard output",
+        STATUSES,
+    );
     Command::new(alloc, "ct")
         .version("0.1.0")
         .about("Rehearses a group of members that broadcast commands to one another")
@@ -161,6 +162,13 @@ const OPTIONS: [(&str, &str, &str); 9] = [
         "How many messages a member proposes at most for an instance, 1 to 1048560",
     ),
 ];
+
+/// A subcommand that has no argument yet: its name, what it does, and what its help ends with.
+pub fn subcommand<'a>(alloc: Global, name: &'a str, about: &'a str, after: &'a str) -> Command<'a>
+    ensures { app_of result ≡ new_app name.entry.now }
+{
+    Command::new(alloc, name).about(about).after_help(after)
+}
 
 /// The argument `file` of a subcommand, which is `-` where none is given: standard input.
 pub fn file_argument<'a>(alloc: Global, help: &'a str) -> Arg<'a>

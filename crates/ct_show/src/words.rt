@@ -9,7 +9,7 @@ use crate::selection::Selection;
 use crate::view::View;
 use clap::{Arg, ArgAction, ArgMatches, Command};
 use ct_names::{MAX_MEMBERS, Member};
-use ct_program::{default_option, file_argument, number_in, option_in, value_option};
+use ct_program::{default_option, file_argument, number_in, option_in, subcommand, value_option};
 use std::alloc::{AllocError, Global};
 
 // The help of the argument `file`.
@@ -102,18 +102,19 @@ pub fn state_view(found: &ArgMatches<'_>) -> Option<View>
 pub fn check_command<'a>(alloc: Global) -> Result<Command<'a>, AllocError>
     ensures { IfOk result (λ command. app_of command ≡ check_app) }
 {
-    Command::new(alloc, "check")
-        .about(
-            "Replays records, and writes a line for each that is refused: the file and the fault",
-        )
-        .after_help(AFTER_CHECK)
-        .arg(files(alloc))?
-        .arg(flag(
-            alloc,
-            "expect-reports",
-            "Compares each report with the one beside the record: NAME.report beside NAME.json",
-        ))?
-        .arg(flag(alloc, "quiet", "Writes no line"))
+    subcommand(
+        alloc,
+        "check",
+        "Replays records, and writes a line for each that is refused: the file and the fault",
+        AFTER_CHECK,
+    )
+    .arg(files(alloc))?
+    .arg(flag(
+        alloc,
+        "expect-reports",
+        "Compares each report with the one beside the record: NAME.report beside NAME.json",
+    ))?
+    .arg(flag(alloc, "quiet", "Writes no line"))
 }
 
 // One file or several.
@@ -142,57 +143,62 @@ fn flag<'a>(alloc: Global, name: &'a str, help: &'a str) -> Arg<'a>
 pub fn report_command<'a>(alloc: Global) -> Result<Command<'a>, AllocError>
     ensures { IfOk result (λ command. app_of command ≡ report_app) }
 {
-    Command::new(alloc, "report")
-        .about("Replays a record and writes the report as JSON to standard output")
-        .after_help(AFTER_REPORT)
-        .arg(file_argument(alloc, FILE))
+    subcommand(
+        alloc,
+        "report",
+        "Replays a record and writes the report as JSON to standard output",
+        AFTER_REPORT,
+    )
+    .arg(file_argument(alloc, FILE))
 }
 
 /// The subcommand `state`.
 pub fn state_command<'a>(alloc: Global) -> Result<Command<'a>, AllocError>
     ensures { IfOk result (λ command. app_of command ≡ state_app) }
 {
-    Command::new(alloc, "state")
-        .about(
-            "Replays the first steps of a record and writes where each member stands, what waits for it, and what it may do next",
-        )
-        .after_help(AFTER_STATE)
-        .arg(file_argument(alloc, FILE))?
-        .arg(default_option(
-            alloc,
-            "after",
-            "4294967295",
-            "How many steps are replayed; all by default",
-        )
-        .hide_default_value(true))
+    subcommand(
+        alloc,
+        "state",
+        "Replays the first steps of a record and writes where each member stands, what waits for it, and what it may do next",
+        AFTER_STATE,
+    )
+    .arg(file_argument(alloc, FILE))?
+    .arg(default_option(
+        alloc,
+        "after",
+        "4294967295",
+        "How many steps are replayed; all by default",
+    )
+    .hide_default_value(true))
 }
 
 /// The subcommand `steps`.
 pub fn steps_command<'a>(alloc: Global) -> Result<Command<'a>, AllocError>
     ensures { IfOk result (λ command. app_of command ≡ steps_app) }
 {
-    Command::new(alloc, "steps")
-        .about(
-            "Replays a record and writes a line for each step: its number, its member, what it read and what it sent",
-        )
-        .after_help(AFTER_STEPS)
-        .arg(file_argument(alloc, FILE))?
-        .arg(default_option(
-            alloc,
-            "from",
-            "1",
-            "The number of the first step that is shown, from 1 on",
-        ))?
-        .arg(default_option(
-            alloc,
-            "to",
-            "4294967295",
-            "The number of the last step that is shown",
-        )
-        .hide_default_value(true))?
-        .arg(value_option(
-            alloc,
-            "member",
-            "Shows the steps of this member alone, 1 to 16",
-        ))
+    subcommand(
+        alloc,
+        "steps",
+        "Replays a record and writes a line for each step: its number, its member, what it read and what it sent",
+        AFTER_STEPS,
+    )
+    .arg(file_argument(alloc, FILE))?
+    .arg(default_option(
+        alloc,
+        "from",
+        "1",
+        "The number of the first step that is shown, from 1 on",
+    ))?
+    .arg(default_option(
+        alloc,
+        "to",
+        "4294967295",
+        "The number of the last step that is shown",
+    )
+    .hide_default_value(true))?
+    .arg(value_option(
+        alloc,
+        "member",
+        "Shows the steps of this member alone, 1 to 16",
+    ))
 }

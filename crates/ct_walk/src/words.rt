@@ -11,7 +11,8 @@ use crate::options::WalkOptions;
 use crate::sight::Sight;
 use clap::{Arg, ArgMatches, Command};
 use ct_program::{
-    default_option, found_options, number_in, option_in, value_option, with_free_options,
+    default_option, found_options, number_in, option_in, subcommand, value_option,
+    with_free_options,
 };
 use std::alloc::{AllocError, Global};
 
@@ -104,11 +105,12 @@ fn seeds(text: &str) -> Option<Seeds>
 pub fn walk_command<'a>(alloc: Global) -> Result<Command<'a>, AllocError>
     ensures { IfOk result (λ command. app_of command ≡ walk_app) }
 {
-    let command = Command::new(alloc, "walk")
-        .about(
-            "Runs a group of members in one thread, each turn's member drawn from the seed, and writes the record of the run to standard output; the same options give the same record",
-        )
-        .after_help(AFTER);
+    let command = subcommand(
+        alloc,
+        "walk",
+        "Runs a group of members in one thread, each turn's member drawn from the seed, and writes the record of the run to standard output; the same options give the same record",
+        AFTER,
+    );
     with_free_options(alloc, command, TURNS)?
         .arg(every(alloc))?
         .arg(sight_arg(

@@ -1,15 +1,12 @@
-use Rattle.std.proofs.Common.{codes, ap, ◌≡◌, ◌∙◌}
+use Rattle.std.proofs.Common.{ap, ◌∙◌}
 use Rattle.std.proofs.lemmas.Result.{IfOk-weaker}
-use Rattle.clap.specs.Words.{app_of, new_app, rule_of}
-use Rattle.clap.specs.Simple.{app_of_fields}
+use Rattle.clap.specs.Words.{rule_of}
 use Rattle.ct_program.proofs.Lines.{with_option}
 use Rattle.ct_diagram.proofs.words.diagram_command.Goals as goal
 
 pub returns : goal.returns
 returns c =
-    let start : app_of c.after_help.result ≡ new_app (codes "diagram") =
-    ap app_of_fields c.after_help.ensures ∙ ap app_of_fields c.about.ensures ∙ c.new.ensures.app in
-    let file = with_option _ _ _ _ _ c.in_ok-arg.ensures c.file_argument.ensures.local start c.file_argument.ensures.rule in
+    let file = with_option _ _ _ _ _ c.in_ok-arg.ensures c.file_argument.ensures.local c.subcommand.ensures c.file_argument.ensures.rule in
     let from = with_option _ _ _ _ _ c.in_ok-arg-2.ensures c.default_option.ensures.local file c.default_option.ensures.rule in
     IfOk-weaker c.arg-3.result _ _ (λ r adds. with_option _ _ _ _ _ adds
     (ap (λ a. a.global) c.hide_default_value.ensures ∙ c.default_option-2.ensures.local) from

@@ -1,15 +1,10 @@
-use Rattle.std.proofs.Common.{codes, ap, ◌≡◌, ◌∙◌}
 use Rattle.std.proofs.lemmas.Result.{IfOk-weaker}
-use Rattle.clap.specs.Words.{app_of, new_app}
-use Rattle.clap.specs.Simple.{app_of_fields}
 use Rattle.ct_program.proofs.Lines.{with_option}
 use Rattle.ct_show.proofs.words.check_command.Goals as goal
 
 pub returns : goal.returns
 returns c =
-    let start : app_of c.after_help.result ≡ new_app (codes "check") =
-    ap app_of_fields c.after_help.ensures ∙ ap app_of_fields c.about.ensures ∙ c.new.ensures.app in
-    let files = with_option _ _ _ _ _ c.in_ok-arg.ensures c.files.ensures.local start c.files.ensures.rule in
+    let files = with_option _ _ _ _ _ c.in_ok-arg.ensures c.files.ensures.local c.subcommand.ensures c.files.ensures.rule in
     let reports = with_option _ _ _ _ _ c.in_ok-arg-2.ensures c.flag.ensures.local files c.flag.ensures.rule in
     IfOk-weaker c.arg-3.result _ _ (λ r adds. with_option _ _ _ _ _ adds c.flag-2.ensures.local reports c.flag-2.ensures.rule)
     c.arg-3.ensures

@@ -1,17 +1,14 @@
 use Rattle.std.specs.Prelude.{fold}
-use Rattle.std.proofs.Common.{codes, ap, ◌≡◌, ◌∙◌}
+use Rattle.std.proofs.Common.{ap, ◌∙◌}
 use Rattle.std.proofs.lemmas.Result.{IfOk-weaker}
-use Rattle.clap.specs.Words.{app_of, new_app, with_rule}
-use Rattle.clap.specs.Simple.{app_of_fields}
+use Rattle.clap.specs.Words.{with_rule}
 use Rattle.ct_program.specs.Line.{free_rules}
 use Rattle.ct_program.proofs.Lines.{with_option}
 use Rattle.ct_walk.proofs.words.walk_command.Goals as goal
 
 pub returns : goal.returns
 returns c =
-    let start : app_of c.after_help-command.result ≡ new_app (codes "walk") =
-    ap app_of_fields c.after_help-command.ensures ∙ ap app_of_fields c.about.ensures ∙ c.new.ensures.app in
-    let run = c.in_ok-with_free_options.ensures ∙ ap (λ app. fold with_rule app free_rules) start in
+    let run = c.in_ok-with_free_options.ensures ∙ ap (λ app. fold with_rule app free_rules) c.subcommand-command.ensures in
     let every = with_option _ _ _ _ _ c.in_ok-arg.ensures c.every.ensures.local run c.every.ensures.rule in
     let until = with_option _ _ _ _ _ c.in_ok-arg-2.ensures c.sight_arg.ensures.local every c.sight_arg.ensures.rule in
     let find = with_option _ _ _ _ _ c.in_ok-arg-3.ensures c.in_ok-find_arg.ensures.local until c.in_ok-find_arg.ensures.rule in
