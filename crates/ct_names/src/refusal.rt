@@ -34,7 +34,7 @@ pub enum Refusal {
     NoProposal,
     /// The round's proposal was received.
     HasProposal,
-    /// The member has no decision for the open instance.
+    /// The member has no decision for the open instance, or, for Follow, none for the instance after its last one.
     Undecided,
     /// A register of the command is 16 or more.
     BadCommand,
