@@ -17,19 +17,20 @@ pub record IsLocked (s : Setting) (g : State) (instance round : ℕ) (value : Va
   pub proposed : IsIn (Prop instance round value) (wires g)
   pub acked : IsMajority s.members (ackers (wires g) instance round)
 
--- some member proposed the value for the instance
-pub record IsProposed (g : State) (instance : ℕ) (value : Value) : Type 0 where
+-- some member of the group proposed the value for the instance
+pub record IsProposed (s : Setting) (g : State) (instance : ℕ) (value : Value) : Type 0 where
   pub by : ℕ
+  pub member : IsMember s.members by
   pub is_in : IsIn (record { member = by; instance = instance; value = value }) g.proposals
 
 abbrev pub delivered_by : State → ℕ → List Message
 delivered_by g p = delivered (member g p)
 
--- two decisions of one instance are equal, and a decision was proposed for its instance
+-- two decisions of one instance are equal, and a member proposed a decision for its instance
 pub record IsAgreed (s : Setting) (g : State) : Type 0 where
   pub agreed : (p q instance : ℕ) (v w : Value) → IsMember s.members p → IsMember s.members q → HasDecided g p instance v →
       HasDecided g q instance w → v ≡ w
-  pub proposed : (p instance : ℕ) (v : Value) → IsMember s.members p → HasDecided g p instance v → IsProposed g instance v
+  pub proposed : (p instance : ℕ) (v : Value) → IsMember s.members p → HasDecided g p instance v → IsProposed s g instance v
 
 -- what is safe: decisions are agreed on and were proposed; of two delivered sequences one begins the other, also batch
 -- by batch, no message stands twice in one, and each was submitted; no batch has more messages than the bound

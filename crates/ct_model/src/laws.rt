@@ -52,11 +52,11 @@ pub fn law_agreement()
         IsMember s.members p → IsMember s.members q → HasDecided g p instance v → HasDecided g q instance w → v ≡ w }
 {}
 
-/// Uniform validity of consensus (Chandra and Toueg, section 6), and integrity of atomic broadcast (section 7): a
-/// decision was proposed for its instance, and what a member delivered was submitted.
+/// Uniform validity of consensus (Chandra and Toueg, section 6), and integrity of atomic broadcast (section 7): some
+/// member of the group proposed a decision for its instance, and what a member delivered was submitted.
 pub fn law_validity()
     ensures proposed { (s : Setting) (steps : List Step) (g : State) → run s steps ≡ Some g → (p instance : ℕ) (v : Value) →
-        IsMember s.members p → HasDecided g p instance v → IsProposed g instance v }
+        IsMember s.members p → HasDecided g p instance v → IsProposed s g instance v }
     ensures submitted { (s : Setting) (steps : List Step) (g : State) → run s steps ≡ Some g → (p : ℕ) (m : Message) →
         IsMember s.members p → IsIn m (delivered_by g p) → IsIn m g.submitted }
 {}

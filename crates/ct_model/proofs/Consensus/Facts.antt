@@ -57,7 +57,7 @@ pub record IsPicked (s : Setting) (g : State) (k r : ℕ) (v : Value) : Type 0 w
 pub record IsFoundedEst (s : Setting) (g : State) (k r q : ℕ) (v : Value) (ts : ℕ) : Type 0 where
   pub sender : IsMember s.members q
   pub reached : Reached (member g q) k (HasRound r)
-  pub proposed : IsProposed g k v
+  pub proposed : IsProposed s g k v
   pub carried : 0 < ts → IsCarried g k ts r v
 
 -- why a proposal was sent
@@ -65,7 +65,7 @@ pub record IsFoundedProp (s : Setting) (g : State) (k r : ℕ) (v : Value) : Typ
   pub first : 1 ≤ r
   pub sender : IsMember s.members (coordinator s.members r)
   pub reached : Reached (member g (coordinator s.members r)) k (HasChosen r)
-  pub proposed : IsProposed g k v
+  pub proposed : IsProposed s g k v
   pub picked : IsPicked s g k r v
 
 -- why an ack was sent
@@ -89,7 +89,7 @@ pub record IsSound (s : Setting) (g : State) (q k : ℕ) (c : Standing) : Type 0
   pub started : is_rest c.phase ≡ false → 1 ≤ c.round
   pub gathers : is_gather c.phase ≡ true → coordinator s.members c.round ≡ q
   pub tallies : is_tally c.phase ≡ true → coordinator s.members c.round ≡ q
-  pub proposed : IsProposed g k c.estimate
+  pub proposed : IsProposed s g k c.estimate
   pub carried : 0 < c.ts → IsCarried g k c.ts (c.round + 1) c.estimate
   pub waits_own : is_wait c.phase ≡ true → coordinator s.members c.round ≡ q → Sent g (Prop k c.round c.estimate)
   pub tallies_own : is_tally c.phase ≡ true → Sent g (Prop k c.round c.estimate)

@@ -65,8 +65,12 @@ acked-more xs ys sub k r p h =
     Lists.list_any-found (is_ack k r p) f.item ys (sub f.item f.is_in) f.passes
 
 module _ (s : Setting) (g h : State) (up : Grows s g h) where
-  pub IsProposed-grows : (k : ℕ) (v : Value) → IsProposed g k v → IsProposed h k v
-  IsProposed-grows k v f = record { by = f.by; is_in = up.proposals (record { member = f.by; instance = k; value = v }) f.is_in }
+  pub IsProposed-grows : (k : ℕ) (v : Value) → IsProposed s g k v → IsProposed s h k v
+  IsProposed-grows k v f = record {
+    by = f.by;
+    member = f.member;
+    is_in = up.proposals (record { member = f.by; instance = k; value = v }) f.is_in;
+  }
 
   pub IsCarried-grows : (k ts bound : ℕ) (v : Value) → IsCarried g k ts bound v → IsCarried h k ts bound v
   IsCarried-grows k ts bound v f =

@@ -85,7 +85,7 @@ agreed s g holds p q k v w isp isq a b =
     ]
 
 pub decided_proposed : (s : Setting) (g : State) → Holds s g → (p k : ℕ) (v : Value) → IsMember s.members p → HasDecided g p k v →
-    IsProposed g k v
+    IsProposed s g k v
 decided_proposed s g holds p k v is h =
     let x = settled s g holds p k v is h in
     let f : IsFoundedProp s g k x.round v = holds.founded (Prop k x.round v) x.lock.proposed in
@@ -102,7 +102,7 @@ pub agreement : (s : Setting) (steps : List Step) (g : State) → run s steps �
 agreement s steps g e = agreed s g (Holds-run s steps g e)
 
 pub validity : (s : Setting) (steps : List Step) (g : State) → run s steps ≡ Some g → (p instance : ℕ) (v : Value) → IsMember s.members p →
-    HasDecided g p instance v → IsProposed g instance v
+    HasDecided g p instance v → IsProposed s g instance v
 validity s steps g e = decided_proposed s g (Holds-run s steps g e)
 
 -- decisions are agreed on, and were proposed

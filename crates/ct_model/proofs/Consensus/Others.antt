@@ -83,7 +83,7 @@ module _ (s : Setting) (g : State) (p : ℕ) (holds : Holds s g) (is : IsMember 
     started = λ x. absurd (cc);
     gathers = λ x. absurd (cc);
     tallies = λ x. absurd (cc);
-    proposed = record { by = p; is_in = Lists.IsIn-append_right _ g.proposals (begin s p m).proposals (inl refl) };
+    proposed = record { by = p; member = is; is_in = Lists.IsIn-append_right _ g.proposals (begin s p m).proposals (inl refl) };
     carried = λ some. absurd (omega arith);
     waits_own = λ x own. absurd (cc);
     tallies_own = λ x. absurd (cc);

@@ -57,7 +57,7 @@ module _ (s : Setting) (g : State) (p : ℕ) (holds : Holds s g) (is : IsMember 
     up = grows s g p (turned (member g p) t) holds is (turns refl c t.after open_at refl onward)
 
     -- what is kept of the estimate
-    still_proposed : (v : Value) → IsProposed g k v → IsProposed h k v
+    still_proposed : (v : Value) → IsProposed s g k v → IsProposed s h k v
     still_proposed = IsProposed-grows s g h up k
 
     still_carried : 0 < c.ts → IsCarried h k c.ts (c.round + 1) c.estimate
@@ -145,7 +145,7 @@ module _ (s : Setting) (g : State) (p : ℕ) (holds : Holds s g) (is : IsMember 
     proposal_sent : Sent then (Prop k c.round e.value)
     proposal_sent = Sent-new s g p (turned (member g p) choosing) (Prop k c.round e.value) is refl
 
-    proposed : IsProposed then k e.value
+    proposed : IsProposed s then k e.value
     proposed =
         let f = holds.founded (Est k c.round e.member e.value e.ts) (estimate_sent e inside) in
         still_proposed choosing choose_onward e.value f.proposed

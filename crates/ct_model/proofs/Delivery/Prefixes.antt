@@ -166,7 +166,7 @@ module _ (s : Setting) (steps : List Step) (g : State) (runs : run s steps ≡ S
       let from : IsOfInstance f a.closed m = from-deliveries f a.closed m (rw a.batches at h) in
       let one : HasDecision (member g p).got from.instance = a.decided from.instance from.first from.closed in
       let inside : IsIn m one.value = rw (decision-is (member g p).got from.instance one.value one.is) at from.is_in in
-      let was : IsProposed g from.instance one.value = agree.proposed p from.instance one.value is one.is in
+      let was : IsProposed s g from.instance one.value = agree.proposed p from.instance one.value is one.is in
       proposes-run s steps g runs (record { member = was.by; instance = from.instance; value = one.value }) was.is_in m inside
 
   -- each member's batches begin the order of the whole group
