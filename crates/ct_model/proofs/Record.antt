@@ -1,8 +1,9 @@
--- The record after one more step: the run, the waiting lines, causes and limits.
+-- The record after one more step: the run, stamps, waiting lines, causes and limits.
 pub mod Runs
 pub mod Members
 pub mod Frame
 pub mod Start
+pub mod Stamps
 pub mod Lines
 pub mod Envelopes
 pub mod Taken

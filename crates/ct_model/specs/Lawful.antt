@@ -1,5 +1,5 @@
 -- What is true of every record that a world keeps.
-use Rattle.std.specs.Prelude.{◌≡◌, ℕ, ◌-◌, ◌<◌, ◌≤◌, Bool, true, false, not, ◌&&◌, ◌||◌, List, [], ◌∷◌, length, fold, slice_get}
+use Rattle.std.specs.Prelude.{◌≡◌, ℕ, ◌-◌, ◌<◌, ◌≤◌, Bool, true, false, not, ◌&&◌, List, [], ◌∷◌, length, slice_get}
 use Rattle.std.specs.Prelude.{is_some, Some}
 use Rattle.ct_names.specs.declared.limit.TheConstants.{MAX_ENVELOPES, MAX_INSTANCES, MAX_ROUNDS, MAX_STEPS, MAX_SUBMISSIONS}
 use Rattle.ct_names.specs.Group.{is_member}
@@ -8,9 +8,10 @@ use Rattle.ct_model.specs.AtValue.{Envelope}
 use Rattle.ct_model.specs.State.{State, member, is_crashed, submissions}
 use Rattle.ct_model.specs.Next.{wire_to}
 use Rattle.ct_model.specs.Run.{run}
-use Rattle.ct_model.specs.Waiting.{has_serial, serials_to, LineChange, line_change, takes, restores}
+use Rattle.ct_model.specs.Waiting.{has_serial, serials_to, LineChange, line_change}
 use Rattle.ct_model.specs.Waiting.LineChange.{Takes, Defers, Restores, Leaves}
 use Rattle.ct_model.specs.Rehearsal.{Rehearsal, state_of, line_of}
+use Rattle.ct_model.specs.Stamps.{is_gone, stamp, IsRising}
 use Rattle.ct_model.specs.Cause.{round_of, order}
 
 -- no number stands twice
@@ -27,23 +28,16 @@ pub record IsWithin (cells : ℕ) (g : State) (steps : ℕ) : Type 0 where
   pub few_batches : length (order g) ≤ cells
   pub few_steps : steps ≤ MAX_STEPS
 
--- whether the serial is gone from p's line after a change, where it was so or not before
-abbrev pub gone_after : ℕ → ℕ → Bool → LineChange → Bool
-gone_after p k gone change = (gone || takes p k change) && not (restores p k change)
-
--- of the steps that take the serial out of p's line or put it back, the last takes it out
-abbrev pub is_gone : ℕ → List Step → ℕ → Bool
-is_gone p steps k = fold (λ gone step. gone_after p k gone (line_change step)) false steps
-
 -- the record is a run that ends in its state, within the limits; and what holds of its waiting lines: no serial is gone
--- before it is sent; what waits are the serials that were sent to the member and aren't gone, each once
+-- before it is sent; what waits are the serials that were sent to the member and aren't gone, each once, by rising stamp
 pub record IsLawful (w : Rehearsal) : Type 0 where
   pub runs : run w.setting w.steps ≡ Some (state_of w)
   pub size : length (state_of w).members ≡ w.setting.members
   pub within : IsWithin w.cells (state_of w) (length w.steps)
-  pub unsent : (p k : ℕ) → length (state_of w).sent < k → is_gone p w.steps k ≡ false
-  pub waits : (p k : ℕ) → has_serial k (line_of w p) ≡ (has_serial k (serials_to p 0 (state_of w).sent) && not (is_gone p w.steps k))
+  pub unsent : (p k : ℕ) → length (state_of w).sent < k → is_gone w p k ≡ false
+  pub waits : (p k : ℕ) → has_serial k (line_of w p) ≡ (has_serial k (serials_to p 0 (state_of w).sent) && not (is_gone w p k))
   pub distinct : (p : ℕ) → is_distinct (line_of w p) ≡ true
+  pub rising : (p : ℕ) → IsRising (stamp w p) (line_of w p)
 
 -- the member is there and up
 pub record IsPresent (w : Rehearsal) (p : ℕ) : Type 0 where

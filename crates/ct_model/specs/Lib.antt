@@ -17,6 +17,7 @@ pub mod Safe
 -- To believe for refusals: a record with its waiting lines, the tests of each step in their order, and the limits.
 pub mod Waiting
 pub mod Rehearsal
+pub mod Stamps
 pub mod Test
 pub mod Faults
 pub mod Cause

@@ -1,5 +1,5 @@
 -- The waiting line of a member: what a step does to it, and what it is after all the steps.
-use Rattle.std.specs.Prelude.{ℕ, ◌+◌, Bool, false, not, ◌&&◌, ◌==◌, if◌then◌else◌, List, [], ◌∷◌, ◌++◌, length, drop, filter}
+use Rattle.std.specs.Prelude.{ℕ, ◌+◌, Bool, not, ◌==◌, if◌then◌else◌, List, [], ◌∷◌, ◌++◌, length, drop, filter}
 use Rattle.std.specs.List.{list_any}
 use Rattle.ct_model.specs.declared.step.Step.{Step}
 use Rattle.ct_model.specs.declared.step.Step.TheVariants.{Receive, Postpone, Lose, Repeat}
@@ -31,16 +31,6 @@ line_change (Postpone p k) = Defers p k
 line_change (Lose p k) = Takes p k
 line_change (Repeat p k) = Restores p k
 line_change _ = Leaves
-
--- it takes this serial out of p's line
-abbrev pub takes : ℕ → ℕ → LineChange → Bool
-takes p k (Takes q i) = (q == p) && (i == k)
-takes p k _ = false
-
--- it puts this serial back into p's line
-abbrev pub restores : ℕ → ℕ → LineChange → Bool
-restores p k (Restores q i) = (q == p) && (i == k)
-restores p k _ = false
 
 -- the line without the serial, and the serial alone where it waits
 abbrev pub without : ℕ → List ℕ → List ℕ

@@ -1,6 +1,6 @@
-//! Laws over the definitions alone: of every group and every list of steps that has a run, of causes, and of ballots.
+//! Laws over the definitions alone: of every group and every list of steps that has a run, of causes, lines and ballots.
 
-ghost use Rattle.std.specs.Prelude.{◌≡◌, ◌⊎◌, ℕ, ◌≤◌, ◌++◌, ◌∷◌, [], List, None, Some, length};
+ghost use Rattle.std.specs.Prelude.{◌≡◌, ◌⊎◌, ℕ, ◌<◌, ◌≤◌, ◌++◌, ◌∷◌, [], List, None, Some, length, not, ◌&&◌, slice_get};
 ghost use Rattle.ct_names.specs.Batch.{Batch};
 ghost use Rattle.ct_names.specs.Group.{IsMember};
 ghost use Rattle.ct_names.specs.Membership.{IsIn, IsWithoutRepeats};
@@ -11,13 +11,15 @@ ghost use Rattle.ct_model.specs.Cause.{cause};
 ghost use Rattle.ct_model.specs.Counted.{NamesSomebody, count_in, no_ballots};
 ghost use Rattle.ct_model.specs.Lawful.{IsLawful};
 ghost use Rattle.ct_model.specs.Received.{ballots, received_by};
-ghost use Rattle.ct_model.specs.Rehearsal.{Rehearsal, empty, extended};
+ghost use Rattle.ct_model.specs.Rehearsal.{Rehearsal, empty, extended, line_of};
 ghost use Rattle.ct_model.specs.Relayed.{HasDecided, IsArrived, HasCaughtUp};
 ghost use Rattle.ct_model.specs.Run.{run};
 ghost use Rattle.ct_model.specs.Setting.{Setting};
 ghost use Rattle.ct_model.specs.Safe.{IsLocked, IsProposed, delivered_by};
 ghost use Rattle.ct_names.specs.Prefix.{IsPrefix};
+ghost use Rattle.ct_model.specs.Stamps.{is_gone, is_sent, stamp};
 ghost use Rattle.ct_model.specs.State.{State, member, wires};
+ghost use Rattle.ct_model.specs.Waiting.{has_serial};
 ghost use Rattle.ct_model.specs.Wire.{Wire};
 ghost use Rattle.ct_model.specs.declared.wire.Wire.TheVariants.{Prop};
 ghost use Rattle.ct_model.specs.declared.step.Step.{Step};
@@ -88,6 +90,16 @@ pub fn law_cause()
     ensures longer { (w : Rehearsal) (step : Step) → IsLawful w → IsAllowed w step → IsLawful (extended w step) }
     ensures allowed { (w : Rehearsal) (step : Step) → IsLawful w → cause w step ≡ None → IsAllowed w step }
     ensures free { (w : Rehearsal) (step : Step) → IsAllowed w step → cause w step ≡ None }
+{}
+
+/// Waiting lines, over all the steps of any record that a world can keep: a member's line has the serials that were sent to
+/// the member and aren't gone, each once, by rising stamp. A serial is gone where the member received or lost it and it
+/// wasn't repeated since; its stamp is the number of the last step that sent it, postponed it or repeated it.
+pub fn law_line()
+    ensures once { (w : Rehearsal) (p : ℕ) → IsLawful w → IsWithoutRepeats (line_of w p) }
+    ensures waiting { (w : Rehearsal) (p k : ℕ) → IsLawful w → has_serial k (line_of w p) ≡ (is_sent w p k && not (is_gone w p k)) }
+    ensures order { (w : Rehearsal) (p i j k l : ℕ) → IsLawful w → slice_get (line_of w p) i ≡ Some k →
+        slice_get (line_of w p) j ≡ Some l → i < j → stamp w p k < stamp w p l }
 {}
 
 /// Ballots that are counted wire by wire are those that are read off all the wires, for any type of values: without

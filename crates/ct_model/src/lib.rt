@@ -12,8 +12,8 @@ mod wire;
 
 pub use envelope::Envelope;
 pub use laws::{
-    law_agreement, law_bound, law_cause, law_count, law_integrity, law_locked, law_prefix,
-    law_relay, law_validity,
+    law_agreement, law_bound, law_cause, law_count, law_integrity, law_line, law_locked,
+    law_prefix, law_relay, law_validity,
 };
 pub use mail::Mail;
 pub use moves::Move;

@@ -1,17 +1,20 @@
 -- Lists of serials: membership, repeats, and those of the envelopes to a member.
 use Rattle.std.proofs.Common.{◌≡◌, ℕ, suc, zero, ◌+◌, ◌-◌, ◌<◌, ◌≤◌, Bool, true, false, List, [], ◌∷◌, ◌++◌, length, map, refl, ap}
-use Rattle.std.proofs.Common.{◌∙◌, arith, append_assoc}
+use Rattle.std.proofs.Common.{◌∙◌, ◌⊎◌, inl, inr, arith, append_assoc}
+use Rattle.std.proofs.lemmas.Bool.{cases_lt}
 use Rattle.std.specs.Prelude.{◌&&◌, ◌||◌, ◌==◌, filter, if◌then◌else◌}
 use Rattle.std.proofs.lemmas.List.Folds.{list_any-append}
 use Rattle.std.proofs.lemmas.List.{length-map}
 use Rattle.std.proofs.lemmas.Bool.Decides.{nat_tests}
 use Rattle.ct_names.specs.Group.{members, counting}
+use Rattle.ct_names.specs.Membership.{IsIn, IsWithoutRepeats}
 use Rattle.ct_names.proofs.Groups.{length-counting}
 use Rattle.ct_model.specs.AtValue.{Envelope}
 use Rattle.ct_model.specs.declared.wire.Wire.{Wire as AnyWire}
 use Rattle.ct_model.specs.declared.envelope.Envelope.{Envelope as AnyEnvelope}
 use Rattle.ct_model.specs.Wire.{envelopes}
-use Rattle.ct_model.specs.declared.mail.Mail.TheVariants.{All}
+use Rattle.ct_model.specs.declared.mail.Mail.{Mail as AnyMail}
+use Rattle.ct_model.specs.declared.mail.Mail.TheVariants.{Nobody, One, All}
 use Rattle.ct_model.specs.Waiting.{has_serial, serials_to}
 use Rattle.ct_model.specs.Lawful.{is_distinct}
 
@@ -33,6 +36,17 @@ is_distinct-append (x ∷ xs) ys dx dy h =
     let rest : is_distinct (xs ++ ys) ≡ true = is_distinct-append xs ys (grind arith) dy (λ k m. h k (grind arith)) in
     let here : has_serial x ys ≡ false = h x (grind (arith, nat_tests)) in
     grind (arith, has_serial-append x xs ys)
+
+-- a list of distinct serials has no repeats
+
+in-has : (k : ℕ) (ks : List ℕ) → IsIn k ks → has_serial k ks ≡ true
+in-has k [] h = absurd h
+in-has k (i ∷ ks) (inl e) = grind (arith, nat_tests)
+in-has k (i ∷ ks) (inr h) = grind (arith, in-has k ks h)
+
+pub distinct-once : (ks : List ℕ) → is_distinct ks ≡ true → IsWithoutRepeats ks
+distinct-once [] h = tt
+distinct-once (k ∷ ks) h = (λ again. let m = in-has k ks again in absurd (grind arith), distinct-once ks (grind arith))
 
 -- the serials of a list of envelopes, in two parts
 pub serials_to-append : (p before : ℕ) (xs ys : List Envelope) →
@@ -56,6 +70,10 @@ serials_to-distinct p before [] = refl
 serials_to-distinct p before (e ∷ es) =
     grind (arith, serials_to-within p (before + 1) (before + 1) es, serials_to-distinct p (before + 1) es)
 
+-- the list is empty, or has one serial
+abbrev pub HasOne : List ℕ → Type 0
+HasOne ks = (ks ≡ []) ⊎ ((k : ℕ) × (ks ≡ k ∷ []))
+
 -- one wire to all
 module _ {V : Type 0} (w : AnyWire V) where
   abbrev letter : ℕ → AnyEnvelope V
@@ -64,6 +82,10 @@ module _ {V : Type 0} (w : AnyWire V) where
   none_below : (p before a n : ℕ) → p < a → serials_to p before (map letter (counting a n)) ≡ []
   none_below p before a zero h = refl
   none_below p before a (suc n) h = grind (arith, none_below p (before + 1) (a + 1) n (omega arith))
+
+  none_above : (p before a n : ℕ) → a + n ≤ p → serials_to p before (map letter (counting a n)) ≡ []
+  none_above p before a zero h = refl
+  none_above p before a (suc n) h = grind (arith, none_above p (before + 1) (a + 1) n (omega arith))
 
   one_at : (p before a n i : ℕ) → p ≡ a + i → i < n → serials_to p before (map letter (counting a n)) ≡ (before + i + 1) ∷ []
   one_at p before a zero i e h = absurd (omega arith)
@@ -75,6 +97,27 @@ module _ {V : Type 0} (w : AnyWire V) where
   unfolding members
   serials_to-all n p before l h = one_at p before 1 n (p - 1) (omega arith) (omega arith) ∙ ap (λ k. k ∷ []) (omega arith)
 
+  -- and who is none gets none
+  all_at_most : (n p before : ℕ) → HasOne (serials_to p before (envelopes n (All w)))
+  unfolding members
+  all_at_most n p before = elim (cases_lt p 1) [
+    | inl low ↦ inl (none_below p before 1 n low)
+    | inr some ↦ elim (cases_lt n p) [
+      | inl high ↦ inl (none_above p before 1 n (omega arith))
+      | inr within ↦ inr (before + p, serials_to-all n p before some within)
+    ]
+  ]
+
   pub length-all : (n : ℕ) → length (envelopes n (All w)) ≡ n
   unfolding members
   length-all n = length-map (members n) letter ∙ length-counting 1 n
+
+-- a step sends at most one envelope to a member
+pub mail_at_most : {V : Type 0} (n p before : ℕ) (mail : AnyMail V) → HasOne (serials_to p before (envelopes n mail))
+mail_at_most n p before Nobody = inl refl
+mail_at_most n p before (One to w) = go (to == p)
+  where
+    go : (b : Bool) → HasOne ((if b then (before + 1) ∷ [] else []) ++ [])
+    go true = inr (before + 1, refl)
+    go false = inl refl
+mail_at_most n p before (All w) = all_at_most w n p before

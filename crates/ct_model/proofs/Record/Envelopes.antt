@@ -2,13 +2,15 @@
 use Rattle.std.proofs.Common.{◌≡◌, ℕ, zero, suc, ◌+◌, ◌-◌, Bool, true, false, not, List, [], ◌∷◌, ◌++◌, refl, ap, sym, ◌∙◌, subst, arith}
 use Rattle.std.proofs.Common.{Some, inl, inr}
 use Rattle.std.specs.Prelude.{Option, None, is_some, ◌==◌, slice_get, if◌then◌else◌, option_and_then}
+use Rattle.std.specs.Cmp.{both_ways}
 use Rattle.std.proofs.lemmas.Bool.Decides.{nat_tests}
 use Rattle.ct_model.specs.AtValue.{Envelope, Wire}
 use Rattle.ct_model.specs.State.{State, at_serial}
 use Rattle.ct_model.specs.Next.{wire_to, addressed}
 use Rattle.ct_model.specs.Waiting.{serials_to, has_serial}
 use Rattle.ct_model.specs.Rehearsal.{Rehearsal, state_of}
-use Rattle.ct_model.specs.Lawful.{IsLawful, IsLetter, is_gone, is_waiting}
+use Rattle.ct_model.specs.Stamps.{is_gone}
+use Rattle.ct_model.specs.Lawful.{IsLawful, IsLetter, is_waiting}
 use Rattle.ct_model.proofs.Basics.Tests.{and_left, or_left, or_right, or_cases, number_same, same_number}
 use Rattle.ct_model.proofs.Basics.Options.{some-same, some-none, made-then, when-some, when-is}
 use Rattle.ct_model.proofs.Basics.Serials.{has_serial-append}
@@ -70,16 +72,20 @@ sent_serial g p (suc i) h = go (slice_get g.sent i) refl h
 
 -- what waits was sent to p
 pub was_sent : (w : Rehearsal) (p k : ℕ) → IsLawful w → is_waiting w p k ≡ true → has_serial k (serials_to p 0 (state_of w).sent) ≡ true
-was_sent w p k law h = and_left (has_serial k (serials_to p 0 (state_of w).sent)) (not (is_gone p w.steps k)) (sym (law.waits p k) ∙ h)
+was_sent w p k law h = and_left (has_serial k (serials_to p 0 (state_of w).sent)) (not (is_gone w p k)) (sym (law.waits p k) ∙ h)
 
--- and is an envelope to p
-pub waiting_letter : (w : Rehearsal) (p k : ℕ) → IsLawful w → is_waiting w p k ≡ true → (e : Envelope) × IsLetter (state_of w) p k e
-waiting_letter w p k law h =
-    let r = serial_at p 0 k (state_of w).sent (was_sent w p k law h) in
+-- what was sent to p is an envelope to p
+sent_letter : (g : State) (p k : ℕ) → has_serial k (serials_to p 0 g.sent) ≡ true → (e : Envelope) × IsLetter g p k e
+sent_letter g p k h =
+    let r = serial_at p 0 k g.sent h in
     let at : k - 1 ≡ r.0 = omega (arith, r.2.place) in (
       r.1,
       record { there = rw at r.2.there; to = r.2.to; positive = omega (arith, r.2.place) },
     )
+
+-- and so is what waits
+pub waiting_letter : (w : Rehearsal) (p k : ℕ) → IsLawful w → is_waiting w p k ≡ true → (e : Envelope) × IsLetter (state_of w) p k e
+waiting_letter w p k law h = sent_letter (state_of w) p k (was_sent w p k law h)
 
 wire_is : (g : State) (p k : ℕ) (e : Envelope) (i : ℕ) → k ≡ suc i → slice_get g.sent i ≡ Some e → e.to ≡ p → wire_to g p k ≡ Some e.wire
 unfolding wire_to
@@ -88,6 +94,13 @@ wire_is g p k e i at there to = grind (arith, number_same e.to p to)
 -- its wire is what p gets
 pub letter_wire : (g : State) (p k : ℕ) (e : Envelope) → IsLetter g p k e → wire_to g p k ≡ Some e.wire
 letter_wire g p k e l = let positive = l.positive in wire_is g p k e (k - 1) (omega arith) l.there l.to
+
+-- p gets a wire from each serial that was sent to it, and from no other
+pub serial_sent : (g : State) (p k : ℕ) → has_serial k (serials_to p 0 g.sent) ≡ true → is_some (wire_to g p k) ≡ true
+serial_sent g p k h = let l = sent_letter g p k h in ap is_some (letter_wire g p k l.0 l.1)
+
+pub serials_sent : (g : State) (p k : ℕ) → has_serial k (serials_to p 0 g.sent) ≡ is_some (wire_to g p k)
+serials_sent g p k = both_ways (has_serial k (serials_to p 0 g.sent)) (is_some (wire_to g p k)) (serial_sent g p k) (sent_serial g p k)
 
 -- what p gets was sent
 pub record IsSent (g : State) (w : Wire) : Type 0 where

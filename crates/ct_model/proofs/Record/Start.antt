@@ -8,6 +8,7 @@ use Rattle.ct_model.specs.Received.{received, received_by}
 use Rattle.ct_model.specs.Run.{run, run_from}
 use Rattle.ct_model.specs.Waiting.{waiting}
 use Rattle.ct_model.specs.Rehearsal.{empty, state_of, line_of}
+use Rattle.ct_model.specs.Stamps.{is_gone}
 use Rattle.ct_model.specs.Cause.{order, longest, round_of}
 use Rattle.ct_model.specs.Lawful.{IsWithin, IsLawful}
 use Rattle.ct_model.specs.Knowledge.{KnowsMessages}
@@ -65,6 +66,7 @@ unfolding run run_from
 runs-first s cells = ap (λ g. Some g) (sym (state-first s cells))
 
 pub lawful-first : (s : Setting) (cells : ℕ) → IsLawful (empty s cells)
+unfolding is_gone
 lawful-first s cells = record {
   runs = runs-first s cells;
   size = ap (λ (g : State). length g.members) (state-first s cells) ∙ size-first s;
@@ -72,6 +74,7 @@ lawful-first s cells = record {
   unsent = λ p k m. refl;
   waits = λ p k. rw (line-first s cells p, state-first s cells, sent-first s) refl;
   distinct = λ p. rw (line-first s cells p) refl;
+  rising = λ p. rw (line-first s cells p) tt;
 }
 
 pub knows-first : (s : Setting) → KnowsMessages s (first_state s)

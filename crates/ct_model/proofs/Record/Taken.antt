@@ -1,26 +1,33 @@
 -- A step that is taken: what it does to the record, whichever step it is.
-use Rattle.std.proofs.Common.{◌≡◌, ℕ, ◌+◌, ◌<◌, ◌≤◌, Bool, true, false, List, [], ◌∷◌, ◌++◌, length, drop, refl, ap, sym, ◌∙◌, arith}
-use Rattle.std.proofs.Common.{Some, inl, inr}
-use Rattle.std.specs.Prelude.{not, ◌==◌, ◌&&◌, ◌||◌, option_and_then}
+use Rattle.std.proofs.Common.{◌≡◌, ℕ, suc, ◌+◌, ◌<◌, ◌≤◌, Bool, true, false, List, [], ◌∷◌, ◌++◌, length, drop, refl, ap, sym, ◌∙◌, arith}
+use Rattle.std.proofs.Common.{Some, ◌⊎◌, inl, inr, append-nil}
+use Rattle.std.specs.Prelude.{not, ◌==◌, ◌&&◌, ◌||◌, if◌then◌else◌, option_and_then}
 use Rattle.std.proofs.lemmas.List.{drop_at, length_push}
 use Rattle.ct_names.specs.Group.{is_member}
 use Rattle.ct_model.specs.declared.step.Step.{Step}
+use Rattle.ct_model.specs.declared.step.Step.TheVariants.{Postpone, Repeat}
+use Rattle.ct_model.specs.declared.mail.Mail.TheVariants.{Nobody}
 use Rattle.ct_model.specs.Actor.{actor}
-use Rattle.ct_model.specs.AtValue.{Envelope}
+use Rattle.ct_model.specs.AtValue.{Wire, Envelope}
 use Rattle.ct_model.specs.Setting.{Setting}
 use Rattle.ct_model.specs.Wire.{envelopes}
-use Rattle.ct_model.specs.State.{State, member, is_crashed}
-use Rattle.ct_model.specs.Next.{Outcome, row, after, next, stepped}
+use Rattle.ct_model.specs.State.{State, Member, member, is_crashed}
+use Rattle.ct_model.specs.Next.{Outcome, plain, line_row, wire_to, row, after, next, stepped}
 use Rattle.ct_model.specs.Run.{run}
-use Rattle.ct_model.specs.Waiting.{LineChange, has_serial, serials_to, line_change, takes, restores, changed, line_after}
+use Rattle.ct_model.specs.Waiting.{LineChange, has_serial, serials_to, line_change, changed, line_after}
 use Rattle.ct_model.specs.Waiting.LineChange.{Takes, Restores}
 use Rattle.ct_model.specs.Rehearsal.{Rehearsal, state_of, line_of, extended}
-use Rattle.ct_model.specs.Lawful.{is_distinct, is_gone, Waits, IsAway, IsWithin, IsLawful, IsPresent, NamesWaiting}
-use Rattle.ct_model.proofs.Basics.Tests.{and_left, and_right, and_both, and_false, or_cases, not_true, same_number}
+use Rattle.ct_model.specs.Stamps.{is_gone, is_sent, stamp, IsRising}
+use Rattle.ct_model.specs.Lawful.{is_distinct, Waits, IsAway, IsWithin, IsLawful, IsPresent, NamesWaiting}
+use Rattle.ct_model.proofs.Basics.Options.{made-map}
+use Rattle.ct_model.proofs.Basics.Tests.{and_left, and_right, and_both, and_false, or_left, or_right, or_cases, not_true}
+use Rattle.ct_model.proofs.Basics.Tests.{same_number, self_number}
 use Rattle.ct_model.proofs.Record.Runs.{state_of-push, run-push, stepped-next}
-use Rattle.ct_model.proofs.Record.Envelopes.{was_sent, sent_serial}
-use Rattle.ct_model.proofs.Record.Lines.{waiting-push, changed-distinct, changed-has, is_gone-push}
+use Rattle.ct_model.proofs.Record.Envelopes.{was_sent, sent_serial, serial_sent}
+use Rattle.ct_model.proofs.Record.Lines.{waiting-push, changed-distinct, changed-has, changed-rising}
+use Rattle.ct_model.proofs.Record.Stamps.{takes, moves, restores, is_gone-push, is_new, stamp-push, stamp-within, rising-push}
 use Rattle.ct_model.proofs.Basics.Serials.{has_serial-append, is_distinct-append, serials_to-append, serials_to-within, serials_to-distinct}
+use Rattle.ct_model.proofs.Basics.Serials.{mail_at_most}
 use Rattle.ct_model.proofs.Record.Frame.{after-sent, length-after-sent, after-size}
 
 -- the step is allowed after the record, and this is its outcome
@@ -62,6 +69,30 @@ or_back : (old was now back new : Bool) → (new ≡ true → (was ≡ false) ×
     → ((((old && not was) && not now) || back) || new) ≡ ((old || new) && not ((was || now) && not back))
 or_back old was now back new fresh sent = grind arith
 
+-- a number that stays, and one that is new
+number_kept : (after before moved : Bool) (new old : ℕ) → before ≡ true → moved ≡ false
+    → (if (after && not before) || moved then new else old) ≡ old
+number_kept after before moved new old b m = grind arith
+
+number_new : (fresh moved : Bool) (new old : ℕ) → (fresh ≡ true) ⊎ (moved ≡ true) → (if fresh || moved then new else old) ≡ new
+number_new fresh moved new old h = grind arith
+
+-- a step that moves a serial sends nothing
+
+row_silent : (g : State) (p : ℕ) (m : Member) (k : ℕ) (o : Outcome) → line_row g p m k ≡ Some o → o.mail ≡ Nobody
+row_silent g p m k o e = ap (λ (z : Outcome). z.mail) (sym (made-map (λ (w : Wire). plain m Nobody) (wire_to g p k) o e).gives)
+
+moved-silent : (s : Setting) (g : State) (p : ℕ) (m : Member) (q k : ℕ) (step : Step) (o : Outcome) → row s g p m step ≡ Some o →
+    moves q k (line_change step) ≡ true → o.mail ≡ Nobody
+moved-silent s g p m q k (Postpone x i) o e moved = row_silent g p m i o e
+moved-silent s g p m q k (Repeat x i) o e moved = row_silent g p m i o e
+moved-silent s g p m q k _ o e moved = absurd (cc)
+
+-- what waits after a change that doesn't move it waited before
+unmoved : (p k : ℕ) (change : LineChange) (line : List ℕ) → has_serial k (changed p change line) ≡ true → moves p k change ≡ false →
+    has_serial k line ≡ true
+unmoved p k change line m still = grind (arith, changed-has p k change line)
+
 module _ (w : Rehearsal) (step : Step) (o : Outcome) (law : IsLawful w) (taken : IsTaken w step o) where
   sends : List Envelope
   sends = envelopes w.setting.members o.mail
@@ -102,18 +133,18 @@ module _ (w : Rehearsal) (step : Step) (o : Outcome) (law : IsLawful w) (taken :
       ∙ ap (λ b. serials_to p 0 (state_of w).sent ++ serials_to p b (envelopes w.setting.members o.mail)) (omega arith)
 
   -- what it sends wasn't gone, and isn't taken
-  untaken : (p k : ℕ) → length (state_of w).sent < k → (is_gone p w.steps k ≡ false) × (takes p k (line_change step) ≡ false)
+  untaken : (p k : ℕ) → length (state_of w).sent < k → (is_gone w p k ≡ false) × (takes p k (line_change step) ≡ false)
   untaken p k m = (law.unsent p k m, not_early w law (line_change step) taken.names p k m)
 
-  unsent-step : (p k : ℕ) → length h.sent < k → is_gone p (w.steps ++ step ∷ []) k ≡ false
+  unsent-step : (p k : ℕ) → length h.sent < k → is_gone (extended w step) p k ≡ false
   unfolding h
   unsent-step p k m =
       let grown = length-after-sent w.setting (state_of w) (actor step) o in
       let f = untaken p k (omega arith) in
-      is_gone-push p w.steps step k ∙ rw (f.0, f.1) refl
+      is_gone-push w step p k ∙ rw (f.0, f.1) refl
 
   waits-step : (p k : ℕ)
-      → has_serial k (line_of (extended w step) p) ≡ (has_serial k (serials_to p 0 h.sent) && not (is_gone p (w.steps ++ step ∷ []) k))
+      → has_serial k (line_of (extended w step) p) ≡ (has_serial k (serials_to p 0 h.sent) && not (is_gone (extended w step) p k))
   unfolding coming sends
   waits-step p k =
       let old : List ℕ = serials_to p 0 (state_of w).sent in
@@ -125,9 +156,9 @@ module _ (w : Rehearsal) (step : Step) (o : Outcome) (law : IsLawful w) (taken :
         law.waits p k,
         sent_parts p,
         has_serial-append k old (coming p),
-        is_gone-push p w.steps step k,
+        is_gone-push w step p k,
       )
-      (or_back (has_serial k old) (is_gone p w.steps k) now (restores p k (line_change step)) (has_serial k (coming p))
+      (or_back (has_serial k old) (is_gone w p k) now (restores p k (line_change step)) (has_serial k (coming p))
       (λ m. untaken p k (serials_to-within p (length (state_of w).sent) k sends m).0)
       (λ m. sent_serial (state_of w) p k (restored w (line_change step) taken.names p k m).sent))
 
@@ -152,6 +183,60 @@ module _ (w : Rehearsal) (step : Step) (o : Outcome) (law : IsLawful w) (taken :
       let first = serials_to-within p (length (state_of w).sent) k sends b in
       omega arith)))
 
+  -- what waits was sent, so its stamp stays, unless it moves
+  stamp_kept : (p k : ℕ) → has_serial k (line_of w p) ≡ true → moves p k (line_change step) ≡ false
+      → stamp (extended w step) p k ≡ stamp w p k
+  stamp_kept p k m still =
+      stamp-push w step p k
+      ∙ number_kept (is_sent (extended w step) p k) (is_sent w p k) (moves p k (line_change step)) (suc (length w.steps)) (stamp w p k)
+      (serial_sent (state_of w) p k (was_sent w p k law m)) still
+
+  stamp_moved : (p k : ℕ) → moves p k (line_change step) ≡ true → stamp (extended w step) p k ≡ suc (length w.steps)
+  stamp_moved p k m =
+      stamp-push w step p k ∙ number_new (is_new w step p k) (moves p k (line_change step)) (suc (length w.steps)) (stamp w p k) (inr m)
+
+  stamp_sent : (p k : ℕ) → has_serial k (coming p) ≡ true → stamp (extended w step) p k ≡ suc (length w.steps)
+  unfolding coming sends h
+  stamp_sent p k m =
+      let first = serials_to-within p (length (state_of w).sent) k sends m in
+      let now : is_sent (extended w step) p k ≡ true =
+      serial_sent (state_of (extended w step)) p k
+      (rw (state-step, sent_parts p, has_serial-append k (serials_to p 0 (state_of w).sent) (coming p))
+      (or_right (has_serial k (serials_to p 0 (state_of w).sent)) (has_serial k (coming p)) m)) in
+      let before : is_sent w p k ≡ false = not_true (is_sent w p k) (λ sent.
+      let last = sent_within (state_of w) p k (sent_serial (state_of w) p k sent) in
+      omega arith) in
+      stamp-push w step p k
+      ∙ number_new (is_new w step p k) (moves p k (line_change step)) (suc (length w.steps)) (stamp w p k)
+      (inl (and_both (is_sent (extended w step) p k) (not (is_sent w p k)) now (ap not before)))
+
+  changed_small : (p k : ℕ) → coming p ≡ k ∷ [] → (i : ℕ) → has_serial i (changed p (line_change step) (line_of w p)) ≡ true →
+      stamp (extended w step) p i < stamp (extended w step) p k
+  unfolding coming sends
+  changed_small p k one i m =
+      let still : moves p i (line_change step) ≡ false = not_true (moves p i (line_change step)) (λ moved.
+      let silent = moved-silent w.setting (state_of w) (actor step) (member (state_of w) (actor step)) p i step o taken.row moved in
+      let none : coming p ≡ [] = ap (λ mail. serials_to p (length (state_of w).sent) (envelopes w.setting.members mail)) silent in
+      cc) in
+      let waited : has_serial i (line_of w p) ≡ true = unmoved p i (line_change step) (line_of w p) m still in
+      let new = stamp_sent p k (rw one (or_left (k == k) false (self_number k))) in
+      let old = stamp_kept p i waited still in
+      let few = stamp-within w p i in
+      omega arith
+
+  rising-step : (p : ℕ) → IsRising (stamp (extended w step) p) (line_of (extended w step) p)
+  unfolding coming sends
+  rising-step p =
+      let old : IsRising (stamp (extended w step) p) (changed p (line_change step) (line_of w p)) =
+      changed-rising p (line_of w p) (stamp w p) (stamp (extended w step) p) (suc (length w.steps)) (law.distinct p) (law.rising p)
+      (λ k m. let few = stamp-within w p k in omega arith) (line_change step)
+      (λ k m. (restored w (line_change step) taken.names p k m).away) (stamp_kept p) (stamp_moved p) in
+      rw (line-step p) (elim (mail_at_most w.setting.members p (length (state_of w).sent) o.mail) [
+        | inl none ↦ rw (none, append-nil) old
+        | inr one ↦ rw one.1 (rising-push (stamp (extended w step) p) (changed p (line_change step) (line_of w p)) one.0 old
+            (changed_small p one.0 one.1))
+      ])
+
   pub lawful-step : IsLawful (extended w step)
   unfolding h
   lawful-step = record {
@@ -161,4 +246,5 @@ module _ (w : Rehearsal) (step : Step) (o : Outcome) (law : IsLawful w) (taken :
     unsent = λ p k m. unsent-step p k (rw state-step at m);
     waits = λ p k. rw state-step (waits-step p k);
     distinct = distinct-step;
+    rising = rising-step;
   }
