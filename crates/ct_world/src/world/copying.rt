@@ -8,7 +8,7 @@ use ct_names::Refusal;
 use std::alloc::{AllocError, Global};
 
 impl World {
-    /// A world with the same group, cells and record, in which no step is prepared. Only memory can be refused.
+    /// A world with the same group, cells, bound and record, in which no step is prepared. Only memory can be refused.
     pub fn copy(&self, alloc: Global) -> Result<World, Refusal>
         ensures ok { IfOk result (λ world. world ≡ record self.now { prepared = None }) }
         ensures err { IfErr result (λ refusal. refusal ≡ Refusal.OutOfMemory) }

@@ -130,7 +130,7 @@ impl World {
         self.foremost().caster.batches() as u16
     }
 
-    /// The batch of an instance: what its first Deliver delivered; None where there was none.
+    /// The batch of an instance: what its first Deliver or Follow delivered; None where there was none.
     pub fn batch(&self, instance: Instance) -> Option<&[Message]>
         ensures { option_map (λ list. list.now) result ≡ option_map (λ b. b.messages)
             (at_serial (order (state_of self.now.rehearsal)) instance) }
