@@ -252,6 +252,6 @@ module _ {a : Inside} {step : Step} {k : ℕ} {after : Seat → Value → Seat} 
 pub posted_in : (a : Inside) {v : WorldView} {step : Step} {k : ℕ} {after : Seat → Value → Seat} (cells : List ℕ)
     {steps : List Step} {posting : Option Batch} (receipt : Option Posted) → view_in a ≡ v → IsDelivery a step k after → posting ≡ batch_in
     a.prepared → IsSet cells posting receipt
-    → steps ≡ a.record.items ++ step ∷ [] → HasPosted cells v.rehearsal (record (rehearsal_in a) { steps = steps }) receipt
+    → steps ≡ a.steps.items ++ step ∷ [] → HasPosted cells v.rehearsal (record (rehearsal_in a) { steps = steps }) receipt
 posted_in a {step = step} cells receipt view d is set pushed = rw (← view, pushed)
     (has_posted cells (rehearsal_in a) step (batch_in a.prepared) receipt (closed_lawful d.may d.due) d.room.posting (rw is at set))

@@ -23,13 +23,13 @@ use Rattle.ct_world.specs.World.{WorldView, IsDone}
 use Rattle.ct_world.proofs.Members.{member_low, place, seat_found}
 
 abbrev pub rehearsal_in : Inside → Rehearsal
-rehearsal_in a = record { setting = record { members = a.group; bound = a.bound }; cells = a.cells; steps = a.record.items }
+rehearsal_in a = record { setting = record { members = a.group; bound = a.bound }; cells = a.cells; steps = a.steps.items }
 
 abbrev pub view_in : Inside → WorldView
 view_in a = record { rehearsal = rehearsal_in a; prepared = option_map step_in a.prepared }
 
 abbrev pub fields_in : Inside → Fields
-fields_in a = record { network = a.network; book = a.book; seats = a.seats.items; spare_steps = vec_capacity a.record - vec_len a.record }
+fields_in a = record { network = a.network; book = a.book; seats = a.seats.items; spare_steps = vec_capacity a.steps - vec_len a.steps }
 
 abbrev pub IsKeptIn : Inside → Type 0
 IsKeptIn a = IsKept (rehearsal_in a) a.prepared (fields_in a)
@@ -85,7 +85,7 @@ seat_in a {step} {s} p e = seat_found a.seats.items (actor step) s p.within e
 
 -- the step is done, where the record has it at its end
 pub done_in : (a : Inside) {v : WorldView} {step : Step} {o : Outcome} {steps : List Step} {more : ℕ} → view_in a ≡ v →
-    IsAllowedIn a step → steps ≡ a.record.items ++ step ∷ [] → IsTaken (rehearsal_in a) step o → length (envelopes a.group o.mail) ≡ more →
+    IsAllowedIn a step → steps ≡ a.steps.items ++ step ∷ [] → IsTaken (rehearsal_in a) step o → length (envelopes a.group o.mail) ≡ more →
     IsDone v.rehearsal step (record (rehearsal_in a) { steps = steps }) more
 done_in a {v} {step} {o} view p pushed taken number =
     let w : Rehearsal = rehearsal_in a in
@@ -98,6 +98,6 @@ done_in a {v} {step} {o} view p pushed taken number =
     })
 
 -- a world with one step more and none prepared
-pub kept_in : (a : Inside) (step : Step) {steps : List Step} {f : Fields} → steps ≡ a.record.items ++ step ∷ [] →
+pub kept_in : (a : Inside) (step : Step) {steps : List Step} {f : Fields} → steps ≡ a.steps.items ++ step ∷ [] →
     IsWorld (extended (rehearsal_in a) step) f → IsKept (record (rehearsal_in a) { steps = steps }) None f
 kept_in a step pushed world = rw pushed (record { world = world; ready = λ s e. some-none s e })

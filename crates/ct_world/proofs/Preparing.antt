@@ -34,7 +34,7 @@ idle_in a view none world =
 
 -- still no step is prepared
 pub unprepared_in : (a : Inside) {v : WorldView} {steps : List Step} {new : Fields} → view_in a ≡ v → v.prepared ≡ None →
-    steps ≡ a.record.items → IsWorld (rehearsal_in a) new → IsKept (record (rehearsal_in a) { steps = steps }) a.prepared new
+    steps ≡ a.steps.items → IsWorld (rehearsal_in a) new → IsKept (record (rehearsal_in a) { steps = steps }) a.prepared new
 unprepared_in a view none same world = rw same (idle_in a view none world)
 
 -- what a step has that needs no room of its own
@@ -47,7 +47,7 @@ no_room w f prepared _ h = tt
 
 -- the step is prepared, once there is room for it in the record, for what it may send, and its own
 pub kept_ready : (a : Inside) (x : Prepared) {steps : List Step} {new : Fields} → IsAllowedIn a (step_in x)
-    → place_in (Some x) ≡ place_named (rehearsal_in a) (step_in x) → steps ≡ a.record.items → 0 < new.spare_steps
+    → place_in (Some x) ≡ place_named (rehearsal_in a) (step_in x) → steps ≡ a.steps.items → 0 < new.spare_steps
     → new.network.has_room ≡ true → IsWorld (rehearsal_in a) new → HasOwnRoom (rehearsal_in a) new (step_in x) (Some x)
     → IsKept (record (rehearsal_in a) { steps = steps }) (Some x) new
 kept_ready a x {steps} {new} may at same step sending world own = rw same (record {

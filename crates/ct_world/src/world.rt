@@ -48,7 +48,7 @@ pub struct World {
     group: Group,
     cells: u16,
     bound: u32,
-    record: Vec<Step>,
+    steps: Vec<Step>,
     network: Network,
     // The values proposed, in order.
     book: Book,
@@ -68,13 +68,13 @@ impl Model for World {
     ghost use Rattle.ct_world.specs.Kept.{IsKept};
 
     ghost view = { λ a. record {
-      rehearsal = record { setting = record { members = a.group; bound = a.bound }; cells = a.cells; steps = a.record.items };
+      rehearsal = record { setting = record { members = a.group; bound = a.bound }; cells = a.cells; steps = a.steps.items };
       prepared = option_map step_in a.prepared;
     } };
 
     ghost invariant = { λ a. IsKept
-        (record { setting = record { members = a.group; bound = a.bound }; cells = a.cells; steps = a.record.items }) a.prepared
-        (record { network = a.network; book = a.book; seats = a.seats.items; spare_steps = vec_capacity a.record - vec_len a.record }) };
+        (record { setting = record { members = a.group; bound = a.bound }; cells = a.cells; steps = a.steps.items }) a.prepared
+        (record { network = a.network; book = a.book; seats = a.seats.items; spare_steps = vec_capacity a.steps - vec_len a.steps }) };
 }
 
 impl World {
@@ -97,7 +97,7 @@ impl World {
             group,
             cells,
             bound,
-            record: Vec::new(alloc),
+            steps: Vec::new(alloc),
             network,
             book: Book::new(alloc),
             seats,
@@ -141,7 +141,7 @@ impl World {
         ensures within { IsWithin self.now.rehearsal.cells (state_of self.now.rehearsal) (length result.now) }
         ensures safe { IsSafe self.now.rehearsal.setting (state_of self.now.rehearsal) }
     {
-        &self.record
+        &self.steps
     }
 
     /// The step that room was made for, and that `commit` does. It is allowed.

@@ -38,7 +38,7 @@ impl World {
         ensures ok { OnOk result (self.new ≡ record self.old { prepared = Some (Step.Begin member) }) }
         ensures err { OnErr result (self.new ≡ self.old) }
     {
-        reserve(&mut self.record, &mut self.network)?;
+        reserve(&mut self.steps, &mut self.network)?;
         self.book.prepare()?;
         let seat = &mut self.seats[member as usize - 1];
         let proposal = seat.prepare_begin(self.alloc, self.bound)?;
@@ -58,6 +58,6 @@ impl World {
         let next = seat.instances.last() + 1;
         seat.instances.open(next, value);
         seat.caster.begin();
-        join(&mut self.record, Step::Begin(member));
+        join(&mut self.steps, Step::Begin(member));
     }
 }

@@ -26,7 +26,7 @@ impl World {
             group: self.group,
             cells: self.cells,
             bound: self.bound,
-            record: Vec::from_slice(alloc, &self.record)?,
+            steps: Vec::from_slice(alloc, &self.steps)?,
             network: self.network.copy(alloc)?,
             book: self.book.copy(alloc)?,
             seats: seats::copy_seats(alloc, &self.seats)?,

@@ -28,6 +28,6 @@ impl World {
         self.prepared = None;
         let seat = &mut self.seats[member as usize - 1];
         seat.crashed = true;
-        join(&mut self.record, Step::Crash(member));
+        join(&mut self.steps, Step::Crash(member));
     }
 }

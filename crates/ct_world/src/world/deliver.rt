@@ -36,7 +36,7 @@ impl World {
         ensures err { OnErr result (self.new ≡ self.old) }
     {
         let posted = usize::from(self.posted());
-        reserve(&mut self.record, &mut self.network)?;
+        reserve(&mut self.steps, &mut self.network)?;
         let seat = &mut self.seats[member as usize - 1];
         let instance = seat.instances.last();
         let (number, batch) = seat.prepare_delivery(self.alloc, &self.book, instance, posted)?;
@@ -61,7 +61,7 @@ impl World {
         let receipt = post(board, Prepared::batch(self.prepared.take()))?;
         let seat = &mut self.seats[member as usize - 1];
         seat.deliver(self.book.get(number).unwrap());
-        join(&mut self.record, Step::Deliver(member));
+        join(&mut self.steps, Step::Deliver(member));
         Ok(receipt)
     }
 }

@@ -84,7 +84,7 @@ impl World {
     {
         if self.network.sent() + more > MAX_ENVELOPES {
             Some(Refusal::Full(Limit::Envelopes))
-        } else if self.record.len() + 1 > MAX_STEPS {
+        } else if self.steps.len() + 1 > MAX_STEPS {
             Some(Refusal::Full(Limit::Steps))
         } else {
             None

@@ -18,6 +18,6 @@ impl World {
     {
         let place = Prepared::place(self.prepared.take()).unwrap();
         self.network.leave(member, place);
-        join(&mut self.record, Step::Lose(member, serial));
+        join(&mut self.steps, Step::Lose(member, serial));
     }
 }

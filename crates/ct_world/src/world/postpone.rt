@@ -38,6 +38,6 @@ impl World {
     {
         let place = Prepared::place(self.prepared.take()).unwrap();
         self.network.postpone(member, place);
-        join(&mut self.record, Step::Postpone(member, serial));
+        join(&mut self.steps, Step::Postpone(member, serial));
     }
 }

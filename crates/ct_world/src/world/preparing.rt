@@ -65,7 +65,7 @@ impl World {
         ensures ok { OnOk result (self.new ≡ record self.old { prepared = Some step }) }
         ensures err { OnErr result (self.new ≡ self.old) }
     {
-        reserve(&mut self.record, &mut self.network)?;
+        reserve(&mut self.steps, &mut self.network)?;
         self.prepared = Some(Prepared::Other(step, place));
         Ok(())
     }

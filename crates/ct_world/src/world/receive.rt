@@ -50,7 +50,7 @@ impl World {
         ensures ok { OnOk result (self.new ≡ record self.old { prepared = Some (Step.Receive member serial) }) }
         ensures err { OnErr result (self.new ≡ self.old) }
     {
-        reserve(&mut self.record, &mut self.network)?;
+        reserve(&mut self.steps, &mut self.network)?;
         let seat = &mut self.seats[member as usize - 1];
         let envelope = self.network.envelope(serial).unwrap();
         seat.prepare_receive(&envelope.wire)?;
@@ -70,7 +70,7 @@ impl World {
         let mail = seat.receive(self.group, envelope.wire);
         self.network.leave(member, place);
         let sent = self.network.post(mail);
-        join(&mut self.record, Step::Receive(member, serial));
+        join(&mut self.steps, Step::Receive(member, serial));
         sent
     }
 
@@ -88,7 +88,7 @@ impl World {
             Ok(place) => place.unwrap(),
             Err(refusal) => return Err(refusal),
         };
-        let Ok(()) = reserve(&mut self.record, &mut self.network) else {
+        let Ok(()) = reserve(&mut self.steps, &mut self.network) else {
             return Err(Refusal::OutOfMemory);
         };
         let seat = &mut self.seats[member as usize - 1];
@@ -99,7 +99,7 @@ impl World {
         let mail = seat.receive(self.group, envelope.wire);
         self.network.leave(member, place);
         let relayed = self.network.post(mail);
-        join(&mut self.record, Step::Receive(member, serial));
+        join(&mut self.steps, Step::Receive(member, serial));
         Ok(relayed)
     }
 }

@@ -36,6 +36,6 @@ impl World {
     {
         self.prepared = None;
         self.network.put_back(member, serial);
-        join(&mut self.record, Step::Repeat(member, serial));
+        join(&mut self.steps, Step::Repeat(member, serial));
     }
 }

@@ -38,7 +38,7 @@ impl World {
         seat.submitted += 1;
         let message = Message::new(member, seat.submitted, command).unwrap();
         let sent = self.network.post(Mail::All(Wire::Data(message)));
-        join(&mut self.record, Step::Submit(member, command));
+        join(&mut self.steps, Step::Submit(member, command));
         sent
     }
 }

@@ -20,11 +20,11 @@ returns-then-len-gt-MAX_STEPS c =
     let e = as_many c.self.inside c.self.invariant in
     rw (← c.self.view_is) (sym (overflow-steps (rehearsal_in c.self.inside) c.args.more
     (omega (arith, c.sent.ensures, c.if-sent-more-gt-MAX_ENVELOPES.false))
-    (omega (arith, c.len.ensures, c.if-len-gt-MAX_STEPS.true, c.self.inside.record.ok.0))))
+    (omega (arith, c.len.ensures, c.if-len-gt-MAX_STEPS.true, c.self.inside.steps.ok.0))))
 
 pub returns-else-len-gt-MAX_STEPS : goal.returns-else-len-gt-MAX_STEPS
 returns-else-len-gt-MAX_STEPS c =
     let e = as_many c.self.inside c.self.invariant in
     rw (← c.self.view_is) (sym (overflow-no (rehearsal_in c.self.inside) c.args.more
     (omega (arith, c.sent.ensures, c.if-sent-more-gt-MAX_ENVELOPES.false))
-    (omega (arith, c.len.ensures, c.if-len-gt-MAX_STEPS.false, c.self.inside.record.ok.0))))
+    (omega (arith, c.len.ensures, c.if-len-gt-MAX_STEPS.false, c.self.inside.steps.ok.0))))
