@@ -2,7 +2,7 @@
 
 ghost use Rattle.std.specs.Prelude.{◌≡◌, ◌≤◌, ◌&&◌, [], length, IfOk, IfErr, IfSome, None, Some};
 ghost use Rattle.ct_model.specs.Cause.{cause};
-ghost use Rattle.ct_model.specs.Lawful.{IsWithin};
+ghost use Rattle.ct_model.specs.Lawful.{IsLawful, IsWithin};
 ghost use Rattle.ct_model.specs.Rehearsal.{state_of};
 ghost use Rattle.ct_model.specs.Run.{run};
 ghost use Rattle.ct_model.specs.Safe.{IsSafe};
@@ -130,7 +130,8 @@ impl World {
         self.bound
     }
 
-    /// The steps so far, in order: a run, of at most 1,000,000 steps, that passes no limit. Its state is safe: two
+    /// The steps so far, in order: a run, of at most 1,000,000 steps, that passes no limit. What waits at a member are the
+    /// serials that were sent to it and aren't gone, each once, by rising stamp (`law_line`). Its state is safe: two
     /// decisions of one instance are equal, and some member proposed that value for the instance; of two delivered
     /// sequences one begins the other, without repeats, only of messages that were submitted; no batch has more messages
     /// than the bound.
@@ -139,6 +140,7 @@ impl World {
         ensures few { length result.now ≤ MAX_STEPS }
         ensures runs { run self.now.rehearsal.setting result.now ≡ Some (state_of self.now.rehearsal) }
         ensures within { IsWithin self.now.rehearsal.cells (state_of self.now.rehearsal) (length result.now) }
+        ensures lawful { IsLawful self.now.rehearsal }
         ensures safe { IsSafe self.now.rehearsal.setting (state_of self.now.rehearsal) }
     {
         &self.steps

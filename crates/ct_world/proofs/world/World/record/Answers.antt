@@ -10,3 +10,6 @@ returns-clause-safe c =
 
 pub returns-clause-within : goal.returns-clause-within
 returns-clause-within c = rw (c.deref.ensures.value, ← c.self.view_is) c.self.invariant.world.lawful.within
+
+pub returns-clause-lawful : goal.returns-clause-lawful
+returns-clause-lawful c = rw (← c.self.view_is) c.self.invariant.world.lawful
