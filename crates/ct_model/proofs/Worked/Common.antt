@@ -14,12 +14,16 @@ use Rattle.ct_model.specs.Phases.{enter, choose, adopt, suspect, conclude}
 use Rattle.ct_model.specs.Next.{wire_to, is_relayed, undelivered, proposed, batch_of, after, next, stepped}
 use Rattle.ct_model.specs.Run.{run_from, run}
 use Rattle.ct_model.specs.Waiting.{line_after, waiting}
-use Rattle.ct_model.specs.Rehearsal.{state_of, line_of}
+use Rattle.ct_model.specs.Rehearsal.{Rehearsal, state_of, line_of}
 use Rattle.ct_model.specs.Cause.{order, limit, cause}
 
 -- a group of this size, whose proposals nothing bounds
 abbrev pub group_of : ℕ → Setting
 group_of n = record { members = n; bound = MAX_BOUND }
+
+-- the record of the steps of such a group, with four cells
+abbrev pub record_of : ℕ → List Step → Rehearsal
+record_of n steps = record { setting = group_of n; cells = 4; steps = steps }
 
 -- messages as origin and number
 unfoldable pub short : List Message → List (ℕ × ℕ)

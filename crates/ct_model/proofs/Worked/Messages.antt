@@ -9,7 +9,8 @@ use Rattle.ct_model.specs.State.{State}
 use Rattle.ct_model.specs.Received.{received_by}
 use Rattle.ct_model.specs.Run.{run}
 use Rattle.ct_model.specs.Waiting.{waiting}
-use Rattle.ct_model.proofs.Worked.Common.{group_of, short, after_in, runs_with}
+use Rattle.ct_model.specs.Stamps.{stamp}
+use Rattle.ct_model.proofs.Worked.Common.{group_of, record_of, short, after_in, runs_with}
 
 -- how many envelopes were sent, what each of three members received, and who crashed
 outcome : Option State → Option (ℕ × List (List (ℕ × ℕ)) × List Bool)
@@ -30,7 +31,7 @@ relayed_once = Submit 1 (Set 0 7) ∷ Receive 1 1 ∷ Receive 2 2 ∷ []
 
 -- all that these compute with
 computing : Unit {0}
-unfolding runs_with outcome after_three relayed_once
+unfolding runs_with outcome after_three relayed_once stamp
 computing = tt
 
 nothing_yet : outcome (run (group_of 3) []) ≡ Some (0, ([] ∷ [] ∷ [] ∷ []), (false ∷ false ∷ false ∷ []))
@@ -51,6 +52,11 @@ second_receipts = unfold computing in refl
 -- a postponed serial stands last, and may be received out of turn
 postponed : map (waiting (group_of 3) (relayed_once ++ Postpone 3 3 ∷ [])) (1 ∷ 2 ∷ 3 ∷ []) ≡ (4 ∷ []) ∷ (5 ∷ []) ∷ (6 ∷ 3 ∷ []) ∷ []
 postponed = unfold computing in refl
+
+-- its stamp is the number of that step, and was the number of the step that sent it
+stamps_then : map (λ steps. map (stamp (record_of 3 (relayed_once ++ steps)) 3) (3 ∷ 6 ∷ [])) ([] ∷ (Postpone 3 3 ∷ []) ∷ [])
+    ≡ (1 ∷ 3 ∷ []) ∷ (4 ∷ 3 ∷ []) ∷ []
+stamps_then = unfold computing in refl
 
 reordered : outcome (run (group_of 3) (relayed_once ++ Postpone 3 3 ∷ Receive 3 6 ∷ Receive 3 3 ∷ []))
     ≡ Some (9, (((1, 1) ∷ []) ∷ ((1, 1) ∷ []) ∷ ((1, 1) ∷ []) ∷ []), (false ∷ false ∷ false ∷ []))

@@ -1,5 +1,5 @@
 -- Worked runs over a network that loses and repeats envelopes, computed.
-use Rattle.std.proofs.Common.{◌≡◌, ℕ, List, [], ◌∷◌, ◌++◌, Option, Some, None, option_map, length, map, refl}
+use Rattle.std.proofs.Common.{◌≡◌, ℕ, true, false, List, [], ◌∷◌, ◌++◌, Option, Some, None, option_map, length, map, refl}
 use Rattle.ct_names.specs.declared.command.Command.TheVariants.{Set}
 use Rattle.ct_names.specs.declared.refusal.Refusal.TheVariants.{NotWaiting, TooFew, NotSent, StillWaiting}
 use Rattle.ct_model.specs.declared.step.Step.{Step}
@@ -7,7 +7,8 @@ use Rattle.ct_model.specs.declared.step.Step.TheVariants.{Submit, Receive, Begin
 use Rattle.ct_model.specs.Received.{received_by}
 use Rattle.ct_model.specs.Run.{run}
 use Rattle.ct_model.specs.Waiting.{waiting}
-use Rattle.ct_model.proofs.Worked.Common.{group_of, short, after_in, runs_with}
+use Rattle.ct_model.specs.Stamps.{stamp, is_gone}
+use Rattle.ct_model.proofs.Worked.Common.{group_of, record_of, short, after_in, runs_with}
 
 -- how many envelopes three members sent
 sent_by_three : List Step → Option ℕ
@@ -28,7 +29,7 @@ lost = Submit 1 (Set 0 7) ∷ Lose 2 2 ∷ []
 
 -- all that these compute with
 computing : Unit {0}
-unfolding runs_with sent_by_three to_ack repeated_ack lost
+unfolding runs_with sent_by_three to_ack repeated_ack lost stamp is_gone
 computing = tt
 
 -- an ack that is got again doesn't count again
@@ -54,3 +55,11 @@ lines_of_two : map (λ steps. waiting (group_of 3) (lost ++ Submit 3 (Set 0 1) �
     ([] ∷ (Repeat 2 2 ∷ []) ∷ (Repeat 2 2 ∷ Lose 2 2 ∷ []) ∷ (Repeat 2 2 ∷ Receive 2 2 ∷ []) ∷ []) ≡ (5 ∷ []) ∷ (5 ∷ 2 ∷ []) ∷ (5 ∷ [])
     ∷ (5 ∷ 8 ∷ []) ∷ []
 lines_of_two = unfold computing in refl
+
+-- it is gone in between, and its stamp is the number of the step that repeated it last
+gone_from_two : map (λ steps. is_gone (record_of 3 (lost ++ steps)) 2 2)
+    ([] ∷ (Repeat 2 2 ∷ []) ∷ (Repeat 2 2 ∷ Lose 2 2 ∷ []) ∷ (Repeat 2 2 ∷ Receive 2 2 ∷ []) ∷ []) ≡ true ∷ false ∷ true ∷ true ∷ []
+gone_from_two = unfold computing in refl
+
+stamps_of_two : map (stamp (record_of 3 (lost ++ Submit 3 (Set 0 1) ∷ Repeat 2 2 ∷ [])) 2) (5 ∷ 2 ∷ []) ≡ 3 ∷ 4 ∷ []
+stamps_of_two = unfold computing in refl
