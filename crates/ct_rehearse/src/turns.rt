@@ -62,8 +62,8 @@ pub fn turn_answered<L: Ledger>(
     }
 }
 
-/// Makes an entry of a script: it tries the entry's step, that of a postponement with the first serial of the member's
-/// waiting line, and rests where there is none.
+/// Makes an entry of a script: it tries the entry's step, that of a postponement or a loss with the first serial of the
+/// member's waiting line, and rests where there is none.
 pub fn disturb<L: Ledger>(
     desk: &mut Desk<L>,
     share: &mut Share<L>,
