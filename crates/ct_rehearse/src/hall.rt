@@ -6,7 +6,7 @@ ghost use Rattle.ct_model.specs.Safe.{IsSafe};
 ghost use Rattle.ct_board.specs.Watched.{batches_read, batches_told};
 ghost use Rattle.ct_rehearse.specs.Halls.{HasMet};
 ghost use Rattle.ct_rehearse.specs.Shares.{whole_share};
-ghost use Rattle.ct_rehearse.specs.Turns.{share_after_turn};
+ghost use Rattle.ct_rehearse.specs.Turns.{IsEntry, IsTurn, share_after_turn};
 
 mod run;
 
@@ -138,7 +138,7 @@ impl<L: Ledger> Hall<L> {
         (desk.into_inner(), board)
     }
 
-    // A turn of a member, under the lock.
+    // A turn of a member, on the world that the lock has.
     pub(crate) fn turn<R: Wait>(
         &self,
         rt: &R,
@@ -147,22 +147,22 @@ impl<L: Ledger> Hall<L> {
         detector: &mut dyn Detector,
     ) -> Turn
         requires { share.old.steps + 1 < 2 ^ 64 }
-        ensures { share.new ≡ share_after_turn share.old result }
+        ensures turn { IsTurn self.now.cells member (last detector.old) (last detector.new) result }
+        ensures share { share.new ≡ share_after_turn share.old result }
     {
-        turns::turn(
-            &mut *self.desk.lock(rt),
-            share,
-            &self.board,
-            member,
-            detector,
-        )
+        let mut desk = self.desk.lock(rt);
+        let _ = desk.world().record();
+        turns::turn(&mut *desk, share, &self.board, member, detector)
     }
 
-    // An entry of a script, under the lock.
+    // An entry of a script, on the world that the lock has.
     pub(crate) fn disturb<R: Wait>(&self, rt: &R, share: &mut Share<L>, entry: &Disturbance) -> Turn
         requires { share.old.steps + 1 < 2 ^ 64 }
-        ensures { share.new ≡ share_after_turn share.old result }
+        ensures entry { IsEntry self.now.cells entry.now result }
+        ensures share { share.new ≡ share_after_turn share.old result }
     {
-        turns::disturb(&mut *self.desk.lock(rt), share, &self.board, entry)
+        let mut desk = self.desk.lock(rt);
+        let _ = desk.world().record();
+        turns::disturb(&mut *desk, share, &self.board, entry)
     }
 }
