@@ -1,3 +1,4 @@
+pub mod Pace
 pub mod Shares
 pub mod Choices
 pub mod Turns

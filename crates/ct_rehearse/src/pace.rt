@@ -1,28 +1,31 @@
-//! How the workers of a run keep in step.
+//! How the workers of a run begin together, and keep in step.
 
-ghost use Rattle.std.specs.Prelude.{◌<◌};
+ghost use Rattle.std.specs.Prelude.{◌≡◌, ◌<◌, true};
+ghost use Rattle.ct_rehearse.specs.Pace.{goes_on};
 
-use crate::gate::Gate;
-use crate::outcome::Turn;
+use crate::marks::{GONE, least_of, mark_of, place_of};
+use crate::patience::Patience;
 use std::alloc::{AllocError, Global};
-use std::sync::atomic::{AtomicU32, Ordering};
-use std::sync::{Condvar, Mutex, Wait};
+use std::sync::atomic::{AtomicU64, Ordering};
+use std::sync::{OnceLock, OnceToken, Wait};
 use std::thread;
 
-/// How often a worker that is ahead gives way before one of its turns.
-const PATIENCE: u32 = 1_000;
-
-/// The mark of a worker for which nobody waits: it was not started, or has made its turns.
-const GONE: u32 = u32::MAX;
+/// The most workers of a run: 16 members and 8 scripts.
+const WORKERS: usize = 24;
 
 // Has the workers of a run begin together, and shows how far each is. Threads share it.
 #[derive(Drop)]
 pub(crate) struct Pace {
-    begun: Mutex<bool>,
-    begins: Condvar,
-    // A mark for each worker, the first worker's first: twice the turns that it made, and one more while its gate
-    // is called.
-    marks: Vec<AtomicU32>,
+    // Set once all workers were started.
+    pub(crate) begun: OnceLock<()>,
+    // A mark for each worker, the first worker's first.
+    marks: Vec<AtomicU64>,
+}
+
+// What shows that the others wait for a worker.
+#[derive(Drop)]
+pub(crate) struct Admitted {
+    worker: u32,
 }
 
 impl Pace {
@@ -30,118 +33,69 @@ impl Pace {
     pub(crate) fn new(alloc: Global, workers: usize) -> Result<Pace, AllocError> {
         let mut marks = Vec::with_capacity(alloc, workers)?;
         for _ in 0..workers {
-            marks.push(AtomicU32::new(GONE))?;
+            marks.push(AtomicU64::new(GONE))?;
         }
         Ok(Pace {
-            begun: Mutex::new(false),
-            begins: Condvar::new(),
+            begun: OnceLock::new(),
             marks,
         })
     }
 
     // The worker was started, so that the others wait for it.
-    pub(crate) fn admit(&self, worker: u32) {
-        self.mark(worker, 0);
+    pub(crate) fn admit(&self, worker: u32) -> Admitted
+        requires { 0 < worker }
+        ensures { result.worker ≡ worker }
+    {
+        self.mark(worker, mark_of(0));
+        Admitted { worker }
     }
 
     // Has all workers begin.
     pub(crate) fn begin<R: Wait>(&self, rt: &R) {
-        *self.begun.lock(rt) = true;
-        self.begins.notify_all();
+        let _ = self.begun.set(rt, ());
     }
 
-    // Waits until all begin.
-    fn wait<R: Wait>(&self, rt: &R) {
-        let begun = self.begun.lock(rt);
-        let _begun = self.begins.wait_while(rt, begun, |begun| !*begun);
+    // Waits until all begin. The token shows that they have.
+    pub(crate) fn wait<R: Wait>(&self, rt: &R) -> OnceToken<'_, ()>
+        ensures { result.of ≡ self.now.begun.id }
+    {
+        for _ in rt.forever() {
+            let _ = self.begun.wait(rt);
+            if let Some(begun) = self.begun.witness() {
+                return begun;
+            }
+        }
+        unreachable!()
     }
 
-    fn mark(&self, worker: u32, mark: u32) {
-        if let Some(one) = self.marks.get((worker as usize).saturating_sub(1)) {
+    // Shows the mark as the worker's.
+    pub(crate) fn mark(&self, worker: u32, mark: u64)
+        requires { 0 < worker }
+    {
+        if let Some(one) = self.marks.get(place_of(worker)) {
             one.store(mark, Ordering::SeqCst);
         }
     }
 
-    // The least mark: that of the slowest worker.
-    fn least(&self) -> u32 {
-        let mut least = GONE;
-        for mark in &self.marks {
-            least = least.min(mark.load(Ordering::SeqCst));
-        }
-        least
-    }
-}
-
-// The pace of one worker.
-#[derive(Drop)]
-pub(crate) struct Stride<'a> {
-    pace: &'a Pace,
-    worker: u32,
-    // The slowest worker's mark when patience with its gate ended.
-    held: Option<u32>,
-    ghost numbered: { 0 < worker },
-}
-
-impl<'a> Stride<'a> {
-    // Waits until all workers begin.
-    pub(crate) fn begin<R: Wait>(rt: &R, pace: &'a Pace, worker: u32) -> Stride<'a>
-        requires { 0 < worker }
-    {
-        pace.wait(rt);
-        Stride {
-            pace,
-            worker,
-            held: None,
-        }
-    }
-
-    // What comes before a turn: the worker keeps in step, and the gate is called.
-    pub(crate) fn before<R: Wait, G: Gate>(&mut self, rt: &R, gate: &G, turn: u32)
-        requires { 0 < turn }
-    {
-        let made = twice(turn - 1);
-        self.give_way(made);
-        self.pace.mark(self.worker, made | 1);
-        gate.before(rt, self.worker, turn);
-        self.pace.mark(self.worker, made);
-    }
-
-    // Gives way while the slowest worker has made fewer turns, until patience ends. A worker outside its gate goes on as
-    // soon as it has a core, so each turn has patience with it. A gate may hold its worker until this one has made many
-    // turns, so there is patience but once with a worker that does not move there.
-    fn give_way(&mut self, made: u32) {
-        let mut least = self.pace.least();
-        for _ in 0..PATIENCE {
-            if made <= least || self.held == Some(least) {
-                return;
+    // The mark of the slowest worker.
+    fn least(&self) -> u64 {
+        let mut marks = [GONE; WORKERS];
+        for (place, one) in self.marks.iter().enumerate() {
+            if let Some(mark) = marks.get_mut(place) {
+                *mark = one.load(Ordering::SeqCst);
             }
-            thread::yield_now();
-            least = self.pace.least();
         }
-        if least % 2 == 1 {
-            self.held = Some(least);
-        }
+        least_of(&marks)
     }
 
-    // What comes after a turn: the gate is called, and the others see the turn. A worker whose turn rested gives way once,
-    // as only the others' turns give it something to do.
-    pub(crate) fn after<R: Wait, G: Gate>(&self, rt: &R, gate: &G, turn: u32, outcome: &Turn)
-        requires { 0 < turn }
+    // Gives way while the slowest worker has made fewer turns than one with this mark, until patience ends.
+    pub(crate) fn give_way(&self, made: u64, before: Patience) -> Patience
+        ensures { goes_on result made ≡ true }
     {
-        self.pace.mark(self.worker, twice(turn - 1) | 1);
-        gate.after(rt, self.worker, turn);
-        self.pace.mark(self.worker, twice(turn));
-        if let Turn::Resting = outcome {
+        let mut patience = before.renewed();
+        while patience.gives_way(made, self.least()) {
             thread::yield_now();
         }
+        patience
     }
-
-    // The worker made all its turns.
-    pub(crate) fn end(self) {
-        self.pace.mark(self.worker, GONE);
-    }
-}
-
-fn twice(turns: u32) -> u32 {
-    turns.saturating_mul(2)
 }

@@ -6,7 +6,7 @@ ghost use Rattle.ct_rehearse.specs.Plans.{turns_made};
 use crate::disturbance::Disturbance;
 use crate::gate::Gate;
 use crate::hall::Hall;
-use crate::pace::Pace;
+use crate::pace::{Admitted, Pace};
 use crate::run_fault::RunFault;
 use crate::share::Share;
 use crate::worked::Worked;
@@ -36,7 +36,8 @@ pub(crate) struct Running<L: Ledger> {
 }
 
 impl<L: Ledger> Running<L> {
-    fn new(handle: PromisedHandle<Worked<L>, Turns>, turns: u64) -> Running<L>
+    // The worker of this handle, for which the others wait.
+    fn new(handle: PromisedHandle<Worked<L>, Turns>, turns: u64, _admitted: Admitted) -> Running<L>
         requires { handle.promise.0 ≡ turns }
         ensures { result.turns ≡ turns }
     {
@@ -67,8 +68,8 @@ pub(crate) fn start_driver<'s, E, L: Ledger + Send + Sync, R: Wait + Sync, G: Ga
     { drive(hall, rt, gate, pace, member, turns, detector, share) };
     match scope.spawn_with(Turns(u64::from(turns)), job) {
         Ok(handle) => {
-            pace.admit(u32::from(member));
-            Ok(Running::new(handle, u64::from(turns)))
+            let admitted = pace.admit(u32::from(member));
+            Ok(Running::new(handle, u64::from(turns), admitted))
         }
         Err(_refused) => Err(RunFault::Start),
     }
@@ -98,8 +99,8 @@ pub(crate) fn start_script<'s, E, L: Ledger + Send + Sync, R: Wait + Sync, G: Ga
     { follow(hall, rt, gate, pace, worker, script.as_slice(), share) };
     match scope.spawn_with(Turns(turns), job) {
         Ok(handle) => {
-            pace.admit(worker);
-            Ok(Running::new(handle, turns))
+            let admitted = pace.admit(worker);
+            Ok(Running::new(handle, turns, admitted))
         }
         Err(_refused) => Err(RunFault::Start),
     }
