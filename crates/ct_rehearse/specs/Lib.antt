@@ -4,5 +4,6 @@ pub mod Choices
 pub mod Turns
 pub mod Plays
 pub mod Plans
+pub mod Works
 pub mod Halls
 pub mod Rehearsals

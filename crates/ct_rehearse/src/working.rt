@@ -2,6 +2,7 @@
 
 ghost use Rattle.std.specs.Prelude.{◌≡◌, ◌<◌, ◌≤◌, length};
 ghost use Rattle.ct_rehearse.specs.Plans.{turns_made};
+ghost use Rattle.ct_rehearse.specs.Works.{HasDriven, HasFollowed};
 
 use crate::disturbance::Disturbance;
 use crate::gate::Gate;
@@ -29,7 +30,8 @@ pub(crate) fn drive<L: Ledger, R: Wait, G: Gate>(
 ) -> Worked<L>
     requires share { share ≡ record { parts = 1; steps = 0 } }
     requires member { 0 < member }
-    ensures { turns_made result.made ≡ turns }
+    ensures turns { HasDriven hall.now.cells member turns result.made }
+    ensures all { turns_made result.made ≡ turns }
 {
     let mut stride = Stride::begin(rt, pace, u32::from(member));
     let mut made = Made::none();
@@ -56,7 +58,8 @@ pub(crate) fn follow<L: Ledger, R: Wait, G: Gate>(
     requires share { share ≡ record { parts = 1; steps = 0 } }
     requires short { length script.now ≤ 100000 }
     requires worker { 0 < worker }
-    ensures { turns_made result.made ≡ length script.now }
+    ensures entries { HasFollowed hall.now.cells script.now (length script.now) result.made }
+    ensures all { turns_made result.made ≡ length script.now }
 {
     let mut stride = Stride::begin(rt, pace, worker);
     let mut made = Made::none();
