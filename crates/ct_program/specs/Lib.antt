@@ -5,6 +5,8 @@ pub mod Report
 pub mod Replay
 pub mod Outcome
 pub mod Streams
+pub mod Statuses
+pub mod Commands
 pub mod ProgramFault
 pub mod Counted
 pub mod FreeOptions

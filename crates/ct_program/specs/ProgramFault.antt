@@ -6,17 +6,19 @@ use Rattle.ct_rehearse.specs.declared.run_fault.RunFault.TheVariants as run
 use Rattle.ct_world.specs.declared.replay_fault.ReplayFault.{ReplayFault}
 use Rattle.ct_program.specs.declared.read_fault.ReadFault.{ReadFault}
 use Rattle.ct_program.specs.declared.read_fault.ReadFault.TheVariants as read
+use Rattle.ct_program.specs.declared.status.Status.TheVariants as status
+use Rattle.ct_program.specs.Statuses.{code}
 use Rattle.ct_program.specs.declared.program_fault.ProgramFault.{ProgramFault}
 use Rattle.ct_program.specs.declared.program_fault.ProgramFault.TheVariants.{Replay, Read, Reader, Write, Memory, Start, Exchanged}
 
 abbrev pub status_of : ProgramFault → ℕ
-status_of (Replay at refusal) = 1
-status_of (Read fault) = 2
-status_of Reader = 4
-status_of Write = 4
-status_of Memory = 5
-status_of Start = 5
-status_of Exchanged = 5
+status_of (Replay at refusal) = code status.Refused
+status_of (Read fault) = code status.NoRecord
+status_of Reader = code status.Stream
+status_of Write = code status.Stream
+status_of Memory = code status.Memory
+status_of Start = code status.Memory
+status_of Exchanged = code status.Memory
 
 -- what a fault of reading a record is for the program
 abbrev pub of_read_fault : ReadFault → ProgramFault

@@ -2,6 +2,7 @@
 #![tactic(auto)]
 
 mod call;
+mod command_fault;
 mod counted;
 mod failed;
 mod free_options;
@@ -23,11 +24,13 @@ mod seeding;
 mod separator;
 mod sink;
 mod source;
+mod status;
 mod version;
 mod words;
 mod writing;
 
 pub use call::Call;
+pub use command_fault::{CommandFault, answer_status};
 pub use counted::Counted;
 pub use failed::Failed;
 pub use free_options::FreeOptions;
@@ -46,6 +49,7 @@ pub use seeding::seeded;
 pub use separator::push_separator;
 pub use sink::Sink;
 pub use source::Source;
+pub use status::Status;
 pub use words::{
     default_option, file_argument, found_options, line, number_in, option_in, subcommand,
     value_option, with_free_options,

@@ -5,6 +5,7 @@ ghost use Rattle.ct_program.specs.ProgramFault.{status_of, of_read_fault, of_run
 ghost use Rattle.ct_program.specs.declared.program_fault.ProgramFault.TheVariants.{Memory};
 
 use crate::read_fault::ReadFault;
+use crate::status::Status;
 use ct_names::Refusal;
 use ct_rehearse::RunFault;
 use ct_world::ReplayFault;
@@ -32,7 +33,7 @@ pub enum ProgramFault {
     /// A thread of a free run could not be started.
     #[error("no thread")]
     Start,
-    /// A free run ended in a world of other members or cells than it began with.
+    /// A free run ended in a world of other members or cells, or of another bound, than it began with.
     #[error("world exchanged")]
     Exchanged,
 }
@@ -43,12 +44,13 @@ impl ProgramFault {
     pub fn status(&self) -> u8
         ensures { result ≡ status_of self.now }
     {
-        match self {
-            ProgramFault::Replay { .. } => 1,
-            ProgramFault::Read(_) => 2,
-            ProgramFault::Reader | ProgramFault::Write => 4,
-            ProgramFault::Memory | ProgramFault::Start | ProgramFault::Exchanged => 5,
-        }
+        let status = match self {
+            ProgramFault::Replay { .. } => Status::Refused,
+            ProgramFault::Read(_) => Status::NoRecord,
+            ProgramFault::Reader | ProgramFault::Write => Status::Stream,
+            ProgramFault::Memory | ProgramFault::Start | ProgramFault::Exchanged => Status::Memory,
+        };
+        status.code()
     }
 }
 
