@@ -1,21 +1,30 @@
 -- What a free run writes.
-use Rattle.std.specs.Prelude.{◌≡◌, ℕ, List, [], ◌∷◌, ◌++◌, Option, ⊤}
+use Rattle.std.specs.Prelude.{◌≡◌, ◌≤◌, ℕ, List, [], ◌∷◌, ◌++◌, length, Option, ⊤}
 use Rattle.std.specs.Io.KnownBytes.{Appends}
 use Rattle.ct_model.specs.Rehearsal.{Rehearsal}
 use Rattle.ct_program.specs.declared.free_options.FreeOptions.{FreeOptions}
 use Rattle.ct_program.specs.declared.program_fault.ProgramFault.{ProgramFault}
 use Rattle.ct_program.specs.declared.program_fault.ProgramFault.TheVariants.{Replay, Read, Reader, Write, Memory, Start, Exchanged}
+use Rattle.ct_rehearse.specs.declared.rehearsed.Rehearsed.{Rehearsed}
+use Rattle.ct_rehearse.specs.Plans.{turns_made}
 use Rattle.ct_program.specs.Outcome.{IsOutcome}
+use Rattle.ct_program.specs.Planning.{turns_of}
 use Rattle.ct_program.specs.Streams.{WritesPart}
 use Rattle.ct_program.specs.Text.{record_text}
 
--- the record has the members, the bound and the cells that the options ask for; its steps are a run that ends in a safe state, which
--- its report shows
+-- the record has the members, the bound and the cells that the options ask for; its steps are no more than the turns that they ask
+-- for, and are a run that ends in a safe state, which its report shows
 pub record IsRunOf (o : FreeOptions) (w : Rehearsal) : Type 0 where
   pub members : w.setting.members ≡ o.members
   pub bound : w.setting.bound ≡ o.batch
   pub cells : w.cells ≡ o.cells
+  pub steps : length w.steps ≤ turns_of o
   pub outcome : IsOutcome w
+
+-- all turns that the options ask for were made on a world without steps
+pub record HasMade (o : FreeOptions) (done : Rehearsed) : Type 0 where
+  pub turns : turns_made done.made ≡ turns_of o
+  pub steps : length done.world.rehearsal.steps ≡ done.made.steps
 
 -- the record of such a run, and a line feed
 abbrev pub IsLineOfRun : FreeOptions → List ℕ → Type 0

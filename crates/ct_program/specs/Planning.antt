@@ -1,5 +1,5 @@
 -- What the threads of a free run are to do.
-use Rattle.std.specs.Prelude.{◌≡◌, ℕ, zero, suc, ◌+◌, ◌%◌, ◌==◌, List, [], ◌∷◌, ◌++◌, map, if◌then◌else◌}
+use Rattle.std.specs.Prelude.{◌≡◌, ℕ, zero, suc, ◌+◌, ◌*◌, ◌%◌, ◌==◌, List, [], ◌∷◌, ◌++◌, map, if◌then◌else◌}
 use Rattle.ct_names.specs.declared.command.Command.TheVariants.{Add}
 use Rattle.ct_rehearse.specs.declared.disturbance.Disturbance.{Disturbance}
 use Rattle.ct_rehearse.specs.declared.disturbance.Disturbance.TheVariants.{Submit, Crash, Postpone, Lose, Repeat}
@@ -46,3 +46,11 @@ scripts_of o = first_script o ∷ second_script o ∷ third_script o ∷ fourth_
 -- the plan has the turns and the scripts that the options ask for
 abbrev pub IsPlanOf : FreeOptions → Plan → Type 0
 IsPlanOf o plan = (plan.turns ≡ o.turns) × (map (λ script. script.items) plan.scripts.items ≡ scripts_of o)
+
+-- how many entries the first script has
+abbrev pub first_count : FreeOptions → ℕ
+first_count o = o.submit + (if o.crash == 0 then 0 else 1)
+
+-- how many turns a run has: those of the members, and one for each entry
+abbrev pub turns_of : FreeOptions → ℕ
+turns_of o = o.members * o.turns + (first_count o + (o.postpone + (o.lose + o.repeat)))

@@ -5,7 +5,7 @@ ghost use Rattle.ct_program.specs.Commands.{answer_of, command_status, IsOfError
 ghost use Rattle.ct_program.specs.declared.command_fault.CommandFault.TheVariants.{Memory};
 
 use crate::status::Status;
-use std::alloc::AllocError;
+use std::alloc::{AllocError, AllocFailed};
 use std::io;
 use thiserror::Error;
 
@@ -79,6 +79,14 @@ impl From<AllocError> for CommandFault {
     ghost from_gives = { λ _ fault. fault ≡ Memory };
 
     fn from(_error: AllocError) -> CommandFault {
+        CommandFault::Memory
+    }
+}
+
+impl<T: Drop> From<AllocFailed<T>> for CommandFault {
+    ghost from_gives = { λ _ fault. fault ≡ Memory };
+
+    fn from(_error: AllocFailed<T>) -> CommandFault {
         CommandFault::Memory
     }
 }

@@ -1,9 +1,10 @@
 //! A free run, and the record of it.
 
-ghost use Rattle.std.specs.Prelude.{◌≡◌, ◌≢◌, ◌⊎◌, ◌+◌, ◌^◌, ◌<◌, [], Err, OnOk, IfOk, IfErr, vec_len};
+ghost use Rattle.std.specs.Prelude.{◌≡◌, ◌≢◌, ◌⊎◌, ◌+◌, ◌^◌, ◌<◌, [], Ok, Err, OnOk, IfOk, IfErr, vec_len};
 ghost use Rattle.ct_world.specs.Replay.{world_after};
 ghost use Rattle.ct_program.specs.FreeOptions.{InRange, setting_of};
-ghost use Rattle.ct_program.specs.FreeRun.{IsLineOfRun, WritesRun, WritesRunPart, IsFreeFault};
+ghost use Rattle.ct_program.specs.FreeRun.{HasMade, IsLineOfRun, WritesRun, WritesRunPart, IsFreeFault};
+ghost use Rattle.ct_program.specs.ProgramFault.{of_run_fault};
 
 use crate::failed::Failed;
 use crate::free_options::FreeOptions;
@@ -15,7 +16,7 @@ use crate::writing::write_record;
 use ct_board::Board;
 use ct_detect::Detector;
 use ct_names::Group;
-use ct_rehearse::{NoGate, rehearse};
+use ct_rehearse::{NoGate, RehearseFault, Rehearsed, rehearse};
 use ct_world::World;
 use std::alloc::Global;
 use std::sync::Wait;
@@ -35,7 +36,8 @@ pub fn free<R: Threads + Wait + Sync, W: Sink>(
     requires range { InRange options.now }
     requires detectors { vec_len detectors ≡ options.now.members }
     requires writes { W.failures writer.old < 2 ^ 63 }
-    // What was written is the record of a run with these members, bound and cells that ends in a safe state, and a line feed.
+    // What was written is the record of a run with these members, bound and cells, of no more steps than turns are asked
+    // for, that ends in a safe state, and a line feed.
     ensures ok { OnOk result (WritesRun options.now (W.written writer.old) (W.written writer.new)) }
     ensures fault { IfErr result IsFreeFault }
     // Only a fault of the writer has written anything: some first bytes of such a line.
@@ -46,29 +48,23 @@ pub fn free<R: Threads + Wait + Sync, W: Sink>(
     ensures writer { result ≡ Err ProgramFault.Write → W.failures writer.new ≡ W.failures writer.old + 1 }
     ensures no_write { result ≢ Err ProgramFault.Write → W.failures writer.new ≡ W.failures writer.old }
 {
-    let world = rehearsed(rt, alloc, options, detectors)?;
-    let text = line_of(alloc, options, &world)?;
+    let plan = plan(alloc, options)?;
+    let (world, board) = first_world(alloc, options)?;
+    let done = result_of(rehearse(rt, alloc, world, board, &plan, detectors, &NoGate))?;
+    let text = line_of(alloc, options, &done)?;
     match write_all(writer, &text) {
         Ok(()) => Ok(()),
         Err(Failed) => Err(ProgramFault::Write),
     }
 }
 
-// The world after the run.
-fn rehearsed<R: Threads + Wait + Sync>(
-    rt: &R,
-    alloc: Global,
-    options: &FreeOptions,
-    detectors: Vec<Box<dyn Detector>>,
-) -> Result<World, ProgramFault>
-    requires range { InRange options.now }
-    requires detectors { vec_len detectors ≡ options.now.members }
-    ensures { IfErr result (λ fault. (fault ≡ ProgramFault.Memory) ⊎ (fault ≡ ProgramFault.Start)) }
+// What the rehearsal left, or why it failed.
+fn result_of(run: Result<Rehearsed, RehearseFault>) -> Result<Rehearsed, ProgramFault>
+    ensures ok { IfOk run (λ done. result ≡ Ok done) }
+    ensures err { IfErr run (λ fault. result ≡ Err (of_run_fault fault.cause)) }
 {
-    let plan = plan(alloc, options)?;
-    let (world, board) = first_world(alloc, options)?;
-    match rehearse(rt, alloc, world, board, &plan, detectors, &NoGate) {
-        Ok(done) => Ok(done.world),
+    match run {
+        Ok(done) => Ok(done),
         Err(fault) => Err(ProgramFault::from(fault.cause)),
     }
 }
@@ -91,11 +87,13 @@ fn first_world(alloc: Global, options: &FreeOptions) -> Result<(World, Board), P
     }
 }
 
-// The record of the world and a line feed, where the world has these members, bound and cells.
-fn line_of(alloc: Global, options: &FreeOptions, world: &World) -> Result<Vec<u8>, ProgramFault>
+// The record of the run and a line feed, where its world has these members, bound and cells.
+fn line_of(alloc: Global, options: &FreeOptions, done: &Rehearsed) -> Result<Vec<u8>, ProgramFault>
+    requires { HasMade options.now done.now }
     ensures ok { IfOk result (λ text. IsLineOfRun options.now text.items) }
     ensures err { IfErr result (λ fault. (fault ≡ ProgramFault.Memory) ⊎ (fault ≡ ProgramFault.Exchanged)) }
 {
+    let world = &done.world;
     if world.group().n() != options.members
         || world.bound() != options.batch
         || world.cells() != options.cells

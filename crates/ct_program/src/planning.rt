@@ -1,10 +1,10 @@
 //! What the threads of a free run are to do.
 
 ghost use Rattle.std.specs.Prelude.{◌≡◌, ◌<◌, ◌≤◌, IfOk, vec_len};
-ghost use Rattle.ct_rehearse.specs.Plans.{entries, IsWithin};
+ghost use Rattle.ct_rehearse.specs.Plans.{entries, turns_planned, IsWithin};
 ghost use Rattle.ct_program.specs.FreeOptions.{InRange};
-ghost use Rattle.ct_program.specs.Planning.{entry, first_entries, first_script, fourth_script, in_turn, second_script};
-ghost use Rattle.ct_program.specs.Planning.{third_script, IsPlanOf};
+ghost use Rattle.ct_program.specs.Planning.{entry, first_count, first_entries, first_script, fourth_script, in_turn};
+ghost use Rattle.ct_program.specs.Planning.{second_script, third_script, turns_of, IsPlanOf};
 
 use crate::free_options::FreeOptions;
 use crate::kind::Kind;
@@ -18,6 +18,7 @@ pub(crate) fn plan(alloc: Global, options: &FreeOptions) -> Result<Plan, AllocEr
     ensures exact { IfOk result (IsPlanOf options.now) }
     ensures within { IfOk result (λ plan. IsWithin plan) }
     ensures entries { IfOk result (λ plan. entries plan ≤ 4001) }
+    ensures turns { IfOk result (λ plan. turns_planned options.now.members plan ≡ turns_of options.now) }
 {
     let first = submissions(alloc, options)?;
     let second = postponements(alloc, options)?;
@@ -34,7 +35,7 @@ pub(crate) fn plan(alloc: Global, options: &FreeOptions) -> Result<Plan, AllocEr
 pub fn submissions(alloc: Global, options: &FreeOptions) -> Result<Vec<Disturbance>, AllocError>
     requires { InRange options.now }
     ensures exact { IfOk result (λ script. script.items ≡ first_script options.now) }
-    ensures few { IfOk result (λ script. vec_len script ≤ 1001) }
+    ensures count { IfOk result (λ script. vec_len script ≡ first_count options.now) }
 {
     let mut script = first_entries(alloc, Kind::Submission, options.members, options.submit)?;
     if options.crash > 0 {
@@ -47,7 +48,7 @@ pub fn submissions(alloc: Global, options: &FreeOptions) -> Result<Vec<Disturban
 pub fn postponements(alloc: Global, options: &FreeOptions) -> Result<Vec<Disturbance>, AllocError>
     requires { InRange options.now }
     ensures exact { IfOk result (λ script. script.items ≡ second_script options.now) }
-    ensures few { IfOk result (λ script. vec_len script ≤ 1000) }
+    ensures count { IfOk result (λ script. vec_len script ≡ options.now.postpone) }
 {
     first_entries(alloc, Kind::Postponement, options.members, options.postpone)
 }
@@ -56,7 +57,7 @@ pub fn postponements(alloc: Global, options: &FreeOptions) -> Result<Vec<Disturb
 pub fn losses(alloc: Global, options: &FreeOptions) -> Result<Vec<Disturbance>, AllocError>
     requires { InRange options.now }
     ensures exact { IfOk result (λ script. script.items ≡ third_script options.now) }
-    ensures few { IfOk result (λ script. vec_len script ≤ 1000) }
+    ensures count { IfOk result (λ script. vec_len script ≡ options.now.lose) }
 {
     first_entries(alloc, Kind::Loss, options.members, options.lose)
 }
@@ -65,7 +66,7 @@ pub fn losses(alloc: Global, options: &FreeOptions) -> Result<Vec<Disturbance>, 
 pub fn repetitions(alloc: Global, options: &FreeOptions) -> Result<Vec<Disturbance>, AllocError>
     requires { InRange options.now }
     ensures exact { IfOk result (λ script. script.items ≡ fourth_script options.now) }
-    ensures few { IfOk result (λ script. vec_len script ≤ 1000) }
+    ensures count { IfOk result (λ script. vec_len script ≡ options.now.repeat) }
 {
     first_entries(alloc, Kind::Repetition, options.members, options.repeat)
 }

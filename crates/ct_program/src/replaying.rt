@@ -64,6 +64,10 @@ pub fn gives_report<R: Source>(
     requires { R.failures reader.old < 2 ^ 63 }
     ensures ok { IfOk result (λ same. IfSome (R.left reader.old) (λ input. TellsReport expected.now input same)) }
     ensures fault { IfErr result (λ fault. IfSome (R.left reader.old) (IsFaultIn fault)) }
+    ensures no_write { result ≢ Err ProgramFault.Write }
+    // The reader failed where that is the fault, once, and else not at all.
+    ensures reader { result ≡ Err ProgramFault.Reader → R.failures reader.new ≡ R.failures reader.old + 1 }
+    ensures no_read { result ≢ Err ProgramFault.Reader → R.failures reader.new ≡ R.failures reader.old }
 {
     let bytes = read_all(alloc, reader)?;
     let report = answer(alloc, bytes)?;
