@@ -9,7 +9,7 @@ use crate::status::Status;
 use ct_names::Refusal;
 use ct_rehearse::RunFault;
 use ct_world::ReplayFault;
-use std::alloc::AllocError;
+use std::alloc::{AllocError, AllocFailed};
 use thiserror::Error;
 
 /// Why the program stops. Its text is the line for standard error.
@@ -94,6 +94,14 @@ impl From<AllocError> for ProgramFault {
     ghost from_gives = { λ _ e. e ≡ Memory };
 
     fn from(_error: AllocError) -> ProgramFault {
+        ProgramFault::Memory
+    }
+}
+
+impl<T: Drop> From<AllocFailed<T>> for ProgramFault {
+    ghost from_gives = { λ _ e. e ≡ Memory };
+
+    fn from(_error: AllocFailed<T>) -> ProgramFault {
         ProgramFault::Memory
     }
 }
