@@ -2,30 +2,27 @@
 //! freely and writes the record of the run.
 #![tactic(auto)]
 
-ghost use Rattle.std.specs.Prelude.{IfOk};
+ghost use Rattle.std.specs.Prelude.{◌≡◌, ◌<◌, ◌^◌, Err, OnOk, IfOk, IfErr};
 ghost use Rattle.ct_program.specs.FreeOptions.{FreeInRange, InRange};
+ghost use Rattle.ct_program.specs.FreeRun.{IsFreeFault, WritesRun, WritesRunPart};
 
 use ct_detect::Detector;
-use ct_program::{Call, Counted, FreeOptions, LineFault, free, line, run_replay, seeded};
+use ct_program::{
+    Call, CommandFault, Counted, FreeOptions, LineFault, ProgramFault, Sink, answer_status, free,
+    line, run_replay, seeded,
+};
+use std::alloc::Global;
 use std::fmt::Display;
 use std::io;
 use std::process::ExitCode;
 use std::sync::Wait;
 use std::thread::Threads;
 
-// The words of the command line were refused.
-const WORDS_REFUSED: u8 = 3;
-
-// A stream failed.
-const STREAM_FAILED: u8 = 4;
-
-// Memory was refused.
-const NO_MEMORY: u8 = 5;
-
 fn main(rt: HostRuntime) -> ExitCode {
     match asked(&rt) {
         Ok(Call::Replay) => replay(&rt),
-        Ok(Call::Free(options)) => run(&rt, &rt, &options),
+        // Only `main` may hand the runtime on as one that starts threads.
+        Ok(Call::Free(options)) => run_freely(&rt, &rt, &options),
         Err(status) => status,
     }
 }
@@ -36,17 +33,12 @@ fn asked(rt: &HostRuntime) -> Result<Call, ExitCode>
 {
     let words = match words(rt) {
         Ok(words) => words,
-        Err(error) if error.kind() == io::ErrorKind::OutOfMemory => {
-            return Err(fail(rt, "out of memory", NO_MEMORY));
-        }
-        Err(_) => return Err(fail(rt, "arguments", WORDS_REFUSED)),
+        Err(fault) => return Err(fail(rt, fault, fault.status())),
     };
-    let mut texts: Vec<&str> = Vec::new(rt.alloc());
-    for word in &words {
-        if texts.push(word.as_str()).is_err() {
-            return Err(fail(rt, "out of memory", NO_MEMORY));
-        }
-    }
+    let texts = match texts(rt.alloc(), &words) {
+        Ok(texts) => texts,
+        Err(fault) => return Err(fail(rt, fault, fault.status())),
+    };
     match line(rt.alloc(), texts.as_slice()) {
         Ok(call) => Ok(call),
         Err(fault) => Err(refuse(rt, &fault)),
@@ -54,8 +46,17 @@ fn asked(rt: &HostRuntime) -> Result<Call, ExitCode>
 }
 
 // The words of the command line, the program's name first.
-fn words(rt: &HostRuntime) -> io::Result<Vec<String>> {
-    Ok(std::env::args(rt)?.collect(rt.alloc())?)
+fn words(rt: &HostRuntime) -> Result<Vec<String>, CommandFault> {
+    let args = std::env::args(rt)?;
+    Ok(args.collect(rt.alloc())?)
+}
+
+fn texts<'a>(alloc: Global, words: &'a [String]) -> Result<Vec<&'a str>, CommandFault> {
+    let mut texts = Vec::new(alloc);
+    for word in words {
+        texts.push(word.as_str())?;
+    }
+    Ok(texts)
 }
 
 fn replay(rt: &HostRuntime) -> ExitCode {
@@ -67,44 +68,51 @@ fn replay(rt: &HostRuntime) -> ExitCode {
     }
 }
 
-// Only `main` may hand the runtime on as one that starts threads.
-fn run<T: Threads + Wait + Sync>(rt: &HostRuntime, threads: &T, options: &FreeOptions) -> ExitCode
+fn run_freely<T: Threads + Wait + Sync>(
+    rt: &HostRuntime,
+    threads: &T,
+    options: &FreeOptions,
+) -> ExitCode
     requires { InRange options.now }
 {
-    let Ok(made) = seeded(rt.alloc(), options) else {
-        return fail(rt, "out of memory", NO_MEMORY);
-    };
-    let mut detectors: Vec<Box<dyn Detector>> = Vec::new(rt.alloc());
-    for one in made {
-        let Ok(detector) = Box::new(rt.alloc(), one) else {
-            return fail(rt, "out of memory", NO_MEMORY);
-        };
-        if detectors.push(detector).is_err() {
-            return fail(rt, "out of memory", NO_MEMORY);
-        }
-    }
     let mut writer = Counted::new(io::writer(rt));
-    match free(threads, rt.alloc(), options, detectors, &mut writer) {
+    match run(threads, rt.alloc(), options, &mut writer) {
         Ok(()) => ExitCode::SUCCESS,
         Err(fault) => fail(rt, fault, fault.status()),
     }
 }
 
-// A call for help or for the version is answered on standard output.
+// A free run, in which each member has its detector of `seeded`.
+fn run<T: Threads + Wait + Sync, W: Sink>(
+    threads: &T,
+    alloc: Global,
+    options: &FreeOptions,
+    writer: &mut W,
+) -> Result<(), ProgramFault>
+    requires range { InRange options.now }
+    requires writes { W.failures writer.old < 2 ^ 63 }
+    ensures ok { OnOk result (WritesRun options.now (W.written writer.old) (W.written writer.new)) }
+    ensures fault { IfErr result IsFreeFault }
+    ensures part { result ≡ Err ProgramFault.Write →
+        WritesRunPart options.now (W.written writer.old) (W.written writer.new) }
+{
+    let mut detectors: Vec<Box<dyn Detector>> = Vec::new(alloc);
+    for detector in seeded(alloc, options)? {
+        detectors.push(Box::new(alloc, detector)?)?;
+    }
+    free(threads, alloc, options, detectors, writer)
+}
+
+// Tells why the words are refused, or prints the help or the version that they ask for.
 fn refuse(rt: &HostRuntime, fault: &LineFault) -> ExitCode {
-    match fault {
-        LineFault::Clap(error) => {
-            let printed = error.print(rt);
-            if error.use_stderr() {
-                ExitCode::from(WORDS_REFUSED)
-            } else if printed.is_ok() {
-                ExitCode::SUCCESS
-            } else {
-                fail(rt, "write failed", STREAM_FAILED)
-            }
-        }
-        LineFault::Range => fail(rt, "out of range", WORDS_REFUSED),
-        LineFault::Memory => fail(rt, "out of memory", NO_MEMORY),
+    let answer = match fault {
+        LineFault::Clap(error) => answer_status(error.use_stderr(), error.print(rt).is_ok()),
+        LineFault::Range => Err(CommandFault::Range),
+        LineFault::Memory => Err(CommandFault::Memory),
+    };
+    match answer {
+        Ok(status) => ExitCode::from(status),
+        Err(fault) => fail(rt, fault, fault.status()),
     }
 }
 
