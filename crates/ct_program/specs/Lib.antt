@@ -7,6 +7,7 @@ pub mod Outcome
 pub mod Streams
 pub mod Statuses
 pub mod Commands
+pub mod NewFiles
 pub mod ProgramFault
 pub mod Counted
 pub mod FreeOptions
