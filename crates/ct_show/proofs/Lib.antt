@@ -3,3 +3,5 @@ pub mod Pushed
 pub mod Stepping
 pub mod Seen
 pub mod Tracing
+mod Checks
+mod Reports

@@ -11,7 +11,8 @@ use Rattle.ct_program.specs.Replay.{read_part}
 use Rattle.ct_program.specs.Script.{script}
 use Rattle.ct_program.proofs.Answered.{script_read}
 use Rattle.ct_show.specs.declared.view.View.{View}
-use Rattle.ct_show.specs.Answer.{FailsWith, IsAnswer, IsAnswerOf, IsOfReading, Shows}
+use Rattle.ct_program.specs.Streams.{WritesPart}
+use Rattle.ct_show.specs.Answer.{FailsWith, IsAnswer, IsAnswerOf, IsOfReading, Shows, ShowsPart}
 
 pub input_seen : (left : Option (List ℕ)) (bytes seen : List ℕ) (P : Result Rehearsal ReadFault → Type 0) →
     IfSome left (λ input. bytes ≡ read_part input) → seen ≡ bytes → P (script seen) → IfSome left (λ input. P (script input))
@@ -45,11 +46,23 @@ fails view (Ok w) text out refused fault old new h some same a =
     let both : IsAnswer view w text (Some fault) = subst (λ (r : Option ReplayFault). IsAnswer view w text r) some h in
     (both.0, subst (Appends old new) both.1 (subst (Appends old new) same a))
 
+pub shows_part : (view : View) (read : Result Rehearsal ReadFault) (text out : List ℕ) (refused : Option ReplayFault)
+    (old new : Option (List ℕ)) → IsAnswerOf view read text refused → out ≡ text → WritesPart old new out → ShowsPart view read old new
+shows_part view (Err e) text out refused old new h same a = absurd h
+shows_part view (Ok w) text out refused old new h same a = (text, refused, h, subst (WritesPart old new) same a)
+
 module _ (left : Option (List ℕ)) (bytes : List ℕ) (view : View) (read : IfSome left (λ input. bytes ≡ read_part input)) where
   pub reading_seen : (fault : ProgramFault) (old new : Option (List ℕ)) → IsOfReading fault (script bytes) →
       IfSome left (λ input. FailsWith view fault (script input) old new)
   reading_seen fault old new h =
       input_seen left bytes bytes (λ r. FailsWith view fault r old new) read refl (reading_fails view fault (script bytes) old new h)
+
+  pub part_seen : (text out : List ℕ) (refused : Option ReplayFault) (old new : Option (List ℕ)) →
+      IsAnswerOf view (script bytes) text refused → out ≡ text → WritesPart old new out →
+      IfSome left (λ input. ShowsPart view (script input) old new)
+  part_seen text out refused old new h same a =
+      input_seen left bytes bytes (λ r. ShowsPart view r old new) read refl
+      (shows_part view (script bytes) text out refused old new h same a)
 
   module _ (text out : List ℕ) (refused : Option ReplayFault) (old new : Option (List ℕ))
       (h : IsAnswerOf view (script bytes) text refused) (same : out ≡ text) (a : Appends old new out) where

@@ -10,6 +10,7 @@ use Rattle.ct_program.specs.declared.program_fault.ProgramFault.{ProgramFault}
 use Rattle.ct_program.specs.declared.program_fault.ProgramFault.TheVariants.{Replay, Read, Write, Memory, Start, Exchanged}
 use Rattle.ct_program.specs.declared.read_fault.ReadFault.{ReadFault}
 use Rattle.ct_program.specs.Replay.{IsAllowed, IsRefused}
+use Rattle.ct_program.specs.Streams.{WritesPart}
 use Rattle.ct_show.specs.declared.selection.Selection.{Selection}
 use Rattle.ct_show.specs.declared.view.View.{View}
 use Rattle.ct_show.specs.declared.view.View.TheVariants.{Nothing, Report, Steps, State}
@@ -63,7 +64,12 @@ IsAnswer view w text refused = IsShown view (part_of view w) text refused
 abbrev pub Shows : View → Result Rehearsal ReadFault → Option (List ℕ) → Option (List ℕ) → Type 0
 Shows view read old new = IsOkAnd read (λ w. IsAllowed (part_of view w) × Appends old new (shown_text view (part_of view w)))
 
--- with this fault: at a refused step all that is shown of it was written; else nothing is said of what was written
+-- some first bytes of what is shown of the record, or of its steps up to a refused one, and nothing else, were written
+abbrev pub ShowsPart : View → Result Rehearsal ReadFault → Option (List ℕ) → Option (List ℕ) → Type 0
+ShowsPart view read old new = IsOkAnd read (λ w.
+    (text : List ℕ) × (refused : Option ReplayFault) × IsAnswer view w text refused × WritesPart old new text)
+
+-- with this fault: at a refused step all that is shown of it was written
 abbrev pub FailsWith : View → ProgramFault → Result Rehearsal ReadFault → Option (List ℕ) → Option (List ℕ) → Type 0
 FailsWith view (Replay at refusal) read old new =
     IsOkAnd read (λ w. IsRefused (part_of view w) at refusal × Appends old new (refused_shown view (part_of view w) at refusal))

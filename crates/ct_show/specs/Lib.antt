@@ -7,3 +7,4 @@ pub mod Facts
 pub mod Answer
 pub mod Line
 pub mod State
+pub mod Checking

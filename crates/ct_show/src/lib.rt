@@ -2,7 +2,11 @@
 #![tactic(auto)]
 
 mod answer;
+mod check_options;
+mod checked;
+mod checking;
 mod details;
+mod ending;
 mod facts;
 mod json;
 mod lines;
@@ -16,9 +20,13 @@ mod wires;
 mod words;
 
 pub use answer::{Answer, shown};
+pub use check_options::CheckOptions;
+pub use checked::Checked;
+pub use checking::check;
 pub use details::{
     LETTERS, OTHER_LETTERS, instance_of, letter_of, push_detail, push_estimate_of, round_of,
 };
+pub use ending::shown_end;
 pub use facts::{push_facts, push_member_facts};
 pub use json::report_json;
 pub use running::show;

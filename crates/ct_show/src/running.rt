@@ -2,7 +2,7 @@
 
 ghost use Rattle.std.specs.Prelude.{◌≡◌, ◌≢◌, ◌+◌, ◌<◌, ◌^◌, Err, IfOk, IfErr, IfSome, OnOk};
 ghost use Rattle.ct_program.specs.Script.{script};
-ghost use Rattle.ct_show.specs.Answer.{Shows, FailsWith, IsAnswerOf, IsOfReading, IsQuiet};
+ghost use Rattle.ct_show.specs.Answer.{Shows, ShowsPart, FailsWith, IsAnswerOf, IsOfReading, IsQuiet};
 
 use crate::answer::{Answer, shown};
 use crate::view::View;
@@ -25,6 +25,9 @@ pub fn show<R: Source, W: Sink>(
         Shows view.now (script input) (W.written writer.old) (W.written writer.new))) }
     ensures fault { IfErr result (λ fault. IfSome (R.left reader.old) (λ input.
         FailsWith view.now fault (script input) (W.written writer.old) (W.written writer.new))) }
+    // Where the writer failed, some first bytes of what would have been shown were written.
+    ensures part { result ≡ Err ProgramFault.Write → IfSome (R.left reader.old) (λ input.
+        ShowsPart view.now (script input) (W.written writer.old) (W.written writer.new)) }
     // A stream failed where that is the fault, once, and else not at all.
     ensures reader { result ≡ Err ProgramFault.Reader → R.failures reader.new ≡ R.failures reader.old + 1 }
     ensures no_read { result ≢ Err ProgramFault.Reader → R.failures reader.new ≡ R.failures reader.old }

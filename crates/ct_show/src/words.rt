@@ -17,9 +17,11 @@ const FILE: &str = "The file that the record stands in; - for standard input";
 
 // What stands after the options of `check`.
 const AFTER_CHECK: &str = "Examples:
-  ct_tool check examples/*.json
+  ct_tool check run.json another.json
   ct_tool check --quiet run.json && ct_tool report run.json
   ct_tool check --expect-reports examples/*.json
+
+A step of one of the project's examples is refused: the last line names it, and ends with status 1.
 
 Status, the largest of those of the records:
   0  each record is replayed

@@ -4,7 +4,7 @@ use Rattle.ct_program.specs.declared.program_fault.ProgramFault.{ProgramFault}
 use Rattle.ct_program.specs.Script.{script}
 use Rattle.ct_show.specs.declared.view.View.{View}
 use Rattle.ct_show.specs.Answer.{FailsWith}
-use Rattle.ct_show.proofs.Seen.{fails_seen, reading_seen, shows_seen}
+use Rattle.ct_show.proofs.Seen.{fails_seen, part_seen, reading_seen, shows_seen}
 use Rattle.ct_show.proofs.running.show.Goals as goal
 
 -- the fault that is handed on
@@ -32,3 +32,9 @@ returns-clause-fault g c =
     fails_seen (g.R.Source.left c.args.reader.now) c.in_ok-bytes.bytes.items c.args.view.now c.in_ok-bytes.ensures.bytes
     c.in_ok-answer.answer.text.items c.deref.result.now c.in_ok-answer.answer.refused (g.W.Sink.written c.args.writer.now) _
     c.in_ok-answer.ensures.ok c.deref.ensures.value c.in-Ok.ensures.bytes c.in-Some.fault c.in-Some.is
+
+pub returns-in-Err-clause-part : goal.returns-in-Err-clause-part
+returns-in-Err-clause-part g c = λ _.
+    part_seen (g.R.Source.left c.args.reader.now) c.in_ok-bytes.bytes.items c.args.view.now c.in_ok-bytes.ensures.bytes
+    c.in_ok-answer.answer.text.items c.deref.result.now c.in_ok-answer.answer.refused (g.W.Sink.written c.args.writer.now) _
+    c.in_ok-answer.ensures.ok c.deref.ensures.value c.in-Err.ensures.part

@@ -1,0 +1,152 @@
+-- What checking files comes to, and what is written of it.
+use Rattle.std.specs.Prelude.{◌≡◌, ◌≢◌, ℕ, ◌-◌, Bool, true, false, if◌then◌else◌, List, [], ◌∷◌, ◌++◌, length, take, drop, fold, max, codes, Option}
+use Rattle.std.specs.Prelude.{decimal, IfSome, IsOkAnd, ⊤}
+use Rattle.std.specs.Io.KnownBytes.{Appends}
+use Rattle.std.specs.List.{concat}
+use Rattle.std.specs.Str.{bytes_eq}
+use Rattle.ct_names.specs.RefusalText.{refusal_text}
+use Rattle.ct_model.specs.Rehearsal.{Rehearsal}
+use Rattle.ct_program.specs.declared.program_fault.ProgramFault.{ProgramFault}
+use Rattle.ct_program.specs.declared.program_fault.ProgramFault.TheVariants.{Replay, Read, Reader, Write, Memory, Start, Exchanged}
+use Rattle.ct_program.specs.declared.read_fault.ReadFault.{ReadFault}
+use Rattle.ct_program.specs.declared.read_fault.ReadFault.TheVariants.{TooLong, NotJson, Shape, Version, OutOfMemory}
+use Rattle.ct_program.specs.ProgramFault as program
+use Rattle.ct_program.specs.Replay.{IsFaultIn, IsReplayed, read_part}
+use Rattle.ct_program.specs.Report.{report_text}
+use Rattle.ct_program.specs.Script.{script}
+use Rattle.ct_program.specs.Streams.{WritesPart}
+use Rattle.ct_show.specs.declared.check_options.CheckOptions.{CheckOptions}
+use Rattle.ct_show.specs.declared.checked.Checked.{Checked}
+use Rattle.ct_show.specs.declared.checked.Checked.TheVariants.{Good, OtherReport, NoReport, Fault}
+
+-- ---- one file
+
+-- the name ends with `.json`
+abbrev pub is_json : List ℕ → Bool
+is_json name = bytes_eq (drop (length name - 5) name) (codes ".json")
+
+-- the name of the report beside a record: `.report` in place of `.json` at its end, or after it
+unfoldable pub report_name : List ℕ → List ℕ
+report_name name = (if is_json name then take (length name - 5) name else name) ++ codes ".report"
+
+-- what is known of each file: the bytes of the one of this name
+abbrev pub Known : Type 0
+Known = List ℕ → Option (List ℕ)
+
+-- the report in the file, where its bytes are known, is the record's
+abbrev pub HasReport : Option (List ℕ) → Rehearsal → Type 0
+HasReport known w = IfSome known (λ report. report_text w ≡ read_part report)
+
+-- it is another one
+abbrev pub HasOther : Option (List ℕ) → Rehearsal → Type 0
+HasOther known w = IfSome known (λ report. report_text w ≢ read_part report)
+
+-- the record is the expected one, where one is expected
+abbrev pub Meets : Bool → Option (List ℕ) → Rehearsal → Type 0
+Meets false known w = ⊤
+Meets true known w = HasReport known w
+
+-- the fault is none of writing
+abbrev pub IsOfRecord : ProgramFault → Type 0
+IsOfRecord Write = ⊥
+IsOfRecord _ = ⊤
+
+-- this is what checking the file of this name comes to. A fault of the record comes before any of its report
+abbrev pub IsChecked : Known → Bool → List ℕ → Checked → Type 0
+IsChecked bytes expects name Good =
+    IfSome (bytes name) (λ input. IsOkAnd (script input) (λ w. IsReplayed w × Meets expects (bytes (report_name name)) w))
+IsChecked bytes expects name OtherReport =
+    (expects ≡ true) × IfSome (bytes name) (λ input. IsOkAnd (script input) (λ w. IsReplayed w × HasOther (bytes (report_name name)) w))
+IsChecked bytes expects name NoReport = (expects ≡ true) × IfSome (bytes name) (λ input. IsOkAnd (script input) IsReplayed)
+IsChecked bytes expects name (Fault fault) = IsOfRecord fault × IfSome (bytes name) (IsFaultIn fault)
+
+-- what comparing a report with the one in the file beside it comes to
+abbrev pub IsBeside : Option (List ℕ) → List ℕ → Checked → Type 0
+IsBeside known report Good = IfSome known (λ expected. report ≡ read_part expected)
+IsBeside known report OtherReport = IfSome known (λ expected. report ≢ read_part expected)
+IsBeside known report NoReport = ⊤
+IsBeside known report (Fault fault) = fault ≡ Memory
+
+-- the status that it stands for
+abbrev pub status_of : Checked → ℕ
+status_of Good = 0
+status_of OtherReport = 1
+status_of NoReport = 4
+status_of (Fault fault) = program.status_of fault
+
+-- ---- its line
+
+abbrev pub read_fault_text : ReadFault → List ℕ
+read_fault_text TooLong = codes "record: too long"
+read_fault_text NotJson = codes "record: not JSON"
+read_fault_text (Shape at) = codes "record: shape at " ++ decimal at
+read_fault_text Version = codes "record: version"
+read_fault_text OutOfMemory = codes "out of memory"
+
+abbrev pub fault_text : ProgramFault → List ℕ
+fault_text (Replay at refusal) = concat (codes "step " ∷ decimal at ∷ codes ": " ∷ refusal_text refusal ∷ [])
+fault_text (Read fault) = read_fault_text fault
+fault_text Reader = codes "read failed"
+fault_text Write = codes "write failed"
+fault_text Memory = codes "out of memory"
+fault_text Start = codes "no thread"
+fault_text Exchanged = codes "world exchanged"
+
+-- what the line says: a name, and what there is to tell of it
+abbrev pub told : List ℕ → List ℕ → List ℕ
+told name text = concat (name ∷ codes ": " ∷ text ∷ codes "\n" ∷ [])
+
+-- the line of the file, which a good one has not
+abbrev pub checked_text : List ℕ → Checked → List ℕ
+checked_text name Good = []
+checked_text name OtherReport = told name (codes "another report")
+checked_text name NoReport = told (report_name name) (codes "read failed")
+checked_text name (Fault fault) = told name (fault_text fault)
+
+-- what is written of it
+abbrev pub line_of : Bool → List ℕ → Checked → List ℕ
+line_of true name checked = []
+line_of false name checked = checked_text name checked
+
+-- ---- all files
+
+-- each of the files, in order, has one of these outcomes
+abbrev pub AreChecked : Known → Bool → List (List ℕ) → List Checked → Type 0
+AreChecked bytes expects [] [] = ⊤
+AreChecked bytes expects [] (checked ∷ more) = ⊥
+AreChecked bytes expects (name ∷ names) [] = ⊥
+AreChecked bytes expects (name ∷ names) (checked ∷ more) = IsChecked bytes expects name checked × AreChecked bytes expects names more
+
+-- what is written of them
+abbrev pub lines_of : Bool → List (List ℕ) → List Checked → List ℕ
+lines_of quiet [] outcomes = []
+lines_of quiet (name ∷ names) [] = []
+lines_of quiet (name ∷ names) (checked ∷ more) = line_of quiet name checked ++ lines_of quiet names more
+
+-- the largest of their statuses
+abbrev pub worst_of : List Checked → ℕ
+worst_of outcomes = fold (λ worst checked. max worst (status_of checked)) 0 outcomes
+
+-- the files were checked: their lines, and nothing else, were written, and this is the largest of their statuses
+pub record Checks (bytes : Known) (options : CheckOptions) (names : List (List ℕ)) (old new : Option (List ℕ)) (status : ℕ) : Type 0 where
+  pub outcomes : List Checked
+  pub each : AreChecked bytes options.expects names outcomes
+  pub lines : Appends old new (lines_of options.quiet names outcomes)
+  pub worst : status ≡ worst_of outcomes
+
+-- some first ones were checked, and some first bytes of their lines, and nothing else, were written
+pub record ChecksPart (bytes : Known) (options : CheckOptions) (names : List (List ℕ)) (old new : Option (List ℕ)) : Type 0 where
+  pub count : ℕ
+  pub outcomes : List Checked
+  pub each : AreChecked bytes options.expects (take count names) outcomes
+  pub lines : WritesPart old new (lines_of options.quiet (take count names) outcomes)
+
+-- the same of one file
+abbrev pub ChecksOne : Known → CheckOptions → List ℕ → Option (List ℕ) → Option (List ℕ) → ℕ → Type 0
+ChecksOne bytes options name old new status =
+    (checked : Checked) × IsChecked bytes options.expects name checked × (status ≡ status_of checked)
+    × Appends old new (line_of options.quiet name checked)
+
+abbrev pub ChecksOnePart : Known → CheckOptions → List ℕ → Option (List ℕ) → Option (List ℕ) → Type 0
+ChecksOnePart bytes options name old new =
+    (checked : Checked) × IsChecked bytes options.expects name checked × WritesPart old new (line_of options.quiet name checked)

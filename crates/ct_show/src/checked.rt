@@ -1,0 +1,33 @@
+//! What checking a file comes to.
+
+ghost use Rattle.std.specs.Prelude.{◌≡◌};
+ghost use Rattle.ct_show.specs.Checking.{status_of};
+
+use ct_program::ProgramFault;
+
+/// What checking a file comes to.
+#[derive(Clone, Copy, Debug, Drop, PartialEq, Eq)]
+pub enum Checked {
+    /// Its record is replayed, and where a report is expected, to that report.
+    Good,
+    /// Its record is replayed to another report than the one beside it.
+    OtherReport,
+    /// Its record is replayed, and the report beside it can't be read.
+    NoReport,
+    /// It can't be read, is no record, or a step of its record is refused; or memory was refused.
+    Fault(ProgramFault),
+}
+
+impl Checked {
+    /// The status that it stands for: 0 for a good one, 1 for another report, 4 for one that can't be read, else the fault's.
+    pub fn status(&self) -> u8
+        ensures { result ≡ status_of self.now }
+    {
+        match self {
+            Checked::Good => 0,
+            Checked::OtherReport => 1,
+            Checked::NoReport => 4,
+            Checked::Fault(fault) => fault.status(),
+        }
+    }
+}

@@ -1,0 +1,199 @@
+//! Which of several files have records with a fault.
+
+ghost use Rattle.std.specs.Prelude.{◌≡◌, ◌≢◌, ◌⊎◌, ◌+◌, ◌<◌, ◌^◌, ◌++◌, Err, map, OnOk, OnErr, IfOk, IfErr, IfSome, string_bytes};
+ghost use Rattle.std.specs.Str.{bytes_eq};
+ghost use Rattle.ct_program.specs.Replay.{IsFaultIn, IsReportOf, read_part};
+ghost use Rattle.ct_show.specs.Checking.{Checks, ChecksOne, ChecksOnePart, ChecksPart, IsBeside, IsChecked, IsOfRecord};
+ghost use Rattle.ct_show.specs.Checking.{checked_text, fault_text, line_of, read_fault_text, report_name, told};
+
+use crate::check_options::CheckOptions;
+use crate::checked::Checked;
+use ct_program::{
+    Counted, Failed, Files, ProgramFault, ReadFault, Sink, read_all, run_replay, write_all,
+};
+use std::alloc::{AllocError, Global};
+
+/// Replays the record of each of these files and writes a line for each that has a fault or, where reports are expected, has
+/// another one than the file beside it; answers the largest of their statuses. A fault of the record comes before any of its
+/// report. What the contract says of the files holds where their bytes are known, and what it says of the output where the
+/// writer tells its bytes.
+pub fn check<F: Files, W: Sink>(
+    alloc: Global,
+    files: &F,
+    names: &[&str],
+    options: &CheckOptions,
+    writer: &mut W,
+) -> Result<u8, ProgramFault>
+    requires { W.failures writer.old < 2 ^ 63 }
+    // Each file has its outcome; what was written are their lines in order, or nothing where that is asked for.
+    ensures ok { IfOk result (λ status. Checks (F.bytes files.now) options.now (map (λ name. name.now) names.now)
+        (W.written writer.old) (W.written writer.new) status) }
+    // Else some first files were checked, and some first bytes of their lines were written.
+    ensures part { OnErr result (ChecksPart (F.bytes files.now) options.now (map (λ name. name.now) names.now)
+        (W.written writer.old) (W.written writer.new)) }
+    ensures fault { IfErr result (λ fault. (fault ≡ ProgramFault.Memory) ⊎ (fault ≡ ProgramFault.Write)) }
+    // The writer failed where that is the fault, once, and else not at all.
+    ensures writer { result ≡ Err ProgramFault.Write → W.failures writer.new ≡ W.failures writer.old + 1 }
+    ensures no_write { result ≢ Err ProgramFault.Write → W.failures writer.new ≡ W.failures writer.old }
+{
+    let mut worst: u8 = 0;
+    for name in names {
+        let status = check_one(alloc, files, name, options, writer)?;
+        worst = worst.max(status);
+    }
+    Ok(worst)
+}
+
+// Checks the file of this name, writes its line, if it has one, and answers its status.
+fn check_one<F: Files, W: Sink>(
+    alloc: Global,
+    files: &F,
+    name: &str,
+    options: &CheckOptions,
+    writer: &mut W,
+) -> Result<u8, ProgramFault>
+    requires { W.failures writer.old < 2 ^ 63 }
+    ensures ok { IfOk result (λ status. ChecksOne (F.bytes files.now) options.now name.now
+        (W.written writer.old) (W.written writer.new) status) }
+    ensures part { OnErr result (ChecksOnePart (F.bytes files.now) options.now name.now
+        (W.written writer.old) (W.written writer.new)) }
+    ensures fault { IfErr result (λ fault. (fault ≡ ProgramFault.Memory) ⊎ (fault ≡ ProgramFault.Write)) }
+    ensures writer { result ≡ Err ProgramFault.Write → W.failures writer.new ≡ W.failures writer.old + 1 }
+    ensures no_write { result ≢ Err ProgramFault.Write → W.failures writer.new ≡ W.failures writer.old }
+    ensures same { OnOk result (W.failures writer.new ≡ W.failures writer.old) }
+{
+    let checked = checked(alloc, files, name, options.expects);
+    let line = line(alloc, options.quiet, name, &checked)?;
+    match write_all(writer, line.as_bytes()) {
+        Ok(()) => Ok(checked.status()),
+        Err(Failed) => Err(ProgramFault::Write),
+    }
+}
+
+// What checking the file of this name comes to.
+fn checked<F: Files>(alloc: Global, files: &F, name: &str, expects: bool) -> Checked
+    ensures { IsChecked (F.bytes files.now) expects name.now result }
+{
+    match replayed(alloc, files, name) {
+        Err(fault) => Checked::Fault(fault),
+        Ok(report) if expects => compared(alloc, files, name, &report),
+        Ok(_) => Checked::Good,
+    }
+}
+
+// The report of the record in the file of this name.
+fn replayed<F: Files>(alloc: Global, files: &F, name: &str) -> Result<Vec<u8>, ProgramFault>
+    ensures ok { IfOk result (λ report. IfSome (F.bytes files.now name.now) (λ input. IsReportOf input report.items)) }
+    ensures record { IfErr result IsOfRecord }
+    ensures fault { IfErr result (λ fault. IfSome (F.bytes files.now name.now) (IsFaultIn fault)) }
+{
+    let Ok(mut reader) = files.open(name) else {
+        return Err(ProgramFault::Reader);
+    };
+    let mut writer = Counted::new(Vec::new(alloc));
+    match run_replay(alloc, &mut reader, &mut writer) {
+        Ok(()) => Ok(writer.into_inner()),
+        // What writes into memory fails where memory is refused.
+        Err(ProgramFault::Write) => Err(ProgramFault::Memory),
+        Err(fault) => Err(fault),
+    }
+}
+
+// What comparing the report with the one beside the file comes to.
+fn compared<F: Files>(alloc: Global, files: &F, name: &str, report: &[u8]) -> Checked
+    ensures { IsBeside (F.bytes files.now (report_name name.now)) report.now result }
+{
+    let Ok(beside) = report_name(alloc, name) else {
+        return Checked::Fault(ProgramFault::Memory);
+    };
+    let Ok(mut reader) = files.open(&beside) else {
+        return Checked::NoReport;
+    };
+    match read_all(alloc, &mut reader) {
+        Ok(expected) if is_same(report, &expected) => Checked::Good,
+        Ok(_) => Checked::OtherReport,
+        Err(ProgramFault::Memory) => Checked::Fault(ProgramFault::Memory),
+        Err(_) => Checked::NoReport,
+    }
+}
+
+fn is_same(report: &[u8], expected: &[u8]) -> bool
+    ensures { result ≡ bytes_eq report.now expected.now }
+{
+    report == expected
+}
+
+// The name of the report beside the record of this name.
+#[tactic(auto, unfolding(crate::specs::Checking::report_name))]
+fn report_name(alloc: Global, name: &str) -> Result<String, AllocError>
+    ensures { IfOk result (λ text. string_bytes text ≡ report_name name.now) }
+{
+    match name.strip_suffix(".json") {
+        Some(stem) => format!(in alloc; "{stem}.report"),
+        None => format!(in alloc; "{name}.report"),
+    }
+}
+
+// What is written of the file.
+fn line(alloc: Global, quiet: bool, name: &str, checked: &Checked) -> Result<String, AllocError>
+    ensures { IfOk result (λ text. string_bytes text ≡ line_of quiet name.now checked.now) }
+{
+    let mut text = String::new(alloc);
+    if !quiet {
+        push_checked(alloc, &mut text, name, checked)?;
+    }
+    Ok(text)
+}
+
+fn push_checked(
+    alloc: Global,
+    text: &mut String,
+    name: &str,
+    checked: &Checked,
+) -> Result<(), AllocError>
+    ensures { OnOk result (string_bytes text.new ≡ string_bytes text.old ++ checked_text name.now checked.now) }
+{
+    match checked {
+        Checked::Good => Ok(()),
+        Checked::OtherReport => push_told(text, name, "another report"),
+        Checked::NoReport => push_told(text, &report_name(alloc, name)?, "read failed"),
+        Checked::Fault(fault) => push_told(text, name, &fault_line(alloc, fault)?),
+    }
+}
+
+// The line that tells this of the file of this name.
+fn push_told(text: &mut String, name: &str, what: &str) -> Result<(), AllocError>
+    ensures { OnOk result (string_bytes text.new ≡ string_bytes text.old ++ told name.now what.now) }
+{
+    text.push_str(name)?;
+    text.push_str(": ")?;
+    text.push_str(what)?;
+    text.push_str("\n")
+}
+
+// The text of the fault, as it shows itself.
+fn fault_line(alloc: Global, fault: &ProgramFault) -> Result<String, AllocError>
+    ensures { IfOk result (λ text. string_bytes text ≡ fault_text fault.now) }
+{
+    match fault {
+        ProgramFault::Replay { at, refusal } => format!(in alloc; "step {at}: {refusal}"),
+        ProgramFault::Read(fault) => read_fault_line(alloc, fault),
+        ProgramFault::Reader => format!(in alloc; "read failed"),
+        ProgramFault::Write => format!(in alloc; "write failed"),
+        ProgramFault::Memory => format!(in alloc; "out of memory"),
+        ProgramFault::Start => format!(in alloc; "no thread"),
+        ProgramFault::Exchanged => format!(in alloc; "world exchanged"),
+    }
+}
+
+fn read_fault_line(alloc: Global, fault: &ReadFault) -> Result<String, AllocError>
+    ensures { IfOk result (λ text. string_bytes text ≡ read_fault_text fault.now) }
+{
+    match fault {
+        ReadFault::TooLong => format!(in alloc; "record: too long"),
+        ReadFault::NotJson => format!(in alloc; "record: not JSON"),
+        ReadFault::Shape { at } => format!(in alloc; "record: shape at {at}"),
+        ReadFault::Version => format!(in alloc; "record: version"),
+        ReadFault::OutOfMemory => format!(in alloc; "out of memory"),
+    }
+}
