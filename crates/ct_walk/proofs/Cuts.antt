@@ -1,5 +1,5 @@
 -- Where a text is cut at its first two points.
-use Rattle.std.specs.Prelude.{◌≡◌, ◌≢◌, ◌≤◌, ◌<◌, ◌+◌, ◌-◌, ◌++◌, ℕ, zero, suc, Bool, true, false, [], ◌∷◌, length}
+use Rattle.std.specs.Prelude.{◌≡◌, ◌≢◌, ◌≤◌, ◌<◌, ◌+◌, ◌++◌, ℕ, zero, suc, Bool, true, false, [], ◌∷◌, length}
 use Rattle.std.specs.Prelude.{Some, None, codes, drop, take}
 use Rattle.std.proofs.Common.{◌∙◌, ap, ap₂, arith, refl, sym, true≢false}
 use Rattle.std.proofs.lemmas.Bool.Decides.{nat_tests}
@@ -50,18 +50,18 @@ pub no_seeds : (text : Text) → ((i : ℕ) → i ≤ length text → Lacks text
 unfolding seeds_of
 no_seeds text lacks = rw (cut_none text lacks) refl
 
-pub no_first : (text front back : Text) → IsSplit text front back → None ≡ whole_in 0 4294967294 front →
+pub no_first : (text front back : Text) → IsSplit text front back → None ≡ whole_in 0 4294967295 front →
     None ≡ seeds_of text
 unfolding seeds_of
 no_first text front back h none = rw (split_cut text front back h, sym none) refl
 
 pub no_last : (text front back : Text) (first : ℕ) → IsSplit text front back →
-    Some first ≡ whole_in 0 4294967294 front → None ≡ whole_in first 4294967294 back → None ≡ seeds_of text
+    Some first ≡ whole_in 0 4294967295 front → None ≡ whole_in first 4294967295 back → None ≡ seeds_of text
 unfolding seeds_of
 no_last text front back first h some none = rw (split_cut text front back h, sym some, sym none) refl
 
 pub some_seeds : (text front back : Text) (first last : ℕ) → IsSplit text front back →
-    Some first ≡ whole_in 0 4294967294 front → Some last ≡ whole_in first 4294967294 back →
-    Some (record { first = first; count = (last - first) + 1 }) ≡ seeds_of text
+    Some first ≡ whole_in 0 4294967295 front → Some last ≡ whole_in first 4294967295 back →
+    Some (record { first = first; last = last }) ≡ seeds_of text
 unfolding seeds_of
 some_seeds text front back first last h some more = rw (split_cut text front back h, sym some, sym more) refl

@@ -1,9 +1,13 @@
 -- Which seed's walk shows what is looked for.
-use Rattle.std.specs.Prelude.{ℕ, zero, suc, ◌+◌, Option, Some, None, if◌then◌else◌}
+use Rattle.std.specs.Prelude.{ℕ, zero, suc, ◌+◌, ◌-◌, Option, Some, None, if◌then◌else◌}
 use Rattle.ct_walk.specs.declared.options.WalkOptions.{WalkOptions}
 use Rattle.ct_walk.specs.Options.{with_seed}
 use Rattle.ct_walk.specs.Shown.{is_shown}
 use Rattle.ct_walk.specs.Walking.{walked}
+
+-- how many seeds there are from the first to the last one
+abbrev pub seeds_to : ℕ → ℕ → ℕ
+seeds_to first last = (last + 1) - first
 
 -- the first of so many seeds, from this one on, whose walk shows what it is made until
 unfoldable pub first_seed : WalkOptions → ℕ → ℕ → Option ℕ

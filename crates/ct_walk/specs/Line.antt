@@ -1,5 +1,5 @@
 -- What a command line may ask of walks. `clap` gives what its commands make of words.
-use Rattle.std.specs.Prelude.{◌≤◌, ◌+◌, ◌-◌, ◌==◌, ◌&&◌, Bool, false, Option, Some, None, List, [], ◌∷◌, drop, fold, codes, option_map}
+use Rattle.std.specs.Prelude.{◌≤◌, ◌==◌, ◌&&◌, Bool, false, Option, Some, None, List, [], ◌∷◌, drop, fold, codes, option_map}
 use Rattle.std.specs.Prelude.{if◌then◌else◌}
 use Rattle.std.specs.Str.{bytes_eq}
 use Rattle.clap.specs.Words.{App, Row, Rule, Text, all_of, first_of, new_app, with_rule}
@@ -70,9 +70,9 @@ cut (c ∷ rest) =
 unfoldable pub seeds_of : Text → Option Seeds
 seeds_of text = do
   parts ← cut text
-  first ← whole_in 0 4294967294 parts.0
-  last ← whole_in first 4294967294 parts.1
-  Some (record { first = first; count = (last - first) + 1 })
+  first ← whole_in 0 4294967295 parts.0
+  last ← whole_in first 4294967295 parts.1
+  Some (record { first = first; last = last })
 
 -- the options of a walk that is made until what the option of that name says
 unfoldable pub walk_options : List Row → Text → Option WalkOptions
@@ -93,9 +93,9 @@ call_with rows (Some text) = do
 abbrev pub walk_call : List Row → Option Call
 walk_call rows = call_with rows (first_of (codes "seeds") rows)
 
--- each seed is below 2 ^ 32 - 1
+-- the last seed is none before the first
 abbrev pub IsSeedsInRange : Seeds → Type 0
-IsSeedsInRange seeds = seeds.first + seeds.count ≤ 4294967295
+IsSeedsInRange seeds = seeds.first ≤ seeds.last
 
 -- each option is in its range
 abbrev pub IsCallInRange : Call → Type 0

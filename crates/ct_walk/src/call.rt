@@ -11,11 +11,11 @@ pub enum Call {
     Find(WalkOptions, Seeds),
 }
 
-/// Seeds one after the other.
+/// Seeds one after the other, the last one too.
 #[derive(Clone, Copy, Debug, Drop, PartialEq, Eq)]
 pub struct Seeds {
     /// The first seed.
     pub first: u32,
-    /// How many there are.
-    pub count: u32,
+    /// The last seed.
+    pub last: u32,
 }

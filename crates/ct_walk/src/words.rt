@@ -18,7 +18,7 @@ use std::alloc::{AllocError, Global};
 
 // The help of the option `turns`.
 const TURNS: &str =
-    "How many turns are made for each member, 0 to 100000; whose turn it is, is drawn";
+    "How many turns there are for each member, 0 to 100000: N times the members are made, and one for each entry of the scripts; whose each is, is drawn, so a member takes more than N of them or fewer";
 
 // What stands after the options.
 const AFTER: &str = "Examples:
@@ -93,12 +93,9 @@ fn seeds(text: &str) -> Option<Seeds>
     ensures range { IfSome result IsSeedsInRange }
 {
     let (first, last) = text.split_once("..")?;
-    let first = number_in(first, 0, u32::MAX - 1)?;
-    let last = number_in(last, first, u32::MAX - 1)?;
-    Some(Seeds {
-        first,
-        count: last - first + 1,
-    })
+    let first = number_in(first, 0, u32::MAX)?;
+    let last = number_in(last, first, u32::MAX)?;
+    Some(Seeds { first, last })
 }
 
 /// The subcommand `walk`.
@@ -162,7 +159,11 @@ fn seeds_arg<'a>(alloc: Global) -> Result<Arg<'a>, AllocError>
     ensures rule { IfOk result (λ seeds. rule_of seeds ≡ seeds_rule) }
     ensures local { IfOk result (λ seeds. seeds.global ≡ false) }
 {
-    value_option(alloc, "seeds", "The seeds that --find tries, from A to B")
-        .value_name("A..B")
-        .requires_arg("find")
+    value_option(
+        alloc,
+        "seeds",
+        "The seeds that --find tries, from A to B, both of them too: 0 to 4294967295",
+    )
+    .value_name("A..B")
+    .requires_arg("find")
 }
