@@ -10,6 +10,7 @@ use Rattle.ct_grammar.specs.declared.fact.Fact.TheVariants.{Received, Decided, D
 use Rattle.ct_grammar.specs.Words.{Word, only}
 use Rattle.ct_grammar.specs.Numbers.{◌>>=◌, number_of, max_u32}
 use Rattle.ct_grammar.specs.Acts.{act_of}
+use Rattle.ct_grammar.specs.Reasons.{reason_of}
 
 -- a phase, by its name
 unfoldable pub phase_of : Word → Option Phase
@@ -25,12 +26,13 @@ before_last [] = None
 before_last (word ∷ []) = Some ([], word)
 before_last (word ∷ next ∷ words) = option_map (λ r. (word ∷ r.0, r.1)) (before_last (next ∷ words))
 
--- an act, and behind it one word, the name of the reason for which it is refused
+-- an act, and behind it the name of the reason for which it is refused
 unfoldable pub refusal_of : List Word → Option Fact
 refusal_of words = do
   r ← before_last words
   act ← act_of r.0
-  Some (Refuses act r.1)
+  reason ← reason_of r.1
+  Some (Refuses act reason)
 
 -- the facts of one word
 unfoldable pub short_fact : Word → Option Fact

@@ -5,6 +5,7 @@ ghost use Rattle.ct_grammar.specs.Facts.{phase_of, before_last, refusal_of, shor
 
 use crate::acting::act;
 use crate::fact::Fact;
+use crate::naming::reason;
 use crate::numbers::whole;
 use crate::text::Text;
 use crate::words::only;
@@ -64,17 +65,11 @@ fn before_last<'a, 'b>(words: &'b [&'a str]) -> Option<(&'b [&'a str], &'a str)>
 
 // An act, and behind it the name of the reason for which it is refused.
 #[tactic(auto, unfolding(crate::specs::Facts::refusal_of))]
-fn refusal(alloc: Global, words: &[&str]) -> Result<Option<Fact>, AllocError>
-    ensures { IfOk result (λ fact. fact ≡ refusal_of (map (λ word. word.now) words.now)) }
+fn refusal(words: &[&str]) -> Option<Fact>
+    ensures { result ≡ refusal_of (map (λ word. word.now) words.now) }
 {
-    let Some((front, name)) = before_last(words) else {
-        return Ok(None);
-    };
-    let Some(act) = act(front) else {
-        return Ok(None);
-    };
-    let reason = Text::new(String::from_str(alloc, name)?);
-    Ok(Some(Fact::Refuses(act, reason)))
+    let (front, name) = before_last(words)?;
+    Some(Fact::Refuses(act(front)?, reason(name)?))
 }
 
 // The facts of a number and of a phase.
@@ -100,7 +95,7 @@ fn long_fact(alloc: Global, name: &str, words: &[&str]) -> Result<Option<Fact>, 
         "decided" => Ok(Some(Fact::Decided(joined(alloc, words)?))),
         "delivered" => Ok(Some(Fact::Delivered(joined(alloc, words)?))),
         "table" => Ok(Some(Fact::Table(joined(alloc, words)?))),
-        "refuses" => refusal(alloc, words),
+        "refuses" => Ok(refusal(words)),
         _ => Ok(number_fact(name, words)),
     }
 }

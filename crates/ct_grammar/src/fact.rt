@@ -1,6 +1,7 @@
 //! What lines expect of members.
 
 use crate::act::Act;
+use crate::reason::Reason;
 use crate::text::Text;
 use ct_model::Phase;
 use ct_names::{Instance, Round};
@@ -28,6 +29,6 @@ pub enum Fact {
     Delivered(Text),
     /// `table 0=7 1=12`
     Table(Text),
-    /// `refuses enter Decided`: the act is refused, for the reason of this name.
-    Refuses(Act, Text),
+    /// `refuses enter Decided`: the act is refused, for this reason.
+    Refuses(Act, Reason),
 }

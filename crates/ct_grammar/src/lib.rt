@@ -18,7 +18,8 @@
 //! PICK                 #SERIAL, KIND, KIND from P
 //! KIND                 data O.N, est I/R, prop I/R, ack I/R, nack I/R, dec I/R
 //! FACT                 up, crashed, idle, instance I, round R, phase NAME, received WORDS, decided WORDS, delivered WORDS,
-//!                      table WORDS, refuses ACT WORD
+//!                      table WORDS, refuses ACT REASON
+//! REASON               the name of a refusal by the rules, as Idle or Full(Steps), or NotThere
 //! ```
 //!
 //! A member or a register that no group or table has is understood, as member 0; the step is refused.
@@ -30,11 +31,13 @@ mod carried;
 mod expecting;
 mod fact;
 mod line;
+mod naming;
 mod numbers;
 mod pick;
 mod picking;
 mod question;
 mod reading;
+mod reason;
 mod text;
 mod who;
 mod words;
@@ -46,5 +49,6 @@ pub use line::Line;
 pub use pick::Pick;
 pub use question::Question;
 pub use reading::line_of;
+pub use reason::Reason;
 pub use text::Text;
 pub use who::Who;

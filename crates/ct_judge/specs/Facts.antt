@@ -19,6 +19,7 @@ use Rattle.ct_show.specs.Shapes.{phase_text}
 use Rattle.ct_grammar.specs.declared.fact.Fact.{Fact}
 use Rattle.ct_grammar.specs.declared.fact.Fact.TheVariants.{Up, Crashed, Idle, Instance, Round, Phase as InPhase}
 use Rattle.ct_grammar.specs.declared.fact.Fact.TheVariants.{Received, Decided, Delivered, Table, Refuses}
+use Rattle.ct_grammar.specs.Reasons.{reason_text}
 use Rattle.ct_judge.specs.Acting.{step_of}
 use Rattle.ct_judge.specs.declared.line_fault.LineFault.{LineFault}
 use Rattle.ct_judge.specs.declared.line_fault.LineFault.TheVariants.{NoSuchMember, NotMet}
@@ -68,7 +69,7 @@ there w p (Received text) = worded (codes "received") (messages_text 32 (receive
 there w p (Decided text) = worded (codes "decided") (decisions_text (member_of w p).got)
 there w p (Delivered text) = worded (codes "delivered") (messages_text 32 (delivered (member_of w p)))
 there w p (Table text) = worded (codes "table") (table_text (table (delivered (member_of w p))))
-there w p (Refuses act name) = worded (codes "refuses") (step_refusal w (step_of w p act))
+there w p (Refuses act reason) = worded (codes "refuses") (step_refusal w (step_of w p act))
 
 -- ---- what is expected
 
@@ -83,7 +84,7 @@ wanted (Received text) = worded (codes "received") text
 wanted (Decided text) = worded (codes "decided") text
 wanted (Delivered text) = worded (codes "delivered") text
 wanted (Table text) = worded (codes "table") text
-wanted (Refuses act name) = worded (codes "refuses") name
+wanted (Refuses act reason) = worded (codes "refuses") (reason_text reason)
 
 -- a fact holds where what is there reads as what is expected
 unfoldable pub holds : Rehearsal → ℕ → Fact → Bool

@@ -216,7 +216,7 @@ fn push_wanted(text: &mut String, fact: &Fact) -> Result<(), AllocError>
         Fact::Decided(words) => push_worded(text, "decided", words.as_str()),
         Fact::Delivered(words) => push_worded(text, "delivered", words.as_str()),
         Fact::Table(words) => push_worded(text, "table", words.as_str()),
-        Fact::Refuses(_, name) => push_worded(text, "refuses", name.as_str()),
+        Fact::Refuses(_, reason) => write!(text, "refuses {reason}"),
     }
 }
 

@@ -1,5 +1,5 @@
 use ct_grammar::*;
-use ct_names::Command;
+use ct_names::{Command, Limit, Refusal};
 use std::alloc::{AllocError, Global};
 use std::test::Fail;
 
@@ -135,14 +135,13 @@ fn numbers_are_read(rt: HostRuntime) -> Result<(), Fail> {
     Ok(())
 }
 
-// The text that is expected, or the name of a reason.
+// The text that is expected.
 fn quoted(line: &Option<Line>) -> Option<&str> {
     match line {
         Some(Line::Expect(2, Fact::Received(text))) => Some(text.as_str()),
         Some(Line::Expect(2, Fact::Decided(text))) => Some(text.as_str()),
         Some(Line::Expect(2, Fact::Delivered(text))) => Some(text.as_str()),
         Some(Line::Expect(2, Fact::Table(text))) => Some(text.as_str()),
-        Some(Line::Expect(2, Fact::Refuses(Act::Enter, text))) => Some(text.as_str()),
         _ => None,
     }
 }
@@ -153,7 +152,6 @@ fn reads_texts(alloc: Global) -> Result<bool, AllocError> {
         ("expect 2 decided 1:1.1,2.1", "1:1.1,2.1"),
         ("expect 2 delivered -", "-"),
         ("expect 2 table 0=7 1=12 2=é", "0=7 1=12 2=é"),
-        ("expect 2 refuses enter Full(Steps)", "Full(Steps)"),
     ];
     for (line, text) in texts {
         if quoted(&line_of(alloc, line)?) != Some(text) {
@@ -161,6 +159,71 @@ fn reads_texts(alloc: Global) -> Result<bool, AllocError> {
         }
     }
     Ok(true)
+}
+
+const REASONS: [(&str, Reason); 23] = [
+    ("NotThere", Reason::NotThere),
+    ("NoSuchMember", Reason::Rules(Refusal::NoSuchMember)),
+    ("Crashed", Reason::Rules(Refusal::Crashed)),
+    ("NotWaiting", Reason::Rules(Refusal::NotWaiting)),
+    ("Busy", Reason::Rules(Refusal::Busy)),
+    ("Nothing", Reason::Rules(Refusal::Nothing)),
+    ("Idle", Reason::Rules(Refusal::Idle)),
+    ("WrongPhase", Reason::Rules(Refusal::WrongPhase)),
+    ("Decided", Reason::Rules(Refusal::Decided)),
+    ("TooFew", Reason::Rules(Refusal::TooFew)),
+    ("NotLargest", Reason::Rules(Refusal::NotLargest)),
+    ("NoProposal", Reason::Rules(Refusal::NoProposal)),
+    ("HasProposal", Reason::Rules(Refusal::HasProposal)),
+    ("Undecided", Reason::Rules(Refusal::Undecided)),
+    ("BadCommand", Reason::Rules(Refusal::BadCommand)),
+    ("NotSent", Reason::Rules(Refusal::NotSent)),
+    ("StillWaiting", Reason::Rules(Refusal::StillWaiting)),
+    (
+        "Full(Submissions)",
+        Reason::Rules(Refusal::Full(Limit::Submissions)),
+    ),
+    (
+        "Full(Instances)",
+        Reason::Rules(Refusal::Full(Limit::Instances)),
+    ),
+    ("Full(Rounds)", Reason::Rules(Refusal::Full(Limit::Rounds))),
+    (
+        "Full(Envelopes)",
+        Reason::Rules(Refusal::Full(Limit::Envelopes)),
+    ),
+    ("Full(Cells)", Reason::Rules(Refusal::Full(Limit::Cells))),
+    ("Full(Steps)", Reason::Rules(Refusal::Full(Limit::Steps))),
+];
+
+// The reason for which an act is expected to be refused.
+fn reason_in(line: &Option<Line>) -> Option<Reason> {
+    match line {
+        Some(Line::Expect(2, Fact::Refuses(Act::Enter, reason))) => Some(*reason),
+        _ => None,
+    }
+}
+
+// Whether the reason is read by its name, and shown by it.
+fn is_named(alloc: Global, name: &str, reason: Reason) -> Result<bool, AllocError> {
+    let line = format!(in alloc; "expect 2 refuses enter {name}")?;
+    let shown = format!(in alloc; "{reason}")?;
+    Ok(reason_in(&line_of(alloc, line.as_str())?) == Some(reason) && shown.as_str() == name)
+}
+
+fn reads_reasons(alloc: Global) -> Result<bool, AllocError> {
+    for (name, reason) in REASONS {
+        if !is_named(alloc, name, reason)? {
+            return Ok(false);
+        }
+    }
+    Ok(true)
+}
+
+#[test]
+fn reasons_are_read(rt: HostRuntime) -> Result<(), Fail> {
+    assert!(rt; reads_reasons(rt.alloc())?);
+    Ok(())
 }
 
 // The fact that is expected of the first member.
@@ -263,7 +326,7 @@ fn questions_and_comments_are_read(rt: HostRuntime) -> Result<(), Fail> {
     Ok(())
 }
 
-const REFUSED: [&str; 42] = [
+const REFUSED: [&str; 46] = [
     "1",
     "all",
     "#7",
@@ -304,6 +367,10 @@ const REFUSED: [&str; 42] = [
     "1 turns 1 suspecting 1,",
     "expect 1 received",
     "expect 1 refuses Decided",
+    "expect 1 refuses enter nothing",
+    "expect 1 refuses enter decided",
+    "expect 1 refuses enter Full",
+    "expect 1 refuses enter Board",
     "expect all up",
     "report 1",
 ];
