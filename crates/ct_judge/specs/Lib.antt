@@ -4,6 +4,7 @@ pub mod Facts
 pub mod Faults
 pub mod Judging
 pub mod Line
+pub mod Parts
 pub mod Picking
 pub mod Recording
 pub mod Schedule

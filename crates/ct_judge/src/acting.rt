@@ -1,8 +1,9 @@
 //! What members do.
 
-ghost use Rattle.std.specs.Prelude.{◌≡◌, Ok, OnOk, IfErr};
+ghost use Rattle.std.specs.Prelude.{◌≡◌, Ok, OnOk, OnErr, IfErr};
 ghost use Rattle.ct_judge.specs.Acting.{IsLater, done, done_by_all, done_if_up, step_of};
 ghost use Rattle.ct_judge.specs.Faults.{IsFaultOf, IsKept};
+ghost use Rattle.ct_judge.specs.Parts.{IsDoneByFirst};
 
 use crate::line_fault::LineFault;
 use crate::picking::picked;
@@ -39,6 +40,7 @@ pub(crate) fn act_one(stage: &mut Stage, member: Member, act: Act) -> Result<(),
     ensures ok { OnOk result (done stage.old member act ≡ Ok stage.new) }
     ensures err { IfErr result (IsFaultOf (done stage.old member act)) }
     ensures same { IfErr result (IsKept stage.old stage.new) }
+    ensures still { OnErr result (stage.new ≡ stage.old) }
     ensures later { IsLater stage.old stage.new }
 {
     match step_of(stage, member, act) {
@@ -48,11 +50,12 @@ pub(crate) fn act_one(stage: &mut Stage, member: Member, act: Act) -> Result<(),
 }
 
 // Each member that is up at the beginning of its turn does it.
-#[tactic(auto, using(crate::proofs::Later::back_again, crate::proofs::Faulty::kept))]
+#[tactic(auto, using(crate::proofs::Later::back_again, crate::proofs::Faulty::kept, crate::proofs::Parts::done_still))]
 pub(crate) fn act_all(stage: &mut Stage, act: Act) -> Result<(), LineFault>
     ensures ok { OnOk result (done_by_all stage.old act ≡ Ok stage.new) }
     ensures err { IfErr result (IsFaultOf (done_by_all stage.old act)) }
     ensures same { IfErr result (IsKept stage.old stage.new) }
+    ensures part { OnErr result (IsDoneByFirst stage.old act stage.new) }
 {
     let count = stage.world().record().len();
     match act_each(stage, act) {
@@ -71,6 +74,7 @@ pub(crate) fn act_all(stage: &mut Stage, act: Act) -> Result<(), LineFault>
 fn act_each(stage: &mut Stage, act: Act) -> Result<(), LineFault>
     ensures ok { OnOk result (done_by_all stage.old act ≡ Ok stage.new) }
     ensures err { IfErr result (IsFaultOf (done_by_all stage.old act)) }
+    ensures part { OnErr result (IsDoneByFirst stage.old act stage.new) }
     ensures later { IsLater stage.old stage.new }
 {
     let n = stage.world().group().n();
@@ -85,6 +89,7 @@ fn act_each(stage: &mut Stage, act: Act) -> Result<(), LineFault>
 fn act_if_up(stage: &mut Stage, member: Member, act: Act) -> Result<(), LineFault>
     ensures ok { OnOk result (done_if_up stage.old member act ≡ Ok stage.new) }
     ensures err { IfErr result (IsFaultOf (done_if_up stage.old member act)) }
+    ensures still { OnErr result (stage.new ≡ stage.old) }
     ensures later { IsLater stage.old stage.new }
 {
     if stage.world().crashed(member) {

@@ -1,11 +1,12 @@
 //! Schedules, judged line by line.
 
-ghost use Rattle.std.specs.Prelude.{◌≡◌, ◌≤◌, ◌++◌, None, Ok, OnOk, IfOk, IfErr, IfSome, length, option_map, string_bytes};
+ghost use Rattle.std.specs.Prelude.{◌≡◌, ◌≤◌, ◌++◌, None, Ok, OnOk, OnErr, IfOk, IfErr, IfSome, length, option_map, string_bytes};
 ghost use Rattle.ct_names.specs.declared.limit.TheConstants.{MAX_BOUND, MAX_CELLS};
 ghost use Rattle.ct_model.specs.Rehearsal.{state_of};
 ghost use Rattle.ct_judge.specs.Answers.{sent_of};
 ghost use Rattle.ct_judge.specs.Faults.{IsFaultOf, IsKept};
 ghost use Rattle.ct_judge.specs.Judging.{after_play, line_in, taken};
+ghost use Rattle.ct_judge.specs.Parts.{IsPart};
 ghost use Rattle.ct_judge.specs.Standing.{headed, made_of, start, world_of};
 ghost use Rattle.ct_judge.specs.Telling.{not_met_in, refused_in};
 
@@ -60,12 +61,14 @@ impl Judge {
         }
     }
 
-    /// Takes a line. One that is refused changes nothing; where memory is refused, or the board, first steps of the line may
-    /// have joined the record.
+    /// Takes a line. One that is refused changes nothing; where memory is refused, or the board, steps of its first members and
+    /// turns may have joined the record, and nothing else is changed.
+    #[tactic(auto, using(crate::proofs::Parts::of_heading))]
     pub fn take(&mut self, line: &Line) -> Result<(), LineFault>
         ensures ok { OnOk result (taken self.old line.now ≡ Ok self.new) }
         ensures err { IfErr result (IsFaultOf (taken self.old line.now)) }
         ensures same { IfErr result (IsKept self.old self.new) }
+        ensures part { OnErr result (IsPart self.old line.now self.new) }
     {
         match line {
             Line::Blank => Ok(()),
@@ -87,6 +90,7 @@ impl Judge {
         ensures ok { OnOk result (headed self.old heading ≡ Ok self.new) }
         ensures err { IfErr result (IsFaultOf (headed self.old heading)) }
         ensures same { IfErr result (IsKept self.old self.new) }
+        ensures still { OnErr result (self.new ≡ self.old) }
     {
         let Some(heading) = heading else {
             return Err(LineFault::NotUnderstood);
@@ -99,11 +103,12 @@ impl Judge {
     }
 
     // Plays the line in the world, which it makes where there is none yet.
-    #[tactic(auto, unfolding(crate::specs::Standing::world_of))]
+    #[tactic(auto, using(crate::proofs::Parts::in_worlds), unfolding(crate::specs::Standing::world_of))]
     fn play(&mut self, line: &Line) -> Result<(), LineFault>
         ensures ok { OnOk result (after_play self.old line.now (world_of self.old) ≡ Ok self.new) }
         ensures err { IfErr result (IsFaultOf (after_play self.old line.now (world_of self.old))) }
         ensures same { IfErr result (IsKept self.old self.new) }
+        ensures part { OnErr result (IsPart self.old line.now self.new) }
     {
         let Some(mut stage) = self.stage.take() else {
             return self.play_first(line);

@@ -1,8 +1,9 @@
 //! What lines come to in a world.
 
-ghost use Rattle.std.specs.Prelude.{◌≡◌, Ok, OnOk, IfErr};
+ghost use Rattle.std.specs.Prelude.{◌≡◌, Ok, OnOk, OnErr, IfErr};
 ghost use Rattle.ct_judge.specs.Faults.{IsFaultOf, IsKept};
 ghost use Rattle.ct_judge.specs.Judging.{asked, known, played};
+ghost use Rattle.ct_judge.specs.Parts.{IsPartOf};
 
 use crate::acting::{act_all, act_one};
 use crate::facts::expect;
@@ -14,11 +15,12 @@ use ct_names::Member;
 use std::alloc::Global;
 
 // Plays the line.
-#[tactic(auto, using(crate::proofs::Faulty::kept))]
+#[tactic(auto, using(crate::proofs::Faulty::kept, crate::proofs::Hearing::on_err))]
 pub(crate) fn play(alloc: Global, stage: &mut Stage, line: &Line) -> Result<(), LineFault>
     ensures ok { OnOk result (played stage.old line.now ≡ Ok stage.new) }
     ensures err { IfErr result (IsFaultOf (played stage.old line.now)) }
     ensures same { IfErr result (IsKept stage.old stage.new) }
+    ensures part { OnErr result (IsPartOf stage.old line.now stage.new) }
 {
     match line {
         Line::Act(Who::One(member), act) => act_one(stage, *member, *act),

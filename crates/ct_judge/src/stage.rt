@@ -139,6 +139,7 @@ impl Stage {
         requires { count ≤ length self.old.steps }
         ensures ok { OnOk result (self.new ≡ record self.old { steps = take count self.old.steps }) }
         ensures err { IfErr result (λ fault. fault ≡ LineFault.OutOfMemory) }
+        ensures same { OnErr result (self.new ≡ self.old) }
     {
         let world = &self.world;
         let steps = &world.record()[..count];

@@ -1,8 +1,10 @@
 //! Turns as a driver makes them.
 
-ghost use Rattle.std.specs.Prelude.{◌≡◌, Ok, Some, false, OnOk, IfErr};
+ghost use Rattle.std.specs.Prelude.{◌≡◌, Ok, Some, false, OnOk, OnErr, IfErr};
 ghost use Rattle.ct_rehearse.specs.Choices.{chosen, first_waiting, question, receives};
+ghost use Rattle.ct_grammar.specs.declared.line.Line.TheVariants.{Turns};
 ghost use Rattle.ct_judge.specs.Faults.{IsFaultOf, IsKept, IsShort};
+ghost use Rattle.ct_judge.specs.Parts.{IsPartOf, IsTurned, IsTurnedByFirst};
 ghost use Rattle.ct_judge.specs.Turning.{after_try, after_turn, after_turns, after_turns_of_first, suspects, tried_at, turned};
 
 use crate::line_fault::LineFault;
@@ -15,7 +17,7 @@ use ct_rehearse::question;
 use ct_world::World;
 
 // These members make so many turns each, one member after another.
-#[tactic(auto, using(crate::proofs::Faulty::short, crate::proofs::Faulty::short_kept), unfolding(crate::specs::Turning::turned))]
+#[tactic(auto, using(crate::proofs::Faulty::short, crate::proofs::Faulty::short_kept, crate::proofs::Parts::none_turned), unfolding(crate::specs::Turning::turned))]
 pub(crate) fn turns(
     stage: &mut Stage,
     who: Who,
@@ -25,6 +27,7 @@ pub(crate) fn turns(
     ensures ok { OnOk result (turned stage.old who count suspected.now ≡ Ok stage.new) }
     ensures err { IfErr result (IsFaultOf (turned stage.old who count suspected.now)) }
     ensures same { IfErr result (IsKept stage.old stage.new) }
+    ensures part { OnErr result (IsPartOf stage.old (Turns who count suspected.now) stage.new) }
 {
     match who {
         Who::All => turns_of_all(stage, count, suspected),
@@ -41,6 +44,7 @@ fn turns_of_all(stage: &mut Stage, count: u32, suspected: &MemberSet) -> Result<
     ensures ok { OnOk result (stage.new
         ≡ after_turns_of_first suspected.now stage.old count stage.old.setting.members) }
     ensures err { IfErr result IsShort }
+    ensures part { OnErr result (IsTurnedByFirst suspected.now stage.old count stage.new) }
 {
     let n = stage.world().group().n();
     for i in 0..n {
@@ -59,6 +63,7 @@ fn turns_of(
 ) -> Result<(), LineFault>
     ensures ok { OnOk result (stage.new ≡ after_turns suspected.now stage.old member count) }
     ensures err { IfErr result IsShort }
+    ensures part { OnErr result (IsTurned suspected.now stage.old member count stage.new) }
 {
     for i in 0..count {
         let _ = i;
@@ -74,6 +79,7 @@ fn turn(stage: &mut Stage, member: Member, suspected: &MemberSet) -> Result<bool
     ensures ok { OnOk result (stage.new ≡ after_turn suspected.now stage.old member) }
     ensures rests { result ≡ Ok false → stage.new ≡ stage.old }
     ensures err { IfErr result IsShort }
+    ensures still { OnErr result (stage.new ≡ stage.old) }
 {
     match tried_at(stage.world(), member, suspected) {
         None => Ok(false),
@@ -87,6 +93,7 @@ fn attempt(stage: &mut Stage, step: Step) -> Result<bool, LineFault>
     ensures ok { OnOk result (stage.new ≡ after_try stage.old (Some step)) }
     ensures rests { result ≡ Ok false → stage.new ≡ stage.old }
     ensures err { IfErr result IsShort }
+    ensures still { OnErr result (stage.new ≡ stage.old) }
 {
     match stage.step(step) {
         Ok(()) => Ok(true),

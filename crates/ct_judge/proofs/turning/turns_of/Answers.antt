@@ -1,5 +1,7 @@
 use Rattle.std.proofs.Common.{rules, ◌≡◌, Ok, false, arith, sym, ◌∙◌, ap}
+use Rattle.ct_judge.specs.Parts.{IsTurned}
 use Rattle.ct_judge.specs.Turning.{after_turn}
+use Rattle.ct_judge.proofs.Hearing.{on_err}
 use Rattle.ct_judge.proofs.Trying.{rest_on}
 use Rattle.ct_judge.proofs.turning.turns_of.Goals as goal
 
@@ -10,3 +12,12 @@ returns-then-not-branch-clause-ok c =
     let fixed : c.loop-i.stage ≡ after_turn c.args.suspected.now c.loop-i.stage c.args.member = sym same ∙ c.in_ok-turn.ensures.ok in
     same ∙ rest_on c.args.suspected.now c.args.stage.now c.loop-i.stage c.args.member c.loop-i.i c.args.count
     (omega (arith, c.loop-i-test.true)) c.loop-i.invariant fixed
+
+pub returns-in_err-turn-clause-part : goal.returns-in_err-turn-clause-part
+returns-in_err-turn-clause-part c =
+    let part : IsTurned c.args.suspected.now c.args.stage.now c.args.member c.args.count c.turn.new.stage = record {
+      turns = c.loop-i.i;
+      few = omega (arith, c.loop-i-test.true);
+      is = c.in_err-turn.ensures.still ∙ sym c.loop-i.invariant;
+    } in
+    on_err c.from_residual.result part
