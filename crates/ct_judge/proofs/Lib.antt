@@ -1,6 +1,7 @@
 pub mod Explaining
 pub mod Faulty
 pub mod Hearing
+pub mod Kept
 pub mod Later
 pub mod Parts
 pub mod Reading

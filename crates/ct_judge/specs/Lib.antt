@@ -3,6 +3,7 @@ pub mod Answers
 pub mod Facts
 pub mod Faults
 pub mod Judging
+pub mod Keeping
 pub mod Line
 pub mod Parts
 pub mod Picking

@@ -1,0 +1,45 @@
+-- How sessions end, and what is kept of them.
+use Rattle.std.specs.Prelude.{◌≡◌, ℕ, Bool, false, List, [], ◌∷◌, ◌++◌, Option, Some, None, Result, Ok, Err, IsOk, IsOkAnd, ⊤, if◌then◌else◌}
+use Rattle.ct_model.specs.Rehearsal.{Rehearsal}
+use Rattle.ct_program.specs.NewFiles.{Makes, MakesPart}
+use Rattle.ct_program.specs.Text.{record_text}
+use Rattle.ct_judge.specs.Standing.{Standing}
+use Rattle.ct_judge.specs.declared.keep_fault.KeepFault.{KeepFault}
+use Rattle.ct_judge.specs.declared.keep_fault.KeepFault.TheVariants.{NoMembers, Write, Memory}
+use Rattle.ct_judge.specs.declared.line_fault.LineFault.{LineFault}
+use Rattle.ct_judge.specs.declared.line_fault.LineFault.TheVariants as line
+use Rattle.ct_judge.specs.declared.session_fault.SessionFault.{SessionFault}
+use Rattle.ct_judge.specs.declared.session_fault.SessionFault.TheVariants as session
+
+abbrev pub keep_status : KeepFault → ℕ
+keep_status NoMembers = 1
+keep_status Write = 4
+keep_status Memory = 5
+
+-- nobody reads the answers any more: a write failed as the writer broke
+abbrev pub is_left : SessionFault → Bool → Bool
+is_left session.Write broken = broken
+is_left _ broken = false
+
+-- how a session ended for a program
+abbrev pub end_of : Result Standing SessionFault → Bool → Result (Option Standing) SessionFault
+end_of (Ok s) broken = Ok (Some s)
+end_of (Err fault) broken = if is_left fault broken then Ok None else Err fault
+
+-- the text is the record of the session's world and a line feed
+abbrev pub IsKeptIn : List ℕ → Result Rehearsal LineFault → Type 0
+IsKeptIn text r = IsOkAnd r (λ w. text ≡ record_text w ++ 10 ∷ [])
+
+-- a file of this name is made with it
+abbrev pub Keeps : Result Rehearsal LineFault → Option (List (List ℕ × List ℕ)) → Option (List (List ℕ × List ℕ)) → List ℕ → Type 0
+Keeps r old new name = IsOkAnd r (λ w. Makes old new name (record_text w ++ 10 ∷ []))
+
+-- no file is made, or one with some first bytes of it
+abbrev pub KeepsPart : Result Rehearsal LineFault → Option (List (List ℕ × List ℕ)) → Option (List (List ℕ × List ℕ)) → List ℕ → Type 0
+KeepsPart r old new name = IsOkAnd r (λ w. MakesPart old new name (record_text w ++ 10 ∷ []))
+
+-- there is no record where the number of members was not given; a file is written where there is one, and of memory nothing is said
+abbrev pub IsKeepFaultOf : Result Rehearsal LineFault → KeepFault → Type 0
+IsKeepFaultOf r NoMembers = r ≡ Err line.NoMembers
+IsKeepFaultOf r Write = IsOk r
+IsKeepFaultOf r Memory = ⊤

@@ -1,0 +1,45 @@
+//! Why sessions are not kept.
+
+ghost use Rattle.std.specs.Prelude.{◌≡◌};
+ghost use Rattle.ct_judge.specs.Keeping.{keep_status};
+
+use std::alloc::AllocError;
+use thiserror::Error;
+
+/// Why the record of a session is not kept. Its text is the line for standard error.
+#[derive(Clone, Copy, Debug, Drop, PartialEq, Eq, Error)]
+pub enum KeepFault {
+    /// The number of members was not given, so that there is no record.
+    #[error("no members")]
+    NoMembers,
+    /// The writer failed.
+    #[error("write failed")]
+    Write,
+    /// Memory was refused.
+    #[error("out of memory")]
+    Memory,
+}
+
+impl KeepFault {
+    /// The status that a program ends with: 1 where there is no record, 4 for a stream, 5 for memory.
+    pub fn status(&self) -> u8
+        ensures { result ≡ keep_status self.now }
+    {
+        match self {
+            KeepFault::NoMembers => 1,
+            KeepFault::Write => 4,
+            KeepFault::Memory => 5,
+        }
+    }
+}
+
+impl From<AllocError> for KeepFault {
+    ghost use Rattle.std.specs.Prelude.{◌≡◌};
+    ghost use Rattle.ct_judge.specs.declared.keep_fault.KeepFault.TheVariants.{Memory};
+
+    ghost from_gives = { λ _ fault. fault ≡ Memory };
+
+    fn from(_error: AllocError) -> KeepFault {
+        KeepFault::Memory
+    }
+}

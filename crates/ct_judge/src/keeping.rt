@@ -1,0 +1,97 @@
+//! How sessions end, and what is kept of them.
+
+ghost use Rattle.std.specs.Prelude.{◌≡◌, ◌≢◌, ◌+◌, ◌<◌, ◌^◌, Ok, Err, OnOk, IfOk, IfErr, IsOkAnd};
+ghost use Rattle.ct_judge.specs.Keeping.{IsKeepFaultOf, IsKeptIn, Keeps, KeepsPart, end_of, is_left};
+ghost use Rattle.ct_judge.specs.Schedule.{IsSafeRun};
+ghost use Rattle.ct_judge.specs.Standing.{world_of};
+
+use crate::judge::Judge;
+use crate::keep_fault::KeepFault;
+use crate::line_fault::LineFault;
+use crate::session_fault::SessionFault;
+use ct_program::{Failed, NewFiles, write_record};
+use ct_world::World;
+use std::alloc::{AllocError, Global};
+
+/// How a session ended for a program: with its judge at the end of the input, or with None where the writer broke, as nobody reads
+/// the answers any more; else with its fault.
+pub fn session_end(
+    ended: Result<Judge, SessionFault>,
+    broken: bool,
+) -> Result<Option<Judge>, SessionFault>
+    ensures { result ≡ end_of ended broken }
+{
+    match ended {
+        Ok(judge) => Ok(Some(judge)),
+        Err(fault) if is_left(fault, broken) => Ok(None),
+        Err(fault) => Err(fault),
+    }
+}
+
+// Whether nobody reads the answers any more.
+fn is_left(fault: SessionFault, broken: bool) -> bool
+    ensures { result ≡ is_left fault broken }
+{
+    match fault {
+        SessionFault::Write => broken,
+        SessionFault::Read => false,
+        SessionFault::Memory => false,
+        SessionFault::Board => false,
+    }
+}
+
+/// Makes the file of this name with the record of a session and a line feed. What the contract says of the files holds where they
+/// tell what was made.
+#[tactic(auto, using(crate::proofs::Kept::kept_so))]
+pub fn keep<F: NewFiles>(
+    alloc: Global,
+    judge: Judge,
+    files: &mut F,
+    name: &str,
+) -> Result<(), KeepFault>
+    requires { F.failures files.old < 2 ^ 63 }
+    // The file has the record, which is a run of the algorithm that ends in a safe state.
+    ensures ok { OnOk result (Keeps (world_of judge) (F.made files.old) (F.made files.new) name.now) }
+    ensures safe { OnOk result (IsOkAnd (world_of judge) IsSafeRun) }
+    // There is no record where the number of members was not given; of memory nothing is said.
+    ensures fault { IfErr result (IsKeepFaultOf (world_of judge)) }
+    // Only where the file can't be written one may have been made: with some first bytes of that.
+    ensures quiet { IfErr result (λ fault. fault ≢ KeepFault.Write → files.new ≡ files.old) }
+    ensures part { result ≡ Err KeepFault.Write → KeepsPart (world_of judge) (F.made files.old) (F.made files.new) name.now }
+    // The files failed where that is the fault, once, and else not at all.
+    ensures failed { result ≡ Err KeepFault.Write → F.failures files.new ≡ F.failures files.old + 1 }
+    ensures no_write { result ≢ Err KeepFault.Write → F.failures files.new ≡ F.failures files.old }
+{
+    let text = session_record(alloc, judge)?;
+    match files.make(name, &text) {
+        Ok(()) => Ok(()),
+        Err(Failed) => Err(KeepFault::Write),
+    }
+}
+
+// The record of a session and a line feed.
+fn session_record(alloc: Global, judge: Judge) -> Result<Vec<u8>, KeepFault>
+    ensures ok { IfOk result (λ text. IsKeptIn text.items (world_of judge)) }
+    ensures safe { OnOk result (IsOkAnd (world_of judge) IsSafeRun) }
+    ensures fault { IfErr result (IsKeepFaultOf (world_of judge)) }
+    ensures no_write { IfErr result (λ fault. fault ≢ KeepFault.Write) }
+{
+    match judge.into_world() {
+        Ok(world) => Ok(record_line(alloc, &world)?),
+        Err(LineFault::NoMembers) => Err(KeepFault::NoMembers),
+        Err(_) => Err(KeepFault::Memory),
+    }
+}
+
+// The record of the world and a line feed.
+fn record_line(alloc: Global, world: &World) -> Result<Vec<u8>, AllocError>
+    ensures text { IfOk result (λ text. IsKeptIn text.items (Ok world.now.rehearsal)) }
+    ensures safe { IsSafeRun world.now.rehearsal }
+{
+    let _ = world.record();
+    let mut text = write_record(alloc, world)?;
+    match text.push(b'\n') {
+        Ok(()) => Ok(text),
+        Err(_) => Err(AllocError),
+    }
+}
