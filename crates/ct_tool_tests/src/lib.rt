@@ -4,6 +4,8 @@
 #[cfg(test)]
 mod diagrams;
 #[cfg(test)]
+mod faults;
+#[cfg(test)]
 mod lines;
 #[cfg(test)]
 mod schedules;

@@ -1,6 +1,6 @@
 use ct_judge::*;
-use ct_program::Counted;
-use std::alloc::Global;
+use ct_program::{Counted, Failed, NewFiles};
+use std::alloc::{AllocError, Global};
 use std::test::Fail;
 
 // The first steps of a group of one.
@@ -90,6 +90,95 @@ fn is_refused(alloc: Global, schedule: &str, line: usize, said: &str) -> bool {
     }
 }
 
+// The text so many times.
+fn repeated(alloc: Global, text: &str, times: u32) -> Result<String, AllocError> {
+    let mut whole = String::new(alloc);
+    for i in 0..times {
+        let _ = i;
+        whole.push_str(text)?;
+    }
+    Ok(whole)
+}
+
+// Whether a schedule of more than 65,536 bytes is recorded whole.
+fn is_long_recorded(alloc: Global) -> Result<bool, RecordFault> {
+    let mut schedule = repeated(
+        alloc,
+        "# this line and those behind it say nothing of steps\n",
+        1500,
+    )?;
+    schedule.push_str(SHORT)?;
+    Ok(schedule.len() > 65_536 && is_recorded(alloc, schedule.as_str(), SHORT_RECORD)?)
+}
+
+// Whether lines that are read at once are answered whole, where their answers have more than 65,536 bytes.
+fn is_long_answered(alloc: Global) -> Result<bool, SessionFault> {
+    let lines = repeated(alloc, "\n", 30_000)?;
+    let answers = repeated(alloc, "ok\n", 30_000)?;
+    Ok(answers.len() > 65_536 && is_answered(alloc, lines.as_str(), answers.as_str())?)
+}
+
+// The name of the one file that can be made.
+const NAME: &str = "run.json";
+
+// What was written to the file, and how many could not be made.
+#[derive(Drop)]
+struct OneFile {
+    bytes: Vec<u8>,
+    failures: u64,
+}
+
+impl NewFiles for OneFile {
+    ghost use Rattle.std.specs.Prelude.{None};
+
+    ghost made = { λ _. None };
+
+    ghost failures = { λ files. files.failures };
+
+    fn make(&mut self, name: &str, bytes: &[u8]) -> Result<(), Failed> {
+        if name == NAME && self.bytes.extend_from_slice(bytes).is_ok() {
+            Ok(())
+        } else {
+            self.failures += 1;
+            Err(Failed)
+        }
+    }
+}
+
+// Whether this record is kept of a session.
+fn is_kept(alloc: Global, lines: &str, record: &str) -> Result<bool, KeepFault> {
+    let mut reader = Counted::new(lines.as_bytes());
+    let mut writer = Counted::new(Vec::new(alloc));
+    let ended = interact(alloc, &mut reader, &mut writer);
+    let Ok(Some(judge)) = session_end(ended, writer.is_broken()) else {
+        return Ok(false);
+    };
+    let mut files = OneFile {
+        bytes: Vec::new(alloc),
+        failures: 0,
+    };
+    keep(alloc, judge, &mut files, NAME)?;
+    Ok(files.bytes.as_slice() == record.as_bytes())
+}
+
+#[test]
+fn a_record_of_a_session(rt: HostRuntime) -> Result<(), Fail> {
+    assert!(rt; is_kept(rt.alloc(), SHORT, SHORT_RECORD)?);
+    Ok(())
+}
+
+#[test]
+fn a_long_schedule(rt: HostRuntime) -> Result<(), Fail> {
+    assert!(rt; is_long_recorded(rt.alloc())?);
+    Ok(())
+}
+
+#[test]
+fn long_answers(rt: HostRuntime) -> Result<(), Fail> {
+    assert!(rt; is_long_answered(rt.alloc())?);
+    Ok(())
+}
+
 #[test]
 fn a_record_of_a_schedule(rt: HostRuntime) -> Result<(), Fail> {
     assert!(rt; is_recorded(rt.alloc(), SHORT, SHORT_RECORD)?);
@@ -153,6 +242,12 @@ fn refused_names(rt: HostRuntime) -> Result<(), Fail> {
         )
     );
     assert!(rt; is_refused(alloc, "members 2\n3 turns 4", 2, "no member 3"));
+    Ok(())
+}
+
+#[test]
+fn unmet_expectations(rt: HostRuntime) -> Result<(), Fail> {
+    let alloc = rt.alloc();
     assert!(rt; is_refused(alloc, "members 2\n\nexpect 2 crashed", 3, "not met: up"));
     assert!(rt;
         is_refused(
@@ -160,6 +255,22 @@ fn refused_names(rt: HostRuntime) -> Result<(), Fail> {
             "members 2\nexpect 1 delivered 1.1",
             2,
             "not met: delivered -"
+        )
+    );
+    assert!(rt;
+        is_refused(
+            alloc,
+            "members 2\nexpect 1 refuses begin Idle",
+            2,
+            "not met: refuses Nothing"
+        )
+    );
+    assert!(rt;
+        is_refused(
+            alloc,
+            "members 2\nexpect 1 refuses submit set 0 1 Nothing",
+            2,
+            "not met: refuses nothing"
         )
     );
     Ok(())
