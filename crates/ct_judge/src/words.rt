@@ -30,11 +30,11 @@ Status:
 const AFTER_RECORD: &str = "Lines:
   members 3                    the number of members, before all else
   1 submit set 0 7             a step of a member
-  2 receive data 1.1 from 1    an envelope by what it carries, or by its serial: #2
-  all enter                    a step of each member that is up
+  all receive data 1.1 from 1  an envelope by what it carries, or by its serial: #2
+  all begin                    a step of each member that is up
   1 turns 20 suspecting 2,3    turns as a driver makes them
-  expect 1 delivered 1.1       what has to be so
-  expect 1 refuses enter Idle
+  expect 1 received 1.1        what has to be so
+  expect 1 refuses begin Busy
 
 Examples:
   ct_tool record run.txt > run.json
