@@ -1,5 +1,5 @@
 -- Records that are kept.
-use Rattle.std.proofs.Common.{◌≡◌, ℕ, ◌∷◌, ◌++◌, [], List, Option, Result, Ok, Err, refl, subst}
+use Rattle.std.proofs.Common.{ℕ, List, Option, Result, Ok, Err, refl, subst}
 use Rattle.std.specs.Prelude.{IsOk}
 use Rattle.ct_model.specs.Rehearsal.{Rehearsal}
 use Rattle.ct_program.specs.NewFiles.{Makes, MakesPart}
