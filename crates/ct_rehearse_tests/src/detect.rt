@@ -1,5 +1,5 @@
 use ct_detect::{Always, Ask, Detector, EveryNth, Listed, Never, Seeded};
-use ct_names::{Member, MemberSet};
+use ct_names::{MAX_MEMBERS, Member, MemberSet};
 use std::test::Fail;
 
 // What member 1 asks of that coordinator in a round of instance 3.
@@ -36,6 +36,18 @@ fn listed_coordinators_are_suspected(rt: HostRuntime) -> Result<(), Fail> {
     let mut listed = Listed::new(set);
     assert!(rt; listed.suspects(of(1, 1)) && listed.suspects(of(3, 1)));
     assert!(rt; !listed.suspects(of(2, 1)) && !listed.suspects(of(0, 1)));
+    Ok(())
+}
+
+#[test]
+fn one_that_is_listed_is_suspected_alone(rt: HostRuntime) -> Result<(), Fail> {
+    let mut set = MemberSet::new();
+    set.insert(2);
+    let mut listed = Listed::new(set);
+    assert_eq!(rt; four(&mut listed), [true; 4]);
+    for coordinator in 0..=MAX_MEMBERS {
+        assert_eq!(rt; listed.suspects(of(coordinator, 1)), coordinator == 2);
+    }
     Ok(())
 }
 
