@@ -4,7 +4,8 @@ ghost use Rattle.ct_rehearse.specs.Plans.{IsWithin, entries};
 use super::counting::Counting;
 use super::*;
 
-// No turns of members, and a script of submissions, of which one is refused, and a crash.
+// No turns of members, and a script of all kinds of entries. The first is refused, as nobody sent that to the second member,
+// and so is a submission by nobody.
 fn scripted(alloc: Global) -> Result<Plan, AllocError>
     ensures within { IfOk result (λ plan. IsWithin plan) }
     ensures scripts { IfOk result (λ plan. vec_len plan.scripts ≡ 1) }
@@ -12,9 +13,14 @@ fn scripted(alloc: Global) -> Result<Plan, AllocError>
     ensures entries { IfOk result (λ plan. entries plan ≤ 100000) }
 {
     let script = vec![in alloc;
+        Disturbance::Repeat(2, 3),
         Disturbance::Submit(2, SEVEN),
-        Disturbance::Submit(3, SEVEN),
+        Disturbance::Submit(4, SEVEN),
         Disturbance::Postpone(2),
+        Disturbance::Lose(3),
+        Disturbance::Lose(2),
+        Disturbance::Repeat(3, 3),
+        Disturbance::Repeat(2, 5),
         Disturbance::Crash(2),
     ]?;
     let mut scripts = Vec::new(alloc);
@@ -22,7 +28,7 @@ fn scripted(alloc: Global) -> Result<Plan, AllocError>
     Ok(Plan { turns: 0, scripts })
 }
 
-// Two members and a script: what was made, the calls of the gate, and whether the record has these steps.
+// Three members and a script: what was made, the calls of the gate, and whether the record has these steps.
 fn disturbed<L: Ledger + Send + Sync, R: Threads + Wait + Sync>(
     rt: &R,
     alloc: Global,
@@ -33,7 +39,7 @@ fn disturbed<L: Ledger + Send + Sync, R: Threads + Wait + Sync>(
     requires parts { blank.parts ≡ L.parts }
     requires whole { L.parts ≡ 1000 }
 {
-    let (world, board) = submitted(alloc, 2)?;
+    let (world, board) = submitted(alloc, 3)?;
     let (hall, mut share) = Hall::<L>::new(blank, world, board);
     let plan = scripted(alloc).ok()?;
     let gate = Counting::new();
@@ -45,29 +51,21 @@ fn disturbed<L: Ledger + Send + Sync, R: Threads + Wait + Sync>(
 #[test]
 fn a_script_is_followed_in_order(rt: HostRuntime) -> Result<(), Fail> {
     let made = Made {
-        steps: 3,
+        steps: 7,
         resting: 0,
-        refused: 1,
+        refused: 2,
     };
     let steps = [
         Step::Submit(1, SEVEN),
         Step::Submit(2, SEVEN),
         Step::Postpone(2, 2),
+        Step::Lose(3, 3),
+        Step::Lose(2, 5),
+        Step::Repeat(3, 3),
+        Step::Repeat(2, 5),
         Step::Crash(2),
     ];
     let came = disturbed::<Brand, _>(&rt, rt.alloc(), Blank::new(1000), &steps);
-    assert_eq!(rt; came, Some((made, (4, 4), true)));
-    Ok(())
-}
-
-#[test]
-fn runs_fail_for_memory_or_threads_alone(rt: HostRuntime) -> Result<(), Fail> {
-    for fault in [RunFault::Memory, RunFault::Start] {
-        let cause = match fault {
-            RunFault::Memory => "memory",
-            RunFault::Start => "threads",
-        };
-        assert_eq!(rt; cause == "memory", fault == RunFault::Memory);
-    }
+    assert_eq!(rt; came, Some((made, (9, 9), true)));
     Ok(())
 }
