@@ -2,12 +2,12 @@ ghost use Rattle.std.specs.Prelude.{◌≡◌, ◌≤◌, OnSome};
 ghost use Rattle.ct_rehearse.specs.Plans.{IsWithin, entries};
 
 use ct_board::Board;
-use ct_detect::{Detector, Never};
+use ct_detect::{Detector, EveryNth, Never};
 use ct_model::Step;
 use ct_names::{Command, Group, MAX_BOUND};
 use ct_rehearse::{
-    Desk, Disturbance, Gate, Hall, Made, NoGate, Plan, Played, Rehearsed, RunFault, Share, Turn,
-    disturb, play, rehearse, turn,
+    Desk, Disturbance, Gate, Hall, Made, NoGate, Plan, Played, Rehearsed, Share, Turn, disturb,
+    play, rehearse, turn,
 };
 use ct_world::World;
 use std::alloc::{AllocError, Global};
@@ -25,6 +25,7 @@ mod meeting;
 mod numbering;
 mod plans;
 mod playing;
+mod refusing;
 mod replaying;
 mod runs;
 mod turning;
@@ -72,6 +73,16 @@ fn never(alloc: Global, n: u8) -> Result<Vec<Box<dyn Detector>>, AllocError> {
         detectors.push(Box::new(alloc, Never::new())?)?;
     }
     Ok(detectors)
+}
+
+// Detectors of three members that suspect at each n-th ask.
+fn at_each(alloc: Global, n: u32) -> Option<Vec<Box<dyn Detector>>> {
+    let mut detectors: Vec<Box<dyn Detector>> = Vec::new(alloc);
+    for _ in 0..3u8 {
+        let detector = EveryNth::new(n)?;
+        detectors.push(Box::new(alloc, detector).ok()?).ok()?;
+    }
+    Some(detectors)
 }
 
 // What the turns of a plan in this hall come to, whose members suspect nobody.

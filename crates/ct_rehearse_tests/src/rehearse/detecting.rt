@@ -1,15 +1,21 @@
+ghost use Rattle.std.specs.Prelude.{◌≤◌};
+
+use super::turning::waiting_in_round_one;
 use super::*;
 use ct_detect::Always;
 
-// 100 turns of each member, and no script.
+// So many turns of each member, and no script.
 fn run_from<R: Threads + Wait + Sync>(
     rt: &R,
     alloc: Global,
     start: (World, Board),
+    turns: u32,
     detectors: Vec<Box<dyn Detector>>,
-) -> Option<Rehearsed> {
+) -> Option<Rehearsed>
+    requires { turns ≤ 100 }
+{
     let plan = Plan {
-        turns: 100,
+        turns,
         scripts: Vec::new(alloc),
     };
     ran(rt, alloc, start, &plan, detectors, &NoGate)
@@ -26,7 +32,7 @@ fn one_suspects(alloc: Global) -> Result<Vec<Box<dyn Detector>>, AllocError> {
 // Whether the first member alone came to suspect.
 fn first_suspected<R: Threads + Wait + Sync>(rt: &R, alloc: Global) -> Option<bool> {
     let detectors = one_suspects(alloc).ok()?;
-    let done = run_from(rt, alloc, submitted(alloc, 2)?, detectors)?;
+    let done = run_from(rt, alloc, submitted(alloc, 2)?, 100, detectors)?;
     let record = done.world.record();
     Some(record.contains(&Step::Suspect(1)) && !record.contains(&Step::Suspect(2)))
 }
@@ -37,22 +43,35 @@ fn each_member_has_the_detector_in_its_place(rt: HostRuntime) -> Result<(), Fail
     Ok(())
 }
 
-fn made_without_cells<R: Threads + Wait + Sync>(rt: &R, alloc: Global) -> Option<Made> {
-    let (mut world, board) = with_cells(alloc, 1, 0)?;
-    let submitted = does_all(&mut world, &board, &[Step::Submit(1, SEVEN)]);
-    let detectors = never(alloc, 1).ok()?;
-    let done = run_from(rt, alloc, (world, board), detectors)?;
-    if submitted { Some(done.made) } else { None }
+// Three members, of which the first waits in round 1 with nothing in its line, and the others have crashed.
+fn waiting_alone(alloc: Global) -> Option<(World, Board)> {
+    let (mut world, board) = started(alloc, 3)?;
+    let is_waiting = does_all(&mut world, &board, &waiting_in_round_one());
+    if is_waiting && does_all(&mut world, &board, &[Step::Crash(2), Step::Crash(3)]) {
+        Some((world, board))
+    } else {
+        None
+    }
 }
 
-// The board has no cell, so it refuses the batch of the first delivery at each turn from then on.
+// What four turns of each come to where the detectors say yes at the fourth ask, and the last step.
+fn fourth_ask<R: Threads + Wait + Sync>(rt: &R, alloc: Global) -> Option<(Made, Option<Step>)> {
+    let detectors = at_each(alloc, 4)?;
+    let done = run_from(rt, alloc, waiting_alone(alloc)?, 4, detectors)?;
+    Some((done.made, done.world.record().last().copied()))
+}
+
+// The first member asks once in each of its turns, and comes to suspect in the last one.
 #[test]
-fn refused_turns_are_counted_as_refused(rt: HostRuntime) -> Result<(), Fail> {
+fn a_turn_of_a_run_asks_once(rt: HostRuntime) -> Result<(), Fail> {
     let made = Made {
-        steps: 11,
-        resting: 0,
-        refused: 89,
+        steps: 1,
+        resting: 11,
+        refused: 0,
     };
-    assert_eq!(rt; made_without_cells(&rt, rt.alloc()), Some(made));
+    assert_eq!(rt;
+        fourth_ask(&rt, rt.alloc()),
+        Some((made, Some(Step::Suspect(1))))
+    );
     Ok(())
 }

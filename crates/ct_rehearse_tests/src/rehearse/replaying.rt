@@ -3,7 +3,7 @@ ghost use Rattle.ct_rehearse.specs.Plans.{IsWithin};
 
 use super::counting::Counting;
 use super::*;
-use ct_detect::{Always, Ask, EveryNth, Listed, Seeded};
+use ct_detect::{Always, Ask, Listed, Seeded};
 use ct_names::MemberSet;
 
 // A detector that says yes and no by turns.
@@ -47,8 +47,16 @@ fn disturbed(alloc: Global) -> Result<Plan, AllocError>
     })
 }
 
+// Whether the members of both delivered the same, and have the same registers.
+fn has_same_members(world: &World, other: &World) -> bool {
+    (1..=world.group().n()).all(|member| {
+        world.delivered(member) == other.delivered(member)
+            && world.table(member) == other.table(member)
+    })
+}
+
 // Whether the world is that after its record, from nothing.
-fn is_replayed(alloc: Global, world: &World) -> bool {
+pub(super) fn is_replayed(alloc: Global, world: &World) -> bool {
     match World::replay(
         alloc,
         world.group(),
@@ -60,6 +68,7 @@ fn is_replayed(alloc: Global, world: &World) -> bool {
             again.record() == world.record()
                 && again.sent() == world.sent()
                 && again.posted() == world.posted()
+                && has_same_members(&again, world)
         }
         Err(_) => false,
     }
@@ -117,19 +126,10 @@ fn a_run_that_suspects_the_listed_is_replayed(rt: HostRuntime) -> Result<(), Fai
     Ok(())
 }
 
-fn at_each_third(alloc: Global) -> Option<Vec<Box<dyn Detector>>> {
-    let mut detectors: Vec<Box<dyn Detector>> = Vec::new(alloc);
-    for _ in 0..3u8 {
-        let detector = EveryNth::new(3)?;
-        detectors.push(Box::new(alloc, detector).ok()?).ok()?;
-    }
-    Some(detectors)
-}
-
 #[test]
 fn a_run_that_suspects_at_each_third_ask_is_replayed(rt: HostRuntime) -> Result<(), Fail> {
     let alloc = rt.alloc();
-    let detectors = at_each_third(alloc).ok_or("detectors")?;
+    let detectors = at_each(alloc, 3).ok_or("detectors")?;
     assert_eq!(rt; replays(&rt, alloc, detectors), Some(true));
     Ok(())
 }

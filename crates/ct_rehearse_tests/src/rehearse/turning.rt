@@ -1,7 +1,7 @@
 ghost use Rattle.std.specs.Prelude.{◌≡◌};
 
 use super::*;
-use ct_detect::{Always, EveryNth};
+use ct_detect::Always;
 use ct_names::{Member, Refusal};
 use ct_world::Effect;
 
@@ -72,7 +72,7 @@ fn nobody_decides_where_all_suspect(rt: HostRuntime) -> Result<(), Fail> {
 }
 
 // The first member entered round 1, and waits for a proposal with nothing in its line.
-fn waiting_in_round_one() -> [Step; 12] {
+pub(super) fn waiting_in_round_one() -> [Step; 12] {
     [
         Step::Submit(1, Command::Set(0, 1)),
         Step::Submit(2, Command::Set(0, 2)),
@@ -89,13 +89,14 @@ fn waiting_in_round_one() -> [Step; 12] {
     ]
 }
 
-// What comes of three turns of the first member, with a detector that says yes at the third ask.
+// What comes of three turns of the first member, with a detector that says yes at the ask of that number.
 fn asked<L: Ledger>(
     desk: &mut Desk<L>,
     share: &mut Share<L>,
     board: &Board,
+    yes_at: u32,
 ) -> Option<[Option<Came>; 3]> {
-    let mut detector = EveryNth::new(3)?;
+    let mut detector = EveryNth::new(yes_at)?;
     Some([
         turned(desk, share, board, 1, &mut detector),
         turned(desk, share, board, 1, &mut detector),
@@ -104,7 +105,7 @@ fn asked<L: Ledger>(
 }
 
 // The same of a member that waits.
-fn asking<L: Ledger>(alloc: Global, blank: Blank) -> Option<[Option<Came>; 3]>
+fn asking<L: Ledger>(alloc: Global, blank: Blank, yes_at: u32) -> Option<[Option<Came>; 3]>
     requires name { blank.name ≡ L.name }
     requires parts { blank.parts ≡ L.parts }
     requires whole { L.parts ≡ 1000 }
@@ -114,16 +115,22 @@ fn asking<L: Ledger>(alloc: Global, blank: Blank) -> Option<[Option<Came>; 3]>
         return None;
     }
     let (mut desk, mut share) = Desk::<L>::new(blank, world);
-    asked(&mut desk, &mut share, &board)
+    asked(&mut desk, &mut share, &board, yes_at)
 }
 
+// A fourth ask comes in the fourth turn, so not in the three that are made.
 #[test]
 fn a_turn_asks_its_detector_once(rt: HostRuntime) -> Result<(), Fail> {
-    let turns = asking::<Brand>(rt.alloc(), Blank::new(1000));
-    let suspicion = (Step::Suspect(1), 1, None);
+    let alloc = rt.alloc();
+    let (rest, suspicion) = (Some(Ok(None)), (Step::Suspect(1), 1, None));
+    let third = asking::<Brand>(alloc, Blank::new(1000), 3);
+    let fourth = asking::<Brand>(alloc, Blank::new(1000), 4);
     assert_eq!(rt;
-        turns,
-        Some([Some(Ok(None)), Some(Ok(None)), Some(Ok(Some(suspicion)))])
+        [third, fourth],
+        [
+            Some([rest, rest, Some(Ok(Some(suspicion)))]),
+            Some([rest; 3])
+        ]
     );
     Ok(())
 }

@@ -2,6 +2,7 @@ ghost use Rattle.std.specs.Prelude.{◌≡◌, ◌≤◌, IfOk, vec_len};
 ghost use Rattle.ct_rehearse.specs.Plans.{IsWithin, entries};
 
 use super::following::Followed;
+use super::replaying::is_replayed;
 use super::*;
 use ct_board::Watcher;
 use ct_names::Message;
@@ -130,6 +131,7 @@ fn has_followed(followed: &Followed, world: &World) -> bool {
             .is_some_and(|member| followed.agrees(world, member))
 }
 
+// Whether a watcher follows to the settled world, which is that after its record.
 fn is_followed<L: Ledger, R: Wait>(
     rt: &R,
     alloc: Global,
@@ -140,7 +142,7 @@ fn is_followed<L: Ledger, R: Wait>(
 {
     let settled = hall.settled(rt, alloc, share).ok()?;
     let followed = Followed::of(rt, alloc, hall)?;
-    Some(has_followed(&followed, &settled))
+    Some(has_followed(&followed, &settled) && is_replayed(alloc, &settled))
 }
 
 // Three members, two submissions.
