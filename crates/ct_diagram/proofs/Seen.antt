@@ -7,11 +7,12 @@ use Rattle.ct_program.specs.declared.program_fault.ProgramFault.TheVariants as o
 use Rattle.ct_program.specs.declared.read_fault.ReadFault.{ReadFault}
 use Rattle.ct_program.specs.Replay.{read_part}
 use Rattle.ct_program.specs.Script.{script}
+use Rattle.ct_program.specs.Streams.{WritesPart}
 use Rattle.ct_show.proofs.Seen.{input_seen}
 use Rattle.ct_diagram.specs.declared.fault.DiagramFault.{DiagramFault}
 use Rattle.ct_diagram.specs.declared.fault.DiagramFault.TheVariants.{Program}
 use Rattle.ct_diagram.specs.declared.window.Window.{Window}
-use Rattle.ct_diagram.specs.Running.{Draws, FailsOn, IsDiagramOf, IsOfDrawing}
+use Rattle.ct_diagram.specs.Running.{Draws, DrawsPart, FailsOn, IsDiagramOf, IsOfDrawing}
 
 pub drawing_fails : (window : Window) (fault : DiagramFault) (read : Result Rehearsal ReadFault) → IsOfDrawing window fault read →
     FailsOn window fault read
@@ -29,3 +30,14 @@ pub draws_seen : (left : Option (List ℕ)) (bytes : List ℕ) (window : Window)
     IfSome left (λ input. Draws window (script input) old new)
 draws_seen left bytes window text out old new read h same a =
     input_seen left bytes bytes (λ r. Draws window r old new) read refl (draws window (script bytes) text out old new h same a)
+
+pub draws_part : (window : Window) (read : Result Rehearsal ReadFault) (text out : List ℕ) (old new : Option (List ℕ)) →
+    IsDiagramOf window read text → out ≡ text → WritesPart old new out → DrawsPart window read old new
+draws_part window (Err e) text out old new h same a = absurd h
+draws_part window (Ok w) text out old new h same a = (h.0, h.1, subst (WritesPart old new) h.2 (subst (WritesPart old new) same a))
+
+pub part_seen : (left : Option (List ℕ)) (bytes : List ℕ) (window : Window) (text out : List ℕ) (old new : Option (List ℕ)) →
+    IfSome left (λ input. bytes ≡ read_part input) → IsDiagramOf window (script bytes) text → out ≡ text → WritesPart old new out →
+    IfSome left (λ input. DrawsPart window (script input) old new)
+part_seen left bytes window text out old new read h same a =
+    input_seen left bytes bytes (λ r. DrawsPart window r old new) read refl (draws_part window (script bytes) text out old new h same a)

@@ -6,6 +6,7 @@ use Rattle.ct_program.specs.declared.program_fault.ProgramFault.TheVariants.{Rea
 use Rattle.ct_program.specs.declared.read_fault.ReadFault.{ReadFault}
 use Rattle.ct_program.specs.declared.script.Script.{Script}
 use Rattle.ct_program.specs.Replay.{IsAllowed}
+use Rattle.ct_program.specs.Streams.{WritesPart}
 use Rattle.ct_program.specs.View.{rehearsal_of}
 use Rattle.ct_diagram.specs.declared.fault.DiagramFault.{DiagramFault}
 use Rattle.ct_diagram.specs.declared.fault.DiagramFault.TheVariants.{Program}
@@ -20,6 +21,12 @@ abbrev pub Draws : Window → Result Rehearsal ReadFault → Option (List ℕ) �
 Draws window read old new = IsOkAnd read (λ w.
     IsAllowed (part_of window w) × (columns window (part_of window w).steps ≤ MOST_STEPS)
     × Appends old new (diagram_text window (part_of window w)))
+
+-- the same record, and some first bytes of the diagram, and nothing else, were written
+abbrev pub DrawsPart : Window → Result Rehearsal ReadFault → Option (List ℕ) → Option (List ℕ) → Type 0
+DrawsPart window read old new = IsOkAnd read (λ w.
+    IsAllowed (part_of window w) × (columns window (part_of window w).steps ≤ MOST_STEPS)
+    × WritesPart old new (diagram_text window (part_of window w)))
 
 -- the fault is that of reading, or that of drawing the record. Of streams and of memory nothing is said
 abbrev pub FailsOn : Window → DiagramFault → Result Rehearsal ReadFault → Type 0

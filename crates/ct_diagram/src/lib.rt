@@ -5,6 +5,7 @@ mod arrows;
 mod canvas;
 mod drawing;
 mod drawn;
+mod ending;
 mod fault;
 mod frame;
 mod grid;
@@ -15,6 +16,7 @@ mod window;
 mod words;
 
 pub use drawing::diagram;
+pub use ending::drawn_end;
 pub use fault::DiagramFault;
 pub use running::draw;
 pub use window::{MOST_STEPS, Window};

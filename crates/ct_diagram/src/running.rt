@@ -3,7 +3,7 @@
 ghost use Rattle.std.specs.Prelude.{◌≡◌, ◌≢◌, ◌+◌, ◌<◌, ◌^◌, Err, IfOk, IfErr, IfSome, OnOk};
 ghost use Rattle.ct_program.specs.Script.{script};
 ghost use Rattle.ct_show.specs.Answer.{IsOfReading};
-ghost use Rattle.ct_diagram.specs.Running.{Draws, FailsOn, IsDiagramOf, IsOfDrawing, IsRead};
+ghost use Rattle.ct_diagram.specs.Running.{Draws, DrawsPart, FailsOn, IsDiagramOf, IsOfDrawing, IsRead};
 
 use crate::drawing::diagram;
 use crate::fault::DiagramFault;
@@ -26,6 +26,9 @@ pub fn draw<R: Source, W: Sink>(
     ensures ok { OnOk result (IfSome (R.left reader.old) (λ input.
         Draws window.now (script input) (W.written writer.old) (W.written writer.new))) }
     ensures fault { IfErr result (λ fault. IfSome (R.left reader.old) (λ input. FailsOn window.now fault (script input))) }
+    // Where the writer failed, some first bytes of such a diagram were written.
+    ensures part { result ≡ Err (DiagramFault.Program ProgramFault.Write) → IfSome (R.left reader.old) (λ input.
+        DrawsPart window.now (script input) (W.written writer.old) (W.written writer.new)) }
     // A stream failed where that is the fault, once, and else not at all.
     ensures reader { result ≡ Err (DiagramFault.Program ProgramFault.Reader) → R.failures reader.new ≡ R.failures reader.old + 1 }
     ensures no_read { result ≢ Err (DiagramFault.Program ProgramFault.Reader) → R.failures reader.new ≡ R.failures reader.old }

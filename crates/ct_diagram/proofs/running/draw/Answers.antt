@@ -5,7 +5,7 @@ use Rattle.ct_show.proofs.Seen.{input_seen}
 use Rattle.ct_diagram.specs.declared.fault.DiagramFault.{DiagramFault}
 use Rattle.ct_diagram.specs.declared.window.Window.{Window}
 use Rattle.ct_diagram.specs.Running.{FailsOn}
-use Rattle.ct_diagram.proofs.Seen.{drawing_fails, draws_seen}
+use Rattle.ct_diagram.proofs.Seen.{drawing_fails, draws_seen, part_seen}
 use Rattle.ct_diagram.proofs.running.draw.Goals as goal
 
 -- the fault that is handed on
@@ -28,3 +28,8 @@ pub returns-in-Ok-clause-ok : goal.returns-in-Ok-clause-ok
 returns-in-Ok-clause-ok g c =
     draws_seen (g.R.Source.left c.args.reader.now) c.in_ok-bytes.bytes.items c.args.window.now c.in_ok-text.text.items c.deref.result.now
     (g.W.Sink.written c.args.writer.now) _ c.in_ok-bytes.ensures.bytes c.in_ok-text.ensures.ok c.deref.ensures.value c.in-Ok.ensures.bytes
+
+pub returns-clause-part : goal.returns-clause-part
+returns-clause-part g c = λ _.
+    part_seen (g.R.Source.left c.args.reader.now) c.in_ok-bytes.bytes.items c.args.window.now c.in_ok-text.text.items c.deref.result.now
+    (g.W.Sink.written c.args.writer.now) _ c.in_ok-bytes.ensures.bytes c.in_ok-text.ensures.ok c.deref.ensures.value c.in-Err.ensures.part
