@@ -1,8 +1,8 @@
 #!/usr/bin/env bash
-# Runs the built programs `ct` and `ct_memory` while calls for memory are refused: the first alone, the second alone, and
-# so on until a run makes fewer calls than that; then each N-th.
+# Runs the built programs `ct`, `ct_memory` and `ct_tool` while calls for memory are refused: the first alone, the second
+# alone, and so on until a run makes fewer calls than that; with `ct` also each N-th.
 #
-#     cases/growths.sh [CT [CT_MEMORY]]     the built programs; those of ../crates/*/out if left out
+#     cases/growths.sh [CT [CT_MEMORY [CT_TOOL]]]     the built programs; those of ../crates/*/out if left out
 #
 # A run must end as it does with ample memory, or say what was refused and write nothing. Prints a line for each run that
 # doesn't, what all runs came to, and last `N passed, M failed`; its status is 0 only where none failed. The calls are
@@ -16,7 +16,8 @@ most=20000
 here=$(cd "$(dirname "$0")" && pwd)
 ct=$(realpath "${1:-$here/../crates/ct/out/ct}")
 memory=$(realpath "${2:-$here/../crates/ct_memory/out/ct_memory}")
-for program in "$ct" "$memory"; do
+tool=$(realpath "${3:-$here/../crates/ct_tool/out/ct_tool}")
+for program in "$ct" "$memory" "$tool"; do
     if [[ ! -x $program || -d $program ]]; then
         echo "cases/growths.sh: no program at $program" >&2
         exit 2
@@ -103,6 +104,25 @@ is_tried() {
     seen[${lines[18]}]=1
 }
 
+# begins_whole: whether the output is some first lines of the one with ample memory, or all of it.
+begins_whole() {
+    head -n "$(wc -l <"$folder/output")" "$folder/whole" | cmp -s - "$folder/output"
+}
+
+# is_session: whether the run ended as it does with ample memory, or gave some first answers and says that memory was refused.
+is_session() {
+    is_whole && return
+    [[ $status == 5 ]] && says 'out of memory' && begins_whole || return 1
+    refusals=$((refusals + 1))
+}
+
+# is_checked: whether the run ended as it does with ample memory, or wrote that memory was refused behind the file's name.
+is_checked() {
+    is_whole && return
+    [[ $status == 5 && ! -s $folder/error && $(<"$folder/output") == *.json': out of memory' ]] || return 1
+    refusals=$((refusals + 1))
+}
+
 # judge NAME IS_GOOD: counts the run, which must be good, or a refusal.
 judge() {
     runs=$((runs + 1))
@@ -128,6 +148,15 @@ each_call() {
         judge "$1, call $n${3:+ and its multiples}" "$2"
     done
     fail "$1 makes more than $most calls"
+}
+
+# tool_calls IS_GOOD INPUT WORDS..: runs ct_tool with these words on that file.
+tool_calls() {
+    cp "$2" "$folder/input"
+    "$tool" "${@:3}" <"$folder/input" >"$folder/whole" 2>"$folder/whole_error"
+    whole_status=$?
+    each_call "ct_tool ${*:3}" "$1" '' "$tool" "${@:3}"
+    tell "ct_tool ${*:3}"
 }
 
 # tell NAME: what the runs of the program came to.
@@ -186,6 +215,17 @@ tell 'ct_memory with followers'
 for n in 47 70; do
     [[ -n ${seen["refused at step $n"]:-} ]] || fail "ct_memory: step $n, which follows, was never refused"
 done
+
+# Each subcommand of the tool. A session gives its answers one by one, and a check tells a record's fault behind its name.
+for words in state report diagram steps; do
+    tool_calls is_whole suspicion.json "$words"
+done
+tool_calls is_whole ../examples/second_receipt_is_refused.json steps
+tool_calls is_whole ../examples/coordinator_crashes.schedule record
+tool_calls is_whole /dev/null walk --members 3 --turns 20 --submit 2
+tool_calls is_session ../examples/coordinator_crashes.schedule interact --record "$folder/kept"
+tool_calls is_checked /dev/null check suspicion.json
+tool_calls is_checked /dev/null check --expect-reports ../examples/followers.json
 
 echo "$passed passed, $failed failed"
 [[ $failed -eq 0 ]]
