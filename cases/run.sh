@@ -1,7 +1,7 @@
 #!/usr/bin/env bash
 # Runs the built program `ct` on the cases of table.txt, on the records of ../examples, freely, and with little memory; and
 # the built program `ct_tool` on the cases of tool_table.txt, on the schedules of ../examples, and on the implementation in Python there.
-# Compares the man pages and the completions of both with their help.
+# Compares the man pages and the completions of both with their help, and runs what the documents show.
 #
 #     cases/run.sh [CT [CT_TOOL]]        the built programs; those of ../crates/*/out if left out
 #
@@ -290,6 +290,93 @@ check_rehearsal() {
     tally "rehearse.py $*" "$wrong"
 }
 
+# check_free NAME: free runs do what their options ask for, in the way that free_runs.py calls so.
+check_free() {
+    local wrong=''
+    timeout -k 5 60 python3 free_runs.py "$ct" "$1" >"$folder/output" 2>&1 || wrong+=" $(start_of "$folder/output");"
+    tally "free runs, $1" "$wrong"
+}
+
+# check_kept: the record of a session is in the file that was named for it, whole and with its line feed; a second session
+# writes it anew.
+check_kept() {
+    local wrong='' text
+    for text in 'members 1\n1 submit set 0 7\n1 receive data 1.1\n' 'members 1\n'; do
+        printf '%b' "$text" >"$folder/input"
+        timeout -k 5 20 "$tool" interact --record "$folder/kept" <"$folder/input" >"$folder/output" 2>"$folder/error" ||
+            wrong+=" status $?, error '$(start_of "$folder/error")';"
+        "$tool" record "$folder/input" | cmp -s - "$folder/kept" || wrong+=" not the record of $text;"
+    done
+    tally 'the record of a session' "$wrong"
+}
+
+# check_long NAME WANTED COMMAND..: the command writes what the file WANTED has, which is longer than 64 KiB; it reads input.
+check_long() {
+    local name=$1 wanted=$2 wrong=''
+    shift 2
+    timeout -k 5 20 "$@" <"$folder/input" >"$folder/output" 2>"$folder/error" ||
+        wrong+=" status $?, error '$(start_of "$folder/error")';"
+    [[ $(stat -c %s "$wanted") -gt 65536 ]] || wrong+=" only $(stat -c %s "$wanted") bytes are wanted;"
+    cmp -s "$wanted" "$folder/output" || wrong+=" output '$(start_of "$folder/output")', not '$(start_of "$wanted")';"
+    tally "$name" "$wrong"
+}
+
+# check_long_texts: schedules, answers and what is shown may be longer than 64 KiB.
+check_long_texts() {
+    local count=8000
+    { echo 'members 3' && echo 'cells 4' && yes '1 submit set 0 7' | head -n "$count"; } >"$folder/input"
+    { record 3 "$count" 0 && echo; } >"$folder/wanted"
+    check_long 'a long schedule' "$folder/wanted" "$tool" record
+    { echo ok && echo ok && seq "$count" | awk '{ printf "ok %d-%d\n", 3 * $1 - 2, 3 * $1 }'; } >"$folder/wanted"
+    check_long 'long answers' "$folder/wanted" "$tool" interact
+
+    cp "$folder/input" "$folder/schedule"
+    "$tool" record "$folder/schedule" >"$folder/input"
+    seq "$count" | awk '{ printf "%4d   1  submit   1.%d = set(0,7)  -> #%d..%d Data 1.%d to all\n", $1, $1, 3 * $1 - 2, 3 * $1, $1 }' \
+        >"$folder/wanted"
+    check_long 'many lines of steps' "$folder/wanted" "$tool" steps
+    seq "$count" | awk -v count="$count" 'BEGIN {
+            printf "group 3 majority 2 cells 4 batch 1048560\nsteps %d sent %d posted 0\n", count, 3 * count
+        } { for (p = 1; p <= 3; p++) line[p, $1] = sprintf("  waiting  #%d Data 1.%d, sent by 1", 3 * ($1 - 1) + p, $1) } END {
+            for (p = 1; p <= 3; p++) {
+                printf "member %d up instance 0 idle\n", p
+                for (i = 1; i <= count; i++) print line[p, i]
+                printf "  refused  [\"follow\",%d] Undecided\n", p
+                printf "  refused  [\"begin\",%d] Nothing\n", p
+                printf "  next     [\"receive\",%d,%d]\n", p, p
+            }
+        }' >"$folder/wanted"
+    check_long 'a long state' "$folder/wanted" "$tool" state
+
+    printf 'members 1\n' >"$folder/input"
+    yes report | head -n 1000 >>"$folder/input"
+    { echo ok && yes "report $(echo 'members 1' | "$tool" record | "$tool" report)" | head -n 1000; } >"$folder/wanted"
+    check_long 'many reports' "$folder/wanted" "$tool" interact
+
+    record 1 "$count" 0 "$(seq -f '["receive",1,%.0f]' "$count" | paste -sd ,)" >"$folder/input"
+    seq "$count" | awk -v count="$count" 'BEGIN {
+            printf "{\"group\":1,\"majority\":1,\"cells\":4,\"batch\":1048560,\"steps\":%d,\"sent\":%d,\"posted\":0,", 2 * count, count
+            printf "\"members\":[{\"member\":1,\"up\":true,\"instance\":0,\"open\":false,\"received\":["
+        } { printf "%s\"1.%d\"", (NR == 1 ? "" : ","), $1 } END {
+            printf "],\"decided\":[],\"delivered\":[],\"table\":[0,0,0,0,0,0,0,0,0,0,0,0,0,0,0,0]}]}\n"
+        }' >"$folder/wanted"
+    check_long 'a long report' "$folder/wanted" "$tool" report
+}
+
+# check_blocks: what the documents and the programs' help show is run.
+check_blocks() {
+    local ended
+    ended=$(timeout -k 5 120 python3 blocks.py "$ct" "$tool" 2>"$folder/error" | tee "$folder/output" | tail -n 1)
+    if [[ $ended =~ ^([0-9]+)\ passed,\ ([0-9]+)\ failed$ ]]; then
+        passed=$((passed + BASH_REMATCH[1]))
+        failed=$((failed + BASH_REMATCH[2]))
+        head -n -1 "$folder/output"
+    else
+        failed=$((failed + 1))
+        echo "FAILED blocks of the documents: '$(start_of "$folder/error")'"
+    fi
+}
+
 # check_table FILE: the cases of a table.
 check_table() {
     local line fields
@@ -317,6 +404,8 @@ check_completions
 program=$tool
 check_table tool_table.txt
 check_walks
+check_kept
+check_long_texts
 program=$ct
 check_table table.txt
 
@@ -342,6 +431,11 @@ check_rehearsal --members 1
 
 check_free_runs 'free runs'
 check_free_runs 'lossy free runs' --lose 20 --repeat 40 --batch 1
+check_free detectors
+check_free postpone
+check_free lossy
+
+check_blocks
 
 # Memory refused at different places: at the start, while reading, while replaying.
 record 3 60000 0 >"$folder/long"
