@@ -7,7 +7,7 @@ CHECK is one of
 
     detectors   each member's suspicions are the answers of the generator that its seed and the rate ask for
     postpone    the second script postpones, at each member
-    lossy       the third script loses and the fourth repeats, each at more than one member
+    lossy       the third script loses and the fourth repeats, each at each member
 
 In each record each step of a member is the one that a turn tries there, and each step of a script is an entry of that
 script, in its order. Prints what is wrong; status 0 only where nothing is.
@@ -174,8 +174,8 @@ def check_detectors(ct):
     sys.exit(f"the runs might be those of detectors {', '.join(others)}")
 
 
-def check_scripts(ct, names, least, options):
-    """In some runs each of these scripts takes steps at so many members at least."""
+def check_scripts(ct, names, options):
+    """In some runs each of these scripts takes steps at each member."""
     seen = {name: set() for name in names}
     for seed in range(1, 1 + RUNS):
         options["seed"] = seed
@@ -184,7 +184,7 @@ def check_scripts(ct, names, least, options):
         for step in steps:
             if step[0] in names:
                 seen[step[0]].add(step[1])
-        if all(len(members) >= least for members in seen.values()):
+        if all(len(members) == options["members"] for members in seen.values()):
             return
     sys.exit(f"{RUNS} runs {options}: steps at members {seen}")
 
@@ -194,10 +194,10 @@ def main():
     if check == "detectors":
         check_detectors(ct)
     elif check == "postpone":
-        check_scripts(ct, ["postpone"], 3, {"members": 3, "turns": 50, "submit": 8, "rate": 64, "postpone": 60})
+        check_scripts(ct, ["postpone"], {"members": 3, "turns": 50, "submit": 8, "rate": 64, "postpone": 60})
     else:
         options = {"members": 3, "turns": 50, "submit": 8, "rate": 64, "lose": 60, "repeat": 90}
-        check_scripts(ct, ["lose", "repeat"], 2, options)
+        check_scripts(ct, ["lose", "repeat"], options)
 
 
 if __name__ == "__main__":
