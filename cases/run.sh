@@ -325,13 +325,12 @@ check_long() {
 check_long_texts() {
     local count=8000
     { echo 'members 3' && echo 'cells 4' && yes '1 submit set 0 7' | head -n "$count"; } >"$folder/input"
-    { record 3 "$count" 0 && echo; } >"$folder/wanted"
-    check_long 'a long schedule' "$folder/wanted" "$tool" record
+    { record 3 "$count" 0 && echo; } >"$folder/record"
+    check_long 'a long schedule' "$folder/record" "$tool" record
     { echo ok && echo ok && seq "$count" | awk '{ printf "ok %d-%d\n", 3 * $1 - 2, 3 * $1 }'; } >"$folder/wanted"
     check_long 'long answers' "$folder/wanted" "$tool" interact
 
-    cp "$folder/input" "$folder/schedule"
-    "$tool" record "$folder/schedule" >"$folder/input"
+    cp "$folder/record" "$folder/input"
     seq "$count" | awk '{ printf "%4d   1  submit   1.%d = set(0,7)  -> #%d..%d Data 1.%d to all\n", $1, $1, 3 * $1 - 2, 3 * $1, $1 }' \
         >"$folder/wanted"
     check_long 'many lines of steps' "$folder/wanted" "$tool" steps
