@@ -52,7 +52,7 @@ fn equal_values_have_their_own_numbers(rt: HostRuntime) {
     let world = after(&rt, &steps);
     let seven = Message::new(1, 1, Command::Set(0, 7)).expect(&rt, "a good command");
     let numbers = [ValueId::new(0), ValueId::new(1)];
-    for (serial, number) in [(7, 0), (8, 1), (9, 1)] {
+    for (serial, number) in [(7, 0), (8, 1), (9, 1), (10, 1), (11, 1)] {
         assert!(rt;
             number_of(&world, serial) == Some(numbers[number]),
             "{serial}"
