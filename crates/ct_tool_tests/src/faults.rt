@@ -1,4 +1,8 @@
+use ct_diagram::DiagramFault;
 use ct_judge::*;
+use ct_names::{Limit, Refusal};
+use ct_program::{ProgramFault, ReadFault};
+use ct_walk::WalkFault;
 use std::alloc::{AllocError, Global};
 use std::fmt::Display;
 use std::test::Fail;
@@ -63,4 +67,77 @@ fn faults_of_kept_records_have_lines(rt: HostRuntime) {
     assert!(rt; is_of_keeping(alloc, KeepFault::NoMembers, "no members", 1));
     assert!(rt; is_of_keeping(alloc, KeepFault::Write, "write failed", 4));
     assert!(rt; is_of_keeping(alloc, KeepFault::Memory, "out of memory", 5));
+}
+
+fn walks_have_lines(alloc: Global) -> bool {
+    let faults = [
+        (WalkFault::NotFound, "not found", 1),
+        (WalkFault::Write, "write failed", 4),
+        (WalkFault::Memory, "out of memory", 5),
+        (WalkFault::Board, "board refused", 5),
+    ];
+    for (fault, line, status) in faults {
+        if !is_line(alloc, &fault, line) || fault.status() != status {
+            return false;
+        }
+    }
+    true
+}
+
+// The faults of reading, replaying and writing.
+fn diagrams_have_lines(alloc: Global) -> bool {
+    let faults = [
+        (
+            ProgramFault::Replay {
+                at: 5,
+                refusal: Refusal::NotWaiting,
+            },
+            "step 5: NotWaiting",
+            1,
+        ),
+        (
+            ProgramFault::Replay {
+                at: 3,
+                refusal: Refusal::Full(Limit::Steps),
+            },
+            "step 3: Full(Steps)",
+            1,
+        ),
+        (
+            ProgramFault::Read(ReadFault::TooLong),
+            "record: too long",
+            2,
+        ),
+        (
+            ProgramFault::Read(ReadFault::NotJson),
+            "record: not JSON",
+            2,
+        ),
+        (
+            ProgramFault::Read(ReadFault::Shape { at: 7 }),
+            "record: shape at 7",
+            2,
+        ),
+        (ProgramFault::Read(ReadFault::Version), "record: version", 2),
+        (ProgramFault::Reader, "read failed", 4),
+        (ProgramFault::Write, "write failed", 4),
+        (ProgramFault::Memory, "out of memory", 5),
+    ];
+    for (fault, line, status) in faults {
+        let drawn = DiagramFault::Program(fault);
+        if !is_line(alloc, &drawn, line) || drawn.status() != status {
+            return false;
+        }
+    }
+    true
+}
+
+#[test]
+fn faults_of_walks_have_lines(rt: HostRuntime) {
+    assert!(rt; walks_have_lines(rt.alloc()));
+}
+
+#[test]
+fn faults_of_diagrams_have_lines(rt: HostRuntime) {
+    assert!(rt; diagrams_have_lines(rt.alloc()));
 }

@@ -2,7 +2,7 @@ use ct_names::Refusal;
 use ct_program::{Counted, ProgramFault, read_record};
 use ct_show::*;
 use ct_world::ReplayFault;
-use std::alloc::Global;
+use std::alloc::{AllocError, Global};
 use std::test::Fail;
 
 // One member decides what it submitted.
@@ -200,6 +200,47 @@ fn a_record_is_shown(rt: HostRuntime) -> Result<(), Fail> {
     let mut writer = Counted::new(Vec::new(rt.alloc()));
     show(rt.alloc(), &mut reader, &mut writer, &ALL)?;
     assert_eq!(rt; writer.into_inner().as_slice(), LINES.as_bytes());
+    Ok(())
+}
+
+// How often the message of a long record is postponed.
+const POSTPONED: usize = 3000;
+
+// A record whose one message is postponed so often.
+fn long_record(alloc: Global) -> Result<String, AllocError> {
+    let mut text = String::new(alloc);
+    text.push_str("{\"batch\":7,\"cells\":4,\"n\":1,\"steps\":[[\"submit\",1,[\"set\",0,7]]")?;
+    for _ in 0..POSTPONED {
+        text.push_str(",[\"postpone\",1,1]")?;
+    }
+    text.push_str("],\"version\":3}")?;
+    Ok(text)
+}
+
+// How many lines the text has, and whether it ends with the line of the last step.
+fn ends(text: &[u8]) -> (usize, bool) {
+    let lines = text.iter().filter(|byte| **byte == b'\n').count();
+    (lines, text.ends_with(b"\n3001   1  postpone #1 Data 1.1\n"))
+}
+
+// Whether more than 64 KiB of lines are shown, and how they end.
+fn long_lines(alloc: Global) -> Result<(bool, (usize, bool)), Fail> {
+    let record = long_record(alloc)?;
+    let mut reader = Counted::new(record.as_bytes());
+    let mut writer = Counted::new(Vec::new(alloc));
+    let all = View::Steps(Selection {
+        from: 1,
+        to: 5000,
+        member: None,
+    });
+    show(alloc, &mut reader, &mut writer, &all)?;
+    let text = writer.into_inner();
+    Ok((text.len() > 65_536, ends(&text)))
+}
+
+#[test]
+fn long_texts_are_shown_whole(rt: HostRuntime) -> Result<(), Fail> {
+    assert_eq!(rt; long_lines(rt.alloc())?, (true, (3001, true)));
     Ok(())
 }
 

@@ -1,4 +1,4 @@
-ghost use Rattle.std.specs.Prelude.{◌≡◌, ◌+◌, ◌≤◌, None};
+ghost use Rattle.std.specs.Prelude.{◌≡◌, None};
 ghost use Rattle.ct_names.specs.declared.limit.TheConstants.{MAX_BOUND};
 ghost use Rattle.ct_walk.specs.Options.{IsInRange};
 
@@ -249,13 +249,12 @@ fn a_walk_stops_at_what_it_is_made_until(rt: HostRuntime) -> Result<(), Fail> {
 fn found_round(
     alloc: Global,
     sought: &WalkOptions,
-    seeds: u32,
+    last: u32,
     wanted: Round,
 ) -> Result<Option<bool>, WalkFault>
-    requires range { IsInRange sought.now }
-    requires seeds { 1 + seeds ≤ 4294967295 }
+    requires { IsInRange sought.now }
 {
-    let found = find(alloc, sought, 1, seeds)?;
+    let found = find(alloc, sought, 1, last)?;
     match &found {
         Some(world) => Ok(Some(is_in_round(world, wanted))),
         None => Ok(None),
@@ -269,6 +268,25 @@ fn the_first_seed_that_shows_it_is_found(rt: HostRuntime) -> Result<(), Fail> {
     assert_eq!(rt; found_round(rt.alloc(), &sought, 100, 6)?, Some(true));
     sought.until = Some(Sight::Round(5000));
     assert_eq!(rt; found_round(rt.alloc(), &sought, 2, 5000)?, None);
+    Ok(())
+}
+
+// Whether a walk of the last seed of all decides, where one is found.
+fn found_last(alloc: Global, sought: &WalkOptions) -> Result<Option<bool>, WalkFault>
+    requires { IsInRange sought.now }
+{
+    let found = find(alloc, sought, u32::MAX, u32::MAX)?;
+    match &found {
+        Some(world) => Ok(Some(is_decided(world))),
+        None => Ok(None),
+    }
+}
+
+#[test]
+fn the_last_seed_of_all_is_tried(rt: HostRuntime) -> Result<(), Fail> {
+    let mut sought = options(0);
+    sought.until = Some(Sight::Decided(1));
+    assert_eq!(rt; found_last(rt.alloc(), &sought)?, Some(true));
     Ok(())
 }
 
