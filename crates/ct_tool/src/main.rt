@@ -1,30 +1,29 @@
 //! The program `ct_tool`: it makes runs that can be made again, and shows runs. Each of its subcommands is a library's.
 #![tactic(auto)]
 
+mod host;
+
 ghost use Rattle.std.specs.Prelude.{◌<◌, ◌^◌};
 ghost use Rattle.ct_program.specs.Counted.{failures_of};
 
 use clap::{ArgMatches, Command};
-use ct_diagram::{DiagramFault, Window, diagram_command, diagram_window, draw};
+use ct_diagram::{DiagramFault, Window, diagram_command, diagram_window, draw, drawn_end};
 use ct_judge::{
     Judge, LineFault, RecordFault, SessionFault, interact, interact_command, record, record_command,
 };
-use ct_program::{Counted, ProgramFault, gives_report, read_all, write_all, write_record};
+use ct_program::{Counted, Failed, Files, ProgramFault, write_all, write_record};
 use ct_show::{
-    View, check_command, report_command, show, state_command, state_view, steps_command, steps_view,
+    CheckOptions, View, check, check_command, report_command, show, shown_end, state_command,
+    state_view, steps_command, steps_view,
 };
 use ct_walk::{Call, walk_call, walk_command, write_call};
 use ct_world::World;
-use either::{Either, Left, Right};
+use host::Host;
 use std::alloc::{AllocError, Global};
 use std::fmt::Display;
-use std::fs::File;
-use std::io::{StdinLock, Write};
+use std::io::Write;
 use std::process::ExitCode;
 use std::{fs, io};
-
-// A record has another report than the one beside it.
-const ANOTHER_REPORT: u8 = 1;
 
 // The words of the command line were refused.
 const WORDS_REFUSED: u8 = 3;
@@ -78,7 +77,7 @@ fn command<'a>(alloc: Global) -> Result<Command<'a>, AllocError> {
 // Does what the subcommand asks for.
 fn call(rt: &HostRuntime, matches: &ArgMatches<'_>) -> ExitCode {
     match matches.subcommand() {
-        Some(("check", found)) => check(rt, found),
+        Some(("check", found)) => check_files(rt, found),
         Some(("diagram", found)) => diagram(rt, found),
         Some(("interact", found)) => hold_session(rt, found),
         Some(("record", found)) => record_schedule(rt, found),
@@ -124,18 +123,10 @@ fn record_file<W: Write>(
 ) -> Result<(), RecordFault>
     requires { failures_of writer.old < 2 ^ 63 }
 {
-    match open(rt, name) {
-        Ok(file) => record(rt.alloc(), &mut Counted::new(file), writer),
-        Err(_) => Err(RecordFault::Read),
+    match (Host { rt }).open(name) {
+        Ok(mut reader) => record(rt.alloc(), &mut reader, writer),
+        Err(Failed) => Err(RecordFault::Read),
     }
-}
-
-// The file of this name, or standard input where the name is `-`.
-fn open(rt: &HostRuntime, name: &str) -> io::Result<Either<StdinLock<'static>, File>> {
-    if name == "-" {
-        return Ok(Left(rt.reader()));
-    }
-    Ok(Right(fs::open(rt, name)?))
 }
 
 // Answers the lines on standard input, and writes the record in the end, where a file is named for it.
@@ -188,10 +179,9 @@ fn view(rt: &HostRuntime, found: &ArgMatches<'_>, view: Option<View>) -> ExitCod
         return fail(rt, "no file", WORDS_REFUSED);
     };
     let mut writer = Counted::new(io::writer(rt));
-    match show_file(rt, name, &mut writer, &view) {
+    let ended = show_file(rt, name, &mut writer, &view);
+    match shown_end(ended, writer.is_broken()) {
         Ok(()) => ExitCode::SUCCESS,
-        // Nobody reads the lines any more.
-        Err(ProgramFault::Write) if writer.is_broken() => ExitCode::SUCCESS,
         Err(fault) => fail(rt, fault, fault.status()),
     }
 }
@@ -205,10 +195,9 @@ fn diagram(rt: &HostRuntime, found: &ArgMatches<'_>) -> ExitCode {
         return fail(rt, "no file", WORDS_REFUSED);
     };
     let mut writer = Counted::new(io::writer(rt));
-    match draw_file(rt, name, &mut writer, &window) {
+    let ended = draw_file(rt, name, &mut writer, &window);
+    match drawn_end(ended, writer.is_broken()) {
         Ok(()) => ExitCode::SUCCESS,
-        // Nobody reads the diagram any more.
-        Err(DiagramFault::Program(ProgramFault::Write)) if writer.is_broken() => ExitCode::SUCCESS,
         Err(fault) => fail(rt, fault, fault.status()),
     }
 }
@@ -222,9 +211,9 @@ fn draw_file<W: Write>(
 ) -> Result<(), DiagramFault>
     requires { failures_of writer.old < 2 ^ 63 }
 {
-    match open(rt, name) {
-        Ok(file) => draw(rt.alloc(), &mut Counted::new(file), writer, window),
-        Err(_) => Err(DiagramFault::Program(ProgramFault::Reader)),
+    match (Host { rt }).open(name) {
+        Ok(mut reader) => draw(rt.alloc(), &mut reader, writer, window),
+        Err(Failed) => Err(DiagramFault::Program(ProgramFault::Reader)),
     }
 }
 
@@ -237,62 +226,23 @@ fn show_file<W: Write>(
 ) -> Result<(), ProgramFault>
     requires { failures_of writer.old < 2 ^ 63 }
 {
-    match open(rt, name) {
-        Ok(file) => show(rt.alloc(), &mut Counted::new(file), writer, view),
-        Err(_) => Err(ProgramFault::Reader),
+    match (Host { rt }).open(name) {
+        Ok(mut reader) => show(rt.alloc(), &mut reader, writer, view),
+        Err(Failed) => Err(ProgramFault::Reader),
     }
 }
 
-// Writes a line for each file whose record has a fault or, where reports are expected, another report, and ends with the
-// largest status.
-fn check(rt: &HostRuntime, found: &ArgMatches<'_>) -> ExitCode {
-    let quiet = found.get_flag("quiet");
-    let expects = found.get_flag("expect-reports");
-    let mut worst = 0;
-    for name in found.get_strs("files").unwrap_or(&[]) {
-        let status = check_file(rt, name, expects, quiet);
-        worst = worst.max(status);
-    }
-    ExitCode::from(worst)
-}
-
-// Writes the file's line, unless it is quiet or has none, and answers its status.
-fn check_file(rt: &HostRuntime, name: &str, expects: bool, quiet: bool) -> u8 {
-    let (status, written) = match checked(rt, name, expects) {
-        Ok(true) => return 0,
-        Ok(false) if quiet => return ANOTHER_REPORT,
-        Err(fault) if quiet => return fault.status(),
-        Ok(false) => (ANOTHER_REPORT, println!(rt; "{name}: another report")),
-        Err(fault) => (fault.status(), println!(rt; "{name}: {fault}")),
+// Checks the files that the words name.
+fn check_files(rt: &HostRuntime, found: &ArgMatches<'_>) -> ExitCode {
+    let options = CheckOptions {
+        expects: found.get_flag("expect-reports"),
+        quiet: found.get_flag("quiet"),
     };
-    if written.is_ok() {
-        return status;
-    }
-    let _ = eprintln!(rt; "write failed");
-    STREAM_FAILED
-}
-
-// Whether the file's record is replayed and, where that is expected, to the report beside it.
-fn checked(rt: &HostRuntime, name: &str, expects: bool) -> Result<bool, ProgramFault> {
-    if expects {
-        return has_expected_report(rt, name);
-    }
-    let mut nothing = Counted::new(io::sink());
-    show_file(rt, name, &mut nothing, &View::Nothing)?;
-    Ok(true)
-}
-
-// Whether replaying `NAME.json` gives what `NAME.report` has.
-fn has_expected_report(rt: &HostRuntime, name: &str) -> Result<bool, ProgramFault> {
-    let stem = name.strip_suffix(".json").unwrap_or(name);
-    let report = format!(in rt.alloc(); "{stem}.report")?;
-    let Ok(report) = fs::open(rt, &report) else {
-        return Err(ProgramFault::Reader);
-    };
-    let expected = read_all(rt.alloc(), &mut Counted::new(report))?;
-    match open(rt, name) {
-        Ok(record) => gives_report(rt.alloc(), &mut Counted::new(record), &expected),
-        Err(_) => Err(ProgramFault::Reader),
+    let names = found.get_strs("files").unwrap_or(&[]);
+    let mut writer = Counted::new(io::writer(rt));
+    match check(rt.alloc(), &Host { rt }, names, &options, &mut writer) {
+        Ok(status) => ExitCode::from(status),
+        Err(fault) => fail(rt, fault, fault.status()),
     }
 }
 
