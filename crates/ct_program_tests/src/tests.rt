@@ -2,8 +2,9 @@ use clap::error::ErrorKind;
 use ct_model::Step;
 use ct_names::{Command, Refusal};
 use ct_program::{
-    Call, Counted, Failed, FreeOptions, LineFault, ProgramFault, ReadFault, Sink, Source, free,
-    line, push_separator, read_record, report, run_replay, seeded, submissions, write_record,
+    Call, CommandFault, Counted, Failed, FreeOptions, LineFault, ProgramFault, ReadFault, Sink,
+    Source, answer_status, free, line, push_separator, read_record, report, run_replay, seeded,
+    submissions, write_record,
 };
 use ct_world::World;
 use std::alloc::{AllocError, Global};
@@ -16,6 +17,7 @@ mod helps;
 mod hostile;
 mod quick;
 mod reports;
+mod settled;
 
 const RECORD: &str =
     "{\"batch\":1048560,\"cells\":4,\"n\":3,\"steps\":[[\"submit\",1,[\"set\",0,7]],[\"receive\",1,1],[\"receive\",2,2]],\"version\":3}";
@@ -80,6 +82,7 @@ impl Source for TenBytes {
             return Err(Failed);
         }
         self.given = true;
+        buffer[..10].copy_from_slice(b"{\"batch\":1");
         Ok(10)
     }
 }
@@ -140,20 +143,37 @@ fn a_record_is_reported(rt: HostRuntime) {
     assert!(rt; is_report_of(rt.alloc(), RECORD, REPORT));
 }
 
-// Whether the record is reported that comes byte by byte.
-fn is_reported_byte_by_byte(alloc: Global) -> bool {
+// Whether the record is answered alike where it comes byte by byte.
+fn is_answered_byte_by_byte(
+    alloc: Global,
+    record: &'static str,
+    answer: Result<(), ProgramFault>,
+    bytes: &[u8],
+) -> bool {
     let mut reader = OneByOne {
-        bytes: RECORD.as_bytes(),
+        bytes: record.as_bytes(),
         next: 0,
     };
     let mut writer = Counted::new(Vec::new(alloc));
-    let answer = run_replay(alloc, &mut reader, &mut writer);
-    answer.is_ok() && writer.into_inner().as_slice() == REPORT.as_bytes()
+    let found = run_replay(alloc, &mut reader, &mut writer);
+    found == answer
+        && writer.into_inner().as_slice() == bytes
+        && answers(alloc, record, answer, bytes)
 }
 
 #[test]
 fn a_record_may_come_byte_by_byte(rt: HostRuntime) {
-    assert!(rt; is_reported_byte_by_byte(rt.alloc()));
+    let alloc = rt.alloc();
+    assert!(rt; is_answered_byte_by_byte(alloc, RECORD, Ok(()), REPORT.as_bytes()));
+    let faulty = "{\"batch\":1,\"cells\":4,\"n\":3,\"steps\":[[\"begin\"]],\"version\":3}";
+    let shape = ProgramFault::Read(ReadFault::Shape { at: 1 });
+    assert!(rt; is_answered_byte_by_byte(alloc, faulty, Err(shape), &[]));
+    let refused = "{\"batch\":1,\"cells\":4,\"n\":3,\"steps\":[[\"receive\",1,1]],\"version\":3}";
+    let step = ProgramFault::Replay {
+        at: 1,
+        refusal: Refusal::NotWaiting,
+    };
+    assert!(rt; is_answered_byte_by_byte(alloc, refused, Err(step), &[]));
 }
 
 // Whether a reader that fails after ten bytes is named, is read no more, and nothing is written.
@@ -183,6 +203,20 @@ fn fails_to_write(alloc: Global) -> bool {
 #[test]
 fn a_writer_may_fail(rt: HostRuntime) {
     assert!(rt; fails_to_write(rt.alloc()));
+}
+
+// Whether a writer that takes the first seven bytes of the report and none of the others is named.
+fn fails_where_nothing_is_taken(alloc: Global) -> bool {
+    let mut room = [0u8; 7];
+    let mut reader = Counted::new(RECORD.as_bytes());
+    let mut writer = Counted::new(&mut room[..]);
+    let answer = run_replay(alloc, &mut reader, &mut writer);
+    answer == Err(ProgramFault::Write) && !writer.is_broken() && room == *b"group 3"
+}
+
+#[test]
+fn a_writer_may_take_nothing(rt: HostRuntime) {
+    assert!(rt; fails_where_nothing_is_taken(rt.alloc()));
 }
 
 #[test]
@@ -463,6 +497,25 @@ fn an_older_record_is_written_in_the_last_version(rt: HostRuntime) -> Result<(),
     let first = is_renewed(rt.alloc(), steps, 1)?;
     let second = is_renewed(rt.alloc(), steps, 2)?;
     assert!(rt; first && second);
+    Ok(())
+}
+
+// Whether these steps of version 2 are written in the last version, with the same report, which says so many steps.
+fn is_renewed_alike(alloc: Global, steps: &str, head: &[u8]) -> Result<bool, AllocError> {
+    let record = of_version(alloc, steps, 2)?;
+    let text = with_steps(alloc, steps)?;
+    let (answer, old) = replayed(alloc, record.as_bytes());
+    let (again, new) = replayed(alloc, text.as_bytes());
+    let alike = answer.is_ok() && again.is_ok() && old.as_slice() == new.as_slice();
+    Ok(alike && old.starts_with(head) && is_rewritten(alloc, &record, &text))
+}
+
+#[test]
+fn a_lossy_record_is_written_in_the_last_version(rt: HostRuntime) -> Result<(), Fail> {
+    let steps =
+        "[[\"submit\",1,[\"set\",0,7]],[\"receive\",1,1],[\"lose\",2,2],[\"repeat\",2,2],[\"receive\",2,2]]";
+    let head = b"group 3 majority 2 cells 4\nsteps 5 sent 6 posted 0\n";
+    assert!(rt; is_renewed_alike(rt.alloc(), steps, head)?);
     Ok(())
 }
 
@@ -764,6 +817,30 @@ fn a_free_run_in_other_words_is_refused(rt: HostRuntime) {
                 ErrorKind::UnknownArgument
             )
     );
+}
+
+#[test]
+fn a_value_out_of_range_is_told_after_the_words(rt: HostRuntime) {
+    let alloc = rt.alloc();
+    let words = &[
+        "ct",
+        "free",
+        "--members",
+        "2",
+        "--turns",
+        "0",
+        "--submit",
+        "3",
+        "--crash",
+        "2",
+        "--rate",
+        "257",
+    ];
+    let without = &[
+        "ct", "free", "--turns", "0", "--submit", "3", "--crash", "2", "--rate", "257",
+    ];
+    assert!(rt; is_out_of_range(alloc, words));
+    assert!(rt; is_kind(alloc, without, ErrorKind::MissingRequiredArgument));
 }
 
 // Whether clap answers the words by a text with all these parts.

@@ -60,3 +60,27 @@ fn faults_of_free_runs_have_lines(rt: HostRuntime) {
     assert!(rt; is_told(alloc, ProgramFault::Start, "no thread", 5));
     assert!(rt; is_told(alloc, ProgramFault::Exchanged, "world exchanged", 5));
 }
+
+// Whether the fault's line is this text, and this is the status.
+fn is_answered(alloc: Global, fault: CommandFault, text: &str, status: u8) -> bool {
+    is_text(format!(in alloc; "{fault}"), text) && fault.status() == status
+}
+
+#[test]
+fn faults_of_command_lines_have_lines(rt: HostRuntime) {
+    let alloc = rt.alloc();
+    assert!(rt; is_answered(alloc, CommandFault::Arguments, "arguments", 3));
+    assert!(rt; is_answered(alloc, CommandFault::Range, "out of range", 3));
+    assert!(rt; is_answered(alloc, CommandFault::NoFile, "no file", 3));
+    assert!(rt; is_answered(alloc, CommandFault::NoSubcommand, "no subcommand", 3));
+    assert!(rt; is_answered(alloc, CommandFault::Write, "write failed", 4));
+    assert!(rt; is_answered(alloc, CommandFault::Memory, "out of memory", 5));
+}
+
+#[test]
+fn help_and_refused_words_have_statuses(rt: HostRuntime) {
+    assert_eq!(rt; answer_status(true, true), Ok(3));
+    assert_eq!(rt; answer_status(true, false), Ok(3));
+    assert_eq!(rt; answer_status(false, true), Ok(0));
+    assert_eq!(rt; answer_status(false, false), Err(CommandFault::Write));
+}

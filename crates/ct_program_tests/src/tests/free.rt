@@ -73,7 +73,7 @@ fn replayed<R: Threads + Wait + Sync>(
     world_of(alloc, &text)
 }
 
-// Whether what the run writes is a record of so many members and cells, which is replayed.
+// Whether what the run writes is a record of so many members and cells, which is replayed, and in which something was sent.
 fn is_replayed<R: Threads + Wait + Sync>(
     rt: &R,
     alloc: Global,
@@ -82,7 +82,9 @@ fn is_replayed<R: Threads + Wait + Sync>(
     cells: u16,
 ) -> bool {
     replayed(rt, alloc, words).is_some_and(|world| world.group().n() == members
-        && world.cells() == cells)
+        && world.cells() == cells
+        && world.bound() == 1_048_560
+        && world.sent() > 0)
 }
 
 #[test]
@@ -90,10 +92,14 @@ fn a_free_run_is_written(rt: HostRuntime) -> Result<(), Fail> {
     let words = &[
         "ct",
         "free",
-        "--members=2",
-        "--turns=0",
-        "--submit=3",
-        "--crash=2",
+        "--members",
+        "2",
+        "--turns",
+        "0",
+        "--submit",
+        "3",
+        "--crash",
+        "2",
     ];
     let is_line = written(&rt, rt.alloc(), words).is_some_and(|text| text.as_slice()
         == LINE.as_bytes());
@@ -239,6 +245,25 @@ fn members_postpone_where_they_are_asked_to(rt: HostRuntime) -> Result<(), Fail>
     Ok(())
 }
 
+// Each kind of entry takes the members in turn.
+#[test]
+fn the_last_member_is_disturbed_too(rt: HostRuntime) -> Result<(), Fail> {
+    let words = &[
+        "ct",
+        "free",
+        "--members=3",
+        "--turns=0",
+        "--submit=1000",
+        "--postpone=1000",
+        "--lose=1000",
+        "--repeat=1000",
+    ];
+    for name in ["[\"postpone\",3,", "[\"lose\",3,", "[\"repeat\",3,"] {
+        assert!(rt; shows(&rt, rt.alloc(), words, name) == Some(true), "{name}");
+    }
+    Ok(())
+}
+
 #[test]
 fn envelopes_are_lost_where_it_is_asked_for(rt: HostRuntime) -> Result<(), Fail> {
     let words = &["ct", "free", "--members=1", "--turns=100", "--lose=1000"];
@@ -373,5 +398,61 @@ fn rates_are_the_shares_of_suspicions(rt: HostRuntime) -> Result<(), Fail> {
     let none = suspicions(alloc, &["ct", "free", "--members=2", "--rate=0"]);
     let all = suspicions(alloc, &["ct", "free", "--members=2", "--rate=256"]);
     assert!(rt; none == Some(0) && all == Some(u64::MAX));
+    Ok(())
+}
+
+// What member 1 does after it entered a round for the first time. In a group of two member 2 coordinates the first round,
+// and proposes only once it has member 1's estimate: so member 1's detector is asked next.
+fn after_enter(world: &World) -> Option<Step> {
+    let steps = world.record();
+    let entered = steps.iter().position(|step| *step == Step::Enter(1))?;
+    steps[entered..]
+        .iter()
+        .copied()
+        .find(|step| is_next_of_first(*step))
+}
+
+// Whether the step is one that member 1 takes in a turn of its own after it entered a round: it suspects, or receives.
+fn is_next_of_first(step: Step) -> bool {
+    matches!(step, Step::Suspect(1) | Step::Receive(1, _))
+}
+
+// The same of a free run of these words, tried until member 1 enters a round and has a turn after that.
+fn first_answer<R: Threads + Wait + Sync>(
+    rt: &R,
+    alloc: Global,
+    words: &'static [&'static str],
+) -> Option<bool> {
+    for _ in 0..TRIES {
+        let world = replayed(rt, alloc, words)?;
+        if let Some(step) = after_enter(&world) {
+            return Some(step == Step::Suspect(1));
+        }
+    }
+    None
+}
+
+// At seed 13 and rate 128 member 1's detector says yes at its first ask, and member 2's no. At seed 136828 and rate 8 member
+// 1's says no at its first 250 asks, and member 2's yes at its first.
+#[test]
+fn members_have_their_own_detectors(rt: HostRuntime) -> Result<(), Fail> {
+    let first = &[
+        "ct",
+        "free",
+        "--members=2",
+        "--turns=200",
+        "--seed=13",
+        "--rate=128",
+    ];
+    let second = &[
+        "ct",
+        "free",
+        "--members=2",
+        "--turns=200",
+        "--seed=136828",
+        "--rate=8",
+    ];
+    assert_eq!(rt; first_answer(&rt, rt.alloc(), first), Some(true));
+    assert_eq!(rt; first_answer(&rt, rt.alloc(), second), Some(false));
     Ok(())
 }
