@@ -1,14 +1,26 @@
 //! The files of the machine.
 
-use ct_program::{Counted, Failed, Files};
+use ct_program::{Counted, Failed, Files, NewFiles, write_all};
 use either::{Either, Left, Right};
 use std::fs::{self, File};
 use std::io::StdinLock;
 
-// Opens files where the program runs; `-` is standard input. Their bytes are not known.
+// Opens and makes files where the program runs; a file `-` that is read is standard input. Their bytes are not known.
 #[derive(Drop)]
 pub(crate) struct Host<'a> {
-    pub(crate) rt: &'a HostRuntime,
+    rt: &'a HostRuntime,
+    failures: u64,
+}
+
+impl<'a> Host<'a> {
+    ghost use Rattle.std.specs.Prelude.{◌≡◌};
+
+    // No file was made yet.
+    pub(crate) fn new(rt: &'a HostRuntime) -> Host<'a>
+        ensures { result.failures ≡ 0 }
+    {
+        Host { rt, failures: 0 }
+    }
 }
 
 impl Files for Host<'_> {
@@ -26,5 +38,24 @@ impl Files for Host<'_> {
             Ok(file) => Ok(Counted::new(Right(file))),
             Err(_) => Err(Failed),
         }
+    }
+}
+
+impl NewFiles for Host<'_> {
+    ghost use Rattle.std.specs.Prelude.{None};
+
+    ghost made = { λ _. None };
+
+    ghost failures = { λ host. host.failures };
+
+    fn make(&mut self, name: &str, bytes: &[u8]) -> Result<(), Failed> {
+        let made = match fs::create(self.rt, name) {
+            Ok(file) => write_all(&mut Counted::new(file), bytes),
+            Err(_) => Err(Failed),
+        };
+        if made.is_err() {
+            self.failures += 1;
+        }
+        made
     }
 }

@@ -9,53 +9,37 @@ ghost use Rattle.ct_program.specs.Counted.{failures_of};
 use clap::{ArgMatches, Command};
 use ct_diagram::{DiagramFault, Window, diagram_command, diagram_window, draw, drawn_end};
 use ct_judge::{
-    Judge, LineFault, RecordFault, SessionFault, interact, interact_command, record, record_command,
+    Judge, RecordFault, interact, interact_command, keep, record, record_command, session_end,
 };
-use ct_program::{Counted, Failed, Files, ProgramFault, write_all, write_record};
+use ct_program::{CommandFault, Counted, Failed, Files, ProgramFault, answer_status};
 use ct_show::{
     CheckOptions, View, check, check_command, report_command, show, shown_end, state_command,
     state_view, steps_command, steps_view,
 };
 use ct_walk::{Call, walk_call, walk_command, write_call};
-use ct_world::World;
 use host::Host;
 use std::alloc::{AllocError, Global};
 use std::fmt::Display;
+use std::io;
 use std::io::Write;
 use std::process::ExitCode;
-use std::{fs, io};
-
-// The words of the command line were refused.
-const WORDS_REFUSED: u8 = 3;
-
-// A session made no world.
-const NO_RECORD: u8 = 1;
-
-// A stream failed.
-const STREAM_FAILED: u8 = 4;
-
-// Memory was refused.
-const NO_MEMORY: u8 = 5;
 
 fn main(rt: HostRuntime) -> ExitCode {
     let words = match words(&rt) {
         Ok(words) => words,
-        Err(error) if error.kind() == io::ErrorKind::OutOfMemory => {
-            return fail(&rt, "out of memory", NO_MEMORY);
-        }
-        Err(_) => return fail(&rt, "arguments", WORDS_REFUSED),
+        Err(fault) => return refuse(&rt, fault),
     };
     let Ok(command) = command(rt.alloc()) else {
-        return fail(&rt, "out of memory", NO_MEMORY);
+        return refuse(&rt, CommandFault::Memory);
     };
     match command.try_get_matches_from(&words) {
         Ok(matches) => call(&rt, &matches),
-        Err(error) => refuse(&rt, &error),
+        Err(error) => answer(&rt, &error),
     }
 }
 
 // The words of the command line, the program's name first.
-fn words(rt: &HostRuntime) -> io::Result<Vec<String>> {
+fn words(rt: &HostRuntime) -> Result<Vec<String>, CommandFault> {
     Ok(std::env::args(rt)?.collect(rt.alloc())?)
 }
 
@@ -85,13 +69,13 @@ fn call(rt: &HostRuntime, matches: &ArgMatches<'_>) -> ExitCode {
         Some(("state", found)) => view(rt, found, state_view(found)),
         Some(("steps", found)) => view(rt, found, steps_view(found)),
         Some(("walk", found)) => walk(rt, found),
-        _ => fail(rt, "no subcommand", WORDS_REFUSED),
+        _ => refuse(rt, CommandFault::NoSubcommand),
     }
 }
 
 fn walk(rt: &HostRuntime, found: &ArgMatches<'_>) -> ExitCode {
     let Some(call) = walk_call(found) else {
-        return fail(rt, "out of range", WORDS_REFUSED);
+        return refuse(rt, CommandFault::Range);
     };
     let mut writer = Counted::new(io::writer(rt));
     match write_call(rt.alloc(), &call, &mut writer) {
@@ -103,7 +87,7 @@ fn walk(rt: &HostRuntime, found: &ArgMatches<'_>) -> ExitCode {
 // Writes the record of the schedule that the words name.
 fn record_schedule(rt: &HostRuntime, found: &ArgMatches<'_>) -> ExitCode {
     let Some(name) = found.get_str("file") else {
-        return fail(rt, "no file", WORDS_REFUSED);
+        return refuse(rt, CommandFault::NoFile);
     };
     let mut writer = Counted::new(io::writer(rt));
     match record_file(rt, name, &mut writer) {
@@ -123,60 +107,42 @@ fn record_file<W: Write>(
 ) -> Result<(), RecordFault>
     requires { failures_of writer.old < 2 ^ 63 }
 {
-    match (Host { rt }).open(name) {
+    match Host::new(rt).open(name) {
         Ok(mut reader) => record(rt.alloc(), &mut reader, writer),
         Err(Failed) => Err(RecordFault::Read),
     }
 }
 
-// Answers the lines on standard input, and writes the record in the end, where a file is named for it.
+// Answers the lines on standard input, and keeps the record in the end, where a file is named for it.
 fn hold_session(rt: &HostRuntime, found: &ArgMatches<'_>) -> ExitCode {
     let mut reader = Counted::new(rt.reader());
     let mut writer = Counted::new(io::writer(rt));
-    match interact(rt.alloc(), &mut reader, &mut writer) {
-        Ok(judge) => match found.get_str("record") {
+    let ended = interact(rt.alloc(), &mut reader, &mut writer);
+    match session_end(ended, writer.is_broken()) {
+        Ok(None) => ExitCode::SUCCESS,
+        Ok(Some(judge)) => match found.get_str("record") {
             None => ExitCode::SUCCESS,
-            Some(name) => keep(rt, judge, name),
+            Some(name) => keep_record(rt, judge, name),
         },
-        // Nobody reads the answers any more.
-        Err(SessionFault::Write) if writer.is_broken() => ExitCode::SUCCESS,
         Err(fault) => fail(rt, fault, fault.status()),
     }
 }
 
 // Writes the record of the session to the file of this name.
-fn keep(rt: &HostRuntime, judge: Judge, name: &str) -> ExitCode {
-    let world = match judge.into_world() {
-        Ok(world) => world,
-        Err(LineFault::NoMembers) => return fail(rt, "no members", NO_RECORD),
-        Err(_) => return fail(rt, "out of memory", NO_MEMORY),
-    };
-    let Ok(text) = record_line(rt.alloc(), &world) else {
-        return fail(rt, "out of memory", NO_MEMORY);
-    };
-    let Ok(file) = fs::create(rt, name) else {
-        return fail(rt, "write failed", STREAM_FAILED);
-    };
-    match write_all(&mut Counted::new(file), &text) {
+fn keep_record(rt: &HostRuntime, judge: Judge, name: &str) -> ExitCode {
+    match keep(rt.alloc(), judge, &mut Host::new(rt), name) {
         Ok(()) => ExitCode::SUCCESS,
-        Err(_) => fail(rt, "write failed", STREAM_FAILED),
+        Err(fault) => fail(rt, fault, fault.status()),
     }
-}
-
-// The world's record and a line feed.
-fn record_line(alloc: Global, world: &World) -> Result<Vec<u8>, AllocError> {
-    let mut text = write_record(alloc, world)?;
-    text.extend_from_slice(b"\n")?;
-    Ok(text)
 }
 
 // Writes what is shown of the record that the words name, where they ask for a view.
 fn view(rt: &HostRuntime, found: &ArgMatches<'_>, view: Option<View>) -> ExitCode {
     let Some(view) = view else {
-        return fail(rt, "out of range", WORDS_REFUSED);
+        return refuse(rt, CommandFault::Range);
     };
     let Some(name) = found.get_str("file") else {
-        return fail(rt, "no file", WORDS_REFUSED);
+        return refuse(rt, CommandFault::NoFile);
     };
     let mut writer = Counted::new(io::writer(rt));
     let ended = show_file(rt, name, &mut writer, &view);
@@ -189,10 +155,10 @@ fn view(rt: &HostRuntime, found: &ArgMatches<'_>, view: Option<View>) -> ExitCod
 // Draws the steps that the words ask for of the record that they name.
 fn diagram(rt: &HostRuntime, found: &ArgMatches<'_>) -> ExitCode {
     let Some(window) = diagram_window(found) else {
-        return fail(rt, "out of range", WORDS_REFUSED);
+        return refuse(rt, CommandFault::Range);
     };
     let Some(name) = found.get_str("file") else {
-        return fail(rt, "no file", WORDS_REFUSED);
+        return refuse(rt, CommandFault::NoFile);
     };
     let mut writer = Counted::new(io::writer(rt));
     let ended = draw_file(rt, name, &mut writer, &window);
@@ -211,7 +177,7 @@ fn draw_file<W: Write>(
 ) -> Result<(), DiagramFault>
     requires { failures_of writer.old < 2 ^ 63 }
 {
-    match (Host { rt }).open(name) {
+    match Host::new(rt).open(name) {
         Ok(mut reader) => draw(rt.alloc(), &mut reader, writer, window),
         Err(Failed) => Err(DiagramFault::Program(ProgramFault::Reader)),
     }
@@ -226,7 +192,7 @@ fn show_file<W: Write>(
 ) -> Result<(), ProgramFault>
     requires { failures_of writer.old < 2 ^ 63 }
 {
-    match (Host { rt }).open(name) {
+    match Host::new(rt).open(name) {
         Ok(mut reader) => show(rt.alloc(), &mut reader, writer, view),
         Err(Failed) => Err(ProgramFault::Reader),
     }
@@ -240,22 +206,25 @@ fn check_files(rt: &HostRuntime, found: &ArgMatches<'_>) -> ExitCode {
     };
     let names = found.get_strs("files").unwrap_or(&[]);
     let mut writer = Counted::new(io::writer(rt));
-    match check(rt.alloc(), &Host { rt }, names, &options, &mut writer) {
+    match check(rt.alloc(), &Host::new(rt), names, &options, &mut writer) {
         Ok(status) => ExitCode::from(status),
         Err(fault) => fail(rt, fault, fault.status()),
     }
 }
 
 // A call for help or for the version is answered on standard output.
-fn refuse(rt: &HostRuntime, error: &clap::Error) -> ExitCode {
-    let printed = error.print(rt);
-    if error.use_stderr() {
-        ExitCode::from(WORDS_REFUSED)
-    } else if printed.is_ok() {
-        ExitCode::SUCCESS
-    } else {
-        fail(rt, "write failed", STREAM_FAILED)
+fn answer(rt: &HostRuntime, error: &clap::Error) -> ExitCode {
+    let printed = error.print(rt).is_ok();
+    match answer_status(error.use_stderr(), printed) {
+        Ok(status) => ExitCode::from(status),
+        Err(fault) => refuse(rt, fault),
     }
+}
+
+// Tells of a fault of the command line.
+fn refuse(rt: &HostRuntime, fault: CommandFault) -> ExitCode {
+    let status = fault.status();
+    fail(rt, fault, status)
 }
 
 // Prints the fault's line. Where standard error fails too, the status alone tells of the fault.
