@@ -306,9 +306,9 @@ fn stays(alloc: Global) -> Result<bool, AllocError> {
     stays_so(&mut caster, alloc)
 }
 
-// With `rt try --test --fail-alloc N` the Nth allocation is refused, for N from 1 on in turn.
+// Memory is refused here with `rt try --test --fail-alloc N` alone, where the Nth allocation is; the second try is done then.
 #[test]
-fn refused_memory_changes_nothing(rt: HostRuntime) -> Result<(), Fail> {
+fn forty_messages_are_received_with_room_made_for_each(rt: HostRuntime) -> Result<(), Fail> {
     assert!(rt; stays(rt.alloc())?);
     Ok(())
 }

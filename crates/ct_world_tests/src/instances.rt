@@ -536,9 +536,9 @@ fn stays(instances: &mut Instances, k: Instance) -> Result<bool, AllocError>
     Ok(open && room)
 }
 
-// To be run with each allocation refused in turn too, as by `rt try --test --fail-alloc N`.
+// Memory is refused here with `rt try --test --fail-alloc N` alone, where the Nth allocation is; the second try makes room then.
 #[test]
-fn what_was_got_stays_where_memory_is_refused(rt: HostRuntime) -> Result<(), Fail> {
+fn decisions_come_where_room_was_made_for_them(rt: HostRuntime) -> Result<(), Fail> {
     let mut instances = instances_of(rt.alloc(), 2, 3)?;
     for k in 1..=8 {
         let stayed = stays(&mut instances, k)?;

@@ -116,9 +116,10 @@ fn a_copy_goes_its_own_way(rt: HostRuntime) -> Result<(), Fail> {
     Ok(())
 }
 
-// With `rt try --test --fail-alloc N` the Nth allocation is refused, for N from 1 on in turn.
+// Memory is refused here with `rt try --test --fail-alloc N` alone, where the Nth allocation is; a second `prepare` makes room
+// then.
 #[test]
-fn refused_memory_changes_nothing(rt: HostRuntime) -> Result<(), Fail> {
+fn a_message_is_new_until_it_is_taken(rt: HostRuntime) -> Result<(), Fail> {
     let mut relay = Relay::new(rt.alloc(), ME);
     for number in 1..=40 {
         let id = RelayId::Data {

@@ -34,6 +34,8 @@ fn a_step_that_is_not_allowed_sets_no_cell(rt: HostRuntime) {
         Fact::Keeps(Step::Begin(1), Refusal::Nothing, 1),
         Fact::Keeps(Step::Enter(2), Refusal::Idle, 1),
         Fact::Keeps(Step::Submit(1, Command::Set(16, 7)), Refusal::BadCommand, 1),
+        Fact::Keeps(Step::Repeat(1, 99), Refusal::NotSent, 1),
+        Fact::Keeps(Step::Repeat(1, 4), Refusal::StillWaiting, 1),
     ];
     after_round(&rt, 22, FACTS);
 }
@@ -48,6 +50,12 @@ fn an_undecided_delivery_sets_no_cell(rt: HostRuntime) {
         Fact::Keeps(Step::Enter(1), Refusal::WrongPhase, 0),
         Fact::Keeps(Step::Choose(2, 1), Refusal::TooFew, 0),
         Fact::Keeps(Step::Adopt(1), Refusal::NoProposal, 0),
+        Fact::OneRound(8, 10),
+        Fact::Keeps(Step::Choose(2, 3), Refusal::NotLargest, 0),
+        Fact::OneRound(10, 12),
+        Fact::Keeps(Step::Suspect(1), Refusal::HasProposal, 0),
+        Fact::OneRound(12, 19),
+        Fact::Keeps(Step::Enter(2), Refusal::Decided, 0),
     ];
     after_round(&rt, 8, FACTS);
 }

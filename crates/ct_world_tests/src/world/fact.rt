@@ -60,7 +60,7 @@ pub(super) enum Fact<'a> {
     // The step is done so often.
     Repeated(u32, Step),
     // So many rounds of a member alone are done, the first on, and end without a decision.
-    VainRounds(u16),
+    UndecidedRounds(u16),
     // So many instances of a member alone are done, the first on.
     Alone(u16),
     // The step is done, and sends so many envelopes.
@@ -85,6 +85,10 @@ pub(super) enum Fact<'a> {
     Commits(Result<u32, Refusal>),
     // So many members and cells.
     Setting(u8, u16),
+    // So many members are a majority of the group.
+    Majority(u8),
+    // The member that coordinates the round.
+    Coordinator(Round, Member),
     // The most messages of a proposal.
     Bound(u32),
     // So many steps, envelopes that were sent, and batches that were posted.
@@ -112,13 +116,17 @@ pub(super) enum Fact<'a> {
     // The last instance that the member began, and whether it is open.
     Instance(Member, Instance, bool),
     Round(Member, Option<(Round, Phase)>),
+    // The estimate that the member heard from the other for its round, one message, and the ts; or it heard none.
+    Heard(Member, Member, Option<(Plain, Round)>),
     Crashed(Member),
     // The value of a member's register.
     Register(Member, u8, u64),
+    // The values of all registers of a member.
+    Table(Member, &'a [u64; 16]),
     // The outcome at the member: so many steps, these messages, and this value in register 0.
     Outcome(Member, usize, &'a [Plain], u64),
-    // The member is none of the group's.
-    Stranger(Member),
+    // There is no such member.
+    NoMember(Member),
 }
 
 impl Fact<'_> {
@@ -129,7 +137,7 @@ impl Fact<'_> {
             Fact::OneRound(from, to) => trial.does_from(&ONE_ROUND, *from, *to),
             Fact::TwoInstances(from, to) => trial.does_from(&TWO_INSTANCES, *from, *to),
             Fact::Repeated(count, step) => trial.repeats(*count, step),
-            Fact::VainRounds(rounds) => limits::do_vain_rounds(trial, *rounds),
+            Fact::UndecidedRounds(rounds) => limits::do_undecided_rounds(trial, *rounds),
             Fact::Alone(instances) => limits::decide_alone(trial, *instances),
             Fact::Sends(step, sent) => trial.apply(step) == Ok(*sent),
             Fact::Posts(step, wanted) => trial.posts(step, *wanted),
@@ -158,6 +166,8 @@ impl Fact<'_> {
             Fact::Next(member, next) => trial.next_local(*member) == *next,
             Fact::Prepared(step) => trial.prepared() == *step,
             Fact::Setting(members, cells) => trial.setting() == (*members, *cells),
+            Fact::Majority(members) => trial.world.group().majority() == *members,
+            Fact::Coordinator(round, p) => trial.world.group().coordinator(*round) == *p,
             Fact::Bound(bound) => trial.world.bound() == *bound,
             Fact::Counts(steps, sent, posted) => trial.counts() == (*steps, *sent, *posted),
             Fact::Record(count) => trial.has_done(&ONE_ROUND, *count),
@@ -188,10 +198,12 @@ impl Fact<'_> {
             Fact::LastDecided(p, wanted) => trial.last_decided(*p) == *wanted,
             Fact::Instance(p, last, open) => trial.instance(*p) == Some((*last, *open)),
             Fact::Round(p, wanted) => trial.round(*p) == *wanted,
+            Fact::Heard(p, from, wanted) => trial.has_heard(*p, *from, *wanted),
             Fact::Crashed(p) => trial.crashed(*p),
             Fact::Register(p, register, value) => trial.register(*p, *register) == Some(*value),
+            Fact::Table(p, values) => trial.has_table(*p, values),
             Fact::Outcome(p, steps, wanted, value) => trial.comes_to(*p, *steps, wanted, *value),
-            Fact::Stranger(p) => trial.is_stranger(*p),
+            Fact::NoMember(p) => trial.is_no_member(*p),
             _ => false,
         }
     }

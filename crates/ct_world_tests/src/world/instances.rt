@@ -28,7 +28,7 @@ fn a_decision_is_kept_for_an_instance_to_come(rt: HostRuntime) {
         Fact::Sends(Step::Begin(3), 0),
         Fact::Refused(Step::Enter(3), Refusal::Decided),
         Fact::Counts(20, 22, 0),
-        Fact::Sends(Step::Deliver(3), 0),
+        Fact::Posts(Step::Deliver(3), Some((0, 1, FIRST))),
         Fact::Counts(21, 22, 1),
         Fact::Batch(1, Some(FIRST)),
     ];

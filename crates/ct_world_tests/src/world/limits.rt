@@ -11,6 +11,7 @@ fn submissions_are_limited(rt: HostRuntime) {
     static FACTS: &[Fact<'static>] = &[
         Fact::Repeated(65_535, SUBMIT),
         Fact::Refused(SUBMIT, Refusal::Full(Limit::Submissions)),
+        Fact::Cells(0),
     ];
     shown_new(&rt, 1, FACTS);
 }
@@ -21,6 +22,7 @@ fn envelopes_are_limited(rt: HostRuntime) {
         Fact::Repeated(62_500, SUBMIT),
         Fact::Counts(62_500, 1_000_000, 0),
         Fact::Refused(SUBMIT, Refusal::Full(Limit::Envelopes)),
+        Fact::Cells(0),
     ];
     shown_new(&rt, 16, FACTS);
 }
@@ -31,12 +33,13 @@ fn steps_are_limited(rt: HostRuntime) {
     static FACTS: &[Fact<'static>] = &[
         Fact::Repeated(999_999, POSTPONE),
         Fact::Refused(POSTPONE, Refusal::Full(Limit::Steps)),
+        Fact::Cells(0),
     ];
     shown(&rt, 1, &STEPS, 1, FACTS);
 }
 
 // A round that one member alone ends without a decision, after so many envelopes. The proposal is never received.
-fn vain_round(sent: Serial) -> [Step; 6]
+fn undecided_round(sent: Serial) -> [Step; 6]
     requires { sent < 1000000 }
 {
     [
@@ -50,9 +53,9 @@ fn vain_round(sent: Serial) -> [Step; 6]
 }
 
 // Whether the rounds are done, so many from the first on.
-pub(super) fn do_vain_rounds(trial: &mut Trial, rounds: u16) -> bool {
+pub(super) fn do_undecided_rounds(trial: &mut Trial, rounds: u16) -> bool {
     for round in 0..rounds {
-        if !trial.does_all(&vain_round(3 * u32::from(round) + 1)) {
+        if !trial.does_all(&undecided_round(3 * u32::from(round) + 1)) {
             return false;
         }
     }
@@ -63,9 +66,10 @@ pub(super) fn do_vain_rounds(trial: &mut Trial, rounds: u16) -> bool {
 fn rounds_are_limited(rt: HostRuntime) {
     static STEPS: [Step; 3] = [SUBMIT, Step::Receive(1, 1), Step::Begin(1)];
     static FACTS: &[Fact<'static>] = &[
-        Fact::VainRounds(10_000),
+        Fact::UndecidedRounds(10_000),
         Fact::Counts(60_003, 30_001, 0),
         Fact::Refused(Step::Enter(1), Refusal::Full(Limit::Rounds)),
+        Fact::Cells(0),
     ];
     shown(&rt, 1, &STEPS, 3, FACTS);
 }
@@ -109,6 +113,7 @@ fn instances_are_limited(rt: HostRuntime) {
         Fact::Done(Step::Receive(1, 5_121)),
         Fact::Counts(12_290, 5_121, 1024),
         Fact::Refused(Step::Begin(1), Refusal::Full(Limit::Instances)),
+        Fact::Cells(1024),
     ];
     Trial::new(&rt, rt.alloc(), 1, 1024).shows(&rt, FACTS);
 }

@@ -9,8 +9,8 @@ fn a_new_world_is_empty(rt: HostRuntime) {
         Fact::Setting(3, 4),
         Fact::Counts(0, 0, 0),
         Fact::Waiting(3, &[]),
-        Fact::Stranger(4),
-        Fact::Stranger(0),
+        Fact::NoMember(4),
+        Fact::NoMember(0),
     ];
     shown_new(&rt, 3, FACTS);
 }
@@ -18,6 +18,7 @@ fn a_new_world_is_empty(rt: HostRuntime) {
 #[test]
 fn what_is_received_first_is_relayed(rt: HostRuntime) {
     static FACTS: &[Fact<'static>] = &[
+        Fact::Coordinator(1, 2),
         Fact::Sends(Step::Submit(1, SEVEN), 3),
         Fact::Sends(Step::Receive(1, 1), 0),
         Fact::Sends(Step::Receive(2, 2), 3),

@@ -42,7 +42,7 @@ fn a_crashed_member_takes_no_step(rt: HostRuntime) {
 }
 
 #[test]
-fn a_stranger_takes_no_step(rt: HostRuntime) {
+fn a_step_of_no_member_is_refused(rt: HostRuntime) {
     for member in [0, 4, 255] {
         takes_no_step(&rt, member, Refusal::NoSuchMember);
     }
@@ -108,9 +108,10 @@ fn do_each_at_last(rt: &(impl Abort + AllocGlobal), facts: &[Fact<'_>]) {
     trial.shows(rt, facts);
 }
 
-// With ample memory the first try does each step; the program ct_memory does the same while each growth is refused in turn.
+// No growth is refused to a test, so the first try does each step. The program ct_memory does the same, and cases/growths.sh
+// runs it while each growth is refused in turn.
 #[test]
-fn a_step_refused_for_memory_changes_nothing(rt: HostRuntime) {
+fn each_step_is_done_at_the_first_try_or_the_second(rt: HostRuntime) {
     static FACTS: &[Fact<'static>] = &[
         Fact::Counts(22, 19, 1),
         Fact::Record(22),

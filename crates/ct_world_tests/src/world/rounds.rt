@@ -19,7 +19,7 @@ fn a_round_decides(rt: HostRuntime) {
         Fact::Decided(3, 1, None),
         Fact::Delivered(3, &[]),
         Fact::Instance(3, 0, false),
-        Fact::Stranger(4),
+        Fact::NoMember(4),
     ];
     after_round(&rt, 22, FACTS);
 }
@@ -72,6 +72,7 @@ fn a_majority_of_estimates_is_needed(rt: HostRuntime) {
         Step::Receive(2, 14),
     ];
     static FACTS: &[Fact<'static>] = &[
+        Fact::Majority(3),
         Fact::Refused(Step::Choose(2, 1), Refusal::TooFew),
         Fact::Done(Step::Receive(2, 15)),
         Fact::Sends(Step::Choose(2, 1), 4),
@@ -82,13 +83,24 @@ fn a_majority_of_estimates_is_needed(rt: HostRuntime) {
 
 #[test]
 fn equal_estimates_are_a_free_choice(rt: HostRuntime) {
-    static FACTS: &[Fact<'static>] = &[
+    static OF_TWO: &[Fact<'static>] = &[
         Fact::Allowed(Step::Choose(2, 1)),
         Fact::Refused(Step::Choose(2, 3), Refusal::NotLargest),
         Fact::Sends(Step::Choose(2, 2), 3),
         Fact::Value(9, Some(TWO)),
     ];
-    after_proposals(&rt, FACTS);
+    after_proposals(&rt, OF_TWO);
+    static OF_ONE: &[Fact<'static>] = &[
+        Fact::Sends(Step::Choose(2, 1), 3),
+        Fact::Counts(11, 11, 0),
+        Fact::Letter(9, Some((1, Sent::Prop(1, 1)))),
+        Fact::Letter(10, Some((2, Sent::Prop(1, 1)))),
+        Fact::Letter(11, Some((3, Sent::Prop(1, 1)))),
+        Fact::Value(9, Some(ONE)),
+        Fact::Value(10, Some(ONE)),
+        Fact::Value(11, Some(ONE)),
+    ];
+    after_proposals(&rt, OF_ONE);
 }
 
 #[test]
@@ -116,7 +128,10 @@ fn the_largest_ts_binds(rt: HostRuntime) {
         Fact::Done(Step::Suspect(3)),
         Fact::Done(Step::Enter(3)),
         Fact::Done(Step::Receive(3, 13)),
+        Fact::Heard(3, 1, Some((ONE, 1))),
+        Fact::Heard(3, 3, None),
         Fact::Done(Step::Receive(3, 19)),
+        Fact::Heard(3, 3, Some((TWO, 0))),
         Fact::Refused(Step::Choose(3, 3), Refusal::NotLargest),
         Fact::Sends(Step::Choose(3, 1), 3),
         Fact::Counts(22, 22, 0),
@@ -160,6 +175,7 @@ fn a_locked_value_is_proposed_again(rt: HostRuntime) {
         Fact::Done(Step::Receive(3, 20)),
         Fact::Refused(Step::Choose(3, 3), Refusal::NotLargest),
         Fact::Sends(Step::Choose(3, 1), 3),
+        Fact::Counts(24, 23, 0),
         Fact::Value(21, Some(ONE)),
     ];
     after_proposals(&rt, FACTS);

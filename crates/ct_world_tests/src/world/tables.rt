@@ -17,9 +17,13 @@ fn a_table_is_changed_by_what_is_delivered(rt: HostRuntime) {
         Step::Deliver(1),
     ];
     static FACTS: &[Fact<'static>] = &[
+        Fact::Majority(1),
+        Fact::Coordinator(1, 1),
+        Fact::Coordinator(2, 1),
+        Fact::Coordinator(10_000, 1),
         Fact::Counts(12, 5, 1),
-        Fact::Register(1, 3, 4),
-        Fact::Register(1, 4, 0),
+        Fact::Delivered(1, &[(1, 1, Command::Add(3, 4))]),
+        Fact::Table(1, &[0, 0, 0, 4, 0, 0, 0, 0, 0, 0, 0, 0, 0, 0, 0, 0]),
     ];
     shown(&rt, 1, &STEPS, 12, FACTS);
 }
@@ -29,8 +33,8 @@ fn tables_follow_the_order_of_delivery(rt: HostRuntime) {
     static FACTS: &[Fact<'static>] = &[
         Fact::Register(1, 0, 5),
         Fact::Register(1, 1, 5),
-        Fact::Stranger(2),
-        Fact::Stranger(0),
+        Fact::NoMember(2),
+        Fact::NoMember(0),
     ];
     after_instances(&rt, FACTS);
 }
@@ -47,7 +51,7 @@ fn members_that_delivered_the_same_have_equal_tables(rt: HostRuntime) {
 
 #[test]
 fn an_outcome_shows_a_member_at_the_end_of_the_record(rt: HostRuntime) {
-    static FACTS: &[Fact<'static>] = &[Fact::Outcome(1, 22, &[FIRST], 7), Fact::Stranger(4)];
+    static FACTS: &[Fact<'static>] = &[Fact::Outcome(1, 22, &[FIRST], 7), Fact::NoMember(4)];
     after_round(&rt, 22, FACTS);
 }
 
@@ -72,6 +76,7 @@ fn a_batch_stands_in_the_order_of_messages(rt: HostRuntime) {
         Step::Deliver(1),
     ];
     static FACTS: &[Fact<'static>] = &[
+        Fact::Counts(14, 6, 1),
         Fact::Delivered(1, &[(1, 1, SET), (1, 2, ADD)]),
         Fact::Register(1, 0, u64::MAX),
         Fact::Refused(Step::Submit(1, Command::Set(16, 1)), Refusal::BadCommand),

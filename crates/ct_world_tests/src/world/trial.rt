@@ -326,6 +326,22 @@ impl Trial {
         self.world.round(member)
     }
 
+    // Whether the member heard that message alone with that ts from the other, for its round, or heard nothing from it.
+    pub(super) fn has_heard(
+        &self,
+        member: Member,
+        from: Member,
+        wanted: Option<(Plain, Round)>,
+    ) -> bool {
+        match (self.world.heard_from(member, from), wanted) {
+            (Some((value, ts)), Some((message, wanted))) => {
+                ts == wanted && fact::is(Some(value), &[message])
+            }
+            (None, None) => true,
+            _ => false,
+        }
+    }
+
     pub(super) fn crashed(&self, member: Member) -> bool {
         self.world.crashed(member)
     }
@@ -333,6 +349,16 @@ impl Trial {
     // The value of a member's register.
     pub(super) fn register(&self, member: Member, register: u8) -> Option<u64> {
         self.world.table(member)?.get(register)
+    }
+
+    // Whether these are the values of all registers of a member.
+    pub(super) fn has_table(&self, member: Member, values: &[u64; 16]) -> bool {
+        for register in 0..16 {
+            if self.register(member, register) != Some(values[usize::from(register)]) {
+                return false;
+            }
+        }
+        true
     }
 
     // Whether the outcome at the member is of so many steps, these messages, and this value in register 0.
@@ -354,7 +380,7 @@ impl Trial {
     }
 
     // Whether nothing is known of the member.
-    pub(super) fn is_stranger(&self, member: Member) -> bool {
+    pub(super) fn is_no_member(&self, member: Member) -> bool {
         self.has_no_list(member)
             && self.last_decided(member).is_none()
             && self.instance(member).is_none()
