@@ -1,9 +1,11 @@
 -- The status that a program ends with at a fault.
 use Rattle.std.specs.Prelude.{ℕ}
+use Rattle.ct_program.specs.declared.status.Status.TheVariants as status
+use Rattle.ct_program.specs.Statuses.{code}
 use Rattle.ct_program.specs.ProgramFault as program
 use Rattle.ct_diagram.specs.declared.fault.DiagramFault.{DiagramFault}
 use Rattle.ct_diagram.specs.declared.fault.DiagramFault.TheVariants.{TooManySteps, Program}
 
 abbrev pub status_of : DiagramFault → ℕ
-status_of (TooManySteps steps) = 3
+status_of (TooManySteps steps) = code status.Words
 status_of (Program fault) = program.status_of fault

@@ -3,7 +3,7 @@
 ghost use Rattle.std.specs.Prelude.{◌≡◌};
 ghost use Rattle.ct_diagram.specs.Faults.{status_of};
 
-use ct_program::ProgramFault;
+use ct_program::{ProgramFault, Status};
 use std::alloc::AllocError;
 use thiserror::Error;
 
@@ -24,7 +24,7 @@ impl DiagramFault {
         ensures { result ≡ status_of self.now }
     {
         match self {
-            DiagramFault::TooManySteps { .. } => 3,
+            DiagramFault::TooManySteps { .. } => Status::Words.code(),
             DiagramFault::Program(fault) => fault.status(),
         }
     }

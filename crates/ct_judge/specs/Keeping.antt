@@ -1,6 +1,8 @@
 -- How sessions end, and what is kept of them.
 use Rattle.std.specs.Prelude.{◌≡◌, ℕ, Bool, false, List, [], ◌∷◌, ◌++◌, Option, Some, None, Result, Ok, Err, IsOk, IsOkAnd, ⊤, if◌then◌else◌}
 use Rattle.ct_model.specs.Rehearsal.{Rehearsal}
+use Rattle.ct_program.specs.declared.status.Status.TheVariants as status
+use Rattle.ct_program.specs.Statuses.{code}
 use Rattle.ct_program.specs.NewFiles.{Makes, MakesPart}
 use Rattle.ct_program.specs.Text.{record_text}
 use Rattle.ct_judge.specs.Standing.{Standing}
@@ -12,9 +14,9 @@ use Rattle.ct_judge.specs.declared.session_fault.SessionFault.{SessionFault}
 use Rattle.ct_judge.specs.declared.session_fault.SessionFault.TheVariants as session
 
 abbrev pub keep_status : KeepFault → ℕ
-keep_status NoMembers = 1
-keep_status Write = 4
-keep_status Memory = 5
+keep_status NoMembers = code status.Refused
+keep_status Write = code status.Stream
+keep_status Memory = code status.Memory
 
 -- nobody reads the answers any more: a write failed as the writer broke
 abbrev pub is_left : SessionFault → Bool → Bool

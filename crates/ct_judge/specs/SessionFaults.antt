@@ -1,13 +1,15 @@
 -- The faults of sessions.
 use Rattle.std.specs.Prelude.{◌≡◌, ◌⊎◌, ◌+◌, ◌-◌, ◌≤◌, ◌^◌, ℕ, List, Option, length, IfSome, ⊤}
+use Rattle.ct_program.specs.declared.status.Status.TheVariants as status
+use Rattle.ct_program.specs.Statuses.{code}
 use Rattle.ct_judge.specs.declared.session_fault.SessionFault.{SessionFault}
 use Rattle.ct_judge.specs.declared.session_fault.SessionFault.TheVariants.{Read, Write, Memory, Board}
 
 abbrev pub session_status : SessionFault → ℕ
-session_status Read = 4
-session_status Write = 4
-session_status Memory = 5
-session_status Board = 5
+session_status Read = code status.Stream
+session_status Write = code status.Stream
+session_status Memory = code status.Memory
+session_status Board = code status.Memory
 
 -- want of memory, or of the board
 abbrev pub IsShort : SessionFault → Type 0

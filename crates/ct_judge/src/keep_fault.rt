@@ -3,6 +3,7 @@
 ghost use Rattle.std.specs.Prelude.{◌≡◌};
 ghost use Rattle.ct_judge.specs.Keeping.{keep_status};
 
+use ct_program::Status;
 use std::alloc::AllocError;
 use thiserror::Error;
 
@@ -26,9 +27,9 @@ impl KeepFault {
         ensures { result ≡ keep_status self.now }
     {
         match self {
-            KeepFault::NoMembers => 1,
-            KeepFault::Write => 4,
-            KeepFault::Memory => 5,
+            KeepFault::NoMembers => Status::Refused.code(),
+            KeepFault::Write => Status::Stream.code(),
+            KeepFault::Memory => Status::Memory.code(),
         }
     }
 }

@@ -4,6 +4,7 @@ ghost use Rattle.std.specs.Prelude.{◌≡◌};
 ghost use Rattle.ct_judge.specs.Recording.{status_of};
 
 use crate::line_fault::LineFault;
+use ct_program::Status;
 use std::alloc::AllocError;
 use thiserror::Error;
 
@@ -41,10 +42,10 @@ impl RecordFault {
         ensures { result ≡ status_of self.now }
     {
         match self {
-            RecordFault::Line { .. } => 1,
-            RecordFault::TooLong => 2,
-            RecordFault::Read | RecordFault::Write => 4,
-            RecordFault::Memory | RecordFault::Board => 5,
+            RecordFault::Line { .. } => Status::Refused.code(),
+            RecordFault::TooLong => Status::NoRecord.code(),
+            RecordFault::Read | RecordFault::Write => Status::Stream.code(),
+            RecordFault::Memory | RecordFault::Board => Status::Memory.code(),
         }
     }
 }

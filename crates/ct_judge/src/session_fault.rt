@@ -3,6 +3,7 @@
 ghost use Rattle.std.specs.Prelude.{◌≡◌};
 ghost use Rattle.ct_judge.specs.SessionFaults.{session_status};
 
+use ct_program::Status;
 use std::alloc::AllocError;
 use thiserror::Error;
 
@@ -29,8 +30,8 @@ impl SessionFault {
         ensures { result ≡ session_status self.now }
     {
         match self {
-            SessionFault::Read | SessionFault::Write => 4,
-            SessionFault::Memory | SessionFault::Board => 5,
+            SessionFault::Read | SessionFault::Write => Status::Stream.code(),
+            SessionFault::Memory | SessionFault::Board => Status::Memory.code(),
         }
     }
 }

@@ -11,6 +11,8 @@ use Rattle.ct_program.specs.declared.program_fault.ProgramFault.TheVariants.{Rep
 use Rattle.ct_program.specs.declared.read_fault.ReadFault.{ReadFault}
 use Rattle.ct_program.specs.declared.read_fault.ReadFault.TheVariants.{TooLong, NotJson, Shape, Version, OutOfMemory}
 use Rattle.ct_program.specs.ProgramFault as program
+use Rattle.ct_program.specs.declared.status.Status.TheVariants as status
+use Rattle.ct_program.specs.Statuses.{code}
 use Rattle.ct_program.specs.Replay.{IsFaultIn, IsReplayed, read_part}
 use Rattle.ct_program.specs.Report.{report_text}
 use Rattle.ct_program.specs.Script.{script}
@@ -69,9 +71,9 @@ IsBeside known report (Fault fault) = fault ≡ Memory
 
 -- the status that it stands for
 abbrev pub status_of : Checked → ℕ
-status_of Good = 0
-status_of OtherReport = 1
-status_of NoReport = 4
+status_of Good = code status.Done
+status_of OtherReport = code status.Refused
+status_of NoReport = code status.Stream
 status_of (Fault fault) = program.status_of fault
 
 -- ---- its line

@@ -3,7 +3,7 @@
 ghost use Rattle.std.specs.Prelude.{◌≡◌};
 ghost use Rattle.ct_show.specs.Checking.{status_of};
 
-use ct_program::ProgramFault;
+use ct_program::{ProgramFault, Status};
 
 /// What checking a file comes to.
 #[derive(Clone, Copy, Debug, Drop, PartialEq, Eq)]
@@ -24,9 +24,9 @@ impl Checked {
         ensures { result ≡ status_of self.now }
     {
         match self {
-            Checked::Good => 0,
-            Checked::OtherReport => 1,
-            Checked::NoReport => 4,
+            Checked::Good => Status::Done.code(),
+            Checked::OtherReport => Status::Refused.code(),
+            Checked::NoReport => Status::Stream.code(),
             Checked::Fault(fault) => fault.status(),
         }
     }

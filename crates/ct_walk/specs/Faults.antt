@@ -1,5 +1,7 @@
 -- The faults of walks.
 use Rattle.std.specs.Prelude.{◌≡◌, ◌⊎◌, ℕ, false, ⊤}
+use Rattle.ct_program.specs.declared.status.Status.TheVariants as status
+use Rattle.ct_program.specs.Statuses.{code}
 use Rattle.ct_rehearse.specs.declared.outcome.Turn.{Turn}
 use Rattle.ct_rehearse.specs.declared.outcome.Turn.TheVariants.{Refused}
 use Rattle.ct_rehearse.specs.Plays.{is_short}
@@ -7,10 +9,10 @@ use Rattle.ct_walk.specs.declared.fault.WalkFault.{WalkFault}
 use Rattle.ct_walk.specs.declared.fault.WalkFault.TheVariants.{Memory, Board, Write, NotFound}
 
 abbrev pub status_of : WalkFault → ℕ
-status_of NotFound = 1
-status_of Write = 4
-status_of Memory = 5
-status_of Board = 5
+status_of NotFound = code status.Refused
+status_of Write = code status.Stream
+status_of Memory = code status.Memory
+status_of Board = code status.Memory
 
 -- a walk can't be made for want of memory, or by the board
 abbrev pub IsShort : WalkFault → Type 0

@@ -3,6 +3,7 @@
 ghost use Rattle.std.specs.Prelude.{◌≡◌};
 ghost use Rattle.ct_walk.specs.Faults.{status_of};
 
+use ct_program::Status;
 use std::alloc::AllocError;
 use thiserror::Error;
 
@@ -29,9 +30,9 @@ impl WalkFault {
         ensures { result ≡ status_of self.now }
     {
         match self {
-            WalkFault::NotFound => 1,
-            WalkFault::Write => 4,
-            WalkFault::Memory | WalkFault::Board => 5,
+            WalkFault::NotFound => Status::Refused.code(),
+            WalkFault::Write => Status::Stream.code(),
+            WalkFault::Memory | WalkFault::Board => Status::Memory.code(),
         }
     }
 }
