@@ -49,13 +49,19 @@ impl NewFiles for Host<'_> {
     ghost failures = { λ host. host.failures };
 
     fn make(&mut self, name: &str, bytes: &[u8]) -> Result<(), Failed> {
-        let made = match fs::create(self.rt, name) {
-            Ok(file) => write_all(&mut Counted::new(file), bytes),
-            Err(_) => Err(Failed),
-        };
-        if made.is_err() {
+        if has_made(self.rt, name, bytes) {
+            Ok(())
+        } else {
             self.failures += 1;
+            Err(Failed)
         }
-        made
+    }
+}
+
+// Makes the file, with these bytes, and tells whether it is whole.
+fn has_made(rt: &HostRuntime, name: &str, bytes: &[u8]) -> bool {
+    match fs::create(rt, name) {
+        Ok(file) => write_all(&mut Counted::new(file), bytes).is_ok(),
+        Err(_) => false,
     }
 }
