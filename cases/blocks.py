@@ -5,7 +5,7 @@ programs' help and of docs/man/*.text.
     blocks.py CT CT_TOOL
 
 All is run in a copy of docs/, examples/, bench/ and cases/, in which crates/NAME/out/NAME and, on the path, NAME are the
-built programs. At the beginning of each document and each help run.json and run.txt are a record and a schedule; commands
+built programs. At the beginning of each document and each help run.json and another.json are a record, run.txt a schedule; commands
 find what those before them wrote. A block is told by its first line:
 
     members N                           a schedule: `ct_tool record` writes its record, which is replayed
@@ -58,8 +58,8 @@ class Tree:
                        "PATH": os.path.join(folder, "bin") + os.pathsep + os.environ["PATH"]}
 
     def renew(self):
-        """Makes run.json and run.txt."""
-        self.run("ct_tool walk --members 3 --seed 7 --turns 60 > run.json; cp examples/followers.schedule run.txt")
+        """Makes run.json, another.json and run.txt."""
+        self.run("ct_tool walk --members 3 --seed 7 --turns 60 > run.json; cp run.json another.json; cp examples/followers.schedule run.txt")
 
     def run(self, command, text=None):
         """The command's status, output and errors."""

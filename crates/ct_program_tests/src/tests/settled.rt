@@ -57,12 +57,24 @@ fn settled<R: Threads + Wait + Sync>(
     detectors: Vec<Box<dyn Detector>>,
 ) -> Option<World> {
     let plan = disturbed(alloc).ok()?;
+    settled_by(rt, alloc, &plan, detectors)
+}
+
+// The world after this run of three members.
+fn settled_by<R: Threads + Wait + Sync>(
+    rt: &R,
+    alloc: Global,
+    plan: &Plan,
+    detectors: Vec<Box<dyn Detector>>,
+) -> Option<World>
+    requires { IsWithin plan.now }
+{
     let world = World::new(alloc, Group::new(3)?, 64, MAX_BOUND).ok()?;
     let board = Board::new(alloc, 64).ok()?;
     if detectors.len() != usize::from(world.group().n()) {
         return None;
     }
-    let done = rehearse(rt, alloc, world, board, &plan, detectors, &NoGate).ok()?;
+    let done = rehearse(rt, alloc, world, board, plan, detectors, &NoGate).ok()?;
     Some(done.world)
 }
 
