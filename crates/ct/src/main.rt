@@ -7,10 +7,9 @@ ghost use Rattle.ct_program.specs.FreeOptions.{FreeInRange, InRange};
 ghost use Rattle.ct_program.specs.FreeRun.{IsFreeFault, WritesRun, WritesRunPart};
 
 use ct_detect::Detector;
-use ct_program::{
-    Call, CommandFault, Counted, FreeOptions, LineFault, ProgramFault, Sink, answer_status, free,
-    line, run_replay, seeded,
-};
+use ct_program::{Call, CommandFault, FreeOptions, LineFault, answer_status, free, line, seeded};
+use ct_records::{ProgramFault, run_replay};
+use ct_streams::{Counted, Sink};
 use std::alloc::Global;
 use std::fmt::Display;
 use std::io;

@@ -3,11 +3,10 @@ use Rattle.std.proofs.Common.{◌≡◌, ℕ, List, Option, Result, Ok, Err, ref
 use Rattle.std.specs.Prelude.{IfSome}
 use Rattle.std.specs.Io.KnownBytes.{Appends}
 use Rattle.ct_model.specs.Rehearsal.{Rehearsal}
-use Rattle.ct_program.specs.declared.program_fault.ProgramFault.TheVariants as of
-use Rattle.ct_program.specs.declared.read_fault.ReadFault.{ReadFault}
-use Rattle.ct_program.specs.Replay.{read_part}
-use Rattle.ct_program.specs.Script.{script}
-use Rattle.ct_program.specs.Streams.{WritesPart}
+use Rattle.ct_records.specs.declared.program_fault.ProgramFault.TheVariants as of
+use Rattle.ct_records.specs.declared.read_fault.ReadFault.{ReadFault}
+use Rattle.ct_streams.specs.Streams.{read_part, WritesPart}
+use Rattle.ct_records.specs.Script.{script}
 use Rattle.ct_show.proofs.Seen.{input_seen}
 use Rattle.ct_diagram.specs.declared.fault.DiagramFault.{DiagramFault}
 use Rattle.ct_diagram.specs.declared.fault.DiagramFault.TheVariants.{Program}

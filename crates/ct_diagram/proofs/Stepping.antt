@@ -5,8 +5,8 @@ use Rattle.ct_names.specs.declared.refusal.Refusal.{Refusal}
 use Rattle.ct_model.specs.declared.step.Step.{Step}
 use Rattle.ct_model.specs.Rehearsal.{Rehearsal, state_of, extended}
 use Rattle.ct_model.specs.Setting.{Setting}
-use Rattle.ct_program.specs.declared.program_fault.ProgramFault.{ProgramFault}
-use Rattle.ct_program.specs.ProgramFault.{IsOfReplayFault}
+use Rattle.ct_records.specs.declared.program_fault.ProgramFault.{ProgramFault}
+use Rattle.ct_records.specs.ProgramFault.{IsOfReplayFault}
 use Rattle.ct_world.specs.Replay.{IsRefusedAt, first_steps}
 use Rattle.ct_diagram.specs.declared.drawn.Drawn.{Drawn}
 use Rattle.ct_diagram.specs.declared.fault.DiagramFault.TheVariants.{Program}

@@ -5,8 +5,8 @@ use Rattle.std.specs.List.{concat}
 use Rattle.ct_model.specs.declared.step.Step.{Step}
 use Rattle.ct_model.specs.Rehearsal.{Rehearsal, state_of, extended}
 use Rattle.ct_model.specs.Setting.{Setting}
-use Rattle.ct_program.specs.declared.program_fault.ProgramFault.TheVariants.{Replay, Memory}
-use Rattle.ct_program.specs.Replay.{IsAllowed, IsRefused}
+use Rattle.ct_records.specs.declared.program_fault.ProgramFault.TheVariants.{Replay, Memory}
+use Rattle.ct_records.specs.Replay.{IsAllowed, IsRefused}
 use Rattle.ct_world.specs.Replay.{first_steps}
 use Rattle.ct_diagram.specs.declared.drawn.Drawn.{Drawn}
 use Rattle.ct_diagram.specs.declared.fault.DiagramFault.{DiagramFault}

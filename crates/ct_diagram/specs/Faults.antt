@@ -1,8 +1,8 @@
 -- The status that a program ends with at a fault.
 use Rattle.std.specs.Prelude.{ℕ}
-use Rattle.ct_program.specs.declared.status.Status.TheVariants as status
-use Rattle.ct_program.specs.Statuses.{code}
-use Rattle.ct_program.specs.ProgramFault as program
+use Rattle.ct_streams.specs.declared.status.Status.TheVariants as status
+use Rattle.ct_streams.specs.Statuses.{code}
+use Rattle.ct_records.specs.ProgramFault as program
 use Rattle.ct_diagram.specs.declared.fault.DiagramFault.{DiagramFault}
 use Rattle.ct_diagram.specs.declared.fault.DiagramFault.TheVariants.{TooManySteps, Program}
 

@@ -2,12 +2,12 @@
 use Rattle.std.specs.Prelude.{◌≡◌, ◌≤◌, ℕ, List, Option, Result, Ok, Err, IsOkAnd, ⊤}
 use Rattle.std.specs.Io.KnownBytes.{Appends}
 use Rattle.ct_model.specs.Rehearsal.{Rehearsal}
-use Rattle.ct_program.specs.declared.program_fault.ProgramFault.TheVariants.{Read, Reader, Write, Memory}
-use Rattle.ct_program.specs.declared.read_fault.ReadFault.{ReadFault}
-use Rattle.ct_program.specs.declared.script.Script.{Script}
-use Rattle.ct_program.specs.Replay.{IsAllowed}
-use Rattle.ct_program.specs.Streams.{WritesPart}
-use Rattle.ct_program.specs.View.{rehearsal_of}
+use Rattle.ct_records.specs.declared.program_fault.ProgramFault.TheVariants.{Read, Reader, Write, Memory}
+use Rattle.ct_records.specs.declared.read_fault.ReadFault.{ReadFault}
+use Rattle.ct_records.specs.declared.script.Script.{Script}
+use Rattle.ct_records.specs.Replay.{IsAllowed}
+use Rattle.ct_streams.specs.Streams.{WritesPart}
+use Rattle.ct_records.specs.View.{rehearsal_of}
 use Rattle.ct_diagram.specs.declared.fault.DiagramFault.{DiagramFault}
 use Rattle.ct_diagram.specs.declared.fault.DiagramFault.TheVariants.{Program}
 use Rattle.ct_diagram.specs.declared.window.TheConstants.{MOST_STEPS}

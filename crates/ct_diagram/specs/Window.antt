@@ -3,7 +3,7 @@ use Rattle.std.specs.Prelude.{ℕ, ◌+◌, ◌-◌, Bool, ◌&&◌, nat_le, Lis
 use Rattle.clap.specs.Words.{Row}
 use Rattle.ct_model.specs.declared.step.Step.{Step}
 use Rattle.ct_model.specs.Rehearsal.{Rehearsal}
-use Rattle.ct_program.specs.Line.{◌>>=◌, option_in}
+use Rattle.ct_streams.specs.Arguments.{◌>>=◌, option_in}
 use Rattle.ct_world.specs.Replay.{first_steps}
 use Rattle.ct_diagram.specs.declared.window.Window.{Window}
 

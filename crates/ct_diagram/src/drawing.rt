@@ -3,9 +3,9 @@
 ghost use Rattle.std.specs.Prelude.{◌≡◌, ◌≤◌, ◌+◌, ◌++◌, length, OnOk, IfOk, IfErr, string_bytes, if◌then◌else◌, []};
 ghost use Rattle.ct_names.specs.declared.limit.TheConstants.{MAX_BOUND, MAX_CELLS};
 ghost use Rattle.ct_model.specs.Rehearsal.{state_of};
-ghost use Rattle.ct_program.specs.ProgramFault.{IsOfReplayFault};
-ghost use Rattle.ct_program.specs.Replay.{IsAllowed};
-ghost use Rattle.ct_program.specs.View.{rehearsal_of};
+ghost use Rattle.ct_records.specs.ProgramFault.{IsOfReplayFault};
+ghost use Rattle.ct_records.specs.Replay.{IsAllowed};
+ghost use Rattle.ct_records.specs.View.{rehearsal_of};
 ghost use Rattle.ct_diagram.specs.Diagram.{whole_layer, shades_layer, arrows_layer, marks_layer, one_of, framed_text};
 ghost use Rattle.ct_diagram.specs.Diagram.{IsDiagram, FailsWith, IsOfReplay};
 ghost use Rattle.ct_diagram.specs.Window.{is_drawn, columns};
@@ -18,7 +18,7 @@ use crate::window::{MOST_STEPS, Window};
 use ct_board::Board;
 use ct_model::Step;
 use ct_names::{Group, Refusal};
-use ct_program::{ProgramFault, Script};
+use ct_records::{ProgramFault, Script};
 use ct_world::{ReplayFault, World};
 use std::alloc::{AllocError, Global};
 

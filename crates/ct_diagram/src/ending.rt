@@ -3,7 +3,7 @@
 ghost use Rattle.std.specs.Prelude.{◌≡◌, ◌≢◌, true, false, Err, IsOk};
 
 use crate::fault::DiagramFault;
-use ct_program::ProgramFault;
+use ct_records::ProgramFault;
 
 /// What a program makes of how `draw` ended: nothing is wrong where nobody reads the diagram any more, so where the write
 /// that failed was one into a pipe without a reader.

@@ -3,7 +3,8 @@
 ghost use Rattle.std.specs.Prelude.{◌≡◌};
 ghost use Rattle.ct_diagram.specs.Faults.{status_of};
 
-use ct_program::{ProgramFault, Status};
+use ct_records::ProgramFault;
+use ct_streams::{InputFault, Status};
 use std::alloc::AllocError;
 use thiserror::Error;
 
@@ -41,10 +42,22 @@ impl From<ProgramFault> for DiagramFault {
     }
 }
 
+impl From<InputFault> for DiagramFault {
+    ghost use Rattle.std.specs.Prelude.{◌≡◌};
+    ghost use Rattle.ct_records.specs.ProgramFault.{of_input_fault};
+    ghost use Rattle.ct_diagram.specs.declared.fault.DiagramFault.TheVariants.{Program};
+
+    ghost from_gives = { λ fault e. e ≡ Program (of_input_fault fault) };
+
+    fn from(fault: InputFault) -> DiagramFault {
+        DiagramFault::Program(ProgramFault::from(fault))
+    }
+}
+
 impl From<AllocError> for DiagramFault {
     ghost use Rattle.std.specs.Prelude.{◌≡◌};
     ghost use Rattle.ct_diagram.specs.declared.fault.DiagramFault.TheVariants.{Program};
-    ghost use Rattle.ct_program.specs.declared.program_fault.ProgramFault.TheVariants.{Memory};
+    ghost use Rattle.ct_records.specs.declared.program_fault.ProgramFault.TheVariants.{Memory};
 
     ghost from_gives = { λ _ e. e ≡ Program Memory };
 

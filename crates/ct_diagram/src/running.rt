@@ -1,14 +1,15 @@
 //! A record in, its diagram out.
 
 ghost use Rattle.std.specs.Prelude.{◌≡◌, ◌≢◌, ◌+◌, ◌<◌, ◌^◌, Err, IfOk, IfErr, IfSome, OnOk};
-ghost use Rattle.ct_program.specs.Script.{script};
+ghost use Rattle.ct_records.specs.Script.{script};
 ghost use Rattle.ct_show.specs.Answer.{IsOfReading};
 ghost use Rattle.ct_diagram.specs.Running.{Draws, DrawsPart, FailsOn, IsDiagramOf, IsOfDrawing, IsRead};
 
 use crate::drawing::diagram;
 use crate::fault::DiagramFault;
 use crate::window::Window;
-use ct_program::{Failed, ProgramFault, Script, Sink, Source, read_all, read_record, write_all};
+use ct_records::{ProgramFault, Script, read_record};
+use ct_streams::{Failed, Sink, Source, read_all, write_all};
 use std::alloc::Global;
 
 /// Reads a record to its end and writes the diagram of the steps that the window has. The whole text is made before the first

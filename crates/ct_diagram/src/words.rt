@@ -7,7 +7,7 @@ ghost use Rattle.ct_diagram.specs.Window.{window_of};
 
 use crate::window::Window;
 use clap::{ArgMatches, Command};
-use ct_program::{default_option, file_argument, option_in, subcommand};
+use ct_streams::{default_option, file_argument, option_in, subcommand};
 use std::alloc::{AllocError, Global};
 
 // What stands after the options.

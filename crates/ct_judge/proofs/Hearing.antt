@@ -5,7 +5,7 @@ use Rattle.std.proofs.lemmas.List.{at_drop_more, take-append-drop}
 use Rattle.std.proofs.Math.Seq.{take-append_seam}
 use Rattle.std.specs.Prelude.{IfSome, OnErr, Result, Ok, Err, ⊤}
 use Rattle.std.specs.Io.KnownBytes.{Appends, Consumes, IsAtEnd}
-use Rattle.ct_program.specs.Streams.{WritesPart}
+use Rattle.ct_streams.specs.Streams.{WritesPart}
 use Rattle.ct_judge.specs.Sessions.{Hearing, IsEnd, Says, SaysPart, Session, after_byte, after_bytes, at_end, opening, said_at, said_by}
 use Rattle.ct_judge.specs.Sessions.{said_first, session}
 use Rattle.ct_judge.specs.Standing.{Standing}

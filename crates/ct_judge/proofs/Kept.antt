@@ -2,7 +2,7 @@
 use Rattle.std.proofs.Common.{ℕ, List, Option, Result, Ok, Err, refl, subst}
 use Rattle.std.specs.Prelude.{IsOk}
 use Rattle.ct_model.specs.Rehearsal.{Rehearsal}
-use Rattle.ct_program.specs.NewFiles.{Makes, MakesPart}
+use Rattle.ct_streams.specs.NewFiles.{Makes, MakesPart}
 use Rattle.ct_judge.specs.Keeping.{IsKeptIn, Keeps, KeepsPart}
 use Rattle.ct_judge.specs.declared.line_fault.LineFault.{LineFault}
 

@@ -14,7 +14,7 @@ use Rattle.ct_model.specs.Rehearsal.{Rehearsal, state_of}
 use Rattle.ct_model.specs.State.{delivered, is_crashed}
 use Rattle.ct_table.specs.Table.{table}
 use Rattle.ct_world.specs.World.{member_of, if_member}
-use Rattle.ct_program.specs.Report.{decisions_text, messages_text, table_text}
+use Rattle.ct_records.specs.Report.{decisions_text, messages_text, table_text}
 use Rattle.ct_show.specs.Shapes.{phase_text}
 use Rattle.ct_grammar.specs.declared.fact.Fact.{Fact}
 use Rattle.ct_grammar.specs.declared.fact.Fact.TheVariants.{Up, Crashed, Idle, Instance, Round, Phase as InPhase}

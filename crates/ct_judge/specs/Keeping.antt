@@ -1,10 +1,10 @@
 -- How sessions end, and what is kept of them.
 use Rattle.std.specs.Prelude.{◌≡◌, ℕ, Bool, false, List, [], ◌∷◌, ◌++◌, Option, Some, None, Result, Ok, Err, IsOk, IsOkAnd, ⊤, if◌then◌else◌}
 use Rattle.ct_model.specs.Rehearsal.{Rehearsal}
-use Rattle.ct_program.specs.declared.status.Status.TheVariants as status
-use Rattle.ct_program.specs.Statuses.{code}
-use Rattle.ct_program.specs.NewFiles.{Makes, MakesPart}
-use Rattle.ct_program.specs.Text.{record_text}
+use Rattle.ct_streams.specs.declared.status.Status.TheVariants as status
+use Rattle.ct_streams.specs.Statuses.{code}
+use Rattle.ct_streams.specs.NewFiles.{Makes, MakesPart}
+use Rattle.ct_records.specs.Text.{record_text}
 use Rattle.ct_judge.specs.Standing.{Standing}
 use Rattle.ct_judge.specs.declared.keep_fault.KeepFault.{KeepFault}
 use Rattle.ct_judge.specs.declared.keep_fault.KeepFault.TheVariants.{NoMembers, Write, Memory}

@@ -1,7 +1,7 @@
 -- The words that `interact` and `record` take. `clap` gives what its commands make of words.
 use Rattle.std.specs.Prelude.{codes}
 use Rattle.clap.specs.Words.{App, new_app, with_rule}
-use Rattle.ct_program.specs.Line.{file_rule, value_rule}
+use Rattle.ct_streams.specs.Arguments.{file_rule, value_rule}
 
 -- `interact` may have the name of a file to write
 abbrev pub interact_app : App

@@ -1,7 +1,7 @@
 -- The statuses of faults.
 use Rattle.std.specs.Prelude.{ℕ}
-use Rattle.ct_program.specs.declared.status.Status.TheVariants as status
-use Rattle.ct_program.specs.Statuses.{code}
+use Rattle.ct_streams.specs.declared.status.Status.TheVariants as status
+use Rattle.ct_streams.specs.Statuses.{code}
 use Rattle.ct_judge.specs.declared.record_fault.RecordFault.{RecordFault}
 use Rattle.ct_judge.specs.declared.record_fault.RecordFault.TheVariants.{Line, TooLong, Read, Write, Memory, Board}
 

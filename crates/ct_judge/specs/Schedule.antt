@@ -5,8 +5,8 @@ use Rattle.std.specs.Io.KnownBytes.{Appends}
 use Rattle.ct_model.specs.Rehearsal.{Rehearsal, state_of}
 use Rattle.ct_model.specs.Run.{run}
 use Rattle.ct_model.specs.Safe.{IsSafe}
-use Rattle.ct_program.specs.Streams.{WritesPart}
-use Rattle.ct_program.specs.Text.{record_text}
+use Rattle.ct_streams.specs.Streams.{WritesPart}
+use Rattle.ct_records.specs.Text.{record_text}
 use Rattle.ct_judge.specs.Acting.{go_on}
 use Rattle.ct_judge.specs.Standing.{Standing, start, world_of}
 use Rattle.ct_judge.specs.Telling.{Explained, told}

@@ -1,7 +1,7 @@
 -- The faults of sessions.
 use Rattle.std.specs.Prelude.{◌≡◌, ◌⊎◌, ◌+◌, ◌-◌, ◌≤◌, ◌^◌, ℕ, List, Option, length, IfSome, ⊤}
-use Rattle.ct_program.specs.declared.status.Status.TheVariants as status
-use Rattle.ct_program.specs.Statuses.{code}
+use Rattle.ct_streams.specs.declared.status.Status.TheVariants as status
+use Rattle.ct_streams.specs.Statuses.{code}
 use Rattle.ct_judge.specs.declared.session_fault.SessionFault.{SessionFault}
 use Rattle.ct_judge.specs.declared.session_fault.SessionFault.TheVariants.{Read, Write, Memory, Board}
 

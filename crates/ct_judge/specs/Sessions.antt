@@ -1,7 +1,7 @@
 -- Whole sessions.
 use Rattle.std.specs.Prelude.{◌≡◌, ℕ, ◌==◌, nat_lt, List, [], ◌∷◌, ◌++◌, length, Option, Some, None, ⊤, if◌then◌else◌}
 use Rattle.std.specs.Io.KnownBytes.{Appends}
-use Rattle.ct_program.specs.Streams.{WritesPart}
+use Rattle.ct_streams.specs.Streams.{WritesPart}
 use Rattle.ct_grammar.specs.declared.line.Line.{Line}
 use Rattle.ct_judge.specs.Answers.{answer, standing_after}
 use Rattle.ct_judge.specs.Judging.{line_in}

@@ -2,14 +2,14 @@
 
 ghost use Rattle.std.specs.Prelude.{◌≡◌, ◌≢◌, ◌+◌, ◌<◌, ◌^◌, Err, OnOk, OnErr, IfOk, IfErr, length, vec_len};
 ghost use Rattle.std.specs.Io.KnownBytes.{Appends};
-ghost use Rattle.ct_program.specs.Streams.{WritesPart};
+ghost use Rattle.ct_streams.specs.Streams.{WritesPart};
 ghost use Rattle.ct_judge.specs.SessionFaults.{StopsAnswering, StopsReading};
 ghost use Rattle.ct_judge.specs.Sessions.{IsEnd, Says, SaysPart, after_bytes, at_end, opening, said_by};
 
 use crate::judge::Judge;
 use crate::session::Session;
 use crate::session_fault::SessionFault;
-use ct_program::{Failed, Sink, Source, write_all};
+use ct_streams::{Failed, Sink, Source, write_all};
 use std::alloc::Global;
 
 // How many bytes are read at a time; as many bytes of answers are written before more of what was read is heard.

@@ -9,7 +9,8 @@ use crate::judge::Judge;
 use crate::keep_fault::KeepFault;
 use crate::line_fault::LineFault;
 use crate::session_fault::SessionFault;
-use ct_program::{Failed, NewFiles, write_record};
+use ct_records::write_record;
+use ct_streams::{Failed, NewFiles};
 use ct_world::World;
 use std::alloc::{AllocError, Global};
 

@@ -1,13 +1,14 @@
 //! A schedule in, its record out.
 
 ghost use Rattle.std.specs.Prelude.{◌≡◌, ◌≢◌, ◌+◌, ◌≤◌, ◌<◌, ◌^◌, length, Ok, Err, OnOk, IfOk, IfErr, IfSome, IsOkAnd};
-ghost use Rattle.ct_program.specs.Replay.{read_part};
+ghost use Rattle.ct_streams.specs.Streams.{read_part};
 ghost use Rattle.ct_judge.specs.Schedule.{IsFaultIn, IsFaultOrStream, IsRecordOf, IsSafeRun, Writes, WritesPartOf, after_bytes, beginning};
 ghost use Rattle.ct_judge.specs.Schedule.{schedule};
 
 use crate::record_fault::RecordFault;
 use crate::recorder::Recorder;
-use ct_program::{Failed, ProgramFault, Sink, Source, read_all, write_all, write_record};
+use ct_records::write_record;
+use ct_streams::{Failed, InputFault, Sink, Source, read_all, write_all};
 use ct_world::World;
 use std::alloc::Global;
 
@@ -43,7 +44,7 @@ pub fn record<R: Source, W: Sink>(
 {
     let bytes = match read_all(alloc, reader) {
         Ok(bytes) => bytes,
-        Err(ProgramFault::Reader) => return Err(RecordFault::Read),
+        Err(InputFault::Reader) => return Err(RecordFault::Read),
         Err(_) => return Err(RecordFault::Memory),
     };
     let text = recorded(alloc, &bytes)?;

@@ -3,7 +3,7 @@
 ghost use Rattle.std.specs.Prelude.{◌≡◌};
 ghost use Rattle.ct_judge.specs.SessionFaults.{session_status};
 
-use ct_program::Status;
+use ct_streams::Status;
 use std::alloc::AllocError;
 use thiserror::Error;
 

@@ -5,7 +5,7 @@ ghost use Rattle.clap.specs.Words.{app_of};
 ghost use Rattle.ct_judge.specs.Line.{interact_app, record_app};
 
 use clap::Command;
-use ct_program::{file_argument, subcommand, value_option};
+use ct_streams::{file_argument, subcommand, value_option};
 use std::alloc::{AllocError, Global};
 
 // What stands after the options of `interact`.

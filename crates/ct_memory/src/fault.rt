@@ -1,7 +1,7 @@
 //! Why the program stops.
 
 use ct_names::Refusal;
-use ct_program::ReadFault;
+use ct_records::ReadFault;
 use ct_world::ReplayFault;
 use std::alloc::{AllocError, AllocFailed};
 use thiserror::Error;

@@ -11,7 +11,7 @@ mod one_by_one;
 use crate::fault::Fault;
 use crate::free_run::free_run;
 use crate::one_by_one::do_one_by_one;
-use ct_program::report;
+use ct_records::report;
 use std::alloc::Global;
 use std::io;
 use std::io::{Read, Write};

@@ -4,7 +4,7 @@ use crate::fault::Fault;
 use ct_board::Board;
 use ct_model::Step;
 use ct_names::{Member, Refusal};
-use ct_program::{Script, read_record};
+use ct_records::{Script, read_record};
 use ct_world::World;
 use std::alloc::Global;
 

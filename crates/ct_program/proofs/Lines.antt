@@ -1,12 +1,11 @@
 -- What clap makes of the program's words.
 use Rattle.std.proofs.Common.{arith, ◌≡◌, true, false, List, [], ◌∷◌, Option, Some, None, option_map, option_and_then, Box, box_value}
-use Rattle.std.proofs.Common.{codes, refl, ap, ap₂, ◌∙◌, sym, subst, inl, inr, IsSomeAnd, ◌⊎◌}
+use Rattle.std.proofs.Common.{codes, refl, ap, ◌∙◌, sym, subst, inl, inr, IsSomeAnd, ◌⊎◌}
 use Rattle.std.proofs.lemmas.Bool.Decides.{nat_tests}
 use Rattle.std.specs.declared.alloc.Global.{Global}
-use Rattle.clap.specs.Words.{AddsArg, AddsSubcommand, App, HasKind, HasMatchesOf, Row, Rule, Text, app_of, fault_of, is_simple}
-use Rattle.clap.specs.Words.{is_simple_and_free, kind_of, rule_of, subcommand_name_of, subcommand_of, subcommand_rows}
-use Rattle.clap.specs.Words.{subcommand_rows_of, with_rule, with_subcommand}
-use Rattle.clap.specs.declared.builder.arg.Arg.{Arg}
+use Rattle.clap.specs.Words.{AddsSubcommand, App, HasKind, HasMatchesOf, Row, Text, app_of, fault_of, is_simple}
+use Rattle.clap.specs.Words.{is_simple_and_free, kind_of, subcommand_name_of, subcommand_of, subcommand_rows}
+use Rattle.clap.specs.Words.{subcommand_rows_of, with_subcommand}
 use Rattle.clap.specs.declared.builder.command.Command.{Command}
 use Rattle.clap.specs.Simple.{argument_words, built}
 use Rattle.clap.specs.declared.parser.matches.ArgMatches.{ArgMatches}
@@ -119,10 +118,6 @@ replay_only app words m name e h are named =
     cc
 
 -- ---- commands as they are built
-
-pub with_option : (old new : Command) (a : Arg) (app : App) (rule : Rule) → AddsArg old a new → a.global ≡ false → app_of old ≡ app →
-    rule_of a ≡ rule → app_of new ≡ with_rule app rule
-with_option old new a app rule adds local old_is rule_is = adds.shape local ∙ ap₂ with_rule old_is rule_is
 
 -- the subcommand has no global argument, as its shape tells
 pub with_command : (old sub new : Command) (app below : App) → AddsSubcommand old sub new → below.top.is_plain ≡ true → app_of old ≡ app →

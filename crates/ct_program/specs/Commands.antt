@@ -5,8 +5,8 @@ use Rattle.std.specs.declared.io.Error.{Error}
 use Rattle.std.specs.declared.io.ErrorKind.TheVariants.{OutOfMemory}
 use Rattle.ct_program.specs.declared.command_fault.CommandFault.{CommandFault}
 use Rattle.ct_program.specs.declared.command_fault.CommandFault.TheVariants.{Arguments, Range, NoFile, NoSubcommand, Write, Memory}
-use Rattle.ct_program.specs.declared.status.Status.TheVariants as status
-use Rattle.ct_program.specs.Statuses.{code}
+use Rattle.ct_streams.specs.declared.status.Status.TheVariants as status
+use Rattle.ct_streams.specs.Statuses.{code}
 
 abbrev pub command_status : CommandFault → ℕ
 command_status Arguments = code status.Words

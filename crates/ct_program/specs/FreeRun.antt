@@ -3,14 +3,16 @@ use Rattle.std.specs.Prelude.{◌≡◌, ◌≤◌, ℕ, List, [], ◌∷◌, �
 use Rattle.std.specs.Io.KnownBytes.{Appends}
 use Rattle.ct_model.specs.Rehearsal.{Rehearsal}
 use Rattle.ct_program.specs.declared.free_options.FreeOptions.{FreeOptions}
-use Rattle.ct_program.specs.declared.program_fault.ProgramFault.{ProgramFault}
-use Rattle.ct_program.specs.declared.program_fault.ProgramFault.TheVariants.{Replay, Read, Reader, Write, Memory, Start, Exchanged}
+use Rattle.ct_records.specs.declared.program_fault.ProgramFault.{ProgramFault}
+use Rattle.ct_records.specs.declared.program_fault.ProgramFault.TheVariants.{Replay, Read, Reader, Write, Memory, Start, Exchanged}
+use Rattle.ct_rehearse.specs.declared.run_fault.RunFault.{RunFault}
+use Rattle.ct_rehearse.specs.declared.run_fault.RunFault.TheVariants as run
 use Rattle.ct_rehearse.specs.declared.rehearsed.Rehearsed.{Rehearsed}
 use Rattle.ct_rehearse.specs.Plans.{turns_made}
-use Rattle.ct_program.specs.Outcome.{IsOutcome}
+use Rattle.ct_records.specs.Outcome.{IsOutcome}
 use Rattle.ct_program.specs.Planning.{turns_of}
-use Rattle.ct_program.specs.Streams.{WritesPart}
-use Rattle.ct_program.specs.Text.{record_text}
+use Rattle.ct_streams.specs.Streams.{WritesPart}
+use Rattle.ct_records.specs.Text.{record_text}
 
 -- the record has the members, the bound and the cells that the options ask for; its steps are no more than the turns that they ask
 -- for, and are a run that ends in a safe state, which its report shows
@@ -47,3 +49,8 @@ IsFreeFault Write = ⊤
 IsFreeFault Memory = ⊤
 IsFreeFault Start = ⊤
 IsFreeFault Exchanged = ⊤
+
+-- what a fault of a run of threads is for the program
+abbrev pub of_run_fault : RunFault → ProgramFault
+of_run_fault run.Memory = Memory
+of_run_fault run.Start = Start

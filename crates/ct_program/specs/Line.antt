@@ -1,15 +1,11 @@
 -- How the program's command line is read. `clap` gives what its commands make of words.
-use Rattle.std.specs.Prelude.{◌≡◌, ◌&&◌, ℕ, true, List, [], ◌∷◌, codes, Option, Some, None, option_map, option_and_then, nat_le}
-use Rattle.std.specs.Prelude.{if◌then◌else◌, ⊤}
+use Rattle.std.specs.Prelude.{◌≡◌, ℕ, true, List, [], ◌∷◌, codes, Option, Some, None, option_map, option_and_then, if◌then◌else◌, ⊤}
 use Rattle.std.specs.Str.{bytes_eq}
-use Rattle.std.specs.Str.Parse.{digits_value, without_leading_plus}
 use Rattle.ct_names.specs.declared.limit.TheConstants.{MAX_BOUND, MAX_CELLS, MAX_MEMBERS}
-use Rattle.clap.specs.Words.{App, Kinds, HasKind, Row, Rule, Text, fault_of, first_of, kind_of, new_app, new_rule, subcommand_of}
-use Rattle.clap.specs.Words.{with_subcommand}
+use Rattle.clap.specs.Words.{App, Kinds, HasKind, Row, Rule, Text, fault_of, kind_of, new_app, subcommand_of, with_subcommand}
 use Rattle.clap.specs.Simple.{new_shape, on_top}
-use Rattle.clap.specs.ValueTests.{is_numeral}
-use Rattle.clap.specs.declared.builder.action.ArgAction.TheVariants.{Set}
 use Rattle.clap.specs.declared.error.kind.ErrorKind.TheVariants.{OutOfMemory}
+use Rattle.ct_streams.specs.Arguments.{◌>>=◌, option_in, option_rule, required_rule}
 use Rattle.ct_program.specs.declared.call.Call.{Call}
 use Rattle.ct_program.specs.declared.call.Call.TheVariants.{Replay, Free}
 use Rattle.ct_program.specs.declared.free_options.FreeOptions.{FreeOptions}
@@ -17,22 +13,6 @@ use Rattle.ct_program.specs.declared.line_fault.LineFault.{LineFault}
 use Rattle.ct_program.specs.declared.line_fault.LineFault.TheVariants.{Clap, Range, Memory}
 
 -- ---- what clap reads
-
--- the argument `file`, which is `-` where none is given
-abbrev pub file_rule : Rule
-file_rule = record (new_rule (codes "file")) { action = Some Set; value_names = 1; defaults = codes "-" ∷ [] }
-
--- an option with one value, which need not be given
-abbrev pub value_rule : Text → Rule
-value_rule name = record (new_rule name) { long = Some name; action = Some Set }
-
--- an option that has to be given, with one value
-abbrev pub required_rule : Text → Rule
-required_rule name = record (value_rule name) { required = true }
-
--- an option with one value, which is `default` where none is given
-abbrev pub option_rule : Text → Text → Rule
-option_rule name default = record (value_rule name) { defaults = default ∷ [] }
 
 -- the options after `members` and `turns`
 abbrev pub further_rules : List Rule
@@ -60,26 +40,6 @@ unfoldable pub faults_of : List Text → Kinds
 faults_of words = fault_of program words
 
 -- ---- what the words ask for
-
-infixl 10 ◌>>=◌
-abbrev pub ◌>>=◌ : {A B : Type 0} → Option A → (A → Option B) → Option B
-o >>= f = option_and_then f o
-
--- the number that std's `parse` reads: decimal digits, where a plus may stand first
-abbrev pub number_of : Text → Option ℕ
-number_of text =
-    let ds = without_leading_plus text in
-    if is_numeral ds then Some (digits_value 10 ds) else None
-
--- the text's whole number, where it has one from low to high
-unfoldable pub whole_in : ℕ → ℕ → Text → Option ℕ
-whole_in low high text = do
-  n ← number_of text
-  if nat_le low n && nat_le n high then Some n else None
-
--- the value of the option, where it is a whole number from low to high
-abbrev pub option_in : List Row → Text → ℕ → ℕ → Option ℕ
-option_in rows name low high = first_of name rows >>= whole_in low high
 
 -- the options of a free run, where each value is a whole number of its range
 unfoldable pub options_of : List Row → Option FreeOptions

@@ -4,7 +4,7 @@ ghost use Rattle.std.specs.Prelude.{◌≡◌};
 ghost use Rattle.ct_program.specs.Commands.{answer_of, command_status, IsOfError};
 ghost use Rattle.ct_program.specs.declared.command_fault.CommandFault.TheVariants.{Memory};
 
-use crate::status::Status;
+use ct_streams::Status;
 use std::alloc::{AllocError, AllocFailed};
 use std::io;
 use thiserror::Error;

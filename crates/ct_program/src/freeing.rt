@@ -3,20 +3,16 @@
 ghost use Rattle.std.specs.Prelude.{◌≡◌, ◌≢◌, ◌⊎◌, ◌+◌, ◌^◌, ◌<◌, [], Ok, Err, OnOk, IfOk, IfErr, vec_len};
 ghost use Rattle.ct_world.specs.Replay.{world_after};
 ghost use Rattle.ct_program.specs.FreeOptions.{InRange, setting_of};
-ghost use Rattle.ct_program.specs.FreeRun.{HasMade, IsLineOfRun, WritesRun, WritesRunPart, IsFreeFault};
-ghost use Rattle.ct_program.specs.ProgramFault.{of_run_fault};
+ghost use Rattle.ct_program.specs.FreeRun.{HasMade, IsLineOfRun, WritesRun, WritesRunPart, IsFreeFault, of_run_fault};
 
-use crate::failed::Failed;
 use crate::free_options::FreeOptions;
 use crate::planning::plan;
-use crate::program_fault::ProgramFault;
-use crate::replaying::write_all;
-use crate::sink::Sink;
-use crate::writing::write_record;
 use ct_board::Board;
 use ct_detect::Detector;
 use ct_names::Group;
-use ct_rehearse::{NoGate, RehearseFault, Rehearsed, rehearse};
+use ct_records::{ProgramFault, write_record};
+use ct_rehearse::{NoGate, RehearseFault, Rehearsed, RunFault, rehearse};
+use ct_streams::{Failed, Sink, write_all};
 use ct_world::World;
 use std::alloc::Global;
 use std::sync::Wait;
@@ -65,7 +61,17 @@ fn result_of(run: Result<Rehearsed, RehearseFault>) -> Result<Rehearsed, Program
 {
     match run {
         Ok(done) => Ok(done),
-        Err(fault) => Err(ProgramFault::from(fault.cause)),
+        Err(fault) => Err(of_run_fault(fault.cause)),
+    }
+}
+
+// What a fault of the run's threads is for the program.
+fn of_run_fault(fault: RunFault) -> ProgramFault
+    ensures { result ≡ of_run_fault fault }
+{
+    match fault {
+        RunFault::Memory => ProgramFault::Memory,
+        RunFault::Start => ProgramFault::Start,
     }
 }
 

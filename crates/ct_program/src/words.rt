@@ -1,16 +1,17 @@
 //! The words of a command line.
 
-ghost use Rattle.std.specs.Prelude.{◌≡◌, ◌≤◌, ℕ, List, [], ◌∷◌, false, fold, map, codes, Some, None, Err, OnOk, IfOk, IfErr, IfSome};
-ghost use Rattle.clap.specs.Words.{app_of, found_of, new_app, rows_of, rule_of, with_rule};
+ghost use Rattle.std.specs.Prelude.{◌≡◌, ℕ, List, [], ◌∷◌, fold, map, codes, Some, None, Err, OnOk, IfOk, IfErr, IfSome};
+ghost use Rattle.clap.specs.Words.{app_of, found_of, rows_of, with_rule};
+ghost use Rattle.ct_streams.specs.Arguments.{option_rule};
 ghost use Rattle.ct_program.specs.FreeOptions.{FreeInRange, InRange};
-ghost use Rattle.ct_program.specs.Line.{program, free_app, free_rules, file_rule, option_rule, required_rule, value_rule};
-ghost use Rattle.ct_program.specs.Line.{faults_of, call_of, option_in, options_of, whole_in, IsOfKind, IsMemory};
+ghost use Rattle.ct_program.specs.Line.{program, free_app, free_rules, faults_of, call_of, options_of, IsOfKind, IsMemory};
 
 use crate::call::Call;
 use crate::free_options::FreeOptions;
 use crate::line_fault::LineFault;
-use clap::{Arg, ArgAction, ArgMatches, Command};
+use clap::{ArgMatches, Command};
 use ct_names::{MAX_BOUND, MAX_CELLS, MAX_MEMBERS};
+use ct_streams::{default_option, option_in, required_option, subcommand};
 use std::alloc::{AllocError, Global};
 
 /// What the words ask for, the program's name first: the subcommand `replay`, or `free` with its options. A call for help
@@ -56,26 +57,6 @@ pub fn found_options(found: &ArgMatches<'_>) -> Option<FreeOptions>
         repeat: option_in(found, "repeat", 0, 1000)? as u16,
         batch: option_in(found, "batch", 1, MAX_BOUND)?,
     })
-}
-
-/// The option's value; None where it is no whole number from `low` to `high`.
-pub fn option_in(found: &ArgMatches<'_>, name: &str, low: u32, high: u32) -> Option<u32>
-    ensures value { result ≡ option_in (rows_of (found_of found.now)) name.now low high }
-    ensures range { IfSome result (λ n. (low ≤ n) × (n ≤ high)) }
-{
-    let text = found.get_str(name)?;
-    number_in(text, low, high)
-}
-
-/// The whole number of the text; None where it has none from `low` to `high`.
-pub fn number_in(text: &str, low: u32, high: u32) -> Option<u32>
-    ensures value { result ≡ whole_in low high text.now }
-    ensures range { IfSome result (λ n. (low ≤ n) × (n ≤ high)) }
-{
-    match text.parse::<u32>() {
-        Ok(n) if low <= n && n <= high => Some(n),
-        _ => None,
-    }
 }
 
 // What `replay` ends with.
@@ -163,42 +144,6 @@ const OPTIONS: [(&str, &str, &str); 9] = [
     ),
 ];
 
-/// A subcommand that has no argument yet: its name, what it does, and what its help ends with.
-pub fn subcommand<'a>(alloc: Global, name: &'a str, about: &'a str, after: &'a str) -> Command<'a>
-    ensures { app_of result ≡ new_app name.entry.now }
-{
-    Command::new(alloc, name).about(about).after_help(after)
-}
-
-/// The argument `file` of a subcommand, which is `-` where none is given: standard input.
-pub fn file_argument<'a>(alloc: Global, help: &'a str) -> Arg<'a>
-    ensures rule { rule_of result ≡ file_rule }
-    ensures local { result.global ≡ false }
-{
-    Arg::new(alloc, "file")
-        .value_name("FILE")
-        .action(ArgAction::Set)
-        .default_value("-")
-        .help(help)
-}
-
-/// An option with a value, which need not be given.
-pub fn value_option<'a>(alloc: Global, name: &'a str, help: &'a str) -> Arg<'a>
-    ensures rule { rule_of result ≡ value_rule name.entry.now }
-    ensures local { result.global ≡ false }
-{
-    let option = Arg::new(alloc, name).long(name).help(help);
-    option.action(ArgAction::Set)
-}
-
-/// An option with a value, which is `default` where none is given.
-pub fn default_option<'a>(alloc: Global, name: &'a str, default: &'a str, help: &'a str) -> Arg<'a>
-    ensures rule { rule_of result ≡ option_rule name.entry.now default.entry.now }
-    ensures local { result.global ≡ false }
-{
-    value_option(alloc, name, help).default_value(default)
-}
-
 /// The command, and after its own arguments the options of a free run. This is the help of the option `turns`.
 pub fn with_free_options<'a>(
     alloc: Global,
@@ -207,7 +152,7 @@ pub fn with_free_options<'a>(
 ) -> Result<Command<'a>, AllocError>
     ensures { IfOk result (λ longer. app_of longer ≡ fold with_rule (app_of command.entry) free_rules) }
 {
-    let members = required(alloc, "members", "The number of members, 1 to 16");
+    let members = required_option(alloc, "members", "The number of members, 1 to 16");
     let turns = default_option(alloc, "turns", "1000", turns);
     with_options(alloc, command.arg(members)?.arg(turns)?, &OPTIONS)
 }
@@ -225,12 +170,4 @@ fn with_options<'a>(
         command = command.arg(default_option(alloc, name, default, help))?;
     }
     Ok(command)
-}
-
-// An option that has to be given.
-fn required<'a>(alloc: Global, name: &'a str, help: &'a str) -> Arg<'a>
-    ensures rule { rule_of result ≡ required_rule name.entry.now }
-    ensures local { result.global ≡ false }
-{
-    value_option(alloc, name, help).required(true)
 }

@@ -2,9 +2,10 @@ use ct_model::Step;
 use ct_names::{Command, Refusal};
 use ct_program::{
     Call, CommandFault, Counted, Failed, FreeOptions, LineFault, ProgramFault, ReadFault, Sink,
-    Source, answer_status, free, line, push_separator, read_record, report, run_replay, seeded,
-    submissions, write_record,
+    Source, answer_status, free, line, read_record, report, run_replay, seeded, submissions,
+    write_record,
 };
+use ct_records::push_separator;
 use ct_world::World;
 use std::alloc::{AllocError, Global};
 use std::test::Fail;

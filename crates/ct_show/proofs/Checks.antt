@@ -4,7 +4,7 @@ use Rattle.std.proofs.Common.{append_assoc, append-nil, arith, zero-add}
 use Rattle.std.specs.Prelude.{Bool, fold, max, OnErr}
 use Rattle.std.specs.Io.KnownBytes.{Appends}
 use Rattle.std.proofs.lemmas.List.{map_more, take-map}
-use Rattle.ct_program.specs.Streams.{WritesPart}
+use Rattle.ct_streams.specs.Streams.{WritesPart}
 use Rattle.ct_show.specs.declared.check_options.CheckOptions.{CheckOptions}
 use Rattle.ct_show.specs.declared.checked.Checked.{Checked}
 use Rattle.ct_show.specs.Checking.{AreChecked, Checks, ChecksOne, ChecksOnePart, ChecksPart, IsChecked, Known, line_of, lines_of}

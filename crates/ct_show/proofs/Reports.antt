@@ -6,11 +6,12 @@ use Rattle.std.specs.Str.{bytes_eq}
 use Rattle.std.proofs.lemmas.List.{take-append-drop}
 use Rattle.std.proofs.lemmas.Slice.Eq.{bytes_eq-Decides}
 use Rattle.ct_model.specs.Rehearsal.{Rehearsal}
-use Rattle.ct_program.specs.declared.program_fault.ProgramFault.TheVariants.{Memory}
-use Rattle.ct_program.specs.declared.read_fault.ReadFault.{ReadFault}
-use Rattle.ct_program.specs.Replay.{IsFaultIn, IsReplayed, IsReportOf, WritesReport, read_part}
-use Rattle.ct_program.specs.Report.{report_text}
-use Rattle.ct_program.specs.Script.{script}
+use Rattle.ct_records.specs.declared.program_fault.ProgramFault.TheVariants.{Memory}
+use Rattle.ct_records.specs.declared.read_fault.ReadFault.{ReadFault}
+use Rattle.ct_records.specs.Replay.{IsFaultIn, IsReplayed, IsReportOf, WritesReport}
+use Rattle.ct_streams.specs.Streams.{read_part}
+use Rattle.ct_records.specs.Report.{report_text}
+use Rattle.ct_records.specs.Script.{script}
 use Rattle.ct_show.specs.declared.checked.Checked.{Checked}
 use Rattle.ct_show.specs.declared.checked.Checked.TheVariants.{Good, OtherReport, NoReport, Fault}
 use Rattle.ct_show.specs.Checking.{IsBeside, IsChecked, IsOfRecord, Known, is_json, report_name}

@@ -4,14 +4,13 @@ use Rattle.std.specs.Prelude.{IfSome}
 use Rattle.std.specs.Io.KnownBytes.{Appends}
 use Rattle.ct_model.specs.Rehearsal.{Rehearsal}
 use Rattle.ct_world.specs.declared.replay_fault.ReplayFault.{ReplayFault}
-use Rattle.ct_program.specs.declared.program_fault.ProgramFault.{ProgramFault}
-use Rattle.ct_program.specs.declared.program_fault.ProgramFault.TheVariants as of
-use Rattle.ct_program.specs.declared.read_fault.ReadFault.{ReadFault}
-use Rattle.ct_program.specs.Replay.{read_part}
-use Rattle.ct_program.specs.Script.{script}
-use Rattle.ct_program.proofs.Answered.{script_read}
+use Rattle.ct_records.specs.declared.program_fault.ProgramFault.{ProgramFault}
+use Rattle.ct_records.specs.declared.program_fault.ProgramFault.TheVariants as of
+use Rattle.ct_records.specs.declared.read_fault.ReadFault.{ReadFault}
+use Rattle.ct_streams.specs.Streams.{read_part, WritesPart}
+use Rattle.ct_records.specs.Script.{script}
+use Rattle.ct_records.proofs.Answered.{script_read}
 use Rattle.ct_show.specs.declared.view.View.{View}
-use Rattle.ct_program.specs.Streams.{WritesPart}
 use Rattle.ct_show.specs.Answer.{FailsWith, IsAnswer, IsAnswerOf, IsOfReading, Shows, ShowsPart}
 
 pub input_seen : (left : Option (List ℕ)) (bytes seen : List ℕ) (P : Result Rehearsal ReadFault → Type 0) →

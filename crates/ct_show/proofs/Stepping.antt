@@ -15,8 +15,8 @@ use Rattle.ct_model.proofs.Basics.Options.{some-same}
 use Rattle.ct_world.specs.Posting.{IsRefusal}
 use Rattle.ct_world.specs.Replay.{AllowsFirst, IsFaultOf, IsRefusedAt, first_steps}
 use Rattle.ct_world.specs.declared.replay_fault.ReplayFault.{ReplayFault}
-use Rattle.ct_program.specs.declared.program_fault.ProgramFault.{ProgramFault}
-use Rattle.ct_program.proofs.Refused.{is_refused}
+use Rattle.ct_records.specs.declared.program_fault.ProgramFault.{ProgramFault}
+use Rattle.ct_records.proofs.Refused.{is_refused}
 use Rattle.ct_show.specs.declared.answer.Answer.{Answer}
 use Rattle.ct_show.specs.declared.selection.Selection.{Selection}
 use Rattle.ct_show.specs.declared.view.View.{View}

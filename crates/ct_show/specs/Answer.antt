@@ -6,11 +6,11 @@ use Rattle.ct_model.specs.declared.step.Step.{Step}
 use Rattle.ct_model.specs.Rehearsal.{Rehearsal}
 use Rattle.ct_world.specs.declared.replay_fault.ReplayFault.{ReplayFault}
 use Rattle.ct_world.specs.Replay.{first_steps}
-use Rattle.ct_program.specs.declared.program_fault.ProgramFault.{ProgramFault}
-use Rattle.ct_program.specs.declared.program_fault.ProgramFault.TheVariants.{Replay, Read, Write, Memory, Start, Exchanged}
-use Rattle.ct_program.specs.declared.read_fault.ReadFault.{ReadFault}
-use Rattle.ct_program.specs.Replay.{IsAllowed, IsRefused}
-use Rattle.ct_program.specs.Streams.{WritesPart}
+use Rattle.ct_records.specs.declared.program_fault.ProgramFault.{ProgramFault}
+use Rattle.ct_records.specs.declared.program_fault.ProgramFault.TheVariants.{Replay, Read, Write, Memory, Start, Exchanged}
+use Rattle.ct_records.specs.declared.read_fault.ReadFault.{ReadFault}
+use Rattle.ct_records.specs.Replay.{IsAllowed, IsRefused}
+use Rattle.ct_streams.specs.Streams.{WritesPart}
 use Rattle.ct_show.specs.declared.selection.Selection.{Selection}
 use Rattle.ct_show.specs.declared.view.View.{View}
 use Rattle.ct_show.specs.declared.view.View.TheVariants.{Nothing, Report, Steps, State}

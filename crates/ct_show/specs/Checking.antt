@@ -6,17 +6,17 @@ use Rattle.std.specs.List.{concat}
 use Rattle.std.specs.Str.{bytes_eq}
 use Rattle.ct_names.specs.RefusalText.{refusal_text}
 use Rattle.ct_model.specs.Rehearsal.{Rehearsal}
-use Rattle.ct_program.specs.declared.program_fault.ProgramFault.{ProgramFault}
-use Rattle.ct_program.specs.declared.program_fault.ProgramFault.TheVariants.{Replay, Read, Reader, Write, Memory, Start, Exchanged}
-use Rattle.ct_program.specs.declared.read_fault.ReadFault.{ReadFault}
-use Rattle.ct_program.specs.declared.read_fault.ReadFault.TheVariants.{TooLong, NotJson, Shape, Version, OutOfMemory}
-use Rattle.ct_program.specs.ProgramFault as program
-use Rattle.ct_program.specs.declared.status.Status.TheVariants as status
-use Rattle.ct_program.specs.Statuses.{code}
-use Rattle.ct_program.specs.Replay.{IsFaultIn, IsReplayed, read_part}
-use Rattle.ct_program.specs.Report.{report_text}
-use Rattle.ct_program.specs.Script.{script}
-use Rattle.ct_program.specs.Streams.{WritesPart}
+use Rattle.ct_records.specs.declared.program_fault.ProgramFault.{ProgramFault}
+use Rattle.ct_records.specs.declared.program_fault.ProgramFault.TheVariants.{Replay, Read, Reader, Write, Memory, Start, Exchanged}
+use Rattle.ct_records.specs.declared.read_fault.ReadFault.{ReadFault}
+use Rattle.ct_records.specs.declared.read_fault.ReadFault.TheVariants.{TooLong, NotJson, Shape, Version, OutOfMemory}
+use Rattle.ct_records.specs.ProgramFault as program
+use Rattle.ct_streams.specs.declared.status.Status.TheVariants as status
+use Rattle.ct_streams.specs.Statuses.{code}
+use Rattle.ct_records.specs.Replay.{IsFaultIn, IsReplayed}
+use Rattle.ct_streams.specs.Streams.{read_part, WritesPart}
+use Rattle.ct_records.specs.Report.{report_text}
+use Rattle.ct_records.specs.Script.{script}
 use Rattle.ct_show.specs.declared.check_options.CheckOptions.{CheckOptions}
 use Rattle.ct_show.specs.declared.checked.Checked.{Checked}
 use Rattle.ct_show.specs.declared.checked.Checked.TheVariants.{Good, OtherReport, NoReport, Fault}

@@ -13,7 +13,7 @@ use Rattle.ct_model.specs.Received.{decided, received_by}
 use Rattle.ct_model.specs.Rehearsal.{Rehearsal, state_of}
 use Rattle.ct_model.specs.State.{is_crashed, member}
 use Rattle.ct_world.specs.Decided.{last_decided}
-use Rattle.ct_program.specs.Report.{shown}
+use Rattle.ct_records.specs.Report.{shown}
 
 -- an array of what these texts are
 abbrev pub array_json : List (List ℕ) → List ℕ

@@ -4,7 +4,7 @@ use Rattle.clap.specs.Lexer.{usize_max}
 use Rattle.clap.specs.Words.{App, Row, Rule, Text, first_of, new_app, new_rule, with_rule}
 use Rattle.clap.specs.declared.builder.action.ArgAction.TheVariants.{Append, SetTrue}
 use Rattle.ct_names.specs.declared.limit.TheConstants.{MAX_MEMBERS}
-use Rattle.ct_program.specs.Line.{◌>>=◌, file_rule, option_in, option_rule, value_rule, whole_in}
+use Rattle.ct_streams.specs.Arguments.{◌>>=◌, file_rule, option_in, option_rule, value_rule, whole_in}
 use Rattle.ct_show.specs.declared.view.View.{View}
 use Rattle.ct_show.specs.declared.view.View.TheVariants.{Steps, State}
 

@@ -19,7 +19,7 @@ use Rattle.ct_model.specs.Rehearsal.{Rehearsal, state_of, line_of}
 use Rattle.ct_model.specs.Senders.{senders}
 use Rattle.ct_model.specs.State.{at_serial, is_crashed}
 use Rattle.ct_model.specs.StepText.{step_text}
-use Rattle.ct_program.specs.Report.{list_text}
+use Rattle.ct_records.specs.Report.{list_text}
 use Rattle.ct_world.specs.Driving.{next_local}
 use Rattle.ct_world.specs.Standing.{estimate_by, acked_by, replied_by}
 use Rattle.ct_world.specs.World.{member_of, if_member}

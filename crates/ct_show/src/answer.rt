@@ -3,8 +3,8 @@
 ghost use Rattle.std.specs.Prelude.{◌≡◌, ◌≢◌, ◌≤◌, ◌++◌, [], length, Some, IfOk, IfErr, OnOk, string_bytes};
 ghost use Rattle.ct_names.specs.declared.limit.TheConstants.{MAX_BOUND, MAX_CELLS};
 ghost use Rattle.ct_model.specs.Rehearsal.{state_of};
-ghost use Rattle.ct_program.specs.declared.program_fault.ProgramFault.TheVariants.{Memory};
-ghost use Rattle.ct_program.specs.View.{rehearsal_of};
+ghost use Rattle.ct_records.specs.declared.program_fault.ProgramFault.TheVariants.{Memory};
+ghost use Rattle.ct_records.specs.View.{rehearsal_of};
 ghost use Rattle.ct_show.specs.Answer.{IsAnswer};
 ghost use Rattle.ct_show.specs.Facts.{refused_text};
 
@@ -18,7 +18,7 @@ use crate::view::View;
 use ct_board::Board;
 use ct_model::Step;
 use ct_names::{Group, Refusal};
-use ct_program::{ProgramFault, Script};
+use ct_records::{ProgramFault, Script};
 use ct_world::{ReplayFault, World};
 use std::alloc::Global;
 

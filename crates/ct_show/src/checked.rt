@@ -3,7 +3,8 @@
 ghost use Rattle.std.specs.Prelude.{◌≡◌};
 ghost use Rattle.ct_show.specs.Checking.{status_of};
 
-use ct_program::{ProgramFault, Status};
+use ct_records::ProgramFault;
+use ct_streams::Status;
 
 /// What checking a file comes to.
 #[derive(Clone, Copy, Debug, Drop, PartialEq, Eq)]

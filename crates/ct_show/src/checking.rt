@@ -2,15 +2,15 @@
 
 ghost use Rattle.std.specs.Prelude.{◌≡◌, ◌≢◌, ◌⊎◌, ◌+◌, ◌<◌, ◌^◌, ◌++◌, Err, map, OnOk, OnErr, IfOk, IfErr, IfSome, string_bytes};
 ghost use Rattle.std.specs.Str.{bytes_eq};
-ghost use Rattle.ct_program.specs.Replay.{IsFaultIn, IsReportOf, read_part};
+ghost use Rattle.ct_records.specs.Replay.{IsFaultIn, IsReportOf};
+ghost use Rattle.ct_streams.specs.Streams.{read_part};
 ghost use Rattle.ct_show.specs.Checking.{Checks, ChecksOne, ChecksOnePart, ChecksPart, IsBeside, IsChecked, IsOfRecord};
 ghost use Rattle.ct_show.specs.Checking.{checked_text, fault_text, line_of, read_fault_text, report_name, told};
 
 use crate::check_options::CheckOptions;
 use crate::checked::Checked;
-use ct_program::{
-    Counted, Failed, Files, ProgramFault, ReadFault, Sink, read_all, run_replay, write_all,
-};
+use ct_records::{ProgramFault, ReadFault, run_replay};
+use ct_streams::{Counted, Failed, Files, InputFault, Sink, read_all, write_all};
 use std::alloc::{AllocError, Global};
 
 /// Replays the record of each of these files and writes a line for each that has a fault or, where reports are expected, has
@@ -112,7 +112,7 @@ fn compared<F: Files>(alloc: Global, files: &F, name: &str, report: &[u8]) -> Ch
     match read_all(alloc, &mut reader) {
         Ok(expected) if is_same(report, &expected) => Checked::Good,
         Ok(_) => Checked::OtherReport,
-        Err(ProgramFault::Memory) => Checked::Fault(ProgramFault::Memory),
+        Err(InputFault::Memory) => Checked::Fault(ProgramFault::Memory),
         Err(_) => Checked::NoReport,
     }
 }

@@ -2,7 +2,7 @@
 
 ghost use Rattle.std.specs.Prelude.{◌≡◌, ◌≢◌, true, false, Err, IsOk};
 
-use ct_program::ProgramFault;
+use ct_records::ProgramFault;
 
 /// What a program makes of how `show` ended: nothing is wrong where nobody reads the text any more, so where the write that
 /// failed was one into a pipe without a reader.

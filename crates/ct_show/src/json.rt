@@ -3,7 +3,7 @@
 ghost use Rattle.std.specs.Prelude.{◌≡◌, ◌++◌, codes, map, OnOk, IfOk, IsTrue, string_bytes, slice_index};
 ghost use Rattle.std.specs.List.{join_with_byte};
 ghost use Rattle.ct_names.specs.Group.{is_member};
-ghost use Rattle.ct_program.specs.Outcome.{IsOutcome};
+ghost use Rattle.ct_records.specs.Outcome.{IsOutcome};
 ghost use Rattle.ct_show.specs.Json.{messages_json, message_json, decision_json};
 ghost use Rattle.ct_show.specs.Json.{decisions_json, first_decisions, table_json, first_registers};
 ghost use Rattle.ct_show.specs.Json.{truth_json, standing_json, key_json, member_json};
@@ -11,7 +11,7 @@ ghost use Rattle.ct_show.specs.Json.{first_members, members_json, group_json, co
 ghost use Rattle.ct_world.specs.World.{member_of};
 
 use ct_names::{Instance, Member, Message};
-use ct_program::push_separator;
+use ct_records::push_separator;
 use ct_table::Table;
 use ct_world::World;
 use std::alloc::{AllocError, Global};

@@ -1,12 +1,13 @@
 //! A record in, what a view shows of it out.
 
 ghost use Rattle.std.specs.Prelude.{◌≡◌, ◌≢◌, ◌+◌, ◌<◌, ◌^◌, Err, IfOk, IfErr, IfSome, OnOk};
-ghost use Rattle.ct_program.specs.Script.{script};
+ghost use Rattle.ct_records.specs.Script.{script};
 ghost use Rattle.ct_show.specs.Answer.{Shows, ShowsPart, FailsWith, IsAnswerOf, IsOfReading, IsQuiet};
 
 use crate::answer::{Answer, shown};
 use crate::view::View;
-use ct_program::{Failed, ProgramFault, Sink, Source, read_all, read_record, write_all};
+use ct_records::{ProgramFault, read_record};
+use ct_streams::{Failed, Sink, Source, read_all, write_all};
 use std::alloc::Global;
 
 /// Reads a record to its end and writes what the view shows of it. The whole text is made before the first write. At a

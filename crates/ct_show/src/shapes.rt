@@ -6,7 +6,7 @@ ghost use Rattle.ct_show.specs.Shapes.{set_text, estimate_text, value_text, call
 
 use ct_model::Phase;
 use ct_names::{Command, Message, Round};
-use ct_program::push_separator;
+use ct_records::push_separator;
 use std::alloc::AllocError;
 
 /// How many messages of a value are shown.

@@ -4,7 +4,7 @@ ghost use Rattle.std.specs.Prelude.{◌≡◌, ◌++◌, [], ◌∷◌, if◌the
 ghost use Rattle.ct_names.specs.Group.{is_member};
 ghost use Rattle.ct_model.specs.Rehearsal.{line_of};
 ghost use Rattle.ct_model.specs.State.{at_serial};
-ghost use Rattle.ct_program.specs.Report.{list_text};
+ghost use Rattle.ct_records.specs.Report.{list_text};
 ghost use Rattle.ct_show.specs.State.{progress_text, standing_line, estimate_line, first_in, set_line, votes_lines};
 ghost use Rattle.ct_show.specs.State.{sender_text, waiting_line, is_apart, enabled_text, own_enabled, refusal_line, refused_line};
 ghost use Rattle.ct_show.specs.State.{first_choices, steps_lines, first_receipt, step_or_dash, or_text, receipt_text, next_text, next_line};
@@ -17,7 +17,7 @@ use crate::traced::Traced;
 use crate::wires::push_serial;
 use ct_model::{Phase, Step};
 use ct_names::{MAX_MEMBERS, Member, MemberSet, Message, Refusal, Round, Serial};
-use ct_program::push_separator;
+use ct_records::push_separator;
 use ct_world::World;
 use std::alloc::{AllocError, Global};
 

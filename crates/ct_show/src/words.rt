@@ -9,7 +9,7 @@ use crate::selection::Selection;
 use crate::view::View;
 use clap::{Arg, ArgAction, ArgMatches, Command};
 use ct_names::{MAX_MEMBERS, Member};
-use ct_program::{default_option, file_argument, number_in, option_in, subcommand, value_option};
+use ct_streams::{default_option, file_argument, number_in, option_in, subcommand, value_option};
 use std::alloc::{AllocError, Global};
 
 // The help of the argument `file`.

@@ -1,6 +1,6 @@
 //! The files of the machine.
 
-use ct_program::{Counted, Failed, Files, NewFiles, write_all};
+use ct_streams::{Counted, Failed, Files, NewFiles, write_all};
 use either::{Either, Left, Right};
 use std::fs::{self, File};
 use std::io::StdinLock;

@@ -4,18 +4,20 @@
 mod host;
 
 ghost use Rattle.std.specs.Prelude.{◌<◌, ◌^◌};
-ghost use Rattle.ct_program.specs.Counted.{failures_of};
+ghost use Rattle.ct_streams.specs.Counted.{failures_of};
 
 use clap::{ArgMatches, Command};
 use ct_diagram::{DiagramFault, Window, diagram_command, diagram_window, draw, drawn_end};
 use ct_judge::{
     Judge, RecordFault, interact, interact_command, keep, record, record_command, session_end,
 };
-use ct_program::{CommandFault, Counted, Failed, Files, ProgramFault, answer_status};
+use ct_program::{CommandFault, answer_status};
+use ct_records::ProgramFault;
 use ct_show::{
     CheckOptions, View, check, check_command, report_command, show, shown_end, state_command,
     state_view, steps_command, steps_view,
 };
+use ct_streams::{Counted, Failed, Files};
 use ct_walk::{Call, walk_call, walk_command, write_call};
 use host::Host;
 use std::alloc::{AllocError, Global};

@@ -1,5 +1,5 @@
-use ct_program::{Counted, Failed, Files};
 use ct_show::*;
+use ct_streams::{Counted, Failed, Files};
 use std::alloc::Global;
 use std::test::Fail;
 

@@ -1,5 +1,5 @@
 use ct_diagram::*;
-use ct_program::Counted;
+use ct_streams::Counted;
 use std::alloc::Global;
 use std::test::Fail;
 

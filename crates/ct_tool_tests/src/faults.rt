@@ -1,7 +1,7 @@
 use ct_diagram::DiagramFault;
 use ct_judge::*;
 use ct_names::{Limit, Refusal};
-use ct_program::{ProgramFault, ReadFault};
+use ct_records::{ProgramFault, ReadFault};
 use ct_walk::WalkFault;
 use std::alloc::{AllocError, Global};
 use std::fmt::Display;

@@ -1,5 +1,5 @@
 use ct_judge::*;
-use ct_program::{Counted, Failed, NewFiles};
+use ct_streams::{Counted, Failed, NewFiles};
 use std::alloc::{AllocError, Global};
 use std::test::Fail;
 

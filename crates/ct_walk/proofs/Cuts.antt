@@ -5,7 +5,7 @@ use Rattle.std.proofs.Common.{◌∙◌, ap, ap₂, arith, refl, sym, true≢fal
 use Rattle.std.proofs.lemmas.Bool.Decides.{nat_tests}
 use Rattle.clap.specs.Words.{Text}
 use Rattle.std.specs.Str.Pattern.{FindsText, SplitsAroundMatch}
-use Rattle.ct_program.specs.Line.{whole_in}
+use Rattle.ct_streams.specs.Arguments.{whole_in}
 use Rattle.ct_walk.specs.Line.{begins_with_points, cut, seeds_of}
 
 -- no points stand at the place

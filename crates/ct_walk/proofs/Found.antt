@@ -8,7 +8,7 @@ use Rattle.std.proofs.lemmas.Slice.Eq.{bytes_eq-Decides}
 use Rattle.clap.specs.Words.{Text, first_value, matched_of, raw_values, rows_of}
 use Rattle.clap.specs.declared.parser.matches.Found.{Found}
 use Rattle.clap.proofs.WalkLemmas.{first_value-rows, raw_values-rows}
-use Rattle.ct_program.specs.Line.{◌>>=◌, whole_in}
+use Rattle.ct_streams.specs.Arguments.{◌>>=◌, whole_in}
 use Rattle.ct_walk.specs.declared.call.Call.{Call}
 use Rattle.ct_walk.specs.declared.call.Call.TheVariants.{Walk, Find}
 use Rattle.ct_walk.specs.declared.call.Seeds.{Seeds}

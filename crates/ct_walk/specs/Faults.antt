@@ -1,7 +1,7 @@
 -- The faults of walks.
 use Rattle.std.specs.Prelude.{◌≡◌, ◌⊎◌, ℕ, false, ⊤}
-use Rattle.ct_program.specs.declared.status.Status.TheVariants as status
-use Rattle.ct_program.specs.Statuses.{code}
+use Rattle.ct_streams.specs.declared.status.Status.TheVariants as status
+use Rattle.ct_streams.specs.Statuses.{code}
 use Rattle.ct_rehearse.specs.declared.outcome.Turn.{Turn}
 use Rattle.ct_rehearse.specs.declared.outcome.Turn.TheVariants.{Refused}
 use Rattle.ct_rehearse.specs.Plays.{is_short}

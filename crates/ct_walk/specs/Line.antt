@@ -3,7 +3,8 @@ use Rattle.std.specs.Prelude.{◌≤◌, ◌==◌, ◌&&◌, Bool, false, Option
 use Rattle.std.specs.Prelude.{if◌then◌else◌}
 use Rattle.std.specs.Str.{bytes_eq}
 use Rattle.clap.specs.Words.{App, Row, Rule, Text, all_of, first_of, new_app, with_rule}
-use Rattle.ct_program.specs.Line.{◌>>=◌, free_rules, option_in, option_rule, options_of, value_rule, whole_in}
+use Rattle.ct_program.specs.Line.{free_rules, options_of}
+use Rattle.ct_streams.specs.Arguments.{◌>>=◌, option_in, option_rule, value_rule, whole_in}
 use Rattle.ct_walk.specs.declared.call.Call.{Call}
 use Rattle.ct_walk.specs.declared.call.Call.TheVariants.{Walk, Find}
 use Rattle.ct_walk.specs.declared.call.Seeds.{Seeds}

@@ -2,9 +2,9 @@
 use Rattle.std.specs.Prelude.{◌≡◌, ℕ, List, [], ◌∷◌, ◌++◌, Option, Some, None}
 use Rattle.std.specs.Io.KnownBytes.{Appends}
 use Rattle.ct_model.specs.Rehearsal.{Rehearsal}
-use Rattle.ct_program.specs.Outcome.{IsOutcome}
-use Rattle.ct_program.specs.Streams.{WritesPart}
-use Rattle.ct_program.specs.Text.{record_text}
+use Rattle.ct_records.specs.Outcome.{IsOutcome}
+use Rattle.ct_streams.specs.Streams.{WritesPart}
+use Rattle.ct_records.specs.Text.{record_text}
 use Rattle.ct_walk.specs.declared.call.Call.{Call}
 use Rattle.ct_walk.specs.declared.call.Call.TheVariants.{Walk, Find}
 use Rattle.ct_walk.specs.Finding.{first_seed, seeds_to}

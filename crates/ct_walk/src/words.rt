@@ -10,10 +10,8 @@ use crate::call::{Call, Seeds};
 use crate::options::WalkOptions;
 use crate::sight::Sight;
 use clap::{Arg, ArgMatches, Command};
-use ct_program::{
-    default_option, found_options, number_in, option_in, subcommand, value_option,
-    with_free_options,
-};
+use ct_program::{found_options, with_free_options};
+use ct_streams::{default_option, number_in, option_in, subcommand, value_option};
 use std::alloc::{AllocError, Global};
 
 // The help of the option `turns`.

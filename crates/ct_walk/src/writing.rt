@@ -1,8 +1,8 @@
 //! Records of walks, written.
 
 ghost use Rattle.std.specs.Prelude.{◌≡◌, ◌≢◌, ◌+◌, ◌<◌, ◌^◌, ◌++◌, [], ◌∷◌, Err, OnOk, IfOk, IfErr};
-ghost use Rattle.ct_program.specs.Outcome.{IsOutcome};
-ghost use Rattle.ct_program.specs.Text.{record_text};
+ghost use Rattle.ct_records.specs.Outcome.{IsOutcome};
+ghost use Rattle.ct_records.specs.Text.{record_text};
 ghost use Rattle.ct_walk.specs.Line.{IsCallInRange};
 ghost use Rattle.ct_walk.specs.Writing.{IsWalkOf, Misses, WritesWalk, WritesWalkPart};
 
@@ -10,7 +10,8 @@ use crate::call::Call;
 use crate::fault::WalkFault;
 use crate::finding::find;
 use crate::walking::walk;
-use ct_program::{Failed, Sink, write_all, write_record};
+use ct_records::write_record;
+use ct_streams::{Failed, Sink, write_all};
 use ct_world::World;
 use std::alloc::Global;
 

@@ -1,5 +1,5 @@
 use super::*;
-use ct_program::{MAX_LEN, read_plain};
+use ct_records::{MAX_LEN, read_plain};
 
 // A run with steps of each kind, but none that is refused.
 const RUN: &str =

@@ -1,7 +1,7 @@
 use Rattle.std.proofs.Common.{rules, ◌≡◌, ◌+◌, ◌∙◌, [], drop, subst}
 use Rattle.std.specs.Io.KnownBytes.{Appends}
 use Rattle.std.specs.Prelude.{string_bytes}
-use Rattle.ct_program.specs.Streams.{WritesPart}
+use Rattle.ct_streams.specs.Streams.{WritesPart}
 use Rattle.ct_judge.specs.Sessions.{said_by}
 use Rattle.ct_judge.proofs.Hearing.{IsAnswering, after_more, answers_byte, answers_part, answers_stop, answers_written, on_err, on_err_more}
 use Rattle.ct_judge.proofs.interacting.hear.Goals as goal

@@ -1,6 +1,6 @@
 use Rattle.std.proofs.Common.{rules, ◌≡◌, ◌<◌, ◌≤◌, ◌∙◌, length, length-take-le, take, arith, subst}
 use Rattle.std.specs.Io.KnownBytes.{Consumes, IsAtEnd}
-use Rattle.ct_program.specs.Streams.{WritesPart}
+use Rattle.ct_streams.specs.Streams.{WritesPart}
 use Rattle.ct_judge.specs.Sessions.{at_end}
 use Rattle.ct_judge.proofs.Hearing.{breaks_off, ends_part, hears, hears_part, is_at_end, on_err, on_err_more}
 use Rattle.ct_judge.proofs.interacting.listen.Goals as goal

@@ -1,6 +1,6 @@
 use Rattle.std.proofs.Common.{◌∙◌, sym}
 use Rattle.std.proofs.lemmas.List.Sums.{fold_more}
-use Rattle.ct_program.proofs.Lines.{with_option}
+use Rattle.ct_streams.proofs.Options.{with_option}
 use Rattle.ct_program.proofs.words.with_options.Goals as goal
 
 pub loop-name-preserved : goal.loop-name-preserved

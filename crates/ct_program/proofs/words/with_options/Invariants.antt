@@ -1,7 +1,7 @@
 use Rattle.std.specs.Prelude.{◌≡◌, fold}
 use Rattle.std.proofs.Common.{take}
 use Rattle.clap.specs.Words.{app_of, with_rule}
-use Rattle.ct_program.specs.Line.{option_rule}
+use Rattle.ct_streams.specs.Arguments.{option_rule}
 use Rattle.ct_program.proofs.words.with_options.Given as goal
 
 abbrev pub invariant-loop-name : goal.invariant-loop-name

@@ -1,6 +1,6 @@
 use Rattle.std.proofs.Common.{List, length, refl, subst}
 use Rattle.ct_model.specs.declared.step.Step.{Step}
-use Rattle.ct_program.specs.View.{rehearsal_of}
+use Rattle.ct_records.specs.View.{rehearsal_of}
 use Rattle.ct_world.specs.Replay.{AllowsFirst, IsFaultOf}
 use Rattle.ct_show.specs.declared.view.View.TheVariants.{Nothing}
 use Rattle.ct_show.proofs.Stepping.{answer_without}

@@ -1,7 +1,7 @@
 use Rattle.std.proofs.Common.{◌≡◌, List, ap, refl, subst, take, ◌∙◌}
 use Rattle.std.proofs.lemmas.List.{take_min}
 use Rattle.ct_model.specs.declared.step.Step.{Step}
-use Rattle.ct_program.specs.View.{rehearsal_of}
+use Rattle.ct_records.specs.View.{rehearsal_of}
 use Rattle.ct_world.specs.Replay.{IsFaultOf}
 use Rattle.ct_show.specs.declared.view.View.TheVariants.{State}
 use Rattle.ct_show.specs.Answer.{part_of}

@@ -1,6 +1,6 @@
 use Rattle.std.specs.Prelude.{string_bytes}
 use Rattle.ct_world.specs.World.{member_of}
-use Rattle.ct_program.proofs.Pieces.{HasWritten}
+use Rattle.ct_records.proofs.Pieces.{HasWritten}
 use Rattle.ct_show.specs.Json.{first_decisions}
 use Rattle.ct_show.proofs.json.push_decisions_to.Given as goal
 

@@ -1,5 +1,5 @@
 use Rattle.std.specs.Prelude.{string_bytes}
-use Rattle.ct_program.proofs.Pieces.{written_none}
+use Rattle.ct_records.proofs.Pieces.{written_none}
 use Rattle.ct_show.proofs.Listed.{register_json_written}
 use Rattle.ct_show.proofs.json.push_registers.Goals as goal
 

@@ -1,5 +1,5 @@
 use Rattle.std.specs.Prelude.{string_bytes}
-use Rattle.ct_program.proofs.Pieces.{HasWritten}
+use Rattle.ct_records.proofs.Pieces.{HasWritten}
 use Rattle.ct_show.specs.Json.{first_registers}
 use Rattle.ct_show.proofs.json.push_registers.Given as goal
 

@@ -1,7 +1,7 @@
 use Rattle.std.proofs.Common.{◌≡◌, ℕ, List, Option, Result, Ok, Err}
 use Rattle.std.specs.Prelude.{IfErr, IfSome, IsErrAnd}
-use Rattle.ct_program.specs.declared.program_fault.ProgramFault.{ProgramFault}
-use Rattle.ct_program.specs.Script.{script}
+use Rattle.ct_records.specs.declared.program_fault.ProgramFault.{ProgramFault}
+use Rattle.ct_records.specs.Script.{script}
 use Rattle.ct_show.specs.declared.view.View.{View}
 use Rattle.ct_show.specs.Answer.{FailsWith}
 use Rattle.ct_show.proofs.Seen.{fails_seen, part_seen, reading_seen, shows_seen}

@@ -1,7 +1,7 @@
 use Rattle.std.proofs.Common.{◌≡◌, arith, sym, ◌∙◌, subst}
 use Rattle.std.specs.Prelude.{string_bytes}
 use Rattle.ct_names.specs.declared.limit.TheConstants.{MAX_MEMBERS}
-use Rattle.ct_program.proofs.Pieces.{HasWritten, written_all, written_none}
+use Rattle.ct_records.proofs.Pieces.{HasWritten, written_all, written_none}
 use Rattle.ct_show.specs.State.{first_in}
 use Rattle.ct_show.proofs.Listed.{in_set_passed, in_set_written}
 use Rattle.ct_show.proofs.state.push_members_of.Goals as goal

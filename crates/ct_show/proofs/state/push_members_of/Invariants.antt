@@ -1,5 +1,5 @@
 use Rattle.std.specs.Prelude.{string_bytes}
-use Rattle.ct_program.proofs.Pieces.{HasWritten}
+use Rattle.ct_records.proofs.Pieces.{HasWritten}
 use Rattle.ct_show.specs.State.{first_in}
 use Rattle.ct_show.proofs.state.push_members_of.Given as goal
 

@@ -1,5 +1,5 @@
 use Rattle.std.proofs.lemmas.Result.{IfOk-weaker}
-use Rattle.ct_program.proofs.Lines.{with_option}
+use Rattle.ct_streams.proofs.Options.{with_option}
 use Rattle.ct_show.proofs.words.check_command.Goals as goal
 
 pub returns : goal.returns

@@ -1,7 +1,7 @@
 use Rattle.std.proofs.Common.{ap, ◌∙◌}
 use Rattle.std.proofs.lemmas.Result.{IfOk-weaker}
 use Rattle.clap.specs.Words.{rule_of}
-use Rattle.ct_program.proofs.Lines.{with_option}
+use Rattle.ct_streams.proofs.Options.{with_option}
 use Rattle.ct_show.proofs.words.steps_command.Goals as goal
 
 pub returns : goal.returns

@@ -3,7 +3,7 @@ use Rattle.std.proofs.Common.{ap, ◌∙◌}
 use Rattle.std.proofs.lemmas.Result.{IfOk-weaker}
 use Rattle.clap.specs.Words.{with_rule}
 use Rattle.ct_program.specs.Line.{free_rules}
-use Rattle.ct_program.proofs.Lines.{with_option}
+use Rattle.ct_streams.proofs.Options.{with_option}
 use Rattle.ct_walk.proofs.words.walk_command.Goals as goal
 
 pub returns : goal.returns

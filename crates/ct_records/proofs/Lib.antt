@@ -1,0 +1,16 @@
+pub mod Entries
+pub mod Joins
+pub mod Pieces
+pub mod Found
+pub mod Loops
+pub mod Whole
+pub mod Refused
+pub mod Answered
+pub mod Fitting
+pub mod Lengths
+pub mod Names
+pub mod Stored
+pub mod Written
+pub mod Plain
+pub mod Keys
+pub mod Members

@@ -1,0 +1,9 @@
+use Rattle.ct_records.specs.Plain.{PartsFit, members_of}
+use Rattle.ct_records.proofs.Members.{SoFar}
+use Rattle.ct_records.proofs.quick.members.Given as goal
+
+abbrev pub invariant-loop : goal.invariant-loop
+invariant-loop l = record {
+  so_far : SoFar l.bytes (members_of l.parts) l.rest;
+  fit : PartsFit l.parts;
+}

@@ -1,0 +1,11 @@
+pub mod Script
+pub mod Gives
+pub mod View
+pub mod Report
+pub mod Replay
+pub mod Outcome
+pub mod ProgramFault
+pub mod Text
+pub mod Fits
+pub mod Values
+pub mod Plain

@@ -1,0 +1,5 @@
+pub mod Streams
+pub mod Statuses
+pub mod Counted
+pub mod NewFiles
+pub mod Arguments

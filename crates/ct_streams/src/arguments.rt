@@ -1,0 +1,72 @@
+//! The arguments of command lines.
+
+ghost use Rattle.std.specs.Prelude.{◌≡◌, ◌≤◌, false, IfSome};
+ghost use Rattle.clap.specs.Words.{app_of, found_of, new_app, rows_of, rule_of};
+ghost use Rattle.ct_streams.specs.Arguments.{file_rule, option_in, option_rule, required_rule, value_rule, whole_in};
+
+use clap::{Arg, ArgAction, ArgMatches, Command};
+use std::alloc::Global;
+
+/// A subcommand that has no argument yet: its name, what it does, and what its help ends with.
+pub fn subcommand<'a>(alloc: Global, name: &'a str, about: &'a str, after: &'a str) -> Command<'a>
+    ensures { app_of result ≡ new_app name.entry.now }
+{
+    Command::new(alloc, name).about(about).after_help(after)
+}
+
+/// The argument `file` of a subcommand, which is `-` where none is given: standard input.
+pub fn file_argument<'a>(alloc: Global, help: &'a str) -> Arg<'a>
+    ensures rule { rule_of result ≡ file_rule }
+    ensures local { result.global ≡ false }
+{
+    Arg::new(alloc, "file")
+        .value_name("FILE")
+        .action(ArgAction::Set)
+        .default_value("-")
+        .help(help)
+}
+
+/// An option with a value, which need not be given.
+pub fn value_option<'a>(alloc: Global, name: &'a str, help: &'a str) -> Arg<'a>
+    ensures rule { rule_of result ≡ value_rule name.entry.now }
+    ensures local { result.global ≡ false }
+{
+    let option = Arg::new(alloc, name).long(name).help(help);
+    option.action(ArgAction::Set)
+}
+
+/// An option with a value, which is `default` where none is given.
+pub fn default_option<'a>(alloc: Global, name: &'a str, default: &'a str, help: &'a str) -> Arg<'a>
+    ensures rule { rule_of result ≡ option_rule name.entry.now default.entry.now }
+    ensures local { result.global ≡ false }
+{
+    value_option(alloc, name, help).default_value(default)
+}
+
+/// An option with a value, which has to be given.
+pub fn required_option<'a>(alloc: Global, name: &'a str, help: &'a str) -> Arg<'a>
+    ensures rule { rule_of result ≡ required_rule name.entry.now }
+    ensures local { result.global ≡ false }
+{
+    value_option(alloc, name, help).required(true)
+}
+
+/// The option's value; None where it is no whole number from `low` to `high`.
+pub fn option_in(found: &ArgMatches<'_>, name: &str, low: u32, high: u32) -> Option<u32>
+    ensures value { result ≡ option_in (rows_of (found_of found.now)) name.now low high }
+    ensures range { IfSome result (λ n. (low ≤ n) × (n ≤ high)) }
+{
+    let text = found.get_str(name)?;
+    number_in(text, low, high)
+}
+
+/// The whole number of the text; None where it has none from `low` to `high`.
+pub fn number_in(text: &str, low: u32, high: u32) -> Option<u32>
+    ensures value { result ≡ whole_in low high text.now }
+    ensures range { IfSome result (λ n. (low ≤ n) × (n ≤ high)) }
+{
+    match text.parse::<u32>() {
+        Ok(n) if low <= n && n <= high => Some(n),
+        _ => None,
+    }
+}

@@ -1,0 +1,29 @@
+//! What programs share that have to do with the outside: streams whose failures are counted, files, statuses, and the
+//! arguments of command lines. It knows nothing of records and runs.
+#![tactic(auto)]
+
+mod arguments;
+mod counted;
+mod failed;
+mod files;
+mod input_fault;
+mod new_files;
+mod reading;
+mod sink;
+mod source;
+mod status;
+mod writing;
+
+pub use arguments::{
+    default_option, file_argument, number_in, option_in, required_option, subcommand, value_option,
+};
+pub use counted::Counted;
+pub use failed::Failed;
+pub use files::Files;
+pub use input_fault::InputFault;
+pub use new_files::NewFiles;
+pub use reading::read_all;
+pub use sink::Sink;
+pub use source::Source;
+pub use status::Status;
+pub use writing::write_all;
