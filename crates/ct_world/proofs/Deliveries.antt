@@ -34,19 +34,17 @@ use Rattle.ct_model.proofs.Record.Taken.{IsTaken, lawful-step}
 use Rattle.ct_abcast.specs.Cast.{batch_of as cast_batch}
 use Rattle.ct_board.specs.Board.{Posted}
 use Rattle.ct_instances.specs.Keeping.{KeepsInstances}
-use Rattle.ct_instances.specs.Kept.{Kept, decision_at}
+use Rattle.ct_instances.specs.Kept.{Kept as KeptInstances, decision_at}
 use Rattle.ct_instances.specs.Named.{value_at}
 use Rattle.ct_instances.proofs.Named.{named_some, named_is_some}
 use Rattle.ct_table.specs.Table.{zeros, applied, applied_all, table}
-use Rattle.ct_world.specs.declared.prepared.Prepared.{Prepared}
+use Rattle.ct_world.specs.declared.kept.Kept.{Kept}
 use Rattle.ct_world.specs.declared.seat.Seat.{Seat}
-use Rattle.ct_world.specs.Kept.{Fields, IsWorld, IsActor, HasDeliveryRoom, delivery_cause, seat_for, seat_of, values_of}
-use Rattle.ct_world.specs.declared.world.World.TheInside.{Inside}
+use Rattle.ct_world.specs.Kept.{Fields, IsWorld, IsActor, HasDeliveryRoom, delivery_cause, fields_of, rehearsal_of, seat_for, seat_of}
+use Rattle.ct_world.specs.Kept.{values_of}
 use Rattle.ct_world.specs.Posting.{HasPosted, IsSet}
-use Rattle.ct_world.specs.Prepared.{number_in, batch_in}
-use Rattle.ct_world.specs.World.{WorldView}
 use Rattle.ct_world.specs.Seats.{Keeps, Content, IsDeliverable, content, with_batch, batch_to_post}
-use Rattle.ct_world.proofs.Insides.{IsAllowed, IsAllowedIn, fields_in, rehearsal_in, seat_in, view_in}
+use Rattle.ct_world.proofs.Insides.{IsAllowed, IsAllowedIn, seat_in}
 use Rattle.ct_world.proofs.Members.{seat-same}
 use Rattle.ct_world.proofs.Posting.{has_posted, posting_low}
 use Rattle.ct_world.proofs.Posts.{left-plain}
@@ -99,7 +97,7 @@ table-more batches b =
     ∙ fold-append (λ so_far m. applied so_far m.command) zeros (joined batches) b.messages
 
 -- a seat that delivered the value for the instance k and has these instances, where k is the last
-pub closed_keeps : {n p : ℕ} {values : List Value} {m : Member} {seat : Seat} (k : ℕ) (v : Value) (last : ℕ) (instances : Kept)
+pub closed_keeps : {n p : ℕ} {values : List Value} {m : Member} {seat : Seat} (k : ℕ) (v : Value) (last : ℕ) (instances : KeptInstances)
     → Keeps n values p m seat → last ≡ k → KeepsInstances n values p (close m k v).member instances
     → Keeps n values p (close m k v).member
     (record (with_batch seat v) { caster = record (with_batch seat v).caster { instance = last }; instances = instances })
@@ -171,87 +169,82 @@ module _ {w : Rehearsal} {step : Step} {f : Fields} {k : ℕ} (may : IsAllowed w
           ∙ (λ j. order (state_of w) ++ record { instance = k; messages = sym delivers j } ∷ [])
 
   -- the room that was made for it, where k is of the last instance
-  pub delivery_room : {new : Fields} {i id posted : ℕ} {made : Option Prepared} (of : ℕ → ℕ) → k ≡ of (seat_for f step).instances.last
+  pub delivery_room : {new : Fields} {i id posted : ℕ} {posting : Option Batch} (of : ℕ → ℕ) → k ≡ of (seat_for f step).instances.last
       → (seat : Seat) → content seat ≡ content (seat_for f step) → new.seats ≡ set f.seats (actor step - 1) seat
-      → new.book.values ≡ f.book.values → posted ≡ length (order (state_of w)) → i ≡ k → number_in made ≡ Some id
-      → IsDeliverable f.book.values seat i posted id (batch_in made)
-      → HasDeliveryRoom w new step (of (seat_for new step).instances.last) made
-  delivery_room {new} {i} {id} {posted} {made} of of_last seat kept set_is values count instance is found =
-      let ready : IsDeliverable f.book.values seat k posted id (batch_in made) =
-      subst (λ j. IsDeliverable f.book.values seat j posted id (batch_in made)) instance found in
+      → new.book.values ≡ f.book.values → posted ≡ length (order (state_of w)) → i ≡ k
+      → IsDeliverable f.book.values seat i posted id posting
+      → HasDeliveryRoom w new step (of (seat_for new step).instances.last) id posting
+  delivery_room {new} {i} {id} {posted} {posting} of of_last seat kept set_is values count instance found =
+      let ready : IsDeliverable f.book.values seat k posted id posting =
+      subst (λ j. IsDeliverable f.book.values seat j posted id posting) instance found in
       let there : seat_for new step ≡ seat =
       ap (λ list. seat_of list (actor step)) set_is ∙ seat-same f.seats (actor step) seat may.within in
       let number = ap (λ (c : Content). c.decisions k) (sym kept) ∙ ready.decided in
-      subst (λ j. HasDeliveryRoom w new step j made)
+      subst (λ j. HasDeliveryRoom w new step j id posting)
       (of_last ∙ ap of (sym (ap (λ (s : Seat). s.instances.last) there ∙ ap (λ (c : Content). c.seat.instances.last) kept))) (record {
-        number = rw there (is ∙ sym ready.decided);
+        number = rw there ready.decided;
         fits = rw there ready.fits;
-        messages = rw there (λ i u named has. ready.messages u (ap (value_at f.book.values) (some-same id i (sym is ∙ named))
-            ∙ ap (λ list. value_at list i) (sym values) ∙ has));
+        messages = rw there (λ u has. ready.messages u (ap (λ list. value_at list id) (sym values) ∙ has));
         posting = joins_posting count (ready.posting due.value (value_is id number)
             ∙ ap (λ (c : Content). batch_to_post c.seat.caster k due.value posted) kept);
       })
 
--- a prepared step that closes the instance k, with the room that was made for it, and what it makes of the seat
-pub record IsDelivery (a : Inside) (step : Step) (k : ℕ) (after : Seat → Value → Seat) : Type 0 where
-  pub may : IsAllowedIn a step
-  pub due : IsClosing (rehearsal_in a) step k
-  pub room : HasDeliveryRoom (rehearsal_in a) (fields_in a) step k a.prepared
+-- a step that closes the instance k with the value of this number, with the room that was made for it, and what it makes of the seat
+pub record IsDelivery (kept : Kept) (step : Step) (k id : ℕ) (posting : Option Batch) (after : Seat → Value → Seat) : Type 0 where
+  pub may : IsAllowedIn kept step
+  pub due : IsClosing (rehearsal_of kept) step k
+  pub room : HasDeliveryRoom (rehearsal_of kept) (fields_of kept) step k id posting
   pub quiet : line_change step ≡ Leaves
-  pub submitted : (after (seat_for (fields_in a) step) due.value).submitted ≡ (seat_for (fields_in a) step).submitted
-  pub keeps : (new : Seat) → content new ≡ content (after (seat_for (fields_in a) step) due.value) → Keeps a.group a.book.values
-      (actor step) (close (member (state_of (rehearsal_in a)) (actor step)) k due.value).member new
+  pub submitted : (after (seat_for (fields_of kept) step) due.value).submitted ≡ (seat_for (fields_of kept) step).submitted
+  pub keeps : (new : Seat) → content new ≡ content (after (seat_for (fields_of kept) step) due.value) → Keeps kept.group
+      kept.book.values (actor step) (close (member (state_of (rehearsal_of kept)) (actor step)) k due.value).member new
 
-module _ {a : Inside} {step : Step} {k : ℕ} {after : Seat → Value → Seat} (d : IsDelivery a step k after) where
+module _ {kept : Kept} {step : Step} {k id : ℕ} {posting : Option Batch} {after : Seat → Value → Seat}
+    (d : IsDelivery kept step k id posting after) where
   -- the fields after it
-  pub delivery_steps : {s : Seat} {v : Value} {f : Fields} (new : Seat) → s ≡ get_or a.seats.items (actor step - 1) s → v ≡ d.due.value
-      → content new ≡ content (after s v) → f.seats ≡ set a.seats.items (actor step - 1) new → f.network.sent ≡ a.network.sent
-      → f.network.lines ≡ a.network.lines → f.book.values ≡ a.book.values → IsWorld (extended (rehearsal_in a) step) f
+  pub delivery_steps : {s : Seat} {v : Value} {f : Fields} (new : Seat) → s ≡ get_or kept.seats.items (actor step - 1) s
+      → v ≡ d.due.value → content new ≡ content (after s v) → f.seats ≡ set kept.seats.items (actor step - 1) new
+      → f.network.sent ≡ kept.network.sent → f.network.lines ≡ kept.network.lines → f.book.values ≡ kept.book.values
+      → IsWorld (extended (rehearsal_of kept) step) f
   delivery_steps {s} new here value is seats sent lines values =
-      let same = is ∙ ap content (ap (after s) value ∙ ap (λ x. after x d.due.value) (seat_in a d.may here)) in
+      let same = is ∙ ap content (ap (after s) value ∙ ap (λ x. after x d.due.value) (seat_in kept d.may here)) in
       refined-quiet d.may.world d.due.taken (left-plain d.may.world.lined d.quiet sent lines) (record {
         seat = new;
         named = refl;
-        values = values ∙ sym (append-nil a.book.values);
+        values = values ∙ sym (append-nil kept.book.values);
         seats = seats;
         keeps = rw values (d.keeps new same);
         submitted = ap (λ (c : Content). c.seat.submitted) same ∙ d.submitted ∙ d.may.submitted;
       })
 
-  pub has_number : {o : Option ℕ} → o ≡ number_in a.prepared → is_some o ≡ true
-  has_number is = ap is_some (is ∙ d.room.number) ∙ has_decision d.may d.due
-
   -- the batch that it posts has a place
-  pub batch_low : {from : Option Prepared} (o : Option (Box Batch Global)) → option_map (λ b. b.value) o ≡ batch_in from →
-      from ≡ a.prepared → IfSome o (λ b. 1 ≤ b.value.instance)
-  batch_low o is from =
-      posting_low (rehearsal_in a) step (λ b. b.value) o (closed_lawful d.may d.due) (rw (is ∙ ap batch_in from) d.room.posting)
+  pub batch_low : (o : Option (Box Batch Global)) → option_map (λ b. b.value) o ≡ posting → IfSome o (λ b. 1 ≤ b.value.instance)
+  batch_low o is = posting_low (rehearsal_of kept) step (λ b. b.value) o (closed_lawful d.may d.due) (rw is d.room.posting)
 
   -- at the seat that an index gives
-  pub seat_fits : {s : Seat} → s ≡ get_or a.seats.items (actor step - 1) s → s.caster.fits_batch ≡ true
-  seat_fits here = ap (λ (s : Seat). s.caster.fits_batch) (seat_in a d.may here) ∙ d.room.fits
+  pub seat_fits : {s : Seat} → s ≡ get_or kept.seats.items (actor step - 1) s → s.caster.fits_batch ≡ true
+  seat_fits here = ap (λ (s : Seat). s.caster.fits_batch) (seat_in kept d.may here) ∙ d.room.fits
 
   -- the value of its number
-  module _ {o : Option ℕ} {id : ℕ} (from : o ≡ number_in a.prepared) (is : o ≡ Some id) where
-    numbered_value : value_at a.book.values id ≡ Some d.due.value
-    numbered_value = value_is d.may d.due id (sym d.room.number ∙ sym from ∙ is)
+  numbered_value : value_at kept.book.values id ≡ Some d.due.value
+  numbered_value = value_is d.may d.due id d.room.number
 
-    module _ (r : Option (Bor Value)) (got : option_copied r ≡ slice_get a.book.values id) where
-      pub value_there : is_some r ≡ true
-      value_there = sym (copied-some r (slice_get a.book.values id) got) ∙ ap is_some numbered_value
+  module _ (r : Option (Bor Value)) (got : option_copied r ≡ slice_get kept.book.values id) where
+    pub value_there : is_some r ≡ true
+    value_there = sym (copied-some r (slice_get kept.book.values id) got) ∙ ap is_some numbered_value
 
-      module _ {v : Bor Value} (there : r ≡ Some v) where
-        pub value_same : v.now ≡ d.due.value
-        value_same = some-same v.now d.due.value (sym (ap option_copied there) ∙ got ∙ numbered_value)
+    module _ {v : Bor Value} (there : r ≡ Some v) where
+      pub value_same : v.now ≡ d.due.value
+      value_same = some-same v.now d.due.value (sym (ap option_copied there) ∙ got ∙ numbered_value)
 
-        pub room_there : {s : Seat} → s ≡ get_or a.seats.items (actor step - 1) s → length v.now ≤ s.caster.room
-        room_there here = subst (λ (s : Seat). length v.now ≤ s.caster.room) (sym (seat_in a d.may here))
-            (d.room.messages id v.now (sym from ∙ is) (sym got ∙ ap option_copied there))
+      pub room_there : {s : Seat} → s ≡ get_or kept.seats.items (actor step - 1) s → length v.now ≤ s.caster.room
+      room_there here = subst (λ (s : Seat). length v.now ≤ s.caster.room) (sym (seat_in kept d.may here))
+          (d.room.messages v.now (sym got ∙ ap option_copied there))
 
--- what such a step posts, where the record has it at its end
-pub posted_in : (a : Inside) {v : WorldView} {step : Step} {k : ℕ} {after : Seat → Value → Seat} (cells : List ℕ)
-    {steps : List Step} {posting : Option Batch} (receipt : Option Posted) → view_in a ≡ v → IsDelivery a step k after → posting ≡ batch_in
-    a.prepared → IsSet cells posting receipt
-    → steps ≡ a.steps.items ++ step ∷ [] → HasPosted cells v.rehearsal (record (rehearsal_in a) { steps = steps }) receipt
-posted_in a {step = step} cells receipt view d is set pushed = rw (← view, pushed)
-    (has_posted cells (rehearsal_in a) step (batch_in a.prepared) receipt (closed_lawful d.may d.due) d.room.posting (rw is at set))
+-- what such a step posts
+pub posted_in : {kept : Kept} {step : Step} {k id : ℕ} {after : Seat → Value → Seat} (cells : List ℕ) {posting : Option Batch}
+    (receipt : Option Posted) {new : Rehearsal} → IsDelivery kept step k id posting after → new ≡ extended (rehearsal_of kept) step
+    → IsSet cells posting receipt → HasPosted cells (rehearsal_of kept) new receipt
+posted_in {kept = kept} {step = step} cells {posting = posting} receipt d extends set =
+    subst (λ w. HasPosted cells (rehearsal_of kept) w receipt) (sym extends)
+    (has_posted cells (rehearsal_of kept) step posting receipt (closed_lawful d.may d.due) d.room.posting set)

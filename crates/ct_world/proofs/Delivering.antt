@@ -1,5 +1,5 @@
 -- Deliver: why it is refused, by the seat, and the seat after it.
-use Rattle.std.proofs.Common.{arith, ◌≡◌, ℕ, ◌+◌, true, false, List, [], ◌∷◌, ◌++◌, length, refl, ap, sym, ◌∙◌, subst, Some, None}
+use Rattle.std.proofs.Common.{arith, ◌≡◌, ℕ, ◌+◌, true, false, List, [], ◌∷◌, ◌++◌, length, ap, sym, ◌∙◌, subst, Some, None}
 use Rattle.std.specs.Prelude.{nat_lt, is_some}
 use Rattle.ct_names.specs.declared.limit.Limit.TheVariants.{Instances, Cells}
 use Rattle.ct_names.specs.declared.limit.TheConstants.{MAX_INSTANCES}
@@ -21,10 +21,8 @@ use Rattle.ct_instances.proofs.Keeping.{keeps-closed}
 use Rattle.ct_world.specs.declared.seat.Seat.{Seat}
 use Rattle.ct_world.specs.Kept.{Fields, IsActor, delivery_cause, seat_of}
 use Rattle.ct_world.specs.Seats.{Keeps, content, with_delivery}
-use Rattle.ct_world.proofs.Deliveries.{IsClosing, IsDelivery, cause-delivery, closed_keeps, open_is, standing-there}
-use Rattle.ct_world.specs.declared.world.World.TheInside.{Inside}
-use Rattle.ct_world.specs.World.{WorldView}
-use Rattle.ct_world.proofs.Insides.{IsAllowed, IsKeptIn, prepared_in, ready_in, view_in}
+use Rattle.ct_world.proofs.Deliveries.{IsClosing, cause-delivery, closed_keeps, open_is, standing-there}
+use Rattle.ct_world.proofs.Insides.{IsAllowed}
 use Rattle.ct_world.proofs.Proposing.{open-same}
 use Rattle.ct_world.proofs.Rooms.{keeps-roomier}
 
@@ -71,17 +69,3 @@ module _ {w : Rehearsal} {p : ℕ} {f : Fields} (may : IsAllowed w (Deliver p) f
     decision = ap (decided (member (state_of w) p).got) last_is ∙ step.decision;
     taken = subst (λ k. IsTaken w (Deliver p) (close (member (state_of w) p) k step.value)) (sym last_is) step.taken;
   }
-
--- the step where it is prepared
-abbrev pub deliver_in : (a : Inside) {v : WorldView} {p : ℕ} → view_in a ≡ v → IsKeptIn a → v.prepared ≡ Some (Deliver p) →
-    IsDelivery a (Deliver p) (seat_of a.seats.items p).instances.last with_delivery
-deliver_in a view kept is =
-    let may = prepared_in a view kept is in
-    record {
-      may = may;
-      due = deliver_due may;
-      room = (ready_in a view kept is).for_itself;
-      quiet = refl;
-      submitted = refl;
-      keeps = λ new same. delivered_keeps (deliver_due may).value may.keeps same;
-    }

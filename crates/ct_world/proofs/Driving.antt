@@ -84,7 +84,7 @@ module _ (w : Rehearsal) (p : ℕ) (refusal : Refusal) (a : IsAbsent w p refusal
 -- as the look-up of the member's seat answers
 
 module _ (w : Rehearsal) (p : ℕ) where
-  abbrev IsLookUp : Result (Bor Seat) Refusal → Type 0
+  abbrev pub IsLookUp : Result (Bor Seat) Refusal → Type 0
   IsLookUp r = MatchResult r (λ seat. IsActor w p seat.now) (λ refusal. IsAbsent w p refusal)
 
   pub actor-of : (r : Result (Bor Seat) Refusal) (seat : Bor Seat) → IsLookUp r → result_ok r ≡ Some seat → IsActor w p seat.now

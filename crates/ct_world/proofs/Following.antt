@@ -1,5 +1,5 @@
 -- Follow: why it is refused, by the seat, and the seat after it.
-use Rattle.std.proofs.Common.{◌≡◌, ℕ, ◌+◌, ◌<◌, Bool, true, false, List, [], ◌∷◌, ◌++◌, refl, ap, sym, ◌∙◌, subst, arith, Some, None}
+use Rattle.std.proofs.Common.{◌≡◌, ℕ, ◌+◌, ◌<◌, Bool, true, false, List, [], ◌∷◌, ◌++◌, ap, sym, ◌∙◌, subst, arith, Some, None}
 use Rattle.std.specs.Prelude.{is_some, is_none}
 use Rattle.ct_names.specs.declared.limit.TheConstants.{MAX_INSTANCES}
 use Rattle.ct_names.specs.declared.refusal.Refusal.TheVariants.{Busy, Undecided}
@@ -20,10 +20,8 @@ use Rattle.ct_instances.proofs.Keeping.{keeps-followed}
 use Rattle.ct_world.specs.declared.seat.Seat.{Seat}
 use Rattle.ct_world.specs.Kept.{Fields, IsActor, delivery_cause, seat_of}
 use Rattle.ct_world.specs.Seats.{Keeps, content, with_batch, with_next}
-use Rattle.ct_world.proofs.Deliveries.{IsClosing, IsDelivery, cause-delivery, closed_keeps, open_is}
-use Rattle.ct_world.specs.declared.world.World.TheInside.{Inside}
-use Rattle.ct_world.specs.World.{WorldView}
-use Rattle.ct_world.proofs.Insides.{IsAllowed, IsKeptIn, prepared_in, ready_in, view_in}
+use Rattle.ct_world.proofs.Deliveries.{IsClosing, cause-delivery, closed_keeps, open_is}
+use Rattle.ct_world.proofs.Insides.{IsAllowed}
 use Rattle.ct_world.proofs.Proposing.{nothing-some, open-same}
 use Rattle.ct_world.proofs.Rooms.{keeps-roomier}
 
@@ -77,17 +75,3 @@ module _ {w : Rehearsal} {p : ℕ} {f : Fields} (may : IsAllowed w (Follow p) f)
     decision = ap (λ k. decided (member (state_of w) p).got (k + 1)) last_is ∙ step.decision;
     taken = subst (λ k. IsTaken w (Follow p) (close (member (state_of w) p) (k + 1) step.value)) (sym last_is) step.taken;
   }
-
--- the step where it is prepared
-abbrev pub follow_in : (a : Inside) {v : WorldView} {p : ℕ} → view_in a ≡ v → IsKeptIn a → v.prepared ≡ Some (Follow p) →
-    IsDelivery a (Follow p) ((seat_of a.seats.items p).instances.last + 1) (λ seat v. with_batch (with_next seat) v)
-follow_in a view kept is =
-    let may = prepared_in a view kept is in
-    record {
-      may = may;
-      due = follow_due may;
-      room = (ready_in a view kept is).for_itself;
-      quiet = refl;
-      submitted = refl;
-      keeps = λ new same. followed_keeps (follow_due may).value (follow_idle may) may.keeps same;
-    }

@@ -1,4 +1,5 @@
 pub mod Members
+pub mod Verdicts
 pub mod Refines
 pub mod Posting
 pub mod Meetings
@@ -19,6 +20,7 @@ pub mod Proposing
 pub mod Deliveries
 pub mod Delivering
 pub mod Following
+pub mod Closings
 pub mod Submitting
 pub mod Foremost
 pub mod SeatLists

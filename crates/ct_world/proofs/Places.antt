@@ -1,21 +1,17 @@
 -- The place of a serial in a line, and the line without it.
 use Rattle.std.proofs.Common.{subst, one-add, ◌≡◌, ℕ, suc, ◌+◌, ◌<◌, Bool, true, false, List, [], ◌∷◌, ◌++◌, length, refl, ap, sym, ◌∙◌}
-use Rattle.std.proofs.Common.{arith, Option, Some, None}
-use Rattle.std.specs.Prelude.{not, ◌==◌, ◌&&◌, ◌||◌, filter, position, remove, nat_lt, if◌then◌else◌, is_some, slice_index_or, Result, Ok}
-use Rattle.std.specs.Prelude.{Err}
+use Rattle.std.proofs.Common.{arith, Some, None}
+use Rattle.std.specs.Prelude.{not, ◌==◌, ◌&&◌, ◌||◌, filter, position, remove, nat_lt, if◌then◌else◌, is_some, slice_index_or}
 use Rattle.std.specs.List.{list_any, position_or_len}
 use Rattle.std.proofs.lemmas.Bool.Decides.{nat_tests}
 use Rattle.ct_names.specs.Group.{is_member}
-use Rattle.ct_names.specs.declared.refusal.Refusal.{Refusal}
-use Rattle.ct_model.specs.declared.step.Step.{Step}
-use Rattle.ct_model.specs.Cause.{cause}
 use Rattle.ct_model.specs.Rehearsal.{Rehearsal, line_of}
 use Rattle.ct_model.specs.Waiting.{has_serial}
 use Rattle.ct_model.specs.Lawful.{is_distinct}
 use Rattle.ct_model.proofs.Basics.Options.{some-same}
 use Rattle.ct_model.proofs.Basics.Tests.{and_right}
 use Rattle.ct_network.specs.Network.{line_at, place_of, put_last}
-use Rattle.ct_world.specs.Kept.{Fields, IsWorld, place_named, IsFound, IsUnless}
+use Rattle.ct_world.specs.Kept.{Fields, IsWorld}
 use Rattle.ct_world.proofs.Waits.{lined_member}
 
 step_place : (b : Bool) (l len : ℕ) (t : Bool) → nat_lt l len ≡ t → nat_lt (if (not b) then (1 + l) else 0) (suc len) ≡ (b || t)
@@ -98,9 +94,3 @@ module _ {w : Rehearsal} {f : Fields} (p k : ℕ) (world : IsWorld w f) (group :
   pub found_in : (if is_member (length f.network.lines) p then place_of k (line_at f.network.lines p) else None)
       ≡ place_of k (line_of w p)
   found_in = grind (arith, lined_member p world group)
-
--- the step is allowed at the place unless a limit is passed
-pub unless-found : (w : Rehearsal) (step : Step) {fault : Option Refusal} {i : Option ℕ} (found : Result (Option ℕ) Refusal)
-    → cause w step ≡ fault → i ≡ place_named w step → IsUnless fault i found → IsFound w step found
-unless-found w step (Ok j) is at h = record { allowed = is ∙ h.1; placed = h.0 ∙ at }
-unless-found w step (Err refusal) is at h = is ∙ h

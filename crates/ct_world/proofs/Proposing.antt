@@ -26,7 +26,6 @@ use Rattle.ct_instances.proofs.Named.{standing_is_some}
 use Rattle.ct_world.specs.declared.seat.Seat.{Seat}
 use Rattle.ct_world.specs.Seats.{Keeps}
 use Rattle.ct_world.specs.Kept.{Fields, IsWorld, IsActor, HasBeginRoom, seat_of}
-use Rattle.ct_world.specs.declared.prepared.Prepared.TheVariants as made
 use Rattle.ct_instances.specs.Kept.{has_room_open}
 use Rattle.ct_world.proofs.Insides.{IsAllowed}
 use Rattle.ct_world.proofs.Members.{seat-same}
@@ -157,11 +156,11 @@ module _ {w : Rehearsal} {p : ℕ} {f : Fields} (may : IsAllowed w (Begin p) f) 
 -- the room that was made for a Begin
 pub begin_room : (w : Rehearsal) (seats : List Seat) (p : ℕ) (seat : Seat) {v : Value} {new : Fields} → p - 1 < length seats
     → new.seats ≡ set seats (p - 1) seat → v ≡ take w.setting.bound (cast_undelivered seat.caster) → has_room_open seat.instances
-    (seat.instances.last + 1) ≡ true → 0 < new.book.room → HasBeginRoom w new p (Some (made.Begin p v))
+    (seat.instances.last + 1) ≡ true → 0 < new.book.room → HasBeginRoom w new p v
 begin_room w seats p seat {v} {new} within set_is value entry room =
     let here : seat_of new.seats p ≡ seat = ap (λ list. seat_of list p) set_is ∙ seat-same seats p seat within in
     record {
-      proposal = ap Some (value ∙ ap (λ (s : Seat). take w.setting.bound (cast_undelivered s.caster)) (sym here));
+      proposal = value ∙ ap (λ (s : Seat). take w.setting.bound (cast_undelivered s.caster)) (sym here);
       book = room;
       entry = rw here entry;
     }

@@ -1,6 +1,6 @@
 -- What waits at a member: its envelope, in the record and in the network.
 use Rattle.std.proofs.Common.{◌≡◌, ℕ, zero, suc, ◌-◌, ◌≤◌, true, false, List, length, slice_get, Some, ap, sym, ◌∙◌, subst, arith}
-use Rattle.std.specs.Prelude.{◌==◌, Option, is_some}
+use Rattle.std.specs.Prelude.{◌==◌, Option, is_some, option_map}
 use Rattle.std.specs.Option.{option_map_or}
 use Rattle.ct_names.specs.Group.{is_member}
 use Rattle.ct_model.specs.AtValue.{Wire, Envelope}
@@ -17,11 +17,11 @@ use Rattle.ct_model.proofs.Basics.Options.{some-same}
 use Rattle.ct_model.proofs.Consensus.Sent.{get-wire}
 use Rattle.ct_instances.specs.Named.{NamesEnvelope}
 use Rattle.ct_instances.proofs.Named.{named_back}
-use Rattle.ct_world.specs.Kept.{Fields, IsWorld}
+use Rattle.ct_world.specs.Kept.{Fields, IsWorld, IsReady, fields_of, rehearsal_of}
+use Rattle.ct_world.specs.Prepared.{step_in}
 use Rattle.ct_world.specs.World.{WorldView}
 use Rattle.ct_world.specs.declared.world.World.TheInside.{Inside}
 use Rattle.ct_model.proofs.Record.Addressees.{sender_named}
-use Rattle.ct_world.proofs.Insides.{IsKeptIn, view_in, fields_in}
 use Rattle.ct_world.proofs.Receipts.{IsKnown, known_name}
 use Rattle.ct_world.proofs.Shown.{without_value_at}
 use Rattle.ct_model.specs.Next.{wire_to}
@@ -77,9 +77,13 @@ module _ {w : Rehearsal} {f : Fields} (p k : ℕ) (world : IsWorld w f) (waits :
   pub awaited-is : {x : AnyEnvelope ℕ} → at_serial f.network.sent k ≡ Some x → IsAwaited w f p k x
   awaited-is {x} is = subst (λ y. IsAwaited w f p k y) (some-same awaited.0 x (sym awaited.1.there ∙ is)) awaited.1
 
+-- what contracts see of a world
+abbrev pub view_in : Inside → WorldView
+view_in a = record { rehearsal = rehearsal_of a.kept; prepared = option_map step_in a.prepared }
+
 -- the world that a call sees
-pub world_seen : (a : Inside) {v : WorldView} → view_in a ≡ v → IsKeptIn a → IsWorld v.rehearsal (fields_in a)
-world_seen a view kept = subst (λ (x : WorldView). IsWorld x.rehearsal (fields_in a)) view kept.world
+pub world_seen : (a : Inside) {v : WorldView} → view_in a ≡ v → IsReady a.kept a.prepared → IsWorld v.rehearsal (fields_of a.kept)
+world_seen a view ready = subst (λ (x : WorldView). IsWorld x.rehearsal (fields_of a.kept)) view ready.sound
 
 -- a serial was sent to p where its envelope in the network goes to p
 module _ {w : Rehearsal} {f : Fields} (p k : ℕ) (world : IsWorld w f) where

@@ -1,21 +1,20 @@
 -- What a world keeps, and how it follows from the record.
 use Rattle.std.specs.Prelude.{◌≡◌, ℕ, ◌+◌, ◌-◌, ◌<◌, ◌≤◌, true, List, length, map, Option, Some, None, Result, MatchResult}
-use Rattle.std.specs.Prelude.{[], ◌∷◌, is_none, nat_lt, slice_index_or, option_map, take}
+use Rattle.std.specs.Prelude.{[], ◌∷◌, is_none, nat_lt, slice_index_or, option_map, take, unwrap_or, vec_capacity, vec_len}
 use Rattle.ct_names.specs.declared.limit.Limit.TheVariants.{Instances, Cells}
 use Rattle.ct_names.specs.declared.limit.TheConstants.{MAX_BOUND, MAX_CELLS, MAX_INSTANCES, MAX_MEMBERS}
 use Rattle.ct_names.specs.Group.{is_member}
+use Rattle.ct_names.specs.Batch.{Batch}
 use Rattle.ct_names.specs.Book.{Contents}
 use Rattle.ct_names.specs.Value.{Value}
 use Rattle.ct_names.specs.declared.refusal.Refusal.{Refusal}
-use Rattle.ct_names.specs.declared.refusal.Refusal.TheVariants.{Undecided, Full}
+use Rattle.ct_names.specs.declared.refusal.Refusal.TheVariants.{OutOfMemory, Undecided, Full}
 use Rattle.ct_model.specs.declared.step.Step.{Step}
-use Rattle.ct_model.specs.declared.step.Step.TheVariants.{Receive, Begin, Deliver, Follow}
+use Rattle.ct_model.specs.declared.step.Step.TheVariants as step
 use Rattle.ct_model.specs.Actor.{actor}
 use Rattle.ct_model.specs.declared.envelope.Envelope.{Envelope as AnyEnvelope}
 use Rattle.ct_model.specs.State.{State, member, submissions, at_serial}
 use Rattle.ct_model.specs.Setting.{Setting}
-use Rattle.ct_model.specs.Waiting.{LineChange, line_change}
-use Rattle.ct_model.specs.Waiting.LineChange.{Takes, Defers}
 use Rattle.ct_model.specs.Rehearsal.{Rehearsal, state_of, line_of, extended}
 use Rattle.ct_model.specs.Cause.{at, cause, presence, first_fault, or_else, order, overflow}
 use Rattle.ct_model.specs.Lawful.{IsLawful, IsPresent}
@@ -25,18 +24,20 @@ use Rattle.ct_network.specs.Network.{NetworkView, line_at, place_of}
 use Rattle.ct_abcast.specs.Cast.{undelivered}
 use Rattle.ct_instances.specs.Kept.{decision_at, has_room_open}
 use Rattle.ct_instances.specs.Named.{value_at, NamesEnvelopes}
+use Rattle.ct_world.specs.declared.kept.Kept.{Kept}
 use Rattle.ct_world.specs.declared.prepared.Prepared.{Prepared}
+use Rattle.ct_world.specs.declared.prepared.Prepared.TheVariants.{Receive, Begin, Close, Postpone, Lose}
 use Rattle.ct_world.specs.declared.seat.Seat.{Seat}
-use Rattle.ct_world.specs.Prepared.{step_in, place_in, proposal_in, number_in, batch_in}
+use Rattle.ct_world.specs.Closing.{closed_instance, closing_step}
+use Rattle.ct_world.specs.Prepared.{step_in}
 use Rattle.ct_world.specs.Seats.{Keeps, CanReceive, new_seat}
+use Rattle.ct_world.specs.World.{IsDone}
 
--- the fields of a world besides its record: the network, the values by number, the seats, and how many more steps there
--- is room for
+-- the fields of a world besides its record: the network, the values by number, and the seats
 pub record Fields : Type 0 where
   pub network : NetworkView
   pub book : Contents
   pub seats : List Seat
-  pub spare_steps : ℕ
 
 -- the values proposed, in order
 abbrev pub values_of : State → List Value
@@ -70,35 +71,40 @@ pub record IsWorld (w : Rehearsal) (f : Fields) : Type 0 where
       Keeps w.setting.members f.book.values p (member (state_of w) p) (seat_of f.seats p)
   pub submitted : (p : ℕ) → is_member w.setting.members p ≡ true → (seat_of f.seats p).submitted ≡ submissions (state_of w).submitted p
 
--- the place of the serial that the step takes or moves in its line; None where it does neither
-abbrev pub place_at : Rehearsal → LineChange → Option ℕ
-place_at w (Takes p k) = place_of k (line_of w p)
-place_at w (Defers p k) = place_of k (line_of w p)
-place_at w _ = None
+-- the record
+abbrev pub rehearsal_of : Kept → Rehearsal
+rehearsal_of k = record { setting = record { members = k.group; bound = k.bound }; cells = k.cells; steps = k.steps.items }
 
-abbrev pub place_named : Rehearsal → Step → Option ℕ
-place_named w step = place_at w (line_change step)
+-- and the other fields
+abbrev pub fields_of : Kept → Fields
+fields_of k = record { network = k.network; book = k.book; seats = k.seats.items }
 
--- the step is allowed, and its serial stands at this place, if it takes or moves one
-pub record IsAllowedAt (w : Rehearsal) (step : Step) (place : Option ℕ) : Type 0 where
+-- what is kept is what the record led to
+abbrev pub IsSound : Kept → Type 0
+IsSound k = IsWorld (rehearsal_of k) (fields_of k)
+
+-- there is no refusal, or this one
+abbrev pub IsVerdict : Option Refusal → Result (Unit {0}) Refusal → Type 0
+IsVerdict fault tested = MatchResult tested (λ _. fault ≡ None) (λ refusal. fault ≡ Some refusal)
+
+-- the step is allowed, and the serial waits at this place in the line of p
+pub record IsFoundAt (w : Rehearsal) (step : Step) (p k place : ℕ) : Type 0 where
   pub allowed : cause w step ≡ None
-  pub placed : place ≡ place_named w step
+  pub placed : place_of k (line_of w p) ≡ Some place
 
--- the place where the step is allowed, or why it isn't
-abbrev pub IsFound : Rehearsal → Step → Result (Option ℕ) Refusal → Type 0
-IsFound w step found = MatchResult found (λ place. IsAllowedAt w step place) (λ refusal. cause w step ≡ Some refusal)
+-- the place where it waits, or why the step isn't allowed
+abbrev pub IsFound : Kept → Step → ℕ → ℕ → Result ℕ Refusal → Type 0
+IsFound kept step p k found = MatchResult found (λ place. IsFoundAt (rehearsal_of kept) step p k place)
+    (λ refusal. cause (rehearsal_of kept) step ≡ Some refusal)
 
--- the place, unless there is a refusal
-abbrev pub IsUnless : Option Refusal → Option ℕ → Result (Option ℕ) Refusal → Type 0
-IsUnless fault place found = MatchResult found (λ i. (i ≡ place) × (fault ≡ None)) (λ refusal. fault ≡ Some refusal)
+-- the serial waits at this place, and p can receive its wire
+pub record HasReceiveRoom (w : Rehearsal) (f : Fields) (p k place : ℕ) : Type 0 where
+  pub placed : place_of k (line_of w p) ≡ Some place
+  pub can : (x : AnyEnvelope ℕ) → at_serial f.network.sent k ≡ Some x → CanReceive (seat_of f.seats p) x.wire
 
--- p can receive the wire of the serial
-abbrev pub HasReceiveRoom : Fields → ℕ → ℕ → Type 0
-HasReceiveRoom f p k = (x : AnyEnvelope ℕ) → at_serial f.network.sent k ≡ Some x → CanReceive (seat_of f.seats p) x.wire
-
--- p can begin its next instance, with the proposal that is kept
-pub record HasBeginRoom (w : Rehearsal) (f : Fields) (p : ℕ) (prepared : Option Prepared) : Type 0 where
-  pub proposal : proposal_in prepared ≡ Some (take w.setting.bound (undelivered (seat_of f.seats p).caster))
+-- p can begin its next instance, with this proposal
+pub record HasBeginRoom (w : Rehearsal) (f : Fields) (p : ℕ) (v : Value) : Type 0 where
+  pub proposal : v ≡ take w.setting.bound (undelivered (seat_of f.seats p).caster)
   pub book : 0 < f.book.room
   pub entry : has_room_open (seat_of f.seats p).instances ((seat_of f.seats p).instances.last + 1) ≡ true
 
@@ -106,44 +112,61 @@ pub record HasBeginRoom (w : Rehearsal) (f : Fields) (p : ℕ) (prepared : Optio
 abbrev pub seat_for : Fields → Step → Seat
 seat_for f step = seat_of f.seats (actor step)
 
--- the step can deliver the value of the number that is kept, its member's decision for the instance k, and posts the batch
--- that is kept
-pub record HasDeliveryRoom (w : Rehearsal) (f : Fields) (step : Step) (k : ℕ) (prepared : Option Prepared) : Type 0 where
-  pub number : number_in prepared ≡ decision_at (seat_for f step).instances k
+-- the step can deliver the value of this number, its member's decision for the instance k, and posts this batch
+pub record HasDeliveryRoom (w : Rehearsal) (f : Fields) (step : Step) (k id : ℕ) (batch : Option Batch) : Type 0 where
+  pub number : decision_at (seat_for f step).instances k ≡ Some id
   pub fits : (seat_for f step).caster.fits_batch ≡ true
-  pub messages : (id : ℕ) (v : Value) → number_in prepared ≡ Some id → value_at f.book.values id ≡ Some v →
-      length v ≤ (seat_for f step).caster.room
-  pub posting : Joins (order (state_of w)) (order (state_of (extended w step))) (batch_in prepared)
-
--- the step needs no room of its own
-abbrev pub NeedsNoRoom : Step → Type 0
-NeedsNoRoom (Receive p k) = ⊥
-NeedsNoRoom (Begin p) = ⊥
-NeedsNoRoom (Deliver p) = ⊥
-NeedsNoRoom (Follow p) = ⊥
-NeedsNoRoom _ = Unit {0}
+  pub messages : (v : Value) → value_at f.book.values id ≡ Some v → length v ≤ (seat_for f step).caster.room
+  pub posting : Joins (order (state_of w)) (order (state_of (extended w step))) batch
 
 -- what was made for this step alone
-abbrev pub HasOwnRoom : Rehearsal → Fields → Step → Option Prepared → Type 0
-HasOwnRoom w f (Receive p k) prepared = HasReceiveRoom f p k
-HasOwnRoom w f (Begin p) prepared = HasBeginRoom w f p prepared
-HasOwnRoom w f (Deliver p) prepared = HasDeliveryRoom w f (Deliver p) (seat_of f.seats p).instances.last prepared
-HasOwnRoom w f (Follow p) prepared = HasDeliveryRoom w f (Follow p) ((seat_of f.seats p).instances.last + 1) prepared
-HasOwnRoom w f _ prepared = Unit {0}
+abbrev pub HasOwnRoom : Rehearsal → Fields → Prepared → Type 0
+HasOwnRoom w f (Receive p k place) = HasReceiveRoom w f p k place
+HasOwnRoom w f (Begin p v) = HasBeginRoom w f p v
+HasOwnRoom w f (Close c p id batch) = HasDeliveryRoom w f (closing_step c p) (closed_instance c (seat_of f.seats p).instances.last) id
+    (option_map (λ b. b.value) batch)
+HasOwnRoom w f (Postpone p k place) = place_of k (line_of w p) ≡ Some place
+HasOwnRoom w f (Lose p k place) = place_of k (line_of w p) ≡ Some place
+HasOwnRoom w f _ = Unit {0}
 
--- the step is allowed, its serial stands at the place that is kept, and there is room for the step in the record, for what it
--- may send, and what it alone needs
-pub record IsReady (w : Rehearsal) (step : Step) (prepared : Option Prepared) (f : Fields) : Type 0 where
-  pub allowed : cause w step ≡ None
-  pub placed : place_in prepared ≡ place_named w step
-  pub for_step : 0 < f.spare_steps
-  pub for_sending : f.network.has_room ≡ true
-  pub for_itself : HasOwnRoom w f step prepared
+-- the step is allowed, and there is room for it in the record, for what it may send, and what it alone needs
+pub record HasRoom (kept : Kept) (room : Prepared) : Type 0 where
+  pub allowed : cause (rehearsal_of kept) (step_in room) ≡ None
+  pub for_step : vec_len kept.steps < vec_capacity kept.steps
+  pub for_sending : kept.network.has_room ≡ true
+  pub for_itself : HasOwnRoom (rehearsal_of kept) (fields_of kept) room
 
--- the fields of a world
-pub record IsKept (w : Rehearsal) (prepared : Option Prepared) (f : Fields) : Type 0 where
-  pub world : IsWorld w f
-  pub ready : (step : Step) → option_map step_in prepared ≡ Some step → IsReady w step prepared f
+-- the step is allowed, its serial waits at the place that was found, if it takes or moves one, and it needs no more
+abbrev pub NeedsNoMore : Rehearsal → Prepared → Type 0
+NeedsNoMore w (Receive p k place) = ⊥
+NeedsNoMore w (Begin p v) = ⊥
+NeedsNoMore w (Close c p id batch) = ⊥
+NeedsNoMore w (Postpone p k place) = IsFoundAt w (step.Postpone p k) p k place
+NeedsNoMore w (Lose p k place) = IsFoundAt w (step.Lose p k) p k place
+NeedsNoMore w room = cause w (step_in room) ≡ None
+
+-- room for this step
+pub record IsRoomFor (kept : Kept) (step : Step) (room : Prepared) : Type 0 where
+  pub named : step_in room ≡ step
+  pub ready : HasRoom kept room
+
+-- room was made for the step, or it was refused by its cause or for want of memory; the record stayed, and what follows from it
+pub record MakesRoom (old : Kept) (step : Step) (new : Kept) (made : Result Prepared Refusal) : Type 0 where
+  pub same : rehearsal_of new ≡ rehearsal_of old
+  pub sound : IsSound new
+  pub outcome : MatchResult made (λ room. IsRoomFor new step room)
+      (λ refusal. refusal ≡ unwrap_or (cause (rehearsal_of old) step) OutOfMemory)
+
+-- the step is done, which posts nothing
+pub record Does (old : Kept) (step : Step) (new : Kept) (sent : ℕ) : Type 0 where
+  pub done : IsDone (rehearsal_of old) step (rehearsal_of new) sent
+  pub still : order (state_of (rehearsal_of new)) ≡ order (state_of (rehearsal_of old))
+  pub sound : IsSound new
+
+-- what is kept of a world, and the room for the prepared step
+pub record IsReady (kept : Kept) (prepared : Option Prepared) : Type 0 where
+  pub sound : IsSound kept
+  pub ready : (room : Prepared) → prepared ≡ Some room → HasRoom kept room
 
 -- this is the seat of a member of the group
 pub record IsSeatOf (w : Rehearsal) (p : ℕ) (seat : Seat) : Type 0 where

@@ -1,5 +1,6 @@
 pub mod World
 pub mod Seats
+pub mod Closing
 pub mod Prepared
 pub mod Kept
 pub mod Posting

@@ -2,7 +2,9 @@
 //! algorithm that ends in this world.
 #![tactic(auto)]
 
+mod closing;
 mod effect;
+mod kept;
 mod letter;
 mod outcome;
 mod prepared;

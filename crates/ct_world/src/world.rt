@@ -8,8 +8,8 @@ ghost use Rattle.ct_model.specs.Run.{run};
 ghost use Rattle.ct_model.specs.Safe.{IsSafe};
 ghost use Rattle.ct_world.specs.Replay.{world_after};
 
+use crate::kept::Kept;
 use crate::prepared::Prepared;
-use crate::seat::Seat;
 use crate::seats;
 use ct_model::Step;
 use ct_names::{Book, Group, MAX_BOUND, MAX_CELLS, MAX_STEPS, Refusal};
@@ -18,63 +18,39 @@ use std::alloc::Global;
 use std::marker::Model;
 
 mod applying;
-mod begin;
 mod copying;
-mod crash;
 mod deciding;
-mod deliver;
-mod delivering;
 mod enabling;
-mod follow;
-mod lose;
 mod meeting;
 mod next_local;
 mod outcome;
-mod postpone;
-mod preparing;
 mod reading;
-mod receive;
-mod repeat;
 mod replaying;
-mod round;
 mod standing;
-mod submit;
 
 /// A group's network, its members and their crash marks, and the record of the steps that led there. Every world's
 /// record is a run of the algorithm that ends in this world (Chandra and Toueg, sections 4, 6.2 and 7), whatever was
 /// asked of it; what is not allowed is refused and changes nothing.
 #[derive(Drop)]
 pub struct World {
-    group: Group,
-    cells: u16,
-    bound: u32,
-    steps: Vec<Step>,
-    network: Network,
-    // The values proposed, in order.
-    book: Book,
-    seats: Vec<Seat>,
+    kept: Kept,
+    // The step that room was made for.
     prepared: Option<Prepared>,
-    alloc: Global,
 }
 
 // Contracts see what is fixed, the record of steps, and the prepared step. All else follows from the record.
 impl Model for World {
-    ghost use Rattle.std.specs.Prelude.{◌-◌, option_map, vec_len, vec_capacity};
+    ghost use Rattle.std.specs.Prelude.{option_map};
     ghost use Rattle.ct_world.specs.Prepared.{step_in};
     ghost use Rattle.ct_world.specs.World.{WorldView};
 
     ghost Value = { WorldView };
 
-    ghost use Rattle.ct_world.specs.Kept.{IsKept};
+    ghost use Rattle.ct_world.specs.Kept.{IsReady, rehearsal_of};
 
-    ghost view = { λ a. record {
-      rehearsal = record { setting = record { members = a.group; bound = a.bound }; cells = a.cells; steps = a.steps.items };
-      prepared = option_map step_in a.prepared;
-    } };
+    ghost view = { λ a. record { rehearsal = rehearsal_of a.kept; prepared = option_map step_in a.prepared } };
 
-    ghost invariant = { λ a. IsKept
-        (record { setting = record { members = a.group; bound = a.bound }; cells = a.cells; steps = a.steps.items }) a.prepared
-        (record { network = a.network; book = a.book; seats = a.seats.items; spare_steps = vec_capacity a.steps - vec_len a.steps }) };
+    ghost invariant = { λ a. IsReady a.kept a.prepared };
 }
 
 impl World {
@@ -94,15 +70,17 @@ impl World {
             return Err(Refusal::OutOfMemory);
         };
         Ok(World {
-            group,
-            cells,
-            bound,
-            steps: Vec::new(alloc),
-            network,
-            book: Book::new(alloc),
-            seats,
+            kept: Kept {
+                group,
+                cells,
+                bound,
+                steps: Vec::new(alloc),
+                network,
+                book: Book::new(alloc),
+                seats,
+                alloc,
+            },
             prepared: None,
-            alloc,
         })
     }
 
@@ -110,7 +88,7 @@ impl World {
     pub fn group(&self) -> Group
         ensures { result ≡ self.now.rehearsal.setting.members }
     {
-        self.group
+        self.kept.group
     }
 
     /// The number of cells for batches.
@@ -118,7 +96,7 @@ impl World {
         ensures value { result ≡ self.now.rehearsal.cells }
         ensures few { result ≤ MAX_CELLS }
     {
-        self.cells
+        self.kept.cells
     }
 
     /// How many messages a member proposes at most for an instance.
@@ -127,7 +105,7 @@ impl World {
         ensures some { 1 ≤ result }
         ensures few { result ≤ MAX_BOUND }
     {
-        self.bound
+        self.kept.bound
     }
 
     /// The steps so far, in order: a run, of at most 1,000,000 steps, that passes no limit. What waits at a member are the
@@ -143,7 +121,7 @@ impl World {
         ensures lawful { IsLawful self.now.rehearsal }
         ensures safe { IsSafe self.now.rehearsal.setting (state_of self.now.rehearsal) }
     {
-        &self.steps
+        &self.kept.steps
     }
 
     /// The step that room was made for, and that `commit` does. It is allowed.

@@ -1,15 +1,17 @@
 //! What a member delivers.
 
-ghost use Rattle.std.specs.Prelude.{◌≡◌, ◌+◌, ◌<◌, ◌≤◌, ◌++◌, ◌∷◌, [], true, length, is_some, IfOk, None, option_and_then, option_map};
+ghost use Rattle.std.specs.Prelude.{◌≡◌, ◌≤◌, ◌++◌, ◌∷◌, [], true, length, is_some, IfOk, option_and_then, option_map};
 ghost use Rattle.ct_abcast.specs.Cast.{batch_of};
 ghost use Rattle.ct_instances.specs.Kept.{decision_at};
 ghost use Rattle.ct_instances.specs.Named.{value_at};
 ghost use Rattle.ct_table.specs.Table.{applied_all};
+ghost use Rattle.ct_world.specs.Closing.{CanClose, CanFollow, with_closed};
 ghost use Rattle.ct_world.specs.Seats.{IsDeliverable, batch_to_post, content, with_batch, with_delivery, with_next};
 
+use crate::closing::Closing;
 use crate::seat::Seat;
 use ct_abcast::{Batch, Caster};
-use ct_names::{Book, Instance, MAX_INSTANCES, MsgSet, ValueId};
+use ct_names::{Book, Instance, MsgSet, ValueId};
 use ct_table::Table;
 use std::alloc::{AllocError, Global};
 
@@ -54,8 +56,21 @@ impl Seat {
         Ok(Some(Box::new(alloc, batch)?))
     }
 
-    /// The member delivers the value for its open instance, and closes it.
-    pub fn deliver(&mut self, value: &MsgSet)
+    /// The member delivers the value, and closes the instance.
+    pub fn close(&mut self, closing: Closing, value: &MsgSet)
+        requires there { CanClose closing self.old }
+        requires fits { self.old.caster.fits_batch ≡ true }
+        requires room { length value.now ≤ self.old.caster.room }
+        ensures { content self.new ≡ content (with_closed closing self.old value.now) }
+    {
+        match closing {
+            Closing::Open => self.deliver(value),
+            Closing::Next => self.follow(value),
+        }
+    }
+
+    // The member delivers the value for its open instance, and closes it.
+    fn deliver(&mut self, value: &MsgSet)
         requires open { is_some self.old.instances.part ≡ true }
         requires fits { self.old.caster.fits_batch ≡ true }
         requires room { length value.now ≤ self.old.caster.room }
@@ -65,11 +80,9 @@ impl Seat {
         self.instances.close();
     }
 
-    /// The member, which has none open, begins its next instance, delivers the value for it, and closes it at once.
-    pub fn follow(&mut self, value: &MsgSet)
-        requires idle { self.old.instances.part ≡ None }
-        requires decided { is_some (decision_at self.old.instances (self.old.instances.last + 1)) ≡ true }
-        requires few { self.old.caster.instance < MAX_INSTANCES }
+    // The member, which has none open, begins its next instance, delivers the value for it, and closes it at once.
+    fn follow(&mut self, value: &MsgSet)
+        requires there { CanFollow self.old }
         requires fits { self.old.caster.fits_batch ≡ true }
         requires room { length value.now ≤ self.old.caster.room }
         ensures { content self.new ≡ content (with_batch (with_next self.old) value.now) }

@@ -2,6 +2,7 @@
 
 ghost use Rattle.std.specs.Prelude.{◌≡◌, None, IfOk, IfErr};
 
+use crate::kept::Kept;
 use crate::seats;
 use crate::world::World;
 use ct_names::Refusal;
@@ -22,16 +23,19 @@ impl World {
     fn copy_fields(&self, alloc: Global) -> Result<World, AllocError>
         ensures { IfOk result (λ world. world ≡ record self.now { prepared = None }) }
     {
+        let kept = &self.kept;
         Ok(World {
-            group: self.group,
-            cells: self.cells,
-            bound: self.bound,
-            steps: Vec::from_slice(alloc, &self.steps)?,
-            network: self.network.copy(alloc)?,
-            book: self.book.copy(alloc)?,
-            seats: seats::copy_seats(alloc, &self.seats)?,
+            kept: Kept {
+                group: kept.group,
+                cells: kept.cells,
+                bound: kept.bound,
+                steps: Vec::from_slice(alloc, &kept.steps)?,
+                network: kept.network.copy(alloc)?,
+                book: kept.book.copy(alloc)?,
+                seats: seats::copy_seats(alloc, &kept.seats)?,
+                alloc,
+            },
             prepared: None,
-            alloc,
         })
     }
 }

@@ -30,6 +30,7 @@ impl World {
         ensures read_more { length (order (state_of self.now.rehearsal)) < watcher.old.read → IsErr result }
         ensures told_more { length (order (state_of self.now.rehearsal)) < watcher.old.told → IsErr result }
     {
+        // For its clause: the record is a run, so that the batch at each place is of the instance of that number.
         let _ = self.record();
         let first = self.foremost();
         let posted = first.caster.batches();

@@ -21,7 +21,7 @@ impl World {
     pub fn next_local(&self, member: Member) -> Option<Step>
         ensures { result ≡ next_local self.now.rehearsal member }
     {
-        let seat = self.actor(member).ok()?;
+        let seat = self.kept.actor(member).ok()?;
         let choice = best_heard(&seat.instances).map(|from| Step::Choose(member, from));
         self.first_allowed(&[
             Some(Step::Deliver(member)),
@@ -43,7 +43,7 @@ impl World {
             .iter()
             .copied()
             .flatten()
-            .find(|step| self.cause(step).is_none())
+            .find(|step| self.enabled(step).is_ok())
     }
 }
 

@@ -24,14 +24,14 @@ impl World {
     pub fn sent(&self) -> u32
         ensures { result ≡ length (state_of self.now.rehearsal).sent }
     {
-        self.network.sent() as u32
+        self.kept.network.sent() as u32
     }
 
     /// The envelope of a serial, without its value; None where that was not sent.
     pub fn letter(&self, serial: Serial) -> Option<Letter>
         ensures { result ≡ option_map without_value (at_serial (state_of self.now.rehearsal).sent serial) }
     {
-        match self.network.envelope(serial) {
+        match self.kept.network.envelope(serial) {
             Some(envelope) => Some(envelope.without_value()),
             None => None,
         }
@@ -43,8 +43,8 @@ impl World {
         ensures { option_map (λ list. list.now) result ≡ option_and_then (λ e. value_of e.wire)
             (at_serial (state_of self.now.rehearsal).sent serial) }
     {
-        let envelope = self.network.envelope(serial)?;
-        let set = self.book.get(envelope.wire.value()?)?;
+        let envelope = self.kept.network.envelope(serial)?;
+        let set = self.kept.book.get(envelope.wire.value()?)?;
         Some(set.items())
     }
 
@@ -52,7 +52,7 @@ impl World {
     pub fn waiting(&self, member: Member) -> Option<&[Serial]>
         ensures { option_map (λ line. line.now) result ≡ of_member self.now.rehearsal member (line_of self.now.rehearsal member) }
     {
-        self.network.line(member)
+        self.kept.network.line(member)
     }
 
     /// The messages that a member received, in order of first receipt; None for no member of the group.
@@ -89,7 +89,7 @@ impl World {
             (decided (member_of self.now.rehearsal member).got instance) }
     {
         let seat = self.seat(member)?;
-        let set = self.book.get(seat.instances.decided(instance)?)?;
+        let set = self.kept.book.get(seat.instances.decided(instance)?)?;
         Some(set.items())
     }
 
@@ -144,8 +144,7 @@ impl World {
         ensures there { is_some result ≡ is_member self.now.rehearsal.setting.members member }
         ensures seat { IfSome result (λ seat. IsSeatOf self.now.rehearsal member seat.now) }
     {
-        let place = (member as usize).checked_sub(1)?;
-        self.seats.get(place)
+        self.kept.seat(member)
     }
 
     // The seat of the least of the members that delivered most batches.
@@ -153,12 +152,6 @@ impl World {
         ensures value { result.now.caster.batches ≡ map (λ b. b.messages) (order (state_of self.now.rehearsal)) }
         ensures few { length result.now.caster.batches ≤ MAX_CELLS }
     {
-        let mut best = 0;
-        for i in 1..usize::from(self.group.n()) {
-            if self.seats[best].caster.batches() < self.seats[i].caster.batches() {
-                best = i;
-            }
-        }
-        &self.seats[best]
+        self.kept.foremost()
     }
 }

@@ -48,6 +48,7 @@ impl World {
                 return Err(ReplayFault { at: i + 1, refusal });
             }
         }
+        // For its clauses: the record is a run, and the state is safe.
         let _ = world.record();
         Ok((world, board))
     }

@@ -16,7 +16,7 @@ impl World {
     {
         let seat = self.seat(member)?;
         let part = seat.instances.current()?;
-        let set = self.book.get(part.estimate())?;
+        let set = self.kept.book.get(part.estimate())?;
         Some((set.items(), part.ts()))
     }
 
@@ -31,7 +31,7 @@ impl World {
         let inbox = seat.instances.inbox()?;
         let value = inbox.estimate(round, from)?;
         let ts = inbox.ts(round, from)?;
-        let set = self.book.get(value)?;
+        let set = self.kept.book.get(value)?;
         Some((set.items(), ts))
     }
 

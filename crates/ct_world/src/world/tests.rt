@@ -18,7 +18,7 @@ fn end(_world: World) {}
 
 // The number of the value that the envelope carries.
 fn number_of(world: &World, serial: u32) -> Option<ValueId> {
-    match world.network.envelope(serial) {
+    match world.kept.network.envelope(serial) {
         Some(envelope) => envelope.wire.value(),
         None => None,
     }
@@ -26,7 +26,7 @@ fn number_of(world: &World, serial: u32) -> Option<ValueId> {
 
 // Whether the value of this number is that message alone.
 fn is_alone(world: &World, number: ValueId, message: Message) -> bool {
-    match world.book.get(number) {
+    match world.kept.book.get(number) {
         Some(set) => set.items() == [message].as_slice(),
         None => false,
     }
@@ -61,6 +61,6 @@ fn equal_values_have_their_own_numbers(rt: HostRuntime) {
     for number in numbers {
         assert!(rt; is_alone(&world, number, seven));
     }
-    assert_eq!(rt; world.book.len(), 2);
+    assert_eq!(rt; world.kept.book.len(), 2);
     end(world);
 }

@@ -6,11 +6,11 @@ use Rattle.ct_world.proofs.world.World.copy_fields.Goals as goal
 
 pub invariant_of-result : goal.invariant_of-result
 invariant_of-result c = record {
-  world = rw (c.in_ok-from_slice.ensures.items ∙ c.deref.ensures.value) (world-roomier c.self.invariant.world (record {
+  sound = rw (c.in_ok-from_slice.ensures.items ∙ c.deref.ensures.value) (world-roomier c.self.invariant.sound (record {
     values = c.in_ok-copy-2.ensures;
     sent = c.in_ok-copy.ensures.sent;
     lines = c.in_ok-copy.ensures.lines;
     same = subst (λ seats. AreSameSeats seats c.in_ok-copy_seats.field-0.items) c.deref-2.ensures.value c.in_ok-copy_seats.ensures;
   }));
-  ready = λ step e. some-none step e;
+  ready = λ room e. some-none room e;
 }

@@ -9,11 +9,13 @@ pub returns-in-Some : goal.returns-in-Some
 returns-in-Some c =
     ap Some c.without_value.ensures
     ∙ ap (option_map without_value) c.in-Some.ensures
-    ∙ without_value_at c.self.inside.book.values c.self.inside.network.sent (state_of c.args.self.now.rehearsal).sent c.args.serial
+    ∙ without_value_at c.self.inside.kept.book.values c.self.inside.kept.network.sent (state_of c.args.self.now.rehearsal).sent
+    c.args.serial
     (world_seen c.self.inside c.self.view_is c.self.invariant).sent
 
 pub returns-in-None : goal.returns-in-None
 returns-in-None c =
     ap (option_map without_value) c.in-None.ensures
-    ∙ without_value_at c.self.inside.book.values c.self.inside.network.sent (state_of c.args.self.now.rehearsal).sent c.args.serial
+    ∙ without_value_at c.self.inside.kept.book.values c.self.inside.kept.network.sent (state_of c.args.self.now.rehearsal).sent
+    c.args.serial
     (world_seen c.self.inside c.self.view_is c.self.invariant).sent

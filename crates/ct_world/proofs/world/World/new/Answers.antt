@@ -5,7 +5,7 @@ use Rattle.ct_world.proofs.world.World.new.Goals as goal
 
 pub invariant_of-result : goal.invariant_of-result
 invariant_of-result c = record {
-  world = rw c.new-2.ensures.items (world-empty (record { members = c.args.group; bound = c.args.bound }) c.args.cells _
+  sound = rw c.new-2.ensures.items (world-empty (record { members = c.args.group; bound = c.args.bound }) c.args.cells _
       c.in-Ok-new_seats.ensures
       (record {
         few_members = omega (arith, c.n.ensures.at_most, c.n.ensures.value);
@@ -14,5 +14,5 @@ invariant_of-result c = record {
         few_bound = c.requires.bounded;
       })
       c.in-Ok.ensures.sent (rw c.n.ensures.value at c.in-Ok.ensures.lines) c.new-3.ensures);
-  ready = λ step e. some-none step e;
+  ready = λ room e. some-none room e;
 }

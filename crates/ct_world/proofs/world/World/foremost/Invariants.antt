@@ -1,5 +1,0 @@
-use Rattle.ct_world.proofs.Foremost.{IsForemost}
-use Rattle.ct_world.proofs.world.World.foremost.Given as goal
-
-abbrev pub invariant-loop-i : goal.invariant-loop-i
-invariant-loop-i l = IsForemost l.self-inside.seats.items l.i l.best
