@@ -16,13 +16,14 @@ use crate::letter::Letter;
 use crate::seat::Seat;
 use crate::world::World;
 use ct_model::Phase;
-use ct_names::{Instance, MAX_CELLS, Member, Message, Round, Serial};
+use ct_names::{Instance, MAX_CELLS, MAX_ENVELOPES, Member, Message, Round, Serial};
 use ct_table::Table;
 
 impl World {
     /// How many envelopes were sent.
     pub fn sent(&self) -> u32
-        ensures { result ≡ length (state_of self.now.rehearsal).sent }
+        ensures value { result ≡ length (state_of self.now.rehearsal).sent }
+        ensures few { result ≤ MAX_ENVELOPES }
     {
         self.kept.network.sent() as u32
     }

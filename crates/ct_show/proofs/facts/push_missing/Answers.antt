@@ -3,4 +3,4 @@ use Rattle.ct_show.proofs.facts.push_missing.Goals as goal
 
 pub returns : goal.returns
 unfolding missing_text
-returns c = rw (← c.sent-sent.ensures) c.write.ensures.bytes
+returns c = rw (← c.sent-sent.ensures.value) c.write.ensures.bytes
