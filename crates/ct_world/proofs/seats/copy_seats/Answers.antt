@@ -1,7 +1,7 @@
 use Rattle.std.proofs.Common.{◌+◌, [], take, refl, sym, subst}
 use Rattle.std.proofs.lemmas.List.{take_all}
 use Rattle.ct_world.specs.Seats.{AreSameSeats}
-use Rattle.ct_world.proofs.SeatLists.{same-more}
+use Rattle.ct_world.proofs.Basics.SeatLists.{same-more}
 use Rattle.ct_world.proofs.seats.copy_seats.Goals as goal
 
 pub loop-i-init : goal.loop-i-init

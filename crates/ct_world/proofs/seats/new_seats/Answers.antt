@@ -1,6 +1,6 @@
 use Rattle.std.proofs.Common.{◌≡◌, ◌+◌, sym, subst, arith}
 use Rattle.ct_world.specs.Seats.{AreNewSeats}
-use Rattle.ct_world.proofs.SeatLists.{new-none, new-more}
+use Rattle.ct_world.proofs.Basics.SeatLists.{new-none, new-more}
 use Rattle.ct_world.proofs.seats.new_seats.Goals as goal
 
 pub loop-i-init : goal.loop-i-init

@@ -6,8 +6,8 @@ use Rattle.ct_abcast.specs.Cast.{Cast}
 use Rattle.ct_instances.specs.Kept.{Kept, has_room_open}
 use Rattle.ct_instances.specs.Steps.{opened}
 use Rattle.ct_world.specs.declared.seat.Seat.{Seat}
-use Rattle.ct_world.proofs.Insides.{does_in, ready_in, seat_in, within_in}
-use Rattle.ct_world.proofs.Proposing.{begun, begin_idle, begin_few, begin_few_begun, begin_number, begin_steps}
+use Rattle.ct_world.proofs.Steps.Doing.{does_in, ready_in, seat_in, within_in}
+use Rattle.ct_world.proofs.Steps.Proposing.{begun, begin_idle, begin_few, begin_few_begun, begin_number, begin_steps}
 use Rattle.ct_world.proofs.kept.Kept.begin.Goals as goal
 
 pub add-requires : goal.add-requires

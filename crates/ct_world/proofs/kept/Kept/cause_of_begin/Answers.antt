@@ -1,9 +1,9 @@
 use Rattle.std.proofs.Common.{sym, ◌∙◌, arith}
 use Rattle.ct_model.specs.declared.step.Step.TheVariants.{Begin}
 use Rattle.ct_model.proofs.Record.Causes.{cause-absent}
-use Rattle.ct_world.proofs.Proposing.{copied-some, begin_busy, begin_nothing, begin_full, begin_free}
+use Rattle.ct_world.proofs.Steps.Proposing.{copied-some, begin_busy, begin_nothing, begin_full, begin_free}
 use Rattle.ct_world.specs.Kept.{rehearsal_of}
-use Rattle.ct_world.proofs.Verdicts.{refused, verdict_by}
+use Rattle.ct_world.proofs.Steps.Verdicts.{refused, verdict_by}
 use Rattle.ct_world.proofs.kept.Kept.cause_of_begin.Goals as goal
 
 pub returns-in_err-seat : goal.returns-in_err-seat

@@ -2,7 +2,7 @@ use Rattle.ct_model.specs.declared.step.Step.TheVariants.{Crash}
 use Rattle.ct_model.proofs.Record.Causes.{cause-absent}
 use Rattle.ct_model.proofs.Steps.Crash.{cause-crash}
 use Rattle.ct_world.specs.Kept.{rehearsal_of}
-use Rattle.ct_world.proofs.Verdicts.{refused, verdict_by}
+use Rattle.ct_world.proofs.Steps.Verdicts.{refused, verdict_by}
 use Rattle.ct_world.proofs.kept.Kept.cause_of_crash.Goals as goal
 
 pub returns-in_err-actor : goal.returns-in_err-actor

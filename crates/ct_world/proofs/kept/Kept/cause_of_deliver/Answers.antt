@@ -3,9 +3,9 @@ use Rattle.std.specs.Prelude.{not}
 use Rattle.ct_model.specs.declared.step.Step.TheVariants.{Deliver}
 use Rattle.ct_model.proofs.Record.Causes.{cause-absent}
 use Rattle.ct_world.specs.Kept.{delivery_cause, rehearsal_of}
-use Rattle.ct_world.proofs.Proposing.{copied-some}
-use Rattle.ct_world.proofs.Delivering.{deliver_idle, deliver_cause}
-use Rattle.ct_world.proofs.Verdicts.{refused, verdict_by}
+use Rattle.ct_world.proofs.Steps.Proposing.{copied-some}
+use Rattle.ct_world.proofs.Delivery.Delivering.{deliver_idle, deliver_cause}
+use Rattle.ct_world.proofs.Steps.Verdicts.{refused, verdict_by}
 use Rattle.ct_world.proofs.kept.Kept.cause_of_deliver.Goals as goal
 
 pub returns-in_err-seat : goal.returns-in_err-seat

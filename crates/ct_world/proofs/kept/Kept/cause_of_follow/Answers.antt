@@ -2,9 +2,9 @@ use Rattle.std.proofs.Common.{◌+◌, ap, sym, ◌∙◌}
 use Rattle.ct_model.specs.declared.step.Step.TheVariants.{Follow}
 use Rattle.ct_model.proofs.Record.Causes.{cause-absent}
 use Rattle.ct_world.specs.Kept.{delivery_cause, rehearsal_of}
-use Rattle.ct_world.proofs.Proposing.{copied-some}
-use Rattle.ct_world.proofs.Following.{follow_busy, follow_cause}
-use Rattle.ct_world.proofs.Verdicts.{refused, verdict_by}
+use Rattle.ct_world.proofs.Steps.Proposing.{copied-some}
+use Rattle.ct_world.proofs.Delivery.Following.{follow_busy, follow_cause}
+use Rattle.ct_world.proofs.Steps.Verdicts.{refused, verdict_by}
 use Rattle.ct_world.proofs.kept.Kept.cause_of_follow.Goals as goal
 
 pub returns-in_err-seat : goal.returns-in_err-seat

@@ -7,10 +7,10 @@ use Rattle.ct_model.specs.Rehearsal.{state_of, line_of}
 use Rattle.ct_model.proofs.Basics.Tests.{number_same, number_other}
 use Rattle.ct_model.proofs.Record.Causes.{cause-absent}
 use Rattle.ct_model.proofs.Steps.LineSteps.{cause-repeat, cause-repeat-unsent, cause-repeat-waiting}
-use Rattle.ct_world.proofs.Places.{found_in, is_some-position}
-use Rattle.ct_world.proofs.Waits.{sent_to}
+use Rattle.ct_world.proofs.Basics.Places.{found_in, is_some-position}
+use Rattle.ct_world.proofs.Basics.Waits.{sent_to}
 use Rattle.ct_world.specs.Kept.{rehearsal_of}
-use Rattle.ct_world.proofs.Verdicts.{refused, verdict_by}
+use Rattle.ct_world.proofs.Steps.Verdicts.{refused, verdict_by}
 use Rattle.ct_world.proofs.kept.Kept.cause_of_repeat.Goals as goal
 use Rattle.ct_world.proofs.kept.Kept.cause_of_repeat.Goals.{After-is_some}
 

@@ -1,8 +1,8 @@
 use Rattle.std.proofs.Common.{sym, ◌∙◌, ap}
 use Rattle.ct_model.specs.Cause.{overflow}
-use Rattle.ct_world.proofs.Rounds.{round_absent, round_cause, round_free}
+use Rattle.ct_world.proofs.Steps.Rounds.{round_absent, round_cause, round_free}
 use Rattle.ct_world.specs.Kept.{rehearsal_of}
-use Rattle.ct_world.proofs.Verdicts.{refused, verdict_by}
+use Rattle.ct_world.proofs.Steps.Verdicts.{refused, verdict_by}
 use Rattle.ct_world.proofs.kept.Kept.cause_of_round.Goals as goal
 
 pub returns-in_err-seat : goal.returns-in_err-seat

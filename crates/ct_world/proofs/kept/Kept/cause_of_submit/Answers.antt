@@ -4,7 +4,7 @@ use Rattle.ct_model.specs.Cause.{overflow}
 use Rattle.ct_model.proofs.Record.Causes.{cause-absent}
 use Rattle.ct_model.proofs.Steps.Submit.{cause-submit-bad, cause-submit-full, cause-submit-sends}
 use Rattle.ct_world.specs.Kept.{rehearsal_of}
-use Rattle.ct_world.proofs.Verdicts.{refused, verdict_by}
+use Rattle.ct_world.proofs.Steps.Verdicts.{refused, verdict_by}
 use Rattle.ct_world.proofs.kept.Kept.cause_of_submit.Goals as goal
 
 pub returns-in_err-seat : goal.returns-in_err-seat

@@ -7,9 +7,9 @@ use Rattle.ct_world.specs.declared.kept.Kept.{Kept}
 use Rattle.ct_world.specs.declared.prepared.Prepared.TheVariants.{Close}
 use Rattle.ct_world.specs.Closing.{CanClose, closing_step, with_closed}
 use Rattle.ct_world.specs.Kept.{Fields, HasRoom, IsSound, IsWorld, fields_of}
-use Rattle.ct_world.proofs.Closings.{at_actor, closed_at, closing_can, closing_in, closing_low, closing_seat, set_actor}
-use Rattle.ct_world.proofs.Deliveries.{IsDelivery, batch_low, delivery_steps, posted_in, value_same, value_there}
-use Rattle.ct_world.proofs.Insides.{done_in, extends_in, ready_in}
+use Rattle.ct_world.proofs.Delivery.Closings.{at_actor, closed_at, closing_can, closing_in, closing_low, closing_seat, set_actor}
+use Rattle.ct_world.proofs.Delivery.Deliveries.{IsDelivery, batch_low, delivery_steps, posted_in, value_same, value_there}
+use Rattle.ct_world.proofs.Steps.Doing.{done_in, extends_in, ready_in}
 use Rattle.ct_world.proofs.kept.Kept.close.Goals as goal
 
 -- the step with the room that was made for it

@@ -2,8 +2,8 @@ use Rattle.std.proofs.Common.{◌-◌, true, set, refl, ap}
 use Rattle.ct_model.proofs.Steps.Crash.{crash_taken}
 use Rattle.ct_world.specs.declared.seat.Seat.{Seat}
 use Rattle.ct_world.specs.Kept.{rehearsal_of}
-use Rattle.ct_world.proofs.Insides.{does_in, ready_in, seat_in, within_in}
-use Rattle.ct_world.proofs.Steps.{crash_mail, crash_steps}
+use Rattle.ct_world.proofs.Steps.Doing.{does_in, ready_in, seat_in, within_in}
+use Rattle.ct_world.proofs.Steps.Crashing.{crash_mail, crash_steps}
 use Rattle.ct_world.proofs.kept.Kept.crash.Goals as goal
 
 pub overflow_sub-member : goal.overflow_sub-member

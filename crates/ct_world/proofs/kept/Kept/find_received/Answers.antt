@@ -7,10 +7,10 @@ use Rattle.ct_model.proofs.Record.Causes.{cause-absent}
 use Rattle.ct_model.proofs.Steps.Receive.{cause-receive-away}
 use Rattle.ct_network.specs.Network.{place_of}
 use Rattle.ct_world.specs.Kept.{rehearsal_of}
-use Rattle.ct_world.proofs.Places.{found_in, stands-there, stands-nowhere}
-use Rattle.ct_world.proofs.Receiving.{cause_by}
-use Rattle.ct_world.proofs.Verdicts.{not_found}
-use Rattle.ct_world.proofs.Waits.{awaited-some}
+use Rattle.ct_world.proofs.Basics.Places.{found_in, stands-there, stands-nowhere}
+use Rattle.ct_world.proofs.Steps.Receiving.{cause_by}
+use Rattle.ct_world.proofs.Steps.Verdicts.{not_found}
+use Rattle.ct_world.proofs.Basics.Waits.{awaited-some}
 use Rattle.ct_world.proofs.kept.Kept.find_received.Goals as goal
 use Rattle.ct_world.proofs.kept.Kept.find_received.Goals.{In-Some}
 

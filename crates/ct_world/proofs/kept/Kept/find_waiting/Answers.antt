@@ -4,8 +4,8 @@ use Rattle.ct_model.specs.Rehearsal.{line_of}
 use Rattle.ct_model.proofs.Record.Causes.{cause-absent}
 use Rattle.ct_model.proofs.Steps.LineSteps.{cause-postpone, cause-postpone-away, cause-lose, cause-lose-away}
 use Rattle.ct_world.specs.Kept.{rehearsal_of}
-use Rattle.ct_world.proofs.Places.{found_in, stands-there, stands-nowhere}
-use Rattle.ct_world.proofs.Verdicts.{not_found}
+use Rattle.ct_world.proofs.Basics.Places.{found_in, stands-there, stands-nowhere}
+use Rattle.ct_world.proofs.Steps.Verdicts.{not_found}
 use Rattle.ct_world.proofs.kept.Kept.find_waiting.Goals as goal
 
 pub returns-in_err-actor : goal.returns-in_err-actor

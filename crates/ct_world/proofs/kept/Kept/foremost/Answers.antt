@@ -3,8 +3,8 @@ use Rattle.std.proofs.lemmas.List.{get_or_read}
 use Rattle.ct_names.specs.declared.limit.TheConstants.{MAX_CELLS}
 use Rattle.ct_world.specs.declared.seat.Seat.{Seat}
 use Rattle.ct_world.specs.Kept.{no_seat, fields_of, rehearsal_of}
-use Rattle.ct_world.proofs.Foremost.{IsForemost, batches_at, batches_read, foremost-first, foremost-more, foremost-same, foremost-order}
-use Rattle.ct_world.proofs.Foremost.{foremost-few}
+use Rattle.ct_world.proofs.Reading.Foremost.{IsForemost, batches_at, batches_read, foremost-few, foremost-first, foremost-more}
+use Rattle.ct_world.proofs.Reading.Foremost.{foremost-order, foremost-same}
 use Rattle.ct_world.proofs.kept.Kept.foremost.Goals as goal
 use Rattle.ct_world.proofs.kept.Kept.foremost.Goals.{Joined-batches, After-index-2, then-batches, else-batches}
 

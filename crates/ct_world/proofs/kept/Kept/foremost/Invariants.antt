@@ -1,4 +1,4 @@
-use Rattle.ct_world.proofs.Foremost.{IsForemost}
+use Rattle.ct_world.proofs.Reading.Foremost.{IsForemost}
 use Rattle.ct_world.proofs.kept.Kept.foremost.Given as goal
 
 abbrev pub invariant-loop-i : goal.invariant-loop-i

@@ -2,9 +2,9 @@ use Rattle.std.proofs.Common.{◌-◌, set, refl, ap, ◌∙◌}
 use Rattle.ct_model.specs.Waiting.{without}
 use Rattle.ct_model.proofs.Steps.LineSteps.{lose_taken}
 use Rattle.ct_world.specs.Kept.{rehearsal_of}
-use Rattle.ct_world.proofs.Insides.{does_in, ready_in}
-use Rattle.ct_world.proofs.LineSteps.{line_mail, line_steps}
-use Rattle.ct_world.proofs.Places.{placed_in}
+use Rattle.ct_world.proofs.Steps.Doing.{does_in, ready_in}
+use Rattle.ct_world.proofs.Steps.LineSteps.{line_mail, line_steps}
+use Rattle.ct_world.proofs.Basics.Places.{placed_in}
 use Rattle.ct_world.proofs.kept.Kept.lose.Goals as goal
 
 pub leave-requires : goal.leave-requires

@@ -1,6 +1,6 @@
 use Rattle.std.proofs.Common.{refl}
 use Rattle.ct_world.specs.Kept.{rehearsal_of}
-use Rattle.ct_world.proofs.Preparing.{has_room, plain_allowed, plain_room, reserved}
+use Rattle.ct_world.proofs.Steps.Preparing.{has_room, plain_allowed, plain_room, reserved}
 use Rattle.ct_world.proofs.kept.Kept.plain.Goals as goal
 
 pub returns : goal.returns

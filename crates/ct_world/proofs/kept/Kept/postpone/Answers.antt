@@ -3,9 +3,9 @@ use Rattle.ct_model.specs.Waiting.{alone, without}
 use Rattle.ct_model.proofs.Steps.LineSteps.{postpone_taken}
 use Rattle.ct_network.specs.Network.{line_at}
 use Rattle.ct_world.specs.Kept.{rehearsal_of}
-use Rattle.ct_world.proofs.Insides.{does_in, ready_in}
-use Rattle.ct_world.proofs.LineSteps.{line_mail, line_steps, waits_once}
-use Rattle.ct_world.proofs.Places.{placed_in, put-is}
+use Rattle.ct_world.proofs.Steps.Doing.{does_in, ready_in}
+use Rattle.ct_world.proofs.Steps.LineSteps.{line_mail, line_steps, waits_once}
+use Rattle.ct_world.proofs.Basics.Places.{placed_in, put-is}
 use Rattle.ct_world.proofs.kept.Kept.postpone.Goals as goal
 
 pub postpone-requires : goal.postpone-requires

@@ -1,9 +1,9 @@
 use Rattle.std.proofs.Common.{refl, ap, arith}
 use Rattle.ct_world.specs.declared.seat.Seat.{Seat}
 use Rattle.ct_world.specs.Kept.{rehearsal_of}
-use Rattle.ct_world.proofs.Insides.{allowed_at, seat_in, within_in}
-use Rattle.ct_world.proofs.Preparing.{has_room, no_memory, reserved, roomier_seats}
-use Rattle.ct_world.proofs.Proposing.{begin_few, begin_room}
+use Rattle.ct_world.proofs.Steps.Doing.{allowed_at, seat_in, within_in}
+use Rattle.ct_world.proofs.Steps.Preparing.{has_room, no_memory, reserved, roomier_seats}
+use Rattle.ct_world.proofs.Steps.Proposing.{begin_few, begin_room}
 use Rattle.ct_world.proofs.kept.Kept.prepare_begin.Goals as goal
 
 pub overflow_sub-member : goal.overflow_sub-member

@@ -7,10 +7,10 @@ use Rattle.ct_world.specs.declared.seat.Seat.{Seat}
 use Rattle.ct_world.specs.Closing.{closed_instance}
 use Rattle.ct_world.specs.Kept.{rehearsal_of}
 use Rattle.ct_world.specs.Seats.{content}
-use Rattle.ct_world.proofs.Closings.{closing_few, closing_low, closing_room, closing_seat, closing_value, closing_within}
-use Rattle.ct_world.proofs.Insides.{allowed_at}
-use Rattle.ct_world.proofs.Preparing.{has_room, no_memory, reserved}
-use Rattle.ct_world.proofs.Rooms.{same_set}
+use Rattle.ct_world.proofs.Delivery.Closings.{closing_few, closing_low, closing_room, closing_seat, closing_value, closing_within}
+use Rattle.ct_world.proofs.Steps.Doing.{allowed_at}
+use Rattle.ct_world.proofs.Steps.Preparing.{has_room, no_memory, reserved}
+use Rattle.ct_world.proofs.Basics.Rooms.{same_set}
 use Rattle.ct_world.proofs.kept.Kept.prepare_closing.Goals as goal
 
 pub overflow_sub-member : goal.overflow_sub-member

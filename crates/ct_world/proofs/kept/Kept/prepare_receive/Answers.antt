@@ -1,10 +1,10 @@
 use Rattle.std.proofs.Common.{refl, ap, sym, ◌∙◌}
 use Rattle.std.specs.Prelude.{is_some}
 use Rattle.ct_model.specs.State.{at_serial}
-use Rattle.ct_world.proofs.Insides.{allowed_at, seat_in, within_in}
-use Rattle.ct_world.proofs.Preparing.{has_room, no_memory, reserved, roomier_seats}
-use Rattle.ct_world.proofs.Receiving.{receive_awaits, receive_room}
-use Rattle.ct_world.proofs.Waits.{awaited-some}
+use Rattle.ct_world.proofs.Steps.Doing.{allowed_at, seat_in, within_in}
+use Rattle.ct_world.proofs.Steps.Preparing.{has_room, no_memory, reserved, roomier_seats}
+use Rattle.ct_world.proofs.Steps.Receiving.{receive_awaits, receive_room}
+use Rattle.ct_world.proofs.Basics.Waits.{awaited-some}
 use Rattle.ct_world.proofs.kept.Kept.prepare_receive.Goals as goal
 
 pub overflow_sub-member : goal.overflow_sub-member

@@ -2,11 +2,11 @@ use Rattle.std.proofs.Common.{◌-◌, set, refl, ap, sym, ◌∙◌, subst}
 use Rattle.std.specs.Prelude.{is_some}
 use Rattle.ct_world.specs.declared.seat.Seat.{Seat}
 use Rattle.ct_world.specs.Seats.{CanReceive, HasReceived, passed_on}
-use Rattle.ct_world.proofs.Insides.{does_in, ready_in, seat_in, within_in}
-use Rattle.ct_world.proofs.Receiving.{left_lined, named_mail, received_named, received_taken, receive_awaits, receive_steps}
-use Rattle.ct_world.proofs.Refines.{mail-few, mail-number}
-use Rattle.ct_world.proofs.Waits.{awaited-some}
-use Rattle.ct_world.proofs.Places.{placed_in}
+use Rattle.ct_world.proofs.Steps.Doing.{does_in, ready_in, seat_in, within_in}
+use Rattle.ct_world.proofs.Steps.Receiving.{left_lined, named_mail, received_named, received_taken, receive_awaits, receive_steps}
+use Rattle.ct_world.proofs.Steps.Refines.{mail-few, mail-number}
+use Rattle.ct_world.proofs.Basics.Waits.{awaited-some}
+use Rattle.ct_world.proofs.Basics.Places.{placed_in}
 use Rattle.ct_world.proofs.kept.Kept.receive.Goals as goal
 
 pub overflow_sub-member : goal.overflow_sub-member

@@ -1,8 +1,8 @@
 use Rattle.std.proofs.Common.{◌++◌, ◌∷◌, [], refl}
 use Rattle.ct_model.proofs.Steps.LineSteps.{repeat_taken}
 use Rattle.ct_world.specs.Kept.{rehearsal_of}
-use Rattle.ct_world.proofs.Insides.{does_in, ready_in}
-use Rattle.ct_world.proofs.LineSteps.{line_mail, line_steps}
+use Rattle.ct_world.proofs.Steps.Doing.{does_in, ready_in}
+use Rattle.ct_world.proofs.Steps.LineSteps.{line_mail, line_steps}
 use Rattle.ct_world.proofs.kept.Kept.repeat.Goals as goal
 
 pub put_back-requires : goal.put_back-requires

@@ -5,8 +5,8 @@ use Rattle.ct_model.specs.declared.wire.Wire.TheVariants.{Data}
 use Rattle.ct_model.proofs.Steps.Submit.{submit_taken}
 use Rattle.ct_world.specs.declared.seat.Seat.{Seat}
 use Rattle.ct_world.specs.Kept.{rehearsal_of}
-use Rattle.ct_world.proofs.Insides.{does_in, ready_in, seat_in, within_in}
-use Rattle.ct_world.proofs.Submitting.{next_made, good_made, submitted_taken, submit_few, submit_mail, submit_steps}
+use Rattle.ct_world.proofs.Steps.Doing.{does_in, ready_in, seat_in, within_in}
+use Rattle.ct_world.proofs.Steps.Submitting.{next_made, good_made, submitted_taken, submit_few, submit_mail, submit_steps}
 use Rattle.ct_world.proofs.kept.Kept.submit.Goals as goal
 use Rattle.ct_world.proofs.kept.Kept.submit.Goals.{After-index_mut-seat}
 

@@ -2,10 +2,11 @@ use Rattle.std.proofs.Common.{rules, ◌-◌, ◌∷◌, ◌++◌, [], set, ap, 
 use Rattle.ct_model.specs.Moves.{step_of}
 use Rattle.ct_world.specs.declared.seat.Seat.{Seat}
 use Rattle.ct_world.specs.Kept.{fields_of, rehearsal_of}
-use Rattle.ct_world.proofs.Insides.{does_in, ready_in}
-use Rattle.ct_world.proofs.Refines.{mail-few, mail-number}
-use Rattle.ct_world.proofs.Rounds.{round_low, round_within, round_seat, round_passes, round_allowed, round_turned, round_quiet, round_steps}
-use Rattle.ct_world.proofs.Turns.{IsTurned, turn_addressed}
+use Rattle.ct_world.proofs.Steps.Doing.{does_in, ready_in}
+use Rattle.ct_world.proofs.Steps.Refines.{mail-few, mail-number}
+use Rattle.ct_world.proofs.Steps.Rounds.{round_allowed, round_low, round_passes, round_quiet, round_seat, round_steps, round_turned}
+use Rattle.ct_world.proofs.Steps.Rounds.{round_within}
+use Rattle.ct_world.proofs.Steps.Turns.{IsTurned, turn_addressed}
 use Rattle.ct_world.proofs.kept.Kept.turn.Goals as goal
 use Rattle.ct_world.proofs.kept.Kept.turn.Goals.{After-take-mail}
 

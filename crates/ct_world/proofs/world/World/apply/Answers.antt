@@ -1,4 +1,4 @@
-use Rattle.ct_world.proofs.Insides.{safe_in}
+use Rattle.ct_world.proofs.Steps.Doing.{safe_in}
 use Rattle.ct_world.proofs.world.World.apply.Goals as goal
 
 pub returns-in_err-room-clause-safe : goal.returns-in_err-room-clause-safe

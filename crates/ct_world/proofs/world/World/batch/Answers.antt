@@ -1,6 +1,6 @@
 use Rattle.ct_model.specs.Cause.{order}
 use Rattle.ct_model.specs.Rehearsal.{state_of}
-use Rattle.ct_world.proofs.Shown.{serial_at}
+use Rattle.ct_world.proofs.Reading.Shown.{serial_at}
 use Rattle.ct_world.proofs.world.World.batch.Goals as goal
 
 pub returns : goal.returns

@@ -1,7 +1,7 @@
 use Rattle.std.proofs.Common.{◌∙◌, subst}
 use Rattle.ct_model.proofs.Basics.Options.{some-none}
 use Rattle.ct_world.specs.Seats.{AreSameSeats}
-use Rattle.ct_world.proofs.Rooms.{world-roomier}
+use Rattle.ct_world.proofs.Basics.Rooms.{world-roomier}
 use Rattle.ct_world.proofs.world.World.copy_fields.Goals as goal
 
 pub invariant_of-result : goal.invariant_of-result

@@ -1,5 +1,5 @@
 use Rattle.std.proofs.Common.{◌∙◌}
-use Rattle.ct_world.proofs.Shown.{of_this, delivered_is}
+use Rattle.ct_world.proofs.Reading.Shown.{of_this, delivered_is}
 use Rattle.ct_world.proofs.world.World.delivered.Goals as goal
 
 pub returns : goal.returns

@@ -3,7 +3,7 @@ use Rattle.ct_model.specs.Cause.{cause}
 use Rattle.ct_model.specs.Lawful.{IsLawful}
 use Rattle.ct_world.specs.Kept.{IsVerdict}
 use Rattle.ct_world.specs.World.{WorldView}
-use Rattle.ct_world.proofs.Verdicts.{verdict_allowed, verdict_allows, verdict_is}
+use Rattle.ct_world.proofs.Steps.Verdicts.{verdict_allowed, verdict_allows, verdict_is}
 use Rattle.ct_world.proofs.world.World.enabled.Goals as goal
 
 pub returns : goal.returns

@@ -1,5 +1,5 @@
 use Rattle.std.proofs.Common.{ap, Some, ◌∙◌}
-use Rattle.ct_world.proofs.Standings.{heard_is}
+use Rattle.ct_world.proofs.Reading.Standings.{heard_is}
 use Rattle.ct_world.proofs.world.World.heard.Goals as goal
 
 pub returns : goal.returns

@@ -1,8 +1,8 @@
 use Rattle.std.proofs.Common.{ℕ, List, None, Some, Bor, ap, option_map, ◌∙◌, slice_get}
 use Rattle.ct_names.specs.Message.{Message}
 use Rattle.ct_names.specs.Value.{Value}
-use Rattle.ct_world.proofs.Standings.{heard_none, heard_some}
-use Rattle.ct_world.proofs.Waits.{world_seen}
+use Rattle.ct_world.proofs.Reading.Standings.{heard_none, heard_some}
+use Rattle.ct_world.proofs.Basics.Waits.{world_seen}
 use Rattle.ct_world.proofs.world.World.heard_from.Goals as goal
 
 pub returns-in_err-value : goal.returns-in_err-value

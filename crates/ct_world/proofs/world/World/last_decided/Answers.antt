@@ -2,7 +2,7 @@ use Rattle.std.proofs.Common.{◌∙◌}
 use Rattle.ct_model.specs.Rehearsal.{state_of}
 use Rattle.ct_world.specs.Kept.{values_of}
 use Rattle.ct_world.specs.World.{member_of}
-use Rattle.ct_world.proofs.Decisions.{last_decided-is, if_this}
+use Rattle.ct_world.proofs.Reading.Decisions.{last_decided-is, if_this}
 use Rattle.ct_world.proofs.world.World.last_decided.Goals as goal
 
 pub returns : goal.returns

@@ -1,8 +1,8 @@
 use Rattle.std.proofs.Common.{ap, ◌∙◌, Some, option_map}
 use Rattle.ct_model.specs.Mapped.{without_value}
 use Rattle.ct_model.specs.Rehearsal.{state_of}
-use Rattle.ct_world.proofs.Shown.{without_value_at}
-use Rattle.ct_world.proofs.Waits.{world_seen}
+use Rattle.ct_world.proofs.Reading.Shown.{without_value_at}
+use Rattle.ct_world.proofs.Basics.Waits.{world_seen}
 use Rattle.ct_world.proofs.world.World.letter.Goals as goal
 
 pub returns-in-Some : goal.returns-in-Some

@@ -9,7 +9,7 @@ use Rattle.ct_model.specs.Run.{run}
 use Rattle.ct_board.specs.Known.{somes}
 use Rattle.ct_board.specs.Watched.{Watched, batches_told}
 use Rattle.ct_board.proofs.Meeting.{IsMet, met}
-use Rattle.ct_world.proofs.Meetings.{finds_more}
+use Rattle.ct_world.proofs.Reading.Meetings.{finds_more}
 use Rattle.ct_world.proofs.world.World.meet.Goals as goal
 use Rattle.ct_world.proofs.world.World.meet.Goals.{After-loop-place}
 

@@ -1,6 +1,6 @@
 use Rattle.std.proofs.Common.{arith}
 use Rattle.ct_model.proofs.Basics.Options.{some-none}
-use Rattle.ct_world.proofs.Starts.{world-empty}
+use Rattle.ct_world.proofs.Basics.Starts.{world-empty}
 use Rattle.ct_world.proofs.world.World.new.Goals as goal
 
 pub invariant_of-result : goal.invariant_of-result

@@ -1,7 +1,7 @@
 use Rattle.std.proofs.Common.{rules, ◌≡◌, ◌∙◌, ap, sym, subst, option_map}
 use Rattle.ct_model.specs.declared.step.Step.TheVariants.{Choose}
 use Rattle.ct_world.specs.World.{WorldView}
-use Rattle.ct_world.proofs.Driving.{IsLookUp, best_heard-is, actor-of, nothing_next, next_local-is}
+use Rattle.ct_world.proofs.Reading.Driving.{IsLookUp, best_heard-is, actor-of, nothing_next, next_local-is}
 use Rattle.ct_world.proofs.world.World.next_local.Goals as goal
 
 pub returns-in_err-seat : goal.returns-in_err-seat

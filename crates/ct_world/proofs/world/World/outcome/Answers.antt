@@ -1,6 +1,6 @@
 use Rattle.std.proofs.Common.{◌∙◌, ap, sym}
 use Rattle.ct_table.specs.Table.{table}
-use Rattle.ct_world.proofs.Shown.{delivered_is, table_is}
+use Rattle.ct_world.proofs.Reading.Shown.{delivered_is, table_is}
 use Rattle.ct_world.proofs.world.World.outcome.Goals as goal
 
 pub returns-clause-delivered : goal.returns-clause-delivered

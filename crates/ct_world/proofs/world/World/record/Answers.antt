@@ -1,4 +1,4 @@
-use Rattle.ct_world.proofs.Insides.{safe_in}
+use Rattle.ct_world.proofs.Steps.Doing.{safe_in}
 use Rattle.ct_world.proofs.world.World.record.Goals as goal
 
 pub returns-clause-safe : goal.returns-clause-safe

@@ -1,4 +1,4 @@
-use Rattle.ct_world.proofs.Shown.{of_this, table_is}
+use Rattle.ct_world.proofs.Reading.Shown.{of_this, table_is}
 use Rattle.ct_world.proofs.world.World.table.Goals as goal
 
 pub returns : goal.returns

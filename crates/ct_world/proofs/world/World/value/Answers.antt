@@ -1,8 +1,8 @@
 use Rattle.std.proofs.Common.{ap, sym, ◌∙◌, Some, option_map, Bor, List}
 use Rattle.ct_names.specs.Message.{Message}
 use Rattle.ct_model.specs.Rehearsal.{state_of}
-use Rattle.ct_world.proofs.Shown.{carried_none, carried_some}
-use Rattle.ct_world.proofs.Waits.{world_seen}
+use Rattle.ct_world.proofs.Reading.Shown.{carried_none, carried_some}
+use Rattle.ct_world.proofs.Basics.Waits.{world_seen}
 use Rattle.ct_world.proofs.world.World.value.Goals as goal
 
 pub returns-in_err-value : goal.returns-in_err-value

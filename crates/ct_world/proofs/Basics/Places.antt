@@ -12,7 +12,7 @@ use Rattle.ct_model.proofs.Basics.Options.{some-same}
 use Rattle.ct_model.proofs.Basics.Tests.{and_right}
 use Rattle.ct_network.specs.Network.{line_at, place_of, put_last}
 use Rattle.ct_world.specs.Kept.{Fields, IsWorld}
-use Rattle.ct_world.proofs.Waits.{lined_member}
+use Rattle.ct_world.proofs.Basics.Waits.{lined_member}
 
 step_place : (b : Bool) (l len : ℕ) (t : Bool) → nat_lt l len ≡ t → nat_lt (if (not b) then (1 + l) else 0) (suc len) ≡ (b || t)
 step_place b l len t ih = grind arith

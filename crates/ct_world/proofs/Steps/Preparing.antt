@@ -14,8 +14,8 @@ use Rattle.ct_world.specs.declared.seat.Seat.{Seat}
 use Rattle.ct_world.specs.Prepared.{step_in}
 use Rattle.ct_world.specs.Seats.{content, AreSameSeats}
 use Rattle.ct_world.specs.Kept.{Fields, IsWorld, IsSound, HasOwnRoom, NeedsNoMore, MakesRoom, fields_of, rehearsal_of, seat_of}
-use Rattle.ct_world.proofs.Insides.{IsAllowedIn}
-use Rattle.ct_world.proofs.Rooms.{IsRoomier, world-roomier, same_set}
+use Rattle.ct_world.proofs.Steps.Doing.{IsAllowedIn}
+use Rattle.ct_world.proofs.Basics.Rooms.{IsRoomier, world-roomier, same_set}
 
 -- the seats once room was made at the actor's
 pub roomier_seats : (k : Kept) {step : Step} {old : Seat} → IsAllowedIn k step → (seat : Seat) →

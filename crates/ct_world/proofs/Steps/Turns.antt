@@ -17,11 +17,11 @@ use Rattle.ct_instances.specs.Keeping.{KeepsInstances}
 use Rattle.ct_instances.specs.Named.{NamesMail}
 use Rattle.ct_world.specs.Kept.{Fields, IsWorld, seat_of}
 use Rattle.ct_model.proofs.Record.Addressees.{addressed-step}
-use Rattle.ct_world.proofs.Insides.{IsAllowed}
+use Rattle.ct_world.proofs.Steps.Doing.{IsAllowed}
 use Rattle.ct_model.specs.Waiting.{line_change}
 use Rattle.ct_model.specs.Waiting.LineChange.{Leaves}
-use Rattle.ct_world.proofs.Posts.{IsPosted, left-plain}
-use Rattle.ct_world.proofs.Refines.{refined, seat-kept}
+use Rattle.ct_world.proofs.Basics.Posts.{IsPosted, left-plain}
+use Rattle.ct_world.proofs.Steps.Refines.{refined, seat-kept}
 
 -- the member's instances took a step of a round, with this mail; it is the step of the record
 pub record IsTurned (w : Rehearsal) (step : Step) (f : Fields) (kept : Kept) (mail : AnyMail ℕ) : Type 0 where

@@ -24,7 +24,7 @@ use Rattle.ct_world.specs.Prepared.{step_in}
 use Rattle.ct_world.specs.Seats.{Keeps}
 use Rattle.ct_world.specs.Kept.{Fields, IsWorld, IsSound, HasRoom, Does, fields_of, rehearsal_of, seat_of}
 use Rattle.ct_world.specs.World.{IsDone}
-use Rattle.ct_world.proofs.Members.{member_low, place, seat_found}
+use Rattle.ct_world.proofs.Basics.Members.{member_low, place, seat_found}
 
 -- what a step that is allowed has
 pub record IsAllowed (w : Rehearsal) (step : Step) (f : Fields) : Type 0 where

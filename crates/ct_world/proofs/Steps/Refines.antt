@@ -25,7 +25,7 @@ use Rattle.ct_model.proofs.Record.Taken.{IsTaken, next-step, state-step, line-st
 use Rattle.ct_network.specs.Network.{NetworkView, line_at}
 use Rattle.ct_model.specs.declared.mail.Mail.{Mail as AnyMail}
 use Rattle.ct_model.specs.declared.mail.Mail.TheVariants.{Nobody}
-use Rattle.ct_world.proofs.Posts.{IsLeft, IsPosted, posted-nothing}
+use Rattle.ct_world.proofs.Basics.Posts.{IsLeft, IsPosted, posted-nothing}
 use Rattle.ct_instances.specs.Named.{NamesEnvelopes, NamesMail}
 use Rattle.ct_instances.proofs.Named.{grows_envelopes, named_append, named_length, named_posts, named_serials}
 use Rattle.ct_instances.proofs.Keeping.{keeps-grown}
@@ -33,7 +33,7 @@ use Rattle.ct_table.specs.Table.{table}
 use Rattle.ct_world.specs.declared.seat.Seat.{Seat}
 use Rattle.ct_world.specs.Seats.{Keeps, was_got}
 use Rattle.ct_world.specs.Kept.{Fields, IsWorld, values_of, seat_of}
-use Rattle.ct_world.proofs.Members.{apart, place, seat-same, seat-other}
+use Rattle.ct_world.proofs.Basics.Members.{apart, place, seat-same, seat-other}
 
 -- what a step makes of the fields besides the network: what is proposed joins the values, and the seat of the actor keeps what
 -- the outcome says of it; this is its mail

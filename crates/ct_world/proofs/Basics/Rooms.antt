@@ -12,8 +12,8 @@ use Rattle.ct_network.specs.Network.{line_at}
 use Rattle.ct_world.specs.declared.seat.Seat.{Seat}
 use Rattle.ct_world.specs.Seats.{Keeps, Content, content, AreSameSeats}
 use Rattle.ct_world.specs.Kept.{Fields, IsWorld, no_seat, seat_of}
-use Rattle.ct_world.proofs.Members.{place}
-use Rattle.ct_world.proofs.SeatLists.{same_length}
+use Rattle.ct_world.proofs.Basics.Members.{place}
+use Rattle.ct_world.proofs.Basics.SeatLists.{same_length}
 
 -- the instances of seats that keep the same
 same_instances : (old new : Seat) → content new ≡ content old → new.instances ≡ record old.instances { entries = new.instances.entries }

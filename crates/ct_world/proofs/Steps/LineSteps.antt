@@ -13,9 +13,9 @@ use Rattle.ct_model.proofs.Record.Taken.{IsTaken}
 use Rattle.ct_model.proofs.Steps.LineSteps.{line_outcome}
 use Rattle.ct_network.specs.Network.{line_at}
 use Rattle.ct_world.specs.Kept.{Fields, IsWorld, seat_of, no_seat}
-use Rattle.ct_world.proofs.Insides.{IsAllowed}
-use Rattle.ct_world.proofs.Posts.{IsChange, left-changed}
-use Rattle.ct_world.proofs.Refines.{refined-quiet}
+use Rattle.ct_world.proofs.Steps.Doing.{IsAllowed}
+use Rattle.ct_world.proofs.Basics.Posts.{IsChange, left-changed}
+use Rattle.ct_world.proofs.Steps.Refines.{refined-quiet}
 
 module _ {w : Rehearsal} {step : Step} {f new : Fields} (may : IsAllowed w step f) (taken : IsTaken w step (line_outcome w (actor step)))
     (change : List ℕ → List ℕ) (is : IsChange step change) (seats : new.seats ≡ f.seats)

@@ -11,9 +11,9 @@ use Rattle.ct_network.specs.Network.{line_at}
 use Rattle.ct_instances.proofs.Keeping.{keeps-new}
 use Rattle.ct_world.specs.declared.seat.Seat.{Seat}
 use Rattle.ct_world.specs.Seats.{Keeps, Content, content, new_seat, AreNewSeats}
-use Rattle.ct_world.proofs.Rooms.{keeps-roomier}
+use Rattle.ct_world.proofs.Basics.Rooms.{keeps-roomier}
 use Rattle.ct_world.specs.Kept.{Fields, IsFixed, IsWorld, values_of, seat_of}
-use Rattle.ct_world.proofs.Members.{member_low, place}
+use Rattle.ct_world.proofs.Basics.Members.{member_low, place}
 
 proposals-first : (s : Setting) → values_of (first_state s) ≡ []
 unfolding first_state

@@ -44,12 +44,12 @@ use Rattle.ct_world.specs.Kept.{Fields, IsWorld, IsActor, HasDeliveryRoom, deliv
 use Rattle.ct_world.specs.Kept.{values_of}
 use Rattle.ct_world.specs.Posting.{HasPosted, IsSet}
 use Rattle.ct_world.specs.Seats.{Keeps, Content, IsDeliverable, content, with_batch, batch_to_post}
-use Rattle.ct_world.proofs.Insides.{IsAllowed, IsAllowedIn, seat_in}
-use Rattle.ct_world.proofs.Members.{seat-same}
-use Rattle.ct_world.proofs.Posting.{has_posted, posting_low}
-use Rattle.ct_world.proofs.Posts.{left-plain}
-use Rattle.ct_world.proofs.Proposing.{copied-some, delivered-same, open-same}
-use Rattle.ct_world.proofs.Refines.{refined-quiet}
+use Rattle.ct_world.proofs.Steps.Doing.{IsAllowed, IsAllowedIn, seat_in}
+use Rattle.ct_world.proofs.Basics.Members.{seat-same}
+use Rattle.ct_world.proofs.Delivery.Posting.{has_posted, posting_low}
+use Rattle.ct_world.proofs.Basics.Posts.{left-plain}
+use Rattle.ct_world.proofs.Steps.Proposing.{copied-some, delivered-same, open-same}
+use Rattle.ct_world.proofs.Steps.Refines.{refined-quiet}
 
 -- why a decision is not delivered, by the seat
 

@@ -27,11 +27,11 @@ use Rattle.ct_world.specs.declared.seat.Seat.{Seat}
 use Rattle.ct_world.specs.Seats.{Keeps}
 use Rattle.ct_world.specs.Kept.{Fields, IsWorld, IsActor, HasBeginRoom, seat_of}
 use Rattle.ct_instances.specs.Kept.{has_room_open}
-use Rattle.ct_world.proofs.Insides.{IsAllowed}
-use Rattle.ct_world.proofs.Members.{seat-same}
-use Rattle.ct_world.proofs.Proposals.{few-values}
-use Rattle.ct_world.proofs.Posts.{left-plain}
-use Rattle.ct_world.proofs.Refines.{refined-quiet, seat-kept}
+use Rattle.ct_world.proofs.Steps.Doing.{IsAllowed}
+use Rattle.ct_world.proofs.Basics.Members.{seat-same}
+use Rattle.ct_world.proofs.Steps.Proposals.{few-values}
+use Rattle.ct_world.proofs.Basics.Posts.{left-plain}
+use Rattle.ct_world.proofs.Steps.Refines.{refined-quiet, seat-kept}
 
 some-mapped : {A B : Type 0} (f : A → B) (o : Option A) → is_some (option_map f o) ≡ is_some o
 some-mapped f o = grind arith

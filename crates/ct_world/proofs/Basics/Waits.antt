@@ -22,8 +22,8 @@ use Rattle.ct_world.specs.Prepared.{step_in}
 use Rattle.ct_world.specs.World.{WorldView}
 use Rattle.ct_world.specs.declared.world.World.TheInside.{Inside}
 use Rattle.ct_model.proofs.Record.Addressees.{sender_named}
-use Rattle.ct_world.proofs.Receipts.{IsKnown, known_name}
-use Rattle.ct_world.proofs.Shown.{without_value_at}
+use Rattle.ct_world.proofs.Steps.Receipts.{IsKnown, known_name}
+use Rattle.ct_world.proofs.Reading.Shown.{without_value_at}
 use Rattle.ct_model.specs.Next.{wire_to}
 
 -- the member's line

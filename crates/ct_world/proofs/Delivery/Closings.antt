@@ -15,11 +15,11 @@ use Rattle.ct_world.specs.declared.seat.Seat.{Seat}
 use Rattle.ct_world.specs.Closing.{CanClose, closed_instance, closing_step, with_closed}
 use Rattle.ct_world.specs.Kept.{Fields, HasDeliveryRoom, fields_of, rehearsal_of, seat_of}
 use Rattle.ct_world.specs.Seats.{IsDeliverable, content}
-use Rattle.ct_world.proofs.Deliveries.{IsDelivery, delivery_room, has_decision, has_value}
-use Rattle.ct_world.proofs.Delivering.{deliver_due, deliver_open, delivered_keeps}
-use Rattle.ct_world.proofs.Following.{follow_due, follow_few, follow_few_begun, follow_idle, followed_keeps}
-use Rattle.ct_world.proofs.Insides.{IsAllowed, IsAllowedIn}
-use Rattle.ct_world.proofs.Members.{seat_found}
+use Rattle.ct_world.proofs.Delivery.Deliveries.{IsDelivery, delivery_room, has_decision, has_value}
+use Rattle.ct_world.proofs.Delivery.Delivering.{deliver_due, deliver_open, delivered_keeps}
+use Rattle.ct_world.proofs.Delivery.Following.{follow_due, follow_few, follow_few_begun, follow_idle, followed_keeps}
+use Rattle.ct_world.proofs.Steps.Doing.{IsAllowed, IsAllowedIn}
+use Rattle.ct_world.proofs.Basics.Members.{seat_found}
 
 pub closing_actor : (c : Closing) (p : ℕ) → actor (closing_step c p) ≡ p
 closing_actor Open p = refl

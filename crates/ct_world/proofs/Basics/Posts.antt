@@ -11,7 +11,7 @@ use Rattle.ct_model.specs.declared.mail.Mail.TheVariants.{Nobody}
 use Rattle.ct_model.specs.Waiting.{line_change, changed, serials_to}
 use Rattle.ct_model.specs.Waiting.LineChange.{Leaves}
 use Rattle.ct_network.specs.Network.{NetworkView, line_at}
-use Rattle.ct_world.proofs.Members.{apart, place}
+use Rattle.ct_world.proofs.Basics.Members.{apart, place}
 
 -- the lines after one of them is changed
 pub changed_line : (lines : List (List ℕ)) (n p q : ℕ) (change : List ℕ → List ℕ)

@@ -20,10 +20,10 @@ use Rattle.ct_instances.proofs.Keeping.{keeps-followed}
 use Rattle.ct_world.specs.declared.seat.Seat.{Seat}
 use Rattle.ct_world.specs.Kept.{Fields, IsActor, delivery_cause, seat_of}
 use Rattle.ct_world.specs.Seats.{Keeps, content, with_batch, with_next}
-use Rattle.ct_world.proofs.Deliveries.{IsClosing, cause-delivery, closed_keeps, open_is}
-use Rattle.ct_world.proofs.Insides.{IsAllowed}
-use Rattle.ct_world.proofs.Proposing.{nothing-some, open-same}
-use Rattle.ct_world.proofs.Rooms.{keeps-roomier}
+use Rattle.ct_world.proofs.Delivery.Deliveries.{IsClosing, cause-delivery, closed_keeps, open_is}
+use Rattle.ct_world.proofs.Steps.Doing.{IsAllowed}
+use Rattle.ct_world.proofs.Steps.Proposing.{nothing-some, open-same}
+use Rattle.ct_world.proofs.Basics.Rooms.{keeps-roomier}
 
 module _ {w : Rehearsal} {p : ℕ} {seat : Seat} (a : IsActor w p seat) where
   abbrev m : Member

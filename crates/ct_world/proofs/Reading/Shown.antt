@@ -18,7 +18,7 @@ use Rattle.ct_instances.proofs.Named.{named_without_value, named_at, named_value
 use Rattle.ct_world.specs.declared.seat.Seat.{Seat}
 use Rattle.ct_world.specs.Kept.{IsSeatOf}
 use Rattle.ct_world.specs.World.{member_of, of_member}
-use Rattle.ct_world.proofs.Proposing.{delivered-same}
+use Rattle.ct_world.proofs.Steps.Proposing.{delivered-same}
 
 -- envelopes without their values
 

@@ -24,9 +24,9 @@ use Rattle.ct_model.proofs.Record.Taken.{IsTaken}
 use Rattle.ct_instances.specs.Named.{NamesMail}
 use Rattle.ct_instances.proofs.Named.{named_length}
 use Rattle.ct_world.specs.Kept.{Fields, IsWorld, seat_of}
-use Rattle.ct_world.proofs.Insides.{IsAllowed}
-use Rattle.ct_world.proofs.Posts.{IsPosted, left-plain}
-use Rattle.ct_world.proofs.Refines.{refined, seat-kept}
+use Rattle.ct_world.proofs.Steps.Doing.{IsAllowed}
+use Rattle.ct_world.proofs.Basics.Posts.{IsPosted, left-plain}
+use Rattle.ct_world.proofs.Steps.Refines.{refined, seat-kept}
 
 -- the message that is made is the next one
 pub next_made : (r : Option Message) (m : Message) (p k : ℕ) (c : Command) (list : List Message) →

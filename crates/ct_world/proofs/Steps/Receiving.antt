@@ -22,12 +22,12 @@ use Rattle.ct_instances.proofs.Named.{named_all, named_sender, named_wire}
 use Rattle.ct_world.specs.declared.seat.Seat.{Seat}
 use Rattle.ct_world.specs.Seats.{HasReceived, CanReceive, is_passed_on, passed_on}
 use Rattle.ct_world.specs.Kept.{Fields, IsWorld, IsActor, values_of, seat_of}
-use Rattle.ct_world.proofs.Insides.{IsAllowed}
-use Rattle.ct_world.proofs.Members.{seat-same}
-use Rattle.ct_world.proofs.Posts.{IsPosted, left-changed}
-use Rattle.ct_world.proofs.Receipts.{receive_keeps, passes}
-use Rattle.ct_world.proofs.Refines.{refined}
-use Rattle.ct_world.proofs.Waits.{IsAwaited, awaited-is}
+use Rattle.ct_world.proofs.Steps.Doing.{IsAllowed}
+use Rattle.ct_world.proofs.Basics.Members.{seat-same}
+use Rattle.ct_world.proofs.Basics.Posts.{IsPosted, left-changed}
+use Rattle.ct_world.proofs.Steps.Receipts.{receive_keeps, passes}
+use Rattle.ct_world.proofs.Steps.Refines.{refined}
+use Rattle.ct_world.proofs.Basics.Waits.{IsAwaited, awaited-is}
 
 -- why it is refused
 pub cause_by : {w : Rehearsal} {f : Fields} {p : ℕ} (k : ℕ) {n : ℕ} {seat : Seat} {x : AnyEnvelope ℕ} {b : Bool} → IsWorld w f →

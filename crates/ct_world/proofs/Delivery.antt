@@ -1,0 +1,5 @@
+pub mod Posting
+pub mod Deliveries
+pub mod Delivering
+pub mod Following
+pub mod Closings

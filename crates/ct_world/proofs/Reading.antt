@@ -1,0 +1,6 @@
+pub mod Shown
+pub mod Standings
+pub mod Decisions
+pub mod Driving
+pub mod Foremost
+pub mod Meetings
