@@ -21,8 +21,8 @@ mod preparing;
 mod receive;
 mod repeat;
 mod round;
+mod steps;
 mod submit;
-mod taking;
 
 /// What a world keeps: what is fixed, the record of its steps, and what they led to.
 #[derive(Drop)]

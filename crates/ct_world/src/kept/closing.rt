@@ -8,8 +8,7 @@ ghost use Rattle.ct_world.specs.Kept.{delivery_cause, HasRoom, IsSound, IsVerdic
 ghost use Rattle.ct_world.specs.Posting.{HasPosted, IsRefusedByBoard, IsSet};
 ghost use Rattle.ct_world.specs.World.{IsDone};
 
-use super::preparing::reserve;
-use super::taking::join;
+use super::preparing::{join, reserve};
 use crate::closing::Closing;
 use crate::kept::Kept;
 use crate::prepared::Prepared;

@@ -1,38 +1,14 @@
-//! Whether a step is allowed.
+//! Who may take a step, and the limits that any step may pass.
 
 ghost use Rattle.std.specs.Prelude.{◌≤◌, MatchResult};
-ghost use Rattle.ct_model.specs.Cause.{cause, overflow};
+ghost use Rattle.ct_model.specs.Cause.{overflow};
 ghost use Rattle.ct_world.specs.Kept.{IsAbsent, IsActor, IsSound, IsVerdict, rehearsal_of};
 
 use crate::kept::Kept;
 use crate::seat::Seat;
-use ct_model::{Move, Step};
 use ct_names::{Limit, MAX_ENVELOPES, MAX_MEMBERS, MAX_STEPS, Member, Refusal};
 
 impl Kept {
-    /// Whether the step is allowed, and why it is not.
-    pub fn cause(&self, step: &Step) -> Result<(), Refusal>
-        requires { IsSound self.now }
-        ensures { IsVerdict (cause (rehearsal_of self.now) step.now) result }
-    {
-        match step {
-            Step::Submit(member, command) => self.cause_of_submit(*member, command),
-            Step::Receive(member, serial) => self.cause_of_receive(*member, *serial),
-            Step::Begin(member) => self.cause_of_begin(*member),
-            Step::Enter(member) => self.cause_of_round(*member, Move::Enter),
-            Step::Choose(member, from) => self.cause_of_round(*member, Move::Choose(*from)),
-            Step::Adopt(member) => self.cause_of_round(*member, Move::Adopt),
-            Step::Suspect(member) => self.cause_of_round(*member, Move::Suspect),
-            Step::Conclude(member) => self.cause_of_round(*member, Move::Conclude),
-            Step::Deliver(member) => self.cause_of_deliver(*member),
-            Step::Follow(member) => self.cause_of_follow(*member),
-            Step::Crash(member) => self.cause_of_crash(*member),
-            Step::Postpone(member, serial) => self.cause_of_line(*member, *serial),
-            Step::Lose(member, serial) => self.cause_of_line(*member, *serial),
-            Step::Repeat(member, serial) => self.cause_of_repeat(*member, *serial),
-        }
-    }
-
     /// What is kept of the member whose step it is.
     pub fn actor(&self, member: Member) -> Result<&Seat, Refusal>
         requires { IsSound self.now }

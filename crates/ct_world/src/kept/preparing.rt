@@ -1,40 +1,16 @@
-//! The first half of a step: what may be refused.
+//! Room that every step needs, and the record that it joins.
 
-ghost use Rattle.std.specs.Prelude.{◌≡◌, ◌<◌, true, vec_len, vec_capacity, OnOk, IfErr};
+ghost use Rattle.std.specs.Prelude.{◌≡◌, ◌<◌, ◌++◌, ◌∷◌, [], true, vec_len, vec_capacity, OnOk, IfErr};
 ghost use Rattle.ct_world.specs.Kept.{IsSound, MakesRoom, NeedsNoMore, rehearsal_of};
 ghost use Rattle.ct_world.specs.Prepared.{step_in};
 
-use crate::closing::Closing;
 use crate::kept::Kept;
 use crate::prepared::Prepared;
-use ct_model::{Move, Step};
+use ct_model::Step;
 use ct_names::Refusal;
 use ct_network::Network;
 
 impl Kept {
-    /// Makes the room that the step needs, where it is allowed. What is kept stays the same.
-    pub fn make_room(&mut self, step: &Step) -> Result<Prepared, Refusal>
-        requires { IsSound self.old }
-        ensures { MakesRoom self.old step.now self.new result }
-    {
-        match *step {
-            Step::Submit(member, command) => self.prepare_submit(member, command),
-            Step::Receive(member, serial) => self.prepare_receive(member, serial),
-            Step::Begin(member) => self.prepare_begin(member),
-            Step::Enter(member) => self.prepare_round(member, Move::Enter),
-            Step::Choose(member, from) => self.prepare_round(member, Move::Choose(from)),
-            Step::Adopt(member) => self.prepare_round(member, Move::Adopt),
-            Step::Suspect(member) => self.prepare_round(member, Move::Suspect),
-            Step::Conclude(member) => self.prepare_round(member, Move::Conclude),
-            Step::Deliver(member) => self.prepare_closing(Closing::Open, member),
-            Step::Follow(member) => self.prepare_closing(Closing::Next, member),
-            Step::Crash(member) => self.prepare_crash(member),
-            Step::Postpone(member, serial) => self.prepare_postpone(member, serial),
-            Step::Lose(member, serial) => self.prepare_lose(member, serial),
-            Step::Repeat(member, serial) => self.prepare_repeat(member, serial),
-        }
-    }
-
     // The room for a step that needs none of its own.
     pub(super) fn plain(&mut self, room: Prepared) -> Result<Prepared, Refusal>
         requires sound { IsSound self.old }
@@ -63,4 +39,12 @@ pub(super) fn reserve(steps: &mut Vec<Step>, network: &mut Network) -> Result<()
         Ok(()) => Ok(()),
         Err(_) => Err(Refusal::OutOfMemory),
     }
+}
+
+// The step joins the record, which has room for it.
+pub(super) fn join(steps: &mut Vec<Step>, step: Step)
+    requires { vec_len steps.old < vec_capacity steps.old }
+    ensures { steps.new.items ≡ steps.old.items ++ step ∷ [] }
+{
+    let _ = steps.push(step);
 }

@@ -3,7 +3,7 @@
 ghost use Rattle.ct_model.specs.Cause.{cause};
 ghost use Rattle.ct_world.specs.Kept.{Does, HasRoom, IsSound, IsVerdict, MakesRoom, rehearsal_of};
 
-use super::taking::join;
+use super::preparing::join;
 use crate::kept::Kept;
 use crate::prepared::Prepared;
 use ct_model::Step;
