@@ -20,7 +20,7 @@ use std::alloc::Global;
 use std::marker::Model;
 
 /// The instances of consensus of one member (Chandra and Toueg, section 7): what it got for each, begun or not, and
-/// the one that it has open. Each call takes constant time.
+/// the one that it has open. Each call but `copy` and `last_decided` takes constant time.
 #[derive(Drop)]
 pub struct Instances {
     group: Group,
