@@ -1,4 +1,4 @@
-ghost use Rattle.std.specs.Prelude.{◌≡◌, IfOk, None, length, replicate};
+ghost use Rattle.std.specs.Prelude.{◌≡◌, IfOk};
 
 use ct_abcast::{Batch, Caster};
 use ct_board::{Board, Watcher};
@@ -60,20 +60,6 @@ fn gives_back(board: &Board, alloc: Global, place: usize, number: u32) -> Result
     }
 }
 
-fn reads_back_of_two(alloc: Global) -> Result<bool, AllocError> {
-    let board = Board::new(alloc, 2)?;
-    if board.cells() != 2 {
-        return Ok(false);
-    }
-    posts(&board, alloc, 1, 7)
-}
-
-#[test]
-fn a_posted_batch_is_read_back(rt: HostRuntime) -> Result<(), Fail> {
-    assert!(rt; reads_back_of_two(rt.alloc())?);
-    Ok(())
-}
-
 // Whether a cell that is set and a place without a cell give a batch back.
 fn gives_both_back(board: &Board, alloc: Global) -> Result<bool, AllocError> {
     let posted = posts(board, alloc, 0, 7)?;
@@ -88,7 +74,7 @@ fn gives_back_of_one(alloc: Global) -> Result<bool, AllocError> {
 }
 
 #[test]
-fn a_refused_post_gives_the_batch_back(rt: HostRuntime) -> Result<(), Fail> {
+fn a_cell_takes_one_batch_and_gives_others_back(rt: HostRuntime) -> Result<(), Fail> {
     assert!(rt; gives_back_of_one(rt.alloc())?);
     Ok(())
 }
@@ -124,14 +110,10 @@ impl<'b> Reader<'b> {
         }
     }
 
-    // Whether it read so many.
-    fn has_read(&self, read: usize) -> bool {
-        self.watcher.read() == read
-    }
-
-    // Whether it read so many, and finds no more.
+    // Whether it read so many, the table is that of the last, and it finds no more.
     fn is_done(&mut self, read: usize) -> bool {
-        !self.finds() && self.has_read(read) && self.watcher.told() == 0
+        let has_table = self.watcher.table().get(3) == Some(read as u64);
+        has_table && !self.finds() && self.watcher.read() == read && self.watcher.told() == 0
     }
 
     // Whether the next batches are those with the first messages, so many, and it finds no more.
@@ -143,121 +125,6 @@ impl<'b> Reader<'b> {
         }
         self.is_done(count as usize)
     }
-
-    fn share(&mut self, other: &mut Reader<'b>)
-        requires { other.old.board.now ≡ self.old.board.now }
-    {
-        self.watcher.share(&mut other.watcher);
-    }
-
-    // Whether it reads the batches with these two messages, and no more, and what they set last.
-    fn reads_two(&mut self, first: u32, second: u32) -> bool {
-        self.reads(first)
-            && self.reads(second)
-            && !self.finds()
-            && self.has_read(2)
-            && self.watcher.table().get(3) == Some(second as u64)
-    }
-}
-
-// Whether it finds nothing at first, and reads what is then posted.
-fn reads_later(reader: &mut Reader<'_>, alloc: Global) -> Result<bool, AllocError> {
-    let found = reader.finds();
-    let first = posts(reader.board, alloc, 0, 7)?;
-    let second = posts(reader.board, alloc, 1, 8)?;
-    Ok(!found && first && second && reader.reads_two(7, 8))
-}
-
-fn watch_two(board: &Board, alloc: Global) -> Result<bool, AllocError> {
-    let mut reader = Reader::new(alloc, board)?;
-    reads_later(&mut reader, alloc)
-}
-
-fn watch_two_of_three(alloc: Global) -> Result<bool, AllocError> {
-    let board = Board::new(alloc, 3)?;
-    watch_two(&board, alloc)
-}
-
-#[test]
-fn a_watcher_reads_what_was_posted(rt: HostRuntime) -> Result<(), Fail> {
-    assert!(rt; watch_two_of_three(rt.alloc())?);
-    Ok(())
-}
-
-// Whether a new watcher finds the batch of the only cell once it is posted, and is told of it.
-fn is_told_of_one(watcher: &mut Watcher, board: &Board, alloc: Global) -> Result<bool, AllocError>
-    requires cells { watcher.old.cells ≡ board.now }
-    requires one { length board.now ≡ 1 }
-    requires notes { watcher.old.notes ≡ replicate (length board.now) None }
-    requires told { watcher.old.told ≡ 0 }
-{
-    let posted = posts(board, alloc, 0, 7)?;
-    let beyond = watcher.look(board, 1).is_some();
-    let Some(found) = watcher.look(board, 0) else {
-        return Ok(false);
-    };
-    let of = is_of(found, 7);
-    watcher.tell(1);
-    Ok(posted && !beyond && of && watcher.read() == 0 && watcher.told() == 1)
-}
-
-fn tell_of_one(board: &Board, alloc: Global) -> Result<bool, AllocError>
-    requires { length board.now ≡ 1 }
-{
-    let mut watcher = Watcher::new(alloc, board)?;
-    is_told_of_one(&mut watcher, board, alloc)
-}
-
-fn tell_on_one(alloc: Global) -> Result<bool, AllocError> {
-    let board = Board::new(alloc, 1)?;
-    tell_of_one(&board, alloc)
-}
-
-#[test]
-fn a_watcher_is_told_of_what_it_looked_at(rt: HostRuntime) -> Result<(), Fail> {
-    assert!(rt; tell_on_one(rt.alloc())?);
-    Ok(())
-}
-
-// Whether they share once the first read what is posted, and the other reads it then.
-fn share_one<'b>(
-    reader: &mut Reader<'b>,
-    other: &mut Reader<'b>,
-    alloc: Global,
-) -> Result<bool, AllocError>
-    requires { other.old.board.now ≡ reader.old.board.now }
-{
-    let posted = posts(reader.board, alloc, 0, 7)?;
-    let found = reader.finds();
-    reader.share(other);
-    Ok(posted && found && reader.has_read(1) && other.has_read(0) && other.finds())
-}
-
-fn share_with_new<'b>(
-    reader: &mut Reader<'b>,
-    board: &'b Board,
-    alloc: Global,
-) -> Result<bool, AllocError>
-    requires { board.now ≡ reader.old.board.now }
-{
-    let mut other = Reader::new(alloc, board)?;
-    share_one(reader, &mut other, alloc)
-}
-
-fn share_of(board: &Board, alloc: Global) -> Result<bool, AllocError> {
-    let mut reader = Reader::new(alloc, board)?;
-    share_with_new(&mut reader, board, alloc)
-}
-
-fn share_on_one(alloc: Global) -> Result<bool, AllocError> {
-    let board = Board::new(alloc, 1)?;
-    share_of(&board, alloc)
-}
-
-#[test]
-fn two_watchers_share(rt: HostRuntime) -> Result<(), Fail> {
-    assert!(rt; share_on_one(rt.alloc())?);
-    Ok(())
 }
 
 // Whether each of the first cells, so many, is set to the batch with the message of its place and 1.
@@ -270,9 +137,11 @@ fn fill(board: &Board, alloc: Global, cells: u32) -> Result<bool, AllocError> {
     Ok(true)
 }
 
+// Whether it finds nothing at first, and then reads what each cell is set to.
 fn reads_filled(reader: &mut Reader<'_>, alloc: Global, cells: u32) -> Result<bool, AllocError> {
+    let found = reader.finds();
     let filled = fill(reader.board, alloc, cells)?;
-    Ok(filled && reader.reads_first(cells))
+    Ok(!found && filled && reader.reads_first(cells))
 }
 
 fn watch_filled(board: &Board, alloc: Global, cells: u32) -> Result<bool, AllocError> {

@@ -1,5 +1,6 @@
 //! The tests of the world and of the crates that it stands on, a module each. They use public calls alone, so that none of
-//! these crates is proved once more with them.
+//! these crates is proved once more with them. They look at what no clause says: that calls succeed with ample memory, what
+//! a board takes, and what is hard to see in a schedule. Whole runs stand in `ct_tool_tests`.
 #![tactic(auto)]
 
 #[cfg(test)]
@@ -16,7 +17,5 @@ mod network;
 mod relay;
 #[cfg(test)]
 mod rounds;
-#[cfg(test)]
-mod table;
 #[cfg(test)]
 mod world;

@@ -1,37 +1,24 @@
 use ct_board::{Board, Watcher};
-use ct_model::{Phase, Step};
-use ct_names::{
-    Command, Group, Instance, Limit, MAX_BOUND, Member, Message, Refusal, Round, Serial,
-};
-use ct_world::{Letter, Outcome, ReplayFault, Wire, World};
-use fact::{Fact, Plain, Sent};
+use ct_model::Step;
+use ct_names::{Command, Group, Instance, Limit, MAX_BOUND, Member, Message, Refusal, Serial};
+use ct_world::World;
+use fact::{Fact, Plain};
 use std::alloc::Global;
 use std::process::Abort;
-use trial::{Posted, Trial, after_instances, after_proposals, after_round, shown, shown_new};
+use trial::{Posted, Trial, after_instances, after_round, shown};
 
-mod bounds;
 mod cells;
-mod driving;
 mod fact;
-mod following;
-mod instances;
 mod limits;
-mod network;
-mod refusals;
-mod rounds;
-mod tables;
-pub(crate) mod trial;
+mod posting;
+mod preparing;
+mod trial;
 mod watching;
 
 const SEVEN: Command = Command::Set(0, 7);
 
 // The message of `ONE_ROUND`.
 const FIRST: Plain = (1, 1, SEVEN);
-
-// The messages of `TWO_PROPOSALS`.
-const ONE: Plain = (1, 1, Command::Set(0, 1));
-
-const TWO: Plain = (2, 1, Command::Set(0, 2));
 
 // The messages of `TWO_INSTANCES`.
 const COPY: Plain = (1, 1, Command::Copy(0, 1));
@@ -62,20 +49,6 @@ static ONE_ROUND: [Step; 22] = [
     Step::Deliver(2),
     Step::Receive(1, 14),
     Step::Deliver(1),
-];
-
-// Three members, of which two propose different messages; the coordinator heard both.
-static TWO_PROPOSALS: [Step; 10] = [
-    Step::Submit(1, Command::Set(0, 1)),
-    Step::Submit(2, Command::Set(0, 2)),
-    Step::Receive(1, 1),
-    Step::Receive(2, 5),
-    Step::Begin(1),
-    Step::Begin(2),
-    Step::Enter(1),
-    Step::Enter(2),
-    Step::Receive(2, 7),
-    Step::Receive(2, 8),
 ];
 
 // One member delivers its second message before its first, in two instances.

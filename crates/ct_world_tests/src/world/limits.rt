@@ -4,18 +4,6 @@ use super::*;
 
 const SUBMIT: Step = Step::Submit(1, SEVEN);
 
-const POSTPONE: Step = Step::Postpone(1, 1);
-
-#[test]
-fn submissions_are_limited(rt: HostRuntime) {
-    static FACTS: &[Fact<'static>] = &[
-        Fact::Repeated(65_535, SUBMIT),
-        Fact::Refused(SUBMIT, Refusal::Full(Limit::Submissions)),
-        Fact::Cells(0),
-    ];
-    shown_new(&rt, 1, FACTS);
-}
-
 #[test]
 fn envelopes_are_limited(rt: HostRuntime) {
     static FACTS: &[Fact<'static>] = &[
@@ -24,18 +12,7 @@ fn envelopes_are_limited(rt: HostRuntime) {
         Fact::Refused(SUBMIT, Refusal::Full(Limit::Envelopes)),
         Fact::Cells(0),
     ];
-    shown_new(&rt, 16, FACTS);
-}
-
-#[test]
-fn steps_are_limited(rt: HostRuntime) {
-    static STEPS: [Step; 1] = [SUBMIT];
-    static FACTS: &[Fact<'static>] = &[
-        Fact::Repeated(999_999, POSTPONE),
-        Fact::Refused(POSTPONE, Refusal::Full(Limit::Steps)),
-        Fact::Cells(0),
-    ];
-    shown(&rt, 1, &STEPS, 1, FACTS);
+    Trial::new(&rt, rt.alloc(), 16, 4).shows(&rt, FACTS);
 }
 
 // A round that one member alone ends without a decision, after so many envelopes. The proposal is never received.
@@ -116,13 +93,4 @@ fn instances_are_limited(rt: HostRuntime) {
         Fact::Cells(1024),
     ];
     Trial::new(&rt, rt.alloc(), 1, 1024).shows(&rt, FACTS);
-}
-
-#[test]
-fn cells_are_limited(rt: HostRuntime) {
-    static FACTS: &[Fact<'static>] = &[
-        Fact::Refused(Step::Deliver(1), Refusal::Full(Limit::Cells)),
-        Fact::Counts(23, 10, 1),
-    ];
-    Trial::after(&rt, 1, 1, &TWO_INSTANCES, 23).shows(&rt, FACTS);
 }

@@ -31,7 +31,7 @@ impl<'b> Viewer<'b> {
     {
         match (self.watcher.next(self.board), wanted) {
             (Some(batch), Some((instance, message))) => {
-                batch.instance() == instance && fact::is(Some(batch.messages()), &[message])
+                batch.instance() == instance && fact::is_alone(batch.messages(), message)
             }
             (None, None) => true,
             _ => false,
@@ -112,12 +112,11 @@ impl<'b> Viewer<'b> {
 
 // Whether a new watcher of the board meets the world, which answers so. It is then told of these batches, and reads them.
 pub(super) fn watch(
-    alloc: Global,
     trial: &Trial,
     wanted: Result<(), Refusal>,
     batches: &[(Instance, Plain)],
 ) -> bool {
-    match Viewer::new(alloc, &trial.board) {
+    match Viewer::new(trial.alloc(), &trial.board) {
         Some(mut viewer) => viewer.sees(trial, wanted, batches),
         None => false,
     }
@@ -203,7 +202,7 @@ fn a_cell_that_is_set_refuses_a_batch(rt: HostRuntime) {
         Fact::Prepared(None),
         Fact::Counts(12, 6, 0),
     ];
-    static BACK: &[Fact<'static>] = &[Fact::Sends(DELIVER, 0), Fact::Counts(13, 6, 1)];
+    static BACK: &[Fact<'static>] = &[Fact::Done(DELIVER), Fact::Counts(13, 6, 1)];
     let trial = Trial::new(&rt, rt.alloc(), 1, 4);
     let other = Trial::after(&rt, 1, 4, &TWO_INSTANCES, 13);
     trial.exchanged(&rt, other, THERE, BACK);
@@ -228,44 +227,15 @@ fn read_more(trial: &Trial, empty: &Trial) -> bool {
 fn who_read_more_than_was_posted_is_refused(rt: HostRuntime) {
     let trial = Trial::after(&rt, 1, 4, &TWO_INSTANCES, 24);
     let empty = Trial::new(&rt, rt.alloc(), 1, 4);
-    assert!(rt; trial.is_met(Ok(()), &[(1, FIVE), (2, COPY)]) && read_more(&trial, &empty));
+    assert!(rt; read_more(&trial, &empty));
     trial.end();
     empty.end();
 }
 
-// What is wanted of the step at the place, from 0.
-fn wanted_at(wanted: &[(usize, Posted)], place: usize) -> Option<Posted> {
-    for (step, posted) in wanted {
-        if *step == place {
-            return Some(*posted);
-        }
-    }
-    None
-}
-
-// Whether, of the steps, only those at these places have a receipt, each of what stands beside it.
-fn posts_all(trial: &mut Trial, steps: &[Step], wanted: &[(usize, Posted)]) -> bool {
-    for (i, step) in steps.iter().enumerate() {
-        if !trial.posts(step, wanted_at(wanted, i)) {
-            return false;
-        }
-    }
-    true
-}
-
-fn post_all(rt: &(impl Abort + AllocGlobal), n: u8, steps: &[Step], wanted: &[(usize, Posted)]) {
-    let mut trial = Trial::new(rt, rt.alloc(), n, 4);
-    assert!(rt; posts_all(&mut trial, steps, wanted));
-    trial.end();
-}
-
 #[test]
-fn the_first_deliver_of_an_instance_has_a_receipt(rt: HostRuntime) {
-    static ALONE: [(usize, Posted); 2] = [(12, (0, 1, FIVE)), (23, (1, 2, COPY))];
-    post_all(&rt, 1, &TWO_INSTANCES, &ALONE);
-    // The other member's Deliver comes later.
-    static OF_THREE: [(usize, Posted); 1] = [(19, (0, 1, FIRST))];
-    post_all(&rt, 3, &ONE_ROUND, &OF_THREE);
+fn the_batches_of_a_replay_are_met_and_read(rt: HostRuntime) {
+    static FACTS: &[Fact<'static>] = &[Fact::Met(Ok(()), &[(1, FIVE), (2, COPY)])];
+    after_instances(&rt, FACTS);
 }
 
 // Whether a new watcher reads the only message of each of the first instances, told of them or not.
