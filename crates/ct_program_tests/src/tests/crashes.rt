@@ -89,27 +89,8 @@ fn crashed(alloc: Global, after: usize, member: Member) -> Option<Outcome> {
     rehearsed::<Brand>(alloc, Blank::new(1000), &steps)
 }
 
-// What came of all lists with one crash: of each member, before the first step and after each.
-fn crashed_everywhere(alloc: Global) -> Option<Vec<Outcome>> {
-    let mut outcomes = Vec::new(alloc);
-    for after in 0..=STEPS.len() {
-        for member in 1..=3u8 {
-            outcomes.push(crashed(alloc, after, member)?).ok()?;
-        }
-    }
-    Some(outcomes)
-}
-
 fn delivers(world: &World, member: Member) -> bool {
     world.delivered(member).is_some_and(|list| !list.is_empty())
-}
-
-// In how many of the outcomes the member delivered the message.
-fn deliveries(outcomes: &[Outcome], member: Member) -> usize {
-    outcomes
-        .iter()
-        .filter(|outcome| delivers(&outcome.world, member))
-        .count()
 }
 
 // Whether of what the two members delivered one begins the other.
@@ -145,59 +126,66 @@ fn is_replayed(alloc: Global, world: &World) -> Option<bool> {
     Some(own.as_slice() == other.as_slice())
 }
 
-// Whether all lists with a crash are replayed.
-fn are_replayed(alloc: Global) -> Option<bool> {
-    let outcomes = crashed_everywhere(alloc)?;
-    let all = outcomes
-        .iter()
-        .all(|outcome| is_replayed(alloc, &outcome.world) == Some(true));
-    Some(all && outcomes.len() == 69)
+// How many steps of all lists were done, refused and short, and in how many lists each member delivers.
+#[derive(Clone, Copy, PartialEq, Eq)]
+struct Sums {
+    applied: u64,
+    refused: u64,
+    short: u64,
+    deliveries: [u64; 3],
 }
 
-#[test]
-fn lists_with_a_crash_are_replayed(rt: HostRuntime) -> Result<(), Fail> {
-    assert!(rt; are_replayed(rt.alloc()) == Some(true));
-    Ok(())
-}
-
-// In how many of all lists with a crash each member delivers, where all leave one order.
-fn all_deliveries(alloc: Global) -> Option<[usize; 3]> {
-    let outcomes = crashed_everywhere(alloc)?;
-    if outcomes
-        .iter()
-        .all(|outcome| are_in_one_order(&outcome.world))
-    {
-        Some([1, 2, 3].map(|member| deliveries(&outcomes, member)))
+// Adds what came of a list, where it is replayed and leaves one order.
+fn add(alloc: Global, sums: &mut Sums, outcome: &Outcome) -> Option<()> {
+    if is_replayed(alloc, &outcome.world)? && are_in_one_order(&outcome.world) {
+        sums.applied = sums.applied.saturating_add(outcome.played.applied);
+        sums.refused = sums.refused.saturating_add(outcome.played.refused);
+        sums.short = sums.short.saturating_add(outcome.played.short);
+        add_deliveries(sums, &outcome.world);
+        Some(())
     } else {
         None
     }
 }
 
+fn add_deliveries(sums: &mut Sums, world: &World) {
+    for (count, member) in sums.deliveries.iter_mut().zip(1..=3u8) {
+        *count = count.saturating_add(u64::from(delivers(world, member)));
+    }
+}
+
+// The same of a list with a crash of the member after so many steps.
+fn add_crashed(alloc: Global, sums: &mut Sums, after: usize, member: Member) -> Option<()> {
+    let outcome = crashed(alloc, after, member)?;
+    add(alloc, sums, &outcome)
+}
+
+// The sums of all lists with one crash: of each member, before the first step and after each.
+fn crashed_everywhere(alloc: Global) -> Option<Sums> {
+    let mut sums = Sums {
+        applied: 0,
+        refused: 0,
+        short: 0,
+        deliveries: [0; 3],
+    };
+    for after in 0..=STEPS.len() {
+        for member in 1..=3u8 {
+            add_crashed(alloc, &mut sums, after, member)?;
+        }
+    }
+    Some(sums)
+}
+
 // The numbers are those of the reference in `bench/model.py`, which goes on after a refusal.
 #[test]
-fn lists_with_a_crash_leave_one_order(rt: HostRuntime) -> Result<(), Fail> {
-    assert!(rt; all_deliveries(rt.alloc()) == Some([29, 36, 0]));
-    Ok(())
-}
-
-// How many steps were done in all, refused and short.
-fn sums(outcomes: &[Outcome]) -> (u64, u64, u64) {
-    let mut applied: u64 = 0;
-    let mut refused: u64 = 0;
-    let mut short: u64 = 0;
-    for outcome in outcomes {
-        applied = applied.saturating_add(outcome.played.applied);
-        refused = refused.saturating_add(outcome.played.refused);
-        short = short.saturating_add(outcome.played.short);
-    }
-    (applied, refused, short)
-}
-
-#[test]
-fn lists_with_a_crash_are_tried_to_their_end(rt: HostRuntime) -> Result<(), Fail> {
-    let tried = crashed_everywhere(rt.alloc()).map(|outcomes| sums(&outcomes));
-    assert!(rt; tried == Some((1166, 421, 0)));
-    Ok(())
+fn lists_with_a_crash_are_replayed_and_leave_one_order(rt: HostRuntime) {
+    let wanted = Sums {
+        applied: 1166,
+        refused: 421,
+        short: 0,
+        deliveries: [29, 36, 0],
+    };
+    assert!(rt; crashed_everywhere(rt.alloc()) == Some(wanted));
 }
 
 // What came of the list with this crash, how many envelopes were sent, and which members delivered.

@@ -73,92 +73,76 @@ fn replayed<R: Threads + Wait + Sync>(
     world_of(alloc, &text)
 }
 
-// Whether what the run writes is a record of so many members and cells, which is replayed, and in which something was sent.
-fn is_replayed<R: Threads + Wait + Sync>(
-    rt: &R,
-    alloc: Global,
-    words: &'static [&'static str],
-    members: u8,
-    cells: u16,
-) -> bool {
-    replayed(rt, alloc, words).is_some_and(|world| world.group().n() == members
-        && world.cells() == cells
-        && world.bound() == 1_048_560
-        && world.sent() > 0)
-}
-
 #[test]
 fn a_free_run_is_written(rt: HostRuntime) -> Result<(), Fail> {
-    let words = &[
-        "ct",
-        "free",
-        "--members",
-        "2",
-        "--turns",
-        "0",
-        "--submit",
-        "3",
-        "--crash",
-        "2",
-    ];
-    let is_line = written(&rt, rt.alloc(), words).is_some_and(|text| text.as_slice()
+    let is_line = written(&rt, rt.alloc(), SHORT_WORDS).is_some_and(|text| text.as_slice()
         == LINE.as_bytes());
     assert!(rt; is_line);
     Ok(())
 }
 
-#[test]
-fn a_run_of_one_member_is_replayed(rt: HostRuntime) -> Result<(), Fail> {
-    let words = &["ct", "free", "--members=1", "--turns=200"];
-    assert!(rt; is_replayed(&rt, rt.alloc(), words, 1, 64));
-    Ok(())
+// The words of free runs, with the members and cells of the records that they write.
+static RUNS: [(&[&str], u8, u16); 4] = [
+    (&["ct", "free", "--members=1", "--turns=200"], 1, 64),
+    (
+        &[
+            "ct",
+            "free",
+            "--members=3",
+            "--turns=200",
+            "--submit=6",
+            "--crash=3",
+            "--postpone=10",
+            "--lose=10",
+            "--repeat=20",
+        ],
+        3,
+        64,
+    ),
+    (
+        &[
+            "ct",
+            "free",
+            "--members=5",
+            "--turns=100",
+            "--seed=7",
+            "--rate=256",
+            "--cells=2",
+        ],
+        5,
+        2,
+    ),
+    (
+        &[
+            "ct",
+            "free",
+            "--members=2",
+            "--turns=100",
+            "--rate=0",
+            "--cells=0",
+            "--crash=9",
+        ],
+        2,
+        0,
+    ),
+];
+
+// Whether the world has so many members and cells, no bound, and envelopes.
+fn is_of(world: &World, members: u8, cells: u16) -> bool {
+    world.group().n() == members
+        && world.cells() == cells
+        && world.bound() == 1_048_560
+        && world.sent() > 0
 }
 
 #[test]
-fn a_run_with_all_scripts_is_replayed(rt: HostRuntime) -> Result<(), Fail> {
-    let words = &[
-        "ct",
-        "free",
-        "--members=3",
-        "--turns=200",
-        "--submit=6",
-        "--crash=3",
-        "--postpone=10",
-        "--lose=10",
-        "--repeat=20",
-    ];
-    assert!(rt; is_replayed(&rt, rt.alloc(), words, 3, 64));
-    Ok(())
-}
-
-#[test]
-fn a_run_that_suspects_always_is_replayed(rt: HostRuntime) -> Result<(), Fail> {
-    let words = &[
-        "ct",
-        "free",
-        "--members=5",
-        "--turns=100",
-        "--seed=7",
-        "--rate=256",
-        "--cells=2",
-    ];
-    assert!(rt; is_replayed(&rt, rt.alloc(), words, 5, 2));
-    Ok(())
-}
-
-#[test]
-fn a_run_that_suspects_never_is_replayed(rt: HostRuntime) -> Result<(), Fail> {
-    let words = &[
-        "ct",
-        "free",
-        "--members=2",
-        "--turns=100",
-        "--rate=0",
-        "--cells=0",
-        "--crash=9",
-    ];
-    assert!(rt; is_replayed(&rt, rt.alloc(), words, 2, 0));
-    Ok(())
+fn free_runs_are_replayed(rt: HostRuntime) {
+    for (words, members, cells) in &RUNS {
+        let is_replayed = replayed(&rt, rt.alloc(), *words).is_some_and(|world| is_of(
+            &world, *members, *cells,
+        ));
+        assert!(rt; is_replayed, "{members} members");
+    }
 }
 
 // What a free run of one member answers whose writer takes nothing.
@@ -224,67 +208,62 @@ fn has_name(text: &[u8], name: &str) -> Option<bool> {
     Some(str::from_utf8(text).ok()?.contains(name))
 }
 
-#[test]
-fn members_receive_in_their_turns(rt: HostRuntime) -> Result<(), Fail> {
-    let words = &["ct", "free", "--members=1", "--turns=100000", "--rate=0"];
-    assert!(rt; shows(&rt, rt.alloc(), words, "[\"receive\",1,") == Some(true));
-    Ok(())
-}
+// The words of free runs, and the steps that one of some such runs has. Each kind of entry takes the members in turn, and
+// what is lost is there to be repeated.
+static SHOWN: [(&[&str], &str); 9] = [
+    (ALONE, "[\"receive\",1,"),
+    (ALONE, "[\"deliver\",1]"),
+    (
+        &["ct", "free", "--members=1", "--turns=0", "--postpone=1000"],
+        "[\"postpone\",1,",
+    ),
+    (
+        &["ct", "free", "--members=1", "--turns=100", "--lose=1000"],
+        "[\"lose\",1,",
+    ),
+    (
+        &[
+            "ct",
+            "free",
+            "--members=1",
+            "--turns=0",
+            "--submit=1000",
+            "--lose=1000",
+            "--repeat=1000",
+        ],
+        "[\"repeat\",1,",
+    ),
+    (
+        &["ct", "free", "--members=2", "--turns=5000", "--rate=256"],
+        "[\"suspect\",",
+    ),
+    (ALL_DISTURBED, "[\"postpone\",3,"),
+    (ALL_DISTURBED, "[\"lose\",3,"),
+    (ALL_DISTURBED, "[\"repeat\",3,"),
+];
+
+// One member, whom nobody suspects.
+const ALONE: &[&str] = &["ct", "free", "--members=1", "--turns=100000", "--rate=0"];
+
+const ALL_DISTURBED: &[&str] = &[
+    "ct",
+    "free",
+    "--members=3",
+    "--turns=0",
+    "--submit=1000",
+    "--postpone=1000",
+    "--lose=1000",
+    "--repeat=1000",
+];
 
 #[test]
-fn members_deliver_where_nobody_is_suspected(rt: HostRuntime) -> Result<(), Fail> {
-    let words = &["ct", "free", "--members=1", "--turns=100000", "--rate=0"];
-    assert!(rt; shows(&rt, rt.alloc(), words, "[\"deliver\",1]") == Some(true));
-    Ok(())
-}
-
-#[test]
-fn members_postpone_where_they_are_asked_to(rt: HostRuntime) -> Result<(), Fail> {
-    let words = &["ct", "free", "--members=1", "--turns=0", "--postpone=1000"];
-    assert!(rt; shows(&rt, rt.alloc(), words, "[\"postpone\",1,") == Some(true));
-    Ok(())
-}
-
-// Each kind of entry takes the members in turn.
-#[test]
-fn the_last_member_is_disturbed_too(rt: HostRuntime) -> Result<(), Fail> {
-    let words = &[
-        "ct",
-        "free",
-        "--members=3",
-        "--turns=0",
-        "--submit=1000",
-        "--postpone=1000",
-        "--lose=1000",
-        "--repeat=1000",
-    ];
-    for name in ["[\"postpone\",3,", "[\"lose\",3,", "[\"repeat\",3,"] {
-        assert!(rt; shows(&rt, rt.alloc(), words, name) == Some(true), "{name}");
+fn options_do_what_they_say(rt: HostRuntime) {
+    for (words, name) in &SHOWN {
+        assert!(rt;
+            shows(&rt, rt.alloc(), *words, *name) == Some(true),
+            "{name}"
+        );
     }
-    Ok(())
-}
-
-#[test]
-fn envelopes_are_lost_where_it_is_asked_for(rt: HostRuntime) -> Result<(), Fail> {
-    let words = &["ct", "free", "--members=1", "--turns=100", "--lose=1000"];
-    assert!(rt; shows(&rt, rt.alloc(), words, "[\"lose\",1,") == Some(true));
-    Ok(())
-}
-
-// What is lost is there to be repeated.
-#[test]
-fn envelopes_are_repeated_where_it_is_asked_for(rt: HostRuntime) -> Result<(), Fail> {
-    let words = &[
-        "ct",
-        "free",
-        "--members=1",
-        "--turns=0",
-        "--submit=1000",
-        "--lose=1000",
-        "--repeat=1000",
-    ];
-    assert!(rt; shows(&rt, rt.alloc(), words, "[\"repeat\",1,") == Some(true));
-    Ok(())
 }
 
 // Whether each of the world's batches has one message.

@@ -1,191 +1,152 @@
 use super::*;
 use clap::error::ErrorKind;
 
-// The kind of clap's fault.
-fn kind_of(alloc: Global, words: &'static [&'static str]) -> Option<ErrorKind> {
-    match line(alloc, words) {
-        Err(LineFault::Clap(error)) => Some(error.kind()),
-        _ => None,
-    }
-}
+// No turns of two members, and three submissions.
+const SHORT: FreeOptions = FreeOptions {
+    members: 2,
+    turns: 0,
+    seed: 0,
+    rate: 64,
+    cells: 64,
+    submit: 3,
+    crash: 2,
+    postpone: 0,
+    lose: 0,
+    repeat: 0,
+    batch: 1_048_560,
+};
 
-// Whether the words are this call.
-fn is_call(alloc: Global, words: &'static [&'static str], call: Call) -> bool {
-    line(alloc, words).is_ok_and(|found| found == call)
+const DEFAULTS: FreeOptions = FreeOptions {
+    members: 1,
+    turns: 1000,
+    seed: 0,
+    rate: 64,
+    cells: 64,
+    submit: 8,
+    crash: 0,
+    postpone: 0,
+    lose: 0,
+    repeat: 0,
+    batch: 1_048_560,
+};
+
+const GREATEST: FreeOptions = FreeOptions {
+    members: 16,
+    turns: 100_000,
+    seed: 4_294_967_295,
+    rate: 256,
+    cells: 1024,
+    submit: 1000,
+    crash: 16,
+    postpone: 1000,
+    lose: 1000,
+    repeat: 1000,
+    batch: 1_048_560,
+};
+
+// Words, and the calls that they are.
+static CALLS: [(&[&str], Call); 4] = [
+    (&["ct", "replay"], Call::Replay),
+    (SHORT_WORDS, Call::Free(SHORT)),
+    (&["ct", "free", "--members=1"], Call::Free(DEFAULTS)),
+    (
+        &[
+            "ct",
+            "free",
+            "--members=16",
+            "--turns=100000",
+            "--seed=4294967295",
+            "--rate=256",
+            "--cells=1024",
+            "--submit=1000",
+            "--crash=16",
+            "--postpone=1000",
+            "--lose=1000",
+            "--repeat=1000",
+            "--batch=1048560",
+        ],
+        Call::Free(GREATEST),
+    ),
+];
+
+// The place of the first of the words that are another call, or none.
+fn called_otherwise(alloc: Global) -> Option<usize> {
+    CALLS.iter().position(|(words, call)| !line(alloc, *words).is_ok_and(|found| found == *call))
 }
 
 #[test]
-fn replay_is_a_word(rt: HostRuntime) {
-    assert!(rt; is_call(rt.alloc(), &["ct", "replay"], Call::Replay));
+fn words_are_calls(rt: HostRuntime) {
+    assert_eq!(rt; called_otherwise(rt.alloc()), None);
 }
 
-// Whether that is the kind of clap's fault.
-fn is_kind(alloc: Global, words: &'static [&'static str], kind: ErrorKind) -> bool {
-    kind_of(alloc, words) == Some(kind)
-}
+// Words that clap refuses, and how.
+static REFUSED: [(&[&str], ErrorKind); 12] = [
+    (&["ct"], ErrorKind::MissingSubcommand),
+    (&["ct", "reply"], ErrorKind::InvalidSubcommand),
+    (&["ct", "replay", "x"], ErrorKind::UnknownArgument),
+    (&["ct", "replay", "--members=2"], ErrorKind::UnknownArgument),
+    (&["ct", "--help"], ErrorKind::DisplayHelp),
+    (&["ct", "help", "replay"], ErrorKind::DisplayHelp),
+    (&["ct", "--version"], ErrorKind::DisplayVersion),
+    (
+        &["ct", "free", "--turns", "0"],
+        ErrorKind::MissingRequiredArgument,
+    ),
+    (
+        &[
+            "ct", "free", "--turns", "0", "--submit", "3", "--crash", "2", "--rate", "257",
+        ],
+        ErrorKind::MissingRequiredArgument,
+    ),
+    (&["ct", "free", "--members"], ErrorKind::InvalidValue),
+    (
+        &["ct", "free", "--members=2", "--members=3"],
+        ErrorKind::ArgumentConflict,
+    ),
+    (
+        &["ct", "free", "--members=2", "--speed=1"],
+        ErrorKind::UnknownArgument,
+    ),
+];
 
-#[test]
-fn other_words_are_refused(rt: HostRuntime) {
-    let alloc = rt.alloc();
-    assert!(rt;
-        is_kind(alloc, &["ct"], ErrorKind::MissingSubcommand)
-            && is_kind(alloc, &["ct", "reply"], ErrorKind::InvalidSubcommand)
-            && is_kind(alloc, &["ct", "replay", "x"], ErrorKind::UnknownArgument)
-            && is_kind(alloc, &["ct", "--help"], ErrorKind::DisplayHelp)
-            && is_kind(alloc, &["ct", "help", "replay"], ErrorKind::DisplayHelp)
-    );
-}
-
-// Whether clap shows this text.
-fn is_shown(alloc: Global, words: &'static [&'static str], text: &str) -> bool {
+// Whether clap answers the words so.
+fn is_refused(alloc: Global, words: &[&str], kind: ErrorKind) -> bool {
     match line(alloc, words) {
-        Err(LineFault::Clap(error)) => is_text(shown(alloc, &error), text),
+        Err(LineFault::Clap(error)) => error.kind() == kind,
         _ => false,
     }
 }
 
-#[test]
-fn the_version_is_shown(rt: HostRuntime) {
-    assert!(rt; is_shown(rt.alloc(), &["ct", "--version"], "ct 0.1.0\n"));
-}
-
-// Whether the words are refused for a value alone.
-fn is_out_of_range(alloc: Global, words: &'static [&'static str]) -> bool {
-    matches!(&line(alloc, words), Err(LineFault::Range))
+// The place of the first of the words that are answered otherwise.
+fn refused_otherwise(alloc: Global) -> Option<usize> {
+    REFUSED
+        .iter()
+        .position(|(words, kind)| !is_refused(alloc, *words, *kind))
 }
 
 #[test]
-fn free_takes_options(rt: HostRuntime) {
-    let words = &[
-        "ct",
-        "free",
-        "--members",
-        "2",
-        "--turns",
-        "0",
-        "--submit",
-        "3",
-        "--crash",
-        "2",
-    ];
-    let options = FreeOptions {
-        members: 2,
-        turns: 0,
-        seed: 0,
-        rate: 64,
-        cells: 64,
-        submit: 3,
-        crash: 2,
-        postpone: 0,
-        lose: 0,
-        repeat: 0,
-        batch: 1_048_560,
-    };
-    assert!(rt; is_call(rt.alloc(), words, Call::Free(options)));
+fn other_words_are_refused(rt: HostRuntime) {
+    assert_eq!(rt; refused_otherwise(rt.alloc()), None);
 }
 
-#[test]
-fn free_has_defaults(rt: HostRuntime) {
-    let words = &["ct", "free", "--members=1"];
-    let options = FreeOptions {
-        members: 1,
-        turns: 1000,
-        seed: 0,
-        rate: 64,
-        cells: 64,
-        submit: 8,
-        crash: 0,
-        postpone: 0,
-        lose: 0,
-        repeat: 0,
-        batch: 1_048_560,
-    };
-    assert!(rt; is_call(rt.alloc(), words, Call::Free(options)));
-}
-
-#[test]
-fn values_may_be_the_greatest_of_their_ranges(rt: HostRuntime) {
-    let words = &[
-        "ct",
-        "free",
-        "--members=16",
-        "--turns=100000",
-        "--seed=4294967295",
-        "--rate=256",
-        "--cells=1024",
-        "--submit=1000",
-        "--crash=16",
-        "--postpone=1000",
-        "--lose=1000",
-        "--repeat=1000",
-        "--batch=1048560",
-    ];
-    let options = FreeOptions {
-        members: 16,
-        turns: 100_000,
-        seed: 4_294_967_295,
-        rate: 256,
-        cells: 1024,
-        submit: 1000,
-        crash: 16,
-        postpone: 1000,
-        lose: 1000,
-        repeat: 1000,
-        batch: 1_048_560,
-    };
-    assert!(rt; is_call(rt.alloc(), words, Call::Free(options)));
-}
-
-#[test]
-fn members_have_a_range(rt: HostRuntime) {
-    let alloc = rt.alloc();
-    assert!(rt; is_out_of_range(alloc, &["ct", "free", "--members", "0"]));
-    assert!(rt; is_out_of_range(alloc, &["ct", "free", "--members", "17"]));
-    assert!(rt; is_out_of_range(alloc, &["ct", "free", "--members", "two"]));
-    assert!(rt; is_out_of_range(alloc, &["ct", "free", "--members="]));
-}
-
-#[test]
-fn other_values_have_ranges(rt: HostRuntime) {
-    let alloc = rt.alloc();
-    assert!(rt; is_out_of_range(alloc, &["ct", "free", "--members=2", "--turns=100001"]));
-    assert!(rt; is_out_of_range(alloc, &["ct", "free", "--members=2", "--seed=4294967296"]));
-    assert!(rt; is_out_of_range(alloc, &["ct", "free", "--members=2", "--rate=257"]));
-    assert!(rt; is_out_of_range(alloc, &["ct", "free", "--members=2", "--cells=1025"]));
-    assert!(rt; is_out_of_range(alloc, &["ct", "free", "--members=2", "--submit=1001"]));
-    assert!(rt; is_out_of_range(alloc, &["ct", "free", "--members=2", "--crash=17"]));
-    assert!(rt; is_out_of_range(alloc, &["ct", "free", "--members=2", "--postpone=1001"]));
-    assert!(rt; is_out_of_range(alloc, &["ct", "free", "--members=2", "--lose=1001"]));
-    assert!(rt; is_out_of_range(alloc, &["ct", "free", "--members=2", "--repeat=1001"]));
-    assert!(rt; is_out_of_range(alloc, &["ct", "free", "--members=2", "--batch=0"]));
-    assert!(rt; is_out_of_range(alloc, &["ct", "free", "--members=2", "--batch=1048561"]));
-}
-
-#[test]
-fn a_free_run_in_other_words_is_refused(rt: HostRuntime) {
-    let alloc = rt.alloc();
-    let twice = &["ct", "free", "--members=2", "--members=3"];
-    let unknown = &["ct", "free", "--members=2", "--speed=1"];
-    assert!(rt;
-        is_kind(
-            alloc,
-            &["ct", "free", "--turns", "0"],
-            ErrorKind::MissingRequiredArgument
-        ) && is_kind(alloc, &["ct", "free", "--members"], ErrorKind::InvalidValue)
-            && is_kind(alloc, twice, ErrorKind::ArgumentConflict)
-            && is_kind(alloc, unknown, ErrorKind::UnknownArgument)
-            && is_kind(
-                alloc,
-                &["ct", "replay", "--members=2"],
-                ErrorKind::UnknownArgument
-            )
-    );
-}
-
-#[test]
-fn a_value_out_of_range_is_told_after_the_words(rt: HostRuntime) {
-    let alloc = rt.alloc();
-    let words = &[
+// Options with a value out of their ranges.
+static OUT_OF_RANGE: [&[&str]; 16] = [
+    &["ct", "free", "--members", "0"],
+    &["ct", "free", "--members", "17"],
+    &["ct", "free", "--members", "two"],
+    &["ct", "free", "--members="],
+    &["ct", "free", "--members=2", "--turns=100001"],
+    &["ct", "free", "--members=2", "--seed=4294967296"],
+    &["ct", "free", "--members=2", "--rate=257"],
+    &["ct", "free", "--members=2", "--cells=1025"],
+    &["ct", "free", "--members=2", "--submit=1001"],
+    &["ct", "free", "--members=2", "--crash=17"],
+    &["ct", "free", "--members=2", "--postpone=1001"],
+    &["ct", "free", "--members=2", "--lose=1001"],
+    &["ct", "free", "--members=2", "--repeat=1001"],
+    &["ct", "free", "--members=2", "--batch=0"],
+    &["ct", "free", "--members=2", "--batch=1048561"],
+    &[
         "ct",
         "free",
         "--members",
@@ -198,10 +159,63 @@ fn a_value_out_of_range_is_told_after_the_words(rt: HostRuntime) {
         "2",
         "--rate",
         "257",
-    ];
-    let without = &[
-        "ct", "free", "--turns", "0", "--submit", "3", "--crash", "2", "--rate", "257",
-    ];
-    assert!(rt; is_out_of_range(alloc, words));
-    assert!(rt; is_kind(alloc, without, ErrorKind::MissingRequiredArgument));
+    ],
+];
+
+// The place of the first of these that are not refused for a value alone.
+fn within_range(alloc: Global) -> Option<usize> {
+    OUT_OF_RANGE.iter().position(|words| !matches!(&line(alloc, *words), Err(LineFault::Range)))
+}
+
+#[test]
+fn values_have_ranges(rt: HostRuntime) {
+    assert_eq!(rt; within_range(rt.alloc()), None);
+}
+
+// What stands in the help of a replay and of a free run, and what the version is.
+static HELP: [(&[&str], &[&str]); 3] = [
+    (
+        &["ct", "replay", "--help"],
+        &[
+            "standard input",
+            "  0  ",
+            "  1  ",
+            "  2  ",
+            "  3  ",
+            "  4  ",
+            "  5  ",
+        ],
+    ),
+    (
+        &["ct", "free", "--help"],
+        &[
+            "--members <members>",
+            "1 to 16",
+            "0 to 100000 [default: 1000]",
+            "suspect the coordinator, 0 to 256 [default: 64]",
+        ],
+    ),
+    (&["ct", "--version"], &["ct 0.1.0\n"]),
+];
+
+// Whether clap answers the words by a text with all these parts.
+fn shows_all(alloc: Global, words: &[&str], parts: &[&str]) -> bool {
+    match line(alloc, words) {
+        Err(LineFault::Clap(error)) => {
+            let text = format!(in alloc; "{error}");
+            text.is_ok_and(|text| parts.iter().all(|part| text.contains(*part)))
+        }
+        _ => false,
+    }
+}
+
+// The place of the first of these whose text lacks a part.
+fn shown_otherwise(alloc: Global) -> Option<usize> {
+    HELP.iter()
+        .position(|(words, parts)| !shows_all(alloc, *words, *parts))
+}
+
+#[test]
+fn help_and_version_are_shown(rt: HostRuntime) {
+    assert_eq!(rt; shown_otherwise(rt.alloc()), None);
 }

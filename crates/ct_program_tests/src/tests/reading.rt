@@ -1,0 +1,246 @@
+use super::*;
+
+// Texts that lead to no world, by what a replay answers.
+static RECORDS: [(ProgramFault, &[&str]); 7] = [
+    (
+        ProgramFault::Read(ReadFault::Shape { at: 0 }),
+        &[
+            "7",
+            "{\"cells\":4,\"n\":3,\"steps\":[]}",
+            "{\"cells\":4,\"n\":3,\"steps\":[],\"version\":1.0}",
+            "{\"cells\":4,\"n\":17,\"steps\":[],\"version\":1}",
+            "{\"cells\":4,\"n\":0,\"steps\":[],\"version\":1}",
+            "{\"cells\":1025,\"n\":3,\"steps\":[],\"version\":1}",
+            "{\"cells\":4,\"n\":3,\"steps\":{},\"version\":1}",
+            "{\"cells\":4,\"m\":1,\"n\":3,\"steps\":[],\"version\":1}",
+            "{\"batch\":1,\"cells\":4,\"n\":3,\"steps\":[],\"version\":2}",
+            "{\"cells\":4,\"n\":3,\"steps\":[],\"version\":3}",
+            "{\"batch\":0,\"cells\":4,\"n\":3,\"steps\":[],\"version\":3}",
+            "{\"batch\":1048561,\"cells\":4,\"n\":3,\"steps\":[],\"version\":3}",
+            "{\"batch\":\"1\",\"cells\":4,\"n\":3,\"steps\":[],\"version\":3}",
+        ],
+    ),
+    (
+        ProgramFault::Read(ReadFault::Version),
+        &[
+            "{\"cells\":4,\"n\":17,\"steps\":[],\"version\":9}",
+            "{\"cells\":4,\"n\":3,\"steps\":[],\"version\":4}",
+        ],
+    ),
+    (
+        ProgramFault::Read(ReadFault::NotJson),
+        &["{\"cells\":4,\"n\":3,\"steps\":[[\"submit\",1,[\"set\",0,7]]"],
+    ),
+    (
+        ProgramFault::Read(ReadFault::Shape { at: 1 }),
+        &[
+            "{\"cells\":4,\"n\":3,\"steps\":[[\"lose\",1,1]],\"version\":1}",
+            "{\"cells\":4,\"n\":3,\"steps\":[[\"repeat\",1,1]],\"version\":1}",
+            "{\"cells\":4,\"n\":3,\"steps\":[[\"follow\",1]],\"version\":1}",
+        ],
+    ),
+    (
+        ProgramFault::Read(ReadFault::Shape { at: 2 }),
+        &["{\"cells\":4,\"n\":3,\"steps\":[[\"begin\",1],[\"follow\",1]],\"version\":2}"],
+    ),
+    (
+        ProgramFault::Replay {
+            at: 1,
+            refusal: Refusal::NotWaiting,
+        },
+        &["{\"cells\":4,\"n\":3,\"steps\":[[\"lose\",1,1]],\"version\":2}"],
+    ),
+    (
+        ProgramFault::Replay {
+            at: 1,
+            refusal: Refusal::NotSent,
+        },
+        &["{\"cells\":4,\"n\":3,\"steps\":[[\"repeat\",1,1]],\"version\":2}"],
+    ),
+];
+
+// The first of the texts to which a replay has another answer, or after which something is written.
+fn answered_otherwise(alloc: Global) -> Option<&'static str> {
+    for (fault, texts) in &RECORDS {
+        for text in *texts {
+            if !answers(alloc, *text, Err(*fault), &[]) {
+                return Some(*text);
+            }
+        }
+    }
+    None
+}
+
+#[test]
+fn records_are_refused(rt: HostRuntime) {
+    assert_eq!(rt; answered_otherwise(rt.alloc()), None);
+}
+
+// Lists of steps that lead to no world, by what a replay answers.
+static LISTS: [(ProgramFault, &[&str]); 9] = [
+    (
+        ProgramFault::Read(ReadFault::Shape { at: 1 }),
+        &[
+            "[[\"submit\",1,[\"set\",256,1]]]",
+            "[[\"submit\",1,[\"set\",0,18446744073709551616]]]",
+            "[[\"submit\",1,[\"swap\",0,1]]]",
+            "[[\"postpone\",-1,1]]",
+            "[[\"receive\",1,4294967296]]",
+            "[[\"receive\",1]]",
+            "[[\"crash\",1,1]]",
+            "[[]]",
+            "[[\"enter\",-1]]",
+            "[[\"enter\",1,1]]",
+        ],
+    ),
+    (
+        ProgramFault::Read(ReadFault::Shape { at: 2 }),
+        &[
+            "[[\"enter\",2],[\"jump\",1]]",
+            "[[\"receive\",1,1],[\"jump\",1],[]]",
+        ],
+    ),
+    (
+        ProgramFault::Read(ReadFault::Shape { at: 3 }),
+        &[
+            "[[\"begin\",1],[\"choose\",1,2],[\"choose\",1]]",
+            "[[\"begin\",1],[\"choose\",1,2],[\"choose\",1,256]]",
+            "[[\"begin\",1],[\"choose\",1,2],[\"deliver\",256]]",
+            "[[\"begin\",1],[\"choose\",1,2],[\"follow\",256]]",
+            "[[\"begin\",1],[\"choose\",1,2],[\"follow\",1,1]]",
+            "[[\"begin\",1],[\"choose\",1,2],[\"follow\"]]",
+            "[[\"begin\",1],[\"choose\",1,2],[\"Begin\",1]]",
+            "[[\"begin\",1],[\"choose\",1,2],[\"begin\"]]",
+        ],
+    ),
+    (
+        ProgramFault::Replay {
+            at: 1,
+            refusal: Refusal::NoSuchMember,
+        },
+        &[
+            "[[\"submit\",255,[\"add\",255,18446744073709551615]],[\"submit\",0,[\"copy\",255,255]],[\"postpone\",255,4294967295],[\"choose\",255,255],[\"choose\",0,0],[\"conclude\",255],[\"adopt\",0]]",
+            "[[\"enter\",0]]",
+        ],
+    ),
+    (
+        ProgramFault::Replay {
+            at: 1,
+            refusal: Refusal::BadCommand,
+        },
+        &["[[\"submit\",1,[\"set\",255,1]]]"],
+    ),
+    (
+        ProgramFault::Replay {
+            at: 1,
+            refusal: Refusal::NotWaiting,
+        },
+        &["[[\"receive\",1,0]]"],
+    ),
+    (
+        ProgramFault::Replay {
+            at: 1,
+            refusal: Refusal::Idle,
+        },
+        &["[[\"choose\",1,1]]"],
+    ),
+    (
+        ProgramFault::Replay {
+            at: 1,
+            refusal: Refusal::Undecided,
+        },
+        &["[[\"follow\",1]]"],
+    ),
+    (
+        ProgramFault::Replay {
+            at: 5,
+            refusal: Refusal::NotWaiting,
+        },
+        &[
+            "[[\"submit\",1,[\"set\",0,7]],[\"receive\",1,1],[\"receive\",2,2],[\"crash\",3],[\"receive\",2,2]]",
+        ],
+    ),
+];
+
+// The first of the lists to which a replay has another answer, or after which something is written.
+fn listed_otherwise(alloc: Global) -> Result<Option<&'static str>, AllocError> {
+    for (fault, lists) in &LISTS {
+        for list in *lists {
+            let record = with_steps(alloc, *list)?;
+            if !answers(alloc, &record, Err(*fault), &[]) {
+                return Ok(Some(*list));
+            }
+        }
+    }
+    Ok(None)
+}
+
+#[test]
+fn lists_of_steps_are_refused(rt: HostRuntime) -> Result<(), Fail> {
+    assert_eq!(rt; listed_otherwise(rt.alloc())?, None);
+    Ok(())
+}
+
+fn fault_of(alloc: Global, record: &[u8]) -> Option<ReadFault> {
+    match read_record(alloc, record) {
+        Ok(_) => None,
+        Err(fault) => Some(fault),
+    }
+}
+
+// How many first bytes of the record are no JSON, before more of them are something else.
+fn cut_short(alloc: Global, record: &str) -> usize {
+    let bytes = record.as_bytes();
+    for end in 0..bytes.len() {
+        if fault_of(alloc, &bytes[..end]) != Some(ReadFault::NotJson) {
+            return end;
+        }
+    }
+    bytes.len()
+}
+
+#[test]
+fn a_record_cut_short_is_no_json(rt: HostRuntime) {
+    assert_eq!(rt; cut_short(rt.alloc(), ONE_ROUND), ONE_ROUND.len());
+}
+
+// So many opening brackets, and then as many closing ones.
+fn brackets(alloc: Global, count: usize) -> Result<Vec<u8>, AllocError> {
+    let mut text = Vec::new(alloc);
+    for _ in 0..count {
+        text.push(b'[')?;
+    }
+    for _ in 0..count {
+        text.push(b']')?;
+    }
+    Ok(text)
+}
+
+fn fault_of_brackets(alloc: Global, count: usize) -> Result<Option<ReadFault>, AllocError> {
+    let text = brackets(alloc, count)?;
+    Ok(fault_of(alloc, &text))
+}
+
+#[test]
+fn deep_nesting_is_no_json(rt: HostRuntime) -> Result<(), Fail> {
+    let deep = fault_of_brackets(rt.alloc(), 200)?;
+    let shallow = fault_of_brackets(rt.alloc(), 100)?;
+    let shape = ReadFault::Shape { at: 0 };
+    assert!(rt; deep == Some(ReadFault::NotJson) && shallow == Some(shape));
+    Ok(())
+}
+
+// The faults of so many spaces, and of one less.
+fn faults_of_spaces(alloc: Global, count: usize) -> Result<[Option<ReadFault>; 2], AllocError> {
+    let mut text = vec![in alloc; b' '; count]?;
+    let long = fault_of(alloc, &text);
+    text.pop();
+    Ok([long, fault_of(alloc, &text)])
+}
+
+#[test]
+fn a_long_record_is_refused_unread(rt: HostRuntime) -> Result<(), Fail> {
+    let faults = faults_of_spaces(rt.alloc(), 67_108_865)?;
+    assert!(rt; faults == [Some(ReadFault::TooLong), Some(ReadFault::NotJson)]);
+    Ok(())
+}

@@ -1,0 +1,72 @@
+use super::*;
+
+// What is written of the world that the record leads to.
+fn rewritten(alloc: Global, record: &[u8]) -> Result<Vec<u8>, ProgramFault> {
+    let script = read_record(alloc, record)?;
+    let (world, _board) = World::replay(
+        alloc,
+        script.group,
+        script.cells,
+        script.batch,
+        &script.steps,
+    )?;
+    Ok(write_record(alloc, &world)?)
+}
+
+// Whether this text is written of the world that the record leads to.
+fn is_rewritten(alloc: Global, record: &str, text: &str) -> bool {
+    rewritten(alloc, record.as_bytes()).is_ok_and(|bytes| bytes.as_slice() == text.as_bytes())
+}
+
+// Records, and what is written of the worlds that they lead to.
+static WRITTEN: [(&str, &str); 10] = [
+    (RECORD, RECORD),
+    (ONE_ROUND, ONE_ROUND),
+    (
+        "{\"cells\":4,\"n\":3,\"steps\":[[\"submit\",1,[\"set\",0,7]],[\"receive\",1,1],[\"receive\",2,2]],\"version\":1}",
+        RECORD,
+    ),
+    (
+        "{\"cells\":4,\"n\":3,\"steps\":[[\"submit\",1,[\"set\",0,7]],[\"receive\",1,1],[\"receive\",2,2]],\"version\":2}",
+        RECORD,
+    ),
+    (
+        "{\"cells\":4,\"n\":3,\"steps\":[[\"submit\",1,[\"set\",0,7]],[\"receive\",1,1],[\"lose\",2,2],[\"repeat\",2,2],[\"receive\",2,2]],\"version\":2}",
+        "{\"batch\":1048560,\"cells\":4,\"n\":3,\"steps\":[[\"submit\",1,[\"set\",0,7]],[\"receive\",1,1],[\"lose\",2,2],[\"repeat\",2,2],[\"receive\",2,2]],\"version\":3}",
+    ),
+    (
+        "{\"batch\":1,\"cells\":4,\"n\":3,\"steps\":[],\"version\":3}",
+        "{\"batch\":1,\"cells\":4,\"n\":3,\"steps\":[],\"version\":3}",
+    ),
+    (
+        "{\"version\":1,\"steps\":[ ],\"n\":3,\"cells\":4}\n",
+        "{\"batch\":1048560,\"cells\":4,\"n\":3,\"steps\":[],\"version\":3}",
+    ),
+    (
+        "{\"batch\":1048560,\"cells\":4,\"n\":3,\"steps\":[[\"submit\",1,[\"add\",15,18446744073709551615]],[\"submit\",2,[\"copy\",3,4]],[\"postpone\",1,1],[\"crash\",2]],\"version\":3}",
+        "{\"batch\":1048560,\"cells\":4,\"n\":3,\"steps\":[[\"submit\",1,[\"add\",15,18446744073709551615]],[\"submit\",2,[\"copy\",3,4]],[\"postpone\",1,1],[\"crash\",2]],\"version\":3}",
+    ),
+    (
+        "{\"batch\":1048560,\"cells\":4,\"n\":3,\"steps\":[[\"submit\",1,[\"set\",0,7]],[\"receive\",1,1],[\"receive\",2,2],[\"begin\",1],[\"begin\",2],[\"enter\",1],[\"enter\",2],[\"receive\",2,7],[\"receive\",2,8],[\"choose\",2,1],[\"receive\",1,9],[\"adopt\",1],[\"receive\",2,10],[\"adopt\",2],[\"receive\",2,12],[\"receive\",2,13],[\"conclude\",2],[\"receive\",3,16],[\"follow\",3]],\"version\":3}",
+        "{\"batch\":1048560,\"cells\":4,\"n\":3,\"steps\":[[\"submit\",1,[\"set\",0,7]],[\"receive\",1,1],[\"receive\",2,2],[\"begin\",1],[\"begin\",2],[\"enter\",1],[\"enter\",2],[\"receive\",2,7],[\"receive\",2,8],[\"choose\",2,1],[\"receive\",1,9],[\"adopt\",1],[\"receive\",2,10],[\"adopt\",2],[\"receive\",2,12],[\"receive\",2,13],[\"conclude\",2],[\"receive\",3,16],[\"follow\",3]],\"version\":3}",
+    ),
+    (
+        " {\t\"version\" : 3 ,\n\"n\":\r\n3,\"batch\" : 9, \"steps\" : [ [ \"crash\" , 2 ] ,\n[\n\"submit\", 1, [ \"set\" , 0 , 7 ] ], [ \"receive\" ,1 , 1 ] ] ,\"cells\":4 }\n",
+        "{\"batch\":9,\"cells\":4,\"n\":3,\"steps\":[[\"crash\",2],[\"submit\",1,[\"set\",0,7]],[\"receive\",1,1]],\"version\":3}",
+    ),
+];
+
+// The first of the records of which something else is written.
+fn written_otherwise(alloc: Global) -> Option<&'static str> {
+    for (record, text) in WRITTEN {
+        if !is_rewritten(alloc, record, text) {
+            return Some(record);
+        }
+    }
+    None
+}
+
+#[test]
+fn records_are_written_in_the_last_version(rt: HostRuntime) {
+    assert_eq!(rt; written_otherwise(rt.alloc()), None);
+}
