@@ -20,7 +20,6 @@ use std::thread::Threads;
 mod counting;
 mod detecting;
 mod following;
-mod looking;
 mod meeting;
 mod numbering;
 mod plans;

@@ -1,6 +1,6 @@
 use super::*;
 use ct_board::Watcher;
-use ct_names::{Member, Message};
+use ct_names::Message;
 
 // A watcher that met a hall's world, and the messages of the batches that it read.
 #[derive(Drop)]
@@ -36,26 +36,5 @@ impl Followed {
 
     pub(super) fn messages(&self) -> &[Message] {
         &self.messages
-    }
-
-    // The least of the members that delivered as many messages as were read.
-    pub(super) fn level_with(&self, world: &World) -> Option<Member> {
-        for member in 1..=world.group().n() {
-            let delivered = world.delivered(member)?;
-            if delivered.len() == self.messages.len() {
-                return Some(member);
-            }
-        }
-        None
-    }
-
-    // Whether the member delivered what was read, and has the watcher's table.
-    pub(super) fn agrees(&self, world: &World, member: Member) -> bool {
-        match (world.delivered(member), world.table(member)) {
-            (Some(delivered), Some(table)) => {
-                delivered == self.messages() && table == self.watcher.table()
-            }
-            _ => false,
-        }
     }
 }

@@ -64,40 +64,6 @@ fn rehearsed<L: Ledger>(
     compared(&mut desk, &mut share, board, steps, done)
 }
 
-#[test]
-fn a_list_goes_on_after_refusals(rt: HostRuntime) -> Result<(), Fail> {
-    let steps = [
-        Step::Submit(1, SEVEN),
-        Step::Submit(2, SEVEN),
-        Step::Receive(1, 1),
-        Step::Receive(1, 1),
-        Step::Begin(1),
-        Step::Crash(1),
-        Step::Enter(1),
-    ];
-    let played = Played {
-        applied: 4,
-        refused: 3,
-        short: 0,
-    };
-    let done = [
-        Step::Submit(1, SEVEN),
-        Step::Receive(1, 1),
-        Step::Begin(1),
-        Step::Crash(1),
-    ];
-    let seen = Seen {
-        played,
-        posted: 0,
-        is_recorded: true,
-    };
-    let alloc = rt.alloc();
-    let board = Board::new(alloc, 4)?;
-    let came = rehearsed::<Brand>(alloc, Blank::new(1000), &board, &steps, &done);
-    assert_eq!(rt; came, Some(seen));
-    Ok(())
-}
-
 // The list that delivers, of which the last step is recorded where the batch is posted.
 fn delivered<L: Ledger>(alloc: Global, blank: Blank, board: &Board, is_posted: bool) -> Option<Seen>
     requires name { blank.name ≡ L.name }

@@ -56,7 +56,7 @@ fn has_same_members(world: &World, other: &World) -> bool {
 }
 
 // Whether the world is that after its record, from nothing.
-pub(super) fn is_replayed(alloc: Global, world: &World) -> bool {
+fn is_replayed(alloc: Global, world: &World) -> bool {
     match World::replay(
         alloc,
         world.group(),
@@ -74,92 +74,49 @@ pub(super) fn is_replayed(alloc: Global, world: &World) -> bool {
     }
 }
 
-// Runs three members with these detectors: all 605 turns pass the gate, members take steps, and the record replays.
-fn replays<R: Threads + Wait + Sync>(
-    rt: &R,
-    alloc: Global,
-    detectors: Vec<Box<dyn Detector>>,
-) -> Option<bool> {
+// The kinds of detectors: one that suspects nobody, always, the second member, at each third ask, at random, and by turns.
+const KINDS: u8 = 6;
+
+// A detector of this kind.
+fn of_kind(alloc: Global, kind: u8) -> Option<Box<dyn Detector>> {
+    Some(match kind {
+        0 => Box::new(alloc, Never::new()).ok()?,
+        1 => Box::new(alloc, Always::new()).ok()?,
+        2 => Box::new(alloc, Listed::new(second())).ok()?,
+        3 => Box::new(alloc, EveryNth::new(3)?).ok()?,
+        4 => Box::new(alloc, Seeded::new(1, 64)).ok()?,
+        _ => Box::new(alloc, Alternating { last: None }).ok()?,
+    })
+}
+
+fn second() -> MemberSet {
+    let mut set = MemberSet::new();
+    set.insert(2);
+    set
+}
+
+// Three detectors of this kind.
+fn three(alloc: Global, kind: u8) -> Option<Vec<Box<dyn Detector>>> {
+    let mut detectors: Vec<Box<dyn Detector>> = Vec::new(alloc);
+    for _ in 0..3u8 {
+        detectors.push(of_kind(alloc, kind)?).ok()?;
+    }
+    Some(detectors)
+}
+
+// Runs three members with such detectors: all 605 turns pass the gate, members take steps, and the record replays.
+fn replays<R: Threads + Wait + Sync>(rt: &R, alloc: Global, kind: u8) -> Option<bool> {
     let plan = disturbed(alloc).ok()?;
     let gate = Counting::new();
+    let detectors = three(alloc, kind)?;
     let done = ran(rt, alloc, started(alloc, 3)?, &plan, detectors, &gate)?;
     let passed_all = gate.into_calls() == (605, 605);
     Some(passed_all && done.made.steps > 5 && is_replayed(alloc, &done.world))
 }
 
 #[test]
-fn a_run_that_suspects_nobody_is_replayed(rt: HostRuntime) -> Result<(), Fail> {
-    let alloc = rt.alloc();
-    assert_eq!(rt; replays(&rt, alloc, never(alloc, 3)?), Some(true));
-    Ok(())
-}
-
-fn always(alloc: Global) -> Result<Vec<Box<dyn Detector>>, AllocError> {
-    let mut detectors: Vec<Box<dyn Detector>> = Vec::new(alloc);
-    for _ in 0..3u8 {
-        detectors.push(Box::new(alloc, Always::new())?)?;
+fn runs_with_each_kind_of_detector_are_replayed(rt: HostRuntime) {
+    for kind in 0..KINDS {
+        assert_eq!(rt; replays(&rt, rt.alloc(), kind), Some(true), "kind {kind}");
     }
-    Ok(detectors)
-}
-
-#[test]
-fn a_run_that_suspects_always_is_replayed(rt: HostRuntime) -> Result<(), Fail> {
-    let alloc = rt.alloc();
-    assert_eq!(rt; replays(&rt, alloc, always(alloc)?), Some(true));
-    Ok(())
-}
-
-fn listed(alloc: Global) -> Result<Vec<Box<dyn Detector>>, AllocError> {
-    let mut detectors: Vec<Box<dyn Detector>> = Vec::new(alloc);
-    for _ in 0..3u8 {
-        let mut listed = MemberSet::new();
-        listed.insert(2);
-        detectors.push(Box::new(alloc, Listed::new(listed))?)?;
-    }
-    Ok(detectors)
-}
-
-#[test]
-fn a_run_that_suspects_the_listed_is_replayed(rt: HostRuntime) -> Result<(), Fail> {
-    let alloc = rt.alloc();
-    assert_eq!(rt; replays(&rt, alloc, listed(alloc)?), Some(true));
-    Ok(())
-}
-
-#[test]
-fn a_run_that_suspects_at_each_third_ask_is_replayed(rt: HostRuntime) -> Result<(), Fail> {
-    let alloc = rt.alloc();
-    let detectors = at_each(alloc, 3).ok_or("detectors")?;
-    assert_eq!(rt; replays(&rt, alloc, detectors), Some(true));
-    Ok(())
-}
-
-fn at_random(alloc: Global) -> Result<Vec<Box<dyn Detector>>, AllocError> {
-    let mut detectors: Vec<Box<dyn Detector>> = Vec::new(alloc);
-    for seed in 1..=3u64 {
-        detectors.push(Box::new(alloc, Seeded::new(seed, 64))?)?;
-    }
-    Ok(detectors)
-}
-
-#[test]
-fn a_run_that_suspects_at_random_is_replayed(rt: HostRuntime) -> Result<(), Fail> {
-    let alloc = rt.alloc();
-    assert_eq!(rt; replays(&rt, alloc, at_random(alloc)?), Some(true));
-    Ok(())
-}
-
-fn by_turns(alloc: Global) -> Result<Vec<Box<dyn Detector>>, AllocError> {
-    let mut detectors: Vec<Box<dyn Detector>> = Vec::new(alloc);
-    for _ in 0..3u8 {
-        detectors.push(Box::new(alloc, Alternating { last: None })?)?;
-    }
-    Ok(detectors)
-}
-
-#[test]
-fn a_run_that_suspects_by_turns_is_replayed(rt: HostRuntime) -> Result<(), Fail> {
-    let alloc = rt.alloc();
-    assert_eq!(rt; replays(&rt, alloc, by_turns(alloc)?), Some(true));
-    Ok(())
 }

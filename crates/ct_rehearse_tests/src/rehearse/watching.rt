@@ -1,8 +1,3 @@
-ghost use Rattle.std.specs.Prelude.{◌≡◌, ◌≤◌, IfOk, vec_len};
-ghost use Rattle.ct_rehearse.specs.Plans.{IsWithin, entries};
-
-use super::following::Followed;
-use super::replaying::is_replayed;
 use super::*;
 use ct_board::Watcher;
 use ct_names::Message;
@@ -99,72 +94,5 @@ fn a_watcher_reads_what_another_thread_posts(rt: HostRuntime) -> Result<(), Fail
         told: 0,
     };
     assert_eq!(rt; seen?, want);
-    Ok(())
-}
-
-// 400 turns of each member, and a script of two submissions. The registers tell which was delivered first.
-fn submissions(alloc: Global) -> Result<Plan, AllocError>
-    ensures within { IfOk result (λ plan. IsWithin plan) }
-    ensures scripts { IfOk result (λ plan. vec_len plan.scripts ≡ 1) }
-    ensures turns { IfOk result (λ plan. plan.turns ≡ 400) }
-    ensures entries { IfOk result (λ plan. entries plan ≤ 100000) }
-{
-    let script = vec![in alloc;
-        Disturbance::Submit(1, SEVEN),
-        Disturbance::Submit(2, Command::Copy(0, 1)),
-    ]?;
-    let mut scripts = Vec::new(alloc);
-    scripts.push(script)?;
-    Ok(Plan {
-        turns: 400,
-        scripts,
-    })
-}
-
-// Whether the watcher was told of all that was posted, read it, and agrees with a member.
-fn has_followed(followed: &Followed, world: &World) -> bool {
-    let posted = usize::from(world.posted());
-    posted > 0
-        && followed.told_and_read() == (posted, posted)
-        && followed
-            .level_with(world)
-            .is_some_and(|member| followed.agrees(world, member))
-}
-
-// Whether a watcher follows to the settled world, which is that after its record.
-fn is_followed<L: Ledger, R: Wait>(
-    rt: &R,
-    alloc: Global,
-    hall: &Hall<L>,
-    share: &mut Share<L>,
-) -> Option<bool>
-    requires { share.old.parts ≡ L.parts }
-{
-    let settled = hall.settled(rt, alloc, share).ok()?;
-    let followed = Followed::of(rt, alloc, hall)?;
-    Some(has_followed(&followed, &settled) && is_replayed(alloc, &settled))
-}
-
-// Three members, two submissions.
-fn three_members<L: Ledger + Send + Sync, R: Threads + Wait + Sync>(
-    rt: &R,
-    alloc: Global,
-    blank: Blank,
-) -> Option<bool>
-    requires name { blank.name ≡ L.name }
-    requires parts { blank.parts ≡ L.parts }
-    requires whole { L.parts ≡ 1000 }
-{
-    let (world, board) = started(alloc, 3)?;
-    let (hall, mut share) = Hall::<L>::new(blank, world, board);
-    let plan = submissions(alloc).ok()?;
-    ran_in(rt, alloc, &hall, &mut share, &plan, &NoGate)?;
-    is_followed(rt, alloc, &hall, &mut share)
-}
-
-#[test]
-fn a_watcher_follows_three_members(rt: HostRuntime) -> Result<(), Fail> {
-    let followed = three_members::<Brand, _>(&rt, rt.alloc(), Blank::new(1000));
-    assert_eq!(rt; followed, Some(true));
     Ok(())
 }
