@@ -133,6 +133,3 @@ impl World {
         Some(prepared.step())
     }
 }
-
-#[cfg(test)]
-mod tests;
