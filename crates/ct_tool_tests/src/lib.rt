@@ -1,4 +1,5 @@
 //! The tests of the libraries of `ct_tool`, which use their public calls alone: here none of these crates is proved once more.
+//! Worked runs of the algorithm stand here too, as texts (`runs`).
 #![tactic(auto)]
 
 #[cfg(test)]
@@ -8,7 +9,7 @@ mod diagrams;
 #[cfg(test)]
 mod faults;
 #[cfg(test)]
-mod lines;
+mod runs;
 #[cfg(test)]
 mod schedules;
 #[cfg(test)]

@@ -197,81 +197,53 @@ fn a_session(rt: HostRuntime) -> Result<(), Fail> {
     Ok(())
 }
 
-#[test]
-fn refused_lines(rt: HostRuntime) -> Result<(), Fail> {
-    let alloc = rt.alloc();
-    assert!(rt;
-        is_refused(
-            alloc,
-            "members 2\n1 begin",
-            2,
-            "refused Nothing: instance 0 idle"
-        )
-    );
-    assert!(rt; is_refused(alloc, "members 2\n1 begins", 2, "not understood"));
-    assert!(rt; is_refused(alloc, "1 begin", 1, "no members"));
-    assert!(rt; is_refused(alloc, "", 1, "no members"));
-    assert!(rt;
-        is_refused(
-            alloc,
-            "members 2\ncrash 1\ncells 3\n",
-            3,
-            "the group is settled"
-        )
-    );
-    Ok(())
+// Schedules, the numbers of their first refused lines, and what is said of these.
+static REFUSED: [(&str, usize, &str); 12] = [
+    ("members 2\n1 begin", 2, "refused Nothing: instance 0 idle"),
+    ("members 2\n1 begins", 2, "not understood"),
+    ("1 begin", 1, "no members"),
+    ("", 1, "no members"),
+    ("members 2\ncrash 1\ncells 3\n", 3, "the group is settled"),
+    (
+        "members 2\n1 receive data 2.1",
+        2,
+        "not there: no envelope that is so named waits at member 1",
+    ),
+    (
+        "members 2\n1 submit set 0 7\n2 receive data 1.1 from 2",
+        3,
+        "not there: no envelope that is so named waits at member 2",
+    ),
+    ("members 2\n3 turns 4", 2, "no member 3"),
+    ("members 2\n\nexpect 2 crashed", 3, "not met: up"),
+    (
+        "members 2\nexpect 1 delivered 1.1",
+        2,
+        "not met: delivered -",
+    ),
+    (
+        "members 2\nexpect 1 refuses begin Idle",
+        2,
+        "not met: refuses Nothing",
+    ),
+    (
+        "members 2\nexpect 1 refuses submit set 0 1 Nothing",
+        2,
+        "not met: refuses nothing",
+    ),
+];
+
+// The first of the schedules that is refused otherwise.
+fn refused_otherwise(alloc: Global) -> Option<&'static str> {
+    for (schedule, line, said) in REFUSED {
+        if !is_refused(alloc, schedule, line, said) {
+            return Some(schedule);
+        }
+    }
+    None
 }
 
 #[test]
-fn refused_names(rt: HostRuntime) -> Result<(), Fail> {
-    let alloc = rt.alloc();
-    assert!(rt;
-        is_refused(
-            alloc,
-            "members 2\n1 receive data 2.1",
-            2,
-            "not there: no envelope that is so named waits at member 1"
-        )
-    );
-    assert!(rt;
-        is_refused(
-            alloc,
-            "members 2\n1 submit set 0 7\n2 receive data 1.1 from 2",
-            3,
-            "not there: no envelope that is so named waits at member 2"
-        )
-    );
-    assert!(rt; is_refused(alloc, "members 2\n3 turns 4", 2, "no member 3"));
-    Ok(())
-}
-
-#[test]
-fn unmet_expectations(rt: HostRuntime) -> Result<(), Fail> {
-    let alloc = rt.alloc();
-    assert!(rt; is_refused(alloc, "members 2\n\nexpect 2 crashed", 3, "not met: up"));
-    assert!(rt;
-        is_refused(
-            alloc,
-            "members 2\nexpect 1 delivered 1.1",
-            2,
-            "not met: delivered -"
-        )
-    );
-    assert!(rt;
-        is_refused(
-            alloc,
-            "members 2\nexpect 1 refuses begin Idle",
-            2,
-            "not met: refuses Nothing"
-        )
-    );
-    assert!(rt;
-        is_refused(
-            alloc,
-            "members 2\nexpect 1 refuses submit set 0 1 Nothing",
-            2,
-            "not met: refuses nothing"
-        )
-    );
-    Ok(())
+fn the_first_refused_line_is_told(rt: HostRuntime) {
+    assert_eq!(rt; refused_otherwise(rt.alloc()), None);
 }

@@ -109,89 +109,139 @@ const ALL: View = View::Steps(Selection {
     member: None,
 });
 
-// Whether the view shows this text of the record, and this refused step.
-fn is_shown(
-    alloc: Global,
-    record: &str,
-    view: &View,
-    text: &str,
-    refused: Option<ReplayFault>,
-) -> Result<bool, Fail> {
+// What a view shows of a record, in words, and the text; and which step of the record is refused.
+type Shown = (
+    &'static str,
+    &'static str,
+    View,
+    &'static str,
+    Option<ReplayFault>,
+);
+
+static SHOWN: [Shown; 13] = [
+    ("a line for each step", RUN, ALL, LINES, None),
+    (
+        "a line of one step and member",
+        RUN,
+        View::Steps(Selection {
+            from: 2,
+            to: 2,
+            member: Some(1),
+        }),
+        SECOND,
+        None,
+    ),
+    (
+        "a long value is cut",
+        NINE,
+        View::Steps(Selection {
+            from: 19,
+            to: 19,
+            member: None,
+        }),
+        NINETEENTH,
+        None,
+    ),
+    (
+        "the state after a relay",
+        RELAYED,
+        View::State(2),
+        RELAYED_STATE,
+        None,
+    ),
+    (
+        "the state after an estimate was heard",
+        RUN,
+        View::State(5),
+        HEARD_STATE,
+        None,
+    ),
+    (
+        "no state after a refused step",
+        TWICE,
+        View::State(7),
+        "",
+        Some(ReplayFault {
+            at: 3,
+            refusal: Refusal::NotWaiting,
+        }),
+    ),
+    ("the report", RUN, View::Report, JSON, None),
+    (
+        "a refused step is the last line",
+        TWICE,
+        ALL,
+        TWICE_LINES,
+        Some(ReplayFault {
+            at: 3,
+            refusal: Refusal::NotWaiting,
+        }),
+    ),
+    (
+        "a replay alone",
+        TWICE,
+        View::Nothing,
+        "",
+        Some(ReplayFault {
+            at: 3,
+            refusal: Refusal::NotWaiting,
+        }),
+    ),
+    (
+        "no report of a refused step",
+        TWICE,
+        View::Report,
+        "",
+        Some(ReplayFault {
+            at: 3,
+            refusal: Refusal::NotWaiting,
+        }),
+    ),
+    (
+        "a loss, and a repetition while it waits",
+        LOST,
+        ALL,
+        LOST_LINES,
+        Some(ReplayFault {
+            at: 4,
+            refusal: Refusal::StillWaiting,
+        }),
+    ),
+    (
+        "a repetition of another's envelope",
+        OTHERS,
+        ALL,
+        OTHERS_LINES,
+        Some(ReplayFault {
+            at: 3,
+            refusal: Refusal::NotSent,
+        }),
+    ),
+    (
+        "a repetition of what was not sent",
+        UNSENT,
+        ALL,
+        UNSENT_LINES,
+        Some(ReplayFault {
+            at: 1,
+            refusal: Refusal::NotSent,
+        }),
+    ),
+];
+
+// Whether the view shows that of the record.
+fn is_shown(alloc: Global, wanted: &Shown) -> Result<bool, Fail> {
+    let (_, record, view, text, refused) = wanted;
     let script = read_record(alloc, record.as_bytes())?;
     let answer = shown(alloc, &script, view)?;
-    Ok(answer.text.as_slice() == text.as_bytes() && answer.refused == refused)
-}
-
-// A fault at the step of this number.
-fn fault(at: usize, refusal: Refusal) -> Option<ReplayFault> {
-    Some(ReplayFault { at, refusal })
+    Ok(answer.text.as_slice() == text.as_bytes() && answer.refused == *refused)
 }
 
 #[test]
-fn lines_of_a_run(rt: HostRuntime) -> Result<(), Fail> {
-    assert!(rt; is_shown(rt.alloc(), RUN, &ALL, LINES, None)?);
-    Ok(())
-}
-
-#[test]
-fn lines_of_some_steps(rt: HostRuntime) -> Result<(), Fail> {
-    let second = View::Steps(Selection {
-        from: 2,
-        to: 2,
-        member: Some(1),
-    });
-    assert!(rt; is_shown(rt.alloc(), RUN, &second, SECOND, None)?);
-    Ok(())
-}
-
-#[test]
-fn a_long_value_is_cut(rt: HostRuntime) -> Result<(), Fail> {
-    let last = View::Steps(Selection {
-        from: 19,
-        to: 19,
-        member: None,
-    });
-    assert!(rt; is_shown(rt.alloc(), NINE, &last, NINETEENTH, None)?);
-    Ok(())
-}
-
-#[test]
-fn the_state_after_some_steps(rt: HostRuntime) -> Result<(), Fail> {
-    assert!(rt; is_shown(rt.alloc(), RELAYED, &View::State(2), RELAYED_STATE, None)?);
-    assert!(rt; is_shown(rt.alloc(), RUN, &View::State(5), HEARD_STATE, None)?);
-    Ok(())
-}
-
-#[test]
-fn no_state_after_a_refused_step(rt: HostRuntime) -> Result<(), Fail> {
-    let refused = fault(3, Refusal::NotWaiting);
-    assert!(rt; is_shown(rt.alloc(), TWICE, &View::State(7), "", refused)?);
-    Ok(())
-}
-
-#[test]
-fn the_report_of_a_run(rt: HostRuntime) -> Result<(), Fail> {
-    assert!(rt; is_shown(rt.alloc(), RUN, &View::Report, JSON, None)?);
-    Ok(())
-}
-
-#[test]
-fn a_refused_step_is_the_last_line(rt: HostRuntime) -> Result<(), Fail> {
-    let refused = fault(3, Refusal::NotWaiting);
-    assert!(rt; is_shown(rt.alloc(), TWICE, &ALL, TWICE_LINES, refused)?);
-    assert!(rt; is_shown(rt.alloc(), TWICE, &View::Nothing, "", refused)?);
-    assert!(rt; is_shown(rt.alloc(), TWICE, &View::Report, "", refused)?);
-    Ok(())
-}
-
-#[test]
-fn losses_and_repetitions(rt: HostRuntime) -> Result<(), Fail> {
-    let waits = fault(4, Refusal::StillWaiting);
-    assert!(rt; is_shown(rt.alloc(), LOST, &ALL, LOST_LINES, waits)?);
-    let of_another = fault(3, Refusal::NotSent);
-    assert!(rt; is_shown(rt.alloc(), OTHERS, &ALL, OTHERS_LINES, of_another)?);
-    let unsent = fault(1, Refusal::NotSent);
-    assert!(rt; is_shown(rt.alloc(), UNSENT, &ALL, UNSENT_LINES, unsent)?);
+fn records_are_shown(rt: HostRuntime) -> Result<(), Fail> {
+    for wanted in &SHOWN {
+        assert!(rt; is_shown(rt.alloc(), wanted)?, "{}", wanted.0);
+    }
     Ok(())
 }
 

@@ -80,72 +80,6 @@ fn is_submission(step: &Step) -> bool {
     }
 }
 
-// Whether the walk of the options has the record of the world.
-fn has_record(alloc: Global, options: &WalkOptions, world: &World) -> Result<bool, WalkFault>
-    requires { IsInRange options.now }
-{
-    Ok(walk(alloc, options)?.record() == world.record())
-}
-
-// Whether the walks of the options, and of the others, have the record of a walk of the options.
-fn compared(
-    alloc: Global,
-    options: &WalkOptions,
-    others: &WalkOptions,
-) -> Result<[bool; 2], WalkFault>
-    requires options { IsInRange options.now }
-    requires others { IsInRange others.now }
-{
-    let world = walk(alloc, options)?;
-    let same = has_record(alloc, options, &world)?;
-    Ok([same, has_record(alloc, others, &world)?])
-}
-
-#[test]
-fn the_same_options_give_the_same_record(rt: HostRuntime) -> Result<(), Fail> {
-    assert_eq!(rt;
-        compared(rt.alloc(), &options(1), &options(2))?,
-        [true, false]
-    );
-    Ok(())
-}
-
-// Whether eight submissions come first, and then the crash.
-fn begins_with_all(world: &World) -> bool {
-    world
-        .record()
-        .get(..8)
-        .is_some_and(|first| first.iter().all(is_submission))
-        && world.record().get(8) == Some(&Step::Crash(2))
-        && world.crashed(2)
-}
-
-fn submits_first(alloc: Global, options: &WalkOptions) -> Result<bool, WalkFault>
-    requires { IsInRange options.now }
-{
-    Ok(begins_with_all(&walk(alloc, options)?))
-}
-
-// How many submissions the walk has, and whether the second member crashed.
-fn submits(alloc: Global, options: &WalkOptions) -> Result<(usize, bool), WalkFault>
-    requires { IsInRange options.now }
-{
-    let world = walk(alloc, options)?;
-    Ok((submissions(&world), world.crashed(2)))
-}
-
-#[test]
-fn submissions_are_spread(rt: HostRuntime) -> Result<(), Fail> {
-    let mut spread = options(1);
-    spread.every = 1;
-    spread.run.crash = 2;
-    assert!(rt; submits_first(rt.alloc(), &spread)?);
-    spread.every = 1000;
-    spread.run.postpone = 5;
-    assert_eq!(rt; submits(rt.alloc(), &spread)?, (3, false));
-    Ok(())
-}
-
 fn is_loss(step: &Step) -> bool {
     match step {
         Step::Lose(_, _) => true,
@@ -176,27 +110,6 @@ fn envelopes_are_lost_and_repeated(rt: HostRuntime) -> Result<(), Fail> {
     assert_eq!(rt; lost_and_repeated(rt.alloc(), &lossy)?, (true, false));
     lossy.run.repeat = 20;
     assert_eq!(rt; lost_and_repeated(rt.alloc(), &lossy)?, (true, true));
-    Ok(())
-}
-
-// Whether the bound is 1, and several batches have one message each.
-fn is_bounded(world: &World) -> bool {
-    world.bound() == 1
-        && world.posted() > 1
-        && (1..=world.posted()).all(|k| world.batch(k.into()).is_some_and(|batch| batch.len() == 1))
-}
-
-fn is_bounded_walk(alloc: Global, options: &WalkOptions) -> Result<bool, WalkFault>
-    requires { IsInRange options.now }
-{
-    Ok(is_bounded(&walk(alloc, options)?))
-}
-
-#[test]
-fn batches_are_bounded(rt: HostRuntime) -> Result<(), Fail> {
-    let mut bounded = options(1);
-    bounded.run.batch = 1;
-    assert!(rt; is_bounded_walk(rt.alloc(), &bounded)?);
     Ok(())
 }
 
@@ -269,40 +182,4 @@ fn the_first_seed_that_shows_it_is_found(rt: HostRuntime) -> Result<(), Fail> {
     sought.until = Some(Sight::Round(5000));
     assert_eq!(rt; found_round(rt.alloc(), &sought, 2, 5000)?, None);
     Ok(())
-}
-
-// Whether a walk of the last seed of all decides, where one is found.
-fn found_last(alloc: Global, sought: &WalkOptions) -> Result<Option<bool>, WalkFault>
-    requires { IsInRange sought.now }
-{
-    let found = find(alloc, sought, u32::MAX, u32::MAX)?;
-    match &found {
-        Some(world) => Ok(Some(is_decided(world))),
-        None => Ok(None),
-    }
-}
-
-#[test]
-fn the_last_seed_of_all_is_tried(rt: HostRuntime) -> Result<(), Fail> {
-    let mut sought = options(0);
-    sought.until = Some(Sight::Decided(1));
-    assert_eq!(rt; found_last(rt.alloc(), &sought)?, Some(true));
-    Ok(())
-}
-
-#[test]
-fn one_member_and_no_turns_are_walked(rt: HostRuntime) -> Result<(), Fail> {
-    let mut alone = options(1);
-    alone.run.members = 1;
-    assert_eq!(rt; posts(rt.alloc(), &alone)?, (true, 8));
-    alone.run.turns = 0;
-    alone.run.submit = 0;
-    assert_eq!(rt; steps_of(rt.alloc(), &alone)?, 0);
-    Ok(())
-}
-
-fn steps_of(alloc: Global, options: &WalkOptions) -> Result<usize, WalkFault>
-    requires { IsInRange options.now }
-{
-    Ok(walk(alloc, options)?.record().len())
 }

@@ -1,0 +1,736 @@
+// What a session says in each run, and what is answered: an answer stands behind ` => `, and a line without one is answered by
+// `ok`. A line is refused so that the refusal tells where a member stands, or what the envelope of a serial carries.
+
+use super::Run;
+
+// Of three members the first submits a message; it and the second receive it, and the second passes it on.
+const RELAYED: &str = "1 submit set 0 7 => ok 1-3
+1 receive #1
+2 receive #2 => ok 4-6";
+
+// After `RELAYED`: both begin, and the second, which coordinates round 1, hears both and may choose.
+const CHOSEN: &str = "1 begin
+2 begin
+1 enter => ok 7
+2 enter => ok 8
+2 receive #7
+2 receive #8";
+
+// After `CHOSEN`: it chooses, both adopt, and it decides.
+const DECIDED: &str = "2 choose 1 => ok 9-11
+1 receive #9
+1 adopt => ok 12
+2 receive #10
+2 adopt => ok 13
+2 receive #12
+2 receive #13
+2 conclude => ok 14-16";
+
+// Of three members the first two propose a message each; the coordinator heard both.
+const TWO_PROPOSALS: &str = "members 3
+cells 4
+1 submit set 0 1 => ok 1-3
+2 submit set 0 2 => ok 4-6
+1 receive #1
+2 receive #5
+1 begin
+2 begin
+1 enter => ok 7
+2 enter => ok 8
+2 receive #7
+2 receive #8";
+
+// One member proposes its second message alone, before it received its first.
+const SECOND_FIRST: &str = "1 submit copy 0 1 => ok 1
+1 submit set 0 5 => ok 2
+1 receive #2
+1 begin
+1 enter => ok 3
+1 receive #3
+1 choose 1 => ok 4
+1 receive #4
+1 adopt => ok 5
+1 receive #5
+1 conclude => ok 6
+1 receive #6
+1 deliver
+1 receive #1
+1 begin
+1 enter => ok 7
+1 receive #7
+1 choose 1 => ok 8
+1 receive #8
+1 adopt => ok 9
+1 receive #9
+1 conclude => ok 10
+1 receive #10";
+
+// One member receives its second message before its first, and delivers what it may propose.
+const TWO_RECEIVED: &str = "1 submit set 0 5 => ok 1
+1 submit copy 0 1 => ok 2
+1 receive #2
+1 receive #1
+1 begin
+1 enter => ok 3
+1 receive #3
+1 choose 1 => ok 4
+1 receive #4
+1 adopt => ok 5
+1 receive #5
+1 conclude => ok 6
+1 receive #6
+1 deliver";
+
+// Envelopes that are sent, received, postponed, lost and repeated.
+pub(super) static SENT: [Run; 5] = [
+    Run {
+        name: "nothing is done",
+        counts: (0, 0, 0),
+        parts: &[
+            "members 3
+cells 4
+expect 1 up
+expect 3 received -
+enabled 1 => enabled
+next 1 => next -
+1 repeat #1 => refused NotSent: #1 was not sent: 0 envelopes were",
+        ],
+    },
+    Run {
+        name: "what is received first from another is relayed",
+        counts: (5, 6, 0),
+        parts: &[
+            "members 3
+cells 4",
+            RELAYED,
+            "state 2 => state instance 0 idle
+1 repeat #6 => refused NotSent: #6 Data 1.1 went to member 3
+1 repeat #7 => refused NotSent: #7 was not sent: 6 envelopes were
+1 receive #4
+2 receive #5
+expect 1 received 1.1
+expect 2 received 1.1
+expect 3 received -",
+        ],
+    },
+    Run {
+        name: "what does not wait is not taken from a line",
+        counts: (4, 6, 0),
+        parts: &[
+            "members 3
+cells 4",
+            RELAYED,
+            "3 postpone #3
+3 receive #0 => refused NotWaiting: #0 was not sent: 6 envelopes were
+2 receive #2 => refused NotWaiting: #2 Data 1.1 to 2, left in step 3 [\"receive\",2,2]
+2 receive #3 => refused NotWaiting: #3 Data 1.1 to 3
+2 postpone #2 => refused NotWaiting: #2 Data 1.1 to 2, left in step 3 [\"receive\",2,2]
+2 postpone #7 => refused NotWaiting: #7 was not sent: 6 envelopes were
+2 lose #3 => refused NotWaiting: #3 Data 1.1 to 3
+2 submit copy 0 16 => refused BadCommand: instance 0 idle
+next 3 => next [\"receive\",3,6]",
+        ],
+    },
+    Run {
+        name: "a repeated ack counts once",
+        counts: (22, 16, 0),
+        parts: &[
+            TWO_PROPOSALS,
+            "2 choose 1 => ok 9-11
+1 receive #9
+1 adopt => ok 12
+2 receive #10
+2 adopt => ok 13
+2 receive #12
+2 repeat #12
+2 receive #12
+2 repeat #12
+2 receive #12
+2 conclude => refused TooFew: instance 1 round 1 Tally, coordinator 2, estimate {1.1} ts 1, heard 1 {1.1} ts 0, heard 2 {2.1} ts 0, acks 1 of 1
+2 receive #13
+2 conclude => ok 14-16",
+        ],
+    },
+    Run {
+        name: "what is lost is received only when it is repeated",
+        counts: (4, 6, 0),
+        parts: &[
+            "members 3
+cells 4
+1 submit set 0 7 => ok 1-3
+2 lose #2
+2 receive #2 => refused NotWaiting: #2 Data 1.1 to 2, left in step 2 [\"lose\",2,2]
+2 lose #2 => refused NotWaiting: #2 Data 1.1 to 2, left in step 2 [\"lose\",2,2]
+2 repeat #1 => refused NotSent: #1 Data 1.1 went to member 1
+2 repeat #4 => refused NotSent: #4 was not sent: 3 envelopes were
+1 repeat #1 => refused StillWaiting: #1 Data 1.1 is in its line
+next 2 => next -
+2 repeat #2
+next 2 => next [\"receive\",2,2]
+2 receive #2 => ok 4-6",
+        ],
+    },
+];
+
+// What a driver does next.
+pub(super) static LED: [Run; 5] = [
+    Run {
+        name: "one member decides alone, as a driver leads it",
+        counts: (12, 5, 1),
+        parts: &[
+            "members 1
+cells 4
+next 1 => next -
+1 submit add 3 4 => ok 1
+next 1 => next [\"receive\",1,1]
+1 receive #1
+next 1 => next [\"begin\",1]
+1 begin
+next 1 => next [\"enter\",1]
+1 enter => ok 2
+state 1 => state instance 1 round 1 Gather, coordinator 1, estimate {1.1} ts 0, acks 0 of 0
+next 1 => next [\"receive\",1,2]
+1 receive #2
+next 1 => next [\"choose\",1,1]
+1 choose 1 => ok 3
+next 1 => next [\"suspect\",1] or [\"receive\",1,3]
+1 receive #3
+next 1 => next [\"adopt\",1]
+1 adopt => ok 4
+next 1 => next [\"receive\",1,4]
+1 receive #4
+next 1 => next [\"conclude\",1]
+1 conclude => ok 5
+next 1 => next [\"enter\",1]
+1 receive #5
+next 1 => next [\"deliver\",1]
+1 deliver
+next 1 => next -
+expect 1 delivered 1.1
+expect 1 table 3=4",
+        ],
+    },
+    Run {
+        name: "who has the proposal does not suspect",
+        counts: (13, 12, 0),
+        parts: &[
+            TWO_PROPOSALS,
+            "2 choose 1 => ok 9-11
+next 1 => next [\"suspect\",1] or [\"receive\",1,4]
+1 receive #9
+1 suspect => refused HasProposal: instance 1 round 1 Wait, coordinator 2, estimate {1.1} ts 0, acks 0 of 0
+next 1 => next [\"adopt\",1]
+1 adopt => ok 12",
+        ],
+    },
+    Run {
+        name: "a driver chooses the largest ts",
+        counts: (26, 21, 0),
+        parts: &[
+            TWO_PROPOSALS,
+            "2 choose 1 => ok 9-11
+2 receive #10
+2 adopt => ok 12
+1 suspect => ok 13
+2 receive #12
+2 receive #13
+2 conclude
+2 enter => ok 14
+1 enter => ok 15
+3 receive #6 => ok 16-18
+3 begin
+3 enter => ok 19
+3 suspect => ok 20
+3 enter => ok 21
+3 receive #15
+3 receive #14
+next 3 => next [\"choose\",3,2]",
+        ],
+    },
+    Run {
+        name: "a decision comes before a suspicion",
+        counts: (20, 20, 0),
+        parts: &[
+            "members 3
+cells 4",
+            RELAYED,
+            "crash 3",
+            CHOSEN,
+            DECIDED,
+            "1 enter => ok 17
+next 1 => next [\"suspect\",1] or [\"receive\",1,4]
+1 receive #14 => ok 18-20
+enabled 1 => enabled [\"deliver\",1] [\"suspect\",1]
+next 1 => next [\"deliver\",1]",
+        ],
+    },
+    Run {
+        name: "a driver follows before it begins",
+        counts: (20, 22, 1),
+        parts: &[
+            "members 3
+cells 4",
+            RELAYED,
+            CHOSEN,
+            DECIDED,
+            "3 receive #3 => ok 17-19
+3 receive #16 => ok 20-22
+enabled 3 => enabled [\"follow\",3] [\"begin\",3]
+next 3 => next [\"follow\",3]
+3 follow
+expect 3 delivered 1.1",
+        ],
+    },
+];
+
+// Rounds that decide, and steps that others refuse.
+pub(super) static DECIDED_IN_A_ROUND: [Run; 4] = [
+    Run {
+        name: "two members decide in a round, and the third has crashed",
+        counts: (22, 19, 1),
+        parts: &[
+            "members 3
+cells 4",
+            RELAYED,
+            "crash 3",
+            CHOSEN,
+            DECIDED,
+            "2 receive #15
+2 deliver
+1 receive #14 => ok 17-19
+1 deliver
+expect 1 decided 1:1.1
+expect 1 delivered 1.1
+expect 1 table 0=7
+expect 2 decided 1:1.1
+expect 2 delivered 1.1
+expect 2 table 0=7
+expect 2 instance 1
+expect 2 idle
+expect 3 crashed
+expect 3 decided -
+expect 3 instance 0
+1 repeat #12 => refused NotSent: #12 Ack 1/1 from 1 went to member 2
+1 repeat #16 => refused NotSent: #16 Dec 1/1 {1.1} went to member 3
+2 repeat #9 => refused NotSent: #9 Prop 1/1 {1.1} went to member 1
+2 repeat #17 => refused NotSent: #17 Dec 1/1 {1.1} went to member 1
+1 begin => refused Nothing: instance 1 idle
+1 deliver => refused Idle: instance 1 idle
+1 follow => refused Undecided: instance 1 idle",
+        ],
+    },
+    Run {
+        name: "a coordinator may choose the other of two equal estimates",
+        counts: (22, 19, 1),
+        parts: &[
+            "members 3
+cells 4",
+            RELAYED,
+            "crash 3",
+            CHOSEN,
+            "2 choose 2 => ok 9-11
+1 repeat #7 => refused NotSent: #7 Est 1/1 from 1 {1.1} ts 0 went to member 2
+1 repeat #8 => refused NotSent: #8 Est 1/1 from 2 {1.1} ts 0 went to member 2
+2 repeat #9 => refused NotSent: #9 Prop 1/1 {1.1} went to member 1
+1 repeat #10 => refused NotSent: #10 Prop 1/1 {1.1} went to member 2
+1 repeat #11 => refused NotSent: #11 Prop 1/1 {1.1} went to member 3
+1 receive #9
+1 adopt => ok 12
+2 receive #10
+2 adopt => ok 13
+2 receive #12
+2 receive #13
+2 conclude => ok 14-16
+2 receive #15
+2 deliver
+1 receive #14 => ok 17-19
+1 deliver
+expect 1 delivered 1.1
+expect 2 delivered 1.1",
+        ],
+    },
+    Run {
+        name: "a crashed member takes no step, and who is none takes none",
+        counts: (22, 19, 1),
+        parts: &[
+            "members 3
+cells 4",
+            RELAYED,
+            "crash 3",
+            CHOSEN,
+            DECIDED,
+            "2 receive #15
+2 deliver
+1 receive #14 => ok 17-19
+1 deliver
+3 submit set 16 7 => refused Crashed: instance 0 idle
+3 receive #3 => refused Crashed: #3 Data 1.1 to 3
+3 begin => refused Crashed: instance 0 idle
+3 enter => refused Crashed: instance 0 idle
+3 choose 1 => refused Crashed: instance 0 idle
+3 adopt => refused Crashed: instance 0 idle
+3 suspect => refused Crashed: instance 0 idle
+3 conclude => refused Crashed: instance 0 idle
+3 deliver => refused Crashed: instance 0 idle
+3 follow => refused Crashed: instance 0 idle
+3 crash => refused Crashed: instance 0 idle
+3 postpone #99 => refused Crashed: #99 was not sent: 19 envelopes were
+3 lose #99 => refused Crashed: #99 was not sent: 19 envelopes were
+3 repeat #99 => refused Crashed: #99 was not sent: 19 envelopes were
+next 3 => next -
+4 submit set 16 7 => refused NoSuchMember: instance 0 idle
+4 receive #3 => refused NoSuchMember: #3 Data 1.1 to 3
+4 begin => refused NoSuchMember: instance 0 idle
+4 enter => refused NoSuchMember: instance 0 idle
+4 choose 1 => refused NoSuchMember: instance 0 idle
+4 adopt => refused NoSuchMember: instance 0 idle
+4 suspect => refused NoSuchMember: instance 0 idle
+4 conclude => refused NoSuchMember: instance 0 idle
+4 deliver => refused NoSuchMember: instance 0 idle
+4 follow => refused NoSuchMember: instance 0 idle
+4 crash => refused NoSuchMember: instance 0 idle
+4 postpone #99 => refused NoSuchMember: #99 was not sent: 19 envelopes were
+4 lose #99 => refused NoSuchMember: #99 was not sent: 19 envelopes were
+4 repeat #99 => refused NoSuchMember: #99 was not sent: 19 envelopes were
+0 begin => refused NoSuchMember: instance 0 idle
+255 deliver => refused NoSuchMember: instance 0 idle",
+        ],
+    },
+    Run {
+        name: "phases follow one another, and other steps of a round are refused",
+        counts: (19, 16, 0),
+        parts: &[
+            "members 3
+cells 4",
+            RELAYED,
+            "crash 3
+expect 2 refuses enter Idle
+expect 2 refuses choose 1 Idle
+expect 2 refuses adopt Idle
+expect 2 refuses suspect Idle
+expect 2 refuses conclude Idle
+1 begin
+2 begin
+1 begin => refused Busy: instance 1 round 0 Rest, estimate {1.1} ts 0, acks 0 of 0
+1 follow => refused Busy: instance 1 round 0 Rest, estimate {1.1} ts 0, acks 0 of 0
+expect 2 phase Rest
+expect 2 round 0
+2 enter => ok 7
+expect 2 phase Gather
+expect 2 round 1
+1 enter => ok 8
+expect 1 phase Wait
+expect 1 refuses enter WrongPhase
+expect 1 refuses choose 1 WrongPhase
+expect 1 refuses adopt NoProposal
+expect 1 refuses conclude WrongPhase
+expect 1 refuses deliver Undecided
+expect 2 refuses adopt WrongPhase
+expect 2 refuses suspect WrongPhase
+2 receive #8
+expect 2 refuses choose 1 TooFew
+2 receive #7
+2 choose 1 => ok 9-11
+expect 2 phase Wait
+2 receive #10
+1 receive #9
+2 adopt => ok 12
+expect 2 phase Tally
+1 adopt => ok 13
+expect 1 phase Rest
+2 receive #13
+expect 2 refuses conclude TooFew
+2 receive #12
+2 conclude => ok 14-16
+expect 2 phase Rest
+2 receive #15
+expect 2 refuses enter Decided
+expect 2 refuses follow Busy",
+        ],
+    },
+];
+
+// What a coordinator may choose.
+pub(super) static CHOICES: [Run; 6] = [
+    Run {
+        name: "a majority of four is three",
+        counts: (14, 19, 0),
+        parts: &[
+            "members 4
+cells 4
+1 submit set 0 1 => ok 1-4
+1 receive #1
+2 receive #2 => ok 5-8
+3 receive #3 => ok 9-12
+1 begin
+2 begin
+3 begin
+1 enter => ok 13
+2 enter => ok 14
+3 enter => ok 15
+2 receive #13
+2 receive #14
+2 choose 1 => refused TooFew: instance 1 round 1 Gather, coordinator 2, estimate {1.1} ts 0, heard 1 {1.1} ts 0, heard 2 {1.1} ts 0, acks 0 of 0
+2 receive #15
+2 choose 1 => ok 16-19",
+        ],
+    },
+    Run {
+        name: "of two proposals the coordinator may choose the first",
+        counts: (11, 11, 0),
+        parts: &[
+            TWO_PROPOSALS,
+            "enabled 2 => enabled [\"choose\",2,1] [\"choose\",2,2]
+2 choose 3 => refused NotLargest: instance 1 round 1 Gather, coordinator 2, estimate {2.1} ts 0, heard 1 {1.1} ts 0, heard 2 {2.1} ts 0, acks 0 of 0
+next 1 => next [\"suspect\",1] or [\"receive\",1,4]
+next 2 => next [\"choose\",2,1]
+next 3 => next [\"receive\",3,3]
+2 choose 1 => ok 9-11
+2 repeat #9 => refused NotSent: #9 Prop 1/1 {1.1} went to member 1
+1 repeat #10 => refused NotSent: #10 Prop 1/1 {1.1} went to member 2
+1 repeat #11 => refused NotSent: #11 Prop 1/1 {1.1} went to member 3",
+        ],
+    },
+    Run {
+        name: "of two proposals the coordinator may choose the second",
+        counts: (11, 11, 0),
+        parts: &[
+            TWO_PROPOSALS,
+            "2 choose 2 => ok 9-11
+2 repeat #9 => refused NotSent: #9 Prop 1/1 {2.1} went to member 1
+1 repeat #10 => refused NotSent: #10 Prop 1/1 {2.1} went to member 2
+1 repeat #11 => refused NotSent: #11 Prop 1/1 {2.1} went to member 3",
+        ],
+    },
+    Run {
+        name: "the largest ts binds the next coordinator",
+        counts: (22, 22, 0),
+        parts: &[
+            TWO_PROPOSALS,
+            "2 choose 1 => ok 9-11
+1 receive #9
+1 adopt => ok 12
+1 enter => ok 13
+2 repeat #13 => refused NotSent: #13 Est 1/2 from 1 {1.1} ts 1 went to member 3
+3 receive #6 => ok 14-16
+3 begin
+3 enter => ok 17
+3 suspect => ok 18
+3 enter => ok 19
+3 receive #13
+3 receive #19
+3 choose 3 => refused NotLargest: instance 1 round 2 Gather, coordinator 3, estimate {2.1} ts 0, heard 1 {1.1} ts 1, heard 3 {2.1} ts 0, acks 0 of 0
+3 choose 1 => ok 20-22
+1 repeat #21 => refused NotSent: #21 Prop 1/2 {1.1} went to member 2",
+        ],
+    },
+    Run {
+        name: "a coordinator suspects itself and keeps what it chose",
+        counts: (18, 14, 0),
+        parts: &[
+            TWO_PROPOSALS,
+            "2 choose 1 => ok 9-11
+2 suspect => ok 12
+2 receive #12
+1 receive #9
+1 adopt => ok 13
+2 receive #13
+2 conclude
+2 enter => ok 14
+1 repeat #14 => refused NotSent: #14 Est 1/2 from 2 {1.1} ts 0 went to member 3",
+        ],
+    },
+    Run {
+        name: "a locked value is proposed again",
+        counts: (24, 23, 0),
+        parts: &[
+            TWO_PROPOSALS,
+            "2 choose 1 => ok 9-11
+1 receive #9
+1 adopt => ok 12
+2 receive #10
+2 adopt => ok 13
+1 enter => ok 14
+3 receive #6 => ok 15-17
+3 begin
+3 enter => ok 18
+3 suspect => ok 19
+3 enter => ok 20
+3 receive #14
+3 receive #20
+3 choose 3 => refused NotLargest: instance 1 round 2 Gather, coordinator 3, estimate {2.1} ts 0, heard 1 {1.1} ts 1, heard 3 {2.1} ts 0, acks 0 of 0
+3 choose 1 => ok 21-23
+2 repeat #21 => refused NotSent: #21 Prop 1/2 {1.1} went to member 1",
+        ],
+    },
+];
+
+// Decisions that are kept, followed, and not proposed again.
+pub(super) static LATER: [Run; 4] = [
+    Run {
+        name: "a decision is kept for an instance to come",
+        counts: (21, 22, 1),
+        parts: &[
+            "members 3
+cells 4",
+            RELAYED,
+            CHOSEN,
+            DECIDED,
+            "3 receive #16 => ok 17-19
+expect 3 decided 1:1.1
+3 deliver => refused Idle: instance 0 idle
+3 begin => refused Nothing: instance 0 idle
+3 receive #3 => ok 20-22
+3 begin
+3 enter => refused Decided: instance 1 round 0 Rest, estimate {1.1} ts 0, acks 0 of 0
+3 deliver
+expect 3 delivered 1.1",
+        ],
+    },
+    Run {
+        name: "a member that began nothing follows",
+        counts: (20, 22, 1),
+        parts: &[
+            "members 3
+cells 4",
+            RELAYED,
+            CHOSEN,
+            DECIDED,
+            "3 follow => refused Undecided: instance 0 idle
+3 receive #16 => ok 17-19
+3 follow
+expect 3 delivered 1.1
+expect 3 table 0=7
+expect 3 instance 1
+expect 3 idle
+3 receive #3 => ok 20-22
+3 begin => refused Nothing: instance 1 idle
+3 follow => refused Undecided: instance 1 idle",
+        ],
+    },
+    Run {
+        name: "a follower needs a cell",
+        counts: (18, 19, 0),
+        parts: &[
+            "members 3
+cells 0",
+            RELAYED,
+            CHOSEN,
+            DECIDED,
+            "3 follow => refused Undecided: instance 0 idle
+3 receive #16 => ok 17-19
+3 follow => refused Full(Cells): instance 0 idle",
+        ],
+    },
+    Run {
+        name: "what was delivered is not proposed again",
+        counts: (26, 26, 1),
+        parts: &[
+            "members 3
+cells 4",
+            RELAYED,
+            "crash 3",
+            CHOSEN,
+            DECIDED,
+            "2 receive #15
+2 deliver
+1 receive #14 => ok 17-19
+1 deliver
+2 submit add 1 2 => ok 20-22
+1 receive #20 => ok 23-25
+1 begin
+1 begin => refused Busy: instance 2 round 0 Rest, estimate {2.1} ts 0, acks 0 of 0
+expect 1 instance 2
+1 deliver => refused Undecided: instance 2 round 0 Rest, estimate {2.1} ts 0, acks 0 of 0
+1 enter => ok 26
+1 repeat #26 => refused NotSent: #26 Est 2/1 from 1 {2.1} ts 0 went to member 2",
+        ],
+    },
+];
+
+// One member alone.
+pub(super) static ALONE: [Run; 5] = [
+    Run {
+        name: "one member delivers its second message before its first",
+        counts: (24, 10, 2),
+        parts: &[
+            "members 1
+cells 4",
+            SECOND_FIRST,
+            "1 deliver
+expect 1 decided 1:1.2 2:1.1
+expect 1 delivered 1.2 1.1
+expect 1 table 0=5 1=5",
+        ],
+    },
+    Run {
+        name: "a batch without a cell is not delivered",
+        counts: (23, 10, 1),
+        parts: &[
+            "members 1
+cells 1",
+            SECOND_FIRST,
+            "1 deliver => refused Full(Cells): instance 2 round 1 Rest, coordinator 1, estimate {1.1} ts 1, heard 1 {1.1} ts 0, acks 1 of 1",
+        ],
+    },
+    Run {
+        name: "a batch stands in the order of messages, and a sum stays at the greatest value",
+        counts: (14, 6, 1),
+        parts: &[
+            "members 1
+cells 4
+1 submit set 0 18446744073709551610 => ok 1
+1 submit add 0 10 => ok 2
+1 receive #2
+1 receive #1
+1 begin
+1 enter => ok 3
+1 receive #3
+1 choose 1 => ok 4
+1 receive #4
+1 adopt => ok 5
+1 receive #5
+1 conclude => ok 6
+1 receive #6
+1 deliver
+expect 1 delivered 1.1 1.2
+expect 1 table 0=18446744073709551615
+1 submit set 16 1 => refused BadCommand: instance 1 idle",
+        ],
+    },
+    Run {
+        name: "a bound of one proposes one message after the other",
+        counts: (24, 10, 2),
+        parts: &[
+            "members 1
+cells 4
+batch 1",
+            TWO_RECEIVED,
+            "expect 1 delivered 1.1
+1 begin
+1 enter => ok 7
+1 receive #7
+1 choose 1 => ok 8
+1 receive #8
+1 adopt => ok 9
+1 receive #9
+1 conclude => ok 10
+1 receive #10
+1 deliver
+expect 1 delivered 1.1 1.2
+expect 1 table 0=5 1=5",
+        ],
+    },
+    Run {
+        name: "a bound of two proposes both",
+        counts: (14, 6, 1),
+        parts: &[
+            "members 1
+cells 4
+batch 2",
+            TWO_RECEIVED,
+            "expect 1 delivered 1.1 1.2
+expect 1 table 0=5 1=5",
+        ],
+    },
+];
