@@ -1,11 +1,9 @@
 //! The diagram of a part of a run.
 
 ghost use Rattle.std.specs.Prelude.{◌≡◌, ◌≤◌, ◌+◌, ◌++◌, length, OnOk, IfOk, IfErr, string_bytes, if◌then◌else◌, []};
-ghost use Rattle.ct_names.specs.declared.limit.TheConstants.{MAX_BOUND, MAX_CELLS};
-ghost use Rattle.ct_model.specs.Rehearsal.{state_of};
-ghost use Rattle.ct_records.specs.ProgramFault.{IsOfReplayFault};
 ghost use Rattle.ct_records.specs.Replay.{IsAllowed};
 ghost use Rattle.ct_records.specs.View.{rehearsal_of};
+ghost use Rattle.ct_world.specs.Setup.{record_of};
 ghost use Rattle.ct_diagram.specs.Diagram.{whole_layer, shades_layer, arrows_layer, marks_layer, one_of, framed_text};
 ghost use Rattle.ct_diagram.specs.Diagram.{IsDiagram, FailsWith, IsOfReplay};
 ghost use Rattle.ct_diagram.specs.Window.{is_drawn, columns};
@@ -15,11 +13,10 @@ use crate::drawn::Drawn;
 use crate::fault::DiagramFault;
 use crate::frame::{push_foot, push_head, push_lanes};
 use crate::window::{MOST_STEPS, Window};
-use ct_board::Board;
 use ct_model::Step;
-use ct_names::{Group, Refusal};
-use ct_records::{ProgramFault, Script};
-use ct_world::{ReplayFault, World};
+use ct_names::MAX_ENVELOPES;
+use ct_records::Script;
+use ct_world::{Replay, Replayed, Setup, World};
 use std::alloc::{AllocError, Global};
 
 /// The diagram of the steps of the record that the window has. The steps after the window's last one are not looked at.
@@ -32,14 +29,7 @@ pub fn diagram(alloc: Global, script: &Script, window: &Window) -> Result<Vec<u8
     if columns > MOST_STEPS {
         return Err(DiagramFault::TooManySteps { steps: columns });
     }
-    let canvas = drawn(
-        alloc,
-        script.group,
-        script.cells,
-        script.batch,
-        &script.steps[..end],
-        window,
-    )?;
+    let canvas = drawn(alloc, script.setup(), &script.steps[..end], window)?;
     Ok(framed(alloc, &canvas, script.group.n(), columns)?)
 }
 
@@ -63,64 +53,24 @@ fn framed(alloc: Global, canvas: &Canvas, n: u8, columns: usize) -> Result<Vec<u
 // What is drawn of these steps, or the first of them that is refused.
 fn drawn(
     alloc: Global,
-    group: Group,
-    cells: u16,
-    bound: u32,
+    setup: Setup,
     steps: &[Step],
     window: &Window,
 ) -> Result<Canvas, DiagramFault>
-    requires few { cells ≤ MAX_CELLS }
-    requires some { 1 ≤ bound }
-    requires bounded { bound ≤ MAX_BOUND }
     requires narrow { columns window.now steps.now ≤ 400 }
-    ensures allowed { OnOk result (IsAllowed
-        (record { setting = record { members = group; bound = bound }; cells = cells; steps = steps.now })) }
-    ensures shades { IfOk result (λ canvas. string_bytes canvas.shades ≡ whole_layer shades_layer window.now
-        (record { setting = record { members = group; bound = bound }; cells = cells; steps = steps.now })) }
-    ensures arrows { IfOk result (λ canvas. string_bytes canvas.arrows ≡ whole_layer arrows_layer window.now
-        (record { setting = record { members = group; bound = bound }; cells = cells; steps = steps.now })) }
-    ensures marks { IfOk result (λ canvas. string_bytes canvas.marks ≡ whole_layer marks_layer window.now
-        (record { setting = record { members = group; bound = bound }; cells = cells; steps = steps.now })) }
-    ensures err { IfErr result (λ fault. IsOfReplay fault
-        (record { setting = record { members = group; bound = bound }; cells = cells; steps = steps.now })) }
+    ensures allowed { OnOk result (IsAllowed (record_of setup steps.now)) }
+    ensures shades { IfOk result (λ canvas. string_bytes canvas.shades ≡ whole_layer shades_layer window.now (record_of setup steps.now)) }
+    ensures arrows { IfOk result (λ canvas. string_bytes canvas.arrows ≡ whole_layer arrows_layer window.now (record_of setup steps.now)) }
+    ensures marks { IfOk result (λ canvas. string_bytes canvas.marks ≡ whole_layer marks_layer window.now (record_of setup steps.now)) }
+    ensures err { IfErr result (λ fault. IsOfReplay fault (record_of setup steps.now)) }
 {
-    let Ok(mut world) = World::new(alloc, group, cells, bound) else {
-        return Err(DiagramFault::Program(ProgramFault::Memory));
-    };
-    let board = Board::new(alloc, usize::from(cells))?;
+    let mut replay = Replay::new(alloc, setup, steps)?;
     let mut canvas = Canvas::new(alloc);
-    for (i, step) in steps.iter().enumerate() {
-        let before = sent(&world);
-        if let Err(refusal) = world.apply(&board, step) {
-            return Err(DiagramFault::Program(refused(i + 1, refusal)));
-        }
-        draw_next(
-            &mut canvas,
-            &world,
-            window,
-            before,
-            i + 1,
-            *step,
-            &steps[i + 1..],
-        )?;
+    while !replay.is_over() {
+        let done = replay.step()?;
+        draw_next(&mut canvas, replay.world(), window, done, replay.left())?;
     }
     Ok(canvas)
-}
-
-// How many envelopes were sent.
-fn sent(world: &World) -> u32
-    ensures value { result ≡ length (state_of world.now.rehearsal).sent }
-    ensures few { result ≤ 1000000 }
-{
-    let _ = world.record();
-    world.sent()
-}
-
-// The fault of the step of this number.
-fn refused(at: usize, refusal: Refusal) -> ProgramFault
-    ensures { IsOfReplayFault (record { at = at; refusal = refusal }) result }
-{
-    ProgramFault::from(ReplayFault { at, refusal })
 }
 
 // Draws the world's last step, where the window has it.
@@ -128,26 +78,24 @@ fn draw_next(
     canvas: &mut Canvas,
     world: &World,
     window: &Window,
-    before: u32,
-    number: usize,
-    step: Step,
+    done: Replayed,
     later: &[Step],
 ) -> Result<(), AllocError>
-    requires sent { before ≤ 1000000 }
-    requires near { number + length later.now ≤ window.now.from + 399 }
+    requires sent { done.before ≤ MAX_ENVELOPES }
+    requires near { done.number + length later.now ≤ window.now.from + 399 }
     ensures shades { OnOk result (string_bytes canvas.new.shades ≡ string_bytes canvas.old.shades
-        ++ one_of shades_layer window.now world.now.rehearsal before number step later.now) }
+        ++ one_of shades_layer window.now world.now.rehearsal done.before done.number done.step later.now) }
     ensures arrows { OnOk result (string_bytes canvas.new.arrows ≡ string_bytes canvas.old.arrows
-        ++ one_of arrows_layer window.now world.now.rehearsal before number step later.now) }
+        ++ one_of arrows_layer window.now world.now.rehearsal done.before done.number done.step later.now) }
     ensures marks { OnOk result (string_bytes canvas.new.marks ≡ string_bytes canvas.old.marks
-        ++ one_of marks_layer window.now world.now.rehearsal before number step later.now) }
+        ++ one_of marks_layer window.now world.now.rehearsal done.before done.number done.step later.now) }
 {
-    if window.has(number) {
+    if window.has(done.number) {
         let drawn = Drawn {
             from: window.from,
-            number,
-            before,
-            step,
+            number: done.number,
+            before: done.before,
+            step: done.step,
         };
         canvas.draw(world, drawn, later)
     } else {

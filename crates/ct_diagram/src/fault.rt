@@ -5,6 +5,7 @@ ghost use Rattle.ct_diagram.specs.Faults.{status_of};
 
 use ct_records::ProgramFault;
 use ct_streams::{InputFault, Status};
+use ct_world::ReplayFault;
 use std::alloc::AllocError;
 use thiserror::Error;
 
@@ -63,5 +64,15 @@ impl From<AllocError> for DiagramFault {
 
     fn from(_error: AllocError) -> DiagramFault {
         DiagramFault::Program(ProgramFault::Memory)
+    }
+}
+
+impl From<ReplayFault> for DiagramFault {
+    ghost use Rattle.ct_diagram.specs.Faults.{IsOfReplayFault};
+
+    ghost from_gives = { λ replay e. IsOfReplayFault replay e };
+
+    fn from(replay: ReplayFault) -> DiagramFault {
+        DiagramFault::Program(ProgramFault::from(replay))
     }
 }

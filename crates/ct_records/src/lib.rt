@@ -12,6 +12,7 @@ mod replaying;
 mod reporting;
 mod script;
 mod separator;
+mod setting_up;
 mod version;
 mod writing;
 

@@ -1,12 +1,10 @@
 //! What a view shows of a record.
 
-ghost use Rattle.std.specs.Prelude.{◌≡◌, ◌≢◌, ◌≤◌, ◌++◌, [], length, Some, IfOk, IfErr, OnOk, string_bytes};
-ghost use Rattle.ct_names.specs.declared.limit.TheConstants.{MAX_BOUND, MAX_CELLS};
-ghost use Rattle.ct_model.specs.Rehearsal.{state_of};
+ghost use Rattle.std.specs.Prelude.{◌≡◌, ◌≢◌, ◌<◌, ◌++◌, [], length, slice_get, Some, IfOk, IfErr, OnOk, string_bytes};
+ghost use Rattle.ct_world.specs.Stage.{so_far};
 ghost use Rattle.ct_records.specs.declared.program_fault.ProgramFault.TheVariants.{Memory};
 ghost use Rattle.ct_records.specs.View.{rehearsal_of};
-ghost use Rattle.ct_show.specs.Answer.{IsAnswer};
-ghost use Rattle.ct_show.specs.Facts.{refused_text};
+ghost use Rattle.ct_show.specs.Answer.{IsAnswer, refused_line};
 
 use crate::facts::push_refused;
 use crate::json::report_json;
@@ -15,11 +13,9 @@ use crate::selection::Selection;
 use crate::state::state_text;
 use crate::traced::trace;
 use crate::view::View;
-use ct_board::Board;
-use ct_model::Step;
-use ct_names::{Group, Refusal};
+use ct_names::Refusal;
 use ct_records::{ProgramFault, Script};
-use ct_world::{ReplayFault, World};
+use ct_world::{Replay, ReplayFault, World};
 use std::alloc::Global;
 
 /// What a view shows of a record.
@@ -40,16 +36,7 @@ pub fn shown(alloc: Global, script: &Script, view: &View) -> Result<Answer, Prog
     match view {
         View::Nothing => nothing_of(alloc, script),
         View::Report => report_of(alloc, script),
-        View::Steps(selection) => {
-            lines_of(
-                alloc,
-                script.group,
-                script.cells,
-                script.batch,
-                &script.steps,
-                selection,
-            )
-        }
+        View::Steps(selection) => { lines_of(alloc, script, selection) }
         View::State(count) => state_of(alloc, script, *count),
     }
 }
@@ -116,13 +103,7 @@ fn state_of(alloc: Global, script: &Script, count: u32) -> Result<Answer, Progra
     ensures err { IfErr result (λ fault. fault ≡ Memory) }
 {
     let count = (count as usize).min(script.steps.len());
-    match trace(
-        alloc,
-        script.group,
-        script.cells,
-        script.batch,
-        &script.steps[..count],
-    ) {
+    match trace(alloc, script.setup(), &script.steps[..count]) {
         Ok(traced) => Ok(Answer {
             text: state_text(alloc, &traced)?,
             refused: None,
@@ -132,33 +113,27 @@ fn state_of(alloc: Global, script: &Script, count: u32) -> Result<Answer, Progra
 }
 
 // The lines of the steps, up to the first refused one.
-fn lines_of(
-    alloc: Global,
-    group: Group,
-    cells: u16,
-    bound: u32,
-    steps: &[Step],
-    selection: &Selection,
-) -> Result<Answer, ProgramFault>
-    requires few { cells ≤ MAX_CELLS }
-    requires some { 1 ≤ bound }
-    requires bounded { bound ≤ MAX_BOUND }
-    ensures ok { IfOk result (λ answer. IsAnswer (View.Steps selection.now)
-        (record { setting = record { members = group; bound = bound }; cells = cells; steps = steps.now })
-        answer.text.items answer.refused) }
+fn lines_of(alloc: Global, script: &Script, selection: &Selection) -> Result<Answer, ProgramFault>
+    ensures ok { IfOk result (λ answer. IsAnswer (View.Steps selection.now) (rehearsal_of script.now) answer.text.items answer.refused) }
     ensures err { IfErr result (λ fault. fault ≡ Memory) }
 {
-    let Ok(mut world) = World::new(alloc, group, cells, bound) else {
+    let Ok(mut replay) = Replay::new(alloc, script.setup(), &script.steps) else {
         return Err(ProgramFault::Memory);
     };
-    let board = Board::new(alloc, usize::from(cells))?;
     let mut text = String::new(alloc);
-    for (i, step) in steps.iter().enumerate() {
-        let before = sent(&world);
-        if let Err(refusal) = world.apply(&board, step) {
-            return refused(text, &world, i + 1, *step, refusal);
-        }
-        push_selected(&mut text, &world, selection, before, i + 1, *step)?;
+    while !replay.is_over() {
+        let done = match replay.step() {
+            Ok(done) => done,
+            Err(fault) => return refused(text, &replay, fault),
+        };
+        push_selected(
+            &mut text,
+            replay.world(),
+            selection,
+            done.before,
+            done.number,
+            done.step,
+        )?;
     }
     Ok(Answer {
         text: text.into_bytes(),
@@ -166,39 +141,28 @@ fn lines_of(
     })
 }
 
-// How many envelopes were sent.
-fn sent(world: &World) -> u32
-    ensures value { result ≡ length (state_of world.now.rehearsal).sent }
-    ensures few { result ≤ 1000000 }
-{
-    let _ = world.record();
-    world.sent()
-}
-
-// The text and the line of the step, which is refused after the world's record.
-fn refused(
-    text: String,
-    world: &World,
-    number: usize,
-    step: Step,
-    refusal: Refusal,
-) -> Result<Answer, ProgramFault>
-    ensures text { IfOk result (λ answer. answer.text.items
-        ≡ string_bytes text ++ refused_text world.now.rehearsal number step refusal) }
-    ensures fault { IfOk result (λ answer. answer.refused ≡ Some (record { at = number; refusal = refusal })) }
-    ensures not_memory { OnOk result (refusal ≢ Refusal.OutOfMemory) }
+// The text and the line of the replay's next step, which is refused.
+fn refused(text: String, replay: &Replay<'_>, fault: ReplayFault) -> Result<Answer, ProgramFault>
+    requires { replay.now.done < length replay.now.whole.steps }
+    ensures text { IfOk result (λ answer. answer.text.items ≡ string_bytes text
+        ++ refused_line (so_far replay.now) fault.at (slice_get replay.now.whole.steps replay.now.done) fault.refusal) }
+    ensures fault { IfOk result (λ answer. answer.refused ≡ Some fault) }
+    ensures not_memory { OnOk result (fault.refusal ≢ Refusal.OutOfMemory) }
     ensures err { IfErr result (λ fault. fault ≡ Memory) }
 {
-    if refusal == Refusal::OutOfMemory {
+    if fault.refusal == Refusal::OutOfMemory {
         return Err(ProgramFault::Memory);
     }
     let mut text = text;
-    push_refused(&mut text, world, number, step, refusal)?;
+    push_refused(
+        &mut text,
+        replay.world(),
+        fault.at,
+        replay.left()[0],
+        fault.refusal,
+    )?;
     Ok(Answer {
         text: text.into_bytes(),
-        refused: Some(ReplayFault {
-            at: number,
-            refusal,
-        }),
+        refused: Some(fault),
     })
 }

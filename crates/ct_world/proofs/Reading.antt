@@ -4,3 +4,4 @@ pub mod Decisions
 pub mod Driving
 pub mod Foremost
 pub mod Meetings
+pub mod Replaying

@@ -8,3 +8,5 @@ pub mod Replay
 pub mod Driving
 pub mod Decided
 pub mod Standing
+pub mod Setup
+pub mod Stage

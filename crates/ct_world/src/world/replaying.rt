@@ -6,11 +6,13 @@ ghost use Rattle.ct_model.specs.Run.{run};
 ghost use Rattle.ct_model.specs.Safe.{IsSafe};
 ghost use Rattle.ct_world.specs.Replay.{world_after, AllowsFirst, IsFaultOf};
 
+use crate::replay::Replay;
 use crate::replay_fault::ReplayFault;
+use crate::setup::Setup;
 use crate::world::World;
 use ct_board::Board;
 use ct_model::Step;
-use ct_names::{Group, MAX_BOUND, MAX_CELLS, Refusal};
+use ct_names::{Group, MAX_BOUND, MAX_CELLS};
 use std::alloc::Global;
 
 impl World {
@@ -33,21 +35,16 @@ impl World {
         ensures safe { IfOk result (λ both. IsSafe both.0.rehearsal.setting (state_of both.0.rehearsal)) }
         ensures err { IfErr result (λ fault. IsFaultOf (record { members = group; bound = bound }) cells steps.now fault.at fault.refusal) }
     {
-        let mut world = match World::new(alloc, group, cells, bound) {
-            Ok(world) => world,
-            Err(refusal) => return Err(ReplayFault { at: 0, refusal }),
+        let setup = Setup {
+            group,
+            cells,
+            bound,
         };
-        let Ok(board) = Board::new(alloc, usize::from(cells)) else {
-            return Err(ReplayFault {
-                at: 0,
-                refusal: Refusal::OutOfMemory,
-            });
-        };
-        for (i, step) in steps.iter().enumerate() {
-            if let Err(refusal) = world.apply(&board, step) {
-                return Err(ReplayFault { at: i + 1, refusal });
-            }
+        let mut replay = Replay::new(alloc, setup, steps)?;
+        while !replay.is_over() {
+            replay.step()?;
         }
+        let (world, board) = replay.into_parts();
         // For its clauses: the record is a run, and the state is safe.
         let _ = world.record();
         Ok((world, board))
