@@ -89,6 +89,7 @@ fn record_line(alloc: Global, world: &World) -> Result<Vec<u8>, AllocError>
     ensures text { IfOk result (λ text. IsKeptIn text.items (Ok world.now.rehearsal)) }
     ensures safe { IsSafeRun world.now.rehearsal }
 {
+    // For its clauses: the record is a run, and the state is safe.
     let _ = world.record();
     let mut text = write_record(alloc, world)?;
     match text.push(b'\n') {

@@ -88,6 +88,7 @@ fn played(alloc: Global, bytes: &[u8]) -> Result<World, RecordFault>
     let mut recorder = told(alloc, bytes)?;
     recorder.end()?;
     let world = recorder.finish()?;
+    // For its clauses: the record is a run, and the state is safe.
     let _ = world.record();
     Ok(world)
 }

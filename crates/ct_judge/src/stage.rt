@@ -125,6 +125,7 @@ impl Stage {
         note(&mut self.noted, self.owed_by, self.owed)?;
         self.owed = 0;
         self.owed_by = step.member();
+        // For its clauses: the record is a run, and the state is safe.
         let _ = self.world.record();
         let sent = match self.world.apply(&self.board, &step) {
             Ok(effect) => effect.sent,

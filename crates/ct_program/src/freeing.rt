@@ -106,6 +106,7 @@ fn line_of(alloc: Global, options: &FreeOptions, done: &Rehearsed) -> Result<Vec
     {
         return Err(ProgramFault::Exchanged);
     }
+    // For its clauses: the record is a run, and the state is safe.
     let _ = world.record();
     let mut text = write_record(alloc, world)?;
     if text.push(b'\n').is_err() {

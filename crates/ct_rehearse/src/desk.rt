@@ -119,6 +119,7 @@ impl<L: Ledger> Desk<L> {
         if world.prepare(&Step::Crash(0)).is_ok() {
             unreachable!()
         }
+        // For its clauses: the record is a run, and the state is safe.
         let _ = world.record();
         world
     }

@@ -91,6 +91,7 @@ impl<L: Ledger> Hall<L> {
     {
         let desk = self.desk.lock(rt);
         let world = desk.world();
+        // For its clauses: the record is a run, and the state is safe.
         let _ = world.record();
         world.meet(&self.board, watcher)
     }
@@ -102,6 +103,7 @@ impl<L: Ledger> Hall<L> {
         ensures err { IfErr result (λ refusal. refusal ≡ Refusal.OutOfMemory) }
     {
         let copy = self.desk.lock(rt).world().copy(alloc)?;
+        // For its clauses: the record is a run, and the state is safe.
         let _ = copy.record();
         Ok(copy)
     }
@@ -122,6 +124,7 @@ impl<L: Ledger> Hall<L> {
         ensures share { share.new ≡ share.old }
     {
         let copy = self.desk.lock(rt).settled(alloc, share)?;
+        // For its clauses: the record is a run, and the state is safe.
         let _ = copy.record();
         Ok(copy)
     }
@@ -151,6 +154,7 @@ impl<L: Ledger> Hall<L> {
         ensures share { share.new ≡ share_after_turn share.old result }
     {
         let mut desk = self.desk.lock(rt);
+        // For its clauses: the record is a run, and the state is safe.
         let _ = desk.world().record();
         turns::turn(&mut *desk, share, &self.board, member, detector)
     }
@@ -162,6 +166,7 @@ impl<L: Ledger> Hall<L> {
         ensures share { share.new ≡ share_after_turn share.old result }
     {
         let mut desk = self.desk.lock(rt);
+        // For its clauses: the record is a run, and the state is safe.
         let _ = desk.world().record();
         turns::disturb(&mut *desk, share, &self.board, entry)
     }

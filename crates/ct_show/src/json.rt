@@ -25,6 +25,7 @@ pub fn report_json(alloc: Global, world: &World) -> Result<Vec<u8>, AllocError>
     ensures outcome { IsOutcome world.now.rehearsal }
 {
     let mut text = String::new(alloc);
+    // For its clauses: each table is that of its sequence.
     let _ = world.outcome(1);
     push_group(&mut text, world)?;
     push_counts(&mut text, world)?;

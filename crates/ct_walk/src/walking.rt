@@ -29,6 +29,7 @@ pub fn walk(alloc: Global, options: &WalkOptions) -> Result<World, WalkFault>
     ensures err { IfErr result IsShort }
 {
     let world = walk_in::<Brand>(alloc, Blank::new(1000), options)?;
+    // For its clauses: the record is a run, and the state is safe.
     let _ = world.record();
     Ok(world)
 }

@@ -60,6 +60,7 @@ fn line_of(alloc: Global, world: &World) -> Result<Vec<u8>, WalkFault>
     ensures outcome { OnOk result (IsOutcome world.now.rehearsal) }
     ensures err { IfErr result (λ fault. fault ≡ WalkFault.Memory) }
 {
+    // For its clauses: the record is a run, and the state is safe.
     let _ = world.record();
     let mut text = write_record(alloc, world)?;
     if text.push(b'\n').is_err() {

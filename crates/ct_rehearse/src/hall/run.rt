@@ -50,6 +50,7 @@ impl<L: Ledger + Send + Sync> Hall<L> {
         ensures steps { OnErr result (HasRisen share.old.steps share.new.steps (turns_planned self.now.members plan.now)) }
         ensures parts { result ≡ Err RunFault.Start → share.new.parts + 1 ≡ share.old.parts }
     {
+        // For its clauses: there are at most 16 members.
         let _ = self.group.n();
         let count = detectors.len() + plan.scripts.len();
         let Ok(all) = Vec::with_capacity(alloc, count) else {
