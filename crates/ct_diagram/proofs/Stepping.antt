@@ -1,5 +1,6 @@
 -- What a layer has of one step more.
-use Rattle.std.proofs.Common.{◌≡◌, ℕ, suc, ◌+◌, List, ◌++◌, drop, length, Some, Result, Ok, Err, refl, sym, ap, ◌-◌, ◌∙◌, subst, inl, inr, arith}
+use Rattle.std.proofs.Common.{◌≡◌, ℕ, suc, ◌+◌, List, ◌++◌, drop, length, Some, Result, Ok, Err, refl, sym, ap, ◌-◌, ◌∙◌, subst}
+use Rattle.std.proofs.Common.{inl, inr, arith}
 use Rattle.std.specs.Prelude.{IfErr, IsErrAnd, slice_get}
 use Rattle.ct_model.specs.declared.step.Step.{Step}
 use Rattle.ct_model.specs.Rehearsal.{Rehearsal, state_of, extended}
@@ -34,15 +35,16 @@ pub drawn_more : (layer : Rehearsal → Drawn → List Step → List ℕ) (windo
     (later : List Step) (old new : List ℕ) → slice_get w.steps i ≡ Some it.step → it.number ≡ i + 1 →
     it.before ≡ length (state_of (first_steps w.setting w.cells w.steps i)).sent →
     v ≡ extended (first_steps w.setting w.cells w.steps i) it.step → later ≡ drop (i + 1) w.steps →
-    old ≡ first_layer layer window w.setting w.cells w.steps i → new ≡ old ++ one_of layer window v it.before it.number it.step later →
+    old ≡ first_layer layer window w.setting w.cells w.steps i →
+    new ≡ old ++ one_of layer window v it.before it.number it.step later →
     new ≡ first_layer layer window w.setting w.cells w.steps (i + 1)
 drawn_more layer window w v i it later old new there number before joined rest so_far more =
     layer_more layer window w.setting w.cells w.steps i it.step v it.before later old new there joined before rest so_far
     (subst (λ n. new ≡ old ++ one_of layer window v it.before n it.step later) number more)
 
 -- a step that is refused is the fault of the record
-pub of_replay : (w : Rehearsal) (replay : ReplayFault) (fault : DiagramFault) → IsFaultOf w.setting w.cells w.steps replay.at replay.refusal →
-    IsOfReplayFault replay fault → IsOfReplay fault w
+pub of_replay : (w : Rehearsal) (replay : ReplayFault) (fault : DiagramFault) →
+    IsFaultOf w.setting w.cells w.steps replay.at replay.refusal → IsOfReplayFault replay fault → IsOfReplay fault w
 of_replay w replay (TooManySteps steps) h none = absurd none
 of_replay w replay (Program fault) h (inl memory) = rw memory.1 tt
 of_replay w replay (Program fault) h (inr other) = rw other.1 (is_refused w replay.at replay.refusal h other.0)
