@@ -63,6 +63,7 @@ fn listen<R: Source, W: Sink>(
     ensures no_write { result ≢ Err SessionFault.Write → W.failures writer.new ≡ W.failures writer.old }
 {
     for i in 0..u64::MAX {
+        // The invariant names it.
         let _ = i;
         let Ok(n) = reader.read(block) else {
             return Err(SessionFault::Read);

@@ -1,8 +1,7 @@
 //! Schedules, judged line by line.
 
-ghost use Rattle.std.specs.Prelude.{◌≡◌, ◌≤◌, ◌++◌, None, Ok, OnOk, OnErr, IfOk, IfErr, IfSome, length, option_map, string_bytes};
+ghost use Rattle.std.specs.Prelude.{◌≡◌, ◌≤◌, ◌++◌, None, Ok, OnOk, OnErr, IfOk, IfErr, IfSome, option_map, string_bytes};
 ghost use Rattle.ct_names.specs.declared.limit.TheConstants.{MAX_BOUND, MAX_CELLS};
-ghost use Rattle.ct_model.specs.Rehearsal.{state_of};
 ghost use Rattle.ct_judge.specs.Answers.{sent_of};
 ghost use Rattle.ct_judge.specs.Faults.{IsFaultOf, IsKept};
 ghost use Rattle.ct_judge.specs.Judging.{after_play, line_in, taken};
@@ -17,7 +16,7 @@ use crate::stage::Stage;
 use crate::telling::{push_not_met, push_refused};
 use ct_grammar::{Line, line_of};
 use ct_model::Step;
-use ct_names::{MAX_BOUND, Refusal};
+use ct_names::{MAX_BOUND, MAX_ENVELOPES, Refusal};
 use ct_world::World;
 use std::alloc::{AllocError, Global};
 use std::marker::Model;
@@ -144,11 +143,11 @@ impl Judge {
     // How many envelopes were sent.
     pub(crate) fn sent(&self) -> u32
         ensures value { result ≡ sent_of self.now.rehearsal }
-        ensures few { result ≤ 1000000 }
+        ensures few { result ≤ MAX_ENVELOPES }
     {
         match self.world() {
             None => 0,
-            Some(world) => sent(world),
+            Some(world) => world.sent(),
         }
     }
 
@@ -215,14 +214,6 @@ impl Judge {
             Some(group) => Stage::new(self.alloc, group, self.heading.cells, self.heading.batch),
         }
     }
-}
-
-fn sent(world: &World) -> u32
-    ensures value { result ≡ length (state_of world.now.rehearsal).sent }
-    ensures few { result ≤ 1000000 }
-{
-    let _ = world.record();
-    world.sent()
 }
 
 // The line that these bytes are, where they are text.

@@ -103,6 +103,7 @@ fn told(alloc: Global, bytes: &[u8]) -> Result<Recorder, RecordFault>
 {
     let mut recorder = Recorder::new(alloc);
     for (i, byte) in bytes.iter().enumerate() {
+        // The invariant names it.
         let _ = i;
         recorder.take(*byte)?;
     }

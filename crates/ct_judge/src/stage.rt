@@ -197,6 +197,7 @@ fn replayed(
 {
     let mut stage = Stage::new(alloc, group, cells, bound)?;
     for (i, step) in steps.iter().enumerate() {
+        // The invariant names it.
         let _ = i;
         if stage.step(*step).is_err() {
             return Err(LineFault::OutOfMemory);

@@ -66,6 +66,7 @@ fn turns_of(
     ensures part { OnErr result (IsTurned suspected.now stage.old member count stage.new) }
 {
     for i in 0..count {
+        // The invariant names it.
         let _ = i;
         if !turn(stage, member, suspected)? {
             return Ok(());
