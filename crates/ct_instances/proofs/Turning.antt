@@ -10,7 +10,8 @@ use Rattle.ct_model.specs.Setting.{Setting}
 use Rattle.ct_model.specs.State.{State, Member, Standing as AnyStanding, Turn as AnyTurn}
 use Rattle.ct_model.specs.AtValue.{Standing, Turn}
 use Rattle.ct_model.specs.Received.{Ballots, decided}
-use Rattle.ct_model.specs.Moves.{step_of, turn_of, faults_of, sent_by, is_enter}
+use Rattle.ct_model.specs.Faults.{faults_of}
+use Rattle.ct_model.specs.Moves.{step_of, turn_of, sent_by, is_enter}
 use Rattle.ct_model.specs.Mapped.{standing_map, turn_map}
 use Rattle.ct_model.specs.Next.{own_ballots, turn_at, round_row, turned}
 use Rattle.ct_model.specs.Cause.{Test, at, first_fault, open_tests, faults_at, tests}

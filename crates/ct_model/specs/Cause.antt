@@ -20,7 +20,7 @@ use Rattle.ct_names.specs.Batch.{Batch}
 use Rattle.ct_model.specs.Actor.{actor}
 use Rattle.ct_model.specs.AtValue.{Standing}
 use Rattle.ct_model.specs.Received.{decided}
-use Rattle.ct_model.specs.Moves.{faults_of}
+use Rattle.ct_model.specs.Faults.{faults_of}
 use Rattle.ct_model.specs.Next.{next, wire_to, proposed, is_empty, own_ballots}
 use Rattle.ct_model.specs.Waiting.{has_serial}
 use Rattle.ct_model.specs.Rehearsal.{Rehearsal, state_of, line_of}

@@ -1,9 +1,11 @@
 -- Why a step of a round is refused, in order, for a member of a group of n that has the instance open, over the ballots
 -- t of its round and its standing c there.
-use Rattle.std.specs.Prelude.{ℕ, Bool, false, not, List, [], ◌∷◌, is_some, is_none}
+use Rattle.std.specs.Prelude.{ℕ, Bool, false, not, List, [], ◌∷◌, ◌++◌, Option, is_some, is_none}
 use Rattle.std.specs.Option.{option_map_or}
-use Rattle.ct_names.specs.declared.refusal.Refusal.TheVariants.{WrongPhase, TooFew, NotLargest, NoProposal, HasProposal}
+use Rattle.ct_names.specs.declared.refusal.Refusal.TheVariants.{WrongPhase, Decided, TooFew, NotLargest, NoProposal, HasProposal}
 use Rattle.ct_names.specs.Group.{is_majority}
+use Rattle.ct_model.specs.declared.moves.Move.{Move}
+use Rattle.ct_model.specs.declared.moves.Move.TheVariants.{Enter, Choose, Adopt, Suspect, Conclude}
 use Rattle.ct_model.specs.State.{Standing}
 use Rattle.ct_model.specs.Received.{Ballots, heard, estimate_from, is_largest}
 use Rattle.ct_model.specs.Phases.{is_rest, is_gather, is_wait, is_tally}
@@ -33,3 +35,11 @@ suspect_faults t c = at WrongPhase (not (is_wait c.phase)) ∷ at HasProposal (i
 
 abbrev pub conclude_faults : {V : Type 0} → ℕ → Ballots V → Standing V → List Test
 conclude_faults n t c = at WrongPhase (not (is_tally c.phase)) ∷ at TooFew (lacks n t.replied) ∷ []
+
+-- the tests of a step of a round, in order, where this is the decision
+abbrev pub faults_of : {V : Type 0} → ℕ → Option V → Ballots V → Standing V → Move → List Test
+faults_of n decision t c Enter = enter_faults c ++ at Decided (is_some decision) ∷ []
+faults_of n decision t c (Choose from) = choose_faults n t c from
+faults_of n decision t c Adopt = adopt_faults t c
+faults_of n decision t c Suspect = suspect_faults t c
+faults_of n decision t c Conclude = conclude_faults n t c

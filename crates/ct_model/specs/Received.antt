@@ -1,10 +1,10 @@
 -- What a member reads off the wires that it got.
-use Rattle.std.specs.Prelude.{ℕ, Bool, false, ◌&&◌, ◌==◌, nat_le, if◌then◌else◌, List, [], ◌∷◌, Option, Some, None, filter, filter_map, map}
+use Rattle.std.specs.Prelude.{◌≡◌, ℕ, Bool, false, ◌&&◌, ◌==◌, nat_le, if◌then◌else◌, List, [], ◌∷◌, Option, Some, None, filter, filter_map, map}
 use Rattle.std.specs.Prelude.{find}
 use Rattle.std.specs.List.{list_any, list_all}
 use Rattle.ct_names.specs.Group.{everyone}
 use Rattle.ct_names.specs.Message.{Message}
-use Rattle.ct_names.specs.Value.{first_occurrences}
+use Rattle.ct_names.specs.Value.{Value, first_occurrences}
 use Rattle.ct_model.specs.Wire.{Wire}
 use Rattle.ct_model.specs.declared.wire.Wire.TheVariants.{Data, Est, Prop, Ack, Nack, Dec}
 use Rattle.ct_model.specs.State.{State, member}
@@ -32,6 +32,10 @@ decision_of instance _ = None
 -- the decision for an instance: the value of its first Dec
 unfoldable pub decided : {V : Type 0} → List (Wire V) → ℕ → Option V
 decided got instance = head (filter_map (decision_of instance) got)
+
+-- p has this decision for the instance
+abbrev pub HasDecided : State → ℕ → ℕ → Value → Type 0
+HasDecided g p instance value = decided (member g p).got instance ≡ Some value
 
 abbrev pub is_decision : {V : Type 0} → ℕ → ℕ → Wire V → Bool
 is_decision instance round (Dec k r v) = (k == instance) && (r == round)

@@ -7,13 +7,9 @@ use Rattle.ct_model.specs.declared.step.Step.{Step}
 use Rattle.ct_model.specs.declared.step.Step.TheVariants.{Receive}
 use Rattle.ct_model.specs.AtValue.{Envelope}
 use Rattle.ct_model.specs.Setting.{Setting}
-use Rattle.ct_model.specs.State.{State, member, at_serial}
-use Rattle.ct_model.specs.Received.{decided, received_by}
+use Rattle.ct_model.specs.State.{State, at_serial}
+use Rattle.ct_model.specs.Received.{HasDecided, received_by}
 use Rattle.ct_model.specs.Senders.{senders}
-
--- p has this decision for the instance
-abbrev pub HasDecided : State → ℕ → ℕ → Value → Type 0
-HasDecided g p instance value = decided (member g p).got instance ≡ Some value
 
 -- each serial that a step of p sent to q is named by a Receive of q
 abbrev pub IsArrived : Setting → List Step → State → ℕ → ℕ → Type 0

@@ -9,8 +9,7 @@ use Rattle.ct_names.specs.Value.{Value}
 use Rattle.ct_model.specs.Setting.{Setting}
 use Rattle.ct_model.specs.declared.wire.Wire.TheVariants.{Prop}
 use Rattle.ct_model.specs.State.{State, member, delivered, wires}
-use Rattle.ct_model.specs.Received.{ackers}
-use Rattle.ct_model.specs.Relayed.{HasDecided}
+use Rattle.ct_model.specs.Received.{HasDecided, ackers}
 
 -- the value was proposed in this round, and a majority acked it
 pub record IsLocked (s : Setting) (g : State) (instance round : ℕ) (value : Value) : Type 0 where

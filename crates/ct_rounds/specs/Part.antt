@@ -1,13 +1,13 @@
 -- What contracts see of a member's part in an instance, and its steps there.
 use Rattle.std.specs.Prelude.{◌≡◌, ℕ, List, Option, Some, None}
 use Rattle.ct_model.specs.declared.moves.Move.{Move}
-use Rattle.ct_model.specs.Moves.{turn_of, faults_of}
+use Rattle.ct_model.specs.Moves.{turn_of}
 use Rattle.ct_model.specs.declared.mail.Mail.{Mail}
 use Rattle.ct_model.specs.State.{Standing, Turn}
 use Rattle.ct_model.specs.Received.{Ballots}
 use Rattle.ct_model.specs.Test.{Test}
 use Rattle.ct_model.specs.Phases.{enter}
-use Rattle.ct_model.specs.Faults.{enter_faults}
+use Rattle.ct_model.specs.Faults.{enter_faults, faults_of}
 use Rattle.ct_rounds.specs.Inbox.{Rounds, ballots_at}
 
 -- the member `me` of a group, in an instance that it has open

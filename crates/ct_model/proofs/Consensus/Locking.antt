@@ -10,8 +10,7 @@ use Rattle.ct_model.specs.declared.step.Step.{Step}
 use Rattle.ct_model.specs.Setting.{Setting}
 use Rattle.ct_model.specs.declared.wire.Wire.TheVariants.{Est, Prop, Ack, Dec}
 use Rattle.ct_model.specs.State.{State, member, wires}
-use Rattle.ct_model.specs.Received.{ackers, has_ack}
-use Rattle.ct_model.specs.Relayed.{HasDecided}
+use Rattle.ct_model.specs.Received.{HasDecided, ackers, has_ack}
 use Rattle.ct_model.specs.Run.{run}
 use Rattle.ct_model.specs.Safe.{IsAgreed, IsLocked, IsProposed}
 use Rattle.ct_model.proofs.Consensus.Sent.{Sent}

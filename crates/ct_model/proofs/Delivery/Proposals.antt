@@ -11,7 +11,7 @@ use Rattle.ct_model.specs.Actor.{actor}
 use Rattle.ct_model.specs.Knowledge.{KnowsMessages}
 use Rattle.ct_model.specs.Setting.{Setting}
 use Rattle.ct_model.specs.State.{State, Member, Proposal, member, delivered, first_state, joined}
-use Rattle.ct_model.specs.Received.{received}
+use Rattle.ct_model.specs.Received.{HasDecided, received}
 use Rattle.ct_model.specs.Next.{Outcome, row, undelivered, proposed, after, next}
 use Rattle.ct_model.specs.Run.{run}
 use Rattle.ct_model.proofs.Record.Start.{knows-first}
@@ -23,7 +23,6 @@ use Rattle.std.proofs.Math.Nat.{min-le_left}
 use Rattle.ct_names.specs.Batch.{Batch}
 use Rattle.ct_names.specs.Group.{IsMember}
 use Rattle.ct_names.proofs.Values.{length-ordered}
-use Rattle.ct_model.specs.Relayed.{HasDecided}
 use Rattle.ct_model.specs.Safe.{IsAgreed}
 use Rattle.ct_model.proofs.Delivery.Batches.{deliveries, decision, decision-is, closed-run}
 

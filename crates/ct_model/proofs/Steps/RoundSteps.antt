@@ -14,7 +14,7 @@ use Rattle.ct_model.specs.AtValue.{Standing as AtSets, Turn}
 use Rattle.ct_model.specs.Wire.{envelopes}
 use Rattle.ct_model.specs.declared.wire.Wire.TheVariants.{Prop, Dec}
 use Rattle.ct_model.specs.Phases.{is_tally, entered, enter, chosen, choose, adopted, adopt, suspected, suspect, concluded, conclude}
-use Rattle.ct_model.specs.Faults.{enter_faults, choose_faults, adopt_faults, suspect_faults, conclude_faults}
+use Rattle.ct_model.specs.Faults.{enter_faults, choose_faults, adopt_faults, suspect_faults, conclude_faults, faults_of}
 use Rattle.ct_model.specs.When.{when}
 use Rattle.ct_model.proofs.Basics.Options.{some-of}
 use Rattle.std.specs.Option.{option_map_or}
@@ -24,7 +24,7 @@ use Rattle.ct_model.specs.Setting.{Setting}
 use Rattle.ct_model.specs.State.{State, Member, Standing, member}
 use Rattle.ct_model.specs.Received.{Heard, Ballots, estimate_from, decided}
 use Rattle.ct_model.specs.Mapped.{ballots_map, standing_map, turn_map}
-use Rattle.ct_model.specs.Moves.{step_of, turn_of, faults_of, sent_by, is_enter}
+use Rattle.ct_model.specs.Moves.{step_of, turn_of, sent_by, is_enter}
 use Rattle.ct_model.specs.Next.{row, round_row, own_ballots, turn_at}
 use Rattle.ct_model.specs.Rehearsal.{Rehearsal, state_of, line_of}
 use Rattle.ct_model.specs.Cause.{at, first_fault, open_tests, faults_at, round_of, tests, or_else, cause, overflow}

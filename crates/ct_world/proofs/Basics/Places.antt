@@ -65,11 +65,7 @@ without k (x ∷ xs) d h = go (x == k) refl h (without k xs (and_right (not (has
 pub stands-there : (k : ℕ) {i : ℕ} (xs : List ℕ) → place_of k xs ≡ Some i → has_serial k xs ≡ true
 stands-there k xs is = sym (is_some-position (λ q. q == k) xs) ∙ ap is_some is
 
--- so what is there has one
-pub waits-placed : (k : ℕ) (xs : List ℕ) → has_serial k xs ≡ true → is_some (place_of k xs) ≡ true
-waits-placed k xs there = is_some-position (λ q. q == k) xs ∙ there
-
--- and one that has none is not
+-- what has none is not there
 pub stands-nowhere : (k : ℕ) (xs : List ℕ) → None ≡ place_of k xs → has_serial k xs ≡ false
 stands-nowhere k xs is = sym (is_some-position (λ q. q == k) xs) ∙ sym (ap is_some is)
 
