@@ -68,6 +68,7 @@ impl<'s> Replay<'s> {
     }
 
     /// Whether all steps are done. Each that is done was allowed.
+    #[inline]
     pub fn is_over(&self) -> bool
         ensures over { IsTrue result → self.now.done ≡ length self.now.whole.steps }
         ensures left { IsFalse result → self.now.done < length self.now.whole.steps }
@@ -77,6 +78,7 @@ impl<'s> Replay<'s> {
     }
 
     /// Does the next step, or tells why it is refused; then nothing changes.
+    #[inline]
     pub fn step(&mut self) -> Result<Replayed, ReplayFault>
         requires { self.old.done < length self.old.whole.steps }
         ensures ok { OnOk result (self.new ≡ record self.old { done = self.old.done + 1 }) }
@@ -112,6 +114,7 @@ impl<'s> Replay<'s> {
     }
 
     /// The world after the steps that are done.
+    #[inline]
     pub fn world(&self) -> &World
         ensures { result.now ≡ record { rehearsal = so_far self.now; prepared = None } }
     {

@@ -50,6 +50,7 @@ impl Stage {
     }
 
     /// Does the step, as `World::apply` does.
+    #[inline]
     pub fn step(&mut self, step: &Step) -> Result<Effect, Refusal>
         ensures allowed { OnOk result (cause self.old.rehearsal step.now ≡ None) }
         ensures ok { IfOk result (λ effect. IsDone self.old.rehearsal step.now self.new.rehearsal effect.sent) }
@@ -62,6 +63,7 @@ impl Stage {
     }
 
     /// The world. No step is prepared in it.
+    #[inline]
     pub fn world(&self) -> &World
         ensures { result.now ≡ record { rehearsal = self.now.rehearsal; prepared = None } }
     {
