@@ -3,6 +3,7 @@ use Rattle.std.specs.Prelude.{ℕ, ◌≡◌, ◌+◌, ◌*◌, ◌≤◌, Resul
 use Rattle.ct_rehearse.specs.declared.outcome.Turn.{Turn}
 use Rattle.ct_rehearse.specs.declared.outcome.Turn.TheVariants.{Stepped, Resting, Refused}
 use Rattle.ct_rehearse.specs.declared.plan.Plan.{Plan}
+use Rattle.ct_rehearse.specs.declared.plan.TheConstants.{MAX_ENTRIES, MAX_SCRIPTS, MAX_TURNS}
 use Rattle.ct_rehearse.specs.declared.made.Made.{Made}
 use Rattle.ct_rehearse.specs.declared.run_fault.RunFault.{RunFault}
 use Rattle.ct_rehearse.specs.declared.run_fault.RunFault.TheVariants.{Start}
@@ -32,9 +33,9 @@ workers n plan = n + vec_len plan.scripts
 
 -- the limits of a plan
 pub record IsWithin (plan : Plan) : Type 0 where
-  pub turns : plan.turns ≤ 100000
-  pub scripts : vec_len plan.scripts ≤ 8
-  pub entries : All (λ script. vec_len script ≤ 100000) plan.scripts.items
+  pub turns : plan.turns ≤ MAX_TURNS
+  pub scripts : vec_len plan.scripts ≤ MAX_SCRIPTS
+  pub entries : All (λ script. vec_len script ≤ MAX_ENTRIES) plan.scripts.items
 
 -- the number rose, by at most so much
 abbrev pub HasRisen : ℕ → ℕ → ℕ → Type 0

@@ -7,6 +7,7 @@ ghost use Rattle.ct_model.specs.Safe.{IsSafe};
 ghost use Rattle.ct_rehearse.specs.Shares.{whole_share, risen_by};
 ghost use Rattle.ct_world.specs.Posting.{HasPosted, IsRefusal};
 ghost use Rattle.ct_world.specs.World.{IsDone};
+ghost use Rattle.ct_rehearse.specs.declared.share.TheConstants.{PARTS};
 
 use crate::share::Share;
 use ct_board::Board;
@@ -43,7 +44,7 @@ impl<L: Ledger> Desk<L> {
     pub fn new(blank: Blank, world: World) -> (Desk<L>, Share<L>)
         requires name { blank.name ≡ L.name }
         requires parts { blank.parts ≡ L.parts }
-        requires whole { L.parts ≡ 1000 }
+        requires whole { L.parts ≡ PARTS }
         ensures desk { result.0 ≡ world }
         ensures share { result.1 ≡ whole_share (length world.rehearsal.steps) }
     {

@@ -7,6 +7,7 @@ ghost use Rattle.ct_board.specs.Watched.{batches_read, batches_told};
 ghost use Rattle.ct_rehearse.specs.Halls.{HasMet};
 ghost use Rattle.ct_rehearse.specs.Shares.{whole_share};
 ghost use Rattle.ct_rehearse.specs.Turns.{IsEntry, IsTurn, share_after_turn};
+ghost use Rattle.ct_rehearse.specs.declared.share.TheConstants.{PARTS};
 
 mod run;
 
@@ -49,7 +50,7 @@ impl<L: Ledger> Hall<L> {
     pub fn new(blank: Blank, world: World, board: Board) -> (Hall<L>, Share<L>)
         requires name { blank.name ≡ L.name }
         requires parts { blank.parts ≡ L.parts }
-        requires whole { L.parts ≡ 1000 }
+        requires whole { L.parts ≡ PARTS }
         ensures hall { result.0 ≡ record { members = world.rehearsal.setting.members; cells = board } }
         ensures share { result.1 ≡ whole_share (length world.rehearsal.steps) }
     {

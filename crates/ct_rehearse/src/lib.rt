@@ -2,6 +2,7 @@
 #![tactic(auto)]
 
 mod choosing;
+mod crew;
 mod desk;
 mod disturbance;
 mod gate;
@@ -26,18 +27,18 @@ mod turns;
 mod worked;
 mod working;
 
-pub use choosing::question;
+pub use choosing::{choice, entry_step, question};
 pub use desk::Desk;
 pub use disturbance::Disturbance;
 pub use gate::{Gate, NoGate};
 pub use hall::Hall;
 pub use made::Made;
 pub use outcome::Turn;
-pub use plan::Plan;
+pub use plan::{MAX_ENTRIES, MAX_SCRIPTS, MAX_TURNS, Plan};
 pub use plays::{Played, play};
 pub use rehearse_fault::RehearseFault;
 pub use rehearsed::Rehearsed;
 pub use rehearsing::rehearse;
 pub use run_fault::RunFault;
 pub use share::Share;
-pub use turns::{disturb, turn, turn_answered};
+pub use turns::{disturb, turn};

@@ -5,13 +5,15 @@ ghost use Rattle.ct_rehearse.specs.Pace.{goes_on};
 
 use crate::marks::{GONE, least_of, mark_of, place_of};
 use crate::patience::Patience;
+use crate::plan::MAX_SCRIPTS;
+use ct_names::MAX_MEMBERS;
 use std::alloc::{AllocError, Global};
 use std::sync::atomic::{AtomicU64, Ordering};
 use std::sync::{OnceLock, OnceToken, Wait};
 use std::thread;
 
-/// The most workers of a run: 16 members and 8 scripts.
-const WORKERS: usize = 24;
+/// The most workers of a run.
+const WORKERS: usize = MAX_MEMBERS as usize + MAX_SCRIPTS;
 
 // Has the workers of a run begin together, and shows how far each is. Threads share it.
 #[derive(Drop)]

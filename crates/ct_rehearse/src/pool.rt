@@ -1,6 +1,7 @@
 //! What a run lends of a share.
 
 ghost use Rattle.std.specs.Prelude.{◌≡◌, ◌+◌, ◌^◌, ◌<◌, ◌≤◌};
+ghost use Rattle.ct_rehearse.specs.declared.share.TheConstants.{PARTS};
 
 use crate::share::Share;
 use std::marker::Model;
@@ -18,18 +19,19 @@ pub(crate) struct Pool<L: Ledger> {
 impl<L: Ledger> Model for Pool<L> {
     ghost use Rattle.std.specs.Prelude.{◌≡◌, ◌≤◌};
     ghost use Rattle.ct_rehearse.specs.Shares.{Held};
+    ghost use Rattle.ct_rehearse.specs.declared.share.TheConstants.{PARTS};
 
     ghost Value = { Held };
 
     ghost view = { λ p. record { parts = p.parts; steps = p.steps } };
 
-    ghost invariant = { λ p. (p.token.parts ≡ p.parts) × (p.token.amount ≡ p.steps) × (p.parts ≤ 1000) };
+    ghost invariant = { λ p. (p.token.parts ≡ p.parts) × (p.token.amount ≡ p.steps) × (p.parts ≤ PARTS) };
 }
 
 impl<L: Ledger> Pool<L> {
     // These parts without steps.
     pub(crate) fn with(parts: u64, token: ledger::Share<L>) -> Pool<L>
-        requires few { parts ≤ 1000 }
+        requires few { parts ≤ PARTS }
         requires parts { token.parts ≡ parts }
         requires none { token.amount ≡ 0 }
         ensures { result ≡ record { parts = parts; steps = 0 } }
@@ -57,7 +59,7 @@ impl<L: Ledger> Pool<L> {
     // Takes a share in.
     pub(crate) fn take(&mut self, share: Share<L>)
         requires steps { self.old.steps + share.steps < 2 ^ 64 }
-        requires parts { self.old.parts + share.parts ≤ 1000 }
+        requires parts { self.old.parts + share.parts ≤ PARTS }
         ensures { self.new ≡ record { parts = self.old.parts + share.parts; steps = self.old.steps + share.steps } }
     {
         let (parts, steps, token) = share.into_parts();

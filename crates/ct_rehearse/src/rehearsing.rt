@@ -3,6 +3,7 @@
 ghost use Rattle.std.specs.Prelude.{◌≡◌, IfOk, IfErr, vec_len};
 ghost use Rattle.ct_rehearse.specs.Plans.{IsWithin};
 ghost use Rattle.ct_rehearse.specs.Rehearsals.{IsHandedBack, IsRehearsed};
+ghost use Rattle.ct_rehearse.specs.declared.share.TheConstants.{PARTS};
 
 use crate::gate::Gate;
 use crate::hall::Hall;
@@ -10,6 +11,7 @@ use crate::plan::Plan;
 use crate::rehearse_fault::RehearseFault;
 use crate::rehearsed::Rehearsed;
 use crate::run_fault::RunFault;
+use crate::share::PARTS;
 use ct_board::Board;
 use ct_detect::Detector;
 use ct_world::World;
@@ -38,7 +40,7 @@ pub fn rehearse<R: Threads + Wait + Sync, G: Gate>(
     ensures ok { IfOk result (IsRehearsed world.rehearsal board plan.now) }
     ensures err { IfErr result (IsHandedBack world.rehearsal board) }
 {
-    let blank = Blank::new(1000);
+    let blank = Blank::new(PARTS);
     rehearse_in::<Brand, R, G>(rt, alloc, blank, world, board, plan, detectors, gate)
 }
 
@@ -55,7 +57,7 @@ fn rehearse_in<L: Ledger + Send + Sync, R: Threads + Wait + Sync, G: Gate>(
 ) -> Result<Rehearsed, RehearseFault>
     requires name { blank.name ≡ L.name }
     requires parts { blank.parts ≡ L.parts }
-    requires whole { L.parts ≡ 1000 }
+    requires whole { L.parts ≡ PARTS }
     requires plan { IsWithin plan.now }
     requires detectors { vec_len detectors ≡ world.rehearsal.setting.members }
     ensures ok { IfOk result (IsRehearsed world.rehearsal board plan.now) }

@@ -1,12 +1,13 @@
 //! Workers in threads of their own.
 
 ghost use Rattle.std.specs.Prelude.{◌≡◌, ◌<◌, ◌≤◌, IfOk, IfErr, vec_len};
+ghost use Rattle.ct_rehearse.specs.declared.plan.TheConstants.{MAX_ENTRIES};
 ghost use Rattle.ct_rehearse.specs.Plans.{turns_made};
 
+use crate::crew::Crew;
 use crate::disturbance::Disturbance;
 use crate::gate::Gate;
-use crate::hall::Hall;
-use crate::pace::{Admitted, Pace};
+use crate::pace::Admitted;
 use crate::run_fault::RunFault;
 use crate::share::Share;
 use crate::worked::Worked;
@@ -48,10 +49,7 @@ impl<L: Ledger> Running<L> {
 // Starts the worker of a member.
 pub(crate) fn start_driver<'s, E, L: Ledger + Send + Sync, R: Wait + Sync, G: Gate>(
     scope: &Scope<'s, E>,
-    hall: &'s Hall<L>,
-    rt: &'s R,
-    gate: &'s G,
-    pace: &'s Pace,
+    crew: Crew<'s, L, R, G>,
     member: Member,
     turns: u32,
     detector: Box<dyn Detector>,
@@ -62,10 +60,11 @@ pub(crate) fn start_driver<'s, E, L: Ledger + Send + Sync, R: Wait + Sync, G: Ga
     ensures ok { IfOk result (λ r. r.turns ≡ turns) }
     ensures err { IfErr result (λ f. f ≡ RunFault.Start) }
 {
+    let pace = crew.pace;
     let job = move || -> Worked<L>
         requires { (share ≡ record { parts = 1; steps = 0 }) × (0 < member) }
         ensures { turns_made result.made ≡ turns }
-    { drive(hall, rt, gate, pace, member, turns, detector, share) };
+    { drive(&crew, member, turns, detector, share) };
     match scope.spawn_with(Turns(u64::from(turns)), job) {
         Ok(handle) => {
             let admitted = pace.admit(u32::from(member));
@@ -78,25 +77,23 @@ pub(crate) fn start_driver<'s, E, L: Ledger + Send + Sync, R: Wait + Sync, G: Ga
 // Starts the worker of a script.
 pub(crate) fn start_script<'s, E, L: Ledger + Send + Sync, R: Wait + Sync, G: Gate>(
     scope: &Scope<'s, E>,
-    hall: &'s Hall<L>,
-    rt: &'s R,
-    gate: &'s G,
-    pace: &'s Pace,
+    crew: Crew<'s, L, R, G>,
     worker: u32,
     script: &'s Vec<Disturbance>,
     share: Share<L>,
 ) -> Result<Running<L>, RunFault>
     requires share { share ≡ record { parts = 1; steps = 0 } }
-    requires short { vec_len script.now ≤ 100000 }
+    requires short { vec_len script.now ≤ MAX_ENTRIES }
     requires worker { 0 < worker }
     ensures ok { IfOk result (λ r. r.turns ≡ vec_len script.now) }
     ensures err { IfErr result (λ f. f ≡ RunFault.Start) }
 {
     let turns = script.len() as u64;
+    let pace = crew.pace;
     let job = move || -> Worked<L>
-        requires { (share ≡ record { parts = 1; steps = 0 }) × (vec_len script.now ≤ 100000) × (0 < worker) }
+        requires { (share ≡ record { parts = 1; steps = 0 }) × (vec_len script.now ≤ MAX_ENTRIES) × (0 < worker) }
         ensures { turns_made result.made ≡ vec_len script.entry.now }
-    { follow(hall, rt, gate, pace, worker, script.as_slice(), share) };
+    { follow(&crew, worker, script.as_slice(), share) };
     match scope.spawn_with(Turns(turns), job) {
         Ok(handle) => {
             let admitted = pace.admit(worker);

@@ -2,6 +2,7 @@
 
 ghost use Rattle.std.specs.Prelude.{◌≡◌, ◌+◌, ◌^◌, ◌<◌, ◌≤◌};
 ghost use Rattle.ct_rehearse.specs.Shares.{whole_share};
+ghost use Rattle.ct_rehearse.specs.declared.share.TheConstants.{PARTS};
 
 use crate::pool::Pool;
 use std::marker::Model;
@@ -9,7 +10,7 @@ use std::sync::ledger;
 use std::sync::ledger::{Blank, Book, Ledger};
 
 /// The parts of the whole share.
-const PARTS: u64 = 1000;
+pub(crate) const PARTS: u64 = 1_000;
 
 /// Some of the 1,000 parts of a desk's total, and how many of its steps were counted on them. The shares of one desk
 /// have its total together, however they are split and joined; a share that is dropped takes its parts with it.
@@ -24,12 +25,13 @@ pub struct Share<L: Ledger> {
 impl<L: Ledger> Model for Share<L> {
     ghost use Rattle.std.specs.Prelude.{◌≡◌, ◌<◌, ◌≤◌};
     ghost use Rattle.ct_rehearse.specs.Shares.{Held};
+    ghost use Rattle.ct_rehearse.specs.declared.share.TheConstants.{PARTS};
 
     ghost Value = { Held };
 
     ghost view = { λ s. record { parts = s.parts; steps = s.steps } };
 
-    ghost invariant = { λ s. (s.token.parts ≡ s.parts) × (s.token.amount ≡ s.steps) × (0 < s.parts) × (s.parts ≤ 1000) };
+    ghost invariant = { λ s. (s.token.parts ≡ s.parts) × (s.token.amount ≡ s.steps) × (0 < s.parts) × (s.parts ≤ PARTS) };
 }
 
 impl<L: Ledger> Share<L> {
@@ -44,7 +46,7 @@ impl<L: Ledger> Share<L> {
     pub fn parts(&self) -> u64
         ensures value { result ≡ self.now.parts }
         ensures at_least_one { 1 ≤ result }
-        ensures at_most_whole { result ≤ 1000 }
+        ensures at_most_whole { result ≤ PARTS }
     {
         self.parts
     }
@@ -63,7 +65,7 @@ impl<L: Ledger> Share<L> {
     /// Takes the parts and the steps of another share of the same total.
     pub fn join(&mut self, other: Share<L>)
         requires steps { self.old.steps + other.steps < 2 ^ 64 }
-        requires whole { L.parts ≡ 1000 }
+        requires whole { L.parts ≡ PARTS }
         ensures parts { self.new.parts ≡ self.old.parts + other.parts }
         ensures steps { self.new.steps ≡ self.old.steps + other.steps }
     {
@@ -77,7 +79,7 @@ impl<L: Ledger> Share<L> {
     pub(crate) fn open(blank: Blank, steps: u64) -> (Book<L>, Share<L>)
         requires name { blank.name ≡ L.name }
         requires parts { blank.parts ≡ L.parts }
-        requires whole { L.parts ≡ 1000 }
+        requires whole { L.parts ≡ PARTS }
         ensures total { result.0.total ≡ steps }
         ensures share { result.1 ≡ whole_share steps }
     {
@@ -96,7 +98,7 @@ impl<L: Ledger> Share<L> {
     // These parts without steps.
     pub(crate) fn with(parts: u64, token: ledger::Share<L>) -> Share<L>
         requires some { 0 < parts }
-        requires few { parts ≤ 1000 }
+        requires few { parts ≤ PARTS }
         requires parts { token.parts ≡ parts }
         requires none { token.amount ≡ 0 }
         ensures { result ≡ record { parts = parts; steps = 0 } }
@@ -131,7 +133,7 @@ impl<L: Ledger> Share<L> {
     // Lends so many parts without steps.
     pub(crate) fn lend(&mut self, parts: u64) -> Pool<L>
         requires { parts < self.old.parts }
-        ensures whole { self.old.parts ≤ 1000 }
+        ensures whole { self.old.parts ≤ PARTS }
         ensures pool { result ≡ record { parts = parts; steps = 0 } }
         ensures parts { self.new.parts + parts ≡ self.old.parts }
         ensures steps { self.new.steps ≡ self.old.steps }
@@ -143,7 +145,7 @@ impl<L: Ledger> Share<L> {
     // Takes back what was lent, and the steps that were counted on it.
     pub(crate) fn restore(&mut self, pool: Pool<L>)
         requires steps { self.old.steps + pool.steps < 2 ^ 64 }
-        requires parts { self.old.parts + pool.parts ≤ 1000 }
+        requires parts { self.old.parts + pool.parts ≤ PARTS }
         ensures { self.new ≡ record { parts = self.old.parts + pool.parts; steps = self.old.steps + pool.steps } }
     {
         let (parts, steps, token) = pool.into_parts();
@@ -153,7 +155,7 @@ impl<L: Ledger> Share<L> {
     // So many parts less.
     fn cut(&mut self, parts: u64) -> ledger::Share<L>
         requires { parts < self.old.parts }
-        ensures whole { self.old.parts ≤ 1000 }
+        ensures whole { self.old.parts ≤ PARTS }
         ensures token_parts { result.parts ≡ parts }
         ensures token_steps { result.amount ≡ 0 }
         ensures parts { self.new.parts + parts ≡ self.old.parts }
@@ -166,7 +168,7 @@ impl<L: Ledger> Share<L> {
     // So many parts and steps more.
     fn gain(&mut self, parts: u64, steps: u64, token: ledger::Share<L>)
         requires steps { self.old.steps + steps < 2 ^ 64 }
-        requires parts { self.old.parts + parts ≤ 1000 }
+        requires parts { self.old.parts + parts ≤ PARTS }
         requires token_parts { token.parts ≡ parts }
         requires token_steps { token.amount ≡ steps }
         ensures { self.new ≡ record { parts = self.old.parts + parts; steps = self.old.steps + steps } }

@@ -1,13 +1,14 @@
 //! All workers of a run: they are started, and taken in.
 
 ghost use Rattle.std.specs.Prelude.{◌≡◌, ◌+◌, ◌*◌, ◌^◌, ◌<◌, ◌≤◌, IfErr, OnOk, OnErr, All, length, sum_by, vec_len, vec_capacity};
+ghost use Rattle.ct_rehearse.specs.declared.plan.TheConstants.{MAX_ENTRIES, MAX_SCRIPTS};
 ghost use Rattle.ct_rehearse.specs.Plans.{turns_made, turns_planned, workers, IsWithin};
+ghost use Rattle.ct_rehearse.specs.declared.share.TheConstants.{PARTS};
 
+use crate::crew::Crew;
 use crate::disturbance::Disturbance;
 use crate::gate::Gate;
-use crate::hall::Hall;
 use crate::made::Made;
-use crate::pace::Pace;
 use crate::plan::Plan;
 use crate::pool::Pool;
 use crate::run_fault::RunFault;
@@ -21,10 +22,7 @@ use std::thread::{Scope, Threads};
 // Starts a worker for each member and for each script, until one cannot be started.
 pub(crate) fn start_all<'s, E, L: Ledger + Send + Sync, R: Wait + Sync, G: Gate>(
     scope: &Scope<'s, E>,
-    hall: &'s Hall<L>,
-    rt: &'s R,
-    gate: &'s G,
-    pace: &'s Pace,
+    crew: &Crew<'s, L, R, G>,
     plan: &'s Plan,
     detectors: Vec<Box<dyn Detector>>,
     pool: &mut Pool<L>,
@@ -44,20 +42,15 @@ pub(crate) fn start_all<'s, E, L: Ledger + Send + Sync, R: Wait + Sync, G: Gate>
     ensures lost { OnErr result (pool.new.parts + vec_len all.new + 1 ≡ pool.old.parts) }
 {
     let members = detectors.len() as u32;
-    start_drivers(
-        scope, hall, rt, gate, pace, plan.turns, detectors, pool, all,
-    )?;
+    start_drivers(scope, crew, plan.turns, detectors, pool, all)?;
     let scripts = plan.scripts.as_slice();
-    start_scripts(scope, hall, rt, gate, pace, members, scripts, pool, all)
+    start_scripts(scope, crew, members, scripts, pool, all)
 }
 
 // Starts a worker for each member, the last one first, until one cannot be started.
 fn start_drivers<'s, E, L: Ledger + Send + Sync, R: Wait + Sync, G: Gate>(
     scope: &Scope<'s, E>,
-    hall: &'s Hall<L>,
-    rt: &'s R,
-    gate: &'s G,
-    pace: &'s Pace,
+    crew: &Crew<'s, L, R, G>,
     turns: u32,
     mut detectors: Vec<Box<dyn Detector>>,
     pool: &mut Pool<L>,
@@ -81,7 +74,7 @@ fn start_drivers<'s, E, L: Ledger + Send + Sync, R: Wait + Sync, G: Gate>(
     while let Some(detector) = detectors.pop() {
         let member = detectors.len() as u8 + 1;
         let part = pool.split();
-        let one = start_driver(scope, hall, rt, gate, pace, member, turns, detector, part)?;
+        let one = start_driver(scope, crew.again(), member, turns, detector, part)?;
         put(all, one);
     }
     Ok(())
@@ -90,18 +83,15 @@ fn start_drivers<'s, E, L: Ledger + Send + Sync, R: Wait + Sync, G: Gate>(
 // Starts a worker for each script, until one cannot be started.
 fn start_scripts<'s, E, L: Ledger + Send + Sync, R: Wait + Sync, G: Gate>(
     scope: &Scope<'s, E>,
-    hall: &'s Hall<L>,
-    rt: &'s R,
-    gate: &'s G,
-    pace: &'s Pace,
+    crew: &Crew<'s, L, R, G>,
     members: u32,
     scripts: &'s [Vec<Disturbance>],
     pool: &mut Pool<L>,
     all: &mut Vec<Running<L>>,
 ) -> Result<(), RunFault>
     requires members { members ≤ MAX_MEMBERS }
-    requires few { length scripts.now ≤ 8 }
-    requires short { All (λ s. vec_len s ≤ 100000) scripts.now }
+    requires few { length scripts.now ≤ MAX_SCRIPTS }
+    requires short { All (λ s. vec_len s ≤ MAX_ENTRIES) scripts.now }
     requires none { pool.old.steps ≡ 0 }
     requires parts { length scripts.now ≤ pool.old.parts }
     requires room { vec_len all.old + length scripts.now ≤ vec_capacity all.old }
@@ -120,7 +110,7 @@ fn start_scripts<'s, E, L: Ledger + Send + Sync, R: Wait + Sync, G: Gate>(
     for script in scripts {
         worker += 1;
         let part = pool.split();
-        let one = start_script(scope, hall, rt, gate, pace, worker, script, part)?;
+        let one = start_script(scope, crew.again(), worker, script, part)?;
         put(all, one);
     }
     Ok(())
@@ -145,7 +135,7 @@ pub(crate) fn join_all<L: Ledger, R: Threads>(
     pool: &mut Pool<L>,
 ) -> Made
     requires steps { pool.old.steps + sum_by (λ (r : _). r.turns) all.items < 2 ^ 64 }
-    requires parts { pool.old.parts + vec_len all ≤ 1000 }
+    requires parts { pool.old.parts + vec_len all ≤ PARTS }
     ensures turns { turns_made result ≡ sum_by (λ (r : _). r.turns) all.items }
     ensures pool { pool.new ≡ record { parts = pool.old.parts + vec_len all; steps = pool.old.steps + result.steps } }
 {

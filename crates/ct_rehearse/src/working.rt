@@ -1,14 +1,14 @@
 //! What workers do.
 
 ghost use Rattle.std.specs.Prelude.{◌≡◌, ◌<◌, ◌≤◌, length};
+ghost use Rattle.ct_rehearse.specs.declared.plan.TheConstants.{MAX_ENTRIES};
 ghost use Rattle.ct_rehearse.specs.Plans.{turns_made};
 ghost use Rattle.ct_rehearse.specs.Works.{HasDriven, HasFollowed};
 
+use crate::crew::Crew;
 use crate::disturbance::Disturbance;
 use crate::gate::Gate;
-use crate::hall::Hall;
 use crate::made::Made;
-use crate::pace::Pace;
 use crate::share::Share;
 use crate::stride::Stride;
 use crate::worked::Worked;
@@ -19,10 +19,7 @@ use std::sync::ledger::Ledger;
 
 // Makes turns of one member.
 pub(crate) fn drive<L: Ledger, R: Wait, G: Gate>(
-    hall: &Hall<L>,
-    rt: &R,
-    gate: &G,
-    pace: &Pace,
+    crew: &Crew<'_, L, R, G>,
     member: Member,
     turns: u32,
     mut detector: Box<dyn Detector>,
@@ -30,15 +27,15 @@ pub(crate) fn drive<L: Ledger, R: Wait, G: Gate>(
 ) -> Worked<L>
     requires share { share ≡ record { parts = 1; steps = 0 } }
     requires member { 0 < member }
-    ensures turns { HasDriven hall.now.cells member turns result.made }
+    ensures turns { HasDriven crew.now.hall.now.cells member turns result.made }
     ensures all { turns_made result.made ≡ turns }
 {
-    let mut stride = Stride::begin(rt, pace, u32::from(member));
+    let mut stride = Stride::begin(crew.rt, crew.pace, u32::from(member));
     let mut made = Made::none();
     for number in 0..turns {
-        stride.before(rt, gate, number + 1);
-        let outcome = hall.turn(rt, &mut share, member, &mut *detector);
-        stride.after(rt, gate, number + 1, &outcome);
+        stride.before(crew.rt, crew.gate, number + 1);
+        let outcome = crew.hall.turn(crew.rt, &mut share, member, &mut *detector);
+        stride.after(crew.rt, crew.gate, number + 1, &outcome);
         made.count(&outcome);
     }
     stride.end();
@@ -47,28 +44,25 @@ pub(crate) fn drive<L: Ledger, R: Wait, G: Gate>(
 
 // Makes the entries of one script.
 pub(crate) fn follow<L: Ledger, R: Wait, G: Gate>(
-    hall: &Hall<L>,
-    rt: &R,
-    gate: &G,
-    pace: &Pace,
+    crew: &Crew<'_, L, R, G>,
     worker: u32,
     script: &[Disturbance],
     mut share: Share<L>,
 ) -> Worked<L>
     requires share { share ≡ record { parts = 1; steps = 0 } }
-    requires short { length script.now ≤ 100000 }
+    requires short { length script.now ≤ MAX_ENTRIES }
     requires worker { 0 < worker }
-    ensures entries { HasFollowed hall.now.cells script.now (length script.now) result.made }
+    ensures entries { HasFollowed crew.now.hall.now.cells script.now (length script.now) result.made }
     ensures all { turns_made result.made ≡ length script.now }
 {
-    let mut stride = Stride::begin(rt, pace, worker);
+    let mut stride = Stride::begin(crew.rt, crew.pace, worker);
     let mut made = Made::none();
     let mut number = 0;
     for entry in script {
         number += 1;
-        stride.before(rt, gate, number);
-        let outcome = hall.disturb(rt, &mut share, entry);
-        stride.after(rt, gate, number, &outcome);
+        stride.before(crew.rt, crew.gate, number);
+        let outcome = crew.hall.disturb(crew.rt, &mut share, entry);
+        stride.after(crew.rt, crew.gate, number, &outcome);
         made.count(&outcome);
     }
     stride.end();

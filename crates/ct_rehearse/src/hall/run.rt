@@ -4,6 +4,7 @@ ghost use Rattle.std.specs.Prelude.{◌≡◌, ◌+◌, ◌^◌, ◌<◌, ◌≤
 ghost use Rattle.ct_rehearse.specs.Plans.{turns_made, turns_planned, workers, IsWithin, HasRisen, HasRun};
 ghost use Rattle.ct_rehearse.specs.Shares.{risen_by};
 
+use crate::crew::Crew;
 use crate::gate::Gate;
 use crate::hall::Hall;
 use crate::made::Made;
@@ -99,9 +100,13 @@ fn run_workers<'s, E, L: Ledger + Send + Sync, R: Threads + Wait + Sync, G: Gate
     requires room { workers (vec_len detectors) plan.now ≤ vec_capacity all }
     ensures { HasRun (vec_len detectors) plan.now result.0 result.1 }
 {
-    let started = start_all(
-        scope, hall, rt, gate, pace, plan, detectors, &mut pool, &mut all,
-    );
+    let crew = Crew {
+        hall,
+        rt,
+        gate,
+        pace,
+    };
+    let started = start_all(scope, &crew, plan, detectors, &mut pool, &mut all);
     pace.begin(rt);
     let made = join_all(rt, all, &mut pool);
     match started {

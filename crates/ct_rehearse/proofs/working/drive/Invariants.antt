@@ -5,4 +5,4 @@ use Rattle.ct_rehearse.proofs.working.drive.Given as goal
 
 abbrev pub invariant-loop-number : goal.invariant-loop-number
 invariant-loop-number g l = (l.share.parts ≡ 1) × (l.share.steps ≡ l.made.steps) × (turns_made l.made ≡ l.number)
-    × HasDriven l.hall.cells l.member l.number l.made
+    × HasDriven l.crew.hall.now.cells l.member l.number l.made

@@ -5,4 +5,4 @@ use Rattle.ct_rehearse.proofs.working.follow.Given as goal
 
 abbrev pub invariant-loop-entry : goal.invariant-loop-entry
 invariant-loop-entry g l = (l.share.parts ≡ 1) × (l.share.steps ≡ l.made.steps) × (turns_made l.made ≡ l.entry-index)
-    × (l.number ≡ l.entry-index) × HasFollowed l.hall.cells l.script l.entry-index l.made
+    × (l.number ≡ l.entry-index) × HasFollowed l.crew.hall.now.cells l.script l.entry-index l.made
