@@ -1,10 +1,11 @@
 -- What a turn tries, and what it asks first.
 use Rattle.std.specs.Prelude.{◌≡◌, ℕ, Bool, false, ◌&&◌, Option, Some, None, if◌then◌else◌, unwrap_or, slice_get, option_and_then}
-use Rattle.std.specs.Prelude.{option_map}
+use Rattle.std.specs.Prelude.{is_none, option_map}
 use Rattle.ct_names.specs.Group.{is_member, coordinator}
 use Rattle.ct_model.specs.declared.step.Step.{Step}
 use Rattle.ct_model.specs.declared.step.Step.TheVariants.{Submit, Receive, Suspect, Crash, Postpone, Lose, Repeat}
-use Rattle.ct_model.specs.Rehearsal.{Rehearsal, state_of, line_of}
+use Rattle.ct_model.specs.Cause.{cause}
+use Rattle.ct_model.specs.Rehearsal.{Rehearsal, extended, state_of, line_of}
 use Rattle.ct_model.specs.State.{is_crashed}
 use Rattle.ct_world.specs.World.{member_of, of_member, if_member}
 use Rattle.ct_world.specs.Driving.{next_local}
@@ -78,3 +79,8 @@ entry_step w (entry.Crash p) = Some (Crash p)
 entry_step w (entry.Postpone p) = option_map (Postpone p) (first_waiting w p)
 entry_step w (entry.Lose p) = option_map (Lose p) (first_waiting w p)
 entry_step w (entry.Repeat p serial) = Some (Repeat p serial)
+
+-- the record after a step is tried: the step joins it where nothing refuses it
+abbrev pub after_try : Rehearsal → Option Step → Rehearsal
+after_try w None = w
+after_try w (Some step) = if is_none (cause w step) then extended w step else w

@@ -18,30 +18,21 @@ pub(crate) fn tried(world: &World, member: Member, detector: &mut dyn Detector) 
     ensures asked { HasAsked (next_local world.now.rehearsal member) (ask_of world.now.rehearsal member) (last detector.old)
         (last detector.new) }
 {
-    let step = chosen(world, member, world.next_local(member), detector);
+    let next = world.next_local(member);
+    let suspects = answer(world, member, next, detector);
+    let step = chosen(world, member, next, suspects);
     if world.crashed(member) { None } else { step }
 }
 
-// What is tried where this step comes next.
-fn chosen(
-    world: &World,
-    member: Member,
-    next: Option<Step>,
-    detector: &mut dyn Detector,
-) -> Option<Step>
-    ensures chosen { result ≡ chosen member (first_waiting world.now.rehearsal member) (said (last detector.new)) next }
+// The answer of the detector, which is asked where a suspicion comes next; what is tried goes by it.
+fn answer(world: &World, member: Member, next: Option<Step>, detector: &mut dyn Detector) -> bool
     ensures asked { HasAsked next (ask_of world.now.rehearsal member) (last detector.old) (last detector.new) }
+    ensures chosen { chosen member (first_waiting world.now.rehearsal member) result next
+        ≡ chosen member (first_waiting world.now.rehearsal member) (said (last detector.new)) next }
 {
     match next {
-        Some(Step::Suspect(suspecting)) => {
-            if suspects(world, member, detector) {
-                Some(Step::Suspect(suspecting))
-            } else {
-                receipt(world, member)
-            }
-        }
-        Some(step) => Some(step),
-        None => receipt(world, member),
+        Some(Step::Suspect(_)) => detector.suspects(ask(world, member)),
+        _ => false,
     }
 }
 
@@ -57,17 +48,18 @@ pub fn question(world: &World, member: Member) -> Option<Ask>
     }
 }
 
-// What a turn of the member tries, where its detector gives this answer.
+/// What a turn of the member tries, where its detector gives this answer to its `question`; where it asks nothing, the answer
+/// changes nothing. None where the member rests.
 #[tactic(auto, unfolding(crate::specs::Choices::tried))]
-pub(crate) fn tried_by(world: &World, member: Member, suspects: bool) -> Option<Step>
+pub fn choice(world: &World, member: Member, suspects: bool) -> Option<Step>
     ensures { result ≡ tried world.now.rehearsal member (Some (ask_of world.now.rehearsal member, suspects)) }
 {
-    let chosen = chosen_by(world, member, world.next_local(member), suspects);
-    if world.crashed(member) { None } else { chosen }
+    let tried = chosen(world, member, world.next_local(member), suspects);
+    if world.crashed(member) { None } else { tried }
 }
 
 // What is tried where this step comes next, and this is the detector's answer.
-fn chosen_by(world: &World, member: Member, next: Option<Step>, suspects: bool) -> Option<Step>
+fn chosen(world: &World, member: Member, next: Option<Step>, suspects: bool) -> Option<Step>
     ensures { result ≡ chosen member (first_waiting world.now.rehearsal member) suspects next }
 {
     match next {
@@ -75,13 +67,6 @@ fn chosen_by(world: &World, member: Member, next: Option<Step>, suspects: bool) 
         Some(step) => Some(step),
         None => receipt(world, member),
     }
-}
-
-// Asks the detector.
-fn suspects(world: &World, member: Member, detector: &mut dyn Detector) -> bool
-    ensures { last detector.new ≡ Some (ask_of world.now.rehearsal member, result) }
-{
-    detector.suspects(ask(world, member))
 }
 
 #[tactic(auto, unfolding(crate::specs::Choices::ask_of))]
@@ -131,9 +116,10 @@ fn receipt(world: &World, member: Member) -> Option<Step>
     Some(Step::Receive(member, serial))
 }
 
-// What an entry of a script tries.
+/// What an entry of a script tries: its step, that of a postponement or a loss with the first serial of the member's waiting line;
+/// None where there is none.
 #[tactic(auto, unfolding(crate::specs::Choices::entry_step))]
-pub(crate) fn entry_step(world: &World, entry: &Disturbance) -> Option<Step>
+pub fn entry_step(world: &World, entry: &Disturbance) -> Option<Step>
     ensures { result ≡ entry_step world.now.rehearsal entry.now }
 {
     match *entry {

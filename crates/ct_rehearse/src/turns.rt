@@ -1,11 +1,11 @@
 //! Turns of members, and entries of scripts.
 
-ghost use Rattle.std.specs.Prelude.{◌≡◌, ◌+◌, ◌^◌, ◌<◌, Some, MatchOption};
+ghost use Rattle.std.specs.Prelude.{◌≡◌, ◌+◌, ◌^◌, ◌<◌, MatchOption};
 ghost use Rattle.ct_world.specs.Driving.{next_local};
 ghost use Rattle.ct_rehearse.specs.Choices.{HasAsked, ask_of, entry_step, tried};
 ghost use Rattle.ct_rehearse.specs.Turns.{Answers, share_after_turn, world_after_turn};
 
-use crate::choosing::{entry_step, tried, tried_by};
+use crate::choosing::{entry_step, tried};
 use crate::desk::Desk;
 use crate::disturbance::Disturbance;
 use crate::outcome::Turn;
@@ -36,27 +36,6 @@ pub fn turn<L: Ledger>(
     ensures share { share.new ≡ share_after_turn share.old result }
 {
     match tried(desk.world(), member, detector) {
-        None => Turn::Resting,
-        Some(step) => attempt(desk, share, board, &step),
-    }
-}
-
-/// Makes a turn of a member as `turn` does, by the answer that its detector gave to its `question`; where it asks nothing,
-/// the answer changes nothing.
-pub fn turn_answered<L: Ledger>(
-    desk: &mut Desk<L>,
-    share: &mut Share<L>,
-    board: &Board,
-    member: Member,
-    suspects: bool,
-) -> Turn
-    requires { share.old.steps + 1 < 2 ^ 64 }
-    ensures made { MatchOption (tried desk.old.rehearsal member (Some (ask_of desk.old.rehearsal member, suspects))) (result ≡ Turn.Resting)
-        (λ step. Answers board.now desk.old.rehearsal step desk.new.rehearsal result) }
-    ensures world { desk.new ≡ world_after_turn desk.old result }
-    ensures share { share.new ≡ share_after_turn share.old result }
-{
-    match tried_by(desk.world(), member, suspects) {
         None => Turn::Resting,
         Some(step) => attempt(desk, share, board, &step),
     }

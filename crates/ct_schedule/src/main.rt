@@ -5,15 +5,11 @@
 
 ghost use Rattle.std.specs.Prelude.{◌≡◌};
 
-use ct_board::Board;
 use ct_model::Step;
 use ct_names::{Command, Group, MAX_BOUND, Member};
-use ct_rehearse::{Desk, Played, play};
-use ct_world::World;
+use ct_world::{Setup, Stage, World};
 use std::alloc::{AllocError, Global};
-use std::marker::Brand;
 use std::process::ExitCode;
-use std::sync::ledger::{Blank, Ledger};
 
 /// Member 2 coordinates the first round. Envelopes are numbered in the order in which they are sent.
 const SCHEDULE: [Step; 27] = [
@@ -54,15 +50,17 @@ const SCHEDULE: [Step; 27] = [
 ];
 
 fn main(rt: HostRuntime) -> ExitCode {
-    let Some((played, world)) = rehearse::<Brand>(rt.alloc(), Blank::new(1000)) else {
+    let Some(mut stage) = first_stage(rt.alloc()) else {
         return ExitCode::FAILURE;
     };
-    let _ = println!(rt;
-        "applied {}, refused {}, short {}",
-        played.applied, played.refused, played.short
-    );
+    for step in &SCHEDULE {
+        if let Err(refusal) = stage.step(step) {
+            let _ = println!(rt; "{step} is refused: {refusal}");
+        }
+    }
+    let world = stage.world();
     for member in 1..=world.group().n() {
-        match delivered(rt.alloc(), &world, member) {
+        match delivered(rt.alloc(), world, member) {
             Ok(text) => {
                 let _ = println!(rt; "member {member} delivered{text}");
             }
@@ -72,19 +70,10 @@ fn main(rt: HostRuntime) -> ExitCode {
     ExitCode::SUCCESS
 }
 
-// What the schedule comes to in a new world of three members and four cells, and the world after it.
-fn rehearse<L: Ledger>(alloc: Global, blank: Blank) -> Option<(Played, World)>
-    requires name { blank.name ≡ L.name }
-    requires parts { blank.parts ≡ L.parts }
-    requires whole { L.parts ≡ 1000 }
-{
-    let group = Group::new(3)?;
-    let world = World::new(alloc, group, 4, MAX_BOUND).ok()?;
-    let board = Board::new(alloc, 4).ok()?;
-    let (mut desk, mut share) = Desk::<L>::new(blank, world);
-    let played = play(&mut desk, &mut share, &board, &SCHEDULE);
-    let world = desk.world().copy(alloc).ok()?;
-    Some((played, world))
+// A new world of three members and four cells, with its board.
+fn first_stage(alloc: Global) -> Option<Stage> {
+    let setup = Setup::new(Group::new(3)?, 4, MAX_BOUND)?;
+    Stage::new(alloc, setup).ok()
 }
 
 // The messages that the member delivered, each after a space.

@@ -1,10 +1,7 @@
 -- The faults of walks.
-use Rattle.std.specs.Prelude.{◌≡◌, ◌⊎◌, ℕ, false, ⊤}
+use Rattle.std.specs.Prelude.{◌≡◌, ◌⊎◌, ℕ}
 use Rattle.ct_streams.specs.declared.status.Status.TheVariants as status
 use Rattle.ct_streams.specs.Statuses.{code}
-use Rattle.ct_rehearse.specs.declared.outcome.Turn.{Turn}
-use Rattle.ct_rehearse.specs.declared.outcome.Turn.TheVariants.{Refused}
-use Rattle.ct_rehearse.specs.Plays.{is_short}
 use Rattle.ct_walk.specs.declared.fault.WalkFault.{WalkFault}
 use Rattle.ct_walk.specs.declared.fault.WalkFault.TheVariants.{Memory, Board, Write, NotFound}
 
@@ -17,8 +14,3 @@ status_of Board = code status.Memory
 -- a walk can't be made for want of memory, or by the board
 abbrev pub IsShort : WalkFault → Type 0
 IsShort fault = (fault ≡ Memory) ⊎ (fault ≡ Board)
-
--- the turn's step was not refused for want of memory, nor by the board
-abbrev pub IsSettled : Turn → Type 0
-IsSettled (Refused refusal) = is_short refusal ≡ false
-IsSettled _ = ⊤

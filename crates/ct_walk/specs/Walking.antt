@@ -1,15 +1,13 @@
 -- A walk: what its turns come to, as a function of the options.
 use Rattle.std.specs.Prelude.{ℕ, zero, suc, ◌+◌, ◌*◌, ◌-◌, ◌%◌, ◌==◌, Bool, false, not, ◌&&◌, ◌||◌, nat_lt, List, [], length, drop, filter}
-use Rattle.std.specs.Prelude.{get_or, slice_get, set, sum_by, Option, Some, None, is_none, if◌then◌else◌}
+use Rattle.std.specs.Prelude.{get_or, slice_get, set, sum_by, Option, Some, None, if◌then◌else◌}
 use Rattle.rand_pcg.specs.Lcg.{Lcg}
 use Rattle.std.specs.List.{range_with_len}
-use Rattle.ct_model.specs.declared.step.Step.{Step}
-use Rattle.ct_model.specs.Cause.{cause}
-use Rattle.ct_model.specs.Rehearsal.{Rehearsal, empty, extended}
+use Rattle.ct_model.specs.Rehearsal.{Rehearsal, empty}
 use Rattle.ct_detect.specs.declared.ask.Ask.{Ask}
 use Rattle.ct_detect.specs.Seeded.{SeededState, words_of_seed, next_word, after_word}
 use Rattle.ct_rehearse.specs.declared.disturbance.Disturbance.{Disturbance}
-use Rattle.ct_rehearse.specs.Choices.{ask_of, entry_step, question, tried}
+use Rattle.ct_rehearse.specs.Choices.{after_try, ask_of, entry_step, question, tried}
 use Rattle.ct_program.specs.declared.free_options.FreeOptions.{FreeOptions}
 use Rattle.ct_program.specs.FreeOptions.{setting_of}
 use Rattle.ct_program.specs.Planning.{scripts_of}
@@ -27,11 +25,6 @@ pub record Walk : Type 0 where
   pub scripts : List (List Disturbance)
 
 -- ---- what one turn comes to
-
--- the record after a step is tried: the step joins it where nothing refuses it
-abbrev pub after_try : Rehearsal → Option Step → Rehearsal
-after_try w None = w
-after_try w (Some step) = if is_none (cause w step) then extended w step else w
 
 -- whether a detector says yes to what it is asked next: its next word, modulo 256, is below its rate
 abbrev pub says_yes : SeededState → Bool

@@ -8,7 +8,6 @@ mod fault;
 mod finding;
 mod options;
 mod script;
-mod settled;
 mod sight;
 mod walker;
 mod walking;

@@ -4,71 +4,58 @@ ghost use Rattle.std.specs.Prelude.{◌≡◌, ◌+◌, ◌-◌, ◌*◌, ◌^�
 ghost use Rattle.ct_program.specs.FreeOptions.{InRange};
 ghost use Rattle.ct_walk.specs.Faults.{IsShort};
 ghost use Rattle.ct_walk.specs.Shown.{is_shown};
-ghost use Rattle.ct_walk.specs.Walking.{after_entry, drawn, drawn_scripts, driven, entered, entries_left, has_left, is_due};
+ghost use Rattle.ct_rehearse.specs.Choices.{after_try};
+ghost use Rattle.ct_walk.specs.Walking.{drawn, drawn_scripts, driven, entered, entries_left, has_left, is_due};
 ghost use Rattle.ct_walk.specs.Walking.{is_drawn, made_by, start, turned, walked_for, workers};
 
 use crate::answering::answer;
 use crate::fault::WalkFault;
 use crate::script::Script;
-use crate::settled::settled;
 use crate::sight::{Sight, is_shown};
-use crate::worlds::first_world;
-use ct_board::Board;
+use crate::worlds::first_stage;
 use ct_detect::Seeded;
-use ct_names::Member;
+use ct_model::Step;
+use ct_names::{Member, Refusal};
 use ct_program::{FreeOptions, losses, postponements, repetitions, seeded, submissions};
-use ct_rehearse::{Desk, Disturbance, Share, disturb, turn_answered};
-use ct_world::World;
+use ct_rehearse::{choice, entry_step};
+use ct_world::{Stage, World};
 use rand_core::SeedableRng;
 use rand_core::utils::NextWord;
 use rand_pcg::Pcg32;
 use std::alloc::Global;
 use std::marker::Model;
-use std::sync::ledger::{Blank, Ledger};
 
 // How many scripts there are.
 const SCRIPTS: usize = 4;
 
 // A world, and all that its next turns depend on.
 #[derive(Drop)]
-pub(crate) struct Walker<L: Ledger> {
-    desk: Desk<L>,
-    share: Share<L>,
-    board: Board,
+pub(crate) struct Walker {
+    stage: Stage,
     draws: Pcg32,
     detectors: Vec<Seeded>,
     scripts: [Script; SCRIPTS],
 }
 
-// Contracts see all of it but the share, which has as many steps as the record, the board, and what is prepared.
-impl<L: Ledger> Model for Walker<L> {
-    ghost use Rattle.std.specs.Prelude.{◌≡◌, length};
+// Contracts see all of it but the board.
+impl Model for Walker {
     ghost use Rattle.ct_walk.specs.Walking.{Walk};
 
     ghost Value = { Walk };
 
     ghost view = { λ w. record {
-      rehearsal = w.desk.rehearsal;
+      rehearsal = w.stage.rehearsal;
       draws = w.draws;
       detectors = w.detectors.items;
       scripts = w.scripts;
     } };
-
-    ghost invariant = { λ w. w.share.steps ≡ length w.desk.rehearsal.steps };
 }
 
-impl<L: Ledger> Walker<L> {
+impl Walker {
     // The walk of these options before its first turn.
     #[tactic(auto, unfolding(crate::specs::Walking::start, ct_detect::specs::Seeded::words_of_seed))]
-    pub(crate) fn new(
-        alloc: Global,
-        blank: Blank,
-        options: &FreeOptions,
-    ) -> Result<Walker<L>, WalkFault>
+    pub(crate) fn new(alloc: Global, options: &FreeOptions) -> Result<Walker, WalkFault>
         requires range { InRange options.now }
-        requires name { blank.name ≡ L.name }
-        requires parts { blank.parts ≡ L.parts }
-        requires whole { L.parts ≡ 1000 }
         ensures ok { IfOk result (λ walker. walker ≡ start options.now) }
         ensures few { IfOk result (λ walker. entries_left walker.scripts ≤ 4001) }
         ensures err { IfErr result IsShort }
@@ -80,13 +67,9 @@ impl<L: Ledger> Walker<L> {
             Script::new(losses(alloc, options)?),
             Script::new(repetitions(alloc, options)?),
         ];
-        let board = Board::new(alloc, usize::from(options.cells))?;
-        let world = first_world(alloc, options)?;
-        let (desk, share) = Desk::new(blank, world);
+        let stage = first_stage(alloc, options)?;
         Ok(Walker {
-            desk,
-            share,
-            board,
+            stage,
             draws: Pcg32::seed_from_u64(u64::from(options.seed)),
             detectors,
             scripts,
@@ -99,7 +82,7 @@ impl<L: Ledger> Walker<L> {
         requires entries { entries_left self.now.scripts ≤ 4001 }
         ensures { result ≡ self.now.rehearsal.setting.members * turns + entries_left self.now.scripts }
     {
-        let members = u64::from(self.desk.world().group().n());
+        let members = u64::from(self.stage.world().group().n());
         let scripts: &[Script] = &self.scripts;
         let mut entries = 0;
         for script in scripts {
@@ -120,7 +103,7 @@ impl<L: Ledger> Walker<L> {
     {
         for made in 0..most {
             self.turn(every, made + 1)?;
-            if is_shown(until, self.desk.world()) {
+            if is_shown(until, self.stage.world()) {
                 return Ok(());
             }
         }
@@ -171,7 +154,7 @@ impl<L: Ledger> Walker<L> {
         ensures some { 0 < result }
     {
         let scripts = (0..SCRIPTS).filter(|i| self.is_drawn(every, *i)).count();
-        u32::from(self.desk.world().group().n()) + scripts as u32
+        u32::from(self.stage.world().group().n()) + scripts as u32
     }
 
     // The script of this number among those that are drawn.
@@ -201,7 +184,7 @@ impl<L: Ledger> Walker<L> {
         ensures ok { OnOk result (self.new ≡ made_by every self.old place) }
         ensures err { IfErr result IsShort }
     {
-        let members = u32::from(self.desk.world().group().n());
+        let members = u32::from(self.stage.world().group().n());
         if place < members {
             return self.drive(place as u8 + 1);
         }
@@ -218,16 +201,9 @@ impl<L: Ledger> Walker<L> {
         ensures ok { OnOk result (self.new ≡ driven self.old member) }
         ensures err { IfErr result IsShort }
     {
-        let suspects = answer(self.desk.world(), &mut self.detectors, member);
-        let _ = self.desk.world().record();
-        let turn = turn_answered(
-            &mut self.desk,
-            &mut self.share,
-            &self.board,
-            member,
-            suspects,
-        );
-        settled(&turn)
+        let suspects = answer(self.stage.world(), &mut self.detectors, member);
+        let step = choice(self.stage.world(), member, suspects);
+        self.attempt(step)
     }
 
     // Makes the next entry of a script.
@@ -238,19 +214,27 @@ impl<L: Ledger> Walker<L> {
         ensures err { IfErr result IsShort }
     {
         match self.scripts[i].next() {
-            Some(entry) => self.disturb(&entry),
+            Some(entry) => {
+                let step = entry_step(self.stage.world(), &entry);
+                self.attempt(step)
+            }
             None => Ok(()),
         }
     }
 
-    // Makes an entry of a script.
-    fn disturb(&mut self, entry: &Disturbance) -> Result<(), WalkFault>
-        ensures ok { OnOk result (self.new ≡ record self.old { rehearsal = after_entry self.old.rehearsal (Some entry.now) }) }
+    // Tries the step, if there is one.
+    fn attempt(&mut self, step: Option<Step>) -> Result<(), WalkFault>
+        ensures ok { OnOk result (self.new ≡ record self.old { rehearsal = after_try self.old.rehearsal step }) }
         ensures err { IfErr result IsShort }
     {
-        let _ = self.desk.world().record();
-        let turn = disturb(&mut self.desk, &mut self.share, &self.board, entry);
-        settled(&turn)
+        let Some(step) = step else {
+            return Ok(());
+        };
+        match self.stage.step(&step) {
+            Err(Refusal::OutOfMemory) => Err(WalkFault::Memory),
+            Err(Refusal::Board) => Err(WalkFault::Board),
+            _ => Ok(()),
+        }
     }
 
     // The world.
@@ -258,6 +242,7 @@ impl<L: Ledger> Walker<L> {
         ensures rehearsal { result.rehearsal ≡ self.rehearsal }
         ensures none { result.prepared ≡ None }
     {
-        self.desk.into_world()
+        let (world, _) = self.stage.into_parts();
+        world
     }
 }

@@ -13,11 +13,10 @@ use crate::options::WalkOptions;
 use crate::walker::Walker;
 use ct_world::World;
 use std::alloc::Global;
-use std::marker::Brand;
-use std::sync::ledger::{Blank, Ledger};
 
 /// Makes the walk that the options ask for, and hands out the world after its last turn. It takes neither lock nor thread,
 /// and the same options give the same record.
+#[tactic(auto, unfolding(crate::specs::Walking::walked))]
 pub fn walk(alloc: Global, options: &WalkOptions) -> Result<World, WalkFault>
     requires { IsInRange options.now }
     // The record is the definition's; want of memory, or of the board, gives none.
@@ -28,29 +27,11 @@ pub fn walk(alloc: Global, options: &WalkOptions) -> Result<World, WalkFault>
     ensures safe { IfOk result (λ world. IsSafe world.rehearsal.setting (state_of world.rehearsal)) }
     ensures err { IfErr result IsShort }
 {
-    let world = walk_in::<Brand>(alloc, Blank::new(1000), options)?;
+    let mut walker = Walker::new(alloc, &options.run)?;
+    let most = walker.most_turns(options.run.turns);
+    walker.walk(options.every, options.until, most)?;
+    let world = walker.into_world();
     // For its clauses: the record is a run, and the state is safe.
     let _ = world.record();
     Ok(world)
-}
-
-// The walk, with a ledger of the blank.
-#[tactic(auto, unfolding(crate::specs::Walking::walked))]
-fn walk_in<L: Ledger>(
-    alloc: Global,
-    blank: Blank,
-    options: &WalkOptions,
-) -> Result<World, WalkFault>
-    requires range { IsInRange options.now }
-    requires name { blank.name ≡ L.name }
-    requires parts { blank.parts ≡ L.parts }
-    requires whole { L.parts ≡ 1000 }
-    ensures exact { IfOk result (λ world. world.rehearsal ≡ walked options.now) }
-    ensures none { IfOk result (λ world. world.prepared ≡ None) }
-    ensures err { IfErr result IsShort }
-{
-    let mut walker = Walker::<L>::new(alloc, blank, &options.run)?;
-    let most = walker.most_turns(options.run.turns);
-    walker.walk(options.every, options.until, most)?;
-    Ok(walker.into_world())
 }

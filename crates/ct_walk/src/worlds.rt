@@ -1,26 +1,29 @@
-//! The world that a walk begins with.
+//! What a walk begins with.
 
-ghost use Rattle.std.specs.Prelude.{◌≡◌, [], IfOk, IfErr};
-ghost use Rattle.ct_world.specs.Replay.{world_after};
+ghost use Rattle.std.specs.Prelude.{◌≡◌, IfOk, IfErr};
+ghost use Rattle.ct_model.specs.Rehearsal.{empty};
 ghost use Rattle.ct_program.specs.FreeOptions.{InRange, setting_of};
 
 use crate::fault::WalkFault;
 use ct_names::Group;
 use ct_program::FreeOptions;
-use ct_world::World;
+use ct_world::{Setup, Stage};
 use std::alloc::Global;
 
-// The world before the first turn.
-pub(crate) fn first_world(alloc: Global, options: &FreeOptions) -> Result<World, WalkFault>
+// The world before the first turn, and its board.
+pub(crate) fn first_stage(alloc: Global, options: &FreeOptions) -> Result<Stage, WalkFault>
     requires { InRange options.now }
-    ensures ok { IfOk result (λ world. world ≡ world_after (setting_of options.now) options.now.cells []) }
+    ensures ok { IfOk result (λ stage. stage.rehearsal ≡ empty (setting_of options.now) options.now.cells) }
     ensures err { IfErr result (λ fault. fault ≡ WalkFault.Memory) }
 {
     let Some(group) = Group::new(options.members) else {
         unreachable!()
     };
-    match World::new(alloc, group, options.cells, options.batch) {
-        Ok(world) => Ok(world),
+    let Some(setup) = Setup::new(group, options.cells, options.batch) else {
+        unreachable!()
+    };
+    match Stage::new(alloc, setup) {
+        Ok(stage) => Ok(stage),
         Err(_) => Err(WalkFault::Memory),
     }
 }

@@ -3,4 +3,4 @@ use Rattle.ct_walk.specs.Walking.{entries_left}
 use Rattle.ct_walk.proofs.walker.Walker.most_turns.Given as goal
 
 abbrev pub invariant-loop-script : goal.invariant-loop-script
-invariant-loop-script g l = (l.entries ≡ entries_left (take l.script-index l.scripts))
+invariant-loop-script l = (l.entries ≡ entries_left (take l.script-index l.scripts))

@@ -3,7 +3,7 @@ use Rattle.ct_walk.proofs.Entries.{few-entries}
 use Rattle.ct_walk.proofs.walker.Walker.new.Goals as goal
 
 pub returns-clause-few : goal.returns-clause-few
-returns-clause-few g c =
+returns-clause-few c =
     few-entries c.args.options.now c.requires.range _ _ _ _
     (ap length c.new.ensures ∙ (sym c.in_ok-submissions.field-0.ok.0 ∙ c.in_ok-submissions.ensures.count))
     (ap length c.new-2.ensures ∙ (sym c.in_ok-postponements.field-0.ok.0 ∙ c.in_ok-postponements.ensures.count))

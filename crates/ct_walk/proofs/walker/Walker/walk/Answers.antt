@@ -6,7 +6,7 @@ use Rattle.ct_walk.proofs.Looping.{walk_ends, walk_goes, walk_stops}
 use Rattle.ct_walk.proofs.walker.Walker.walk.Goals as goal
 
 pub loop-made-preserved : goal.loop-made-preserved
-loop-made-preserved g c =
+loop-made-preserved c =
     let same = ap (λ (w : WorldView). w.rehearsal) c.world.ensures ∙ ap (λ (w : Walk). w.rehearsal) c.self.view_is in
     let shown = ap (is_shown c.args.until) (sym same) ∙ (sym c.is_shown.ensures ∙ c.if-is_shown.false) in
     let made = c.loop-made.made in
@@ -16,7 +16,7 @@ loop-made-preserved g c =
     ∙ c.loop-made.invariant
 
 pub returns-then-is_shown-clause-ok : goal.returns-then-is_shown-clause-ok
-returns-then-is_shown-clause-ok g c =
+returns-then-is_shown-clause-ok c =
     let same = ap (λ (w : WorldView). w.rehearsal) c.world.ensures ∙ ap (λ (w : Walk). w.rehearsal) c.self.view_is in
     let shown = ap (is_shown c.args.until) (sym same) ∙ (sym c.is_shown.ensures ∙ c.if-is_shown.true) in
     let made = c.loop-made.made in
@@ -26,6 +26,6 @@ returns-then-is_shown-clause-ok g c =
     ∙ c.loop-made.invariant
 
 pub returns-clause-ok : goal.returns-clause-ok
-returns-clause-ok g c =
+returns-clause-ok c =
     sym (walk_ends c.args.every c.args.until c.loop-made.made _ c.loop-made.self (omega (arith, c.loop-made-test.false)))
     ∙ c.loop-made.invariant

@@ -3,4 +3,4 @@ use Rattle.ct_walk.specs.Walking.{walked_for}
 use Rattle.ct_walk.proofs.walker.Walker.walk.Given as goal
 
 abbrev pub invariant-loop-made : goal.invariant-loop-made
-invariant-loop-made g l = (walked_for l.every l.until l.made (l.most - l.made) l.self ≡ walked_for l.every l.until 0 l.most l.fn.self)
+invariant-loop-made l = (walked_for l.every l.until l.made (l.most - l.made) l.self ≡ walked_for l.every l.until 0 l.most l.fn.self)
