@@ -7,7 +7,7 @@ ghost use Rattle.ct_diagram.specs.Window.{window_of};
 
 use crate::window::Window;
 use clap::{ArgMatches, Command};
-use ct_streams::{default_option, file_argument, option_in, subcommand};
+use ct_streams::{WordFault, default_option, file_argument, option_in, subcommand};
 use std::alloc::{AllocError, Global};
 
 // What stands after the options.
@@ -24,14 +24,15 @@ Status:
   4  a read or a write failed
   5  memory was refused";
 
-/// The window that the options of `diagram` ask for; None where a value is no whole number of its option's range.
+/// The window that the options of `diagram` ask for; else the fault of the first of `from` and `to` that is no whole number of its
+/// range.
 #[tactic(auto, unfolding(crate::specs::Window::window_of))]
-pub fn diagram_window(found: &ArgMatches<'_>) -> Option<Window>
+pub fn diagram_window<'a>(found: &'a ArgMatches<'_>) -> Result<Window, WordFault<'a>>
     ensures { result ≡ window_of (rows_of (found_of found.now)) }
 {
     let from = option_in(found, "from", 1, u32::MAX)?;
     let to = option_in(found, "to", 1, u32::MAX)?;
-    Some(Window { from, to })
+    Ok(Window { from, to })
 }
 
 /// The subcommand `diagram`.

@@ -2,6 +2,7 @@
 use Rattle.std.proofs.Common.{arith, ◌≡◌, true, false, List, [], ◌∷◌, Option, Some, None, option_map, option_and_then, Box, box_value}
 use Rattle.std.proofs.Common.{codes, refl, ap, ◌∙◌, sym, subst, inl, inr, IsSomeAnd, ◌⊎◌}
 use Rattle.std.proofs.lemmas.Bool.Decides.{nat_tests}
+use Rattle.std.specs.Result.{result_ok}
 use Rattle.std.specs.declared.alloc.Global.{Global}
 use Rattle.clap.specs.Words.{AddsSubcommand, App, HasKind, HasMatchesOf, Row, Text, app_of, fault_of, is_simple}
 use Rattle.clap.specs.Words.{is_simple_and_free, kind_of, subcommand_name_of, subcommand_of, subcommand_rows}
@@ -69,7 +70,7 @@ replay_at (Some p) (inr e) other = absurd (other (ap Some e))
 
 free_at : (found : Option (Text × List Row)) (rows : List Row) → option_map (λ p. p.0) found ≡ Some (codes "free") →
     option_map (λ p. p.1) found ≡ Some rows
-    → option_and_then (λ p. call_at p.0 p.1) found ≡ option_map Free (options_of rows)
+    → option_and_then (λ p. call_at p.0 p.1) found ≡ option_map Free (result_ok (options_of rows))
 free_at None rows named has = absurd (cc)
 free_at (Some p) rows named has = grind (arith, nat_tests)
 
@@ -96,7 +97,7 @@ replay_called app words m e h passes other =
 
 pub free_called : (app : App) (words : List Text) (m : ArgMatches) (rows : List Row) → app ≡ program → HasMatchesOf app words m →
     subcommand_name_of m ≡ Some (codes "free")
-    → option_map (λ p. p.1) (subcommand_rows_of m) ≡ Some rows → call_of words ≡ option_map Free (options_of rows)
+    → option_map (λ p. p.1) (subcommand_rows_of m) ≡ Some rows → call_of words ≡ option_map Free (result_ok (options_of rows))
 unfolding call_of
 free_called app words m rows e h named has =
     let found : subcommand_rows_of m ≡ subcommand_of program words = found_is app words m e h in

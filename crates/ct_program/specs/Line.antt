@@ -1,11 +1,13 @@
 -- How the program's command line is read. `clap` gives what its commands make of words.
-use Rattle.std.specs.Prelude.{◌≡◌, ℕ, true, List, [], ◌∷◌, codes, Option, Some, None, option_map, option_and_then, if◌then◌else◌, ⊤}
+use Rattle.std.specs.Prelude.{◌≡◌, ℕ, true, List, [], ◌∷◌, codes, Option, Some, None, option_map, option_and_then, Result, Ok, if◌then◌else◌, ⊤}
+use Rattle.std.specs.Result.{result_ok}
 use Rattle.std.specs.Str.{bytes_eq}
 use Rattle.ct_names.specs.declared.limit.TheConstants.{MAX_BOUND, MAX_CELLS, MAX_MEMBERS}
 use Rattle.clap.specs.Words.{App, Kinds, HasKind, Row, Rule, Text, fault_of, kind_of, new_app, subcommand_of, with_subcommand}
 use Rattle.clap.specs.Simple.{new_shape, on_top}
 use Rattle.clap.specs.declared.error.kind.ErrorKind.TheVariants.{OutOfMemory}
-use Rattle.ct_streams.specs.Arguments.{◌>>=◌, option_in, option_rule, required_rule}
+use Rattle.ct_streams.specs.Arguments.{option_rule, required_rule}
+use Rattle.ct_streams.specs.Values.{◌>>=◌, option_in}
 use Rattle.ct_program.specs.declared.call.Call.{Call}
 use Rattle.ct_program.specs.declared.call.Call.TheVariants.{Replay, Free}
 use Rattle.ct_program.specs.declared.free_options.FreeOptions.{FreeOptions}
@@ -41,8 +43,8 @@ faults_of words = fault_of program words
 
 -- ---- what the words ask for
 
--- the options of a free run, where each value is a whole number of its range
-unfoldable pub options_of : List Row → Option FreeOptions
+-- the options of a free run; else the line of the first one, in this order, that is no whole number of its range
+unfoldable pub options_of : List Row → Result FreeOptions Text
 options_of rows = do
   members ← option_in rows (codes "members") 1 MAX_MEMBERS
   turns ← option_in rows (codes "turns") 0 100000
@@ -55,7 +57,7 @@ options_of rows = do
   lose ← option_in rows (codes "lose") 0 1000
   repeat ← option_in rows (codes "repeat") 0 1000
   batch ← option_in rows (codes "batch") 1 MAX_BOUND
-  Some (record {
+  Ok (record {
     members = members;
     turns = turns;
     seed = seed;
@@ -73,7 +75,7 @@ options_of rows = do
 abbrev pub call_at : Text → List Row → Option Call
 call_at name rows =
     if bytes_eq name (codes "replay") then Some Replay else
-    (if bytes_eq name (codes "free") then option_map Free (options_of rows) else None)
+    (if bytes_eq name (codes "free") then option_map Free (result_ok (options_of rows)) else None)
 
 -- what the words ask for, where clap accepts them; None where a value isn't of its option's range
 unfoldable pub call_of : List Text → Option Call

@@ -1,6 +1,6 @@
 //! The words of a command line.
 
-ghost use Rattle.std.specs.Prelude.{◌≡◌, ℕ, List, [], ◌∷◌, fold, map, codes, Some, None, Err, OnOk, IfOk, IfErr, IfSome};
+ghost use Rattle.std.specs.Prelude.{◌≡◌, ℕ, List, [], ◌∷◌, fold, map, codes, Some, None, Err, OnOk, IfOk, IfErr};
 ghost use Rattle.clap.specs.Words.{app_of, found_of, rows_of, with_rule};
 ghost use Rattle.ct_streams.specs.Arguments.{option_rule};
 ghost use Rattle.ct_program.specs.FreeOptions.{FreeInRange, InRange};
@@ -11,7 +11,7 @@ use crate::free_options::FreeOptions;
 use crate::line_fault::LineFault;
 use clap::{ArgMatches, Command};
 use ct_names::{MAX_BOUND, MAX_CELLS, MAX_MEMBERS};
-use ct_streams::{default_option, option_in, required_option, subcommand};
+use ct_streams::{WordFault, default_option, option_in, required_option, subcommand};
 use std::alloc::{AllocError, Global};
 
 /// What the words ask for, the program's name first: the subcommand `replay`, or `free` with its options. A call for help
@@ -32,19 +32,20 @@ pub fn line<'a>(alloc: Global, words: &'a [&'a str]) -> Result<Call, LineFault>
     match matches.subcommand_matches("free") {
         None => Ok(Call::Replay),
         Some(found) => match found_options(found) {
-            Some(options) => Ok(Call::Free(options)),
-            None => Err(LineFault::Range),
+            Ok(options) => Ok(Call::Free(options)),
+            Err(_) => Err(LineFault::Range),
         },
     }
 }
 
-/// The options of a free run that clap found; None where a value is no whole number of its option's range.
+/// The options of a free run that clap found; else the fault of the first one, in the order of the definition, that is no whole
+/// number of its range.
 #[tactic(auto, unfolding(crate::specs::Line::options_of))]
-pub fn found_options(found: &ArgMatches<'_>) -> Option<FreeOptions>
+pub fn found_options<'a>(found: &'a ArgMatches<'_>) -> Result<FreeOptions, WordFault<'a>>
     ensures exact { result ≡ options_of (rows_of (found_of found.now)) }
-    ensures range { IfSome result InRange }
+    ensures range { IfOk result InRange }
 {
-    Some(FreeOptions {
+    Ok(FreeOptions {
         members: option_in(found, "members", 1, MAX_MEMBERS as u32)? as u8,
         turns: option_in(found, "turns", 0, 100_000)?,
         seed: option_in(found, "seed", 0, u32::MAX)?,

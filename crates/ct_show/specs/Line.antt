@@ -1,10 +1,11 @@
 -- What a command line asks to be shown. `clap` gives what its commands make of words.
-use Rattle.std.specs.Prelude.{ℕ, true, List, [], ◌∷◌, fold, codes, Option, Some, None}
+use Rattle.std.specs.Prelude.{ℕ, true, List, [], ◌∷◌, fold, codes, Option, Some, None, Result, Ok}
 use Rattle.clap.specs.Lexer.{usize_max}
 use Rattle.clap.specs.Words.{App, Row, Rule, Text, first_of, new_app, new_rule, with_rule}
 use Rattle.clap.specs.declared.builder.action.ArgAction.TheVariants.{Append, SetTrue}
 use Rattle.ct_names.specs.declared.limit.TheConstants.{MAX_MEMBERS}
-use Rattle.ct_streams.specs.Arguments.{◌>>=◌, file_rule, option_in, option_rule, value_rule, whole_in}
+use Rattle.ct_streams.specs.Arguments.{file_rule, option_rule, value_rule}
+use Rattle.ct_streams.specs.Values.{◌>>=◌, number_for, option_in}
 use Rattle.ct_show.specs.declared.view.View.{View}
 use Rattle.ct_show.specs.declared.view.View.TheVariants.{Steps, State}
 
@@ -41,25 +42,29 @@ steps_app =
     fold with_rule (new_app (codes "steps"))
     (file_rule ∷ option_rule (codes "from") (codes "1") ∷ option_rule (codes "to") (codes "4294967295") ∷ value_rule (codes "member") ∷ [])
 
--- ---- what the options ask for
+-- ---- what the options ask for, or the line of the first one that is no whole number of its range
 
 -- the member that the text names, where there is one
-abbrev pub member_of : Option Text → Option (Option ℕ)
-member_of None = Some None
+abbrev pub member_of : Option Text → Result (Option ℕ) Text
+member_of None = Ok None
 member_of (Some text) = do
-  member ← whole_in 1 MAX_MEMBERS text
-  Some (Some member)
+  member ← number_for (codes "member") 1 MAX_MEMBERS text
+  Ok (Some member)
 
--- the steps that the options of `steps` ask for, where each value is a whole number of its range
-unfoldable pub steps_of : List Row → Option View
+-- the member that the option names, where it is given
+abbrev pub member_in : List Row → Result (Option ℕ) Text
+member_in rows = member_of (first_of (codes "member") rows)
+
+-- the steps that the options of `steps` ask for
+unfoldable pub steps_of : List Row → Result View Text
 steps_of rows = do
   from ← option_in rows (codes "from") 1 4294967295
   to ← option_in rows (codes "to") 1 4294967295
-  member ← member_of (first_of (codes "member") rows)
-  Some (Steps (record { from = from; to = to; member = member }))
+  member ← member_in rows
+  Ok (Steps (record { from = from; to = to; member = member }))
 
--- the state that the options of `state` ask for, where the value is a whole number of its range
-unfoldable pub state_of : List Row → Option View
+-- the state that the option of `state` asks for
+unfoldable pub state_of : List Row → Result View Text
 state_of rows = do
   count ← option_in rows (codes "after") 0 4294967295
-  Some (State count)
+  Ok (State count)

@@ -2,14 +2,16 @@
 
 ghost use Rattle.std.specs.Prelude.{◌≡◌, false, IfOk, option_map};
 ghost use Rattle.clap.specs.Words.{app_of, found_of, rows_of, rule_of};
-ghost use Rattle.ct_show.specs.Line.{member_of, state_of, steps_of};
+ghost use Rattle.ct_show.specs.Line.{member_in, member_of, state_of, steps_of};
 ghost use Rattle.ct_show.specs.Line.{check_app, files_rule, flag_rule, report_app, state_app, steps_app};
 
 use crate::selection::Selection;
 use crate::view::View;
 use clap::{Arg, ArgAction, ArgMatches, Command};
 use ct_names::{MAX_MEMBERS, Member};
-use ct_streams::{default_option, file_argument, number_in, option_in, subcommand, value_option};
+use ct_streams::{
+    WordFault, default_option, file_argument, number_for, option_in, subcommand, value_option,
+};
 use std::alloc::{AllocError, Global};
 
 // The help of the argument `file`.
@@ -71,33 +73,41 @@ Status:
   4  a read or a write failed
   5  memory was refused";
 
-/// The steps that the options of `steps` ask for; None where a value is no whole number of its option's range.
+/// The steps that the options of `steps` ask for; else the fault of the first of `from`, `to` and `member` that is no whole number
+/// of its range.
 #[tactic(auto, unfolding(crate::specs::Line::steps_of))]
-pub fn steps_view(found: &ArgMatches<'_>) -> Option<View>
+pub fn steps_view<'a>(found: &'a ArgMatches<'_>) -> Result<View, WordFault<'a>>
     ensures { result ≡ steps_of (rows_of (found_of found.now)) }
 {
     let from = option_in(found, "from", 1, u32::MAX)?;
     let to = option_in(found, "to", 1, u32::MAX)?;
-    let member = member_of(found.get_str("member"))?;
-    Some(View::Steps(Selection { from, to, member }))
+    let member = member_in(found)?;
+    Ok(View::Steps(Selection { from, to, member }))
 }
 
-// The member that the text names, where there is one; None where it names none.
-fn member_of(text: Option<&str>) -> Option<Option<Member>>
+// The member that the option `member` names, where it is given.
+fn member_in<'a>(found: &'a ArgMatches<'_>) -> Result<Option<Member>, WordFault<'a>>
+    ensures { result ≡ member_in (rows_of (found_of found.now)) }
+{
+    member_of(found.get_str("member"))
+}
+
+// The member that the text names, where there is one.
+fn member_of<'a>(text: Option<&'a str>) -> Result<Option<Member>, WordFault<'a>>
     ensures { result ≡ member_of (option_map (λ t. t.now) text.entry) }
 {
     match text {
-        None => Some(None),
-        Some(text) => Some(Some(number_in(text, 1, u32::from(MAX_MEMBERS))? as u8)),
+        None => Ok(None),
+        Some(text) => Ok(Some(number_for("member", text, 1, u32::from(MAX_MEMBERS))? as u8)),
     }
 }
 
-/// The steps after which `state` shows the state; None where the value is no whole number of its option's range.
+/// The steps after which `state` shows the state; else the fault of their number.
 #[tactic(auto, unfolding(crate::specs::Line::state_of))]
-pub fn state_view(found: &ArgMatches<'_>) -> Option<View>
+pub fn state_view<'a>(found: &'a ArgMatches<'_>) -> Result<View, WordFault<'a>>
     ensures { result ≡ state_of (rows_of (found_of found.now)) }
 {
-    Some(View::State(option_in(found, "after", 0, u32::MAX)?))
+    Ok(View::State(option_in(found, "after", 0, u32::MAX)?))
 }
 
 /// The subcommand `check`.

@@ -8,11 +8,10 @@ use Rattle.std.specs.Str.Parse.{AllDigits, IsNumeral, ParsesUnsigned, digits_val
 use Rattle.std.proofs.Math.Bool.{and-false}
 use Rattle.std.proofs.Math.Nat.{lt_of_not-le}
 use Rattle.std.proofs.lemmas.Bool.{le-leb, lt-leb, lt-ltb, ltb-true}
-use Rattle.clap.specs.Words.{Text, first_value, rows_of}
+use Rattle.clap.specs.Words.{Text}
 use Rattle.clap.specs.ValueTests.{is_numeral}
-use Rattle.clap.specs.declared.parser.matches.Found.{Found}
-use Rattle.clap.proofs.WalkLemmas.{both, first_value-rows}
-use Rattle.ct_streams.specs.Arguments.{number_of, option_in, whole_in, ◌>>=◌}
+use Rattle.clap.proofs.WalkLemmas.{both}
+use Rattle.ct_streams.specs.Arguments.{number_of, whole_in}
 
 digits_pass : (ds : List ℕ) → AllDigits 10 ds → list_all (λ d. nat_lt (digit_value d) 10) ds ≡ true
 digits_pass [] h = refl
@@ -62,12 +61,3 @@ whole_none low high text e h small = go (is_numeral (without_leading_plus text))
         let n = digits_value 10 (without_leading_plus text) in
         let past : high < n = lt_of_not-le (λ (below : n ≤ high). h (numeral_from _ t, omega arith)) in
         rw (t, lt-leb n high past, and-false (nat_le low n)) refl
-
--- ---- the value of an option
-
-pub none_found : (f : Found) (name : Text) (low high : ℕ) → None ≡ first_value f name → None ≡ option_in (rows_of f) name low high
-none_found f name low high h = ap (λ o. o >>= whole_in low high) (h ∙ first_value-rows f name)
-
-pub one_found : (f : Found) (name : Text) (low high : ℕ) (text : Text) → Some text ≡ first_value f name →
-    whole_in low high text ≡ option_in (rows_of f) name low high
-one_found f name low high text h = ap (λ o. o >>= whole_in low high) (h ∙ first_value-rows f name)

@@ -1,7 +1,7 @@
 -- The arguments of command lines. `clap` gives what its commands make of words.
 use Rattle.std.specs.Prelude.{◌&&◌, ℕ, true, List, [], ◌∷◌, codes, Option, Some, None, option_and_then, nat_le, if◌then◌else◌}
 use Rattle.std.specs.Str.Parse.{digits_value, without_leading_plus}
-use Rattle.clap.specs.Words.{Row, Rule, Text, first_of, new_rule}
+use Rattle.clap.specs.Words.{Rule, Text, new_rule}
 use Rattle.clap.specs.ValueTests.{is_numeral}
 use Rattle.clap.specs.declared.builder.action.ArgAction.TheVariants.{Set}
 
@@ -23,7 +23,7 @@ required_rule name = record (value_rule name) { required = true }
 abbrev pub option_rule : Text → Text → Rule
 option_rule name default = record (value_rule name) { defaults = default ∷ [] }
 
--- ---- the values that it found
+-- ---- the texts that it found
 
 infixl 10 ◌>>=◌
 abbrev pub ◌>>=◌ : {A B : Type 0} → Option A → (A → Option B) → Option B
@@ -40,7 +40,3 @@ unfoldable pub whole_in : ℕ → ℕ → Text → Option ℕ
 whole_in low high text = do
   n ← number_of text
   if nat_le low n && nat_le n high then Some n else None
-
--- the value of the option, where it is a whole number from low to high
-abbrev pub option_in : List Row → Text → ℕ → ℕ → Option ℕ
-option_in rows name low high = first_of name rows >>= whole_in low high

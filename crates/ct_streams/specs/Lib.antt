@@ -2,4 +2,6 @@ pub mod Streams
 pub mod Statuses
 pub mod Counted
 pub mod NewFiles
+pub mod WordFaults
 pub mod Arguments
+pub mod Values

@@ -1,9 +1,13 @@
 //! The arguments of command lines.
 
-ghost use Rattle.std.specs.Prelude.{◌≡◌, ◌≤◌, false, IfSome};
+ghost use Rattle.std.specs.Prelude.{◌≡◌, ◌≤◌, false, IfOk, IfSome};
 ghost use Rattle.clap.specs.Words.{app_of, found_of, new_app, rows_of, rule_of};
-ghost use Rattle.ct_streams.specs.Arguments.{file_rule, option_in, option_rule, required_rule, value_rule, whole_in};
+ghost use Rattle.ct_streams.specs.Arguments.{file_rule, option_rule, required_rule, value_rule, whole_in};
+ghost use Rattle.ct_streams.specs.Values.{number_for, option_in};
 
+use crate::given::Given;
+use crate::wanted::Wanted;
+use crate::word_fault::WordFault;
 use clap::{Arg, ArgAction, ArgMatches, Command};
 use std::alloc::Global;
 
@@ -51,13 +55,42 @@ pub fn required_option<'a>(alloc: Global, name: &'a str, help: &'a str) -> Arg<'
     value_option(alloc, name, help).required(true)
 }
 
-/// The option's value; None where it is no whole number from `low` to `high`.
-pub fn option_in(found: &ArgMatches<'_>, name: &str, low: u32, high: u32) -> Option<u32>
+/// The option's value, a whole number from `low` to `high`.
+pub fn option_in<'a>(
+    found: &'a ArgMatches<'_>,
+    name: &'a str,
+    low: u32,
+    high: u32,
+) -> Result<u32, WordFault<'a>>
     ensures value { result ≡ option_in (rows_of (found_of found.now)) name.now low high }
-    ensures range { IfSome result (λ n. (low ≤ n) × (n ≤ high)) }
+    ensures range { IfOk result (λ n. (low ≤ n) × (n ≤ high)) }
 {
-    let text = found.get_str(name)?;
-    number_in(text, low, high)
+    match found.get_str(name) {
+        Some(text) => number_for(name, text, low, high),
+        None => {
+            let wanted = Wanted::Number { low, high };
+            Err(WordFault::new(name, Given::Nothing, wanted))
+        }
+    }
+}
+
+/// What is given for the option, a whole number from `low` to `high`.
+#[tactic(auto, unfolding(crate::specs::Values::number_for))]
+pub fn number_for<'a>(
+    name: &'a str,
+    text: &'a str,
+    low: u32,
+    high: u32,
+) -> Result<u32, WordFault<'a>>
+    ensures value { result ≡ number_for name.now low high text.now }
+    ensures range { IfOk result (λ n. (low ≤ n) × (n ≤ high)) }
+{
+    let wanted = match number_in(text, 0, u32::MAX) {
+        Some(n) if low <= n && n <= high => return Ok(n),
+        Some(_) => Wanted::Within { low, high },
+        None => Wanted::Number { low, high },
+    };
+    Err(WordFault::new(name, Given::One(text), wanted))
 }
 
 /// The whole number of the text; None where it has none from `low` to `high`.

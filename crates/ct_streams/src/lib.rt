@@ -6,24 +6,31 @@ mod arguments;
 mod counted;
 mod failed;
 mod files;
+mod given;
 mod input_fault;
 mod new_files;
 mod reading;
 mod sink;
 mod source;
 mod status;
+mod wanted;
+mod word_fault;
 mod writing;
 
 pub use arguments::{
-    default_option, file_argument, number_in, option_in, required_option, subcommand, value_option,
+    default_option, file_argument, number_for, number_in, option_in, required_option, subcommand,
+    value_option,
 };
 pub use counted::Counted;
 pub use failed::Failed;
 pub use files::Files;
+pub use given::Given;
 pub use input_fault::InputFault;
 pub use new_files::NewFiles;
 pub use reading::read_all;
 pub use sink::Sink;
 pub use source::Source;
 pub use status::Status;
+pub use wanted::Wanted;
+pub use word_fault::WordFault;
 pub use writing::write_all;

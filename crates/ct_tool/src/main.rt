@@ -17,7 +17,7 @@ use ct_show::{
     CheckOptions, View, check, check_command, report_command, show, shown_end, state_command,
     state_view, steps_command, steps_view,
 };
-use ct_streams::{Counted, Failed, Files};
+use ct_streams::{Counted, Failed, Files, Status, WordFault};
 use ct_walk::{Call, walk_call, walk_command, write_call};
 use host::Host;
 use std::alloc::{AllocError, Global};
@@ -67,7 +67,7 @@ fn call(rt: &HostRuntime, matches: &ArgMatches<'_>) -> ExitCode {
         Some(("diagram", found)) => diagram(rt, found),
         Some(("interact", found)) => hold_session(rt, found),
         Some(("record", found)) => record_schedule(rt, found),
-        Some(("report", found)) => view(rt, found, Some(View::Report)),
+        Some(("report", found)) => view(rt, found, Ok(View::Report)),
         Some(("state", found)) => view(rt, found, state_view(found)),
         Some(("steps", found)) => view(rt, found, steps_view(found)),
         Some(("walk", found)) => walk(rt, found),
@@ -76,8 +76,9 @@ fn call(rt: &HostRuntime, matches: &ArgMatches<'_>) -> ExitCode {
 }
 
 fn walk(rt: &HostRuntime, found: &ArgMatches<'_>) -> ExitCode {
-    let Some(call) = walk_call(found) else {
-        return refuse(rt, CommandFault::Range);
+    let call = match walk_call(found) {
+        Ok(call) => call,
+        Err(fault) => return refuse_word(rt, fault),
     };
     let mut writer = Counted::new(io::writer(rt));
     match write_call(rt.alloc(), &call, &mut writer) {
@@ -139,9 +140,10 @@ fn keep_record(rt: &HostRuntime, judge: Judge, name: &str) -> ExitCode {
 }
 
 // Writes what is shown of the record that the words name, where they ask for a view.
-fn view(rt: &HostRuntime, found: &ArgMatches<'_>, view: Option<View>) -> ExitCode {
-    let Some(view) = view else {
-        return refuse(rt, CommandFault::Range);
+fn view(rt: &HostRuntime, found: &ArgMatches<'_>, view: Result<View, WordFault<'_>>) -> ExitCode {
+    let view = match view {
+        Ok(view) => view,
+        Err(fault) => return refuse_word(rt, fault),
     };
     let Some(name) = found.get_str("file") else {
         return refuse(rt, CommandFault::NoFile);
@@ -156,8 +158,9 @@ fn view(rt: &HostRuntime, found: &ArgMatches<'_>, view: Option<View>) -> ExitCod
 
 // Draws the steps that the words ask for of the record that they name.
 fn diagram(rt: &HostRuntime, found: &ArgMatches<'_>) -> ExitCode {
-    let Some(window) = diagram_window(found) else {
-        return refuse(rt, CommandFault::Range);
+    let window = match diagram_window(found) {
+        Ok(window) => window,
+        Err(fault) => return refuse_word(rt, fault),
     };
     let Some(name) = found.get_str("file") else {
         return refuse(rt, CommandFault::NoFile);
@@ -227,6 +230,11 @@ fn answer(rt: &HostRuntime, error: &clap::Error) -> ExitCode {
 fn refuse(rt: &HostRuntime, fault: CommandFault) -> ExitCode {
     let status = fault.status();
     fail(rt, fault, status)
+}
+
+// Tells of an option that is given what it may not have.
+fn refuse_word(rt: &HostRuntime, fault: WordFault<'_>) -> ExitCode {
+    fail(rt, fault, Status::Words.code())
 }
 
 // Prints the fault's line. Where standard error fails too, the status alone tells of the fault.

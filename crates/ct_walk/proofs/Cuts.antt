@@ -6,7 +6,7 @@ use Rattle.std.proofs.lemmas.Bool.Decides.{nat_tests}
 use Rattle.clap.specs.Words.{Text}
 use Rattle.std.specs.Str.Pattern.{FindsText, SplitsAroundMatch}
 use Rattle.ct_streams.specs.Arguments.{whole_in}
-use Rattle.ct_walk.specs.Line.{begins_with_points, cut, seeds_of}
+use Rattle.ct_walk.specs.Texts.{begins_with_points, cut, seeds_of}
 
 -- no points stand at the place
 abbrev Lacks : Text → ℕ → Type 0

@@ -9,19 +9,13 @@ use Rattle.clap.specs.Words.{Text, first_value, matched_of, raw_values, rows_of}
 use Rattle.clap.specs.declared.parser.matches.Found.{Found}
 use Rattle.clap.proofs.WalkLemmas.{first_value-rows, raw_values-rows}
 use Rattle.ct_streams.specs.Arguments.{◌>>=◌, whole_in}
-use Rattle.ct_walk.specs.declared.call.Call.{Call}
-use Rattle.ct_walk.specs.declared.call.Call.TheVariants.{Walk, Find}
-use Rattle.ct_walk.specs.declared.call.Seeds.{Seeds}
-use Rattle.ct_walk.specs.declared.options.WalkOptions.{WalkOptions}
 use Rattle.ct_walk.specs.declared.sight.Sight.{Sight}
-use Rattle.ct_walk.specs.Line.{call_with, given_sight, seeds_of, sight_in, sight_of, walk_call, walk_options}
+use Rattle.ct_walk.specs.Line.{call_with, sight_in, sight_or_none, walk_call}
+use Rattle.ct_walk.specs.Texts.{sight_of}
 
-pub no_sight : (f : Found) (name : Text) → None ≡ option_map raw_values (matched_of f name) → Some None ≡ sight_in (rows_of f) name
-no_sight f name none = ap given_sight (none ∙ raw_values-rows f name)
-
-pub some_sight : (f : Found) (name : Text) (texts : List Text) (sight : Option Sight) →
-    Some texts ≡ option_map raw_values (matched_of f name) → sight ≡ sight_of texts → option_map Some sight ≡ sight_in (rows_of f) name
-some_sight f name texts sight some is = ap (option_map Some) is ∙ ap given_sight (some ∙ raw_values-rows f name)
+pub found_sight : (f : Found) (name : Text) (texts : Option (List Text)) → texts ≡ option_map raw_values (matched_of f name) →
+    sight_or_none name texts ≡ sight_in (rows_of f) name
+found_sight f name texts found = ap (sight_or_none name) (found ∙ raw_values-rows f name)
 
 abbrev the_none : Option Sight
 the_none = None
@@ -49,18 +43,6 @@ other_texts (a ∷ []) d many few round decided = absurd (omega arith)
 other_texts (a ∷ b ∷ []) d many few round decided = other_kind a.now b.now round decided
 other_texts (a ∷ b ∷ c ∷ texts) d many few round decided = absurd (omega arith)
 
-pub one_walk : (f : Found) (options : Option WalkOptions) → None ≡ first_value f (codes "seeds") →
-    options ≡ walk_options (rows_of f) (codes "until") → option_map Walk options ≡ walk_call (rows_of f)
-one_walk f options none is = ap (option_map Walk) is ∙ ap (call_with (rows_of f)) (none ∙ first_value-rows f (codes "seeds"))
-
-abbrev pub tries : Option Seeds → Option WalkOptions → Option Call
-tries seeds options = do
-  some ← seeds
-  walk ← options
-  Some (Find walk some)
-
-pub many_walks : (f : Found) (text : Text) (seeds : Option Seeds) (options : Option WalkOptions) →
-    Some text ≡ first_value f (codes "seeds") → seeds ≡ seeds_of text → options ≡ walk_options (rows_of f) (codes "find") →
-    tries seeds options ≡ walk_call (rows_of f)
-many_walks f text seeds options some seeds_are is =
-    ap₂ tries seeds_are is ∙ ap (call_with (rows_of f)) (some ∙ first_value-rows f (codes "seeds"))
+pub found_call : (f : Found) (text : Option Text) → text ≡ first_value f (codes "seeds") →
+    call_with (rows_of f) text ≡ walk_call (rows_of f)
+found_call f text found = ap (call_with (rows_of f)) (found ∙ first_value-rows f (codes "seeds"))

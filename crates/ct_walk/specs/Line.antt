@@ -1,17 +1,17 @@
 -- What a command line may ask of walks. `clap` gives what its commands make of words.
-use Rattle.std.specs.Prelude.{◌≤◌, ◌==◌, ◌&&◌, Bool, false, Option, Some, None, List, [], ◌∷◌, drop, fold, codes, option_map}
-use Rattle.std.specs.Prelude.{if◌then◌else◌}
-use Rattle.std.specs.Str.{bytes_eq}
+use Rattle.std.specs.Prelude.{◌≤◌, false, Option, Some, None, ok_or, Result, Ok, List, [], ◌∷◌, take, fold, codes}
 use Rattle.clap.specs.Words.{App, Row, Rule, Text, all_of, first_of, new_app, with_rule}
 use Rattle.ct_program.specs.Line.{free_rules, options_of}
-use Rattle.ct_streams.specs.Arguments.{◌>>=◌, option_in, option_rule, value_rule, whole_in}
+use Rattle.ct_streams.specs.Arguments.{option_rule, value_rule}
+use Rattle.ct_streams.specs.Values.{◌>>=◌, option_in}
+use Rattle.ct_streams.specs.WordFaults.{fault_line}
 use Rattle.ct_walk.specs.declared.call.Call.{Call}
 use Rattle.ct_walk.specs.declared.call.Call.TheVariants.{Walk, Find}
 use Rattle.ct_walk.specs.declared.call.Seeds.{Seeds}
 use Rattle.ct_walk.specs.declared.options.WalkOptions.{WalkOptions}
 use Rattle.ct_walk.specs.declared.sight.Sight.{Sight}
-use Rattle.ct_walk.specs.declared.sight.Sight.TheVariants.{Decided, Round}
 use Rattle.ct_walk.specs.Options.{IsInRange}
+use Rattle.ct_walk.specs.Texts.{seeds_of, sight_of}
 
 -- ---- what clap reads
 
@@ -36,62 +36,52 @@ walk_app =
     fold with_rule (fold with_rule (new_app (codes "walk")) free_rules)
     (every_rule ∷ sight_rule (codes "until") ∷ find_rule ∷ seeds_rule ∷ [])
 
--- ---- what the options ask for
+-- ---- what the options ask for, or the line of the first one that asks for nothing
 
--- what `decided`, or `round`, and a number name
-abbrev pub sight_of : List Text → Option Sight
-sight_of [] = None
-sight_of (kind ∷ []) = None
-sight_of (kind ∷ number ∷ []) = do
-  n ← whole_in 1 4294967295 number
-  if bytes_eq kind (codes "decided") then Some (Decided n) else (if bytes_eq kind (codes "round") then Some (Round n) else None)
-sight_of (kind ∷ number ∷ more ∷ rest) = None
+-- what would be right for `until` and `find`, and for `seeds`
+abbrev pub sights : Text
+sights = codes "decided or round, and a whole number from 1 to 4294967295"
 
-abbrev pub given_sight : Option (List Text) → Option (Option Sight)
-given_sight None = Some None
-given_sight (Some texts) = option_map Some (sight_of texts)
+abbrev pub ranges : Text
+ranges = codes "A..B, whole numbers from 0 to 4294967295, A no larger than B"
+
+-- what these texts name, which are given for the option
+abbrev pub given_sight : Text → List Text → Result Sight Text
+given_sight name texts = ok_or (sight_of texts) (fault_line name (take 2 texts) sights)
+
+abbrev pub sight_or_none : Text → Option (List Text) → Result (Option Sight) Text
+sight_or_none name None = Ok None
+sight_or_none name (Some texts) = do
+  sight ← given_sight name texts
+  Ok (Some sight)
 
 -- what the option names, where it is given
-abbrev pub sight_in : List Row → Text → Option (Option Sight)
-sight_in rows name = given_sight (all_of name rows)
+abbrev pub sight_in : List Row → Text → Result (Option Sight) Text
+sight_in rows name = sight_or_none name (all_of name rows)
 
--- the text begins with two points
-abbrev pub begins_with_points : Text → Bool
-begins_with_points [] = false
-begins_with_points (a ∷ []) = false
-begins_with_points (a ∷ b ∷ rest) = (a == 46) && (b == 46)
-
--- what stands before the first two points of the text, and what stands after them
-abbrev pub cut : Text → Option (Text × Text)
-cut [] = None
-cut (c ∷ rest) =
-    if begins_with_points (c ∷ rest) then Some ([], drop 1 rest) else option_map (λ parts. (c ∷ parts.0, parts.1)) (cut rest)
-
--- the seeds from the number before the points to the one after them, which is no smaller
-unfoldable pub seeds_of : Text → Option Seeds
-seeds_of text = do
-  parts ← cut text
-  first ← whole_in 0 4294967295 parts.0
-  last ← whole_in first 4294967295 parts.1
-  Some (record { first = first; last = last })
+-- the seeds that the text names
+abbrev pub given_seeds : Text → Result Seeds Text
+given_seeds text = ok_or (seeds_of text) (fault_line (codes "seeds") (text ∷ []) ranges)
 
 -- the options of a walk that is made until what the option of that name says
-unfoldable pub walk_options : List Row → Text → Option WalkOptions
+unfoldable pub walk_options : List Row → Text → Result WalkOptions Text
 walk_options rows name = do
   run ← options_of rows
   every ← option_in rows (codes "every") 0 100000
   until ← sight_in rows name
-  Some (record { run = run; every = every; until = until })
+  Ok (record { run = run; every = every; until = until })
 
-abbrev pub call_with : List Row → Option Text → Option Call
-call_with rows None = option_map Walk (walk_options rows (codes "until"))
+abbrev pub call_with : List Row → Option Text → Result Call Text
+call_with rows None = do
+  options ← walk_options rows (codes "until")
+  Ok (Walk options)
 call_with rows (Some text) = do
-  seeds ← seeds_of text
   options ← walk_options rows (codes "find")
-  Some (Find options seeds)
+  seeds ← given_seeds text
+  Ok (Find options seeds)
 
--- what the options ask for, where each value is one of its option's
-abbrev pub walk_call : List Row → Option Call
+-- what the options ask for
+abbrev pub walk_call : List Row → Result Call Text
 walk_call rows = call_with rows (first_of (codes "seeds") rows)
 
 -- the last seed is none before the first

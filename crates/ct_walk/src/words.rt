@@ -1,17 +1,21 @@
 //! The words after `walk` on a command line.
 
-ghost use Rattle.std.specs.Prelude.{◌≡◌, false, map, IfOk, IfSome};
+ghost use Rattle.std.specs.Prelude.{◌≡◌, false, map, option_map, IfOk, IfSome};
 ghost use Rattle.clap.specs.Words.{app_of, found_of, rows_of, rule_of};
 ghost use Rattle.ct_walk.specs.Line.{every_rule, find_rule, seeds_rule, sight_rule, walk_app};
-ghost use Rattle.ct_walk.specs.Line.{seeds_of, sight_in, sight_of, walk_call, walk_options, IsCallInRange, IsSeedsInRange};
+ghost use Rattle.ct_walk.specs.Line.{call_with, given_seeds, given_sight, sight_in, sight_or_none, walk_call, walk_options};
+ghost use Rattle.ct_walk.specs.Line.{IsCallInRange, IsSeedsInRange};
 ghost use Rattle.ct_walk.specs.Options.{IsInRange};
+ghost use Rattle.ct_walk.specs.Texts.{seeds_of, sight_of};
 
 use crate::call::{Call, Seeds};
 use crate::options::WalkOptions;
 use crate::sight::Sight;
 use clap::{Arg, ArgMatches, Command};
 use ct_program::{found_options, with_free_options};
-use ct_streams::{default_option, number_in, option_in, subcommand, value_option};
+use ct_streams::{
+    Given, Wanted, WordFault, default_option, number_in, option_in, subcommand, value_option,
+};
 use std::alloc::{AllocError, Global};
 
 // The help of the option `turns`.
@@ -32,40 +36,73 @@ Status:
   4  a write of standard output failed
   5  memory was refused";
 
-/// What the options of `walk` ask for; None where a value is not of its option's range.
-pub fn walk_call(found: &ArgMatches<'_>) -> Option<Call>
+// What may stand after `--until` and `--find`, and after `--seeds`.
+const SIGHTS: &str = "decided or round, and a whole number from 1 to 4294967295";
+
+const SEEDS: &str = "A..B, whole numbers from 0 to 4294967295, A no larger than B";
+
+/// What the options of `walk` ask for; else the fault of the first one, in the order of the definition, that asks for nothing.
+pub fn walk_call<'a>(found: &'a ArgMatches<'_>) -> Result<Call, WordFault<'a>>
     ensures exact { result ≡ walk_call (rows_of (found_of found.now)) }
-    ensures range { IfSome result IsCallInRange }
+    ensures range { IfOk result IsCallInRange }
 {
-    match found.get_str("seeds") {
-        None => Some(Call::Walk(walk_options(found, "until")?)),
+    call_with(found, found.get_str("seeds"))
+}
+
+// The same with what is given for `seeds`.
+fn call_with<'a>(found: &'a ArgMatches<'_>, seeds: Option<&'a str>) -> Result<Call, WordFault<'a>>
+    ensures exact { result ≡ call_with (rows_of (found_of found.now)) (option_map (λ text. text.now) seeds.entry) }
+    ensures range { IfOk result IsCallInRange }
+{
+    match seeds {
+        None => Ok(Call::Walk(walk_options(found, "until")?)),
         Some(text) => {
-            let seeds = seeds(text)?;
-            Some(Call::Find(walk_options(found, "find")?, seeds))
+            let options = walk_options(found, "find")?;
+            Ok(Call::Find(options, given_seeds(text)?))
         }
     }
 }
 
 // The options of a walk that is made until what the option of that name says.
 #[tactic(auto, unfolding(crate::specs::Line::walk_options))]
-fn walk_options(found: &ArgMatches<'_>, name: &str) -> Option<WalkOptions>
+fn walk_options<'a>(found: &'a ArgMatches<'_>, name: &'a str) -> Result<WalkOptions, WordFault<'a>>
     ensures exact { result ≡ walk_options (rows_of (found_of found.now)) name.now }
-    ensures range { IfSome result IsInRange }
+    ensures range { IfOk result IsInRange }
 {
-    Some(WalkOptions {
+    Ok(WalkOptions {
         run: found_options(found)?,
         every: option_in(found, "every", 0, 100_000)?,
         until: sight(found, name)?,
     })
 }
 
-// What the option names, where it is given; None where it names nothing that can be shown.
-fn sight(found: &ArgMatches<'_>, name: &str) -> Option<Option<Sight>>
+// What the option names, where it is given.
+fn sight<'a>(found: &'a ArgMatches<'_>, name: &'a str) -> Result<Option<Sight>, WordFault<'a>>
     ensures { result ≡ sight_in (rows_of (found_of found.now)) name.now }
 {
-    match found.get_strs(name) {
-        None => Some(None),
-        Some(texts) => Some(Some(sight_of(texts)?)),
+    sight_or_none(name, found.get_strs(name))
+}
+
+// What the texts name that are given for the option, where it is given.
+fn sight_or_none<'a>(
+    name: &'a str,
+    texts: Option<&[&'a str]>,
+) -> Result<Option<Sight>, WordFault<'a>>
+    ensures { result ≡ sight_or_none name.now (option_map (λ texts. map (λ text. text.now) texts.now) texts.entry) }
+{
+    match texts {
+        None => Ok(None),
+        Some(texts) => Ok(Some(given_sight(name, texts)?)),
+    }
+}
+
+// What these texts name.
+fn given_sight<'a>(name: &'a str, texts: &[&'a str]) -> Result<Sight, WordFault<'a>>
+    ensures { result ≡ given_sight name.now (map (λ text. text.now) texts.now) }
+{
+    match sight_of(texts) {
+        Some(sight) => Ok(sight),
+        None => Err(WordFault::new(name, Given::of(texts), Wanted::Words(SIGHTS))),
     }
 }
 
@@ -84,8 +121,19 @@ fn sight_of(texts: &[&str]) -> Option<Sight>
     }
 }
 
+// The seeds that the text names, which is given for `seeds`.
+fn given_seeds<'a>(text: &'a str) -> Result<Seeds, WordFault<'a>>
+    ensures exact { result ≡ given_seeds text.now }
+    ensures range { IfOk result IsSeedsInRange }
+{
+    match seeds(text) {
+        Some(seeds) => Ok(seeds),
+        None => Err(WordFault::new("seeds", Given::One(text), Wanted::Words(SEEDS))),
+    }
+}
+
 // The seeds from the first number to the last one, with two points between them.
-#[tactic(auto, unfolding(crate::specs::Line::seeds_of))]
+#[tactic(auto, unfolding(crate::specs::Texts::seeds_of))]
 fn seeds(text: &str) -> Option<Seeds>
     ensures exact { result ≡ seeds_of text.now }
     ensures range { IfSome result IsSeedsInRange }

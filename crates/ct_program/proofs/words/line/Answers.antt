@@ -1,4 +1,5 @@
 use Rattle.std.proofs.Common.{ap, is_some, option_map, sym, true≢false, false, ◌∙◌, ◌≡◌}
+use Rattle.std.specs.Result.{result_ok}
 use Rattle.ct_program.specs.declared.call.Call.TheVariants.{Free}
 use Rattle.ct_program.proofs.Lines.{exact_app, free_called, has_kind, no_faults, replay_called, replay_only, replay_passes}
 use Rattle.ct_program.proofs.words.line.Goals as goal
@@ -21,18 +22,18 @@ returns-in-None-clause-call c =
     replay_called _ _ _ c.in_ok-command.ensures c.in-Ok.ensures.matches (c.in-Ok.ensures.kinds (exact_app _ c.in_ok-command.ensures))
     (λ named. true≢false (sym (c.subcommand_matches.ensures.found.1 named) ∙ none))
 
-pub returns-in-Some-found_options-clause-ok : goal.returns-in-Some-found_options-clause-ok
-returns-in-Some-found_options-clause-ok c = no_faults _ _ c.in_ok-command.ensures
+pub returns-in-Ok-found_options-clause-ok : goal.returns-in-Ok-found_options-clause-ok
+returns-in-Ok-found_options-clause-ok c = no_faults _ _ c.in_ok-command.ensures
     (c.in-Ok.ensures.kinds (exact_app _ c.in_ok-command.ensures))
 
-pub returns-in-Some-found_options-clause-call : goal.returns-in-Some-found_options-clause-call
-returns-in-Some-found_options-clause-call c =
+pub returns-in-Ok-found_options-clause-call : goal.returns-in-Ok-found_options-clause-call
+returns-in-Ok-found_options-clause-call c =
     free_called _ _ _ _ c.in_ok-command.ensures c.in-Ok.ensures.matches (c.subcommand_matches.ensures.found.0 (ap is_some c.in-Some.is))
     c.in-Some.ensures.rows
-    ∙ ap (option_map Free) (sym c.found_options.ensures.exact ∙ c.in-Some-found_options.is)
+    ∙ ap (option_map Free) (sym (ap result_ok c.found_options.ensures.exact) ∙ ap result_ok c.in-Ok-found_options.is)
 
-pub returns-in-Some-found_options-clause-in_range : goal.returns-in-Some-found_options-clause-in_range
-returns-in-Some-found_options-clause-in_range c = c.in-Some-found_options.ensures.range
+pub returns-in-Ok-found_options-clause-in_range : goal.returns-in-Ok-found_options-clause-in_range
+returns-in-Ok-found_options-clause-in_range c = c.in-Ok-found_options.ensures.range
 
 pub returns-clause-err : goal.returns-clause-err
 returns-clause-err c = no_faults _ _ c.in_ok-command.ensures (c.in-Ok.ensures.kinds (exact_app _ c.in_ok-command.ensures))
@@ -41,7 +42,7 @@ pub returns-clause-range : goal.returns-clause-range
 returns-clause-range c = λ _.
     free_called _ _ _ _ c.in_ok-command.ensures c.in-Ok.ensures.matches (c.subcommand_matches.ensures.found.0 (ap is_some c.in-Some.is))
     c.in-Some.ensures.rows
-    ∙ ap (option_map Free) (sym c.found_options.ensures.exact ∙ c.in-None-found_options.is)
+    ∙ ap (option_map Free) (sym (ap result_ok c.found_options.ensures.exact) ∙ ap result_ok c.in-Err-found_options.is)
 
 pub returns-clause-replay : goal.returns-clause-replay
 returns-clause-replay c = λ name e.

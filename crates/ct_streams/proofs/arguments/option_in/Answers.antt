@@ -1,12 +1,13 @@
-use Rattle.std.proofs.Common.{rules, ◌∙◌}
+use Rattle.std.proofs.Common.{ap, Some, None, Err, ◌∙◌}
 use Rattle.clap.specs.Words.{found_of}
-use Rattle.ct_streams.proofs.Numbers.{none_found, one_found}
+use Rattle.ct_streams.proofs.Values.{found_value}
 use Rattle.ct_streams.proofs.arguments.option_in.Goals as goal
 
-pub returns-in_err-text-clause-value : goal.returns-in_err-text-clause-value
-returns-in_err-text-clause-value c = search rules ∙ none_found (found_of c.args.found.now) c.args.name.now c.args.low c.args.high
-    c.in_err-text.ensures
+pub returns-in-Some-clause-value : goal.returns-in-Some-clause-value
+returns-in-Some-clause-value c =
+    c.number_for.ensures.value
+    ∙ found_value (found_of c.args.found.now) c.args.name.now c.args.low c.args.high (Some c.in-Some.text.now) c.in-Some.ensures
 
-pub returns-clause-value : goal.returns-clause-value
-returns-clause-value c = c.number_in.ensures.value ∙ one_found (found_of c.args.found.now) c.args.name.now c.args.low c.args.high _
-    c.in_ok-text.ensures
+pub returns-in-None-clause-value : goal.returns-in-None-clause-value
+returns-in-None-clause-value c =
+    ap Err c.new.ensures ∙ found_value (found_of c.args.found.now) c.args.name.now c.args.low c.args.high None c.in-None.ensures
