@@ -23,5 +23,5 @@ columns window steps = (length steps + 1) - window.from
 unfoldable pub window_of : List Row → Result Window Text
 window_of rows = do
   from ← option_in rows (codes "from") 1 4294967295
-  to ← option_in rows (codes "to") 1 4294967295
+  to ← option_in rows (codes "to") from 4294967295
   Ok (record { from = from; to = to })

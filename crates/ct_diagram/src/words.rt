@@ -25,13 +25,13 @@ Status:
   5  memory was refused";
 
 /// The window that the options of `diagram` ask for; else the fault of the first of `from` and `to` that is no whole number of its
-/// range.
+/// range. The last step is no smaller than the first.
 #[tactic(auto, unfolding(crate::specs::Window::window_of))]
 pub fn diagram_window<'a>(found: &'a ArgMatches<'_>) -> Result<Window, WordFault<'a>>
     ensures { result ≡ window_of (rows_of (found_of found.now)) }
 {
     let from = option_in(found, "from", 1, u32::MAX)?;
-    let to = option_in(found, "to", 1, u32::MAX)?;
+    let to = option_in(found, "to", from, u32::MAX)?;
     Ok(Window { from, to })
 }
 

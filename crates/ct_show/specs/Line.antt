@@ -59,7 +59,7 @@ member_in rows = member_of (first_of (codes "member") rows)
 unfoldable pub steps_of : List Row → Result View Text
 steps_of rows = do
   from ← option_in rows (codes "from") 1 4294967295
-  to ← option_in rows (codes "to") 1 4294967295
+  to ← option_in rows (codes "to") from 4294967295
   member ← member_in rows
   Ok (Steps (record { from = from; to = to; member = member }))
 

@@ -74,13 +74,13 @@ Status:
   5  memory was refused";
 
 /// The steps that the options of `steps` ask for; else the fault of the first of `from`, `to` and `member` that is no whole number
-/// of its range.
+/// of its range. The last step is no smaller than the first.
 #[tactic(auto, unfolding(crate::specs::Line::steps_of))]
 pub fn steps_view<'a>(found: &'a ArgMatches<'_>) -> Result<View, WordFault<'a>>
     ensures { result ≡ steps_of (rows_of (found_of found.now)) }
 {
     let from = option_in(found, "from", 1, u32::MAX)?;
-    let to = option_in(found, "to", 1, u32::MAX)?;
+    let to = option_in(found, "to", from, u32::MAX)?;
     let member = member_in(found)?;
     Ok(View::Steps(Selection { from, to, member }))
 }
