@@ -18,7 +18,7 @@ use ct_show::{
     state_view, steps_command, steps_view,
 };
 use ct_streams::{Counted, Failed, Files, Status, WordFault};
-use ct_walk::{Call, walk_call, walk_command, write_call};
+use ct_walk::{Call, FoundSeed, walk_call, walk_command, write_call};
 use host::Host;
 use std::alloc::{AllocError, Global};
 use std::fmt::Display;
@@ -82,9 +82,16 @@ fn walk(rt: &HostRuntime, found: &ArgMatches<'_>) -> ExitCode {
     };
     let mut writer = Counted::new(io::writer(rt));
     match write_call(rt.alloc(), &call, &mut writer) {
-        Ok(()) => ExitCode::SUCCESS,
+        Ok(None) => ExitCode::SUCCESS,
+        Ok(Some(found)) => tell(rt, found),
         Err(fault) => fail(rt, fault, fault.status()),
     }
+}
+
+// Tells of the seed that was found.
+fn tell(rt: &HostRuntime, found: FoundSeed) -> ExitCode {
+    let _ = eprintln!(rt; "{found}");
+    ExitCode::SUCCESS
 }
 
 // Writes the record of the schedule that the words name.

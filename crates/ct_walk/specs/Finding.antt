@@ -1,5 +1,7 @@
 -- Which seed's walk shows what is looked for.
-use Rattle.std.specs.Prelude.{ℕ, zero, suc, ◌+◌, ◌-◌, Option, Some, None, if◌then◌else◌}
+use Rattle.std.specs.Prelude.{ℕ, zero, suc, ◌+◌, ◌-◌, List, [], ◌∷◌, codes, decimal, Option, Some, None, if◌then◌else◌}
+use Rattle.std.specs.List.{concat}
+use Rattle.ct_walk.specs.declared.found_seed.FoundSeed.{FoundSeed}
 use Rattle.ct_walk.specs.declared.options.WalkOptions.{WalkOptions}
 use Rattle.ct_walk.specs.Options.{with_seed}
 use Rattle.ct_walk.specs.Shown.{is_shown}
@@ -13,3 +15,7 @@ seeds_to first last = (last + 1) - first
 unfoldable pub first_seed : WalkOptions → ℕ → ℕ → Option ℕ
 first_seed o seed zero = None
 first_seed o seed (suc more) = if is_shown o.until (walked (with_seed o seed)) then Some seed else first_seed o (seed + 1) more
+
+-- what is told of a seed that is found
+abbrev pub seed_line : FoundSeed → List ℕ
+seed_line found = concat (codes "seed " ∷ decimal found.seed ∷ codes ": " ∷ decimal found.steps ∷ codes " steps" ∷ [])

@@ -1,6 +1,7 @@
 -- What a command line may ask of walks. `clap` gives what its commands make of words.
 use Rattle.std.specs.Prelude.{◌≤◌, false, Option, Some, None, ok_or, Result, Ok, List, [], ◌∷◌, take, fold, codes}
 use Rattle.clap.specs.Words.{App, Row, Rule, Text, all_of, first_of, new_app, with_rule}
+use Rattle.ct_program.specs.declared.free_options.FreeOptions.{FreeOptions}
 use Rattle.ct_program.specs.Line.{free_rules, options_of}
 use Rattle.ct_streams.specs.Arguments.{option_rule, value_rule}
 use Rattle.ct_streams.specs.Values.{◌>>=◌, option_in}
@@ -63,10 +64,17 @@ sight_in rows name = sight_or_none name (all_of name rows)
 abbrev pub given_seeds : Text → Result Seeds Text
 given_seeds text = ok_or (seeds_of text) (fault_line (codes "seeds") (text ∷ []) ranges)
 
+-- the options that a walk shares with a free run, where the member that crashes is one of the group
+unfoldable pub run_of : List Row → Result FreeOptions Text
+run_of rows = do
+  run ← options_of rows
+  crash ← option_in rows (codes "crash") 0 run.members
+  Ok run
+
 -- the options of a walk that is made until what the option of that name says
 unfoldable pub walk_options : List Row → Text → Result WalkOptions Text
 walk_options rows name = do
-  run ← options_of rows
+  run ← run_of rows
   every ← option_in rows (codes "every") 0 100000
   until ← sight_in rows name
   Ok (record { run = run; every = every; until = until })

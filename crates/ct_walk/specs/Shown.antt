@@ -1,5 +1,5 @@
 -- What a record shows.
-use Rattle.std.specs.Prelude.{ℕ, zero, suc, Bool, false, ◌||◌, nat_le, Option, Some, None, is_some}
+use Rattle.std.specs.Prelude.{ℕ, zero, suc, Bool, true, false, ◌||◌, nat_le, Option, Some, None, is_some}
 use Rattle.ct_model.specs.Received.{decided}
 use Rattle.ct_model.specs.Rehearsal.{Rehearsal}
 use Rattle.ct_world.specs.World.{member_of, if_member}
@@ -21,3 +21,8 @@ is_shown_by_first sight w (suc p) = is_shown_by_first sight w p || is_shown_by s
 unfoldable pub is_shown : Option Sight → Rehearsal → Bool
 is_shown None w = false
 is_shown (Some sight) w = is_shown_by_first sight w w.setting.members
+
+-- the same; where nothing is asked for, nothing is missing
+abbrev pub is_reached : Option Sight → Rehearsal → Bool
+is_reached None w = true
+is_reached (Some sight) w = is_shown (Some sight) w

@@ -1,5 +1,5 @@
 -- What is written of walks.
-use Rattle.std.specs.Prelude.{◌≡◌, ℕ, List, [], ◌∷◌, ◌++◌, Option, Some, None}
+use Rattle.std.specs.Prelude.{◌≡◌, ℕ, true, false, List, [], ◌∷◌, ◌++◌, length, Option, Some, None, option_map, IfSome}
 use Rattle.std.specs.Io.KnownBytes.{Appends}
 use Rattle.ct_model.specs.Rehearsal.{Rehearsal}
 use Rattle.ct_records.specs.Outcome.{IsOutcome}
@@ -7,19 +7,35 @@ use Rattle.ct_streams.specs.Streams.{WritesPart}
 use Rattle.ct_records.specs.Text.{record_text}
 use Rattle.ct_walk.specs.declared.call.Call.{Call}
 use Rattle.ct_walk.specs.declared.call.Call.TheVariants.{Walk, Find}
+use Rattle.ct_walk.specs.declared.found_seed.FoundSeed.{FoundSeed}
 use Rattle.ct_walk.specs.Finding.{first_seed, seeds_to}
 use Rattle.ct_walk.specs.Options.{with_seed}
+use Rattle.ct_walk.specs.Shown.{is_reached}
 use Rattle.ct_walk.specs.Walking.{walked}
 
--- the record is that of the walk that is asked for; of several seeds, that of the first one whose walk shows what is looked for
+-- the record is that of the walk that is asked for, which shows what it is made until; of several seeds, that of the first one
+-- whose walk shows what is looked for
 abbrev pub IsWalkOf : Call → Rehearsal → Type 0
-IsWalkOf (Walk o) w = w ≡ walked o
+IsWalkOf (Walk o) w = (w ≡ walked o) × (is_reached o.until w ≡ true)
 IsWalkOf (Find o seeds) w = (seed : ℕ) × (first_seed o seeds.first (seeds_to seeds.first seeds.last) ≡ Some seed) × (w ≡ walked (with_seed o seed))
 
--- seeds are asked for, and no walk of theirs shows what is looked for
+-- the walk doesn't show what it is made until; of several seeds, none's does
 abbrev pub Misses : Call → Type 0
-Misses (Walk o) = ⊥
+Misses (Walk o) = is_reached o.until (walked o) ≡ false
 Misses (Find o seeds) = first_seed o seeds.first (seeds_to seeds.first seeds.last) ≡ None
+
+-- the seed that is looked for, and how many steps its walk has; nothing where no seed is looked for
+abbrev pub seed_for : Call → Option FoundSeed
+seed_for (Walk o) = None
+seed_for (Find o seeds) =
+    option_map (λ seed. record { seed = seed; steps = length (walked (with_seed o seed)).steps })
+    (first_seed o seeds.first (seeds_to seeds.first seeds.last))
+
+-- this is the seed that is looked for, and the record is that of its walk
+abbrev pub IsSeedOf : Call → Option ℕ → Rehearsal → Type 0
+IsSeedOf (Walk o) found w = found ≡ None
+IsSeedOf (Find o seeds) found w =
+    (first_seed o seeds.first (seeds_to seeds.first seeds.last) ≡ found) × IfSome found (λ seed. w ≡ walked (with_seed o seed))
 
 -- the record of that walk, whose steps are a run that ends in a safe state, which its report shows, and a line feed, nothing
 -- else, was written

@@ -2,7 +2,7 @@
 
 ghost use Rattle.std.specs.Prelude.{◌≡◌};
 ghost use Rattle.ct_rehearse.specs.Choices.{round_of};
-ghost use Rattle.ct_walk.specs.Shown.{is_shown, is_shown_by};
+ghost use Rattle.ct_walk.specs.Shown.{is_reached, is_shown, is_shown_by};
 
 use ct_names::{Instance, Member, Round};
 use ct_world::World;
@@ -29,6 +29,13 @@ pub(crate) fn is_shown(until: Option<Sight>, world: &World) -> bool
         shown = shown || is_shown_by(sight, world, i + 1);
     }
     shown
+}
+
+// Whether a member shows it, where it is asked for.
+pub(crate) fn is_reached(until: Option<Sight>, world: &World) -> bool
+    ensures { result ≡ is_reached until world.now.rehearsal }
+{
+    until.is_none() || is_shown(until, world)
 }
 
 // Whether the member shows it.

@@ -3,8 +3,9 @@
 ghost use Rattle.std.specs.Prelude.{◌≡◌, false, map, option_map, IfOk, IfSome};
 ghost use Rattle.clap.specs.Words.{app_of, found_of, rows_of, rule_of};
 ghost use Rattle.ct_walk.specs.Line.{every_rule, find_rule, seeds_rule, sight_rule, walk_app};
-ghost use Rattle.ct_walk.specs.Line.{call_with, given_seeds, given_sight, sight_in, sight_or_none, walk_call, walk_options};
+ghost use Rattle.ct_walk.specs.Line.{call_with, given_seeds, given_sight, run_of, sight_in, sight_or_none, walk_call, walk_options};
 ghost use Rattle.ct_walk.specs.Line.{IsCallInRange, IsSeedsInRange};
+ghost use Rattle.ct_program.specs.FreeOptions.{InRange};
 ghost use Rattle.ct_walk.specs.Options.{IsInRange};
 ghost use Rattle.ct_walk.specs.Texts.{seeds_of, sight_of};
 
@@ -12,7 +13,7 @@ use crate::call::{Call, Seeds};
 use crate::options::WalkOptions;
 use crate::sight::Sight;
 use clap::{Arg, ArgMatches, Command};
-use ct_program::{found_options, with_free_options};
+use ct_program::{FreeOptions, found_options, with_free_options};
 use ct_streams::{
     Given, Wanted, WordFault, default_option, number_in, option_in, subcommand, value_option,
 };
@@ -31,7 +32,7 @@ const AFTER: &str = "Examples:
 
 Status:
   0  the record was written
-  1  no seed shows what is looked for
+  1  no walk comes to what --until or --find asks for
   3  the words of the command line are refused
   4  a write of standard output failed
   5  memory was refused";
@@ -70,10 +71,21 @@ fn walk_options<'a>(found: &'a ArgMatches<'_>, name: &'a str) -> Result<WalkOpti
     ensures range { IfOk result IsInRange }
 {
     Ok(WalkOptions {
-        run: found_options(found)?,
+        run: run_options(found)?,
         every: option_in(found, "every", 0, 100_000)?,
         until: sight(found, name)?,
     })
+}
+
+// The options that a walk shares with a free run, where the member that crashes is one of the group.
+#[tactic(auto, unfolding(crate::specs::Line::run_of))]
+fn run_options<'a>(found: &'a ArgMatches<'_>) -> Result<FreeOptions, WordFault<'a>>
+    ensures exact { result ≡ run_of (rows_of (found_of found.now)) }
+    ensures range { IfOk result InRange }
+{
+    let run = found_options(found)?;
+    let _ = option_in(found, "crash", 0, u32::from(run.members))?;
+    Ok(run)
 }
 
 // What the option names, where it is given.

@@ -1,27 +1,35 @@
 //! Records of walks, written.
 
-ghost use Rattle.std.specs.Prelude.{◌≡◌, ◌≢◌, ◌+◌, ◌<◌, ◌^◌, ◌++◌, [], ◌∷◌, Err, OnOk, IfOk, IfErr};
+ghost use Rattle.std.specs.Prelude.{◌≡◌, ◌≢◌, ◌+◌, ◌<◌, ◌^◌, ◌++◌, [], ◌∷◌, length, Err, OnOk, IfOk, IfErr, option_map};
 ghost use Rattle.ct_records.specs.Outcome.{IsOutcome};
 ghost use Rattle.ct_records.specs.Text.{record_text};
 ghost use Rattle.ct_walk.specs.Line.{IsCallInRange};
-ghost use Rattle.ct_walk.specs.Writing.{IsWalkOf, Misses, WritesWalk, WritesWalkPart};
+ghost use Rattle.ct_walk.specs.Writing.{seed_for, IsSeedOf, IsWalkOf, Misses, WritesWalk, WritesWalkPart};
 
 use crate::call::Call;
 use crate::fault::WalkFault;
 use crate::finding::find;
+use crate::found_seed::FoundSeed;
+use crate::sight::is_reached;
 use crate::walking::walk;
 use ct_records::write_record;
 use ct_streams::{Failed, Sink, write_all};
 use ct_world::World;
 use std::alloc::Global;
 
-/// Makes what is asked for, and writes the record of the walk and a line feed.
-pub fn write_call<W: Sink>(alloc: Global, call: &Call, writer: &mut W) -> Result<(), WalkFault>
+/// Makes what is asked for, and writes the record of the walk and a line feed; answers the seed that was found, where one was
+/// looked for.
+pub fn write_call<W: Sink>(
+    alloc: Global,
+    call: &Call,
+    writer: &mut W,
+) -> Result<Option<FoundSeed>, WalkFault>
     requires range { IsCallInRange call.now }
     requires writes { W.failures writer.old < 2 ^ 63 }
     // What was written is the record of the walk that is asked for, a run that ends in a safe state, and a line feed.
     ensures ok { OnOk result (WritesWalk call.now (W.written writer.old) (W.written writer.new)) }
-    // Nothing is found where no seed's walk shows what is looked for.
+    ensures seed { IfOk result (λ found. found ≡ seed_for call.now) }
+    // Nothing is found where no seed's walk shows what is looked for, or the one walk doesn't show what it is made until.
     ensures misses { result ≡ Err WalkFault.NotFound → Misses call.now }
     // Only a fault of the writer has written anything: some first bytes of such a line.
     ensures quiet { IfErr result (λ fault. fault ≢ WalkFault.Write → writer.new ≡ writer.old) }
@@ -30,25 +38,55 @@ pub fn write_call<W: Sink>(alloc: Global, call: &Call, writer: &mut W) -> Result
     ensures writer { result ≡ Err WalkFault.Write → W.failures writer.new ≡ W.failures writer.old + 1 }
     ensures no_write { result ≢ Err WalkFault.Write → W.failures writer.new ≡ W.failures writer.old }
 {
-    let world = called(alloc, call)?;
-    let text = line_of(alloc, &world)?;
+    let made = called(alloc, call)?;
+    let text = line_of(alloc, &made.world)?;
     match write_all(writer, &text) {
-        Ok(()) => Ok(()),
+        Ok(()) => Ok(found_seed(&made)),
         Err(Failed) => Err(WalkFault::Write),
     }
 }
 
-// The world after the walk that is asked for.
-fn called(alloc: Global, call: &Call) -> Result<World, WalkFault>
+// The seed that was found, and how many steps its walk has.
+fn found_seed(made: &Made) -> Option<FoundSeed>
+    ensures { result ≡ option_map (λ seed. record { seed = seed; steps = length made.now.world.rehearsal.steps }) made.now.found }
+{
+    match made.found {
+        Some(seed) => Some(FoundSeed {
+            seed,
+            steps: made.world.record().len(),
+        }),
+        None => None,
+    }
+}
+
+// A walk, and its seed, where that was looked for.
+#[derive(Drop)]
+struct Made {
+    found: Option<u32>,
+    world: World,
+}
+
+// The walk that is asked for.
+fn called(alloc: Global, call: &Call) -> Result<Made, WalkFault>
     requires { IsCallInRange call.now }
-    ensures walk { IfOk result (λ world. IsWalkOf call.now world.rehearsal) }
+    ensures walk { IfOk result (λ made. IsWalkOf call.now made.world.rehearsal) }
+    ensures seed { IfOk result (λ made. IsSeedOf call.now made.found made.world.rehearsal) }
     ensures misses { result ≡ Err WalkFault.NotFound → Misses call.now }
     ensures quiet { IfErr result (λ fault. fault ≢ WalkFault.Write) }
 {
     match call {
-        Call::Walk(options) => walk(alloc, options),
+        Call::Walk(options) => {
+            let world = walk(alloc, options)?;
+            if !is_reached(options.until, &world) {
+                return Err(WalkFault::NotFound);
+            }
+            Ok(Made { found: None, world })
+        }
         Call::Find(options, seeds) => match find(alloc, options, seeds.first, seeds.last)? {
-            Some(world) => Ok(world),
+            Some(walk) => Ok(Made {
+                found: Some(walk.seed),
+                world: walk.world,
+            }),
             None => Err(WalkFault::NotFound),
         },
     }

@@ -1,4 +1,4 @@
-use Rattle.std.proofs.Common.{◌≡◌, ◌∙◌, ◌+◌, ◌-◌, Some, None, arith, ap, refl, sym}
+use Rattle.std.proofs.Common.{◌≡◌, ◌∙◌, ◌+◌, ◌-◌, Some, None, arith, ap, sym}
 use Rattle.ct_walk.specs.declared.options.WalkOptions.{WalkOptions}
 use Rattle.ct_walk.specs.Finding.{first_seed, seeds_to}
 use Rattle.ct_walk.specs.Shown.{is_shown}
@@ -16,8 +16,8 @@ loop-seed-preserved c =
     sym (seed_passes o c.loop-seed.seed ((c.args.last + 1) - c.loop-seed.seed) left _ (omega (arith, c.loop-seed-test.true)) walks shown)
     ∙ c.loop-seed.invariant
 
-pub returns-then-is_shown-clause-exact : goal.returns-then-is_shown-clause-exact
-returns-then-is_shown-clause-exact c =
+pub returns-then-is_shown-clause-seed : goal.returns-then-is_shown-clause-seed
+returns-then-is_shown-clause-seed c =
     let o = c.args.options.now in
     let left = (c.args.last + 1) - (c.loop-seed.seed + 1) in
     let walks = c.in_ok-world.ensures.exact ∙ ap walked c.with_seed-options.ensures in
@@ -26,10 +26,10 @@ returns-then-is_shown-clause-exact c =
     let found : first_seed o c.args.first (seeds_to c.args.first c.args.last) ≡ Some c.loop-seed.seed =
     sym c.loop-seed.invariant
     ∙ seed_shows o c.loop-seed.seed ((c.args.last + 1) - c.loop-seed.seed) left _ (omega (arith, c.loop-seed-test.true)) walks shown in
-    rw found (ap Some walks)
+    sym found
 
-pub returns-clause-exact : goal.returns-clause-exact
-returns-clause-exact c =
+pub returns-clause-seed : goal.returns-clause-seed
+returns-clause-seed c =
     let found : first_seed c.args.options.now c.args.first (seeds_to c.args.first c.args.last) ≡ None =
     sym c.loop-seed.invariant ∙ seeds_end _ _ _ (omega (arith, c.loop-seed-test.false)) in
-    rw found refl
+    sym found
