@@ -13,7 +13,7 @@ use Rattle.ct_streams.specs.Streams.{read_part}
 use Rattle.ct_records.specs.Report.{report_text}
 use Rattle.ct_records.specs.Script.{script}
 use Rattle.ct_show.specs.declared.checked.Checked.{Checked}
-use Rattle.ct_show.specs.declared.checked.Checked.TheVariants.{Good, OtherReport, NoReport, Fault}
+use Rattle.ct_show.specs.declared.checked.Checked.TheVariants.{Good, OtherReport, NoReport, NoFile, Fault}
 use Rattle.ct_show.specs.Checking.{IsBeside, IsChecked, IsOfRecord, Known, is_json, report_name}
 
 -- what is said of the bytes that are left of an open file is said of the file's
@@ -62,7 +62,8 @@ beside_checked bytes name report Good h beside =
     known_with (bytes name) report (λ text. IfSome (bytes (report_name name)) (λ expected. text ≡ read_part expected)) h beside
 beside_checked bytes name report OtherReport h beside =
     (refl, known_with (bytes name) report (λ text. IfSome (bytes (report_name name)) (λ expected. text ≢ read_part expected)) h beside)
-beside_checked bytes name report NoReport h beside = (refl, known_at_all (bytes name) report h)
+beside_checked bytes name report (NoReport fault) h beside = (refl, known_at_all (bytes name) report h)
+beside_checked bytes name report (NoFile fault) h beside = absurd beside
 beside_checked bytes name report (Fault fault) h beside =
     subst (λ f. IsOfRecord f × IfSome (bytes name) (IsFaultIn f)) (sym beside) (tt, of_memory (bytes name))
 

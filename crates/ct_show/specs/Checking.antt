@@ -13,13 +13,14 @@ use Rattle.ct_records.specs.declared.read_fault.ReadFault.TheVariants.{TooLong, 
 use Rattle.ct_records.specs.ProgramFault as program
 use Rattle.ct_streams.specs.declared.status.Status.TheVariants as status
 use Rattle.ct_streams.specs.Statuses.{code}
+use Rattle.ct_streams.specs.FileFaults as file
 use Rattle.ct_records.specs.Replay.{IsFaultIn, IsReplayed}
 use Rattle.ct_streams.specs.Streams.{read_part, WritesPart}
 use Rattle.ct_records.specs.Report.{report_text}
 use Rattle.ct_records.specs.Script.{script}
 use Rattle.ct_show.specs.declared.check_options.CheckOptions.{CheckOptions}
 use Rattle.ct_show.specs.declared.checked.Checked.{Checked}
-use Rattle.ct_show.specs.declared.checked.Checked.TheVariants.{Good, OtherReport, NoReport, Fault}
+use Rattle.ct_show.specs.declared.checked.Checked.TheVariants.{Good, OtherReport, NoReport, NoFile, Fault}
 
 -- ---- one file
 
@@ -59,21 +60,24 @@ IsChecked bytes expects name Good =
     IfSome (bytes name) (λ input. IsOkAnd (script input) (λ w. IsReplayed w × Meets expects (bytes (report_name name)) w))
 IsChecked bytes expects name OtherReport =
     (expects ≡ true) × IfSome (bytes name) (λ input. IsOkAnd (script input) (λ w. IsReplayed w × HasOther (bytes (report_name name)) w))
-IsChecked bytes expects name NoReport = (expects ≡ true) × IfSome (bytes name) (λ input. IsOkAnd (script input) IsReplayed)
+IsChecked bytes expects name (NoReport _) = (expects ≡ true) × IfSome (bytes name) (λ input. IsOkAnd (script input) IsReplayed)
+IsChecked bytes expects name (NoFile fault) = ⊤
 IsChecked bytes expects name (Fault fault) = IsOfRecord fault × IfSome (bytes name) (IsFaultIn fault)
 
 -- what comparing a report with the one in the file beside it comes to
 abbrev pub IsBeside : Option (List ℕ) → List ℕ → Checked → Type 0
 IsBeside known report Good = IfSome known (λ expected. report ≡ read_part expected)
 IsBeside known report OtherReport = IfSome known (λ expected. report ≢ read_part expected)
-IsBeside known report NoReport = ⊤
+IsBeside known report (NoReport fault) = ⊤
+IsBeside known report (NoFile fault) = ⊥
 IsBeside known report (Fault fault) = fault ≡ Memory
 
 -- the status that it stands for
 abbrev pub status_of : Checked → ℕ
 status_of Good = code status.Done
 status_of OtherReport = code status.Refused
-status_of NoReport = code status.Stream
+status_of (NoReport fault) = code status.Stream
+status_of (NoFile fault) = code status.Stream
 status_of (Fault fault) = program.status_of fault
 
 -- ---- its line
@@ -102,7 +106,8 @@ told name text = concat (name ∷ codes ": " ∷ text ∷ codes "\n" ∷ [])
 abbrev pub checked_text : List ℕ → Checked → List ℕ
 checked_text name Good = []
 checked_text name OtherReport = told name (codes "another report")
-checked_text name NoReport = told (report_name name) (codes "read failed")
+checked_text name (NoReport fault) = told (report_name name) (file.fault_text fault)
+checked_text name (NoFile fault) = told name (file.fault_text fault)
 checked_text name (Fault fault) = told name (fault_text fault)
 
 -- what is written of it

@@ -4,7 +4,7 @@ ghost use Rattle.std.specs.Prelude.{◌≡◌};
 ghost use Rattle.ct_show.specs.Checking.{status_of};
 
 use ct_records::ProgramFault;
-use ct_streams::Status;
+use ct_streams::{FileFault, Status};
 
 /// What checking a file comes to.
 #[derive(Clone, Copy, Debug, Drop, PartialEq, Eq)]
@@ -14,8 +14,10 @@ pub enum Checked {
     /// Its record is replayed to another report than the one beside it.
     OtherReport,
     /// Its record is replayed, and the report beside it can't be read.
-    NoReport,
-    /// It can't be read, is no record, or a step of its record is refused; or memory was refused.
+    NoReport(FileFault),
+    /// It can't be opened.
+    NoFile(FileFault),
+    /// It can't be read to its end, is no record, or a step of its record is refused; or memory was refused.
     Fault(ProgramFault),
 }
 
@@ -27,7 +29,7 @@ impl Checked {
         match self {
             Checked::Good => Status::Done.code(),
             Checked::OtherReport => Status::Refused.code(),
-            Checked::NoReport => Status::Stream.code(),
+            Checked::NoReport(_) | Checked::NoFile(_) => Status::Stream.code(),
             Checked::Fault(fault) => fault.status(),
         }
     }

@@ -10,7 +10,9 @@ ghost use Rattle.ct_show.specs.Checking.{checked_text, fault_text, line_of, read
 use crate::check_options::CheckOptions;
 use crate::checked::Checked;
 use ct_records::{ProgramFault, ReadFault, run_replay};
-use ct_streams::{Counted, Failed, Files, InputFault, Sink, read_all, write_all};
+use ct_streams::{
+    Counted, Failed, FileFault, Files, InputFault, Sink, Source, read_all, write_all,
+};
 use std::alloc::{AllocError, Global};
 
 /// Replays the record of each of these files and writes a line for each that has a fault or, where reports are expected, has
@@ -74,22 +76,24 @@ fn check_one<F: Files, W: Sink>(
 fn checked<F: Files>(alloc: Global, files: &F, name: &str, expects: bool) -> Checked
     ensures { IsChecked (F.bytes files.now) expects name.now result }
 {
-    match replayed(alloc, files, name) {
-        Err(fault) => Checked::Fault(fault),
-        Ok(report) if expects => compared(alloc, files, name, &report),
-        Ok(_) => Checked::Good,
+    match files.open(name) {
+        Ok(reader) => match replayed(alloc, reader) {
+            Err(fault) => Checked::Fault(fault),
+            Ok(report) if expects => compared(alloc, files, name, &report),
+            Ok(_) => Checked::Good,
+        },
+        Err(fault) => Checked::NoFile(fault),
     }
 }
 
-// The report of the record in the file of this name.
-fn replayed<F: Files>(alloc: Global, files: &F, name: &str) -> Result<Vec<u8>, ProgramFault>
-    ensures ok { IfOk result (λ report. IfSome (F.bytes files.now name.now) (λ input. IsReportOf input report.items)) }
+// The report of the record that the reader has.
+fn replayed<R: Source + Drop>(alloc: Global, reader: R) -> Result<Vec<u8>, ProgramFault>
+    requires { R.failures reader < 2 ^ 63 }
+    ensures ok { IfOk result (λ report. IfSome (R.left reader) (λ input. IsReportOf input report.items)) }
     ensures record { IfErr result IsOfRecord }
-    ensures fault { IfErr result (λ fault. IfSome (F.bytes files.now name.now) (IsFaultIn fault)) }
+    ensures fault { IfErr result (λ fault. IfSome (R.left reader) (IsFaultIn fault)) }
 {
-    let Ok(mut reader) = files.open(name) else {
-        return Err(ProgramFault::Reader);
-    };
+    let mut reader = reader;
     let mut writer = Counted::new(Vec::new(alloc));
     match run_replay(alloc, &mut reader, &mut writer) {
         Ok(()) => Ok(writer.into_inner()),
@@ -106,14 +110,15 @@ fn compared<F: Files>(alloc: Global, files: &F, name: &str, report: &[u8]) -> Ch
     let Ok(beside) = report_name(alloc, name) else {
         return Checked::Fault(ProgramFault::Memory);
     };
-    let Ok(mut reader) = files.open(&beside) else {
-        return Checked::NoReport;
+    let mut reader = match files.open(&beside) {
+        Ok(reader) => reader,
+        Err(fault) => return Checked::NoReport(fault),
     };
     match read_all(alloc, &mut reader) {
         Ok(expected) if is_same(report, &expected) => Checked::Good,
         Ok(_) => Checked::OtherReport,
         Err(InputFault::Memory) => Checked::Fault(ProgramFault::Memory),
-        Err(_) => Checked::NoReport,
+        Err(_) => Checked::NoReport(FileFault::Read),
     }
 }
 
@@ -156,7 +161,11 @@ fn push_checked(
     match checked {
         Checked::Good => Ok(()),
         Checked::OtherReport => push_told(text, name, "another report"),
-        Checked::NoReport => push_told(text, &report_name(alloc, name)?, "read failed"),
+        Checked::NoReport(fault) => {
+            let line = format!(in alloc; "{fault}")?;
+            push_told(text, &report_name(alloc, name)?, &line)
+        }
+        Checked::NoFile(fault) => push_told(text, name, &format!(in alloc; "{fault}")?),
         Checked::Fault(fault) => push_told(text, name, &fault_line(alloc, fault)?),
     }
 }

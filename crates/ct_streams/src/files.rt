@@ -2,7 +2,7 @@
 
 ghost use Rattle.std.specs.Prelude.{◌≡◌, ℕ, List, Option, Some, IfOk, IfSome};
 
-use crate::failed::Failed;
+use crate::file_fault::FileFault;
 use crate::source::Source;
 
 /// What opens files by their names.
@@ -14,7 +14,7 @@ pub trait Files {
     ghost bytes: { Self → List ℕ → Option (List ℕ) };
 
     /// Opens the file of this name, to be read from its first byte.
-    fn open(&self, name: &str) -> Result<Self::Reader, Failed>
+    fn open(&self, name: &str) -> Result<Self::Reader, FileFault>
         ensures bytes { IfOk result (λ reader. IfSome (bytes self.now name.now) (λ all. Self.Reader.left reader ≡ Some all)) }
         ensures unfailed { IfOk result (λ reader. Self.Reader.failures reader ≡ 0) };
 }

@@ -5,9 +5,11 @@
 mod arguments;
 mod counted;
 mod failed;
+mod file_fault;
 mod files;
 mod given;
 mod input_fault;
+mod named_fault;
 mod new_files;
 mod reading;
 mod sink;
@@ -23,9 +25,11 @@ pub use arguments::{
 };
 pub use counted::Counted;
 pub use failed::Failed;
+pub use file_fault::FileFault;
 pub use files::Files;
 pub use given::Given;
 pub use input_fault::InputFault;
+pub use named_fault::NamedFault;
 pub use new_files::NewFiles;
 pub use reading::read_all;
 pub use sink::Sink;

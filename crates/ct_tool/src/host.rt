@@ -1,6 +1,6 @@
 //! The files of the machine.
 
-use ct_streams::{Counted, Failed, Files, NewFiles, write_all};
+use ct_streams::{Counted, Failed, FileFault, Files, NewFiles, write_all};
 use either::{Either, Left, Right};
 use std::fs::{self, File};
 use std::io::StdinLock;
@@ -30,14 +30,27 @@ impl Files for Host<'_> {
 
     ghost bytes = { λ _ _. None };
 
-    fn open(&self, name: &str) -> Result<Self::Reader, Failed> {
+    fn open(&self, name: &str) -> Result<Self::Reader, FileFault> {
         if name == "-" {
             return Ok(Counted::new(Left(self.rt.reader())));
         }
         match fs::open(self.rt, name) {
-            Ok(file) => Ok(Counted::new(Right(file))),
-            Err(_) => Err(Failed),
+            Ok(file) => {
+                if is_folder(&file) {
+                    return Err(FileFault::Folder);
+                }
+                Ok(Counted::new(Right(file)))
+            }
+            Err(error) => Err(FileFault::of_kind(error.kind())),
         }
+    }
+}
+
+// Whether the open file is a folder, as far as the machine tells.
+fn is_folder(file: &File) -> bool {
+    match file.metadata() {
+        Ok(metadata) => metadata.is_dir(),
+        Err(_) => false,
     }
 }
 

@@ -3,13 +3,11 @@
 
 mod host;
 
-ghost use Rattle.std.specs.Prelude.{◌<◌, ◌^◌};
-ghost use Rattle.ct_streams.specs.Counted.{failures_of};
-
 use clap::{ArgMatches, Command};
-use ct_diagram::{DiagramFault, Window, diagram_command, diagram_window, draw, drawn_end};
+use ct_diagram::{DiagramFault, diagram_command, diagram_window, draw, drawn_end};
 use ct_judge::{
-    Judge, RecordFault, interact, interact_command, keep, record, record_command, session_end,
+    Judge, KeepFault, RecordFault, interact, interact_command, keep, record, record_command,
+    session_end,
 };
 use ct_program::{CommandFault, answer_status};
 use ct_records::ProgramFault;
@@ -17,13 +15,12 @@ use ct_show::{
     CheckOptions, View, check, check_command, report_command, show, shown_end, state_command,
     state_view, steps_command, steps_view,
 };
-use ct_streams::{Counted, Failed, Files, Status, WordFault};
+use ct_streams::{Counted, FileFault, Files, NamedFault, Status, WordFault};
 use ct_walk::{Call, FoundSeed, walk_call, walk_command, write_call};
 use host::Host;
 use std::alloc::{AllocError, Global};
 use std::fmt::Display;
 use std::io;
-use std::io::Write;
 use std::process::ExitCode;
 
 fn main(rt: HostRuntime) -> ExitCode {
@@ -99,27 +96,18 @@ fn record_schedule(rt: &HostRuntime, found: &ArgMatches<'_>) -> ExitCode {
     let Some(name) = found.get_str("file") else {
         return refuse(rt, CommandFault::NoFile);
     };
+    let mut reader = match Host::new(rt).open(name) {
+        Ok(reader) => reader,
+        Err(fault) => return refuse_file(rt, name, fault),
+    };
     let mut writer = Counted::new(io::writer(rt));
-    match record_file(rt, name, &mut writer) {
+    match record(rt.alloc(), &mut reader, &mut writer) {
         Ok(()) => ExitCode::SUCCESS,
+        Err(RecordFault::Read) => refuse_file(rt, name, FileFault::Read),
         Err(fault) => {
             let status = fault.status();
             fail(rt, fault, status)
         }
-    }
-}
-
-// Writes the record of the schedule in the file of this name.
-fn record_file<W: Write>(
-    rt: &HostRuntime,
-    name: &str,
-    writer: &mut Counted<W>,
-) -> Result<(), RecordFault>
-    requires { failures_of writer.old < 2 ^ 63 }
-{
-    match Host::new(rt).open(name) {
-        Ok(mut reader) => record(rt.alloc(), &mut reader, writer),
-        Err(Failed) => Err(RecordFault::Read),
     }
 }
 
@@ -142,6 +130,7 @@ fn hold_session(rt: &HostRuntime, found: &ArgMatches<'_>) -> ExitCode {
 fn keep_record(rt: &HostRuntime, judge: Judge, name: &str) -> ExitCode {
     match keep(rt.alloc(), judge, &mut Host::new(rt), name) {
         Ok(()) => ExitCode::SUCCESS,
+        Err(KeepFault::Write) => refuse_file(rt, name, FileFault::Write),
         Err(fault) => fail(rt, fault, fault.status()),
     }
 }
@@ -155,10 +144,15 @@ fn view(rt: &HostRuntime, found: &ArgMatches<'_>, view: Result<View, WordFault<'
     let Some(name) = found.get_str("file") else {
         return refuse(rt, CommandFault::NoFile);
     };
+    let mut reader = match Host::new(rt).open(name) {
+        Ok(reader) => reader,
+        Err(fault) => return refuse_file(rt, name, fault),
+    };
     let mut writer = Counted::new(io::writer(rt));
-    let ended = show_file(rt, name, &mut writer, &view);
+    let ended = show(rt.alloc(), &mut reader, &mut writer, &view);
     match shown_end(ended, writer.is_broken()) {
         Ok(()) => ExitCode::SUCCESS,
+        Err(ProgramFault::Reader) => refuse_file(rt, name, FileFault::Read),
         Err(fault) => fail(rt, fault, fault.status()),
     }
 }
@@ -172,41 +166,16 @@ fn diagram(rt: &HostRuntime, found: &ArgMatches<'_>) -> ExitCode {
     let Some(name) = found.get_str("file") else {
         return refuse(rt, CommandFault::NoFile);
     };
+    let mut reader = match Host::new(rt).open(name) {
+        Ok(reader) => reader,
+        Err(fault) => return refuse_file(rt, name, fault),
+    };
     let mut writer = Counted::new(io::writer(rt));
-    let ended = draw_file(rt, name, &mut writer, &window);
+    let ended = draw(rt.alloc(), &mut reader, &mut writer, &window);
     match drawn_end(ended, writer.is_broken()) {
         Ok(()) => ExitCode::SUCCESS,
+        Err(DiagramFault::Program(ProgramFault::Reader)) => refuse_file(rt, name, FileFault::Read),
         Err(fault) => fail(rt, fault, fault.status()),
-    }
-}
-
-// Draws the record in the file of this name.
-fn draw_file<W: Write>(
-    rt: &HostRuntime,
-    name: &str,
-    writer: &mut Counted<W>,
-    window: &Window,
-) -> Result<(), DiagramFault>
-    requires { failures_of writer.old < 2 ^ 63 }
-{
-    match Host::new(rt).open(name) {
-        Ok(mut reader) => draw(rt.alloc(), &mut reader, writer, window),
-        Err(Failed) => Err(DiagramFault::Program(ProgramFault::Reader)),
-    }
-}
-
-// Shows the record in the file of this name.
-fn show_file<W: Write>(
-    rt: &HostRuntime,
-    name: &str,
-    writer: &mut Counted<W>,
-    view: &View,
-) -> Result<(), ProgramFault>
-    requires { failures_of writer.old < 2 ^ 63 }
-{
-    match Host::new(rt).open(name) {
-        Ok(mut reader) => show(rt.alloc(), &mut reader, writer, view),
-        Err(Failed) => Err(ProgramFault::Reader),
     }
 }
 
@@ -242,6 +211,11 @@ fn refuse(rt: &HostRuntime, fault: CommandFault) -> ExitCode {
 // Tells of an option that is given what it may not have.
 fn refuse_word(rt: &HostRuntime, fault: WordFault<'_>) -> ExitCode {
     fail(rt, fault, Status::Words.code())
+}
+
+// Tells of a file that is not read or not made.
+fn refuse_file(rt: &HostRuntime, name: &str, fault: FileFault) -> ExitCode {
+    fail(rt, NamedFault { name, fault }, Status::Stream.code())
 }
 
 // Prints the fault's line. Where standard error fails too, the status alone tells of the fault.

@@ -1,5 +1,5 @@
 use ct_show::*;
-use ct_streams::{Counted, Failed, Files};
+use ct_streams::{Counted, FileFault, Files};
 use std::alloc::Global;
 use std::test::Fail;
 
@@ -47,13 +47,13 @@ impl Files for Shelf {
 
     ghost bytes = { λ _ _. None };
 
-    fn open(&self, name: &str) -> Result<Counted<&'static [u8]>, Failed> {
+    fn open(&self, name: &str) -> Result<Counted<&'static [u8]>, FileFault> {
         for (known, text) in FILES {
             if known == name {
                 return Ok(Counted::new(text.as_bytes()));
             }
         }
-        Err(Failed)
+        Err(FileFault::Missing)
     }
 }
 
@@ -95,7 +95,7 @@ fn each_fault_has_its_line(rt: HostRuntime) -> Result<(), Fail> {
         "unknown.json",
         "refused.json",
     ];
-    let text = "nowhere: read failed
+    let text = "nowhere: no such file
 none.json: record: not JSON
 shapeless.json: record: shape at 2
 unknown.json: record: version
@@ -110,7 +110,7 @@ fn reports_are_compared(rt: HostRuntime) -> Result<(), Fail> {
     let names = ["refused.json", "good.json", "other.json", "alone"];
     let text = "refused.json: step 1: Nothing
 other.json: another report
-alone.report: read failed
+alone.report: no such file
 ";
     assert!(rt; is_checked(rt.alloc(), &names, EXPECTS, text, 4)?);
     assert!(rt;
