@@ -5,3 +5,4 @@ pub mod Seen
 pub mod Tracing
 mod Checks
 mod Reports
+pub mod Told

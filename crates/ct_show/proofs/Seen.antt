@@ -1,17 +1,19 @@
 -- What is said of the bytes that were read holds of the input.
-use Rattle.std.proofs.Common.{◌≡◌, ℕ, List, Option, Some, None, Result, Ok, Err, refl, subst}
-use Rattle.std.specs.Prelude.{IfSome}
+use Rattle.std.proofs.Common.{◌≡◌, ℕ, List, Option, Some, None, Result, Ok, Err, refl, subst, sym}
+use Rattle.std.specs.Prelude.{IfSome, IsOkAnd}
 use Rattle.std.specs.Io.KnownBytes.{Appends}
 use Rattle.ct_model.specs.Rehearsal.{Rehearsal}
 use Rattle.ct_world.specs.declared.replay_fault.ReplayFault.{ReplayFault}
-use Rattle.ct_records.specs.declared.program_fault.ProgramFault.{ProgramFault}
 use Rattle.ct_records.specs.declared.program_fault.ProgramFault.TheVariants as of
 use Rattle.ct_records.specs.declared.read_fault.ReadFault.{ReadFault}
 use Rattle.ct_streams.specs.Streams.{read_part, WritesPart}
 use Rattle.ct_records.specs.Script.{script}
 use Rattle.ct_records.proofs.Answered.{script_read}
 use Rattle.ct_show.specs.declared.view.View.{View}
-use Rattle.ct_show.specs.Answer.{FailsWith, IsAnswer, IsAnswerOf, IsOfReading, Shows, ShowsPart}
+use Rattle.ct_show.specs.Answer.{FailsOn, FailsWith, IsAnswer, IsAnswerOf, IsOfShowing, Lacks, Shows, ShowsPart}
+use Rattle.ct_show.specs.declared.show_fault.ShowFault.{ShowFault}
+use Rattle.ct_show.specs.declared.show_fault.ShowFault.TheVariants.{NoMember, Unread, Program}
+use Rattle.ct_show.specs.NoRecords.{IsToldOf}
 
 pub input_seen : (left : Option (List ℕ)) (bytes seen : List ℕ) (P : Result Rehearsal ReadFault → Type 0) →
     IfSome left (λ input. bytes ≡ read_part input) → seen ≡ bytes → P (script seen) → IfSome left (λ input. P (script input))
@@ -19,15 +21,15 @@ input_seen None bytes seen P h same p = tt
 input_seen (Some input) bytes seen P h same p =
     subst P (script_read bytes input h) (subst (λ (b : List ℕ). P (script b)) same p)
 
-pub reading_fails : (view : View) (fault : ProgramFault) (read : Result Rehearsal ReadFault) (old new : Option (List ℕ)) →
-    IsOfReading fault read → FailsWith view fault read old new
-reading_fails view (of.Replay at refusal) read old new h = absurd h
-reading_fails view (of.Read fault) read old new h = h
-reading_fails view of.Reader read old new h = absurd h
-reading_fails view of.Write read old new h = absurd h
-reading_fails view of.Memory read old new h = tt
-reading_fails view of.Start read old new h = absurd h
-reading_fails view of.Exchanged read old new h = absurd h
+-- a fault of the bytes that were read is one of the input
+pub showing_seen : (left : Option (List ℕ)) (bytes : List ℕ) (view : View) (fault : ShowFault) (old new : Option (List ℕ)) →
+    IfSome left (λ input. bytes ≡ read_part input) → IsOfShowing view fault bytes → IfSome left (λ input. FailsOn view fault input old new)
+showing_seen None bytes view fault old new read h = tt
+showing_seen (Some input) bytes view (NoMember member members) old new read h =
+    subst (λ r. IsOkAnd r (Lacks view member members)) (script_read bytes input read) h
+showing_seen (Some input) bytes view (Unread told) old new read h = subst (IsToldOf told) read h
+showing_seen (Some input) bytes view (Program fault) old new read h =
+    subst (λ f. FailsWith view f (script input) old new) (sym h) tt
 
 pub shows : (view : View) (read : Result Rehearsal ReadFault) (text out : List ℕ) (refused : Option ReplayFault)
     (old new : Option (List ℕ)) → IsAnswerOf view read text refused → refused ≡ None → out ≡ text → Appends old new out →
@@ -51,11 +53,6 @@ shows_part view (Err e) text out refused old new h same a = absurd h
 shows_part view (Ok w) text out refused old new h same a = (text, refused, h, subst (WritesPart old new) same a)
 
 module _ (left : Option (List ℕ)) (bytes : List ℕ) (view : View) (read : IfSome left (λ input. bytes ≡ read_part input)) where
-  pub reading_seen : (fault : ProgramFault) (old new : Option (List ℕ)) → IsOfReading fault (script bytes) →
-      IfSome left (λ input. FailsWith view fault (script input) old new)
-  reading_seen fault old new h =
-      input_seen left bytes bytes (λ r. FailsWith view fault r old new) read refl (reading_fails view fault (script bytes) old new h)
-
   pub part_seen : (text out : List ℕ) (refused : Option ReplayFault) (old new : Option (List ℕ)) →
       IsAnswerOf view (script bytes) text refused → out ≡ text → WritesPart old new out →
       IfSome left (λ input. ShowsPart view (script input) old new)

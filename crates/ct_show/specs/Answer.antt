@@ -1,5 +1,5 @@
 -- What a view of a record shows.
-use Rattle.std.specs.Prelude.{◌≡◌, ℕ, ◌-◌, List, [], ◌++◌, length, Option, Some, None, Result, Err, slice_get, IsOkAnd, ⊤}
+use Rattle.std.specs.Prelude.{◌≡◌, ℕ, ◌-◌, List, [], ◌++◌, length, nat_lt, Option, Some, None, Result, Err, slice_get, IsOkAnd, if◌then◌else◌, ⊤}
 use Rattle.std.specs.Io.KnownBytes.{Appends}
 use Rattle.ct_names.specs.declared.refusal.Refusal.{Refusal}
 use Rattle.ct_model.specs.declared.step.Step.{Step}
@@ -10,13 +10,17 @@ use Rattle.ct_records.specs.declared.program_fault.ProgramFault.{ProgramFault}
 use Rattle.ct_records.specs.declared.program_fault.ProgramFault.TheVariants.{Replay, Read, Write, Memory, Start, Exchanged}
 use Rattle.ct_records.specs.declared.read_fault.ReadFault.{ReadFault}
 use Rattle.ct_records.specs.Replay.{IsAllowed, IsRefused}
-use Rattle.ct_streams.specs.Streams.{WritesPart}
+use Rattle.ct_streams.specs.Streams.{read_part, WritesPart}
+use Rattle.ct_records.specs.Script.{script}
 use Rattle.ct_show.specs.declared.selection.Selection.{Selection}
+use Rattle.ct_show.specs.declared.show_fault.ShowFault.{ShowFault}
+use Rattle.ct_show.specs.declared.show_fault.ShowFault.TheVariants.{NoMember, Unread, Program}
 use Rattle.ct_show.specs.declared.view.View.{View}
 use Rattle.ct_show.specs.declared.view.View.TheVariants.{Nothing, Report, Steps, State}
 use Rattle.ct_show.specs.Facts.{refused_text}
 use Rattle.ct_show.specs.Json.{report_json}
 use Rattle.ct_show.specs.Lines.{first_lines}
+use Rattle.ct_show.specs.NoRecords.{IsToldOf}
 use Rattle.ct_show.specs.State.{state_text}
 
 -- the lines of the first steps of a record
@@ -73,10 +77,39 @@ ShowsPart view read old new = IsOkAnd read (λ w.
 abbrev pub FailsWith : View → ProgramFault → Result Rehearsal ReadFault → Option (List ℕ) → Option (List ℕ) → Type 0
 FailsWith view (Replay at refusal) read old new =
     IsOkAnd read (λ w. IsRefused (part_of view w) at refusal × Appends old new (refused_shown view (part_of view w) at refusal))
-FailsWith view (Read fault) read old new = read ≡ Err fault
+FailsWith view (Read fault) read old new = ⊥
 FailsWith view Start read old new = ⊥
 FailsWith view Exchanged read old new = ⊥
 FailsWith view _ read old new = ⊤
+
+-- the member whose steps are asked for, where they are one's
+abbrev pub member_of : View → Option ℕ
+member_of (Steps selection) = selection.member
+member_of _ = None
+
+-- that member, where the record's group lacks it
+abbrev pub missing_of : ℕ → Option ℕ → Option ℕ
+missing_of members None = None
+missing_of members (Some member) = if nat_lt members member then Some member else None
+
+abbrev pub lacking : View → Rehearsal → Option ℕ
+lacking view w = missing_of w.setting.members (member_of view)
+
+-- the group lacks this member and has so many
+abbrev pub Lacks : View → ℕ → ℕ → Rehearsal → Type 0
+Lacks view member members w = (lacking view w ≡ Some member) × (members ≡ w.setting.members)
+
+-- the input is no record, or its group lacks the member that is asked for; else the fault is of its steps, of a stream or of memory
+abbrev pub FailsOn : View → ShowFault → List ℕ → Option (List ℕ) → Option (List ℕ) → Type 0
+FailsOn view (NoMember member members) input old new = IsOkAnd (script input) (Lacks view member members)
+FailsOn view (Unread told) input old new = IsToldOf told (read_part input)
+FailsOn view (Program fault) input old new = FailsWith view fault (script input) old new
+
+-- the same of the bytes that were read, before anything is written
+abbrev pub IsOfShowing : View → ShowFault → List ℕ → Type 0
+IsOfShowing view (NoMember member members) bytes = IsOkAnd (script bytes) (Lacks view member members)
+IsOfShowing view (Unread told) bytes = IsToldOf told bytes
+IsOfShowing view (Program fault) bytes = fault ≡ Memory
 
 -- the text and the first refused step are those of the record that was read
 abbrev pub IsAnswerOf : View → Result Rehearsal ReadFault → List ℕ → Option ReplayFault → Type 0
@@ -89,7 +122,9 @@ IsOfReading Memory read = ⊤
 IsOfReading _ read = ⊥
 
 -- a fault that comes before anything is written
-abbrev pub IsQuiet : ProgramFault → Type 0
-IsQuiet (Replay at refusal) = ⊥
-IsQuiet Write = ⊥
-IsQuiet _ = ⊤
+abbrev pub IsQuiet : ShowFault → Type 0
+IsQuiet (NoMember member members) = ⊤
+IsQuiet (Unread told) = ⊤
+IsQuiet (Program (Replay at refusal)) = ⊥
+IsQuiet (Program Write) = ⊥
+IsQuiet (Program _) = ⊤

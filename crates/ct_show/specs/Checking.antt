@@ -8,8 +8,6 @@ use Rattle.ct_names.specs.RefusalText.{refusal_text}
 use Rattle.ct_model.specs.Rehearsal.{Rehearsal}
 use Rattle.ct_records.specs.declared.program_fault.ProgramFault.{ProgramFault}
 use Rattle.ct_records.specs.declared.program_fault.ProgramFault.TheVariants.{Replay, Read, Reader, Write, Memory, Start, Exchanged}
-use Rattle.ct_records.specs.declared.read_fault.ReadFault.{ReadFault}
-use Rattle.ct_records.specs.declared.read_fault.ReadFault.TheVariants.{TooLong, NotJson, Shape, Version, OutOfMemory}
 use Rattle.ct_records.specs.ProgramFault as program
 use Rattle.ct_streams.specs.declared.status.Status.TheVariants as status
 use Rattle.ct_streams.specs.Statuses.{code}
@@ -18,6 +16,8 @@ use Rattle.ct_records.specs.Replay.{IsFaultIn, IsReplayed}
 use Rattle.ct_streams.specs.Streams.{read_part, WritesPart}
 use Rattle.ct_records.specs.Report.{report_text}
 use Rattle.ct_records.specs.Script.{script}
+use Rattle.ct_show.specs.NoRecords.{told_text}
+use Rattle.ct_show.specs.declared.no_record.NoRecord.TheVariants as input
 use Rattle.ct_show.specs.declared.check_options.CheckOptions.{CheckOptions}
 use Rattle.ct_show.specs.declared.checked.Checked.{Checked}
 use Rattle.ct_show.specs.declared.checked.Checked.TheVariants.{Good, OtherReport, NoReport, NoFile, Fault}
@@ -82,16 +82,9 @@ status_of (Fault fault) = program.status_of fault
 
 -- ---- its line
 
-abbrev pub read_fault_text : ReadFault → List ℕ
-read_fault_text TooLong = codes "record: too long"
-read_fault_text NotJson = codes "record: not JSON"
-read_fault_text (Shape at) = codes "record: shape at " ++ decimal at
-read_fault_text Version = codes "record: version"
-read_fault_text OutOfMemory = codes "out of memory"
-
 abbrev pub fault_text : ProgramFault → List ℕ
 fault_text (Replay at refusal) = concat (codes "step " ∷ decimal at ∷ codes ": " ∷ refusal_text refusal ∷ [])
-fault_text (Read fault) = read_fault_text fault
+fault_text (Read fault) = told_text (input.Fault fault)
 fault_text Reader = codes "read failed"
 fault_text Write = codes "write failed"
 fault_text Memory = codes "out of memory"

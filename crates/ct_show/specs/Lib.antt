@@ -4,6 +4,8 @@ pub mod Wires
 pub mod Details
 pub mod Lines
 pub mod Facts
+pub mod NoRecords
+pub mod Faults
 pub mod Answer
 pub mod Line
 pub mod State

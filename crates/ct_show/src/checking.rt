@@ -5,11 +5,12 @@ ghost use Rattle.std.specs.Str.{bytes_eq};
 ghost use Rattle.ct_records.specs.Replay.{IsFaultIn, IsReportOf};
 ghost use Rattle.ct_streams.specs.Streams.{read_part};
 ghost use Rattle.ct_show.specs.Checking.{Checks, ChecksOne, ChecksOnePart, ChecksPart, IsBeside, IsChecked, IsOfRecord};
-ghost use Rattle.ct_show.specs.Checking.{checked_text, fault_text, line_of, read_fault_text, report_name, told};
+ghost use Rattle.ct_show.specs.Checking.{checked_text, fault_text, line_of, report_name, told};
 
 use crate::check_options::CheckOptions;
 use crate::checked::Checked;
-use ct_records::{ProgramFault, ReadFault, run_replay};
+use crate::no_record::NoRecord;
+use ct_records::{ProgramFault, run_replay};
 use ct_streams::{
     Counted, Failed, FileFault, Files, InputFault, Sink, Source, read_all, write_all,
 };
@@ -180,29 +181,20 @@ fn push_told(text: &mut String, name: &str, what: &str) -> Result<(), AllocError
     text.push_str("\n")
 }
 
-// The text of the fault, as it shows itself.
+// The text of the fault.
 fn fault_line(alloc: Global, fault: &ProgramFault) -> Result<String, AllocError>
     ensures { IfOk result (λ text. string_bytes text ≡ fault_text fault.now) }
 {
     match fault {
         ProgramFault::Replay { at, refusal } => format!(in alloc; "step {at}: {refusal}"),
-        ProgramFault::Read(fault) => read_fault_line(alloc, fault),
+        ProgramFault::Read(fault) => {
+            let told = NoRecord::Fault(*fault);
+            format!(in alloc; "{told}")
+        }
         ProgramFault::Reader => format!(in alloc; "read failed"),
         ProgramFault::Write => format!(in alloc; "write failed"),
         ProgramFault::Memory => format!(in alloc; "out of memory"),
         ProgramFault::Start => format!(in alloc; "no thread"),
         ProgramFault::Exchanged => format!(in alloc; "world exchanged"),
-    }
-}
-
-fn read_fault_line(alloc: Global, fault: &ReadFault) -> Result<String, AllocError>
-    ensures { IfOk result (λ text. string_bytes text ≡ read_fault_text fault.now) }
-{
-    match fault {
-        ReadFault::TooLong => format!(in alloc; "record: too long"),
-        ReadFault::NotJson => format!(in alloc; "record: not JSON"),
-        ReadFault::Shape { at } => format!(in alloc; "record: shape at {at}"),
-        ReadFault::Version => format!(in alloc; "record: version"),
-        ReadFault::OutOfMemory => format!(in alloc; "out of memory"),
     }
 }

@@ -1,12 +1,17 @@
 //! A record in, what a view shows of it out.
 
-ghost use Rattle.std.specs.Prelude.{◌≡◌, ◌≢◌, ◌+◌, ◌<◌, ◌^◌, Err, IfOk, IfErr, IfSome, OnOk};
+ghost use Rattle.std.specs.Prelude.{◌≡◌, ◌≢◌, ◌+◌, ◌<◌, ◌^◌, Ok, Err, IfOk, IfErr, IfSome, IsOkAnd, None, OnOk};
 ghost use Rattle.ct_records.specs.Script.{script};
-ghost use Rattle.ct_show.specs.Answer.{Shows, ShowsPart, FailsWith, IsAnswerOf, IsOfReading, IsQuiet};
+ghost use Rattle.ct_records.specs.View.{rehearsal_of};
+ghost use Rattle.ct_show.specs.Answer.{Shows, ShowsPart, FailsOn, IsAnswerOf, IsOfShowing, IsQuiet, lacking};
+ghost use Rattle.ct_show.specs.NoRecords.{IsToldOf};
 
 use crate::answer::{Answer, shown};
+use crate::no_record::NoRecord;
+use crate::show_fault::ShowFault;
 use crate::view::View;
-use ct_records::{ProgramFault, read_record};
+use ct_names::Member;
+use ct_records::{ProgramFault, ReadFault, Script, read_record};
 use ct_streams::{Failed, Sink, Source, read_all, write_all};
 use std::alloc::Global;
 
@@ -18,45 +23,82 @@ pub fn show<R: Source, W: Sink>(
     reader: &mut R,
     writer: &mut W,
     view: &View,
-) -> Result<(), ProgramFault>
+) -> Result<(), ShowFault>
     requires reads { R.failures reader.old < 2 ^ 63 }
     requires writes { W.failures writer.old < 2 ^ 63 }
     // The input is a record whose steps are all allowed, and what was written is what the view shows of it.
     ensures ok { OnOk result (IfSome (R.left reader.old) (λ input.
         Shows view.now (script input) (W.written writer.old) (W.written writer.new))) }
+    // A member whose steps are asked for is one of the record's group.
+    ensures member { OnOk result (IfSome (R.left reader.old) (λ input. IsOkAnd (script input) (λ w. lacking view.now w ≡ None))) }
     ensures fault { IfErr result (λ fault. IfSome (R.left reader.old) (λ input.
-        FailsWith view.now fault (script input) (W.written writer.old) (W.written writer.new))) }
+        FailsOn view.now fault input (W.written writer.old) (W.written writer.new))) }
     // Where the writer failed, some first bytes of what would have been shown were written.
-    ensures part { result ≡ Err ProgramFault.Write → IfSome (R.left reader.old) (λ input.
+    ensures part { result ≡ Err (ShowFault.Program ProgramFault.Write) → IfSome (R.left reader.old) (λ input.
         ShowsPart view.now (script input) (W.written writer.old) (W.written writer.new)) }
     // A stream failed where that is the fault, once, and else not at all.
-    ensures reader { result ≡ Err ProgramFault.Reader → R.failures reader.new ≡ R.failures reader.old + 1 }
-    ensures no_read { result ≢ Err ProgramFault.Reader → R.failures reader.new ≡ R.failures reader.old }
-    ensures writer { result ≡ Err ProgramFault.Write → W.failures writer.new ≡ W.failures writer.old + 1 }
-    ensures no_write { result ≢ Err ProgramFault.Write → W.failures writer.new ≡ W.failures writer.old }
+    ensures reader { result ≡ Err (ShowFault.Program ProgramFault.Reader) → R.failures reader.new ≡ R.failures reader.old + 1 }
+    ensures no_read { result ≢ Err (ShowFault.Program ProgramFault.Reader) → R.failures reader.new ≡ R.failures reader.old }
+    ensures writer { result ≡ Err (ShowFault.Program ProgramFault.Write) → W.failures writer.new ≡ W.failures writer.old + 1 }
+    ensures no_write { result ≢ Err (ShowFault.Program ProgramFault.Write) → W.failures writer.new ≡ W.failures writer.old }
     // Nothing was written but at a refused step, or where the writer failed.
     ensures quiet { IfErr result (λ fault. IsQuiet fault → writer.new ≡ writer.old) }
 {
     let bytes = read_all(alloc, reader)?;
     let answer = answered(alloc, bytes, view)?;
     match write_all(writer, &answer.text) {
-        Err(Failed) => Err(ProgramFault::Write),
+        Err(Failed) => Err(ShowFault::Program(ProgramFault::Write)),
         Ok(()) => match answer.refused {
             None => Ok(()),
-            Some(fault) => Err(ProgramFault::Replay {
+            Some(fault) => Err(ShowFault::Program(ProgramFault::Replay {
                 at: fault.at,
                 refusal: fault.refusal,
-            }),
+            })),
         },
     }
 }
 
 // What the view shows of the record, whose bytes are freed before it is shown.
-fn answered(alloc: Global, bytes: Vec<u8>, view: &View) -> Result<Answer, ProgramFault>
+fn answered(alloc: Global, bytes: Vec<u8>, view: &View) -> Result<Answer, ShowFault>
     ensures ok { IfOk result (λ answer. IsAnswerOf view.now (script bytes.items) answer.text.items answer.refused) }
-    ensures fault { IfErr result (λ fault. IsOfReading fault (script bytes.items)) }
+    ensures member { OnOk result (IsOkAnd (script bytes.items) (λ w. lacking view.now w ≡ None)) }
+    ensures fault { IfErr result (λ fault. IsOfShowing view.now fault bytes.items) }
 {
-    let script = read_record(alloc, &bytes)?;
+    let script = match read_told(alloc, &bytes) {
+        Ok(script) => script,
+        Err(NoRecord::Fault(ReadFault::OutOfMemory)) => {
+            return Err(ShowFault::Program(ProgramFault::Memory));
+        }
+        Err(told) => return Err(ShowFault::Unread(told)),
+    };
     drop(bytes);
-    shown(alloc, &script, view)
+    if let Some(member) = lacking(view, &script) {
+        let members = script.group.n();
+        return Err(ShowFault::NoMember { member, members });
+    }
+    Ok(shown(alloc, &script, view)?)
+}
+
+// The member whose steps are asked for, where the group lacks it.
+fn lacking(view: &View, script: &Script) -> Option<Member>
+    ensures { result ≡ lacking view.now (rehearsal_of script.now) }
+{
+    let member = view.member()?;
+    if script.group.n() < member {
+        Some(member)
+    } else {
+        None
+    }
+}
+
+/// The record, or what is told of the input, which is none.
+#[tactic(auto, using(crate::proofs::Told::told_so))]
+pub fn read_told(alloc: Global, bytes: &[u8]) -> Result<Script, NoRecord>
+    ensures ok { IfOk result (λ found. script bytes.now ≡ Ok (rehearsal_of found)) }
+    ensures err { IfErr result (λ told. IsToldOf told bytes.now) }
+{
+    match read_record(alloc, bytes) {
+        Ok(script) => Ok(script),
+        Err(fault) => Err(NoRecord::of(fault, bytes)),
+    }
 }

@@ -1,6 +1,10 @@
 //! What is shown of a record.
 
+ghost use Rattle.std.specs.Prelude.{◌≡◌};
+ghost use Rattle.ct_show.specs.Answer.{member_of};
+
 use crate::selection::Selection;
+use ct_names::Member;
 
 /// What is shown of a record.
 #[derive(Clone, Copy, Debug, Drop, PartialEq, Eq)]
@@ -13,4 +17,16 @@ pub enum View {
     Steps(Selection),
     /// The state after so many steps, or after all where there are fewer.
     State(u32),
+}
+
+impl View {
+    // The member whose steps are asked for, where they are one's.
+    pub(crate) fn member(&self) -> Option<Member>
+        ensures { result ≡ member_of self.now }
+    {
+        match self {
+            View::Steps(selection) => selection.member,
+            View::Nothing | View::Report | View::State(_) => None,
+        }
+    }
 }

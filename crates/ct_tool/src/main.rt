@@ -12,8 +12,8 @@ use ct_judge::{
 use ct_program::{CommandFault, answer_status};
 use ct_records::ProgramFault;
 use ct_show::{
-    CheckOptions, View, check, check_command, report_command, show, shown_end, state_command,
-    state_view, steps_command, steps_view,
+    CheckOptions, NoRecord, ShowFault, View, check, check_command, report_command, show, shown_end,
+    state_command, state_view, steps_command, steps_view,
 };
 use ct_streams::{Counted, FileFault, Files, NamedFault, Status, WordFault};
 use ct_walk::{Call, FoundSeed, walk_call, walk_command, write_call};
@@ -152,7 +152,7 @@ fn view(rt: &HostRuntime, found: &ArgMatches<'_>, view: Result<View, WordFault<'
     let ended = show(rt.alloc(), &mut reader, &mut writer, &view);
     match shown_end(ended, writer.is_broken()) {
         Ok(()) => ExitCode::SUCCESS,
-        Err(ProgramFault::Reader) => refuse_file(rt, name, FileFault::Read),
+        Err(ShowFault::Program(ProgramFault::Reader)) => refuse_file(rt, name, FileFault::Read),
         Err(fault) => fail(rt, fault, fault.status()),
     }
 }
@@ -175,6 +175,9 @@ fn diagram(rt: &HostRuntime, found: &ArgMatches<'_>) -> ExitCode {
     match drawn_end(ended, writer.is_broken()) {
         Ok(()) => ExitCode::SUCCESS,
         Err(DiagramFault::Program(ProgramFault::Reader)) => refuse_file(rt, name, FileFault::Read),
+        Err(DiagramFault::Program(ProgramFault::Read(fault))) => {
+            fail(rt, NoRecord::Fault(fault), Status::NoRecord.code())
+        }
         Err(fault) => fail(rt, fault, fault.status()),
     }
 }

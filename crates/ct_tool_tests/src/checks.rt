@@ -97,8 +97,8 @@ fn each_fault_has_its_line(rt: HostRuntime) -> Result<(), Fail> {
     ];
     let text = "nowhere: no such file
 none.json: record: not JSON
-shapeless.json: record: shape at 2
-unknown.json: record: version
+shapeless.json: record: step 2 is no step
+unknown.json: record: version 1, 2 or 3 is wanted
 refused.json: step 1: Nothing
 ";
     assert!(rt; is_checked(rt.alloc(), &names, LOUD, text, 4)?);

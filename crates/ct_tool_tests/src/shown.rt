@@ -301,6 +301,7 @@ fn a_refused_record_is_a_fault(rt: HostRuntime) -> Result<(), Fail> {
     let mut writer = Counted::new(Vec::new(rt.alloc()));
     let ended = show(rt.alloc(), &mut reader, &mut writer, &View::Report);
     let refusal = Refusal::NotWaiting;
-    assert_eq!(rt; ended, Err(ProgramFault::Replay { at: 3, refusal }));
+    let refused = ProgramFault::Replay { at: 3, refusal };
+    assert_eq!(rt; ended, Err(ShowFault::Program(refused)));
     Ok(())
 }

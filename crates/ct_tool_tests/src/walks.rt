@@ -169,7 +169,7 @@ fn found_round(
 {
     let found = find(alloc, sought, 1, last)?;
     match &found {
-        Some(world) => Ok(Some(is_in_round(world, wanted))),
+        Some(walk) => Ok(Some(is_in_round(&walk.world, wanted))),
         None => Ok(None),
     }
 }

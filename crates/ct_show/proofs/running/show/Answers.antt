@@ -1,16 +1,15 @@
-use Rattle.std.proofs.Common.{◌≡◌, ℕ, List, Option, Result, Ok, Err}
-use Rattle.std.specs.Prelude.{IfErr, IfSome, IsErrAnd}
-use Rattle.ct_records.specs.declared.program_fault.ProgramFault.{ProgramFault}
-use Rattle.ct_records.specs.Script.{script}
+use Rattle.std.proofs.Common.{◌≡◌, ℕ, List, Option, None, Result, Ok, Err, refl}
+use Rattle.std.specs.Prelude.{IfErr, IfSome, IsErrAnd, IsOkAnd}
+use Rattle.ct_show.specs.declared.show_fault.ShowFault.{ShowFault}
 use Rattle.ct_show.specs.declared.view.View.{View}
-use Rattle.ct_show.specs.Answer.{FailsWith}
-use Rattle.ct_show.proofs.Seen.{fails_seen, part_seen, reading_seen, shows_seen}
+use Rattle.ct_show.specs.Answer.{FailsOn, lacking}
+use Rattle.ct_show.proofs.Seen.{fails_seen, input_seen, part_seen, showing_seen, shows_seen}
 use Rattle.ct_show.proofs.running.show.Goals as goal
 
 -- the fault that is handed on
-handed : {T : Type 0} (r : Result T ProgramFault) (fault : ProgramFault) (left : Option (List ℕ)) (view : View)
-    (old new : Option (List ℕ)) → IsErrAnd r (λ e. e ≡ fault) → IfSome left (λ input. FailsWith view fault (script input) old new) →
-    IfErr r (λ e. IfSome left (λ input. FailsWith view e (script input) old new))
+handed : {T : Type 0} (r : Result T ShowFault) (fault : ShowFault) (left : Option (List ℕ)) (view : View)
+    (old new : Option (List ℕ)) → IsErrAnd r (λ e. e ≡ fault) → IfSome left (λ input. FailsOn view fault input old new) →
+    IfErr r (λ e. IfSome left (λ input. FailsOn view e input old new))
 handed (Ok x) fault left view old new same h = tt
 handed (Err e) fault left view old new same h = rw same h
 
@@ -18,8 +17,14 @@ pub returns-in_err-answer-clause-fault : goal.returns-in_err-answer-clause-fault
 returns-in_err-answer-clause-fault g c =
     handed c.from_residual-in_err-answer.result c.in_err-answer.field-0.0 (g.R.Source.left c.args.reader.now) c.args.view.now
     (g.W.Sink.written c.args.writer.now) _ c.from_residual-in_err-answer.ensures.1
-    (reading_seen (g.R.Source.left c.args.reader.now) c.in_ok-bytes.bytes.items c.args.view.now c.in_ok-bytes.ensures.bytes
-    c.in_err-answer.field-0.0 (g.W.Sink.written c.args.writer.now) _ c.in_err-answer.ensures.fault)
+    (showing_seen (g.R.Source.left c.args.reader.now) c.in_ok-bytes.bytes.items c.args.view.now c.in_err-answer.field-0.0
+    (g.W.Sink.written c.args.writer.now) _ c.in_ok-bytes.ensures.bytes c.in_err-answer.ensures.fault)
+
+pub returns-in-None-clause-member : goal.returns-in-None-clause-member
+returns-in-None-clause-member g c =
+    let bytes = c.in_ok-bytes.bytes.items in
+    input_seen (g.R.Source.left c.args.reader.now) bytes bytes (λ r. IsOkAnd r (λ w. lacking c.args.view.now w ≡ None)) c.in_ok-bytes.ensures.bytes refl
+    c.in_ok-answer.ensures.member
 
 pub returns-in-None-clause-ok : goal.returns-in-None-clause-ok
 returns-in-None-clause-ok g c =
