@@ -2,7 +2,9 @@ use ct_diagram::DiagramFault;
 use ct_judge::*;
 use ct_names::{Limit, Refusal};
 use ct_records::{ProgramFault, ReadFault};
-use ct_walk::WalkFault;
+use ct_show::{NoRecord, ShowFault};
+use ct_streams::{FileFault, NamedFault};
+use ct_walk::{FoundSeed, WalkFault};
 use std::alloc::{AllocError, Global};
 use std::fmt::Display;
 use std::test::Fail;
@@ -130,6 +132,77 @@ fn diagrams_have_lines(alloc: Global) -> bool {
         }
     }
     true
+}
+
+fn shows_have_lines(alloc: Global) -> bool {
+    let faults = [
+        (
+            ShowFault::NoMember {
+                member: 4,
+                members: 3,
+            },
+            "--member 4: the record has members 1 to 3",
+            3,
+        ),
+        (
+            ShowFault::Unread(NoRecord::Schedule),
+            "record: not JSON; this is a schedule: ct_tool record makes a record of it",
+            2,
+        ),
+        (
+            ShowFault::Unread(NoRecord::Fault(ReadFault::Shape { at: 7 })),
+            "record: step 7 is no step",
+            2,
+        ),
+        (ShowFault::Program(ProgramFault::Write), "write failed", 4),
+        (ShowFault::Program(ProgramFault::Memory), "out of memory", 5),
+    ];
+    for (fault, line, status) in faults {
+        if !is_line(alloc, &fault, line) || fault.status() != status {
+            return false;
+        }
+    }
+    true
+}
+
+fn files_have_lines(alloc: Global) -> bool {
+    let faults = [
+        ("run.json", FileFault::Missing, "run.json: no such file"),
+        ("runs", FileFault::Folder, "runs: is a folder"),
+        ("run.json", FileFault::Barred, "run.json: not readable"),
+        ("run.json", FileFault::Read, "run.json: read failed"),
+        ("run.json", FileFault::Write, "run.json: write failed"),
+        ("-", FileFault::Read, "read failed"),
+    ];
+    for (name, fault, line) in faults {
+        if !is_line(alloc, &NamedFault { name, fault }, line) {
+            return false;
+        }
+    }
+    true
+}
+
+fn seeds_have_lines(alloc: Global) -> bool {
+    let found = FoundSeed {
+        seed: 17,
+        steps: 127,
+    };
+    is_line(alloc, &found, "seed 17: 127 steps")
+}
+
+#[test]
+fn faults_of_records_that_are_shown_have_lines(rt: HostRuntime) {
+    assert!(rt; shows_have_lines(rt.alloc()));
+}
+
+#[test]
+fn faults_of_files_have_lines(rt: HostRuntime) {
+    assert!(rt; files_have_lines(rt.alloc()));
+}
+
+#[test]
+fn a_seed_that_is_found_has_a_line(rt: HostRuntime) {
+    assert!(rt; seeds_have_lines(rt.alloc()));
 }
 
 #[test]
