@@ -8,6 +8,7 @@ ghost use Rattle.ct_diagram.specs.Arrows.{arrow_text, first_arrows, arrows};
 
 use crate::drawn::Drawn;
 use crate::grid::{x_of, y_of};
+use crate::window::MOST_STEPS;
 use ct_model::Step;
 use ct_names::{Member, Serial};
 use ct_show::push_serial;
@@ -22,7 +23,7 @@ pub(crate) fn push_arrows(
     later: &[Step],
 ) -> Result<(), AllocError>
     requires after { drawn.from ≤ drawn.number }
-    requires near { drawn.number + length later.now ≤ drawn.from + 399 }
+    requires near { drawn.number + length later.now < drawn.from + MOST_STEPS }
     ensures { OnOk result (string_bytes text.new ≡ string_bytes text.old ++ arrows world.now.rehearsal drawn later.now) }
 {
     let count = world.sent().saturating_sub(drawn.before);
@@ -41,7 +42,7 @@ fn push_arrow(
     later: &[Step],
 ) -> Result<(), AllocError>
     requires after { drawn.from ≤ drawn.number }
-    requires near { drawn.number + length later.now ≤ drawn.from + 399 }
+    requires near { drawn.number + length later.now < drawn.from + MOST_STEPS }
     ensures { OnOk result (string_bytes text.new
         ≡ string_bytes text.old ++ arrow_text world.now.rehearsal serial (letter_at world.now.rehearsal serial) drawn later.now) }
 {
@@ -61,7 +62,7 @@ fn push_drawn(
     later: &[Step],
 ) -> Result<(), AllocError>
     requires after { drawn.from ≤ drawn.number }
-    requires near { drawn.number + length later.now ≤ drawn.from + 399 }
+    requires near { drawn.number + length later.now < drawn.from + MOST_STEPS }
     ensures { OnOk result (string_bytes text.new
         ≡ string_bytes text.old ++ drawn_text world.now.rehearsal serial letter.now drawn later.now) }
 {
@@ -114,7 +115,7 @@ fn push_route(
     later: &[Step],
 ) -> Result<(), AllocError>
     requires after { drawn.from ≤ drawn.number }
-    requires near { drawn.number + length later.now ≤ drawn.from + 399 }
+    requires near { drawn.number + length later.now < drawn.from + MOST_STEPS }
     ensures { OnOk result (string_bytes text.new ≡ string_bytes text.old ++ route_text to (arrival later.now serial) drawn) }
 {
     push_line(text, to, arrival(later, serial), drawn)
@@ -128,8 +129,8 @@ fn push_line(
     drawn: Drawn,
 ) -> Result<(), AllocError>
     requires after { drawn.from ≤ drawn.number }
-    requires near { drawn.number ≤ drawn.from + 399 }
-    requires soon { IfSome arrival (λ wait. drawn.number + 1 + wait ≤ drawn.from + 400) }
+    requires near { drawn.number < drawn.from + MOST_STEPS }
+    requires soon { IfSome arrival (λ wait. drawn.number + 1 + wait ≤ drawn.from + MOST_STEPS) }
     ensures { OnOk result (string_bytes text.new ≡ string_bytes text.old ++ route_text to arrival drawn) }
 {
     let member = drawn.step.member();

@@ -1,6 +1,6 @@
 //! What is drawn of some steps, in three layers.
 
-ghost use Rattle.std.specs.Prelude.{◌≡◌, ◌≤◌, ◌+◌, ◌++◌, [], length, OnOk, string_bytes, if◌then◌else◌};
+ghost use Rattle.std.specs.Prelude.{◌≡◌, ◌≤◌, ◌<◌, ◌+◌, ◌++◌, [], length, OnOk, string_bytes, if◌then◌else◌};
 ghost use Rattle.ct_diagram.specs.Arrows.{arrows};
 ghost use Rattle.ct_diagram.specs.Marks.{marks};
 ghost use Rattle.ct_diagram.specs.Shades.{shades};
@@ -9,7 +9,9 @@ use crate::arrows::push_arrows;
 use crate::drawn::Drawn;
 use crate::marks::push_marks;
 use crate::shades::push_shades;
+use crate::window::MOST_STEPS;
 use ct_model::Step;
+use ct_names::MAX_ENVELOPES;
 use ct_world::World;
 use std::alloc::{AllocError, Global};
 
@@ -40,9 +42,9 @@ impl Canvas {
 
     // Draws the world's last step. The later ones are drawn after it.
     pub fn draw(&mut self, world: &World, drawn: Drawn, later: &[Step]) -> Result<(), AllocError>
-        requires sent { drawn.before ≤ 1000000 }
+        requires sent { drawn.before ≤ MAX_ENVELOPES }
         requires after { drawn.from ≤ drawn.number }
-        requires near { drawn.number + length later.now ≤ drawn.from + 399 }
+        requires near { drawn.number + length later.now < drawn.from + MOST_STEPS }
         ensures shades { OnOk result (string_bytes self.new.shades
             ≡ string_bytes self.old.shades ++ shades world.now.rehearsal drawn) }
         ensures arrows { OnOk result (string_bytes self.new.arrows

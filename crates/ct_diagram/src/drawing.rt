@@ -1,6 +1,6 @@
 //! The diagram of a part of a run.
 
-ghost use Rattle.std.specs.Prelude.{◌≡◌, ◌≤◌, ◌+◌, ◌++◌, length, OnOk, IfOk, IfErr, string_bytes, if◌then◌else◌, []};
+ghost use Rattle.std.specs.Prelude.{◌≡◌, ◌≤◌, ◌<◌, ◌+◌, ◌++◌, length, OnOk, IfOk, IfErr, string_bytes, if◌then◌else◌, []};
 ghost use Rattle.ct_records.specs.Replay.{IsAllowed};
 ghost use Rattle.ct_records.specs.View.{rehearsal_of};
 ghost use Rattle.ct_world.specs.Setup.{record_of};
@@ -36,7 +36,7 @@ pub fn diagram(alloc: Global, script: &Script, window: &Window) -> Result<Vec<u8
 // The frame round what is drawn.
 #[tactic(auto, unfolding(crate::specs::Diagram::framed_text))]
 fn framed(alloc: Global, canvas: &Canvas, n: u8, columns: usize) -> Result<Vec<u8>, AllocError>
-    requires { columns ≤ 400 }
+    requires { columns ≤ MOST_STEPS }
     ensures { IfOk result (λ text. text.items ≡ framed_text n columns
         (string_bytes canvas.now.shades) (string_bytes canvas.now.arrows) (string_bytes canvas.now.marks)) }
 {
@@ -57,7 +57,7 @@ fn drawn(
     steps: &[Step],
     window: &Window,
 ) -> Result<Canvas, DiagramFault>
-    requires narrow { columns window.now steps.now ≤ 400 }
+    requires narrow { columns window.now steps.now ≤ MOST_STEPS }
     ensures allowed { OnOk result (IsAllowed (record_of setup steps.now)) }
     ensures shades { IfOk result (λ canvas. string_bytes canvas.shades ≡ whole_layer shades_layer window.now (record_of setup steps.now)) }
     ensures arrows { IfOk result (λ canvas. string_bytes canvas.arrows ≡ whole_layer arrows_layer window.now (record_of setup steps.now)) }
@@ -82,7 +82,7 @@ fn draw_next(
     later: &[Step],
 ) -> Result<(), AllocError>
     requires sent { done.before ≤ MAX_ENVELOPES }
-    requires near { done.number + length later.now ≤ window.now.from + 399 }
+    requires near { done.number + length later.now < window.now.from + MOST_STEPS }
     ensures shades { OnOk result (string_bytes canvas.new.shades ≡ string_bytes canvas.old.shades
         ++ one_of shades_layer window.now world.now.rehearsal done.before done.number done.step later.now) }
     ensures arrows { OnOk result (string_bytes canvas.new.arrows ≡ string_bytes canvas.old.arrows

@@ -1,10 +1,11 @@
 //! What stands around the steps: how things look, the members' lines, and what the signs mean.
 
-ghost use Rattle.std.specs.Prelude.{◌≡◌, ◌≤◌, ◌++◌, OnOk, string_bytes};
+ghost use Rattle.std.specs.Prelude.{◌≡◌, ◌≤◌, ◌<◌, ◌++◌, OnOk, string_bytes};
 ghost use Rattle.ct_diagram.specs.Frame.{width, sizes_text, head_text, name_text, line_text, lane_text};
 ghost use Rattle.ct_diagram.specs.Frame.{lanes_text, below_text, legend_text, foot_text};
 
 use crate::grid::{COLUMN, FIRST, ROW, x_of, y_of};
+use crate::window::MOST_STEPS;
 use ct_show::{LETTERS, OTHER_LETTERS};
 use std::alloc::AllocError;
 
@@ -77,7 +78,7 @@ const SHADES: &str =
 
 // What stands before the steps: sizes for so many members and columns, and how things look.
 pub(crate) fn push_head(text: &mut String, n: u8, columns: usize) -> Result<(), AllocError>
-    requires { columns ≤ 400 }
+    requires { columns ≤ MOST_STEPS }
     ensures { OnOk result (string_bytes text.new ≡ string_bytes text.old ++ head_text n columns) }
 {
     push_sizes(text, width(columns), ROW * usize::from(n) + 100)?;
@@ -96,7 +97,7 @@ fn push_sizes(text: &mut String, wide: usize, high: usize) -> Result<(), AllocEr
 
 // Room for so many columns, and for what the signs mean.
 fn width(columns: usize) -> usize
-    requires { columns ≤ 400 }
+    requires { columns ≤ MOST_STEPS }
     ensures { result ≡ width columns }
 {
     let wide = FIRST + COLUMN * columns + 30;
@@ -105,7 +106,7 @@ fn width(columns: usize) -> usize
 
 // The members' names and lines.
 pub(crate) fn push_lanes(text: &mut String, n: u8, columns: usize) -> Result<(), AllocError>
-    requires { columns ≤ 400 }
+    requires { columns ≤ MOST_STEPS }
     ensures { OnOk result (string_bytes text.new ≡ string_bytes text.old ++ lanes_text columns n) }
 {
     for i in 0..n {
@@ -115,7 +116,7 @@ pub(crate) fn push_lanes(text: &mut String, n: u8, columns: usize) -> Result<(),
 }
 
 fn push_lane(text: &mut String, member: u8, columns: usize) -> Result<(), AllocError>
-    requires { columns ≤ 400 }
+    requires { columns ≤ MOST_STEPS }
     ensures { OnOk result (string_bytes text.new ≡ string_bytes text.old ++ lane_text columns member) }
 {
     push_name(text, member)?;
@@ -135,7 +136,7 @@ fn push_name(text: &mut String, member: u8) -> Result<(), AllocError>
 
 #[tactic(auto, unfolding(crate::specs::Frame::line_text))]
 fn push_line(text: &mut String, member: u8, columns: usize) -> Result<(), AllocError>
-    requires { columns ≤ 400 }
+    requires { columns ≤ MOST_STEPS }
     ensures { OnOk result (string_bytes text.new ≡ string_bytes text.old ++ line_text columns member) }
 {
     let start = FIRST - COLUMN / 2;

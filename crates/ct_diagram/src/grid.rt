@@ -3,6 +3,7 @@
 ghost use Rattle.std.specs.Prelude.{◌≡◌, ◌≤◌, ◌+◌};
 ghost use Rattle.ct_diagram.specs.Grid.{x_of, y_of};
 
+use crate::window::MOST_STEPS;
 use ct_names::Member;
 
 /// The width of a step's column.
@@ -17,7 +18,7 @@ pub const ROW: usize = 84;
 // The middle of the column of a step, in a diagram that begins with another one.
 pub(crate) fn x_of(from: u32, number: usize) -> usize
     requires after { from ≤ number }
-    requires near { number ≤ from + 400 }
+    requires near { number ≤ from + MOST_STEPS }
     ensures value { result ≡ x_of from number }
     ensures left { 92 ≤ result }
     ensures right { result ≤ 20000 }

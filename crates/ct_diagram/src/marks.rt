@@ -11,17 +11,18 @@ ghost use Rattle.ct_diagram.specs.Marks.{name_text, first_names, names_text, mar
 use crate::arrows::kind_of;
 use crate::drawn::Drawn;
 use crate::grid::{x_of, y_of};
+use crate::window::MOST_STEPS;
 use ct_model::Step;
-use ct_names::Member;
+use ct_names::{MAX_ENVELOPES, Member};
 use ct_show::{instance_of, letter_of, push_detail, push_estimate_of, push_round, round_of};
 use ct_world::{Letter, World};
 use std::alloc::AllocError;
 
 // The mark of the world's last step.
 pub(crate) fn push_marks(text: &mut String, world: &World, drawn: Drawn) -> Result<(), AllocError>
-    requires sent { drawn.before ≤ 1000000 }
+    requires sent { drawn.before ≤ MAX_ENVELOPES }
     requires after { drawn.from ≤ drawn.number }
-    requires near { drawn.number ≤ drawn.from + 400 }
+    requires near { drawn.number ≤ drawn.from + MOST_STEPS }
     ensures { OnOk result (string_bytes text.new ≡ string_bytes text.old ++ marks world.now.rehearsal drawn) }
 {
     let x = x_of(drawn.from, drawn.number);
@@ -36,7 +37,7 @@ fn push_mark(
     x: usize,
     y: usize,
 ) -> Result<(), AllocError>
-    requires sent { drawn.before ≤ 1000000 }
+    requires sent { drawn.before ≤ MAX_ENVELOPES }
     requires low { y ≤ 30000 }
     ensures { OnOk result (string_bytes text.new ≡ string_bytes text.old ++ mark_text world.now.rehearsal drawn x y) }
 {
@@ -56,7 +57,7 @@ fn push_title(
     number: usize,
     step: Step,
 ) -> Result<(), AllocError>
-    requires { before ≤ 1000000 }
+    requires { before ≤ MAX_ENVELOPES }
     ensures { OnOk result (string_bytes text.new ≡ string_bytes text.old ++ title_text world.now.rehearsal before number step) }
 {
     push_who(text, number, step.member())?;

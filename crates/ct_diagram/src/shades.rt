@@ -7,6 +7,7 @@ ghost use Rattle.ct_diagram.specs.Shades.{this_number, number_text, column_text,
 
 use crate::drawn::Drawn;
 use crate::grid::{COLUMN, x_of, y_of};
+use crate::window::MOST_STEPS;
 use ct_model::Phase;
 use ct_names::{Member, Round};
 use ct_world::World;
@@ -15,7 +16,7 @@ use std::alloc::AllocError;
 // What stands behind the world's last step.
 pub(crate) fn push_shades(text: &mut String, world: &World, drawn: Drawn) -> Result<(), AllocError>
     requires after { drawn.from ≤ drawn.number }
-    requires near { drawn.number ≤ drawn.from + 400 }
+    requires near { drawn.number ≤ drawn.from + MOST_STEPS }
     ensures { OnOk result (string_bytes text.new ≡ string_bytes text.old ++ shades world.now.rehearsal drawn) }
 {
     push_column(text, world, drawn.number, x_of(drawn.from, drawn.number))
