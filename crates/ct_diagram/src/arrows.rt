@@ -1,6 +1,7 @@
 //! An arrow for each envelope that is received, and the beginning of one for each other.
 
-ghost use Rattle.std.specs.Prelude.{◌≡◌, ◌≤◌, ◌<◌, ◌+◌, ◌-◌, ◌++◌, length, OnOk, IfSome, string_bytes};
+ghost use Rattle.std.specs.Prelude.{◌≡◌, ◌≤◌, ◌<◌, ◌+◌, ◌-◌, length, OnOk, IfSome};
+ghost use Rattle.ct_records.specs.Adds.{Adds};
 ghost use Rattle.ct_model.specs.Rehearsal.{state_of};
 ghost use Rattle.ct_show.specs.Wires.{letter_at};
 ghost use Rattle.ct_diagram.specs.Arrows.{is_receipt, arrival, reach, stub_end, stub_text, path_text, route_text, kind_of, drawn_text};
@@ -24,7 +25,7 @@ pub(crate) fn push_arrows(
 ) -> Result<(), AllocError>
     requires after { drawn.from ≤ drawn.number }
     requires near { drawn.number + length later.now < drawn.from + MOST_STEPS }
-    ensures { OnOk result (string_bytes text.new ≡ string_bytes text.old ++ arrows world.now.rehearsal drawn later.now) }
+    ensures { OnOk result (Adds text.old text.new (arrows world.now.rehearsal drawn later.now)) }
 {
     let count = world.sent().saturating_sub(drawn.before);
     for k in 0..count {
@@ -43,8 +44,8 @@ fn push_arrow(
 ) -> Result<(), AllocError>
     requires after { drawn.from ≤ drawn.number }
     requires near { drawn.number + length later.now < drawn.from + MOST_STEPS }
-    ensures { OnOk result (string_bytes text.new
-        ≡ string_bytes text.old ++ arrow_text world.now.rehearsal serial (letter_at world.now.rehearsal serial) drawn later.now) }
+    ensures { OnOk result (Adds text.old text.new
+        (arrow_text world.now.rehearsal serial (letter_at world.now.rehearsal serial) drawn later.now)) }
 {
     match world.letter(serial) {
         None => Ok(()),
@@ -63,8 +64,7 @@ fn push_drawn(
 ) -> Result<(), AllocError>
     requires after { drawn.from ≤ drawn.number }
     requires near { drawn.number + length later.now < drawn.from + MOST_STEPS }
-    ensures { OnOk result (string_bytes text.new
-        ≡ string_bytes text.old ++ drawn_text world.now.rehearsal serial letter.now drawn later.now) }
+    ensures { OnOk result (Adds text.old text.new (drawn_text world.now.rehearsal serial letter.now drawn later.now)) }
 {
     let class = kind_of(&letter.wire);
     write!(text, "<path class='{class}")?;
@@ -116,7 +116,7 @@ fn push_route(
 ) -> Result<(), AllocError>
     requires after { drawn.from ≤ drawn.number }
     requires near { drawn.number + length later.now < drawn.from + MOST_STEPS }
-    ensures { OnOk result (string_bytes text.new ≡ string_bytes text.old ++ route_text to (arrival later.now serial) drawn) }
+    ensures { OnOk result (Adds text.old text.new (route_text to (arrival later.now serial) drawn)) }
 {
     push_line(text, to, arrival(later, serial), drawn)
 }
@@ -131,7 +131,7 @@ fn push_line(
     requires after { drawn.from ≤ drawn.number }
     requires near { drawn.number < drawn.from + MOST_STEPS }
     requires soon { IfSome arrival (λ wait. drawn.number + 1 + wait ≤ drawn.from + MOST_STEPS) }
-    ensures { OnOk result (string_bytes text.new ≡ string_bytes text.old ++ route_text to arrival drawn) }
+    ensures { OnOk result (Adds text.old text.new (route_text to arrival drawn)) }
 {
     let member = drawn.step.member();
     let x = x_of(drawn.from, drawn.number);
@@ -155,7 +155,7 @@ fn push_path(
 ) -> Result<(), AllocError>
     requires left { x ≤ 20000 }
     requires right { end ≤ 20000 }
-    ensures { OnOk result (string_bytes text.new ≡ string_bytes text.old ++ path_text to member x end) }
+    ensures { OnOk result (Adds text.old text.new (path_text to member x end)) }
 {
     let y = y_of(member);
     let low = y_of(to);
@@ -172,7 +172,7 @@ fn push_path(
 #[tactic(auto, unfolding(crate::specs::Arrows::stub_text))]
 fn push_stub(text: &mut String, to: Member, member: Member, x: usize) -> Result<(), AllocError>
     requires { x ≤ 20000 }
-    ensures { OnOk result (string_bytes text.new ≡ string_bytes text.old ++ stub_text to member x) }
+    ensures { OnOk result (Adds text.old text.new (stub_text to member x)) }
 {
     let y = y_of(member);
     let end = x + 14;

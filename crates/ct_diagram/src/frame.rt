@@ -1,6 +1,7 @@
 //! What stands around the steps: how things look, the members' lines, and what the signs mean.
 
-ghost use Rattle.std.specs.Prelude.{◌≡◌, ◌≤◌, ◌<◌, ◌++◌, OnOk, string_bytes};
+ghost use Rattle.std.specs.Prelude.{◌≡◌, ◌≤◌, ◌<◌, OnOk};
+ghost use Rattle.ct_records.specs.Adds.{Adds};
 ghost use Rattle.ct_diagram.specs.Frame.{width, sizes_text, head_text, name_text, line_text, lane_text};
 ghost use Rattle.ct_diagram.specs.Frame.{lanes_text, below_text, legend_text, foot_text};
 
@@ -79,7 +80,7 @@ const SHADES: &str =
 // What stands before the steps: sizes for so many members and columns, and how things look.
 pub(crate) fn push_head(text: &mut String, n: u8, columns: usize) -> Result<(), AllocError>
     requires { columns ≤ MOST_STEPS }
-    ensures { OnOk result (string_bytes text.new ≡ string_bytes text.old ++ head_text n columns) }
+    ensures { OnOk result (Adds text.old text.new (head_text n columns)) }
 {
     push_sizes(text, width(columns), ROW * usize::from(n) + 100)?;
     text.push_str(STYLE)
@@ -87,7 +88,7 @@ pub(crate) fn push_head(text: &mut String, n: u8, columns: usize) -> Result<(), 
 
 #[tactic(auto, unfolding(crate::specs::Frame::sizes_text))]
 fn push_sizes(text: &mut String, wide: usize, high: usize) -> Result<(), AllocError>
-    ensures { OnOk result (string_bytes text.new ≡ string_bytes text.old ++ sizes_text wide high) }
+    ensures { OnOk result (Adds text.old text.new (sizes_text wide high)) }
 {
     write!(
         text,
@@ -107,7 +108,7 @@ fn width(columns: usize) -> usize
 // The members' names and lines.
 pub(crate) fn push_lanes(text: &mut String, n: u8, columns: usize) -> Result<(), AllocError>
     requires { columns ≤ MOST_STEPS }
-    ensures { OnOk result (string_bytes text.new ≡ string_bytes text.old ++ lanes_text columns n) }
+    ensures { OnOk result (Adds text.old text.new (lanes_text columns n)) }
 {
     for i in 0..n {
         push_lane(text, i + 1, columns)?;
@@ -117,7 +118,7 @@ pub(crate) fn push_lanes(text: &mut String, n: u8, columns: usize) -> Result<(),
 
 fn push_lane(text: &mut String, member: u8, columns: usize) -> Result<(), AllocError>
     requires { columns ≤ MOST_STEPS }
-    ensures { OnOk result (string_bytes text.new ≡ string_bytes text.old ++ lane_text columns member) }
+    ensures { OnOk result (Adds text.old text.new (lane_text columns member)) }
 {
     push_name(text, member)?;
     push_line(text, member, columns)
@@ -125,7 +126,7 @@ fn push_lane(text: &mut String, member: u8, columns: usize) -> Result<(), AllocE
 
 #[tactic(auto, unfolding(crate::specs::Frame::name_text))]
 fn push_name(text: &mut String, member: u8) -> Result<(), AllocError>
-    ensures { OnOk result (string_bytes text.new ≡ string_bytes text.old ++ name_text member) }
+    ensures { OnOk result (Adds text.old text.new (name_text member)) }
 {
     let low = y_of(member) + 4;
     write!(
@@ -137,7 +138,7 @@ fn push_name(text: &mut String, member: u8) -> Result<(), AllocError>
 #[tactic(auto, unfolding(crate::specs::Frame::line_text))]
 fn push_line(text: &mut String, member: u8, columns: usize) -> Result<(), AllocError>
     requires { columns ≤ MOST_STEPS }
-    ensures { OnOk result (string_bytes text.new ≡ string_bytes text.old ++ line_text columns member) }
+    ensures { OnOk result (Adds text.old text.new (line_text columns member)) }
 {
     let start = FIRST - COLUMN / 2;
     let y = y_of(member);
@@ -147,7 +148,7 @@ fn push_line(text: &mut String, member: u8, columns: usize) -> Result<(), AllocE
 
 // What stands behind the steps: what the signs mean.
 pub(crate) fn push_foot(text: &mut String, n: u8) -> Result<(), AllocError>
-    ensures { OnOk result (string_bytes text.new ≡ string_bytes text.old ++ foot_text n) }
+    ensures { OnOk result (Adds text.old text.new (foot_text n)) }
 {
     push_below(text, ROW * usize::from(n) + 90)?;
     push_legend(text)
@@ -155,7 +156,7 @@ pub(crate) fn push_foot(text: &mut String, n: u8) -> Result<(), AllocError>
 
 #[tactic(auto, unfolding(crate::specs::Frame::legend_text))]
 fn push_legend(text: &mut String) -> Result<(), AllocError>
-    ensures { OnOk result (string_bytes text.new ≡ string_bytes text.old ++ legend_text) }
+    ensures { OnOk result (Adds text.old text.new legend_text) }
 {
     text.push_str(LINES)?;
     write!(
@@ -167,7 +168,7 @@ fn push_legend(text: &mut String) -> Result<(), AllocError>
 
 #[tactic(auto, unfolding(crate::specs::Frame::below_text))]
 fn push_below(text: &mut String, low: usize) -> Result<(), AllocError>
-    ensures { OnOk result (string_bytes text.new ≡ string_bytes text.old ++ below_text low) }
+    ensures { OnOk result (Adds text.old text.new (below_text low)) }
 {
     write!(text, "<g transform='translate(12 {low})'>\n")
 }

@@ -1,6 +1,7 @@
 //! A mark for each step.
 
-ghost use Rattle.std.specs.Prelude.{◌≡◌, ◌≤◌, ◌+◌, ◌++◌, OnOk, string_bytes};
+ghost use Rattle.std.specs.Prelude.{◌≡◌, ◌≤◌, ◌+◌, ◌++◌, OnOk};
+ghost use Rattle.ct_records.specs.Adds.{Adds};
 ghost use Rattle.ct_model.specs.Actor.{actor};
 ghost use Rattle.ct_show.specs.Details.{instance_of, letter_of, round_of};
 ghost use Rattle.ct_show.specs.Wires.{round_text};
@@ -23,7 +24,7 @@ pub(crate) fn push_marks(text: &mut String, world: &World, drawn: Drawn) -> Resu
     requires sent { drawn.before ≤ MAX_ENVELOPES }
     requires after { drawn.from ≤ drawn.number }
     requires near { drawn.number ≤ drawn.from + MOST_STEPS }
-    ensures { OnOk result (string_bytes text.new ≡ string_bytes text.old ++ marks world.now.rehearsal drawn) }
+    ensures { OnOk result (Adds text.old text.new (marks world.now.rehearsal drawn)) }
 {
     let x = x_of(drawn.from, drawn.number);
     push_mark(text, world, drawn, x, y_of(drawn.step.member()))
@@ -39,7 +40,7 @@ fn push_mark(
 ) -> Result<(), AllocError>
     requires sent { drawn.before ≤ MAX_ENVELOPES }
     requires low { y ≤ 30000 }
-    ensures { OnOk result (string_bytes text.new ≡ string_bytes text.old ++ mark_text world.now.rehearsal drawn x y) }
+    ensures { OnOk result (Adds text.old text.new (mark_text world.now.rehearsal drawn x y)) }
 {
     push_note(text, world, drawn.step, x, y)?;
     push_title(text, world, drawn.before, drawn.number, drawn.step)?;
@@ -58,7 +59,7 @@ fn push_title(
     step: Step,
 ) -> Result<(), AllocError>
     requires { before ≤ MAX_ENVELOPES }
-    ensures { OnOk result (string_bytes text.new ≡ string_bytes text.old ++ title_text world.now.rehearsal before number step) }
+    ensures { OnOk result (Adds text.old text.new (title_text world.now.rehearsal before number step)) }
 {
     push_who(text, number, step.member())?;
     push_detail(text, world, before, step)?;
@@ -67,7 +68,7 @@ fn push_title(
 
 #[tactic(auto, unfolding(crate::specs::Marks::who_text))]
 fn push_who(text: &mut String, number: usize, member: Member) -> Result<(), AllocError>
-    ensures { OnOk result (string_bytes text.new ≡ string_bytes text.old ++ who_text number member) }
+    ensures { OnOk result (Adds text.old text.new (who_text number member)) }
 {
     write!(text, "<g><title>step {number}, member {member}: ")
 }
@@ -81,7 +82,7 @@ fn push_sign(
     y: usize,
 ) -> Result<(), AllocError>
     requires { y ≤ 30000 }
-    ensures { OnOk result (string_bytes text.new ≡ string_bytes text.old ++ sign_text world.now.rehearsal drawn.before drawn.step x y) }
+    ensures { OnOk result (Adds text.old text.new (sign_text world.now.rehearsal drawn.before drawn.step x y)) }
 {
     match drawn.step {
         Step::Receive(_, serial) => push_dot(text, kind_at(world.letter(serial)), x, y),
@@ -98,7 +99,7 @@ fn push_sign(
 // A dot in the colour of what is received.
 #[tactic(auto, unfolding(crate::specs::Marks::dot_text))]
 fn push_dot(text: &mut String, kind: &str, x: usize, y: usize) -> Result<(), AllocError>
-    ensures { OnOk result (string_bytes text.new ≡ string_bytes text.old ++ dot_text kind.now x y) }
+    ensures { OnOk result (Adds text.old text.new (dot_text kind.now x y)) }
 {
     write!(text, "<circle class='dot {kind}' cx='{x}' cy='{y}' r='4'/>")
 }
@@ -111,7 +112,7 @@ fn push_lettered(
     y: usize,
 ) -> Result<(), AllocError>
     requires { y ≤ 30000 }
-    ensures { OnOk result (string_bytes text.new ≡ string_bytes text.old ++ (circle_text class.now x y ++ letter_text letter.now x y)) }
+    ensures { OnOk result (Adds text.old text.new ((circle_text class.now x y ++ letter_text letter.now x y))) }
 {
     push_circle(text, class, x, y)?;
     push_letter(text, letter, x, y)
@@ -119,7 +120,7 @@ fn push_lettered(
 
 #[tactic(auto, unfolding(crate::specs::Marks::circle_text))]
 fn push_circle(text: &mut String, class: &str, x: usize, y: usize) -> Result<(), AllocError>
-    ensures { OnOk result (string_bytes text.new ≡ string_bytes text.old ++ circle_text class.now x y) }
+    ensures { OnOk result (Adds text.old text.new (circle_text class.now x y)) }
 {
     write!(text, "<circle class='{class}' cx='{x}' cy='{y}' r='9'/>")
 }
@@ -127,7 +128,7 @@ fn push_circle(text: &mut String, class: &str, x: usize, y: usize) -> Result<(),
 #[tactic(auto, unfolding(crate::specs::Marks::letter_text))]
 fn push_letter(text: &mut String, letter: &str, x: usize, y: usize) -> Result<(), AllocError>
     requires { y ≤ 30000 }
-    ensures { OnOk result (string_bytes text.new ≡ string_bytes text.old ++ letter_text letter.now x y) }
+    ensures { OnOk result (Adds text.old text.new (letter_text letter.now x y)) }
 {
     let low = y + 4;
     write!(text, "<text x='{x}' y='{low}'>{letter}</text>")
@@ -171,7 +172,7 @@ fn push_note(
     y: usize,
 ) -> Result<(), AllocError>
     requires { y ≤ 30000 }
-    ensures { OnOk result (string_bytes text.new ≡ string_bytes text.old ++ note_text world.now.rehearsal step x y) }
+    ensures { OnOk result (Adds text.old text.new (note_text world.now.rehearsal step x y)) }
 {
     match step {
         Step::Enter(member) => push_entered(text, world, member, x, y),
@@ -190,7 +191,7 @@ fn push_entered(
     x: usize,
     y: usize,
 ) -> Result<(), AllocError>
-    ensures { OnOk result (string_bytes text.new ≡ string_bytes text.old ++ entered_text world.now.rehearsal member x y) }
+    ensures { OnOk result (Adds text.old text.new (entered_text world.now.rehearsal member x y)) }
 {
     let high = y.saturating_sub(20);
     write!(text, "<text class='round' x='{x}' y='{high}'>")?;
@@ -199,8 +200,8 @@ fn push_entered(
 }
 
 fn push_round_of(text: &mut String, world: &World, member: Member) -> Result<(), AllocError>
-    ensures { OnOk result (string_bytes text.new ≡ string_bytes text.old
-        ++ round_text (instance_of world.now.rehearsal member) (round_of world.now.rehearsal member)) }
+    ensures { OnOk result (Adds text.old text.new
+        (round_text (instance_of world.now.rehearsal member) (round_of world.now.rehearsal member))) }
 {
     push_round(text, instance_of(world, member), round_of(world, member))
 }
@@ -214,7 +215,7 @@ fn push_changed(
     y: usize,
 ) -> Result<(), AllocError>
     requires { y ≤ 30000 }
-    ensures { OnOk result (string_bytes text.new ≡ string_bytes text.old ++ changed_text world.now.rehearsal member x y) }
+    ensures { OnOk result (Adds text.old text.new (changed_text world.now.rehearsal member x y)) }
 {
     push_falling(text, x, y + 26)?;
     push_estimate_of(text, world, member)?;
@@ -224,7 +225,7 @@ fn push_changed(
 // A text begins here, which falls to the right.
 #[tactic(auto, unfolding(crate::specs::Marks::falling_text))]
 fn push_falling(text: &mut String, x: usize, y: usize) -> Result<(), AllocError>
-    ensures { OnOk result (string_bytes text.new ≡ string_bytes text.old ++ falling_text x y) }
+    ensures { OnOk result (Adds text.old text.new (falling_text x y)) }
 {
     write!(
         text,
@@ -234,7 +235,7 @@ fn push_falling(text: &mut String, x: usize, y: usize) -> Result<(), AllocError>
 
 // The members' names once more, above their lines, at each fortieth step.
 fn push_names(text: &mut String, world: &World, number: usize, x: usize) -> Result<(), AllocError>
-    ensures { OnOk result (string_bytes text.new ≡ string_bytes text.old ++ names_text world.now.rehearsal.setting.members number x) }
+    ensures { OnOk result (Adds text.old text.new (names_text world.now.rehearsal.setting.members number x)) }
 {
     if number % 40 == 0 {
         push_first_names(text, world.group().n(), x)
@@ -244,7 +245,7 @@ fn push_names(text: &mut String, world: &World, number: usize, x: usize) -> Resu
 }
 
 fn push_first_names(text: &mut String, n: u8, x: usize) -> Result<(), AllocError>
-    ensures { OnOk result (string_bytes text.new ≡ string_bytes text.old ++ first_names x n) }
+    ensures { OnOk result (Adds text.old text.new (first_names x n)) }
 {
     for i in 0..n {
         push_name(text, i + 1, x)?;
@@ -254,7 +255,7 @@ fn push_first_names(text: &mut String, n: u8, x: usize) -> Result<(), AllocError
 
 #[tactic(auto, unfolding(crate::specs::Marks::name_text))]
 fn push_name(text: &mut String, member: Member, x: usize) -> Result<(), AllocError>
-    ensures { OnOk result (string_bytes text.new ≡ string_bytes text.old ++ name_text x member) }
+    ensures { OnOk result (Adds text.old text.new (name_text x member)) }
 {
     let high = y_of(member).saturating_sub(28);
     write!(

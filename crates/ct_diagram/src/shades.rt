@@ -1,6 +1,7 @@
 //! What stands behind a step: which round each member is in, who has crashed, and the number of each fifth step.
 
-ghost use Rattle.std.specs.Prelude.{◌≡◌, ◌≤◌, ◌+◌, ◌++◌, OnOk, option_map, string_bytes};
+ghost use Rattle.std.specs.Prelude.{◌≡◌, ◌≤◌, ◌+◌, OnOk, option_map};
+ghost use Rattle.ct_records.specs.Adds.{Adds};
 ghost use Rattle.ct_diagram.specs.Grid.{x_of};
 ghost use Rattle.ct_diagram.specs.Shades.{class_of, round_class, rect_text, shade_text, first_shades, rule_text, digits_text};
 ghost use Rattle.ct_diagram.specs.Shades.{this_number, number_text, column_text, shades};
@@ -17,14 +18,14 @@ use std::alloc::AllocError;
 pub(crate) fn push_shades(text: &mut String, world: &World, drawn: Drawn) -> Result<(), AllocError>
     requires after { drawn.from ≤ drawn.number }
     requires near { drawn.number ≤ drawn.from + MOST_STEPS }
-    ensures { OnOk result (string_bytes text.new ≡ string_bytes text.old ++ shades world.now.rehearsal drawn) }
+    ensures { OnOk result (Adds text.old text.new (shades world.now.rehearsal drawn)) }
 {
     push_column(text, world, drawn.number, x_of(drawn.from, drawn.number))
 }
 
 // The column at this place.
 fn push_column(text: &mut String, world: &World, number: usize, x: usize) -> Result<(), AllocError>
-    ensures { OnOk result (string_bytes text.new ≡ string_bytes text.old ++ column_text world.now.rehearsal number x) }
+    ensures { OnOk result (Adds text.old text.new (column_text world.now.rehearsal number x)) }
 {
     push_first_shades(text, world, x)?;
     push_number(text, world, number, x)
@@ -32,8 +33,7 @@ fn push_column(text: &mut String, world: &World, number: usize, x: usize) -> Res
 
 // The column of each member.
 fn push_first_shades(text: &mut String, world: &World, x: usize) -> Result<(), AllocError>
-    ensures { OnOk result (string_bytes text.new
-        ≡ string_bytes text.old ++ first_shades world.now.rehearsal x world.now.rehearsal.setting.members) }
+    ensures { OnOk result (Adds text.old text.new (first_shades world.now.rehearsal x world.now.rehearsal.setting.members)) }
 {
     let n = world.group().n();
     for i in 0..n {
@@ -73,7 +73,7 @@ fn push_shade(
     x: usize,
     y: usize,
 ) -> Result<(), AllocError>
-    ensures { OnOk result (string_bytes text.new ≡ string_bytes text.old ++ shade_text (option_map (λ c. c.now) class.entry) x y) }
+    ensures { OnOk result (Adds text.old text.new (shade_text (option_map (λ c. c.now) class.entry) x y)) }
 {
     match class {
         None => Ok(()),
@@ -83,7 +83,7 @@ fn push_shade(
 
 #[tactic(auto, unfolding(crate::specs::Shades::rect_text))]
 fn push_rect(text: &mut String, class: &str, x: usize, y: usize) -> Result<(), AllocError>
-    ensures { OnOk result (string_bytes text.new ≡ string_bytes text.old ++ rect_text class.now x y) }
+    ensures { OnOk result (Adds text.old text.new (rect_text class.now x y)) }
 {
     let left = x.saturating_sub(COLUMN / 2);
     let top = y.saturating_sub(16);
@@ -92,8 +92,7 @@ fn push_rect(text: &mut String, class: &str, x: usize, y: usize) -> Result<(), A
 
 // The number of each fifth step, above the members and below them.
 fn push_number(text: &mut String, world: &World, number: usize, x: usize) -> Result<(), AllocError>
-    ensures { OnOk result (string_bytes text.new
-        ≡ string_bytes text.old ++ number_text world.now.rehearsal.setting.members number x) }
+    ensures { OnOk result (Adds text.old text.new (number_text world.now.rehearsal.setting.members number x)) }
 {
     if number % 5 == 0 {
         push_this_number(text, y_of(world.group().n()), number, x)
@@ -105,7 +104,7 @@ fn push_number(text: &mut String, world: &World, number: usize, x: usize) -> Res
 #[tactic(auto, unfolding(crate::specs::Shades::this_number))]
 fn push_this_number(text: &mut String, y: usize, number: usize, x: usize) -> Result<(), AllocError>
     requires { y ≤ 30000 }
-    ensures { OnOk result (string_bytes text.new ≡ string_bytes text.old ++ this_number y number x) }
+    ensures { OnOk result (Adds text.old text.new (this_number y number x)) }
 {
     push_rule(text, x, y)?;
     push_digits(text, number, x, 48)?;
@@ -115,7 +114,7 @@ fn push_this_number(text: &mut String, y: usize, number: usize, x: usize) -> Res
 #[tactic(auto, unfolding(crate::specs::Shades::rule_text))]
 fn push_rule(text: &mut String, x: usize, y: usize) -> Result<(), AllocError>
     requires { y ≤ 30000 }
-    ensures { OnOk result (string_bytes text.new ≡ string_bytes text.old ++ rule_text x y) }
+    ensures { OnOk result (Adds text.old text.new (rule_text x y)) }
 {
     let end = y + 46;
     write!(text, "<path class='grid' d='M{x} 54V{end}'/>\n")
@@ -123,7 +122,7 @@ fn push_rule(text: &mut String, x: usize, y: usize) -> Result<(), AllocError>
 
 #[tactic(auto, unfolding(crate::specs::Shades::digits_text))]
 fn push_digits(text: &mut String, number: usize, x: usize, y: usize) -> Result<(), AllocError>
-    ensures { OnOk result (string_bytes text.new ≡ string_bytes text.old ++ digits_text number x y) }
+    ensures { OnOk result (Adds text.old text.new (digits_text number x y)) }
 {
     write!(
         text,

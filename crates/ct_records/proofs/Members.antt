@@ -124,9 +124,6 @@ SoFar start found now =
     (ms : tree.Members) (all : Members) → ((p : Place) → may_begin p ≡ true → punctuate p (lexemes now) ≡ members_tokens ms)
     → of_members ms found ≡ Some all → members_depth ms ≤ 3 → Closes start all
 
-pub so_far_none : (start : List ℕ) → SoFar start no_members start
-so_far_none start ms all t c s = record { trees = ms; tokens = t; converts = c; shallow = s }
-
 comma_tokens : (after : List Lexeme) → punctuate after_value (comma ∷ after) ≡ punctuate after_comma after
 unfolding punctuate
 comma_tokens after = refl

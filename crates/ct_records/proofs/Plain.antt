@@ -112,10 +112,6 @@ pub opens_object : (bytes rest : List ℕ) → Begins bytes 123 rest → lexemes
 unfolding lex
 opens_object bytes rest h = h.text
 
-pub closes_object : (bytes rest : List ℕ) → Begins bytes 125 rest → lexemes bytes ≡ token end_object ∷ lexemes rest
-unfolding lex
-closes_object bytes rest h = h.text
-
 -- white space, one byte at a time
 are_spaces : (x : ℕ) → is_space x ≡ true → (x ≡ 32) ⊎ ((x ≡ 9) ⊎ ((x ≡ 10) ⊎ (x ≡ 13)))
 are_spaces x h = go (or_cases _ _ h)

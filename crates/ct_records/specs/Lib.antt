@@ -1,3 +1,4 @@
+pub mod Adds
 pub mod Script
 pub mod Gives
 pub mod View

@@ -1,6 +1,7 @@
 //! From a world to its report.
 
-ghost use Rattle.std.specs.Prelude.{◌≡◌, ◌++◌, ◌<◌, [], ◌∷◌, codes, if◌then◌else◌, OnOk, IfOk, IsTrue, string_bytes, slice_index};
+ghost use Rattle.std.specs.Prelude.{◌≡◌, ◌<◌, [], ◌∷◌, codes, if◌then◌else◌, OnOk, IfOk, IsTrue, slice_index};
+ghost use Rattle.ct_records.specs.Adds.{Adds};
 ghost use Rattle.ct_names.specs.Group.{is_member};
 ghost use Rattle.ct_records.specs.Outcome.{IsOutcome};
 ghost use Rattle.ct_records.specs.Report.{line_text, messages_text, decision_text, decisions_text, nonzero, register_text, table_text};
@@ -40,8 +41,7 @@ pub fn report(alloc: Global, world: &World) -> Result<Vec<u8>, AllocError>
 }
 
 fn push_members(text: &mut String, world: &World) -> Result<(), AllocError>
-    ensures { OnOk result (string_bytes text.new
-        ≡ string_bytes text.old ++ first_members world.now.rehearsal world.now.rehearsal.setting.members) }
+    ensures { OnOk result (Adds text.old text.new (first_members world.now.rehearsal world.now.rehearsal.setting.members)) }
 {
     let n = world.group().n();
     for i in 0..n {
@@ -53,7 +53,7 @@ fn push_members(text: &mut String, world: &World) -> Result<(), AllocError>
 #[tactic(auto, unfolding(crate::specs::Report::member_text))]
 fn push_member(text: &mut String, world: &World, member: Member) -> Result<(), AllocError>
     requires { IsTrue (is_member world.now.rehearsal.setting.members member) }
-    ensures { OnOk result (string_bytes text.new ≡ string_bytes text.old ++ member_text world.now.rehearsal member) }
+    ensures { OnOk result (Adds text.old text.new (member_text world.now.rehearsal member)) }
 {
     let Some(outcome) = world.outcome(member) else {
         unreachable!()
@@ -68,7 +68,7 @@ fn push_member(text: &mut String, world: &World, member: Member) -> Result<(), A
 #[tactic(auto, unfolding(crate::specs::Report::standing_text))]
 fn push_standing(text: &mut String, world: &World, member: Member) -> Result<(), AllocError>
     requires { IsTrue (is_member world.now.rehearsal.setting.members member) }
-    ensures { OnOk result (string_bytes text.new ≡ string_bytes text.old ++ standing_text world.now.rehearsal member) }
+    ensures { OnOk result (Adds text.old text.new (standing_text world.now.rehearsal member)) }
 {
     let state = if world.crashed(member) {
         "crashed"
@@ -85,7 +85,7 @@ fn push_standing(text: &mut String, world: &World, member: Member) -> Result<(),
 
 #[tactic(auto, unfolding(crate::specs::Report::line_text))]
 fn push_message_line(text: &mut String, word: &str, messages: &[Message]) -> Result<(), AllocError>
-    ensures { OnOk result (string_bytes text.new ≡ string_bytes text.old ++ line_text word.now (messages_text 32 messages.now)) }
+    ensures { OnOk result (Adds text.old text.new (line_text word.now (messages_text 32 messages.now))) }
 {
     write!(text, "{word} ")?;
     push_messages(text, ' ', messages)?;
@@ -95,8 +95,8 @@ fn push_message_line(text: &mut String, word: &str, messages: &[Message]) -> Res
 #[tactic(auto, unfolding(crate::specs::Report::line_text))]
 fn push_decision_line(text: &mut String, world: &World, member: Member) -> Result<(), AllocError>
     requires { IsTrue (is_member world.now.rehearsal.setting.members member) }
-    ensures { OnOk result (string_bytes text.new ≡ string_bytes text.old
-        ++ line_text (codes "decided") (decisions_text (member_of world.now.rehearsal member).got)) }
+    ensures { OnOk result (Adds text.old text.new
+        (line_text (codes "decided") (decisions_text (member_of world.now.rehearsal member).got))) }
 {
     text.push_str("decided ")?;
     push_decisions(text, world, member)?;
@@ -110,7 +110,7 @@ pub fn push_messages(
     messages: &[Message],
 ) -> Result<(), AllocError>
     requires { separator < 128 }
-    ensures { OnOk result (string_bytes text.new ≡ string_bytes text.old ++ messages_text separator messages.now) }
+    ensures { OnOk result (Adds text.old text.new (messages_text separator messages.now)) }
 {
     if messages.is_empty() {
         return text.push('-');
@@ -125,7 +125,7 @@ pub fn push_messages(
 /// Appends the decisions that a member of the group got, with spaces; a dash where there are none.
 pub fn push_decisions(text: &mut String, world: &World, member: Member) -> Result<(), AllocError>
     requires { IsTrue (is_member world.now.rehearsal.setting.members member) }
-    ensures { OnOk result (string_bytes text.new ≡ string_bytes text.old ++ decisions_text (member_of world.now.rehearsal member).got) }
+    ensures { OnOk result (Adds text.old text.new (decisions_text (member_of world.now.rehearsal member).got)) }
 {
     let last = world.last_decided(member).unwrap_or(0);
     let mut later = false;
@@ -145,7 +145,7 @@ fn push_decision(
     instance: Instance,
     messages: &[Message],
 ) -> Result<(), AllocError>
-    ensures { OnOk result (string_bytes text.new ≡ string_bytes text.old ++ decision_text instance messages.now) }
+    ensures { OnOk result (Adds text.old text.new (decision_text instance messages.now)) }
 {
     write!(text, "{instance}:")?;
     push_messages(text, ',', messages)
@@ -153,7 +153,7 @@ fn push_decision(
 
 #[tactic(auto, unfolding(crate::specs::Report::line_text))]
 fn push_table_line(text: &mut String, table: &Table) -> Result<(), AllocError>
-    ensures { OnOk result (string_bytes text.new ≡ string_bytes text.old ++ line_text (codes "table") (table_text table.now)) }
+    ensures { OnOk result (Adds text.old text.new (line_text (codes "table") (table_text table.now))) }
 {
     text.push_str("table ")?;
     push_table(text, table)?;
@@ -162,7 +162,7 @@ fn push_table_line(text: &mut String, table: &Table) -> Result<(), AllocError>
 
 /// Appends the registers of the table that aren't 0, with spaces; a dash where there are none.
 pub fn push_table(text: &mut String, table: &Table) -> Result<(), AllocError>
-    ensures { OnOk result (string_bytes text.new ≡ string_bytes text.old ++ table_text table.now) }
+    ensures { OnOk result (Adds text.old text.new (table_text table.now)) }
 {
     let mut later = false;
     for register in 0..16u8 {
@@ -185,14 +185,14 @@ fn value_of(table: &Table, register: u8) -> Option<u64>
 
 #[tactic(auto, unfolding(crate::specs::Report::register_text))]
 fn push_register(text: &mut String, register: u8, value: u64) -> Result<(), AllocError>
-    ensures { OnOk result (string_bytes text.new ≡ string_bytes text.old ++ register_text register value) }
+    ensures { OnOk result (Adds text.old text.new (register_text register value)) }
 {
     write!(text, "{register}={value}")
 }
 
 // A dash where no piece stands before.
 fn push_dash(text: &mut String, later: bool) -> Result<(), AllocError>
-    ensures { OnOk result (string_bytes text.new ≡ string_bytes text.old ++ (if later then [] else (45 ∷ []))) }
+    ensures { OnOk result (Adds text.old text.new ((if later then [] else (45 ∷ [])))) }
 {
     if later { Ok(()) } else { text.push('-') }
 }

@@ -1,6 +1,7 @@
 //! From a world to the text of its record.
 
-ghost use Rattle.std.specs.Prelude.{◌≡◌, ◌++◌, Ok, OnOk, IfOk, string_bytes};
+ghost use Rattle.std.specs.Prelude.{◌≡◌, Ok, OnOk, IfOk};
+ghost use Rattle.ct_records.specs.Adds.{Adds};
 ghost use Rattle.ct_model.specs.StepText.{step_text};
 ghost use Rattle.ct_records.specs.Fits.{StepFits, AllFit, IsStorable};
 ghost use Rattle.ct_records.specs.Script.{script};
@@ -40,7 +41,7 @@ fn record_bytes(alloc: Global, world: &World) -> Result<Vec<u8>, AllocError>
 }
 
 pub(crate) fn push_steps(text: &mut String, steps: &[Step]) -> Result<(), AllocError>
-    ensures text { OnOk result (string_bytes text.new ≡ string_bytes text.old ++ steps_text steps.now) }
+    ensures text { OnOk result (Adds text.old text.new (steps_text steps.now)) }
     ensures fit { OnOk result (AllFit steps.now) }
 {
     for (i, step) in steps.iter().enumerate() {
@@ -51,7 +52,7 @@ pub(crate) fn push_steps(text: &mut String, steps: &[Step]) -> Result<(), AllocE
 }
 
 fn push_step(text: &mut String, step: Step) -> Result<(), AllocError>
-    ensures text { OnOk result (string_bytes text.new ≡ string_bytes text.old ++ step_text step) }
+    ensures text { OnOk result (Adds text.old text.new (step_text step)) }
     ensures fits { StepFits step }
 {
     write!(text, "{step}")

@@ -32,9 +32,6 @@ part_more : (old mid new : Option (List ℕ)) (bs cs : List ℕ) → Appends old
 part_more old mid new bs cs a b =
     (length bs + b.0, subst (Appends old new) (take_past b.0 bs cs) (appends_more old mid new bs (take b.0 cs) a b.1))
 
-pub part_none : (old : Option (List ℕ)) (text : List ℕ) → WritesPart old old text
-part_none old text = (0, appends_none old)
-
 -- ---- one more file
 
 abbrev worse : ℕ → Checked → ℕ

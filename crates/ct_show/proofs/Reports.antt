@@ -55,41 +55,6 @@ of_memory : (known : Option (List ℕ)) → IfSome known (IsFaultIn Memory)
 of_memory None = tt
 of_memory (Some input) = tt
 
--- what comparing the report with the one beside it comes to is what checking the file comes to
-pub beside_checked : (bytes : Known) (name report : List ℕ) (checked : Checked) → IfSome (bytes name) (λ input. IsReportOf input report) →
-    IsBeside (bytes (report_name name)) report checked → IsChecked bytes true name checked
-beside_checked bytes name report Good h beside =
-    known_with (bytes name) report (λ text. IfSome (bytes (report_name name)) (λ expected. text ≡ read_part expected)) h beside
-beside_checked bytes name report OtherReport h beside =
-    (refl, known_with (bytes name) report (λ text. IfSome (bytes (report_name name)) (λ expected. text ≢ read_part expected)) h beside)
-beside_checked bytes name report (NoReport fault) h beside = (refl, known_at_all (bytes name) report h)
-beside_checked bytes name report (NoFile fault) h beside = absurd beside
-beside_checked bytes name report (Fault fault) h beside =
-    subst (λ f. IsOfRecord f × IfSome (bytes name) (IsFaultIn f)) (sym beside) (tt, of_memory (bytes name))
-
-pub good_checked : (bytes : Known) (name report : List ℕ) → IfSome (bytes name) (λ input. IsReportOf input report) →
-    IsChecked bytes false name Good
-good_checked bytes name report h = known_with (bytes name) report (λ text. ⊤) h tt
-
--- the report beside it was read
-pub same_beside : (known left : Option (List ℕ)) (report items : List ℕ) → IfSome known (λ all. left ≡ Some all) →
-    IfSome left (λ input. items ≡ read_part input) → bytes_eq report items ≡ true → IsBeside known report Good
-same_beside known left report items opened h same =
-    carried (λ expected. report ≡ read_part expected) known left opened (go left h)
-  where
-    go : (l : Option (List ℕ)) → IfSome l (λ input. items ≡ read_part input) → IfSome l (λ input. report ≡ read_part input)
-    go None h = tt
-    go (Some input) h = (bytes_eq-Decides report items).0 same ∙ h
-
-pub other_beside : (known left : Option (List ℕ)) (report items : List ℕ) → IfSome known (λ all. left ≡ Some all) →
-    IfSome left (λ input. items ≡ read_part input) → report ≢ items → IsBeside known report OtherReport
-other_beside known left report items opened h other =
-    carried (λ expected. report ≢ read_part expected) known left opened (go left h)
-  where
-    go : (l : Option (List ℕ)) → IfSome l (λ input. items ≡ read_part input) → IfSome l (λ input. report ≢ read_part input)
-    go None h = tt
-    go (Some input) h = λ same. other (same ∙ sym h)
-
 -- a name that doesn't end with `.json`
 other_end : (name : List ℕ) → ((front : List ℕ) → name ≢ front ++ codes ".json") → is_json name ≡ false
 other_end name other = go (is_json name) refl

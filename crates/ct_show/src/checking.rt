@@ -1,7 +1,8 @@
 //! Which of several files have records with a fault.
 
-ghost use Rattle.std.specs.Prelude.{◌≡◌, ◌≢◌, ◌⊎◌, ◌+◌, ◌<◌, ◌^◌, ◌++◌, Err, map, OnOk, OnErr, IfOk, IfErr, IfSome, string_bytes};
+ghost use Rattle.std.specs.Prelude.{◌≡◌, ◌≢◌, ◌⊎◌, ◌+◌, ◌<◌, ◌^◌, Err, map, OnOk, OnErr, IfOk, IfErr, IfSome, string_bytes};
 ghost use Rattle.std.specs.Str.{bytes_eq};
+ghost use Rattle.ct_records.specs.Adds.{Adds};
 ghost use Rattle.ct_records.specs.Replay.{IsFaultIn, IsReportOf};
 ghost use Rattle.ct_streams.specs.Streams.{read_part};
 ghost use Rattle.ct_show.specs.Checking.{Checks, ChecksOne, ChecksOnePart, ChecksPart, IsBeside, IsChecked, IsOfRecord};
@@ -157,7 +158,7 @@ fn push_checked(
     name: &str,
     checked: &Checked,
 ) -> Result<(), AllocError>
-    ensures { OnOk result (string_bytes text.new ≡ string_bytes text.old ++ checked_text name.now checked.now) }
+    ensures { OnOk result (Adds text.old text.new (checked_text name.now checked.now)) }
 {
     match checked {
         Checked::Good => Ok(()),
@@ -173,7 +174,7 @@ fn push_checked(
 
 // The line that tells this of the file of this name.
 fn push_told(text: &mut String, name: &str, what: &str) -> Result<(), AllocError>
-    ensures { OnOk result (string_bytes text.new ≡ string_bytes text.old ++ told name.now what.now) }
+    ensures { OnOk result (Adds text.old text.new (told name.now what.now)) }
 {
     text.push_str(name)?;
     text.push_str(": ")?;

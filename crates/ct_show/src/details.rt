@@ -1,6 +1,7 @@
 //! What a step read, and what it came to, shown. The world is the one after the step.
 
-ghost use Rattle.std.specs.Prelude.{◌≡◌, ◌≤◌, ◌++◌, OnOk, string_bytes};
+ghost use Rattle.std.specs.Prelude.{◌≡◌, ◌≤◌, OnOk};
+ghost use Rattle.ct_records.specs.Adds.{Adds};
 ghost use Rattle.ct_show.specs.Details.{instance_of, round_of, coordinator_of, coordinator_text, estimate_of};
 ghost use Rattle.ct_show.specs.Details.{estimate_alone, size_of, message_of, message_in, submit_text, begin_text};
 ghost use Rattle.ct_show.specs.Details.{enter_text, choose_text, adopt_text, suspect_text, decision_text};
@@ -9,7 +10,7 @@ ghost use Rattle.ct_show.specs.Details.{acks_text, conclude_text, batch_text, de
 use crate::shapes::{push_call, push_estimate, push_set, push_value};
 use crate::wires::{push_round, push_serial};
 use ct_model::Step;
-use ct_names::{Command, Instance, Member, MemberSet, Round, Serial};
+use ct_names::{Command, Instance, MAX_ENVELOPES, Member, MemberSet, Round, Serial};
 use ct_world::{Letter, Wire, World};
 use std::alloc::AllocError;
 
@@ -20,8 +21,8 @@ pub fn push_detail(
     before: u32,
     step: Step,
 ) -> Result<(), AllocError>
-    requires { before ≤ 1000000 }
-    ensures { OnOk result (string_bytes text.new ≡ string_bytes text.old ++ detail_text world.now.rehearsal before step) }
+    requires { before ≤ MAX_ENVELOPES }
+    ensures { OnOk result (Adds text.old text.new (detail_text world.now.rehearsal before step)) }
 {
     match step {
         Step::Submit(_, command) => push_submit(text, world, before, command),
@@ -78,7 +79,7 @@ fn push_letter_step(
     world: &World,
     serial: Serial,
 ) -> Result<(), AllocError>
-    ensures { OnOk result (string_bytes text.new ≡ string_bytes text.old ++ letter_step name.now world.now.rehearsal serial) }
+    ensures { OnOk result (Adds text.old text.new (letter_step name.now world.now.rehearsal serial)) }
 {
     text.push_str(name)?;
     push_serial(text, world, serial)
@@ -125,7 +126,7 @@ fn size_of(set: Option<MemberSet>) -> u8
 /// A member's estimate and ts; nothing where it has none.
 #[tactic(auto, unfolding(crate::specs::Details::estimate_of))]
 pub fn push_estimate_of(text: &mut String, world: &World, member: Member) -> Result<(), AllocError>
-    ensures { OnOk result (string_bytes text.new ≡ string_bytes text.old ++ estimate_of world.now.rehearsal member) }
+    ensures { OnOk result (Adds text.old text.new (estimate_of world.now.rehearsal member)) }
 {
     push_estimate(text, world.estimate(member))
 }
@@ -133,14 +134,14 @@ pub fn push_estimate_of(text: &mut String, world: &World, member: Member) -> Res
 // The member's estimate alone.
 #[tactic(auto, unfolding(crate::specs::Details::estimate_alone))]
 fn push_estimate_alone(text: &mut String, world: &World, member: Member) -> Result<(), AllocError>
-    ensures { OnOk result (string_bytes text.new ≡ string_bytes text.old ++ estimate_alone world.now.rehearsal member) }
+    ensures { OnOk result (Adds text.old text.new (estimate_alone world.now.rehearsal member)) }
 {
     push_value(text, world.estimate(member))
 }
 
 // A message and a sign, where the envelope carries a message.
 fn push_message(text: &mut String, letter: Option<Letter>) -> Result<(), AllocError>
-    ensures { OnOk result (string_bytes text.new ≡ string_bytes text.old ++ message_in letter) }
+    ensures { OnOk result (Adds text.old text.new (message_in letter)) }
 {
     match letter {
         None => Ok(()),
@@ -149,7 +150,7 @@ fn push_message(text: &mut String, letter: Option<Letter>) -> Result<(), AllocEr
 }
 
 fn push_message_of(text: &mut String, wire: &Wire) -> Result<(), AllocError>
-    ensures { OnOk result (string_bytes text.new ≡ string_bytes text.old ++ message_of wire.now) }
+    ensures { OnOk result (Adds text.old text.new (message_of wire.now)) }
 {
     match *wire {
         Wire::Data(message) => write!(text, "{message} = "),
@@ -164,8 +165,8 @@ fn push_submit(
     before: u32,
     command: Command,
 ) -> Result<(), AllocError>
-    requires { before ≤ 1000000 }
-    ensures { OnOk result (string_bytes text.new ≡ string_bytes text.old ++ submit_text world.now.rehearsal before command) }
+    requires { before ≤ MAX_ENVELOPES }
+    ensures { OnOk result (Adds text.old text.new (submit_text world.now.rehearsal before command)) }
 {
     text.push_str("submit   ")?;
     push_message(text, world.letter(before + 1))?;
@@ -174,7 +175,7 @@ fn push_submit(
 
 #[tactic(auto, unfolding(crate::specs::Details::begin_text))]
 fn push_begin(text: &mut String, world: &World, member: Member) -> Result<(), AllocError>
-    ensures { OnOk result (string_bytes text.new ≡ string_bytes text.old ++ begin_text world.now.rehearsal member) }
+    ensures { OnOk result (Adds text.old text.new (begin_text world.now.rehearsal member)) }
 {
     let instance = instance_of(world, member);
     write!(text, "begin    instance {instance} proposes ")?;
@@ -183,14 +184,14 @@ fn push_begin(text: &mut String, world: &World, member: Member) -> Result<(), Al
 
 #[tactic(auto, unfolding(crate::specs::Details::coordinator_text))]
 pub(crate) fn push_coordinator(text: &mut String, coordinator: Member) -> Result<(), AllocError>
-    ensures { OnOk result (string_bytes text.new ≡ string_bytes text.old ++ coordinator_text coordinator) }
+    ensures { OnOk result (Adds text.old text.new (coordinator_text coordinator)) }
 {
     write!(text, ", coordinator {coordinator}")
 }
 
 #[tactic(auto, unfolding(crate::specs::Details::enter_text))]
 fn push_enter(text: &mut String, world: &World, member: Member) -> Result<(), AllocError>
-    ensures { OnOk result (string_bytes text.new ≡ string_bytes text.old ++ enter_text world.now.rehearsal member) }
+    ensures { OnOk result (Adds text.old text.new (enter_text world.now.rehearsal member)) }
 {
     let instance = instance_of(world, member);
     let round = round_of(world, member);
@@ -207,7 +208,7 @@ fn push_choose(
     member: Member,
     from: Member,
 ) -> Result<(), AllocError>
-    ensures { OnOk result (string_bytes text.new ≡ string_bytes text.old ++ choose_text world.now.rehearsal member from) }
+    ensures { OnOk result (Adds text.old text.new (choose_text world.now.rehearsal member from)) }
 {
     write!(text, "choose   estimate of {from}: ")?;
     push_estimate(text, world.heard_from(member, from))
@@ -215,7 +216,7 @@ fn push_choose(
 
 #[tactic(auto, unfolding(crate::specs::Details::adopt_text))]
 fn push_adopt(text: &mut String, world: &World, member: Member) -> Result<(), AllocError>
-    ensures { OnOk result (string_bytes text.new ≡ string_bytes text.old ++ adopt_text world.now.rehearsal member) }
+    ensures { OnOk result (Adds text.old text.new (adopt_text world.now.rehearsal member)) }
 {
     text.push_str("adopt    ")?;
     push_estimate_of(text, world, member)
@@ -223,7 +224,7 @@ fn push_adopt(text: &mut String, world: &World, member: Member) -> Result<(), Al
 
 #[tactic(auto, unfolding(crate::specs::Details::suspect_text))]
 fn push_suspect(text: &mut String, world: &World, member: Member) -> Result<(), AllocError>
-    ensures { OnOk result (string_bytes text.new ≡ string_bytes text.old ++ suspect_text world.now.rehearsal member) }
+    ensures { OnOk result (Adds text.old text.new (suspect_text world.now.rehearsal member)) }
 {
     let coordinator = coordinator_of(world, member);
     write!(text, "suspect  member {coordinator}; keeps ")?;
@@ -238,7 +239,7 @@ fn push_decision(
     before: u32,
     member: Member,
 ) -> Result<(), AllocError>
-    ensures { OnOk result (string_bytes text.new ≡ string_bytes text.old ++ decision_text world.now.rehearsal before member) }
+    ensures { OnOk result (Adds text.old text.new (decision_text world.now.rehearsal before member)) }
 {
     if world.sent() == before {
         return text.push_str(": no decision");
@@ -255,7 +256,7 @@ pub(crate) fn push_acks(
     world: &World,
     member: Member,
 ) -> Result<(), AllocError>
-    ensures { OnOk result (string_bytes text.new ≡ string_bytes text.old ++ acks_text word.now world.now.rehearsal member) }
+    ensures { OnOk result (Adds text.old text.new (acks_text word.now world.now.rehearsal member)) }
 {
     let acks = size_of(world.acked(member));
     let replies = size_of(world.replied(member));
@@ -269,7 +270,7 @@ fn push_conclude(
     before: u32,
     member: Member,
 ) -> Result<(), AllocError>
-    ensures { OnOk result (string_bytes text.new ≡ string_bytes text.old ++ conclude_text world.now.rehearsal before member) }
+    ensures { OnOk result (Adds text.old text.new (conclude_text world.now.rehearsal before member)) }
 {
     push_acks(text, "conclude", world, member)?;
     push_decision(text, world, before, member)
@@ -277,7 +278,7 @@ fn push_conclude(
 
 #[tactic(auto, unfolding(crate::specs::Details::batch_text))]
 fn push_batch(text: &mut String, world: &World, instance: Instance) -> Result<(), AllocError>
-    ensures { OnOk result (string_bytes text.new ≡ string_bytes text.old ++ batch_text world.now.rehearsal instance) }
+    ensures { OnOk result (Adds text.old text.new (batch_text world.now.rehearsal instance)) }
 {
     push_set(text, world.batch(instance).unwrap_or(&[]))
 }
@@ -290,7 +291,7 @@ fn push_delivery(
     world: &World,
     member: Member,
 ) -> Result<(), AllocError>
-    ensures { OnOk result (string_bytes text.new ≡ string_bytes text.old ++ delivery_text name.now world.now.rehearsal member) }
+    ensures { OnOk result (Adds text.old text.new (delivery_text name.now world.now.rehearsal member)) }
 {
     let instance = instance_of(world, member);
     write!(text, "{name}instance {instance}: ")?;

@@ -1,6 +1,7 @@
 //! The line of a refused step, with the facts behind the refusal. The world is the one before the step.
 
-ghost use Rattle.std.specs.Prelude.{◌≡◌, ◌++◌, length, Some, OnOk, option_map, string_bytes};
+ghost use Rattle.std.specs.Prelude.{◌≡◌, length, Some, OnOk, option_map};
+ghost use Rattle.ct_records.specs.Adds.{Adds};
 ghost use Rattle.ct_show.specs.Facts.{heard_text, first_heard, phase_in};
 ghost use Rattle.ct_show.specs.Facts.{led_text, place_in, votes_text, part_text, member_facts};
 ghost use Rattle.ct_show.specs.Facts.{takes, returns, taking_or, last_taking, left_in, left_text, leaving_text};
@@ -24,7 +25,7 @@ pub(crate) fn push_refused(
     step: Step,
     refusal: Refusal,
 ) -> Result<(), AllocError>
-    ensures { OnOk result (string_bytes text.new ≡ string_bytes text.old ++ refused_text world.now.rehearsal number step refusal) }
+    ensures { OnOk result (Adds text.old text.new (refused_text world.now.rehearsal number step refusal)) }
 {
     push_head(text, number, step.member())?;
     write!(text, "{step}  REFUSED {refusal}: ")?;
@@ -39,7 +40,7 @@ pub fn push_facts(
     step: Step,
     refusal: Refusal,
 ) -> Result<(), AllocError>
-    ensures { OnOk result (string_bytes text.new ≡ string_bytes text.old ++ facts_text world.now.rehearsal step refusal) }
+    ensures { OnOk result (Adds text.old text.new (facts_text world.now.rehearsal step refusal)) }
 {
     match step {
         Step::Receive(_, serial) => push_serial_facts(text, world, serial, refusal),
@@ -58,7 +59,7 @@ fn push_serial_facts(
     serial: Serial,
     refusal: Refusal,
 ) -> Result<(), AllocError>
-    ensures { OnOk result (string_bytes text.new ≡ string_bytes text.old ++ serial_facts world.now.rehearsal serial refusal) }
+    ensures { OnOk result (Adds text.old text.new (serial_facts world.now.rehearsal serial refusal)) }
 {
     push_letter_facts(text, world, serial, world.letter(serial), refusal)
 }
@@ -70,8 +71,7 @@ fn push_letter_facts(
     letter: Option<Letter>,
     refusal: Refusal,
 ) -> Result<(), AllocError>
-    ensures { OnOk result (string_bytes text.new
-        ≡ string_bytes text.old ++ letter_facts world.now.rehearsal serial letter refusal) }
+    ensures { OnOk result (Adds text.old text.new (letter_facts world.now.rehearsal serial letter refusal)) }
 {
     match letter {
         None => push_missing(text, world, serial),
@@ -86,7 +86,7 @@ fn push_letter_facts(
 // How many envelopes were sent, where there is none of the serial.
 #[tactic(auto, unfolding(crate::specs::Facts::missing_text))]
 fn push_missing(text: &mut String, world: &World, serial: Serial) -> Result<(), AllocError>
-    ensures { OnOk result (string_bytes text.new ≡ string_bytes text.old ++ missing_text world.now.rehearsal serial) }
+    ensures { OnOk result (Adds text.old text.new (missing_text world.now.rehearsal serial)) }
 {
     let sent = world.sent();
     write!(text, "#{serial} was not sent: {sent} envelopes were")
@@ -94,7 +94,7 @@ fn push_missing(text: &mut String, world: &World, serial: Serial) -> Result<(), 
 
 // Where an envelope to the member is, as far as the refusal tells.
 fn push_place(text: &mut String, to: Member, refusal: Refusal) -> Result<(), AllocError>
-    ensures { OnOk result (string_bytes text.new ≡ string_bytes text.old ++ place_text to refusal) }
+    ensures { OnOk result (Adds text.old text.new (place_text to refusal)) }
 {
     match refusal {
         Refusal::NotSent => write!(text, " went to member {to}"),
@@ -110,7 +110,7 @@ fn push_leaving(
     serial: Serial,
     refusal: Refusal,
 ) -> Result<(), AllocError>
-    ensures { OnOk result (string_bytes text.new ≡ string_bytes text.old ++ leaving_text world.now.rehearsal serial refusal) }
+    ensures { OnOk result (Adds text.old text.new (leaving_text world.now.rehearsal serial refusal)) }
 {
     match refusal {
         Refusal::NotWaiting => push_left(text, last_taking(world.record(), serial)),
@@ -119,7 +119,7 @@ fn push_leaving(
 }
 
 fn push_left(text: &mut String, taking: Option<(usize, Step)>) -> Result<(), AllocError>
-    ensures { OnOk result (string_bytes text.new ≡ string_bytes text.old ++ left_text taking) }
+    ensures { OnOk result (Adds text.old text.new (left_text taking)) }
 {
     match taking {
         None => Ok(()),
@@ -129,7 +129,7 @@ fn push_left(text: &mut String, taking: Option<(usize, Step)>) -> Result<(), All
 
 #[tactic(auto, unfolding(crate::specs::Facts::left_in))]
 fn push_left_in(text: &mut String, number: usize, step: Step) -> Result<(), AllocError>
-    ensures { OnOk result (string_bytes text.new ≡ string_bytes text.old ++ left_in (number, step)) }
+    ensures { OnOk result (Adds text.old text.new (left_in (number, step))) }
 {
     write!(text, ", left in step {number} {step}")
 }
@@ -183,7 +183,7 @@ fn returns(step: Step, serial: Serial) -> bool
 /// Appends where a member stands.
 #[tactic(auto, unfolding(crate::specs::Facts::member_facts))]
 pub fn push_member_facts(text: &mut String, world: &World, member: Member) -> Result<(), AllocError>
-    ensures { OnOk result (string_bytes text.new ≡ string_bytes text.old ++ member_facts world.now.rehearsal member) }
+    ensures { OnOk result (Adds text.old text.new (member_facts world.now.rehearsal member)) }
 {
     let instance = instance_of(world, member);
     write!(text, "instance {instance}")?;
@@ -196,7 +196,7 @@ fn push_part(
     member: Member,
     round: Option<(Round, Phase)>,
 ) -> Result<(), AllocError>
-    ensures { OnOk result (string_bytes text.new ≡ string_bytes text.old ++ part_text world.now.rehearsal member round) }
+    ensures { OnOk result (Adds text.old text.new (part_text world.now.rehearsal member round)) }
 {
     match round {
         None => text.push_str(" idle"),
@@ -216,7 +216,7 @@ pub(crate) fn push_place_in(
     round: Round,
     phase: Phase,
 ) -> Result<(), AllocError>
-    ensures { OnOk result (string_bytes text.new ≡ string_bytes text.old ++ place_in world.now.rehearsal member (round, phase)) }
+    ensures { OnOk result (Adds text.old text.new (place_in world.now.rehearsal member (round, phase))) }
 {
     push_phase(text, round, phase)?;
     push_led(text, round, coordinator_of(world, member))
@@ -224,7 +224,7 @@ pub(crate) fn push_place_in(
 
 // The coordinator of the round, which has none before the first one.
 fn push_led(text: &mut String, round: Round, coordinator: Member) -> Result<(), AllocError>
-    ensures { OnOk result (string_bytes text.new ≡ string_bytes text.old ++ led_text round coordinator) }
+    ensures { OnOk result (Adds text.old text.new (led_text round coordinator)) }
 {
     if round == 0 {
         Ok(())
@@ -235,7 +235,7 @@ fn push_led(text: &mut String, round: Round, coordinator: Member) -> Result<(), 
 
 #[tactic(auto, unfolding(crate::specs::Facts::phase_in))]
 fn push_phase(text: &mut String, round: Round, phase: Phase) -> Result<(), AllocError>
-    ensures { OnOk result (string_bytes text.new ≡ string_bytes text.old ++ phase_in (round, phase)) }
+    ensures { OnOk result (Adds text.old text.new (phase_in (round, phase))) }
 {
     let name = phase_name(phase);
     write!(text, " round {round} {name}")
@@ -243,7 +243,7 @@ fn push_phase(text: &mut String, round: Round, phase: Phase) -> Result<(), Alloc
 
 #[tactic(auto, unfolding(crate::specs::Facts::votes_text))]
 fn push_votes(text: &mut String, world: &World, member: Member) -> Result<(), AllocError>
-    ensures { OnOk result (string_bytes text.new ≡ string_bytes text.old ++ votes_text world.now.rehearsal member) }
+    ensures { OnOk result (Adds text.old text.new (votes_text world.now.rehearsal member)) }
 {
     text.push_str(", estimate ")?;
     push_estimate_of(text, world, member)?;
@@ -259,8 +259,8 @@ pub(crate) fn push_all_heard(
     world: &World,
     member: Member,
 ) -> Result<(), AllocError>
-    ensures { OnOk result (string_bytes text.new ≡ string_bytes text.old
-        ++ first_heard before.now after.now world.now.rehearsal member world.now.rehearsal.setting.members) }
+    ensures { OnOk result (Adds text.old text.new
+        (first_heard before.now after.now world.now.rehearsal member world.now.rehearsal.setting.members)) }
 {
     let n = world.group().n();
     for i in 0..n {
@@ -277,8 +277,7 @@ fn push_heard(
     from: Member,
     heard: Option<(&[Message], Round)>,
 ) -> Result<(), AllocError>
-    ensures { OnOk result (string_bytes text.new
-        ≡ string_bytes text.old ++ heard_text before.now after.now from (option_map (λ e. (e.0.now, e.1)) heard.entry)) }
+    ensures { OnOk result (Adds text.old text.new (heard_text before.now after.now from (option_map (λ e. (e.0.now, e.1)) heard.entry))) }
 {
     match heard {
         None => Ok(()),

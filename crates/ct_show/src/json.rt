@@ -1,7 +1,8 @@
 //! The report of a world as JSON.
 
-ghost use Rattle.std.specs.Prelude.{◌≡◌, ◌++◌, codes, map, OnOk, IfOk, IsTrue, string_bytes, slice_index};
+ghost use Rattle.std.specs.Prelude.{◌≡◌, codes, map, OnOk, IfOk, IsTrue, slice_index};
 ghost use Rattle.std.specs.List.{join_with_byte};
+ghost use Rattle.ct_records.specs.Adds.{Adds};
 ghost use Rattle.ct_names.specs.Group.{is_member};
 ghost use Rattle.ct_records.specs.Outcome.{IsOutcome};
 ghost use Rattle.ct_show.specs.Json.{messages_json, message_json, decision_json};
@@ -35,7 +36,7 @@ pub fn report_json(alloc: Global, world: &World) -> Result<Vec<u8>, AllocError>
 
 #[tactic(auto, unfolding(crate::specs::Json::group_json))]
 fn push_group(text: &mut String, world: &World) -> Result<(), AllocError>
-    ensures { OnOk result (string_bytes text.new ≡ string_bytes text.old ++ group_json world.now.rehearsal) }
+    ensures { OnOk result (Adds text.old text.new (group_json world.now.rehearsal)) }
 {
     let group = world.group();
     let n = group.n();
@@ -50,7 +51,7 @@ fn push_group(text: &mut String, world: &World) -> Result<(), AllocError>
 
 #[tactic(auto, unfolding(crate::specs::Json::counts_json))]
 fn push_counts(text: &mut String, world: &World) -> Result<(), AllocError>
-    ensures { OnOk result (string_bytes text.new ≡ string_bytes text.old ++ counts_json world.now.rehearsal) }
+    ensures { OnOk result (Adds text.old text.new (counts_json world.now.rehearsal)) }
 {
     let steps = world.record().len();
     let sent = world.sent();
@@ -63,7 +64,7 @@ fn push_counts(text: &mut String, world: &World) -> Result<(), AllocError>
 
 #[tactic(auto, unfolding(crate::specs::Json::members_json))]
 fn push_members(text: &mut String, world: &World) -> Result<(), AllocError>
-    ensures { OnOk result (string_bytes text.new ≡ string_bytes text.old ++ members_json world.now.rehearsal) }
+    ensures { OnOk result (Adds text.old text.new (members_json world.now.rehearsal)) }
 {
     text.push_str(",\"members\":[")?;
     push_each_member(text, world)?;
@@ -71,8 +72,8 @@ fn push_members(text: &mut String, world: &World) -> Result<(), AllocError>
 }
 
 fn push_each_member(text: &mut String, world: &World) -> Result<(), AllocError>
-    ensures { OnOk result (string_bytes text.new
-        ≡ string_bytes text.old ++ join_with_byte 44 (first_members world.now.rehearsal world.now.rehearsal.setting.members)) }
+    ensures { OnOk result (Adds text.old text.new
+        (join_with_byte 44 (first_members world.now.rehearsal world.now.rehearsal.setting.members))) }
 {
     let n = world.group().n();
     let mut later = false;
@@ -87,7 +88,7 @@ fn push_each_member(text: &mut String, world: &World) -> Result<(), AllocError>
 #[tactic(auto, unfolding(crate::specs::Json::member_json))]
 fn push_member(text: &mut String, world: &World, member: Member) -> Result<(), AllocError>
     requires { IsTrue (is_member world.now.rehearsal.setting.members member) }
-    ensures { OnOk result (string_bytes text.new ≡ string_bytes text.old ++ member_json world.now.rehearsal member) }
+    ensures { OnOk result (Adds text.old text.new (member_json world.now.rehearsal member)) }
 {
     let Some(outcome) = world.outcome(member) else {
         unreachable!()
@@ -102,7 +103,7 @@ fn push_member(text: &mut String, world: &World, member: Member) -> Result<(), A
 
 #[tactic(auto, unfolding(crate::specs::Json::key_json))]
 fn push_messages_at(text: &mut String, key: &str, messages: &[Message]) -> Result<(), AllocError>
-    ensures { OnOk result (string_bytes text.new ≡ string_bytes text.old ++ key_json key.now (messages_json messages.now)) }
+    ensures { OnOk result (Adds text.old text.new (key_json key.now (messages_json messages.now))) }
 {
     write!(text, ",\"{key}\":")?;
     push_messages(text, messages)
@@ -111,8 +112,8 @@ fn push_messages_at(text: &mut String, key: &str, messages: &[Message]) -> Resul
 #[tactic(auto, unfolding(crate::specs::Json::key_json))]
 fn push_decisions_at(text: &mut String, world: &World, member: Member) -> Result<(), AllocError>
     requires { IsTrue (is_member world.now.rehearsal.setting.members member) }
-    ensures { OnOk result (string_bytes text.new
-        ≡ string_bytes text.old ++ key_json (codes "decided") (decisions_json (member_of world.now.rehearsal member).got)) }
+    ensures { OnOk result (Adds text.old text.new
+        (key_json (codes "decided") (decisions_json (member_of world.now.rehearsal member).got))) }
 {
     text.push_str(",\"decided\":")?;
     push_decisions(text, world, member)
@@ -120,7 +121,7 @@ fn push_decisions_at(text: &mut String, world: &World, member: Member) -> Result
 
 #[tactic(auto, unfolding(crate::specs::Json::key_json))]
 fn push_table_at(text: &mut String, table: &Table) -> Result<(), AllocError>
-    ensures { OnOk result (string_bytes text.new ≡ string_bytes text.old ++ key_json (codes "table") (table_json table.now)) }
+    ensures { OnOk result (Adds text.old text.new (key_json (codes "table") (table_json table.now))) }
 {
     text.push_str(",\"table\":")?;
     push_table(text, table)
@@ -129,7 +130,7 @@ fn push_table_at(text: &mut String, table: &Table) -> Result<(), AllocError>
 #[tactic(auto, unfolding(crate::specs::Json::standing_json))]
 fn push_standing(text: &mut String, world: &World, member: Member) -> Result<(), AllocError>
     requires { IsTrue (is_member world.now.rehearsal.setting.members member) }
-    ensures { OnOk result (string_bytes text.new ≡ string_bytes text.old ++ standing_json world.now.rehearsal member) }
+    ensures { OnOk result (Adds text.old text.new (standing_json world.now.rehearsal member)) }
 {
     let up = truth(!world.crashed(member));
     let (instance, is_open) = world.instance(member).unwrap_or((0, false));
@@ -149,7 +150,7 @@ fn truth(holds: bool) -> &'static str
 
 #[tactic(auto, unfolding(crate::specs::Json::messages_json))]
 fn push_messages(text: &mut String, messages: &[Message]) -> Result<(), AllocError>
-    ensures { OnOk result (string_bytes text.new ≡ string_bytes text.old ++ messages_json messages.now) }
+    ensures { OnOk result (Adds text.old text.new (messages_json messages.now)) }
 {
     text.push('[')?;
     push_names(text, messages)?;
@@ -157,7 +158,7 @@ fn push_messages(text: &mut String, messages: &[Message]) -> Result<(), AllocErr
 }
 
 fn push_names(text: &mut String, messages: &[Message]) -> Result<(), AllocError>
-    ensures { OnOk result (string_bytes text.new ≡ string_bytes text.old ++ join_with_byte 44 (map message_json messages.now)) }
+    ensures { OnOk result (Adds text.old text.new (join_with_byte 44 (map message_json messages.now))) }
 {
     for (i, message) in messages.iter().enumerate() {
         push_separator(text, ',', i > 0)?;
@@ -169,7 +170,7 @@ fn push_names(text: &mut String, messages: &[Message]) -> Result<(), AllocError>
 #[tactic(auto, unfolding(crate::specs::Json::decisions_json))]
 fn push_decisions(text: &mut String, world: &World, member: Member) -> Result<(), AllocError>
     requires { IsTrue (is_member world.now.rehearsal.setting.members member) }
-    ensures { OnOk result (string_bytes text.new ≡ string_bytes text.old ++ decisions_json (member_of world.now.rehearsal member).got) }
+    ensures { OnOk result (Adds text.old text.new (decisions_json (member_of world.now.rehearsal member).got)) }
 {
     let last = world.last_decided(member).unwrap_or(0);
     text.push('[')?;
@@ -185,8 +186,7 @@ fn push_decisions_to(
     last: Instance,
 ) -> Result<(), AllocError>
     requires { IsTrue (is_member world.now.rehearsal.setting.members member) }
-    ensures { OnOk result (string_bytes text.new
-        ≡ string_bytes text.old ++ join_with_byte 44 (first_decisions (member_of world.now.rehearsal member).got last)) }
+    ensures { OnOk result (Adds text.old text.new (join_with_byte 44 (first_decisions (member_of world.now.rehearsal member).got last))) }
 {
     let mut later = false;
     for i in 0..last {
@@ -205,7 +205,7 @@ fn push_decision(
     instance: Instance,
     messages: &[Message],
 ) -> Result<(), AllocError>
-    ensures { OnOk result (string_bytes text.new ≡ string_bytes text.old ++ decision_json instance messages.now) }
+    ensures { OnOk result (Adds text.old text.new (decision_json instance messages.now)) }
 {
     write!(text, "{{\"instance\":{instance},\"messages\":")?;
     push_messages(text, messages)?;
@@ -214,7 +214,7 @@ fn push_decision(
 
 #[tactic(auto, unfolding(crate::specs::Json::table_json))]
 fn push_table(text: &mut String, table: &Table) -> Result<(), AllocError>
-    ensures { OnOk result (string_bytes text.new ≡ string_bytes text.old ++ table_json table.now) }
+    ensures { OnOk result (Adds text.old text.new (table_json table.now)) }
 {
     text.push('[')?;
     push_registers(text, table)?;
@@ -222,7 +222,7 @@ fn push_table(text: &mut String, table: &Table) -> Result<(), AllocError>
 }
 
 fn push_registers(text: &mut String, table: &Table) -> Result<(), AllocError>
-    ensures { OnOk result (string_bytes text.new ≡ string_bytes text.old ++ join_with_byte 44 (first_registers table.now 16)) }
+    ensures { OnOk result (Adds text.old text.new (join_with_byte 44 (first_registers table.now 16))) }
 {
     let mut later = false;
     for register in 0..16u8 {

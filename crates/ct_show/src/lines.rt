@@ -1,6 +1,7 @@
 //! The lines of a run: one for each step.
 
-ghost use Rattle.std.specs.Prelude.{◌≡◌, ◌≤◌, ◌++◌, [], if◌then◌else◌, OnOk, string_bytes};
+ghost use Rattle.std.specs.Prelude.{◌≡◌, ◌≤◌, [], if◌then◌else◌, OnOk};
+ghost use Rattle.ct_records.specs.Adds.{Adds};
 ghost use Rattle.ct_model.specs.Actor.{actor};
 ghost use Rattle.ct_show.specs.Lines.{head_text, line_text, is_selected};
 
@@ -9,14 +10,14 @@ use crate::selection::Selection;
 use crate::shapes::push_right;
 use crate::wires::push_sent;
 use ct_model::Step;
-use ct_names::Member;
+use ct_names::{MAX_ENVELOPES, Member};
 use ct_world::World;
 use std::alloc::AllocError;
 
 // The number of a step, counted from 1, and its member, in two columns.
 #[tactic(auto, unfolding(crate::specs::Lines::head_text))]
 pub(crate) fn push_head(text: &mut String, number: usize, member: Member) -> Result<(), AllocError>
-    ensures { OnOk result (string_bytes text.new ≡ string_bytes text.old ++ head_text number member) }
+    ensures { OnOk result (Adds text.old text.new (head_text number member)) }
 {
     push_right(text, number)?;
     push_right(text, usize::from(member))?;
@@ -32,8 +33,8 @@ fn push_line(
     number: usize,
     step: Step,
 ) -> Result<(), AllocError>
-    requires { before ≤ 1000000 }
-    ensures { OnOk result (string_bytes text.new ≡ string_bytes text.old ++ line_text world.now.rehearsal before number step) }
+    requires { before ≤ MAX_ENVELOPES }
+    ensures { OnOk result (Adds text.old text.new (line_text world.now.rehearsal before number step)) }
 {
     push_head(text, number, step.member())?;
     push_detail(text, world, before, step)?;
@@ -50,9 +51,9 @@ pub(crate) fn push_selected(
     number: usize,
     step: Step,
 ) -> Result<(), AllocError>
-    requires { before ≤ 1000000 }
-    ensures { OnOk result (string_bytes text.new ≡ string_bytes text.old
-        ++ (if is_selected selection.now number (actor step) then line_text world.now.rehearsal before number step else [])) }
+    requires { before ≤ MAX_ENVELOPES }
+    ensures { OnOk result (Adds text.old text.new
+        ((if is_selected selection.now number (actor step) then line_text world.now.rehearsal before number step else []))) }
 {
     if selection.shows(number, step.member()) {
         push_line(text, world, before, number, step)

@@ -1,6 +1,7 @@
 //! Numbers, sets of messages, commands and phases, shown.
 
-ghost use Rattle.std.specs.Prelude.{◌≡◌, ◌++◌, OnOk, option_map, string_bytes};
+ghost use Rattle.std.specs.Prelude.{◌≡◌, OnOk, option_map};
+ghost use Rattle.ct_records.specs.Adds.{Adds};
 ghost use Rattle.ct_show.specs.Shapes.{spaces_before, right_text, names_text, shortened};
 ghost use Rattle.ct_show.specs.Shapes.{set_text, estimate_text, value_text, call_text, phase_text};
 
@@ -15,7 +16,7 @@ pub const MOST_SHOWN: usize = 8;
 // A number at the right of a column of four places.
 #[tactic(auto, unfolding(crate::specs::Shapes::right_text))]
 pub(crate) fn push_right(text: &mut String, number: usize) -> Result<(), AllocError>
-    ensures { OnOk result (string_bytes text.new ≡ string_bytes text.old ++ right_text number) }
+    ensures { OnOk result (Adds text.old text.new (right_text number)) }
 {
     let spaces = spaces_before(number);
     write!(text, "{spaces}{number}")
@@ -38,7 +39,7 @@ fn spaces_before(number: usize) -> &'static str
 // The messages of a value.
 #[tactic(auto, unfolding(crate::specs::Shapes::set_text))]
 pub(crate) fn push_set(text: &mut String, messages: &[Message]) -> Result<(), AllocError>
-    ensures { OnOk result (string_bytes text.new ≡ string_bytes text.old ++ set_text messages.now) }
+    ensures { OnOk result (Adds text.old text.new (set_text messages.now)) }
 {
     text.push('{')?;
     push_shortened(text, messages)?;
@@ -48,7 +49,7 @@ pub(crate) fn push_set(text: &mut String, messages: &[Message]) -> Result<(), Al
 // The names of the messages; of many the first ones, and how many more there are.
 #[tactic(auto, unfolding(crate::specs::Shapes::shortened))]
 fn push_shortened(text: &mut String, messages: &[Message]) -> Result<(), AllocError>
-    ensures { OnOk result (string_bytes text.new ≡ string_bytes text.old ++ shortened messages.now) }
+    ensures { OnOk result (Adds text.old text.new (shortened messages.now)) }
 {
     if messages.len() <= MOST_SHOWN {
         push_names(text, messages)
@@ -62,7 +63,7 @@ fn push_shortened(text: &mut String, messages: &[Message]) -> Result<(), AllocEr
 // The names of the messages, in order.
 #[tactic(auto, unfolding(crate::specs::Shapes::names_text))]
 fn push_names(text: &mut String, messages: &[Message]) -> Result<(), AllocError>
-    ensures { OnOk result (string_bytes text.new ≡ string_bytes text.old ++ names_text messages.now) }
+    ensures { OnOk result (Adds text.old text.new (names_text messages.now)) }
 {
     for (i, message) in messages.iter().enumerate() {
         push_separator(text, ',', i > 0)?;
@@ -77,8 +78,7 @@ pub(crate) fn push_estimate(
     text: &mut String,
     estimate: Option<(&[Message], Round)>,
 ) -> Result<(), AllocError>
-    ensures { OnOk result (string_bytes text.new
-        ≡ string_bytes text.old ++ estimate_text (option_map (λ e. (e.0.now, e.1)) estimate.entry)) }
+    ensures { OnOk result (Adds text.old text.new (estimate_text (option_map (λ e. (e.0.now, e.1)) estimate.entry))) }
 {
     match estimate {
         None => Ok(()),
@@ -95,8 +95,7 @@ pub(crate) fn push_value(
     text: &mut String,
     estimate: Option<(&[Message], Round)>,
 ) -> Result<(), AllocError>
-    ensures { OnOk result (string_bytes text.new
-        ≡ string_bytes text.old ++ value_text (option_map (λ e. (e.0.now, e.1)) estimate.entry)) }
+    ensures { OnOk result (Adds text.old text.new (value_text (option_map (λ e. (e.0.now, e.1)) estimate.entry))) }
 {
     match estimate {
         None => Ok(()),
@@ -107,7 +106,7 @@ pub(crate) fn push_value(
 // The command, as `set(0,7)`.
 #[tactic(auto, unfolding(crate::specs::Shapes::call_text))]
 pub(crate) fn push_call(text: &mut String, command: Command) -> Result<(), AllocError>
-    ensures { OnOk result (string_bytes text.new ≡ string_bytes text.old ++ call_text command) }
+    ensures { OnOk result (Adds text.old text.new (call_text command)) }
 {
     match command {
         Command::Set(register, value) => write!(text, "set({register},{value})"),

@@ -1,6 +1,7 @@
 //! The state that a record leads to, shown: two lines of the whole, and lines of each member.
 
-ghost use Rattle.std.specs.Prelude.{◌≡◌, ◌++◌, [], ◌∷◌, if◌then◌else◌, IfOk, OnOk, IsTrue, flat_map, option_map, string_bytes};
+ghost use Rattle.std.specs.Prelude.{◌≡◌, [], ◌∷◌, if◌then◌else◌, IfOk, OnOk, IsTrue, flat_map, option_map};
+ghost use Rattle.ct_records.specs.Adds.{Adds};
 ghost use Rattle.ct_names.specs.Group.{is_member};
 ghost use Rattle.ct_model.specs.Rehearsal.{line_of};
 ghost use Rattle.ct_model.specs.State.{at_serial};
@@ -35,7 +36,7 @@ pub(crate) fn state_text(alloc: Global, traced: &Traced) -> Result<Vec<u8>, Allo
 
 #[tactic(auto, unfolding(crate::specs::State::group_line))]
 fn push_group(text: &mut String, world: &World) -> Result<(), AllocError>
-    ensures { OnOk result (string_bytes text.new ≡ string_bytes text.old ++ group_line world.now.rehearsal) }
+    ensures { OnOk result (Adds text.old text.new (group_line world.now.rehearsal)) }
 {
     let group = world.group();
     let n = group.n();
@@ -50,7 +51,7 @@ fn push_group(text: &mut String, world: &World) -> Result<(), AllocError>
 
 #[tactic(auto, unfolding(crate::specs::State::counts_line))]
 fn push_counts(text: &mut String, world: &World) -> Result<(), AllocError>
-    ensures { OnOk result (string_bytes text.new ≡ string_bytes text.old ++ counts_line world.now.rehearsal) }
+    ensures { OnOk result (Adds text.old text.new (counts_line world.now.rehearsal)) }
 {
     let steps = world.record().len();
     let sent = world.sent();
@@ -59,8 +60,7 @@ fn push_counts(text: &mut String, world: &World) -> Result<(), AllocError>
 }
 
 fn push_members(text: &mut String, world: &World, senders: &[Member]) -> Result<(), AllocError>
-    ensures { OnOk result (string_bytes text.new ≡ string_bytes text.old
-        ++ first_members world.now.rehearsal senders.now world.now.rehearsal.setting.members) }
+    ensures { OnOk result (Adds text.old text.new (first_members world.now.rehearsal senders.now world.now.rehearsal.setting.members)) }
 {
     let n = world.group().n();
     for i in 0..n {
@@ -77,7 +77,7 @@ fn push_member(
     member: Member,
 ) -> Result<(), AllocError>
     requires { IsTrue (is_member world.now.rehearsal.setting.members member) }
-    ensures { OnOk result (string_bytes text.new ≡ string_bytes text.old ++ member_lines world.now.rehearsal senders.now member) }
+    ensures { OnOk result (Adds text.old text.new (member_lines world.now.rehearsal senders.now member)) }
 {
     push_standing(text, world, member)?;
     push_votes(text, world, member)?;
@@ -90,7 +90,7 @@ fn push_member(
 #[tactic(auto, unfolding(crate::specs::State::standing_line))]
 fn push_standing(text: &mut String, world: &World, member: Member) -> Result<(), AllocError>
     requires { IsTrue (is_member world.now.rehearsal.setting.members member) }
-    ensures { OnOk result (string_bytes text.new ≡ string_bytes text.old ++ standing_line world.now.rehearsal member) }
+    ensures { OnOk result (Adds text.old text.new (standing_line world.now.rehearsal member)) }
 {
     let state = if world.crashed(member) {
         "crashed"
@@ -109,7 +109,7 @@ fn push_progress(
     member: Member,
     round: Option<(Round, Phase)>,
 ) -> Result<(), AllocError>
-    ensures { OnOk result (string_bytes text.new ≡ string_bytes text.old ++ progress_text world.now.rehearsal member round) }
+    ensures { OnOk result (Adds text.old text.new (progress_text world.now.rehearsal member round)) }
 {
     match round {
         None => text.push_str(" idle"),
@@ -120,7 +120,7 @@ fn push_progress(
 // The estimate of the member, and what it got for its round.
 #[tactic(auto, unfolding(crate::specs::State::votes_lines))]
 fn push_votes(text: &mut String, world: &World, member: Member) -> Result<(), AllocError>
-    ensures { OnOk result (string_bytes text.new ≡ string_bytes text.old ++ votes_lines world.now.rehearsal member) }
+    ensures { OnOk result (Adds text.old text.new (votes_lines world.now.rehearsal member)) }
 {
     push_estimate_line(text, world.estimate(member))?;
     push_all_heard(text, "  heard    ", "\n", world, member)?;
@@ -133,8 +133,7 @@ fn push_estimate_line(
     text: &mut String,
     estimate: Option<(&[Message], Round)>,
 ) -> Result<(), AllocError>
-    ensures { OnOk result (string_bytes text.new
-        ≡ string_bytes text.old ++ estimate_line (option_map (λ e. (e.0.now, e.1)) estimate.entry)) }
+    ensures { OnOk result (Adds text.old text.new (estimate_line (option_map (λ e. (e.0.now, e.1)) estimate.entry))) }
 {
     match estimate {
         None => Ok(()),
@@ -149,7 +148,7 @@ fn push_estimate_line(
 // The word and the members of the set.
 #[tactic(auto, unfolding(crate::specs::State::set_line))]
 fn push_set_line(text: &mut String, word: &str, set: Option<MemberSet>) -> Result<(), AllocError>
-    ensures { OnOk result (string_bytes text.new ≡ string_bytes text.old ++ set_line word.now set) }
+    ensures { OnOk result (Adds text.old text.new (set_line word.now set)) }
 {
     match set {
         None => Ok(()),
@@ -162,7 +161,7 @@ fn push_set_line(text: &mut String, word: &str, set: Option<MemberSet>) -> Resul
 }
 
 fn push_members_of(text: &mut String, set: MemberSet) -> Result<(), AllocError>
-    ensures { OnOk result (string_bytes text.new ≡ string_bytes text.old ++ list_text 32 (first_in set MAX_MEMBERS)) }
+    ensures { OnOk result (Adds text.old text.new (list_text 32 (first_in set MAX_MEMBERS))) }
 {
     let mut later = false;
     for i in 0..MAX_MEMBERS {
@@ -178,7 +177,7 @@ fn push_members_of(text: &mut String, set: MemberSet) -> Result<(), AllocError>
 
 // A dash where nothing stands before.
 fn push_dash(text: &mut String, later: bool) -> Result<(), AllocError>
-    ensures { OnOk result (string_bytes text.new ≡ string_bytes text.old ++ (if later then [] else (45 ∷ []))) }
+    ensures { OnOk result (Adds text.old text.new ((if later then [] else (45 ∷ [])))) }
 {
     if later { Ok(()) } else { text.push('-') }
 }
@@ -190,8 +189,7 @@ fn push_waiting(
     senders: &[Member],
     line: &[Serial],
 ) -> Result<(), AllocError>
-    ensures { OnOk result (string_bytes text.new
-        ≡ string_bytes text.old ++ flat_map (waiting_line world.now.rehearsal senders.now) line.now) }
+    ensures { OnOk result (Adds text.old text.new (flat_map (waiting_line world.now.rehearsal senders.now) line.now)) }
 {
     for serial in line {
         push_envelope(text, world, senders, *serial)?;
@@ -206,8 +204,7 @@ fn push_envelope(
     senders: &[Member],
     serial: Serial,
 ) -> Result<(), AllocError>
-    ensures { OnOk result (string_bytes text.new
-        ≡ string_bytes text.old ++ waiting_line world.now.rehearsal senders.now serial) }
+    ensures { OnOk result (Adds text.old text.new (waiting_line world.now.rehearsal senders.now serial)) }
 {
     text.push_str("  waiting  ")?;
     push_serial(text, world, serial)?;
@@ -224,7 +221,7 @@ fn sender_at(senders: &[Member], serial: Serial) -> Option<Member>
 }
 
 fn push_sender(text: &mut String, sender: Option<Member>) -> Result<(), AllocError>
-    ensures { OnOk result (string_bytes text.new ≡ string_bytes text.old ++ sender_text sender) }
+    ensures { OnOk result (Adds text.old text.new (sender_text sender)) }
 {
     match sender {
         None => Ok(()),
@@ -235,7 +232,7 @@ fn push_sender(text: &mut String, sender: Option<Member>) -> Result<(), AllocErr
 // The steps of its own that the member may take, and those that it may not.
 #[tactic(auto, unfolding(crate::specs::State::steps_lines))]
 fn push_steps(text: &mut String, world: &World, member: Member) -> Result<(), AllocError>
-    ensures { OnOk result (string_bytes text.new ≡ string_bytes text.old ++ steps_lines world.now.rehearsal member) }
+    ensures { OnOk result (Adds text.old text.new (steps_lines world.now.rehearsal member)) }
 {
     push_own_enabled(text, "  enabled  ", "\n", world, member)?;
     push_refused(text, world, &first_steps(member))?;
@@ -252,8 +249,7 @@ pub fn push_own_enabled(
     world: &World,
     member: Member,
 ) -> Result<(), AllocError>
-    ensures { OnOk result (string_bytes text.new ≡ string_bytes text.old
-        ++ own_enabled before.now after.now world.now.rehearsal member) }
+    ensures { OnOk result (Adds text.old text.new (own_enabled before.now after.now world.now.rehearsal member)) }
 {
     push_enabled(text, before, after, world, &first_steps(member))?;
     push_choices(text, before, after, world, member)?;
@@ -290,8 +286,8 @@ fn push_choices(
     world: &World,
     member: Member,
 ) -> Result<(), AllocError>
-    ensures { OnOk result (string_bytes text.new ≡ string_bytes text.old
-        ++ flat_map (enabled_text before.now after.now world.now.rehearsal) (first_choices member world.now.rehearsal.setting.members)) }
+    ensures { OnOk result (Adds text.old text.new
+        (flat_map (enabled_text before.now after.now world.now.rehearsal) (first_choices member world.now.rehearsal.setting.members))) }
 {
     let n = world.group().n();
     for i in 0..n {
@@ -308,8 +304,7 @@ fn push_enabled(
     world: &World,
     steps: &[Step],
 ) -> Result<(), AllocError>
-    ensures { OnOk result (string_bytes text.new
-        ≡ string_bytes text.old ++ flat_map (enabled_text before.now after.now world.now.rehearsal) steps.now) }
+    ensures { OnOk result (Adds text.old text.new (flat_map (enabled_text before.now after.now world.now.rehearsal) steps.now)) }
 {
     for step in steps {
         push_if_enabled(text, before, after, world, *step)?;
@@ -325,8 +320,7 @@ fn push_if_enabled(
     world: &World,
     step: Step,
 ) -> Result<(), AllocError>
-    ensures { OnOk result (string_bytes text.new
-        ≡ string_bytes text.old ++ enabled_text before.now after.now world.now.rehearsal step) }
+    ensures { OnOk result (Adds text.old text.new (enabled_text before.now after.now world.now.rehearsal step)) }
 {
     match world.enabled(&step) {
         Ok(()) => write!(text, "{before}{step}{after}"),
@@ -336,7 +330,7 @@ fn push_if_enabled(
 
 // Those of the steps that are refused.
 fn push_refused(text: &mut String, world: &World, steps: &[Step]) -> Result<(), AllocError>
-    ensures { OnOk result (string_bytes text.new ≡ string_bytes text.old ++ flat_map (refused_line world.now.rehearsal) steps.now) }
+    ensures { OnOk result (Adds text.old text.new (flat_map (refused_line world.now.rehearsal) steps.now)) }
 {
     for step in steps {
         push_if_refused(text, world, *step)?;
@@ -345,7 +339,7 @@ fn push_refused(text: &mut String, world: &World, steps: &[Step]) -> Result<(), 
 }
 
 fn push_if_refused(text: &mut String, world: &World, step: Step) -> Result<(), AllocError>
-    ensures { OnOk result (string_bytes text.new ≡ string_bytes text.old ++ refused_line world.now.rehearsal step) }
+    ensures { OnOk result (Adds text.old text.new (refused_line world.now.rehearsal step)) }
 {
     match world.enabled(&step) {
         Ok(()) => Ok(()),
@@ -355,7 +349,7 @@ fn push_if_refused(text: &mut String, world: &World, step: Step) -> Result<(), A
 
 #[tactic(auto, unfolding(crate::specs::State::refusal_line))]
 fn push_refusal(text: &mut String, step: Step, refusal: Refusal) -> Result<(), AllocError>
-    ensures { OnOk result (string_bytes text.new ≡ string_bytes text.old ++ refusal_line step refusal) }
+    ensures { OnOk result (Adds text.old text.new (refusal_line step refusal)) }
 {
     if is_apart(refusal) {
         Ok(())
@@ -387,7 +381,7 @@ fn push_next(
     line: &[Serial],
 ) -> Result<(), AllocError>
     requires { line.now ≡ line_of world.now.rehearsal member }
-    ensures { OnOk result (string_bytes text.new ≡ string_bytes text.old ++ next_line world.now.rehearsal member) }
+    ensures { OnOk result (Adds text.old text.new (next_line world.now.rehearsal member)) }
 {
     text.push_str("  next     ")?;
     push_next_of(
@@ -416,7 +410,7 @@ pub fn push_next_of(
     own: Option<Step>,
     receipt: Option<Step>,
 ) -> Result<(), AllocError>
-    ensures { OnOk result (string_bytes text.new ≡ string_bytes text.old ++ next_text own receipt) }
+    ensures { OnOk result (Adds text.old text.new (next_text own receipt)) }
 {
     match own {
         None => push_step(text, receipt),
@@ -428,7 +422,7 @@ pub fn push_next_of(
 }
 
 fn push_step(text: &mut String, step: Option<Step>) -> Result<(), AllocError>
-    ensures { OnOk result (string_bytes text.new ≡ string_bytes text.old ++ step_or_dash step) }
+    ensures { OnOk result (Adds text.old text.new (step_or_dash step)) }
 {
     match step {
         None => text.push_str("-"),
@@ -437,7 +431,7 @@ fn push_step(text: &mut String, step: Option<Step>) -> Result<(), AllocError>
 }
 
 fn push_receipt(text: &mut String, step: Step, receipt: Option<Step>) -> Result<(), AllocError>
-    ensures { OnOk result (string_bytes text.new ≡ string_bytes text.old ++ receipt_text step receipt) }
+    ensures { OnOk result (Adds text.old text.new (receipt_text step receipt)) }
 {
     match step {
         Step::Suspect(_) => push_or(text, receipt),
@@ -446,7 +440,7 @@ fn push_receipt(text: &mut String, step: Step, receipt: Option<Step>) -> Result<
 }
 
 fn push_or(text: &mut String, step: Option<Step>) -> Result<(), AllocError>
-    ensures { OnOk result (string_bytes text.new ≡ string_bytes text.old ++ or_text step) }
+    ensures { OnOk result (Adds text.old text.new (or_text step)) }
 {
     match step {
         None => Ok(()),

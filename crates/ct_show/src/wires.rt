@@ -1,18 +1,19 @@
 //! Wires, and what a step sent, shown.
 
-ghost use Rattle.std.specs.Prelude.{◌≡◌, ◌≤◌, ◌++◌, OnOk, string_bytes};
+ghost use Rattle.std.specs.Prelude.{◌≡◌, ◌≤◌, OnOk};
+ghost use Rattle.ct_records.specs.Adds.{Adds};
 ghost use Rattle.ct_show.specs.Wires.{round_text, wire_text, letter_text, carried_text, serial_text, to_text, one_sent_text, all_sent_text};
 ghost use Rattle.ct_show.specs.Wires.{sent_text};
 
 use crate::shapes::push_set;
-use ct_names::{Instance, Message, Round, Serial};
+use ct_names::{Instance, MAX_ENVELOPES, Message, Round, Serial};
 use ct_world::{Letter, Wire, World};
 use std::alloc::AllocError;
 
 /// An instance and a round of it.
 #[tactic(auto, unfolding(crate::specs::Wires::round_text))]
 pub fn push_round(text: &mut String, instance: Instance, round: Round) -> Result<(), AllocError>
-    ensures { OnOk result (string_bytes text.new ≡ string_bytes text.old ++ round_text instance round) }
+    ensures { OnOk result (Adds text.old text.new (round_text instance round)) }
 {
     write!(text, "{instance}/{round}")
 }
@@ -20,7 +21,7 @@ pub fn push_round(text: &mut String, instance: Instance, round: Round) -> Result
 // The wire with this value.
 #[tactic(auto, unfolding(crate::specs::Wires::wire_text, crate::specs::Wires::round_text))]
 fn push_wire(text: &mut String, wire: &Wire, value: &[Message]) -> Result<(), AllocError>
-    ensures { OnOk result (string_bytes text.new ≡ string_bytes text.old ++ wire_text wire.now value.now) }
+    ensures { OnOk result (Adds text.old text.new (wire_text wire.now value.now)) }
 {
     match *wire {
         Wire::Data(message) => write!(text, "Data {message}"),
@@ -69,7 +70,7 @@ fn push_letter(
     letter: Option<Letter>,
     value: &[Message],
 ) -> Result<(), AllocError>
-    ensures { OnOk result (string_bytes text.new ≡ string_bytes text.old ++ letter_text letter value.now) }
+    ensures { OnOk result (Adds text.old text.new (letter_text letter value.now)) }
 {
     match letter {
         None => text.push_str("not sent"),
@@ -80,7 +81,7 @@ fn push_letter(
 // What the envelope of the serial carries.
 #[tactic(auto, unfolding(crate::specs::Wires::carried_text))]
 fn push_carried(text: &mut String, world: &World, serial: Serial) -> Result<(), AllocError>
-    ensures { OnOk result (string_bytes text.new ≡ string_bytes text.old ++ carried_text world.now.rehearsal serial) }
+    ensures { OnOk result (Adds text.old text.new (carried_text world.now.rehearsal serial)) }
 {
     let value = world.value(serial).unwrap_or(&[]);
     push_letter(text, world.letter(serial), value)
@@ -89,14 +90,14 @@ fn push_carried(text: &mut String, world: &World, serial: Serial) -> Result<(), 
 /// The serial and what its envelope carries.
 #[tactic(auto, unfolding(crate::specs::Wires::serial_text))]
 pub fn push_serial(text: &mut String, world: &World, serial: Serial) -> Result<(), AllocError>
-    ensures { OnOk result (string_bytes text.new ≡ string_bytes text.old ++ serial_text world.now.rehearsal serial) }
+    ensures { OnOk result (Adds text.old text.new (serial_text world.now.rehearsal serial)) }
 {
     write!(text, "#{serial} ")?;
     push_carried(text, world, serial)
 }
 
 fn push_receiver(text: &mut String, letter: Option<Letter>) -> Result<(), AllocError>
-    ensures { OnOk result (string_bytes text.new ≡ string_bytes text.old ++ to_text letter) }
+    ensures { OnOk result (Adds text.old text.new (to_text letter)) }
 {
     match letter {
         None => Ok(()),
@@ -109,7 +110,7 @@ fn push_receiver(text: &mut String, letter: Option<Letter>) -> Result<(), AllocE
 
 #[tactic(auto, unfolding(crate::specs::Wires::one_sent_text))]
 fn push_one_sent(text: &mut String, world: &World, serial: Serial) -> Result<(), AllocError>
-    ensures { OnOk result (string_bytes text.new ≡ string_bytes text.old ++ one_sent_text world.now.rehearsal serial) }
+    ensures { OnOk result (Adds text.old text.new (one_sent_text world.now.rehearsal serial)) }
 {
     text.push_str("  -> ")?;
     push_serial(text, world, serial)?;
@@ -123,7 +124,7 @@ fn push_all_sent(
     first: Serial,
     last: Serial,
 ) -> Result<(), AllocError>
-    ensures { OnOk result (string_bytes text.new ≡ string_bytes text.old ++ all_sent_text world.now.rehearsal first last) }
+    ensures { OnOk result (Adds text.old text.new (all_sent_text world.now.rehearsal first last)) }
 {
     write!(text, "  -> #{first}..{last} ")?;
     push_carried(text, world, first)?;
@@ -133,8 +134,8 @@ fn push_all_sent(
 // What was sent since this many envelopes were.
 #[tactic(auto, unfolding(crate::specs::Wires::sent_text))]
 pub(crate) fn push_sent(text: &mut String, world: &World, before: u32) -> Result<(), AllocError>
-    requires { before ≤ 1000000 }
-    ensures { OnOk result (string_bytes text.new ≡ string_bytes text.old ++ sent_text world.now.rehearsal before) }
+    requires { before ≤ MAX_ENVELOPES }
+    ensures { OnOk result (Adds text.old text.new (sent_text world.now.rehearsal before)) }
 {
     let now = world.sent();
     if now == before {
