@@ -1,10 +1,10 @@
 -- Faults that are explained.
 use Rattle.std.proofs.Common.{◌≡◌, ℕ, List, Ok, Err, Result, false, ap, sym, ◌∙◌}
 use Rattle.ct_grammar.specs.declared.line.Line.{Line}
-use Rattle.ct_judge.specs.declared.line_fault.LineFault.{LineFault}
-use Rattle.ct_judge.specs.declared.line_fault.LineFault.TheVariants.{NotUnderstood, NoMembers, Settled, NoSuchMember, NotThere, Refused}
-use Rattle.ct_judge.specs.declared.line_fault.LineFault.TheVariants.{NotMet, OutOfMemory, Board}
-use Rattle.ct_judge.specs.Faults.{IsFaultOf, IsKept, is_short}
+use Rattle.ct_play.specs.declared.line_fault.LineFault.{LineFault}
+use Rattle.ct_play.specs.declared.line_fault.LineFault.TheVariants.{NotUnderstood, NoMembers, Settled, NoSuchMember, NotThere, Refused}
+use Rattle.ct_play.specs.declared.line_fault.LineFault.TheVariants.{NotMet, OutOfMemory, Board}
+use Rattle.ct_play.specs.Faults.{IsFaultOf, IsKept, is_short}
 use Rattle.ct_judge.specs.Standing.{Standing, world_of}
 use Rattle.ct_judge.specs.Telling.{explained, fault_text}
 

@@ -4,7 +4,7 @@ use Rattle.std.specs.Prelude.{IsOk}
 use Rattle.ct_model.specs.Rehearsal.{Rehearsal}
 use Rattle.ct_streams.specs.NewFiles.{Makes, MakesPart}
 use Rattle.ct_judge.specs.Keeping.{IsKeptIn, Keeps, KeepsPart}
-use Rattle.ct_judge.specs.declared.line_fault.LineFault.{LineFault}
+use Rattle.ct_play.specs.declared.line_fault.LineFault.{LineFault}
 
 module _ (old new : Option (List (List ℕ × List ℕ))) (name text : List ℕ) where
   pub keeps : (r : Result Rehearsal LineFault) → IsKeptIn text r → Makes old new name text → Keeps r old new name

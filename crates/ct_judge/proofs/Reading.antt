@@ -4,7 +4,7 @@ use Rattle.std.proofs.Common.{Option, Some, None, arith, length-take}
 use Rattle.std.proofs.lemmas.List.{at_drop_more}
 use Rattle.std.specs.Prelude.{IfSome, min}
 use Rattle.ct_streams.specs.Streams.{read_part}
-use Rattle.ct_judge.specs.Acting.{go_on}
+use Rattle.ct_play.specs.Acting.{go_on}
 use Rattle.ct_judge.specs.Schedule.{IsFaultIn, Progress, Stopped, after_byte, after_bytes, finished}
 use Rattle.ct_judge.specs.declared.record_fault.RecordFault.{RecordFault}
 use Rattle.ct_judge.specs.declared.record_fault.RecordFault.TheVariants.{Line, TooLong, Read, Write, Memory, Board}

@@ -8,8 +8,8 @@ use Rattle.ct_records.specs.Text.{record_text}
 use Rattle.ct_judge.specs.Standing.{Standing}
 use Rattle.ct_judge.specs.declared.keep_fault.KeepFault.{KeepFault}
 use Rattle.ct_judge.specs.declared.keep_fault.KeepFault.TheVariants.{NoMembers, Write, Memory}
-use Rattle.ct_judge.specs.declared.line_fault.LineFault.{LineFault}
-use Rattle.ct_judge.specs.declared.line_fault.LineFault.TheVariants as line
+use Rattle.ct_play.specs.declared.line_fault.LineFault.{LineFault}
+use Rattle.ct_play.specs.declared.line_fault.LineFault.TheVariants as line
 use Rattle.ct_judge.specs.declared.session_fault.SessionFault.{SessionFault}
 use Rattle.ct_judge.specs.declared.session_fault.SessionFault.TheVariants as session
 

@@ -1,16 +1,11 @@
-pub mod Acting
 pub mod Answers
-pub mod Facts
-pub mod Faults
 pub mod Judging
 pub mod Keeping
 pub mod Line
 pub mod Parts
-pub mod Picking
 pub mod Recording
 pub mod Schedule
 pub mod SessionFaults
 pub mod Sessions
 pub mod Standing
 pub mod Telling
-pub mod Turning

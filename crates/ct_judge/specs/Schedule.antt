@@ -7,10 +7,10 @@ use Rattle.ct_model.specs.Run.{run}
 use Rattle.ct_model.specs.Safe.{IsSafe}
 use Rattle.ct_streams.specs.Streams.{WritesPart}
 use Rattle.ct_records.specs.Text.{record_text}
-use Rattle.ct_judge.specs.Acting.{go_on}
+use Rattle.ct_play.specs.Acting.{go_on}
 use Rattle.ct_judge.specs.Standing.{Standing, start, world_of}
 use Rattle.ct_judge.specs.Telling.{Explained, told}
-use Rattle.ct_judge.specs.declared.line_fault.LineFault.{LineFault}
+use Rattle.ct_play.specs.declared.line_fault.LineFault.{LineFault}
 use Rattle.ct_judge.specs.declared.record_fault.RecordFault.{RecordFault}
 use Rattle.ct_judge.specs.declared.record_fault.RecordFault.TheVariants.{Line, TooLong, Read, Write, Memory, Board}
 

@@ -4,8 +4,8 @@ use Rattle.ct_names.specs.declared.limit.TheConstants.{MAX_BOUND, MAX_CELLS, MAX
 use Rattle.ct_model.specs.Rehearsal.{Rehearsal, empty}
 use Rattle.ct_judge.specs.declared.heading.Heading.{Heading}
 use Rattle.ct_judge.specs.declared.heading.TheConstants.{USUAL_CELLS}
-use Rattle.ct_judge.specs.declared.line_fault.LineFault.{LineFault}
-use Rattle.ct_judge.specs.declared.line_fault.LineFault.TheVariants.{NotUnderstood, NoMembers, Settled}
+use Rattle.ct_play.specs.declared.line_fault.LineFault.{LineFault}
+use Rattle.ct_play.specs.declared.line_fault.LineFault.TheVariants.{NotUnderstood, NoMembers, Settled}
 
 -- the numbers of the group, and the record, once the world is made
 pub record Standing : Type 0 where

@@ -9,12 +9,12 @@ use Rattle.ct_model.specs.Rehearsal.{Rehearsal}
 use Rattle.ct_show.specs.Facts.{facts_text}
 use Rattle.ct_grammar.specs.declared.line.Line.{Line}
 use Rattle.ct_grammar.specs.declared.line.Line.TheVariants.{Expect}
-use Rattle.ct_judge.specs.Facts.{there}
+use Rattle.ct_play.specs.Facts.{there}
 use Rattle.ct_judge.specs.Judging.{line_in, taken}
 use Rattle.ct_judge.specs.Standing.{Standing, world_of}
-use Rattle.ct_judge.specs.declared.line_fault.LineFault.{LineFault}
-use Rattle.ct_judge.specs.declared.line_fault.LineFault.TheVariants.{NotUnderstood, NoMembers, Settled, NoSuchMember, NotThere, Refused}
-use Rattle.ct_judge.specs.declared.line_fault.LineFault.TheVariants.{NotMet, OutOfMemory, Board}
+use Rattle.ct_play.specs.declared.line_fault.LineFault.{LineFault}
+use Rattle.ct_play.specs.declared.line_fault.LineFault.TheVariants.{NotUnderstood, NoMembers, Settled, NoSuchMember, NotThere, Refused}
+use Rattle.ct_play.specs.declared.line_fault.LineFault.TheVariants.{NotMet, OutOfMemory, Board}
 use Rattle.ct_judge.specs.declared.stop.Stop.{Stop}
 use Rattle.ct_judge.specs.declared.stop.Stop.TheVariants.{Told, Memory, BoardRefused}
 

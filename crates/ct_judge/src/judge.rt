@@ -3,16 +3,16 @@
 ghost use Rattle.std.specs.Prelude.{◌≡◌, ◌≤◌, ◌++◌, None, Ok, OnOk, OnErr, IfOk, IfErr, IfSome, option_map, string_bytes};
 ghost use Rattle.ct_names.specs.declared.limit.TheConstants.{MAX_BOUND, MAX_CELLS};
 ghost use Rattle.ct_judge.specs.Answers.{sent_of};
-ghost use Rattle.ct_judge.specs.Faults.{IsFaultOf, IsKept};
+ghost use Rattle.ct_play.specs.Faults.{IsFaultOf, IsKept};
 ghost use Rattle.ct_judge.specs.Judging.{after_play, line_in, taken};
 ghost use Rattle.ct_judge.specs.Parts.{IsPart};
 ghost use Rattle.ct_judge.specs.Standing.{headed, made_of, start, world_of};
 ghost use Rattle.ct_judge.specs.Telling.{not_met_in, refused_in};
 
 use crate::heading::{Heading, USUAL_CELLS};
-use crate::line_fault::LineFault;
-use crate::playing::play;
-use crate::stage::Stage;
+use ct_play::LineFault;
+use ct_play::play;
+use ct_play::Stage;
 use crate::telling::{push_not_met, push_refused};
 use ct_grammar::{Line, line_of};
 use ct_model::Step;

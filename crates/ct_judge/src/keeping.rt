@@ -7,7 +7,7 @@ ghost use Rattle.ct_judge.specs.Standing.{world_of};
 
 use crate::judge::Judge;
 use crate::keep_fault::KeepFault;
-use crate::line_fault::LineFault;
+use ct_play::LineFault;
 use crate::session_fault::SessionFault;
 use ct_records::write_record;
 use ct_streams::{Failed, NewFiles};

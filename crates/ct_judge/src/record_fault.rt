@@ -3,7 +3,7 @@
 ghost use Rattle.std.specs.Prelude.{◌≡◌};
 ghost use Rattle.ct_judge.specs.Recording.{status_of};
 
-use crate::line_fault::LineFault;
+use ct_play::LineFault;
 use ct_streams::Status;
 use std::alloc::AllocError;
 use thiserror::Error;

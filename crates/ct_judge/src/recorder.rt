@@ -5,7 +5,7 @@ ghost use Rattle.ct_judge.specs.Schedule.{IsFaultIn, after_byte, beginning, ende
 ghost use Rattle.ct_judge.specs.Standing.{world_of};
 
 use crate::judge::Judge;
-use crate::line_fault::LineFault;
+use ct_play::LineFault;
 use crate::record_fault::RecordFault;
 use crate::stop::Stop;
 use crate::telling::tell;

@@ -1,6 +1,6 @@
 //! Why telling a schedule stops.
 
-use crate::line_fault::LineFault;
+use ct_play::LineFault;
 use std::alloc::AllocError;
 
 // Why a line was not taken.

@@ -1,16 +1,16 @@
 //! Lines that are told to a judge, with the texts of their faults.
 
 ghost use Rattle.std.specs.Prelude.{◌≡◌, ◌++◌, Result, Ok, Err, OnOk, IfOk, IfErr, codes, string_bytes};
-ghost use Rattle.ct_judge.specs.Facts.{there};
+ghost use Rattle.ct_play.specs.Facts.{there};
 ghost use Rattle.ct_judge.specs.Judging.{taken};
 ghost use Rattle.ct_judge.specs.Standing.{Standing, world_of};
 ghost use Rattle.ct_judge.specs.Telling.{Explained, IsStopKept, IsStopOf, explained, fault_text, member_text, not_met_text};
 ghost use Rattle.ct_judge.specs.Telling.{refused_text, told, unmet_text};
 
-use crate::facts::push_there;
+use ct_play::push_there;
 use crate::judge::{Judge, line_in};
-use crate::line_fault::LineFault;
-use crate::stage::Stage;
+use ct_play::LineFault;
+use ct_play::Stage;
 use crate::stop::Stop;
 use ct_grammar::{Fact, Line};
 use ct_model::Step;

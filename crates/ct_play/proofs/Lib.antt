@@ -1,0 +1,5 @@
+pub mod Faulty
+pub mod Later
+pub mod Parts
+pub mod Results
+pub mod Trying
