@@ -3,7 +3,7 @@ import os
 import subprocess
 
 TOOL = os.path.join(os.path.dirname(os.path.abspath(__file__)), "..", "..", "crates", "ct_tool", "out", "ct_tool")
-TAKEN = ("ok", "enabled", "next", "state", "report")   # how an answer to a line that was taken begins
+TAKEN = ("ok", "enabled", "next", "state", "waiting", "report", "record", "limits")   # how an answer to a line that was taken begins
 
 
 class Refused(Exception):

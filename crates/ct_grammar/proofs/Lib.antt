@@ -1,5 +1,6 @@
 mod DigitsRead
 mod FirstWord
-mod Lengths
+mod NearNames
 mod PartsRead
+mod SetsCut
 mod TextJoined

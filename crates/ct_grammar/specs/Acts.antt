@@ -1,33 +1,41 @@
 -- What members do, in words.
-use Rattle.std.specs.Prelude.{ℕ, ◌&&◌, List, [], ◌∷◌, Option, Some, None, option_map, codes, nat_le, if◌then◌else◌}
+use Rattle.std.specs.Prelude.{ℕ, List, [], ◌∷◌, length, Option, Some, None, Result, Ok, Err, codes, if◌then◌else◌}
+use Rattle.std.specs.Option.{ok_or}
 use Rattle.std.specs.Str.{bytes_eq}
 use Rattle.ct_names.specs.declared.command.Command.{Command}
 use Rattle.ct_names.specs.declared.command.Command.TheVariants.{Set, Add, Copy}
 use Rattle.ct_grammar.specs.declared.act.Act.{Act}
 use Rattle.ct_grammar.specs.declared.act.Act.TheVariants.{Submit, Receive, Begin, Enter, Choose, Adopt, Suspect, Conclude, Deliver}
-use Rattle.ct_grammar.specs.declared.act.Act.TheVariants.{Follow, Crash, Postpone, Lose, Repeat}
-use Rattle.ct_grammar.specs.declared.pick.Pick.{Pick}
-use Rattle.ct_grammar.specs.Words.{Word, only}
-use Rattle.ct_grammar.specs.Numbers.{◌>>=◌, number_of, max_u8, max_u64}
-use Rattle.ct_grammar.specs.Picks.{serial_of, pick_of}
+use Rattle.ct_grammar.specs.declared.act.Act.TheVariants.{Follow, Crash, Postpone, Lose, Repeat, LoseFrom}
+use Rattle.ct_grammar.specs.declared.unfit.Unfit.{Unfit}
+use Rattle.ct_grammar.specs.declared.unfit.Unfit.TheVariants.{End, Word as Other}
+use Rattle.ct_grammar.specs.declared.wanted.Wanted.{Wanted}
+use Rattle.ct_grammar.specs.declared.wanted.Wanted.TheVariants.{Command as CommandWanted, Register, Amount, Member, Loss, Envelope, Nothing}
+use Rattle.ct_grammar.specs.Words.{Word}
+use Rattle.ct_grammar.specs.Unfits.{◌>>=◌, map_ok}
+use Rattle.ct_grammar.specs.Numbers.{max_u8, max_u64}
+use Rattle.ct_grammar.specs.Leading.{number_first, member_first, set_first}
+use Rattle.ct_grammar.specs.Picks.{pick_first, behind_pick}
 
--- the command of a name, a register, and a value, an amount or another register
-unfoldable pub named_command : Word → ℕ → ℕ → Option Command
-named_command name register n =
-    if bytes_eq name (codes "set") then Some (Set register n) else (
-    if bytes_eq name (codes "add") then Some (Add register n) else (
-    if bytes_eq name (codes "copy") && nat_le n max_u8 then Some (Copy register n) else None))
+-- a register, and a number up to this one, and the words behind them
+unfoldable pub operands : ℕ → Wanted → List Word → Result ((ℕ × ℕ) × List Word) Unfit
+operands high wanted words = do
+  register ← member_first Register words
+  n ← number_first 0 high wanted register.1
+  Ok ((register.0, n.0), n.1)
 
--- `set R V`, `add R V` or `copy F T`
-unfoldable pub command_of : List Word → Option Command
-command_of [] = None
-command_of (name ∷ []) = None
-command_of (name ∷ register ∷ []) = None
-command_of (name ∷ register ∷ number ∷ []) = do
-  r ← number_of max_u8 register
-  n ← number_of max_u64 number
-  named_command name r n
-command_of (name ∷ register ∷ number ∷ word ∷ words) = None
+-- the command of this name, and the words behind it
+unfoldable pub named_command : Wanted → Word → List Word → Result (Command × List Word) Unfit
+named_command wanted name words =
+    if bytes_eq name (codes "set") then map_ok (λ r. (Set r.0.0 r.0.1, r.1)) (operands max_u64 Amount words) else (
+    if bytes_eq name (codes "add") then map_ok (λ r. (Add r.0.0 r.0.1, r.1)) (operands max_u64 Amount words) else (
+    if bytes_eq name (codes "copy") then map_ok (λ r. (Copy r.0.0 r.0.1, r.1)) (operands max_u8 Register words) else (
+    Err (Other (length words) wanted))))
+
+-- `set R V`, `add R V` or `copy F T`, and the words behind it
+unfoldable pub command_first : Wanted → List Word → Result (Command × List Word) Unfit
+command_first wanted [] = Err (End wanted)
+command_first wanted (name ∷ words) = named_command wanted name words
 
 -- the acts of one word
 unfoldable pub short_act : Word → Option Act
@@ -41,23 +49,48 @@ short_act name =
     if bytes_eq name (codes "follow") then Some Follow else (
     if bytes_eq name (codes "crash") then Some Crash else None)))))))
 
--- the acts on an envelope of the member's waiting line
-unfoldable pub picked_act : Word → Pick → Option Act
-picked_act name pick =
-    if bytes_eq name (codes "receive") then Some (Receive pick) else (
-    if bytes_eq name (codes "postpone") then Some (Postpone pick) else (
-    if bytes_eq name (codes "lose") then Some (Lose pick) else None))
+-- the loss of an envelope, or of all that certain members sent, and the words behind it
+unfoldable pub lose_first : List Word → Result (Act × List Word) Unfit
+lose_first [] = Err (End Loss)
+lose_first (word ∷ words) =
+    if bytes_eq word (codes "from") then map_ok (λ r. (LoseFrom r.0, r.1)) (set_first words) else (
+    map_ok (λ r. (Lose r.0, r.1)) (pick_first Loss (word ∷ words)))
 
--- the acts of several words: `submit` a command, `choose` a member, `repeat` a serial, and those on a waiting envelope
-unfoldable pub long_act : Word → List Word → Option Act
-long_act name words =
-    if bytes_eq name (codes "submit") then option_map Submit (command_of words) else (
-    if bytes_eq name (codes "choose") then option_map Choose (only words >>= number_of max_u8) else (
-    if bytes_eq name (codes "repeat") then option_map Repeat (only words >>= serial_of) else (
-    pick_of words >>= picked_act name)))
+-- the acts on an envelope, and the words behind them; otherwise those of one word
+unfoldable pub picked_act : Wanted → Word → List Word → Result (Act × List Word) Unfit
+picked_act wanted name words =
+    if bytes_eq name (codes "receive") then map_ok (λ r. (Receive r.0, r.1)) (pick_first Envelope words) else (
+    if bytes_eq name (codes "postpone") then map_ok (λ r. (Postpone r.0, r.1)) (pick_first Envelope words) else (
+    if bytes_eq name (codes "repeat") then map_ok (λ r. (Repeat r.0, r.1)) (pick_first Envelope words) else (
+    map_ok (λ act. (act, words)) (ok_or (short_act name) (Other (length words) wanted)))))
 
--- an act
-unfoldable pub act_of : List Word → Option Act
-act_of [] = None
-act_of (name ∷ []) = short_act name
-act_of (name ∷ word ∷ words) = long_act name (word ∷ words)
+-- the acts of several words, and the words behind them: `submit` a command, `choose` a member, `lose`, those on an envelope;
+-- otherwise those of one word
+unfoldable pub long_act : Wanted → Word → List Word → Result (Act × List Word) Unfit
+long_act wanted name words =
+    if bytes_eq name (codes "submit") then map_ok (λ r. (Submit r.0, r.1)) (command_first CommandWanted words) else (
+    if bytes_eq name (codes "choose") then map_ok (λ r. (Choose r.0, r.1)) (member_first Member words) else (
+    if bytes_eq name (codes "lose") then lose_first words else picked_act wanted name words))
+
+-- the act that the first words say, and the words behind it
+unfoldable pub act_first : Wanted → List Word → Result (Act × List Word) Unfit
+act_first wanted [] = Err (End wanted)
+act_first wanted (name ∷ words) = long_act wanted name words
+
+-- what could stand behind the act, where nothing is stated
+abbrev pub behind_act : Act → Wanted
+behind_act (Submit command) = Nothing
+behind_act (Receive pick) = behind_pick pick
+behind_act Begin = Nothing
+behind_act Enter = Nothing
+behind_act (Choose p) = Nothing
+behind_act Adopt = Nothing
+behind_act Suspect = Nothing
+behind_act Conclude = Nothing
+behind_act Deliver = Nothing
+behind_act Follow = Nothing
+behind_act Crash = Nothing
+behind_act (Postpone pick) = behind_pick pick
+behind_act (Lose pick) = behind_pick pick
+behind_act (Repeat pick) = behind_pick pick
+behind_act (LoseFrom set) = Nothing

@@ -1,15 +1,26 @@
 -- What lines expect, in words.
-use Rattle.std.specs.Prelude.{ℕ, List, [], ◌∷◌, Option, Some, None, option_map, codes, if◌then◌else◌}
+use Rattle.std.specs.Prelude.{Bool, ◌||◌, is_some, length, List, [], ◌∷◌, Option, Some, None, Result, Ok, Err, codes, if◌then◌else◌, ℕ}
+use Rattle.std.specs.Option.{ok_or}
 use Rattle.std.specs.Str.{bytes_eq}
-use Rattle.std.specs.List.{join_with_byte}
 use Rattle.ct_model.specs.declared.phase.Phase.{Phase}
 use Rattle.ct_model.specs.declared.phase.Phase.TheVariants.{Rest, Gather, Wait, Tally}
+use Rattle.ct_grammar.specs.declared.act.Act.{Act}
 use Rattle.ct_grammar.specs.declared.fact.Fact.{Fact}
 use Rattle.ct_grammar.specs.declared.fact.Fact.TheVariants.{Up, Crashed, Idle, Instance, Round, Phase as InPhase}
-use Rattle.ct_grammar.specs.declared.fact.Fact.TheVariants.{Received, Decided, Delivered, Table, Refuses}
-use Rattle.ct_grammar.specs.Words.{Word, only}
-use Rattle.ct_grammar.specs.Numbers.{◌>>=◌, number_of, max_u32}
-use Rattle.ct_grammar.specs.Acts.{act_of}
+use Rattle.ct_grammar.specs.declared.fact.Fact.TheVariants.{Received, Decided, Delivered, Table, Refuses, May}
+use Rattle.ct_grammar.specs.declared.fact.Fact.TheVariants.{Waiting, Waits, Heard, Acked, Estimate}
+use Rattle.ct_grammar.specs.declared.pick.Pick.{Pick}
+use Rattle.ct_grammar.specs.declared.reason.Reason.{Reason}
+use Rattle.ct_grammar.specs.declared.unfit.Unfit.{Unfit}
+use Rattle.ct_grammar.specs.declared.unfit.Unfit.TheVariants.{End, Word as Other}
+use Rattle.ct_grammar.specs.declared.wanted.Wanted.{Wanted}
+use Rattle.ct_grammar.specs.declared.wanted.Wanted.TheVariants as wanted
+use Rattle.ct_grammar.specs.Words.{Word, text_of}
+use Rattle.ct_grammar.specs.Unfits.{◌>>=◌, map_ok}
+use Rattle.ct_grammar.specs.Numbers.{members_of}
+use Rattle.ct_grammar.specs.Leading.{whole_first, over}
+use Rattle.ct_grammar.specs.Picks.{pick_first, behind_pick}
+use Rattle.ct_grammar.specs.Acts.{act_first, behind_act}
 use Rattle.ct_grammar.specs.Reasons.{reason_of}
 
 -- a phase, by its name
@@ -20,20 +31,6 @@ phase_of name =
     if bytes_eq name (codes "Wait") then Some Wait else (
     if bytes_eq name (codes "Tally") then Some Tally else None)))
 
--- the words before the last one, and the last one
-unfoldable pub before_last : List Word → Option (List Word × Word)
-before_last [] = None
-before_last (word ∷ []) = Some ([], word)
-before_last (word ∷ next ∷ words) = option_map (λ r. (word ∷ r.0, r.1)) (before_last (next ∷ words))
-
--- an act, and behind it the name of the reason for which it is refused
-unfoldable pub refusal_of : List Word → Option Fact
-refusal_of words = do
-  r ← before_last words
-  act ← act_of r.0
-  reason ← reason_of r.1
-  Some (Refuses act reason)
-
 -- the facts of one word
 unfoldable pub short_fact : Word → Option Fact
 short_fact name =
@@ -41,28 +38,115 @@ short_fact name =
     if bytes_eq name (codes "crashed") then Some Crashed else (
     if bytes_eq name (codes "idle") then Some Idle else None))
 
--- the facts of a number and of a phase
-unfoldable pub number_fact : Word → List Word → Option Fact
+-- the act, where no words stand behind it
+unfoldable pub ended : Act → List Word → Result Act Unfit
+ended act words = map_ok (λ _. act) (over (behind_act act) words)
+
+-- an act, alone
+unfoldable pub lone_act : List Word → Result Act Unfit
+lone_act words = act_first wanted.Act words >>= (λ r. ended r.0 r.1)
+
+-- an envelope, alone
+unfoldable pub lone_pick : List Word → Result Pick Unfit
+lone_pick words = do
+  r ← pick_first wanted.Envelope words
+  _ ← over (behind_pick r.0) r.1
+  Ok r.0
+
+-- an instance, a round or an amount, alone
+unfoldable pub lone_whole : Wanted → List Word → Result ℕ Unfit
+lone_whole what words = do
+  r ← whole_first what words
+  _ ← over wanted.Nothing r.1
+  Ok r.0
+
+-- a phase, alone
+unfoldable pub phase_first : List Word → Result Phase Unfit
+phase_first [] = Err (End wanted.Phase)
+phase_first (word ∷ words) = do
+  phase ← ok_or (phase_of word) (Other (length words) wanted.Phase)
+  _ ← over wanted.Nothing words
+  Ok phase
+
+-- the name of a reason, alone
+unfoldable pub reason_first : List Word → Result Reason Unfit
+reason_first [] = Err (End wanted.Reason)
+reason_first (word ∷ words) = do
+  reason ← ok_or (reason_of word) (Other (length words) wanted.Reason)
+  _ ← over wanted.Nothing words
+  Ok reason
+
+-- an act, and behind it the name of the reason for which it is refused
+unfoldable pub refusal_of : List Word → Result Fact Unfit
+refusal_of words = do
+  r ← act_first wanted.Act words
+  reason ← reason_first r.1
+  Ok (Refuses r.0 reason)
+
+-- the facts of an act and of an envelope; otherwise those of one word
+unfoldable pub act_fact : Word → List Word → Result Fact Unfit
+act_fact name words =
+    if bytes_eq name (codes "refuses") then refusal_of words else (
+    if bytes_eq name (codes "may") then map_ok May (lone_act words) else (
+    if bytes_eq name (codes "waits") then map_ok Waits (lone_pick words) else (do
+      fact ← ok_or (short_fact name) (Other (length words) wanted.Fact)
+      _ ← over wanted.Nothing words
+      Ok fact)))
+
+-- the facts of a number and of a phase; otherwise those of an act and of an envelope
+unfoldable pub number_fact : Word → List Word → Result Fact Unfit
 number_fact name words =
-    if bytes_eq name (codes "instance") then option_map Instance (only words >>= number_of max_u32) else (
-    if bytes_eq name (codes "round") then option_map Round (only words >>= number_of max_u32) else (
-    if bytes_eq name (codes "phase") then option_map InPhase (only words >>= phase_of) else None))
+    if bytes_eq name (codes "instance") then map_ok Instance (lone_whole wanted.Instance words) else (
+    if bytes_eq name (codes "round") then map_ok Round (lone_whole wanted.Round words) else (
+    if bytes_eq name (codes "phase") then map_ok InPhase (phase_first words) else (
+    if bytes_eq name (codes "waiting") then map_ok Waiting (lone_whole wanted.Waiting words) else act_fact name words)))
 
--- the words, with a space between each two
-abbrev pub text_of : List Word → List ℕ
-text_of words = join_with_byte 32 words
+-- the word is a set of members, or `-`
+unfoldable pub says_set : Word → Bool
+says_set word = bytes_eq word (codes "-") || is_some (members_of word)
 
--- the facts of several words
-unfoldable pub long_fact : Word → List Word → Option Fact
-long_fact name words =
-    if bytes_eq name (codes "received") then Some (Received (text_of words)) else (
-    if bytes_eq name (codes "decided") then Some (Decided (text_of words)) else (
-    if bytes_eq name (codes "delivered") then Some (Delivered (text_of words)) else (
-    if bytes_eq name (codes "table") then Some (Table (text_of words)) else (
-    if bytes_eq name (codes "refuses") then refusal_of words else number_fact name words))))
+-- a set of members or `-`, alone
+unfoldable pub lone_set : List Word → Result (Unit {0}) Unfit
+lone_set [] = Err (End wanted.Members)
+lone_set (word ∷ words) = if says_set word then over wanted.Nothing words else Err (Other (length words) wanted.Members)
+
+-- a word at least
+unfoldable pub some_words : List Word → Result (Unit {0}) Unfit
+some_words [] = Err (End wanted.Quoted)
+some_words (word ∷ words) = Ok tt
+
+-- the fact of this name quotes words
+unfoldable pub quotes_words : Word → Bool
+quotes_words name =
+    bytes_eq name (codes "received") || (bytes_eq name (codes "decided") || (bytes_eq name (codes "delivered")
+    || (bytes_eq name (codes "table") || bytes_eq name (codes "estimate"))))
+
+-- what the fact of this name quotes, where it quotes something: words, or a set of members
+unfoldable pub quotable : Word → List Word → Option (Result (Unit {0}) Unfit)
+quotable name words =
+    if quotes_words name then Some (some_words words) else (
+    if bytes_eq name (codes "heard") || bytes_eq name (codes "acked") then Some (lone_set words) else None)
+
+-- the fact of this name that quotes the text
+unfoldable pub text_fact : Word → List ℕ → Fact
+text_fact name text =
+    if bytes_eq name (codes "received") then Received text else (
+    if bytes_eq name (codes "decided") then Decided text else (
+    if bytes_eq name (codes "delivered") then Delivered text else (
+    if bytes_eq name (codes "table") then Table text else (
+    if bytes_eq name (codes "heard") then Heard text else (
+    if bytes_eq name (codes "acked") then Acked text else Estimate text)))))
+
+-- the fact that quotes the words, where it may quote them; otherwise another
+unfoldable pub quoted_fact : Option (Result (Unit {0}) Unfit) → Word → List Word → Result Fact Unfit
+quoted_fact None name words = number_fact name words
+quoted_fact (Some may) name words = map_ok (λ _. text_fact name (text_of words)) may
+
+-- the fact of this name
+unfoldable pub named_fact : Word → List Word → Result Fact Unfit
+named_fact name words = quoted_fact (quotable name words) name words
 
 -- a fact
-unfoldable pub fact_of : List Word → Option Fact
-fact_of [] = None
-fact_of (name ∷ []) = short_fact name
-fact_of (name ∷ word ∷ words) = long_fact name (word ∷ words)
+unfoldable pub fact_of : List Word → Result Fact Unfit
+fact_of [] = Err (End wanted.Fact)
+fact_of (name ∷ words) = named_fact name words

@@ -1,6 +1,6 @@
 -- The numbers of a line.
 use Rattle.std.specs.Prelude.{◌≡◌, ◌<◌, length, ℕ, ◌+◌, ◌-◌, ◌*◌, ◌==◌, List, [], ◌∷◌, Option, Some, None, option_and_then, nat_le}
-use Rattle.std.specs.Prelude.{take, drop, position, if◌then◌else◌}
+use Rattle.std.specs.Prelude.{Bool, is_some, take, drop, position, if◌then◌else◌}
 use Rattle.std.specs.Char.{is_ascii_digit}
 use Rattle.std.specs.List.{slice_split}
 use Rattle.ct_names.specs.declared.limit.TheConstants.{MAX_MEMBERS}
@@ -66,3 +66,7 @@ with_members set (part ∷ parts) = do
 -- the set of the members that stand between the commas
 unfoldable pub members_of : Word → Option (List ℕ)
 members_of word = with_members [] (slice_split (λ c. c == 44) word)
+
+-- the word has a comma
+abbrev pub has_comma : Word → Bool
+has_comma word = is_some (position (λ c. c == 44) word)

@@ -9,11 +9,12 @@ use Rattle.ct_names.specs.declared.refusal.Refusal.TheVariants.{TooFew, NotLarge
 use Rattle.ct_names.specs.declared.refusal.Refusal.TheVariants.{NotSent, StillWaiting}
 use Rattle.ct_grammar.specs.Words.{Word}
 use Rattle.ct_grammar.specs.declared.reason.Reason.{Reason}
-use Rattle.ct_grammar.specs.declared.reason.Reason.TheVariants.{NotThere, Rules}
+use Rattle.ct_grammar.specs.declared.reason.Reason.TheVariants.{NotThere, Across, Rules}
 
 -- how a reason is shown: by its name
 abbrev pub reason_text : Reason → List ℕ
 reason_text NotThere = codes "NotThere"
+reason_text Across = codes "Across"
 reason_text (Rules refusal) = refusal_text refusal
 
 -- a limit that a step would pass
@@ -44,9 +45,10 @@ step_reason name =
 unfoldable pub reason_of : Word → Option Reason
 reason_of name =
     if bytes_eq name (codes "NotThere") then Some NotThere else (
+    if bytes_eq name (codes "Across") then Some Across else (
     if bytes_eq name (codes "NoSuchMember") then Some (Rules NoSuchMember) else (
     if bytes_eq name (codes "Crashed") then Some (Rules Crashed) else (
     if bytes_eq name (codes "NotWaiting") then Some (Rules NotWaiting) else (
     if bytes_eq name (codes "BadCommand") then Some (Rules BadCommand) else (
     if bytes_eq name (codes "NotSent") then Some (Rules NotSent) else (
-    if bytes_eq name (codes "StillWaiting") then Some (Rules StillWaiting) else option_map Rules (step_reason name)))))))
+    if bytes_eq name (codes "StillWaiting") then Some (Rules StillWaiting) else option_map Rules (step_reason name))))))))

@@ -1,6 +1,6 @@
 -- The words of a line.
-use Rattle.std.specs.Prelude.{Option, Some, None, ℕ, Bool, true, false, not, ◌&&◌, ◌||◌, ◌==◌, List, [], ◌∷◌, filter}
-use Rattle.std.specs.List.{slice_split, take_while}
+use Rattle.std.specs.Prelude.{ℕ, Bool, true, false, not, ◌&&◌, ◌||◌, ◌==◌, List, [], ◌∷◌, filter}
+use Rattle.std.specs.List.{slice_split, take_while, join_with_byte}
 use Rattle.std.specs.Char.{is_ascii_digit}
 
 -- a word is its bytes
@@ -32,8 +32,11 @@ all_words line = filter (λ part. not (is_nothing part)) (slice_split is_blank l
 unfoldable pub words_of : List ℕ → List Word
 words_of line = take_while (λ word. not (begins_comment word)) (all_words line)
 
--- the word, where it is the only one
-unfoldable pub only : List Word → Option Word
-only [] = None
-only (word ∷ []) = Some word
-only (word ∷ next ∷ words) = None
+-- the word begins with this byte
+abbrev pub begins_with : ℕ → Word → Bool
+begins_with first [] = false
+begins_with first (c ∷ cs) = c == first
+
+-- the words, with a space between each two
+abbrev pub text_of : List Word → List ℕ
+text_of words = join_with_byte 32 words

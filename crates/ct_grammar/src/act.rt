@@ -1,7 +1,7 @@
 //! What members do.
 
 use crate::pick::Pick;
-use ct_names::{Command, Member, Serial};
+use ct_names::{Command, Member, MemberSet};
 
 /// What a member does, in a line of a schedule.
 #[derive(Clone, Copy, Debug, PartialEq, Eq)]
@@ -32,6 +32,8 @@ pub enum Act {
     Postpone(Pick),
     /// `lose data 1.1`
     Lose(Pick),
-    /// `repeat #7`
-    Repeat(Serial),
+    /// `repeat data 1.1`: of the envelopes that are so named and were sent to the member, the last one that does not wait there.
+    Repeat(Pick),
+    /// `lose from 2,3`: all that waits at the member and that a step of one of these sent.
+    LoseFrom(MemberSet),
 }

@@ -1,14 +1,24 @@
 //! What lines expect, in words.
 
-ghost use Rattle.std.specs.Prelude.{◌≡◌, IfOk, map, option_map};
-ghost use Rattle.ct_grammar.specs.Facts.{phase_of, before_last, refusal_of, short_fact, number_fact, text_of, long_fact, fact_of};
+ghost use Rattle.std.specs.Prelude.{◌≡◌, IfOk, map};
+ghost use Rattle.ct_grammar.specs.Facts.{phase_of, short_fact, ended, lone_act, lone_pick, lone_whole, phase_first, reason_first};
+ghost use Rattle.ct_grammar.specs.Facts.{refusal_of};
+ghost use Rattle.ct_grammar.specs.Facts.{act_fact, number_fact, says_set, lone_set, some_words, quotes_words, quotable, text_fact};
+ghost use Rattle.ct_grammar.specs.Facts.{named_fact, fact_of};
 
-use crate::acting::act;
+use crate::act::Act;
+use crate::acting::{act_first, behind_act};
 use crate::fact::Fact;
+use crate::joining::joined;
+use crate::leading::{over, whole_first};
 use crate::naming::reason;
-use crate::numbers::whole;
+use crate::numbers::members;
+use crate::pick::Pick;
+use crate::picking::{behind_pick, pick_first};
+use crate::reason::Reason;
 use crate::text::Text;
-use crate::words::only;
+use crate::unfit::Unfit;
+use crate::wanted::Wanted;
 use ct_model::Phase;
 use std::alloc::{AllocError, Global};
 
@@ -39,75 +49,218 @@ fn short_fact(name: &str) -> Option<Fact>
     }
 }
 
-// The words with a space between each two.
-fn joined(alloc: Global, words: &[&str]) -> Result<Text, AllocError>
-    ensures { IfOk result (λ text. text ≡ text_of (map (λ word. word.now) words.now)) }
+// The act, where no words stand behind it.
+#[tactic(auto, unfolding(crate::specs::Facts::ended))]
+fn ended(act: Act, words: &[&str]) -> Result<Act, Unfit>
+    ensures { result ≡ ended act (map (λ word. word.now) words.now) }
 {
-    let mut text = String::new(alloc);
-    let Some((first, others)) = words.split_first() else {
-        return Ok(Text::new(text));
-    };
-    text.push_str(first)?;
-    for word in others {
-        text.push_str(" ")?;
-        text.push_str(word)?;
-    }
-    Ok(Text::new(text))
+    over(words, behind_act(&act))?;
+    Ok(act)
 }
 
-// The words before the last one, and the last one.
-fn before_last<'a, 'b>(words: &'b [&'a str]) -> Option<(&'b [&'a str], &'a str)>
-    ensures { option_map (λ r. (map (λ word. word.now) r.0.now, r.1.now)) result ≡ before_last (map (λ word. word.now) words.now) }
+// An act, alone.
+#[tactic(auto, unfolding(crate::specs::Facts::lone_act))]
+fn lone_act(words: &[&str]) -> Result<Act, Unfit>
+    ensures { result ≡ lone_act (map (λ word. word.now) words.now) }
 {
-    let (last, front) = words.split_last()?;
-    Some((front, *last))
+    match act_first(words, Wanted::Act) {
+        Ok((act, rest)) => ended(act, rest),
+        Err(unfit) => Err(unfit),
+    }
+}
+
+// An envelope, alone.
+#[tactic(auto, unfolding(crate::specs::Facts::lone_pick))]
+fn lone_pick(words: &[&str]) -> Result<Pick, Unfit>
+    ensures { result ≡ lone_pick (map (λ word. word.now) words.now) }
+{
+    let (pick, rest) = pick_first(words, Wanted::Envelope)?;
+    over(rest, behind_pick(pick))?;
+    Ok(pick)
+}
+
+// An instance, a round or an amount, alone.
+#[tactic(auto, unfolding(crate::specs::Facts::lone_whole))]
+fn lone_whole(words: &[&str], wanted: Wanted) -> Result<u32, Unfit>
+    ensures { result ≡ lone_whole wanted (map (λ word. word.now) words.now) }
+{
+    let (n, rest) = whole_first(words, wanted)?;
+    over(rest, Wanted::Nothing)?;
+    Ok(n)
+}
+
+// A phase, alone.
+#[tactic(auto, unfolding(crate::specs::Facts::phase_first))]
+fn phase_first(words: &[&str]) -> Result<Phase, Unfit>
+    ensures { result ≡ phase_first (map (λ word. word.now) words.now) }
+{
+    let [word, rest @ ..] = words else {
+        return Err(Unfit::End(Wanted::Phase));
+    };
+    let Some(phase) = phase(word) else {
+        return Err(Unfit::before(rest, Wanted::Phase));
+    };
+    over(rest, Wanted::Nothing)?;
+    Ok(phase)
+}
+
+// The name of a reason, alone.
+#[tactic(auto, unfolding(crate::specs::Facts::reason_first))]
+fn reason_first(words: &[&str]) -> Result<Reason, Unfit>
+    ensures { result ≡ reason_first (map (λ word. word.now) words.now) }
+{
+    let [word, rest @ ..] = words else {
+        return Err(Unfit::End(Wanted::Reason));
+    };
+    let Some(reason) = reason(word) else {
+        return Err(Unfit::before(rest, Wanted::Reason));
+    };
+    over(rest, Wanted::Nothing)?;
+    Ok(reason)
 }
 
 // An act, and behind it the name of the reason for which it is refused.
 #[tactic(auto, unfolding(crate::specs::Facts::refusal_of))]
-fn refusal(words: &[&str]) -> Option<Fact>
+fn refusal(words: &[&str]) -> Result<Fact, Unfit>
     ensures { result ≡ refusal_of (map (λ word. word.now) words.now) }
 {
-    let (front, name) = before_last(words)?;
-    Some(Fact::Refuses(act(front)?, reason(name)?))
-}
-
-// The facts of a number and of a phase.
-#[tactic(auto, unfolding(crate::specs::Facts::number_fact))]
-fn number_fact(name: &str, words: &[&str]) -> Option<Fact>
-    ensures { result ≡ number_fact name.now (map (λ word. word.now) words.now) }
-{
-    match name {
-        "instance" => Some(Fact::Instance(whole(only(words)?.as_bytes())?)),
-        "round" => Some(Fact::Round(whole(only(words)?.as_bytes())?)),
-        "phase" => Some(Fact::Phase(phase(only(words)?)?)),
-        _ => None,
+    match act_first(words, Wanted::Act) {
+        Ok((act, rest)) => Ok(Fact::Refuses(act, reason_first(rest)?)),
+        Err(unfit) => Err(unfit),
     }
 }
 
-// The facts of several words.
-#[tactic(auto, unfolding(crate::specs::Facts::long_fact))]
-fn long_fact(alloc: Global, name: &str, words: &[&str]) -> Result<Option<Fact>, AllocError>
-    ensures { IfOk result (λ fact. fact ≡ long_fact name.now (map (λ word. word.now) words.now)) }
+// The facts of an act and of an envelope; otherwise those of one word.
+#[tactic(auto, unfolding(crate::specs::Facts::act_fact))]
+fn act_fact(name: &str, words: &[&str]) -> Result<Fact, Unfit>
+    ensures { result ≡ act_fact name.now (map (λ word. word.now) words.now) }
 {
     match name {
-        "received" => Ok(Some(Fact::Received(joined(alloc, words)?))),
-        "decided" => Ok(Some(Fact::Decided(joined(alloc, words)?))),
-        "delivered" => Ok(Some(Fact::Delivered(joined(alloc, words)?))),
-        "table" => Ok(Some(Fact::Table(joined(alloc, words)?))),
-        "refuses" => Ok(refusal(words)),
-        _ => Ok(number_fact(name, words)),
+        "refuses" => refusal(words),
+        "may" => Ok(Fact::May(lone_act(words)?)),
+        "waits" => Ok(Fact::Waits(lone_pick(words)?)),
+        _ => match short_fact(name) {
+            Some(fact) => {
+                over(words, Wanted::Nothing)?;
+                Ok(fact)
+            }
+            None => Err(Unfit::before(words, Wanted::Fact)),
+        },
+    }
+}
+
+// The facts of a number and of a phase; otherwise those of an act and of an envelope.
+#[tactic(auto, unfolding(crate::specs::Facts::number_fact))]
+fn number_fact(name: &str, words: &[&str]) -> Result<Fact, Unfit>
+    ensures { result ≡ number_fact name.now (map (λ word. word.now) words.now) }
+{
+    match name {
+        "instance" => Ok(Fact::Instance(lone_whole(words, Wanted::Instance)?)),
+        "round" => Ok(Fact::Round(lone_whole(words, Wanted::Round)?)),
+        "phase" => Ok(Fact::Phase(phase_first(words)?)),
+        "waiting" => Ok(Fact::Waiting(lone_whole(words, Wanted::Waiting)?)),
+        _ => act_fact(name, words),
+    }
+}
+
+// Whether the word is a set of members, or `-`.
+#[tactic(auto, unfolding(crate::specs::Facts::says_set))]
+fn says_set(word: &str) -> bool
+    ensures { result ≡ says_set word.now }
+{
+    word == "-" || members(word.as_bytes()).is_some()
+}
+
+// A set of members or `-`, alone.
+#[tactic(auto, unfolding(crate::specs::Facts::lone_set))]
+fn lone_set(words: &[&str]) -> Result<(), Unfit>
+    ensures { result ≡ lone_set (map (λ word. word.now) words.now) }
+{
+    match words {
+        [] => Err(Unfit::End(Wanted::Members)),
+        [word, rest @ ..] => {
+            if says_set(word) {
+                over(rest, Wanted::Nothing)
+            } else {
+                Err(Unfit::before(rest, Wanted::Members))
+            }
+        }
+    }
+}
+
+// A word at least.
+#[tactic(auto, unfolding(crate::specs::Facts::some_words))]
+fn some_words(words: &[&str]) -> Result<(), Unfit>
+    ensures { result ≡ some_words (map (λ word. word.now) words.now) }
+{
+    match words {
+        [] => Err(Unfit::End(Wanted::Quoted)),
+        [_, ..] => Ok(()),
+    }
+}
+
+// Whether the fact of this name quotes words.
+#[tactic(auto, unfolding(crate::specs::Facts::quotes_words))]
+fn quotes_words(name: &str) -> bool
+    ensures { result ≡ quotes_words name.now }
+{
+    name == "received"
+        || name == "decided"
+        || name == "delivered"
+        || name == "table"
+        || name == "estimate"
+}
+
+// What the fact of this name quotes, where it quotes something.
+#[tactic(auto, unfolding(crate::specs::Facts::quotable))]
+fn quotable(name: &str, words: &[&str]) -> Option<Result<(), Unfit>>
+    ensures { result ≡ quotable name.now (map (λ word. word.now) words.now) }
+{
+    if quotes_words(name) {
+        return Some(some_words(words));
+    }
+    if name == "heard" || name == "acked" {
+        Some(lone_set(words))
+    } else {
+        None
+    }
+}
+
+// The fact of this name that quotes the text.
+#[tactic(auto, unfolding(crate::specs::Facts::text_fact))]
+fn text_fact(name: &str, text: Text) -> Fact
+    ensures { result ≡ text_fact name.now text }
+{
+    match name {
+        "received" => Fact::Received(text),
+        "decided" => Fact::Decided(text),
+        "delivered" => Fact::Delivered(text),
+        "table" => Fact::Table(text),
+        "heard" => Fact::Heard(text),
+        "acked" => Fact::Acked(text),
+        _ => Fact::Estimate(text),
+    }
+}
+
+// The fact of this name.
+#[tactic(auto, unfolding(crate::specs::Facts::named_fact, crate::specs::Facts::quoted_fact))]
+fn named_fact(alloc: Global, name: &str, words: &[&str]) -> Result<Result<Fact, Unfit>, AllocError>
+    ensures { IfOk result (λ fact. fact ≡ named_fact name.now (map (λ word. word.now) words.now)) }
+{
+    match quotable(name, words) {
+        None => Ok(number_fact(name, words)),
+        Some(Err(unfit)) => Ok(Err(unfit)),
+        Some(Ok(())) => Ok(Ok(text_fact(name, joined(alloc, words)?))),
     }
 }
 
 /// A fact.
 #[tactic(auto, unfolding(crate::specs::Facts::fact_of))]
-pub(crate) fn fact(alloc: Global, words: &[&str]) -> Result<Option<Fact>, AllocError>
+pub(crate) fn fact(alloc: Global, words: &[&str]) -> Result<Result<Fact, Unfit>, AllocError>
     ensures { IfOk result (λ fact. fact ≡ fact_of (map (λ word. word.now) words.now)) }
 {
     match words {
-        [] => Ok(None),
-        [name] => Ok(short_fact(name)),
-        [name, rest @ ..] => long_fact(alloc, name, rest),
+        [] => Ok(Err(Unfit::End(Wanted::Fact))),
+        [name, rest @ ..] => named_fact(alloc, name, rest),
     }
 }

@@ -1,12 +1,13 @@
 //! What lines expect of members.
 
 use crate::act::Act;
+use crate::pick::Pick;
 use crate::reason::Reason;
 use crate::text::Text;
 use ct_model::Phase;
 use ct_names::{Instance, Round};
 
-/// What a line of a schedule expects of a member. The texts are those of the report's lines, behind their first word.
+/// What a line of a schedule expects of a member. The texts are what stands behind the fact's name.
 #[derive(Drop)]
 pub enum Fact {
     /// `up`
@@ -31,4 +32,16 @@ pub enum Fact {
     Table(Text),
     /// `refuses enter Decided`: the act is refused, for this reason.
     Refuses(Act, Reason),
+    /// `may enter`: the act would be allowed.
+    May(Act),
+    /// `waiting 3`: so many envelopes wait at the member.
+    Waiting(u32),
+    /// `waits est 1/1 from 3`: one that is so named waits at the member.
+    Waits(Pick),
+    /// `heard 1,3`, or `heard -`: the members whose estimates of its round it has.
+    Heard(Text),
+    /// `acked 1,3`, or `acked -`: the members whose acks of its round it has.
+    Acked(Text),
+    /// `estimate {1.1,2.1} ts 1`, or `estimate -`: its estimate and the timestamp.
+    Estimate(Text),
 }

@@ -49,6 +49,7 @@ pub(crate) fn reason(name: &str) -> Option<Reason>
 {
     match name {
         "NotThere" => Some(Reason::NotThere),
+        "Across" => Some(Reason::Across),
         "NoSuchMember" => Some(Reason::Rules(Refusal::NoSuchMember)),
         "Crashed" => Some(Reason::Rules(Refusal::Crashed)),
         "NotWaiting" => Some(Reason::Rules(Refusal::NotWaiting)),

@@ -1,18 +1,19 @@
 //! The numbers of lines.
 
 ghost use Rattle.std.specs.Prelude.{◌≡◌, ◌-◌, ◌<◌, ◌≤◌, Some, None, IfSome, if◌then◌else◌, option_map, position, length, ◌==◌, ◌∷◌, []};
-ghost use Rattle.std.specs.Prelude.{IfNone};
+ghost use Rattle.std.specs.Prelude.{IfNone, is_some};
 ghost use Rattle.std.specs.Char.{is_ascii_digit};
 ghost use Rattle.std.specs.List.{slice_split};
 ghost use Rattle.ct_names.specs.Group.{IsMember};
 ghost use Rattle.ct_names.specs.declared.limit.TheConstants.{MAX_MEMBERS};
 ghost use Rattle.ct_grammar.specs.Numbers.{number_of, number_in, IsParted, parted, two_numbers, members_of, max_u8, max_u32};
+ghost use Rattle.ct_grammar.specs.Numbers.{has_comma};
 
 use ct_names::{MAX_MEMBERS, Member, MemberSet};
 
-/// The number that the word writes, where it is decimal digits alone and the number is at most `high`.
+// The number that the word writes, where it is decimal digits alone and the number is at most `high`.
 #[tactic(auto, unfolding(crate::specs::Numbers::number_of))]
-pub(crate) fn number(word: &[u8], high: u64) -> Option<u64>
+fn number(word: &[u8], high: u64) -> Option<u64>
     ensures value { result ≡ number_of high word.now }
     ensures within { IfSome result (λ n. n ≤ high) }
 {
@@ -39,7 +40,7 @@ fn digit(c: u8) -> Option<u64>
     }
 }
 
-/// The same, where the number is also at least `low`.
+/// The number that the word writes, where it is decimal digits alone, and the number is at most `high` and at least `low`.
 #[tactic(auto, unfolding(crate::specs::Numbers::number_in))]
 pub(crate) fn number_in(word: &[u8], low: u64, high: u64) -> Option<u64>
     ensures value { result ≡ number_in low high word.now }
@@ -118,11 +119,18 @@ pub(crate) fn members(word: &[u8]) -> Option<MemberSet>
     Some(set)
 }
 
-// A member of a group.
-fn member(word: &[u8]) -> Option<Member>
+/// A member of a group.
+pub(crate) fn member(word: &[u8]) -> Option<Member>
     ensures value { result ≡ number_in 1 MAX_MEMBERS word.now }
     ensures good { IfSome result (IsMember MAX_MEMBERS) }
 {
     let n = number_in(word, 1, MAX_MEMBERS as u64)?;
     Some(n as u8)
+}
+
+/// Whether the word has a comma.
+pub(crate) fn has_comma(word: &[u8]) -> bool
+    ensures { result ≡ has_comma word.now }
+{
+    first(word, b',').is_some()
 }

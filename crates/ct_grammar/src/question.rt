@@ -11,6 +11,12 @@ pub enum Question {
     Next(Member),
     /// `state 2`: where the member stands.
     State(Member),
+    /// `waiting 2`: the envelopes that wait at the member.
+    Waiting(Member),
     /// `report`: the report as JSON.
     Report,
+    /// `record`: the record as JSON.
+    Record,
+    /// `limits`: how much of each limit is used.
+    Limits,
 }

@@ -1,185 +1,155 @@
 //! From the text of a line to what it says.
 
-ghost use Rattle.std.specs.Prelude.{◌≡◌, ◌≤◌, IfOk, IfSome, map};
-ghost use Rattle.ct_grammar.specs.Lines.{who_of, suspecting, turns_of, done_by, step_of, report_of, member_of, question_of};
-ghost use Rattle.ct_grammar.specs.Lines.{cells_of, size_of};
-ghost use Rattle.ct_grammar.specs.Lines.{heading_of, expected_of, named, of_words, line_of};
+ghost use Rattle.std.specs.Prelude.{◌≡◌, ◌≤◌, IfOk, map};
+ghost use Rattle.ct_grammar.specs.Lines.{done_by, played_of, lone_number, heading_of, worded, begun, of_words, line_of};
+ghost use Rattle.ct_grammar.specs.Questions.{alone};
+ghost use Rattle.ct_grammar.specs.declared.play.Play.TheVariants.{Heal};
 
 use crate::act::Act;
-use crate::acting::act;
-use crate::expecting::fact;
+use crate::asking::{lone_member, question};
+use crate::cutting::cut;
+use crate::given::Given;
+use crate::leading::{number_first, over};
 use crate::line::Line;
-use crate::numbers::{byte, members, number, number_in, whole};
-use crate::question::Question;
+use crate::misfit::{Misfit, misfit_of};
+use crate::naming_members::who;
+use crate::numbers::has_comma;
+use crate::play::Play;
+use crate::stating::acted;
+use crate::turning::{expected, settle, turns};
+use crate::unfit::Unfit;
+use crate::wanted::Wanted;
 use crate::who::Who;
-use crate::words::{only, words_of};
-use ct_names::{MAX_BOUND, MAX_CELLS, MAX_MEMBERS, Member, MemberSet};
+use crate::words::words_of;
+use ct_names::{MAX_BOUND, MAX_CELLS, MAX_MEMBERS};
 use std::alloc::{AllocError, Global};
 
-/// What the line says, a text without its line feed; None where it is not understood, as where words are left over.
+/// What the line says, a text without its line feed, or why it is not understood.
 #[tactic(auto, unfolding(crate::specs::Lines::line_of))]
-pub fn line_of(alloc: Global, text: &str) -> Result<Option<Line>, AllocError>
+pub fn line_of(alloc: Global, text: &str) -> Result<Result<Line, Misfit>, AllocError>
     ensures { IfOk result (λ line. line ≡ line_of text.now) }
 {
     let words = words_of(alloc, text)?;
-    of_words(alloc, words.as_slice())
+    match of_words(alloc, words.as_slice())? {
+        Ok(line) => Ok(Ok(line)),
+        Err(unfit) => Ok(Err(misfit_of(alloc, words.as_slice(), unfit)?)),
+    }
 }
 
 // The line of these words.
 #[tactic(auto, unfolding(crate::specs::Lines::of_words))]
-fn of_words(alloc: Global, words: &[&str]) -> Result<Option<Line>, AllocError>
+fn of_words(alloc: Global, words: &[&str]) -> Result<Result<Line, Unfit>, AllocError>
     ensures { IfOk result (λ line. line ≡ of_words (map (λ word. word.now) words.now)) }
 {
     match words {
-        [] => Ok(Some(Line::Blank)),
-        [name, rest @ ..] => named(alloc, name, rest),
+        [] => Ok(Ok(Line::Blank)),
+        [name, rest @ ..] => begun(alloc, who(name), name, rest),
     }
 }
 
-// What is expected of a member; otherwise a line of the heading, a question or what members do.
-#[tactic(auto, unfolding(crate::specs::Lines::named))]
-fn named(alloc: Global, name: &str, words: &[&str]) -> Result<Option<Line>, AllocError>
-    ensures { IfOk result (λ line. line ≡ named name.now (map (λ word. word.now) words.now)) }
+// What members do, where the first word names some; otherwise what that word begins.
+#[tactic(auto, unfolding(crate::specs::Lines::begun))]
+fn begun(
+    alloc: Global,
+    who: Option<Who>,
+    name: &str,
+    words: &[&str],
+) -> Result<Result<Line, Unfit>, AllocError>
+    ensures { IfOk result (λ line. line ≡ begun who name.now (map (λ word. word.now) words.now)) }
+{
+    let Some(who) = who else {
+        if has_comma(name.as_bytes()) {
+            return Ok(Err(Unfit::before(words, Wanted::Set)));
+        }
+        return worded(alloc, name, words);
+    };
+    match done_by(alloc, who, words)? {
+        Ok(play) => Ok(Ok(Line::Play(play))),
+        Err(unfit) => Ok(Err(unfit)),
+    }
+}
+
+// What stands behind the members: `turns`, `settle` or an act.
+#[tactic(auto, unfolding(crate::specs::Lines::done_by))]
+fn done_by(alloc: Global, who: Who, words: &[&str]) -> Result<Result<Play, Unfit>, AllocError>
+    ensures { IfOk result (λ play. play ≡ done_by who (map (λ word. word.now) words.now)) }
+{
+    let [name, rest @ ..] = words else {
+        return Ok(Err(Unfit::End(Wanted::Doing)));
+    };
+    if *name == "turns" {
+        return turns(alloc, who, rest);
+    }
+    if *name == "settle" {
+        return Ok(settle(who, rest));
+    }
+    acted(alloc, who, words)
+}
+
+// What is expected of members; otherwise a line that a word of its own begins.
+#[tactic(auto, unfolding(crate::specs::Lines::worded))]
+fn worded(alloc: Global, name: &str, words: &[&str]) -> Result<Result<Line, Unfit>, AllocError>
+    ensures { IfOk result (λ line. line ≡ worded name.now (map (λ word. word.now) words.now)) }
 {
     match name {
-        "expect" => expected(alloc, words),
+        "expect" => match expected(alloc, words)? {
+            Ok((who, fact)) => Ok(Ok(Line::Play(Play::Expect(who, fact)))),
+            Err(unfit) => Ok(Err(unfit)),
+        },
         _ => Ok(heading(name, words)),
     }
 }
 
-// A member, and what is expected of it.
-#[tactic(auto, unfolding(crate::specs::Lines::expected_of))]
-fn expected(alloc: Global, words: &[&str]) -> Result<Option<Line>, AllocError>
-    ensures { IfOk result (λ line. line ≡ expected_of (map (λ word. word.now) words.now)) }
-{
-    let [name, rest @ ..] = words else {
-        return Ok(None);
-    };
-    let Some(p) = byte(name.as_bytes()) else {
-        return Ok(None);
-    };
-    match fact(alloc, rest)? {
-        Some(fact) => Ok(Some(Line::Expect(p, fact))),
-        None => Ok(None),
-    }
-}
-
-// The size of the group, the number of cells, the bound on a proposal, or a crash; otherwise questions and what members do.
+// The size of the group, the number of cells, the bound on a proposal; otherwise what is played.
 #[tactic(auto, unfolding(crate::specs::Lines::heading_of))]
-fn heading(name: &str, words: &[&str]) -> Option<Line>
+fn heading(name: &str, words: &[&str]) -> Result<Line, Unfit>
     ensures { result ≡ heading_of name.now (map (λ word. word.now) words.now) }
 {
     match name {
-        "members" => Some(Line::Members(size(words, MAX_MEMBERS as u64)? as u8)),
-        "cells" => Some(Line::Cells(cells(words)?)),
-        "batch" => Some(Line::Batch(size(words, MAX_BOUND as u64)? as u32)),
-        "crash" => Some(Line::Act(Who::One(member(words)?), Act::Crash)),
-        _ => question(name, words),
+        "members" => {
+            let n = lone_number(words, 1, MAX_MEMBERS as u64, Wanted::GroupSize)?;
+            Ok(Line::Given(Given::Members(n as u8)))
+        }
+        "cells" => {
+            let n = lone_number(words, 0, MAX_CELLS as u64, Wanted::CellCount)?;
+            Ok(Line::Given(Given::Cells(n as u16)))
+        }
+        "batch" => {
+            let n = lone_number(words, 1, MAX_BOUND as u64, Wanted::Bound)?;
+            Ok(Line::Given(Given::Batch(n as u32)))
+        }
+        _ => Ok(Line::Play(played(name, words)?)),
     }
 }
 
-// A number from 1 to this one, alone.
-#[tactic(auto, unfolding(crate::specs::Lines::size_of))]
-fn size(words: &[&str], high: u64) -> Option<u64>
-    ensures value { result ≡ size_of high (map (λ word. word.now) words.now) }
-    ensures within { IfSome result (λ n. n ≤ high) }
+// A number from `low` to `high`, alone.
+#[tactic(auto, unfolding(crate::specs::Lines::lone_number))]
+fn lone_number(words: &[&str], low: u64, high: u64, wanted: Wanted) -> Result<u64, Unfit>
+    ensures value { result ≡ lone_number low high wanted (map (λ word. word.now) words.now) }
+    ensures within { IfOk result (λ n. n ≤ high) }
 {
-    number_in(only(words)?.as_bytes(), 1, high)
+    let (n, rest) = number_first(words, low, high, wanted)?;
+    over(rest, Wanted::Nothing)?;
+    Ok(n)
 }
 
-// A number of cells, alone.
-#[tactic(auto, unfolding(crate::specs::Lines::cells_of))]
-fn cells(words: &[&str]) -> Option<u16>
-    ensures { result ≡ cells_of (map (λ word. word.now) words.now) }
-{
-    Some(number(only(words)?.as_bytes(), MAX_CELLS as u64)? as u16)
-}
-
-// The member that stands behind a question's name.
-#[tactic(auto, unfolding(crate::specs::Lines::member_of))]
-fn member(words: &[&str]) -> Option<Member>
-    ensures { result ≡ member_of (map (λ word. word.now) words.now) }
-{
-    byte(only(words)?.as_bytes())
-}
-
-// A question; otherwise what members do.
-#[tactic(auto, unfolding(crate::specs::Lines::question_of))]
-fn question(name: &str, words: &[&str]) -> Option<Line>
-    ensures { result ≡ question_of name.now (map (λ word. word.now) words.now) }
+// A crash, a cut or its end; otherwise a question.
+#[tactic(auto, unfolding(crate::specs::Lines::played_of))]
+fn played(name: &str, words: &[&str]) -> Result<Play, Unfit>
+    ensures { result ≡ played_of name.now (map (λ word. word.now) words.now) }
 {
     match name {
-        "enabled" => Some(Line::Ask(Question::Enabled(member(words)?))),
-        "next" => Some(Line::Ask(Question::Next(member(words)?))),
-        "state" => Some(Line::Ask(Question::State(member(words)?))),
-        "report" => report(words),
-        _ => step(name, words),
+        "crash" => Ok(Play::Act(Who::One(lone_member(words)?), Act::Crash)),
+        "cut" => Ok(Play::Cut(cut(words)?)),
+        "heal" => heal(words),
+        _ => Ok(Play::Ask(question(name, words)?)),
     }
 }
 
-// Nothing stands behind `report`.
-#[tactic(auto, unfolding(crate::specs::Lines::report_of))]
-fn report(words: &[&str]) -> Option<Line>
-    ensures { result ≡ report_of (map (λ word. word.now) words.now) }
+// Nothing stands behind `heal`.
+fn heal(words: &[&str]) -> Result<Play, Unfit>
+    ensures { result ≡ alone Heal (map (λ word. word.now) words.now) }
 {
-    match words {
-        [] => Some(Line::Ask(Question::Report)),
-        [_, ..] => None,
-    }
-}
-
-// A line that begins with a member or with `all`.
-#[tactic(auto, unfolding(crate::specs::Lines::step_of))]
-fn step(word: &str, words: &[&str]) -> Option<Line>
-    ensures { result ≡ step_of word.now (map (λ word. word.now) words.now) }
-{
-    done_by(who(word)?, words)
-}
-
-// A member, or all that are up.
-#[tactic(auto, unfolding(crate::specs::Lines::who_of))]
-fn who(word: &str) -> Option<Who>
-    ensures { result ≡ who_of word.now }
-{
-    match word {
-        "all" => Some(Who::All),
-        _ => Some(Who::One(byte(word.as_bytes())?)),
-    }
-}
-
-// What stands behind the members: `turns`, or an act.
-#[tactic(auto, unfolding(crate::specs::Lines::done_by))]
-fn done_by(who: Who, words: &[&str]) -> Option<Line>
-    ensures { result ≡ done_by who (map (λ word. word.now) words.now) }
-{
-    match words {
-        [] => None,
-        [name, rest @ ..] => match *name {
-            "turns" => turns(who, rest),
-            _ => Some(Line::Act(who, act(words)?)),
-        },
-    }
-}
-
-// What stands behind `turns`: how many, and the members that are suspected, where some are.
-#[tactic(auto, using(crate::proofs::Lengths::turns_lengths), unfolding(crate::specs::Lines::turns_of))]
-fn turns(who: Who, words: &[&str]) -> Option<Line>
-    ensures { result ≡ turns_of who (map (λ word. word.now) words.now) }
-{
-    match words {
-        [turns] => Some(Line::Turns(who, whole(turns.as_bytes())?, MemberSet::new())),
-        [turns, name, set] => suspecting(who, turns, name, set),
-        _ => None,
-    }
-}
-
-// Turns, and the members that are suspected meanwhile.
-#[tactic(auto, unfolding(crate::specs::Lines::suspecting))]
-fn suspecting(who: Who, turns: &str, name: &str, set: &str) -> Option<Line>
-    ensures { result ≡ suspecting who turns.now name.now set.now }
-{
-    match name {
-        "suspecting" => Some(Line::Turns(who, whole(turns.as_bytes())?, members(set.as_bytes())?)),
-        _ => None,
-    }
+    over(words, Wanted::Nothing)?;
+    Ok(Play::Heal)
 }

@@ -11,6 +11,8 @@ use std::fmt;
 pub enum Reason {
     /// No envelope that is so named waits.
     NotThere,
+    /// The envelope was sent on another side of a cut.
+    Across,
     /// The rules refuse the step.
     Rules(Refusal),
 }
@@ -21,6 +23,7 @@ impl fmt::Display for Reason {
     fn fmt<W: fmt::Write>(&self, f: &mut fmt::Formatter<W>) -> fmt::Result {
         match self {
             Reason::NotThere => f.write_str("NotThere"),
+            Reason::Across => f.write_str("Across"),
             Reason::Rules(refusal) => write!(f, "{refusal}"),
         }
     }

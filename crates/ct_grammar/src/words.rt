@@ -1,8 +1,8 @@
 //! The words of lines.
 
-ghost use Rattle.std.specs.Prelude.{◌≡◌, ◌∷◌, ◌<◌, [], IfOk, IfSome, MatchOption, length, map, option_map};
+ghost use Rattle.std.specs.Prelude.{◌≡◌, ◌∷◌, ◌<◌, [], IfOk, IfSome, MatchOption, length, map};
 ghost use Rattle.std.specs.List.{prefix_len, position_or_len};
-ghost use Rattle.ct_grammar.specs.Words.{is_blank, begins_comment, words_of, only};
+ghost use Rattle.ct_grammar.specs.Words.{is_blank, begins_comment, words_of, begins_with};
 
 use std::alloc::{AllocError, Global};
 
@@ -75,13 +75,12 @@ fn begins_comment(word: &[u8]) -> bool
     }
 }
 
-/// The word, where it is the only one.
-#[tactic(auto, unfolding(crate::specs::Words::only))]
-pub(crate) fn only<'a>(words: &[&'a str]) -> Option<&'a str>
-    ensures { option_map (λ word. word.now) result ≡ only (map (λ word. word.now) words.now) }
+/// Whether the word begins with this byte.
+pub(crate) fn begins_with(word: &str, first: u8) -> bool
+    ensures { result ≡ begins_with first word.now }
 {
-    match words {
-        [word] => Some(*word),
-        _ => None,
+    match word.as_bytes() {
+        [] => false,
+        [c, ..] => *c == first,
     }
 }

@@ -6,9 +6,9 @@ use Rattle.std.proofs.Math.Seq.{take-append_seam}
 use Rattle.std.specs.Prelude.{IfSome, OnErr, Result, Ok, Err, ⊤}
 use Rattle.std.specs.Io.KnownBytes.{Appends, Consumes, IsAtEnd}
 use Rattle.ct_streams.specs.Streams.{WritesPart}
-use Rattle.ct_judge.specs.Sessions.{Hearing, IsEnd, Says, SaysPart, Session, after_byte, after_bytes, at_end, opening, said_at, said_by}
+use Rattle.ct_judge.specs.Sessions.{Hearing, IsEnd, Says, SaysPart, Session, after_byte, after_bytes, at_end, heard_in, opening}
+use Rattle.ct_judge.specs.Sessions.{said_at, said_by}
 use Rattle.ct_judge.specs.Sessions.{said_first, session}
-use Rattle.ct_judge.specs.Standing.{Standing}
 
 -- ---- what is written
 
@@ -142,7 +142,7 @@ begins input old = record { said = []; heard = heard_nothing input; wrote = wrot
 -- ---- a read more
 
 said_twice : (a b : List ℕ) (s : Session) → said_first a (said_first b s) ≡ said_first (a ++ b) s
-said_twice a b s = ap (λ l. record { text = l; standing = s.standing }) (sym (append_assoc a b s.text))
+said_twice a b s = ap (λ l. record { text = l; hearing = s.hearing }) (sym (append_assoc a b s.text))
 
 session_on : (t : Hearing) (bytes rest : List ℕ) → session t (bytes ++ rest) ≡
     said_first (said_by t bytes) (session (after_bytes t bytes) rest)
@@ -214,12 +214,12 @@ is_at_end None next c e = tt
 is_at_end (Some bytes) None c e = absurd c
 is_at_end (Some bytes) (Some rest) c e = c ∙ e
 
-pub ends_standing : (input left : Option (List ℕ)) (t : Hearing) (said : List ℕ) (s : Standing) → IsAtEnd left → IsHeard input left t said →
-    s ≡ (at_end t t.line).standing → IsEnd input s
-ends_standing None left t said s e h is = tt
-ends_standing (Some bytes) None t said s e h is = absurd h
-ends_standing (Some bytes) (Some rest) t said s e h is =
-    is ∙ sym (ap (λ (v : Session). v.standing) (h ∙ ap (λ l. said_first said (session t l)) e))
+pub ends_hearing : (input left : Option (List ℕ)) (t : Hearing) (said : List ℕ) (s : Hearing) → IsAtEnd left → IsHeard input left t said →
+    s ≡ (at_end t t.line).hearing → IsEnd input (heard_in s)
+ends_hearing None left t said s e h is = tt
+ends_hearing (Some bytes) None t said s e h is = absurd h
+ends_hearing (Some bytes) (Some rest) t said s e h is =
+    ap heard_in (is ∙ sym (ap (λ (v : Session). v.hearing) (h ∙ ap (λ l. said_first said (session t l)) e)))
 
 pub ends_text : (input left : Option (List ℕ)) (t : Hearing) (said : List ℕ) (old mid new : Option (List ℕ)) → IsAtEnd left →
     IsHeard input left t said → Appends old mid said → Appends mid new (at_end t t.line).text → Says input old new

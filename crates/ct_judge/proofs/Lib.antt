@@ -2,5 +2,5 @@ pub mod Explaining
 pub mod Hearing
 pub mod Kept
 pub mod Parts
-pub mod Reading
+pub mod Lines
 pub mod Utf8

@@ -1,11 +1,12 @@
 -- How sessions end, and what is kept of them.
-use Rattle.std.specs.Prelude.{◌≡◌, ℕ, Bool, false, List, [], ◌∷◌, ◌++◌, Option, Some, None, Result, Ok, Err, IsOk, IsOkAnd, ⊤, if◌then◌else◌}
+use Rattle.std.specs.Prelude.{◌≡◌, ℕ, Bool, false, List, [], ◌∷◌, ◌++◌, Option, Some, None, Result, Ok, Err, IsOk, IsOkAnd, ⊤}
+use Rattle.std.specs.Prelude.{if◌then◌else◌}
 use Rattle.ct_model.specs.Rehearsal.{Rehearsal}
 use Rattle.ct_streams.specs.declared.status.Status.TheVariants as status
 use Rattle.ct_streams.specs.Statuses.{code}
 use Rattle.ct_streams.specs.NewFiles.{Makes, MakesPart}
 use Rattle.ct_records.specs.Text.{record_text}
-use Rattle.ct_judge.specs.Standing.{Standing}
+use Rattle.ct_judge.specs.declared.heard.Heard.{Heard}
 use Rattle.ct_judge.specs.declared.keep_fault.KeepFault.{KeepFault}
 use Rattle.ct_judge.specs.declared.keep_fault.KeepFault.TheVariants.{NoMembers, Write, Memory}
 use Rattle.ct_play.specs.declared.line_fault.LineFault.{LineFault}
@@ -24,8 +25,8 @@ is_left session.Write broken = broken
 is_left _ broken = false
 
 -- how a session ended for a program
-abbrev pub end_of : Result Standing SessionFault → Bool → Result (Option Standing) SessionFault
-end_of (Ok s) broken = Ok (Some s)
+abbrev pub end_of : Result Heard SessionFault → Bool → Result (Option Heard) SessionFault
+end_of (Ok heard) broken = Ok (Some heard)
 end_of (Err fault) broken = if is_left fault broken then Ok None else Err fault
 
 -- the text is the record of the session's world and a line feed

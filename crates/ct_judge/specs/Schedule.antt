@@ -1,6 +1,7 @@
 -- Whole schedules.
-use Rattle.std.specs.Prelude.{◌≡◌, ℕ, ◌+◌, ◌==◌, List, [], ◌∷◌, ◌++◌, codes, string_bytes, IsOkAnd, ⊤, Option, Some, Result, Ok, Err}
-use Rattle.std.specs.Prelude.{if◌then◌else◌}
+use Rattle.std.specs.Prelude.{◌≡◌, ℕ, Bool, ◌+◌, ◌==◌, List, [], ◌∷◌, ◌++◌, codes, string_bytes, IsOk, IsOkAnd, ⊤, Option, Some, Result}
+use Rattle.std.specs.Prelude.{Ok, Err}
+use Rattle.std.specs.List.{slice_split}
 use Rattle.std.specs.Io.KnownBytes.{Appends}
 use Rattle.ct_model.specs.Rehearsal.{Rehearsal, state_of}
 use Rattle.ct_model.specs.Run.{run}
@@ -8,16 +9,16 @@ use Rattle.ct_model.specs.Safe.{IsSafe}
 use Rattle.ct_streams.specs.Streams.{WritesPart}
 use Rattle.ct_records.specs.Text.{record_text}
 use Rattle.ct_play.specs.Acting.{go_on}
+use Rattle.ct_judge.specs.Reading.{shown}
 use Rattle.ct_judge.specs.Standing.{Standing, start, world_of}
 use Rattle.ct_judge.specs.Telling.{Explained, told}
 use Rattle.ct_play.specs.declared.line_fault.LineFault.{LineFault}
 use Rattle.ct_judge.specs.declared.record_fault.RecordFault.{RecordFault}
 use Rattle.ct_judge.specs.declared.record_fault.RecordFault.TheVariants.{Line, TooLong, Read, Write, Memory, Board}
 
--- where a schedule stands, the bytes of its line that is not over yet, and how many lines are over
+-- where a schedule stands, and how many of its lines are over
 pub record Progress : Type 0 where
   pub standing : Standing
-  pub line : List ℕ
   pub number : ℕ
 
 -- the first line that is refused, counted from 1, its fault, and the text of that
@@ -27,24 +28,29 @@ pub record Stopped : Type 0 where
   pub text : List ℕ
 
 abbrev pub beginning : Progress
-beginning = record { standing = start; line = []; number = 0 }
+beginning = record { standing = start; number = 0 }
 
--- after a line that comes to this
-abbrev pub line_over : Progress → Result Standing Explained → Result Progress Stopped
-line_over t (Ok s) = Ok (record { standing = s; line = []; number = t.number + 1 })
-line_over t (Err e) = Err (record { at = t.number + 1; fault = e.fault; text = e.text })
+-- after a line that comes to this; a fault is told behind its line
+abbrev pub line_over : Progress → List ℕ → Result Standing Explained → Result Progress Stopped
+line_over t line (Ok s) = Ok (record { standing = s; number = t.number + 1 })
+line_over t line (Err e) = Err (record { at = t.number + 1; fault = e.fault; text = shown line ++ e.text })
 
--- the line is over
-unfoldable pub ended : Progress → Result Progress Stopped
-ended t = line_over t (told t.standing t.line)
+-- after one line more
+unfoldable pub after_line : Progress → List ℕ → Result Progress Stopped
+after_line t line = line_over t line (told t.standing line)
 
--- a line feed ends the line; another byte joins it
-abbrev pub after_byte : Progress → ℕ → Result Progress Stopped
-after_byte t byte = if byte == 10 then ended t else Ok (record t { line = t.line ++ byte ∷ [] })
+-- after these lines, one by one
+abbrev pub after_lines : Progress → List (List ℕ) → Result Progress Stopped
+after_lines t [] = Ok t
+after_lines t (line ∷ lines) = go_on (after_line t line) (λ u. after_lines u lines)
 
-abbrev pub after_bytes : Progress → List ℕ → Result Progress Stopped
-after_bytes t [] = Ok t
-after_bytes t (byte ∷ bytes) = go_on (after_byte t byte) (λ u. after_bytes u bytes)
+-- ends a line
+abbrev pub is_feed : ℕ → Bool
+is_feed byte = byte == 10
+
+-- the lines of a text: what its line feeds part, the last one up to the end
+unfoldable pub lines_of : List ℕ → List (List ℕ)
+lines_of text = slice_split is_feed text
 
 -- the world in the end; the last line is told where no line made one
 abbrev pub world_at : ℕ → Result Rehearsal LineFault → Result Rehearsal Stopped
@@ -55,9 +61,30 @@ abbrev pub finished : Result Progress Stopped → Result Rehearsal Stopped
 finished (Ok t) = world_at t.number (world_of t.standing)
 finished (Err stopped) = Err stopped
 
--- what a schedule of these bytes comes to: the record, or its first line that is refused. The end ends the last line
+-- what a schedule of this text comes to: the record, or its first line that is refused
 unfoldable pub schedule : List ℕ → Result Rehearsal Stopped
-schedule bytes = finished (go_on (after_bytes beginning bytes) ended)
+schedule text = finished (after_lines beginning (lines_of text))
+
+-- ---- what is taken before a line that is refused
+
+-- goes on from a result; after a fault it stays here
+abbrev pub or_stay : {A E : Type 0} → A → Result A E → (A → A) → A
+or_stay here (Ok x) more = more x
+or_stay here (Err fault) more = here
+
+-- after the lines before the first that is refused
+abbrev pub before_fault : Progress → List (List ℕ) → Progress
+before_fault t [] = t
+before_fault t (line ∷ lines) = or_stay t (after_line t line) (λ u. before_fault u lines)
+
+-- the world that they lead to
+unfoldable pub part_of : List ℕ → Result Rehearsal LineFault
+part_of text = world_of (before_fault beginning (lines_of text)).standing
+
+-- its record and a line feed; nothing where the number of members was not given
+abbrev pub part_text : Result Rehearsal LineFault → List ℕ
+part_text (Ok w) = record_text w ++ 10 ∷ []
+part_text (Err fault) = []
 
 -- ---- what `record` answers
 
@@ -95,3 +122,31 @@ Writes r old new = IsOkAnd r (λ w. Appends old new (record_text w ++ 10 ∷ [])
 -- some first bytes of it are what was written
 abbrev pub WritesPartOf : Result Rehearsal Stopped → Option (List ℕ) → Option (List ℕ) → Type 0
 WritesPartOf r old new = IsOkAnd r (λ w. WritesPart old new (record_text w ++ 10 ∷ []))
+
+-- the fault is that of a line
+abbrev pub IsOfLine : RecordFault → Type 0
+IsOfLine (Line at fault text) = ⊤
+IsOfLine TooLong = ⊥
+IsOfLine Read = ⊥
+IsOfLine Write = ⊥
+IsOfLine Memory = ⊥
+IsOfLine Board = ⊥
+
+-- after a fault of a line it stands here
+abbrev pub IsLeftAt : Progress → Progress → RecordFault → Type 0
+IsLeftAt here t (Line at fault text) = t ≡ here
+IsLeftAt here t TooLong = ⊤
+IsLeftAt here t Read = ⊤
+IsLeftAt here t Write = ⊤
+IsLeftAt here t Memory = ⊤
+IsLeftAt here t Board = ⊤
+
+-- how a schedule ends: it has no fault, or this one
+abbrev pub IsEndIn : {A : Type 0} → Result A Stopped → Result (Unit {0}) RecordFault → Type 0
+IsEndIn r (Ok u) = IsOk r
+IsEndIn r (Err fault) = IsFaultIn r fault
+
+-- the end is that of the text, or of a line that is refused
+abbrev pub IsToldEnd : Result (Unit {0}) RecordFault → Type 0
+IsToldEnd (Ok u) = ⊤
+IsToldEnd (Err fault) = IsOfLine fault

@@ -1,28 +1,34 @@
 -- Whole sessions.
-use Rattle.std.specs.Prelude.{◌≡◌, ℕ, ◌==◌, nat_lt, List, [], ◌∷◌, ◌++◌, length, Option, Some, None, ⊤, if◌then◌else◌}
+use Rattle.std.specs.Prelude.{◌≡◌, ℕ, Bool, false, ◌||◌, ◌==◌, nat_lt, List, [], ◌∷◌, ◌++◌, length, Option, Some, None, Result, Err, ⊤}
+use Rattle.std.specs.Prelude.{if◌then◌else◌}
 use Rattle.std.specs.Io.KnownBytes.{Appends}
 use Rattle.ct_streams.specs.Streams.{WritesPart}
 use Rattle.ct_grammar.specs.declared.line.Line.{Line}
-use Rattle.ct_judge.specs.Answers.{answer, standing_after}
-use Rattle.ct_judge.specs.Judging.{line_in}
+use Rattle.ct_judge.specs.Answers.{answer, is_refused, standing_after}
+use Rattle.ct_judge.specs.Reading.{line_in}
 use Rattle.ct_judge.specs.Standing.{Standing, start}
+use Rattle.ct_judge.specs.declared.heard.Heard.{Heard}
+use Rattle.ct_judge.specs.declared.misread.Misread.{Misread}
+use Rattle.ct_judge.specs.declared.misread.Misread.TheVariants.{TooLong}
 use Rattle.ct_judge.specs.declared.session.TheConstants.{LONGEST}
 
--- where a session stands, and the bytes of its line that is not over yet: one more than a line may have at most
+-- where a session stands, the bytes of its line that is not over yet: one more than a line may have at most, and whether a line
+-- was refused
 pub record Hearing : Type 0 where
   pub standing : Standing
   pub line : List ℕ
+  pub refused : Bool
 
 abbrev pub opening : Hearing
-opening = record { standing = start; line = [] }
+opening = record { standing = start; line = []; refused = false }
 
 -- the line with one byte more
 unfoldable pub kept : List ℕ → ℕ → List ℕ
 kept line byte = if nat_lt LONGEST (length line) then line else line ++ byte ∷ []
 
--- the line that these bytes are, where it is not too long
-unfoldable pub line_if : List ℕ → Option Line
-line_if line = if nat_lt LONGEST (length line) then None else line_in line
+-- the line that these bytes are; one that is too long is none
+unfoldable pub line_if : List ℕ → Result Line Misread
+line_if line = if nat_lt LONGEST (length line) then Err TooLong else line_in line
 
 -- the answer to the line
 unfoldable pub answer_at : Hearing → List ℕ
@@ -30,21 +36,25 @@ answer_at t = answer t.standing (line_if t.line)
 
 -- the line is over
 unfoldable pub line_over : Hearing → Hearing
-line_over t = record { standing = standing_after t.standing (line_if t.line); line = [] }
+line_over t = record {
+  standing = standing_after t.standing (line_if t.line);
+  line = [];
+  refused = t.refused || is_refused t.standing (line_if t.line);
+}
 
 -- what a session says in all, and where it ends
 pub record Session : Type 0 where
   pub text : List ℕ
-  pub standing : Standing
+  pub hearing : Hearing
 
 -- this is said first
 abbrev pub said_first : List ℕ → Session → Session
-said_first text s = record { text = text ++ s.text; standing = s.standing }
+said_first text s = record { text = text ++ s.text; hearing = s.hearing }
 
 -- the end ends the line, if one has begun
 abbrev pub at_end : Hearing → List ℕ → Session
-at_end t [] = record { text = []; standing = t.standing }
-at_end t (byte ∷ bytes) = record { text = answer_at t; standing = (line_over t).standing }
+at_end t [] = record { text = []; hearing = t }
+at_end t (byte ∷ bytes) = record { text = answer_at t; hearing = line_over t }
 
 -- what is said at a byte: a line feed ends the line, which is answered
 abbrev pub said_at : Hearing → ℕ → List ℕ
@@ -73,10 +83,14 @@ said_by t (byte ∷ bytes) = said_at t byte ++ said_by (after_byte t byte) bytes
 
 -- ---- the session of an input
 
+-- what is left of a session that is over
+abbrev pub heard_in : Hearing → Heard
+heard_in t = record { judge = t.standing; refused = t.refused }
+
 -- the input makes this session, and what is written is what it says
-abbrev pub IsEnd : Option (List ℕ) → Standing → Type 0
-IsEnd None s = ⊤
-IsEnd (Some input) s = s ≡ (session opening input).standing
+abbrev pub IsEnd : Option (List ℕ) → Heard → Type 0
+IsEnd None heard = ⊤
+IsEnd (Some input) heard = heard ≡ heard_in (session opening input).hearing
 
 abbrev pub Says : Option (List ℕ) → Option (List ℕ) → Option (List ℕ) → Type 0
 Says None old new = ⊤

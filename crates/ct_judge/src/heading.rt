@@ -1,8 +1,9 @@
 //! The numbers of a group.
 
 ghost use Rattle.std.specs.Prelude.{◌≡◌};
-ghost use Rattle.ct_judge.specs.Standing.{with_batch, with_cells, with_members};
+ghost use Rattle.ct_judge.specs.Standing.{given_in, with_batch, with_cells, with_members};
 
+use ct_grammar::Given;
 use ct_names::{Group, MAX_BOUND, MAX_CELLS, MAX_MEMBERS};
 
 /// How many cells a world has where a schedule doesn't say.
@@ -20,8 +21,19 @@ pub struct Heading {
 }
 
 impl Heading {
+    // The same with this number of the group.
+    pub(crate) fn given(self, given: Given) -> Option<Heading>
+        ensures { result ≡ given_in self given }
+    {
+        match given {
+            Given::Members(members) => self.with_members(members),
+            Given::Cells(cells) => self.with_cells(cells),
+            Given::Batch(batch) => self.with_batch(batch),
+        }
+    }
+
     // The same with so many members.
-    pub(crate) fn with_members(self, members: u8) -> Option<Heading>
+    fn with_members(self, members: u8) -> Option<Heading>
         ensures { result ≡ with_members self members }
     {
         if 1 <= members && members <= MAX_MEMBERS {
@@ -35,7 +47,7 @@ impl Heading {
     }
 
     // The same with so many cells.
-    pub(crate) fn with_cells(self, cells: u16) -> Option<Heading>
+    fn with_cells(self, cells: u16) -> Option<Heading>
         ensures { result ≡ with_cells self cells }
     {
         if cells <= MAX_CELLS {
@@ -46,7 +58,7 @@ impl Heading {
     }
 
     // The same with this bound.
-    pub(crate) fn with_batch(self, batch: u32) -> Option<Heading>
+    fn with_batch(self, batch: u32) -> Option<Heading>
         ensures { result ≡ with_batch self batch }
     {
         if 1 <= batch && batch <= MAX_BOUND {

@@ -4,9 +4,9 @@ ghost use Rattle.std.specs.Prelude.{◌≡◌, ◌≢◌, ◌+◌, ◌<◌, ◌^
 ghost use Rattle.std.specs.Io.KnownBytes.{Appends};
 ghost use Rattle.ct_streams.specs.Streams.{WritesPart};
 ghost use Rattle.ct_judge.specs.SessionFaults.{StopsAnswering, StopsReading};
-ghost use Rattle.ct_judge.specs.Sessions.{IsEnd, Says, SaysPart, after_bytes, at_end, opening, said_by};
+ghost use Rattle.ct_judge.specs.Sessions.{IsEnd, Says, SaysPart, after_bytes, at_end, heard_in, opening, said_by};
 
-use crate::judge::Judge;
+use crate::heard::Heard;
 use crate::session::Session;
 use crate::session_fault::SessionFault;
 use ct_streams::{Failed, Sink, Source, write_all};
@@ -15,18 +15,18 @@ use std::alloc::Global;
 // How many bytes are read at a time; as many bytes of answers are written before more of what was read is heard.
 const BLOCK: usize = 65_536;
 
-/// Reads lines to the end of the input and answers each with one line, and hands out the judge. The answers to the lines that a
-/// read ends are written before the next read. What the contract says of the input holds where the reader tells its bytes, and
-/// what it says of the output where the writer does.
+/// Reads lines to the end of the input and answers each with one line, and hands out the judge, and whether a line was refused.
+/// The answers to the lines that a read ends are written before the next read. What the contract says of the input holds where
+/// the reader tells its bytes, and what it says of the output where the writer does.
 pub fn interact<R: Source, W: Sink>(
     alloc: Global,
     reader: &mut R,
     writer: &mut W,
-) -> Result<Judge, SessionFault>
+) -> Result<Heard, SessionFault>
     requires reads { R.failures reader.old < 2 ^ 63 }
     requires writes { W.failures writer.old < 2 ^ 63 }
     // What was written is what the session of the input says, and it ends where that ends.
-    ensures standing { IfOk result (IsEnd (R.left reader.old)) }
+    ensures heard { IfOk result (IsEnd (R.left reader.old)) }
     ensures text { OnOk result (Says (R.left reader.old) (W.written writer.old) (W.written writer.new)) }
     // After a fault it is some first bytes of that.
     ensures part { OnErr result (SaysPart (R.left reader.old) (W.written writer.old) (W.written writer.new)) }
@@ -39,7 +39,7 @@ pub fn interact<R: Source, W: Sink>(
     let mut block = block(alloc)?;
     let mut session = Session::new(alloc);
     listen(alloc, &mut session, reader, writer, &mut block)?;
-    Ok(session.into_judge())
+    Ok(session.into_heard())
 }
 
 // Hears the input to its end, as much of it at a time as the block has room for.
@@ -54,7 +54,7 @@ fn listen<R: Source, W: Sink>(
     requires reads { R.failures reader.old < 2 ^ 63 }
     requires writes { W.failures writer.old < 2 ^ 63 }
     requires room { 0 < length block.old }
-    ensures standing { OnOk result (IsEnd (R.left reader.old) session.new.standing) }
+    ensures heard { OnOk result (IsEnd (R.left reader.old) (heard_in session.new)) }
     ensures text { OnOk result (Says (R.left reader.old) (W.written writer.old) (W.written writer.new)) }
     ensures part { OnErr result (SaysPart (R.left reader.old) (W.written writer.old) (W.written writer.new)) }
     ensures reader { result ≡ Err SessionFault.Read → StopsReading (R.left reader.old) (R.failures reader.old) (R.failures reader.new) }
@@ -115,7 +115,7 @@ fn hear<W: Sink>(
 // The end ends the line, if one has begun.
 fn end<W: Sink>(alloc: Global, session: &mut Session, writer: &mut W) -> Result<(), SessionFault>
     requires { W.failures writer.old < 2 ^ 63 }
-    ensures standing { OnOk result (session.new.standing ≡ (at_end session.old session.old.line).standing) }
+    ensures heard { OnOk result (session.new ≡ (at_end session.old session.old.line).hearing) }
     ensures text { OnOk result (Appends (W.written writer.old) (W.written writer.new) (at_end session.old session.old.line).text) }
     ensures part { OnErr result (WritesPart (W.written writer.old) (W.written writer.new) (at_end session.old session.old.line).text) }
     ensures ok { OnOk result (W.failures writer.new ≡ W.failures writer.old) }

@@ -1,23 +1,22 @@
 //! Schedules, judged line by line.
 
-ghost use Rattle.std.specs.Prelude.{◌≡◌, ◌≤◌, ◌++◌, None, Ok, OnOk, OnErr, IfOk, IfErr, IfSome, option_map, string_bytes};
+ghost use Rattle.std.specs.Prelude.{◌≡◌, ◌≤◌, None, Ok, Err, OnOk, OnErr, IfOk, IfErr, IfSome, IsOk, IsTrue, IsFalse, option_map};
+ghost use Rattle.std.specs.Prelude.{string_bytes};
+ghost use Rattle.ct_records.specs.Adds.{Adds};
 ghost use Rattle.ct_names.specs.declared.limit.TheConstants.{MAX_BOUND, MAX_CELLS};
 ghost use Rattle.ct_judge.specs.Answers.{sent_of};
 ghost use Rattle.ct_play.specs.Faults.{IsFaultOf, IsKept};
-ghost use Rattle.ct_judge.specs.Judging.{after_play, line_in, taken};
-ghost use Rattle.ct_judge.specs.Parts.{IsPart};
-ghost use Rattle.ct_judge.specs.Standing.{headed, made_of, start, world_of};
-ghost use Rattle.ct_judge.specs.Telling.{not_met_in, refused_in};
+ghost use Rattle.ct_judge.specs.Judging.{after_play, taken};
+ghost use Rattle.ct_judge.specs.Parts.{IsPart, IsPlayedPart};
+ghost use Rattle.ct_judge.specs.Standing.{headed, made_of, played_of, start, world_of};
+ghost use Rattle.ct_judge.specs.Telling.{fault_text};
 
+use crate::fault_texts::{push_fault_in, push_plain};
 use crate::heading::{Heading, USUAL_CELLS};
-use ct_play::LineFault;
-use ct_play::play;
-use ct_play::Stage;
-use crate::telling::{push_not_met, push_refused};
-use ct_grammar::{Line, line_of};
-use ct_model::Step;
-use ct_names::{MAX_BOUND, MAX_ENVELOPES, Refusal};
-use ct_world::World;
+use ct_grammar::{Line, Play};
+use ct_names::{MAX_BOUND, MAX_ENVELOPES};
+use ct_play::{LineFault, Stage, play};
+use ct_world::{Setup, World};
 use std::alloc::{AllocError, Global};
 use std::marker::Model;
 
@@ -38,7 +37,7 @@ impl Model for Judge {
 
     ghost Value = { Standing };
 
-    ghost view = { λ j. record { heading = j.heading; rehearsal = j.stage } };
+    ghost view = { λ j. record { heading = j.heading; played = j.stage } };
 
     ghost invariant = { λ j. (j.heading.cells ≤ MAX_CELLS) × (1 ≤ j.heading.batch) × (j.heading.batch ≤ MAX_BOUND) };
 }
@@ -62,7 +61,6 @@ impl Judge {
 
     /// Takes a line. One that is refused changes nothing; where memory is refused, or the board, steps of its first members and
     /// turns may have joined the record, and nothing else is changed.
-    #[tactic(auto, using(crate::proofs::Parts::of_heading))]
     pub fn take(&mut self, line: &Line) -> Result<(), LineFault>
         ensures ok { OnOk result (taken self.old line.now ≡ Ok self.new) }
         ensures err { IfErr result (IsFaultOf (taken self.old line.now)) }
@@ -71,13 +69,8 @@ impl Judge {
     {
         match line {
             Line::Blank => Ok(()),
-            Line::Members(members) => self.head(self.heading.with_members(*members)),
-            Line::Cells(cells) => self.head(self.heading.with_cells(*cells)),
-            Line::Batch(batch) => self.head(self.heading.with_batch(*batch)),
-            Line::Act(..) => self.play(line),
-            Line::Turns(..) => self.play(line),
-            Line::Expect(..) => self.play(line),
-            Line::Ask(_) => self.play(line),
+            Line::Given(given) => self.head(self.heading.given(*given)),
+            Line::Play(play) => self.play(play),
         }
     }
 
@@ -101,13 +94,13 @@ impl Judge {
         Ok(())
     }
 
-    // Plays the line in the world, which it makes where there is none yet.
-    #[tactic(auto, using(crate::proofs::Parts::in_worlds), unfolding(crate::specs::Standing::world_of))]
-    fn play(&mut self, line: &Line) -> Result<(), LineFault>
-        ensures ok { OnOk result (after_play self.old line.now (world_of self.old) ≡ Ok self.new) }
-        ensures err { IfErr result (IsFaultOf (after_play self.old line.now (world_of self.old))) }
+    // Plays it in the world, which it makes where there is none yet.
+    #[tactic(auto, using(crate::proofs::Parts::in_worlds), unfolding(crate::specs::Standing::played_of))]
+    fn play(&mut self, line: &Play) -> Result<(), LineFault>
+        ensures ok { OnOk result (after_play self.old line.now (played_of self.old) ≡ Ok self.new) }
+        ensures err { IfErr result (IsFaultOf (after_play self.old line.now (played_of self.old))) }
         ensures same { IfErr result (IsKept self.old self.new) }
-        ensures part { OnErr result (IsPart self.old line.now self.new) }
+        ensures part { OnErr result (IsPlayedPart self.old line.now self.new) }
     {
         let Some(mut stage) = self.stage.take() else {
             return self.play_first(line);
@@ -118,8 +111,8 @@ impl Judge {
     }
 
     // Plays the first line in a new world, which is let go where the line is refused.
-    fn play_first(&mut self, line: &Line) -> Result<(), LineFault>
-        requires { self.old.rehearsal ≡ None }
+    fn play_first(&mut self, line: &Play) -> Result<(), LineFault>
+        requires { self.old.played ≡ None }
         ensures ok { OnOk result (after_play self.old line.now (made_of self.old.heading self.old.heading.group) ≡ Ok self.new) }
         ensures err { IfErr result (IsFaultOf (after_play self.old line.now (made_of self.old.heading self.old.heading.group))) }
         ensures same { IfErr result (λ _. self.new ≡ self.old) }
@@ -132,7 +125,7 @@ impl Judge {
 
     /// The world, once a line made it.
     pub fn world(&self) -> Option<&World>
-        ensures { option_map (λ world. world.now.rehearsal) result ≡ self.now.rehearsal }
+        ensures { option_map (λ world. world.now.rehearsal) result ≡ option_map (λ w. w.rehearsal) self.now.played }
     {
         match &self.stage {
             None => None,
@@ -140,9 +133,16 @@ impl Judge {
         }
     }
 
+    // The stage, once a line made it.
+    pub(crate) fn stage(&self) -> Option<&Stage>
+        ensures { option_map (λ stage. stage.now) result ≡ self.now.played }
+    {
+        self.stage.as_ref()
+    }
+
     // How many envelopes were sent.
     pub(crate) fn sent(&self) -> u32
-        ensures value { result ≡ sent_of self.now.rehearsal }
+        ensures value { result ≡ sent_of self.now.played }
         ensures few { result ≤ MAX_ENVELOPES }
     {
         match self.world() {
@@ -151,8 +151,17 @@ impl Judge {
         }
     }
 
+    // Whether there is a world, or one can be made.
+    #[tactic(auto, unfolding(crate::specs::Standing::played_of))]
+    pub(crate) fn has_members(&self) -> bool
+        ensures some { IsTrue result → IsOk (world_of self.now) }
+        ensures none { IsFalse result → world_of self.now ≡ Err LineFault.NoMembers }
+    {
+        self.stage.is_some() || self.heading.group.is_some()
+    }
+
     /// The world, which is made here where no line made it.
-    #[tactic(auto, unfolding(crate::specs::Standing::world_of))]
+    #[tactic(auto, unfolding(crate::specs::Standing::played_of))]
     pub fn into_world(self) -> Result<World, LineFault>
         ensures ok { IfOk result (λ world. world_of self ≡ Ok world.rehearsal) }
         ensures err { IfErr result (IsFaultOf (world_of self)) }
@@ -169,37 +178,22 @@ impl Judge {
         Ok(stage.unwrap().into_world())
     }
 
-    // The step that is refused, in the world before the line.
-    #[tactic(auto, unfolding(crate::specs::Standing::world_of))]
-    pub(crate) fn push_refused(
+    // The text of the fault of a line, where it was not taken.
+    #[tactic(auto, unfolding(crate::specs::Standing::played_of))]
+    pub(crate) fn push_fault(
         &self,
         text: &mut String,
-        step: Step,
-        refusal: Refusal,
+        line: &Line,
+        fault: LineFault,
     ) -> Result<(), AllocError>
-        ensures { OnOk result (string_bytes text.new ≡ string_bytes text.old ++ refused_in (world_of self.now) step refusal) }
+        ensures { OnOk result (Adds text.old text.new (fault_text (played_of self.now) line.now fault)) }
     {
         if let Some(stage) = &self.stage {
-            return push_refused(text, stage.world(), step, refusal);
+            return push_fault_in(self.alloc, text, stage, line, fault);
         }
         match self.first_stage() {
-            Ok(stage) => push_refused(text, stage.world(), step, refusal),
-            Err(LineFault::NoMembers) => text.push_str("refused"),
-            Err(_) => Err(AllocError),
-        }
-    }
-
-    // What is there where the line expects something else.
-    #[tactic(auto, unfolding(crate::specs::Standing::world_of))]
-    pub(crate) fn push_not_met(&self, text: &mut String, line: &Line) -> Result<(), AllocError>
-        ensures { OnOk result (string_bytes text.new ≡ string_bytes text.old ++ not_met_in (world_of self.now) line.now) }
-    {
-        if let Some(stage) = &self.stage {
-            return push_not_met(text, stage, line);
-        }
-        match self.first_stage() {
-            Ok(stage) => push_not_met(text, &stage, line),
-            Err(LineFault::NoMembers) => text.push_str("not met"),
+            Ok(stage) => push_fault_in(self.alloc, text, &stage, line, fault),
+            Err(LineFault::NoMembers) => push_plain(text, fault),
             Err(_) => Err(AllocError),
         }
     }
@@ -209,20 +203,12 @@ impl Judge {
         ensures ok { IfOk result (λ stage. made_of self.now.heading self.now.heading.group ≡ Ok stage) }
         ensures err { IfErr result (IsFaultOf (made_of self.now.heading self.now.heading.group)) }
     {
-        match self.heading.group {
-            None => Err(LineFault::NoMembers),
-            Some(group) => Stage::new(self.alloc, group, self.heading.cells, self.heading.batch),
-        }
-    }
-}
-
-// The line that these bytes are, where they are text.
-#[tactic(auto, unfolding(crate::specs::Judging::line_in))]
-pub(crate) fn line_in(alloc: Global, bytes: &[u8]) -> Result<Option<Line>, AllocError>
-    ensures { IfOk result (λ line. line ≡ line_in bytes.now) }
-{
-    match std::str::from_utf8(bytes) {
-        Ok(text) => line_of(alloc, text),
-        Err(_) => Ok(None),
+        let Some(group) = self.heading.group else {
+            return Err(LineFault::NoMembers);
+        };
+        let Some(setup) = Setup::new(group, self.heading.cells, self.heading.batch) else {
+            unreachable!()
+        };
+        Stage::new(self.alloc, setup)
     }
 }

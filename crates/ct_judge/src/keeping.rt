@@ -5,25 +5,26 @@ ghost use Rattle.ct_judge.specs.Keeping.{IsKeepFaultOf, IsKeptIn, Keeps, KeepsPa
 ghost use Rattle.ct_judge.specs.Schedule.{IsSafeRun};
 ghost use Rattle.ct_judge.specs.Standing.{world_of};
 
+use crate::heard::Heard;
 use crate::judge::Judge;
 use crate::keep_fault::KeepFault;
-use ct_play::LineFault;
 use crate::session_fault::SessionFault;
+use ct_play::LineFault;
 use ct_records::write_record;
 use ct_streams::{Failed, NewFiles};
 use ct_world::World;
 use std::alloc::{AllocError, Global};
 
-/// How a session ended for a program: with its judge at the end of the input, or with None where the writer broke, as nobody reads
+/// How a session ended for a program: with what is left of it at the end of the input, or with None where the writer broke, as nobody reads
 /// the answers any more; else with its fault.
 pub fn session_end(
-    ended: Result<Judge, SessionFault>,
+    ended: Result<Heard, SessionFault>,
     broken: bool,
-) -> Result<Option<Judge>, SessionFault>
+) -> Result<Option<Heard>, SessionFault>
     ensures { result ≡ end_of ended broken }
 {
     match ended {
-        Ok(judge) => Ok(Some(judge)),
+        Ok(heard) => Ok(Some(heard)),
         Err(fault) if is_left(fault, broken) => Ok(None),
         Err(fault) => Err(fault),
     }
@@ -85,7 +86,7 @@ fn session_record(alloc: Global, judge: Judge) -> Result<Vec<u8>, KeepFault>
 }
 
 // The record of the world and a line feed.
-fn record_line(alloc: Global, world: &World) -> Result<Vec<u8>, AllocError>
+pub(crate) fn record_line(alloc: Global, world: &World) -> Result<Vec<u8>, AllocError>
     ensures text { IfOk result (λ text. IsKeptIn text.items (Ok world.now.rehearsal)) }
     ensures safe { IsSafeRun world.now.rehearsal }
 {

@@ -2,28 +2,43 @@
 #![tactic(auto)]
 
 mod answering;
+mod fault_texts;
 mod heading;
+mod heard;
 mod interacting;
 mod judge;
 mod keep_fault;
 mod keeping;
+mod line_refused;
+mod misread;
+mod missing;
+mod naming;
+mod partial;
+mod reading;
 mod record_fault;
 mod recorder;
 mod recording;
+mod refusing;
 mod session;
 mod session_fault;
 mod stop;
 mod telling;
+mod wording;
 mod words;
 
+pub use ct_play::LineFault;
 pub use heading::{Heading, USUAL_CELLS};
+pub use heard::Heard;
 pub use interacting::interact;
 pub use judge::Judge;
 pub use keep_fault::KeepFault;
 pub use keeping::{keep, session_end};
+pub use line_refused::LineRefused;
+pub use naming::MOST_NAMED;
+pub use partial::record_partial;
+pub use reading::LONGEST_SHOWN;
 pub use record_fault::RecordFault;
-pub use recording::{record, recorded};
+pub use recording::{MAX_LEN, record, recorded};
 pub use session::LONGEST;
 pub use session_fault::SessionFault;
-pub use ct_play::LineFault;
 pub use words::{interact_command, record_command};

@@ -1,34 +1,35 @@
-//! The bytes of a schedule, told line by line.
+//! The lines of a schedule, told one by one.
 
-ghost use Rattle.std.specs.Prelude.{◌≡◌, ◌≢◌, ◌≤◌, ◌+◌, ◌<◌, ◌^◌, Ok, Err, OnOk, IfOk, IfErr};
-ghost use Rattle.ct_judge.specs.Schedule.{IsFaultIn, after_byte, beginning, ended, world_at};
+ghost use Rattle.std.specs.Prelude.{◌≡◌, ◌≢◌, ◌≤◌, ◌+◌, ◌<◌, ◌^◌, ◌++◌, Ok, Err, OnOk, IfOk, IfErr, IsOk, string_bytes};
+ghost use Rattle.ct_judge.specs.Reading.{shown};
+ghost use Rattle.ct_judge.specs.Schedule.{IsFaultIn, IsLeftAt, after_line, beginning, world_at};
 ghost use Rattle.ct_judge.specs.Standing.{world_of};
 
 use crate::judge::Judge;
-use ct_play::LineFault;
+use crate::reading::push_shown;
 use crate::record_fault::RecordFault;
 use crate::stop::Stop;
 use crate::telling::tell;
+use ct_play::LineFault;
 use ct_world::World;
-use std::alloc::Global;
+use std::alloc::{AllocError, Global};
 use std::marker::Model;
 
-// A judge, the bytes of the line that is not over yet, and how many lines are over.
+// A judge, and how many lines are over.
 #[derive(Drop)]
 pub(crate) struct Recorder {
     alloc: Global,
     judge: Judge,
-    line: Vec<u8>,
     number: usize,
 }
 
-// Contracts see all three.
+// Contracts see both.
 impl Model for Recorder {
     ghost use Rattle.ct_judge.specs.Schedule.{Progress};
 
     ghost Value = { Progress };
 
-    ghost view = { λ r. record { standing = r.judge; line = r.line.items; number = r.number } };
+    ghost view = { λ r. record { standing = r.judge; number = r.number } };
 }
 
 impl Recorder {
@@ -38,51 +39,61 @@ impl Recorder {
         Recorder {
             alloc,
             judge: Judge::new(alloc),
-            line: Vec::new(alloc),
             number: 0,
         }
     }
 
-    // Takes a byte.
-    pub(crate) fn take(&mut self, byte: u8) -> Result<(), RecordFault>
+    // Takes a line.
+    #[tactic(auto, unfolding(crate::specs::Schedule::after_line))]
+    pub(crate) fn take(&mut self, line: &[u8]) -> Result<(), RecordFault>
         requires { self.old.number < 2 ^ 63 }
-        ensures ok { OnOk result (after_byte self.old byte ≡ Ok self.new) }
-        ensures fault { IfErr result (IsFaultIn (after_byte self.old byte)) }
+        ensures ok { OnOk result (after_line self.old line.now ≡ Ok self.new) }
+        ensures fault { IfErr result (IsFaultIn (after_line self.old line.now)) }
+        ensures left { IfErr result (IsLeftAt self.old self.new) }
         ensures short { result ≢ Err RecordFault.TooLong }
         ensures number { self.new.number ≤ self.old.number + 1 }
     {
-        if byte == b'\n' {
-            return self.end();
-        }
-        match self.line.push(byte) {
-            Ok(()) => Ok(()),
-            Err(_) => Err(RecordFault::Memory),
-        }
-    }
-
-    // Ends the line.
-    #[tactic(auto, unfolding(crate::specs::Schedule::ended))]
-    pub(crate) fn end(&mut self) -> Result<(), RecordFault>
-        requires { self.old.number < 2 ^ 63 }
-        ensures ok { OnOk result (ended self.old ≡ Ok self.new) }
-        ensures fault { IfErr result (IsFaultIn (ended self.old)) }
-        ensures short { result ≢ Err RecordFault.TooLong }
-        ensures number { self.new.number ≤ self.old.number + 1 }
-    {
-        match tell(self.alloc, &mut self.judge, &self.line) {
+        match tell(self.alloc, &mut self.judge, line) {
             Ok(()) => {
-                self.line.clear();
                 self.number += 1;
                 Ok(())
             }
             Err(Stop::Told(fault, text)) => Err(RecordFault::Line {
                 at: self.number + 1,
                 fault,
-                text,
+                text: behind(self.alloc, line, &text)?,
             }),
             Err(Stop::Memory) => Err(RecordFault::Memory),
             Err(Stop::BoardRefused) => Err(RecordFault::Board),
         }
+    }
+
+    // The judge alone.
+    pub(crate) fn into_judge(self) -> Judge
+        ensures { result ≡ self.standing }
+    {
+        let Recorder {
+            alloc: _,
+            judge,
+            number: _,
+        } = self;
+        judge
+    }
+
+    // The fault of a text that ends without the number of members.
+    pub(crate) fn end(&self) -> Result<(), RecordFault>
+        ensures ok { OnOk result (IsOk (world_at self.now.number (world_of self.now.standing))) }
+        ensures fault { IfErr result (IsFaultIn (world_at self.now.number (world_of self.now.standing))) }
+        ensures short { result ≢ Err RecordFault.TooLong }
+    {
+        if self.judge.has_members() {
+            return Ok(());
+        }
+        Err(RecordFault::Line {
+            at: self.number,
+            fault: LineFault::NoMembers,
+            text: String::from_str(self.alloc, "no members")?,
+        })
     }
 
     // The world in the end.
@@ -91,20 +102,20 @@ impl Recorder {
         ensures fault { IfErr result (IsFaultIn (world_at self.number (world_of self.standing))) }
         ensures short { result ≢ Err RecordFault.TooLong }
     {
-        let Recorder {
-            alloc,
-            judge,
-            line: _,
-            number,
-        } = self;
-        match judge.into_world() {
+        self.end()?;
+        match self.into_judge().into_world() {
             Ok(world) => Ok(world),
-            Err(LineFault::NoMembers) => Err(RecordFault::Line {
-                at: number,
-                fault: LineFault::NoMembers,
-                text: String::from_str(alloc, "no members")?,
-            }),
             Err(_) => Err(RecordFault::Memory),
         }
     }
+}
+
+// The fault behind its line.
+fn behind(alloc: Global, line: &[u8], fault: &str) -> Result<String, AllocError>
+    ensures { IfOk result (λ text. string_bytes text ≡ shown line.now ++ fault.now) }
+{
+    let mut text = String::new(alloc);
+    push_shown(&mut text, line)?;
+    text.push_str(fault)?;
+    Ok(text)
 }

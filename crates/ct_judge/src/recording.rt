@@ -1,9 +1,9 @@
 //! A schedule in, its record out.
 
-ghost use Rattle.std.specs.Prelude.{◌≡◌, ◌≢◌, ◌+◌, ◌≤◌, ◌<◌, ◌^◌, length, Ok, Err, OnOk, IfOk, IfErr, IfSome, IsOkAnd};
+ghost use Rattle.std.specs.Prelude.{◌≡◌, ◌≢◌, ◌⊎◌, ◌+◌, ◌≤◌, ◌<◌, ◌^◌, drop, length, position, Ok, Err, OnOk, IfOk, IfErr, IfSome, IsOkAnd};
 ghost use Rattle.ct_streams.specs.Streams.{read_part};
-ghost use Rattle.ct_judge.specs.Schedule.{IsFaultIn, IsFaultOrStream, IsRecordOf, IsSafeRun, Writes, WritesPartOf, after_bytes, beginning};
-ghost use Rattle.ct_judge.specs.Schedule.{schedule};
+ghost use Rattle.ct_judge.specs.Schedule.{IsFaultIn, IsFaultOrStream, IsLeftAt, IsRecordOf, IsSafeRun, Writes, WritesPartOf, after_lines};
+ghost use Rattle.ct_judge.specs.Schedule.{before_fault, is_feed, lines_of, schedule};
 
 use crate::record_fault::RecordFault;
 use crate::recorder::Recorder;
@@ -12,8 +12,8 @@ use ct_streams::{Failed, InputFault, Sink, Source, read_all, write_all};
 use ct_world::World;
 use std::alloc::Global;
 
-// How many bytes a schedule has at most.
-const MOST: usize = 67_108_864;
+/// How many bytes a schedule has at most.
+pub const MAX_LEN: usize = 67_108_864;
 
 /// Reads a schedule to its end and writes its record and a line feed. What the contract says of the input holds where the
 /// reader tells its bytes, and what it says of the output where the writer does.
@@ -34,19 +34,15 @@ pub fn record<R: Source, W: Sink>(
     ensures part { result ≡ Err RecordFault.Write → IfSome (R.left reader.old) (λ input.
         WritesPartOf (schedule (read_part input)) (W.written writer.old) (W.written writer.new)) }
     // The input is too long where that is the fault; where a record is written it is not.
-    ensures long { result ≡ Err RecordFault.TooLong → IfSome (R.left reader.old) (λ input. 67108864 < length input) }
-    ensures within { OnOk result (IfSome (R.left reader.old) (λ input. length input ≤ 67108864)) }
+    ensures long { result ≡ Err RecordFault.TooLong → IfSome (R.left reader.old) (λ input. MAX_LEN < length input) }
+    ensures within { OnOk result (IfSome (R.left reader.old) (λ input. length input ≤ MAX_LEN)) }
     // A stream failed where that is the fault, once, and else not at all.
     ensures reader { result ≡ Err RecordFault.Read → R.failures reader.new ≡ R.failures reader.old + 1 }
     ensures no_read { result ≢ Err RecordFault.Read → R.failures reader.new ≡ R.failures reader.old }
     ensures writer { result ≡ Err RecordFault.Write → W.failures writer.new ≡ W.failures writer.old + 1 }
     ensures no_write { result ≢ Err RecordFault.Write → W.failures writer.new ≡ W.failures writer.old }
 {
-    let bytes = match read_all(alloc, reader) {
-        Ok(bytes) => bytes,
-        Err(InputFault::Reader) => return Err(RecordFault::Read),
-        Err(_) => return Err(RecordFault::Memory),
-    };
+    let bytes = read(alloc, reader)?;
     let text = recorded(alloc, &bytes)?;
     match write_all(writer, &text) {
         Ok(()) => Ok(()),
@@ -54,58 +50,88 @@ pub fn record<R: Source, W: Sink>(
     }
 }
 
-/// The record of a schedule of these bytes, 67,108,864 at most, and a line feed.
-pub fn recorded(alloc: Global, bytes: &[u8]) -> Result<Vec<u8>, RecordFault>
-    ensures ok { IfOk result (λ text. IsRecordOf (schedule bytes.now) text.items) }
+// The text of the schedule.
+pub(crate) fn read<R: Source>(alloc: Global, reader: &mut R) -> Result<Vec<u8>, RecordFault>
+    requires { R.failures reader.old < 2 ^ 63 }
+    ensures bytes { IfOk result (λ bytes. IfSome (R.left reader.old) (λ input. bytes.items ≡ read_part input)) }
+    ensures fault { IfErr result (λ fault. (fault ≡ RecordFault.Read) ⊎ (fault ≡ RecordFault.Memory)) }
+    ensures reader { result ≡ Err RecordFault.Read → R.failures reader.new ≡ R.failures reader.old + 1 }
+    ensures no_read { result ≢ Err RecordFault.Read → R.failures reader.new ≡ R.failures reader.old }
+{
+    match read_all(alloc, reader) {
+        Ok(bytes) => Ok(bytes),
+        Err(InputFault::Reader) => Err(RecordFault::Read),
+        Err(_) => Err(RecordFault::Memory),
+    }
+}
+
+/// The record of a schedule of this text, and a line feed.
+pub fn recorded(alloc: Global, text: &[u8]) -> Result<Vec<u8>, RecordFault>
+    ensures ok { IfOk result (λ line. IsRecordOf (schedule text.now) line.items) }
     // It is a run of the algorithm, which ends in a safe state.
-    ensures safe { OnOk result (IsOkAnd (schedule bytes.now) IsSafeRun) }
-    ensures fault { IfErr result (IsFaultIn (schedule bytes.now)) }
+    ensures safe { OnOk result (IsOkAnd (schedule text.now) IsSafeRun) }
+    ensures fault { IfErr result (IsFaultIn (schedule text.now)) }
     ensures no_stream { IfErr result (λ fault. (fault ≢ RecordFault.Read) × (fault ≢ RecordFault.Write)) }
     // It is too long by its length alone.
-    ensures long { result ≡ Err RecordFault.TooLong → 67108864 < length bytes.now }
-    ensures within { result ≢ Err RecordFault.TooLong → length bytes.now ≤ 67108864 }
+    ensures long { result ≡ Err RecordFault.TooLong → MAX_LEN < length text.now }
+    ensures within { result ≢ Err RecordFault.TooLong → length text.now ≤ MAX_LEN }
 {
-    if bytes.len() > MOST {
+    if text.len() > MAX_LEN {
         return Err(RecordFault::TooLong);
     }
-    let world = played(alloc, bytes)?;
-    let mut text = write_record(alloc, &world)?;
-    match text.push(b'\n') {
-        Ok(()) => Ok(text),
+    let world = played(alloc, text)?;
+    let mut line = write_record(alloc, &world)?;
+    match line.push(b'\n') {
+        Ok(()) => Ok(line),
         Err(_) => Err(RecordFault::Memory),
     }
 }
 
 // The world that the schedule leads to.
-#[tactic(auto, using(crate::proofs::Reading::fault_stays), unfolding(crate::specs::Schedule::schedule))]
-fn played(alloc: Global, bytes: &[u8]) -> Result<World, RecordFault>
-    requires { length bytes.now ≤ 67108864 }
-    ensures ok { IfOk result (λ world. schedule bytes.now ≡ Ok world.rehearsal) }
+#[tactic(auto, using(crate::proofs::Lines::finish_fault), unfolding(crate::specs::Schedule::schedule))]
+fn played(alloc: Global, text: &[u8]) -> Result<World, RecordFault>
+    requires { length text.now ≤ MAX_LEN }
+    ensures ok { IfOk result (λ world. schedule text.now ≡ Ok world.rehearsal) }
     ensures safe { IfOk result (λ world. IsSafeRun world.rehearsal) }
-    ensures fault { IfErr result (IsFaultIn (schedule bytes.now)) }
+    ensures fault { IfErr result (IsFaultIn (schedule text.now)) }
     ensures short { result ≢ Err RecordFault.TooLong }
 {
-    let mut recorder = told(alloc, bytes)?;
-    recorder.end()?;
+    let mut recorder = Recorder::new(alloc);
+    tell_lines(&mut recorder, text)?;
     let world = recorder.finish()?;
     // For its clauses: the record is a run, and the state is safe.
     let _ = world.record();
     Ok(world)
 }
 
-// What the bytes lead to, the last line still open.
-#[tactic(auto, using(crate::proofs::Reading::bytes_on, crate::proofs::Reading::byte_fault))]
-fn told(alloc: Global, bytes: &[u8]) -> Result<Recorder, RecordFault>
-    ensures ok { IfOk result (λ recorder. after_bytes beginning bytes.now ≡ Ok recorder) }
-    ensures fault { IfErr result (IsFaultIn (after_bytes beginning bytes.now)) }
+// Tells the lines up to the first that is refused.
+#[tactic(auto, using(crate::proofs::Lines::by_line))]
+pub(crate) fn tell_lines(recorder: &mut Recorder, text: &[u8]) -> Result<(), RecordFault>
+    requires { recorder.old.number + length text.now < 2 ^ 63 }
+    ensures ok { OnOk result (after_lines recorder.old (lines_of text.now) ≡ Ok recorder.new) }
+    ensures fault { IfErr result (IsFaultIn (after_lines recorder.old (lines_of text.now))) }
+    ensures left { IfErr result (IsLeftAt (before_fault recorder.old (lines_of text.now)) recorder.new) }
     ensures short { result ≢ Err RecordFault.TooLong }
-    ensures few { IfOk result (λ recorder. recorder.number ≤ length bytes.now) }
 {
-    let mut recorder = Recorder::new(alloc);
-    for (i, byte) in bytes.iter().enumerate() {
-        // The invariant names it.
-        let _ = i;
-        recorder.take(*byte)?;
+    let mut rest = text;
+    while let Some(end) = first_feed(rest) {
+        recorder.take(&rest[..end])?;
+        rest = behind(rest, end);
     }
-    Ok(recorder)
+    recorder.take(rest)
+}
+
+// Where the first line ends; None where the end ends it.
+fn first_feed(text: &[u8]) -> Option<usize>
+    ensures { result ≡ position is_feed text.now }
+{
+    text.iter().position(|byte| *byte == b'\n')
+}
+
+// What stands behind this place.
+fn behind(text: &[u8], place: usize) -> &[u8]
+    requires { place < length text.now }
+    ensures { result.now ≡ drop (place + 1) text.now }
+{
+    &text[place + 1..]
 }

@@ -1,37 +1,42 @@
 //! The lines of a session and their answers.
 
-ghost use Rattle.std.specs.Prelude.{◌≡◌, ◌≤◌, ◌++◌, Some, OnOk, IfOk, IfErr, codes, length, nat_lt, string_bytes};
-ghost use Rattle.ct_judge.specs.Answers.{answer, question_text, standing_after, taken_text};
+ghost use Rattle.std.specs.Prelude.{◌≡◌, ◌≤◌, ◌++◌, Ok, OnOk, IfOk, IfErr, codes, length, nat_lt};
+ghost use Rattle.ct_records.specs.Adds.{Adds};
+ghost use Rattle.ct_judge.specs.Answers.{answer, is_refused, question_text, standing_after, taken_text};
 ghost use Rattle.ct_judge.specs.SessionFaults.{IsShort};
-ghost use Rattle.ct_judge.specs.Sessions.{after_byte, answer_at, kept, line_if, line_over, opening, said_at};
+ghost use Rattle.ct_judge.specs.Sessions.{after_byte, answer_at, heard_in, kept, line_if, line_over, opening, said_at};
 
 use crate::answering::{push_answer, push_ok};
-use crate::judge::{Judge, line_in};
+use crate::heard::Heard;
+use crate::judge::Judge;
+use crate::misread::Misread;
+use crate::reading::line_in;
 use crate::session_fault::SessionFault;
 use crate::stop::Stop;
 use crate::telling::tell_line;
-use ct_grammar::{Line, Question};
+use ct_grammar::{Line, Play, Question};
 use std::alloc::{AllocError, Global};
 use std::marker::Model;
 
 /// How many bytes a line of a session has at most; a longer one is not understood.
 pub const LONGEST: usize = 4096;
 
-// A judge, and the bytes of the line that is not over yet, one more than a line may have at most.
+// A judge, the bytes of the line that is not over yet, one more than a line may have at most, and whether a line was refused.
 #[derive(Drop)]
 pub(crate) struct Session {
     alloc: Global,
     judge: Judge,
     line: Vec<u8>,
+    refused: bool,
 }
 
-// Contracts see both.
+// Contracts see all three.
 impl Model for Session {
     ghost use Rattle.ct_judge.specs.Sessions.{Hearing};
 
     ghost Value = { Hearing };
 
-    ghost view = { λ s. record { standing = s.judge; line = s.line.items } };
+    ghost view = { λ s. record { standing = s.judge; line = s.line.items; refused = s.refused } };
 }
 
 impl Session {
@@ -42,6 +47,7 @@ impl Session {
             alloc,
             judge: Judge::new(alloc),
             line: Vec::new(alloc),
+            refused: false,
         }
     }
 
@@ -52,22 +58,23 @@ impl Session {
         !self.line.is_empty()
     }
 
-    // The judge alone.
-    pub(crate) fn into_judge(self) -> Judge
-        ensures { result ≡ self.standing }
+    // What is left where it is over.
+    pub(crate) fn into_heard(self) -> Heard
+        ensures { result ≡ heard_in self }
     {
         let Session {
             alloc: _,
             judge,
             line: _,
+            refused,
         } = self;
-        judge
+        Heard { judge, refused }
     }
 
     // Hears a byte: a line feed ends the line, whose answer joins the text; another byte joins the line.
     pub(crate) fn hear(&mut self, byte: u8, text: &mut String) -> Result<(), SessionFault>
         ensures after { OnOk result (self.new ≡ after_byte self.old byte) }
-        ensures text { OnOk result (string_bytes text.new ≡ string_bytes text.old ++ said_at self.old byte) }
+        ensures text { OnOk result (Adds text.old text.new (said_at self.old byte)) }
         ensures err { IfErr result IsShort }
     {
         if byte == b'\n' {
@@ -94,42 +101,48 @@ impl Session {
     // Ends the line, and its answer joins the text.
     #[tactic(auto, unfolding(crate::specs::Sessions::answer_at, crate::specs::Sessions::line_over))]
     pub(crate) fn answer(&mut self, text: &mut String) -> Result<(), SessionFault>
-        ensures text { OnOk result (string_bytes text.new ≡ string_bytes text.old ++ answer_at self.old) }
+        ensures text { OnOk result (Adds text.old text.new (answer_at self.old)) }
         ensures after { OnOk result (self.new ≡ line_over self.old) }
         ensures err { IfErr result IsShort }
     {
         let line = line_if(self.alloc, &self.line)?;
-        tell(self.alloc, text, &mut self.judge, line)?;
+        let refused = tell(self.alloc, text, &mut self.judge, line)?;
+        self.refused = self.refused || refused;
         self.line.clear();
         Ok(())
     }
 }
 
-// The line that these bytes are, where it is not too long.
+// The line that these bytes are; one that is too long is none.
 #[tactic(auto, unfolding(crate::specs::Sessions::line_if))]
-fn line_if(alloc: Global, bytes: &[u8]) -> Result<Option<Line>, AllocError>
+fn line_if(alloc: Global, bytes: &[u8]) -> Result<Result<Line, Misread>, AllocError>
     ensures { IfOk result (λ line. line ≡ line_if bytes.now) }
 {
     if bytes.len() > LONGEST {
-        return Ok(None);
+        return Ok(Err(Misread::TooLong));
     }
     line_in(alloc, bytes)
 }
 
-// Tells the judge the line, if it is one, and answers it.
+// Tells the judge the line, if it is one, answers it, and says whether it is refused.
 fn tell(
     alloc: Global,
     text: &mut String,
     judge: &mut Judge,
-    line: Option<Line>,
-) -> Result<(), SessionFault>
-    ensures text { OnOk result (string_bytes text.new ≡ string_bytes text.old ++ answer judge.old line) }
+    line: Result<Line, Misread>,
+) -> Result<bool, SessionFault>
+    ensures refused { IfOk result (λ refused. refused ≡ is_refused judge.old line) }
+    ensures text { OnOk result (Adds text.old text.new (answer judge.old line)) }
     ensures after { OnOk result (judge.new ≡ standing_after judge.old line) }
     ensures err { IfErr result IsShort }
 {
     match line {
-        None => Ok(text.push_str("not understood\n")?),
-        Some(line) => tell_and_answer(alloc, text, judge, &line),
+        Ok(line) => tell_and_answer(alloc, text, judge, &line),
+        Err(misread) => {
+            misread.push_onto(text)?;
+            text.push_str("\n")?;
+            Ok(true)
+        }
     }
 }
 
@@ -138,15 +151,22 @@ fn tell_and_answer(
     text: &mut String,
     judge: &mut Judge,
     line: &Line,
-) -> Result<(), SessionFault>
-    ensures text { OnOk result (string_bytes text.new ≡ string_bytes text.old ++ answer judge.old (Some line.now)) }
-    ensures after { OnOk result (judge.new ≡ standing_after judge.old (Some line.now)) }
+) -> Result<bool, SessionFault>
+    ensures refused { IfOk result (λ refused. refused ≡ is_refused judge.old (Ok line.now)) }
+    ensures text { OnOk result (Adds text.old text.new (answer judge.old (Ok line.now))) }
+    ensures after { OnOk result (judge.new ≡ standing_after judge.old (Ok line.now)) }
     ensures err { IfErr result IsShort }
 {
     let before = judge.sent();
     match tell_line(alloc, judge, line) {
-        Ok(()) => Ok(push_taken(alloc, text, judge, line, before)?),
-        Err(Stop::Told(_, fault)) => Ok(push_line(text, &fault)?),
+        Ok(()) => {
+            push_taken(alloc, text, judge, line, before)?;
+            Ok(false)
+        }
+        Err(Stop::Told(_, fault)) => {
+            push_line(text, &fault)?;
+            Ok(true)
+        }
         Err(Stop::Memory) => Err(SessionFault::Memory),
         Err(Stop::BoardRefused) => Err(SessionFault::Board),
     }
@@ -154,7 +174,7 @@ fn tell_and_answer(
 
 // The words and a line feed.
 fn push_line(text: &mut String, words: &str) -> Result<(), AllocError>
-    ensures { OnOk result (string_bytes text.new ≡ string_bytes text.old ++ (words.now ++ codes "\n")) }
+    ensures { OnOk result (Adds text.old text.new ((words.now ++ codes "\n"))) }
 {
     text.push_str(words)?;
     text.push_str("\n")
@@ -169,17 +189,11 @@ fn push_taken(
     before: u32,
 ) -> Result<(), AllocError>
     requires { before ≤ 1000000 }
-    ensures { OnOk result (string_bytes text.new ≡ string_bytes text.old ++ taken_text before line.now judge.now) }
+    ensures { OnOk result (Adds text.old text.new (taken_text before line.now judge.now)) }
 {
     match line {
-        Line::Ask(question) => push_question(alloc, text, judge, *question),
-        Line::Blank => push_ok(text, before, judge.sent()),
-        Line::Members(_) => push_ok(text, before, judge.sent()),
-        Line::Cells(_) => push_ok(text, before, judge.sent()),
-        Line::Batch(_) => push_ok(text, before, judge.sent()),
-        Line::Act(..) => push_ok(text, before, judge.sent()),
-        Line::Turns(..) => push_ok(text, before, judge.sent()),
-        Line::Expect(..) => push_ok(text, before, judge.sent()),
+        Line::Play(Play::Ask(question)) => push_question(alloc, text, judge, *question),
+        _ => push_ok(text, before, judge.sent()),
     }
 }
 
@@ -190,10 +204,10 @@ fn push_question(
     judge: &Judge,
     question: Question,
 ) -> Result<(), AllocError>
-    ensures { OnOk result (string_bytes text.new ≡ string_bytes text.old ++ question_text judge.now.rehearsal question) }
+    ensures { OnOk result (Adds text.old text.new (question_text judge.now.played question)) }
 {
-    match judge.world() {
+    match judge.stage() {
         None => text.push_str("ok\n"),
-        Some(world) => push_answer(alloc, text, world, question),
+        Some(stage) => push_answer(alloc, text, stage, question),
     }
 }

@@ -1,10 +1,11 @@
 //! The words after `interact` and `record` on a command line.
 
-ghost use Rattle.std.specs.Prelude.{◌≡◌, IfOk};
-ghost use Rattle.clap.specs.Words.{app_of};
+ghost use Rattle.std.specs.Prelude.{◌≡◌, false, IfOk};
+ghost use Rattle.clap.specs.Words.{app_of, rule_of};
+ghost use Rattle.ct_show.specs.Line.{flag_rule};
 ghost use Rattle.ct_judge.specs.Line.{interact_app, record_app};
 
-use clap::Command;
+use clap::{Arg, ArgAction, Command};
 use ct_streams::{file_argument, subcommand, value_option};
 use std::alloc::{AllocError, Global};
 
@@ -13,15 +14,19 @@ const AFTER_INTERACT: &str = "Lines are those of `record`, and questions:
   enabled 2                    the steps that a member may take by itself
   next 2                       what a driver would try
   state 2                      where a member stands
+  waiting 2                    the envelopes that wait at a member
   report                       the report as JSON
+  record                       the record so far as JSON
+  limits                       how much of each limit is used
 
 Examples:
   ct_tool interact
   ct_tool interact --record run.json < run.txt
+  ct_tool interact --strict < run.txt
 
 Status:
   0  the input came to its end
-  1  a record is asked for, and the number of members was not given
+  1  a line was refused, with --strict; or a record is asked for, and the number of members was not given
   3  the words of the command line are refused
   4  a read or a write failed
   5  memory was refused";
@@ -29,20 +34,23 @@ Status:
 // What stands after the options of `record`.
 const AFTER_RECORD: &str = "Lines:
   members 3                    the number of members, before all else
-  1 submit set 0 7             a step of a member
+  1 submit set 0 7             a step of a member; 1,3 or all: of several
   all receive data 1.1 from 1  an envelope by what it carries, or by its serial: #2
-  all begin                    a step of each member that is up
-  1 turns 20 suspecting 2,3    turns as a driver makes them
-  expect 1 received 1.1        what has to be so
-  expect 1 refuses begin Busy
+  cut 1,2 | 3                  sides, between which nothing is received; heal ends it
+  1 begin
+  all settle suspecting 2      turns as a driver makes them, until nothing moves; turns 20: so many
+  all turns until all delivered 1.1
+  expect all received 1.1      what has to be so
+  expect 1 refuses enter Idle
 
 Examples:
   ct_tool record run.txt > run.json
   ct_tool record run.txt | ct_tool report
+  ct_tool record --partial run.txt > run.json
 
 Status:
   0  the record was written
-  1  a line is refused
+  1  a line is refused; with --partial the record of the lines before it was written
   2  the input is too long
   3  the words of the command line are refused
   4  a read or a write failed
@@ -63,7 +71,21 @@ pub fn interact_command<'a>(alloc: Global) -> Result<Command<'a>, AllocError>
         "record",
         "Writes the record of the session to this file in the end",
     )
-    .value_name("FILE"))
+    .value_name("FILE"))?
+    .arg(flag(
+        alloc,
+        "strict",
+        "Ends with status 1 where a line was refused",
+    ))
+}
+
+// An option with no value.
+fn flag<'a>(alloc: Global, name: &'a str, help: &'a str) -> Arg<'a>
+    ensures rule { rule_of result ≡ flag_rule name.entry.now }
+    ensures local { result.global ≡ false }
+{
+    let option = Arg::new(alloc, name).long(name).help(help);
+    option.action(ArgAction::SetTrue)
 }
 
 /// The subcommand `record`.
@@ -79,5 +101,10 @@ pub fn record_command<'a>(alloc: Global) -> Result<Command<'a>, AllocError>
     .arg(file_argument(
         alloc,
         "The file that the schedule stands in; - for standard input",
+    ))?
+    .arg(flag(
+        alloc,
+        "partial",
+        "Writes the record of the lines before one that is refused, too",
     ))
 }

@@ -1,10 +1,11 @@
 -- What lines expect of members, and what is there.
-use Rattle.std.specs.Prelude.{ℕ, Bool, List, [], ◌∷◌, codes, decimal, is_some, Option, Some, None, option_map, Result, Ok, Err}
-use Rattle.std.specs.Prelude.{if◌then◌else◌}
+use Rattle.std.specs.Prelude.{ℕ, Bool, false, not, List, [], ◌∷◌, codes, decimal, is_some, length, Option, Some, None}
+use Rattle.std.specs.Prelude.{option_map, Result, Ok, Err, find, if◌then◌else◌}
 use Rattle.std.specs.List.{concat}
 use Rattle.std.specs.Str.{bytes_eq}
 use Rattle.ct_names.specs.Group.{is_member}
 use Rattle.ct_names.specs.RefusalText.{refusal_text}
+use Rattle.ct_names.specs.declared.limit.TheConstants.{MAX_MEMBERS}
 use Rattle.ct_names.specs.declared.refusal.Refusal.{Refusal}
 use Rattle.ct_model.specs.Cause.{cause}
 use Rattle.ct_model.specs.declared.phase.Phase.{Phase}
@@ -13,22 +14,27 @@ use Rattle.ct_model.specs.Received.{received_by}
 use Rattle.ct_model.specs.Rehearsal.{Rehearsal, state_of}
 use Rattle.ct_model.specs.State.{delivered, is_crashed}
 use Rattle.ct_table.specs.Table.{table}
+use Rattle.ct_world.specs.Standing.{acked_by, all_heard_by}
 use Rattle.ct_world.specs.World.{member_of, if_member}
-use Rattle.ct_records.specs.Report.{decisions_text, messages_text, table_text}
+use Rattle.ct_records.specs.Report.{decisions_text, list_text, messages_text, table_text}
+use Rattle.ct_show.specs.Details.{estimate_of}
 use Rattle.ct_show.specs.Shapes.{phase_text}
+use Rattle.ct_show.specs.State.{first_in}
 use Rattle.ct_grammar.specs.declared.fact.Fact.{Fact}
 use Rattle.ct_grammar.specs.declared.fact.Fact.TheVariants.{Up, Crashed, Idle, Instance, Round, Phase as InPhase}
 use Rattle.ct_grammar.specs.declared.fact.Fact.TheVariants.{Received, Decided, Delivered, Table, Refuses}
+use Rattle.ct_grammar.specs.declared.fact.Fact.TheVariants.{May, Waiting, Waits, Heard, Acked, Estimate}
+use Rattle.ct_grammar.specs.declared.who.Who.{Who}
 use Rattle.ct_grammar.specs.Reasons.{reason_text}
-use Rattle.ct_play.specs.Acting.{step_of}
+use Rattle.ct_play.specs.Acting.{go_on, step_of}
+use Rattle.ct_play.specs.Cuts.{barred}
+use Rattle.ct_play.specs.Picking.{is_waiting, waiting_at}
+use Rattle.ct_play.specs.Played.{Played}
+use Rattle.ct_play.specs.Who.{known}
 use Rattle.ct_play.specs.declared.line_fault.LineFault.{LineFault}
-use Rattle.ct_play.specs.declared.line_fault.LineFault.TheVariants.{NoSuchMember, NotMet}
+use Rattle.ct_play.specs.declared.line_fault.LineFault.TheVariants.{NotMet}
 
--- a word, and what stands behind it
-unfoldable pub worded : List ℕ → List ℕ → List ℕ
-worded word text = concat (word ∷ codes " " ∷ text ∷ [])
-
--- ---- what is there, as a fact of its kind is written
+-- ---- what is there, as the value of a fact of its kind is written
 
 abbrev pub up_text : Bool → List ℕ
 up_text crashed = if crashed then codes "crashed" else codes "up"
@@ -42,55 +48,125 @@ place_of w p = if_member w p (option_map (λ c. (c.round, c.phase)) (member_of w
 
 abbrev pub round_text : Option (ℕ × Phase) → List ℕ
 round_text None = codes "idle"
-round_text (Some place) = worded (codes "round") (decimal place.0)
+round_text (Some place) = decimal place.0
 
 abbrev pub place_text : Option (ℕ × Phase) → List ℕ
 place_text None = codes "idle"
-place_text (Some place) = worded (codes "phase") (phase_text place.1)
+place_text (Some place) = phase_text place.1
 
--- why a step is refused
-abbrev pub cause_text : Option Refusal → List ℕ
-cause_text None = codes "nothing"
-cause_text (Some refusal) = refusal_text refusal
+-- why the rules refuse a step, or the cut forbids it
+abbrev pub barred_text : Option LineFault → List ℕ
+barred_text None = codes "allowed"
+barred_text (Some fault) = codes "Across"
 
-abbrev pub step_refusal : Rehearsal → Option Step → List ℕ
-step_refusal w None = codes "NotThere"
-step_refusal w (Some step) = cause_text (cause w step)
+abbrev pub cause_text : Option LineFault → Option Refusal → List ℕ
+cause_text fault None = barred_text fault
+cause_text fault (Some refusal) = refusal_text refusal
+
+unfoldable pub step_cause : Played → Step → List ℕ
+step_cause s step = cause_text (barred s step) (cause s.rehearsal step)
+
+-- why an act is refused, of one of several steps the first
+abbrev pub act_cause : Played → Result Step LineFault → List ℕ
+act_cause s (Err fault) = codes "NotThere"
+act_cause s (Ok step) = step_cause s step
+
+abbrev pub waits_text : Bool → List ℕ
+waits_text waits = if waits then codes "waits" else codes "none"
+
+-- the members of a set, with commas; a dash where there are none
+abbrev pub set_text : Option (List ℕ) → List ℕ
+set_text None = codes "-"
+set_text (Some set) = list_text 44 (first_in set MAX_MEMBERS)
+
+-- the estimate of p; a dash where no instance is open
+abbrev pub estimate_text : Rehearsal → ℕ → List ℕ
+estimate_text w p = if is_some (place_of w p) then estimate_of w p else codes "-"
 
 -- what is there at member p
-abbrev pub there : Rehearsal → ℕ → Fact → List ℕ
-there w p Up = up_text (is_crashed (state_of w) p)
-there w p Crashed = up_text (is_crashed (state_of w) p)
-there w p Idle = open_text (is_some (member_of w p).current)
-there w p (Instance k) = worded (codes "instance") (decimal (member_of w p).last)
-there w p (Round r) = round_text (place_of w p)
-there w p (InPhase f) = place_text (place_of w p)
-there w p (Received text) = worded (codes "received") (messages_text 32 (received_by (state_of w) p))
-there w p (Decided text) = worded (codes "decided") (decisions_text (member_of w p).got)
-there w p (Delivered text) = worded (codes "delivered") (messages_text 32 (delivered (member_of w p)))
-there w p (Table text) = worded (codes "table") (table_text (table (delivered (member_of w p))))
-there w p (Refuses act reason) = worded (codes "refuses") (step_refusal w (step_of w p act))
+abbrev pub there : Played → ℕ → Fact → List ℕ
+there s p Up = up_text (is_crashed (state_of s.rehearsal) p)
+there s p Crashed = up_text (is_crashed (state_of s.rehearsal) p)
+there s p Idle = open_text (is_some (member_of s.rehearsal p).current)
+there s p (Instance k) = decimal (member_of s.rehearsal p).last
+there s p (Round r) = round_text (place_of s.rehearsal p)
+there s p (InPhase f) = place_text (place_of s.rehearsal p)
+there s p (Received text) = messages_text 32 (received_by (state_of s.rehearsal) p)
+there s p (Decided text) = decisions_text (member_of s.rehearsal p).got
+there s p (Delivered text) = messages_text 32 (delivered (member_of s.rehearsal p))
+there s p (Table text) = table_text (table (delivered (member_of s.rehearsal p)))
+there s p (Refuses act reason) = act_cause s (step_of s.rehearsal p act)
+there s p (May act) = act_cause s (step_of s.rehearsal p act)
+there s p (Waiting k) = decimal (length (waiting_at s.rehearsal p))
+there s p (Waits pick) = waits_text (is_waiting s.rehearsal p pick)
+there s p (Heard text) = set_text (if_member s.rehearsal p (all_heard_by (member_of s.rehearsal p)))
+there s p (Acked text) = set_text (if_member s.rehearsal p (acked_by (member_of s.rehearsal p)))
+there s p (Estimate text) = estimate_text s.rehearsal p
 
 -- ---- what is expected
 
-abbrev pub wanted : Fact → List ℕ
-wanted Up = codes "up"
-wanted Crashed = codes "crashed"
-wanted Idle = codes "idle"
-wanted (Instance k) = worded (codes "instance") (decimal k)
-wanted (Round r) = worded (codes "round") (decimal r)
-wanted (InPhase f) = worded (codes "phase") (phase_text f)
-wanted (Received text) = worded (codes "received") text
-wanted (Decided text) = worded (codes "decided") text
-wanted (Delivered text) = worded (codes "delivered") text
-wanted (Table text) = worded (codes "table") text
-wanted (Refuses act reason) = worded (codes "refuses") (reason_text reason)
+-- the value that has to be there
+abbrev pub value : Fact → List ℕ
+value Up = codes "up"
+value Crashed = codes "crashed"
+value Idle = codes "idle"
+value (Instance k) = decimal k
+value (Round r) = decimal r
+value (InPhase f) = phase_text f
+value (Received text) = text
+value (Decided text) = text
+value (Delivered text) = text
+value (Table text) = text
+value (Refuses act reason) = reason_text reason
+value (May act) = codes "allowed"
+value (Waiting k) = decimal k
+value (Waits pick) = codes "waits"
+value (Heard text) = text
+value (Acked text) = text
+value (Estimate text) = text
 
--- a fact holds where what is there reads as what is expected
-unfoldable pub holds : Rehearsal → ℕ → Fact → Bool
-holds w p fact = bytes_eq (there w p fact) (wanted fact)
+-- the word before the value, and a space; nothing where the value says it
+abbrev pub word : Fact → List ℕ
+word Up = []
+word Crashed = []
+word Idle = []
+word (Instance k) = codes "instance "
+word (Round r) = codes "round "
+word (InPhase f) = codes "phase "
+word (Received text) = codes "received "
+word (Decided text) = codes "decided "
+word (Delivered text) = codes "delivered "
+word (Table text) = codes "table "
+word (Refuses act reason) = codes "refuses "
+word (May act) = []
+word (Waiting k) = codes "waiting "
+word (Waits pick) = []
+word (Heard text) = codes "heard "
+word (Acked text) = codes "acked "
+word (Estimate text) = codes "estimate "
 
--- an expectation changes nothing; the member has to be one of the group's
-unfoldable pub expected : Rehearsal → ℕ → Fact → Result Rehearsal LineFault
-expected w p fact =
-    if is_member w.setting.members p then (if holds w p fact then Ok w else Err NotMet) else Err (NoSuchMember p)
+-- what is expected, in words
+unfoldable pub wanted : Fact → List ℕ
+wanted fact = concat (word fact ∷ value fact ∷ [])
+
+-- a fact holds of a member of the group where what is there reads as what is expected
+unfoldable pub holds : Played → ℕ → Fact → Bool
+holds s p fact =
+    if is_member s.rehearsal.setting.members p then bytes_eq (there s p fact) (value fact) else false
+
+-- the first of these of which it does not hold
+abbrev pub unmet : Played → List ℕ → Fact → Option ℕ
+unmet s ps fact = find (λ p. not (holds s p fact)) ps
+
+-- an expectation changes nothing
+abbrev pub unless_unmet : Played → Option ℕ → Result Played LineFault
+unless_unmet s None = Ok s
+unless_unmet s (Some p) = Err (NotMet p)
+
+-- the fact has to hold of each of these
+abbrev pub expected_of : Played → List ℕ → Fact → Result Played LineFault
+expected_of s ps fact = unless_unmet s (unmet s ps fact)
+
+-- the members have to be members of the group, and the fact has to hold of each
+unfoldable pub expected : Played → Who → Fact → Result Played LineFault
+expected s who fact = go_on (known s.rehearsal.setting.members who) (λ ps. expected_of s ps fact)

@@ -1,7 +1,11 @@
 pub mod Acting
+pub mod Cuts
 pub mod Facts
 pub mod Faults
 pub mod Parts
 pub mod Picking
+pub mod Played
 pub mod Playing
+pub mod Stating
 pub mod Turning
+pub mod Who

@@ -1,5 +1,9 @@
--- Which envelope a line names.
-use Rattle.std.specs.Prelude.{ℕ, Bool, true, false, ◌&&◌, ◌==◌, Option, Some, None, find, option_and_then, option_map}
+-- Which envelopes a line names.
+use Rattle.std.specs.Prelude.{ℕ, zero, suc, Bool, true, false, ◌&&◌, ◌==◌, not, List, [], Option, is_some, Some, None, find, filter, length}
+use Rattle.std.specs.Prelude.{option_map, if◌then◌else◌, unwrap_or}
+use Rattle.std.specs.List.{list_any}
+use Rattle.std.specs.Option.{option_or}
+use Rattle.ct_names.specs.MemberSet.{has_member}
 use Rattle.ct_model.specs.Mapped.{without_value}
 use Rattle.ct_model.specs.Rehearsal.{Rehearsal, state_of, line_of}
 use Rattle.ct_model.specs.Senders.{senders}
@@ -42,11 +46,70 @@ sender_of w k = at_serial (senders w.setting w.steps) k
 unfoldable pub is_so : Rehearsal → Carried → Option ℕ → ℕ → Bool
 is_so w carried from k = is_carried carried (option_map without_value (at_serial (state_of w).sent k)) && is_from from (sender_of w k)
 
+-- ---- what waits
+
+-- the serials that wait at p; none where p is no member of the group
+unfoldable pub waiting_at : Rehearsal → ℕ → List ℕ
+waiting_at w p = unwrap_or (of_member w p (line_of w p)) []
+
+-- the serial waits at p
+unfoldable pub waits_at : Rehearsal → ℕ → ℕ → Bool
+waits_at w p k = list_any (λ q. q == k) (waiting_at w p)
+
 -- the first serial in p's waiting line whose envelope is so named
 unfoldable pub first_so : Rehearsal → ℕ → Carried → Option ℕ → Option ℕ
-first_so w p carried from = option_and_then (find (is_so w carried from)) (of_member w p (line_of w p))
+first_so w p carried from = find (is_so w carried from) (waiting_at w p)
 
 -- the serial that is picked for p
 abbrev pub picked : Rehearsal → ℕ → Pick → Option ℕ
 picked w p (Serial k) = Some k
 picked w p (First carried from) = first_so w p carried from
+
+-- an envelope that is so named waits at p
+abbrev pub is_waiting : Rehearsal → ℕ → Pick → Bool
+is_waiting w p (Serial k) = waits_at w p k
+is_waiting w p (First carried from) = is_some (first_so w p carried from)
+
+-- the step of one of these sent it
+abbrev pub is_of : List ℕ → Option ℕ → Bool
+is_of set None = false
+is_of set (Some q) = has_member set q
+
+-- the serials that wait at p and that a step of one of these sent
+unfoldable pub waiting_from : Rehearsal → ℕ → List ℕ → List ℕ
+waiting_from w p set = filter (λ k. is_of set (sender_of w k)) (waiting_at w p)
+
+-- the first of them
+unfoldable pub first_from : Rehearsal → ℕ → List ℕ → Option ℕ
+first_from w p set = find (λ k. is_of set (sender_of w k)) (waiting_at w p)
+
+-- ---- what was sent
+
+-- an envelope goes to p
+abbrev pub is_to : ℕ → Option (Envelope (Unit {0})) → Bool
+is_to p None = false
+is_to p (Some e) = e.to == p
+
+-- the envelope of a serial was sent to p and is so named
+unfoldable pub was_sent : Rehearsal → ℕ → Carried → Option ℕ → ℕ → Bool
+was_sent w p carried from k = is_to p (option_map without_value (at_serial (state_of w).sent k)) && is_so w carried from k
+
+-- it was, and does not wait there
+unfoldable pub is_gone : Rehearsal → ℕ → Carried → Option ℕ → ℕ → Bool
+is_gone w p carried from k = was_sent w p carried from k && not (waits_at w p k)
+
+-- the largest of the serials up to one that passes a test
+abbrev pub last_of : (ℕ → Bool) → ℕ → Option ℕ
+last_of test zero = None
+last_of test (suc k) = if test (suc k) then Some (suc k) else last_of test k
+
+-- the last one that was sent to p, is so named and does not wait there; where each of these waits, the last of them
+unfoldable pub last_so : Rehearsal → ℕ → Carried → Option ℕ → Option ℕ
+last_so w p carried from =
+    let sent = length (state_of w).sent in
+    option_or (last_of (is_gone w p carried from) sent) (last_of (was_sent w p carried from) sent)
+
+-- the serial that is repeated for p
+abbrev pub repeated : Rehearsal → ℕ → Pick → Option ℕ
+repeated w p (Serial k) = Some k
+repeated w p (First carried from) = last_so w p carried from

@@ -1,16 +1,36 @@
 -- Turns as a driver makes them, where it is given whom the failure detector suspects.
-use Rattle.std.specs.Prelude.{ℕ, zero, suc, Bool, false, List, Option, Some, None, Result, Ok, Err, is_none, if◌then◌else◌}
-use Rattle.ct_names.specs.Group.{is_member}
+use Rattle.std.specs.Prelude.{ℕ, zero, suc, ◌-◌, ◌==◌, Bool, false, List, [], Option, Some, None, Result, Ok, Err, fold, is_none, length}
+use Rattle.std.specs.Prelude.{if◌then◌else◌}
 use Rattle.ct_names.specs.MemberSet.{has_member}
-use Rattle.ct_model.specs.Cause.{cause}
 use Rattle.ct_model.specs.declared.step.Step.{Step}
-use Rattle.ct_model.specs.Rehearsal.{Rehearsal, extended}
 use Rattle.ct_detect.specs.declared.ask.Ask.{Ask}
-use Rattle.ct_rehearse.specs.Choices.{ask_of, question, tried}
+use Rattle.ct_rehearse.specs.Choices.{after_try, ask_of, question, tried}
+use Rattle.ct_grammar.specs.declared.fact.Fact.{Fact}
+use Rattle.ct_grammar.specs.declared.play.Play.{Play}
+use Rattle.ct_grammar.specs.declared.play.Play.TheVariants.{Turns, Settle, Until}
 use Rattle.ct_grammar.specs.declared.who.Who.{Who}
-use Rattle.ct_grammar.specs.declared.who.Who.TheVariants.{One, All}
+use Rattle.ct_play.specs.Acting.{go_on}
+use Rattle.ct_play.specs.Cuts.{near}
+use Rattle.ct_play.specs.Facts.{expected_of, unmet}
+use Rattle.ct_play.specs.Played.{Played, with_record}
+use Rattle.ct_play.specs.Who.{known, named}
 use Rattle.ct_play.specs.declared.line_fault.LineFault.{LineFault}
-use Rattle.ct_play.specs.declared.line_fault.LineFault.TheVariants.{NoSuchMember}
+use Rattle.ct_play.specs.declared.line_fault.LineFault.TheVariants.{Restless}
+use Rattle.ct_play.specs.declared.turning.TheConstants.{MOST_ROUNDS}
+
+-- ---- a turn
+
+-- whom the detectors suspect in the line's turns
+abbrev pub suspected_by : Play → List ℕ
+suspected_by (Turns who n set) = set
+suspected_by (Settle who set) = set
+suspected_by (Until who set aim fact) = set
+suspected_by _ = []
+
+-- the line's turns have come to their end: its fact holds of each
+abbrev pub has_ended : Played → Play → Bool
+has_ended s (Until who set aim fact) = is_none (unmet s (named s.rehearsal.setting.members aim) fact)
+has_ended s _ = false
 
 -- the answer to a question: yes where the coordinator that is asked about is among these
 abbrev pub suspects : List ℕ → Option Ask → Bool
@@ -18,29 +38,59 @@ suspects set None = false
 suspects set (Some ask) = has_member set ask.coordinator
 
 -- what a turn of p tries, where its detector suspects these
-unfoldable pub tried_at : Rehearsal → ℕ → List ℕ → Option Step
-tried_at w p set = tried w p (Some (ask_of w p, suspects set (question w p)))
+unfoldable pub tried_at : Played → ℕ → List ℕ → Option Step
+tried_at s p set = near s (tried s.rehearsal p (Some (ask_of s.rehearsal p, suspects set (question s.rehearsal p))))
 
--- the record after a step is tried: the step joins it where nothing refuses it
-abbrev pub after_try : Rehearsal → Option Step → Rehearsal
-after_try w None = w
-after_try w (Some step) = if is_none (cause w step) then extended w step else w
+-- after a step is tried
+abbrev pub after_attempt : Played → Option Step → Played
+after_attempt s step = with_record s (after_try s.rehearsal step)
 
--- after a turn of p
-abbrev pub after_turn : List ℕ → Rehearsal → ℕ → Rehearsal
-after_turn set w p = after_try w (tried_at w p set)
+-- after a turn of p, which does nothing once the line has come to its end
+unfoldable pub after_turn : Play → Played → ℕ → Played
+after_turn play s p = if has_ended s play then s else after_attempt s (tried_at s p (suspected_by play))
 
--- after so many turns of p
-abbrev pub after_turns : List ℕ → Rehearsal → ℕ → ℕ → Rehearsal
-after_turns set w p zero = w
-after_turns set w p (suc k) = after_turn set (after_turns set w p k) p
+-- ---- rounds
 
--- after so many turns of each of the first members, one member after another
-abbrev pub after_turns_of_first : List ℕ → Rehearsal → ℕ → ℕ → Rehearsal
-after_turns_of_first set w n zero = w
-after_turns_of_first set w n (suc p) = after_turns set (after_turns_of_first set w n p) (suc p) n
+-- after a turn of each of these
+abbrev pub after_round : Play → List ℕ → Played → Played
+after_round play ps s = fold (after_turn play) s ps
 
--- after so many turns of these members; a turn is never refused
-unfoldable pub turned : Rehearsal → Who → ℕ → List ℕ → Result Rehearsal LineFault
-turned w (One p) n set = if is_member w.setting.members p then Ok (after_turns set w p n) else Err (NoSuchMember p)
-turned w All n set = Ok (after_turns_of_first set w n w.setting.members)
+-- after so many rounds
+unfoldable pub after_rounds : Play → List ℕ → Played → ℕ → Played
+after_rounds play ps s zero = s
+after_rounds play ps s (suc k) = after_round play ps (after_rounds play ps s k)
+
+-- nothing moved from one record to a later one
+abbrev pub is_still : Played → Played → Bool
+is_still s t = length t.rehearsal.steps == length s.rehearsal.steps
+
+-- ---- lines
+
+-- so many rounds of turns
+unfoldable pub turned : Played → Play → Who → ℕ → Result Played LineFault
+turned s play who n = go_on (known s.rehearsal.setting.members who) (λ ps. Ok (after_rounds play ps s n))
+
+-- after the last round, in which nothing may move
+abbrev pub after_last : Played → Played → Result Played LineFault
+after_last s t = if is_still s t then Ok t else Err Restless
+
+-- after as many rounds as there may be: nothing moved in the last of them. After one in which nothing moved no other moves anything
+unfoldable pub rested : Play → List ℕ → Played → Result Played LineFault
+rested play ps s =
+    let before = after_rounds play ps s (MOST_ROUNDS - 1) in
+    after_last before (after_round play ps before)
+
+-- rounds of turns until one in which nothing moved
+unfoldable pub settled : Played → Play → Who → Result Played LineFault
+settled s play who = go_on (known s.rehearsal.setting.members who) (λ ps. rested play ps s)
+
+-- turns until the fact holds of each: after as many rounds as there may be it has to hold. Once it does no turn does anything
+unfoldable pub reached : Played → Play → Who → Who → Fact → Result Played LineFault
+reached s play who aim fact =
+    go_on (known s.rehearsal.setting.members who)
+    (λ ps. go_on (known s.rehearsal.setting.members aim) (λ qs. expected_of (after_rounds play ps s MOST_ROUNDS) qs fact))
+
+-- the stage on which the line looks at its fact: the one after its turns, where it makes turns until the fact holds
+unfoldable pub ended : Played → Play → Played
+ended s (Until who set aim fact) = after_rounds (Until who set aim fact) (named s.rehearsal.setting.members who) s MOST_ROUNDS
+ended s _ = s

@@ -1,83 +1,183 @@
 //! What lines expect of members, and what is there.
 
-ghost use Rattle.std.specs.Prelude.{◌≡◌, ◌++◌, Ok, OnOk, IfOk, IfErr, IsTrue, codes, decimal, is_some, string_bytes};
+ghost use Rattle.std.specs.Prelude.{◌≡◌, [], ◌∷◌, if◌then◌else◌, Ok, OnOk, IfOk, IfErr, IsTrue, decimal, is_some};
+ghost use Rattle.ct_records.specs.Adds.{Adds};
 ghost use Rattle.ct_names.specs.Group.{is_member};
 ghost use Rattle.ct_model.specs.Received.{received_by};
 ghost use Rattle.ct_model.specs.Rehearsal.{state_of};
 ghost use Rattle.ct_model.specs.State.{delivered};
 ghost use Rattle.ct_table.specs.Table.{table};
 ghost use Rattle.ct_world.specs.World.{member_of};
-ghost use Rattle.ct_records.specs.Report.{decisions_text, messages_text, table_text};
-ghost use Rattle.ct_play.specs.Facts.{cause_text, expected, holds, open_text, place_text, round_text, step_refusal, there, up_text};
-ghost use Rattle.ct_play.specs.Facts.{wanted, worded};
+ghost use Rattle.ct_records.specs.Report.{decisions_text, list_text, messages_text, table_text};
+ghost use Rattle.ct_show.specs.State.{first_in};
+ghost use Rattle.ct_play.specs.Facts.{act_cause, barred_text, cause_text, estimate_text, expected, expected_of, holds, open_text};
+ghost use Rattle.ct_play.specs.Facts.{place_text, round_text, set_text, step_cause, there, unmet, up_text, value, waits_text, wanted, word};
 ghost use Rattle.ct_play.specs.Faults.{IsFaultOf};
 
 use crate::acting::step_of;
+use crate::cuts::barred;
 use crate::line_fault::LineFault;
+use crate::naming::known;
+use crate::picking::{is_waiting, waiting_at};
 use crate::stage::Stage;
-use ct_grammar::Fact;
+use ct_grammar::{Fact, Who};
 use ct_model::{Phase, Step};
-use ct_names::{Member, Refusal, Round};
-use ct_records::{push_decisions, push_messages, push_table};
-use ct_show::phase_name;
+use ct_names::{MAX_MEMBERS, Member, MemberSet, Refusal, Round};
+use ct_records::{push_decisions, push_messages, push_separator, push_table};
+use ct_show::{phase_name, push_estimate_of};
 use ct_world::World;
 use std::alloc::{AllocError, Global};
 
-// Whether the fact holds of the member, which has to be one of the group's.
+// ---- what is expected
+
+// The fact has to hold of each of these, which have to be members of the group.
 #[tactic(auto, unfolding(crate::specs::Facts::expected))]
-pub(crate) fn expect(
+pub(crate) fn expect(alloc: Global, stage: &Stage, who: Who, fact: &Fact) -> Result<(), LineFault>
+    ensures ok { OnOk result (expected stage.now who fact.now ≡ Ok stage.now) }
+    ensures err { IfErr result (IsFaultOf (expected stage.now who fact.now)) }
+{
+    let members = known(alloc, stage.world().group(), who)?;
+    expect_of(alloc, stage, &members, fact)
+}
+
+// The fact has to hold of each of these.
+pub(crate) fn expect_of(
     alloc: Global,
     stage: &Stage,
-    member: Member,
+    members: &[Member],
     fact: &Fact,
 ) -> Result<(), LineFault>
-    ensures ok { OnOk result (expected stage.now member fact.now ≡ Ok stage.now) }
-    ensures err { IfErr result (IsFaultOf (expected stage.now member fact.now)) }
+    ensures ok { OnOk result (expected_of stage.now members.now fact.now ≡ Ok stage.now) }
+    ensures err { IfErr result (IsFaultOf (expected_of stage.now members.now fact.now)) }
 {
-    if !stage.world().group().has(member) {
-        return Err(LineFault::NoSuchMember(member));
-    }
-    if holds(alloc, stage, member, fact)? {
-        Ok(())
-    } else {
-        Err(LineFault::NotMet)
+    match unmet(alloc, stage, members, fact)? {
+        None => Ok(()),
+        Some(member) => Err(LineFault::NotMet(member)),
     }
 }
 
+// The first of these of which the fact does not hold.
+pub(crate) fn unmet(
+    alloc: Global,
+    stage: &Stage,
+    members: &[Member],
+    fact: &Fact,
+) -> Result<Option<Member>, AllocError>
+    ensures { IfOk result (λ first. first ≡ unmet stage.now members.now fact.now) }
+{
+    for member in members {
+        if !holds(alloc, stage, *member, fact)? {
+            return Ok(Some(*member));
+        }
+    }
+    Ok(None)
+}
+
+// Whether the fact holds of the member, which has to be one of the group's.
 #[tactic(auto, unfolding(crate::specs::Facts::holds))]
 fn holds(alloc: Global, stage: &Stage, member: Member, fact: &Fact) -> Result<bool, AllocError>
-    requires { IsTrue (is_member stage.now.setting.members member) }
     ensures { IfOk result (λ met. met ≡ holds stage.now member fact.now) }
 {
+    if !stage.world().group().has(member) {
+        return Ok(false);
+    }
     let mut there = String::new(alloc);
     push_there(&mut there, stage, member, fact)?;
     let mut wanted = String::new(alloc);
-    push_wanted(&mut wanted, fact)?;
+    push_value(&mut wanted, fact)?;
     Ok(there.as_str() == wanted.as_str())
 }
 
-// What is there at a member.
+/// Appends what is expected: the word of the fact, and the value that has to be there.
+#[tactic(auto, unfolding(crate::specs::Facts::wanted))]
+pub fn push_wanted(text: &mut String, fact: &Fact) -> Result<(), AllocError>
+    ensures { OnOk result (Adds text.old text.new (wanted fact.now)) }
+{
+    text.push_str(word(fact))?;
+    push_value(text, fact)
+}
+
+// The word before the value, and a space; nothing where the value says it.
+fn word(fact: &Fact) -> &'static str
+    ensures { result.now ≡ word fact.now }
+{
+    match fact {
+        Fact::Up => "",
+        Fact::Crashed => "",
+        Fact::Idle => "",
+        Fact::Instance(_) => "instance ",
+        Fact::Round(_) => "round ",
+        Fact::Phase(_) => "phase ",
+        Fact::Received(_) => "received ",
+        Fact::Decided(_) => "decided ",
+        Fact::Delivered(_) => "delivered ",
+        Fact::Table(_) => "table ",
+        Fact::Refuses(..) => "refuses ",
+        Fact::May(_) => "",
+        Fact::Waiting(_) => "waiting ",
+        Fact::Waits(_) => "",
+        Fact::Heard(_) => "heard ",
+        Fact::Acked(_) => "acked ",
+        Fact::Estimate(_) => "estimate ",
+    }
+}
+
+// The value that has to be there.
+fn push_value(text: &mut String, fact: &Fact) -> Result<(), AllocError>
+    ensures { OnOk result (Adds text.old text.new (value fact.now)) }
+{
+    match fact {
+        Fact::Up => text.push_str("up"),
+        Fact::Crashed => text.push_str("crashed"),
+        Fact::Idle => text.push_str("idle"),
+        Fact::Instance(instance) => write!(text, "{instance}"),
+        Fact::Round(round) => write!(text, "{round}"),
+        Fact::Phase(phase) => text.push_str(phase_name(*phase)),
+        Fact::Received(words) => text.push_str(words.as_str()),
+        Fact::Decided(words) => text.push_str(words.as_str()),
+        Fact::Delivered(words) => text.push_str(words.as_str()),
+        Fact::Table(words) => text.push_str(words.as_str()),
+        Fact::Refuses(_, reason) => write!(text, "{reason}"),
+        Fact::May(_) => text.push_str("allowed"),
+        Fact::Waiting(count) => write!(text, "{count}"),
+        Fact::Waits(_) => text.push_str("waits"),
+        Fact::Heard(words) => text.push_str(words.as_str()),
+        Fact::Acked(words) => text.push_str(words.as_str()),
+        Fact::Estimate(words) => text.push_str(words.as_str()),
+    }
+}
+
+// ---- what is there
+
+/// Appends what is there at a member of the group, as the value of a fact of this kind is written.
 pub fn push_there(
     text: &mut String,
     stage: &Stage,
     member: Member,
     fact: &Fact,
 ) -> Result<(), AllocError>
-    requires { IsTrue (is_member stage.now.setting.members member) }
-    ensures { OnOk result (string_bytes text.new ≡ string_bytes text.old ++ there stage.now member fact.now) }
+    requires { IsTrue (is_member stage.now.rehearsal.setting.members member) }
+    ensures { OnOk result (Adds text.old text.new (there stage.now member fact.now)) }
 {
     let world = stage.world();
     match fact {
         Fact::Up | Fact::Crashed => text.push_str(up_text(world.crashed(member))),
-        Fact::Idle => push_open(text, world, member),
+        Fact::Idle => text.push_str(open_text(world, member)),
         Fact::Instance(_) => push_instance(text, world, member),
         Fact::Round(_) => push_round(text, world.round(member)),
-        Fact::Phase(_) => push_place(text, world.round(member)),
-        Fact::Received(_) => push_received(text, world, member),
-        Fact::Decided(_) => push_decided(text, world, member),
-        Fact::Delivered(_) => push_delivered(text, world, member),
+        Fact::Phase(_) => text.push_str(place_text(world.round(member))),
+        Fact::Received(_) => push_messages(text, ' ', world.received(member).unwrap_or(&[])),
+        Fact::Decided(_) => push_decisions(text, world, member),
+        Fact::Delivered(_) => push_messages(text, ' ', world.delivered(member).unwrap_or(&[])),
         Fact::Table(_) => push_table_of(text, world, member),
-        Fact::Refuses(act, _) => push_refused(text, world, step_of(stage, member, *act)),
+        Fact::Refuses(act, _) | Fact::May(act) => {
+            push_cause(text, stage, step_of(stage, member, *act))
+        }
+        Fact::Waiting(_) => push_count(text, waiting_at(stage, member).len()),
+        Fact::Waits(pick) => text.push_str(waits_text(is_waiting(stage, member, *pick))),
+        Fact::Heard(_) => push_set(text, world.heard(member)),
+        Fact::Acked(_) => push_set(text, world.acked(member)),
+        Fact::Estimate(_) => push_estimate(text, world, member),
     }
 }
 
@@ -87,143 +187,134 @@ fn up_text(crashed: bool) -> &'static str
     if crashed { "crashed" } else { "up" }
 }
 
-fn push_open(text: &mut String, world: &World, member: Member) -> Result<(), AllocError>
+fn open_text(world: &World, member: Member) -> &'static str
     requires { IsTrue (is_member world.now.rehearsal.setting.members member) }
-    ensures { OnOk result (string_bytes text.new
-        ≡ string_bytes text.old ++ open_text (is_some (member_of world.now.rehearsal member).current)) }
+    ensures { result.now ≡ open_text (is_some (member_of world.now.rehearsal member).current) }
 {
     let (_, is_open) = world.instance(member).unwrap_or((0, false));
-    text.push_str(if is_open { "open" } else { "idle" })
+    if is_open { "open" } else { "idle" }
 }
 
-#[tactic(auto, unfolding(crate::specs::Facts::worded))]
 fn push_instance(text: &mut String, world: &World, member: Member) -> Result<(), AllocError>
     requires { IsTrue (is_member world.now.rehearsal.setting.members member) }
-    ensures { OnOk result (string_bytes text.new
-        ≡ string_bytes text.old ++ worded (codes "instance") (decimal (member_of world.now.rehearsal member).last)) }
+    ensures { OnOk result (Adds text.old text.new (decimal (member_of world.now.rehearsal member).last)) }
 {
     let (instance, _) = world.instance(member).unwrap_or((0, false));
-    write!(text, "instance {instance}")
+    write!(text, "{instance}")
 }
 
-#[tactic(auto, unfolding(crate::specs::Facts::worded))]
 fn push_round(text: &mut String, place: Option<(Round, Phase)>) -> Result<(), AllocError>
-    ensures { OnOk result (string_bytes text.new ≡ string_bytes text.old ++ round_text place) }
+    ensures { OnOk result (Adds text.old text.new (round_text place)) }
 {
     match place {
         None => text.push_str("idle"),
-        Some((round, _)) => write!(text, "round {round}"),
+        Some((round, _)) => write!(text, "{round}"),
     }
 }
 
-#[tactic(auto, unfolding(crate::specs::Facts::worded))]
-fn push_place(text: &mut String, place: Option<(Round, Phase)>) -> Result<(), AllocError>
-    ensures { OnOk result (string_bytes text.new ≡ string_bytes text.old ++ place_text place) }
+fn place_text(place: Option<(Round, Phase)>) -> &'static str
+    ensures { result.now ≡ place_text place }
 {
     match place {
-        None => text.push_str("idle"),
-        Some((_, phase)) => {
-            let name = phase_name(phase);
-            write!(text, "phase {name}")
-        }
+        None => "idle",
+        Some((_, phase)) => phase_name(phase),
     }
 }
 
-#[tactic(auto, unfolding(crate::specs::Facts::worded))]
-fn push_received(text: &mut String, world: &World, member: Member) -> Result<(), AllocError>
-    requires { IsTrue (is_member world.now.rehearsal.setting.members member) }
-    ensures { OnOk result (string_bytes text.new ≡ string_bytes text.old
-        ++ worded (codes "received") (messages_text 32 (received_by (state_of world.now.rehearsal) member))) }
-{
-    text.push_str("received ")?;
-    push_messages(text, ' ', world.received(member).unwrap_or(&[]))
-}
-
-#[tactic(auto, unfolding(crate::specs::Facts::worded))]
-fn push_decided(text: &mut String, world: &World, member: Member) -> Result<(), AllocError>
-    requires { IsTrue (is_member world.now.rehearsal.setting.members member) }
-    ensures { OnOk result (string_bytes text.new ≡ string_bytes text.old
-        ++ worded (codes "decided") (decisions_text (member_of world.now.rehearsal member).got)) }
-{
-    text.push_str("decided ")?;
-    push_decisions(text, world, member)
-}
-
-#[tactic(auto, unfolding(crate::specs::Facts::worded))]
-fn push_delivered(text: &mut String, world: &World, member: Member) -> Result<(), AllocError>
-    requires { IsTrue (is_member world.now.rehearsal.setting.members member) }
-    ensures { OnOk result (string_bytes text.new ≡ string_bytes text.old
-        ++ worded (codes "delivered") (messages_text 32 (delivered (member_of world.now.rehearsal member)))) }
-{
-    text.push_str("delivered ")?;
-    push_messages(text, ' ', world.delivered(member).unwrap_or(&[]))
-}
-
-#[tactic(auto, unfolding(crate::specs::Facts::worded))]
 fn push_table_of(text: &mut String, world: &World, member: Member) -> Result<(), AllocError>
     requires { IsTrue (is_member world.now.rehearsal.setting.members member) }
-    ensures { OnOk result (string_bytes text.new ≡ string_bytes text.old
-        ++ worded (codes "table") (table_text (table (delivered (member_of world.now.rehearsal member))))) }
+    ensures { OnOk result (Adds text.old text.new (table_text (table (delivered (member_of world.now.rehearsal member))))) }
 {
-    let Some(outcome) = world.outcome(member) else {
+    let Some(table) = world.table(member) else {
         unreachable!()
     };
-    text.push_str("table ")?;
-    push_table(text, outcome.table)
+    push_table(text, table)
 }
 
-#[tactic(auto, unfolding(crate::specs::Facts::worded))]
-fn push_refused(text: &mut String, world: &World, step: Option<Step>) -> Result<(), AllocError>
-    ensures { OnOk result (string_bytes text.new ≡ string_bytes text.old
-        ++ worded (codes "refuses") (step_refusal world.now.rehearsal step)) }
-{
-    text.push_str("refuses ")?;
-    push_step_refusal(text, world, step)
-}
-
-// Why the step is refused.
-fn push_step_refusal(text: &mut String, world: &World, step: Option<Step>) -> Result<(), AllocError>
-    ensures { OnOk result (string_bytes text.new ≡ string_bytes text.old ++ step_refusal world.now.rehearsal step) }
+// Why the act is refused whose step this is.
+fn push_cause(
+    text: &mut String,
+    stage: &Stage,
+    step: Result<Step, LineFault>,
+) -> Result<(), AllocError>
+    ensures { OnOk result (Adds text.old text.new (act_cause stage.now step)) }
 {
     match step {
-        None => text.push_str("NotThere"),
-        Some(step) => push_cause(text, world.enabled(&step).err()),
+        Err(_) => text.push_str("NotThere"),
+        Ok(step) => push_step_cause(text, stage, step),
     }
 }
 
-fn push_cause(text: &mut String, cause: Option<Refusal>) -> Result<(), AllocError>
-    ensures { OnOk result (string_bytes text.new ≡ string_bytes text.old ++ cause_text cause) }
+#[tactic(auto, unfolding(crate::specs::Facts::step_cause))]
+fn push_step_cause(text: &mut String, stage: &Stage, step: Step) -> Result<(), AllocError>
+    ensures { OnOk result (Adds text.old text.new (step_cause stage.now step)) }
 {
-    match cause {
-        None => text.push_str("nothing"),
-        Some(refusal) => write!(text, "{refusal}"),
+    match stage.world().enabled(&step) {
+        Ok(()) => text.push_str(barred_text(barred(stage, step))),
+        Err(refusal) => write!(text, "{refusal}"),
     }
 }
 
-// What is expected.
-#[tactic(auto, unfolding(crate::specs::Facts::worded))]
-fn push_wanted(text: &mut String, fact: &Fact) -> Result<(), AllocError>
-    ensures { OnOk result (string_bytes text.new ≡ string_bytes text.old ++ wanted fact.now) }
+fn barred_text(fault: Option<LineFault>) -> &'static str
+    ensures { result.now ≡ barred_text fault }
 {
-    match fact {
-        Fact::Up => text.push_str("up"),
-        Fact::Crashed => text.push_str("crashed"),
-        Fact::Idle => text.push_str("idle"),
-        Fact::Instance(instance) => write!(text, "instance {instance}"),
-        Fact::Round(round) => write!(text, "round {round}"),
-        Fact::Phase(phase) => push_worded(text, "phase", phase_name(*phase)),
-        Fact::Received(words) => push_worded(text, "received", words.as_str()),
-        Fact::Decided(words) => push_worded(text, "decided", words.as_str()),
-        Fact::Delivered(words) => push_worded(text, "delivered", words.as_str()),
-        Fact::Table(words) => push_worded(text, "table", words.as_str()),
-        Fact::Refuses(_, reason) => write!(text, "refuses {reason}"),
+    match fault {
+        None => "allowed",
+        Some(_) => "Across",
     }
 }
 
-// The word, and what stands behind it.
-#[tactic(auto, unfolding(crate::specs::Facts::worded))]
-fn push_worded(text: &mut String, word: &str, behind: &str) -> Result<(), AllocError>
-    ensures { OnOk result (string_bytes text.new ≡ string_bytes text.old ++ worded word.now behind.now) }
+fn push_count(text: &mut String, count: usize) -> Result<(), AllocError>
+    ensures { OnOk result (Adds text.old text.new (decimal count)) }
 {
-    write!(text, "{word} {behind}")
+    write!(text, "{count}")
+}
+
+fn waits_text(waits: bool) -> &'static str
+    ensures { result.now ≡ waits_text waits }
+{
+    if waits { "waits" } else { "none" }
+}
+
+// The members of the set, with commas; a dash where there are none.
+fn push_set(text: &mut String, set: Option<MemberSet>) -> Result<(), AllocError>
+    ensures { OnOk result (Adds text.old text.new (set_text set)) }
+{
+    match set {
+        None => text.push_str("-"),
+        Some(set) => push_members(text, set),
+    }
+}
+
+fn push_members(text: &mut String, set: MemberSet) -> Result<(), AllocError>
+    ensures { OnOk result (Adds text.old text.new (list_text 44 (first_in set MAX_MEMBERS))) }
+{
+    let mut later = false;
+    for i in 0..MAX_MEMBERS {
+        let member = i + 1;
+        if set.contains(member) {
+            push_separator(text, ',', later)?;
+            write!(text, "{member}")?;
+            later = true;
+        }
+    }
+    push_dash(text, later)
+}
+
+// A dash where nothing stands before.
+fn push_dash(text: &mut String, later: bool) -> Result<(), AllocError>
+    ensures { OnOk result (Adds text.old text.new ((if later then [] else (45 ∷ [])))) }
+{
+    if later { Ok(()) } else { text.push('-') }
+}
+
+// The estimate of the member; a dash where no instance is open.
+fn push_estimate(text: &mut String, world: &World, member: Member) -> Result<(), AllocError>
+    ensures { OnOk result (Adds text.old text.new (estimate_text world.now.rehearsal member)) }
+{
+    if world.round(member).is_some() {
+        push_estimate_of(text, world, member)
+    } else {
+        text.push_str("-")
+    }
 }

@@ -3,8 +3,9 @@
 ghost use Rattle.std.specs.Prelude.{◌≡◌};
 ghost use Rattle.ct_play.specs.Faults.{is_short};
 
+use ct_grammar::Pick;
 use ct_model::Step;
-use ct_names::{Member, Refusal};
+use ct_names::{Member, MemberSet, Refusal, Serial};
 use std::alloc::AllocError;
 
 /// Why a line of a schedule is refused.
@@ -18,12 +19,20 @@ pub enum LineFault {
     Settled,
     /// The group has no such member.
     NoSuchMember(Member),
-    /// No envelope that is so named waits at the member.
-    NotThere(Member),
+    /// No envelope that is so named waits at the member; of a repetition, none was ever sent to it.
+    NotThere(Member, Pick),
+    /// Nothing waits at the member that a step of one of these sent.
+    NoneFrom(Member, MemberSet),
+    /// The member receives nothing from another side of the cut, as the envelope of this serial is.
+    Across(Member, Serial),
     /// The step is refused.
     Refused(Step, Refusal),
-    /// What is expected is not there.
-    NotMet,
+    /// What is expected is not there at the member.
+    NotMet(Member),
+    /// Something moved in each round of as many as there may be.
+    Restless,
+    /// What the member did is not what is stated.
+    NotSo(Member),
     /// Memory was refused.
     OutOfMemory,
     /// A cell of the board refused a batch.
@@ -31,7 +40,7 @@ pub enum LineFault {
 }
 
 impl LineFault {
-    // Whether it tells of memory or of the board, not of the line.
+    /// Whether it tells of memory or of the board, not of the line.
     pub fn is_short(&self) -> bool
         ensures { result ≡ is_short self.now }
     {
@@ -40,9 +49,13 @@ impl LineFault {
             LineFault::NoMembers => false,
             LineFault::Settled => false,
             LineFault::NoSuchMember(_) => false,
-            LineFault::NotThere(_) => false,
+            LineFault::NotThere(..) => false,
+            LineFault::NoneFrom(..) => false,
+            LineFault::Across(..) => false,
             LineFault::Refused(..) => false,
-            LineFault::NotMet => false,
+            LineFault::NotMet(_) => false,
+            LineFault::Restless => false,
+            LineFault::NotSo(_) => false,
             LineFault::OutOfMemory => true,
             LineFault::Board => true,
         }

@@ -1,16 +1,19 @@
-//! Which envelope a line names.
+//! Which envelopes a line names.
 
-ghost use Rattle.std.specs.Prelude.{◌≡◌, find};
-ghost use Rattle.ct_play.specs.Picking.{carries, first_so, is_carried, is_from, is_so, picked};
+ghost use Rattle.std.specs.Prelude.{◌≡◌, IfOk, length};
+ghost use Rattle.ct_model.specs.Rehearsal.{state_of};
+ghost use Rattle.ct_play.specs.Picking.{carries, first_from, first_so, is_carried, is_from, is_gone, is_of, is_so, is_to, is_waiting};
+ghost use Rattle.ct_play.specs.Picking.{last_of, last_so, picked, repeated, waiting_at, waiting_from, waits_at, was_sent};
 
 use crate::stage::Stage;
 use ct_grammar::{Carried, Pick};
-use ct_names::{Member, Serial};
+use ct_names::{Member, MemberSet, Serial};
 use ct_world::{Letter, Wire};
+use std::alloc::{AllocError, Global};
 
 // The serial that is picked for the member.
 pub(crate) fn picked(stage: &Stage, member: Member, pick: Pick) -> Option<Serial>
-    ensures { result ≡ picked stage.now member pick }
+    ensures { result ≡ picked stage.now.rehearsal member pick }
 {
     match pick {
         Pick::Serial(serial) => Some(serial),
@@ -18,33 +21,179 @@ pub(crate) fn picked(stage: &Stage, member: Member, pick: Pick) -> Option<Serial
     }
 }
 
+// Whether an envelope that is so named waits at the member.
+pub(crate) fn is_waiting(stage: &Stage, member: Member, pick: Pick) -> bool
+    ensures { result ≡ is_waiting stage.now.rehearsal member pick }
+{
+    match pick {
+        Pick::Serial(serial) => waits_at(stage, member, serial),
+        Pick::First(carried, from) => first_so(stage, member, carried, from).is_some(),
+    }
+}
+
+// The serial that is repeated for the member.
+pub fn repeated(stage: &Stage, member: Member, pick: Pick) -> Option<Serial>
+    ensures { result ≡ repeated stage.now.rehearsal member pick }
+{
+    match pick {
+        Pick::Serial(serial) => Some(serial),
+        Pick::First(carried, from) => last_so(stage, member, carried, from),
+    }
+}
+
+// The serials that wait at the member; none where it is no member of the group.
+#[tactic(auto, unfolding(crate::specs::Picking::waiting_at))]
+pub fn waiting_at(stage: &Stage, member: Member) -> &[Serial]
+    ensures { result.now ≡ waiting_at stage.now.rehearsal member }
+{
+    stage.world().waiting(member).unwrap_or(&[])
+}
+
+// Whether the serial waits at the member.
+#[tactic(auto, unfolding(crate::specs::Picking::waits_at))]
+fn waits_at(stage: &Stage, member: Member, serial: Serial) -> bool
+    ensures { result ≡ waits_at stage.now.rehearsal member serial }
+{
+    waiting_at(stage, member).iter().any(|k| *k == serial)
+}
+
 // The first serial in the member's waiting line whose envelope is so named.
 #[tactic(auto, unfolding(crate::specs::Picking::first_so))]
 fn first_so(stage: &Stage, member: Member, carried: Carried, from: Option<Member>) -> Option<Serial>
-    ensures { result ≡ first_so stage.now member carried from }
+    ensures { result ≡ first_so stage.now.rehearsal member carried from }
 {
-    let line = stage.world().waiting(member)?;
-    first_of(stage, line, carried, from)
+    waiting_at(stage, member)
+        .iter()
+        .copied()
+        .find(|serial| is_so(stage, carried, from, *serial))
 }
 
-// The first of the serials whose envelope is so named.
-fn first_of(
+// The serials that wait at the member and that a step of one of these sent.
+#[tactic(auto, unfolding(crate::specs::Picking::waiting_from))]
+pub(crate) fn waiting_from(
+    alloc: Global,
     stage: &Stage,
-    line: &[Serial],
+    member: Member,
+    set: MemberSet,
+) -> Result<Vec<Serial>, AllocError>
+    ensures { IfOk result (λ list. list.items ≡ waiting_from stage.now.rehearsal member set) }
+{
+    waiting_at(stage, member)
+        .iter()
+        .copied()
+        .filter(|serial| is_of(set, stage.sender(*serial)))
+        .collect(alloc)
+}
+
+// The first of these.
+#[tactic(auto, unfolding(crate::specs::Picking::first_from))]
+pub(crate) fn first_from(stage: &Stage, member: Member, set: MemberSet) -> Option<Serial>
+    ensures { result ≡ first_from stage.now.rehearsal member set }
+{
+    waiting_at(stage, member)
+        .iter()
+        .copied()
+        .find(|serial| is_of(set, stage.sender(*serial)))
+}
+
+// Whether the sender is one of these.
+fn is_of(set: MemberSet, sender: Option<Member>) -> bool
+    ensures { result ≡ is_of set sender }
+{
+    match sender {
+        None => false,
+        Some(sender) => set.contains(sender),
+    }
+}
+
+// The last envelope that was sent to the member, is so named and does not wait there; where each of these waits, the last of them.
+#[tactic(auto, unfolding(crate::specs::Picking::last_so))]
+fn last_so(stage: &Stage, member: Member, carried: Carried, from: Option<Member>) -> Option<Serial>
+    ensures { result ≡ last_so stage.now.rehearsal member carried from }
+{
+    match last_gone(stage, member, carried, from) {
+        Some(serial) => Some(serial),
+        None => last_sent(stage, member, carried, from),
+    }
+}
+
+fn last_gone(
+    stage: &Stage,
+    member: Member,
     carried: Carried,
     from: Option<Member>,
 ) -> Option<Serial>
-    ensures { result ≡ find (is_so stage.now carried from) line.now }
+    ensures { result ≡ last_of (is_gone stage.now.rehearsal member carried from) (length (state_of stage.now.rehearsal).sent) }
 {
-    line.iter()
-        .copied()
-        .find(|serial| is_so(stage, carried, from, *serial))
+    let mut serial = stage.world().sent();
+    while serial > 0 {
+        if is_gone(stage, member, carried, from, serial) {
+            return Some(serial);
+        }
+        serial -= 1;
+    }
+    None
+}
+
+fn last_sent(
+    stage: &Stage,
+    member: Member,
+    carried: Carried,
+    from: Option<Member>,
+) -> Option<Serial>
+    ensures { result ≡ last_of (was_sent stage.now.rehearsal member carried from) (length (state_of stage.now.rehearsal).sent) }
+{
+    let mut serial = stage.world().sent();
+    while serial > 0 {
+        if was_sent(stage, member, carried, from, serial) {
+            return Some(serial);
+        }
+        serial -= 1;
+    }
+    None
+}
+
+// Whether the envelope of the serial was sent to the member, is so named and does not wait there.
+#[tactic(auto, unfolding(crate::specs::Picking::is_gone))]
+fn is_gone(
+    stage: &Stage,
+    member: Member,
+    carried: Carried,
+    from: Option<Member>,
+    serial: Serial,
+) -> bool
+    ensures { result ≡ is_gone stage.now.rehearsal member carried from serial }
+{
+    was_sent(stage, member, carried, from, serial) && !waits_at(stage, member, serial)
+}
+
+// Whether the envelope of the serial was sent to the member and is so named.
+#[tactic(auto, unfolding(crate::specs::Picking::was_sent))]
+fn was_sent(
+    stage: &Stage,
+    member: Member,
+    carried: Carried,
+    from: Option<Member>,
+    serial: Serial,
+) -> bool
+    ensures { result ≡ was_sent stage.now.rehearsal member carried from serial }
+{
+    is_to(member, stage.world().letter(serial)) && is_so(stage, carried, from, serial)
+}
+
+fn is_to(member: Member, letter: Option<Letter>) -> bool
+    ensures { result ≡ is_to member letter }
+{
+    match letter {
+        None => false,
+        Some(letter) => letter.to == member,
+    }
 }
 
 // Whether the envelope of the serial is so named.
 #[tactic(auto, unfolding(crate::specs::Picking::is_so))]
 fn is_so(stage: &Stage, carried: Carried, from: Option<Member>, serial: Serial) -> bool
-    ensures { result ≡ is_so stage.now carried from serial }
+    ensures { result ≡ is_so stage.now.rehearsal carried from serial }
 {
     is_carried(carried, stage.world().letter(serial)) && is_from(from, stage.sender(serial))
 }

@@ -1,126 +1,77 @@
 //! Turns as a driver makes them.
 
-ghost use Rattle.std.specs.Prelude.{◌≡◌, Ok, Some, false, OnOk, OnErr, IfErr};
-ghost use Rattle.ct_rehearse.specs.Choices.{chosen, first_waiting, question, receives};
-ghost use Rattle.ct_grammar.specs.declared.line.Line.TheVariants.{Turns};
-ghost use Rattle.ct_play.specs.Faults.{IsFaultOf, IsKept, IsShort};
-ghost use Rattle.ct_play.specs.Parts.{IsPartOf, IsTurned, IsTurnedByFirst};
-ghost use Rattle.ct_play.specs.Turning.{after_try, after_turn, after_turns, after_turns_of_first, suspects, tried_at, turned};
+ghost use Rattle.std.specs.Prelude.{◌≡◌, false, not, Ok, Some, OnOk, OnErr, IfOk, IfErr};
+ghost use Rattle.ct_rehearse.specs.Choices.{question};
+ghost use Rattle.ct_play.specs.Facts.{expected_of};
+ghost use Rattle.ct_play.specs.Faults.{IsFaultOf, IsShort};
+ghost use Rattle.ct_play.specs.Parts.{IsTurnedByFirst, IsTurnedPart};
+ghost use Rattle.ct_play.specs.Played.{IsLater};
+ghost use Rattle.ct_play.specs.Turning.{after_attempt, after_round, after_rounds, after_turn, ended, has_ended, is_still, reached};
+ghost use Rattle.ct_play.specs.Turning.{rested, settled, suspected_by, suspects, tried_at, turned};
+ghost use Rattle.ct_play.specs.Who.{named};
 
+use crate::cuts::near;
+use crate::facts::{expect_of, unmet};
 use crate::line_fault::LineFault;
+use crate::naming::{known, named};
 use crate::stage::Stage;
 use ct_detect::Ask;
-use ct_grammar::Who;
+use ct_grammar::{Fact, Play, Who};
 use ct_model::Step;
-use ct_names::{Member, MemberSet, Serial};
-use ct_rehearse::question;
-use ct_world::World;
+use ct_names::{Member, MemberSet};
+use ct_rehearse::{choice, question};
+use std::alloc::{AllocError, Global};
 
-// These members make so many turns each, one member after another.
-#[tactic(auto, using(crate::proofs::Faulty::short, crate::proofs::Faulty::short_kept, crate::proofs::Parts::none_turned), unfolding(crate::specs::Turning::turned))]
-pub(crate) fn turns(
-    stage: &mut Stage,
-    who: Who,
-    count: u32,
-    suspected: &MemberSet,
-) -> Result<(), LineFault>
-    ensures ok { OnOk result (turned stage.old who count suspected.now ≡ Ok stage.new) }
-    ensures err { IfErr result (IsFaultOf (turned stage.old who count suspected.now)) }
-    ensures same { IfErr result (IsKept stage.old stage.new) }
-    ensures part { OnErr result (IsPartOf stage.old (Turns who count suspected.now) stage.new) }
-{
-    match who {
-        Who::All => turns_of_all(stage, count, suspected),
-        Who::One(member) => {
-            if !stage.world().group().has(member) {
-                return Err(LineFault::NoSuchMember(member));
-            }
-            turns_of(stage, member, count, suspected)
-        }
-    }
-}
+/// How many rounds of turns a line makes at most that says no number of them.
+pub const MOST_ROUNDS: u32 = 10_000;
 
-fn turns_of_all(stage: &mut Stage, count: u32, suspected: &MemberSet) -> Result<(), LineFault>
-    ensures ok { OnOk result (stage.new
-        ≡ after_turns_of_first suspected.now stage.old count stage.old.setting.members) }
-    ensures err { IfErr result IsShort }
-    ensures part { OnErr result (IsTurnedByFirst suspected.now stage.old count stage.new) }
-{
-    let n = stage.world().group().n();
-    for i in 0..n {
-        turns_of(stage, i + 1, count, suspected)?;
-    }
-    Ok(())
-}
+// ---- a turn
 
-// So many turns of the member. Where one changes nothing, none of those behind it does.
-#[tactic(auto, using(crate::proofs::Trying::rest_on))]
-fn turns_of(
-    stage: &mut Stage,
-    member: Member,
-    count: u32,
-    suspected: &MemberSet,
-) -> Result<(), LineFault>
-    ensures ok { OnOk result (stage.new ≡ after_turns suspected.now stage.old member count) }
-    ensures err { IfErr result IsShort }
-    ensures part { OnErr result (IsTurned suspected.now stage.old member count stage.new) }
-{
-    for i in 0..count {
-        // The invariant names it.
-        let _ = i;
-        if !turn(stage, member, suspected)? {
-            return Ok(());
-        }
-    }
-    Ok(())
-}
-
-// A turn of the member, and whether it made a step.
-fn turn(stage: &mut Stage, member: Member, suspected: &MemberSet) -> Result<bool, LineFault>
-    ensures ok { OnOk result (stage.new ≡ after_turn suspected.now stage.old member) }
-    ensures rests { result ≡ Ok false → stage.new ≡ stage.old }
+// A turn of the member, which does nothing once the line has come to its end.
+#[tactic(auto, unfolding(crate::specs::Turning::after_turn), using(crate::proofs::Later::later_same))]
+fn turn(alloc: Global, stage: &mut Stage, play: &Play, member: Member) -> Result<(), LineFault>
+    ensures ok { OnOk result (stage.new ≡ after_turn play.now stage.old member) }
     ensures err { IfErr result IsShort }
     ensures still { OnErr result (stage.new ≡ stage.old) }
+    ensures later { IsLater stage.old stage.new }
 {
-    match tried_at(stage.world(), member, suspected) {
-        None => Ok(false),
+    if has_ended(alloc, stage, play)? {
+        return Ok(());
+    }
+    match tried_at(stage, member, suspected_by(play)) {
+        None => Ok(()),
         Some(step) => attempt(stage, step),
     }
 }
 
-// Tries the step, and answers whether it was made.
-#[tactic(auto, using(crate::proofs::Trying::joins, crate::proofs::Trying::rests))]
-fn attempt(stage: &mut Stage, step: Step) -> Result<bool, LineFault>
-    ensures ok { OnOk result (stage.new ≡ after_try stage.old (Some step)) }
-    ensures rests { result ≡ Ok false → stage.new ≡ stage.old }
+// Tries the step.
+#[tactic(auto, using(crate::proofs::Trying::joins, crate::proofs::Trying::rests, crate::proofs::Later::later_once))]
+fn attempt(stage: &mut Stage, step: Step) -> Result<(), LineFault>
+    ensures ok { OnOk result (stage.new ≡ after_attempt stage.old (Some step)) }
     ensures err { IfErr result IsShort }
     ensures still { OnErr result (stage.new ≡ stage.old) }
+    ensures later { IsLater stage.old stage.new }
 {
     match stage.step(step) {
-        Ok(()) => Ok(true),
-        Err(LineFault::Refused(..)) => Ok(false),
+        Ok(()) => Ok(()),
+        Err(LineFault::Refused(..)) => Ok(()),
         Err(LineFault::Board) => Err(LineFault::Board),
         Err(_) => Err(LineFault::OutOfMemory),
     }
 }
 
 // What a turn of the member tries.
-#[tactic(auto, unfolding(crate::specs::Turning::tried_at, ct_rehearse::specs::Choices::tried))]
-fn tried_at(world: &World, member: Member, suspected: &MemberSet) -> Option<Step>
-    ensures { result ≡ tried_at world.now.rehearsal member suspected.now }
+#[tactic(auto, unfolding(crate::specs::Turning::tried_at))]
+fn tried_at(stage: &Stage, member: Member, suspected: MemberSet) -> Option<Step>
+    ensures { result ≡ tried_at stage.now member suspected }
 {
+    let world = stage.world();
     let suspects = suspects(suspected, question(world, member));
-    let chosen = chosen(
-        member,
-        first_waiting(world, member),
-        suspects,
-        world.next_local(member),
-    );
-    if world.crashed(member) { None } else { chosen }
+    near(stage, choice(world, member, suspects))
 }
 
-fn suspects(suspected: &MemberSet, asked: Option<Ask>) -> bool
-    ensures { result ≡ suspects suspected.now asked }
+fn suspects(suspected: MemberSet, asked: Option<Ask>) -> bool
+    ensures { result ≡ suspects suspected asked }
 {
     match asked {
         None => false,
@@ -128,31 +79,173 @@ fn suspects(suspected: &MemberSet, asked: Option<Ask>) -> bool
     }
 }
 
-fn chosen(
-    member: Member,
-    waiting: Option<Serial>,
-    suspects: bool,
-    next: Option<Step>,
-) -> Option<Step>
-    ensures { result ≡ chosen member waiting suspects next }
+// Whom the detectors suspect in the line's turns.
+fn suspected_by(play: &Play) -> MemberSet
+    ensures { result ≡ suspected_by play.now }
 {
-    match next {
-        Some(Step::Suspect(_)) if !suspects => receipt(member, waiting),
-        Some(step) => Some(step),
-        None => receipt(member, waiting),
+    match play {
+        Play::Turns(_, _, suspected) => *suspected,
+        Play::Settle(_, suspected) => *suspected,
+        Play::Until(_, suspected, _, _) => *suspected,
+        _ => MemberSet::new(),
     }
 }
 
-fn receipt(member: Member, waiting: Option<Serial>) -> Option<Step>
-    ensures { result ≡ receives member waiting }
+// Whether the line's turns have come to their end.
+fn has_ended(alloc: Global, stage: &Stage, play: &Play) -> Result<bool, AllocError>
+    ensures { IfOk result (λ ended. ended ≡ has_ended stage.now play.now) }
 {
-    let serial = waiting?;
-    Some(Step::Receive(member, serial))
+    match play {
+        Play::Until(_, _, aim, fact) => {
+            let members = named(alloc, stage.world().group(), *aim)?;
+            Ok(unmet(alloc, stage, &members, fact)?.is_none())
+        }
+        _ => Ok(false),
+    }
 }
 
-#[tactic(auto, unfolding(ct_rehearse::specs::Choices::first_waiting))]
-fn first_waiting(world: &World, member: Member) -> Option<Serial>
-    ensures { result ≡ first_waiting world.now.rehearsal member }
+// ---- rounds
+
+// A turn of each of these.
+fn round(alloc: Global, stage: &mut Stage, play: &Play, members: &[Member]) -> Result<(), LineFault>
+    ensures ok { OnOk result (stage.new ≡ after_round play.now members.now stage.old) }
+    ensures err { IfErr result IsShort }
+    ensures part { OnErr result (IsTurnedByFirst play.now members.now stage.old stage.new) }
+    ensures later { IsLater stage.old stage.new }
 {
-    world.waiting(member)?.first().copied()
+    for member in members {
+        turn(alloc, stage, play, *member)?;
+    }
+    Ok(())
+}
+
+// A round, and whether something moved in it.
+fn moving_round(
+    alloc: Global,
+    stage: &mut Stage,
+    play: &Play,
+    members: &[Member],
+) -> Result<bool, LineFault>
+    ensures ok { OnOk result (stage.new ≡ after_round play.now members.now stage.old) }
+    ensures moved { IfOk result (λ moved. moved ≡ not (is_still stage.old stage.new)) }
+    ensures rests { result ≡ Ok false → stage.new ≡ stage.old }
+    ensures err { IfErr result IsShort }
+    ensures part { OnErr result (IsTurnedByFirst play.now members.now stage.old stage.new) }
+    ensures later { IsLater stage.old stage.new }
+{
+    let before = stage.world().record().len();
+    round(alloc, stage, play, members)?;
+    Ok(stage.world().record().len() != before)
+}
+
+// So many rounds. After one in which nothing moved no other moves anything.
+#[tactic(auto, using(crate::proofs::Parts::turned_parts))]
+fn rounds(
+    alloc: Global,
+    stage: &mut Stage,
+    play: &Play,
+    members: &[Member],
+    count: u32,
+) -> Result<(), LineFault>
+    ensures ok { OnOk result (stage.new ≡ after_rounds play.now members.now stage.old count) }
+    ensures err { IfErr result IsShort }
+    ensures part { OnErr result (IsTurnedPart play.now members.now stage.old count stage.new) }
+    ensures later { IsLater stage.old stage.new }
+{
+    for i in 0..count {
+        // The invariant names it.
+        let _ = i;
+        if !moving_round(alloc, stage, play, members)? {
+            return Ok(());
+        }
+    }
+    Ok(())
+}
+
+// ---- lines
+
+// So many rounds of turns of these members.
+#[tactic(auto, using(crate::proofs::Parts::turned_parts), unfolding(crate::specs::Turning::turned))]
+pub(crate) fn turns(
+    alloc: Global,
+    stage: &mut Stage,
+    play: &Play,
+    who: Who,
+    count: u32,
+) -> Result<(), LineFault>
+    ensures ok { OnOk result (turned stage.old play.now who count ≡ Ok stage.new) }
+    ensures err { IfErr result (IsFaultOf (turned stage.old play.now who count)) }
+    ensures part { OnErr result (IsTurnedPart play.now (named stage.old.rehearsal.setting.members who) stage.old count stage.new) }
+    ensures later { IsLater stage.old stage.new }
+{
+    let members = known(alloc, stage.world().group(), who)?;
+    rounds(alloc, stage, play, &members, count)
+}
+
+// Rounds of turns of these members until one in which nothing moved.
+#[tactic(auto, using(crate::proofs::Parts::turned_parts), unfolding(crate::specs::Turning::settled))]
+pub(crate) fn settle(
+    alloc: Global,
+    stage: &mut Stage,
+    play: &Play,
+    who: Who,
+) -> Result<(), LineFault>
+    ensures ok { OnOk result (settled stage.old play.now who ≡ Ok stage.new) }
+    ensures err { IfErr result (IsFaultOf (settled stage.old play.now who)) }
+    ensures part { OnErr result (IsTurnedPart play.now (named stage.old.rehearsal.setting.members who) stage.old MOST_ROUNDS stage.new) }
+    ensures later { IsLater stage.old stage.new }
+{
+    let members = known(alloc, stage.world().group(), who)?;
+    rest(alloc, stage, play, &members)
+}
+
+#[tactic(auto, using(crate::proofs::Parts::rested_parts), unfolding(crate::specs::Turning::rested))]
+fn rest(alloc: Global, stage: &mut Stage, play: &Play, members: &[Member]) -> Result<(), LineFault>
+    ensures ok { OnOk result (rested play.now members.now stage.old ≡ Ok stage.new) }
+    ensures err { IfErr result (IsFaultOf (rested play.now members.now stage.old)) }
+    ensures part { OnErr result (IsTurnedPart play.now members.now stage.old MOST_ROUNDS stage.new) }
+    ensures later { IsLater stage.old stage.new }
+{
+    rounds(alloc, stage, play, members, MOST_ROUNDS - 1)?;
+    if moving_round(alloc, stage, play, members)? {
+        Err(LineFault::Restless)
+    } else {
+        Ok(())
+    }
+}
+
+// Turns of these members until the fact holds of each of the others.
+#[tactic(auto, using(crate::proofs::Parts::turned_parts), unfolding(crate::specs::Turning::reached))]
+pub(crate) fn reach(
+    alloc: Global,
+    stage: &mut Stage,
+    play: &Play,
+    who: Who,
+    aim: Who,
+    fact: &Fact,
+) -> Result<(), LineFault>
+    ensures ok { OnOk result (reached stage.old play.now who aim fact.now ≡ Ok stage.new) }
+    ensures err { IfErr result (IsFaultOf (reached stage.old play.now who aim fact.now)) }
+    ensures part { OnErr result (IsTurnedPart play.now (named stage.old.rehearsal.setting.members who) stage.old MOST_ROUNDS stage.new) }
+    ensures later { IsLater stage.old stage.new }
+{
+    let members = known(alloc, stage.world().group(), who)?;
+    let aimed = known(alloc, stage.world().group(), aim)?;
+    rounds(alloc, stage, play, &members, MOST_ROUNDS)?;
+    expect_of(alloc, stage, &aimed, fact)
+}
+
+/// The stage on which the line looks at its fact, made anew: the one after its turns, where it makes turns until the fact holds.
+/// A line that is refused leaves the stage as it was, so what was there instead is found here.
+#[tactic(auto, unfolding(crate::specs::Turning::ended))]
+pub fn ended(alloc: Global, stage: &Stage, play: &Play) -> Result<Stage, LineFault>
+    ensures ok { IfOk result (λ end. end ≡ ended stage.now play.now) }
+    ensures err { IfErr result IsShort }
+{
+    let mut end = stage.again()?;
+    if let Play::Until(who, _, _, _) = play {
+        let members = named(alloc, end.world().group(), *who)?;
+        rounds(alloc, &mut end, play, &members, MOST_ROUNDS)?;
+    }
+    Ok(end)
 }

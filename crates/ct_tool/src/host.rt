@@ -2,7 +2,7 @@
 
 use ct_streams::{Counted, Failed, FileFault, Files, NewFiles, write_all};
 use either::{Either, Left, Right};
-use std::fs::{self, File};
+use std::fs::{self, File, OpenOptions};
 use std::io::StdinLock;
 
 // Opens and makes files where the program runs; a file `-` that is read is standard input. Their bytes are not known.
@@ -77,4 +77,11 @@ fn has_made(rt: &HostRuntime, name: &str, bytes: &[u8]) -> bool {
         Ok(file) => write_all(&mut Counted::new(file), bytes).is_ok(),
         Err(_) => false,
     }
+}
+
+// Whether the file of this name can be written. It is made where there is none, and stays as it is where there is one.
+pub(crate) fn can_write(rt: &HostRuntime, name: &str) -> bool {
+    let mut options = OpenOptions::new();
+    options.append(true).create(true);
+    options.open(rt, name).is_ok()
 }

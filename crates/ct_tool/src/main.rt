@@ -6,8 +6,8 @@ mod host;
 use clap::{ArgMatches, Command};
 use ct_diagram::{DiagramFault, diagram_command, diagram_window, draw, drawn_end};
 use ct_judge::{
-    Judge, KeepFault, RecordFault, interact, interact_command, keep, record, record_command,
-    session_end,
+    Heard, KeepFault, LineRefused, RecordFault, interact, interact_command, keep, record,
+    record_command, record_partial, session_end,
 };
 use ct_program::{CommandFault, answer_status};
 use ct_records::ProgramFault;
@@ -17,7 +17,7 @@ use ct_show::{
 };
 use ct_streams::{Counted, FileFault, Files, NamedFault, Status, WordFault};
 use ct_walk::{Call, FoundSeed, walk_call, walk_command, write_call};
-use host::Host;
+use host::{Host, can_write};
 use std::alloc::{AllocError, Global};
 use std::fmt::Display;
 use std::io;
@@ -101,7 +101,12 @@ fn record_schedule(rt: &HostRuntime, found: &ArgMatches<'_>) -> ExitCode {
         Err(fault) => return refuse_file(rt, name, fault),
     };
     let mut writer = Counted::new(io::writer(rt));
-    match record(rt.alloc(), &mut reader, &mut writer) {
+    let ended = if found.get_flag("partial") {
+        record_partial(rt.alloc(), &mut reader, &mut writer)
+    } else {
+        record(rt.alloc(), &mut reader, &mut writer)
+    };
+    match ended {
         Ok(()) => ExitCode::SUCCESS,
         Err(RecordFault::Read) => refuse_file(rt, name, FileFault::Read),
         Err(fault) => {
@@ -111,28 +116,39 @@ fn record_schedule(rt: &HostRuntime, found: &ArgMatches<'_>) -> ExitCode {
     }
 }
 
-// Answers the lines on standard input, and keeps the record in the end, where a file is named for it.
+// Answers the lines on standard input, and keeps the record in the end, where a file is named for it. One that can't be written
+// is told of before the first answer.
 fn hold_session(rt: &HostRuntime, found: &ArgMatches<'_>) -> ExitCode {
+    let file = found.get_str("record");
+    if let Some(name) = file
+        && !can_write(rt, name)
+    {
+        return refuse_file(rt, name, FileFault::Write);
+    }
     let mut reader = Counted::new(rt.reader());
     let mut writer = Counted::new(io::writer(rt));
     let ended = interact(rt.alloc(), &mut reader, &mut writer);
     match session_end(ended, writer.is_broken()) {
         Ok(None) => ExitCode::SUCCESS,
-        Ok(Some(judge)) => match found.get_str("record") {
-            None => ExitCode::SUCCESS,
-            Some(name) => keep_record(rt, judge, name),
-        },
+        Ok(Some(heard)) => end_session(rt, heard, file, found.get_flag("strict")),
         Err(fault) => fail(rt, fault, fault.status()),
     }
 }
 
-// Writes the record of the session to the file of this name.
-fn keep_record(rt: &HostRuntime, judge: Judge, name: &str) -> ExitCode {
-    match keep(rt.alloc(), judge, &mut Host::new(rt), name) {
-        Ok(()) => ExitCode::SUCCESS,
-        Err(KeepFault::Write) => refuse_file(rt, name, FileFault::Write),
-        Err(fault) => fail(rt, fault, fault.status()),
+// Keeps the record, where a file is named for it, and tells of a line that was refused, where each has to be taken.
+fn end_session(rt: &HostRuntime, heard: Heard, file: Option<&str>, strict: bool) -> ExitCode {
+    let Heard { judge, refused } = heard;
+    if let Some(name) = file {
+        match keep(rt.alloc(), judge, &mut Host::new(rt), name) {
+            Ok(()) => {}
+            Err(KeepFault::Write) => return refuse_file(rt, name, FileFault::Write),
+            Err(fault) => return fail(rt, fault, fault.status()),
+        }
     }
+    if strict && refused {
+        return fail(rt, LineRefused, LineRefused.status());
+    }
+    ExitCode::SUCCESS
 }
 
 // Writes what is shown of the record that the words name, where they ask for a view.

@@ -5,6 +5,7 @@ use ct_program::Counted;
 use std::alloc::{AllocError, Global};
 use std::test::Fail;
 
+mod language;
 mod lines;
 mod table;
 
@@ -56,8 +57,8 @@ fn counted(judge: &Judge) -> Option<Counts> {
 fn answered(alloc: Global, said: &str) -> Result<(Vec<u8>, Option<Counts>), SessionFault> {
     let mut reader = Counted::new(said.as_bytes());
     let mut writer = Counted::new(Vec::new(alloc));
-    let judge = interact(alloc, &mut reader, &mut writer)?;
-    let counts = counted(&judge);
+    let heard = interact(alloc, &mut reader, &mut writer)?;
+    let counts = counted(&heard.judge);
     Ok((writer.into_inner(), counts))
 }
 
@@ -120,5 +121,11 @@ fn one_member_delivers_in_its_order(rt: HostRuntime) -> Result<(), Fail> {
 #[test]
 fn lines_are_understood_or_not(rt: HostRuntime) -> Result<(), Fail> {
     assert_eq!(rt; first_wrong(rt.alloc(), &lines::LINES)?, None);
+    Ok(())
+}
+
+#[test]
+fn lines_are_about_several_members(rt: HostRuntime) -> Result<(), Fail> {
+    assert_eq!(rt; first_wrong(rt.alloc(), &language::LANGUAGE)?, None);
     Ok(())
 }

@@ -31,12 +31,10 @@ expect 3 idle
 2 receive est 1/1 from 1
 2 choose 1
 expect 2 phase Wait
-1 turns 30
+1,2 turns 30
 3 turns 30
-2 turns 30
-1 turns 30
 crash 2
-all turns 30 suspecting 2
+all settle suspecting 2
 expect 1 delivered 1.1
 expect 3 delivered 1.1
 expect 1 table 0=7
@@ -62,10 +60,10 @@ ok
 ok 1-2
 enabled
 ok 3-4
-not met: delivered -
+not met: member 2: expected delivered 1.1, there is -
 next [\"begin\",2]
 state instance 0 idle
-not understood
+not understood: begin is neither a member nor a word that begins a line: members, cells, batch, crash, cut, heal, expect, enabled, next, state, waiting, report, record, limits, all
 ok
 ";
 
@@ -150,14 +148,14 @@ fn is_kept(alloc: Global, lines: &str, record: &str) -> Result<bool, KeepFault> 
     let mut reader = Counted::new(lines.as_bytes());
     let mut writer = Counted::new(Vec::new(alloc));
     let ended = interact(alloc, &mut reader, &mut writer);
-    let Ok(Some(judge)) = session_end(ended, writer.is_broken()) else {
+    let Ok(Some(heard)) = session_end(ended, writer.is_broken()) else {
         return Ok(false);
     };
     let mut files = OneFile {
         bytes: Vec::new(alloc),
         failures: 0,
     };
-    keep(alloc, judge, &mut files, NAME)?;
+    keep(alloc, heard.judge, &mut files, NAME)?;
     Ok(files.bytes.as_slice() == record.as_bytes())
 }
 
@@ -199,37 +197,53 @@ fn a_session(rt: HostRuntime) -> Result<(), Fail> {
 
 // Schedules, the numbers of their first refused lines, and what is said of these.
 static REFUSED: [(&str, usize, &str); 12] = [
-    ("members 2\n1 begin", 2, "refused Nothing: instance 0 idle"),
-    ("members 2\n1 begins", 2, "not understood"),
-    ("1 begin", 1, "no members"),
+    (
+        "members 2\n1 begin",
+        2,
+        "1 begin: refused 1 Nothing: instance 0 idle",
+    ),
+    (
+        "members 2\n 1  begins \r",
+        2,
+        "1  begins: not understood: begins is no act; begin?",
+    ),
+    ("1 begin", 1, "1 begin: no members"),
     ("", 1, "no members"),
-    ("members 2\ncrash 1\ncells 3\n", 3, "the group is settled"),
+    (
+        "members 2\ncrash 1\ncells 3\n",
+        3,
+        "cells 3: the group is settled",
+    ),
     (
         "members 2\n1 receive data 2.1",
         2,
-        "not there: no envelope that is so named waits at member 1",
+        "1 receive data 2.1: not there: data 2.1 was never sent to 1; waits: -",
     ),
     (
         "members 2\n1 submit set 0 7\n2 receive data 1.1 from 2",
         3,
-        "not there: no envelope that is so named waits at member 2",
+        "2 receive data 1.1 from 2: not there: data 1.1 from 2 was never sent to 2; waits: #2 data 1.1 from 1",
     ),
-    ("members 2\n3 turns 4", 2, "no member 3"),
-    ("members 2\n\nexpect 2 crashed", 3, "not met: up"),
+    ("members 2\n3 turns 4", 2, "3 turns 4: no member 3"),
+    (
+        "members 2\n\nexpect 2 crashed",
+        3,
+        "expect 2 crashed: not met: member 2: expected crashed, there is up",
+    ),
     (
         "members 2\nexpect 1 delivered 1.1",
         2,
-        "not met: delivered -",
+        "expect 1 delivered 1.1: not met: member 1: expected delivered 1.1, there is -",
     ),
     (
         "members 2\nexpect 1 refuses begin Idle",
         2,
-        "not met: refuses Nothing",
+        "expect 1 refuses begin Idle: not met: member 1: expected refuses Idle, there is Nothing",
     ),
     (
         "members 2\nexpect 1 refuses submit set 0 1 Nothing",
         2,
-        "not met: refuses nothing",
+        "expect 1 refuses submit set 0 1 Nothing: not met: member 1: expected refuses Nothing, there is allowed",
     ),
 ];
 

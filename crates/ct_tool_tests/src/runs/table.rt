@@ -93,7 +93,7 @@ expect 1 up
 expect 3 received -
 enabled 1 => enabled
 next 1 => next -
-1 repeat #1 => refused NotSent: #1 was not sent: 0 envelopes were",
+1 repeat #1 => refused 1 NotSent: #1 was not sent: 0 envelopes were",
         ],
     },
     Run {
@@ -104,8 +104,8 @@ next 1 => next -
 cells 4",
             RELAYED,
             "state 2 => state instance 0 idle
-1 repeat #6 => refused NotSent: #6 Data 1.1 went to member 3
-1 repeat #7 => refused NotSent: #7 was not sent: 6 envelopes were
+1 repeat #6 => refused 1 NotSent: #6 Data 1.1 went to member 3
+1 repeat #7 => refused 1 NotSent: #7 was not sent: 6 envelopes were
 1 receive #4
 2 receive #5
 expect 1 received 1.1
@@ -121,13 +121,13 @@ expect 3 received -",
 cells 4",
             RELAYED,
             "3 postpone #3
-3 receive #0 => refused NotWaiting: #0 was not sent: 6 envelopes were
-2 receive #2 => refused NotWaiting: #2 Data 1.1 to 2, left in step 3 [\"receive\",2,2]
-2 receive #3 => refused NotWaiting: #3 Data 1.1 to 3
-2 postpone #2 => refused NotWaiting: #2 Data 1.1 to 2, left in step 3 [\"receive\",2,2]
-2 postpone #7 => refused NotWaiting: #7 was not sent: 6 envelopes were
-2 lose #3 => refused NotWaiting: #3 Data 1.1 to 3
-2 submit copy 0 16 => refused BadCommand: instance 0 idle
+3 receive #0 => refused 3 NotWaiting: #0 was not sent: 6 envelopes were
+2 receive #2 => refused 2 NotWaiting: #2 Data 1.1 to 2, left in step 3 [\"receive\",2,2]
+2 receive #3 => refused 2 NotWaiting: #3 Data 1.1 to 3
+2 postpone #2 => refused 2 NotWaiting: #2 Data 1.1 to 2, left in step 3 [\"receive\",2,2]
+2 postpone #7 => refused 2 NotWaiting: #7 was not sent: 6 envelopes were
+2 lose #3 => refused 2 NotWaiting: #3 Data 1.1 to 3
+2 submit copy 0 16 => refused 2 BadCommand: a register is 0 to 15
 next 3 => next [\"receive\",3,6]",
         ],
     },
@@ -146,7 +146,7 @@ next 3 => next [\"receive\",3,6]",
 2 receive #12
 2 repeat #12
 2 receive #12
-2 conclude => refused TooFew: instance 1 round 1 Tally, coordinator 2, estimate {1.1} ts 1, heard 1 {1.1} ts 0, heard 2 {2.1} ts 0, acks 1 of 1
+2 conclude => refused 2 TooFew: instance 1 round 1 Tally, coordinator 2, estimate {1.1} ts 1, heard 1 {1.1} ts 0, heard 2 {2.1} ts 0, acks 1 of 1
 2 receive #13
 2 conclude => ok 14-16",
         ],
@@ -159,11 +159,11 @@ next 3 => next [\"receive\",3,6]",
 cells 4
 1 submit set 0 7 => ok 1-3
 2 lose #2
-2 receive #2 => refused NotWaiting: #2 Data 1.1 to 2, left in step 2 [\"lose\",2,2]
-2 lose #2 => refused NotWaiting: #2 Data 1.1 to 2, left in step 2 [\"lose\",2,2]
-2 repeat #1 => refused NotSent: #1 Data 1.1 went to member 1
-2 repeat #4 => refused NotSent: #4 was not sent: 3 envelopes were
-1 repeat #1 => refused StillWaiting: #1 Data 1.1 is in its line
+2 receive #2 => refused 2 NotWaiting: #2 Data 1.1 to 2, left in step 2 [\"lose\",2,2]
+2 lose #2 => refused 2 NotWaiting: #2 Data 1.1 to 2, left in step 2 [\"lose\",2,2]
+2 repeat #1 => refused 2 NotSent: #1 Data 1.1 went to member 1
+2 repeat #4 => refused 2 NotSent: #4 was not sent: 3 envelopes were
+1 repeat #1 => refused 1 StillWaiting: #1 Data 1.1 is in its line
 next 2 => next -
 2 repeat #2
 next 2 => next [\"receive\",2,2]
@@ -218,7 +218,7 @@ expect 1 table 3=4",
             "2 choose 1 => ok 9-11
 next 1 => next [\"suspect\",1] or [\"receive\",1,4]
 1 receive #9
-1 suspect => refused HasProposal: instance 1 round 1 Wait, coordinator 2, estimate {1.1} ts 0, acks 0 of 0
+1 suspect => refused 1 HasProposal: instance 1 round 1 Wait, coordinator 2, estimate {1.1} ts 0, acks 0 of 0
 next 1 => next [\"adopt\",1]
 1 adopt => ok 12",
         ],
@@ -310,13 +310,13 @@ expect 2 idle
 expect 3 crashed
 expect 3 decided -
 expect 3 instance 0
-1 repeat #12 => refused NotSent: #12 Ack 1/1 from 1 went to member 2
-1 repeat #16 => refused NotSent: #16 Dec 1/1 {1.1} went to member 3
-2 repeat #9 => refused NotSent: #9 Prop 1/1 {1.1} went to member 1
-2 repeat #17 => refused NotSent: #17 Dec 1/1 {1.1} went to member 1
-1 begin => refused Nothing: instance 1 idle
-1 deliver => refused Idle: instance 1 idle
-1 follow => refused Undecided: instance 1 idle",
+1 repeat #12 => refused 1 NotSent: #12 Ack 1/1 from 1 went to member 2
+1 repeat #16 => refused 1 NotSent: #16 Dec 1/1 {1.1} went to member 3
+2 repeat #9 => refused 2 NotSent: #9 Prop 1/1 {1.1} went to member 1
+2 repeat #17 => refused 2 NotSent: #17 Dec 1/1 {1.1} went to member 1
+1 begin => refused 1 Nothing: instance 1 idle
+1 deliver => refused 1 Idle: instance 1 idle
+1 follow => refused 1 Undecided: instance 1 idle",
         ],
     },
     Run {
@@ -329,11 +329,11 @@ cells 4",
             "crash 3",
             CHOSEN,
             "2 choose 2 => ok 9-11
-1 repeat #7 => refused NotSent: #7 Est 1/1 from 1 {1.1} ts 0 went to member 2
-1 repeat #8 => refused NotSent: #8 Est 1/1 from 2 {1.1} ts 0 went to member 2
-2 repeat #9 => refused NotSent: #9 Prop 1/1 {1.1} went to member 1
-1 repeat #10 => refused NotSent: #10 Prop 1/1 {1.1} went to member 2
-1 repeat #11 => refused NotSent: #11 Prop 1/1 {1.1} went to member 3
+1 repeat #7 => refused 1 NotSent: #7 Est 1/1 from 1 {1.1} ts 0 went to member 2
+1 repeat #8 => refused 1 NotSent: #8 Est 1/1 from 2 {1.1} ts 0 went to member 2
+2 repeat #9 => refused 2 NotSent: #9 Prop 1/1 {1.1} went to member 1
+1 repeat #10 => refused 1 NotSent: #10 Prop 1/1 {1.1} went to member 2
+1 repeat #11 => refused 1 NotSent: #11 Prop 1/1 {1.1} went to member 3
 1 receive #9
 1 adopt => ok 12
 2 receive #10
@@ -363,37 +363,37 @@ cells 4",
 2 deliver
 1 receive #14 => ok 17-19
 1 deliver
-3 submit set 16 7 => refused Crashed: instance 0 idle
-3 receive #3 => refused Crashed: #3 Data 1.1 to 3
-3 begin => refused Crashed: instance 0 idle
-3 enter => refused Crashed: instance 0 idle
-3 choose 1 => refused Crashed: instance 0 idle
-3 adopt => refused Crashed: instance 0 idle
-3 suspect => refused Crashed: instance 0 idle
-3 conclude => refused Crashed: instance 0 idle
-3 deliver => refused Crashed: instance 0 idle
-3 follow => refused Crashed: instance 0 idle
-3 crash => refused Crashed: instance 0 idle
-3 postpone #99 => refused Crashed: #99 was not sent: 19 envelopes were
-3 lose #99 => refused Crashed: #99 was not sent: 19 envelopes were
-3 repeat #99 => refused Crashed: #99 was not sent: 19 envelopes were
+3 submit set 16 7 => refused 3 Crashed: in step 4
+3 receive #3 => refused 3 Crashed: in step 4
+3 begin => refused 3 Crashed: in step 4
+3 enter => refused 3 Crashed: in step 4
+3 choose 1 => refused 3 Crashed: in step 4
+3 adopt => refused 3 Crashed: in step 4
+3 suspect => refused 3 Crashed: in step 4
+3 conclude => refused 3 Crashed: in step 4
+3 deliver => refused 3 Crashed: in step 4
+3 follow => refused 3 Crashed: in step 4
+3 crash => refused 3 Crashed: in step 4
+3 postpone #99 => refused 3 Crashed: in step 4
+3 lose #99 => refused 3 Crashed: in step 4
+3 repeat #99 => refused 3 Crashed: in step 4
 next 3 => next -
-4 submit set 16 7 => refused NoSuchMember: instance 0 idle
-4 receive #3 => refused NoSuchMember: #3 Data 1.1 to 3
-4 begin => refused NoSuchMember: instance 0 idle
-4 enter => refused NoSuchMember: instance 0 idle
-4 choose 1 => refused NoSuchMember: instance 0 idle
-4 adopt => refused NoSuchMember: instance 0 idle
-4 suspect => refused NoSuchMember: instance 0 idle
-4 conclude => refused NoSuchMember: instance 0 idle
-4 deliver => refused NoSuchMember: instance 0 idle
-4 follow => refused NoSuchMember: instance 0 idle
-4 crash => refused NoSuchMember: instance 0 idle
-4 postpone #99 => refused NoSuchMember: #99 was not sent: 19 envelopes were
-4 lose #99 => refused NoSuchMember: #99 was not sent: 19 envelopes were
-4 repeat #99 => refused NoSuchMember: #99 was not sent: 19 envelopes were
-0 begin => refused NoSuchMember: instance 0 idle
-255 deliver => refused NoSuchMember: instance 0 idle",
+4 submit set 16 7 => refused 4 NoSuchMember: members are 1 to 3
+4 receive #3 => refused 4 NoSuchMember: members are 1 to 3
+4 begin => refused 4 NoSuchMember: members are 1 to 3
+4 enter => refused 4 NoSuchMember: members are 1 to 3
+4 choose 1 => refused 4 NoSuchMember: members are 1 to 3
+4 adopt => refused 4 NoSuchMember: members are 1 to 3
+4 suspect => refused 4 NoSuchMember: members are 1 to 3
+4 conclude => refused 4 NoSuchMember: members are 1 to 3
+4 deliver => refused 4 NoSuchMember: members are 1 to 3
+4 follow => refused 4 NoSuchMember: members are 1 to 3
+4 crash => refused 4 NoSuchMember: members are 1 to 3
+4 postpone #99 => refused 4 NoSuchMember: members are 1 to 3
+4 lose #99 => refused 4 NoSuchMember: members are 1 to 3
+4 repeat #99 => refused 4 NoSuchMember: members are 1 to 3
+0 begin => refused 0 NoSuchMember: members are 1 to 3
+255 deliver => refused 255 NoSuchMember: members are 1 to 3",
         ],
     },
     Run {
@@ -411,8 +411,8 @@ expect 2 refuses suspect Idle
 expect 2 refuses conclude Idle
 1 begin
 2 begin
-1 begin => refused Busy: instance 1 round 0 Rest, estimate {1.1} ts 0, acks 0 of 0
-1 follow => refused Busy: instance 1 round 0 Rest, estimate {1.1} ts 0, acks 0 of 0
+1 begin => refused 1 Busy: instance 1 round 0 Rest, estimate {1.1} ts 0, acks 0 of 0
+1 follow => refused 1 Busy: instance 1 round 0 Rest, estimate {1.1} ts 0, acks 0 of 0
 expect 2 phase Rest
 expect 2 round 0
 2 enter => ok 7
@@ -470,7 +470,7 @@ cells 4
 3 enter => ok 15
 2 receive #13
 2 receive #14
-2 choose 1 => refused TooFew: instance 1 round 1 Gather, coordinator 2, estimate {1.1} ts 0, heard 1 {1.1} ts 0, heard 2 {1.1} ts 0, acks 0 of 0
+2 choose 1 => refused 2 TooFew: instance 1 round 1 Gather, coordinator 2, estimate {1.1} ts 0, heard 1 {1.1} ts 0, heard 2 {1.1} ts 0, acks 0 of 0
 2 receive #15
 2 choose 1 => ok 16-19",
         ],
@@ -481,14 +481,14 @@ cells 4
         parts: &[
             TWO_PROPOSALS,
             "enabled 2 => enabled [\"choose\",2,1] [\"choose\",2,2]
-2 choose 3 => refused NotLargest: instance 1 round 1 Gather, coordinator 2, estimate {2.1} ts 0, heard 1 {1.1} ts 0, heard 2 {2.1} ts 0, acks 0 of 0
+2 choose 3 => refused 2 NotLargest: instance 1 round 1 Gather, coordinator 2, estimate {2.1} ts 0, heard 1 {1.1} ts 0, heard 2 {2.1} ts 0, acks 0 of 0
 next 1 => next [\"suspect\",1] or [\"receive\",1,4]
 next 2 => next [\"choose\",2,1]
 next 3 => next [\"receive\",3,3]
 2 choose 1 => ok 9-11
-2 repeat #9 => refused NotSent: #9 Prop 1/1 {1.1} went to member 1
-1 repeat #10 => refused NotSent: #10 Prop 1/1 {1.1} went to member 2
-1 repeat #11 => refused NotSent: #11 Prop 1/1 {1.1} went to member 3",
+2 repeat #9 => refused 2 NotSent: #9 Prop 1/1 {1.1} went to member 1
+1 repeat #10 => refused 1 NotSent: #10 Prop 1/1 {1.1} went to member 2
+1 repeat #11 => refused 1 NotSent: #11 Prop 1/1 {1.1} went to member 3",
         ],
     },
     Run {
@@ -497,9 +497,9 @@ next 3 => next [\"receive\",3,3]
         parts: &[
             TWO_PROPOSALS,
             "2 choose 2 => ok 9-11
-2 repeat #9 => refused NotSent: #9 Prop 1/1 {2.1} went to member 1
-1 repeat #10 => refused NotSent: #10 Prop 1/1 {2.1} went to member 2
-1 repeat #11 => refused NotSent: #11 Prop 1/1 {2.1} went to member 3",
+2 repeat #9 => refused 2 NotSent: #9 Prop 1/1 {2.1} went to member 1
+1 repeat #10 => refused 1 NotSent: #10 Prop 1/1 {2.1} went to member 2
+1 repeat #11 => refused 1 NotSent: #11 Prop 1/1 {2.1} went to member 3",
         ],
     },
     Run {
@@ -511,7 +511,7 @@ next 3 => next [\"receive\",3,3]
 1 receive #9
 1 adopt => ok 12
 1 enter => ok 13
-2 repeat #13 => refused NotSent: #13 Est 1/2 from 1 {1.1} ts 1 went to member 3
+2 repeat #13 => refused 2 NotSent: #13 Est 1/2 from 1 {1.1} ts 1 went to member 3
 3 receive #6 => ok 14-16
 3 begin
 3 enter => ok 17
@@ -519,9 +519,9 @@ next 3 => next [\"receive\",3,3]
 3 enter => ok 19
 3 receive #13
 3 receive #19
-3 choose 3 => refused NotLargest: instance 1 round 2 Gather, coordinator 3, estimate {2.1} ts 0, heard 1 {1.1} ts 1, heard 3 {2.1} ts 0, acks 0 of 0
+3 choose 3 => refused 3 NotLargest: instance 1 round 2 Gather, coordinator 3, estimate {2.1} ts 0, heard 1 {1.1} ts 1, heard 3 {2.1} ts 0, acks 0 of 0
 3 choose 1 => ok 20-22
-1 repeat #21 => refused NotSent: #21 Prop 1/2 {1.1} went to member 2",
+1 repeat #21 => refused 1 NotSent: #21 Prop 1/2 {1.1} went to member 2",
         ],
     },
     Run {
@@ -537,7 +537,7 @@ next 3 => next [\"receive\",3,3]
 2 receive #13
 2 conclude
 2 enter => ok 14
-1 repeat #14 => refused NotSent: #14 Est 1/2 from 2 {1.1} ts 0 went to member 3",
+1 repeat #14 => refused 1 NotSent: #14 Est 1/2 from 2 {1.1} ts 0 went to member 3",
         ],
     },
     Run {
@@ -558,9 +558,9 @@ next 3 => next [\"receive\",3,3]
 3 enter => ok 20
 3 receive #14
 3 receive #20
-3 choose 3 => refused NotLargest: instance 1 round 2 Gather, coordinator 3, estimate {2.1} ts 0, heard 1 {1.1} ts 1, heard 3 {2.1} ts 0, acks 0 of 0
+3 choose 3 => refused 3 NotLargest: instance 1 round 2 Gather, coordinator 3, estimate {2.1} ts 0, heard 1 {1.1} ts 1, heard 3 {2.1} ts 0, acks 0 of 0
 3 choose 1 => ok 21-23
-2 repeat #21 => refused NotSent: #21 Prop 1/2 {1.1} went to member 1",
+2 repeat #21 => refused 2 NotSent: #21 Prop 1/2 {1.1} went to member 1",
         ],
     },
 ];
@@ -578,11 +578,11 @@ cells 4",
             DECIDED,
             "3 receive #16 => ok 17-19
 expect 3 decided 1:1.1
-3 deliver => refused Idle: instance 0 idle
-3 begin => refused Nothing: instance 0 idle
+3 deliver => refused 3 Idle: instance 0 idle
+3 begin => refused 3 Nothing: instance 0 idle
 3 receive #3 => ok 20-22
 3 begin
-3 enter => refused Decided: instance 1 round 0 Rest, estimate {1.1} ts 0, acks 0 of 0
+3 enter => refused 3 Decided: instance 1 round 0 Rest, estimate {1.1} ts 0, acks 0 of 0
 3 deliver
 expect 3 delivered 1.1",
         ],
@@ -596,7 +596,7 @@ cells 4",
             RELAYED,
             CHOSEN,
             DECIDED,
-            "3 follow => refused Undecided: instance 0 idle
+            "3 follow => refused 3 Undecided: instance 0 idle
 3 receive #16 => ok 17-19
 3 follow
 expect 3 delivered 1.1
@@ -604,8 +604,8 @@ expect 3 table 0=7
 expect 3 instance 1
 expect 3 idle
 3 receive #3 => ok 20-22
-3 begin => refused Nothing: instance 1 idle
-3 follow => refused Undecided: instance 1 idle",
+3 begin => refused 3 Nothing: instance 1 idle
+3 follow => refused 3 Undecided: instance 1 idle",
         ],
     },
     Run {
@@ -617,9 +617,9 @@ cells 0",
             RELAYED,
             CHOSEN,
             DECIDED,
-            "3 follow => refused Undecided: instance 0 idle
+            "3 follow => refused 3 Undecided: instance 0 idle
 3 receive #16 => ok 17-19
-3 follow => refused Full(Cells): instance 0 idle",
+3 follow => refused 3 Full(Cells): 0 at most",
         ],
     },
     Run {
@@ -639,11 +639,11 @@ cells 4",
 2 submit add 1 2 => ok 20-22
 1 receive #20 => ok 23-25
 1 begin
-1 begin => refused Busy: instance 2 round 0 Rest, estimate {2.1} ts 0, acks 0 of 0
+1 begin => refused 1 Busy: instance 2 round 0 Rest, estimate {2.1} ts 0, acks 0 of 0
 expect 1 instance 2
-1 deliver => refused Undecided: instance 2 round 0 Rest, estimate {2.1} ts 0, acks 0 of 0
+1 deliver => refused 1 Undecided: instance 2 round 0 Rest, estimate {2.1} ts 0, acks 0 of 0
 1 enter => ok 26
-1 repeat #26 => refused NotSent: #26 Est 2/1 from 1 {2.1} ts 0 went to member 2",
+1 repeat #26 => refused 1 NotSent: #26 Est 2/1 from 1 {2.1} ts 0 went to member 2",
         ],
     },
 ];
@@ -670,7 +670,7 @@ expect 1 table 0=5 1=5",
             "members 1
 cells 1",
             SECOND_FIRST,
-            "1 deliver => refused Full(Cells): instance 2 round 1 Rest, coordinator 1, estimate {1.1} ts 1, heard 1 {1.1} ts 0, acks 1 of 1",
+            "1 deliver => refused 1 Full(Cells): 1 at most",
         ],
     },
     Run {
@@ -695,7 +695,7 @@ cells 4
 1 deliver
 expect 1 delivered 1.1 1.2
 expect 1 table 0=18446744073709551615
-1 submit set 16 1 => refused BadCommand: instance 1 idle",
+1 submit set 16 1 => refused 1 BadCommand: a register is 0 to 15",
         ],
     },
     Run {

@@ -1,9 +1,10 @@
-use Rattle.std.proofs.Common.{◌≡◌, Ok}
-use Rattle.ct_play.specs.Acting.{IsLater, done_by_first}
+use Rattle.std.proofs.Common.{◌≡◌, Ok, take}
+use Rattle.ct_play.specs.Acting.{done_by_each}
+use Rattle.ct_play.specs.Played.{IsLater}
 use Rattle.ct_play.proofs.acting.act_each.Given as goal
 
-abbrev pub invariant-loop-i : goal.invariant-loop-i
-invariant-loop-i l = record {
-  so_far : done_by_first l.fn.stage l.act l.i ≡ Ok l.stage;
+abbrev pub invariant-loop-member : goal.invariant-loop-member
+invariant-loop-member l = record {
+  so_far : done_by_each l.who l.act l.fn.stage (take l.member-index l.members) ≡ Ok l.stage;
   later : IsLater l.fn.stage l.stage;
 }

@@ -1,0 +1,33 @@
+//! What is played in a world.
+
+use crate::act::Act;
+use crate::fact::Fact;
+use crate::question::Question;
+use crate::sides::Sides;
+use crate::text::Text;
+use crate::who::Who;
+use ct_names::MemberSet;
+
+/// What a line plays in a world.
+#[derive(Drop)]
+pub enum Play {
+    /// `2 receive data 1.1`: these members take a step each.
+    Act(Who, Act),
+    /// `2 receive est 1/1 from 1 {1.1} ts 0`: the same, and what each step does has to read so.
+    Stated(Who, Act, Text),
+    /// `1,3 turns 20 suspecting 2,3`: so many rounds in which each of these makes a turn, as a driver does whose failure
+    /// detector suspects these.
+    Turns(Who, u32, MemberSet),
+    /// `all settle suspecting 2`: rounds of turns until in one of them nothing moved.
+    Settle(Who, MemberSet),
+    /// `all turns suspecting 2 until 1,3 delivered 1.1`: turns until the fact holds of each of the latter.
+    Until(Who, MemberSet, Who, Fact),
+    /// `cut 1,2 | 3`: the group falls into sides.
+    Cut(Sides),
+    /// `heal`: there is no cut any more.
+    Heal,
+    /// `expect 1 delivered 1.1`: the fact has to hold of each of these.
+    Expect(Who, Fact),
+    /// A question.
+    Ask(Question),
+}

@@ -1,0 +1,74 @@
+//! What could stand at a place of a line.
+
+/// What could stand at a place of a line.
+#[derive(Clone, Copy)]
+pub(crate) enum Wanted {
+    /// The word that begins a line.
+    Beginning,
+    /// How many members there are.
+    GroupSize,
+    /// How many cells there are.
+    CellCount,
+    /// The bound on a proposal.
+    Bound,
+    /// A member.
+    Member,
+    /// Of which members a fact is expected.
+    Whom,
+    /// A list of members.
+    Set,
+    /// The members of a side of a cut.
+    Side,
+    /// What stands between two sides.
+    Bar,
+    /// What members do.
+    Doing,
+    /// An act that is asked about.
+    Act,
+    /// A command.
+    Command,
+    /// A register.
+    Register,
+    /// A value or an amount.
+    Amount,
+    /// An envelope.
+    Envelope,
+    /// An envelope that is lost, or `from`.
+    Loss,
+    /// A serial behind `#`.
+    Serial,
+    /// A message, by its origin and its number.
+    Message,
+    /// An instance and a round.
+    Place,
+    /// How many rounds of turns, or until when.
+    Rounds,
+    /// The word `until`.
+    Until,
+    /// A fact.
+    Fact,
+    /// A phase.
+    Phase,
+    /// The name of a reason.
+    Reason,
+    /// An instance.
+    Instance,
+    /// A round.
+    Round,
+    /// How many envelopes wait.
+    Waiting,
+    /// Which members, or `-`.
+    Members,
+    /// The words of a line of the report.
+    Quoted,
+    /// Nothing.
+    Nothing,
+    /// Nothing, or `suspecting`.
+    Suspecting,
+    /// Nothing, or `from`.
+    Sender,
+    /// Nothing, or a command.
+    Statement,
+    /// Nothing, `from` or a command.
+    SenderOrStatement,
+}

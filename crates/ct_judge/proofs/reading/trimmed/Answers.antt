@@ -1,0 +1,7 @@
+use Rattle.ct_judge.proofs.Utf8.{trims}
+use Rattle.ct_judge.proofs.reading.trimmed.Goals as goal
+
+pub returns : goal.returns
+returns c =
+    trims c.args.line.now c.trim_ascii_start.result.now c.trim_ascii_end.result.now
+    c.trim_ascii_start.ensures.value c.trim_ascii_end.ensures.value

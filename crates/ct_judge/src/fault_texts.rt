@@ -1,0 +1,237 @@
+//! The texts of faults, in the world before the line.
+
+ghost use Rattle.std.specs.Prelude.{◌≡◌, OnOk, IsTrue};
+ghost use Rattle.ct_records.specs.Adds.{Adds};
+ghost use Rattle.ct_names.specs.Group.{is_member};
+ghost use Rattle.ct_play.specs.Facts.{there, wanted};
+ghost use Rattle.ct_play.specs.Stating.{came_to};
+ghost use Rattle.ct_judge.specs.Missing.{missing_text, none_from_text};
+ghost use Rattle.ct_judge.specs.Telling.{fault_in, if_member_text, not_met_text, not_reached_text, not_so_text, other_text};
+ghost use Rattle.ct_judge.specs.Telling.{plain_text, stranger_text, unmet_text};
+ghost use Rattle.ct_judge.specs.Wording.{behind};
+
+use crate::missing::{push_across, push_missing, push_none_from};
+use crate::refusing::push_refused;
+use crate::wording::push_number;
+use ct_grammar::{Act, Fact, Line, Pick, Play, Text, Who};
+use ct_names::Member;
+use ct_play::{LineFault, Stage, ended, push_came_to, push_there, push_wanted};
+use std::alloc::{AllocError, Global};
+
+// The fault of the line.
+pub(crate) fn push_fault_in(
+    alloc: Global,
+    text: &mut String,
+    stage: &Stage,
+    line: &Line,
+    fault: LineFault,
+) -> Result<(), AllocError>
+    ensures { OnOk result (Adds text.old text.new (fault_in stage.now line.now fault)) }
+{
+    match fault {
+        LineFault::NotThere(member, pick) => push_not_there(text, stage, member, pick),
+        LineFault::NoneFrom(member, _) => push_none(text, stage, member),
+        LineFault::Across(_, serial) => push_across(text, stage, serial),
+        LineFault::Refused(step, refusal) => push_refused(text, stage.world(), step, refusal),
+        LineFault::NotMet(member) => push_not_met(alloc, text, stage, member, line),
+        LineFault::NotSo(member) => push_not_so(alloc, text, stage, member, line),
+        fault => push_plain(text, fault),
+    }
+}
+
+// A fault that needs no world.
+pub(crate) fn push_plain(text: &mut String, fault: LineFault) -> Result<(), AllocError>
+    ensures { OnOk result (Adds text.old text.new (plain_text fault)) }
+{
+    match fault {
+        LineFault::NotUnderstood => text.push_str("not understood"),
+        LineFault::NoMembers => text.push_str("no members"),
+        LineFault::Settled => text.push_str("the group is settled"),
+        LineFault::NoSuchMember(member) => push_stranger(text, member),
+        LineFault::Restless => text.push_str("not at rest after 10000 rounds"),
+        LineFault::OutOfMemory => text.push_str("out of memory"),
+        LineFault::Board => text.push_str("board refused"),
+        _ => text.push_str("refused"),
+    }
+}
+
+// None of the group's members.
+fn push_stranger(text: &mut String, member: Member) -> Result<(), AllocError>
+    ensures { OnOk result (Adds text.old text.new (stranger_text member)) }
+{
+    write!(text, "no member {member}")
+}
+
+// Where what the line names is, and what waits.
+fn push_not_there(
+    text: &mut String,
+    stage: &Stage,
+    member: Member,
+    pick: Pick,
+) -> Result<(), AllocError>
+    ensures { OnOk result (Adds text.old text.new (if_member_text stage.now member (missing_text stage.now.rehearsal member pick))) }
+{
+    if stage.world().group().has(member) {
+        push_missing(text, stage, member, pick)
+    } else {
+        push_stranger(text, member)
+    }
+}
+
+fn push_none(text: &mut String, stage: &Stage, member: Member) -> Result<(), AllocError>
+    ensures { OnOk result (Adds text.old text.new (if_member_text stage.now member (none_from_text stage.now.rehearsal member))) }
+{
+    if stage.world().group().has(member) {
+        push_none_from(text, stage, member)
+    } else {
+        push_stranger(text, member)
+    }
+}
+
+// What is expected of the member, and what is there.
+fn push_not_met(
+    alloc: Global,
+    text: &mut String,
+    stage: &Stage,
+    member: Member,
+    line: &Line,
+) -> Result<(), AllocError>
+    ensures { OnOk result (Adds text.old text.new (not_met_text stage.now member line.now)) }
+{
+    match line {
+        Line::Play(Play::Expect(_, fact)) => push_unmet_if(text, stage, member, fact),
+        Line::Play(play) => push_not_reached(alloc, text, stage, member, play),
+        _ => text.push_str("not met"),
+    }
+}
+
+// The same after turns.
+fn push_not_reached(
+    alloc: Global,
+    text: &mut String,
+    stage: &Stage,
+    member: Member,
+    play: &Play,
+) -> Result<(), AllocError>
+    ensures { OnOk result (Adds text.old text.new (not_reached_text stage.now member play.now)) }
+{
+    let Play::Until(_, _, _, fact) = play else {
+        return text.push_str("not met");
+    };
+    match ended(alloc, stage, play) {
+        Ok(end) => push_unmet_if(text, &end, member, fact),
+        Err(_) => Err(AllocError),
+    }
+}
+
+fn push_unmet_if(
+    text: &mut String,
+    stage: &Stage,
+    member: Member,
+    fact: &Fact,
+) -> Result<(), AllocError>
+    ensures { OnOk result (Adds text.old text.new (if_member_text stage.now member (unmet_text stage.now member fact.now))) }
+{
+    if stage.world().group().has(member) {
+        push_unmet(text, stage, member, fact)
+    } else {
+        push_stranger(text, member)
+    }
+}
+
+#[tactic(auto, unfolding(crate::specs::Telling::unmet_text))]
+fn push_unmet(
+    text: &mut String,
+    stage: &Stage,
+    member: Member,
+    fact: &Fact,
+) -> Result<(), AllocError>
+    requires { IsTrue (is_member stage.now.rehearsal.setting.members member) }
+    ensures { OnOk result (Adds text.old text.new (unmet_text stage.now member fact.now)) }
+{
+    push_number(text, "not met: member ", usize::from(member))?;
+    push_wanted_behind(text, ": expected ", fact)?;
+    push_there_behind(text, ", there is ", stage, member, fact)
+}
+
+#[tactic(auto, unfolding(crate::specs::Wording::behind))]
+fn push_wanted_behind(text: &mut String, words: &str, fact: &Fact) -> Result<(), AllocError>
+    ensures { OnOk result (Adds text.old text.new (behind words.now (wanted fact.now))) }
+{
+    text.push_str(words)?;
+    push_wanted(text, fact)
+}
+
+#[tactic(auto, unfolding(crate::specs::Wording::behind))]
+fn push_there_behind(
+    text: &mut String,
+    words: &str,
+    stage: &Stage,
+    member: Member,
+    fact: &Fact,
+) -> Result<(), AllocError>
+    requires { IsTrue (is_member stage.now.rehearsal.setting.members member) }
+    ensures { OnOk result (Adds text.old text.new (behind words.now (there stage.now member fact.now))) }
+{
+    text.push_str(words)?;
+    push_there(text, stage, member, fact)
+}
+
+// What is stated of the member's step, and what it came to.
+fn push_not_so(
+    alloc: Global,
+    text: &mut String,
+    stage: &Stage,
+    member: Member,
+    line: &Line,
+) -> Result<(), AllocError>
+    ensures { OnOk result (Adds text.old text.new (not_so_text stage.now member line.now)) }
+{
+    match line {
+        Line::Play(Play::Stated(who, act, said)) => {
+            push_other(alloc, text, stage, member, who, act, said)
+        }
+        _ => text.push_str("not so"),
+    }
+}
+
+#[tactic(auto, unfolding(crate::specs::Telling::other_text))]
+fn push_other(
+    alloc: Global,
+    text: &mut String,
+    stage: &Stage,
+    member: Member,
+    who: &Who,
+    act: &Act,
+    said: &Text,
+) -> Result<(), AllocError>
+    ensures { OnOk result (Adds text.old text.new (other_text stage.now member who.now act.now said.now)) }
+{
+    push_number(text, "not so: member ", usize::from(member))?;
+    push_stated_behind(text, ": stated ", said)?;
+    push_came_to_behind(alloc, text, ", there is ", stage, who, act, member)
+}
+
+#[tactic(auto, unfolding(crate::specs::Wording::behind))]
+fn push_stated_behind(text: &mut String, words: &str, said: &Text) -> Result<(), AllocError>
+    ensures { OnOk result (Adds text.old text.new (behind words.now said.now)) }
+{
+    text.push_str(words)?;
+    text.push_str(said.as_str())
+}
+
+#[tactic(auto, unfolding(crate::specs::Wording::behind))]
+fn push_came_to_behind(
+    alloc: Global,
+    text: &mut String,
+    words: &str,
+    stage: &Stage,
+    who: &Who,
+    act: &Act,
+    member: Member,
+) -> Result<(), AllocError>
+    ensures { OnOk result (Adds text.old text.new (behind words.now (came_to stage.now who.now act.now member))) }
+{
+    text.push_str(words)?;
+    push_came_to(alloc, text, stage, who, act, member)
+}

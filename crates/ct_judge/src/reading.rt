@@ -1,0 +1,86 @@
+//! The lines that bytes are, and how they are shown.
+
+ghost use Rattle.std.specs.Prelude.{◌≡◌, OnOk, IfOk, option_map};
+ghost use Rattle.ct_records.specs.Adds.{Adds};
+ghost use Rattle.ct_grammar.specs.Lines.{line_of};
+ghost use Rattle.ct_judge.specs.Reading.{begins_record, line_in, line_in_text, line_or, shown, shown_text, text_in, trimmed};
+
+use crate::misread::Misread;
+use ct_grammar::{Line, line_of};
+use std::alloc::{AllocError, Global};
+
+/// How many bytes of a line a fault shows at most; a longer one is not shown.
+pub const LONGEST_SHOWN: usize = 200;
+
+// The text that these bytes are.
+#[tactic(auto, unfolding(crate::specs::Reading::text_in))]
+fn text_in(bytes: &[u8]) -> Option<&str>
+    ensures { option_map (λ text. text.now) result ≡ text_in bytes.now }
+{
+    match std::str::from_utf8(bytes) {
+        Ok(text) => Some(text),
+        Err(_) => None,
+    }
+}
+
+// The line that these bytes are.
+#[tactic(auto, unfolding(crate::specs::Reading::line_in))]
+pub(crate) fn line_in(alloc: Global, bytes: &[u8]) -> Result<Result<Line, Misread>, AllocError>
+    ensures { IfOk result (λ line. line ≡ line_in bytes.now) }
+{
+    line_in_text(alloc, text_in(bytes))
+}
+
+fn line_in_text(alloc: Global, text: Option<&str>) -> Result<Result<Line, Misread>, AllocError>
+    ensures { IfOk result (λ line. line ≡ line_in_text (option_map (λ text. text.now) text.entry)) }
+{
+    match text {
+        None => Ok(Err(Misread::NoText)),
+        Some(text) if begins_record(text.as_bytes()) => Ok(Err(Misread::Record)),
+        Some(text) => line_of_text(alloc, text),
+    }
+}
+
+// Whether the text begins as records do.
+fn begins_record(text: &[u8]) -> bool
+    ensures { result ≡ begins_record text.now }
+{
+    match text {
+        [first, ..] => *first == b'{',
+        [] => false,
+    }
+}
+
+// The line that the text is.
+fn line_of_text(alloc: Global, text: &str) -> Result<Result<Line, Misread>, AllocError>
+    ensures { IfOk result (λ line. line ≡ line_or (line_of text.now)) }
+{
+    match line_of(alloc, text)? {
+        Ok(line) => Ok(Ok(line)),
+        Err(misfit) => Ok(Err(Misread::NoLine(misfit))),
+    }
+}
+
+// The line before its fault.
+#[tactic(auto, unfolding(crate::specs::Reading::shown))]
+pub(crate) fn push_shown(text: &mut String, line: &[u8]) -> Result<(), AllocError>
+    ensures { OnOk result (Adds text.old text.new (shown line.now)) }
+{
+    push_shown_text(text, text_in(trimmed(line)))
+}
+
+fn push_shown_text(text: &mut String, line: Option<&str>) -> Result<(), AllocError>
+    ensures { OnOk result (Adds text.old text.new (shown_text (option_map (λ line. line.now) line.entry))) }
+{
+    match line {
+        Some(line) if line.len() <= LONGEST_SHOWN => write!(text, "{line}: "),
+        _ => Ok(()),
+    }
+}
+
+// The line as it stands, without blanks at its ends.
+fn trimmed(line: &[u8]) -> &[u8]
+    ensures { result.now ≡ trimmed line.now }
+{
+    line.trim_ascii_start().trim_ascii_end()
+}
