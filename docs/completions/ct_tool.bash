@@ -23,12 +23,12 @@ _ct_tool_words() {
         operands='file'
         ;;
     interact)
-        options='--record -h --help'
+        options='--record --strict -h --help'
         values='--record=file'
         operands=''
         ;;
     record)
-        options='-h --help'
+        options='--partial -h --help'
         values=''
         operands='file'
         ;;
