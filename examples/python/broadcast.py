@@ -6,59 +6,68 @@
 Messages are relayed, consensus has a rotating coordinator, and what is decided instance by instance is delivered. The members log
 what they do, a line a step, and so write the run as a schedule for `ct_tool record`. The program knows nothing of `ct_tool`.
 """
+from __future__ import annotations
+
 import argparse
 import random
+from typing import Any, Callable, Dict, Iterator, List, Optional, Set, Sized, Tuple, Type
+
+Message = Tuple[int, int]              # its origin and its number there
+Estimate = Tuple[Message, ...]
+Letter = Tuple[int, str, str, Any]     # sender, kind, mark, content
+Suspects = Callable[[int], bool]       # a failure detector: whether it suspects this member
+Log = Callable[[str], object]
 
 
 class Network:
-    """Letters on their way: (sender, kind, mark, content). Any of them may come next."""
+    """Letters on their way. Any of them may come next."""
 
-    def __init__(self, n):
-        self.letters = {p: [] for p in range(1, n + 1)}
+    def __init__(self, n: int) -> None:
+        self.letters: Dict[int, List[Letter]] = {p: [] for p in range(1, n + 1)}
 
-    def send(self, to, *letter):
+    def send(self, to: int, *letter: Any) -> None:
         self.letters[to].append(letter)
 
-    def send_to_all(self, *letter):
+    def send_to_all(self, *letter: Any) -> None:
         for p in self.letters:
             self.send(p, *letter)
 
 
 class Member:
-    def __init__(self, p, n, network, log):
+    def __init__(self, p: int, n: int, network: Network, log: Log) -> None:
         self.p, self.n, self.network = p, n, network
         self.log = lambda *words: log(" ".join(map(str, (p, *words))))
         self.up = True
         self.submitted = 0
-        self.got = set()         # kinds and marks of what was relayed, or needs no relay any more
-        self.pending = set()     # messages received and not delivered
-        self.delivered = []
-        self.instance = 0        # the last one begun
-        self.phase = None        # None where no instance is open
+        self.got: Set[Tuple[str, str]] = set()     # kinds and marks of what was relayed, or needs no relay any more
+        self.pending: Set[Message] = set()         # messages received and not delivered
+        self.delivered: List[Message] = []
+        self.instance = 0                          # the last one begun
+        self.phase: Optional[str] = None           # None where no instance is open
         self.round = self.ts = 0
-        self.estimate = ()
-        self.estimates = {}      # by mark, by sender: (ts, estimate)
-        self.proposals = {}      # by mark
-        self.replies = {}        # by mark, by sender: whether it is an ack
-        self.decisions = {}      # by instance
+        self.estimate: Estimate = ()
+        self.estimates: Dict[str, Dict[int, Tuple[int, Estimate]]] = {}   # by mark, by sender: (ts, estimate)
+        self.proposals: Dict[str, Estimate] = {}         # by mark
+        self.replies: Dict[str, Dict[int, bool]] = {}    # by mark, by sender: whether it is an ack
+        self.decisions: Dict[int, Estimate] = {}         # by instance
 
-    def coordinator(self, r):
+    def coordinator(self, r: int) -> int:
         return r % self.n + 1
 
-    def mark(self):
+    def mark(self) -> str:
         return f"{self.instance}/{self.round}"
 
-    def has_majority(self, members):
+    def has_majority(self, members: Sized) -> bool:
         return 2 * len(members) > self.n
 
     # Reliable broadcast.
 
-    def submit(self, command):
+    def submit(self, command: Tuple[Any, ...]) -> None:
         self.submitted += 1
         self.log("submit", *command)
         self.network.send_to_all(self.p, "data", f"{self.p}.{self.submitted}", (self.p, self.submitted))
 
-    def receive(self, at):
+    def receive(self, at: int) -> None:
         """Receives the letter at this place among those on their way."""
         sender, kind, mark, content = self.network.letters[self.p].pop(at)
         self.log("receive", kind, mark, "from", sender)
@@ -71,7 +80,7 @@ class Member:
         else:
             self.replies.setdefault(mark, {})[sender] = kind == "ack"
 
-    def relay(self, kind, mark, content):
+    def relay(self, kind: str, mark: str, content: Any) -> None:
         """The first receipt of what goes to all: sent on to all by those whose it isn't."""
         if (kind, mark) in self.got:
             return
@@ -88,8 +97,8 @@ class Member:
 
     # Consensus and atomic broadcast.
 
-    def act(self, suspects):
-        """Takes the step that comes next, if there is one, and says whether it did. suspects: a failure detector's answer."""
+    def act(self, suspects: Suspects) -> bool:
+        """Takes the step that comes next, if there is one, and says whether it did."""
         if self.phase is None:
             step = self.begin if self.pending else None
         elif self.instance in self.decisions:
@@ -101,22 +110,22 @@ class Member:
             step()
         return bool(step)
 
-    def begin(self):
+    def begin(self) -> None:
         self.instance += 1
         self.estimate, self.ts, self.round, self.phase = tuple(sorted(self.pending)), 0, 0, "rest"
         self.log("begin")
 
-    def enter(self):
+    def enter(self) -> None:
         self.round += 1
         coordinator = self.coordinator(self.round)
         self.log("enter")
         self.network.send(coordinator, self.p, "est", self.mark(), (self.ts, self.estimate))
         self.phase = "gather" if coordinator == self.p else "wait"
 
-    def choice(self, _suspects):
+    def choice(self, _suspects: Suspects) -> Optional[Callable[[], None]]:
         return self.choose if self.has_majority(self.estimates.get(self.mark(), {})) else None
 
-    def choose(self):
+    def choose(self) -> None:
         heard = self.estimates[self.mark()]
         sender = max(heard, key=lambda q: (heard[q][0], -q))
         self.estimate = heard[sender][1]
@@ -124,42 +133,42 @@ class Member:
         self.network.send_to_all(self.p, "prop", self.mark(), self.estimate)
         self.phase = "wait"
 
-    def reply(self, suspects):
+    def reply(self, suspects: Suspects) -> Optional[Callable[[], None]]:
         if self.mark() in self.proposals:
             return self.adopt
         return self.suspect if suspects(self.coordinator(self.round)) else None
 
-    def adopt(self):
+    def adopt(self) -> None:
         self.estimate, self.ts = self.proposals[self.mark()], self.round
         self.log("adopt")
         self.send_reply("ack")
 
-    def suspect(self):
+    def suspect(self) -> None:
         self.log("suspect")
         self.send_reply("nack")
 
-    def send_reply(self, kind):
+    def send_reply(self, kind: str) -> None:
         coordinator = self.coordinator(self.round)
         self.network.send(coordinator, self.p, kind, self.mark(), None)
         self.phase = "tally" if coordinator == self.p else "rest"
 
-    def conclusion(self, _suspects):
+    def conclusion(self, _suspects: Suspects) -> Optional[Callable[[], None]]:
         return self.conclude if self.has_majority(self.replies.get(self.mark(), {})) else None
 
-    def conclude(self):
+    def conclude(self) -> None:
         self.log("conclude")
         replies = self.replies[self.mark()]
         if self.has_majority([q for q in replies if replies[q]]):
             self.network.send_to_all(self.p, "dec", self.mark(), self.estimate)
         self.phase = "rest"
 
-    def deliver(self):
+    def deliver(self) -> None:
         self.log("deliver")
         self.delivered += [m for m in self.decisions[self.instance] if m not in self.delivered]
         self.pending -= set(self.delivered)
         self.phase = None
 
-    def crash(self):
+    def crash(self) -> None:
         self.log("crash")
         self.up = False
 
@@ -167,20 +176,20 @@ class Member:
 class Run:
     """A group under a schedule drawn from a seed. log: called with each line as it happens."""
 
-    def __init__(self, options, log, member=Member):
+    def __init__(self, options: argparse.Namespace, log: Log, member: Type[Member] = Member) -> None:
         self.options, self.log = options, log
         self.random = random.Random(options.seed)
         self.network = Network(options.members)
         self.members = {p: member(p, options.members, self.network, log) for p in self.network.letters}
 
-    def up(self):
+    def up(self) -> List[Member]:
         return [member for member in self.members.values() if member.up]
 
-    def suspects(self, p):
+    def suspects(self, p: int) -> bool:
         """A failure detector: it suspects those that crashed, and now and then another."""
         return not self.members[p].up or self.random.random() < 0.02
 
-    def play(self):
+    def play(self) -> None:
         options, chance = self.options, self.random
         self.log(f"members {options.members}")
         self.log("cells 1024")
@@ -195,7 +204,7 @@ class Run:
             else:
                 self.turn(member)
 
-    def turn(self, member):
+    def turn(self, member: Member) -> None:
         letters = self.network.letters[member.p]
         if self.random.random() < 0.5 and member.act(self.suspects):
             return
@@ -204,33 +213,41 @@ class Run:
         else:
             member.act(self.suspects)
 
-    def expectations(self):
+    def expectations(self) -> Iterator[str]:
         """What each member delivered, as lines of a schedule."""
         for p, member in self.members.items():
             names = " ".join(f"{origin}.{number}" for origin, number in member.delivered)
             yield f"expect {p} delivered {names or '-'}"
 
 
-def parser(text):
+def within(least: int, most: int) -> Callable[[str], int]:
+    """Reads a whole number of this range."""
+    def number(word: str) -> int:
+        if not least <= int(word) <= most:
+            raise argparse.ArgumentTypeError(f"{word}: {least} to {most}")
+        return int(word)
+    return number
+
+
+def parser(text: str) -> argparse.ArgumentParser:
     made = argparse.ArgumentParser(description=text.split("\n")[0])
-    made.add_argument("--members", type=int, default=3, metavar="N", help="members, 1 to 16 (default 3)")
+    made.add_argument("--members", type=within(1, 16), default=3, metavar="N", help="members, 1 to 16 (default 3)")
     made.add_argument("--seed", type=int, default=1, metavar="S", help="what the schedule is drawn from (default 1)")
-    made.add_argument("--turns", type=int, default=400, metavar="T", help="turns of all members together (default 400)")
-    made.add_argument("--submit", type=int, default=6, metavar="M", help="messages, about (default 6)")
-    made.add_argument("--crash", type=int, default=0, metavar="C", help="members that crash, fewer than half (default 0)")
+    made.add_argument("--turns", type=within(1, 10**6), default=400, metavar="T", help="turns of all members together (default 400)")
+    made.add_argument("--submit", type=within(0, 65535), default=6, metavar="M", help="messages, about (default 6)")
+    made.add_argument("--crash", type=within(0, 7), default=0, metavar="C", help="members that crash, fewer than half (default 0)")
     return made
 
 
-def parsed(made):
+def parsed(made: argparse.ArgumentParser) -> argparse.Namespace:
     options = made.parse_args()
-    if not 1 <= options.members <= 16 or options.turns < 1 or not 0 <= 2 * options.crash < options.members:
-        made.error("out of range")
-    if options.crash > options.turns:
-        made.error("out of range")
+    most = min((options.members - 1) // 2, options.turns)
+    if options.crash > most:
+        made.error(f"argument --crash: {options.crash}: 0 to {most}, fewer than half of the members")
     return options
 
 
-def main():
+def main() -> None:
     run = Run(parsed(parser(__doc__)), print)
     run.play()
     for line in run.expectations():

@@ -4,28 +4,29 @@
     rehearse.py [--tool PROGRAM] [--runs R] [--members N] [--seed S] [--turns T] [--submit M] [--crash C]
 
 With --runs R runs the seeds S, S + 1, .. are rehearsed. Ends with status 0 where each step is allowed and each member delivered what
-the judge says, else with the first line that is refused and status 1.
+the judge says, else with the first line that is refused and status 1; where PROGRAM doesn't start or answer with status 2.
 """
+from __future__ import annotations
+
+import argparse
 import sys
+from typing import Tuple
 
 import broadcast
 import session
 
 
-def rehearse(options):
+def rehearse(options: argparse.Namespace) -> Tuple[int, int]:
     """The number of lines, and of messages that the member with most of them delivered."""
     with session.Session(options.tool) as judge:
         run = broadcast.Run(options, judge.tell)
-        try:
-            run.play()
-            for line in run.expectations():
-                judge.tell(line)
-        except session.Refused as fault:
-            raise session.Refused(f"seed {options.seed}, line {judge.lines}: {fault}") from None
+        run.play()
+        for line in run.expectations():
+            judge.tell(line)
         return judge.lines, max(len(member.delivered) for member in run.members.values())
 
 
-def main():
+def main() -> int:
     made = broadcast.parser(__doc__)
     made.add_argument("--tool", default=session.TOOL, metavar="PROGRAM", help="the built ct_tool (default that of crates/)")
     made.add_argument("--runs", type=int, default=1, metavar="R", help="how many seeds (default 1)")
@@ -34,8 +35,11 @@ def main():
         try:
             lines, delivered = rehearse(options)
         except session.Refused as fault:
-            print(fault, file=sys.stderr)
+            print(f"seed {options.seed}, {fault}", file=sys.stderr)
             return 1
+        except (OSError, EOFError) as error:
+            print(error, file=sys.stderr)
+            return 2
         print(f"seed {options.seed}: {lines} lines, {delivered} delivered")
     return 0
 
