@@ -51,7 +51,7 @@ _ct_tool_words() {
         options='--members --turns --seed --rate --cells --submit --crash --postpone --lose --repeat --batch --every --until'
         options+=' --find --seeds -h --help'
         values='--members=any --turns=any --seed=any --rate=any --cells=any --submit=any --crash=any --postpone=any --lose=any'
-        values+=' --repeat=any --batch=any --every=any --until=any,any --find=any,any --seeds=any'
+        values+=' --repeat=any --batch=any --every=any --until=decided|round,any --find=decided|round,any --seeds=any'
         operands=''
         ;;
     help)

@@ -102,7 +102,7 @@ def kind_of(entry: Entry) -> str:
 
 def values_of(option: Entry) -> list[str]:
     """For each name of the option what its values are."""
-    kinds = ",".join(kind_of(option) for _ in option.values) + ("+" if option.is_repeated else "")
+    kinds = ",".join(value if "|" in value else kind_of(option) for value in option.values) + ("+" if option.is_repeated else "")
     return [f"{flag}={kinds}" for flag in option.flags] if option.values else []
 
 
