@@ -7,7 +7,7 @@
 #
 # Prints a line for each failing case and ends with `N passed, M failed`, and with
 # status 0 only where none failed. A run of more than 20 seconds fails, and so does a
-# case that has the name of another. Needs bash 4.4 and Python 3.8.
+# case that has the name of another. Needs bash 4.4, Python 3.8 and, for a program in a document, rt.
 set -u
 export LC_ALL=C
 
@@ -228,6 +228,7 @@ check_completions() {
     [[ $(completed ct_tool help wal) == walk ]] || wrong+=" not the subcommand that help is wanted of;"
     [[ $(completed ct free --mem) == --members ]] || wrong+=" not an option;"
     [[ $(completed ct free --members '') == '' ]] || wrong+=" something where a number is wanted;"
+    [[ $(completed ct_tool walk --find d) == decided ]] || wrong+=" not a word that is a value;"
     [[ $(completed ct_tool walk --until decided '') == '' ]] || wrong+=" something where a second value is wanted;"
     [[ $(completed ct_tool steps --from 2 suspicion.j) == suspicion.json ]] || wrong+=" not a file;"
     [[ $(completed ct_tool steps a --fr) == --from ]] || wrong+=" not an option behind a file;"
@@ -365,7 +366,7 @@ check_long_texts() {
 # check_blocks: what the documents and the programs' help show is run.
 check_blocks() {
     local ended
-    ended=$(timeout -k 5 120 python3 blocks.py "$ct" "$tool" 2>"$folder/error" | tee "$folder/output" | tail -n 1)
+    ended=$(timeout -k 5 600 python3 blocks.py "$ct" "$tool" 2>"$folder/error" | tee "$folder/output" | tail -n 1)
     if [[ $ended =~ ^([0-9]+)\ passed,\ ([0-9]+)\ failed$ ]]; then
         passed=$((passed + BASH_REMATCH[1]))
         failed=$((failed + BASH_REMATCH[2]))
