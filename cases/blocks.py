@@ -36,7 +36,7 @@ import shutil
 import subprocess
 import sys
 import tempfile
-from typing import Dict, Iterator, List, NamedTuple, Optional
+from typing import Any, Dict, Iterator, List, NamedTuple, Optional
 
 ROOT = os.path.dirname(os.path.dirname(os.path.abspath(__file__)))
 KINDS = {
@@ -59,7 +59,7 @@ LEAST = {"schedule": 1, "record": 1, "python": 3, "transcript": 7, "contract": 1
 BUILT = re.compile(r"\(cd crates/(ct|ct_tool) && rt (?:run|try) -- ")
 FREE = re.compile(r"\bct(/out/ct)? free\b")
 SECONDS = 60
-SECONDS_OF_TRY = 500   # `rt try` compiles the libraries, too
+SECONDS_OF_TRY = 1200   # `rt try` compiles the libraries, too
 
 
 class Done(NamedTuple):
@@ -122,6 +122,16 @@ def without_comments(text: str) -> str:
     return "".join(line + "\n" for line in lines if line and not line.startswith("//"))
 
 
+def ended(words: List[str], seconds: int, text: str = "", **how: Any) -> Done:
+    """What a program on this text comes to; status 124 where it takes longer."""
+    try:
+        done = subprocess.run(words, timeout=seconds, input=text, stdout=subprocess.PIPE, stderr=subprocess.PIPE,
+                              universal_newlines=True, **how)
+    except subprocess.TimeoutExpired:
+        return Done(124, "", f"{words[0]} takes more than {seconds} seconds")
+    return Done(done.returncode, done.stdout, done.stderr)
+
+
 class Tree:
     """A copy of what the commands name, and the programs."""
 
@@ -145,11 +155,9 @@ class Tree:
         self.run("ct_tool walk --members 3 --seed 7 --turns 60 > run.json")
         self.run("cp run.json another.json; cp examples/followers.schedule run.txt")
 
-    def run(self, command: str, text: Optional[str] = None) -> Done:
-        """Runs a command on the text, or on nothing."""
-        done = subprocess.run(["bash", "-o", "pipefail", "-c", command], cwd=self.folder, env=self.around, timeout=SECONDS,
-                              input=text or "", stdout=subprocess.PIPE, stderr=subprocess.PIPE, universal_newlines=True)
-        return Done(done.returncode, done.stdout, done.stderr)
+    def run(self, command: str, text: str = "") -> Done:
+        """Runs a command on the text."""
+        return ended(["bash", "-o", "pipefail", "-c", command], SECONDS, text, cwd=self.folder, env=self.around)
 
     def try_program(self, text: str, libraries: str) -> Done:
         """Runs a program in Rattle, without proofs, in a copy of the crates."""
@@ -162,9 +170,7 @@ class Tree:
                                   (os.path.join(folder, "crates.txt"), f"{read('crates.txt')}of_document: {libraries}\n")):
                 with open(path, "w", encoding="utf-8") as file:
                     file.write(content)
-            done = subprocess.run(["rt", "try"], cwd=os.path.dirname(source), timeout=SECONDS_OF_TRY, stdin=subprocess.DEVNULL,
-                                  stdout=subprocess.PIPE, stderr=subprocess.PIPE, universal_newlines=True)
-            return Done(done.returncode, done.stdout, done.stderr)
+            return ended(["rt", "try"], SECONDS_OF_TRY, cwd=os.path.dirname(source))
 
     def statuses(self, command: str) -> List[int]:
         """The statuses that the command may end with."""

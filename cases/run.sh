@@ -366,7 +366,7 @@ check_long_texts() {
 # check_blocks: what the documents and the programs' help show is run.
 check_blocks() {
     local ended
-    ended=$(timeout -k 5 600 python3 blocks.py "$ct" "$tool" 2>"$folder/error" | tee "$folder/output" | tail -n 1)
+    ended=$(timeout -k 5 1500 python3 blocks.py "$ct" "$tool" 2>"$folder/error" | tee "$folder/output" | tail -n 1)
     if [[ $ended =~ ^([0-9]+)\ passed,\ ([0-9]+)\ failed$ ]]; then
         passed=$((passed + BASH_REMATCH[1]))
         failed=$((failed + BASH_REMATCH[2]))
