@@ -8,7 +8,7 @@ All is run in a copy of docs/, examples/, bench/ and cases/, in which crates/NAM
 built programs. At the beginning of each document and each help run.json and another.json are a record, run.txt a schedule; commands
 find what those before them wrote. A block is told by its first line:
 
-    members N               a schedule: `ct_tool record` writes its record, which is replayed
+    members N               a schedule: `ct_tool record` writes its record, which is replayed; a line `..` stands for others
     {"batch": ..            a record, which is replayed; commands behind it find it as record.json
     # NAME.py               a program in Python of this name; a command behind it names it
     $ COMMAND               commands, each behind a `$`, and what each writes to standard output and error
@@ -283,7 +283,7 @@ class Document:
         self.cases.count(kind, where, f"status {done.status}: {start_of(done.errors)}" if done.status else "")
 
     def schedule(self, _place: int, where: str, part: Part) -> None:
-        self.text("schedule", where, "ct_tool record | ct replay", part.text)
+        self.text("schedule", where, "ct_tool record | ct replay", "".join(f"{line}\n" for line in part.lines if line != ".."))
 
     def record(self, _place: int, where: str, part: Part) -> None:
         self.cases.tree.write("record.json", part.text)
