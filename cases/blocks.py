@@ -55,7 +55,7 @@ NOT_RUN = {
     ("docs/ARCHITECTURE.md", "programs               ct             ct_tool             ct_memory"): "a drawing",
 }
 # So many of each kind are there at least.
-LEAST = {"schedule": 1, "record": 1, "python": 3, "transcript": 7, "contract": 1, "program": 1, "command": 25, "output": 10, "example": 22}
+LEAST = {"schedule": 1, "record": 1, "python": 3, "transcript": 7, "contract": 1, "program": 1, "command": 25, "output": 9, "example": 22}
 BUILT = re.compile(r"\(cd crates/(ct|ct_tool) && rt (?:run|try) -- ")
 FREE = re.compile(r"\bct(/out/ct)? free\b")
 SECONDS = 60
