@@ -1,0 +1,238 @@
+-- Facts and members, written and read.
+use Rattle.std.proofs.Common.{◌≡◌, ℕ, ◌<◌, ◌≤◌, ◌==◌, ◌||◌, Bool, true, false, List, [], ◌∷◌, ◌++◌, length, refl, sym, ap, ◌∙◌, arith}
+use Rattle.std.proofs.Common.{append-nil, subst, inl, inr}
+use Rattle.std.specs.Prelude.{codes, decimal, Some, Ok}
+use Rattle.std.specs.Str.{bytes_eq}
+use Rattle.ct_names.specs.declared.limit.Limit.TheVariants.{Submissions, Instances, Rounds, Envelopes, Cells, Steps}
+use Rattle.ct_names.specs.declared.refusal.Refusal.TheVariants.{NoSuchMember, Crashed as IsCrashed, NotWaiting, Busy, Nothing, WrongPhase}
+use Rattle.ct_names.specs.declared.refusal.Refusal.TheVariants.{Idle as IsIdle, Decided as IsDecided, TooFew, NotLargest, NoProposal, HasProposal}
+use Rattle.ct_names.specs.declared.refusal.Refusal.TheVariants.{Undecided, BadCommand, Full, OutOfMemory, Board, NotSent, StillWaiting}
+use Rattle.ct_names.specs.Group.{everyone}
+use Rattle.ct_names.specs.MemberSet.{has_member}
+use Rattle.std.proofs.lemmas.Bool.Decides.{nat_tests}
+use Rattle.ct_names.proofs.MemberSets.{filter-agree}
+use Rattle.ct_model.specs.declared.phase.Phase.TheVariants.{Rest, Gather, Wait, Tally}
+use Rattle.ct_grammar.specs.declared.act.Act.{Act}
+use Rattle.ct_grammar.specs.declared.fact.Fact.{Fact}
+use Rattle.ct_grammar.specs.declared.fact.Fact.TheVariants.{Up, Crashed, Idle, Instance, Round, Phase as InPhase}
+use Rattle.ct_grammar.specs.declared.fact.Fact.TheVariants.{Received, Decided, Delivered, Table, Refuses, May}
+use Rattle.ct_grammar.specs.declared.fact.Fact.TheVariants.{Waiting, Waits, Heard, Acked, Estimate}
+use Rattle.ct_grammar.specs.declared.pick.Pick.{Pick}
+use Rattle.ct_grammar.specs.declared.reason.Reason.{Reason}
+use Rattle.ct_grammar.specs.declared.reason.Reason.TheVariants.{NotThere, Across, Rules}
+use Rattle.ct_grammar.specs.declared.who.Who.{Who}
+use Rattle.ct_grammar.specs.declared.who.Who.TheVariants.{One, Some as Several, All}
+use Rattle.ct_grammar.specs.Facts.{phase_of, short_fact, ended, lone_act, lone_pick, lone_whole, phase_first, reason_first, refusal_of, act_fact}
+use Rattle.ct_grammar.specs.Facts.{number_fact, lone_set, some_words, quotes_words, quotable, text_fact, quoted_fact, named_fact, fact_of}
+use Rattle.ct_grammar.specs.Leading.{over}
+use Rattle.ct_grammar.specs.Numbers.{max_u8, max_u32, members_of, has_comma}
+use Rattle.ct_grammar.specs.Reasons.{reason_text, full_of, step_reason, reason_of}
+use Rattle.ct_grammar.specs.Who.{who_of}
+use Rattle.ct_grammar.specs.Words.{Word, all_words, words_of, text_of}
+use Rattle.ct_print.specs.Facts.{fact_text, phase_word}
+use Rattle.ct_print.specs.Members.{set_text, list_text, who_text}
+use Rattle.ct_print.specs.Writable.{IsSomeSet, WhoFits, ActFits, PickFits, FactFits, IsQuotable, IsSetText, IsRules}
+use Rattle.ct_print.proofs.ActsRead.{whole_is_first, pick_back, act_back}
+use Rattle.ct_print.proofs.Numerals.{number_back}
+use Rattle.ct_print.proofs.Numeric.{numeric_other, decimal_numeric, decimal_digits}
+use Rattle.ct_print.proofs.Parts.{AreSmall, numbers_text, members_back, alone_no_comma, list_has_comma}
+use Rattle.ct_print.proofs.TextWords.{Reads, is_word, beside}
+use Rattle.ct_print.proofs.Spoken.{pick_words, act_words, led, said, number_reads, pick_reads, act_reads, quoted_reads, small_members, list_numeric}
+
+-- ---- quoted texts
+
+pub set_text_reads : (text : List ℕ) → IsSetText text → Reads text (text ∷ [])
+unfolding words_of all_words
+set_text_reads text h = subst (Reads text) h.word (quoted_reads text (record { words = ap text_of h.word; some = some text h.word }))
+  where
+    some : (t : List ℕ) → words_of t ≡ t ∷ [] → 0 < length t
+    some [] e = absurd (omega (arith, ap length e))
+    some (c ∷ cs) e = omega arith
+
+pub some_of : (text : List ℕ) → IsQuotable text → some_words (words_of text) ≡ Ok tt
+unfolding some_words
+some_of text h = go (words_of text) refl
+  where
+    go : (ws : List Word) → words_of text ≡ ws → some_words ws ≡ Ok tt
+    go [] e =
+        let nothing : text ≡ [] = sym h.words ∙ ap text_of e in
+        absurd (omega (arith, h.some, ap length nothing))
+    go (w ∷ ws) e = refl
+
+-- ---- members
+
+list_back : (set : List ℕ) → IsSomeSet set → (has_comma (list_text set) ≡ true) × (members_of (list_text set) ≡ Some set)
+unfolding list_text set_text
+list_back [] h = absurd (omega (arith, h.some))
+list_back (p ∷ []) h =
+    let small : AreSmall (p ∷ []) = small_members (p ∷ []) h in
+    let twice : AreSmall (p ∷ p ∷ []) = λ q i. elim i [ inl e ↦ small q (inl e) | inr k ↦ small q k ] in
+    let digits = decimal_digits p (omega (arith, (small p (inl refl)).1)) in
+    let back : members_of (decimal p ++ 44 ∷ (decimal p ++ [])) ≡ Some (p ∷ []) =
+    rw (append-nil (decimal p)) (members_back p (p ∷ []) twice
+    ∙ ap Some (filter-agree (has_member (p ∷ p ∷ [])) (has_member (p ∷ [])) everyone (λ q i. once (p == q)) ∙ sym h.rising)) in
+    (list_has_comma (decimal p) (decimal p ++ []) digits, back)
+  where
+    once : (b : Bool) → (b || (b || false)) ≡ (b || false)
+    once true = refl
+    once false = refl
+list_back (p ∷ q ∷ ps) h =
+    let small : AreSmall (p ∷ q ∷ ps) = small_members (p ∷ q ∷ ps) h in
+    let more : (length (p ∷ q ∷ ps) == 1) ≡ false = grind (arith, nat_tests) in
+    let digits = decimal_digits p (omega (arith, (small p (inl refl)).1)) in
+    rw more (list_has_comma (decimal p) (numbers_text (q ∷ ps)) digits, members_back p (q ∷ ps) small ∙ ap Some (sym h.rising))
+
+pub who_back : (who : Who) → WhoFits who → who_of (who_text who) ≡ Some who
+unfolding who_of who_text
+who_back (One p) h =
+    let digits = decimal_digits p (omega arith) in
+    rw (
+      numeric_other (decimal p) _ _ refl (decimal_numeric p (omega arith)),
+      alone_no_comma (decimal p) digits,
+      number_back max_u8 p (omega arith) h,
+    ) refl
+who_back (Several set) h =
+    let back = list_back set h in
+    rw (numeric_other (list_text set) _ _ refl (list_numeric set h), back.0, back.1) refl
+who_back All h = refl
+
+-- ---- reasons
+
+pub reason_back : (reason : Reason) → IsRules reason → reason_of (reason_text reason) ≡ Some reason
+unfolding reason_of step_reason full_of
+reason_back NotThere h = refl
+reason_back Across h = refl
+reason_back (Rules NoSuchMember) h = refl
+reason_back (Rules IsCrashed) h = refl
+reason_back (Rules NotWaiting) h = refl
+reason_back (Rules Busy) h = refl
+reason_back (Rules Nothing) h = refl
+reason_back (Rules IsIdle) h = refl
+reason_back (Rules WrongPhase) h = refl
+reason_back (Rules IsDecided) h = refl
+reason_back (Rules TooFew) h = refl
+reason_back (Rules NotLargest) h = refl
+reason_back (Rules NoProposal) h = refl
+reason_back (Rules HasProposal) h = refl
+reason_back (Rules Undecided) h = refl
+reason_back (Rules BadCommand) h = refl
+reason_back (Rules (Full Submissions)) h = refl
+reason_back (Rules (Full Instances)) h = refl
+reason_back (Rules (Full Rounds)) h = refl
+reason_back (Rules (Full Envelopes)) h = refl
+reason_back (Rules (Full Cells)) h = refl
+reason_back (Rules (Full Steps)) h = refl
+reason_back (Rules OutOfMemory) h = absurd (h.memory refl)
+reason_back (Rules Board) h = absurd (h.board refl)
+reason_back (Rules NotSent) h = refl
+reason_back (Rules StillWaiting) h = refl
+
+reason_word : (reason : Reason) → (is_word (reason_text reason) ≡ true) × (bytes_eq (reason_text reason) (codes "from") ≡ false)
+reason_word NotThere = (refl, refl)
+reason_word Across = (refl, refl)
+reason_word (Rules NoSuchMember) = (refl, refl)
+reason_word (Rules IsCrashed) = (refl, refl)
+reason_word (Rules NotWaiting) = (refl, refl)
+reason_word (Rules Busy) = (refl, refl)
+reason_word (Rules Nothing) = (refl, refl)
+reason_word (Rules IsIdle) = (refl, refl)
+reason_word (Rules WrongPhase) = (refl, refl)
+reason_word (Rules IsDecided) = (refl, refl)
+reason_word (Rules TooFew) = (refl, refl)
+reason_word (Rules NotLargest) = (refl, refl)
+reason_word (Rules NoProposal) = (refl, refl)
+reason_word (Rules HasProposal) = (refl, refl)
+reason_word (Rules Undecided) = (refl, refl)
+reason_word (Rules BadCommand) = (refl, refl)
+reason_word (Rules (Full Submissions)) = (refl, refl)
+reason_word (Rules (Full Instances)) = (refl, refl)
+reason_word (Rules (Full Rounds)) = (refl, refl)
+reason_word (Rules (Full Envelopes)) = (refl, refl)
+reason_word (Rules (Full Cells)) = (refl, refl)
+reason_word (Rules (Full Steps)) = (refl, refl)
+reason_word (Rules OutOfMemory) = (refl, refl)
+reason_word (Rules Board) = (refl, refl)
+reason_word (Rules NotSent) = (refl, refl)
+reason_word (Rules StillWaiting) = (refl, refl)
+
+-- ---- facts
+
+abbrev pub fact_words : Fact → List Word
+fact_words Up = codes "up" ∷ []
+fact_words Crashed = codes "crashed" ∷ []
+fact_words Idle = codes "idle" ∷ []
+fact_words (Instance i) = codes "instance" ∷ decimal i ∷ []
+fact_words (Round r) = codes "round" ∷ decimal r ∷ []
+fact_words (InPhase phase) = codes "phase" ∷ phase_word phase ∷ []
+fact_words (Received quoted) = codes "received" ∷ words_of quoted
+fact_words (Decided quoted) = codes "decided" ∷ words_of quoted
+fact_words (Delivered quoted) = codes "delivered" ∷ words_of quoted
+fact_words (Table quoted) = codes "table" ∷ words_of quoted
+fact_words (Refuses act reason) = codes "refuses" ∷ (act_words act ++ (reason_text reason ∷ []))
+fact_words (May act) = codes "may" ∷ act_words act
+fact_words (Waiting n) = codes "waiting" ∷ decimal n ∷ []
+fact_words (Waits pick) = codes "waits" ∷ pick_words pick
+fact_words (Heard quoted) = codes "heard" ∷ quoted ∷ []
+fact_words (Acked quoted) = codes "acked" ∷ quoted ∷ []
+fact_words (Estimate quoted) = codes "estimate" ∷ words_of quoted
+
+pub fact_reads : (fact : Fact) → FactFits fact → Reads (fact_text fact) (fact_words fact)
+unfolding fact_text
+fact_reads Up h = said (codes "up") refl
+fact_reads Crashed h = said (codes "crashed") refl
+fact_reads Idle h = said (codes "idle") refl
+fact_reads (Instance i) h = led (codes "instance") _ _ refl (number_reads max_u32 i (omega arith) h)
+fact_reads (Round r) h = led (codes "round") _ _ refl (number_reads max_u32 r (omega arith) h)
+fact_reads (InPhase Rest) h = led (codes "phase") _ _ refl (said (codes "Rest") refl)
+fact_reads (InPhase Gather) h = led (codes "phase") _ _ refl (said (codes "Gather") refl)
+fact_reads (InPhase Wait) h = led (codes "phase") _ _ refl (said (codes "Wait") refl)
+fact_reads (InPhase Tally) h = led (codes "phase") _ _ refl (said (codes "Tally") refl)
+fact_reads (Received quoted) h = led (codes "received") _ _ refl (quoted_reads quoted h)
+fact_reads (Decided quoted) h = led (codes "decided") _ _ refl (quoted_reads quoted h)
+fact_reads (Delivered quoted) h = led (codes "delivered") _ _ refl (quoted_reads quoted h)
+fact_reads (Table quoted) h = led (codes "table") _ _ refl (quoted_reads quoted h)
+fact_reads (Refuses act reason) h =
+    led (codes "refuses") _ _ refl
+    (beside _ (reason_text reason) (act_words act) (reason_text reason ∷ []) (act_reads act h.0) (said (reason_text reason) (reason_word reason).0))
+fact_reads (May act) h = led (codes "may") _ _ refl (act_reads act h)
+fact_reads (Waiting n) h = led (codes "waiting") _ _ refl (number_reads max_u32 n (omega arith) h)
+fact_reads (Waits pick) h = led (codes "waits") _ _ refl (pick_reads pick h)
+fact_reads (Heard quoted) h = led (codes "heard") _ _ refl (set_text_reads quoted h)
+fact_reads (Acked quoted) h = led (codes "acked") _ _ refl (set_text_reads quoted h)
+fact_reads (Estimate quoted) h = led (codes "estimate") _ _ refl (quoted_reads quoted h)
+
+alone_back : (n : ℕ) (what : _) → n ≤ max_u32 → lone_whole what (decimal n ∷ []) ≡ Ok n
+unfolding lone_whole over
+alone_back n what h = rw (whole_is_first n what [] h) refl
+
+act_alone : (act : Act) → ActFits act → lone_act (act_words act) ≡ Ok act
+unfolding lone_act ended over
+act_alone act h = rw (← append-nil (act_words act), act_back act _ [] h refl) refl
+
+pick_alone : (pick : Pick) → PickFits pick → lone_pick (pick_words pick) ≡ Ok pick
+unfolding lone_pick over
+pick_alone pick h = rw (← append-nil (pick_words pick), pick_back pick _ [] h refl) refl
+
+pub fact_back : (fact : Fact) → FactFits fact → fact_of (fact_words fact) ≡ Ok fact
+unfolding fact_of named_fact quotable quotes_words number_fact act_fact short_fact text_fact over phase_first phase_of lone_set refusal_of reason_first quoted_fact
+fact_back Up h = refl
+fact_back Crashed h = refl
+fact_back Idle h = refl
+fact_back (Instance i) h = rw (alone_back i _ h) refl
+fact_back (Round r) h = rw (alone_back r _ h) refl
+fact_back (InPhase Rest) h = refl
+fact_back (InPhase Gather) h = refl
+fact_back (InPhase Wait) h = refl
+fact_back (InPhase Tally) h = refl
+fact_back (Received quoted) h = rw (some_of quoted h, h.words) refl
+fact_back (Decided quoted) h = rw (some_of quoted h, h.words) refl
+fact_back (Delivered quoted) h = rw (some_of quoted h, h.words) refl
+fact_back (Table quoted) h = rw (some_of quoted h, h.words) refl
+fact_back (Refuses act reason) h =
+    rw (act_back act _ (reason_text reason ∷ []) h.0 (reason_word reason).1, reason_back reason h.1) refl
+fact_back (May act) h = rw (act_alone act h) refl
+fact_back (Waiting n) h = rw (alone_back n _ h) refl
+fact_back (Waits pick) h = rw (pick_alone pick h) refl
+fact_back (Heard quoted) h = rw h.set refl
+fact_back (Acked quoted) h = rw h.set refl
+fact_back (Estimate quoted) h = rw (some_of quoted h, h.words) refl

@@ -1,0 +1,10 @@
+pub mod ActsRead
+pub mod CutsRead
+pub mod FactsRead
+pub mod LinesRead
+pub mod Loops
+pub mod Numerals
+pub mod Numeric
+pub mod Parts
+pub mod Spoken
+pub mod TextWords

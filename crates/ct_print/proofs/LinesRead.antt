@@ -1,0 +1,308 @@
+-- Lines, written and read.
+use Rattle.std.proofs.Common.{◌≡◌, ℕ, ◌<◌, ◌≤◌, ◌^◌, ◌==◌, false, List, [], ◌∷◌, ◌++◌, length, refl, sym, ap, ◌∙◌, arith}
+use Rattle.std.proofs.Common.{append-nil, subst, inl, inr}
+use Rattle.std.specs.Prelude.{codes, decimal, Ok}
+use Rattle.std.specs.Str.{bytes_eq}
+use Rattle.std.proofs.lemmas.Bool.Decides.{nat_tests}
+use Rattle.std.proofs.lemmas.Slice.Eq.{bytes_eq-Decides}
+use Rattle.ct_names.specs.declared.limit.TheConstants.{MAX_BOUND, MAX_CELLS, MAX_MEMBERS}
+use Rattle.ct_names.proofs.Lists.{true_or_false}
+use Rattle.ct_grammar.specs.declared.act.Act.{Act}
+use Rattle.ct_grammar.specs.declared.act.Act.TheVariants.{Submit, Receive, Begin, Enter, Choose, Adopt, Suspect, Conclude, Deliver}
+use Rattle.ct_grammar.specs.declared.act.Act.TheVariants.{Follow, Crash, Postpone, Lose, Repeat, LoseFrom}
+use Rattle.ct_grammar.specs.declared.carried.Carried.TheVariants.{Data, Est, Prop, Ack, Nack, Dec}
+use Rattle.ct_grammar.specs.declared.fact.Fact.{Fact}
+use Rattle.ct_grammar.specs.declared.given.Given.{Given}
+use Rattle.ct_grammar.specs.declared.given.Given.TheVariants.{Members, Cells, Batch}
+use Rattle.ct_grammar.specs.declared.line.Line.{Line}
+use Rattle.ct_grammar.specs.declared.line.Line.TheVariants.{Blank, Given as Gives, Play as Plays}
+use Rattle.ct_grammar.specs.declared.pick.Pick.TheVariants.{Serial, First}
+use Rattle.ct_grammar.specs.declared.play.Play.{Play}
+use Rattle.ct_grammar.specs.declared.play.Play.TheVariants.{Act as Acts, Stated, Turns, Settle, Until, Cut, Heal, Expect, Ask}
+use Rattle.ct_grammar.specs.declared.question.Question.{Question}
+use Rattle.ct_grammar.specs.declared.question.Question.TheVariants.{Enabled, Next, State, Waiting, Report, Record, Limits}
+use Rattle.ct_grammar.specs.declared.who.Who.{Who}
+use Rattle.ct_grammar.specs.Acts.{command_first, named_command}
+use Rattle.ct_grammar.specs.Leading.{over}
+use Rattle.ct_grammar.specs.Lines.{done_by, played_of, lone_number, heading_of, worded, begun, of_words, line_of}
+use Rattle.ct_grammar.specs.Numbers.{max_u8, max_u32, number_of, members_of}
+use Rattle.ct_grammar.specs.Questions.{lone_member, short_question, question_of}
+use Rattle.ct_grammar.specs.Stated.{says_value, lone_value, lone_command, carried_statement, pick_statement, statement, taken, acted}
+use Rattle.ct_grammar.specs.Turns.{suspected, set_alone, lone_suspected, counted, expected_of, until_of, turns_of, settle_of}
+use Rattle.ct_grammar.specs.Who.{who_of}
+use Rattle.ct_grammar.specs.Words.{Word, words_of, text_of, all_words}
+use Rattle.ct_print.specs.Acts.{act_text}
+use Rattle.ct_print.specs.Lines.{given_text, question_text, suspecting_text, play_text, line_text}
+use Rattle.ct_print.specs.Members.{set_text, who_text}
+use Rattle.ct_print.specs.Writable.{IsSet, IsSomeSet, WhoFits, ActFits, FactFits, GivenFits, QuestionFits, PlayFits, IsWritable, IsStatement}
+use Rattle.ct_print.proofs.ActsRead.{number_is_first, member_is_first, whole_is_first, set_is_first, act_back, from_first}
+use Rattle.ct_print.proofs.CutsRead.{cut_words, cut_reads, cut_back}
+use Rattle.ct_print.proofs.FactsRead.{fact_words, fact_reads, fact_back, who_back}
+use Rattle.ct_print.proofs.Numeric.{decimal_numeric, numeric_other}
+use Rattle.ct_print.proofs.Spoken.{act_words, act_reads, led, said, number_reads, set_reads, quoted_reads, who_reads}
+use Rattle.ct_print.proofs.TextWords.{Reads, beside, words_from}
+
+-- ---- words
+
+abbrev pub given_words : Given → List Word
+given_words (Members n) = codes "members" ∷ decimal n ∷ []
+given_words (Cells n) = codes "cells" ∷ decimal n ∷ []
+given_words (Batch n) = codes "batch" ∷ decimal n ∷ []
+
+abbrev pub question_words : Question → List Word
+question_words (Enabled p) = codes "enabled" ∷ decimal p ∷ []
+question_words (Next p) = codes "next" ∷ decimal p ∷ []
+question_words (State p) = codes "state" ∷ decimal p ∷ []
+question_words (Waiting p) = codes "waiting" ∷ decimal p ∷ []
+question_words Report = codes "report" ∷ []
+question_words Record = codes "record" ∷ []
+question_words Limits = codes "limits" ∷ []
+
+abbrev pub suspecting_words : List ℕ → List Word
+suspecting_words [] = []
+suspecting_words (p ∷ ps) = codes "suspecting" ∷ set_text (p ∷ ps) ∷ []
+
+abbrev pub play_words : Play → List Word
+play_words (Acts who act) = who_text who ∷ act_words act
+play_words (Stated who act quoted) = who_text who ∷ (act_words act ++ words_of quoted)
+play_words (Turns who n set) = who_text who ∷ codes "turns" ∷ decimal n ∷ suspecting_words set
+play_words (Settle who set) = who_text who ∷ codes "settle" ∷ suspecting_words set
+play_words (Until who set whose fact) =
+    who_text who ∷ codes "turns" ∷ (suspecting_words set ++ (codes "until" ∷ who_text whose ∷ fact_words fact))
+play_words (Cut sides) = codes "cut" ∷ cut_words sides
+play_words Heal = codes "heal" ∷ []
+play_words (Expect who fact) = codes "expect" ∷ who_text who ∷ fact_words fact
+play_words (Ask question) = question_words question
+
+abbrev pub line_words : Line → List Word
+line_words Blank = []
+line_words (Gives given) = given_words given
+line_words (Plays play) = play_words play
+
+given_reads : (given : Given) → GivenFits given → Reads (given_text given) (given_words given)
+unfolding given_text
+given_reads (Members n) h = led (codes "members") _ _ refl (number_reads MAX_MEMBERS n (omega arith) h.1)
+given_reads (Cells n) h = led (codes "cells") _ _ refl (number_reads MAX_CELLS n (omega arith) h)
+given_reads (Batch n) h = led (codes "batch") _ _ refl (number_reads MAX_BOUND n (omega arith) h.1)
+
+question_reads : (question : Question) → QuestionFits question → Reads (question_text question) (question_words question)
+unfolding question_text
+question_reads (Enabled p) h = led (codes "enabled") _ _ refl (number_reads max_u8 p (omega arith) h)
+question_reads (Next p) h = led (codes "next") _ _ refl (number_reads max_u8 p (omega arith) h)
+question_reads (State p) h = led (codes "state") _ _ refl (number_reads max_u8 p (omega arith) h)
+question_reads (Waiting p) h = led (codes "waiting") _ _ refl (number_reads max_u8 p (omega arith) h)
+question_reads Report h = said (codes "report") refl
+question_reads Record h = said (codes "record") refl
+question_reads Limits h = said (codes "limits") refl
+
+some_set : (p : ℕ) (ps : List ℕ) → IsSet (p ∷ ps) → IsSomeSet (p ∷ ps)
+some_set p ps h = record { rising = h; some = omega arith }
+
+-- behind a text
+suspecting_reads : (text : List ℕ) (words : List Word) (set : List ℕ) → IsSet set → Reads text words →
+    Reads (text ++ suspecting_text set) (words ++ suspecting_words set)
+unfolding suspecting_text
+suspecting_reads text words [] h k = rw (append-nil text, append-nil words) k
+suspecting_reads text words (p ∷ ps) h k =
+    let more : (length (p ∷ ps) == 0) ≡ false = grind (arith, nat_tests) in
+    rw more
+    (beside text (codes "suspecting" ++ 32 ∷ set_text (p ∷ ps)) words (codes "suspecting" ∷ set_text (p ∷ ps) ∷ []) k
+    (led (codes "suspecting") _ _ refl (set_reads (p ∷ ps) (some_set p ps h))))
+
+who_and : (who : Who) (text : List ℕ) (words : List Word) → WhoFits who → Reads text words →
+    Reads (who_text who ++ 32 ∷ text) (who_text who ∷ words)
+who_and who text words h k = beside (who_text who) text (who_text who ∷ []) words (who_reads who h) k
+
+play_reads : (play : Play) → PlayFits play → Reads (play_text play) (play_words play)
+unfolding play_text
+play_reads (Acts who act) h = who_and who _ _ h.0 (act_reads act h.1)
+play_reads (Stated who act quoted) h =
+    who_and who _ _ h.0 (beside (act_text act) quoted (act_words act) (words_of quoted) (act_reads act h.1) (quoted_reads quoted h.2.quotable))
+play_reads (Turns who n set) h =
+    suspecting_reads _ (who_text who ∷ codes "turns" ∷ decimal n ∷ []) set h.2
+    (who_and who _ _ h.0 (led (codes "turns") _ _ refl (number_reads max_u32 n (omega arith) h.1)))
+play_reads (Settle who set) h =
+    suspecting_reads _ (who_text who ∷ codes "settle" ∷ []) set h.1 (who_and who _ _ h.0 (said (codes "settle") refl))
+play_reads (Until who set whose fact) h =
+    beside _ _ ((who_text who ∷ codes "turns" ∷ []) ++ suspecting_words set) _
+    (suspecting_reads _ (who_text who ∷ codes "turns" ∷ []) set h.1 (who_and who _ _ h.0 (said (codes "turns") refl)))
+    (led (codes "until") _ _ refl (who_and whose _ _ h.2 (fact_reads fact h.3)))
+play_reads (Cut sides) h = led (codes "cut") _ _ refl (cut_reads sides h)
+play_reads Heal h = said (codes "heal") refl
+play_reads (Expect who fact) h = led (codes "expect") _ _ refl (who_and who _ _ h.0 (fact_reads fact h.1))
+play_reads (Ask question) h = question_reads question h
+
+line_reads : (line : Line) → IsWritable line → Reads (line_text line) (line_words line)
+unfolding line_text all_words
+line_reads Blank h = record { all = refl; plain = refl }
+line_reads (Gives given) h = given_reads given h
+line_reads (Plays play) h = play_reads play h
+
+-- ---- what members do
+
+begun_by : (who : Who) (words : List Word) (play : Play) → WhoFits who → done_by who words ≡ Ok play →
+    of_words (who_text who ∷ words) ≡ Ok (Plays play)
+unfolding of_words begun
+begun_by who words play h e = rw (who_back who h, e) refl
+
+act_done : (who : Who) (act : Act) (words : List Word) → done_by who (act_words act ++ words) ≡ acted who (act_words act ++ words)
+unfolding done_by
+act_done who (Submit command) words = refl
+act_done who (Receive pick) words = refl
+act_done who Begin words = refl
+act_done who Enter words = refl
+act_done who (Choose p) words = refl
+act_done who Adopt words = refl
+act_done who Suspect words = refl
+act_done who Conclude words = refl
+act_done who Deliver words = refl
+act_done who Follow words = refl
+act_done who Crash words = refl
+act_done who (Postpone pick) words = refl
+act_done who (Lose pick) words = refl
+act_done who (Repeat pick) words = refl
+act_done who (LoseFrom set) words = refl
+
+act_taken : (who : Who) (act : Act) (words : List Word) → ActFits act → from_first words ≡ false →
+    done_by who (act_words act ++ words) ≡ taken who act words
+unfolding acted
+act_taken who act words h e = act_done who act words ∙ taking
+  where
+    taking : acted who (act_words act ++ words) ≡ taken who act words
+    taking = rw (act_back act _ words h e) refl
+
+alone_taken : (who : Who) (act : Act) → ActFits act → done_by who (act_words act) ≡ Ok (Acts who act)
+unfolding taken
+alone_taken who act h = ap (done_by who) (sym (append-nil (act_words act))) ∙ act_taken who act [] h refl
+
+-- nothing that is stated begins with `from`
+not_stated : (act : Act) (words : List Word) → statement act (codes "from" ∷ words) ≡ Ok tt → ⊥
+unfolding statement pick_statement carried_statement lone_value lone_command says_value over command_first named_command
+not_stated (Submit command) words e = cc
+not_stated (Receive (Serial n)) words e = cc
+not_stated (Receive (First (Data o n) from)) words e = cc
+not_stated (Receive (First (Est i r) from)) words e = cc
+not_stated (Receive (First (Prop i r) from)) words e = cc
+not_stated (Receive (First (Ack i r) from)) words e = cc
+not_stated (Receive (First (Nack i r) from)) words e = cc
+not_stated (Receive (First (Dec i r) from)) words e = cc
+not_stated Begin words e = cc
+not_stated Enter words e = cc
+not_stated (Choose p) words e = cc
+not_stated Adopt words e = cc
+not_stated Suspect words e = cc
+not_stated Conclude words e = cc
+not_stated Deliver words e = cc
+not_stated Follow words e = cc
+not_stated Crash words e = cc
+not_stated (Postpone pick) words e = cc
+not_stated (Lose pick) words e = cc
+not_stated (Repeat pick) words e = cc
+not_stated (LoseFrom set) words e = cc
+
+no_sender : (act : Act) (words : List Word) → statement act words ≡ Ok tt → from_first words ≡ false
+no_sender act [] e = refl
+no_sender act (word ∷ words) e = elim (true_or_false (bytes_eq word (codes "from"))) [
+  | inl is ↦
+      let same : word ≡ codes "from" = (bytes_eq-Decides word (codes "from")).0 is in
+      absurd (not_stated act words (subst (λ (w : Word). statement act (w ∷ words) ≡ Ok tt) same e))
+  | inr is ↦ is
+]
+
+stated_taken : (who : Who) (act : Act) (quoted : List ℕ) → ActFits act → IsStatement act quoted →
+    done_by who (act_words act ++ words_of quoted) ≡ Ok (Stated who act quoted)
+unfolding taken
+stated_taken who act quoted h k =
+    act_taken who act (words_of quoted) h (no_sender act (words_of quoted) k.stated) ∙ go (words_of quoted) refl k.stated
+  where
+    go : (ws : List Word) → words_of quoted ≡ ws → statement act ws ≡ Ok tt → taken who act ws ≡ Ok (Stated who act quoted)
+    go [] e s =
+        let nothing : quoted ≡ [] = sym k.quotable.words ∙ ap text_of e in
+        absurd (omega (arith, k.quotable.some, ap length nothing))
+    go (w ∷ ws) e s =
+        let text : text_of (w ∷ ws) ≡ quoted = ap text_of (sym e) ∙ k.quotable.words in
+        rw (s, text) refl
+
+-- ---- turns
+
+suspected_alone : (set : List ℕ) → IsSet set → lone_suspected (suspecting_words set) ≡ Ok set
+unfolding lone_suspected set_alone over
+suspected_alone [] h = refl
+suspected_alone (p ∷ ps) h = rw (set_is_first (p ∷ ps) [] (some_set p ps h)) refl
+
+turns_taken : (who : Who) (n : ℕ) (set : List ℕ) → n ≤ max_u32 → IsSet set →
+    done_by who (codes "turns" ∷ decimal n ∷ suspecting_words set) ≡ Ok (Turns who n set)
+unfolding done_by turns_of counted
+turns_taken who n set h k =
+    let numeric = decimal_numeric n (omega arith) in
+    rw (
+      numeric_other (decimal n) 115 _ refl numeric,
+      numeric_other (decimal n) 117 _ refl numeric,
+      whole_is_first n _ (suspecting_words set) h,
+      suspected_alone set k,
+    ) refl
+
+settle_taken : (who : Who) (set : List ℕ) → IsSet set → done_by who (codes "settle" ∷ suspecting_words set) ≡ Ok (Settle who set)
+unfolding done_by settle_of
+settle_taken who set h = rw (suspected_alone set h) refl
+
+expected_back : (who : Who) (fact : Fact) → WhoFits who → FactFits fact → expected_of (who_text who ∷ fact_words fact) ≡ Ok (who, fact)
+unfolding expected_of
+expected_back who fact h k = rw (who_back who h, fact_back fact k) refl
+
+until_taken : (who : Who) (set : List ℕ) (whose : Who) (fact : Fact) → IsSet set → WhoFits whose → FactFits fact →
+    done_by who (codes "turns" ∷ (suspecting_words set ++ (codes "until" ∷ who_text whose ∷ fact_words fact))) ≡ Ok (Until who set whose fact)
+unfolding done_by turns_of suspected until_of
+until_taken who [] whose fact h k l = rw (expected_back whose fact k l) refl
+until_taken who (p ∷ ps) whose fact h k l =
+    rw (set_is_first (p ∷ ps) (codes "until" ∷ who_text whose ∷ fact_words fact) (some_set p ps h), expected_back whose fact k l) refl
+
+-- ---- lines
+
+member_alone : (p : ℕ) → p ≤ max_u8 → lone_member (decimal p ∷ []) ≡ Ok p
+unfolding lone_member over
+member_alone p h = rw (member_is_first p _ [] h) refl
+
+number_alone : (low high n : ℕ) (what : _) → high < 2 ^ 64 → low ≤ n → n ≤ high → lone_number low high what (decimal n ∷ []) ≡ Ok n
+unfolding lone_number over
+number_alone low high n what h l m = rw (number_is_first low high n what [] h l m) refl
+
+given_back : (given : Given) → GivenFits given → of_words (given_words given) ≡ Ok (Gives given)
+unfolding of_words who_of members_of number_of begun worded heading_of
+given_back (Members n) h = rw (number_alone 1 MAX_MEMBERS n _ (omega arith) h.0 h.1) refl
+given_back (Cells n) h = rw (number_alone 0 MAX_CELLS n _ (omega arith) (omega arith) h) refl
+given_back (Batch n) h = rw (number_alone 1 MAX_BOUND n _ (omega arith) h.0 h.1) refl
+
+question_back : (question : Question) → QuestionFits question → of_words (question_words question) ≡ Ok (Plays (Ask question))
+unfolding of_words who_of members_of number_of begun worded heading_of played_of question_of short_question over
+question_back (Enabled p) h = rw (member_alone p h) refl
+question_back (Next p) h = rw (member_alone p h) refl
+question_back (State p) h = rw (member_alone p h) refl
+question_back (Waiting p) h = rw (member_alone p h) refl
+question_back Report h = refl
+question_back Record h = refl
+question_back Limits h = refl
+
+play_back : (play : Play) → PlayFits play → of_words (play_words play) ≡ Ok (Plays play)
+unfolding of_words who_of members_of number_of begun worded heading_of played_of over
+play_back (Acts who act) h = begun_by who (act_words act) (Acts who act) h.0 (alone_taken who act h.1)
+play_back (Stated who act quoted) h =
+    begun_by who (act_words act ++ words_of quoted) (Stated who act quoted) h.0 (stated_taken who act quoted h.1 h.2)
+play_back (Turns who n set) h = begun_by who _ (Turns who n set) h.0 (turns_taken who n set h.1 h.2)
+play_back (Settle who set) h = begun_by who _ (Settle who set) h.0 (settle_taken who set h.1)
+play_back (Until who set whose fact) h = begun_by who _ (Until who set whose fact) h.0 (until_taken who set whose fact h.1 h.2 h.3)
+play_back (Cut sides) h = rw (cut_back sides h) refl
+play_back Heal h = refl
+play_back (Expect who fact) h = rw (expected_back who fact h.0 h.1) refl
+play_back (Ask question) h = question_back question h
+
+line_back : (line : Line) → IsWritable line → of_words (line_words line) ≡ Ok line
+unfolding of_words
+line_back Blank h = refl
+line_back (Gives given) h = given_back given h
+line_back (Plays play) h = play_back play h
+
+-- what is written of a line is read as that line
+pub read_back : (line : Line) → IsWritable line → line_of (line_text line) ≡ Ok line
+unfolding line_of
+read_back line h = rw (words_from (line_text line) (line_words line) (line_reads line h), line_back line h) refl

@@ -1,0 +1,6 @@
+pub mod Acts
+pub mod Cuts
+pub mod Facts
+pub mod Lines
+pub mod Members
+pub mod Writable

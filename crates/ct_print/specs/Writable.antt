@@ -1,0 +1,174 @@
+-- Which lines can be written: those that some text says.
+use Rattle.std.specs.Prelude.{◌≡◌, ◌≢◌, ◌≤◌, ◌<◌, ℕ, true, List, [], ◌∷◌, length, filter, Ok, IfSome}
+use Rattle.ct_names.specs.Group.{everyone, IsMember}
+use Rattle.ct_names.specs.MemberSet.{has_member}
+use Rattle.ct_names.specs.declared.command.Command.{Command}
+use Rattle.ct_names.specs.declared.command.Command.TheVariants.{Set, Add, Copy}
+use Rattle.ct_names.specs.declared.limit.TheConstants.{MAX_BOUND, MAX_CELLS, MAX_MEMBERS}
+use Rattle.ct_names.specs.declared.refusal.Refusal.TheVariants.{OutOfMemory, Board}
+use Rattle.ct_grammar.specs.declared.act.Act.{Act}
+use Rattle.ct_grammar.specs.declared.act.Act.TheVariants.{Submit, Receive, Begin, Enter, Choose, Adopt, Suspect, Conclude, Deliver}
+use Rattle.ct_grammar.specs.declared.act.Act.TheVariants.{Follow, Crash, Postpone, Lose, Repeat, LoseFrom}
+use Rattle.ct_grammar.specs.declared.carried.Carried.{Carried}
+use Rattle.ct_grammar.specs.declared.carried.Carried.TheVariants.{Data, Est, Prop, Ack, Nack, Dec}
+use Rattle.ct_grammar.specs.declared.fact.Fact.{Fact}
+use Rattle.ct_grammar.specs.declared.fact.Fact.TheVariants.{Up, Crashed, Idle, Instance, Round, Phase as InPhase}
+use Rattle.ct_grammar.specs.declared.fact.Fact.TheVariants.{Received, Decided, Delivered, Table, Refuses, May}
+use Rattle.ct_grammar.specs.declared.fact.Fact.TheVariants.{Waiting as ManyWait, Waits, Heard, Acked, Estimate}
+use Rattle.ct_grammar.specs.declared.given.Given.{Given}
+use Rattle.ct_grammar.specs.declared.given.Given.TheVariants.{Members, Cells, Batch}
+use Rattle.ct_grammar.specs.declared.line.Line.{Line}
+use Rattle.ct_grammar.specs.declared.line.Line.TheVariants.{Blank, Given as Gives, Play as Plays}
+use Rattle.ct_grammar.specs.declared.pick.Pick.{Pick}
+use Rattle.ct_grammar.specs.declared.pick.Pick.TheVariants.{Serial, First}
+use Rattle.ct_grammar.specs.declared.play.Play.{Play}
+use Rattle.ct_grammar.specs.declared.play.Play.TheVariants.{Act as Acts, Stated, Turns, Settle, Until, Cut, Heal, Expect, Ask}
+use Rattle.ct_grammar.specs.declared.question.Question.{Question}
+use Rattle.ct_grammar.specs.declared.question.Question.TheVariants.{Enabled, Next, State, Waiting, Report, Record, Limits}
+use Rattle.ct_grammar.specs.declared.reason.Reason.{Reason}
+use Rattle.ct_grammar.specs.declared.reason.Reason.TheVariants.{Rules}
+use Rattle.ct_grammar.specs.declared.who.Who.{Who}
+use Rattle.ct_grammar.specs.declared.who.Who.TheVariants.{One, Some as Several, All}
+use Rattle.ct_grammar.specs.Facts.{says_set}
+use Rattle.ct_grammar.specs.Numbers.{max_u8, max_u32, max_u64}
+use Rattle.ct_grammar.specs.Sides.{whole, side_of}
+use Rattle.ct_grammar.specs.Stated.{statement}
+use Rattle.ct_grammar.specs.Words.{words_of, text_of}
+
+-- ---- members
+
+-- members of 1 to 16, each once, rising
+abbrev pub IsSet : List ℕ → Type 0
+IsSet set = set ≡ filter (has_member set) everyone
+
+-- the same, one at least
+pub record IsSomeSet (set : List ℕ) : Type 0 where
+  pub rising : IsSet set
+  pub some : 0 < length set
+
+abbrev pub WhoFits : Who → Type 0
+WhoFits (One p) = p ≤ max_u8
+WhoFits (Several set) = IsSomeSet set
+WhoFits All = Unit {0}
+
+-- the side of each member has the number of a member on it, or 0, and one is not 0
+pub record IsCut (sides : List ℕ) : Type 0 where
+  pub sixteen : length sides ≡ MAX_MEMBERS
+  pub named : (p : ℕ) → IsMember MAX_MEMBERS p → side_of sides (side_of sides p) ≡ side_of sides p
+  pub some : sides ≢ whole
+
+-- ---- texts that are quoted
+
+-- one word
+abbrev pub IsWord : List ℕ → Type 0
+IsWord text = words_of text ≡ text ∷ []
+
+-- its words, one at least, with a space between each two
+pub record IsQuotable (text : List ℕ) : Type 0 where
+  pub words : text_of (words_of text) ≡ text
+  pub some : 0 < length text
+
+-- a set of members or `-`
+pub record IsSetText (text : List ℕ) : Type 0 where
+  pub word : IsWord text
+  pub set : says_set text ≡ true
+
+-- what is stated behind the act
+pub record IsStatement (act : Act) (said : List ℕ) : Type 0 where
+  pub quotable : IsQuotable said
+  pub stated : statement act (words_of said) ≡ Ok tt
+
+-- ---- acts
+
+abbrev pub CommandFits : Command → Type 0
+CommandFits (Set register value) = (register ≤ max_u8) × (value ≤ max_u64)
+CommandFits (Add register amount) = (register ≤ max_u8) × (amount ≤ max_u64)
+CommandFits (Copy from to) = (from ≤ max_u8) × (to ≤ max_u8)
+
+abbrev pub CarriedFits : Carried → Type 0
+CarriedFits (Data origin number) = (origin ≤ max_u8) × (number ≤ max_u32)
+CarriedFits (Est i r) = (i ≤ max_u32) × (r ≤ max_u32)
+CarriedFits (Prop i r) = (i ≤ max_u32) × (r ≤ max_u32)
+CarriedFits (Ack i r) = (i ≤ max_u32) × (r ≤ max_u32)
+CarriedFits (Nack i r) = (i ≤ max_u32) × (r ≤ max_u32)
+CarriedFits (Dec i r) = (i ≤ max_u32) × (r ≤ max_u32)
+
+abbrev pub PickFits : Pick → Type 0
+PickFits (Serial n) = n ≤ max_u32
+PickFits (First carried from) = CarriedFits carried × IfSome from (λ p. p ≤ max_u8)
+
+abbrev pub ActFits : Act → Type 0
+ActFits (Submit command) = CommandFits command
+ActFits (Receive pick) = PickFits pick
+ActFits Begin = Unit {0}
+ActFits Enter = Unit {0}
+ActFits (Choose p) = p ≤ max_u8
+ActFits Adopt = Unit {0}
+ActFits Suspect = Unit {0}
+ActFits Conclude = Unit {0}
+ActFits Deliver = Unit {0}
+ActFits Follow = Unit {0}
+ActFits Crash = Unit {0}
+ActFits (Postpone pick) = PickFits pick
+ActFits (Lose pick) = PickFits pick
+ActFits (Repeat pick) = PickFits pick
+ActFits (LoseFrom set) = IsSomeSet set
+
+-- ---- facts
+
+-- no want of memory and no board's refusal, which no rule gives
+pub record IsRules (reason : Reason) : Type 0 where
+  pub memory : reason ≢ Rules OutOfMemory
+  pub board : reason ≢ Rules Board
+
+abbrev pub FactFits : Fact → Type 0
+FactFits Up = Unit {0}
+FactFits Crashed = Unit {0}
+FactFits Idle = Unit {0}
+FactFits (Instance i) = i ≤ max_u32
+FactFits (Round r) = r ≤ max_u32
+FactFits (InPhase phase) = Unit {0}
+FactFits (Received quoted) = IsQuotable quoted
+FactFits (Decided quoted) = IsQuotable quoted
+FactFits (Delivered quoted) = IsQuotable quoted
+FactFits (Table quoted) = IsQuotable quoted
+FactFits (Refuses act reason) = ActFits act × IsRules reason
+FactFits (May act) = ActFits act
+FactFits (ManyWait n) = n ≤ max_u32
+FactFits (Waits pick) = PickFits pick
+FactFits (Heard quoted) = IsSetText quoted
+FactFits (Acked quoted) = IsSetText quoted
+FactFits (Estimate quoted) = IsQuotable quoted
+
+-- ---- lines
+
+abbrev pub GivenFits : Given → Type 0
+GivenFits (Members n) = (1 ≤ n) × (n ≤ MAX_MEMBERS)
+GivenFits (Cells n) = n ≤ MAX_CELLS
+GivenFits (Batch n) = (1 ≤ n) × (n ≤ MAX_BOUND)
+
+abbrev pub QuestionFits : Question → Type 0
+QuestionFits (Enabled p) = p ≤ max_u8
+QuestionFits (Next p) = p ≤ max_u8
+QuestionFits (State p) = p ≤ max_u8
+QuestionFits (Waiting p) = p ≤ max_u8
+QuestionFits Report = Unit {0}
+QuestionFits Record = Unit {0}
+QuestionFits Limits = Unit {0}
+
+abbrev pub PlayFits : Play → Type 0
+PlayFits (Acts who act) = WhoFits who × ActFits act
+PlayFits (Stated who act said) = WhoFits who × ActFits act × IsStatement act said
+PlayFits (Turns who n set) = WhoFits who × (n ≤ max_u32) × IsSet set
+PlayFits (Settle who set) = WhoFits who × IsSet set
+PlayFits (Until who set whose fact) = WhoFits who × IsSet set × WhoFits whose × FactFits fact
+PlayFits (Cut sides) = IsCut sides
+PlayFits Heal = Unit {0}
+PlayFits (Expect who fact) = WhoFits who × FactFits fact
+PlayFits (Ask question) = QuestionFits question
+
+-- each number is one of its type, each set one of members, each text one that a line can quote
+abbrev pub IsWritable : Line → Type 0
+IsWritable Blank = Unit {0}
+IsWritable (Gives given) = GivenFits given
+IsWritable (Plays play) = PlayFits play

@@ -1,0 +1,71 @@
+//! What lines expect, as they say it.
+
+ghost use Rattle.std.specs.Prelude.{◌≡◌, ◌++◌, [], ◌∷◌, OnOk, codes, string_bytes};
+ghost use Rattle.ct_grammar.specs.Words.{text_of};
+ghost use Rattle.ct_print.specs.Acts.{act_text};
+ghost use Rattle.ct_print.specs.Facts.{fact_text, phase_word};
+ghost use Rattle.ct_grammar.specs.Reasons.{reason_text};
+
+use crate::acts::{push_act, push_picked};
+use ct_grammar::{Act, Fact, Reason, Text};
+use ct_model::Phase;
+use std::alloc::AllocError;
+
+/// A fact.
+#[tactic(auto, unfolding(crate::specs::Facts::fact_text))]
+pub(crate) fn push_fact(text: &mut String, fact: &Fact) -> Result<(), AllocError>
+    ensures { OnOk result (string_bytes text.new ≡ string_bytes text.old ++ fact_text fact.now) }
+{
+    match fact {
+        Fact::Up => text.push_str("up"),
+        Fact::Crashed => text.push_str("crashed"),
+        Fact::Idle => text.push_str("idle"),
+        Fact::Instance(instance) => write!(text, "instance {instance}"),
+        Fact::Round(round) => write!(text, "round {round}"),
+        Fact::Phase(phase) => push_phase(text, *phase),
+        Fact::Received(quoted) => push_quoted(text, "received ", quoted),
+        Fact::Decided(quoted) => push_quoted(text, "decided ", quoted),
+        Fact::Delivered(quoted) => push_quoted(text, "delivered ", quoted),
+        Fact::Table(quoted) => push_quoted(text, "table ", quoted),
+        Fact::Refuses(act, reason) => push_refused(text, act, *reason),
+        Fact::May(act) => {
+            text.push_str("may ")?;
+            push_act(text, act)
+        }
+        Fact::Waiting(count) => write!(text, "waiting {count}"),
+        Fact::Waits(pick) => push_picked(text, "waits ", *pick),
+        Fact::Heard(quoted) => push_quoted(text, "heard ", quoted),
+        Fact::Acked(quoted) => push_quoted(text, "acked ", quoted),
+        Fact::Estimate(quoted) => push_quoted(text, "estimate ", quoted),
+    }
+}
+
+// The word and the text that is quoted.
+fn push_quoted(text: &mut String, word: &str, quoted: &Text) -> Result<(), AllocError>
+    ensures { OnOk result (string_bytes text.new ≡ string_bytes text.old ++ word.now ++ quoted.now) }
+{
+    text.push_str(word)?;
+    text.push_str(quoted.as_str())
+}
+
+// `phase` and its name.
+fn push_phase(text: &mut String, phase: Phase) -> Result<(), AllocError>
+    ensures { OnOk result (string_bytes text.new ≡ string_bytes text.old ++ codes "phase " ++ phase_word phase) }
+{
+    match phase {
+        Phase::Rest => text.push_str("phase Rest"),
+        Phase::Gather => text.push_str("phase Gather"),
+        Phase::Wait => text.push_str("phase Wait"),
+        Phase::Tally => text.push_str("phase Tally"),
+    }
+}
+
+// An act that is refused, and the reason.
+fn push_refused(text: &mut String, act: &Act, reason: Reason) -> Result<(), AllocError>
+    ensures { OnOk result (string_bytes text.new ≡ string_bytes text.old
+        ++ text_of (codes "refuses" ∷ act_text act.now ∷ reason_text reason ∷ [])) }
+{
+    text.push_str("refuses ")?;
+    push_act(text, act)?;
+    write!(text, " {reason}")
+}

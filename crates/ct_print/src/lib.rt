@@ -1,0 +1,14 @@
+//! The lines of a schedule, as text. Each line that a text says has one text here: its words with a space between each two, numbers
+//! without zeros in front, sets rising. What is written of a line is read as that line ([`law_read_back`]).
+#![tactic(auto)]
+
+mod acts;
+mod cuts;
+mod facts;
+mod law;
+mod lines;
+mod members;
+
+pub use acts::push_act;
+pub use law::law_read_back;
+pub use lines::push_line;
