@@ -1,6 +1,7 @@
 -- Cuts, written and read.
 use Rattle.std.proofs.Common.{◌≡◌, ◌≢◌, ℕ, ◌+◌, ◌-◌, ◌==◌, Bool, true, false, not, cond, List, [], ◌∷◌, ◌++◌, length, map, filter}
-use Rattle.std.proofs.Common.{get_or, refl, sym, ap, ◌∙◌, arith, append-nil, inl, inr, eqb-true, eq-eqb, get_or-set_same, get_or-set_other, ext_get_or, length-set}
+use Rattle.std.proofs.Common.{get_or, refl, sym, ap, ◌∙◌, arith, append-nil, inl, inr, eqb-true, eq-eqb, get_or-set_same}
+use Rattle.std.proofs.Common.{get_or-set_other, ext_get_or, length-set}
 use Rattle.std.specs.Prelude.{codes, decimal, Some, Ok, slice_set}
 use Rattle.std.proofs.lemmas.Bool.{eqb-false}
 use Rattle.std.proofs.lemmas.Bool.Decides.{nat_tests}
@@ -9,7 +10,8 @@ use Rattle.ct_names.specs.Group.{everyone, IsMember, is_member}
 use Rattle.ct_names.specs.Membership.{IsIn, IsWithoutRepeats}
 use Rattle.ct_names.specs.declared.limit.TheConstants.{MAX_MEMBERS}
 use Rattle.ct_names.proofs.Groups.{once-everyone, member_from_one, member_to_n}
-use Rattle.ct_names.proofs.Lists.{IsIn-filter, IsIn-filter_from, IsIn-filter_passes, IsWithoutRepeats-filter, both-left, both-right, contrary, true_or_false, not-true}
+use Rattle.ct_names.proofs.Lists.{IsIn-filter, IsIn-filter_from, IsIn-filter_passes, IsWithoutRepeats-filter, both-left, both-right}
+use Rattle.ct_names.proofs.Lists.{contrary, true_or_false, not-true}
 use Rattle.ct_names.proofs.MemberSets.{in-everyone, everyone-in}
 use Rattle.ct_grammar.specs.Cuts.{with_sets, cut_of}
 use Rattle.ct_grammar.specs.Sides.{whole, side_of, with_parts, with_set}
@@ -25,12 +27,12 @@ use Rattle.ct_print.proofs.Spoken.{led, set_numeric}
 
 -- ---- sides
 
-inside : (sides : List ℕ) (p : ℕ) → IsMember MAX_MEMBERS p → side_of sides p ≡ get_or sides (p - 1) 0
+pub inside : (sides : List ℕ) (p : ℕ) → IsMember MAX_MEMBERS p → side_of sides p ≡ get_or sides (p - 1) 0
 inside sides p h =
     let test : is_member MAX_MEMBERS p ≡ true = grind (arith, nat_tests, h.0, h.1) in
     rw test refl
 
-outside : (sides : List ℕ) (p : ℕ) → side_of sides p ≢ 0 → IsMember MAX_MEMBERS p
+pub outside : (sides : List ℕ) (p : ℕ) → side_of sides p ≢ 0 → IsMember MAX_MEMBERS p
 outside sides p h = go (is_member MAX_MEMBERS p) refl
   where
     go : (b : Bool) → is_member MAX_MEMBERS p ≡ b → IsMember MAX_MEMBERS p
@@ -48,11 +50,11 @@ same_sides one other h k same =
     ap (λ (j : ℕ). get_or one j 0) (sym place)
     ∙ (sym (inside one (i + 1) member) ∙ (same (i + 1) member ∙ (inside other (i + 1) member ∙ ap (λ (j : ℕ). get_or other j 0) place))))
 
-moved_here : (now : List ℕ) (p side : ℕ) → length now ≡ MAX_MEMBERS → IsMember MAX_MEMBERS p → side_of (slice_set now (p - 1) side) p ≡ side
+pub moved_here : (now : List ℕ) (p side : ℕ) → length now ≡ MAX_MEMBERS → IsMember MAX_MEMBERS p → side_of (slice_set now (p - 1) side) p ≡ side
 moved_here now p side l h =
     inside (slice_set now (p - 1) side) p h ∙ get_or-set_same now (p - 1) side 0 (omega (arith, h.0, h.1))
 
-not_moved : (now : List ℕ) (p side q : ℕ) → IsMember MAX_MEMBERS p → IsMember MAX_MEMBERS q → q ≢ p →
+pub not_moved : (now : List ℕ) (p side q : ℕ) → IsMember MAX_MEMBERS p → IsMember MAX_MEMBERS q → q ≢ p →
     side_of (slice_set now (p - 1) side) q ≡ side_of now q
 not_moved now p side q h k other =
     let apart : q - 1 ≢ p - 1 = λ same. other (omega (arith, h.0, k.0)) in
@@ -237,7 +239,7 @@ on_none sides h q k out = elim (true_or_false (side_of sides q == 0)) [
       absurd (out (IsIn-filter (is_own sides) s everyone (eq-eqb (side_of sides s) s own) (in-everyone s member)))
 ]
 
-none_whole : (q : ℕ) → IsMember MAX_MEMBERS q → side_of whole q ≡ 0
+pub none_whole : (q : ℕ) → IsMember MAX_MEMBERS q → side_of whole q ≡ 0
 none_whole q h = inside whole q h ∙ get_or-replicate 16 (q - 1) 0 0 (omega (arith, h.0, h.1))
 
 before_all : (sides : List ℕ) → IsCut sides → IsBefore sides (numbers_of sides) whole

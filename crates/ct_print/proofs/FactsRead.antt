@@ -5,7 +5,8 @@ use Rattle.std.specs.Prelude.{codes, decimal, Some, Ok}
 use Rattle.std.specs.Str.{bytes_eq}
 use Rattle.ct_names.specs.declared.limit.Limit.TheVariants.{Submissions, Instances, Rounds, Envelopes, Cells, Steps}
 use Rattle.ct_names.specs.declared.refusal.Refusal.TheVariants.{NoSuchMember, Crashed as IsCrashed, NotWaiting, Busy, Nothing, WrongPhase}
-use Rattle.ct_names.specs.declared.refusal.Refusal.TheVariants.{Idle as IsIdle, Decided as IsDecided, TooFew, NotLargest, NoProposal, HasProposal}
+use Rattle.ct_names.specs.declared.refusal.Refusal.TheVariants.{Idle as IsIdle, Decided as IsDecided, TooFew, NotLargest, NoProposal}
+use Rattle.ct_names.specs.declared.refusal.Refusal.TheVariants.{HasProposal}
 use Rattle.ct_names.specs.declared.refusal.Refusal.TheVariants.{Undecided, BadCommand, Full, OutOfMemory, Board, NotSent, StillWaiting}
 use Rattle.ct_names.specs.Group.{everyone}
 use Rattle.ct_names.specs.MemberSet.{has_member}
@@ -22,7 +23,8 @@ use Rattle.ct_grammar.specs.declared.reason.Reason.{Reason}
 use Rattle.ct_grammar.specs.declared.reason.Reason.TheVariants.{NotThere, Across, Rules}
 use Rattle.ct_grammar.specs.declared.who.Who.{Who}
 use Rattle.ct_grammar.specs.declared.who.Who.TheVariants.{One, Some as Several, All}
-use Rattle.ct_grammar.specs.Facts.{phase_of, short_fact, ended, lone_act, lone_pick, lone_whole, phase_first, reason_first, refusal_of, act_fact}
+use Rattle.ct_grammar.specs.Facts.{phase_of, short_fact, ended, lone_act, lone_pick, lone_whole, phase_first, reason_first, refusal_of}
+use Rattle.ct_grammar.specs.Facts.{act_fact}
 use Rattle.ct_grammar.specs.Facts.{number_fact, lone_set, some_words, quotes_words, quotable, text_fact, quoted_fact, named_fact, fact_of}
 use Rattle.ct_grammar.specs.Leading.{over}
 use Rattle.ct_grammar.specs.Numbers.{max_u8, max_u32, members_of, has_comma}
@@ -37,7 +39,8 @@ use Rattle.ct_print.proofs.Numerals.{number_back}
 use Rattle.ct_print.proofs.Numeric.{numeric_other, decimal_numeric, decimal_digits}
 use Rattle.ct_print.proofs.Parts.{AreSmall, numbers_text, members_back, alone_no_comma, list_has_comma}
 use Rattle.ct_print.proofs.TextWords.{Reads, is_word, beside}
-use Rattle.ct_print.proofs.Spoken.{pick_words, act_words, led, said, number_reads, pick_reads, act_reads, quoted_reads, small_members, list_numeric}
+use Rattle.ct_print.proofs.Spoken.{pick_words, act_words, led, said, number_reads, pick_reads, act_reads, quoted_reads, small_members}
+use Rattle.ct_print.proofs.Spoken.{list_numeric}
 
 -- ---- quoted texts
 

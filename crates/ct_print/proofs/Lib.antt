@@ -1,10 +1,14 @@
 pub mod ActsRead
+pub mod CutsFit
 pub mod CutsRead
+pub mod FactsFit
 pub mod FactsRead
+pub mod LinesFit
 pub mod LinesRead
 pub mod Loops
 pub mod Numerals
 pub mod Numeric
 pub mod Parts
+pub mod Readable
 pub mod Spoken
 pub mod TextWords

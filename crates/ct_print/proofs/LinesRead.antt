@@ -34,7 +34,8 @@ use Rattle.ct_grammar.specs.Words.{Word, words_of, text_of, all_words}
 use Rattle.ct_print.specs.Acts.{act_text}
 use Rattle.ct_print.specs.Lines.{given_text, question_text, suspecting_text, play_text, line_text}
 use Rattle.ct_print.specs.Members.{set_text, who_text}
-use Rattle.ct_print.specs.Writable.{IsSet, IsSomeSet, WhoFits, ActFits, FactFits, GivenFits, QuestionFits, PlayFits, IsWritable, IsStatement}
+use Rattle.ct_print.specs.Writable.{IsSet, IsSomeSet, WhoFits, ActFits, FactFits, GivenFits, QuestionFits, PlayFits, IsWritable}
+use Rattle.ct_print.specs.Writable.{IsStatement}
 use Rattle.ct_print.proofs.ActsRead.{number_is_first, member_is_first, whole_is_first, set_is_first, act_back, from_first}
 use Rattle.ct_print.proofs.CutsRead.{cut_words, cut_reads, cut_back}
 use Rattle.ct_print.proofs.FactsRead.{fact_words, fact_reads, fact_back, who_back}

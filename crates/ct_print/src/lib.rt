@@ -1,5 +1,6 @@
 //! The lines of a schedule, as text. Each line that a text says has one text here: its words with a space between each two, numbers
-//! without zeros in front, sets rising. What is written of a line is read as that line ([`law_read_back`]).
+//! without zeros in front, sets rising. What is written of a line is read as that line
+//! ([`law_read_back`]), and each line that is read can be written ([`law_writable`]).
 #![tactic(auto)]
 
 mod acts;
@@ -10,5 +11,5 @@ mod lines;
 mod members;
 
 pub use acts::push_act;
-pub use law::law_read_back;
+pub use law::{law_read_back, law_writable};
 pub use lines::push_line;

@@ -1,0 +1,79 @@
+-- Lines that are read can be written.
+use Rattle.std.proofs.Common.{ℕ, ◌≤◌, List, [], ◌∷◌}
+use Rattle.std.specs.Prelude.{codes, Option, Some, None, Result, Ok, Err, IfOk, IfSome}
+use Rattle.std.specs.Str.{bytes_eq}
+use Rattle.ct_names.specs.declared.limit.TheConstants.{MAX_BOUND, MAX_CELLS, MAX_MEMBERS}
+use Rattle.ct_grammar.specs.declared.line.Line.{Line}
+use Rattle.ct_grammar.specs.declared.who.Who.{Who}
+use Rattle.ct_grammar.specs.Cuts.{cut_of}
+use Rattle.ct_grammar.specs.Leading.{over, member_first, number_first}
+use Rattle.ct_grammar.specs.Turns.{expected_of}
+use Rattle.ct_grammar.specs.Lines.{done_by, played_of, lone_number, heading_of, worded, begun, of_words, told, line_of}
+use Rattle.ct_grammar.specs.Numbers.{max_u8, has_comma}
+use Rattle.ct_grammar.specs.Questions.{lone_member, short_question, question_of}
+use Rattle.ct_grammar.specs.Who.{who_of}
+use Rattle.ct_grammar.specs.Words.{Word, words_of}
+use Rattle.ct_print.specs.Writable.{WhoFits, PlayFits, QuestionFits, IsWritable}
+use Rattle.ct_print.proofs.CutsFit.{cut_fits}
+use Rattle.ct_print.proofs.FactsFit.{any_ok, done_fits, expected_fits}
+use Rattle.ct_print.proofs.Readable.{either, map_fits, then_fits, AreWords, words_behind, who_fits, member_first_fits, number_first_fits}
+use Rattle.ct_print.proofs.TextWords.{words_are_words}
+
+member_fits : (words : List Word) → AreWords words → IfOk (lone_member words) (λ p. p ≤ max_u8)
+unfolding lone_member
+member_fits words g =
+    then_fits _ _ (member_first _ words) _ (member_first_fits _ words g) (λ r h. then_fits (λ x. Unit {0}) _ (over _ r.1) _ (any_ok (over _ r.1)) (λ x k. h.0))
+
+number_fits : (low high : ℕ) (what : _) (words : List Word) → AreWords words →
+    IfOk (lone_number low high what words) (λ n. (low ≤ n) × (n ≤ high))
+unfolding lone_number
+number_fits low high what words g =
+    then_fits _ _ (number_first low high what words) _ (number_first_fits low high what words g) (λ r h. then_fits (λ x. Unit {0}) _ (over _ r.1) _ (any_ok (over _ r.1)) (λ x k. h.0))
+
+question_fits : (name : Word) (words : List Word) → AreWords words → IfOk (question_of name words) QuestionFits
+unfolding question_of short_question
+question_fits name words g =
+    either _ (bytes_eq name (codes "enabled")) _ _ (map_fits _ _ _ (lone_member words) (member_fits words g) (λ p h. h))
+    (either _ (bytes_eq name (codes "next")) _ _ (map_fits _ _ _ (lone_member words) (member_fits words g) (λ p h. h))
+    (either _ (bytes_eq name (codes "state")) _ _ (map_fits _ _ _ (lone_member words) (member_fits words g) (λ p h. h))
+    (either _ (bytes_eq name (codes "waiting")) _ _ (map_fits _ _ _ (lone_member words) (member_fits words g) (λ p h. h))
+    (either _ (bytes_eq name (codes "report")) _ _ (map_fits (λ x. Unit {0}) _ _ (over _ words) (any_ok (over _ words)) (λ x k. tt))
+    (either _ (bytes_eq name (codes "record")) _ _ (map_fits (λ x. Unit {0}) _ _ (over _ words) (any_ok (over _ words)) (λ x k. tt))
+    (either _ (bytes_eq name (codes "limits")) _ _ (map_fits (λ x. Unit {0}) _ _ (over _ words) (any_ok (over _ words)) (λ x k. tt)) tt))))))
+
+played_fits : (name : Word) (words : List Word) → AreWords words → IfOk (played_of name words) PlayFits
+unfolding played_of
+played_fits name words g =
+    either _ (bytes_eq name (codes "crash")) _ _ (map_fits _ _ _ (lone_member words) (member_fits words g) (λ p h. (h, tt)))
+    (either _ (bytes_eq name (codes "cut")) _ _ (map_fits _ _ _ (cut_of words) (cut_fits words) (λ sides h. h))
+    (either _ (bytes_eq name (codes "heal")) _ _ (map_fits (λ x. Unit {0}) _ _ (over _ words) (any_ok (over _ words)) (λ x k. tt))
+    (map_fits _ _ _ (question_of name words) (question_fits name words g) (λ question h. h))))
+
+heading_fits : (name : Word) (words : List Word) → AreWords words → IfOk (heading_of name words) IsWritable
+unfolding heading_of
+heading_fits name words g =
+    either _ (bytes_eq name (codes "members")) _ _ (map_fits _ _ _ (lone_number 1 MAX_MEMBERS _ words) (number_fits 1 MAX_MEMBERS _ words g) (λ n h. h))
+    (either _ (bytes_eq name (codes "cells")) _ _ (map_fits _ _ _ (lone_number 0 MAX_CELLS _ words) (number_fits 0 MAX_CELLS _ words g) (λ n h. h.1))
+    (either _ (bytes_eq name (codes "batch")) _ _ (map_fits _ _ _ (lone_number 1 MAX_BOUND _ words) (number_fits 1 MAX_BOUND _ words g) (λ n h. h))
+    (map_fits _ _ _ (played_of name words) (played_fits name words g) (λ play h. h))))
+
+words_fit : (words : List Word) → AreWords words → IfOk (of_words words) IsWritable
+unfolding of_words begun worded
+words_fit [] g = tt
+words_fit (name ∷ words) g = go (who_of name) (who_fits name)
+  where
+    go : (who : Option Who) → IfSome who WhoFits → IfOk (begun who name words) IsWritable
+    go None h =
+        either _ (has_comma name) _ _ tt
+        (either _ (bytes_eq name (codes "expect")) _ _ (map_fits _ _ _ (expected_of words) (expected_fits words (words_behind name words g)) (λ e k. k))
+        (heading_fits name words (words_behind name words g)))
+    go (Some who) h = map_fits _ _ _ (done_by who words) (done_fits who words h (words_behind name words g)) (λ play k. k)
+
+told_fits : (words : List Word) (r : Result Line _) → IfOk r IsWritable → IfOk (told words r) IsWritable
+told_fits words (Ok line) h = h
+told_fits words (Err unfit) h = tt
+
+-- a line that is read can be written
+pub readable : (bytes : List ℕ) → IfOk (line_of bytes) IsWritable
+unfolding line_of
+readable bytes = told_fits (words_of bytes) (of_words (words_of bytes)) (words_fit (words_of bytes) (words_are_words bytes))
