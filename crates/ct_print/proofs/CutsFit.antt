@@ -17,7 +17,7 @@ use Rattle.ct_grammar.specs.Sides.{whole, side_of, with_member_on, with_parts, p
 use Rattle.ct_grammar.specs.Words.{Word}
 use Rattle.ct_print.specs.Writable.{IsCut}
 use Rattle.ct_print.proofs.CutsRead.{outside, moved_here, not_moved, none_whole}
-use Rattle.ct_print.proofs.Readable.{either, some_bound, some_weaker, then_fits, found_fits, ok_weaker, number_between}
+use Rattle.ct_print.proofs.Readable.{either, some_bound, some_weaker, then_fits, found, ok_weaker, number_between}
 
 -- each side has the number of a member on it, or 0
 pub record IsNamed (sides : List ℕ) : Type 0 where
@@ -118,7 +118,8 @@ first_part word = go (ltb n (length word)) refl
     go true e = found true e _ (slice_split_first (λ c. c == 44) word 0 (ltb-true n (length word) e))
     go false e =
         found false e []
-        (slice_split_none (λ c. c == 44) word (λ k d l. fails_before_first (λ c. c == 44) word k d (omega (arith, ltb-false n (length word) e))))
+        (slice_split_none (λ c. c == 44) word (λ k d l. fails_before_first (λ c. c == 44) word k d
+        (omega (arith, ltb-false n (length word) e))))
 
 set_on : (now : List ℕ) (set : Word) → IsNamed now → IfSome (with_set now set) IsSplit
 unfolding with_set
@@ -129,7 +130,8 @@ set_on now set h =
     (rw e
     (some_bound IsSplit _ (with_member_on side now side)
     (some_weaker (IsOn side) _ (with_member_on side now side)
-    (λ next l. some_weaker (IsOn side) IsSplit (with_parts side next (first_part set).rest) (λ end m. (m.named, not_whole side end k m.own))
+    (λ next l. some_weaker (IsOn side) IsSplit (with_parts side next (first_part set).rest)
+    (λ end m. (m.named, not_whole side end k m.own))
     (more_parts side (first_part set).rest next k.0 k l))
     (member_on now side side h k (λ free. moved_here now side side h.sixteen k)))))))
   where
@@ -148,10 +150,10 @@ set_on now set h =
 
 sets_on : (words : List Word) (now : List ℕ) → IsNamed now → IfOk (with_sets now words) IsSplit
 sets_on [] now h = tt
-sets_on (set ∷ []) now h = found_fits IsSplit _ (with_set now set) _ (set_on now set h) (λ next k. k)
+sets_on (set ∷ []) now h = found IsSplit (with_set now set) _ (set_on now set h)
 sets_on (set ∷ bar ∷ words) now h =
     then_fits IsSplit _ (ok_or (with_set now set) _) _
-    (found_fits IsSplit _ (with_set now set) _ (set_on now set h) (λ next k. k))
+    (found IsSplit (with_set now set) _ (set_on now set h))
     (λ next k. either _ (bytes_eq bar (codes "|")) _ _ (sets_on words next k.0) tt)
 
 whole_named : IsNamed whole
@@ -163,4 +165,5 @@ whole_named = record {
 pub cut_fits : (words : List Word) → IfOk (cut_of words) IsCut
 unfolding cut_of
 cut_fits words =
-    ok_weaker _ _ (with_sets whole words) (sets_on words whole whole_named) (λ sides h. record { sixteen = h.0.sixteen; named = h.0.named; some = h.1 })
+    ok_weaker _ _ (with_sets whole words) (sets_on words whole whole_named)
+    (λ sides h. record { sixteen = h.0.sixteen; named = h.0.named; some = h.1 })

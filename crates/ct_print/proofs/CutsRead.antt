@@ -50,7 +50,8 @@ same_sides one other h k same =
     ap (λ (j : ℕ). get_or one j 0) (sym place)
     ∙ (sym (inside one (i + 1) member) ∙ (same (i + 1) member ∙ (inside other (i + 1) member ∙ ap (λ (j : ℕ). get_or other j 0) place))))
 
-pub moved_here : (now : List ℕ) (p side : ℕ) → length now ≡ MAX_MEMBERS → IsMember MAX_MEMBERS p → side_of (slice_set now (p - 1) side) p ≡ side
+pub moved_here : (now : List ℕ) (p side : ℕ) → length now ≡ MAX_MEMBERS → IsMember MAX_MEMBERS p →
+    side_of (slice_set now (p - 1) side) p ≡ side
 moved_here now p side l h =
     inside (slice_set now (p - 1) side) p h ∙ get_or-set_same now (p - 1) side 0 (omega (arith, h.0, h.1))
 
@@ -163,7 +164,8 @@ pub record AreOwn (sides ss : List ℕ) : Type 0 where
 own_rest : (sides : List ℕ) (s : ℕ) (ss : List ℕ) → AreOwn sides (s ∷ ss) → AreOwn sides ss
 own_rest sides s ss h = record { once = h.once.1; own = λ q i. h.own q (inr i); small = λ q i. h.small q (inr i) }
 
-side_put : (sides : List ℕ) (s : ℕ) (ss now : List ℕ) → AreOwn sides (s ∷ ss) → IsBefore sides (s ∷ ss) now → IsPut s (s ∷ others_of sides s) now
+side_put : (sides : List ℕ) (s : ℕ) (ss now : List ℕ) → AreOwn sides (s ∷ ss) → IsBefore sides (s ∷ ss) now →
+    IsPut s (s ∷ others_of sides s) now
 side_put sides s ss now h b =
     let small : AreSmall (s ∷ others_of sides s) = small_side sides s (h.small s (inl refl)) in
     put s (s ∷ others_of sides s) now small (once_side sides s) b.sixteen (free small)
@@ -227,7 +229,8 @@ own_numbers sides = record {
 }
 
 -- who is on no side of its own is on side 0
-on_none : (sides : List ℕ) → IsCut sides → (q : ℕ) → IsMember MAX_MEMBERS q → (IsIn (side_of sides q) (numbers_of sides) → ⊥) → side_of sides q ≡ 0
+on_none : (sides : List ℕ) → IsCut sides → (q : ℕ) → IsMember MAX_MEMBERS q → (IsIn (side_of sides q) (numbers_of sides) → ⊥) →
+    side_of sides q ≡ 0
 unfolding numbers_of
 on_none sides h q k out = elim (true_or_false (side_of sides q == 0)) [
   | inl is ↦ eqb-true (side_of sides q) 0 is

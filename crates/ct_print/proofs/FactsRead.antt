@@ -196,7 +196,8 @@ fact_reads (Delivered quoted) h = led (codes "delivered") _ _ refl (quoted_reads
 fact_reads (Table quoted) h = led (codes "table") _ _ refl (quoted_reads quoted h)
 fact_reads (Refuses act reason) h =
     led (codes "refuses") _ _ refl
-    (beside _ (reason_text reason) (act_words act) (reason_text reason ∷ []) (act_reads act h.0) (said (reason_text reason) (reason_word reason).0))
+    (beside _ (reason_text reason) (act_words act) (reason_text reason ∷ []) (act_reads act h.0)
+    (said (reason_text reason) (reason_word reason).0))
 fact_reads (May act) h = led (codes "may") _ _ refl (act_reads act h)
 fact_reads (Waiting n) h = led (codes "waiting") _ _ refl (number_reads max_u32 n (omega arith) h)
 fact_reads (Waits pick) h = led (codes "waits") _ _ refl (pick_reads pick h)
@@ -216,8 +217,14 @@ pick_alone : (pick : Pick) → PickFits pick → lone_pick (pick_words pick) ≡
 unfolding lone_pick over
 pick_alone pick h = rw (← append-nil (pick_words pick), pick_back pick _ [] h refl) refl
 
+refusal_back : (act : Act) (reason : Reason) → ActFits act → IsRules reason →
+    refusal_of (act_words act ++ (reason_text reason ∷ [])) ≡ Ok (Refuses act reason)
+unfolding refusal_of reason_first over
+refusal_back act reason h k =
+    rw (act_back act _ (reason_text reason ∷ []) h (reason_word reason).1, reason_back reason k) refl
+
 pub fact_back : (fact : Fact) → FactFits fact → fact_of (fact_words fact) ≡ Ok fact
-unfolding fact_of named_fact quotable quotes_words number_fact act_fact short_fact text_fact over phase_first phase_of lone_set refusal_of reason_first quoted_fact
+unfolding fact_of named_fact quotable quoted_fact quotes_words text_fact number_fact act_fact short_fact phase_first phase_of lone_set over
 fact_back Up h = refl
 fact_back Crashed h = refl
 fact_back Idle h = refl
@@ -231,8 +238,7 @@ fact_back (Received quoted) h = rw (some_of quoted h, h.words) refl
 fact_back (Decided quoted) h = rw (some_of quoted h, h.words) refl
 fact_back (Delivered quoted) h = rw (some_of quoted h, h.words) refl
 fact_back (Table quoted) h = rw (some_of quoted h, h.words) refl
-fact_back (Refuses act reason) h =
-    rw (act_back act _ (reason_text reason ∷ []) h.0 (reason_word reason).1, reason_back reason h.1) refl
+fact_back (Refuses act reason) h = refusal_back act reason h.0 h.1
 fact_back (May act) h = rw (act_alone act h) refl
 fact_back (Waiting n) h = rw (alone_back n _ h) refl
 fact_back (Waits pick) h = rw (pick_alone pick h) refl

@@ -15,20 +15,22 @@ use Rattle.ct_grammar.specs.Who.{who_of}
 use Rattle.ct_grammar.specs.Words.{Word, words_of}
 use Rattle.ct_print.specs.Writable.{WhoFits, PlayFits, QuestionFits, IsWritable}
 use Rattle.ct_print.proofs.CutsFit.{cut_fits}
-use Rattle.ct_print.proofs.FactsFit.{any_ok, done_fits, expected_fits}
-use Rattle.ct_print.proofs.Readable.{either, map_fits, then_fits, AreWords, words_behind, who_fits, member_first_fits, number_first_fits}
+use Rattle.ct_print.proofs.FactsFit.{done_fits, expected_fits}
+use Rattle.ct_print.proofs.Readable.{either, map_fits, then_fits, any_map, any_then}
+use Rattle.ct_print.proofs.Readable.{AreWords, words_behind, who_fits, member_first_fits, number_first_fits}
 use Rattle.ct_print.proofs.TextWords.{words_are_words}
 
 member_fits : (words : List Word) → AreWords words → IfOk (lone_member words) (λ p. p ≤ max_u8)
 unfolding lone_member
 member_fits words g =
-    then_fits _ _ (member_first _ words) _ (member_first_fits _ words g) (λ r h. then_fits (λ x. Unit {0}) _ (over _ r.1) _ (any_ok (over _ r.1)) (λ x k. h.0))
+    then_fits _ _ (member_first _ words) _ (member_first_fits _ words g) (λ r h. any_then _ (over _ r.1) _ (λ x. h.0))
 
 number_fits : (low high : ℕ) (what : _) (words : List Word) → AreWords words →
     IfOk (lone_number low high what words) (λ n. (low ≤ n) × (n ≤ high))
 unfolding lone_number
 number_fits low high what words g =
-    then_fits _ _ (number_first low high what words) _ (number_first_fits low high what words g) (λ r h. then_fits (λ x. Unit {0}) _ (over _ r.1) _ (any_ok (over _ r.1)) (λ x k. h.0))
+    then_fits _ _ (number_first low high what words) _ (number_first_fits low high what words g)
+    (λ r h. any_then _ (over _ r.1) _ (λ x. h.0))
 
 question_fits : (name : Word) (words : List Word) → AreWords words → IfOk (question_of name words) QuestionFits
 unfolding question_of short_question
@@ -37,24 +39,27 @@ question_fits name words g =
     (either _ (bytes_eq name (codes "next")) _ _ (map_fits _ _ _ (lone_member words) (member_fits words g) (λ p h. h))
     (either _ (bytes_eq name (codes "state")) _ _ (map_fits _ _ _ (lone_member words) (member_fits words g) (λ p h. h))
     (either _ (bytes_eq name (codes "waiting")) _ _ (map_fits _ _ _ (lone_member words) (member_fits words g) (λ p h. h))
-    (either _ (bytes_eq name (codes "report")) _ _ (map_fits (λ x. Unit {0}) _ _ (over _ words) (any_ok (over _ words)) (λ x k. tt))
-    (either _ (bytes_eq name (codes "record")) _ _ (map_fits (λ x. Unit {0}) _ _ (over _ words) (any_ok (over _ words)) (λ x k. tt))
-    (either _ (bytes_eq name (codes "limits")) _ _ (map_fits (λ x. Unit {0}) _ _ (over _ words) (any_ok (over _ words)) (λ x k. tt)) tt))))))
+    (either _ (bytes_eq name (codes "report")) _ _ (any_map _ _ (over _ words) (λ x. tt))
+    (either _ (bytes_eq name (codes "record")) _ _ (any_map _ _ (over _ words) (λ x. tt))
+    (either _ (bytes_eq name (codes "limits")) _ _ (any_map _ _ (over _ words) (λ x. tt)) tt))))))
 
 played_fits : (name : Word) (words : List Word) → AreWords words → IfOk (played_of name words) PlayFits
 unfolding played_of
 played_fits name words g =
     either _ (bytes_eq name (codes "crash")) _ _ (map_fits _ _ _ (lone_member words) (member_fits words g) (λ p h. (h, tt)))
     (either _ (bytes_eq name (codes "cut")) _ _ (map_fits _ _ _ (cut_of words) (cut_fits words) (λ sides h. h))
-    (either _ (bytes_eq name (codes "heal")) _ _ (map_fits (λ x. Unit {0}) _ _ (over _ words) (any_ok (over _ words)) (λ x k. tt))
+    (either _ (bytes_eq name (codes "heal")) _ _ (any_map _ _ (over _ words) (λ x. tt))
     (map_fits _ _ _ (question_of name words) (question_fits name words g) (λ question h. h))))
 
 heading_fits : (name : Word) (words : List Word) → AreWords words → IfOk (heading_of name words) IsWritable
 unfolding heading_of
 heading_fits name words g =
-    either _ (bytes_eq name (codes "members")) _ _ (map_fits _ _ _ (lone_number 1 MAX_MEMBERS _ words) (number_fits 1 MAX_MEMBERS _ words g) (λ n h. h))
-    (either _ (bytes_eq name (codes "cells")) _ _ (map_fits _ _ _ (lone_number 0 MAX_CELLS _ words) (number_fits 0 MAX_CELLS _ words g) (λ n h. h.1))
-    (either _ (bytes_eq name (codes "batch")) _ _ (map_fits _ _ _ (lone_number 1 MAX_BOUND _ words) (number_fits 1 MAX_BOUND _ words g) (λ n h. h))
+    either _ (bytes_eq name (codes "members")) _ _ (map_fits _ _ _ (lone_number 1 MAX_MEMBERS _ words)
+    (number_fits 1 MAX_MEMBERS _ words g) (λ n h. h))
+    (either _ (bytes_eq name (codes "cells")) _ _ (map_fits _ _ _ (lone_number 0 MAX_CELLS _ words)
+    (number_fits 0 MAX_CELLS _ words g) (λ n h. h.1))
+    (either _ (bytes_eq name (codes "batch")) _ _ (map_fits _ _ _ (lone_number 1 MAX_BOUND _ words)
+    (number_fits 1 MAX_BOUND _ words g) (λ n h. h))
     (map_fits _ _ _ (played_of name words) (played_fits name words g) (λ play h. h))))
 
 words_fit : (words : List Word) → AreWords words → IfOk (of_words words) IsWritable
@@ -65,7 +70,8 @@ words_fit (name ∷ words) g = go (who_of name) (who_fits name)
     go : (who : Option Who) → IfSome who WhoFits → IfOk (begun who name words) IsWritable
     go None h =
         either _ (has_comma name) _ _ tt
-        (either _ (bytes_eq name (codes "expect")) _ _ (map_fits _ _ _ (expected_of words) (expected_fits words (words_behind name words g)) (λ e k. k))
+        (either _ (bytes_eq name (codes "expect")) _ _ (map_fits _ _ _ (expected_of words)
+        (expected_fits words (words_behind name words g)) (λ e k. k))
         (heading_fits name words (words_behind name words g)))
     go (Some who) h = map_fits _ _ _ (done_by who words) (done_fits who words h (words_behind name words g)) (λ play k. k)
 

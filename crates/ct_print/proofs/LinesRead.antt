@@ -118,7 +118,8 @@ play_reads : (play : Play) → PlayFits play → Reads (play_text play) (play_wo
 unfolding play_text
 play_reads (Acts who act) h = who_and who _ _ h.0 (act_reads act h.1)
 play_reads (Stated who act quoted) h =
-    who_and who _ _ h.0 (beside (act_text act) quoted (act_words act) (words_of quoted) (act_reads act h.1) (quoted_reads quoted h.2.quotable))
+    who_and who _ _ h.0 (beside (act_text act) quoted (act_words act) (words_of quoted) (act_reads act h.1)
+    (quoted_reads quoted h.2.quotable))
 play_reads (Turns who n set) h =
     suspecting_reads _ (who_text who ∷ codes "turns" ∷ decimal n ∷ []) set h.2
     (who_and who _ _ h.0 (led (codes "turns") _ _ refl (number_reads max_u32 n (omega arith) h.1)))
@@ -252,7 +253,8 @@ unfolding expected_of
 expected_back who fact h k = rw (who_back who h, fact_back fact k) refl
 
 until_taken : (who : Who) (set : List ℕ) (whose : Who) (fact : Fact) → IsSet set → WhoFits whose → FactFits fact →
-    done_by who (codes "turns" ∷ (suspecting_words set ++ (codes "until" ∷ who_text whose ∷ fact_words fact))) ≡ Ok (Until who set whose fact)
+    done_by who (codes "turns" ∷ (suspecting_words set ++ (codes "until" ∷ who_text whose ∷ fact_words fact))) ≡ Ok
+    (Until who set whose fact)
 unfolding done_by turns_of suspected until_of
 until_taken who [] whose fact h k l = rw (expected_back whose fact k l) refl
 until_taken who (p ∷ ps) whose fact h k l =

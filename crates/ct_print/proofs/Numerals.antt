@@ -21,7 +21,8 @@ pub record IsNumber (n : ℕ) (word : Word) : Type 0 where
   pub reads : (high : ℕ) (behind : Word) → number_behind high 0 (word ++ behind) ≡ number_behind high n behind
 
 -- one more digit
-one_digit : (high m k n : ℕ) (behind : Word) → k < 10 → m * 10 + k ≡ n → number_behind high m ((48 + k) ∷ behind) ≡ number_behind high n behind
+one_digit : (high m k n : ℕ) (behind : Word) → k < 10 → m * 10 + k ≡ n →
+    number_behind high m ((48 + k) ∷ behind) ≡ number_behind high n behind
 one_digit high m k n behind h e =
     let value : m * 10 + (48 + k - 48) ≡ n = omega arith in
     ap (λ b. cond b (number_behind high (m * 10 + (48 + k - 48)) behind) None) (digit_is k h) ∙ ap (λ v. number_behind high v behind) value
@@ -41,7 +42,12 @@ last_digit n digits h = record {
 
 pub decimal_is_number : (n : ℕ) → n < 2 ^ 64 → IsNumber n (decimal n)
 decimal_is_number = decimal_by_steps IsNumber
-    (λ n h. record { some = omega arith; digits = rw (digit_is n h) refl; reads = λ high behind. one_digit high 0 n n behind h (omega arith) })
+    (λ n h. record {
+      some = omega arith;
+      digits = rw (digit_is n h) refl;
+      reads = λ high behind. one_digit high 0 n n behind h
+          (omega arith);
+    })
     (λ n digits h rest. last_digit n digits rest)
 
 -- what is written of a number is read as that number

@@ -70,7 +70,8 @@ two_numeric m n at h k e =
     (rw e (list_all-append is_letter (decimal n) [] ∙ rw (decimal_numeric n k).letters refl))
 
 -- numbers with commas between them
-pub joined_numeric : (p : ℕ) (ps : List ℕ) → ((q : ℕ) → IsIn q (p ∷ ps) → q < 2 ^ 64) → IsNumeric (join_with_byte 44 (map decimal (p ∷ ps)))
+pub joined_numeric : (p : ℕ) (ps : List ℕ) → ((q : ℕ) → IsIn q (p ∷ ps) → q < 2 ^ 64) →
+    IsNumeric (join_with_byte 44 (map decimal (p ∷ ps)))
 joined_numeric p [] h = decimal_numeric p (h p (inl refl))
 joined_numeric p (next ∷ ps) h =
     numeric_behind (decimal p) (44 ∷ join_with_byte 44 (map decimal (next ∷ ps))) (decimal_numeric p (h p (inl refl)))

@@ -105,7 +105,8 @@ no_members : filter (λ q. false) everyone ≡ []
 unfolding members
 no_members = refl
 
-pub members_back : (p : ℕ) (ps : List ℕ) → AreSmall (p ∷ ps) → members_of (numbers_text (p ∷ ps)) ≡ Some (filter (has_member (p ∷ ps)) everyone)
+pub members_back : (p : ℕ) (ps : List ℕ) → AreSmall (p ∷ ps) →
+    members_of (numbers_text (p ∷ ps)) ≡ Some (filter (has_member (p ∷ ps)) everyone)
 unfolding members_of
 members_back p ps h =
     rw (parts_of p ps h)

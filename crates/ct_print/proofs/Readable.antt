@@ -39,7 +39,8 @@ pub some_mapped : {A B : Type 0} (P : B → Type 0) (f : A → B) (o : Option A)
 some_mapped P f None h = tt
 some_mapped P f (Some x) h = h
 
-pub some_bound : {A B : Type 0} (P : B → Type 0) (f : A → Option B) (o : Option A) → IfSome o (λ x. IfSome (f x) P) → IfSome (option_and_then f o) P
+pub some_bound : {A B : Type 0} (P : B → Type 0) (f : A → Option B) (o : Option A) → IfSome o (λ x. IfSome (f x) P) →
+    IfSome (option_and_then f o) P
 some_bound P f None h = tt
 some_bound P f (Some x) h = h
 
@@ -62,9 +63,18 @@ pub then_fits : {A B : Type 0} (P : A → Type 0) (Q : B → Type 0) (r : Result
 then_fits P Q (Ok x) f h k = k x h
 then_fits P Q (Err e) f h k = tt
 
-pub found_fits : {A E : Type 0} (P Q : A → Type 0) (o : Option A) (e : E) → IfSome o P → ((x : A) → P x → Q x) → IfOk (ok_or o e) Q
-found_fits P Q None e h k = tt
-found_fits P Q (Some x) e h k = k x h
+pub found : {A E : Type 0} (P : A → Type 0) (o : Option A) (e : E) → IfSome o P → IfOk (ok_or o e) P
+found P None e h = tt
+found P (Some x) e h = h
+
+-- the same, whatever the answer is
+pub any_map : {A B : Type 0} (Q : B → Type 0) (f : A → B) (r : Result A _) → ((x : A) → Q (f x)) → IfOk (map_ok f r) Q
+any_map Q f (Ok x) k = k x
+any_map Q f (Err e) k = tt
+
+pub any_then : {A B : Type 0} (Q : B → Type 0) (r : Result A _) (f : A → Result B _) → ((x : A) → IfOk (f x) Q) → IfOk (r >>= f) Q
+any_then Q (Ok x) f k = k x
+any_then Q (Err e) f k = tt
 
 -- the words of a line are words
 abbrev pub AreWords : List Word → Type 0
@@ -179,22 +189,26 @@ unfolding number_first
 number_first_fits low high what [] g = tt
 number_first_fits low high what (word ∷ words) g =
     map_fits (λ m. (low ≤ m) × (m ≤ high)) _ _ (ok_or (number_in low high word) _)
-    (found_fits (λ m. (low ≤ m) × (m ≤ high)) _ (number_in low high word) _ (number_between low high word) (λ n h. h))
+    (found (λ m. (low ≤ m) × (m ≤ high)) (number_in low high word) _ (number_between low high word))
     (λ n h. (h, words_behind word words g))
 
-pub member_first_fits : (what : _) (words : List Word) → AreWords words → IfOk (member_first what words) (λ r. (r.0 ≤ max_u8) × AreWords r.1)
+pub member_first_fits : (what : _) (words : List Word) → AreWords words →
+    IfOk (member_first what words) (λ r. (r.0 ≤ max_u8) × AreWords r.1)
 unfolding member_first
-member_first_fits what words g = ok_weaker _ _ (number_first 0 max_u8 what words) (number_first_fits 0 max_u8 what words g) (λ r h. (h.0.1, h.1))
+member_first_fits what words g =
+    ok_weaker _ _ (number_first 0 max_u8 what words) (number_first_fits 0 max_u8 what words g) (λ r h. (h.0.1, h.1))
 
-pub whole_first_fits : (what : _) (words : List Word) → AreWords words → IfOk (whole_first what words) (λ r. (r.0 ≤ max_u32) × AreWords r.1)
+pub whole_first_fits : (what : _) (words : List Word) → AreWords words →
+    IfOk (whole_first what words) (λ r. (r.0 ≤ max_u32) × AreWords r.1)
 unfolding whole_first
-whole_first_fits what words g = ok_weaker _ _ (number_first 0 max_u32 what words) (number_first_fits 0 max_u32 what words g) (λ r h. (h.0.1, h.1))
+whole_first_fits what words g =
+    ok_weaker _ _ (number_first 0 max_u32 what words) (number_first_fits 0 max_u32 what words g) (λ r h. (h.0.1, h.1))
 
 pub set_first_fits : (words : List Word) → AreWords words → IfOk (set_first words) (λ r. IsSomeSet r.0 × AreWords r.1)
 unfolding set_first
 set_first_fits [] g = tt
 set_first_fits (word ∷ words) g =
-    map_fits IsSomeSet _ _ (ok_or (members_of word) _) (found_fits IsSomeSet _ (members_of word) _ (members_are_set word) (λ set h. h))
+    map_fits IsSomeSet _ _ (ok_or (members_of word) _) (found IsSomeSet (members_of word) _ (members_are_set word))
     (λ set h. (h, words_behind word words g))
 
 -- ---- commands
@@ -213,7 +227,8 @@ command_fits what (name ∷ words) g =
     let rest : AreWords words = words_behind name words g in
     either _ (bytes_eq name (codes "set")) _ _ (map_fits _ _ _ (operands max_u64 _ words) (operands_fit max_u64 _ words rest) (λ r h. h))
     (either _ (bytes_eq name (codes "add")) _ _ (map_fits _ _ _ (operands max_u64 _ words) (operands_fit max_u64 _ words rest) (λ r h. h))
-    (either _ (bytes_eq name (codes "copy")) _ _ (map_fits _ _ _ (operands max_u8 _ words) (operands_fit max_u8 _ words rest) (λ r h. h)) tt))
+    (either _ (bytes_eq name (codes "copy")) _ _ (map_fits _ _ _ (operands max_u8 _ words) (operands_fit max_u8 _ words rest)
+    (λ r h. h)) tt))
 
 -- ---- envelopes
 
@@ -222,7 +237,7 @@ unfolding message_first
 message_fits [] g = tt
 message_fits (word ∷ words) g =
     map_fits (λ n. (n.0 ≤ max_u8) × (n.1 ≤ max_u32)) _ _ (ok_or (two_numbers 46 max_u8 max_u32 word) _)
-    (found_fits (λ n. (n.0 ≤ max_u8) × (n.1 ≤ max_u32)) _ (two_numbers 46 max_u8 max_u32 word) _ (two_within 46 max_u8 max_u32 word) (λ n h. h))
+    (found (λ n. (n.0 ≤ max_u8) × (n.1 ≤ max_u32)) (two_numbers 46 max_u8 max_u32 word) _ (two_within 46 max_u8 max_u32 word))
     (λ n h. (h, words_behind word words g))
 
 place_fits : (words : List Word) → AreWords words →
@@ -231,7 +246,7 @@ unfolding place_first
 place_fits [] g = tt
 place_fits (word ∷ words) g =
     map_fits (λ n. (n.0 ≤ max_u32) × (n.1 ≤ max_u32)) _ _ (ok_or (two_numbers 47 max_u32 max_u32 word) _)
-    (found_fits (λ n. (n.0 ≤ max_u32) × (n.1 ≤ max_u32)) _ (two_numbers 47 max_u32 max_u32 word) _ (two_within 47 max_u32 max_u32 word) (λ n h. h))
+    (found (λ n. (n.0 ≤ max_u32) × (n.1 ≤ max_u32)) (two_numbers 47 max_u32 max_u32 word) _ (two_within 47 max_u32 max_u32 word))
     (λ n h. (h, words_behind word words g))
 
 carried_fits : (what : _) (kind : Word) (words : List Word) → AreWords words →
@@ -250,7 +265,8 @@ sent_fits : (carried : Carried) (words : List Word) → CarriedFits carried → 
 unfolding sent_pick
 sent_fits carried [] h g = ((h, tt), g)
 sent_fits carried (word ∷ words) h g =
-    either _ (bytes_eq word (codes "from")) _ _ (map_fits _ _ _ (member_first _ words) (member_first_fits _ words (words_behind word words g)) (λ r k. ((h, k.0), k.1))) ((h, tt), g)
+    either _ (bytes_eq word (codes "from")) _ _ (map_fits _ _ _ (member_first _ words)
+    (member_first_fits _ words (words_behind word words g)) (λ r k. ((h, k.0), k.1))) ((h, tt), g)
 
 serial_fits : (word : Word) → IfSome (serial_of word) (λ n. n ≤ max_u32)
 unfolding serial_of
@@ -262,23 +278,28 @@ unfolding pick_first
 pick_fits what [] g = tt
 pick_fits what (word ∷ words) g =
     either _ (begins_with 35 word) _ _
-    (map_fits (λ n. n ≤ max_u32) _ _ (ok_or (serial_of word) _) (found_fits (λ n. n ≤ max_u32) _ (serial_of word) _ (serial_fits word) (λ n h. h))
+    (map_fits (λ n. n ≤ max_u32) _ _ (ok_or (serial_of word) _) (found (λ n. n ≤ max_u32) (serial_of word) _ (serial_fits word))
     (λ n h. (h, words_behind word words g)))
-    (then_fits _ _ (carried_first what word words) _ (carried_fits what word words (words_behind word words g)) (λ r h. sent_fits r.0 r.1 h.0 h.1))
+    (then_fits _ _ (carried_first what word words) _ (carried_fits what word words (words_behind word words g))
+    (λ r h. sent_fits r.0 r.1 h.0 h.1))
 
 -- ---- acts
 
 short_fits : (name : Word) → IfSome (short_act name) ActFits
 unfolding short_act
 short_fits name =
-    some_either _ (bytes_eq name (codes "begin")) _ _ tt (some_either _ (bytes_eq name (codes "enter")) _ _ tt (some_either _ (bytes_eq name (codes "adopt")) _ _ tt (some_either _ (bytes_eq name (codes "suspect")) _ _ tt
-    (some_either _ (bytes_eq name (codes "conclude")) _ _ tt (some_either _ (bytes_eq name (codes "deliver")) _ _ tt (some_either _ (bytes_eq name (codes "follow")) _ _ tt (some_either _ (bytes_eq name (codes "crash")) _ _ tt tt)))))))
+    some_either _ (bytes_eq name (codes "begin")) _ _ tt (some_either _ (bytes_eq name (codes "enter")) _ _ tt
+    (some_either _ (bytes_eq name (codes "adopt")) _ _ tt (some_either _ (bytes_eq name (codes "suspect")) _ _ tt
+    (some_either _ (bytes_eq name (codes "conclude")) _ _ tt
+    (some_either _ (bytes_eq name (codes "deliver")) _ _ tt (some_either _ (bytes_eq name (codes "follow")) _ _ tt
+    (some_either _ (bytes_eq name (codes "crash")) _ _ tt tt)))))))
 
 lost_fits : (words : List Word) → AreWords words → IfOk (lose_first words) (λ r. ActFits r.0 × AreWords r.1)
 unfolding lose_first
 lost_fits [] g = tt
 lost_fits (word ∷ words) g =
-    either _ (bytes_eq word (codes "from")) _ _ (map_fits _ _ _ (set_first words) (set_first_fits words (words_behind word words g)) (λ r h. h))
+    either _ (bytes_eq word (codes "from")) _ _ (map_fits _ _ _ (set_first words) (set_first_fits words (words_behind word words g))
+    (λ r h. h))
     (map_fits _ _ _ (pick_first _ (word ∷ words)) (pick_fits _ (word ∷ words) g) (λ r h. h))
 
 picked_fits : (what : _) (name : Word) (words : List Word) → AreWords words →
@@ -288,7 +309,7 @@ picked_fits what name words g =
     either _ (bytes_eq name (codes "receive")) _ _ (map_fits _ _ _ (pick_first _ words) (pick_fits _ words g) (λ r h. h))
     (either _ (bytes_eq name (codes "postpone")) _ _ (map_fits _ _ _ (pick_first _ words) (pick_fits _ words g) (λ r h. h))
     (either _ (bytes_eq name (codes "repeat")) _ _ (map_fits _ _ _ (pick_first _ words) (pick_fits _ words g) (λ r h. h))
-    (map_fits ActFits _ _ (ok_or (short_act name) _) (found_fits ActFits _ (short_act name) _ (short_fits name) (λ act h. h)) (λ act h. (h, g)))))
+    (map_fits ActFits _ _ (ok_or (short_act name) _) (found ActFits (short_act name) _ (short_fits name)) (λ act h. (h, g)))))
 
 pub act_fits : (what : _) (words : List Word) → AreWords words → IfOk (act_first what words) (λ r. ActFits r.0 × AreWords r.1)
 unfolding act_first long_act

@@ -112,10 +112,12 @@ act_words (Repeat pick) = codes "repeat" ∷ pick_words pick
 act_words (LoseFrom set) = codes "lose" ∷ codes "from" ∷ set_text set ∷ []
 
 -- a word, and a text behind it
-pub led : (word : Word) (text : List ℕ) (words : List Word) → is_word word ≡ true → Reads text words → Reads (word ++ 32 ∷ text) (word ∷ words)
+pub led : (word : Word) (text : List ℕ) (words : List Word) → is_word word ≡ true → Reads text words →
+    Reads (word ++ 32 ∷ text) (word ∷ words)
 led word text words h k = beside word text (word ∷ []) words (said word h) k
 
-two_numbers_read : (r high v : ℕ) → r ≤ max_u8 → high < 2 ^ 64 → v ≤ high → Reads (decimal r ++ 32 ∷ decimal v) (decimal r ∷ decimal v ∷ [])
+two_numbers_read : (r high v : ℕ) → r ≤ max_u8 → high < 2 ^ 64 → v ≤ high →
+    Reads (decimal r ++ 32 ∷ decimal v) (decimal r ∷ decimal v ∷ [])
 two_numbers_read r high v h l k =
     beside (decimal r) (decimal v) (decimal r ∷ []) (decimal v ∷ []) (number_reads max_u8 r (omega arith) h) (number_reads high v l k)
 

@@ -22,7 +22,8 @@ loop-i-preserved c =
     let old = string_bytes c.loop-i.text in
     elim c.if-side-member.branch [
       | then-side-member+in_ok-push_between+in_ok-push_side w ↦
-          rw (w.text-is, w.later-is) (one_written (codes " | ") (side_text sides (c.loop-i.i + 1)) _ c.loop-i.later old _ _ _ _ c.loop-i.invariant
+          rw (w.text-is, w.later-is) (one_written (codes " | ")
+          (side_text sides (c.loop-i.i + 1)) _ c.loop-i.later old _ _ _ _ c.loop-i.invariant
           (left_taken (is_own sides) (side_text sides) c.loop-i.i c.loop-i-test.true
           (is_the_number _ _ (c.loop-i.i + 1) c.side.ensures w.if-side-member.true))
           w.in_ok-push_between.ensures w.in_ok-push_side.ensures)

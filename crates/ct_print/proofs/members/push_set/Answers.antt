@@ -25,7 +25,8 @@ loop-i-preserved c =
       | else-contains w ↦
           rw (w.text-is, w.later-is)
           (ap (λ (ts : List Word). string_bytes c.loop-i.text ++ listed (codes ",") c.loop-i.later ts)
-          (sym (left_passed (has_member c.args.set) decimal c.loop-i.i c.loop-i-test.true (sym c.contains.ensures.value ∙ w.if-contains.false)))
+          (sym (left_passed (has_member c.args.set) decimal c.loop-i.i c.loop-i-test.true
+          (sym c.contains.ensures.value ∙ w.if-contains.false)))
           ∙ c.loop-i.invariant)
     ]
 
