@@ -9,6 +9,8 @@ mod diagrams;
 #[cfg(test)]
 mod faults;
 #[cfg(test)]
+mod printed;
+#[cfg(test)]
 mod runs;
 #[cfg(test)]
 mod schedules;
