@@ -75,5 +75,10 @@ pub one_written : (between text : Word) (texts : List Word) (later : Bool) (old 
     old ++ listed between later all ≡ whole → all ≡ text ∷ texts → mid ≡ old ++ cond later between [] → end ≡ mid ++ text →
     end ++ listed between true texts ≡ whole
 one_written between text texts later old mid end whole all h is first second =
-    rw (second, first, append_assoc, append_assoc)
+    rw (
+      second,
+      first,
+      append_assoc (old ++ cond later between []) text (listed between true texts),
+      append_assoc old (cond later between []) (text ++ listed between true texts),
+    )
     (ap (λ (ts : List Word). old ++ listed between later ts) (sym is) ∙ h)

@@ -1,5 +1,5 @@
 //! The lines of a schedule, as text. Each line that a text says has one text here: its words with a space between each two, numbers
-//! without zeros in front, sets rising. What is written of a line is read as that line
+//! without zeros in front, sets rising, and what it quotes as it is. What is written of a line is read as that line
 //! ([`law_read_back`]), and each line that is read can be written ([`law_writable`]).
 #![tactic(auto)]
 
