@@ -1,6 +1,7 @@
 //! A record in, its diagram out.
 
-ghost use Rattle.std.specs.Prelude.{◌≡◌, ◌≢◌, ◌+◌, ◌<◌, ◌^◌, Err, IfOk, IfErr, IfSome, OnOk};
+ghost use Rattle.std.specs.Prelude.{◌≡◌, ◌≢◌, ◌<◌, ◌^◌, Err, IfOk, IfErr, IfSome, OnOk};
+ghost use Rattle.ct_streams.specs.Streams.{FailsOnce};
 ghost use Rattle.ct_records.specs.Script.{script};
 ghost use Rattle.ct_show.specs.Answer.{IsOfReading};
 ghost use Rattle.ct_diagram.specs.Running.{Draws, DrawsPart, FailsOn, IsDiagramOf, IsOfDrawing, IsRead};
@@ -30,11 +31,8 @@ pub fn draw<R: Source, W: Sink>(
     // Where the writer failed, some first bytes of such a diagram were written.
     ensures part { result ≡ Err (DiagramFault.Program ProgramFault.Write) → IfSome (R.left reader.old) (λ input.
         DrawsPart window.now (script input) (W.written writer.old) (W.written writer.new)) }
-    // A stream failed where that is the fault, once, and else not at all.
-    ensures reader { result ≡ Err (DiagramFault.Program ProgramFault.Reader) → R.failures reader.new ≡ R.failures reader.old + 1 }
-    ensures no_read { result ≢ Err (DiagramFault.Program ProgramFault.Reader) → R.failures reader.new ≡ R.failures reader.old }
-    ensures writer { result ≡ Err (DiagramFault.Program ProgramFault.Write) → W.failures writer.new ≡ W.failures writer.old + 1 }
-    ensures no_write { result ≢ Err (DiagramFault.Program ProgramFault.Write) → W.failures writer.new ≡ W.failures writer.old }
+    ensures reader { FailsOnce result (DiagramFault.Program ProgramFault.Reader) (R.failures reader.old) (R.failures reader.new) }
+    ensures writer { FailsOnce result (DiagramFault.Program ProgramFault.Write) (W.failures writer.old) (W.failures writer.new) }
     // Nothing was written but where the writer failed.
     ensures quiet { IfErr result (λ fault. fault ≢ DiagramFault.Program ProgramFault.Write → writer.new ≡ writer.old) }
 {

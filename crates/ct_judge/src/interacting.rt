@@ -2,7 +2,7 @@
 
 ghost use Rattle.std.specs.Prelude.{◌≡◌, ◌≢◌, ◌+◌, ◌<◌, ◌^◌, Err, OnOk, OnErr, IfOk, IfErr, length, vec_len};
 ghost use Rattle.std.specs.Io.KnownBytes.{Appends};
-ghost use Rattle.ct_streams.specs.Streams.{WritesPart};
+ghost use Rattle.ct_streams.specs.Streams.{FailsOnce, WritesPart};
 ghost use Rattle.ct_judge.specs.SessionFaults.{StopsAnswering, StopsReading};
 ghost use Rattle.ct_judge.specs.Sessions.{IsEnd, Says, SaysPart, after_bytes, at_end, heard_in, opening, said_by};
 
@@ -33,8 +33,7 @@ pub fn interact<R: Source, W: Sink>(
     // A stream failed where that is the fault, once, and else not at all; or the input did not end within 2^64 - 1 reads.
     ensures reader { result ≡ Err SessionFault.Read → StopsReading (R.left reader.old) (R.failures reader.old) (R.failures reader.new) }
     ensures no_read { result ≢ Err SessionFault.Read → R.failures reader.new ≡ R.failures reader.old }
-    ensures writer { result ≡ Err SessionFault.Write → W.failures writer.new ≡ W.failures writer.old + 1 }
-    ensures no_write { result ≢ Err SessionFault.Write → W.failures writer.new ≡ W.failures writer.old }
+    ensures writer { FailsOnce result SessionFault.Write (W.failures writer.old) (W.failures writer.new) }
 {
     let mut block = block(alloc)?;
     let mut session = Session::new(alloc);
@@ -59,8 +58,7 @@ fn listen<R: Source, W: Sink>(
     ensures part { OnErr result (SaysPart (R.left reader.old) (W.written writer.old) (W.written writer.new)) }
     ensures reader { result ≡ Err SessionFault.Read → StopsReading (R.left reader.old) (R.failures reader.old) (R.failures reader.new) }
     ensures no_read { result ≢ Err SessionFault.Read → R.failures reader.new ≡ R.failures reader.old }
-    ensures writer { result ≡ Err SessionFault.Write → W.failures writer.new ≡ W.failures writer.old + 1 }
-    ensures no_write { result ≢ Err SessionFault.Write → W.failures writer.new ≡ W.failures writer.old }
+    ensures writer { FailsOnce result SessionFault.Write (W.failures writer.old) (W.failures writer.new) }
 {
     for i in 0..u64::MAX {
         // The invariant names it.

@@ -1,6 +1,7 @@
 //! How sessions end, and what is kept of them.
 
-ghost use Rattle.std.specs.Prelude.{◌≡◌, ◌≢◌, ◌+◌, ◌<◌, ◌^◌, Ok, Err, OnOk, IfOk, IfErr, IsOkAnd};
+ghost use Rattle.std.specs.Prelude.{◌≡◌, ◌≢◌, ◌<◌, ◌^◌, Ok, Err, OnOk, IfOk, IfErr, IsOkAnd};
+ghost use Rattle.ct_streams.specs.Streams.{FailsOnce};
 ghost use Rattle.ct_judge.specs.Keeping.{IsKeepFaultOf, IsKeptIn, Keeps, KeepsPart, end_of, is_left};
 ghost use Rattle.ct_judge.specs.Schedule.{IsSafeRun};
 ghost use Rattle.ct_judge.specs.Standing.{world_of};
@@ -60,9 +61,7 @@ pub fn keep<F: NewFiles>(
     // Only where the file can't be written one may have been made: with some first bytes of that.
     ensures quiet { IfErr result (λ fault. fault ≢ KeepFault.Write → files.new ≡ files.old) }
     ensures part { result ≡ Err KeepFault.Write → KeepsPart (world_of judge) (F.made files.old) (F.made files.new) name.now }
-    // The files failed where that is the fault, once, and else not at all.
-    ensures failed { result ≡ Err KeepFault.Write → F.failures files.new ≡ F.failures files.old + 1 }
-    ensures no_write { result ≢ Err KeepFault.Write → F.failures files.new ≡ F.failures files.old }
+    ensures failed { FailsOnce result KeepFault.Write (F.failures files.old) (F.failures files.new) }
 {
     let text = session_record(alloc, judge)?;
     match files.make(name, &text) {

@@ -1,8 +1,8 @@
 //! The record of a schedule up to its first line that is refused.
 
-ghost use Rattle.std.specs.Prelude.{◌≡◌, ◌≢◌, ◌+◌, ◌≤◌, ◌<◌, ◌^◌, length, Ok, Err, OnOk, IfOk, IfErr, IfSome, IsOk};
+ghost use Rattle.std.specs.Prelude.{◌≡◌, ◌≢◌, ◌≤◌, ◌<◌, ◌^◌, length, Err, OnOk, IfOk, IfErr, IfSome, IsOk};
 ghost use Rattle.std.specs.Io.KnownBytes.{Appends};
-ghost use Rattle.ct_streams.specs.Streams.{WritesPart, read_part};
+ghost use Rattle.ct_streams.specs.Streams.{FailsOnce, WritesPart, read_part};
 ghost use Rattle.ct_judge.specs.Schedule.{IsEndIn, IsFaultIn, IsFaultOrStream, IsOfLine, IsToldEnd, before_fault, beginning, lines_of};
 ghost use Rattle.ct_judge.specs.Schedule.{part_of, part_text, schedule};
 ghost use Rattle.ct_judge.specs.Standing.{world_of};
@@ -42,11 +42,8 @@ pub fn record_partial<R: Source, W: Sink>(
         Appends (W.written writer.old) (W.written writer.new) (part_text (part_of (read_part input))))) }
     ensures part { result ≡ Err RecordFault.Write → IfSome (R.left reader.old) (λ input.
         WritesPart (W.written writer.old) (W.written writer.new) (part_text (part_of (read_part input)))) }
-    // A stream failed where that is the fault, once, and else not at all.
-    ensures reader { result ≡ Err RecordFault.Read → R.failures reader.new ≡ R.failures reader.old + 1 }
-    ensures no_read { result ≢ Err RecordFault.Read → R.failures reader.new ≡ R.failures reader.old }
-    ensures writer { result ≡ Err RecordFault.Write → W.failures writer.new ≡ W.failures writer.old + 1 }
-    ensures no_write { result ≢ Err RecordFault.Write → W.failures writer.new ≡ W.failures writer.old }
+    ensures reader { FailsOnce result RecordFault.Read (R.failures reader.old) (R.failures reader.new) }
+    ensures writer { FailsOnce result RecordFault.Write (W.failures writer.old) (W.failures writer.new) }
 {
     let bytes = read(alloc, reader)?;
     let part = recorded_part(alloc, &bytes)?;
@@ -60,8 +57,7 @@ fn write_part<W: Sink>(writer: &mut W, part: Part) -> Result<(), RecordFault>
     ensures ok { result ≢ Err RecordFault.Write → result ≡ part.ended }
     ensures all { result ≢ Err RecordFault.Write → Appends (W.written writer.old) (W.written writer.new) part.line.items }
     ensures part { result ≡ Err RecordFault.Write → WritesPart (W.written writer.old) (W.written writer.new) part.line.items }
-    ensures writer { result ≡ Err RecordFault.Write → W.failures writer.new ≡ W.failures writer.old + 1 }
-    ensures no_write { result ≢ Err RecordFault.Write → W.failures writer.new ≡ W.failures writer.old }
+    ensures writer { FailsOnce result RecordFault.Write (W.failures writer.old) (W.failures writer.new) }
 {
     let Part { line, ended } = part;
     match write_all(writer, &line) {

@@ -1,7 +1,7 @@
 //! A schedule in, its record out.
 
 ghost use Rattle.std.specs.Prelude.{◌≡◌, ◌≢◌, ◌⊎◌, ◌+◌, ◌≤◌, ◌<◌, ◌^◌, drop, length, position, Ok, Err, OnOk, IfOk, IfErr, IfSome, IsOkAnd};
-ghost use Rattle.ct_streams.specs.Streams.{read_part};
+ghost use Rattle.ct_streams.specs.Streams.{FailsOnce, read_part};
 ghost use Rattle.ct_judge.specs.Schedule.{IsFaultIn, IsFaultOrStream, IsLeftAt, IsRecordOf, IsSafeRun, Writes, WritesPartOf, after_lines};
 ghost use Rattle.ct_judge.specs.Schedule.{before_fault, is_feed, lines_of, schedule};
 
@@ -36,11 +36,8 @@ pub fn record<R: Source, W: Sink>(
     // The input is too long where that is the fault; where a record is written it is not.
     ensures long { result ≡ Err RecordFault.TooLong → IfSome (R.left reader.old) (λ input. MAX_LEN < length input) }
     ensures within { OnOk result (IfSome (R.left reader.old) (λ input. length input ≤ MAX_LEN)) }
-    // A stream failed where that is the fault, once, and else not at all.
-    ensures reader { result ≡ Err RecordFault.Read → R.failures reader.new ≡ R.failures reader.old + 1 }
-    ensures no_read { result ≢ Err RecordFault.Read → R.failures reader.new ≡ R.failures reader.old }
-    ensures writer { result ≡ Err RecordFault.Write → W.failures writer.new ≡ W.failures writer.old + 1 }
-    ensures no_write { result ≢ Err RecordFault.Write → W.failures writer.new ≡ W.failures writer.old }
+    ensures reader { FailsOnce result RecordFault.Read (R.failures reader.old) (R.failures reader.new) }
+    ensures writer { FailsOnce result RecordFault.Write (W.failures writer.old) (W.failures writer.new) }
 {
     let bytes = read(alloc, reader)?;
     let text = recorded(alloc, &bytes)?;
@@ -55,8 +52,7 @@ pub(crate) fn read<R: Source>(alloc: Global, reader: &mut R) -> Result<Vec<u8>, 
     requires { R.failures reader.old < 2 ^ 63 }
     ensures bytes { IfOk result (λ bytes. IfSome (R.left reader.old) (λ input. bytes.items ≡ read_part input)) }
     ensures fault { IfErr result (λ fault. (fault ≡ RecordFault.Read) ⊎ (fault ≡ RecordFault.Memory)) }
-    ensures reader { result ≡ Err RecordFault.Read → R.failures reader.new ≡ R.failures reader.old + 1 }
-    ensures no_read { result ≢ Err RecordFault.Read → R.failures reader.new ≡ R.failures reader.old }
+    ensures reader { FailsOnce result RecordFault.Read (R.failures reader.old) (R.failures reader.new) }
 {
     match read_all(alloc, reader) {
         Ok(bytes) => Ok(bytes),

@@ -1,6 +1,7 @@
 //! A free run, and the record of it.
 
-ghost use Rattle.std.specs.Prelude.{◌≡◌, ◌≢◌, ◌⊎◌, ◌+◌, ◌^◌, ◌<◌, [], Ok, Err, OnOk, IfOk, IfErr, vec_len};
+ghost use Rattle.std.specs.Prelude.{◌≡◌, ◌≢◌, ◌⊎◌, ◌^◌, ◌<◌, [], Ok, Err, OnOk, IfOk, IfErr, vec_len};
+ghost use Rattle.ct_streams.specs.Streams.{FailsOnce};
 ghost use Rattle.ct_world.specs.Replay.{world_after};
 ghost use Rattle.ct_program.specs.FreeOptions.{InRange, setting_of};
 ghost use Rattle.ct_program.specs.FreeRun.{HasMade, IsLineOfRun, WritesRun, WritesRunPart, IsFreeFault, of_run_fault};
@@ -40,9 +41,7 @@ pub fn free<R: Threads + Wait + Sync, W: Sink>(
     ensures quiet { IfErr result (λ fault. fault ≢ ProgramFault.Write → writer.new ≡ writer.old) }
     ensures part { result ≡ Err ProgramFault.Write →
         WritesRunPart options.now (W.written writer.old) (W.written writer.new) }
-    // The writer failed where that is the fault, once, and else not at all.
-    ensures writer { result ≡ Err ProgramFault.Write → W.failures writer.new ≡ W.failures writer.old + 1 }
-    ensures no_write { result ≢ Err ProgramFault.Write → W.failures writer.new ≡ W.failures writer.old }
+    ensures writer { FailsOnce result ProgramFault.Write (W.failures writer.old) (W.failures writer.new) }
 {
     let plan = plan(alloc, options)?;
     let (world, board) = first_world(alloc, options)?;

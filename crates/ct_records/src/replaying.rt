@@ -1,7 +1,8 @@
 //! A record in, its report out.
 
-ghost use Rattle.std.specs.Prelude.{◌≡◌, ◌≢◌, ◌+◌, ◌<◌, ◌^◌, Err, OnOk, IfOk, IfErr, IfSome};
+ghost use Rattle.std.specs.Prelude.{◌≡◌, ◌≢◌, ◌<◌, ◌^◌, Err, OnOk, IfOk, IfErr, IfSome};
 ghost use Rattle.std.specs.Str.{bytes_eq};
+ghost use Rattle.ct_streams.specs.Streams.{FailsOnce};
 ghost use Rattle.ct_records.specs.Replay.{IsReportOf, TellsReport, WritesReport, WritesReportPart, IsFaultIn};
 
 use crate::program_fault::ProgramFault;
@@ -30,11 +31,8 @@ pub fn run_replay<R: Source, W: Sink>(
     ensures quiet { IfErr result (λ fault. fault ≢ ProgramFault.Write → writer.new ≡ writer.old) }
     ensures part { result ≡ Err ProgramFault.Write → IfSome (R.left reader.old) (λ input.
         WritesReportPart input (W.written writer.old) (W.written writer.new)) }
-    // A stream failed where that is the fault, once, and else not at all.
-    ensures reader { result ≡ Err ProgramFault.Reader → R.failures reader.new ≡ R.failures reader.old + 1 }
-    ensures no_read { result ≢ Err ProgramFault.Reader → R.failures reader.new ≡ R.failures reader.old }
-    ensures writer { result ≡ Err ProgramFault.Write → W.failures writer.new ≡ W.failures writer.old + 1 }
-    ensures no_write { result ≢ Err ProgramFault.Write → W.failures writer.new ≡ W.failures writer.old }
+    ensures reader { FailsOnce result ProgramFault.Reader (R.failures reader.old) (R.failures reader.new) }
+    ensures writer { FailsOnce result ProgramFault.Write (W.failures writer.old) (W.failures writer.new) }
 {
     let bytes = read_all(alloc, reader)?;
     let text = answer(alloc, bytes)?;
@@ -55,9 +53,7 @@ pub fn gives_report<R: Source>(
     ensures ok { IfOk result (λ same. IfSome (R.left reader.old) (λ input. TellsReport expected.now input same)) }
     ensures fault { IfErr result (λ fault. IfSome (R.left reader.old) (IsFaultIn fault)) }
     ensures no_write { result ≢ Err ProgramFault.Write }
-    // The reader failed where that is the fault, once, and else not at all.
-    ensures reader { result ≡ Err ProgramFault.Reader → R.failures reader.new ≡ R.failures reader.old + 1 }
-    ensures no_read { result ≢ Err ProgramFault.Reader → R.failures reader.new ≡ R.failures reader.old }
+    ensures reader { FailsOnce result ProgramFault.Reader (R.failures reader.old) (R.failures reader.new) }
 {
     let bytes = read_all(alloc, reader)?;
     let report = answer(alloc, bytes)?;

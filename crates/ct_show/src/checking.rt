@@ -1,10 +1,10 @@
 //! Which of several files have records with a fault.
 
-ghost use Rattle.std.specs.Prelude.{◌≡◌, ◌≢◌, ◌⊎◌, ◌+◌, ◌<◌, ◌^◌, Err, map, OnOk, OnErr, IfOk, IfErr, IfSome, string_bytes};
+ghost use Rattle.std.specs.Prelude.{◌≡◌, ◌⊎◌, ◌<◌, ◌^◌, map, OnOk, OnErr, IfOk, IfErr, IfSome, string_bytes};
 ghost use Rattle.std.specs.Str.{bytes_eq};
 ghost use Rattle.ct_records.specs.Adds.{Adds};
 ghost use Rattle.ct_records.specs.Replay.{IsFaultIn, IsReportOf};
-ghost use Rattle.ct_streams.specs.Streams.{read_part};
+ghost use Rattle.ct_streams.specs.Streams.{FailsOnce, read_part};
 ghost use Rattle.ct_show.specs.Checking.{Checks, ChecksOne, ChecksOnePart, ChecksPart, IsBeside, IsChecked, IsOfRecord};
 ghost use Rattle.ct_show.specs.Checking.{checked_text, fault_text, line_of, report_name, told};
 
@@ -36,9 +36,7 @@ pub fn check<F: Files, W: Sink>(
     ensures part { OnErr result (ChecksPart (F.bytes files.now) options.now (map (λ name. name.now) names.now)
         (W.written writer.old) (W.written writer.new)) }
     ensures fault { IfErr result (λ fault. (fault ≡ ProgramFault.Memory) ⊎ (fault ≡ ProgramFault.Write)) }
-    // The writer failed where that is the fault, once, and else not at all.
-    ensures writer { result ≡ Err ProgramFault.Write → W.failures writer.new ≡ W.failures writer.old + 1 }
-    ensures no_write { result ≢ Err ProgramFault.Write → W.failures writer.new ≡ W.failures writer.old }
+    ensures writer { FailsOnce result ProgramFault.Write (W.failures writer.old) (W.failures writer.new) }
 {
     let mut worst: u8 = 0;
     for name in names {
@@ -62,8 +60,7 @@ fn check_one<F: Files, W: Sink>(
     ensures part { OnErr result (ChecksOnePart (F.bytes files.now) options.now name.now
         (W.written writer.old) (W.written writer.new)) }
     ensures fault { IfErr result (λ fault. (fault ≡ ProgramFault.Memory) ⊎ (fault ≡ ProgramFault.Write)) }
-    ensures writer { result ≡ Err ProgramFault.Write → W.failures writer.new ≡ W.failures writer.old + 1 }
-    ensures no_write { result ≢ Err ProgramFault.Write → W.failures writer.new ≡ W.failures writer.old }
+    ensures writer { FailsOnce result ProgramFault.Write (W.failures writer.old) (W.failures writer.new) }
     ensures same { OnOk result (W.failures writer.new ≡ W.failures writer.old) }
 {
     let checked = checked(alloc, files, name, options.expects);

@@ -1,6 +1,7 @@
 //! A record in, what a view shows of it out.
 
-ghost use Rattle.std.specs.Prelude.{◌≡◌, ◌≢◌, ◌+◌, ◌<◌, ◌^◌, Ok, Err, IfOk, IfErr, IfSome, IsOkAnd, None, OnOk};
+ghost use Rattle.std.specs.Prelude.{◌≡◌, ◌<◌, ◌^◌, Ok, Err, IfOk, IfErr, IfSome, IsOkAnd, None, OnOk};
+ghost use Rattle.ct_streams.specs.Streams.{FailsOnce};
 ghost use Rattle.ct_records.specs.Script.{script};
 ghost use Rattle.ct_records.specs.View.{rehearsal_of};
 ghost use Rattle.ct_show.specs.Answer.{Shows, ShowsPart, FailsOn, IsAnswerOf, IsOfShowing, IsQuiet, lacking};
@@ -36,11 +37,8 @@ pub fn show<R: Source, W: Sink>(
     // Where the writer failed, some first bytes of what would have been shown were written.
     ensures part { result ≡ Err (ShowFault.Program ProgramFault.Write) → IfSome (R.left reader.old) (λ input.
         ShowsPart view.now (script input) (W.written writer.old) (W.written writer.new)) }
-    // A stream failed where that is the fault, once, and else not at all.
-    ensures reader { result ≡ Err (ShowFault.Program ProgramFault.Reader) → R.failures reader.new ≡ R.failures reader.old + 1 }
-    ensures no_read { result ≢ Err (ShowFault.Program ProgramFault.Reader) → R.failures reader.new ≡ R.failures reader.old }
-    ensures writer { result ≡ Err (ShowFault.Program ProgramFault.Write) → W.failures writer.new ≡ W.failures writer.old + 1 }
-    ensures no_write { result ≢ Err (ShowFault.Program ProgramFault.Write) → W.failures writer.new ≡ W.failures writer.old }
+    ensures reader { FailsOnce result (ShowFault.Program ProgramFault.Reader) (R.failures reader.old) (R.failures reader.new) }
+    ensures writer { FailsOnce result (ShowFault.Program ProgramFault.Write) (W.failures writer.old) (W.failures writer.new) }
     // Nothing was written but at a refused step, or where the writer failed.
     ensures quiet { IfErr result (λ fault. IsQuiet fault → writer.new ≡ writer.old) }
 {

@@ -1,7 +1,7 @@
 //! From a source to its bytes.
 
-ghost use Rattle.std.specs.Prelude.{◌≡◌, ◌<◌, ◌^◌, length, vec_len, take, Err, OnOk, OnErr, IfOk, IfErr, IfSome};
-ghost use Rattle.ct_streams.specs.Streams.{read_part, StopsReading};
+ghost use Rattle.std.specs.Prelude.{◌≡◌, ◌<◌, ◌^◌, length, vec_len, take, Err, OnErr, IfOk, IfSome};
+ghost use Rattle.ct_streams.specs.Streams.{FailsOnce, read_part};
 
 use crate::input_fault::InputFault;
 use crate::source::Source;
@@ -18,8 +18,7 @@ const PIECE: usize = 65_536;
 pub fn read_all<R: Source>(alloc: Global, reader: &mut R) -> Result<Vec<u8>, InputFault>
     requires { R.failures reader.old < 2 ^ 63 }
     ensures bytes { IfOk result (λ bytes. IfSome (R.left reader.old) (λ input. bytes.items ≡ read_part input)) }
-    ensures ok { OnOk result (R.failures reader.new ≡ R.failures reader.old) }
-    ensures err { IfErr result (λ fault. StopsReading fault (R.failures reader.old) (R.failures reader.new)) }
+    ensures failures { FailsOnce result InputFault.Reader (R.failures reader.old) (R.failures reader.new) }
 {
     let mut piece = piece(alloc)?;
     read_up_to(alloc, reader, &mut piece, MOST)
@@ -46,8 +45,7 @@ fn read_up_to<R: Source>(
     requires count { R.failures reader.old < 2 ^ 63 }
     requires room { 0 < length piece.old }
     ensures bytes { IfOk result (λ bytes. IfSome (R.left reader.old) (λ input. bytes.items ≡ take limit input)) }
-    ensures ok { OnOk result (R.failures reader.new ≡ R.failures reader.old) }
-    ensures err { IfErr result (λ fault. StopsReading fault (R.failures reader.old) (R.failures reader.new)) }
+    ensures failures { FailsOnce result InputFault.Reader (R.failures reader.old) (R.failures reader.new) }
 {
     let mut bytes = Vec::new(alloc);
     while bytes.len() < limit {

@@ -1,6 +1,7 @@
 //! Records of walks, written.
 
-ghost use Rattle.std.specs.Prelude.{◌≡◌, ◌≢◌, ◌+◌, ◌<◌, ◌^◌, ◌++◌, [], ◌∷◌, length, Err, OnOk, IfOk, IfErr, option_map};
+ghost use Rattle.std.specs.Prelude.{◌≡◌, ◌≢◌, ◌<◌, ◌^◌, ◌++◌, [], ◌∷◌, length, Err, OnOk, IfOk, IfErr, option_map};
+ghost use Rattle.ct_streams.specs.Streams.{FailsOnce};
 ghost use Rattle.ct_records.specs.Outcome.{IsOutcome};
 ghost use Rattle.ct_records.specs.Text.{record_text};
 ghost use Rattle.ct_walk.specs.Line.{IsCallInRange};
@@ -34,9 +35,7 @@ pub fn write_call<W: Sink>(
     // Only a fault of the writer has written anything: some first bytes of such a line.
     ensures quiet { IfErr result (λ fault. fault ≢ WalkFault.Write → writer.new ≡ writer.old) }
     ensures part { result ≡ Err WalkFault.Write → WritesWalkPart call.now (W.written writer.old) (W.written writer.new) }
-    // The writer failed where that is the fault, once, and else not at all.
-    ensures writer { result ≡ Err WalkFault.Write → W.failures writer.new ≡ W.failures writer.old + 1 }
-    ensures no_write { result ≢ Err WalkFault.Write → W.failures writer.new ≡ W.failures writer.old }
+    ensures writer { FailsOnce result WalkFault.Write (W.failures writer.old) (W.failures writer.new) }
 {
     let made = called(alloc, call)?;
     let text = line_of(alloc, &made.world)?;
