@@ -1,5 +1,6 @@
 -- Why lines are not understood.
-use Rattle.std.specs.Prelude.{ℕ, ◌-◌, List, [], ◌∷◌, ◌++◌, Option, Some, None, codes, decimal, length, nat_le, slice_get, unwrap_or, if◌then◌else◌}
+use Rattle.std.specs.Prelude.{ℕ, ◌-◌, List, [], ◌∷◌, ◌++◌, Option, Some, None, codes, decimal, length, nat_le, slice_get, unwrap_or}
+use Rattle.std.specs.Prelude.{if◌then◌else◌}
 use Rattle.std.specs.List.{concat}
 use Rattle.ct_grammar.specs.declared.misfit.Misfit.{Misfit}
 use Rattle.ct_grammar.specs.declared.misfit.TheConstants.{LONGEST_WORD}
@@ -7,7 +8,7 @@ use Rattle.ct_grammar.specs.declared.unfit.Unfit.{Unfit}
 use Rattle.ct_grammar.specs.declared.unfit.Unfit.TheVariants.{End, Word as Other}
 use Rattle.ct_grammar.specs.declared.wanted.Wanted.{Wanted}
 use Rattle.ct_grammar.specs.Words.{Word}
-use Rattle.ct_grammar.specs.Places.{names, denied, due, is_listed}
+use Rattle.ct_grammar.specs.Places.{told_at}
 use Rattle.ct_grammar.specs.Near.{near_name}
 
 -- what does not fit among these words
@@ -27,7 +28,7 @@ names_text (name ∷ names) = codes " " ++ (name ++ more_names names)
 
 -- the names that could stand there, where they are told
 unfoldable pub listed_text : Wanted → List ℕ
-listed_text wanted = if is_listed wanted then codes ":" ++ names_text (names wanted) else []
+listed_text wanted = if (told_at wanted).is_listed then codes ":" ++ names_text (told_at wanted).names else []
 
 -- the name that is near to the word, or else the names that could stand there
 abbrev pub near_text : Option Word → Wanted → List ℕ
@@ -35,7 +36,7 @@ near_text (Some name) wanted = concat (codes "; " ∷ name ∷ codes "?" ∷ [])
 near_text None wanted = listed_text wanted
 
 unfoldable pub hint_text : Word → Wanted → List ℕ
-hint_text word wanted = near_text (near_name word (names wanted)) wanted
+hint_text word wanted = near_text (near_name word (told_at wanted).names) wanted
 
 -- the word; of a long one how many bytes it has
 unfoldable pub shown_word : Word → List ℕ
@@ -44,11 +45,11 @@ shown_word word =
 
 -- what is said of a word that does not fit
 unfoldable pub word_text : Word → Wanted → List ℕ
-word_text word wanted = concat (shown_word word ∷ codes " " ∷ denied wanted ∷ hint_text word wanted ∷ [])
+word_text word wanted = concat (shown_word word ∷ codes " " ∷ (told_at wanted).denied ∷ hint_text word wanted ∷ [])
 
 -- what is said of the line's end
 abbrev pub end_text : Wanted → List ℕ
-end_text wanted = concat (codes "the line ends where " ∷ due wanted ∷ codes " is due" ∷ [])
+end_text wanted = concat (codes "the line ends where " ∷ (told_at wanted).due ∷ codes " is due" ∷ [])
 
 abbrev pub text_at : Option Word → Wanted → List ℕ
 text_at None wanted = end_text wanted

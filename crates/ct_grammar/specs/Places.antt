@@ -43,150 +43,64 @@ reasons =
     codes "Undecided" ∷ codes "BadCommand" ∷ codes "NotSent" ∷ codes "StillWaiting" ∷ codes "Full(Submissions)" ∷
     codes "Full(Instances)" ∷ codes "Full(Rounds)" ∷ codes "Full(Envelopes)" ∷ codes "Full(Cells)" ∷ codes "Full(Steps)" ∷ []
 
--- the names that could stand there, where it is a name that is wanted
-unfoldable pub names : Wanted → List Word
-names Beginning = beginnings
-names GroupSize = []
-names CellCount = []
-names Bound = []
-names Member = []
-names Whom = []
-names Set = []
-names Side = []
-names Bar = []
-names Doing = doings
-names Act = acts
-names Command = codes "set" ∷ codes "add" ∷ codes "copy" ∷ []
-names Register = []
-names Amount = []
-names Envelope = codes "data" ∷ codes "est" ∷ codes "prop" ∷ codes "ack" ∷ codes "nack" ∷ codes "dec" ∷ codes "#SERIAL" ∷ []
-names Loss = codes "from" ∷ codes "data" ∷ codes "est" ∷ codes "prop" ∷ codes "ack" ∷ codes "nack" ∷ codes "dec" ∷ codes "#SERIAL" ∷ []
-names Serial = []
-names Message = []
-names Place = []
-names Rounds = codes "suspecting" ∷ codes "until" ∷ []
-names Until = []
-names Fact = facts
-names Phase = codes "Rest" ∷ codes "Gather" ∷ codes "Wait" ∷ codes "Tally" ∷ []
-names Reason = reasons
-names Instance = []
-names Round = []
-names Waiting = []
-names Members = []
-names Quoted = []
-names Nothing = []
-names Suspecting = codes "suspecting" ∷ []
-names Sender = codes "from" ∷ []
-names Statement = codes "set" ∷ codes "add" ∷ codes "copy" ∷ []
-names SenderOrStatement = codes "from" ∷ codes "set" ∷ codes "add" ∷ codes "copy" ∷ []
+-- ---- what is told of a place
 
--- what is said of another word that stands there
-unfoldable pub denied : Wanted → Word
-denied Beginning = codes "is neither a member nor a word that begins a line"
-denied GroupSize = codes "is no number from 1 to 16"
-denied CellCount = codes "is no number from 0 to 1024"
-denied Bound = codes "is no number from 1 to 1048560"
-denied Member = codes "is no member"
-denied Whom = codes "is neither a member, a list of members nor all"
-denied Set = codes "is no list of members"
-denied Side = codes "is no list of members that are named once"
-denied Bar = codes "is not |"
-denied Doing = codes "is no act"
-denied Act = codes "is no act"
-denied Command = codes "is no command"
-denied Register = codes "is no register"
-denied Amount = codes "is no value"
-denied Envelope = codes "is no envelope"
-denied Loss = codes "is no envelope"
-denied Serial = codes "is no serial"
-denied Message = codes "is no message"
-denied Place = codes "is no instance/round"
-denied Rounds = codes "is neither a number of rounds nor a word that stands here"
-denied Until = codes "is not until"
-denied Fact = codes "is no fact"
-denied Phase = codes "is no phase"
-denied Reason = codes "is no reason"
-denied Instance = codes "is no instance"
-denied Round = codes "is no round"
-denied Waiting = codes "is no number of envelopes"
-denied Members = codes "is neither a list of members nor -"
-denied Quoted = codes "is no text"
-denied Nothing = codes "is left over"
-denied Suspecting = codes "is left over"
-denied Sender = codes "is left over"
-denied Statement = codes "is left over"
-denied SenderOrStatement = codes "is left over"
+-- the names that could stand there, where it is a name that is wanted; whether they are told where none is near; what is said of
+-- another word that stands there; what is due there, where the line ends
+pub record Told : Type 0 where
+  pub names : List Word
+  pub is_listed : Bool
+  pub denied : Word
+  pub due : Word
 
--- what is due there, where the line ends
-unfoldable pub due : Wanted → Word
-due Beginning = codes "a line"
-due GroupSize = codes "a number from 1 to 16"
-due CellCount = codes "a number from 0 to 1024"
-due Bound = codes "a number from 1 to 1048560"
-due Member = codes "a member"
-due Whom = codes "a member, a list of members or all"
-due Set = codes "a list of members"
-due Side = codes "a list of members"
-due Bar = codes "|"
-due Doing = codes "an act"
-due Act = codes "an act"
-due Command = codes "a command"
-due Register = codes "a register"
-due Amount = codes "a value"
-due Envelope = codes "an envelope"
-due Loss = codes "an envelope"
-due Serial = codes "a serial"
-due Message = codes "a message"
-due Place = codes "an instance/round"
-due Rounds = codes "a number of rounds"
-due Until = codes "until"
-due Fact = codes "a fact"
-due Phase = codes "a phase"
-due Reason = codes "a reason"
-due Instance = codes "an instance"
-due Round = codes "a round"
-due Waiting = codes "a number of envelopes"
-due Members = codes "a list of members or -"
-due Quoted = codes "a text"
-due Nothing = codes "nothing"
-due Suspecting = codes "nothing"
-due Sender = codes "nothing"
-due Statement = codes "nothing"
-due SenderOrStatement = codes "nothing"
+abbrev pub listed : List Word → Word → Word → Told
+listed names denied due = record { names = names; is_listed = true; denied = denied; due = due }
 
--- the names are told where none is near
-unfoldable pub is_listed : Wanted → Bool
-is_listed Beginning = true
-is_listed GroupSize = false
-is_listed CellCount = false
-is_listed Bound = false
-is_listed Member = false
-is_listed Whom = false
-is_listed Set = false
-is_listed Side = false
-is_listed Bar = false
-is_listed Doing = true
-is_listed Act = true
-is_listed Command = true
-is_listed Register = false
-is_listed Amount = false
-is_listed Envelope = true
-is_listed Loss = true
-is_listed Serial = false
-is_listed Message = false
-is_listed Place = false
-is_listed Rounds = true
-is_listed Until = false
-is_listed Fact = true
-is_listed Phase = true
-is_listed Reason = true
-is_listed Instance = false
-is_listed Round = false
-is_listed Waiting = false
-is_listed Members = false
-is_listed Quoted = false
-is_listed Nothing = false
-is_listed Suspecting = false
-is_listed Sender = false
-is_listed Statement = false
-is_listed SenderOrStatement = false
+abbrev pub unnamed : Word → Word → Told
+unnamed denied due = record { names = []; is_listed = false; denied = denied; due = due }
+
+-- the line could end there
+abbrev pub optional : List Word → Told
+optional names = record { names = names; is_listed = false; denied = codes "is left over"; due = codes "nothing" }
+
+unfoldable pub told_at : Wanted → Told
+told_at Beginning = listed beginnings (codes "is neither a member nor a word that begins a line") (codes "a line")
+told_at GroupSize = unnamed (codes "is no number from 1 to 16") (codes "a number from 1 to 16")
+told_at CellCount = unnamed (codes "is no number from 0 to 1024") (codes "a number from 0 to 1024")
+told_at Bound = unnamed (codes "is no number from 1 to 1048560") (codes "a number from 1 to 1048560")
+told_at Member = unnamed (codes "is no member") (codes "a member")
+told_at Whom = unnamed (codes "is neither a member, a list of members nor all") (codes "a member, a list of members or all")
+told_at Set = unnamed (codes "is no list of members") (codes "a list of members")
+told_at Side = unnamed (codes "is no list of members that are named once") (codes "a list of members")
+told_at Bar = unnamed (codes "is not |") (codes "|")
+told_at Doing = listed doings (codes "is no act") (codes "an act")
+told_at Act = listed acts (codes "is no act") (codes "an act")
+told_at Command = listed (codes "set" ∷ codes "add" ∷ codes "copy" ∷ []) (codes "is no command") (codes "a command")
+told_at Register = unnamed (codes "is no register") (codes "a register")
+told_at Amount = unnamed (codes "is no value") (codes "a value")
+told_at Envelope =
+    listed (codes "data" ∷ codes "est" ∷ codes "prop" ∷ codes "ack" ∷ codes "nack" ∷ codes "dec" ∷ codes "#SERIAL" ∷ [])
+    (codes "is no envelope") (codes "an envelope")
+told_at Loss =
+    listed (codes "from" ∷ codes "data" ∷ codes "est" ∷ codes "prop" ∷ codes "ack" ∷ codes "nack" ∷ codes "dec" ∷ codes "#SERIAL" ∷ [])
+    (codes "is no envelope") (codes "an envelope")
+told_at Serial = unnamed (codes "is no serial") (codes "a serial")
+told_at Message = unnamed (codes "is no message") (codes "a message")
+told_at Place = unnamed (codes "is no instance/round") (codes "an instance/round")
+told_at Rounds =
+    listed (codes "suspecting" ∷ codes "until" ∷ [])
+    (codes "is neither a number of rounds nor a word that stands here") (codes "a number of rounds")
+told_at Until = unnamed (codes "is not until") (codes "until")
+told_at Fact = listed facts (codes "is no fact") (codes "a fact")
+told_at Phase = listed (codes "Rest" ∷ codes "Gather" ∷ codes "Wait" ∷ codes "Tally" ∷ []) (codes "is no phase") (codes "a phase")
+told_at Reason = listed reasons (codes "is no reason") (codes "a reason")
+told_at Instance = unnamed (codes "is no instance") (codes "an instance")
+told_at Round = unnamed (codes "is no round") (codes "a round")
+told_at Waiting = unnamed (codes "is no number of envelopes") (codes "a number of envelopes")
+told_at Members = unnamed (codes "is neither a list of members nor -") (codes "a list of members or -")
+told_at Quoted = unnamed (codes "is no text") (codes "a text")
+told_at Nothing = optional []
+told_at Suspecting = optional (codes "suspecting" ∷ [])
+told_at Sender = optional (codes "from" ∷ [])
+told_at Statement = optional (codes "set" ∷ codes "add" ∷ codes "copy" ∷ [])
+told_at SenderOrStatement = optional (codes "from" ∷ codes "set" ∷ codes "add" ∷ codes "copy" ∷ [])

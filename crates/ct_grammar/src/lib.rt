@@ -66,6 +66,7 @@ mod reason;
 mod sides;
 mod stating;
 mod text;
+mod told;
 mod turning;
 mod unfit;
 mod wanted;

@@ -4,7 +4,7 @@ ghost use Rattle.std.specs.Prelude.{◌≡◌, ◌++◌, IfOk, OnOk, map, string
 ghost use Rattle.ct_grammar.specs.Misfits.{misfit_of, misfit_text, word_text, hint_text, listed_text, names_text, shown_word};
 
 use crate::near::near_name;
-use crate::places::{denied, due, is_listed, names};
+use crate::places::told_at;
 use crate::text::Text;
 use crate::unfit::Unfit;
 use crate::wanted::Wanted;
@@ -30,7 +30,7 @@ impl Misfit {
         match &self.word {
             None => {
                 text.push_str("the line ends where ")?;
-                text.push_str(due(self.wanted))?;
+                text.push_str(told_at(self.wanted).due)?;
                 text.push_str(" is due")
             }
             Some(word) => push_word(text, word.as_str(), self.wanted),
@@ -66,7 +66,7 @@ fn push_word(text: &mut String, word: &str, wanted: Wanted) -> Result<(), AllocE
 {
     push_shown(text, word)?;
     text.push_str(" ")?;
-    text.push_str(denied(wanted))?;
+    text.push_str(told_at(wanted).denied)?;
     push_hint(text, word, wanted)
 }
 
@@ -87,7 +87,7 @@ fn push_shown(text: &mut String, word: &str) -> Result<(), AllocError>
 fn push_hint(text: &mut String, word: &str, wanted: Wanted) -> Result<(), AllocError>
     ensures { OnOk result (string_bytes text.new ≡ string_bytes text.old ++ hint_text word.now wanted) }
 {
-    match near_name(word, names(wanted)) {
+    match near_name(word, told_at(wanted).names) {
         Some(name) => {
             text.push_str("; ")?;
             text.push_str(name)?;
@@ -102,11 +102,12 @@ fn push_hint(text: &mut String, word: &str, wanted: Wanted) -> Result<(), AllocE
 fn push_listed(text: &mut String, wanted: Wanted) -> Result<(), AllocError>
     ensures { OnOk result (string_bytes text.new ≡ string_bytes text.old ++ listed_text wanted) }
 {
-    if !is_listed(wanted) {
+    let told = told_at(wanted);
+    if !told.is_listed {
         return Ok(());
     }
     text.push_str(":")?;
-    push_names(text, names(wanted))
+    push_names(text, told.names)
 }
 
 // The names, with commas between them.

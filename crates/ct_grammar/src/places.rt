@@ -1,8 +1,9 @@
 //! The words for what could stand at a place of a line.
 
 ghost use Rattle.std.specs.Prelude.{◌≡◌, map};
-ghost use Rattle.ct_grammar.specs.Places.{beginnings, doings, acts, facts, reasons, names, denied, due, is_listed};
+ghost use Rattle.ct_grammar.specs.Places.{beginnings, doings, acts, facts, reasons, told_at};
 
+use crate::told::Told;
 use crate::wanted::Wanted;
 
 // The words that begin lines.
@@ -97,170 +98,85 @@ fn reasons() -> &'static [&'static str]
     ]
 }
 
-/// The names that could stand there, where it is a name that is wanted.
-#[tactic(auto, unfolding(crate::specs::Places::names))]
-pub(crate) fn names(wanted: Wanted) -> &'static [&'static str]
-    ensures { map (λ name. name.now) result.now ≡ names wanted }
+/// What is told of a place where this is wanted.
+#[tactic(auto, unfolding(crate::specs::Places::told_at))]
+pub(crate) fn told_at(wanted: Wanted) -> Told
+    ensures names { map (λ name. name.now) result.names.now ≡ (told_at wanted).names }
+    ensures is_listed { result.is_listed ≡ (told_at wanted).is_listed }
+    ensures denied { result.denied.now ≡ (told_at wanted).denied }
+    ensures due { result.due.now ≡ (told_at wanted).due }
 {
     match wanted {
-        Wanted::Beginning => beginnings(),
-        Wanted::GroupSize
-        | Wanted::CellCount
-        | Wanted::Bound
-        | Wanted::Member
-        | Wanted::Whom
-        | Wanted::Set
-        | Wanted::Side
-        | Wanted::Bar
-        | Wanted::Register
-        | Wanted::Amount
-        | Wanted::Serial
-        | Wanted::Message
-        | Wanted::Place
-        | Wanted::Until
-        | Wanted::Instance
-        | Wanted::Round
-        | Wanted::Waiting
-        | Wanted::Members
-        | Wanted::Quoted
-        | Wanted::Nothing => &[],
-        Wanted::Doing => doings(),
-        Wanted::Act => acts(),
-        Wanted::Command | Wanted::Statement => &["set", "add", "copy"],
-        Wanted::Envelope => &["data", "est", "prop", "ack", "nack", "dec", "#SERIAL"],
-        Wanted::Loss => &[
-            "from", "data", "est", "prop", "ack", "nack", "dec", "#SERIAL",
-        ],
-        Wanted::Rounds => &["suspecting", "until"],
-        Wanted::Fact => facts(),
-        Wanted::Phase => &["Rest", "Gather", "Wait", "Tally"],
-        Wanted::Reason => reasons(),
-        Wanted::Suspecting => &["suspecting"],
-        Wanted::Sender => &["from"],
-        Wanted::SenderOrStatement => &["from", "set", "add", "copy"],
-    }
-}
-
-/// What is said of another word that stands there.
-#[tactic(auto, unfolding(crate::specs::Places::denied))]
-pub(crate) fn denied(wanted: Wanted) -> &'static str
-    ensures { result.now ≡ denied wanted }
-{
-    match wanted {
-        Wanted::Beginning => "is neither a member nor a word that begins a line",
-        Wanted::GroupSize => "is no number from 1 to 16",
-        Wanted::CellCount => "is no number from 0 to 1024",
-        Wanted::Bound => "is no number from 1 to 1048560",
-        Wanted::Member => "is no member",
-        Wanted::Whom => "is neither a member, a list of members nor all",
-        Wanted::Set => "is no list of members",
-        Wanted::Side => "is no list of members that are named once",
-        Wanted::Bar => "is not |",
-        Wanted::Doing | Wanted::Act => "is no act",
-        Wanted::Command => "is no command",
-        Wanted::Register => "is no register",
-        Wanted::Amount => "is no value",
-        Wanted::Envelope | Wanted::Loss => "is no envelope",
-        Wanted::Serial => "is no serial",
-        Wanted::Message => "is no message",
-        Wanted::Place => "is no instance/round",
-        Wanted::Rounds => "is neither a number of rounds nor a word that stands here",
-        Wanted::Until => "is not until",
-        Wanted::Fact => "is no fact",
-        Wanted::Phase => "is no phase",
-        Wanted::Reason => "is no reason",
-        Wanted::Instance => "is no instance",
-        Wanted::Round => "is no round",
-        Wanted::Waiting => "is no number of envelopes",
-        Wanted::Members => "is neither a list of members nor -",
-        Wanted::Quoted => "is no text",
-        Wanted::Nothing
-        | Wanted::Suspecting
-        | Wanted::Sender
-        | Wanted::Statement
-        | Wanted::SenderOrStatement => "is left over",
-    }
-}
-
-/// What is due there, where the line ends.
-#[tactic(auto, unfolding(crate::specs::Places::due))]
-pub(crate) fn due(wanted: Wanted) -> &'static str
-    ensures { result.now ≡ due wanted }
-{
-    match wanted {
-        Wanted::Beginning => "a line",
-        Wanted::GroupSize => "a number from 1 to 16",
-        Wanted::CellCount => "a number from 0 to 1024",
-        Wanted::Bound => "a number from 1 to 1048560",
-        Wanted::Member => "a member",
-        Wanted::Whom => "a member, a list of members or all",
-        Wanted::Set | Wanted::Side => "a list of members",
-        Wanted::Bar => "|",
-        Wanted::Doing | Wanted::Act => "an act",
-        Wanted::Command => "a command",
-        Wanted::Register => "a register",
-        Wanted::Amount => "a value",
-        Wanted::Envelope | Wanted::Loss => "an envelope",
-        Wanted::Serial => "a serial",
-        Wanted::Message => "a message",
-        Wanted::Place => "an instance/round",
-        Wanted::Rounds => "a number of rounds",
-        Wanted::Until => "until",
-        Wanted::Fact => "a fact",
-        Wanted::Phase => "a phase",
-        Wanted::Reason => "a reason",
-        Wanted::Instance => "an instance",
-        Wanted::Round => "a round",
-        Wanted::Waiting => "a number of envelopes",
-        Wanted::Members => "a list of members or -",
-        Wanted::Quoted => "a text",
-        Wanted::Nothing
-        | Wanted::Suspecting
-        | Wanted::Sender
-        | Wanted::Statement
-        | Wanted::SenderOrStatement => "nothing",
-    }
-}
-
-/// Whether the names are told where none is near.
-#[tactic(auto, unfolding(crate::specs::Places::is_listed))]
-pub(crate) fn is_listed(wanted: Wanted) -> bool
-    ensures { result ≡ is_listed wanted }
-{
-    match wanted {
-        Wanted::Beginning
-        | Wanted::Doing
-        | Wanted::Act
-        | Wanted::Command
-        | Wanted::Envelope
-        | Wanted::Loss
-        | Wanted::Rounds
-        | Wanted::Fact
-        | Wanted::Phase
-        | Wanted::Reason => true,
-        Wanted::GroupSize
-        | Wanted::CellCount
-        | Wanted::Bound
-        | Wanted::Member
-        | Wanted::Whom
-        | Wanted::Set
-        | Wanted::Side
-        | Wanted::Bar
-        | Wanted::Register
-        | Wanted::Amount
-        | Wanted::Serial
-        | Wanted::Message
-        | Wanted::Place
-        | Wanted::Until
-        | Wanted::Instance
-        | Wanted::Round
-        | Wanted::Waiting
-        | Wanted::Members
-        | Wanted::Quoted
-        | Wanted::Nothing
-        | Wanted::Suspecting
-        | Wanted::Sender
-        | Wanted::Statement
-        | Wanted::SenderOrStatement => false,
+        Wanted::Beginning => Told::listed(
+            beginnings(),
+            "is neither a member nor a word that begins a line",
+            "a line",
+        ),
+        Wanted::GroupSize => Told::unnamed("is no number from 1 to 16", "a number from 1 to 16"),
+        Wanted::CellCount => Told::unnamed(
+            "is no number from 0 to 1024",
+            "a number from 0 to 1024",
+        ),
+        Wanted::Bound => Told::unnamed(
+            "is no number from 1 to 1048560",
+            "a number from 1 to 1048560",
+        ),
+        Wanted::Member => Told::unnamed("is no member", "a member"),
+        Wanted::Whom => Told::unnamed(
+            "is neither a member, a list of members nor all",
+            "a member, a list of members or all",
+        ),
+        Wanted::Set => Told::unnamed("is no list of members", "a list of members"),
+        Wanted::Side => Told::unnamed(
+            "is no list of members that are named once",
+            "a list of members",
+        ),
+        Wanted::Bar => Told::unnamed("is not |", "|"),
+        Wanted::Doing => Told::listed(doings(), "is no act", "an act"),
+        Wanted::Act => Told::listed(acts(), "is no act", "an act"),
+        Wanted::Command => Told::listed(&["set", "add", "copy"], "is no command", "a command"),
+        Wanted::Register => Told::unnamed("is no register", "a register"),
+        Wanted::Amount => Told::unnamed("is no value", "a value"),
+        Wanted::Envelope => Told::listed(
+            &["data", "est", "prop", "ack", "nack", "dec", "#SERIAL"],
+            "is no envelope",
+            "an envelope",
+        ),
+        Wanted::Loss => Told::listed(
+            &[
+                "from", "data", "est", "prop", "ack", "nack", "dec", "#SERIAL",
+            ],
+            "is no envelope",
+            "an envelope",
+        ),
+        Wanted::Serial => Told::unnamed("is no serial", "a serial"),
+        Wanted::Message => Told::unnamed("is no message", "a message"),
+        Wanted::Place => Told::unnamed("is no instance/round", "an instance/round"),
+        Wanted::Rounds => Told::listed(
+            &["suspecting", "until"],
+            "is neither a number of rounds nor a word that stands here",
+            "a number of rounds",
+        ),
+        Wanted::Until => Told::unnamed("is not until", "until"),
+        Wanted::Fact => Told::listed(facts(), "is no fact", "a fact"),
+        Wanted::Phase => Told::listed(
+            &["Rest", "Gather", "Wait", "Tally"],
+            "is no phase",
+            "a phase",
+        ),
+        Wanted::Reason => Told::listed(reasons(), "is no reason", "a reason"),
+        Wanted::Instance => Told::unnamed("is no instance", "an instance"),
+        Wanted::Round => Told::unnamed("is no round", "a round"),
+        Wanted::Waiting => Told::unnamed("is no number of envelopes", "a number of envelopes"),
+        Wanted::Members => Told::unnamed(
+            "is neither a list of members nor -",
+            "a list of members or -",
+        ),
+        Wanted::Quoted => Told::unnamed("is no text", "a text"),
+        Wanted::Nothing => Told::optional(&[]),
+        Wanted::Suspecting => Told::optional(&["suspecting"]),
+        Wanted::Sender => Told::optional(&["from"]),
+        Wanted::Statement => Told::optional(&["set", "add", "copy"]),
+        Wanted::SenderOrStatement => Told::optional(&["from", "set", "add", "copy"]),
     }
 }
