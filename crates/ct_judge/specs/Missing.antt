@@ -1,9 +1,9 @@
 -- What is told of an envelope that is not there.
-use Rattle.std.specs.Prelude.{ℕ, zero, suc, List, [], ◌++◌, slice_get, codes, length, Option, Some, None, if◌then◌else◌}
+use Rattle.std.specs.Prelude.{ℕ, List, [], ◌++◌, codes, length, Option, Some, None}
 use Rattle.ct_model.specs.Rehearsal.{Rehearsal}
 use Rattle.ct_model.specs.declared.step.Step.{Step}
 use Rattle.ct_model.specs.declared.step.Step.TheVariants.{Receive, Lose}
-use Rattle.ct_show.specs.Facts.{takes}
+use Rattle.ct_show.specs.Facts.{last_taking}
 use Rattle.ct_grammar.specs.declared.pick.Pick.{Pick}
 use Rattle.ct_play.specs.Picking.{repeated, waiting_at}
 use Rattle.ct_judge.specs.Naming.{envelope_name, pick_name, shortened}
@@ -11,16 +11,7 @@ use Rattle.ct_judge.specs.Wording.{behind, numbered, numbered_twice}
 
 -- ---- what took an envelope out of its line
 
-abbrev pub taking_or : Option (ℕ × Step) → ℕ → ℕ → Option Step → Option (ℕ × Step)
-taking_or before k number None = before
-taking_or before k number (Some step) = if takes step k then Some (number, step) else before
-
--- the last of the first steps that takes it, after its number
-abbrev pub last_taking : List Step → ℕ → ℕ → Option (ℕ × Step)
-last_taking steps k zero = None
-last_taking steps k (suc i) = taking_or (last_taking steps k i) k (suc i) (slice_get steps i)
-
--- such a step, by its number
+-- the step that took it, by its number
 abbrev pub took_text : ℕ → Step → List ℕ
 took_text number (Receive p k) = numbered_twice (codes " was received by ") p (codes " in step ") number
 took_text number (Lose p k) = numbered (codes " was lost in step ") number

@@ -1,11 +1,9 @@
 //! What is told of an envelope that is not there.
 
-ghost use Rattle.std.specs.Prelude.{◌≡◌, length, OnOk};
+ghost use Rattle.std.specs.Prelude.{OnOk};
 ghost use Rattle.ct_records.specs.Adds.{Adds};
-ghost use Rattle.ct_show.specs.Facts.{takes};
 ghost use Rattle.ct_play.specs.Picking.{waiting_at};
-ghost use Rattle.ct_judge.specs.Missing.{across_text, gone_text, last_taking, missing_text, none_from_text, taking_or, taking_text};
-ghost use Rattle.ct_judge.specs.Missing.{took_text};
+ghost use Rattle.ct_judge.specs.Missing.{across_text, gone_text, missing_text, none_from_text, taking_text, took_text};
 ghost use Rattle.ct_judge.specs.Naming.{envelope_name, pick_name, shortened};
 ghost use Rattle.ct_judge.specs.Wording.{behind};
 
@@ -15,6 +13,7 @@ use ct_grammar::Pick;
 use ct_model::Step;
 use ct_names::{Member, Serial};
 use ct_play::{Stage, repeated, waiting_at};
+use ct_show::last_taking;
 use ct_world::World;
 use std::alloc::AllocError;
 
@@ -132,40 +131,5 @@ fn push_took(text: &mut String, number: usize, step: Step) -> Result<(), AllocEr
         }
         Step::Lose(..) => push_number(text, " was lost in step ", number),
         _ => Ok(()),
-    }
-}
-
-// The last step that takes the envelope of the serial out of a line, after its number.
-fn last_taking(steps: &[Step], serial: Serial) -> Option<(usize, Step)>
-    ensures { result ≡ last_taking steps.now serial (length steps.now) }
-{
-    let mut last = None;
-    for (i, step) in steps.iter().enumerate() {
-        last = taking_or(last, serial, i + 1, *step);
-    }
-    last
-}
-
-fn taking_or(
-    before: Option<(usize, Step)>,
-    serial: Serial,
-    number: usize,
-    step: Step,
-) -> Option<(usize, Step)>
-    ensures { result ≡ taking_or before serial number (Some step) }
-{
-    if takes(step, serial) {
-        Some((number, step))
-    } else {
-        before
-    }
-}
-
-fn takes(step: Step, serial: Serial) -> bool
-    ensures { result ≡ takes step serial }
-{
-    match step {
-        Step::Receive(_, other) | Step::Lose(_, other) => other == serial,
-        _ => false,
     }
 }

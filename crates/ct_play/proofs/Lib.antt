@@ -5,5 +5,4 @@ pub mod Folding
 pub mod Later
 pub mod Parts
 pub mod Results
-pub mod Sets
 pub mod Trying

@@ -1,6 +1,6 @@
 //! What lines expect of members, and what is there.
 
-ghost use Rattle.std.specs.Prelude.{◌≡◌, [], ◌∷◌, if◌then◌else◌, Ok, OnOk, IfOk, IfErr, IsTrue, decimal, is_some};
+ghost use Rattle.std.specs.Prelude.{◌≡◌, Ok, OnOk, IfOk, IfErr, IsTrue, decimal, is_some};
 ghost use Rattle.ct_records.specs.Adds.{Adds};
 ghost use Rattle.ct_names.specs.Group.{is_member};
 ghost use Rattle.ct_model.specs.Received.{received_by};
@@ -8,8 +8,7 @@ ghost use Rattle.ct_model.specs.Rehearsal.{state_of};
 ghost use Rattle.ct_model.specs.State.{delivered};
 ghost use Rattle.ct_table.specs.Table.{table};
 ghost use Rattle.ct_world.specs.World.{member_of};
-ghost use Rattle.ct_records.specs.Report.{decisions_text, list_text, messages_text, table_text};
-ghost use Rattle.ct_show.specs.State.{first_in};
+ghost use Rattle.ct_records.specs.Report.{decisions_text, messages_text, table_text};
 ghost use Rattle.ct_play.specs.Facts.{act_cause, barred_text, cause_text, estimate_text, expected, expected_of, holds, open_text};
 ghost use Rattle.ct_play.specs.Facts.{place_text, round_text, set_text, step_cause, there, unmet, up_text, value, waits_text, wanted, word};
 ghost use Rattle.ct_play.specs.Faults.{IsFaultOf};
@@ -22,9 +21,9 @@ use crate::picking::{is_waiting, waiting_at};
 use crate::stage::Stage;
 use ct_grammar::{Fact, Who};
 use ct_model::{Phase, Step};
-use ct_names::{MAX_MEMBERS, Member, MemberSet, Refusal, Round};
-use ct_records::{push_decisions, push_messages, push_separator, push_table};
-use ct_show::{phase_name, push_estimate_of};
+use ct_names::{Member, MemberSet, Refusal, Round};
+use ct_records::{push_decisions, push_messages, push_table};
+use ct_show::{phase_name, push_estimate_of, push_members_of};
 use ct_world::World;
 use std::alloc::{AllocError, Global};
 
@@ -282,30 +281,8 @@ fn push_set(text: &mut String, set: Option<MemberSet>) -> Result<(), AllocError>
 {
     match set {
         None => text.push_str("-"),
-        Some(set) => push_members(text, set),
+        Some(set) => push_members_of(text, ',', set),
     }
-}
-
-fn push_members(text: &mut String, set: MemberSet) -> Result<(), AllocError>
-    ensures { OnOk result (Adds text.old text.new (list_text 44 (first_in set MAX_MEMBERS))) }
-{
-    let mut later = false;
-    for i in 0..MAX_MEMBERS {
-        let member = i + 1;
-        if set.contains(member) {
-            push_separator(text, ',', later)?;
-            write!(text, "{member}")?;
-            later = true;
-        }
-    }
-    push_dash(text, later)
-}
-
-// A dash where nothing stands before.
-fn push_dash(text: &mut String, later: bool) -> Result<(), AllocError>
-    ensures { OnOk result (Adds text.old text.new ((if later then [] else (45 ∷ [])))) }
-{
-    if later { Ok(()) } else { text.push('-') }
 }
 
 // The estimate of the member; a dash where no instance is open.

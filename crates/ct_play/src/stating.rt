@@ -1,9 +1,8 @@
 //! What acts do, as lines state it behind them.
 
-ghost use Rattle.std.specs.Prelude.{◌≡◌, Ok, OnOk, OnErr, IfOk, IfErr, option_map, string_bytes};
+ghost use Rattle.std.specs.Prelude.{◌≡◌, Ok, OnOk, OnErr, IfOk, IfErr, string_bytes};
 ghost use Rattle.ct_records.specs.Adds.{Adds};
 ghost use Rattle.ct_show.specs.Details.{batch_text, estimate_alone};
-ghost use Rattle.ct_show.specs.Shapes.{names_text, set_text, shortened, value_text};
 ghost use Rattle.ct_play.specs.Acting.{done_by_each};
 ghost use Rattle.ct_play.specs.Faults.{IsFaultOf};
 ghost use Rattle.ct_play.specs.Parts.{IsSaidByFirst, IsTaken};
@@ -18,14 +17,10 @@ use crate::naming::named;
 use crate::stage::Stage;
 use ct_grammar::{Act, Text, Who};
 use ct_model::Step;
-use ct_names::{Command, Instance, Member, Message, Round, Serial};
-use ct_records::push_messages;
-use ct_show::{instance_of, push_estimate_of};
+use ct_names::{Command, Instance, Member, Message, Serial};
+use ct_show::{instance_of, push_estimate_of, push_set, push_value};
 use ct_world::{Letter, Wire, World};
 use std::alloc::{AllocError, Global};
-
-// How many messages of a value are shown.
-const MOST_SHOWN: usize = 8;
 
 // ---- lines
 
@@ -250,17 +245,6 @@ fn push_proposal(text: &mut String, world: &World, member: Member) -> Result<(),
     push_value(text, world.estimate(member))
 }
 
-// The value of an estimate.
-#[tactic(auto, unfolding(ct_show::specs::Shapes::value_text))]
-fn push_value(text: &mut String, estimate: Option<(&[Message], Round)>) -> Result<(), AllocError>
-    ensures { OnOk result (Adds text.old text.new (value_text (option_map (λ e. (e.0.now, e.1)) estimate.entry))) }
-{
-    match estimate {
-        None => Ok(()),
-        Some((value, _)) => push_set(text, value),
-    }
-}
-
 // The batch of the instance.
 #[tactic(auto, unfolding(ct_show::specs::Details::batch_text))]
 fn push_batch(text: &mut String, world: &World, instance: Instance) -> Result<(), AllocError>
@@ -316,41 +300,5 @@ fn push_command(text: &mut String, command: Command) -> Result<(), AllocError>
         Command::Set(register, value) => write!(text, "set {register} {value}"),
         Command::Add(register, amount) => write!(text, "add {register} {amount}"),
         Command::Copy(from, to) => write!(text, "copy {from} {to}"),
-    }
-}
-
-// The messages of a value.
-#[tactic(auto, unfolding(ct_show::specs::Shapes::set_text))]
-fn push_set(text: &mut String, messages: &[Message]) -> Result<(), AllocError>
-    ensures { OnOk result (Adds text.old text.new (set_text messages.now)) }
-{
-    text.push_str("{")?;
-    push_shortened(text, messages)?;
-    text.push_str("}")
-}
-
-// The names of the messages; of many the first ones, and how many more there are.
-#[tactic(auto, unfolding(ct_show::specs::Shapes::shortened))]
-fn push_shortened(text: &mut String, messages: &[Message]) -> Result<(), AllocError>
-    ensures { OnOk result (Adds text.old text.new (shortened messages.now)) }
-{
-    if messages.len() <= MOST_SHOWN {
-        push_names(text, messages)
-    } else {
-        push_names(text, &messages[..MOST_SHOWN])?;
-        let more = messages.len() - MOST_SHOWN;
-        write!(text, " and {more} more")
-    }
-}
-
-// The names of the messages, with commas.
-#[tactic(auto, using(crate::proofs::Sets::names_of_some), unfolding(ct_show::specs::Shapes::names_text))]
-fn push_names(text: &mut String, messages: &[Message]) -> Result<(), AllocError>
-    ensures { OnOk result (Adds text.old text.new (names_text messages.now)) }
-{
-    if messages.is_empty() {
-        Ok(())
-    } else {
-        push_messages(text, ',', messages)
     }
 }

@@ -45,12 +45,12 @@ members-more : (set : List ℕ) (i : ℕ) (b : Bool) → has_member set (i + 1) 
     first_in set (i + 1) ≡ first_in set i ++ cond b (decimal (i + 1) ∷ []) []
 members-more set i b e = rw (← e, add-one) refl
 
-pub in_set_written : (set : List ℕ) (i : ℕ) (old mid new end : List ℕ) (later : Bool) → HasWritten 32 (first_in set i) old new later →
-    has_member set (i + 1) ≡ true
-    → mid ≡ new ++ cond later (32 ∷ []) [] → end ≡ mid ++ decimal (i + 1) → HasWritten 32 (first_in set (i + 1)) old end true
-in_set_written set i old mid new end later h is first second =
-    rw (members-more set i true is) (written_more 32 (first_in set i) (decimal (i + 1)) old mid new end later h first second)
+pub in_set_written : (byte : ℕ) (set : List ℕ) (i : ℕ) (old mid new end : List ℕ) (later : Bool) →
+    HasWritten byte (first_in set i) old new later → has_member set (i + 1) ≡ true
+    → mid ≡ new ++ cond later (byte ∷ []) [] → end ≡ mid ++ decimal (i + 1) → HasWritten byte (first_in set (i + 1)) old end true
+in_set_written byte set i old mid new end later h is first second =
+    rw (members-more set i true is) (written_more byte (first_in set i) (decimal (i + 1)) old mid new end later h first second)
 
-pub in_set_passed : (set : List ℕ) (i : ℕ) (old new : List ℕ) (later : Bool) → HasWritten 32 (first_in set i) old new later →
-    has_member set (i + 1) ≡ false → HasWritten 32 (first_in set (i + 1)) old new later
-in_set_passed set i old new later h is = rw (members-more set i false is, append-nil) h
+pub in_set_passed : (byte : ℕ) (set : List ℕ) (i : ℕ) (old new : List ℕ) (later : Bool) → HasWritten byte (first_in set i) old new later →
+    has_member set (i + 1) ≡ false → HasWritten byte (first_in set (i + 1)) old new later
+in_set_passed byte set i old new later h is = rw (members-more set i false is, append-nil) h

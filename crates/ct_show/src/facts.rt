@@ -134,8 +134,9 @@ fn push_left_in(text: &mut String, number: usize, step: Step) -> Result<(), Allo
     write!(text, ", left in step {number} {step}")
 }
 
-// The last step that takes the envelope of the serial out of a line, after its number, where none puts it back later.
-fn last_taking(steps: &[Step], serial: Serial) -> Option<(usize, Step)>
+/// The last of the steps that takes the envelope of the serial out of a line, after its number, which counts from 1; none where a
+/// later one puts it back.
+pub fn last_taking(steps: &[Step], serial: Serial) -> Option<(usize, Step)>
     ensures { result ≡ last_taking steps.now serial (length steps.now) }
 {
     let mut last = None;

@@ -29,14 +29,14 @@ pub use details::{
     LETTERS, OTHER_LETTERS, instance_of, letter_of, push_detail, push_estimate_of, round_of,
 };
 pub use ending::shown_end;
-pub use facts::{push_facts, push_member_facts};
+pub use facts::{last_taking, push_facts, push_member_facts};
 pub use json::report_json;
 pub use no_record::NoRecord;
 pub use running::{read_told, show};
 pub use selection::Selection;
-pub use shapes::phase_name;
+pub use shapes::{phase_name, push_set, push_value};
 pub use show_fault::ShowFault;
-pub use state::{first_receipt, push_next_of, push_own_enabled};
+pub use state::{first_receipt, push_members_of, push_next_of, push_own_enabled};
 pub use view::View;
 pub use wires::{push_round, push_serial};
 pub use words::{

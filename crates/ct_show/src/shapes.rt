@@ -36,9 +36,9 @@ fn spaces_before(number: usize) -> &'static str
     }
 }
 
-// The messages of a value.
+/// Appends the messages of a value; of many the first ones, and how many more there are.
 #[tactic(auto, unfolding(crate::specs::Shapes::set_text))]
-pub(crate) fn push_set(text: &mut String, messages: &[Message]) -> Result<(), AllocError>
+pub fn push_set(text: &mut String, messages: &[Message]) -> Result<(), AllocError>
     ensures { OnOk result (Adds text.old text.new (set_text messages.now)) }
 {
     text.push('{')?;
@@ -89,9 +89,9 @@ pub(crate) fn push_estimate(
     }
 }
 
-// The value of an estimate alone.
+/// Appends the value of an estimate, without its ts; nothing where there is none.
 #[tactic(auto, unfolding(crate::specs::Shapes::value_text))]
-pub(crate) fn push_value(
+pub fn push_value(
     text: &mut String,
     estimate: Option<(&[Message], Round)>,
 ) -> Result<(), AllocError>

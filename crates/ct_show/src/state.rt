@@ -1,6 +1,6 @@
 //! The state that a record leads to, shown: two lines of the whole, and lines of each member.
 
-ghost use Rattle.std.specs.Prelude.{◌≡◌, [], ◌∷◌, if◌then◌else◌, IfOk, OnOk, IsTrue, flat_map, option_map};
+ghost use Rattle.std.specs.Prelude.{◌≡◌, ◌<◌, [], ◌∷◌, if◌then◌else◌, IfOk, OnOk, IsTrue, flat_map, option_map};
 ghost use Rattle.ct_records.specs.Adds.{Adds};
 ghost use Rattle.ct_names.specs.Group.{is_member};
 ghost use Rattle.ct_model.specs.Rehearsal.{line_of};
@@ -154,20 +154,22 @@ fn push_set_line(text: &mut String, word: &str, set: Option<MemberSet>) -> Resul
         None => Ok(()),
         Some(set) => {
             text.push_str(word)?;
-            push_members_of(text, set)?;
+            push_members_of(text, ' ', set)?;
             text.push_str("\n")
         }
     }
 }
 
-fn push_members_of(text: &mut String, set: MemberSet) -> Result<(), AllocError>
-    ensures { OnOk result (Adds text.old text.new (list_text 32 (first_in set MAX_MEMBERS))) }
+/// Appends the members of the set, with the separator, a character of ASCII, between each two; a dash where there are none.
+pub fn push_members_of(text: &mut String, separator: char, set: MemberSet) -> Result<(), AllocError>
+    requires { separator < 128 }
+    ensures { OnOk result (Adds text.old text.new (list_text separator (first_in set MAX_MEMBERS))) }
 {
     let mut later = false;
     for i in 0..MAX_MEMBERS {
         let member = i + 1;
         if set.contains(member) {
-            push_separator(text, ' ', later)?;
+            push_separator(text, separator, later)?;
             write!(text, "{member}")?;
             later = true;
         }

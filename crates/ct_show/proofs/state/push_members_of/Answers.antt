@@ -8,16 +8,16 @@ use Rattle.ct_show.proofs.state.push_members_of.Goals as goal
 use Rattle.ct_show.proofs.state.push_members_of.Goals.{then-contains+in_ok-push_separator+in_ok-write, else-contains}
 
 pub loop-i-init : goal.loop-i-init
-loop-i-init c = written_none 32 (string_bytes c.args.text.now)
+loop-i-init c = written_none c.args.separator (string_bytes c.args.text.now)
 
 pub loop-i-preserved : goal.loop-i-preserved
 loop-i-preserved c =
     elim c.if-contains.branch [
       | then-contains+in_ok-push_separator+in_ok-write w ↦
-          rw (w.text-is, w.later-is) (in_set_written c.args.set c.loop-i.i _ _ _ _ _ c.loop-i.invariant
+          rw (w.text-is, w.later-is) (in_set_written c.args.separator c.args.set c.loop-i.i _ _ _ _ _ c.loop-i.invariant
           (sym c.contains.ensures.value ∙ w.if-contains.true) w.in_ok-push_separator.ensures w.in_ok-write.ensures.bytes)
       | else-contains w ↦
-          rw (w.text-is, w.later-is) (in_set_passed c.args.set c.loop-i.i _ _ _ c.loop-i.invariant
+          rw (w.text-is, w.later-is) (in_set_passed c.args.separator c.args.set c.loop-i.i _ _ _ c.loop-i.invariant
           (sym c.contains.ensures.value ∙ w.if-contains.false))
     ]
 
@@ -25,6 +25,6 @@ pub returns : goal.returns
 returns c =
     let at : c.loop-i.i ≡ MAX_MEMBERS = omega (arith, c.loop-i-test.false, c.loop-i.auto.i-end) in
     let old = string_bytes c.args.text.now in
-    written_all c.push_dash.result 32 (first_in c.args.set MAX_MEMBERS) old (string_bytes c.loop-i.text) _ c.loop-i.later
-    (subst (λ k. HasWritten 32 (first_in c.args.set k) old (string_bytes c.loop-i.text) c.loop-i.later) at c.loop-i.invariant)
+    written_all c.push_dash.result c.args.separator (first_in c.args.set MAX_MEMBERS) old (string_bytes c.loop-i.text) _ c.loop-i.later
+    (subst (λ k. HasWritten c.args.separator (first_in c.args.set k) old (string_bytes c.loop-i.text) c.loop-i.later) at c.loop-i.invariant)
     c.push_dash.ensures
