@@ -2,6 +2,7 @@ pub mod Counting
 pub mod Faulty
 pub mod Finding
 pub mod Folding
+pub mod Lasts
 pub mod Later
 pub mod Parts
 pub mod Results

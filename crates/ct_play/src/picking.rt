@@ -1,9 +1,8 @@
 //! Which envelopes a line names.
 
-ghost use Rattle.std.specs.Prelude.{◌≡◌, IfOk, length};
-ghost use Rattle.ct_model.specs.Rehearsal.{state_of};
+ghost use Rattle.std.specs.Prelude.{◌≡◌, IfOk};
 ghost use Rattle.ct_play.specs.Picking.{carries, first_from, first_so, is_carried, is_from, is_gone, is_of, is_so, is_to, is_waiting};
-ghost use Rattle.ct_play.specs.Picking.{last_of, last_so, picked, repeated, waiting_at, waiting_from, waits_at, was_sent};
+ghost use Rattle.ct_play.specs.Picking.{last_so, picked, repeated, waiting_at, waiting_from, waits_at, was_sent};
 
 use crate::stage::Stage;
 use ct_grammar::{Carried, Pick};
@@ -111,46 +110,17 @@ fn is_of(set: MemberSet, sender: Option<Member>) -> bool
 fn last_so(stage: &Stage, member: Member, carried: Carried, from: Option<Member>) -> Option<Serial>
     ensures { result ≡ last_so stage.now.rehearsal member carried from }
 {
-    match last_gone(stage, member, carried, from) {
-        Some(serial) => Some(serial),
-        None => last_sent(stage, member, carried, from),
-    }
-}
-
-fn last_gone(
-    stage: &Stage,
-    member: Member,
-    carried: Carried,
-    from: Option<Member>,
-) -> Option<Serial>
-    ensures { result ≡ last_of (is_gone stage.now.rehearsal member carried from) (length (state_of stage.now.rehearsal).sent) }
-{
+    let mut last = None;
     let mut serial = stage.world().sent();
     while serial > 0 {
         if is_gone(stage, member, carried, from, serial) {
             return Some(serial);
         }
+        let sent = was_sent(stage, member, carried, from, serial);
+        last = last.or(sent.then_some(serial));
         serial -= 1;
     }
-    None
-}
-
-fn last_sent(
-    stage: &Stage,
-    member: Member,
-    carried: Carried,
-    from: Option<Member>,
-) -> Option<Serial>
-    ensures { result ≡ last_of (was_sent stage.now.rehearsal member carried from) (length (state_of stage.now.rehearsal).sent) }
-{
-    let mut serial = stage.world().sent();
-    while serial > 0 {
-        if was_sent(stage, member, carried, from, serial) {
-            return Some(serial);
-        }
-        serial -= 1;
-    }
-    None
+    last
 }
 
 // Whether the envelope of the serial was sent to the member, is so named and does not wait there.
