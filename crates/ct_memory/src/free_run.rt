@@ -1,6 +1,8 @@
 //! A free run of one member.
 
 ghost use Rattle.std.specs.Prelude.{◌≡◌, ◌≤◌};
+ghost use Rattle.ct_names.specs.declared.limit.TheConstants.{MAX_STEPS};
+ghost use Rattle.ct_memory.specs.declared.free_run.TheConstants.{PARTS};
 
 use crate::fault::Fault;
 use ct_board::Board;
@@ -14,6 +16,14 @@ use std::sync::Wait;
 use std::sync::ledger::{Blank, Ledger};
 use std::thread::Threads;
 
+/// How many parts the whole of a run's ledger has.
+pub const PARTS: u64 = 1_000;
+
+// How many turns the member makes, and how many cells there are for its batches.
+const TURNS: u32 = 100;
+
+const CELLS: u16 = 4;
+
 /// Runs one member for 100 turns, with one message submitted. What the run answers; the hall it leaves must have a world
 /// with as many steps as the share, which is replayed, unless a part of the share was lost with a thread.
 pub fn free_run<L: Ledger + Send + Sync, R: Threads + Wait + Sync>(
@@ -23,7 +33,7 @@ pub fn free_run<L: Ledger + Send + Sync, R: Threads + Wait + Sync>(
 ) -> Result<Result<Made, RunFault>, Fault>
     requires name { blank.name ≡ L.name }
     requires parts { blank.parts ≡ L.parts }
-    requires whole { L.parts ≡ 1000 }
+    requires whole { L.parts ≡ PARTS }
 {
     let (world, board) = submitted(alloc)?;
     let _ = world.record();
@@ -40,8 +50,8 @@ fn run_one<L: Ledger + Send + Sync, R: Threads + Wait + Sync>(
     hall: &Hall<L>,
     share: &mut Share<L>,
 ) -> Result<Result<Made, RunFault>, Fault>
-    requires parts { share.old.parts ≡ 1000 }
-    requires steps { share.old.steps ≤ 1000000 }
+    requires parts { share.old.parts ≡ PARTS }
+    requires steps { share.old.steps ≤ MAX_STEPS }
 {
     let mut detectors: Vec<Box<dyn Detector>> = Vec::new(alloc);
     detectors.push(Box::new(alloc, Never::new())?)?;
@@ -49,7 +59,7 @@ fn run_one<L: Ledger + Send + Sync, R: Threads + Wait + Sync>(
         return Err(Fault::Group);
     }
     let plan = Plan {
-        turns: 100,
+        turns: TURNS,
         scripts: Vec::new(alloc),
     };
     Ok(hall.run_free(rt, alloc, &plan, detectors, &NoGate, share))
@@ -62,9 +72,9 @@ fn settle<L: Ledger, R: Wait>(
     hall: &Hall<L>,
     share: &mut Share<L>,
 ) -> Result<(), Fault>
-    requires { L.parts ≡ 1000 }
+    requires { L.parts ≡ PARTS }
 {
-    if share.parts() != 1000 {
+    if share.parts() != PARTS {
         return Ok(());
     }
     let world = hall.settled(rt, alloc, share)?;
@@ -76,8 +86,8 @@ fn submitted(alloc: Global) -> Result<(World, Board), Fault> {
     let Some(group) = Group::new(1) else {
         return Err(Fault::Group);
     };
-    let mut world = World::new(alloc, group, 4, MAX_BOUND)?;
-    let board = Board::new(alloc, 4)?;
+    let mut world = World::new(alloc, group, CELLS, MAX_BOUND)?;
+    let board = Board::new(alloc, usize::from(CELLS))?;
     let _ = world.apply(&board, &Step::Submit(1, Command::Set(0, 7)))?;
     Ok((world, board))
 }

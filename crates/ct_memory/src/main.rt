@@ -3,13 +3,14 @@
 #![tactic(auto)]
 
 ghost use Rattle.std.specs.Prelude.{◌≡◌};
+ghost use Rattle.ct_memory.specs.declared.free_run.TheConstants.{PARTS};
 
 mod fault;
 mod free_run;
 mod one_by_one;
 
 use crate::fault::Fault;
-use crate::free_run::free_run;
+use crate::free_run::{PARTS, free_run};
 use crate::one_by_one::do_one_by_one;
 use ct_records::report;
 use std::alloc::Global;
@@ -22,7 +23,7 @@ use std::sync::ledger::{Blank, Ledger};
 use std::thread::Threads;
 
 fn main(rt: HostRuntime) -> ExitCode {
-    match tried::<Brand, HostRuntime>(&rt, &rt, Blank::new(1000)) {
+    match tried::<Brand, HostRuntime>(&rt, &rt, Blank::new(PARTS)) {
         Ok(text) => match io::writer(&rt).write_all(&text) {
             Ok(()) => ExitCode::SUCCESS,
             Err(_) => ExitCode::FAILURE,
@@ -43,7 +44,7 @@ fn tried<L: Ledger + Send + Sync, R: Threads + Wait + Sync>(
 ) -> Result<Vec<u8>, Fault>
     requires name { blank.name ≡ L.name }
     requires parts { blank.parts ≡ L.parts }
-    requires whole { L.parts ≡ 1000 }
+    requires whole { L.parts ≡ PARTS }
 {
     let alloc = rt.alloc();
     let mut text = told_one_by_one(alloc, &input(rt)?)?;

@@ -3,21 +3,22 @@ use Rattle.std.specs.Prelude.{◌≤◌, ⊤}
 use Rattle.ct_names.specs.declared.limit.TheConstants.{MAX_BOUND, MAX_CELLS, MAX_MEMBERS}
 use Rattle.ct_model.specs.Setting.{Setting}
 use Rattle.ct_program.specs.declared.free_options.FreeOptions.{FreeOptions}
+use Rattle.ct_program.specs.declared.free_options.TheConstants.{MAX_EACH, MAX_RATE, MAX_TURNS}
 use Rattle.ct_program.specs.declared.call.Call.{Call}
 use Rattle.ct_program.specs.declared.call.Call.TheVariants.{Replay, Free}
 
 -- each option is in its range
 pub record InRange (o : FreeOptions) : Type 0 where
   pub members : (1 ≤ o.members) × (o.members ≤ MAX_MEMBERS)
-  pub turns : o.turns ≤ 100000
+  pub turns : o.turns ≤ MAX_TURNS
   pub seed : o.seed ≤ 4294967295
-  pub rate : o.rate ≤ 256
+  pub rate : o.rate ≤ MAX_RATE
   pub cells : o.cells ≤ MAX_CELLS
-  pub submit : o.submit ≤ 1000
+  pub submit : o.submit ≤ MAX_EACH
   pub crash : o.crash ≤ MAX_MEMBERS
-  pub postpone : o.postpone ≤ 1000
-  pub lose : o.lose ≤ 1000
-  pub repeat : o.repeat ≤ 1000
+  pub postpone : o.postpone ≤ MAX_EACH
+  pub lose : o.lose ≤ MAX_EACH
+  pub repeat : o.repeat ≤ MAX_EACH
   pub batch : (1 ≤ o.batch) × (o.batch ≤ MAX_BOUND)
 
 -- the setting that the options ask for

@@ -1,5 +1,6 @@
 -- How the program's command line is read. `clap` gives what its commands make of words.
-use Rattle.std.specs.Prelude.{◌≡◌, ℕ, true, List, [], ◌∷◌, codes, Option, Some, None, option_map, option_and_then, Result, Ok, if◌then◌else◌, ⊤}
+use Rattle.std.specs.Prelude.{◌≡◌, ℕ, true, List, [], ◌∷◌, codes, Option, Some, None, option_map, option_and_then, Result, Ok}
+use Rattle.std.specs.Prelude.{if◌then◌else◌, ⊤}
 use Rattle.std.specs.Result.{result_ok}
 use Rattle.std.specs.Str.{bytes_eq}
 use Rattle.ct_names.specs.declared.limit.TheConstants.{MAX_BOUND, MAX_CELLS, MAX_MEMBERS}
@@ -11,6 +12,7 @@ use Rattle.ct_streams.specs.Values.{◌>>=◌, option_in}
 use Rattle.ct_program.specs.declared.call.Call.{Call}
 use Rattle.ct_program.specs.declared.call.Call.TheVariants.{Replay, Free}
 use Rattle.ct_program.specs.declared.free_options.FreeOptions.{FreeOptions}
+use Rattle.ct_program.specs.declared.free_options.TheConstants.{MAX_EACH, MAX_RATE, MAX_TURNS}
 use Rattle.ct_program.specs.declared.line_fault.LineFault.{LineFault}
 use Rattle.ct_program.specs.declared.line_fault.LineFault.TheVariants.{Clap, Range, Memory}
 
@@ -47,15 +49,15 @@ faults_of words = fault_of program words
 unfoldable pub options_of : List Row → Result FreeOptions Text
 options_of rows = do
   members ← option_in rows (codes "members") 1 MAX_MEMBERS
-  turns ← option_in rows (codes "turns") 0 100000
+  turns ← option_in rows (codes "turns") 0 MAX_TURNS
   seed ← option_in rows (codes "seed") 0 4294967295
-  rate ← option_in rows (codes "rate") 0 256
+  rate ← option_in rows (codes "rate") 0 MAX_RATE
   cells ← option_in rows (codes "cells") 0 MAX_CELLS
-  submit ← option_in rows (codes "submit") 0 1000
+  submit ← option_in rows (codes "submit") 0 MAX_EACH
   crash ← option_in rows (codes "crash") 0 MAX_MEMBERS
-  postpone ← option_in rows (codes "postpone") 0 1000
-  lose ← option_in rows (codes "lose") 0 1000
-  repeat ← option_in rows (codes "repeat") 0 1000
+  postpone ← option_in rows (codes "postpone") 0 MAX_EACH
+  lose ← option_in rows (codes "lose") 0 MAX_EACH
+  repeat ← option_in rows (codes "repeat") 0 MAX_EACH
   batch ← option_in rows (codes "batch") 1 MAX_BOUND
   Ok (record {
     members = members;

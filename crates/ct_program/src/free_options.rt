@@ -1,5 +1,14 @@
 //! What a free run is started with.
 
+/// How many turns each driver takes at most.
+pub const MAX_TURNS: u32 = 100_000;
+
+/// The largest rate: of so many random answers of a failure detector it counts those that suspect the coordinator.
+pub const MAX_RATE: u16 = 256;
+
+/// How many submissions, postponements, losses and repetitions there are at most, of each.
+pub const MAX_EACH: u16 = 1_000;
+
 /// The options of a free run, each under its name.
 #[derive(Clone, Copy, Debug, Drop, PartialEq, Eq)]
 pub struct FreeOptions {

@@ -18,7 +18,7 @@ pub use ct_records::{
     ProgramFault, ReadFault, Script, read_record, report, run_replay, write_record,
 };
 pub use ct_streams::{Counted, Failed, Sink, Source};
-pub use free_options::FreeOptions;
+pub use free_options::{FreeOptions, MAX_EACH, MAX_RATE, MAX_TURNS};
 pub use freeing::free;
 pub use line_fault::LineFault;
 pub use planning::{losses, postponements, repetitions, submissions};

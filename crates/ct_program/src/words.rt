@@ -7,7 +7,7 @@ ghost use Rattle.ct_program.specs.FreeOptions.{FreeInRange, InRange};
 ghost use Rattle.ct_program.specs.Line.{program, free_app, free_rules, faults_of, call_of, options_of, IsOfKind, IsMemory};
 
 use crate::call::Call;
-use crate::free_options::FreeOptions;
+use crate::free_options::{FreeOptions, MAX_EACH, MAX_RATE, MAX_TURNS};
 use crate::line_fault::LineFault;
 use clap::{ArgMatches, Command};
 use ct_names::{MAX_BOUND, MAX_CELLS, MAX_MEMBERS};
@@ -47,15 +47,15 @@ pub fn found_options<'a>(found: &'a ArgMatches<'_>) -> Result<FreeOptions, WordF
 {
     Ok(FreeOptions {
         members: option_in(found, "members", 1, MAX_MEMBERS as u32)? as u8,
-        turns: option_in(found, "turns", 0, 100_000)?,
+        turns: option_in(found, "turns", 0, MAX_TURNS)?,
         seed: option_in(found, "seed", 0, u32::MAX)?,
-        rate: option_in(found, "rate", 0, 256)? as u16,
+        rate: option_in(found, "rate", 0, MAX_RATE as u32)? as u16,
         cells: option_in(found, "cells", 0, MAX_CELLS as u32)? as u16,
-        submit: option_in(found, "submit", 0, 1000)? as u16,
+        submit: option_in(found, "submit", 0, MAX_EACH as u32)? as u16,
         crash: option_in(found, "crash", 0, MAX_MEMBERS as u32)? as u8,
-        postpone: option_in(found, "postpone", 0, 1000)? as u16,
-        lose: option_in(found, "lose", 0, 1000)? as u16,
-        repeat: option_in(found, "repeat", 0, 1000)? as u16,
+        postpone: option_in(found, "postpone", 0, MAX_EACH as u32)? as u16,
+        lose: option_in(found, "lose", 0, MAX_EACH as u32)? as u16,
+        repeat: option_in(found, "repeat", 0, MAX_EACH as u32)? as u16,
         batch: option_in(found, "batch", 1, MAX_BOUND)?,
     })
 }
@@ -89,9 +89,10 @@ fn command<'a>(alloc: Global) -> Result<Command<'a>, AllocError>
 fn free<'a>(alloc: Global) -> Result<Command<'a>, AllocError>
     ensures { IfOk result (λ command. app_of command ≡ free_app) }
 {
-    let command = Command::new(alloc, "free").about(
-        "Runs a group of members under threads, with failure detectors that answer at random, and writes the record of the run to standard output",
-    );
+    let command = Command::new(alloc, "free").about(concat!(
+        "Runs a group of members under threads, with failure detectors that answer at random, ",
+        "and writes the record of the run to standard output",
+    ));
     let turns = "How many turns the thread of each member takes, 0 to 100000";
     with_free_options(alloc, command, turns)
 }
