@@ -79,6 +79,7 @@ pub use fact::Fact;
 pub use given::Given;
 pub use line::Line;
 pub use misfit::{LONGEST_WORD, Misfit};
+pub use numbers::members;
 pub use pick::Pick;
 pub use play::Play;
 pub use question::Question;

@@ -104,9 +104,9 @@ pub(crate) fn place(word: &[u8]) -> Option<(u32, u32)>
     Some((whole(instance)?, whole(round)?))
 }
 
-/// The set of the members that stand between the commas.
+/// The set of the members that stand between the commas, each 1 to 16; None where one of them is none.
 #[tactic(auto, unfolding(crate::specs::Numbers::members_of))]
-pub(crate) fn members(word: &[u8]) -> Option<MemberSet>
+pub fn members(word: &[u8]) -> Option<MemberSet>
     ensures { result ≡ members_of word.now }
 {
     let mut set = MemberSet::new();
