@@ -194,6 +194,10 @@ check_walks() {
     [[ $(<"$folder/output") == *'["follow",'* ]] || wrong+=" nobody follows in a walk that loses much;"
     "$tool" walk --members 3 --seed 1 --submit 1 --rate 8 --turns 60 | "$tool" diagram | cmp -s - ../docs/run.svg ||
         wrong+=" a walk's diagram is not docs/run.svg;"
+    "$tool" walk --members 3 --seed 2 --lose 20 --turns 300 >"$folder/output" 2>"$folder/error"
+    [[ $("$tool" diagram "$folder/output" --to 400 | grep -cE '^<path class=.(data|est|prop|ack|nack|dec)\b.*<title>') == \
+        $("$tool" state "$folder/output" --after 400 | sed -n 's/.* sent \([0-9]*\) .*/\1/p') ]] ||
+        wrong+=" a walk's diagram has more or fewer arrows than envelopes were sent;"
     if [[ -z $wrong ]]; then
         passed=$((passed + 1))
     else

@@ -1,61 +1,31 @@
--- An arrow for each envelope that is received, and the beginning of one for each other.
-use Rattle.std.specs.Prelude.{ℕ, zero, suc, ◌+◌, ◌-◌, ◌*◌, ◌/◌, ◌==◌, Bool, false, nat_lt, if◌then◌else◌, List, [], ◌∷◌, ◌++◌, length}
-use Rattle.std.specs.Prelude.{codes, decimal, Option, Some, None, position}
+-- An arrow for each envelope that is received or lost, and the beginning of one for each other.
+use Rattle.std.specs.Prelude.{ℕ, zero, suc, ◌+◌, ◌-◌, if◌then◌else◌, List, [], ◌∷◌, ◌++◌, length}
+use Rattle.std.specs.Prelude.{codes, decimal, Option, Some, None, unwrap_or}
 use Rattle.std.specs.List.{concat}
 use Rattle.ct_model.specs.Actor.{actor}
 use Rattle.ct_model.specs.declared.envelope.Envelope.{Envelope}
 use Rattle.ct_model.specs.declared.step.Step.{Step}
-use Rattle.ct_model.specs.declared.step.Step.TheVariants.{Receive}
+use Rattle.ct_model.specs.declared.step.Step.TheVariants.{Lose, Repeat}
 use Rattle.ct_model.specs.declared.wire.Wire.{Wire}
 use Rattle.ct_model.specs.declared.wire.Wire.TheVariants.{Data, Est, Prop, Ack, Nack, Dec}
-use Rattle.ct_model.specs.Rehearsal.{Rehearsal, state_of}
+use Rattle.ct_model.specs.Rehearsal.{Rehearsal}
+use Rattle.ct_model.specs.State.{at_serial}
 use Rattle.ct_show.specs.Wires.{letter_at, serial_text}
 use Rattle.ct_diagram.specs.declared.drawn.Drawn.{Drawn}
-use Rattle.ct_diagram.specs.Grid.{x_of, y_of}
+use Rattle.ct_diagram.specs.declared.grid.Grid.{Grid}
+use Rattle.ct_diagram.specs.declared.sight.Sight.{Sight}
+use Rattle.ct_diagram.specs.declared.sight.Sight.TheVariants.{Small}
+use Rattle.ct_diagram.specs.declared.window.Window.{Window}
+use Rattle.ct_diagram.specs.Grid.{spot_of}
+use Rattle.ct_diagram.specs.Routes.{route_text, stub_text}
+use Rattle.ct_diagram.specs.Trail.{is_taken, origin, returned, taken}
+use Rattle.ct_diagram.specs.Window.{is_sent_asked}
 
--- ---- where an envelope is received
+-- ---- an envelope
 
--- a step receives the envelope of a serial
-abbrev pub is_receipt : ℕ → Step → Bool
-is_receipt k (Receive p i) = i == k
-is_receipt k step = false
-
--- how many of the later steps come before the first one that receives the envelope, if one does
-abbrev pub arrival : List Step → ℕ → Option ℕ
-arrival later k = position (is_receipt k) later
-
--- ---- its line
-
--- how far the beginning of a line goes up or down towards a member so many lines away
-abbrev pub reach : ℕ → ℕ
-reach lines = 12 + 3 * (if nat_lt lines 5 then lines else 5)
-
--- where such a beginning ends, from member p towards another, or up
-unfoldable pub stub_end : (to p : ℕ) → ℕ
-stub_end to p =
-    if nat_lt to p then y_of p - reach (p - to) else (if nat_lt p to then y_of p + reach (to - p) else y_of p - 14)
-
--- only the beginning
-unfoldable pub stub_text : (to p x : ℕ) → List ℕ
-stub_text to p x =
-    concat (codes " stub' d='M" ∷ decimal x ∷ codes " " ∷ decimal (y_of p) ∷ codes " L" ∷ decimal (x + 14) ∷ codes " "
-    ∷ decimal (stub_end to p) ∷ codes "'" ∷ [])
-
--- from member p to another; to itself over its line
-unfoldable pub path_text : (to p x end : ℕ) → List ℕ
-path_text to p x end =
-    if to == p then concat (codes "' d='M" ∷ decimal x ∷ codes " " ∷ decimal (y_of p) ∷ codes " Q" ∷ decimal ((x + end) / 2) ∷ codes " "
-    ∷ decimal (y_of p - 30) ∷ codes " " ∷ decimal end ∷ codes " " ∷ decimal (y_of to) ∷ codes "'" ∷ [])
-    else concat (codes "' d='M" ∷ decimal x ∷ codes " " ∷ decimal (y_of p) ∷ codes " L" ∷ decimal end ∷ codes " "
-    ∷ decimal (y_of to) ∷ codes "'" ∷ [])
-
--- from the step that sent the envelope to the one that receives it after so many others
-abbrev pub route_text : ℕ → Option ℕ → Drawn → List ℕ
-route_text to None drawn = stub_text to (actor drawn.step) (x_of drawn.from drawn.number)
-route_text to (Some wait) drawn =
-    path_text to (actor drawn.step) (x_of drawn.from drawn.number) (x_of drawn.from (drawn.number + 1 + wait))
-
--- ---- all of it
+-- the member whose step sent the envelope of a serial, 0 where it was not sent
+abbrev pub sender_at : List ℕ → ℕ → ℕ
+sender_at senders k = unwrap_or (at_serial senders k) 0
 
 -- the kind of what is carried
 abbrev pub kind_of : Wire (Unit {0}) → List ℕ
@@ -66,23 +36,120 @@ kind_of (Ack k r p) = codes "ack"
 kind_of (Nack k r p) = codes "nack"
 kind_of (Dec k r v) = codes "dec"
 
--- the arrow of an envelope, which has this serial
-unfoldable pub drawn_text : Rehearsal → ℕ → Envelope (Unit {0}) → Drawn → List Step → List ℕ
-drawn_text w k e drawn later =
-    concat (codes "<path class='" ∷ kind_of e.wire ∷ route_text e.to (arrival later k) drawn ∷ codes "><title>" ∷ serial_text w k
-    ∷ codes " to " ∷ decimal e.to ∷ codes "</title></path>\n" ∷ [])
+-- how its line looks: by its kind, and more
+unfoldable pub opening_text : List ℕ → List ℕ → List ℕ
+opening_text kind more = concat (codes "<path class='" ∷ kind ∷ more ∷ codes "' d='" ∷ [])
 
-abbrev pub arrow_text : Rehearsal → ℕ → Option (Envelope (Unit {0})) → Drawn → List Step → List ℕ
-arrow_text w k None drawn later = []
-arrow_text w k (Some e) drawn later = drawn_text w k e drawn later
+-- what it carries, who sent it, and to whom
+unfoldable pub who_text : Rehearsal → (k sender to : ℕ) → List ℕ
+who_text w k sender to =
+    concat (codes "'><title>" ∷ serial_text w k ∷ codes ", sent by " ∷ decimal sender ∷ codes " to " ∷ decimal to ∷ [])
+
+-- ---- where it begins: at a step of the window, or before its first one
+
+abbrev pub begun_at : Option Drawn → Option ℕ
+begun_at None = None
+begun_at (Some d) = Some d.place
+
+-- at which member: an envelope that is repeated begins at its receiver
+abbrev pub begun_by : Option Drawn → ℕ → ℕ
+begun_by None sender = sender
+begun_by (Some d) sender = actor d.step
+
+abbrev pub begun_word : Step → List ℕ
+begun_word (Repeat p k) = codes ", repeated"
+begun_word step = []
+
+unfoldable pub begun_in : Drawn → List ℕ
+begun_in d = concat (begun_word d.step ∷ codes " in step " ∷ decimal d.number ∷ [])
+
+unfoldable pub before_text : ℕ → List ℕ
+before_text first = concat (codes " before step " ∷ decimal first ∷ [])
+
+abbrev pub begun_text : ℕ → Option Drawn → List ℕ
+begun_text first None = before_text first
+begun_text first (Some d) = begun_in d
+
+-- ---- where it ends: at the step that takes it out of its line
+
+-- how the arrow looks besides: it ends at what is lost, or at a receipt that changes nothing
+abbrev pub end_class : Step → Sight → List ℕ
+end_class (Lose p k) sight = codes " lost"
+end_class step Small = codes " late"
+end_class step sight = []
+
+abbrev pub end_word : Step → List ℕ
+end_word (Lose p k) = codes "lost"
+end_word step = codes "received"
+
+unfoldable pub end_text : Drawn → List ℕ
+end_text d = concat (codes "; " ∷ end_word d.step ∷ codes " in step " ∷ decimal d.number ∷ codes "</title></path>\n" ∷ [])
+
+-- ---- the arrow to a step
+
+abbrev pub grid_of : Rehearsal → Window → Grid
+grid_of w window = record { n = w.setting.members; columns = window.columns }
+
+-- from where it begins to a place of its receiver
+abbrev pub way_text : Rehearsal → Window → ℕ → Option Drawn → (to place : ℕ) → List ℕ
+way_text w window sender begun to place = route_text (grid_of w window) (begun_at begun) (begun_by begun sender) to place
+
+-- of the envelope of serial k
+unfoldable pub arrow_text : Rehearsal → Window → ℕ → Option Drawn → Drawn → ℕ → Envelope (Unit {0}) → List ℕ
+arrow_text w window sender begun drawn k e =
+    concat (opening_text (kind_of e.wire) (end_class drawn.step drawn.sight) ∷ way_text w window sender begun e.to drawn.place
+    ∷ who_text w k sender e.to ∷ begun_text window.from begun ∷ end_text drawn ∷ [])
+
+-- where it is asked for
+abbrev pub arrow_at : Rehearsal → Window → List ℕ → List Drawn → Drawn → ℕ → Option (Envelope (Unit {0})) → List ℕ
+arrow_at w window senders trail drawn k None = []
+arrow_at w window senders trail drawn k (Some e) =
+    if is_sent_asked window (sender_at senders k) e.to e.wire
+    then arrow_text w window (sender_at senders k) (origin trail k) drawn k e else []
+
+abbrev pub taken_text : Rehearsal → Window → List ℕ → List Drawn → Drawn → Option ℕ → List ℕ
+taken_text w window senders trail drawn None = []
+taken_text w window senders trail drawn (Some k) = arrow_at w window senders trail drawn k (letter_at w k)
+
+-- ---- the beginnings of arrows that no later step ends
+
+-- the beginning of a line to a member
+abbrev pub short_text : Rehearsal → Window → Drawn → ℕ → List ℕ
+short_text w window drawn to = stub_text (actor drawn.step) to (spot_of (grid_of w window) drawn.place (actor drawn.step))
+
+-- how far it was not received
+unfoldable pub last_text : ℕ → List ℕ
+last_text last = concat (codes "; not received up to step " ∷ decimal last ∷ codes "</title></path>\n" ∷ [])
+
+unfoldable pub stub_arrow : Rehearsal → Window → ℕ → Drawn → (last k : ℕ) → Envelope (Unit {0}) → List ℕ
+stub_arrow w window sender drawn last k e =
+    concat (opening_text (kind_of e.wire) (codes " stub") ∷ short_text w window drawn e.to ∷ who_text w k sender e.to ∷ begun_in drawn
+    ∷ last_text last ∷ [])
+
+-- where it is asked for, and none of the later steps takes it out of its line
+abbrev pub stub_at : Rehearsal → Window → List ℕ → Drawn → List Step → ℕ → Option (Envelope (Unit {0})) → List ℕ
+stub_at w window senders drawn later k None = []
+stub_at w window senders drawn later k (Some e) =
+    if is_sent_asked window (sender_at senders k) e.to e.wire
+    then (if is_taken later k then [] else stub_arrow w window (sender_at senders k) drawn (drawn.number + length later) k e) else []
+
+-- that of the envelope that the step puts back
+abbrev pub returned_text : Rehearsal → Window → List ℕ → Drawn → List Step → Option ℕ → List ℕ
+returned_text w window senders drawn later None = []
+returned_text w window senders drawn later (Some k) = stub_at w window senders drawn later k (letter_at w k)
 
 -- one for each of so many serials after those that had been sent before
-abbrev pub first_arrows : Rehearsal → Drawn → List Step → ℕ → List ℕ
-first_arrows w drawn later zero = []
-first_arrows w drawn later (suc k) =
-    first_arrows w drawn later k
-    ++ arrow_text w (drawn.before + suc k) (letter_at w (drawn.before + suc k)) drawn later
+abbrev pub first_stubs : Rehearsal → Window → List ℕ → Drawn → List Step → ℕ → List ℕ
+first_stubs w window senders drawn later zero = []
+first_stubs w window senders drawn later (suc k) =
+    first_stubs w window senders drawn later k
+    ++ stub_at w window senders drawn later (drawn.before + suc k) (letter_at w (drawn.before + suc k))
 
--- one for each envelope that the record's last step sent; the later steps are drawn after it
-abbrev pub arrows : Rehearsal → Drawn → List Step → List ℕ
-arrows w drawn later = first_arrows w drawn later (length (state_of w).sent - drawn.before)
+-- ---- all of it
+
+-- at the record's last step, before which these were drawn; the later steps are drawn after it
+abbrev pub arrows : Rehearsal → Window → List ℕ → List Drawn → Drawn → List Step → List ℕ
+arrows w window senders trail drawn later =
+    taken_text w window senders trail drawn (taken drawn.step)
+    ++ (returned_text w window senders drawn later (returned drawn.step)
+    ++ first_stubs w window senders drawn later (drawn.sent - drawn.before))

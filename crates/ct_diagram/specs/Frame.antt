@@ -1,42 +1,55 @@
--- What stands around the steps: how things look, the members' lines, and what the signs mean.
-use Rattle.std.specs.Prelude.{ℕ, zero, suc, ◌+◌, ◌-◌, ◌*◌, ◌/◌, nat_lt, if◌then◌else◌, List, [], ◌∷◌, ◌++◌, codes, decimal}
+-- What stands around the steps: how things look, the members' lines, and what the signs mean. The columns end at a place.
+use Rattle.std.specs.Prelude.{ℕ, zero, suc, ◌+◌, ◌*◌, ◌/◌, nat_lt, if◌then◌else◌, List, [], ◌∷◌, ◌++◌, codes, decimal}
 use Rattle.std.specs.List.{concat}
 use Rattle.ct_show.specs.declared.details.TheConstants.{LETTERS, OTHER_LETTERS}
 use Rattle.ct_diagram.specs.declared.frame.TheConstants.{STYLE, LINES, SHADES}
-use Rattle.ct_diagram.specs.declared.grid.TheConstants.{COLUMN, FIRST, ROW}
-use Rattle.ct_diagram.specs.Grid.{x_of, y_of}
+use Rattle.ct_diagram.specs.declared.grid.Grid.{Grid}
+use Rattle.ct_diagram.specs.declared.grid.TheConstants.{COLUMN, LEFT}
+use Rattle.ct_diagram.specs.Grid.{height, lane, right_of, row_of, top_of, within}
 
--- room for so many columns, and for what the signs mean
-abbrev pub width : ℕ → ℕ
-width columns = let wide = FIRST + COLUMN * columns + 30 in if nat_lt wide 660 then 660 else wide
+-- where the lines of a row end
+abbrev pub row_end : Grid → (end row : ℕ) → ℕ
+row_end g end row = if nat_lt row (row_of g end) then right_of g else LEFT + COLUMN / 2 * within g end
+
+-- room for the columns, and for what the signs mean
+abbrev pub width : Grid → ℕ → ℕ
+width g end = let wide = row_end g end 0 + 30 in if nat_lt wide 660 then 660 else wide
+
+-- how low what the signs mean begins, below all rows
+abbrev pub low : Grid → ℕ → ℕ
+low g end = (row_of g end + 1) * height g + 30
 
 -- a picture of this width and height
 unfoldable pub sizes_text : ℕ → ℕ → List ℕ
 sizes_text wide high =
     concat (codes "<svg xmlns='http://www.w3.org/2000/svg' width='" ∷ decimal wide ∷ codes "' height='" ∷ decimal high
-    ∷ codes "' viewBox='0 36 " ∷ decimal wide ∷ codes " " ∷ decimal high ∷ codes "'>\n" ∷ [])
+    ∷ codes "' viewBox='0 30 " ∷ decimal wide ∷ codes " " ∷ decimal high ∷ codes "'>\n" ∷ [])
 
--- sizes for so many members and columns, and how things look
-abbrev pub head_text : ℕ → ℕ → List ℕ
-head_text n columns = sizes_text (width columns) (ROW * n + 100) ++ STYLE.now
+-- its sizes, and how things look
+abbrev pub head_text : Grid → ℕ → List ℕ
+head_text g end = sizes_text (width g end) (low g end + 32) ++ STYLE.now
 
 -- the name of a member
-unfoldable pub name_text : ℕ → List ℕ
-name_text p = concat (codes "<text class='name' x='8' y='" ∷ decimal (y_of p + 4) ∷ codes "'>member " ∷ decimal p ∷ codes "</text>\n" ∷ [])
+unfoldable pub name_text : ℕ → ℕ → List ℕ
+name_text p y = concat (codes "<text class='name' x='6' y='" ∷ decimal (y + 4) ∷ codes "'>member " ∷ decimal p ∷ codes "</text>\n" ∷ [])
 
 -- its line
 unfoldable pub line_text : ℕ → ℕ → List ℕ
-line_text columns p =
-    concat (codes "<path class='lane' d='M" ∷ decimal (FIRST - COLUMN / 2) ∷ codes " " ∷ decimal (y_of p) ∷ codes "H"
-    ∷ decimal (x_of 0 columns - COLUMN / 2) ∷ codes "'/>\n" ∷ [])
+line_text y right =
+    concat (codes "<path class='lane' d='M" ∷ decimal LEFT ∷ codes " " ∷ decimal y ∷ codes "H" ∷ decimal right ∷ codes "'/>\n" ∷ [])
 
-abbrev pub lane_text : ℕ → ℕ → List ℕ
-lane_text columns p = name_text p ++ line_text columns p
+abbrev pub lane_text : (p y right : ℕ) → List ℕ
+lane_text p y right = name_text p y ++ line_text y right
 
--- those of the first members
-abbrev pub lanes_text : ℕ → ℕ → List ℕ
-lanes_text columns zero = []
-lanes_text columns (suc k) = lanes_text columns k ++ lane_text columns (suc k)
+-- those of the first members of a row
+abbrev pub row_text : Grid → (row right : ℕ) → ℕ → List ℕ
+row_text g row right zero = []
+row_text g row right (suc k) = row_text g row right k ++ lane_text (suc k) (top_of g row + lane g * suc k) right
+
+-- the first rows
+abbrev pub rows_text : Grid → ℕ → ℕ → List ℕ
+rows_text g end zero = []
+rows_text g end (suc k) = rows_text g end k ++ row_text g k (row_end g end k) g.n
 
 -- what the signs mean, at this height
 unfoldable pub below_text : ℕ → List ℕ
@@ -47,6 +60,6 @@ legend_text =
     concat (LINES.now ∷ codes "<text class='legend' x='0' y='18'>Steps: " ∷ LETTERS.now
     ∷ codes ",</text>\n<text class='legend' x='0' y='32'>" ∷ OTHER_LETTERS.now ∷ codes ".\n " ∷ SHADES.now ∷ [])
 
--- what they mean, below the members, and the end
-abbrev pub foot_text : ℕ → List ℕ
-foot_text n = below_text (ROW * n + 90) ++ legend_text
+-- what they mean, below the rows, and the end
+abbrev pub foot_text : Grid → ℕ → List ℕ
+foot_text g end = below_text (low g end) ++ legend_text

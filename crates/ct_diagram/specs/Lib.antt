@@ -1,6 +1,9 @@
 pub mod Line
 pub mod Window
+pub mod Sight
 pub mod Grid
+pub mod Trail
+pub mod Routes
 pub mod Shades
 pub mod Arrows
 pub mod Marks

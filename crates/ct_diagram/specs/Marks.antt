@@ -1,5 +1,5 @@
 -- A mark for each step.
-use Rattle.std.specs.Prelude.{ℕ, zero, suc, ◌+◌, ◌-◌, ◌%◌, ◌==◌, if◌then◌else◌, List, [], ◌∷◌, ◌++◌, length, codes, decimal}
+use Rattle.std.specs.Prelude.{ℕ, ◌+◌, ◌-◌, ◌==◌, if◌then◌else◌, List, [], ◌∷◌, ◌++◌, length, codes, decimal}
 use Rattle.std.specs.Prelude.{Option, Some, None}
 use Rattle.std.specs.List.{concat}
 use Rattle.ct_model.specs.Actor.{actor}
@@ -12,7 +12,11 @@ use Rattle.ct_show.specs.Details.{detail_text, estimate_of, instance_of, letter_
 use Rattle.ct_show.specs.Wires.{letter_at, round_text}
 use Rattle.ct_diagram.specs.Arrows.{kind_of}
 use Rattle.ct_diagram.specs.declared.drawn.Drawn.{Drawn}
-use Rattle.ct_diagram.specs.Grid.{x_of, y_of}
+use Rattle.ct_diagram.specs.declared.grid.Grid.{Grid}
+use Rattle.ct_diagram.specs.declared.grid.Spot.{Spot}
+use Rattle.ct_diagram.specs.declared.sight.Sight.{Sight}
+use Rattle.ct_diagram.specs.declared.sight.Sight.TheVariants.{Wide, Small, Hidden}
+use Rattle.ct_diagram.specs.Grid.{spot_of}
 
 -- ---- the sign
 
@@ -28,17 +32,18 @@ class_of w before (Lose p k) = codes "net"
 class_of w before (Repeat p k) = codes "net"
 class_of w before step = codes "own"
 
-unfoldable pub dot_text : List ℕ → ℕ → ℕ → List ℕ
-dot_text kind x y =
-    concat (codes "<circle class='dot " ∷ kind ∷ codes "' cx='" ∷ decimal x ∷ codes "' cy='" ∷ decimal y ∷ codes "' r='4'/>" ∷ [])
+unfoldable pub dot_text : List ℕ → Spot → ℕ → List ℕ
+dot_text kind spot radius =
+    concat (codes "<circle class='dot " ∷ kind ∷ codes "' cx='" ∷ decimal spot.x ∷ codes "' cy='" ∷ decimal spot.y ∷ codes "' r='"
+    ∷ decimal radius ∷ codes "'/>" ∷ [])
 
-unfoldable pub circle_text : List ℕ → ℕ → ℕ → List ℕ
-circle_text class x y =
-    concat (codes "<circle class='" ∷ class ∷ codes "' cx='" ∷ decimal x ∷ codes "' cy='" ∷ decimal y ∷ codes "' r='9'/>" ∷ [])
+unfoldable pub circle_text : List ℕ → Spot → List ℕ
+circle_text class spot =
+    concat (codes "<circle class='" ∷ class ∷ codes "' cx='" ∷ decimal spot.x ∷ codes "' cy='" ∷ decimal spot.y ∷ codes "' r='9'/>" ∷ [])
 
-unfoldable pub letter_text : List ℕ → ℕ → ℕ → List ℕ
-letter_text letter x y =
-    concat (codes "<text x='" ∷ decimal x ∷ codes "' y='" ∷ decimal (y + 4) ∷ codes "'>" ∷ letter ∷ codes "</text>" ∷ [])
+unfoldable pub letter_text : List ℕ → Spot → List ℕ
+letter_text letter spot =
+    concat (codes "<text x='" ∷ decimal spot.x ∷ codes "' y='" ∷ decimal (spot.y + 4) ∷ codes "'>" ∷ letter ∷ codes "</text>" ∷ [])
 
 -- the kind of what an envelope carries
 abbrev pub kind_at : Option (Envelope (Unit {0})) → List ℕ
@@ -46,9 +51,14 @@ kind_at None = []
 kind_at (Some e) = kind_of e.wire
 
 -- a dot in the colour of what is received, a letter in a circle for another step
-abbrev pub sign_text : Rehearsal → ℕ → Step → ℕ → ℕ → List ℕ
-sign_text w before (Receive p k) x y = dot_text (kind_at (letter_at w k)) x y
-sign_text w before step x y = circle_text (class_of w before step) x y ++ letter_text (letter_of step) x y
+abbrev pub sign_text : Rehearsal → ℕ → Step → Spot → List ℕ
+sign_text w before (Receive p k) spot = dot_text (kind_at (letter_at w k)) spot 4
+sign_text w before step spot = circle_text (class_of w before step) spot ++ letter_text (letter_of step) spot
+
+-- the kind of what a step receives, nothing where it receives nothing
+abbrev pub received_kind : Rehearsal → Step → List ℕ
+received_kind w (Receive p k) = kind_at (letter_at w k)
+received_kind w step = []
 
 -- what is read where the pointer rests on it
 unfoldable pub who_text : ℕ → ℕ → List ℕ
@@ -60,9 +70,9 @@ title_text w before number step =
 
 -- ---- the note beside it
 
-unfoldable pub entered_text : Rehearsal → ℕ → ℕ → ℕ → List ℕ
-entered_text w p x y =
-    concat (codes "<text class='round' x='" ∷ decimal x ∷ codes "' y='" ∷ decimal (y - 20) ∷ codes "'>"
+unfoldable pub entered_text : Rehearsal → ℕ → Spot → List ℕ
+entered_text w p spot =
+    concat (codes "<text class='round' x='" ∷ decimal spot.x ∷ codes "' y='" ∷ decimal (spot.y - 20) ∷ codes "'>"
     ∷ round_text (instance_of w p) (round_of w p) ∷ codes "</text>\n" ∷ [])
 
 -- a text begins here, which falls to the right
@@ -71,41 +81,35 @@ falling_text x y =
     concat (codes "<text class='note' x='" ∷ decimal x ∷ codes "' y='" ∷ decimal y ∷ codes "' transform='rotate(18 " ∷ decimal x
     ∷ codes " " ∷ decimal y ∷ codes ")'>" ∷ [])
 
-unfoldable pub changed_text : Rehearsal → ℕ → ℕ → ℕ → List ℕ
-changed_text w p x y = concat (falling_text x (y + 26) ∷ estimate_of w p ∷ codes "</text>\n" ∷ [])
+unfoldable pub changed_text : Rehearsal → ℕ → Spot → List ℕ
+changed_text w p spot = concat (falling_text spot.x (spot.y + 26) ∷ estimate_of w p ∷ codes "</text>\n" ∷ [])
 
 -- the round that is entered, or the estimate where it changes
-abbrev pub note_text : Rehearsal → Step → ℕ → ℕ → List ℕ
-note_text w (Enter p) x y = entered_text w p x y
-note_text w (Begin p) x y = changed_text w p x y
-note_text w (Choose p from) x y = changed_text w p x y
-note_text w (Adopt p) x y = changed_text w p x y
-note_text w step x y = []
-
--- ---- the members' names once more, above their lines
-
-unfoldable pub name_text : ℕ → ℕ → List ℕ
-name_text x p =
-    concat (codes "<text class='again' x='" ∷ decimal x ∷ codes "' y='" ∷ decimal (y_of p - 28) ∷ codes "'>member " ∷ decimal p
-    ∷ codes "</text>\n" ∷ [])
-
--- those of the first members
-abbrev pub first_names : ℕ → ℕ → List ℕ
-first_names x zero = []
-first_names x (suc k) = first_names x k ++ name_text x (suc k)
-
--- those of all, at each fortieth step
-abbrev pub names_text : ℕ → ℕ → ℕ → List ℕ
-names_text n number x = if number % 40 == 0 then first_names x n else []
+abbrev pub note_text : Rehearsal → Step → Spot → List ℕ
+note_text w (Enter p) spot = entered_text w p spot
+note_text w (Begin p) spot = changed_text w p spot
+note_text w (Choose p from) spot = changed_text w p spot
+note_text w (Adopt p) spot = changed_text w p spot
+note_text w step spot = []
 
 -- ---- all of it
 
--- at these places
-unfoldable pub mark_text : Rehearsal → Drawn → ℕ → ℕ → List ℕ
-mark_text w drawn x y =
-    concat (note_text w drawn.step x y ∷ title_text w drawn.before drawn.number drawn.step
-    ∷ sign_text w drawn.before drawn.step x y ∷ codes "</g>\n" ∷ names_text w.setting.members drawn.number x ∷ [])
+-- in a column
+unfoldable pub mark_text : Rehearsal → Drawn → Spot → List ℕ
+mark_text w drawn spot =
+    concat (note_text w drawn.step spot ∷ title_text w drawn.before drawn.number drawn.step ∷ sign_text w drawn.before drawn.step spot
+    ∷ codes "</g>\n" ∷ [])
+
+-- of a receipt that changes nothing
+unfoldable pub small_text : Rehearsal → Drawn → Spot → List ℕ
+small_text w drawn spot =
+    concat (title_text w drawn.before drawn.number drawn.step ∷ dot_text (received_kind w drawn.step) spot 2 ∷ codes "</g>\n" ∷ [])
+
+abbrev pub sighted_text : Rehearsal → Drawn → Spot → Sight → List ℕ
+sighted_text w drawn spot Wide = mark_text w drawn spot
+sighted_text w drawn spot Small = small_text w drawn spot
+sighted_text w drawn spot Hidden = []
 
 -- the mark of the record's last step
-abbrev pub marks : Rehearsal → Drawn → List ℕ
-marks w drawn = mark_text w drawn (x_of drawn.from drawn.number) (y_of (actor drawn.step))
+abbrev pub marks : Rehearsal → Grid → Drawn → List ℕ
+marks w g drawn = sighted_text w drawn (spot_of g drawn.place (actor drawn.step)) drawn.sight

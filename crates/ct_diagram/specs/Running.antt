@@ -13,19 +13,19 @@ use Rattle.ct_diagram.specs.declared.fault.DiagramFault.TheVariants.{Program}
 use Rattle.ct_diagram.specs.declared.window.TheConstants.{MOST_STEPS}
 use Rattle.ct_diagram.specs.declared.window.Window.{Window}
 use Rattle.ct_diagram.specs.Diagram.{diagram_text, IsDiagram, FailsWith}
-use Rattle.ct_diagram.specs.Window.{columns, part_of}
+use Rattle.ct_diagram.specs.Window.{part_of, steps_in}
 
 -- the input is a record whose steps up to the window's last one are allowed, and as many of them as a diagram can have are the
 -- window's; their diagram, and nothing else, was written
 abbrev pub Draws : Window → Result Rehearsal ReadFault → Option (List ℕ) → Option (List ℕ) → Type 0
 Draws window read old new = IsOkAnd read (λ w.
-    IsAllowed (part_of window w) × (columns window (part_of window w).steps ≤ MOST_STEPS)
+    IsAllowed (part_of window w) × (steps_in window (part_of window w).steps ≤ MOST_STEPS)
     × Appends old new (diagram_text window (part_of window w)))
 
 -- the same record, and some first bytes of the diagram, and nothing else, were written
 abbrev pub DrawsPart : Window → Result Rehearsal ReadFault → Option (List ℕ) → Option (List ℕ) → Type 0
 DrawsPart window read old new = IsOkAnd read (λ w.
-    IsAllowed (part_of window w) × (columns window (part_of window w).steps ≤ MOST_STEPS)
+    IsAllowed (part_of window w) × (steps_in window (part_of window w).steps ≤ MOST_STEPS)
     × WritesPart old new (diagram_text window (part_of window w)))
 
 -- the fault is that of reading, or that of drawing the record. Of streams and of memory nothing is said

@@ -1,4 +1,4 @@
--- What stands behind a step: which round each member is in, who has crashed, and the number of each fifth step.
+-- What stands behind a step: which round each member is in, who has crashed, and the number of each fifth column's step.
 use Rattle.std.specs.Prelude.{ℕ, zero, suc, ◌+◌, ◌-◌, ◌/◌, ◌%◌, ◌==◌, if◌then◌else◌, List, [], ◌∷◌, ◌++◌, codes, decimal}
 use Rattle.std.specs.Prelude.{◌&&◌, Option, Some, None, option_map}
 use Rattle.std.specs.List.{concat}
@@ -8,8 +8,11 @@ use Rattle.ct_model.specs.State.{is_crashed}
 use Rattle.ct_names.specs.Group.{is_member}
 use Rattle.ct_world.specs.World.{member_of, if_member}
 use Rattle.ct_diagram.specs.declared.drawn.Drawn.{Drawn}
+use Rattle.ct_diagram.specs.declared.grid.Grid.{Grid}
+use Rattle.ct_diagram.specs.declared.grid.Spot.{Spot}
 use Rattle.ct_diagram.specs.declared.grid.TheConstants.{COLUMN}
-use Rattle.ct_diagram.specs.Grid.{x_of, y_of}
+use Rattle.ct_diagram.specs.Sight.{is_wide}
+use Rattle.ct_diagram.specs.Grid.{spot_of, within}
 
 abbrev pub round_class : Option (ℕ × Phase) → Option (List ℕ)
 round_class None = None
@@ -21,23 +24,25 @@ class_of w p =
     if is_member w.setting.members p && is_crashed (state_of w) p then Some (codes "down")
     else round_class (if_member w p (option_map (λ c. (c.round, c.phase)) (member_of w p).current))
 
-unfoldable pub rect_text : List ℕ → ℕ → ℕ → List ℕ
-rect_text class x y =
-    concat (codes "<rect class='" ∷ class ∷ codes "' x='" ∷ decimal (x - COLUMN / 2) ∷ codes "' y='" ∷ decimal (y - 16)
+unfoldable pub rect_text : List ℕ → Spot → List ℕ
+rect_text class spot =
+    concat (codes "<rect class='" ∷ class ∷ codes "' x='" ∷ decimal (spot.x - COLUMN / 2) ∷ codes "' y='" ∷ decimal (spot.y - 16)
     ∷ codes "'/>\n" ∷ [])
 
-abbrev pub shade_text : Option (List ℕ) → ℕ → ℕ → List ℕ
-shade_text None x y = []
-shade_text (Some class) x y = rect_text class x y
+abbrev pub shade_text : Option (List ℕ) → Spot → List ℕ
+shade_text None spot = []
+shade_text (Some class) spot = rect_text class spot
 
 -- the shades of the first members after the record's last step
-abbrev pub first_shades : Rehearsal → ℕ → ℕ → List ℕ
-first_shades w x zero = []
-first_shades w x (suc k) = first_shades w x k ++ shade_text (class_of w (suc k)) x (y_of (suc k))
+abbrev pub first_shades : Rehearsal → Grid → ℕ → ℕ → List ℕ
+first_shades w g place zero = []
+first_shades w g place (suc k) = first_shades w g place k ++ shade_text (class_of w (suc k)) (spot_of g place (suc k))
 
--- a line from above the members to below the last of them, who stands at y
-unfoldable pub rule_text : ℕ → ℕ → List ℕ
-rule_text x y = concat (codes "<path class='grid' d='M" ∷ decimal x ∷ codes " 54V" ∷ decimal (y + 46) ∷ codes "'/>\n" ∷ [])
+-- a line from above the members to below the last of them
+unfoldable pub rule_text : Spot → Spot → List ℕ
+rule_text top low =
+    concat (codes "<path class='grid' d='M" ∷ decimal top.x ∷ codes " " ∷ decimal (top.y + 46) ∷ codes "V" ∷ decimal (low.y + 44)
+    ∷ codes "'/>\n" ∷ [])
 
 -- a number at a place
 unfoldable pub digits_text : ℕ → ℕ → ℕ → List ℕ
@@ -45,17 +50,16 @@ digits_text number x y =
     concat (codes "<text class='number' x='" ∷ decimal x ∷ codes "' y='" ∷ decimal y ∷ codes "'>" ∷ decimal number ∷ codes "</text>\n" ∷ [])
 
 -- the line, and the number at both its ends
-unfoldable pub this_number : ℕ → ℕ → ℕ → List ℕ
-this_number y number x = concat (rule_text x y ∷ digits_text number x 48 ∷ digits_text number x (y + 60) ∷ [])
+unfoldable pub this_number : ℕ → Spot → Spot → List ℕ
+this_number number top low =
+    concat (rule_text top low ∷ digits_text number top.x (top.y + 42) ∷ digits_text number top.x (low.y + 56) ∷ [])
 
--- that of each fifth step
-abbrev pub number_text : ℕ → ℕ → ℕ → List ℕ
-number_text n number x = if number % 5 == 0 then this_number (y_of n) number x else []
+-- that of the step of each fifth column of a row
+abbrev pub number_text : Grid → ℕ → ℕ → List ℕ
+number_text g number place =
+    if within g place / 2 % 5 == 0 then this_number number (spot_of g place 0) (spot_of g place g.n) else []
 
--- the column at this place
-abbrev pub column_text : Rehearsal → ℕ → ℕ → List ℕ
-column_text w number x = first_shades w x w.setting.members ++ number_text w.setting.members number x
-
--- all that stands behind the record's last step
-abbrev pub shades : Rehearsal → Drawn → List ℕ
-shades w drawn = column_text w drawn.number (x_of drawn.from drawn.number)
+-- all that stands behind the record's last step, where it has a column
+abbrev pub shades : Rehearsal → Grid → Drawn → List ℕ
+shades w g drawn =
+    if is_wide drawn.sight then first_shades w g drawn.place w.setting.members ++ number_text g drawn.number drawn.place else []

@@ -1,13 +1,14 @@
--- Which steps are drawn.
-use Rattle.std.specs.Prelude.{ℕ, ◌+◌, ◌-◌, Bool, ◌&&◌, nat_le, List, length, codes, Result, Ok}
-use Rattle.clap.specs.Words.{Row, Text}
+-- Which steps are drawn, and what of them.
+use Rattle.std.specs.Prelude.{ℕ, ◌+◌, ◌-◌, Bool, true, false, not, ◌&&◌, ◌||◌, nat_le, List, length, Option, Some, None}
+use Rattle.ct_names.specs.MemberSet.{has_member}
 use Rattle.ct_model.specs.declared.step.Step.{Step}
+use Rattle.ct_model.specs.declared.wire.Wire.{Wire}
+use Rattle.ct_model.specs.declared.wire.Wire.TheVariants.{Data}
 use Rattle.ct_model.specs.Rehearsal.{Rehearsal}
-use Rattle.ct_streams.specs.Values.{◌>>=◌, option_in}
 use Rattle.ct_world.specs.Replay.{first_steps}
 use Rattle.ct_diagram.specs.declared.window.Window.{Window}
 
--- the step of this number is drawn
+-- the step of this number is one of the window's
 abbrev pub is_drawn : Window → ℕ → Bool
 is_drawn window number = nat_le window.from number && nat_le number window.to
 
@@ -15,13 +16,21 @@ is_drawn window number = nat_le window.from number && nat_le number window.to
 abbrev pub part_of : Window → Rehearsal → Rehearsal
 part_of window w = first_steps w.setting w.cells w.steps window.to
 
--- how many steps of such a record are drawn
-abbrev pub columns : Window → List Step → ℕ
-columns window steps = (length steps + 1) - window.from
+-- how many steps of such a record are the window's
+abbrev pub steps_in : Window → List Step → ℕ
+steps_in window steps = (length steps + 1) - window.from
 
--- the window that the options of `diagram` ask for; else the line of the first one that is no whole number of its range
-unfoldable pub window_of : List Row → Result Window Text
-window_of rows = do
-  from ← option_in rows (codes "from") 1 4294967295
-  to ← option_in rows (codes "to") from 4294967295
-  Ok (record { from = from; to = to })
+-- the members that are named, where not all are
+abbrev pub has_named : Option (List ℕ) → ℕ → Bool
+has_named None p = true
+has_named (Some set) p = has_member set p
+
+-- a message alone
+abbrev pub is_data : Wire (Unit {0}) → Bool
+is_data (Data m) = true
+is_data wire = false
+
+-- the envelope with this wire from one member to another is drawn
+abbrev pub is_sent_asked : Window → (from to : ℕ) → Wire (Unit {0}) → Bool
+is_sent_asked window from to wire =
+    (has_named window.members from || has_named window.members to) && not (window.consensus && is_data wire)

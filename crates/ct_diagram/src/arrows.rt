@@ -1,94 +1,260 @@
-//! An arrow for each envelope that is received, and the beginning of one for each other.
+//! An arrow for each envelope that is received or lost, and the beginning of one for each other.
 
-ghost use Rattle.std.specs.Prelude.{◌≡◌, ◌≤◌, ◌<◌, ◌+◌, ◌-◌, length, OnOk, IfSome};
+ghost use Rattle.std.specs.Prelude.{◌≡◌, ◌<◌, ◌+◌, ◌-◌, ◌^◌, length, OnOk};
 ghost use Rattle.ct_records.specs.Adds.{Adds};
-ghost use Rattle.ct_model.specs.Rehearsal.{state_of};
 ghost use Rattle.ct_show.specs.Wires.{letter_at};
-ghost use Rattle.ct_diagram.specs.Arrows.{is_receipt, arrival, reach, stub_end, stub_text, path_text, route_text, kind_of, drawn_text};
-ghost use Rattle.ct_diagram.specs.Arrows.{arrow_text, first_arrows, arrows};
+ghost use Rattle.ct_diagram.specs.Arrows.{kind_of, sender_at, grid_of, end_class, begun_at, begun_by, begun_word, begun_in, before_text};
+ghost use Rattle.ct_diagram.specs.Arrows.{begun_text, end_word, end_text, opening_text, way_text, who_text, arrow_text, arrow_at};
+ghost use Rattle.ct_diagram.specs.Arrows.{taken_text, short_text, last_text, stub_arrow, stub_at, returned_text, first_stubs, arrows};
+ghost use Rattle.ct_diagram.specs.Trail.{returned, taken};
 
 use crate::drawn::Drawn;
-use crate::grid::{x_of, y_of};
-use crate::window::MOST_STEPS;
+use crate::grid::Grid;
+use crate::routes::{push_route, push_stub};
+use crate::sight::Sight;
+use crate::trail::{is_taken, origin, returned, taken};
+use crate::window::Window;
 use ct_model::Step;
 use ct_names::{Member, Serial};
 use ct_show::push_serial;
 use ct_world::{Letter, Wire, World};
 use std::alloc::AllocError;
 
-// Those of the envelopes that the world's last step sent. The later steps are drawn after it.
+// What is drawn of envelopes at the world's last step: the arrow to it, and the beginnings of those that no later step ends.
 pub(crate) fn push_arrows(
     text: &mut String,
     world: &World,
+    window: &Window,
+    senders: &[Member],
+    trail: &[Drawn],
     drawn: Drawn,
     later: &[Step],
 ) -> Result<(), AllocError>
-    requires after { drawn.from ≤ drawn.number }
-    requires near { drawn.number + length later.now < drawn.from + MOST_STEPS }
-    ensures { OnOk result (Adds text.old text.new (arrows world.now.rehearsal drawn later.now)) }
+    requires { drawn.number + length later.now < 2 ^ 63 }
+    ensures { OnOk result (Adds text.old text.new
+        (arrows world.now.rehearsal window.now senders.now trail.now drawn later.now)) }
 {
-    let count = world.sent().saturating_sub(drawn.before);
-    for k in 0..count {
-        push_arrow(text, world, drawn.before + k + 1, drawn, later)?;
-    }
-    Ok(())
+    push_taken(text, world, window, senders, trail, drawn)?;
+    push_returned(text, world, window, senders, drawn, later)?;
+    push_sent(text, world, window, senders, drawn, later)
 }
 
-// That of the envelope of this serial.
+// That of the envelope that the step takes out of its line.
+fn push_taken(
+    text: &mut String,
+    world: &World,
+    window: &Window,
+    senders: &[Member],
+    trail: &[Drawn],
+    drawn: Drawn,
+) -> Result<(), AllocError>
+    ensures { OnOk result (Adds text.old text.new
+        (taken_text world.now.rehearsal window.now senders.now trail.now drawn (taken drawn.step))) }
+{
+    match taken(drawn.step) {
+        None => Ok(()),
+        Some(serial) => push_arrow_at(text, world, window, senders, trail, drawn, serial),
+    }
+}
+
+// Where it is asked for.
+fn push_arrow_at(
+    text: &mut String,
+    world: &World,
+    window: &Window,
+    senders: &[Member],
+    trail: &[Drawn],
+    drawn: Drawn,
+    serial: Serial,
+) -> Result<(), AllocError>
+    ensures { OnOk result (Adds text.old text.new
+        (arrow_at world.now.rehearsal window.now senders.now trail.now drawn serial (letter_at world.now.rehearsal serial))) }
+{
+    let sender = sender_at(senders, serial);
+    match world.letter(serial) {
+        Some(letter) if window.has_wire(sender, letter.to, &letter.wire) => push_arrow(
+            text,
+            world,
+            window,
+            sender,
+            origin(trail, serial),
+            drawn,
+            serial,
+            &letter,
+        ),
+        _ => Ok(()),
+    }
+}
+
+// From its beginning to the step.
+#[tactic(auto, unfolding(crate::specs::Arrows::arrow_text))]
 fn push_arrow(
     text: &mut String,
     world: &World,
-    serial: Serial,
+    window: &Window,
+    sender: Member,
+    begun: Option<Drawn>,
     drawn: Drawn,
-    later: &[Step],
+    serial: Serial,
+    letter: &Letter,
 ) -> Result<(), AllocError>
-    requires after { drawn.from ≤ drawn.number }
-    requires near { drawn.number + length later.now < drawn.from + MOST_STEPS }
     ensures { OnOk result (Adds text.old text.new
-        (arrow_text world.now.rehearsal serial (letter_at world.now.rehearsal serial) drawn later.now)) }
+        (arrow_text world.now.rehearsal window.now sender begun drawn serial letter.now)) }
 {
-    match world.letter(serial) {
-        None => Ok(()),
-        Some(letter) => push_drawn(text, world, serial, &letter, drawn, later),
-    }
+    push_opening(text, kind_of(&letter.wire), end_class(drawn))?;
+    push_way(text, world, window, sender, begun, letter.to, drawn.place)?;
+    push_who(text, world, serial, sender, letter.to)?;
+    push_begun(text, window.from, begun)?;
+    push_end(text, drawn)
 }
 
-#[tactic(auto, unfolding(crate::specs::Arrows::drawn_text))]
-fn push_drawn(
+// How its line looks.
+#[tactic(auto, unfolding(crate::specs::Arrows::opening_text))]
+fn push_opening(text: &mut String, kind: &str, more: &str) -> Result<(), AllocError>
+    ensures { OnOk result (Adds text.old text.new (opening_text kind.now more.now)) }
+{
+    write!(text, "<path class='{kind}{more}' d='")
+}
+
+// From where it begins to a place of its receiver.
+fn push_way(
+    text: &mut String,
+    world: &World,
+    window: &Window,
+    sender: Member,
+    begun: Option<Drawn>,
+    to: Member,
+    place: u16,
+) -> Result<(), AllocError>
+    ensures { OnOk result (Adds text.old text.new (way_text world.now.rehearsal window.now sender begun to place)) }
+{
+    push_route(
+        text,
+        grid_of(world, window),
+        begun_at(begun),
+        begun_by(begun, sender),
+        to,
+        place,
+    )
+}
+
+// Who sent it, and to whom.
+#[tactic(auto, unfolding(crate::specs::Arrows::who_text))]
+fn push_who(
     text: &mut String,
     world: &World,
     serial: Serial,
-    letter: &Letter,
-    drawn: Drawn,
-    later: &[Step],
+    sender: Member,
+    to: Member,
 ) -> Result<(), AllocError>
-    requires after { drawn.from ≤ drawn.number }
-    requires near { drawn.number + length later.now < drawn.from + MOST_STEPS }
-    ensures { OnOk result (Adds text.old text.new (drawn_text world.now.rehearsal serial letter.now drawn later.now)) }
+    ensures { OnOk result (Adds text.old text.new (who_text world.now.rehearsal serial sender to)) }
 {
-    let class = kind_of(&letter.wire);
-    write!(text, "<path class='{class}")?;
-    push_route(text, letter.to, serial, drawn, later)?;
-    text.push_str("><title>")?;
+    text.push_str("'><title>")?;
     push_serial(text, world, serial)?;
-    let to = letter.to;
-    write!(text, " to {to}</title></path>\n")
+    write!(text, ", sent by {sender} to {to}")
 }
 
-// How many of the later steps come before the first receipt of the envelope, if it is received.
-fn arrival(later: &[Step], serial: Serial) -> Option<usize>
-    ensures value { result ≡ arrival later.now serial }
-    ensures within { IfSome result (λ wait. wait < length later.now) }
+// When.
+fn push_begun(text: &mut String, first: u32, begun: Option<Drawn>) -> Result<(), AllocError>
+    ensures { OnOk result (Adds text.old text.new (begun_text first begun)) }
 {
-    later.iter().position(|step| is_receipt(*step, serial))
+    match begun {
+        None => push_before(text, first),
+        Some(drawn) => push_begun_in(text, drawn),
+    }
 }
 
-fn is_receipt(step: Step, serial: Serial) -> bool
-    ensures { result ≡ is_receipt serial step }
+#[tactic(auto, unfolding(crate::specs::Arrows::before_text))]
+fn push_before(text: &mut String, first: u32) -> Result<(), AllocError>
+    ensures { OnOk result (Adds text.old text.new (before_text first)) }
+{
+    write!(text, " before step {first}")
+}
+
+#[tactic(auto, unfolding(crate::specs::Arrows::begun_in))]
+fn push_begun_in(text: &mut String, drawn: Drawn) -> Result<(), AllocError>
+    ensures { OnOk result (Adds text.old text.new (begun_in drawn)) }
+{
+    let word = begun_word(drawn.step);
+    let number = drawn.number;
+    write!(text, "{word} in step {number}")
+}
+
+fn begun_word(step: Step) -> &'static str
+    ensures { result.now ≡ begun_word step }
 {
     match step {
-        Step::Receive(_, received) => received == serial,
-        _ => false,
+        Step::Repeat(_, _) => ", repeated",
+        _ => "",
+    }
+}
+
+// What became of it.
+#[tactic(auto, unfolding(crate::specs::Arrows::end_text))]
+fn push_end(text: &mut String, drawn: Drawn) -> Result<(), AllocError>
+    ensures { OnOk result (Adds text.old text.new (end_text drawn)) }
+{
+    let word = end_word(drawn.step);
+    let number = drawn.number;
+    write!(text, "; {word} in step {number}</title></path>\n")
+}
+
+fn end_word(step: Step) -> &'static str
+    ensures { result.now ≡ end_word step }
+{
+    match step {
+        Step::Lose(_, _) => "lost",
+        _ => "received",
+    }
+}
+
+// How an arrow that ends at the step looks besides.
+fn end_class(drawn: Drawn) -> &'static str
+    ensures { result.now ≡ end_class drawn.step drawn.sight }
+{
+    match (drawn.step, drawn.sight) {
+        (Step::Lose(_, _), _) => " lost",
+        (_, Sight::Small) => " late",
+        _ => "",
+    }
+}
+
+// Where it begins, where that is in the window.
+fn begun_at(begun: Option<Drawn>) -> Option<u16>
+    ensures { result ≡ begun_at begun }
+{
+    match begun {
+        None => None,
+        Some(drawn) => Some(drawn.place),
+    }
+}
+
+// At which member.
+fn begun_by(begun: Option<Drawn>, sender: Member) -> Member
+    ensures { result ≡ begun_by begun sender }
+{
+    match begun {
+        None => sender,
+        Some(drawn) => drawn.step.member(),
+    }
+}
+
+// The member whose step sent the envelope, 0 where it was not sent.
+fn sender_at(senders: &[Member], serial: Serial) -> Member
+    ensures { result ≡ sender_at senders.now serial }
+{
+    match serial.checked_sub(1) {
+        None => 0,
+        Some(place) => senders.get(place as usize).copied().unwrap_or(0),
+    }
+}
+
+fn grid_of(world: &World, window: &Window) -> Grid
+    ensures { result ≡ grid_of world.now.rehearsal window.now }
+{
+    Grid {
+        n: world.group().n(),
+        columns: window.columns,
     }
 }
 
@@ -106,99 +272,125 @@ pub(crate) fn kind_of(wire: &Wire) -> &'static str
     }
 }
 
-// From the step that sent the envelope to the first one that receives it; only the beginning where none does.
-fn push_route(
+// The beginning of the one that the step puts back into its line, where none of the later steps takes it out.
+fn push_returned(
     text: &mut String,
-    to: Member,
-    serial: Serial,
+    world: &World,
+    window: &Window,
+    senders: &[Member],
     drawn: Drawn,
     later: &[Step],
 ) -> Result<(), AllocError>
-    requires after { drawn.from ≤ drawn.number }
-    requires near { drawn.number + length later.now < drawn.from + MOST_STEPS }
-    ensures { OnOk result (Adds text.old text.new (route_text to (arrival later.now serial) drawn)) }
+    requires { drawn.number + length later.now < 2 ^ 63 }
+    ensures { OnOk result (Adds text.old text.new
+        (returned_text world.now.rehearsal window.now senders.now drawn later.now (returned drawn.step))) }
 {
-    push_line(text, to, arrival(later, serial), drawn)
+    match returned(drawn.step) {
+        None => Ok(()),
+        Some(serial) => push_stub_at(text, world, window, senders, drawn, later, serial),
+    }
 }
 
-// Towards a step that comes after so many others.
-fn push_line(
+// The beginnings of those that the step sends.
+fn push_sent(
     text: &mut String,
-    to: Member,
-    arrival: Option<usize>,
+    world: &World,
+    window: &Window,
+    senders: &[Member],
     drawn: Drawn,
+    later: &[Step],
 ) -> Result<(), AllocError>
-    requires after { drawn.from ≤ drawn.number }
-    requires near { drawn.number < drawn.from + MOST_STEPS }
-    requires soon { IfSome arrival (λ wait. drawn.number + 1 + wait ≤ drawn.from + MOST_STEPS) }
-    ensures { OnOk result (Adds text.old text.new (route_text to arrival drawn)) }
+    requires { drawn.number + length later.now < 2 ^ 63 }
+    ensures { OnOk result (Adds text.old text.new
+        (first_stubs world.now.rehearsal window.now senders.now drawn later.now (drawn.sent - drawn.before))) }
 {
-    let member = drawn.step.member();
-    let x = x_of(drawn.from, drawn.number);
-    match arrival {
-        None => push_stub(text, to, member, x),
-        Some(wait) => {
-            let end = x_of(drawn.from, drawn.number + 1 + wait);
-            push_path(text, to, member, x, end)
-        }
+    let count = drawn.sent.saturating_sub(drawn.before);
+    for k in 0..count {
+        push_stub_at(
+            text,
+            world,
+            window,
+            senders,
+            drawn,
+            later,
+            drawn.before + k + 1,
+        )?;
     }
+    Ok(())
 }
 
-// From a step of a member to a step of another; to one of its own over the member's line.
-#[tactic(auto, unfolding(crate::specs::Arrows::path_text))]
-fn push_path(
+// Where it is asked for, and none of the later steps takes it out of its line.
+fn push_stub_at(
     text: &mut String,
-    to: Member,
-    member: Member,
-    x: usize,
-    end: usize,
+    world: &World,
+    window: &Window,
+    senders: &[Member],
+    drawn: Drawn,
+    later: &[Step],
+    serial: Serial,
 ) -> Result<(), AllocError>
-    requires left { x ≤ 20000 }
-    requires right { end ≤ 20000 }
-    ensures { OnOk result (Adds text.old text.new (path_text to member x end)) }
+    requires { drawn.number + length later.now < 2 ^ 63 }
+    ensures { OnOk result (Adds text.old text.new
+        (stub_at world.now.rehearsal window.now senders.now drawn later.now serial (letter_at world.now.rehearsal serial))) }
 {
-    let y = y_of(member);
-    let low = y_of(to);
-    if to == member {
-        let middle = (x + end) / 2;
-        let high = y.saturating_sub(30);
-        write!(text, "' d='M{x} {y} Q{middle} {high} {end} {low}'")
-    } else {
-        write!(text, "' d='M{x} {y} L{end} {low}'")
+    let sender = sender_at(senders, serial);
+    match world.letter(serial) {
+        Some(letter) if window.has_wire(sender, letter.to, &letter.wire) => {
+            if is_taken(later, serial) {
+                Ok(())
+            } else {
+                let last = drawn.number + later.len();
+                push_stub_arrow(text, world, window, sender, drawn, last, serial, &letter)
+            }
+        }
+        _ => Ok(()),
     }
 }
 
-// Only the beginning, the steeper the farther the receiver is.
-#[tactic(auto, unfolding(crate::specs::Arrows::stub_text))]
-fn push_stub(text: &mut String, to: Member, member: Member, x: usize) -> Result<(), AllocError>
-    requires { x ≤ 20000 }
-    ensures { OnOk result (Adds text.old text.new (stub_text to member x)) }
+#[tactic(auto, unfolding(crate::specs::Arrows::stub_arrow))]
+fn push_stub_arrow(
+    text: &mut String,
+    world: &World,
+    window: &Window,
+    sender: Member,
+    drawn: Drawn,
+    last: usize,
+    serial: Serial,
+    letter: &Letter,
+) -> Result<(), AllocError>
+    ensures { OnOk result (Adds text.old text.new
+        (stub_arrow world.now.rehearsal window.now sender drawn last serial letter.now)) }
 {
-    let y = y_of(member);
-    let end = x + 14;
-    let low = stub_end(to, member);
-    write!(text, " stub' d='M{x} {y} L{end} {low}'")
+    push_opening(text, kind_of(&letter.wire), " stub")?;
+    push_short(text, world, window, drawn, letter.to)?;
+    push_who(text, world, serial, sender, letter.to)?;
+    push_begun_in(text, drawn)?;
+    push_last(text, last)
 }
 
-// How low it ends.
-#[tactic(auto, unfolding(crate::specs::Arrows::stub_end))]
-fn stub_end(to: Member, member: Member) -> usize
-    ensures { result ≡ stub_end to member }
+// How far it was not received.
+#[tactic(auto, unfolding(crate::specs::Arrows::last_text))]
+fn push_last(text: &mut String, last: usize) -> Result<(), AllocError>
+    ensures { OnOk result (Adds text.old text.new (last_text last)) }
 {
-    let y = y_of(member);
-    if to < member {
-        y.saturating_sub(reach(member - to))
-    } else if to > member {
-        y + reach(to - member)
-    } else {
-        y.saturating_sub(14)
-    }
+    write!(text, "; not received up to step {last}</title></path>\n")
 }
 
-// How far it goes up or down towards a member so many lines away.
-fn reach(lines: Member) -> usize
-    ensures value { result ≡ reach lines }
-    ensures low { result ≤ 27 }
+// The beginning of a line to the member.
+fn push_short(
+    text: &mut String,
+    world: &World,
+    window: &Window,
+    drawn: Drawn,
+    to: Member,
+) -> Result<(), AllocError>
+    ensures { OnOk result (Adds text.old text.new (short_text world.now.rehearsal window.now drawn to)) }
 {
-    12 + 3 * usize::from(lines.min(5))
+    let from = drawn.step.member();
+    push_stub(
+        text,
+        from,
+        to,
+        grid_of(world, window).spot(drawn.place, from),
+    )
 }

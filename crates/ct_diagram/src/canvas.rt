@@ -1,23 +1,26 @@
 //! What is drawn of some steps, in three layers.
 
-ghost use Rattle.std.specs.Prelude.{◌≡◌, ◌≤◌, ◌<◌, ◌+◌, ◌++◌, [], length, OnOk, string_bytes, if◌then◌else◌};
-ghost use Rattle.ct_diagram.specs.Arrows.{arrows};
+ghost use Rattle.std.specs.Prelude.{◌≡◌, ◌≤◌, ◌<◌, ◌+◌, ◌++◌, ◌^◌, [], ◌∷◌, length, OnOk, string_bytes};
+ghost use Rattle.ct_diagram.specs.Arrows.{arrows, grid_of};
 ghost use Rattle.ct_diagram.specs.Marks.{marks};
 ghost use Rattle.ct_diagram.specs.Shades.{shades};
 
 use crate::arrows::push_arrows;
 use crate::drawn::Drawn;
+use crate::grid::Grid;
 use crate::marks::push_marks;
 use crate::shades::push_shades;
-use crate::window::MOST_STEPS;
+use crate::window::Window;
 use ct_model::Step;
-use ct_names::MAX_ENVELOPES;
+use ct_names::{MAX_ENVELOPES, Member};
 use ct_world::World;
 use std::alloc::{AllocError, Global};
 
 // What is drawn of some steps.
 #[derive(Drop)]
 pub(crate) struct Canvas {
+    // The steps, in order.
+    pub trail: Vec<Drawn>,
     // Behind all else, the rounds.
     pub shades: String,
     // Then the envelopes.
@@ -29,11 +32,13 @@ pub(crate) struct Canvas {
 impl Canvas {
     // Nothing is drawn.
     pub fn new(alloc: Global) -> Canvas
+        ensures trail { result.trail.items ≡ [] }
         ensures shades { string_bytes result.shades ≡ [] }
         ensures arrows { string_bytes result.arrows ≡ [] }
         ensures marks { string_bytes result.marks ≡ [] }
     {
         Canvas {
+            trail: Vec::new(alloc),
             shades: String::new(alloc),
             arrows: String::new(alloc),
             marks: String::new(alloc),
@@ -41,19 +46,40 @@ impl Canvas {
     }
 
     // Draws the world's last step. The later ones are drawn after it.
-    pub fn draw(&mut self, world: &World, drawn: Drawn, later: &[Step]) -> Result<(), AllocError>
+    pub fn draw(
+        &mut self,
+        world: &World,
+        window: &Window,
+        senders: &[Member],
+        drawn: Drawn,
+        later: &[Step],
+    ) -> Result<(), AllocError>
         requires sent { drawn.before ≤ MAX_ENVELOPES }
-        requires after { drawn.from ≤ drawn.number }
-        requires near { drawn.number + length later.now < drawn.from + MOST_STEPS }
+        requires near { drawn.number + length later.now < 2 ^ 63 }
+        ensures trail { OnOk result (self.new.trail.items ≡ self.old.trail.items ++ drawn ∷ []) }
         ensures shades { OnOk result (string_bytes self.new.shades
-            ≡ string_bytes self.old.shades ++ shades world.now.rehearsal drawn) }
-        ensures arrows { OnOk result (string_bytes self.new.arrows
-            ≡ string_bytes self.old.arrows ++ arrows world.now.rehearsal drawn later.now) }
+            ≡ string_bytes self.old.shades ++ shades world.now.rehearsal (grid_of world.now.rehearsal window.now) drawn) }
+        ensures arrows { OnOk result (string_bytes self.new.arrows ≡ string_bytes self.old.arrows
+            ++ arrows world.now.rehearsal window.now senders.now self.old.trail.items drawn later.now) }
         ensures marks { OnOk result (string_bytes self.new.marks
-            ≡ string_bytes self.old.marks ++ marks world.now.rehearsal drawn) }
+            ≡ string_bytes self.old.marks ++ marks world.now.rehearsal (grid_of world.now.rehearsal window.now) drawn) }
     {
-        push_shades(&mut self.shades, world, drawn)?;
-        push_arrows(&mut self.arrows, world, drawn, later)?;
-        push_marks(&mut self.marks, world, drawn)
+        let grid = Grid {
+            n: world.group().n(),
+            columns: window.columns,
+        };
+        push_shades(&mut self.shades, world, grid, drawn)?;
+        push_arrows(
+            &mut self.arrows,
+            world,
+            window,
+            senders,
+            &self.trail,
+            drawn,
+            later,
+        )?;
+        push_marks(&mut self.marks, world, grid, drawn)?;
+        self.trail.push(drawn)?;
+        Ok(())
     }
 }

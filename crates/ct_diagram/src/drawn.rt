@@ -1,16 +1,21 @@
-//! A step that is drawn.
+//! A step of the window.
 
+use crate::sight::Sight;
 use ct_model::Step;
 
-// A step that is drawn.
+// A step of the window.
 #[derive(Clone, Copy, Drop)]
 pub(crate) struct Drawn {
-    // The number of the diagram's first step.
-    pub from: u32,
-    // Its own number.
+    // Its number.
     pub number: usize,
     // How many envelopes had been sent before it.
     pub before: u32,
+    // How many after it.
+    pub sent: u32,
     // The step.
     pub step: Step,
+    // How it is drawn.
+    pub sight: Sight,
+    // Where: half columns from the left edge on.
+    pub place: u16,
 }

@@ -1,12 +1,12 @@
 //! What stands around the steps: how things look, the members' lines, and what the signs mean.
 
-ghost use Rattle.std.specs.Prelude.{◌≡◌, ◌≤◌, ◌<◌, OnOk};
+ghost use Rattle.std.specs.Prelude.{◌≡◌, ◌≤◌, ◌+◌, OnOk};
 ghost use Rattle.ct_records.specs.Adds.{Adds};
-ghost use Rattle.ct_diagram.specs.Frame.{width, sizes_text, head_text, name_text, line_text, lane_text};
-ghost use Rattle.ct_diagram.specs.Frame.{lanes_text, below_text, legend_text, foot_text};
+ghost use Rattle.ct_diagram.specs.Grid.{row_of};
+ghost use Rattle.ct_diagram.specs.Frame.{row_end, low, width, sizes_text, head_text, name_text, line_text, lane_text};
+ghost use Rattle.ct_diagram.specs.Frame.{row_text, rows_text, below_text, legend_text, foot_text};
 
-use crate::grid::{COLUMN, FIRST, ROW, x_of, y_of};
-use crate::window::MOST_STEPS;
+use crate::grid::{COLUMN, Grid, LEFT};
 use ct_show::{LETTERS, OTHER_LETTERS};
 use std::alloc::AllocError;
 
@@ -14,10 +14,9 @@ use std::alloc::AllocError;
 const STYLE: &str = "<style>
 text{font:10px sans-serif;text-anchor:middle}
 .name,.legend{text-anchor:start}
-.round,.note,.again,.number{paint-order:stroke;stroke:#fff;stroke-width:3px;stroke-linejoin:round}
+.round,.note,.number{paint-order:stroke;stroke:#fff;stroke-width:3px;stroke-linejoin:round}
 .round{fill:#555;font-size:9px}
 .note{fill:#256;font-size:8px;text-anchor:start}
-.again{fill:#888;font-size:8px}
 .number{fill:#888;font-size:9px}
 rect{width:26px;height:32px}
 .rest{fill:#f2f2f2}
@@ -46,6 +45,8 @@ path{fill:none;stroke-width:1.3}
 .dot.nack{fill:#cc3333}
 .dot.dec{fill:#a030b0}
 path.stub{stroke-dasharray:3 3;marker-end:none}
+path.lost{marker-end:url(#lost)}
+path.late{opacity:.45}
 .tip{stroke:none}
 </style>
 <marker id='data' viewBox='0 0 8 8' refX='11' refY='4' markerWidth='7' markerHeight='7' orient='auto'>
@@ -60,97 +61,129 @@ path.stub{stroke-dasharray:3 3;marker-end:none}
 <path class='tip' d='M0 0L8 4L0 8z' style='fill:#cc3333'/></marker>
 <marker id='dec' viewBox='0 0 8 8' refX='11' refY='4' markerWidth='7' markerHeight='7' orient='auto'>
 <path class='tip' d='M0 0L8 4L0 8z' style='fill:#a030b0'/></marker>
-<rect y='36' style='width:100%;height:100%;fill:#fff'/>
+<marker id='lost' viewBox='0 0 8 8' refX='14' refY='4' markerWidth='8' markerHeight='8' markerUnits='userSpaceOnUse' orient='auto'>
+<path class='tip' d='M1 1L7 7M1 7L7 1' style='stroke:#b00;stroke-width:2'/></marker>
+<rect y='30' style='width:100%;height:100%;fill:#fff'/>
 ";
 
 // What the lines of envelopes mean.
 const LINES: &str = "<path class='data' d='M0 -4H30'/><text class='legend' x='34' y='0'>data</text>
-<path class='est' d='M70 -4H100'/><text class='legend' x='104' y='0'>estimate</text>
-<path class='prop' d='M160 -4H190'/><text class='legend' x='194' y='0'>proposal</text>
-<path class='ack' d='M250 -4H280'/><text class='legend' x='284' y='0'>ack</text>
-<path class='nack' d='M315 -4H345'/><text class='legend' x='349' y='0'>nack</text>
-<path class='dec' d='M385 -4H415'/><text class='legend' x='419' y='0'>decision</text>
-<path class='data stub' d='M475 -4H505'/><text class='legend' x='509' y='0'>not received here</text>
+<path class='est' d='M66 -4H96'/><text class='legend' x='100' y='0'>estimate</text>
+<path class='prop' d='M150 -4H180'/><text class='legend' x='184' y='0'>proposal</text>
+<path class='ack' d='M234 -4H264'/><text class='legend' x='268' y='0'>ack</text>
+<path class='nack' d='M294 -4H324'/><text class='legend' x='328' y='0'>nack</text>
+<path class='dec' d='M358 -4H388'/><text class='legend' x='392' y='0'>decision</text>
+<path class='data stub' d='M442 -4H472'/><text class='legend' x='476' y='0'>not received here</text>
+<path class='data lost' d='M572 -4H614'/><text class='legend' x='612' y='0'>lost</text>
 ";
 
-// What the shades behind the steps mean, and the end.
-const SHADES: &str =
-    "Behind them: odd rounds blue, even ones orange, crashed grey.</text>\n</g>\n</svg>\n";
+// What the shades behind the steps mean, and what is pale, and the end.
+const SHADES: &str = "Behind them: odd rounds blue, even ones orange, crashed grey.</text>
+<text class='legend' x='0' y='46'>Small and pale: a receipt that changes nothing.</text>
+</g>
+</svg>
+";
 
-// What stands before the steps: sizes for so many members and columns, and how things look.
-pub(crate) fn push_head(text: &mut String, n: u8, columns: usize) -> Result<(), AllocError>
-    requires { columns ≤ MOST_STEPS }
-    ensures { OnOk result (Adds text.old text.new (head_text n columns)) }
+// What stands before the steps: sizes for columns up to a place, and how things look.
+pub(crate) fn push_head(text: &mut String, grid: Grid, end: u16) -> Result<(), AllocError>
+    ensures { OnOk result (Adds text.old text.new (head_text grid end)) }
 {
-    push_sizes(text, width(columns), ROW * usize::from(n) + 100)?;
+    push_sizes(text, width(grid, end), low(grid, end) + 32)?;
     text.push_str(STYLE)
 }
 
 #[tactic(auto, unfolding(crate::specs::Frame::sizes_text))]
-fn push_sizes(text: &mut String, wide: usize, high: usize) -> Result<(), AllocError>
+fn push_sizes(text: &mut String, wide: u32, high: u64) -> Result<(), AllocError>
     ensures { OnOk result (Adds text.old text.new (sizes_text wide high)) }
 {
     write!(
         text,
-        "<svg xmlns='http://www.w3.org/2000/svg' width='{wide}' height='{high}' viewBox='0 36 {wide} {high}'>\n"
+        "<svg xmlns='http://www.w3.org/2000/svg' width='{wide}' height='{high}' viewBox='0 30 {wide} {high}'>\n"
     )
 }
 
-// Room for so many columns, and for what the signs mean.
-fn width(columns: usize) -> usize
-    requires { columns ≤ MOST_STEPS }
-    ensures { result ≡ width columns }
+// Room for the columns, and for what the signs mean.
+fn width(grid: Grid, end: u16) -> u32
+    ensures { result ≡ width grid end }
 {
-    let wide = FIRST + COLUMN * columns + 30;
+    let wide = row_end(grid, end, 0) + 30;
     if wide < 660 { 660 } else { wide }
 }
 
-// The members' names and lines.
-pub(crate) fn push_lanes(text: &mut String, n: u8, columns: usize) -> Result<(), AllocError>
-    requires { columns ≤ MOST_STEPS }
-    ensures { OnOk result (Adds text.old text.new (lanes_text columns n)) }
+// Where the lines of a row end.
+fn row_end(grid: Grid, end: u16, row: u32) -> u32
+    ensures value { result ≡ row_end grid end row }
+    ensures few { result ≤ 2000000 }
 {
-    for i in 0..n {
-        push_lane(text, i + 1, columns)?;
+    if row < grid.row(end) {
+        grid.right()
+    } else {
+        LEFT + COLUMN / 2 * grid.within(end)
+    }
+}
+
+// How low what the signs mean begins.
+fn low(grid: Grid, end: u16) -> u64
+    ensures value { result ≡ low grid end }
+    ensures few { result ≤ 1500100000 }
+{
+    u64::from(grid.row(end) + 1) * u64::from(grid.height()) + 30
+}
+
+// The rows of members' names and lines.
+pub(crate) fn push_rows(text: &mut String, grid: Grid, end: u16) -> Result<(), AllocError>
+    ensures { OnOk result (Adds text.old text.new (rows_text grid end (row_of grid end + 1))) }
+{
+    let rows = grid.row(end) + 1;
+    for i in 0..rows {
+        push_row(text, grid, i, row_end(grid, end, i))?;
     }
     Ok(())
 }
 
-fn push_lane(text: &mut String, member: u8, columns: usize) -> Result<(), AllocError>
-    requires { columns ≤ MOST_STEPS }
-    ensures { OnOk result (Adds text.old text.new (lane_text columns member)) }
+fn push_row(text: &mut String, grid: Grid, row: u32, right: u32) -> Result<(), AllocError>
+    requires { row ≤ 65535 }
+    ensures { OnOk result (Adds text.old text.new (row_text grid row right grid.n)) }
 {
-    push_name(text, member)?;
-    push_line(text, member, columns)
+    for i in 0..grid.n {
+        let y = u64::from(grid.top(row)) + u64::from(grid.lane()) * u64::from(i + 1);
+        push_lane(text, i + 1, y, right)?;
+    }
+    Ok(())
+}
+
+fn push_lane(text: &mut String, member: u8, y: u64, right: u32) -> Result<(), AllocError>
+    requires { y ≤ 4294967295 }
+    ensures { OnOk result (Adds text.old text.new (lane_text member y right)) }
+{
+    push_name(text, member, y)?;
+    push_line(text, y, right)
 }
 
 #[tactic(auto, unfolding(crate::specs::Frame::name_text))]
-fn push_name(text: &mut String, member: u8) -> Result<(), AllocError>
-    ensures { OnOk result (Adds text.old text.new (name_text member)) }
+fn push_name(text: &mut String, member: u8, y: u64) -> Result<(), AllocError>
+    requires { y ≤ 4294967295 }
+    ensures { OnOk result (Adds text.old text.new (name_text member y)) }
 {
-    let low = y_of(member) + 4;
+    let low = y + 4;
     write!(
         text,
-        "<text class='name' x='8' y='{low}'>member {member}</text>\n"
+        "<text class='name' x='6' y='{low}'>member {member}</text>\n"
     )
 }
 
 #[tactic(auto, unfolding(crate::specs::Frame::line_text))]
-fn push_line(text: &mut String, member: u8, columns: usize) -> Result<(), AllocError>
-    requires { columns ≤ MOST_STEPS }
-    ensures { OnOk result (Adds text.old text.new (line_text columns member)) }
+fn push_line(text: &mut String, y: u64, right: u32) -> Result<(), AllocError>
+    ensures { OnOk result (Adds text.old text.new (line_text y right)) }
 {
-    let start = FIRST - COLUMN / 2;
-    let y = y_of(member);
-    let end = x_of(0, columns) - COLUMN / 2;
-    write!(text, "<path class='lane' d='M{start} {y}H{end}'/>\n")
+    write!(text, "<path class='lane' d='M{LEFT} {y}H{right}'/>\n")
 }
 
 // What stands behind the steps: what the signs mean.
-pub(crate) fn push_foot(text: &mut String, n: u8) -> Result<(), AllocError>
-    ensures { OnOk result (Adds text.old text.new (foot_text n)) }
+pub(crate) fn push_foot(text: &mut String, grid: Grid, end: u16) -> Result<(), AllocError>
+    ensures { OnOk result (Adds text.old text.new (foot_text grid end)) }
 {
-    push_below(text, ROW * usize::from(n) + 90)?;
+    push_below(text, low(grid, end))?;
     push_legend(text)
 }
 
@@ -167,7 +200,7 @@ fn push_legend(text: &mut String) -> Result<(), AllocError>
 }
 
 #[tactic(auto, unfolding(crate::specs::Frame::below_text))]
-fn push_below(text: &mut String, low: usize) -> Result<(), AllocError>
+fn push_below(text: &mut String, low: u64) -> Result<(), AllocError>
     ensures { OnOk result (Adds text.old text.new (below_text low)) }
 {
     write!(text, "<g transform='translate(12 {low})'>\n")

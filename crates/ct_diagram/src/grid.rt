@@ -1,35 +1,111 @@
 //! Where steps and members stand in a diagram, in units of it.
 
-ghost use Rattle.std.specs.Prelude.{◌≡◌, ◌≤◌, ◌+◌};
-ghost use Rattle.ct_diagram.specs.Grid.{x_of, y_of};
+ghost use Rattle.std.specs.Prelude.{◌≡◌, ◌≤◌};
+ghost use Rattle.ct_diagram.specs.Grid.{half_columns, row_of, within, lane, height, top_of, right_of, spot_of};
 
-use crate::window::MOST_STEPS;
 use ct_names::Member;
 
 /// The width of a step's column.
-pub const COLUMN: usize = 26;
+pub const COLUMN: u32 = 26;
 
-/// The middle of the first column.
-pub const FIRST: usize = 92;
+/// The left edge of a row.
+pub const LEFT: u32 = 70;
 
-/// From a member to the next one.
-pub const ROW: usize = 84;
+/// From a member to the next one, and the same in a group of more members than `FEW`.
+pub const LANE: u32 = 76;
 
-// The middle of the column of a step, in a diagram that begins with another one.
-pub(crate) fn x_of(from: u32, number: usize) -> usize
-    requires after { from ≤ number }
-    requires near { number ≤ from + MOST_STEPS }
-    ensures value { result ≡ x_of from number }
-    ensures left { 92 ≤ result }
-    ensures right { result ≤ 20000 }
-{
-    FIRST + COLUMN * (number - from as usize)
+pub const LOW_LANE: u32 = 56;
+
+pub const FEW: u8 = 8;
+
+/// From a row to the next one, beside its members.
+pub const GAP: u32 = 56;
+
+// A group of so many members, in rows of so many columns, 0 as 1. A place is counted in half columns from the left edge of the first
+// row on, as if all rows were one.
+#[derive(Clone, Copy, Drop)]
+pub(crate) struct Grid {
+    pub n: u8,
+    pub columns: u16,
 }
 
-// The line of a member.
-pub(crate) fn y_of(member: Member) -> usize
-    ensures value { result ≡ y_of member }
-    ensures low { result ≤ 30000 }
-{
-    ROW * usize::from(member)
+// A point of the diagram.
+#[derive(Clone, Copy, Drop)]
+pub(crate) struct Spot {
+    pub x: u32,
+    pub y: u32,
+}
+
+impl Grid {
+    // How many half columns a row has.
+    pub fn half_columns(self) -> u32
+        ensures value { result ≡ half_columns self }
+        ensures some { 2 ≤ result }
+        ensures few { result ≤ 131070 }
+    {
+        if self.columns == 0 {
+            2
+        } else {
+            2 * u32::from(self.columns)
+        }
+    }
+
+    // The row of the place, counted from 0.
+    pub fn row(self, place: u16) -> u32
+        ensures value { result ≡ row_of self place }
+        ensures few { result ≤ 65535 }
+    {
+        u32::from(place.saturating_sub(1)) / self.half_columns()
+    }
+
+    // How many half columns of its row stand before the place.
+    pub fn within(self, place: u16) -> u32
+        ensures value { result ≡ within self place }
+        ensures few { result ≤ 65535 }
+    {
+        let before = u64::from(self.half_columns()) * u64::from(self.row(place));
+        u64::from(place).saturating_sub(before) as u32
+    }
+
+    // How much higher than its first row a row stands.
+    pub fn top(self, row: u32) -> u32
+        requires { row ≤ 65535 }
+        ensures value { result ≡ top_of self row }
+        ensures few { result ≤ 1500000000 }
+    {
+        row * self.height()
+    }
+
+    // From a member to the next one.
+    pub fn lane(self) -> u32
+        ensures value { result ≡ lane self }
+        ensures few { result ≤ 76 }
+    {
+        if self.n <= FEW { LANE } else { LOW_LANE }
+    }
+
+    // The height of a row.
+    pub fn height(self) -> u32
+        ensures value { result ≡ height self }
+        ensures few { result ≤ 22000 }
+    {
+        self.lane() * u32::from(self.n) + GAP
+    }
+
+    // The right edge of a row.
+    pub fn right(self) -> u32
+        ensures { result ≡ right_of self }
+    {
+        LEFT + COLUMN / 2 * self.half_columns()
+    }
+
+    // The point of the place on the member's line.
+    pub fn spot(self, place: u16, member: Member) -> Spot
+        ensures { result ≡ spot_of self place member }
+    {
+        Spot {
+            x: LEFT + COLUMN / 2 * self.within(place),
+            y: self.top(self.row(place)) + self.lane() * u32::from(member),
+        }
+    }
 }

@@ -10,8 +10,11 @@ mod fault;
 mod frame;
 mod grid;
 mod marks;
+mod routes;
 mod running;
 mod shades;
+mod sight;
+mod trail;
 mod window;
 mod words;
 

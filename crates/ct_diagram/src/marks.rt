@@ -5,48 +5,69 @@ ghost use Rattle.ct_records.specs.Adds.{Adds};
 ghost use Rattle.ct_model.specs.Actor.{actor};
 ghost use Rattle.ct_show.specs.Details.{instance_of, letter_of, round_of};
 ghost use Rattle.ct_show.specs.Wires.{round_text};
-ghost use Rattle.ct_diagram.specs.Marks.{class_of, kind_at, dot_text, circle_text, letter_text, sign_text};
+ghost use Rattle.ct_diagram.specs.Grid.{spot_of};
+ghost use Rattle.ct_diagram.specs.Marks.{class_of, kind_at, received_kind, dot_text, circle_text, letter_text, sign_text};
 ghost use Rattle.ct_diagram.specs.Marks.{entered_text, falling_text, changed_text, note_text, who_text, title_text, mark_text};
-ghost use Rattle.ct_diagram.specs.Marks.{name_text, first_names, names_text, marks};
+ghost use Rattle.ct_diagram.specs.Marks.{small_text, marks};
 
 use crate::arrows::kind_of;
 use crate::drawn::Drawn;
-use crate::grid::{x_of, y_of};
-use crate::window::MOST_STEPS;
+use crate::grid::{Grid, Spot};
+use crate::sight::Sight;
 use ct_model::Step;
 use ct_names::{MAX_ENVELOPES, Member};
 use ct_show::{instance_of, letter_of, push_detail, push_estimate_of, push_round, round_of};
 use ct_world::{Letter, World};
 use std::alloc::AllocError;
 
-// The mark of the world's last step.
-pub(crate) fn push_marks(text: &mut String, world: &World, drawn: Drawn) -> Result<(), AllocError>
-    requires sent { drawn.before ≤ MAX_ENVELOPES }
-    requires after { drawn.from ≤ drawn.number }
-    requires near { drawn.number ≤ drawn.from + MOST_STEPS }
-    ensures { OnOk result (Adds text.old text.new (marks world.now.rehearsal drawn)) }
+// The mark of the world's last step: one in a column, a small one, or none.
+pub(crate) fn push_marks(
+    text: &mut String,
+    world: &World,
+    grid: Grid,
+    drawn: Drawn,
+) -> Result<(), AllocError>
+    requires { drawn.before ≤ MAX_ENVELOPES }
+    ensures { OnOk result (Adds text.old text.new (marks world.now.rehearsal grid drawn)) }
 {
-    let x = x_of(drawn.from, drawn.number);
-    push_mark(text, world, drawn, x, y_of(drawn.step.member()))
+    let spot = grid.spot(drawn.place, drawn.step.member());
+    match drawn.sight {
+        Sight::Wide => push_mark(text, world, drawn, spot),
+        Sight::Small => push_small(text, world, drawn, spot),
+        Sight::Hidden => Ok(()),
+    }
 }
 
 #[tactic(auto, unfolding(crate::specs::Marks::mark_text))]
-fn push_mark(
-    text: &mut String,
-    world: &World,
-    drawn: Drawn,
-    x: usize,
-    y: usize,
-) -> Result<(), AllocError>
-    requires sent { drawn.before ≤ MAX_ENVELOPES }
-    requires low { y ≤ 30000 }
-    ensures { OnOk result (Adds text.old text.new (mark_text world.now.rehearsal drawn x y)) }
+fn push_mark(text: &mut String, world: &World, drawn: Drawn, spot: Spot) -> Result<(), AllocError>
+    requires { drawn.before ≤ MAX_ENVELOPES }
+    ensures { OnOk result (Adds text.old text.new (mark_text world.now.rehearsal drawn spot)) }
 {
-    push_note(text, world, drawn.step, x, y)?;
+    push_note(text, world, drawn.step, spot)?;
     push_title(text, world, drawn.before, drawn.number, drawn.step)?;
-    push_sign(text, world, drawn, x, y)?;
-    text.push_str("</g>\n")?;
-    push_names(text, world, drawn.number, x)
+    push_sign(text, world, drawn, spot)?;
+    text.push_str("</g>\n")
+}
+
+// A receipt that changes nothing.
+#[tactic(auto, unfolding(crate::specs::Marks::small_text))]
+fn push_small(text: &mut String, world: &World, drawn: Drawn, spot: Spot) -> Result<(), AllocError>
+    requires { drawn.before ≤ MAX_ENVELOPES }
+    ensures { OnOk result (Adds text.old text.new (small_text world.now.rehearsal drawn spot)) }
+{
+    push_title(text, world, drawn.before, drawn.number, drawn.step)?;
+    push_dot(text, received_kind(world, drawn.step), spot, 2)?;
+    text.push_str("</g>\n")
+}
+
+// The kind of what the step receives, nothing where it receives nothing.
+fn received_kind(world: &World, step: Step) -> &'static str
+    ensures { result.now ≡ received_kind world.now.rehearsal step }
+{
+    match step {
+        Step::Receive(_, serial) => kind_at(world.letter(serial)),
+        _ => "",
+    }
 }
 
 // What is read where the pointer rests on the mark.
@@ -74,63 +95,53 @@ fn push_who(text: &mut String, number: usize, member: Member) -> Result<(), Allo
 }
 
 // A dot for a receipt, a letter in a circle for another step.
-fn push_sign(
-    text: &mut String,
-    world: &World,
-    drawn: Drawn,
-    x: usize,
-    y: usize,
-) -> Result<(), AllocError>
-    requires { y ≤ 30000 }
-    ensures { OnOk result (Adds text.old text.new (sign_text world.now.rehearsal drawn.before drawn.step x y)) }
+fn push_sign(text: &mut String, world: &World, drawn: Drawn, spot: Spot) -> Result<(), AllocError>
+    ensures { OnOk result (Adds text.old text.new (sign_text world.now.rehearsal drawn.before drawn.step spot)) }
 {
     match drawn.step {
-        Step::Receive(_, serial) => push_dot(text, kind_at(world.letter(serial)), x, y),
+        Step::Receive(_, serial) => push_dot(text, kind_at(world.letter(serial)), spot, 4),
         step => push_lettered(
             text,
             class_of(world, drawn.before, step),
             letter_of(step),
-            x,
-            y,
+            spot,
         ),
     }
 }
 
 // A dot in the colour of what is received.
 #[tactic(auto, unfolding(crate::specs::Marks::dot_text))]
-fn push_dot(text: &mut String, kind: &str, x: usize, y: usize) -> Result<(), AllocError>
-    ensures { OnOk result (Adds text.old text.new (dot_text kind.now x y)) }
+fn push_dot(text: &mut String, kind: &str, spot: Spot, radius: u8) -> Result<(), AllocError>
+    ensures { OnOk result (Adds text.old text.new (dot_text kind.now spot radius)) }
 {
-    write!(text, "<circle class='dot {kind}' cx='{x}' cy='{y}' r='4'/>")
+    let Spot { x, y } = spot;
+    write!(
+        text,
+        "<circle class='dot {kind}' cx='{x}' cy='{y}' r='{radius}'/>"
+    )
 }
 
-fn push_lettered(
-    text: &mut String,
-    class: &str,
-    letter: &str,
-    x: usize,
-    y: usize,
-) -> Result<(), AllocError>
-    requires { y ≤ 30000 }
-    ensures { OnOk result (Adds text.old text.new ((circle_text class.now x y ++ letter_text letter.now x y))) }
+fn push_lettered(text: &mut String, class: &str, letter: &str, spot: Spot) -> Result<(), AllocError>
+    ensures { OnOk result (Adds text.old text.new ((circle_text class.now spot ++ letter_text letter.now spot))) }
 {
-    push_circle(text, class, x, y)?;
-    push_letter(text, letter, x, y)
+    push_circle(text, class, spot)?;
+    push_letter(text, letter, spot)
 }
 
 #[tactic(auto, unfolding(crate::specs::Marks::circle_text))]
-fn push_circle(text: &mut String, class: &str, x: usize, y: usize) -> Result<(), AllocError>
-    ensures { OnOk result (Adds text.old text.new (circle_text class.now x y)) }
+fn push_circle(text: &mut String, class: &str, spot: Spot) -> Result<(), AllocError>
+    ensures { OnOk result (Adds text.old text.new (circle_text class.now spot)) }
 {
+    let Spot { x, y } = spot;
     write!(text, "<circle class='{class}' cx='{x}' cy='{y}' r='9'/>")
 }
 
 #[tactic(auto, unfolding(crate::specs::Marks::letter_text))]
-fn push_letter(text: &mut String, letter: &str, x: usize, y: usize) -> Result<(), AllocError>
-    requires { y ≤ 30000 }
-    ensures { OnOk result (Adds text.old text.new (letter_text letter.now x y)) }
+fn push_letter(text: &mut String, letter: &str, spot: Spot) -> Result<(), AllocError>
+    ensures { OnOk result (Adds text.old text.new (letter_text letter.now spot)) }
 {
-    let low = y + 4;
+    let x = spot.x;
+    let low = u64::from(spot.y) + 4;
     write!(text, "<text x='{x}' y='{low}'>{letter}</text>")
 }
 
@@ -164,20 +175,13 @@ fn class_of(world: &World, before: u32, step: Step) -> &'static str
 }
 
 // The round that is entered, or the estimate where it changes.
-fn push_note(
-    text: &mut String,
-    world: &World,
-    step: Step,
-    x: usize,
-    y: usize,
-) -> Result<(), AllocError>
-    requires { y ≤ 30000 }
-    ensures { OnOk result (Adds text.old text.new (note_text world.now.rehearsal step x y)) }
+fn push_note(text: &mut String, world: &World, step: Step, spot: Spot) -> Result<(), AllocError>
+    ensures { OnOk result (Adds text.old text.new (note_text world.now.rehearsal step spot)) }
 {
     match step {
-        Step::Enter(member) => push_entered(text, world, member, x, y),
+        Step::Enter(member) => push_entered(text, world, member, spot),
         Step::Begin(member) | Step::Choose(member, _) | Step::Adopt(member) => {
-            push_changed(text, world, member, x, y)
+            push_changed(text, world, member, spot)
         }
         _ => Ok(()),
     }
@@ -188,12 +192,12 @@ fn push_entered(
     text: &mut String,
     world: &World,
     member: Member,
-    x: usize,
-    y: usize,
+    spot: Spot,
 ) -> Result<(), AllocError>
-    ensures { OnOk result (Adds text.old text.new (entered_text world.now.rehearsal member x y)) }
+    ensures { OnOk result (Adds text.old text.new (entered_text world.now.rehearsal member spot)) }
 {
-    let high = y.saturating_sub(20);
+    let x = spot.x;
+    let high = spot.y.saturating_sub(20);
     write!(text, "<text class='round' x='{x}' y='{high}'>")?;
     push_round_of(text, world, member)?;
     text.push_str("</text>\n")
@@ -211,55 +215,22 @@ fn push_changed(
     text: &mut String,
     world: &World,
     member: Member,
-    x: usize,
-    y: usize,
+    spot: Spot,
 ) -> Result<(), AllocError>
-    requires { y ≤ 30000 }
-    ensures { OnOk result (Adds text.old text.new (changed_text world.now.rehearsal member x y)) }
+    ensures { OnOk result (Adds text.old text.new (changed_text world.now.rehearsal member spot)) }
 {
-    push_falling(text, x, y + 26)?;
+    push_falling(text, spot.x, u64::from(spot.y) + 26)?;
     push_estimate_of(text, world, member)?;
     text.push_str("</text>\n")
 }
 
 // A text begins here, which falls to the right.
 #[tactic(auto, unfolding(crate::specs::Marks::falling_text))]
-fn push_falling(text: &mut String, x: usize, y: usize) -> Result<(), AllocError>
+fn push_falling(text: &mut String, x: u32, y: u64) -> Result<(), AllocError>
     ensures { OnOk result (Adds text.old text.new (falling_text x y)) }
 {
     write!(
         text,
         "<text class='note' x='{x}' y='{y}' transform='rotate(18 {x} {y})'>"
-    )
-}
-
-// The members' names once more, above their lines, at each fortieth step.
-fn push_names(text: &mut String, world: &World, number: usize, x: usize) -> Result<(), AllocError>
-    ensures { OnOk result (Adds text.old text.new (names_text world.now.rehearsal.setting.members number x)) }
-{
-    if number % 40 == 0 {
-        push_first_names(text, world.group().n(), x)
-    } else {
-        Ok(())
-    }
-}
-
-fn push_first_names(text: &mut String, n: u8, x: usize) -> Result<(), AllocError>
-    ensures { OnOk result (Adds text.old text.new (first_names x n)) }
-{
-    for i in 0..n {
-        push_name(text, i + 1, x)?;
-    }
-    Ok(())
-}
-
-#[tactic(auto, unfolding(crate::specs::Marks::name_text))]
-fn push_name(text: &mut String, member: Member, x: usize) -> Result<(), AllocError>
-    ensures { OnOk result (Adds text.old text.new (name_text x member)) }
-{
-    let high = y_of(member).saturating_sub(28);
-    write!(
-        text,
-        "<text class='again' x='{x}' y='{high}'>member {member}</text>\n"
     )
 }

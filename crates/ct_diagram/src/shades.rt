@@ -1,43 +1,47 @@
-//! What stands behind a step: which round each member is in, who has crashed, and the number of each fifth step.
+//! What stands behind a step: which round each member is in, who has crashed, and the number of each fifth column's step.
 
 ghost use Rattle.std.specs.Prelude.{◌≡◌, ◌≤◌, ◌+◌, OnOk, option_map};
 ghost use Rattle.ct_records.specs.Adds.{Adds};
-ghost use Rattle.ct_diagram.specs.Grid.{x_of};
+ghost use Rattle.ct_diagram.specs.Grid.{spot_of};
 ghost use Rattle.ct_diagram.specs.Shades.{class_of, round_class, rect_text, shade_text, first_shades, rule_text, digits_text};
-ghost use Rattle.ct_diagram.specs.Shades.{this_number, number_text, column_text, shades};
+ghost use Rattle.ct_diagram.specs.Shades.{this_number, number_text, shades};
 
 use crate::drawn::Drawn;
-use crate::grid::{COLUMN, x_of, y_of};
-use crate::window::MOST_STEPS;
+use crate::grid::{COLUMN, Grid, Spot};
 use ct_model::Phase;
 use ct_names::{Member, Round};
 use ct_world::World;
 use std::alloc::AllocError;
 
-// What stands behind the world's last step.
-pub(crate) fn push_shades(text: &mut String, world: &World, drawn: Drawn) -> Result<(), AllocError>
-    requires after { drawn.from ≤ drawn.number }
-    requires near { drawn.number ≤ drawn.from + MOST_STEPS }
-    ensures { OnOk result (Adds text.old text.new (shades world.now.rehearsal drawn)) }
+// What stands behind the world's last step, where it has a column.
+pub(crate) fn push_shades(
+    text: &mut String,
+    world: &World,
+    grid: Grid,
+    drawn: Drawn,
+) -> Result<(), AllocError>
+    ensures { OnOk result (Adds text.old text.new (shades world.now.rehearsal grid drawn)) }
 {
-    push_column(text, world, drawn.number, x_of(drawn.from, drawn.number))
+    if drawn.sight.is_wide() {
+        push_first_shades(text, world, grid, drawn.place)?;
+        push_number(text, grid, drawn.number, drawn.place)
+    } else {
+        Ok(())
+    }
 }
 
-// The column at this place.
-fn push_column(text: &mut String, world: &World, number: usize, x: usize) -> Result<(), AllocError>
-    ensures { OnOk result (Adds text.old text.new (column_text world.now.rehearsal number x)) }
-{
-    push_first_shades(text, world, x)?;
-    push_number(text, world, number, x)
-}
-
-// The column of each member.
-fn push_first_shades(text: &mut String, world: &World, x: usize) -> Result<(), AllocError>
-    ensures { OnOk result (Adds text.old text.new (first_shades world.now.rehearsal x world.now.rehearsal.setting.members)) }
+// The part of each member.
+fn push_first_shades(
+    text: &mut String,
+    world: &World,
+    grid: Grid,
+    place: u16,
+) -> Result<(), AllocError>
+    ensures { OnOk result (Adds text.old text.new (first_shades world.now.rehearsal grid place world.now.rehearsal.setting.members)) }
 {
     let n = world.group().n();
     for i in 0..n {
-        push_shade(text, class_of(world, i + 1), x, y_of(i + 1))?;
+        push_shade(text, class_of(world, i + 1), grid.spot(place, i + 1))?;
     }
     Ok(())
 }
@@ -67,61 +71,61 @@ fn class_of_round(round: Option<(Round, Phase)>) -> Option<&'static str>
     }
 }
 
-fn push_shade(
-    text: &mut String,
-    class: Option<&'static str>,
-    x: usize,
-    y: usize,
-) -> Result<(), AllocError>
-    ensures { OnOk result (Adds text.old text.new (shade_text (option_map (λ c. c.now) class.entry) x y)) }
+fn push_shade(text: &mut String, class: Option<&'static str>, spot: Spot) -> Result<(), AllocError>
+    ensures { OnOk result (Adds text.old text.new (shade_text (option_map (λ c. c.now) class.entry) spot)) }
 {
     match class {
         None => Ok(()),
-        Some(class) => push_rect(text, class, x, y),
+        Some(class) => push_rect(text, class, spot),
     }
 }
 
 #[tactic(auto, unfolding(crate::specs::Shades::rect_text))]
-fn push_rect(text: &mut String, class: &str, x: usize, y: usize) -> Result<(), AllocError>
-    ensures { OnOk result (Adds text.old text.new (rect_text class.now x y)) }
+fn push_rect(text: &mut String, class: &str, spot: Spot) -> Result<(), AllocError>
+    ensures { OnOk result (Adds text.old text.new (rect_text class.now spot)) }
 {
-    let left = x.saturating_sub(COLUMN / 2);
-    let top = y.saturating_sub(16);
+    let left = spot.x.saturating_sub(COLUMN / 2);
+    let top = spot.y.saturating_sub(16);
     write!(text, "<rect class='{class}' x='{left}' y='{top}'/>\n")
 }
 
-// The number of each fifth step, above the members and below them.
-fn push_number(text: &mut String, world: &World, number: usize, x: usize) -> Result<(), AllocError>
-    ensures { OnOk result (Adds text.old text.new (number_text world.now.rehearsal.setting.members number x)) }
+// The number of the step of each fifth column of a row, above the members and below them.
+fn push_number(text: &mut String, grid: Grid, number: usize, place: u16) -> Result<(), AllocError>
+    ensures { OnOk result (Adds text.old text.new (number_text grid number place)) }
 {
-    if number % 5 == 0 {
-        push_this_number(text, y_of(world.group().n()), number, x)
+    if grid.within(place) / 2 % 5 == 0 {
+        push_this_number(text, number, grid.spot(place, 0), grid.spot(place, grid.n))
     } else {
         Ok(())
     }
 }
 
 #[tactic(auto, unfolding(crate::specs::Shades::this_number))]
-fn push_this_number(text: &mut String, y: usize, number: usize, x: usize) -> Result<(), AllocError>
-    requires { y ≤ 30000 }
-    ensures { OnOk result (Adds text.old text.new (this_number y number x)) }
+fn push_this_number(
+    text: &mut String,
+    number: usize,
+    top: Spot,
+    low: Spot,
+) -> Result<(), AllocError>
+    ensures { OnOk result (Adds text.old text.new (this_number number top low)) }
 {
-    push_rule(text, x, y)?;
-    push_digits(text, number, x, 48)?;
-    push_digits(text, number, x, y + 60)
+    push_rule(text, top, low)?;
+    push_digits(text, number, top.x, u64::from(top.y) + 42)?;
+    push_digits(text, number, top.x, u64::from(low.y) + 56)
 }
 
 #[tactic(auto, unfolding(crate::specs::Shades::rule_text))]
-fn push_rule(text: &mut String, x: usize, y: usize) -> Result<(), AllocError>
-    requires { y ≤ 30000 }
-    ensures { OnOk result (Adds text.old text.new (rule_text x y)) }
+fn push_rule(text: &mut String, top: Spot, low: Spot) -> Result<(), AllocError>
+    ensures { OnOk result (Adds text.old text.new (rule_text top low)) }
 {
-    let end = y + 46;
-    write!(text, "<path class='grid' d='M{x} 54V{end}'/>\n")
+    let x = top.x;
+    let start = u64::from(top.y) + 46;
+    let end = u64::from(low.y) + 44;
+    write!(text, "<path class='grid' d='M{x} {start}V{end}'/>\n")
 }
 
 #[tactic(auto, unfolding(crate::specs::Shades::digits_text))]
-fn push_digits(text: &mut String, number: usize, x: usize, y: usize) -> Result<(), AllocError>
+fn push_digits(text: &mut String, number: usize, x: u32, y: u64) -> Result<(), AllocError>
     ensures { OnOk result (Adds text.old text.new (digits_text number x y)) }
 {
     write!(

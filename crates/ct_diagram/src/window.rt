@@ -1,33 +1,69 @@
-//! Which steps are drawn.
+//! Which steps are drawn, and what of them.
 
-ghost use Rattle.std.specs.Prelude.{◌≡◌, ◌<◌, ◌+◌, ◌-◌, ◌^◌};
-ghost use Rattle.ct_diagram.specs.Window.{is_drawn};
+ghost use Rattle.std.specs.Prelude.{◌≡◌, ◌<◌, ◌+◌, ◌-◌, ◌^◌, ◌&&◌, ◌||◌, not};
+ghost use Rattle.ct_diagram.specs.Window.{is_drawn, has_named, is_data, is_sent_asked};
+
+use ct_names::{Member, MemberSet};
+use ct_world::Wire;
 
 /// How many steps a diagram has at most.
 pub const MOST_STEPS: usize = 400;
 
-/// The steps from one number to another, counted from 1, both of them drawn.
+/// The steps from one number to another, counted from 1, both of them drawn, in rows.
 #[derive(Clone, Copy, Debug, Drop, PartialEq, Eq)]
 pub struct Window {
     /// The number of the first step.
     pub from: u32,
     /// The number of the last step.
     pub to: u32,
+    /// How many columns a row has; 0 as 1.
+    pub columns: u16,
+    /// The members whose steps and envelopes are drawn, where not all are.
+    pub members: Option<MemberSet>,
+    /// Whether messages alone, and what is done with them, are left out.
+    pub consensus: bool,
 }
 
 impl Window {
-    // Whether the step of this number is drawn.
+    // Whether the step of this number is one of them.
     pub(crate) fn has(&self, number: usize) -> bool
         ensures { result ≡ is_drawn self.now number }
     {
         self.from as usize <= number && number <= self.to as usize
     }
 
-    // How many steps are drawn of a record that has so many up to the window's last one.
-    pub(crate) fn columns(&self, end: usize) -> usize
+    // How many of them a record has whose steps up to the window's last one are so many.
+    pub(crate) fn steps(&self, end: usize) -> usize
         requires { end < 2 ^ 63 }
         ensures { result ≡ (end + 1) - self.now.from }
     {
         (end + 1).saturating_sub(self.from as usize)
+    }
+
+    // Whether the steps of the member are drawn.
+    pub(crate) fn names(&self, member: Member) -> bool
+        ensures { result ≡ has_named self.now.members member }
+    {
+        match self.members {
+            None => true,
+            Some(set) => set.contains(member),
+        }
+    }
+
+    // Whether the envelope with this wire from one member to another is drawn.
+    pub(crate) fn has_wire(&self, from: Member, to: Member, wire: &Wire) -> bool
+        ensures { result ≡ is_sent_asked self.now from to wire.now }
+    {
+        (self.names(from) || self.names(to)) && !(self.consensus && is_data(wire))
+    }
+}
+
+// Whether the wire is a message alone.
+pub(crate) fn is_data(wire: &Wire) -> bool
+    ensures { result ≡ is_data wire.now }
+{
+    match wire {
+        Wire::Data(_) => true,
+        _ => false,
     }
 }

@@ -1,7 +1,0 @@
-use Rattle.std.proofs.Common.{◌≡◌, ◌++◌}
-use Rattle.std.specs.Prelude.{string_bytes}
-use Rattle.ct_diagram.specs.Arrows.{first_arrows}
-use Rattle.ct_diagram.proofs.arrows.push_arrows.Given as goal
-
-abbrev pub invariant-loop-k : goal.invariant-loop-k
-invariant-loop-k l = string_bytes l.text ≡ string_bytes l.fn.text ++ first_arrows l.world.rehearsal l.drawn l.later l.k

@@ -1,7 +1,0 @@
-use Rattle.std.proofs.Common.{◌≡◌, ◌++◌}
-use Rattle.std.specs.Prelude.{string_bytes}
-use Rattle.ct_diagram.specs.Frame.{lanes_text}
-use Rattle.ct_diagram.proofs.frame.push_lanes.Given as goal
-
-abbrev pub invariant-loop-i : goal.invariant-loop-i
-invariant-loop-i l = string_bytes l.text ≡ string_bytes l.fn.text ++ lanes_text l.columns l.i
