@@ -61,7 +61,7 @@ path.late{opacity:.45}
 <path class='tip' d='M0 0L8 4L0 8z' style='fill:#cc3333'/></marker>
 <marker id='dec' viewBox='0 0 8 8' refX='11' refY='4' markerWidth='7' markerHeight='7' orient='auto'>
 <path class='tip' d='M0 0L8 4L0 8z' style='fill:#a030b0'/></marker>
-<marker id='lost' viewBox='0 0 8 8' refX='14' refY='4' markerWidth='8' markerHeight='8' markerUnits='userSpaceOnUse' orient='auto'>
+<marker id='lost' viewBox='0 0 8 8' refX='18' refY='4' markerWidth='8' markerHeight='8' markerUnits='userSpaceOnUse' orient='auto'>
 <path class='tip' d='M1 1L7 7M1 7L7 1' style='stroke:#b00;stroke-width:2'/></marker>
 <rect y='30' style='width:100%;height:100%;fill:#fff'/>
 ";
@@ -74,7 +74,7 @@ const LINES: &str = "<path class='data' d='M0 -4H30'/><text class='legend' x='34
 <path class='nack' d='M294 -4H324'/><text class='legend' x='328' y='0'>nack</text>
 <path class='dec' d='M358 -4H388'/><text class='legend' x='392' y='0'>decision</text>
 <path class='data stub' d='M442 -4H472'/><text class='legend' x='476' y='0'>not received here</text>
-<path class='data lost' d='M572 -4H614'/><text class='legend' x='612' y='0'>lost</text>
+<path class='data lost' d='M572 -4H612'/><text class='legend' x='612' y='0'>lost</text>
 ";
 
 // What the shades behind the steps mean, and what is pale, and the end.
