@@ -4,6 +4,7 @@ use Rattle.std.specs.Io.KnownBytes.{Appends}
 use Rattle.ct_names.specs.declared.refusal.Refusal.{Refusal}
 use Rattle.ct_model.specs.declared.step.Step.{Step}
 use Rattle.ct_model.specs.Rehearsal.{Rehearsal}
+use Rattle.ct_model.specs.Senders.{senders}
 use Rattle.ct_world.specs.declared.replay_fault.ReplayFault.{ReplayFault}
 use Rattle.ct_world.specs.Replay.{first_steps}
 use Rattle.ct_records.specs.declared.program_fault.ProgramFault.{ProgramFault}
@@ -12,6 +13,8 @@ use Rattle.ct_records.specs.declared.read_fault.ReadFault.{ReadFault}
 use Rattle.ct_records.specs.Replay.{IsAllowed, IsRefused}
 use Rattle.ct_streams.specs.Streams.{read_part, WritesPart}
 use Rattle.ct_records.specs.Script.{script}
+use Rattle.ct_show.specs.declared.form.Form.{Form}
+use Rattle.ct_show.specs.declared.form.Form.TheVariants.{Text, Json}
 use Rattle.ct_show.specs.declared.selection.Selection.{Selection}
 use Rattle.ct_show.specs.declared.show_fault.ShowFault.{ShowFault}
 use Rattle.ct_show.specs.declared.show_fault.ShowFault.TheVariants.{NoMember, Unread, Program}
@@ -19,39 +22,50 @@ use Rattle.ct_show.specs.declared.view.View.{View}
 use Rattle.ct_show.specs.declared.view.View.TheVariants.{Nothing, Report, Steps, State}
 use Rattle.ct_show.specs.Facts.{refused_text}
 use Rattle.ct_show.specs.Json.{report_json}
-use Rattle.ct_show.specs.Lines.{first_lines}
+use Rattle.ct_show.specs.JsonState.{state_json}
+use Rattle.ct_show.specs.JsonSteps.{refused_json}
+use Rattle.ct_show.specs.Selected.{first_lines}
 use Rattle.ct_show.specs.NoRecords.{IsToldOf}
-use Rattle.ct_show.specs.State.{state_text}
+use Rattle.ct_show.specs.State.{state_lines}
 
 -- the lines of the first steps of a record
-abbrev pub lines_to : Selection → Rehearsal → ℕ → List ℕ
-lines_to selection w k = first_lines selection w.setting w.cells w.steps k
+abbrev pub lines_to : Selection → Form → Rehearsal → ℕ → List ℕ
+lines_to selection form w k = first_lines selection form w.setting w.cells w.steps k
 
 -- the line of the step at a place, counted from 0, where it is refused
-abbrev pub refused_line : Rehearsal → ℕ → Option Step → Refusal → List ℕ
-refused_line w number None refusal = []
-refused_line w number (Some step) refusal = refused_text w number step refusal
+abbrev pub refused_in : Form → Rehearsal → ℕ → Step → Refusal → List ℕ
+refused_in Text w number step refusal = refused_text w number step refusal
+refused_in Json w number step refusal = refused_json w number step refusal
+
+abbrev pub refused_line : Form → Rehearsal → ℕ → Option Step → Refusal → List ℕ
+refused_line form w number None refusal = []
+refused_line form w number (Some step) refusal = refused_in form w number step refusal
+
+-- the state that a record leads to, with these senders of the envelopes
+abbrev pub state_in : Form → Rehearsal → List ℕ → List ℕ
+state_in Text w from = state_lines w from
+state_in Json w from = state_json w from
 
 -- the record as far as the view looks at it
 abbrev pub part_of : View → Rehearsal → Rehearsal
-part_of (State count) w = first_steps w.setting w.cells w.steps count
+part_of (State count form) w = first_steps w.setting w.cells w.steps count
 part_of _ w = w
 
 -- what is shown of a record whose steps are all allowed
 abbrev pub shown_text : View → Rehearsal → List ℕ
 shown_text Nothing w = []
 shown_text Report w = report_json w
-shown_text (Steps selection) w = lines_to selection w (length w.steps)
-shown_text (State count) w = state_text w
+shown_text (Steps selection form) w = lines_to selection form w (length w.steps)
+shown_text (State count form) w = state_in form w (senders w.setting w.steps)
 
 -- what is shown of one whose step of this number is refused: no report and no state; of steps the lines before that step, and its own
 abbrev pub refused_shown : View → Rehearsal → ℕ → Refusal → List ℕ
 refused_shown Nothing w number refusal = []
 refused_shown Report w number refusal = []
-refused_shown (Steps selection) w number refusal =
-    lines_to selection w (number - 1)
-    ++ refused_line (first_steps w.setting w.cells w.steps (number - 1)) number (slice_get w.steps (number - 1)) refusal
-refused_shown (State count) w number refusal = []
+refused_shown (Steps selection form) w number refusal =
+    lines_to selection form w (number - 1)
+    ++ refused_line form (first_steps w.setting w.cells w.steps (number - 1)) number (slice_get w.steps (number - 1)) refusal
+refused_shown (State count form) w number refusal = []
 
 -- this text is shown of a part that is looked at, and with it the first refused step, if there is one
 abbrev pub IsShown : View → Rehearsal → List ℕ → Option ReplayFault → Type 0
@@ -84,7 +98,7 @@ FailsWith view _ read old new = ⊤
 
 -- the member whose steps are asked for, where they are one's
 abbrev pub member_of : View → Option ℕ
-member_of (Steps selection) = selection.member
+member_of (Steps selection form) = selection.member
 member_of _ = None
 
 -- that member, where the record's group lacks it

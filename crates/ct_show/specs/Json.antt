@@ -68,15 +68,22 @@ standing_json w p =
 unfoldable pub key_json : List ℕ → List ℕ → List ℕ
 key_json key value = concat (codes ",\"" ∷ key ∷ codes "\":" ∷ value ∷ [])
 
--- a member: its standing, what it received, decided and delivered, and its table
-unfoldable pub member_json : Rehearsal → ℕ → List ℕ
-member_json w p =
-    concat (standing_json w p
-    ∷ key_json (codes "received") (messages_json (received_by (state_of w) p))
+-- what a member received, decided and delivered, and its table
+unfoldable pub history_json : Rehearsal → ℕ → List ℕ
+history_json w p =
+    concat (key_json (codes "received") (messages_json (received_by (state_of w) p))
     ∷ key_json (codes "decided") (decisions_json (member (state_of w) p).got)
     ∷ key_json (codes "delivered") (messages_json (shown w p).delivered)
     ∷ key_json (codes "table") (table_json (shown w p).table)
-    ∷ codes "}" ∷ [])
+    ∷ [])
+
+-- an array of what these texts are, at a key
+unfoldable pub array_at : List ℕ → List (List ℕ) → List ℕ
+array_at key texts = concat (codes ",\"" ∷ key ∷ codes "\":[" ∷ join_with_byte 44 texts ∷ codes "]" ∷ [])
+
+-- a member: its standing and its history
+unfoldable pub member_json : Rehearsal → ℕ → List ℕ
+member_json w p = concat (standing_json w p ∷ history_json w p ∷ codes "}" ∷ [])
 
 -- the first members
 abbrev pub first_members : Rehearsal → ℕ → List (List ℕ)

@@ -2,11 +2,16 @@ pub mod Json
 pub mod Shapes
 pub mod Wires
 pub mod Details
+pub mod JsonEnvelopes
 pub mod Lines
+pub mod Selected
 pub mod Facts
 pub mod NoRecords
 pub mod Faults
 pub mod Answer
 pub mod Line
 pub mod State
+pub mod JsonParts
+pub mod JsonSteps
+pub mod JsonState
 pub mod Checking

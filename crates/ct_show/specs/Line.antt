@@ -1,11 +1,14 @@
 -- What a command line asks to be shown. `clap` gives what its commands make of words.
-use Rattle.std.specs.Prelude.{ℕ, true, List, [], ◌∷◌, fold, codes, Option, Some, None, Result, Ok}
+use Rattle.std.specs.Prelude.{ℕ, true, List, [], ◌∷◌, fold, codes, Option, Some, None, Result, Ok, if◌then◌else◌}
+use Rattle.std.specs.Str.{bytes_eq}
 use Rattle.clap.specs.Lexer.{usize_max}
 use Rattle.clap.specs.Words.{App, Row, Rule, Text, first_of, new_app, new_rule, with_rule}
 use Rattle.clap.specs.declared.builder.action.ArgAction.TheVariants.{Append, SetTrue}
 use Rattle.ct_names.specs.declared.limit.TheConstants.{MAX_MEMBERS}
 use Rattle.ct_streams.specs.Arguments.{file_rule, option_rule, value_rule}
 use Rattle.ct_streams.specs.Values.{◌>>=◌, number_for, option_in}
+use Rattle.ct_show.specs.declared.form.Form.{Form}
+use Rattle.ct_show.specs.declared.form.Form.TheVariants as form
 use Rattle.ct_show.specs.declared.view.View.{View}
 use Rattle.ct_show.specs.declared.view.View.TheVariants.{Steps, State}
 
@@ -34,13 +37,16 @@ report_app = with_rule (new_app (codes "report")) file_rule
 
 -- the subcommand `state`
 abbrev pub state_app : App
-state_app = fold with_rule (new_app (codes "state")) (file_rule ∷ option_rule (codes "after") (codes "4294967295") ∷ [])
+state_app =
+    fold with_rule (new_app (codes "state"))
+    (file_rule ∷ option_rule (codes "after") (codes "4294967295") ∷ flag_rule (codes "json") ∷ [])
 
 -- the subcommand `steps`
 abbrev pub steps_app : App
 steps_app =
     fold with_rule (new_app (codes "steps"))
-    (file_rule ∷ option_rule (codes "from") (codes "1") ∷ option_rule (codes "to") (codes "4294967295") ∷ value_rule (codes "member") ∷ [])
+    (file_rule ∷ option_rule (codes "from") (codes "1") ∷ option_rule (codes "to") (codes "4294967295") ∷ value_rule (codes "member")
+    ∷ flag_rule (codes "json") ∷ [])
 
 -- ---- what the options ask for, or the line of the first one that is no whole number of its range
 
@@ -55,16 +61,25 @@ member_of (Some text) = do
 abbrev pub member_in : List Row → Result (Option ℕ) Text
 member_in rows = member_of (first_of (codes "member") rows)
 
+-- the form that the text of an option with no value asks for
+abbrev pub form_of : Option Text → Form
+form_of None = form.Text
+form_of (Some text) = if bytes_eq text (codes "true") then form.Json else form.Text
+
+-- JSON where the option is given
+abbrev pub form_in : List Row → Form
+form_in rows = form_of (first_of (codes "json") rows)
+
 -- the steps that the options of `steps` ask for
 unfoldable pub steps_of : List Row → Result View Text
 steps_of rows = do
   from ← option_in rows (codes "from") 1 4294967295
   to ← option_in rows (codes "to") from 4294967295
   member ← member_in rows
-  Ok (Steps (record { from = from; to = to; member = member }))
+  Ok (Steps (record { from = from; to = to; member = member }) (form_in rows))
 
--- the state that the option of `state` asks for
+-- the state that the options of `state` ask for
 unfoldable pub state_of : List Row → Result View Text
 state_of rows = do
   count ← option_in rows (codes "after") 0 4294967295
-  Ok (State count)
+  Ok (State count (form_in rows))

@@ -16,7 +16,6 @@ use Rattle.ct_model.specs.declared.phase.Phase.{Phase}
 use Rattle.ct_model.specs.declared.step.Step.{Step}
 use Rattle.ct_model.specs.declared.step.Step.TheVariants.{Receive, Begin, Enter, Choose, Adopt, Suspect, Conclude, Deliver, Follow}
 use Rattle.ct_model.specs.Rehearsal.{Rehearsal, state_of, line_of}
-use Rattle.ct_model.specs.Senders.{senders}
 use Rattle.ct_model.specs.State.{at_serial, is_crashed}
 use Rattle.ct_model.specs.StepText.{step_text}
 use Rattle.ct_records.specs.Report.{list_text}
@@ -125,23 +124,26 @@ abbrev pub first_receipt : Rehearsal → ℕ → List ℕ → Option Step
 first_receipt w p [] = None
 first_receipt w p (k ∷ line) = if is_none (cause w (Receive p k)) then Some (Receive p k) else None
 
-abbrev pub step_or_dash : Option Step → List ℕ
-step_or_dash None = codes "-"
-step_or_dash (Some step) = step_text step
+abbrev pub step_or : List ℕ → Option Step → List ℕ
+step_or none None = none
+step_or none (Some step) = step_text step
 
-abbrev pub or_text : Option Step → List ℕ
-or_text None = []
-or_text (Some step) = concat (codes " or " ∷ step_text step ∷ [])
+abbrev pub behind : List ℕ → Option Step → List ℕ
+behind between None = []
+behind between (Some step) = concat (between ∷ step_text step ∷ [])
 
 -- after a suspicion the receipt, which is tried where the failure detector doesn't suspect
-abbrev pub receipt_text : Step → Option Step → List ℕ
-receipt_text (Suspect p) receipt = or_text receipt
-receipt_text step receipt = []
+abbrev pub receipt_behind : List ℕ → Step → Option Step → List ℕ
+receipt_behind between (Suspect p) receipt = behind between receipt
+receipt_behind between step receipt = []
 
--- what a driver does next: a step of the member's own, else the receipt
+-- what a driver does next: a step of the member's own, else the receipt; a text that stands for none, and one between two
+abbrev pub next_between : (none between : List ℕ) → Option Step → Option Step → List ℕ
+next_between none between None receipt = step_or none receipt
+next_between none between (Some step) receipt = step_text step ++ receipt_behind between step receipt
+
 abbrev pub next_text : Option Step → Option Step → List ℕ
-next_text None receipt = step_or_dash receipt
-next_text (Some step) receipt = step_text step ++ receipt_text step receipt
+next_text own receipt = next_between (codes "-") (codes " or ") own receipt
 
 unfoldable pub next_line : Rehearsal → ℕ → List ℕ
 next_line w p = concat (codes "  next     " ∷ next_text (next_local w p) (first_receipt w p (line_of w p)) ∷ codes "\n" ∷ [])
@@ -172,6 +174,3 @@ counts_line w =
 -- with these senders of the envelopes
 unfoldable pub state_lines : Rehearsal → List ℕ → List ℕ
 state_lines w from = group_line w ++ (counts_line w ++ first_members w from w.setting.members)
-
-abbrev pub state_text : Rehearsal → List ℕ
-state_text w = state_lines w (senders w.setting w.steps)

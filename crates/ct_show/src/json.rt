@@ -7,7 +7,7 @@ ghost use Rattle.ct_names.specs.Group.{is_member};
 ghost use Rattle.ct_records.specs.Outcome.{IsOutcome};
 ghost use Rattle.ct_show.specs.Json.{messages_json, message_json, decision_json};
 ghost use Rattle.ct_show.specs.Json.{decisions_json, first_decisions, table_json, first_registers};
-ghost use Rattle.ct_show.specs.Json.{truth_json, standing_json, key_json, member_json};
+ghost use Rattle.ct_show.specs.Json.{truth_json, standing_json, key_json, history_json, member_json};
 ghost use Rattle.ct_show.specs.Json.{first_members, members_json, group_json, counts_json, report_json};
 ghost use Rattle.ct_world.specs.World.{member_of};
 
@@ -35,7 +35,7 @@ pub fn report_json(alloc: Global, world: &World) -> Result<Vec<u8>, AllocError>
 }
 
 #[tactic(auto, unfolding(crate::specs::Json::group_json))]
-fn push_group(text: &mut String, world: &World) -> Result<(), AllocError>
+pub(crate) fn push_group(text: &mut String, world: &World) -> Result<(), AllocError>
     ensures { OnOk result (Adds text.old text.new (group_json world.now.rehearsal)) }
 {
     let group = world.group();
@@ -50,7 +50,7 @@ fn push_group(text: &mut String, world: &World) -> Result<(), AllocError>
 }
 
 #[tactic(auto, unfolding(crate::specs::Json::counts_json))]
-fn push_counts(text: &mut String, world: &World) -> Result<(), AllocError>
+pub(crate) fn push_counts(text: &mut String, world: &World) -> Result<(), AllocError>
     ensures { OnOk result (Adds text.old text.new (counts_json world.now.rehearsal)) }
 {
     let steps = world.record().len();
@@ -90,19 +90,36 @@ fn push_member(text: &mut String, world: &World, member: Member) -> Result<(), A
     requires { IsTrue (is_member world.now.rehearsal.setting.members member) }
     ensures { OnOk result (Adds text.old text.new (member_json world.now.rehearsal member)) }
 {
-    let Some(outcome) = world.outcome(member) else {
-        unreachable!()
-    };
     push_standing(text, world, member)?;
-    push_messages_at(text, "received", world.received(member).unwrap_or(&[]))?;
-    push_decisions_at(text, world, member)?;
-    push_messages_at(text, "delivered", outcome.delivered)?;
-    push_table_at(text, outcome.table)?;
+    push_history(text, world, member)?;
     text.push_str("}")
 }
 
+// What the member received, decided and delivered, and its table.
+#[tactic(auto, unfolding(crate::specs::Json::history_json))]
+pub(crate) fn push_history(
+    text: &mut String,
+    world: &World,
+    member: Member,
+) -> Result<(), AllocError>
+    requires { IsTrue (is_member world.now.rehearsal.setting.members member) }
+    ensures { OnOk result (Adds text.old text.new (history_json world.now.rehearsal member)) }
+{
+    let Some(outcome) = world.outcome(member) else {
+        unreachable!()
+    };
+    push_messages_at(text, "received", world.received(member).unwrap_or(&[]))?;
+    push_decisions_at(text, world, member)?;
+    push_messages_at(text, "delivered", outcome.delivered)?;
+    push_table_at(text, outcome.table)
+}
+
 #[tactic(auto, unfolding(crate::specs::Json::key_json))]
-fn push_messages_at(text: &mut String, key: &str, messages: &[Message]) -> Result<(), AllocError>
+pub(crate) fn push_messages_at(
+    text: &mut String,
+    key: &str,
+    messages: &[Message],
+) -> Result<(), AllocError>
     ensures { OnOk result (Adds text.old text.new (key_json key.now (messages_json messages.now))) }
 {
     write!(text, ",\"{key}\":")?;
@@ -128,7 +145,11 @@ fn push_table_at(text: &mut String, table: &Table) -> Result<(), AllocError>
 }
 
 #[tactic(auto, unfolding(crate::specs::Json::standing_json))]
-fn push_standing(text: &mut String, world: &World, member: Member) -> Result<(), AllocError>
+pub(crate) fn push_standing(
+    text: &mut String,
+    world: &World,
+    member: Member,
+) -> Result<(), AllocError>
     requires { IsTrue (is_member world.now.rehearsal.setting.members member) }
     ensures { OnOk result (Adds text.old text.new (standing_json world.now.rehearsal member)) }
 {
@@ -149,7 +170,7 @@ fn truth(holds: bool) -> &'static str
 }
 
 #[tactic(auto, unfolding(crate::specs::Json::messages_json))]
-fn push_messages(text: &mut String, messages: &[Message]) -> Result<(), AllocError>
+pub(crate) fn push_messages(text: &mut String, messages: &[Message]) -> Result<(), AllocError>
     ensures { OnOk result (Adds text.old text.new (messages_json messages.now)) }
 {
     text.push('[')?;

@@ -1,7 +1,7 @@
 //! Which steps are shown.
 
 ghost use Rattle.std.specs.Prelude.{◌≡◌};
-ghost use Rattle.ct_show.specs.Lines.{is_selected};
+ghost use Rattle.ct_show.specs.Selected.{is_selected};
 
 use ct_names::Member;
 

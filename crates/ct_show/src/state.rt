@@ -8,7 +8,7 @@ ghost use Rattle.ct_model.specs.State.{at_serial};
 ghost use Rattle.ct_records.specs.Report.{list_text};
 ghost use Rattle.ct_show.specs.State.{progress_text, standing_line, estimate_line, first_in, set_line, votes_lines};
 ghost use Rattle.ct_show.specs.State.{sender_text, waiting_line, is_apart, enabled_text, own_enabled, refusal_line, refused_line};
-ghost use Rattle.ct_show.specs.State.{first_choices, steps_lines, first_receipt, step_or_dash, or_text, receipt_text, next_text, next_line};
+ghost use Rattle.ct_show.specs.State.{first_choices, steps_lines, first_receipt, step_or, behind, receipt_behind, next_between, next_text, next_line};
 ghost use Rattle.ct_show.specs.State.{member_lines, first_members, group_line, counts_line, state_lines};
 
 use crate::details::instance_of;
@@ -215,7 +215,7 @@ fn push_envelope(
 }
 
 // The member of the list at the serial.
-fn sender_at(senders: &[Member], serial: Serial) -> Option<Member>
+pub(crate) fn sender_at(senders: &[Member], serial: Serial) -> Option<Member>
     ensures { result ≡ at_serial senders.now serial }
 {
     let place = (serial as usize).checked_sub(1)?;
@@ -259,7 +259,7 @@ pub fn push_own_enabled(
 }
 
 // The steps that a driver tries before a choice.
-fn first_steps(member: Member) -> [Step; 3]
+pub(crate) fn first_steps(member: Member) -> [Step; 3]
     ensures { result ≡ Step.Deliver member ∷ Step.Follow member ∷ Step.Begin member ∷ [] }
 {
     [
@@ -270,7 +270,7 @@ fn first_steps(member: Member) -> [Step; 3]
 }
 
 // Those that it tries after one.
-fn last_steps(member: Member) -> [Step; 4]
+pub(crate) fn last_steps(member: Member) -> [Step; 4]
     ensures { result ≡ Step.Adopt member ∷ Step.Conclude member ∷ Step.Enter member ∷ Step.Suspect member ∷ [] }
 {
     [
@@ -361,7 +361,7 @@ fn push_refusal(text: &mut String, step: Step, refusal: Refusal) -> Result<(), A
 }
 
 // Whether a step that is refused so is none of those that the member could take next.
-fn is_apart(refusal: Refusal) -> bool
+pub(crate) fn is_apart(refusal: Refusal) -> bool
     ensures { result ≡ is_apart refusal }
 {
     match refusal {
@@ -414,38 +414,56 @@ pub fn push_next_of(
 ) -> Result<(), AllocError>
     ensures { OnOk result (Adds text.old text.new (next_text own receipt)) }
 {
+    push_next_between(text, "-", " or ", own, receipt)
+}
+
+// The same with a text that stands for none, and one between two steps.
+pub(crate) fn push_next_between(
+    text: &mut String,
+    none: &str,
+    between: &str,
+    own: Option<Step>,
+    receipt: Option<Step>,
+) -> Result<(), AllocError>
+    ensures { OnOk result (Adds text.old text.new (next_between none.now between.now own receipt)) }
+{
     match own {
-        None => push_step(text, receipt),
+        None => push_step(text, none, receipt),
         Some(step) => {
             write!(text, "{step}")?;
-            push_receipt(text, step, receipt)
+            push_receipt(text, between, step, receipt)
         }
     }
 }
 
-fn push_step(text: &mut String, step: Option<Step>) -> Result<(), AllocError>
-    ensures { OnOk result (Adds text.old text.new (step_or_dash step)) }
+fn push_step(text: &mut String, none: &str, step: Option<Step>) -> Result<(), AllocError>
+    ensures { OnOk result (Adds text.old text.new (step_or none.now step)) }
 {
     match step {
-        None => text.push_str("-"),
+        None => text.push_str(none),
         Some(step) => write!(text, "{step}"),
     }
 }
 
-fn push_receipt(text: &mut String, step: Step, receipt: Option<Step>) -> Result<(), AllocError>
-    ensures { OnOk result (Adds text.old text.new (receipt_text step receipt)) }
+fn push_receipt(
+    text: &mut String,
+    between: &str,
+    step: Step,
+    receipt: Option<Step>,
+) -> Result<(), AllocError>
+    ensures { OnOk result (Adds text.old text.new (receipt_behind between.now step receipt)) }
 {
     match step {
-        Step::Suspect(_) => push_or(text, receipt),
+        Step::Suspect(_) => push_behind(text, between, receipt),
         _ => Ok(()),
     }
 }
 
-fn push_or(text: &mut String, step: Option<Step>) -> Result<(), AllocError>
-    ensures { OnOk result (Adds text.old text.new (or_text step)) }
+fn push_behind(text: &mut String, between: &str, step: Option<Step>) -> Result<(), AllocError>
+    ensures { OnOk result (Adds text.old text.new (behind between.now step)) }
 {
     match step {
         None => Ok(()),
-        Some(step) => write!(text, " or {step}"),
+        Some(step) => write!(text, "{between}{step}"),
     }
 }

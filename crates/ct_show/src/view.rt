@@ -3,6 +3,7 @@
 ghost use Rattle.std.specs.Prelude.{◌≡◌};
 ghost use Rattle.ct_show.specs.Answer.{member_of};
 
+use crate::form::Form;
 use crate::selection::Selection;
 use ct_names::Member;
 
@@ -14,9 +15,9 @@ pub enum View {
     /// Its report, as JSON.
     Report,
     /// A line for each of the steps that are asked for.
-    Steps(Selection),
+    Steps(Selection, Form),
     /// The state after so many steps, or after all where there are fewer.
-    State(u32),
+    State(u32, Form),
 }
 
 impl View {
@@ -25,8 +26,8 @@ impl View {
         ensures { result ≡ member_of self.now }
     {
         match self {
-            View::Steps(selection) => selection.member,
-            View::Nothing | View::Report | View::State(_) => None,
+            View::Steps(selection, _) => selection.member,
+            View::Nothing | View::Report | View::State(_, _) => None,
         }
     }
 }

@@ -2,9 +2,10 @@
 
 ghost use Rattle.std.specs.Prelude.{◌≡◌, false, IfOk, option_map};
 ghost use Rattle.clap.specs.Words.{app_of, found_of, rows_of, rule_of};
-ghost use Rattle.ct_show.specs.Line.{member_in, member_of, state_of, steps_of};
+ghost use Rattle.ct_show.specs.Line.{form_in, form_of, member_in, member_of, state_of, steps_of};
 ghost use Rattle.ct_show.specs.Line.{check_app, files_rule, flag_rule, report_app, state_app, steps_app};
 
+use crate::form::Form;
 use crate::selection::Selection;
 use crate::view::View;
 use clap::{Arg, ArgAction, ArgMatches, Command};
@@ -50,6 +51,7 @@ Status:
 const AFTER_STATE: &str = "Examples:
   ct_tool state run.json
   ct_tool state run.json --after 20
+  ct_tool state run.json --json
 
 Status:
   0  the state was written
@@ -64,6 +66,7 @@ const AFTER_STEPS: &str = "Examples:
   ct_tool walk --members 3 | ct_tool steps
   ct_tool steps run.json --from 20 --to 40
   ct_tool steps run.json --member 2
+  ct_tool steps run.json --json > steps.jsonl
 
 Status:
   0  the lines were written
@@ -82,7 +85,24 @@ pub fn steps_view<'a>(found: &'a ArgMatches<'_>) -> Result<View, WordFault<'a>>
     let from = option_in(found, "from", 1, u32::MAX)?;
     let to = option_in(found, "to", from, u32::MAX)?;
     let member = member_in(found)?;
-    Ok(View::Steps(Selection { from, to, member }))
+    Ok(View::Steps(Selection { from, to, member }, form_in(found)))
+}
+
+// JSON where the option `json` is given.
+fn form_in(found: &ArgMatches<'_>) -> Form
+    ensures { result ≡ form_in (rows_of (found_of found.now)) }
+{
+    form_of(found.get_str("json"))
+}
+
+// The form that the text of an option with no value asks for.
+fn form_of(text: Option<&str>) -> Form
+    ensures { result ≡ form_of (option_map (λ t. t.now) text.entry) }
+{
+    match text {
+        Some(text) if text == "true" => Form::Json,
+        _ => Form::Text,
+    }
 }
 
 // The member that the option `member` names, where it is given.
@@ -102,12 +122,13 @@ fn member_of<'a>(text: Option<&'a str>) -> Result<Option<Member>, WordFault<'a>>
     }
 }
 
-/// The steps after which `state` shows the state; else the fault of their number.
+/// The steps after which `state` shows the state, and its form; else the fault of their number.
 #[tactic(auto, unfolding(crate::specs::Line::state_of))]
 pub fn state_view<'a>(found: &'a ArgMatches<'_>) -> Result<View, WordFault<'a>>
     ensures { result ≡ state_of (rows_of (found_of found.now)) }
 {
-    Ok(View::State(option_in(found, "after", 0, u32::MAX)?))
+    let count = option_in(found, "after", 0, u32::MAX)?;
+    Ok(View::State(count, form_in(found)))
 }
 
 /// The subcommand `check`.
@@ -181,7 +202,12 @@ pub fn state_command<'a>(alloc: Global) -> Result<Command<'a>, AllocError>
         "4294967295",
         "How many steps are replayed; all by default",
     )
-    .hide_default_value(true))
+    .hide_default_value(true))?
+    .arg(flag(
+        alloc,
+        "json",
+        "Writes a JSON object for the whole and one for each member",
+    ))
 }
 
 /// The subcommand `steps`.
@@ -212,5 +238,6 @@ pub fn steps_command<'a>(alloc: Global) -> Result<Command<'a>, AllocError>
         alloc,
         "member",
         "Shows the steps of this member alone, 1 to 16",
-    ))
+    ))?
+    .arg(flag(alloc, "json", "Writes a JSON object for each step"))
 }

@@ -103,11 +103,25 @@ const JSON: &str =
     "{\"group\":1,\"majority\":1,\"cells\":4,\"batch\":1048560,\"steps\":12,\"sent\":5,\"posted\":1,\"members\":[{\"member\":1,\"up\":true,\"instance\":1,\"open\":false,\"received\":[\"1.1\"],\"decided\":[{\"instance\":1,\"messages\":[\"1.1\"]}],\"delivered\":[\"1.1\"],\"table\":[7,0,0,0,0,0,0,0,0,0,0,0,0,0,0,0]}]}
 ";
 
-const ALL: View = View::Steps(Selection {
-    from: 1,
-    to: 100,
-    member: None,
-});
+const ALL: View = View::Steps(
+    Selection {
+        from: 1,
+        to: 100,
+        member: None,
+    },
+    Form::Text,
+);
+
+// A step that is refused, as JSON.
+const TWICE_JSON: &str =
+    "{\"number\":3,\"member\":1,\"step\":\"receive\",\"envelope\":{\"serial\":1,\"to\":1,\"kind\":\"Data\",\"message\":\"1.1\"},\"refusal\":\"NotWaiting\",\"left\":{\"number\":2,\"entry\":[\"receive\",1,1]}}
+";
+
+// The state after its estimate was heard, as JSON.
+const HEARD_JSON: &str =
+    "{\"group\":1,\"majority\":1,\"cells\":4,\"batch\":1048560,\"steps\":5,\"sent\":2,\"posted\":0}
+{\"member\":1,\"up\":true,\"instance\":1,\"open\":true,\"round\":1,\"phase\":\"Gather\",\"coordinator\":1,\"estimate\":{\"value\":[\"1.1\"],\"timestamp\":0},\"heard\":[{\"member\":1,\"value\":[\"1.1\"],\"timestamp\":0}],\"acked\":[],\"replied\":[],\"received\":[\"1.1\"],\"decided\":[],\"delivered\":[],\"table\":[0,0,0,0,0,0,0,0,0,0,0,0,0,0,0,0],\"waiting\":[],\"enabled\":[[\"choose\",1,1]],\"refused\":[{\"entry\":[\"deliver\",1],\"refusal\":\"Undecided\"}],\"next\":[[\"choose\",1,1]]}
+";
 
 // What a view shows of a record, in words, and the text; and which step of the record is refused.
 type Shown = (
@@ -118,48 +132,54 @@ type Shown = (
     Option<ReplayFault>,
 );
 
-static SHOWN: [Shown; 13] = [
+static SHOWN: [Shown; 15] = [
     ("a line for each step", RUN, ALL, LINES, None),
     (
         "a line of one step and member",
         RUN,
-        View::Steps(Selection {
-            from: 2,
-            to: 2,
-            member: Some(1),
-        }),
+        View::Steps(
+            Selection {
+                from: 2,
+                to: 2,
+                member: Some(1),
+            },
+            Form::Text,
+        ),
         SECOND,
         None,
     ),
     (
         "a long value is cut",
         NINE,
-        View::Steps(Selection {
-            from: 19,
-            to: 19,
-            member: None,
-        }),
+        View::Steps(
+            Selection {
+                from: 19,
+                to: 19,
+                member: None,
+            },
+            Form::Text,
+        ),
         NINETEENTH,
         None,
     ),
     (
         "the state after a relay",
         RELAYED,
-        View::State(2),
+        View::State(2, Form::Text),
         RELAYED_STATE,
         None,
     ),
     (
         "the state after an estimate was heard",
         RUN,
-        View::State(5),
+        View::State(5, Form::Text),
         HEARD_STATE,
         None,
     ),
     (
         "no state after a refused step",
         TWICE,
-        View::State(7),
+        View::State(7, Form::Text),
         "",
         Some(ReplayFault {
             at: 3,
@@ -167,6 +187,30 @@ static SHOWN: [Shown; 13] = [
         }),
     ),
     ("the report", RUN, View::Report, JSON, None),
+    (
+        "the state as JSON",
+        RUN,
+        View::State(5, Form::Json),
+        HEARD_JSON,
+        None,
+    ),
+    (
+        "a refused step as JSON",
+        TWICE,
+        View::Steps(
+            Selection {
+                from: 3,
+                to: 3,
+                member: None,
+            },
+            Form::Json,
+        ),
+        TWICE_JSON,
+        Some(ReplayFault {
+            at: 3,
+            refusal: Refusal::NotWaiting,
+        }),
+    ),
     (
         "a refused step is the last line",
         TWICE,
@@ -279,11 +323,14 @@ fn long_lines(alloc: Global) -> Result<(bool, (usize, bool)), Fail> {
     let record = long_record(alloc)?;
     let mut reader = Counted::new(record.as_bytes());
     let mut writer = Counted::new(Vec::new(alloc));
-    let all = View::Steps(Selection {
-        from: 1,
-        to: 5000,
-        member: None,
-    });
+    let all = View::Steps(
+        Selection {
+            from: 1,
+            to: 5000,
+            member: None,
+        },
+        Form::Text,
+    );
     show(alloc, &mut reader, &mut writer, &all)?;
     let text = writer.into_inner();
     Ok((text.len() > 65_536, ends(&text)))

@@ -14,32 +14,32 @@ pub returns-in-Err-clause-ok : goal.returns-in-Err-clause-ok
 returns-in-Err-clause-ok c =
     let h = c.in-Err.ensures in
     let fault = c.in-Err.fault in
-    let i = c.loop-replay.replay.done in
-    let whole = c.loop-replay.invariant.whole in
-    let old = string_bytes c.loop-replay.text in
+    let i = c.loop-form.replay.done in
+    let whole = c.loop-form.invariant.whole in
+    let old = string_bytes c.loop-form.text in
     let there : IfOk c.refused.result (λ (a : Answer). a.text.items
-    ≡ old ++ refused_line (so_far c.loop-replay.replay) fault.at (slice_get c.loop-replay.replay.whole.steps i) fault.refusal) =
+    ≡ old ++ refused_line c.args.form (so_far c.loop-form.replay) fault.at (slice_get c.loop-form.replay.whole.steps i) fault.refusal) =
     subst (λ (v : ReplayView). IfOk c.refused.result (λ (a : Answer). a.text.items
-    ≡ old ++ refused_line (so_far v) fault.at (slice_get v.whole.steps v.done) fault.refusal)) h.same c.refused.ensures.text in
-    answer_refused c.args.selection.now (rehearsal_of c.args.script.now) c.refused.result fault i old h.at
-    (subst (λ (w : Rehearsal). IsFaultOf w.setting w.cells w.steps fault.at fault.refusal) whole h.err) c.loop-replay.invariant.text
+    ≡ old ++ refused_line c.args.form (so_far v) fault.at (slice_get v.whole.steps v.done) fault.refusal)) h.same c.refused.ensures.text in
+    answer_refused c.args.selection.now c.args.form (rehearsal_of c.args.script.now) c.refused.result fault i old h.at
+    (subst (λ (w : Rehearsal). IsFaultOf w.setting w.cells w.steps fault.at fault.refusal) whole h.err) c.loop-form.invariant.text
     (subst (λ (w : Rehearsal). IfOk c.refused.result (λ (a : Answer). a.text.items
-    ≡ old ++ refused_line (first_steps w.setting w.cells w.steps i) fault.at (slice_get w.steps i) fault.refusal)) whole there)
+    ≡ old ++ refused_line c.args.form (first_steps w.setting w.cells w.steps i) fault.at (slice_get w.steps i) fault.refusal)) whole there)
     c.refused.ensures.fault c.refused.ensures.not_memory
 
-pub loop-replay-preserved : goal.loop-replay-preserved
-loop-replay-preserved c =
+pub loop-form-preserved : goal.loop-form-preserved
+loop-form-preserved c =
     let h = c.in-Ok-step.ensures in
     let it = c.in-Ok-step.done in
-    let i = c.loop-replay.replay.done in
-    let whole = c.loop-replay.invariant.whole in
+    let i = c.loop-form.replay.done in
+    let whole = c.loop-form.invariant.whole in
     rw h.ok (record {
       whole = whole;
-      text = replayed_more c.args.selection.now (rehearsal_of c.args.script.now) c.world.result.now.rehearsal i it
-          (string_bytes c.loop-replay.text) (string_bytes c.push_selected.new.text)
+      text = replayed_more c.args.selection.now c.args.form (rehearsal_of c.args.script.now) c.world.result.now.rehearsal i it
+          (string_bytes c.loop-form.text) (string_bytes c.push_selected.new.text)
           (subst (λ (w : Rehearsal). slice_get w.steps i ≡ Some it.step) whole h.step) h.number
           (subst (λ (w : Rehearsal). it.before ≡ length (state_of (first_steps w.setting w.cells w.steps i)).sent) whole h.before)
           (ap (λ (v : WorldView). v.rehearsal) c.world.ensures ∙ h.done.joined
           ∙ ap (λ (w : Rehearsal). extended (first_steps w.setting w.cells w.steps i) it.step) whole)
-          c.loop-replay.invariant.text c.in_ok-push_selected.ensures;
+          c.loop-form.invariant.text c.in_ok-push_selected.ensures;
     })

@@ -11,5 +11,5 @@ returns c =
     let to_local = ap (λ a. a.global) c.hide_default_value.ensures ∙ c.default_option-2.ensures.local in
     let to_is = ap rule_of c.hide_default_value.ensures ∙ c.default_option-2.ensures.rule in
     let to = with_option _ _ _ _ _ c.in_ok-arg-3.ensures to_local from to_is in
-    IfOk-weaker c.arg-4.result _ _ (λ r adds. with_option _ _ _ _ _ adds c.value_option.ensures.local to c.value_option.ensures.rule)
-    c.arg-4.ensures
+    let member = with_option _ _ _ _ _ c.in_ok-arg-4.ensures c.value_option.ensures.local to c.value_option.ensures.rule in
+    IfOk-weaker c.arg-5.result _ _ (λ r adds. with_option _ _ _ _ _ adds c.flag.ensures.local member c.flag.ensures.rule) c.arg-5.ensures
