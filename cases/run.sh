@@ -7,13 +7,18 @@
 #
 # Prints a line for each failing case and ends with `N passed, M failed`, and with
 # status 0 only where none failed. A run of more than 20 seconds fails, and so does a
-# case that has the name of another. Needs bash 4.4, Python 3.8 and, for a program in a document, rt.
+# case that has the name of another. Needs bash 4.4, Python 3.8, its package jsonschema (Debian's python3-jsonschema)
+# and, for a program in a document, rt.
 set -u
 export LC_ALL=C
 
 here=$(cd "$(dirname "$0")" && pwd)
 ct=${1:-$here/../crates/ct/out/ct}
 tool=${2:-$here/../crates/ct_tool/out/ct_tool}
+if ! python3 -c 'import jsonschema' 2>/dev/null; then
+    echo "cases/run.sh: no package jsonschema for python3 (Debian's python3-jsonschema)" >&2
+    exit 2
+fi
 for program in "$ct" "$tool"; do
     if [[ ! -x $program || -d $program ]]; then
         echo "cases/run.sh: no program at $program" >&2
@@ -367,6 +372,29 @@ check_long_texts() {
     check_long 'a long report' "$folder/wanted" "$tool" report
 }
 
+# check_json: what is shown as JSON fits its schema and tells what the lines tell, of the examples, of some walks and of refused
+# steps of each kind.
+check_json() {
+    local wrong='' seed
+    for seed in {1..5}; do
+        "$tool" walk --members 3 --seed "$seed" --turns 60 --submit 12 --lose 10 --repeat 20 --postpone 10 --crash 2 >"$folder/walk$seed" &&
+            "$tool" walk --members 5 --seed "$seed" --turns 40 --rate 128 --batch 1 >"$folder/quick$seed" ||
+            wrong+=" no walk of seed $seed;"
+    done
+    record 1 1 0 '["receive",1,1],["receive",1,1]' >"$folder/not_waiting"
+    record 2 1 0 '["repeat",1,2]' >"$folder/not_sent"
+    record 2 1 0 '["postpone",2,9]' >"$folder/no_envelope"
+    record 2 1 0 '["repeat",1,1]' >"$folder/still_waiting"
+    record 1 1 0 '["enter",1]' >"$folder/idle"
+    record 1 1 0 '["receive",1,1],["begin",1],["enter",1],["receive",1,2],["conclude",1]' >"$folder/wrong_phase"
+    record 1 1 0 '["choose",0,255]' >"$folder/no_member"
+    record 1 1 0 '["submit",1,["copy",16,255]]' >"$folder/bad_command"
+    timeout -k 5 60 python3 json_lines.py "$tool" suspicion.json ../examples/*.json "$folder"/{walk,quick}[1-5] \
+        "$folder"/{not_waiting,not_sent,no_envelope,still_waiting,idle,wrong_phase,no_member,bad_command} >"$folder/output" 2>&1 ||
+        wrong+=" $(start_of "$folder/output");"
+    tally 'steps and states as JSON' "$wrong"
+}
+
 # check_blocks: what the documents and the programs' help show is run.
 check_blocks() {
     local ended
@@ -410,6 +438,7 @@ check_table tool_table.txt
 check_walks
 check_kept
 check_long_texts
+check_json
 program=$ct
 check_table table.txt
 
