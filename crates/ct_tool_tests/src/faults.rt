@@ -4,7 +4,7 @@ use ct_names::{Limit, Refusal};
 use ct_records::{ProgramFault, ReadFault};
 use ct_show::{NoRecord, ShowFault};
 use ct_streams::{FileFault, NamedFault};
-use ct_walk::{FoundSeed, WalkFault};
+use ct_walk::{FoundSeed, Missed, Seeds, Sight, WalkFault};
 use std::alloc::{AllocError, Global};
 use std::fmt::Display;
 use std::test::Fail;
@@ -71,9 +71,33 @@ fn faults_of_kept_records_have_lines(rt: HostRuntime) {
     assert!(rt; is_of_keeping(alloc, KeepFault::Memory, "out of memory", 5));
 }
 
+// The fault of these seeds, the nearest of which came to so much.
+fn missed(sight: Sight, last: u32, came_to: u32) -> WalkFault {
+    WalkFault::NotFound(Missed {
+        until: Some(sight),
+        seeds: Seeds { first: 1, last },
+        seed: 1,
+        came_to,
+    })
+}
+
 fn walks_have_lines(alloc: Global) -> bool {
     let faults = [
-        (WalkFault::NotFound, "not found", 1),
+        (
+            missed(Sight::Round(9), 200, 7),
+            "no seed of 1..200 shows round 9: seed 1 came to round 7",
+            1,
+        ),
+        (
+            missed(Sight::Decided(9), 200, 0),
+            "no seed of 1..200 shows decided 9: seed 1 decided none",
+            1,
+        ),
+        (
+            missed(Sight::Round(9), 1, 0),
+            "seed 1 does not show round 9: it came to no round",
+            1,
+        ),
         (WalkFault::Write, "write failed", 4),
         (WalkFault::Memory, "out of memory", 5),
         (WalkFault::Board, "board refused", 5),

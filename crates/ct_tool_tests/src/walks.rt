@@ -1,4 +1,4 @@
-ghost use Rattle.std.specs.Prelude.{◌≡◌, None};
+ghost use Rattle.std.specs.Prelude.{◌≡◌, ◌≤◌, ◌<◌, None};
 ghost use Rattle.ct_names.specs.declared.limit.TheConstants.{MAX_BOUND};
 ghost use Rattle.ct_walk.specs.Options.{IsInRange};
 
@@ -158,28 +158,68 @@ fn a_walk_stops_at_what_it_is_made_until(rt: HostRuntime) -> Result<(), Fail> {
     Ok(())
 }
 
-// Whether the walk that is found comes to the round, where one is found.
-fn found_round(
+// The walk that is found in some first seeds comes to the round.
+fn finds_round(
     alloc: Global,
     sought: &WalkOptions,
     last: u32,
     wanted: Round,
-) -> Result<Option<bool>, WalkFault>
-    requires { IsInRange sought.now }
+) -> Result<bool, WalkFault>
+    requires range { IsInRange sought.now }
+    requires some { 1 ≤ last }
 {
-    let found = find(alloc, sought, 1, last)?;
-    match &found {
-        Some(walk) => Ok(Some(is_in_round(&walk.world, wanted))),
-        None => Ok(None),
+    let walk = find(alloc, sought, Seeds { first: 1, last })?;
+    Ok(is_in_round(&walk.world, wanted))
+}
+
+// What is told where none of some first seeds is found.
+fn told_of_none(alloc: Global, sought: &WalkOptions, last: u32) -> Option<Missed>
+    requires range { IsInRange sought.now }
+    requires some { 1 ≤ last }
+{
+    match find(alloc, sought, Seeds { first: 1, last }) {
+        Err(WalkFault::NotFound(missed)) => Some(missed),
+        _ => None,
     }
+}
+
+// Whether the seed that is told of is the first of those whose walks come to the round that is told, and none comes further.
+fn is_nearest(alloc: Global, sought: &WalkOptions, missed: &Missed) -> Result<bool, WalkFault>
+    requires range { IsInRange sought.now }
+    requires some { 1 ≤ missed.now.seeds.last }
+    requires few { missed.now.came_to < 4294967295 }
+{
+    let last = missed.seeds.last;
+    let mut sought = *sought;
+    sought.until = Some(Sight::Round(missed.came_to));
+    let nearest = find(alloc, &sought, Seeds { first: 1, last })?;
+    sought.until = Some(Sight::Round(missed.came_to + 1));
+    let further = told_of_none(alloc, &sought, last);
+    Ok(nearest.seed == missed.seed && further.is_some())
 }
 
 #[test]
 fn the_first_seed_that_shows_it_is_found(rt: HostRuntime) -> Result<(), Fail> {
     let mut sought = options(0);
     sought.until = Some(Sight::Round(6));
-    assert_eq!(rt; found_round(rt.alloc(), &sought, 100, 6)?, Some(true));
-    sought.until = Some(Sight::Round(5000));
-    assert_eq!(rt; found_round(rt.alloc(), &sought, 2, 5000)?, None);
+    assert!(rt; finds_round(rt.alloc(), &sought, 100, 6)?);
+    Ok(())
+}
+
+// Whether the seed that comes nearest to the round is told of.
+fn tells_the_nearest(alloc: Global, wanted: Round) -> Result<bool, WalkFault> {
+    let mut sought = options(0);
+    sought.until = Some(Sight::Round(wanted));
+    match told_of_none(alloc, &sought, 12) {
+        Some(missed) if missed.came_to < 100 && missed.seeds.last == 12 => {
+            is_nearest(alloc, &sought, &missed)
+        }
+        _ => Ok(false),
+    }
+}
+
+#[test]
+fn the_seed_that_comes_nearest_is_told(rt: HostRuntime) -> Result<(), Fail> {
+    assert!(rt; tells_the_nearest(rt.alloc(), 5000)?);
     Ok(())
 }

@@ -3,3 +3,5 @@ pub mod Cuts
 mod Entries
 pub mod Found
 pub mod Looping
+pub mod Nearest
+pub mod Rounds

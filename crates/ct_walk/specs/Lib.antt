@@ -1,6 +1,8 @@
 pub mod Options
 pub mod Walking
 pub mod Shown
+pub mod Nearness
+pub mod Missing
 pub mod Finding
 pub mod Faults
 pub mod Texts

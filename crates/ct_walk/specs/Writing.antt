@@ -1,5 +1,5 @@
 -- What is written of walks.
-use Rattle.std.specs.Prelude.{◌≡◌, ℕ, true, false, List, [], ◌∷◌, ◌++◌, length, Option, Some, None, option_map, IfSome}
+use Rattle.std.specs.Prelude.{◌≡◌, ⊤, ℕ, true, false, List, [], ◌∷◌, ◌++◌, length, Option, Some, None, option_map, IfSome}
 use Rattle.std.specs.Io.KnownBytes.{Appends}
 use Rattle.ct_model.specs.Rehearsal.{Rehearsal}
 use Rattle.ct_records.specs.Outcome.{IsOutcome}
@@ -7,8 +7,13 @@ use Rattle.ct_streams.specs.Streams.{WritesPart}
 use Rattle.ct_records.specs.Text.{record_text}
 use Rattle.ct_walk.specs.declared.call.Call.{Call}
 use Rattle.ct_walk.specs.declared.call.Call.TheVariants.{Walk, Find}
+use Rattle.ct_walk.specs.declared.fault.WalkFault.{WalkFault}
+use Rattle.ct_walk.specs.declared.fault.WalkFault.TheVariants.{NotFound}
 use Rattle.ct_walk.specs.declared.found_seed.FoundSeed.{FoundSeed}
-use Rattle.ct_walk.specs.Finding.{first_seed, seeds_to}
+use Rattle.ct_walk.specs.declared.missed.Missed.{Missed}
+use Rattle.ct_walk.specs.declared.options.WalkOptions.{WalkOptions}
+use Rattle.ct_walk.specs.Finding.{FindsNone, first_seed, seeds_to}
+use Rattle.ct_walk.specs.Nearness.{came_to}
 use Rattle.ct_walk.specs.Options.{with_seed}
 use Rattle.ct_walk.specs.Shown.{is_reached}
 use Rattle.ct_walk.specs.Walking.{walked}
@@ -17,12 +22,23 @@ use Rattle.ct_walk.specs.Walking.{walked}
 -- whose walk shows what is looked for
 abbrev pub IsWalkOf : Call → Rehearsal → Type 0
 IsWalkOf (Walk o) w = (w ≡ walked o) × (is_reached o.until w ≡ true)
-IsWalkOf (Find o seeds) w = (seed : ℕ) × (first_seed o seeds.first (seeds_to seeds.first seeds.last) ≡ Some seed) × (w ≡ walked (with_seed o seed))
+IsWalkOf (Find o seeds) w =
+    (seed : ℕ) × (first_seed o seeds.first (seeds_to seeds.first seeds.last) ≡ Some seed) × (w ≡ walked (with_seed o seed))
 
--- the walk doesn't show what it is made until; of several seeds, none's does
-abbrev pub Misses : Call → Type 0
-Misses (Walk o) = is_reached o.until (walked o) ≡ false
-Misses (Find o seeds) = first_seed o seeds.first (seeds_to seeds.first seeds.last) ≡ None
+-- what is told of one walk
+abbrev pub missed_by : WalkOptions → Missed
+missed_by o = record {
+  until = o.until;
+  seeds = record { first = o.run.seed; last = o.run.seed };
+  seed = o.run.seed;
+  came_to = came_to o;
+}
+
+-- the walk doesn't show what it is made until; of several seeds, none's does. Of other faults nothing is said
+abbrev pub Misses : Call → WalkFault → Type 0
+Misses (Walk o) (NotFound missed) = (is_reached o.until (walked o) ≡ false) × (missed ≡ missed_by o)
+Misses (Find o seeds) (NotFound missed) = FindsNone o seeds (NotFound missed)
+Misses _ _ = ⊤
 
 -- the seed that is looked for, and how many steps its walk has; nothing where no seed is looked for
 abbrev pub seed_for : Call → Option FoundSeed

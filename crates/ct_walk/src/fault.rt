@@ -1,27 +1,24 @@
 //! Why a walk is not made.
 
-ghost use Rattle.std.specs.Prelude.{◌≡◌};
-ghost use Rattle.ct_walk.specs.Faults.{status_of};
+ghost use Rattle.std.specs.Prelude.{◌≡◌, Some};
+ghost use Rattle.ct_walk.specs.Faults.{fault_text, status_of};
 
+use crate::missed::Missed;
 use ct_streams::Status;
 use std::alloc::AllocError;
-use thiserror::Error;
+use std::fmt;
 
 /// Why a walk is not made, or not written. Its text is the line for standard error.
-#[derive(Clone, Copy, Debug, Drop, PartialEq, Eq, Error)]
+#[derive(Clone, Copy, Debug, Drop, PartialEq, Eq)]
 pub enum WalkFault {
     /// Memory was refused.
-    #[error("out of memory")]
     Memory,
     /// A cell of the board refused a batch.
-    #[error("board refused")]
     Board,
     /// The writer failed.
-    #[error("write failed")]
     Write,
     /// No seed that was tried shows what is looked for.
-    #[error("not found")]
-    NotFound,
+    NotFound(Missed),
 }
 
 impl WalkFault {
@@ -30,9 +27,22 @@ impl WalkFault {
         ensures { result ≡ status_of self.now }
     {
         match self {
-            WalkFault::NotFound => Status::Refused.code(),
+            WalkFault::NotFound(_) => Status::Refused.code(),
             WalkFault::Write => Status::Stream.code(),
             WalkFault::Memory | WalkFault::Board => Status::Memory.code(),
+        }
+    }
+}
+
+impl fmt::Display for WalkFault {
+    ghost output = { λ fault. Some (fault_text fault) };
+
+    fn fmt<W: fmt::Write>(&self, f: &mut fmt::Formatter<W>) -> fmt::Result {
+        match self {
+            WalkFault::Memory => f.write_str("out of memory"),
+            WalkFault::Board => f.write_str("board refused"),
+            WalkFault::Write => f.write_str("write failed"),
+            WalkFault::NotFound(missed) => write!(f, "{missed}"),
         }
     }
 }

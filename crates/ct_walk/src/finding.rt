@@ -1,39 +1,47 @@
 //! Seeds whose walks show what is looked for.
 
-ghost use Rattle.std.specs.Prelude.{◌≡◌, ◌+◌, ◌-◌, None, Some, IfOk, IfErr, IfSome, option_map};
-ghost use Rattle.ct_walk.specs.Faults.{IsShort};
-ghost use Rattle.ct_walk.specs.Finding.{first_seed, seeds_to};
+ghost use Rattle.std.specs.Prelude.{◌≡◌, ◌+◌, ◌-◌, None, Some, IfOk, IfErr};
+ghost use Rattle.ct_walk.specs.Finding.{first_seed, seeds_to, FindsNone};
+ghost use Rattle.ct_walk.specs.Line.{IsSeedsInRange};
 ghost use Rattle.ct_walk.specs.Options.{IsInRange, with_seed};
 ghost use Rattle.ct_walk.specs.Walking.{walked};
 
+use crate::call::Seeds;
 use crate::fault::WalkFault;
 use crate::found_walk::FoundWalk;
+use crate::missed::Missed;
 use crate::options::WalkOptions;
 use crate::sight::is_shown;
-use crate::walking::walk;
+use crate::walking::walk_near;
 use std::alloc::Global;
 
 /// Makes the walks of the seeds from the first to the last one, in place of the options' one, until a walk shows what it is
-/// made until; that walk, or None where none of them shows it.
-pub fn find(
-    alloc: Global,
-    options: &WalkOptions,
-    first: u32,
-    last: u32,
-) -> Result<Option<FoundWalk>, WalkFault>
-    requires { IsInRange options.now }
-    ensures seed { IfOk result (λ found. option_map (λ walk. walk.seed) found ≡ first_seed options.now first (seeds_to first last)) }
-    ensures walk { IfOk result (λ found. IfSome found (λ walk. walk.world.rehearsal ≡ walked (with_seed options.now walk.seed))) }
-    ensures none { IfOk result (λ found. IfSome found (λ walk. walk.world.prepared ≡ None)) }
-    ensures err { IfErr result IsShort }
+/// made until, and hands out that walk. Where none of them shows it the fault tells which came nearest.
+pub fn find(alloc: Global, options: &WalkOptions, seeds: Seeds) -> Result<FoundWalk, WalkFault>
+    requires range { IsInRange options.now }
+    requires some { IsSeedsInRange seeds }
+    ensures seed { IfOk result (λ walk. first_seed options.now seeds.first (seeds_to seeds.first seeds.last) ≡ Some walk.seed) }
+    ensures walk { IfOk result (λ walk. walk.world.rehearsal ≡ walked (with_seed options.now walk.seed)) }
+    ensures none { IfOk result (λ walk. walk.world.prepared ≡ None) }
+    ensures err { IfErr result (FindsNone options.now seeds) }
 {
-    for seed in u64::from(first)..u64::from(last) + 1 {
+    let mut missed = Missed {
+        until: options.until,
+        seeds,
+        seed: seeds.first,
+        came_to: 0,
+    };
+    for seed in u64::from(seeds.first)..u64::from(seeds.last) + 1 {
         let seed = seed as u32;
         let options = options.with_seed(seed);
-        let world = walk(alloc, &options)?;
-        if is_shown(options.until, &world) {
-            return Ok(Some(FoundWalk { seed, world }));
+        let walk = walk_near(alloc, &options)?;
+        if is_shown(options.until, &walk.world) {
+            return Ok(FoundWalk {
+                seed,
+                world: walk.world,
+            });
         }
+        missed = missed.after(seed, walk.came_to);
     }
-    Ok(None)
+    Err(WalkFault::NotFound(missed))
 }

@@ -4,10 +4,14 @@
 
 mod answering;
 mod call;
+mod came;
 mod fault;
 mod finding;
 mod found_seed;
 mod found_walk;
+mod missed;
+mod near_walk;
+mod nearness;
 mod options;
 mod script;
 mod sight;
@@ -22,6 +26,7 @@ pub use fault::WalkFault;
 pub use finding::find;
 pub use found_seed::FoundSeed;
 pub use found_walk::FoundWalk;
+pub use missed::Missed;
 pub use options::WalkOptions;
 pub use sight::Sight;
 pub use walking::walk;

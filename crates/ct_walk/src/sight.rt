@@ -1,11 +1,13 @@
 //! What walks are made until.
 
-ghost use Rattle.std.specs.Prelude.{◌≡◌};
+ghost use Rattle.std.specs.Prelude.{◌≡◌, Some};
 ghost use Rattle.ct_rehearse.specs.Choices.{round_of};
+ghost use Rattle.ct_walk.specs.Missing.{sight_text};
 ghost use Rattle.ct_walk.specs.Shown.{is_reached, is_shown, is_shown_by};
 
 use ct_names::{Instance, Member, Round};
 use ct_world::World;
+use std::fmt;
 
 /// What a member shows.
 #[derive(Clone, Copy, Debug, Drop, PartialEq, Eq)]
@@ -14,6 +16,17 @@ pub enum Sight {
     Decided(Instance),
     /// It is in this round of its open instance, or in a later one.
     Round(Round),
+}
+
+impl fmt::Display for Sight {
+    ghost output = { λ sight. Some (sight_text sight) };
+
+    fn fmt<W: fmt::Write>(&self, f: &mut fmt::Formatter<W>) -> fmt::Result {
+        match self {
+            Sight::Decided(instance) => write!(f, "decided {instance}"),
+            Sight::Round(round) => write!(f, "round {round}"),
+        }
+    }
 }
 
 // Whether a member shows it; what is not asked for is not shown.
@@ -50,7 +63,7 @@ fn is_shown_by(sight: Sight, world: &World, member: Member) -> bool
 
 // The round that the member is in, 0 where it is in none.
 #[tactic(auto, unfolding(ct_rehearse::specs::Choices::round_of))]
-fn round_of(world: &World, member: Member) -> Round
+pub(crate) fn round_of(world: &World, member: Member) -> Round
     ensures { result ≡ round_of world.now.rehearsal member }
 {
     match world.round(member) {

@@ -3,6 +3,7 @@
 ghost use Rattle.std.specs.Prelude.{◌≡◌, ◌+◌, ◌-◌, ◌*◌, ◌^◌, ◌<◌, ◌≤◌, Some, None, IfOk, IfErr, IfSome, OnOk, slice_get};
 ghost use Rattle.ct_program.specs.FreeOptions.{InRange};
 ghost use Rattle.ct_walk.specs.Faults.{IsShort};
+ghost use Rattle.ct_walk.specs.Nearness.{rounds_for};
 ghost use Rattle.ct_walk.specs.Shown.{is_shown};
 ghost use Rattle.ct_rehearse.specs.Choices.{after_try};
 ghost use Rattle.ct_walk.specs.Walking.{drawn, drawn_scripts, driven, entered, entries_left, has_left, is_due};
@@ -10,12 +11,13 @@ ghost use Rattle.ct_walk.specs.Walking.{is_drawn, made_by, start, turned, walked
 
 use crate::answering::answer;
 use crate::fault::WalkFault;
+use crate::nearness::largest_round;
 use crate::script::Script;
 use crate::sight::{Sight, is_shown};
 use crate::worlds::first_stage;
 use ct_detect::Seeded;
 use ct_model::Step;
-use ct_names::{Member, Refusal};
+use ct_names::{Member, Refusal, Round};
 use ct_program::{FreeOptions, losses, postponements, repetitions, seeded, submissions};
 use ct_rehearse::{choice, entry_step};
 use ct_world::{Stage, World};
@@ -91,23 +93,27 @@ impl Walker {
         members * u64::from(turns) + entries
     }
 
-    // Makes so many turns at most, until a member shows what is asked for.
+    // Makes so many turns at most, until a member shows what is asked for, and answers the largest round that a member came to.
     pub(crate) fn walk(
         &mut self,
         every: u32,
         until: Option<Sight>,
         most: u64,
-    ) -> Result<(), WalkFault>
+    ) -> Result<Round, WalkFault>
         ensures ok { OnOk result (self.new ≡ walked_for every until 0 most self.old) }
+        ensures rounds { IfOk result (λ rounds. rounds ≡ rounds_for every until 0 most self.old) }
         ensures err { IfErr result IsShort }
     {
+        let mut rounds: Round = 0;
         for made in 0..most {
             self.turn(every, made + 1)?;
-            if is_shown(until, self.stage.world()) {
-                return Ok(());
+            let world = self.stage.world();
+            rounds = rounds.max(largest_round(world));
+            if is_shown(until, world) {
+                return Ok(rounds);
             }
         }
-        Ok(())
+        Ok(rounds)
     }
 
     // Makes the turn of this number.

@@ -7,12 +7,14 @@ ghost use Rattle.ct_records.specs.Text.{record_text};
 ghost use Rattle.ct_walk.specs.Line.{IsCallInRange};
 ghost use Rattle.ct_walk.specs.Writing.{seed_for, IsSeedOf, IsWalkOf, Misses, WritesWalk, WritesWalkPart};
 
-use crate::call::Call;
+use crate::call::{Call, Seeds};
 use crate::fault::WalkFault;
 use crate::finding::find;
 use crate::found_seed::FoundSeed;
+use crate::missed::Missed;
+use crate::options::WalkOptions;
 use crate::sight::is_reached;
-use crate::walking::walk;
+use crate::walking::walk_near;
 use ct_records::write_record;
 use ct_streams::{Failed, Sink, write_all};
 use ct_world::World;
@@ -30,8 +32,9 @@ pub fn write_call<W: Sink>(
     // What was written is the record of the walk that is asked for, a run that ends in a safe state, and a line feed.
     ensures ok { OnOk result (WritesWalk call.now (W.written writer.old) (W.written writer.new)) }
     ensures seed { IfOk result (λ found. found ≡ seed_for call.now) }
-    // Nothing is found where no seed's walk shows what is looked for, or the one walk doesn't show what it is made until.
-    ensures misses { result ≡ Err WalkFault.NotFound → Misses call.now }
+    // Nothing is found where no seed's walk shows what is looked for, or the one walk doesn't show what it is made until; the
+    // fault tells how near they came.
+    ensures misses { IfErr result (Misses call.now) }
     // Only a fault of the writer has written anything: some first bytes of such a line.
     ensures quiet { IfErr result (λ fault. fault ≢ WalkFault.Write → writer.new ≡ writer.old) }
     ensures part { result ≡ Err WalkFault.Write → WritesWalkPart call.now (W.written writer.old) (W.written writer.new) }
@@ -70,24 +73,48 @@ fn called(alloc: Global, call: &Call) -> Result<Made, WalkFault>
     requires { IsCallInRange call.now }
     ensures walk { IfOk result (λ made. IsWalkOf call.now made.world.rehearsal) }
     ensures seed { IfOk result (λ made. IsSeedOf call.now made.found made.world.rehearsal) }
-    ensures misses { result ≡ Err WalkFault.NotFound → Misses call.now }
+    ensures misses { IfErr result (Misses call.now) }
     ensures quiet { IfErr result (λ fault. fault ≢ WalkFault.Write) }
 {
     match call {
         Call::Walk(options) => {
-            let world = walk(alloc, options)?;
-            if !is_reached(options.until, &world) {
-                return Err(WalkFault::NotFound);
+            let walk = walk_near(alloc, options)?;
+            if !is_reached(options.until, &walk.world) {
+                return Err(WalkFault::NotFound(missed(options, walk.came_to)));
             }
-            Ok(Made { found: None, world })
+            Ok(Made {
+                found: None,
+                world: walk.world,
+            })
         }
-        Call::Find(options, seeds) => match find(alloc, options, seeds.first, seeds.last)? {
-            Some(walk) => Ok(Made {
+        Call::Find(options, seeds) => {
+            let walk = find(alloc, options, *seeds)?;
+            Ok(Made {
                 found: Some(walk.seed),
                 world: walk.world,
-            }),
-            None => Err(WalkFault::NotFound),
+            })
+        }
+    }
+}
+
+// What is told of the one walk that was made, which came to so much.
+fn missed(options: &WalkOptions, came_to: u32) -> Missed
+    ensures { result ≡ record {
+      until = options.now.until;
+      seeds = record { first = options.now.run.seed; last = options.now.run.seed };
+      seed = options.now.run.seed;
+      came_to = came_to;
+    } }
+{
+    let seed = options.run.seed;
+    Missed {
+        until: options.until,
+        seeds: Seeds {
+            first: seed,
+            last: seed,
         },
+        seed,
+        came_to,
     }
 }
 

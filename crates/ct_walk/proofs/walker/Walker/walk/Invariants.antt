@@ -1,6 +1,9 @@
-use Rattle.std.proofs.Common.{◌≡◌, ◌-◌}
+use Rattle.std.proofs.Common.{◌≡◌, ◌-◌, max}
+use Rattle.ct_walk.specs.Nearness.{rounds_for}
 use Rattle.ct_walk.specs.Walking.{walked_for}
 use Rattle.ct_walk.proofs.walker.Walker.walk.Given as goal
 
 abbrev pub invariant-loop-made : goal.invariant-loop-made
-invariant-loop-made l = (walked_for l.every l.until l.made (l.most - l.made) l.self ≡ walked_for l.every l.until 0 l.most l.fn.self)
+invariant-loop-made l =
+    (walked_for l.every l.until l.made (l.most - l.made) l.self ≡ walked_for l.every l.until 0 l.most l.fn.self)
+    × (max l.rounds (rounds_for l.every l.until l.made (l.most - l.made) l.self) ≡ rounds_for l.every l.until 0 l.most l.fn.self)

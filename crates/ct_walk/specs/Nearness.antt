@@ -1,0 +1,59 @@
+-- How near a walk comes to what is looked for.
+use Rattle.std.specs.Prelude.{◌≡◌, ◌≤◌, ◌<◌, ℕ, zero, suc, ◌+◌, max, Option, Some, None, unwrap_or, if◌then◌else◌}
+use Rattle.ct_model.specs.Rehearsal.{Rehearsal}
+use Rattle.ct_rehearse.specs.Choices.{round_of}
+use Rattle.ct_world.specs.Decided.{last_decided}
+use Rattle.ct_world.specs.World.{member_of, if_member}
+use Rattle.ct_walk.specs.declared.options.WalkOptions.{WalkOptions}
+use Rattle.ct_walk.specs.declared.sight.Sight.{Sight}
+use Rattle.ct_walk.specs.declared.sight.Sight.TheVariants.{Decided, Round}
+use Rattle.ct_walk.specs.Options.{with_seed}
+use Rattle.ct_walk.specs.Shown.{is_shown}
+use Rattle.ct_walk.specs.Walking.{Walk, most_turns, start, turned, walked}
+
+-- ---- one walk
+
+-- the largest of what is so for the first members
+abbrev pub largest_of : (ℕ → ℕ) → ℕ → ℕ
+largest_of f zero = 0
+largest_of f (suc p) = max (largest_of f p) (f (suc p))
+
+-- the largest round that a member is in, 0 where none is in one
+unfoldable pub largest_round : Rehearsal → ℕ
+largest_round w = largest_of (round_of w) w.setting.members
+
+-- the largest instance whose decision p got, 0 where it got none
+abbrev pub last_of : Rehearsal → ℕ → ℕ
+last_of w p = unwrap_or (if_member w p (last_decided (member_of w p).got)) 0
+
+-- the largest instance whose decision a member got, 0 where none got one
+unfoldable pub largest_decided : Rehearsal → ℕ
+largest_decided w = largest_of (last_of w) w.setting.members
+
+-- the largest round that a member is in after one of so many turns more at most, where some were made
+unfoldable pub rounds_for : ℕ → Option Sight → ℕ → ℕ → Walk → ℕ
+rounds_for every until made zero w = 0
+rounds_for every until made (suc more) w =
+    let v = turned every (made + 1) w in
+    max (largest_round v.rehearsal) (if is_shown until v.rehearsal then 0 else rounds_for every until (made + 1) more v)
+
+-- what a walk came to whose largest round this is, and whose record this
+abbrev pub came : Option Sight → ℕ → Rehearsal → ℕ
+came None rounds w = 0
+came (Some (Decided instance)) rounds w = largest_decided w
+came (Some (Round round)) rounds w = rounds
+
+-- what the walk came to: where a round is looked for, the largest one that a member is in after a turn; where a decision is, the
+-- largest instance whose decision a member got
+unfoldable pub came_to : WalkOptions → ℕ
+came_to o = came o.until (rounds_for o.every o.until 0 (most_turns o.run) (start o.run)) (walked o)
+
+-- ---- the walks of several seeds
+
+-- of the seeds from the first one on, below this end, this one's walk came to so much, and is the first that came nearest
+pub record IsNearest (o : WalkOptions) (first end seed reached : ℕ) : Type 0 where
+  pub low : first ≤ seed
+  pub high : seed < end
+  pub comes : reached ≡ came_to (with_seed o seed)
+  pub before : (s : ℕ) → first ≤ s → s < seed → came_to (with_seed o s) < reached
+  pub behind : (s : ℕ) → seed ≤ s → s < end → came_to (with_seed o s) ≤ reached
