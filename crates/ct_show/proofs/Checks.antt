@@ -1,6 +1,6 @@
 -- Files that are checked one after the other.
-use Rattle.std.proofs.Common.{◌≡◌, ◌∙◌, ℕ, suc, ◌+◌, ◌<◌, List, get_or, map, [], ◌∷◌, ◌++◌, length, take, Option, Some, None, Result, Ok, Err, ap, refl, subst, sym}
-use Rattle.std.proofs.Common.{append_assoc, append-nil, arith, zero-add}
+use Rattle.std.proofs.Common.{◌≡◌, ◌∙◌, ℕ, suc, ◌+◌, ◌<◌, List, get_or, map, [], ◌∷◌, ◌++◌, length, take, Option, Some, None}
+use Rattle.std.proofs.Common.{Result, Ok, Err, ap, refl, subst, sym, append_assoc, append-nil, arith, zero-add}
 use Rattle.std.specs.Prelude.{Bool, fold, max, OnErr}
 use Rattle.std.specs.Io.KnownBytes.{Appends}
 use Rattle.std.proofs.lemmas.List.{map_more, take-map}
@@ -12,7 +12,8 @@ use Rattle.ct_show.specs.Checking.{status_of}
 
 -- ---- what is written, in pieces
 
-pub appends_more : (old mid new : Option (List ℕ)) (bs cs : List ℕ) → Appends old mid bs → Appends mid new cs → Appends old new (bs ++ cs)
+pub appends_more : (old mid new : Option (List ℕ)) (bs cs : List ℕ) → Appends old mid bs → Appends mid new cs →
+    Appends old new (bs ++ cs)
 appends_more None mid new bs cs a b = tt
 appends_more (Some xs) None new bs cs a b = absurd a
 appends_more (Some xs) (Some ys) None bs cs a b = b
@@ -28,7 +29,8 @@ take_past n (x ∷ xs) ys =
     let next : suc (length xs + n) ≡ suc (length xs) + n = omega arith in
     ap (λ l. x ∷ l) (take_past n xs ys) ∙ ap (λ k. take k (x ∷ xs ++ ys)) next
 
-part_more : (old mid new : Option (List ℕ)) (bs cs : List ℕ) → Appends old mid bs → WritesPart mid new cs → WritesPart old new (bs ++ cs)
+part_more : (old mid new : Option (List ℕ)) (bs cs : List ℕ) → Appends old mid bs → WritesPart mid new cs →
+    WritesPart old new (bs ++ cs)
 part_more old mid new bs cs a b =
     (length bs + b.0, subst (Appends old new) (take_past b.0 bs cs) (appends_more old mid new bs (take b.0 cs) a b.1))
 
@@ -74,7 +76,8 @@ module _ (bytes : Known) where
       each = each_more options.expects names before.outcomes name one.0 before.each one.1;
       lines = subst (Appends old new) (lines_more options.expects options.quiet names before.outcomes name one.0 before.each)
           (appends_more old mid new _ _ before.lines one.3);
-      worst = is ∙ ap (λ s. max worst s) one.2 ∙ ap (λ w. max w (status_of one.0)) before.worst ∙ worst_from 0 before.outcomes one.0;
+      worst = is ∙ ap (λ s. max worst s) one.2 ∙ ap (λ w. max w (status_of one.0)) before.worst
+          ∙ worst_from 0 before.outcomes one.0;
     }
 
     -- the lines of the last one are not all written

@@ -1,5 +1,6 @@
 -- What a view of a record shows.
-use Rattle.std.specs.Prelude.{◌≡◌, ℕ, ◌-◌, List, [], ◌++◌, length, nat_lt, Option, Some, None, Result, Err, slice_get, IsOkAnd, if◌then◌else◌, ⊤}
+use Rattle.std.specs.Prelude.{◌≡◌, ℕ, ◌-◌, List, [], ◌++◌, length, nat_lt, Option, Some, None, Result, Err, slice_get}
+use Rattle.std.specs.Prelude.{IsOkAnd, if◌then◌else◌, ⊤}
 use Rattle.std.specs.Io.KnownBytes.{Appends}
 use Rattle.ct_names.specs.declared.refusal.Refusal.{Refusal}
 use Rattle.ct_model.specs.declared.step.Step.{Step}

@@ -23,8 +23,8 @@ returns-in_err-answer-clause-fault g c =
 pub returns-in-None-clause-member : goal.returns-in-None-clause-member
 returns-in-None-clause-member g c =
     let bytes = c.in_ok-bytes.bytes.items in
-    input_seen (g.R.Source.left c.args.reader.now) bytes bytes (λ r. IsOkAnd r (λ w. lacking c.args.view.now w ≡ None)) c.in_ok-bytes.ensures.bytes refl
-    c.in_ok-answer.ensures.member
+    input_seen (g.R.Source.left c.args.reader.now) bytes bytes (λ r. IsOkAnd r (λ w. lacking c.args.view.now w ≡ None))
+    c.in_ok-bytes.ensures.bytes refl c.in_ok-answer.ensures.member
 
 pub returns-in-None-clause-ok : goal.returns-in-None-clause-ok
 returns-in-None-clause-ok g c =
