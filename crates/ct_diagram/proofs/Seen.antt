@@ -1,5 +1,5 @@
 -- What is drawn of the bytes that were read, as what the input says.
-use Rattle.std.proofs.Common.{◌≡◌, ℕ, List, Option, Result, Ok, Err, refl, subst}
+use Rattle.std.proofs.Common.{◌≡◌, ℕ, List, Option, Some, None, Result, Ok, Err, refl, subst}
 use Rattle.std.specs.Prelude.{IfSome}
 use Rattle.std.specs.Io.KnownBytes.{Appends}
 use Rattle.ct_model.specs.Rehearsal.{Rehearsal}
@@ -13,11 +13,16 @@ use Rattle.ct_diagram.specs.declared.fault.DiagramFault.TheVariants.{Program}
 use Rattle.ct_diagram.specs.declared.window.Window.{Window}
 use Rattle.ct_diagram.specs.Running.{Draws, DrawsPart, FailsOn, IsDiagramOf, IsOfDrawing}
 
-pub drawing_fails : (window : Window) (fault : DiagramFault) (read : Result Rehearsal ReadFault) → IsOfDrawing window fault read →
-    FailsOn window fault read
-drawing_fails window (Program of.Reader) read h = absurd h
-drawing_fails window (Program of.Write) read h = absurd h
-drawing_fails window fault read h = h
+drawing_fails : (window : Window) (fault : DiagramFault) (bytes : List ℕ) → IsOfDrawing window fault bytes → FailsOn window fault bytes
+drawing_fails window (Program of.Reader) bytes h = absurd h
+drawing_fails window (Program of.Write) bytes h = absurd h
+drawing_fails window fault bytes h = h
+
+pub fault_seen : (left : Option (List ℕ)) (bytes : List ℕ) (window : Window) (fault : DiagramFault) →
+    IfSome left (λ input. bytes ≡ read_part input) → IsOfDrawing window fault bytes →
+    IfSome left (λ input. FailsOn window fault (read_part input))
+fault_seen None bytes window fault read h = tt
+fault_seen (Some input) bytes window fault read h = subst (FailsOn window fault) read (drawing_fails window fault bytes h)
 
 pub draws : (window : Window) (read : Result Rehearsal ReadFault) (text out : List ℕ) (old new : Option (List ℕ)) →
     IsDiagramOf window read text → out ≡ text → Appends old new out → Draws window read old new

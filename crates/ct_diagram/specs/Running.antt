@@ -1,15 +1,15 @@
 -- What is drawn, by what the input says.
-use Rattle.std.specs.Prelude.{◌≡◌, ◌≤◌, ℕ, List, Option, Result, Ok, Err, IsOkAnd, ⊤}
+use Rattle.std.specs.Prelude.{◌≤◌, ℕ, List, Option, Result, IsOkAnd, ⊤}
 use Rattle.std.specs.Io.KnownBytes.{Appends}
 use Rattle.ct_model.specs.Rehearsal.{Rehearsal}
-use Rattle.ct_records.specs.declared.program_fault.ProgramFault.TheVariants.{Read, Reader, Write, Memory}
+use Rattle.ct_records.specs.declared.program_fault.ProgramFault.TheVariants.{Reader, Write, Memory}
 use Rattle.ct_records.specs.declared.read_fault.ReadFault.{ReadFault}
-use Rattle.ct_records.specs.declared.script.Script.{Script}
 use Rattle.ct_records.specs.Replay.{IsAllowed}
+use Rattle.ct_records.specs.Script.{script}
 use Rattle.ct_streams.specs.Streams.{WritesPart}
-use Rattle.ct_records.specs.View.{rehearsal_of}
+use Rattle.ct_show.specs.NoRecords.{IsToldOf}
 use Rattle.ct_diagram.specs.declared.fault.DiagramFault.{DiagramFault}
-use Rattle.ct_diagram.specs.declared.fault.DiagramFault.TheVariants.{Program}
+use Rattle.ct_diagram.specs.declared.fault.DiagramFault.TheVariants.{Unread, Program}
 use Rattle.ct_diagram.specs.declared.window.TheConstants.{MOST_STEPS}
 use Rattle.ct_diagram.specs.declared.window.Window.{Window}
 use Rattle.ct_diagram.specs.Diagram.{diagram_text, IsDiagram, FailsWith}
@@ -28,24 +28,20 @@ DrawsPart window read old new = IsOkAnd read (λ w.
     IsAllowed (part_of window w) × (steps_in window (part_of window w).steps ≤ MOST_STEPS)
     × WritesPart old new (diagram_text window (part_of window w)))
 
--- the fault is that of reading, or that of drawing the record. Of streams and of memory nothing is said
-abbrev pub FailsOn : Window → DiagramFault → Result Rehearsal ReadFault → Type 0
-FailsOn window (Program (Read fault)) read = read ≡ Err fault
-FailsOn window (Program Reader) read = ⊤
-FailsOn window (Program Write) read = ⊤
-FailsOn window (Program Memory) read = ⊤
-FailsOn window fault read = IsOkAnd read (λ w. FailsWith window fault w)
+-- the bytes that were read are no record, or the fault is that of drawing the record. Of streams and of memory nothing is said
+abbrev pub FailsOn : Window → DiagramFault → List ℕ → Type 0
+FailsOn window (Unread told) bytes = IsToldOf told bytes
+FailsOn window (Program Reader) bytes = ⊤
+FailsOn window (Program Write) bytes = ⊤
+FailsOn window (Program Memory) bytes = ⊤
+FailsOn window fault bytes = IsOkAnd (script bytes) (λ w. FailsWith window fault w)
 
 -- the same of a fault that comes before anything is written: it is of no stream
-abbrev pub IsOfDrawing : Window → DiagramFault → Result Rehearsal ReadFault → Type 0
-IsOfDrawing window (Program Reader) read = ⊥
-IsOfDrawing window (Program Write) read = ⊥
-IsOfDrawing window fault read = FailsOn window fault read
+abbrev pub IsOfDrawing : Window → DiagramFault → List ℕ → Type 0
+IsOfDrawing window (Program Reader) bytes = ⊥
+IsOfDrawing window (Program Write) bytes = ⊥
+IsOfDrawing window fault bytes = FailsOn window fault bytes
 
 -- this is the diagram of the record that was read
 abbrev pub IsDiagramOf : Window → Result Rehearsal ReadFault → List ℕ → Type 0
 IsDiagramOf window read text = IsOkAnd read (λ w. IsDiagram window w text)
-
--- this is the record that was read
-abbrev pub IsRead : Script → Result Rehearsal ReadFault → Type 0
-IsRead found read = read ≡ Ok (rehearsal_of found)

@@ -1,33 +1,52 @@
 //! Why no diagram is drawn.
 
-ghost use Rattle.std.specs.Prelude.{◌≡◌};
-ghost use Rattle.ct_diagram.specs.Faults.{status_of};
+ghost use Rattle.std.specs.Prelude.{◌≡◌, Some};
+ghost use Rattle.ct_diagram.specs.Faults.{fault_text, status_of};
 
 use ct_records::ProgramFault;
+use ct_show::{FaultLine, NoRecord};
 use ct_streams::{InputFault, Status};
 use ct_world::ReplayFault;
 use std::alloc::AllocError;
-use thiserror::Error;
+use std::fmt;
 
 /// Why no diagram is drawn, or not written. Its text is the line for standard error.
-#[derive(Clone, Copy, Debug, Drop, PartialEq, Eq, Error)]
+#[derive(Debug, Drop)]
 pub enum DiagramFault {
     /// The window has this many steps of the record, more than `MOST_STEPS`.
-    #[error("{steps} steps are too many to draw: name at most 400 of them by --from and --to")]
     TooManySteps { steps: usize },
-    /// The record is not read, one of its steps up to the window's last one is refused, or the text is not written.
-    #[error(transparent)]
+    /// The input is no record.
+    Unread(NoRecord),
+    /// One of the record's steps up to the window's last one is refused, a stream failed, or memory was refused.
     Program(ProgramFault),
 }
 
 impl DiagramFault {
-    /// The status that a program ends with: 3 where too many steps are asked for, else the fault's of the program.
+    /// The status that a program ends with: 3 where too many steps are asked for, 2 for the input, else the program's.
     pub fn status(&self) -> u8
         ensures { result ≡ status_of self.now }
     {
         match self {
             DiagramFault::TooManySteps { .. } => Status::Words.code(),
+            DiagramFault::Unread(_) => Status::NoRecord.code(),
             DiagramFault::Program(fault) => fault.status(),
+        }
+    }
+}
+
+impl fmt::Display for DiagramFault {
+    ghost output = { λ fault. Some (fault_text fault) };
+
+    fn fmt<W: fmt::Write>(&self, f: &mut fmt::Formatter<W>) -> fmt::Result {
+        match self {
+            DiagramFault::TooManySteps { steps } => {
+                write!(
+                    f,
+                    "{steps} steps are too many to draw: name at most 400 of them by --from and --to"
+                )
+            }
+            DiagramFault::Unread(told) => write!(f, "{told}"),
+            DiagramFault::Program(fault) => write!(f, "{}", FaultLine { fault: *fault }),
         }
     }
 }

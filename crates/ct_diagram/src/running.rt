@@ -3,13 +3,14 @@
 ghost use Rattle.std.specs.Prelude.{◌≡◌, ◌≢◌, ◌<◌, ◌^◌, Err, IfOk, IfErr, IfSome, OnOk};
 ghost use Rattle.ct_streams.specs.Streams.{FailsOnce};
 ghost use Rattle.ct_records.specs.Script.{script};
-ghost use Rattle.ct_show.specs.Answer.{IsOfReading};
-ghost use Rattle.ct_diagram.specs.Running.{Draws, DrawsPart, FailsOn, IsDiagramOf, IsOfDrawing, IsRead};
+ghost use Rattle.ct_streams.specs.Streams.{read_part};
+ghost use Rattle.ct_diagram.specs.Running.{Draws, DrawsPart, FailsOn, IsDiagramOf, IsOfDrawing};
 
 use crate::drawing::diagram;
 use crate::fault::DiagramFault;
 use crate::window::Window;
-use ct_records::{ProgramFault, Script, read_record};
+use ct_records::ProgramFault;
+use ct_show::read_told;
 use ct_streams::{Failed, Sink, Source, read_all, write_all};
 use std::alloc::Global;
 
@@ -27,7 +28,7 @@ pub fn draw<R: Source, W: Sink>(
     // The input is a record whose steps up to the window's last one are allowed, and what was written is their diagram.
     ensures ok { OnOk result (IfSome (R.left reader.old) (λ input.
         Draws window.now (script input) (W.written writer.old) (W.written writer.new))) }
-    ensures fault { IfErr result (λ fault. IfSome (R.left reader.old) (λ input. FailsOn window.now fault (script input))) }
+    ensures fault { IfErr result (λ fault. IfSome (R.left reader.old) (λ input. FailsOn window.now fault (read_part input))) }
     // Where the writer failed, some first bytes of such a diagram were written.
     ensures part { result ≡ Err (DiagramFault.Program ProgramFault.Write) → IfSome (R.left reader.old) (λ input.
         DrawsPart window.now (script input) (W.written writer.old) (W.written writer.new)) }
@@ -47,16 +48,12 @@ pub fn draw<R: Source, W: Sink>(
 // The diagram of the record, whose bytes are freed before it is drawn.
 fn drawn(alloc: Global, bytes: Vec<u8>, window: &Window) -> Result<Vec<u8>, DiagramFault>
     ensures ok { IfOk result (λ text. IsDiagramOf window.now (script bytes.items) text.items) }
-    ensures fault { IfErr result (λ fault. IsOfDrawing window.now fault (script bytes.items)) }
+    ensures fault { IfErr result (λ fault. IsOfDrawing window.now fault bytes.items) }
 {
-    let script = record_of(alloc, &bytes)?;
+    let script = match read_told(alloc, &bytes)? {
+        Ok(script) => script,
+        Err(told) => return Err(DiagramFault::Unread(told)),
+    };
     drop(bytes);
     diagram(alloc, &script, window)
-}
-
-fn record_of(alloc: Global, bytes: &[u8]) -> Result<Script, ProgramFault>
-    ensures ok { IfOk result (λ found. IsRead found (script bytes.now)) }
-    ensures fault { IfErr result (λ fault. IsOfReading fault (script bytes.now)) }
-{
-    Ok(read_record(alloc, bytes)?)
 }

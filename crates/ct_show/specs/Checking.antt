@@ -1,14 +1,11 @@
 -- What checking files comes to, and what is written of it.
-use Rattle.std.specs.Prelude.{◌≡◌, ◌≢◌, ℕ, ◌-◌, Bool, true, false, if◌then◌else◌, List, [], ◌∷◌, ◌++◌, length, take, drop, fold, max, codes, Option}
-use Rattle.std.specs.Prelude.{decimal, IfSome, IsOkAnd, ⊤}
+use Rattle.std.specs.Prelude.{◌≡◌, ◌≢◌, ℕ, ◌-◌, Bool, true, false, if◌then◌else◌, List, [], ◌∷◌, ◌++◌, length, take, drop}
+use Rattle.std.specs.Prelude.{fold, max, codes, Option, IfSome, IsOkAnd, ⊤}
 use Rattle.std.specs.Io.KnownBytes.{Appends}
 use Rattle.std.specs.List.{concat}
 use Rattle.std.specs.Str.{bytes_eq}
-use Rattle.ct_names.specs.RefusalText.{refusal_text}
 use Rattle.ct_model.specs.Rehearsal.{Rehearsal}
-use Rattle.ct_records.specs.declared.program_fault.ProgramFault.{ProgramFault}
-use Rattle.ct_records.specs.declared.program_fault.ProgramFault.TheVariants.{Replay, Read, Reader, Write, Memory, Start, Exchanged}
-use Rattle.ct_records.specs.ProgramFault as program
+use Rattle.ct_records.specs.declared.program_fault.ProgramFault.TheVariants.{Read, Write, Memory}
 use Rattle.ct_streams.specs.declared.status.Status.TheVariants as status
 use Rattle.ct_streams.specs.Statuses.{code}
 use Rattle.ct_streams.specs.FileFaults as file
@@ -16,8 +13,10 @@ use Rattle.ct_records.specs.Replay.{IsFaultIn, IsReplayed}
 use Rattle.ct_streams.specs.Streams.{read_part, WritesPart}
 use Rattle.ct_records.specs.Report.{report_text}
 use Rattle.ct_records.specs.Script.{script}
-use Rattle.ct_show.specs.NoRecords.{told_text}
-use Rattle.ct_show.specs.declared.no_record.NoRecord.TheVariants as input
+use Rattle.ct_show.specs.Faults as showing
+use Rattle.ct_show.specs.NoRecords.{IsToldOf}
+use Rattle.ct_show.specs.declared.show_fault.ShowFault.{ShowFault}
+use Rattle.ct_show.specs.declared.show_fault.ShowFault.TheVariants.{NoMember, Unread, Program}
 use Rattle.ct_show.specs.declared.check_options.CheckOptions.{CheckOptions}
 use Rattle.ct_show.specs.declared.checked.Checked.{Checked}
 use Rattle.ct_show.specs.declared.checked.Checked.TheVariants.{Good, OtherReport, NoReport, NoFile, Fault}
@@ -49,20 +48,24 @@ abbrev pub Meets : Bool → Option (List ℕ) → Rehearsal → Type 0
 Meets false known w = ⊤
 Meets true known w = HasReport known w
 
--- the fault is none of writing
-abbrev pub IsOfRecord : ProgramFault → Type 0
-IsOfRecord Write = ⊥
-IsOfRecord _ = ⊤
+-- the fault is that of the bytes that were read: they are no record, or a step of the record is refused. Of reading and of memory
+-- nothing is said
+abbrev pub IsFaultOf : ShowFault → List ℕ → Type 0
+IsFaultOf (NoMember member members) bytes = ⊥
+IsFaultOf (Unread told) bytes = IsToldOf told bytes
+IsFaultOf (Program (Read fault)) bytes = ⊥
+IsFaultOf (Program Write) bytes = ⊥
+IsFaultOf (Program fault) bytes = IsFaultIn fault bytes
 
 -- this is what checking the file of this name comes to. A fault of the record comes before any of its report
 abbrev pub IsChecked : Known → Bool → List ℕ → Checked → Type 0
 IsChecked bytes expects name Good =
     IfSome (bytes name) (λ input. IsOkAnd (script input) (λ w. IsReplayed w × Meets expects (bytes (report_name name)) w))
-IsChecked bytes expects name OtherReport =
-    (expects ≡ true) × IfSome (bytes name) (λ input. IsOkAnd (script input) (λ w. IsReplayed w × HasOther (bytes (report_name name)) w))
+IsChecked bytes expects name OtherReport = (expects ≡ true)
+    × IfSome (bytes name) (λ input. IsOkAnd (script input) (λ w. IsReplayed w × HasOther (bytes (report_name name)) w))
 IsChecked bytes expects name (NoReport _) = (expects ≡ true) × IfSome (bytes name) (λ input. IsOkAnd (script input) IsReplayed)
 IsChecked bytes expects name (NoFile fault) = ⊤
-IsChecked bytes expects name (Fault fault) = IsOfRecord fault × IfSome (bytes name) (IsFaultIn fault)
+IsChecked bytes expects name (Fault fault) = IfSome (bytes name) (λ input. IsFaultOf fault (read_part input))
 
 -- what comparing a report with the one in the file beside it comes to
 abbrev pub IsBeside : Option (List ℕ) → List ℕ → Checked → Type 0
@@ -70,7 +73,7 @@ IsBeside known report Good = IfSome known (λ expected. report ≡ read_part exp
 IsBeside known report OtherReport = IfSome known (λ expected. report ≢ read_part expected)
 IsBeside known report (NoReport fault) = ⊤
 IsBeside known report (NoFile fault) = ⊥
-IsBeside known report (Fault fault) = fault ≡ Memory
+IsBeside known report (Fault fault) = fault ≡ Program Memory
 
 -- the status that it stands for
 abbrev pub status_of : Checked → ℕ
@@ -78,18 +81,9 @@ status_of Good = code status.Done
 status_of OtherReport = code status.Refused
 status_of (NoReport fault) = code status.Stream
 status_of (NoFile fault) = code status.Stream
-status_of (Fault fault) = program.status_of fault
+status_of (Fault fault) = showing.status_of fault
 
 -- ---- its line
-
-abbrev pub fault_text : ProgramFault → List ℕ
-fault_text (Replay at refusal) = concat (codes "step " ∷ decimal at ∷ codes ": " ∷ refusal_text refusal ∷ [])
-fault_text (Read fault) = told_text (input.Fault fault)
-fault_text Reader = codes "read failed"
-fault_text Write = codes "write failed"
-fault_text Memory = codes "out of memory"
-fault_text Start = codes "no thread"
-fault_text Exchanged = codes "world exchanged"
 
 -- what the line says: a name, and what there is to tell of it
 abbrev pub told : List ℕ → List ℕ → List ℕ
@@ -101,7 +95,7 @@ checked_text name Good = []
 checked_text name OtherReport = told name (codes "another report")
 checked_text name (NoReport fault) = told (report_name name) (file.fault_text fault)
 checked_text name (NoFile fault) = told name (file.fault_text fault)
-checked_text name (Fault fault) = told name (fault_text fault)
+checked_text name (Fault fault) = told name (showing.fault_text fault)
 
 -- what is written of it
 abbrev pub line_of : Bool → List ℕ → Checked → List ℕ
@@ -128,7 +122,8 @@ abbrev pub worst_of : List Checked → ℕ
 worst_of outcomes = fold (λ worst checked. max worst (status_of checked)) 0 outcomes
 
 -- the files were checked: their lines, and nothing else, were written, and this is the largest of their statuses
-pub record Checks (bytes : Known) (options : CheckOptions) (names : List (List ℕ)) (old new : Option (List ℕ)) (status : ℕ) : Type 0 where
+pub record Checks (bytes : Known) (options : CheckOptions) (names : List (List ℕ)) (old new : Option (List ℕ)) (status : ℕ)
+    : Type 0 where
   pub outcomes : List Checked
   pub each : AreChecked bytes options.expects names outcomes
   pub lines : Appends old new (lines_of options.quiet names outcomes)

@@ -3,11 +3,11 @@
 ghost use Rattle.std.specs.Prelude.{◌≡◌};
 ghost use Rattle.ct_show.specs.Checking.{status_of};
 
-use ct_records::ProgramFault;
+use crate::show_fault::ShowFault;
 use ct_streams::{FileFault, Status};
 
 /// What checking a file comes to.
-#[derive(Clone, Copy, Debug, Drop, PartialEq, Eq)]
+#[derive(Debug, Drop)]
 pub enum Checked {
     /// Its record is replayed, and where a report is expected, to that report.
     Good,
@@ -18,7 +18,7 @@ pub enum Checked {
     /// It can't be opened.
     NoFile(FileFault),
     /// It can't be read to its end, is no record, or a step of its record is refused; or memory was refused.
-    Fault(ProgramFault),
+    Fault(ShowFault),
 }
 
 impl Checked {

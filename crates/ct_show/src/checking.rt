@@ -3,18 +3,18 @@
 ghost use Rattle.std.specs.Prelude.{◌≡◌, ◌⊎◌, ◌<◌, ◌^◌, map, OnOk, OnErr, IfOk, IfErr, IfSome, string_bytes};
 ghost use Rattle.std.specs.Str.{bytes_eq};
 ghost use Rattle.ct_records.specs.Adds.{Adds};
-ghost use Rattle.ct_records.specs.Replay.{IsFaultIn, IsReportOf};
+ghost use Rattle.ct_records.specs.Replay.{IsReportOf};
 ghost use Rattle.ct_streams.specs.Streams.{FailsOnce, read_part};
-ghost use Rattle.ct_show.specs.Checking.{Checks, ChecksOne, ChecksOnePart, ChecksPart, IsBeside, IsChecked, IsOfRecord};
-ghost use Rattle.ct_show.specs.Checking.{checked_text, fault_text, line_of, report_name, told};
+ghost use Rattle.ct_show.specs.Checking.{Checks, ChecksOne, ChecksOnePart, ChecksPart, IsBeside, IsChecked};
+ghost use Rattle.ct_show.specs.Checking.{checked_text, line_of, report_name, told, IsFaultOf};
 
 use crate::check_options::CheckOptions;
 use crate::checked::Checked;
-use crate::no_record::NoRecord;
-use ct_records::{ProgramFault, run_replay};
-use ct_streams::{
-    Counted, Failed, FileFault, Files, InputFault, Sink, Source, read_all, write_all,
-};
+use crate::running::read_told;
+use crate::show_fault::ShowFault;
+use ct_records::{ProgramFault, report};
+use ct_streams::{Failed, FileFault, Files, InputFault, Sink, Source, read_all, write_all};
+use ct_world::World;
 use std::alloc::{AllocError, Global};
 
 /// Replays the record of each of these files and writes a line for each that has a fault or, where reports are expected, has
@@ -86,20 +86,34 @@ fn checked<F: Files>(alloc: Global, files: &F, name: &str, expects: bool) -> Che
 }
 
 // The report of the record that the reader has.
-fn replayed<R: Source + Drop>(alloc: Global, reader: R) -> Result<Vec<u8>, ProgramFault>
+fn replayed<R: Source + Drop>(alloc: Global, reader: R) -> Result<Vec<u8>, ShowFault>
     requires { R.failures reader < 2 ^ 63 }
     ensures ok { IfOk result (λ report. IfSome (R.left reader) (λ input. IsReportOf input report.items)) }
-    ensures record { IfErr result IsOfRecord }
-    ensures fault { IfErr result (λ fault. IfSome (R.left reader) (IsFaultIn fault)) }
+    ensures fault { IfErr result (λ fault. IfSome (R.left reader) (λ input. IsFaultOf fault (read_part input))) }
 {
     let mut reader = reader;
-    let mut writer = Counted::new(Vec::new(alloc));
-    match run_replay(alloc, &mut reader, &mut writer) {
-        Ok(()) => Ok(writer.into_inner()),
-        // What writes into memory fails where memory is refused.
-        Err(ProgramFault::Write) => Err(ProgramFault::Memory),
-        Err(fault) => Err(fault),
-    }
+    let bytes = read_all(alloc, &mut reader)?;
+    report_of(alloc, bytes)
+}
+
+// The report of the record, whose bytes are freed before it is replayed.
+fn report_of(alloc: Global, bytes: Vec<u8>) -> Result<Vec<u8>, ShowFault>
+    ensures ok { IfOk result (λ text. IsReportOf bytes.items text.items) }
+    ensures fault { IfErr result (λ fault. IsFaultOf fault bytes.items) }
+{
+    let script = match read_told(alloc, &bytes)? {
+        Ok(script) => script,
+        Err(told) => return Err(ShowFault::Unread(told)),
+    };
+    drop(bytes);
+    let (world, _board) = World::replay(
+        alloc,
+        script.group,
+        script.cells,
+        script.batch,
+        &script.steps,
+    )?;
+    Ok(report(alloc, &world)?)
 }
 
 // What comparing the report with the one beside the file comes to.
@@ -107,7 +121,7 @@ fn compared<F: Files>(alloc: Global, files: &F, name: &str, report: &[u8]) -> Ch
     ensures { IsBeside (F.bytes files.now (report_name name.now)) report.now result }
 {
     let Ok(beside) = report_name(alloc, name) else {
-        return Checked::Fault(ProgramFault::Memory);
+        return Checked::Fault(ShowFault::Program(ProgramFault::Memory));
     };
     let mut reader = match files.open(&beside) {
         Ok(reader) => reader,
@@ -116,7 +130,7 @@ fn compared<F: Files>(alloc: Global, files: &F, name: &str, report: &[u8]) -> Ch
     match read_all(alloc, &mut reader) {
         Ok(expected) if is_same(report, &expected) => Checked::Good,
         Ok(_) => Checked::OtherReport,
-        Err(InputFault::Memory) => Checked::Fault(ProgramFault::Memory),
+        Err(InputFault::Memory) => Checked::Fault(ShowFault::Program(ProgramFault::Memory)),
         Err(_) => Checked::NoReport(FileFault::Read),
     }
 }
@@ -165,7 +179,7 @@ fn push_checked(
             push_told(text, &report_name(alloc, name)?, &line)
         }
         Checked::NoFile(fault) => push_told(text, name, &format!(in alloc; "{fault}")?),
-        Checked::Fault(fault) => push_told(text, name, &fault_line(alloc, fault)?),
+        Checked::Fault(fault) => push_told(text, name, &format!(in alloc; "{fault}")?),
     }
 }
 
@@ -177,22 +191,4 @@ fn push_told(text: &mut String, name: &str, what: &str) -> Result<(), AllocError
     text.push_str(": ")?;
     text.push_str(what)?;
     text.push_str("\n")
-}
-
-// The text of the fault.
-fn fault_line(alloc: Global, fault: &ProgramFault) -> Result<String, AllocError>
-    ensures { IfOk result (λ text. string_bytes text ≡ fault_text fault.now) }
-{
-    match fault {
-        ProgramFault::Replay { at, refusal } => format!(in alloc; "step {at}: {refusal}"),
-        ProgramFault::Read(fault) => {
-            let told = NoRecord::Fault(*fault);
-            format!(in alloc; "{told}")
-        }
-        ProgramFault::Reader => format!(in alloc; "read failed"),
-        ProgramFault::Write => format!(in alloc; "write failed"),
-        ProgramFault::Memory => format!(in alloc; "out of memory"),
-        ProgramFault::Start => format!(in alloc; "no thread"),
-        ProgramFault::Exchanged => format!(in alloc; "world exchanged"),
-    }
 }

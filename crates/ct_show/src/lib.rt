@@ -8,6 +8,7 @@ mod checking;
 mod details;
 mod ending;
 mod facts;
+mod fault_line;
 mod form;
 mod json;
 mod json_envelopes;
@@ -35,6 +36,7 @@ pub use details::{
 };
 pub use ending::shown_end;
 pub use facts::{last_taking, push_facts, push_member_facts};
+pub use fault_line::FaultLine;
 pub use form::Form;
 pub use json::report_json;
 pub use no_record::NoRecord;

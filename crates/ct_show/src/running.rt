@@ -5,7 +5,7 @@ ghost use Rattle.ct_streams.specs.Streams.{FailsOnce};
 ghost use Rattle.ct_records.specs.Script.{script};
 ghost use Rattle.ct_records.specs.View.{rehearsal_of};
 ghost use Rattle.ct_show.specs.Answer.{Shows, ShowsPart, FailsOn, IsAnswerOf, IsOfShowing, IsQuiet, lacking};
-ghost use Rattle.ct_show.specs.NoRecords.{IsToldOf};
+ghost use Rattle.ct_show.specs.NoRecords.{IsReadOf};
 
 use crate::answer::{Answer, shown};
 use crate::no_record::NoRecord;
@@ -14,7 +14,7 @@ use crate::view::View;
 use ct_names::Member;
 use ct_records::{ProgramFault, ReadFault, Script, read_record};
 use ct_streams::{Failed, Sink, Source, read_all, write_all};
-use std::alloc::Global;
+use std::alloc::{AllocError, Global};
 
 /// Reads a record to its end and writes what the view shows of it. The whole text is made before the first write. At a
 /// refused step the text is written, too, and the fault is the step's. What the contract says of the input holds where the
@@ -62,11 +62,8 @@ fn answered(alloc: Global, bytes: Vec<u8>, view: &View) -> Result<Answer, ShowFa
     ensures member { OnOk result (IsOkAnd (script bytes.items) (λ w. lacking view.now w ≡ None)) }
     ensures fault { IfErr result (λ fault. IsOfShowing view.now fault bytes.items) }
 {
-    let script = match read_told(alloc, &bytes) {
+    let script = match read_told(alloc, &bytes)? {
         Ok(script) => script,
-        Err(NoRecord::Fault(ReadFault::OutOfMemory)) => {
-            return Err(ShowFault::Program(ProgramFault::Memory));
-        }
         Err(told) => return Err(ShowFault::Unread(told)),
     };
     drop(bytes);
@@ -90,13 +87,12 @@ fn lacking(view: &View, script: &Script) -> Option<Member>
 }
 
 /// The record, or what is told of the input, which is none.
-#[tactic(auto, using(crate::proofs::Told::told_so))]
-pub fn read_told(alloc: Global, bytes: &[u8]) -> Result<Script, NoRecord>
-    ensures ok { IfOk result (λ found. script bytes.now ≡ Ok (rehearsal_of found)) }
-    ensures err { IfErr result (λ told. IsToldOf told bytes.now) }
+pub fn read_told(alloc: Global, bytes: &[u8]) -> Result<Result<Script, NoRecord>, AllocError>
+    ensures { IfOk result (λ read. IsReadOf read bytes.now) }
 {
     match read_record(alloc, bytes) {
-        Ok(script) => Ok(script),
-        Err(fault) => Err(NoRecord::of(fault, bytes)),
+        Ok(script) => Ok(Ok(script)),
+        Err(ReadFault::OutOfMemory) => Err(AllocError),
+        Err(fault) => Ok(Err(NoRecord::of(alloc, fault, bytes)?)),
     }
 }

@@ -1,16 +1,19 @@
 //! Why nothing is shown of a record.
 
-ghost use Rattle.std.specs.Prelude.{◌≡◌};
-ghost use Rattle.ct_show.specs.Faults.{status_of};
+ghost use Rattle.std.specs.Prelude.{◌≡◌, Some};
+ghost use Rattle.ct_show.specs.Faults.{fault_text, status_of};
 
+use crate::fault_line::FaultLine;
 use crate::no_record::NoRecord;
 use ct_names::Member;
 use ct_records::ProgramFault;
 use ct_streams::{InputFault, Status};
+use ct_world::ReplayFault;
+use std::alloc::AllocError;
 use std::fmt;
 
 /// Why a record is not shown, or not to its end. Its text is the line for standard error.
-#[derive(Clone, Copy, Debug, Drop, PartialEq, Eq)]
+#[derive(Debug, Drop)]
 pub enum ShowFault {
     /// The steps of a member are asked for that the record's group doesn't have.
     NoMember {
@@ -39,6 +42,8 @@ impl ShowFault {
 }
 
 impl fmt::Display for ShowFault {
+    ghost output = { λ fault. Some (fault_text fault) };
+
     fn fmt<W: fmt::Write>(&self, f: &mut fmt::Formatter<W>) -> fmt::Result {
         match self {
             ShowFault::NoMember { member, members } => {
@@ -48,7 +53,7 @@ impl fmt::Display for ShowFault {
                 )
             }
             ShowFault::Unread(told) => write!(f, "{told}"),
-            ShowFault::Program(fault) => write!(f, "{fault}"),
+            ShowFault::Program(fault) => write!(f, "{}", FaultLine { fault: *fault }),
         }
     }
 }
@@ -71,5 +76,26 @@ impl From<InputFault> for ShowFault {
 
     fn from(fault: InputFault) -> ShowFault {
         ShowFault::Program(ProgramFault::from(fault))
+    }
+}
+
+impl From<ReplayFault> for ShowFault {
+    ghost use Rattle.ct_show.specs.Faults.{IsOfReplayFault};
+
+    ghost from_gives = { λ replay e. IsOfReplayFault replay e };
+
+    fn from(replay: ReplayFault) -> ShowFault {
+        ShowFault::Program(ProgramFault::from(replay))
+    }
+}
+
+impl From<AllocError> for ShowFault {
+    ghost use Rattle.ct_records.specs.declared.program_fault.ProgramFault.TheVariants.{Memory};
+    ghost use Rattle.ct_show.specs.declared.show_fault.ShowFault.TheVariants.{Program};
+
+    ghost from_gives = { λ _ e. e ≡ Program Memory };
+
+    fn from(_error: AllocError) -> ShowFault {
+        ShowFault::Program(ProgramFault::Memory)
     }
 }

@@ -12,7 +12,7 @@ use ct_judge::{
 use ct_program::{CommandFault, answer_status};
 use ct_records::ProgramFault;
 use ct_show::{
-    CheckOptions, NoRecord, ShowFault, View, check, check_command, report_command, show, shown_end,
+    CheckOptions, ShowFault, View, check, check_command, report_command, show, shown_end,
     state_command, state_view, steps_command, steps_view,
 };
 use ct_streams::{Counted, FileFault, Files, NamedFault, Status, WordFault};
@@ -169,7 +169,10 @@ fn view(rt: &HostRuntime, found: &ArgMatches<'_>, view: Result<View, WordFault<'
     match shown_end(ended, writer.is_broken()) {
         Ok(()) => ExitCode::SUCCESS,
         Err(ShowFault::Program(ProgramFault::Reader)) => refuse_file(rt, name, FileFault::Read),
-        Err(fault) => fail(rt, fault, fault.status()),
+        Err(fault) => {
+            let status = fault.status();
+            fail(rt, fault, status)
+        }
     }
 }
 
@@ -191,10 +194,10 @@ fn diagram(rt: &HostRuntime, found: &ArgMatches<'_>) -> ExitCode {
     match drawn_end(ended, writer.is_broken()) {
         Ok(()) => ExitCode::SUCCESS,
         Err(DiagramFault::Program(ProgramFault::Reader)) => refuse_file(rt, name, FileFault::Read),
-        Err(DiagramFault::Program(ProgramFault::Read(fault))) => {
-            fail(rt, NoRecord::Fault(fault), Status::NoRecord.code())
+        Err(fault) => {
+            let status = fault.status();
+            fail(rt, fault, status)
         }
-        Err(fault) => fail(rt, fault, fault.status()),
     }
 }
 

@@ -2,7 +2,7 @@ use ct_diagram::DiagramFault;
 use ct_judge::*;
 use ct_names::{Limit, Refusal};
 use ct_records::{ProgramFault, ReadFault};
-use ct_show::{NoRecord, ShowFault};
+use ct_show::{ShowFault, read_told};
 use ct_streams::{FileFault, NamedFault};
 use ct_walk::{FoundSeed, Missed, Seeds, Sight, WalkFault};
 use std::alloc::{AllocError, Global};
@@ -110,8 +110,18 @@ fn walks_have_lines(alloc: Global) -> bool {
     true
 }
 
+// Whether these are the line and the status of the fault, where a diagram is drawn and where a record is shown.
+fn is_told(alloc: Global, fault: ProgramFault, line: &str, status: u8) -> bool {
+    let drawn = DiagramFault::Program(fault);
+    let shown = ShowFault::Program(fault);
+    is_line(alloc, &drawn, line)
+        && drawn.status() == status
+        && is_line(alloc, &shown, line)
+        && shown.status() == status
+}
+
 // The faults of reading, replaying and writing.
-fn diagrams_have_lines(alloc: Global) -> bool {
+fn programs_have_lines(alloc: Global) -> bool {
     let faults = [
         (
             ProgramFault::Replay {
@@ -130,63 +140,63 @@ fn diagrams_have_lines(alloc: Global) -> bool {
             1,
         ),
         (
-            ProgramFault::Read(ReadFault::TooLong),
-            "record: too long",
-            2,
-        ),
-        (
-            ProgramFault::Read(ReadFault::NotJson),
-            "record: not JSON",
-            2,
-        ),
-        (
             ProgramFault::Read(ReadFault::Shape { at: 7 }),
             "record: shape at 7",
             2,
         ),
-        (ProgramFault::Read(ReadFault::Version), "record: version", 2),
         (ProgramFault::Reader, "read failed", 4),
         (ProgramFault::Write, "write failed", 4),
         (ProgramFault::Memory, "out of memory", 5),
     ];
     for (fault, line, status) in faults {
-        let drawn = DiagramFault::Program(fault);
-        if !is_line(alloc, &drawn, line) || drawn.status() != status {
+        if !is_told(alloc, fault, line, status) || !is_line(alloc, &fault, line) {
             return false;
         }
     }
     true
 }
 
-fn shows_have_lines(alloc: Global) -> bool {
-    let faults = [
-        (
-            ShowFault::NoMember {
-                member: 4,
-                members: 3,
-            },
-            "--member 4: the record has members 1 to 3",
-            3,
-        ),
-        (
-            ShowFault::Unread(NoRecord::Schedule),
-            "record: not JSON; this is a schedule: ct_tool record makes a record of it",
-            2,
-        ),
-        (
-            ShowFault::Unread(NoRecord::Fault(ReadFault::Shape { at: 7 })),
-            "record: step 7 is no step",
-            2,
-        ),
-        (ShowFault::Program(ProgramFault::Write), "write failed", 4),
-        (ShowFault::Program(ProgramFault::Memory), "out of memory", 5),
-    ];
-    for (fault, line, status) in faults {
-        if !is_line(alloc, &fault, line) || fault.status() != status {
-            return false;
+// What is told of an input that is no record.
+fn is_of_input(alloc: Global, input: &str, line: &str) -> Result<bool, AllocError> {
+    match read_told(alloc, input.as_bytes())? {
+        Ok(_) => Ok(false),
+        Err(told) => {
+            let fault = ShowFault::Unread(told);
+            Ok(is_line(alloc, &fault, line) && fault.status() == 2)
         }
     }
-    true
+}
+
+fn inputs_have_lines(alloc: Global) -> Result<bool, AllocError> {
+    let inputs = [
+        (
+            "members 2",
+            "record: not JSON; this is a schedule: ct_tool record makes a record of it",
+        ),
+        ("member 2", "record: not JSON"),
+        (
+            "{\"cells\":4,\"n\":1,\"steps\":[[\"begin\",1],[\"began\",1]],\"version\":1}",
+            "record: step 2 is no step",
+        ),
+        (
+            "{\"cells\":4,\"n\":1,\"steps\":[],\"version\":4}",
+            "record: version 1, 2 or 3 is wanted",
+        ),
+    ];
+    for (input, line) in inputs {
+        if !is_of_input(alloc, input, line)? {
+            return Ok(false);
+        }
+    }
+    Ok(true)
+}
+
+fn a_member_has_a_line(alloc: Global) -> bool {
+    let fault = ShowFault::NoMember {
+        member: 4,
+        members: 3,
+    };
+    is_line(alloc, &fault, "--member 4: the record has members 1 to 3") && fault.status() == 3
 }
 
 fn files_have_lines(alloc: Global) -> bool {
@@ -215,8 +225,14 @@ fn seeds_have_lines(alloc: Global) -> bool {
 }
 
 #[test]
-fn faults_of_records_that_are_shown_have_lines(rt: HostRuntime) {
-    assert!(rt; shows_have_lines(rt.alloc()));
+fn inputs_that_are_no_records_have_lines(rt: HostRuntime) -> Result<(), Fail> {
+    assert!(rt; inputs_have_lines(rt.alloc())?);
+    Ok(())
+}
+
+#[test]
+fn a_member_that_is_missing_has_a_line(rt: HostRuntime) {
+    assert!(rt; a_member_has_a_line(rt.alloc()));
 }
 
 #[test]
@@ -235,6 +251,6 @@ fn faults_of_walks_have_lines(rt: HostRuntime) {
 }
 
 #[test]
-fn faults_of_diagrams_have_lines(rt: HostRuntime) {
-    assert!(rt; diagrams_have_lines(rt.alloc()));
+fn faults_of_the_program_have_lines(rt: HostRuntime) {
+    assert!(rt; programs_have_lines(rt.alloc()));
 }

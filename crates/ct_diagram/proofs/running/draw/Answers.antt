@@ -1,28 +1,25 @@
-use Rattle.std.proofs.Common.{◌≡◌, List, ℕ, Option, Result, Ok, Err, refl}
+use Rattle.std.proofs.Common.{◌≡◌, List, ℕ, Option, Result, Ok, Err}
 use Rattle.std.specs.Prelude.{IfErr, IfSome, IsErrAnd}
-use Rattle.ct_records.specs.Script.{script}
-use Rattle.ct_show.proofs.Seen.{input_seen}
+use Rattle.ct_streams.specs.Streams.{read_part}
 use Rattle.ct_diagram.specs.declared.fault.DiagramFault.{DiagramFault}
 use Rattle.ct_diagram.specs.declared.window.Window.{Window}
 use Rattle.ct_diagram.specs.Running.{FailsOn}
-use Rattle.ct_diagram.proofs.Seen.{drawing_fails, draws_seen, part_seen}
+use Rattle.ct_diagram.proofs.Seen.{draws_seen, fault_seen, part_seen}
 use Rattle.ct_diagram.proofs.running.draw.Goals as goal
 
 -- the fault that is handed on
 handed : {T : Type 0} (r : Result T DiagramFault) (fault : DiagramFault) (left : Option (List ℕ)) (window : Window) →
-    IsErrAnd r (λ e. e ≡ fault) → IfSome left (λ input. FailsOn window fault (script input)) →
-    IfErr r (λ e. IfSome left (λ input. FailsOn window e (script input)))
+    IsErrAnd r (λ e. e ≡ fault) → IfSome left (λ input. FailsOn window fault (read_part input)) →
+    IfErr r (λ e. IfSome left (λ input. FailsOn window e (read_part input)))
 handed (Ok x) fault left window same h = tt
 handed (Err e) fault left window same h = rw same h
 
 pub returns-in_err-text-clause-fault : goal.returns-in_err-text-clause-fault
 returns-in_err-text-clause-fault g c =
     let left = g.R.Source.left c.args.reader.now in
-    let bytes = c.in_ok-bytes.bytes.items in
     let fault = c.in_err-text.field-0.0 in
     handed c.from_residual-in_err-text.result fault left c.args.window.now c.from_residual-in_err-text.ensures.1
-    (input_seen left bytes bytes (λ r. FailsOn c.args.window.now fault r) c.in_ok-bytes.ensures.bytes refl
-    (drawing_fails c.args.window.now fault (script bytes) c.in_err-text.ensures.fault))
+    (fault_seen left c.in_ok-bytes.bytes.items c.args.window.now fault c.in_ok-bytes.ensures.bytes c.in_err-text.ensures.fault)
 
 pub returns-in-Ok-clause-ok : goal.returns-in-Ok-clause-ok
 returns-in-Ok-clause-ok g c =
