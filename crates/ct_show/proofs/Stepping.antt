@@ -46,7 +46,8 @@ replayed_more selection form w v i it old new there number before joined so_far 
     ≡ old ++ (if is_selected selection n (actor it.step) then line_in form v it.before n it.step else [])) number more)
 
 -- the answer is that of the refused step, which has the number at
-pub answer_refused : (selection : Selection) (form : Form) (w : Rehearsal) (r : Result Answer ProgramFault) (fault : ReplayFault) (done : ℕ) (old : List ℕ) →
+pub answer_refused : (selection : Selection) (form : Form) (w : Rehearsal) (r : Result Answer ProgramFault) (fault : ReplayFault)
+    (done : ℕ) (old : List ℕ) →
     fault.at ≡ done + 1 → IsFaultOf w.setting w.cells w.steps fault.at fault.refusal → old ≡ lines_to selection form w done →
     IfOk r (λ a. a.text.items ≡ old
     ++ refused_line form (first_steps w.setting w.cells w.steps done) fault.at (slice_get w.steps done) fault.refusal) →

@@ -134,7 +134,8 @@ fn lines_of(
     selection: &Selection,
     form: Form,
 ) -> Result<Answer, ProgramFault>
-    ensures ok { IfOk result (λ answer. IsAnswer (View.Steps selection.now form) (rehearsal_of script.now) answer.text.items answer.refused) }
+    ensures ok { IfOk result (λ answer.
+        IsAnswer (View.Steps selection.now form) (rehearsal_of script.now) answer.text.items answer.refused) }
     ensures err { IfErr result (λ fault. fault ≡ Memory) }
 {
     let Ok(mut replay) = Replay::new(alloc, script.setup(), &script.steps) else {

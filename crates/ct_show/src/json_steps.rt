@@ -6,9 +6,10 @@ ghost use Rattle.ct_model.specs.StepText.{step_entry};
 ghost use Rattle.ct_show.specs.Details.{instance_of};
 ghost use Rattle.ct_show.specs.Json.{key_json};
 ghost use Rattle.ct_show.specs.JsonEnvelopes.{envelope_json};
-ghost use Rattle.ct_show.specs.JsonSteps.{head_json, command_json, arguments_json, message_of, message_in, held, valued_json, delivered_json};
-ghost use Rattle.ct_show.specs.JsonSteps.{round_json, estimated_json, decision_at, concluded_json, outcome_json, step_json};
-ghost use Rattle.ct_show.specs.JsonSteps.{left_json, leaving_json, missing_json, letter_facts, serial_facts, member_facts, facts_json, refused_json};
+ghost use Rattle.ct_show.specs.JsonSteps.{head_json, command_json, arguments_json, message_of, message_in, held, valued_json};
+ghost use Rattle.ct_show.specs.JsonSteps.{delivered_json, round_json, estimated_json, decision_at, concluded_json, outcome_json, step_json};
+ghost use Rattle.ct_show.specs.JsonSteps.{left_json, leaving_json, missing_json, letter_facts, serial_facts, member_facts, facts_json};
+ghost use Rattle.ct_show.specs.JsonSteps.{refused_json};
 
 use crate::details::{coordinator_of, instance_of, round_of};
 use crate::facts::last_taking;

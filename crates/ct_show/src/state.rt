@@ -8,7 +8,8 @@ ghost use Rattle.ct_model.specs.State.{at_serial};
 ghost use Rattle.ct_records.specs.Report.{list_text};
 ghost use Rattle.ct_show.specs.State.{progress_text, standing_line, estimate_line, first_in, set_line, votes_lines};
 ghost use Rattle.ct_show.specs.State.{sender_text, waiting_line, is_apart, enabled_text, own_enabled, refusal_line, refused_line};
-ghost use Rattle.ct_show.specs.State.{first_choices, steps_lines, first_receipt, step_or, behind, receipt_behind, next_between, next_text, next_line};
+ghost use Rattle.ct_show.specs.State.{first_choices, steps_lines, first_receipt, step_or, behind, receipt_behind};
+ghost use Rattle.ct_show.specs.State.{next_between, next_text, next_line};
 ghost use Rattle.ct_show.specs.State.{member_lines, first_members, group_line, counts_line, state_lines};
 
 use crate::details::instance_of;

@@ -37,5 +37,6 @@ returns-in_ok-state_in-in-Ok-clause-ok c =
     ap (record_of c.setup.result) first ∙ ap (λ (w : Rehearsal). record w { steps = take c.args.count w.steps }) c.setup.ensures in (
       subst IsAllowed part h.allowed,
       c.in_ok-state_in-in-Ok.ensures ∙ ap (λ (w : Rehearsal). state_in c.args.form w senders) h.world
-          ∙ ap (state_in c.args.form (record_of c.setup.result looked_at)) h.senders ∙ ap (λ (w : Rehearsal). state_in c.args.form w (senders_of w.setting w.steps)) part,
+          ∙ ap (state_in c.args.form (record_of c.setup.result looked_at)) h.senders
+          ∙ ap (λ (w : Rehearsal). state_in c.args.form w (senders_of w.setting w.steps)) part,
     )

@@ -6,4 +6,5 @@ use Rattle.ct_show.proofs.json_state.push_enabled.Given as goal
 
 abbrev pub invariant-loop-step : goal.invariant-loop-step
 invariant-loop-step l =
-    HasWritten 44 (flat_map (enabled_jsons l.world.rehearsal) (take l.step-index l.steps)) (string_bytes l.fn.text) (string_bytes l.text) l.later
+    HasWritten 44 (flat_map (enabled_jsons l.world.rehearsal) (take l.step-index l.steps)) (string_bytes l.fn.text)
+    (string_bytes l.text) l.later
