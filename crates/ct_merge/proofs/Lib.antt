@@ -1,0 +1,7 @@
+pub mod Advancing
+pub mod Owning
+pub mod Playing
+pub mod Reading
+pub mod Taking
+pub mod Utf8
+pub mod Verdicts

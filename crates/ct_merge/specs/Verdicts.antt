@@ -1,0 +1,11 @@
+-- What logs come to.
+use Rattle.std.specs.Prelude.{⊤}
+use Rattle.ct_model.specs.Rehearsal.{Rehearsal}
+use Rattle.ct_world.specs.World.{WorldView}
+use Rattle.ct_merge.specs.declared.verdict.Verdict.{Verdict}
+use Rattle.ct_merge.specs.declared.verdict.Verdict.TheVariants.{Accepted, Refused, Cut}
+
+-- of the record, where the logs were merged into one
+abbrev pub IfAccepted : Verdict → (Rehearsal → Type 0) → Type 0
+IfAccepted (Accepted world) fact = fact world.rehearsal
+IfAccepted _ fact = ⊤

@@ -1,0 +1,113 @@
+//! From the text of a line to what a log says.
+
+ghost use Rattle.std.specs.Prelude.{◌≡◌, IfOk};
+ghost use Rattle.ct_grammar.specs.Lines.{line_of};
+ghost use Rattle.ct_merge.specs.Entries.{act_in_log, entry_in, entry_of, is_numbered, numbered, numbered_entry, received, told};
+
+use crate::entry::{Entry, NoEntry};
+use crate::full_name::FullName;
+use crate::log_act::LogAct;
+use crate::log_line::LogLine;
+use ct_grammar::{Act, Line, Misfit, Pick, Play, Text, Who, line_of};
+use ct_names::Member;
+use std::alloc::{AllocError, Global};
+
+/// What the line says, in the log of this member where it names none.
+#[tactic(auto, unfolding(crate::specs::Entries::entry_in))]
+pub(crate) fn entry_in(
+    alloc: Global,
+    member: Member,
+    text: &str,
+) -> Result<Result<Entry, NoEntry>, AllocError>
+    ensures { IfOk result (λ entry. entry ≡ entry_in member text.now) }
+{
+    let line = line_of(alloc, text)?;
+    if is_numbered(text.as_bytes()) {
+        return Ok(entry_of(line));
+    }
+    match line {
+        Ok(line) => Ok(entry_of(Ok(line))),
+        Err(_) => numbered_entry(alloc, member, text),
+    }
+}
+
+// What the line says behind the number of the member.
+#[tactic(auto, unfolding(crate::specs::Entries::numbered_entry, crate::specs::Entries::numbered))]
+fn numbered_entry(
+    alloc: Global,
+    member: Member,
+    text: &str,
+) -> Result<Result<Entry, NoEntry>, AllocError>
+    ensures { IfOk result (λ entry. entry ≡ numbered_entry member text.now) }
+{
+    let mut numbered = String::new(alloc);
+    write!(numbered, "{member} {text}")?;
+    Ok(entry_of(line_of(alloc, numbered.as_str())?))
+}
+
+// Whether a digit stands first.
+fn is_numbered(text: &[u8]) -> bool
+    ensures { result ≡ is_numbered text.now }
+{
+    match text {
+        [first, ..] => first.is_ascii_digit(),
+        [] => false,
+    }
+}
+
+// What a log has of the line.
+fn entry_of(line: Result<Line, Misfit>) -> Result<Entry, NoEntry>
+    ensures { result ≡ entry_of line }
+{
+    match line {
+        Err(misfit) => Err(NoEntry::NoLine(misfit)),
+        Ok(Line::Blank) => Ok(Entry::Blank),
+        Ok(Line::Given(given)) => Ok(Entry::Given(given)),
+        Ok(Line::Play(Play::Act(Who::One(member), act))) => told(member, act, None),
+        Ok(Line::Play(Play::Stated(Who::One(member), act, said))) => told(member, act, Some(said)),
+        Ok(Line::Play(_)) => Err(NoEntry::NoAct),
+    }
+}
+
+// What the member did, and what that came to, where it is stated.
+fn told(member: Member, act: Act, said: Option<Text>) -> Result<Entry, NoEntry>
+    ensures { result ≡ told member act said }
+{
+    match act_in_log(act) {
+        Ok(act) => Ok(Entry::Told(member, LogLine { act, said })),
+        Err(why) => Err(why),
+    }
+}
+
+// The act, as logs have it.
+fn act_in_log(act: Act) -> Result<LogAct, NoEntry>
+    ensures { result ≡ act_in_log act }
+{
+    match act {
+        Act::Submit(command) => Ok(LogAct::Submit(command)),
+        Act::Receive(pick) => received(pick),
+        Act::Begin => Ok(LogAct::Begin),
+        Act::Enter => Ok(LogAct::Enter),
+        Act::Choose(from) => Ok(LogAct::Choose(from)),
+        Act::Adopt => Ok(LogAct::Adopt),
+        Act::Suspect => Ok(LogAct::Suspect),
+        Act::Conclude => Ok(LogAct::Conclude),
+        Act::Deliver => Ok(LogAct::Deliver),
+        Act::Follow => Ok(LogAct::Follow),
+        Act::Crash => Ok(LogAct::Crash),
+        Act::Postpone(_) | Act::Lose(_) | Act::Repeat(_) | Act::LoseFrom(_) => {
+            Err(NoEntry::Network)
+        }
+    }
+}
+
+// A receipt, as logs have it.
+fn received(pick: Pick) -> Result<LogAct, NoEntry>
+    ensures { result ≡ received pick }
+{
+    match pick {
+        Pick::Serial(_) => Err(NoEntry::Serial),
+        Pick::First(_, None) => Err(NoEntry::NoSender),
+        Pick::First(carried, Some(from)) => Ok(LogAct::Receive(FullName { carried, from })),
+    }
+}

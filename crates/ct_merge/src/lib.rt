@@ -1,0 +1,33 @@
+//! The logs of members, merged into one run.
+//!
+//! A log has what one member did, line by line in its own order: an act, and what it came to where that is stated. An envelope is
+//! named in full, by what it carries and whose step sent it, so that a line's place among the lines of the others need not be known:
+//! it stands behind the line that sent the envelope. A second receipt of one name is a repetition by the network.
+#![tactic(auto)]
+
+mod address;
+mod entering;
+mod entry;
+mod full_name;
+mod log_act;
+mod log_fault;
+mod log_line;
+mod log_text;
+mod merging;
+mod naming;
+mod numbers;
+mod progress;
+mod sending;
+mod standstill;
+mod taker;
+mod verdict;
+
+pub use entry::NoEntry;
+pub use full_name::FullName;
+pub use log_act::LogAct;
+pub use log_fault::LogFault;
+pub use log_line::LogLine;
+pub use log_text::LogText;
+pub use merging::merge;
+pub use numbers::Numbers;
+pub use verdict::{Culprit, Verdict, Why};

@@ -1,0 +1,31 @@
+//! What logs tell of.
+
+use crate::full_name::FullName;
+use ct_names::{Command, Member};
+
+/// What a member did, as its log tells it.
+#[derive(Clone, Copy)]
+pub enum LogAct {
+    /// `submit set 0 7`
+    Submit(Command),
+    /// `receive est 1/1 from 3`
+    Receive(FullName),
+    /// `begin`
+    Begin,
+    /// `enter`
+    Enter,
+    /// `choose 1`
+    Choose(Member),
+    /// `adopt`
+    Adopt,
+    /// `suspect`
+    Suspect,
+    /// `conclude`
+    Conclude,
+    /// `deliver`
+    Deliver,
+    /// `follow`
+    Follow,
+    /// `crash`
+    Crash,
+}

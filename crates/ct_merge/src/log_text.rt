@@ -1,0 +1,187 @@
+//! Logs as texts.
+
+ghost use Rattle.std.specs.Prelude.{◌≡◌, ◌<◌, ◌^◌, ◌+◌, Ok, OnOk, IfOk, IfErr, position, drop, length, option_map};
+ghost use Rattle.ct_merge.specs.Texts.{IsFaultIn, after_entry, after_line, after_lines, after_told, entry_in_text, is_feed, lines_of};
+ghost use Rattle.ct_merge.specs.Texts.{log_in, text_in};
+
+use crate::entering::entry_in;
+use crate::entry::{Entry, NoEntry};
+use crate::log_fault::LogFault;
+use crate::log_line::LogLine;
+use crate::numbers::Numbers;
+use ct_names::Member;
+use std::alloc::{AllocError, Global};
+use std::marker::Model;
+
+/// The log of a member, as its text says it.
+#[derive(Drop)]
+pub struct LogText {
+    member: Option<Member>,
+    numbers: Numbers,
+    lines: Vec<LogLine>,
+    // Of each of them its number in the text.
+    places: Vec<usize>,
+    // How many lines of the text are over.
+    count: usize,
+}
+
+// Contracts see what was read.
+impl Model for LogText {
+    ghost use Rattle.ct_merge.specs.Texts.{LogSoFar};
+
+    ghost Value = { LogSoFar };
+
+    ghost view = { λ log. record {
+      member = log.member;
+      numbers = log.numbers;
+      lines = log.lines.items;
+      places = log.places.items;
+      count = log.count;
+    } };
+}
+
+impl LogText {
+    /// Reads the text of a log, which is that of this member where its acts don't say whose it is.
+    #[tactic(auto, unfolding(crate::specs::Texts::log_in))]
+    pub fn read(alloc: Global, member: Member, text: &[u8]) -> Result<LogText, LogFault>
+        requires { length text.now < 2 ^ 62 }
+        ensures ok { IfOk result (λ log. log_in member text.now ≡ Ok log) }
+        ensures fault { IfErr result (IsFaultIn (log_in member text.now)) }
+    {
+        let mut log = LogText {
+            member: None,
+            numbers: Numbers::new(),
+            lines: Vec::new(alloc),
+            places: Vec::new(alloc),
+            count: 0,
+        };
+        log.take_lines(alloc, member, text)?;
+        Ok(log)
+    }
+
+    /// Whose log it is, where its acts say that; the numbers of the group, as far as it gives them; and its lines, each with its number
+    /// in the text, from 1.
+    pub fn into_parts(self) -> (Option<Member>, Numbers, Vec<LogLine>, Vec<usize>)
+        ensures member { result.0 ≡ self.member }
+        ensures numbers { result.1 ≡ self.numbers }
+        ensures lines { result.2.items ≡ self.lines }
+        ensures places { result.3.items ≡ self.places }
+    {
+        let LogText {
+            member,
+            numbers,
+            lines,
+            places,
+            count: _,
+        } = self;
+        (member, numbers, lines, places)
+    }
+
+    // Takes the lines of the text.
+    #[tactic(auto, using(crate::proofs::Reading::by_line))]
+    fn take_lines(&mut self, alloc: Global, member: Member, text: &[u8]) -> Result<(), LogFault>
+        requires { self.old.count + length text.now < 2 ^ 63 }
+        ensures ok { OnOk result (after_lines member self.old (lines_of text.now) ≡ Ok self.new) }
+        ensures fault { IfErr result (IsFaultIn (after_lines member self.old (lines_of text.now))) }
+    {
+        let mut rest = text;
+        while let Some(end) = first_feed(rest) {
+            self.take_line(alloc, member, &rest[..end])?;
+            rest = behind(rest, end);
+        }
+        self.take_line(alloc, member, rest)
+    }
+
+    // Takes a line.
+    #[tactic(auto, unfolding(crate::specs::Texts::after_line))]
+    fn take_line(&mut self, alloc: Global, member: Member, bytes: &[u8]) -> Result<(), LogFault>
+        requires { self.old.count < 2 ^ 63 }
+        ensures ok { OnOk result (after_line member self.old bytes.now ≡ Ok self.new) }
+        ensures fault { IfErr result (IsFaultIn (after_line member self.old bytes.now)) }
+        ensures count { OnOk result (self.new.count ≡ self.old.count + 1) }
+    {
+        self.count += 1;
+        match entry_in_bytes(alloc, self.member.unwrap_or(member), bytes)? {
+            Ok(entry) => self.take_entry(entry),
+            Err(why) => Err(LogFault::Line(self.count, why)),
+        }
+    }
+
+    // Takes what a line says.
+    fn take_entry(&mut self, entry: Entry) -> Result<(), LogFault>
+        ensures ok { OnOk result (after_entry self.old (Ok entry) ≡ Ok self.new) }
+        ensures fault { IfErr result (IsFaultIn (after_entry self.old (Ok entry))) }
+        ensures count { self.new.count ≡ self.old.count }
+    {
+        match entry {
+            Entry::Blank => Ok(()),
+            Entry::Given(given) => match self.numbers.with(given) {
+                Some(numbers) => {
+                    self.numbers = numbers;
+                    Ok(())
+                }
+                None => Err(LogFault::Line(self.count, NoEntry::Given(given))),
+            },
+            Entry::Told(member, line) => self.take_told(member, line),
+        }
+    }
+
+    // Takes what the member did.
+    fn take_told(&mut self, member: Member, line: LogLine) -> Result<(), LogFault>
+        ensures ok { OnOk result (after_told self.old member line ≡ Ok self.new) }
+        ensures fault { IfErr result (IsFaultIn (after_told self.old member line)) }
+        ensures count { self.new.count ≡ self.old.count }
+    {
+        if self.member.is_some_and(|p| p != member) {
+            return Err(LogFault::Line(self.count, NoEntry::Other(member)));
+        }
+        self.member = Some(member);
+        if self.lines.push(line).is_err() {
+            return Err(LogFault::Memory);
+        }
+        match self.places.push(self.count) {
+            Ok(()) => Ok(()),
+            Err(_) => Err(LogFault::Memory),
+        }
+    }
+}
+
+// What the line of these bytes says.
+fn entry_in_bytes(
+    alloc: Global,
+    member: Member,
+    bytes: &[u8],
+) -> Result<Result<Entry, NoEntry>, AllocError>
+    ensures { IfOk result (λ entry. entry ≡ entry_in_text member (text_in bytes.now)) }
+{
+    match text_in(bytes) {
+        Some(text) => entry_in(alloc, member, text),
+        None => Ok(Err(NoEntry::NoText)),
+    }
+}
+
+// The text that these bytes are.
+#[tactic(auto, unfolding(crate::specs::Texts::text_in))]
+fn text_in(bytes: &[u8]) -> Option<&str>
+    ensures { option_map (λ text. text.now) result ≡ text_in bytes.now }
+{
+    match std::str::from_utf8(bytes) {
+        Ok(text) => Some(text),
+        Err(_) => None,
+    }
+}
+
+// Where the first line ends; None where the end ends it.
+fn first_feed(text: &[u8]) -> Option<usize>
+    ensures { result ≡ position is_feed text.now }
+{
+    text.iter().position(|byte| *byte == b'\n')
+}
+
+// What stands behind this place.
+fn behind(text: &[u8], place: usize) -> &[u8]
+    requires { place < length text.now }
+    ensures { result.now ≡ drop (place + 1) text.now }
+{
+    &text[place + 1..]
+}

@@ -1,0 +1,159 @@
+//! How far logs were taken.
+
+ghost use Rattle.std.specs.Prelude.{◌≡◌, ◌≢◌, ◌≤◌, ℕ, [], true, IfErr, IfOk, OnOk, slice_index};
+ghost use Rattle.ct_names.specs.Group.{is_member};
+ghost use Rattle.ct_merge.specs.Logs.{log_of};
+ghost use Rattle.ct_merge.specs.Merging.{count_of, IsSameGroup, IsTakenFrom};
+ghost use Rattle.ct_world.specs.Setup.{record_of};
+
+use crate::log_line::LogLine;
+use crate::taker::Taker;
+use ct_names::{MAX_MEMBERS, Member};
+use ct_play::{LineFault, Stage};
+use ct_world::{Setup, World};
+use std::alloc::Global;
+use std::marker::Model;
+
+// A number for each member that a group can have.
+const MEMBERS: usize = MAX_MEMBERS as usize;
+
+/// A world into which the lines of logs are taken, and how many lines of each member's log were taken.
+#[derive(Drop)]
+pub(crate) struct Progress {
+    taker: Taker,
+    counts: [usize; MEMBERS],
+    // Whose log was tried last.
+    last: Member,
+}
+
+// Contracts see the record and the numbers of lines.
+impl Model for Progress {
+    ghost use Rattle.ct_merge.specs.Merging.{Taken};
+
+    ghost Value = { Taken };
+
+    ghost view = { λ p. record { rehearsal = p.taker; counts = p.counts } };
+}
+
+impl Progress {
+    /// Nothing was taken. Only memory can be refused.
+    pub(crate) fn new(alloc: Global, setup: Setup) -> Result<Progress, LineFault>
+        ensures record { IfOk result (λ progress. progress.rehearsal ≡ record_of setup []) }
+        ensures err { IfErr result (λ fault. fault ≡ LineFault.OutOfMemory) }
+        ensures counts { IfOk result (λ progress. (i : ℕ) → slice_index progress.counts i ≡ 0) }
+    {
+        Ok(Progress {
+            taker: Taker::new(alloc, setup)?,
+            counts: [0; MEMBERS],
+            last: 1,
+        })
+    }
+
+    /// What the lines led to.
+    pub(crate) fn stage(&self) -> &Stage
+        ensures { result.now.rehearsal ≡ self.now.rehearsal }
+    {
+        self.taker.stage()
+    }
+
+    /// The world alone.
+    pub(crate) fn into_world(self) -> World
+        ensures { result.rehearsal ≡ self.rehearsal }
+    {
+        self.taker.into_world()
+    }
+
+    /// Takes lines of the logs as far as they go. A fault is that of the next line of the log that was tried last.
+    pub(crate) fn run(&mut self, logs: &[Vec<LogLine>]) -> Result<(), LineFault>
+        requires { IsTakenFrom logs.now self.old }
+        ensures taken { OnOk result (IsTakenFrom logs.now self.new) }
+        ensures group { OnOk result (IsSameGroup self.old.rehearsal self.new.rehearsal) }
+    {
+        // Each round but the last takes a line.
+        for round in 0..=lines_of(logs) {
+            let _ = round;
+            if !self.round(logs)? {
+                return Ok(());
+            }
+        }
+        Ok(())
+    }
+
+    // Takes lines of each log in its turn. Whether there were some.
+    fn round(&mut self, logs: &[Vec<LogLine>]) -> Result<bool, LineFault>
+        requires { IsTakenFrom logs.now self.old }
+        ensures taken { OnOk result (IsTakenFrom logs.now self.new) }
+        ensures group { OnOk result (IsSameGroup self.old.rehearsal self.new.rehearsal) }
+    {
+        let mut some = false;
+        for i in 0..self.stage().world().group().n() {
+            if self.advance(i + 1, logs)? {
+                some = true;
+            }
+        }
+        Ok(some)
+    }
+
+    // Takes lines of the member's log as far as they go. Whether there were some.
+    #[tactic(auto, using(crate::proofs::Advancing::advanced))]
+    fn advance(&mut self, member: Member, logs: &[Vec<LogLine>]) -> Result<bool, LineFault>
+        requires member { is_member self.old.rehearsal.setting.members member ≡ true }
+        requires few { member ≤ MAX_MEMBERS }
+        requires taken { IsTakenFrom logs.now self.old }
+        ensures taken { OnOk result (IsTakenFrom logs.now self.new) }
+        ensures group { OnOk result (IsSameGroup self.old.rehearsal self.new.rehearsal) }
+    {
+        let start = self.count(member);
+        let mut count = start;
+        self.last = member;
+        let ended = self.taker.take_on(member, log_of(logs, member), &mut count);
+        self.note(member, count);
+        ended?;
+        Ok(count > start)
+    }
+
+    // Notes that so many lines of the member's log were taken.
+    fn note(&mut self, member: Member, count: usize)
+        requires some { 1 ≤ member }
+        requires few { member ≤ MAX_MEMBERS }
+        ensures record { self.new.rehearsal ≡ self.old.rehearsal }
+        ensures here { count_of self.new.counts member ≡ count }
+        ensures elsewhere { (q : ℕ) → 1 ≤ q → q ≢ member → count_of self.new.counts q ≡ count_of self.old.counts q }
+    {
+        self.counts[usize::from(member) - 1] = count;
+    }
+
+    /// Whose log was tried last.
+    pub(crate) fn last(&self) -> Member {
+        self.last
+    }
+
+    /// How many lines of the member's log were taken.
+    pub(crate) fn count(&self, member: Member) -> usize
+        ensures { result ≡ count_of self.now.counts member }
+    {
+        match self.counts.get(usize::from(member).saturating_sub(1)) {
+            Some(count) => *count,
+            None => 0,
+        }
+    }
+}
+
+/// The log of the member; the first one is member 1's.
+pub(crate) fn log_of(logs: &[Vec<LogLine>], member: Member) -> &[LogLine]
+    ensures { result.now ≡ log_of logs.now member }
+{
+    match logs.get(usize::from(member).saturating_sub(1)) {
+        Some(log) => log,
+        None => &[],
+    }
+}
+
+// How many lines the logs have; of more than there can be, the most.
+fn lines_of(logs: &[Vec<LogLine>]) -> usize {
+    let mut count: usize = 0;
+    for log in logs {
+        count = count.saturating_add(log.len());
+    }
+    count
+}

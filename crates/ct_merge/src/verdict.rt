@@ -1,0 +1,39 @@
+//! What logs come to.
+
+use ct_names::Member;
+use ct_play::LineFault;
+use ct_world::World;
+
+/// What the logs of members come to.
+#[derive(Drop)]
+pub enum Verdict {
+    /// A run in which each member takes the steps of its log.
+    Accepted(World),
+    /// No order of these logs was found to be a run, whatever lines they go on with.
+    Refused(Culprit),
+    /// None was found as they stand: the log of the sender would have to go on.
+    Cut(Culprit),
+}
+
+/// A line at which a log stands, and why.
+#[derive(Clone, Copy, Drop)]
+pub struct Culprit {
+    /// Whose log it is.
+    pub member: Member,
+    /// The line's place in that log, counted from 0.
+    pub place: usize,
+    pub why: Why,
+}
+
+/// Why a line is not taken.
+#[derive(Clone, Copy, Drop)]
+pub enum Why {
+    /// It is refused by itself.
+    Fault(LineFault),
+    /// It receives what was not sent, and what this member can't send any more.
+    Never(Member),
+    /// It receives what was not sent, and the log of this member ends before.
+    Ended(Member),
+    /// It receives what was not sent, and the log of its sender waits for an envelope in its turn, and so on round to this line.
+    Circle,
+}
