@@ -44,7 +44,6 @@ impl LogText {
     /// Reads the text of a log, which is that of this member where its acts don't say whose it is.
     #[tactic(auto, unfolding(crate::specs::Texts::log_in))]
     pub fn read(alloc: Global, member: Member, text: &[u8]) -> Result<LogText, LogFault>
-        requires { length text.now < 2 ^ 62 }
         ensures ok { IfOk result (λ log. log_in member text.now ≡ Ok log) }
         ensures fault { IfErr result (IsFaultIn (log_in member text.now)) }
     {
