@@ -249,7 +249,8 @@ fn sender_at(senders: &[Member], serial: Serial) -> Member
     }
 }
 
-fn grid_of(world: &World, window: &Window) -> Grid
+// The rows of the window's columns, with the members of the group.
+pub(crate) fn grid_of(world: &World, window: &Window) -> Grid
     ensures { result ≡ grid_of world.now.rehearsal window.now }
 {
     Grid {

@@ -5,9 +5,8 @@ ghost use Rattle.ct_diagram.specs.Arrows.{arrows, grid_of};
 ghost use Rattle.ct_diagram.specs.Marks.{marks};
 ghost use Rattle.ct_diagram.specs.Shades.{shades};
 
-use crate::arrows::push_arrows;
+use crate::arrows::{grid_of, push_arrows};
 use crate::drawn::Drawn;
-use crate::grid::Grid;
 use crate::marks::push_marks;
 use crate::shades::push_shades;
 use crate::window::Window;
@@ -64,10 +63,7 @@ impl Canvas {
         ensures marks { OnOk result (string_bytes self.new.marks
             ≡ string_bytes self.old.marks ++ marks world.now.rehearsal (grid_of world.now.rehearsal window.now) drawn) }
     {
-        let grid = Grid {
-            n: world.group().n(),
-            columns: window.columns,
-        };
+        let grid = grid_of(world, window);
         push_shades(&mut self.shades, world, grid, drawn)?;
         push_arrows(
             &mut self.arrows,
