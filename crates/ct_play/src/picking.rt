@@ -10,8 +10,8 @@ use ct_names::{Member, MemberSet, Serial};
 use ct_world::{Letter, Wire};
 use std::alloc::{AllocError, Global};
 
-// The serial that is picked for the member.
-pub(crate) fn picked(stage: &Stage, member: Member, pick: Pick) -> Option<Serial>
+/// The serial that is picked for the member.
+pub fn picked(stage: &Stage, member: Member, pick: Pick) -> Option<Serial>
     ensures { result ≡ picked stage.now.rehearsal member pick }
 {
     match pick {
