@@ -1,25 +1,25 @@
 #!/usr/bin/env python3
-"""Times `ct_tool record` and `ct_tool interact` on long schedules.
+"""Times `ct_tool schedule`, and `ct_tool record` and `ct_tool interact` on long schedules.
 
     bench/schedules.py [--members N] [--steps S] [--once] [CT_TOOL]
 
 CT_TOOL: the built program; crates/ct_tool/out/ct_tool if left out. The schedules are of one record of the whole algorithm that
-bench/generate.py makes; one has each envelope by what it carries, the other by its serial. A table row for each of:
+bench/generate.py makes; `ct_tool schedule` writes the one, which has envelopes by what they carry, the other has each by its serial.
+A table row for each of:
 
+    schedule   from the record to the schedule
     record     the whole schedule
     interact   a session over pipes, each line told when the last one was answered; with --once all lines are told at once
 
 with the seconds, start and end of the program with them, and the lines a second. Ends with status 1 where a line is refused.
 """
 import argparse
+import json
 import os
 import subprocess
 import sys
 import tempfile
 import time
-
-import model
-import schedule
 
 HERE = os.path.dirname(os.path.abspath(__file__))
 TOOL = os.path.join(HERE, "..", "crates", "ct_tool", "out", "ct_tool")
@@ -35,6 +35,26 @@ def arguments():
     if not os.access(options.tool, os.X_OK):
         parser.error(f"no program at {options.tool}")
     return options
+
+
+def by_content(options, made):
+    """The schedule that the program writes of the record, and the seconds that it takes."""
+    start = time.perf_counter()
+    lines = subprocess.run([options.tool, "schedule"], input=made, stdout=subprocess.PIPE, check=True).stdout
+    return lines.decode().splitlines(), time.perf_counter() - start
+
+
+def by_serial(made):
+    """The lines of the record's schedule in which each envelope has its serial."""
+    record = json.loads(made)
+    yield f"members {record['n']}"
+    yield f"cells {record['cells']}"
+    for name, member, *rest in record["steps"]:
+        if name == "submit":
+            rest = rest[0]
+        elif name in ("receive", "postpone", "lose", "repeat"):
+            rest = [f"#{rest[0]}"]
+        yield " ".join(map(str, [member, name, *rest]))
 
 
 def recorded(options, path):
@@ -72,11 +92,16 @@ def main():
     words = [sys.executable, os.path.join(HERE, "generate.py"), "--whole", "--members", options.members, "--steps", options.steps]
     made = subprocess.run([str(word) for word in words], stdout=subprocess.PIPE, stderr=subprocess.DEVNULL, check=True).stdout
     form = "{:<9} {:<8} {:>7} {:>8} {:>8} {:>10}"
+
+    def row(program, named, lines, seconds):
+        print(form.format(program, named, options.members, lines, f"{seconds:.2f}", f"{lines / seconds:.0f}"), flush=True)
+
     print(form.format("program", "named by", "members", "lines", "seconds", "lines/s"), flush=True)
+    content, took = by_content(options, made)
+    row("schedule", "content", len(content), took)
     with tempfile.TemporaryDirectory() as folder:
         path = os.path.join(folder, "run.schedule")
-        for named in ("content", "serial"):
-            lines = list(schedule.lines(*model.read(made), serials=named == "serial"))
+        for named, lines in (("content", content), ("serial", list(by_serial(made)))):
             with open(path, "w") as file:
                 file.write("\n".join(lines) + "\n")
             for program, timed in (("record", recorded), ("interact", told)):
@@ -84,8 +109,7 @@ def main():
                     seconds = timed(options, path)
                 except (subprocess.CalledProcessError, RuntimeError) as fault:
                     sys.exit(f"bench/schedules.py: {program}: {fault}")
-                print(form.format(program, named, options.members, len(lines), f"{seconds:.2f}",
-                                  f"{len(lines) / seconds:.0f}"), flush=True)
+                row(program, named, len(lines), seconds)
 
 
 if __name__ == "__main__":

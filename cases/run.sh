@@ -275,6 +275,36 @@ check_schedule() {
     tally "schedule $1" "$wrong"
 }
 
+# check_written NAME RECORD: the schedule that is written of the record has that record.
+check_written() {
+    local wrong=''
+    timeout -k 5 20 "$tool" schedule "$2" >"$folder/schedule" 2>"$folder/error" ||
+        wrong+=" no schedule: '$(start_of "$folder/error")';"
+    timeout -k 5 20 "$tool" record "$folder/schedule" >"$folder/output" 2>"$folder/error" ||
+        wrong+=" no record: '$(start_of "$folder/error")';"
+    python3 same_run.py "$folder/output" "$2" 2>"$folder/error" || wrong+=" its record is not of the run of $2;"
+    tally "the schedule of $1" "$wrong"
+}
+
+# check_written_walks: the same of 25 walks that lose and repeat, in which a member crashes and a proposal has two messages at most;
+# the lines and comments that walks give are there.
+check_written_walks() {
+    local seed wrong='' pattern
+    : >"$folder/schedules"
+    for seed in {1..25}; do
+        "$tool" walk --members $((seed % 5 + 1)) --seed "$seed" --lose 20 --repeat 30 --postpone 10 --crash 1 --batch 2 --rate 32 \
+            >"$folder/record" 2>"$folder/error" || wrong+=" walk $seed fails;"
+        check_written "walk $seed" "$folder/record"
+        cat "$folder/schedule" >>"$folder/schedules"
+    done
+    for pattern in 'receive data [0-9.]*$' 'receive est [0-9/]* from' 'receive prop [0-9/]*$' \
+        'lose [a-z]* [0-9/.]*' 'postpone [a-z]' 'repeat [a-z]' '# round 2 of instance' '# decides {' '# delivers {' \
+        '^batch 2$' '^expect [0-9]* crashed$' '^expect [0-9]* round ' '^expect [0-9]* delivered [0-9]'; do
+        grep -q -- "$pattern" "$folder/schedules" || wrong+=" none has $pattern;"
+    done
+    tally 'the schedules of walks' "$wrong"
+}
+
 # check_log NAME: the log is accepted, and replayed; or, beside NAME.fault, refused with a line that begins so and this status.
 check_log() {
     local wrong='' status fault='' wanted=0
@@ -455,6 +485,10 @@ done
 for schedule in ../examples/*.schedule; do
     check_schedule "${schedule%.schedule}"
 done
+for record in ../examples/*.json; do
+    [[ -e ${record%.json}.fault ]] || check_written "$record" "$record"
+done
+check_written_walks
 for schedule in ../examples/python/*.schedule; do
     check_log "${schedule%.schedule}"
 done

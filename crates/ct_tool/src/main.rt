@@ -9,6 +9,7 @@ use ct_judge::{
     Heard, KeepFault, LineRefused, RecordFault, interact, interact_command, keep, record,
     record_command, record_partial, session_end,
 };
+use ct_listing::{schedule_command, write_schedule};
 use ct_program::{CommandFault, answer_status};
 use ct_records::ProgramFault;
 use ct_show::{
@@ -52,6 +53,7 @@ fn command<'a>(alloc: Global) -> Result<Command<'a>, AllocError> {
         .subcommand(interact_command(alloc)?)?
         .subcommand(record_command(alloc)?)?
         .subcommand(report_command(alloc)?)?
+        .subcommand(schedule_command(alloc)?)?
         .subcommand(state_command(alloc)?)?
         .subcommand(steps_command(alloc)?)?
         .subcommand(walk_command(alloc)?)
@@ -65,6 +67,7 @@ fn call(rt: &HostRuntime, matches: &ArgMatches<'_>) -> ExitCode {
         Some(("interact", found)) => hold_session(rt, found),
         Some(("record", found)) => record_schedule(rt, found),
         Some(("report", found)) => view(rt, found, Ok(View::Report)),
+        Some(("schedule", found)) => schedule(rt, found),
         Some(("state", found)) => view(rt, found, state_view(found)),
         Some(("steps", found)) => view(rt, found, steps_view(found)),
         Some(("walk", found)) => walk(rt, found),
@@ -166,7 +169,26 @@ fn view(rt: &HostRuntime, found: &ArgMatches<'_>, view: Result<View, WordFault<'
     };
     let mut writer = Counted::new(io::writer(rt));
     let ended = show(rt.alloc(), &mut reader, &mut writer, &view);
-    match shown_end(ended, writer.is_broken()) {
+    end_shown(rt, name, shown_end(ended, writer.is_broken()))
+}
+
+// Writes the schedule of the record that the words name.
+fn schedule(rt: &HostRuntime, found: &ArgMatches<'_>) -> ExitCode {
+    let Some(name) = found.get_str("file") else {
+        return refuse(rt, CommandFault::NoFile);
+    };
+    let mut reader = match Host::new(rt).open(name) {
+        Ok(reader) => reader,
+        Err(fault) => return refuse_file(rt, name, fault),
+    };
+    let mut writer = Counted::new(io::writer(rt));
+    let ended = write_schedule(rt.alloc(), &mut reader, &mut writer);
+    end_shown(rt, name, shown_end(ended, writer.is_broken()))
+}
+
+// Ends as what is shown of the record in this file did.
+fn end_shown(rt: &HostRuntime, name: &str, ended: Result<(), ShowFault>) -> ExitCode {
+    match ended {
         Ok(()) => ExitCode::SUCCESS,
         Err(ShowFault::Program(ProgramFault::Reader)) => refuse_file(rt, name, FileFault::Read),
         Err(fault) => {

@@ -1,0 +1,63 @@
+-- Lines with a comment behind them.
+use Rattle.std.proofs.Common.{◌≡◌, ◌<◌, ℕ, Bool, true, false, not, List, [], ◌∷◌, ◌++◌, ap, sym, refl, ◌∙◌, arith, length}
+use Rattle.std.specs.Prelude.{filter}
+use Rattle.std.specs.List.{slice_split, take_while, onto_first, All}
+use Rattle.std.proofs.lemmas.List.Elements.{filter-append, All-nil}
+use Rattle.std.proofs.lemmas.List.Sums.{take_while-cons}
+use Rattle.std.proofs.lemmas.List.Splits.{slice_split_at, slice_split_none, slice_split-cons_yes, slice_split-cons_no, length-slice_split}
+use Rattle.ct_grammar.specs.Words.{Word, is_blank, is_nothing, begins_comment, all_words, words_of}
+use Rattle.ct_grammar.specs.Lines.{line_of}
+
+-- ---- parts before and behind a byte that parts
+
+onto_append : (x : ℕ) (parts others : List (List ℕ)) → 0 < length parts → onto_first x (parts ++ others) ≡ onto_first x parts ++ others
+onto_append x [] others h = absurd (omega arith)
+onto_append x (part ∷ parts) others h = refl
+
+apart_one : (p : ℕ → Bool) (x y : ℕ) (xs ys : List ℕ) (b : Bool) → p x ≡ b →
+    slice_split p (xs ++ y ∷ ys) ≡ slice_split p xs ++ slice_split p ys →
+    slice_split p (x ∷ (xs ++ y ∷ ys)) ≡ slice_split p (x ∷ xs) ++ slice_split p ys
+apart_one p x y xs ys true e same =
+    slice_split-cons_yes p x (xs ++ y ∷ ys) e ∙ ap (λ (parts : List (List ℕ)). [] ∷ parts) same
+    ∙ sym (ap (λ (parts : List (List ℕ)). parts ++ slice_split p ys) (slice_split-cons_yes p x xs e))
+apart_one p x y xs ys false e same =
+    slice_split-cons_no p x (xs ++ y ∷ ys) e ∙ ap (onto_first x) same
+    ∙ onto_append x (slice_split p xs) (slice_split p ys) (omega (arith, length-slice_split p xs))
+    ∙ sym (ap (λ (parts : List (List ℕ)). parts ++ slice_split p ys) (slice_split-cons_no p x xs e))
+
+apart : (p : ℕ → Bool) (y : ℕ) (ys : List ℕ) → p y ≡ true → (xs : List ℕ) →
+    slice_split p (xs ++ y ∷ ys) ≡ slice_split p xs ++ slice_split p ys
+apart p y ys e [] =
+    slice_split-cons_yes p y ys e
+    ∙ sym (ap (λ (parts : List (List ℕ)). parts ++ slice_split p ys) (slice_split_none p [] (All-nil _)))
+apart p y ys e (x ∷ xs) = apart_one p x y xs ys (p x) refl (apart p y ys e xs)
+
+-- the words before a blank and those behind it
+pub words_apart : (line rest : List ℕ) → all_words (line ++ 32 ∷ rest) ≡ all_words line ++ all_words rest
+unfolding all_words
+words_apart line rest =
+    ap (filter (λ part. not (is_nothing part))) (apart is_blank 32 rest refl line)
+    ∙ filter-append (λ part. not (is_nothing part)) (slice_split is_blank line) (slice_split is_blank rest)
+
+-- ---- a comment
+
+comment_words : (rest : List ℕ) → all_words (35 ∷ 32 ∷ rest) ≡ (35 ∷ []) ∷ all_words rest
+unfolding all_words
+comment_words rest = words_apart (35 ∷ []) rest
+
+ends_at : (p : Word → Bool) (word : Word) (others : List Word) → p word ≡ false → (words : List Word) →
+    take_while p (words ++ word ∷ others) ≡ take_while p words
+ends_at p word others e [] = rw (take_while-cons, e) refl
+ends_at p word others e (first ∷ words) = rw (take_while-cons, take_while-cons, ends_at p word others e words) refl
+
+-- a comment behind a line changes no word of it
+pub before_comment : (line rest : List ℕ) → words_of (line ++ 32 ∷ 35 ∷ 32 ∷ rest) ≡ words_of line
+unfolding words_of
+before_comment line rest =
+    ap (take_while (λ word. not (begins_comment word))) (words_apart line (35 ∷ 32 ∷ rest)
+    ∙ ap (λ (words : List Word). all_words line ++ words) (comment_words rest))
+    ∙ ends_at (λ word. not (begins_comment word)) (35 ∷ []) (all_words rest) refl (all_words line)
+
+pub line_before : (line rest : List ℕ) → line_of (line ++ 32 ∷ 35 ∷ 32 ∷ rest) ≡ line_of line
+unfolding line_of
+line_before line rest = rw (before_comment line rest) refl

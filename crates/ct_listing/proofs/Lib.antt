@@ -1,0 +1,12 @@
+pub mod Comments
+pub mod Pieces
+pub mod OneLine
+pub mod Leading
+pub mod Playing
+pub mod Seen
+pub mod Shown
+pub mod Quoted
+pub mod Headed
+pub mod Growing
+pub mod Present
+pub mod Feeds

@@ -1,0 +1,79 @@
+-- What is written of a line has no line feed.
+use Rattle.std.proofs.Common.{◌≡◌, ℕ, true, List, [], ◌∷◌, ◌++◌, refl, Option, Some, None}
+use Rattle.std.specs.Prelude.{decimal, codes}
+use Rattle.std.specs.List.{concat}
+use Rattle.ct_grammar.specs.declared.act.Act.{Act}
+use Rattle.ct_grammar.specs.declared.act.Act.TheVariants.{Submit, Receive, Begin, Enter, Choose, Adopt, Suspect, Conclude, Deliver}
+use Rattle.ct_grammar.specs.declared.act.Act.TheVariants.{Follow, Crash, Postpone, Lose, Repeat, LoseFrom}
+use Rattle.ct_grammar.specs.declared.carried.Carried.{Carried}
+use Rattle.ct_grammar.specs.declared.carried.Carried.TheVariants.{Data, Est, Prop, Ack, Nack, Dec}
+use Rattle.ct_grammar.specs.declared.pick.Pick.{Pick}
+use Rattle.ct_grammar.specs.declared.pick.Pick.TheVariants.{Serial, First}
+use Rattle.ct_names.specs.declared.command.Command.{Command}
+use Rattle.ct_names.specs.declared.command.Command.TheVariants.{Set, Add, Copy}
+use Rattle.ct_grammar.specs.Words.{Word, text_of}
+use Rattle.ct_listing.specs.Leading.{one_line}
+use Rattle.ct_listing.specs.Expecting.{IsLone}
+use Rattle.ct_print.specs.Acts.{message_word, place_word, carried_text, sent_text, pick_text, command_text, act_text}
+use Rattle.ct_listing.proofs.Pieces.{decimal_piece, pair_piece, marks_line, line_append}
+
+pub decimal_line : (n : ℕ) → one_line (decimal n) ≡ true
+decimal_line n = marks_line (decimal n) (decimal_piece n).marks
+
+pub two_lines : (a b : List ℕ) → one_line a ≡ true → one_line b ≡ true → one_line (text_of (a ∷ b ∷ [])) ≡ true
+two_lines a b h k = line_append a (32 ∷ b) h k
+
+pub three_lines : (a b c : List ℕ) → one_line a ≡ true → one_line b ≡ true → one_line c ≡ true →
+    one_line (text_of (a ∷ b ∷ c ∷ [])) ≡ true
+three_lines a b c h k l = line_append a (32 ∷ (b ++ 32 ∷ c)) h (line_append b (32 ∷ c) k l)
+
+message_line : (o n : ℕ) → one_line (message_word o n) ≡ true
+unfolding message_word
+message_line o n = marks_line (concat (decimal o ∷ (46 ∷ []) ∷ decimal n ∷ [])) (pair_piece o 46 n refl).marks
+
+place_line : (i r : ℕ) → one_line (place_word i r) ≡ true
+unfolding place_word
+place_line i r = marks_line (concat (decimal i ∷ (47 ∷ []) ∷ decimal r ∷ [])) (pair_piece i 47 r refl).marks
+
+carried_line : (carried : Carried) → one_line (carried_text carried) ≡ true
+unfolding carried_text
+carried_line (Data o n) = two_lines (codes "data") (message_word o n) refl (message_line o n)
+carried_line (Est i r) = two_lines (codes "est") (place_word i r) refl (place_line i r)
+carried_line (Prop i r) = two_lines (codes "prop") (place_word i r) refl (place_line i r)
+carried_line (Ack i r) = two_lines (codes "ack") (place_word i r) refl (place_line i r)
+carried_line (Nack i r) = two_lines (codes "nack") (place_word i r) refl (place_line i r)
+carried_line (Dec i r) = two_lines (codes "dec") (place_word i r) refl (place_line i r)
+
+sent_line : (carried : Carried) (from : Option ℕ) → one_line (sent_text carried from) ≡ true
+unfolding sent_text
+sent_line carried None = carried_line carried
+sent_line carried (Some p) = three_lines (carried_text carried) (codes "from") (decimal p) (carried_line carried) refl (decimal_line p)
+
+pick_line : (pick : Pick) → one_line (pick_text pick) ≡ true
+unfolding pick_text
+pick_line (Serial n) = line_append (codes "#") (decimal n ++ []) refl (line_append (decimal n) [] (decimal_line n) refl)
+pick_line (First carried from) = sent_line carried from
+
+command_line : (command : Command) → one_line (command_text command) ≡ true
+unfolding command_text
+command_line (Set r v) = three_lines (codes "set") (decimal r) (decimal v) refl (decimal_line r) (decimal_line v)
+command_line (Add r v) = three_lines (codes "add") (decimal r) (decimal v) refl (decimal_line r) (decimal_line v)
+command_line (Copy f t) = three_lines (codes "copy") (decimal f) (decimal t) refl (decimal_line f) (decimal_line t)
+
+pub act_line : (act : Act) → IsLone act → one_line (act_text act) ≡ true
+unfolding act_text
+act_line (Submit command) h = two_lines (codes "submit") (command_text command) refl (command_line command)
+act_line (Receive pick) h = two_lines (codes "receive") (pick_text pick) refl (pick_line pick)
+act_line Begin h = refl
+act_line Enter h = refl
+act_line (Choose p) h = two_lines (codes "choose") (decimal p) refl (decimal_line p)
+act_line Adopt h = refl
+act_line Suspect h = refl
+act_line Conclude h = refl
+act_line Deliver h = refl
+act_line Follow h = refl
+act_line Crash h = refl
+act_line (Postpone pick) h = two_lines (codes "postpone") (pick_text pick) refl (pick_line pick)
+act_line (Lose pick) h = two_lines (codes "lose") (pick_text pick) refl (pick_line pick)
+act_line (Repeat pick) h = two_lines (codes "repeat") (pick_text pick) refl (pick_line pick)
+act_line (LoseFrom set) h = absurd h

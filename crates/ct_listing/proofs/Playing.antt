@@ -1,0 +1,123 @@
+-- Lines that are played in a world that is not cut.
+use Rattle.std.proofs.Common.{◌≡◌, ◌<◌, ◌≤◌, ◌-◌, ℕ, Bool, true, false, List, [], ◌∷◌, ap, sym, refl, ◌∙◌, arith, Option, Some, None}
+use Rattle.std.proofs.Common.{Result, Ok, Err, get_or, replicate, cond}
+use Rattle.std.specs.Str.{bytes_eq}
+use Rattle.std.proofs.lemmas.List.{get_or-replicate}
+use Rattle.std.proofs.lemmas.Slice.Eq.{bytes_eq-Decides}
+use Rattle.std.proofs.lemmas.Bool.Decides.{nat_tests}
+use Rattle.ct_names.specs.Group.{is_member}
+use Rattle.ct_names.specs.declared.limit.TheConstants.{MAX_MEMBERS}
+use Rattle.ct_model.specs.Cause.{cause}
+use Rattle.ct_model.specs.declared.step.Step.{Step}
+use Rattle.ct_model.specs.declared.step.Step.TheVariants as step
+use Rattle.ct_grammar.specs.declared.act.Act.{Act}
+use Rattle.ct_grammar.specs.declared.act.Act.TheVariants.{Submit, Receive, Begin, Enter, Choose, Adopt, Suspect, Conclude, Deliver}
+use Rattle.ct_grammar.specs.declared.act.Act.TheVariants.{Follow, Crash, Postpone, Lose, Repeat, LoseFrom}
+use Rattle.ct_grammar.specs.declared.fact.Fact.{Fact}
+use Rattle.ct_grammar.specs.declared.play.Play.TheVariants.{Act as Acts, Expect}
+use Rattle.ct_grammar.specs.declared.who.Who.TheVariants.{One}
+use Rattle.ct_grammar.specs.Sides.{side_of, together, whole}
+use Rattle.ct_play.specs.Acting.{after_step, done, go_on, step_of, stepped, unless_barred, unless_refused}
+use Rattle.ct_play.specs.Cuts.{barred, is_beside, is_near}
+use Rattle.ct_play.specs.Facts.{expected, holds, there, value}
+use Rattle.ct_play.specs.Faults.{IsFaultOf, IsShort, UnlessShort, is_short}
+use Rattle.ct_play.specs.Picking.{sender_of}
+use Rattle.ct_play.specs.Played.{Played, with_step}
+use Rattle.ct_play.specs.Playing.{played}
+use Rattle.ct_play.specs.Who.{known}
+use Rattle.ct_play.specs.declared.line_fault.LineFault.{LineFault}
+use Rattle.ct_listing.specs.Expecting.{IsLone}
+
+-- ---- no cut
+
+one_side : (p : ℕ) → side_of whole p ≡ 0
+one_side p = by_test (is_member MAX_MEMBERS p) refl
+  where
+    by_test : (b : Bool) → is_member MAX_MEMBERS p ≡ b → cond b (get_or whole (p - 1) 0) 0 ≡ 0
+    by_test true e = get_or-replicate 16 (p - 1) 0 0 (grind (arith, nat_tests))
+    by_test false e = refl
+
+beside : (p : ℕ) (sender : Option ℕ) → is_beside whole p sender ≡ true
+beside p None = refl
+beside p (Some q) = rw (one_side p, one_side q) refl
+
+near_all : (s : Played) (p k : ℕ) → s.sides ≡ whole → is_near s p k ≡ true
+unfolding is_near
+near_all s p k e = rw e (beside p (sender_of s.rehearsal k))
+
+no_bar : (s : Played) (step : Step) → s.sides ≡ whole → barred s step ≡ None
+no_bar s (step.Submit p c) e = refl
+no_bar s (step.Receive p k) e = rw (near_all s p k e) refl
+no_bar s (step.Begin p) e = refl
+no_bar s (step.Enter p) e = refl
+no_bar s (step.Choose p q) e = refl
+no_bar s (step.Adopt p) e = refl
+no_bar s (step.Suspect p) e = refl
+no_bar s (step.Conclude p) e = refl
+no_bar s (step.Deliver p) e = refl
+no_bar s (step.Follow p) e = refl
+no_bar s (step.Crash p) e = refl
+no_bar s (step.Postpone p k) e = refl
+no_bar s (step.Lose p k) e = refl
+no_bar s (step.Repeat p k) e = refl
+
+-- ---- acts
+
+step_joins : (s : Played) (step : Step) → s.sides ≡ whole → cause s.rehearsal step ≡ None → after_step s step ≡ Ok (with_step s step)
+unfolding after_step stepped
+step_joins s step e allowed = rw (allowed, no_bar s step e) refl
+
+done_lone : (s : Played) (p : ℕ) (act : Act) → IsLone act → done s p act ≡ go_on (step_of s.rehearsal p act) (after_step s)
+done_lone s p (Submit command) h = refl
+done_lone s p (Receive pick) h = refl
+done_lone s p Begin h = refl
+done_lone s p Enter h = refl
+done_lone s p (Choose from) h = refl
+done_lone s p Adopt h = refl
+done_lone s p Suspect h = refl
+done_lone s p Conclude h = refl
+done_lone s p Deliver h = refl
+done_lone s p Follow h = refl
+done_lone s p Crash h = refl
+done_lone s p (Postpone pick) h = refl
+done_lone s p (Lose pick) h = refl
+done_lone s p (Repeat pick) h = refl
+done_lone s p (LoseFrom set) h = absurd h
+
+-- an act whose step is allowed
+pub lone_played : (s : Played) (p : ℕ) (act : Act) (step : Step) → IsLone act → s.sides ≡ whole → step_of s.rehearsal p act ≡ Ok step →
+    cause s.rehearsal step ≡ None → played s (Acts (One p) act) ≡ Ok (with_step s step)
+lone_played s p act step lone e is allowed =
+    done_lone s p act lone
+    ∙ ap (λ (r : Result Step LineFault). go_on r (after_step s)) is
+    ∙ step_joins s step e allowed
+
+-- ---- expectations
+
+same_bytes : (xs ys : List ℕ) → xs ≡ ys → bytes_eq xs ys ≡ true
+same_bytes xs ys e = (bytes_eq-Decides xs ys).1 e
+
+holds_there : (s : Played) (p : ℕ) (fact : Fact) → is_member s.rehearsal.setting.members p ≡ true → there s p fact ≡ value fact →
+    holds s p fact ≡ true
+unfolding holds
+holds_there s p fact member e = rw (member, same_bytes (there s p fact) (value fact) e) refl
+
+known_one : (n p : ℕ) → is_member n p ≡ true → known n (One p) ≡ Ok (p ∷ [])
+unfolding known
+known_one n p member = rw member refl
+
+pub there_played : (s : Played) (p : ℕ) (fact : Fact) → is_member s.rehearsal.setting.members p ≡ true → there s p fact ≡ value fact →
+    played s (Expect (One p) fact) ≡ Ok s
+unfolding expected
+there_played s p fact member e =
+    rw (known_one s.rehearsal.setting.members p member, holds_there s p fact member e) refl
+
+-- ---- faults
+
+-- what comes to something has no fault but want of memory or of the board
+pub short_fault : {A : Type 0} (r : Result A LineFault) (x : A) (fault : LineFault) → r ≡ Ok x → IsFaultOf r fault → IsShort fault
+short_fault r x fault e h = by_test (is_short fault) refl h
+  where
+    by_test : (b : Bool) → is_short fault ≡ b → UnlessShort b (r ≡ Err fault) → is_short fault ≡ true
+    by_test true same h = same
+    by_test false same h = absurd (cc)

@@ -1,0 +1,74 @@
+-- What is there at a member.
+use Rattle.std.proofs.Common.{◌≡◌, ◌≤◌, ℕ, Bool, true, false, List, [], ◌∷◌, ◌++◌, refl, sym, ap, ◌∙◌, Option, Some, None}
+use Rattle.std.specs.Prelude.{codes, decimal, is_some, option_map, ◌&&◌}
+use Rattle.ct_names.specs.Group.{is_member}
+use Rattle.ct_model.specs.declared.phase.Phase.{Phase}
+use Rattle.ct_model.specs.declared.phase.Phase.TheVariants.{Rest, Gather, Wait, Tally}
+use Rattle.ct_model.specs.Rehearsal.{state_of}
+use Rattle.ct_model.specs.State.{delivered, is_crashed}
+use Rattle.ct_table.specs.Table.{table}
+use Rattle.ct_world.specs.World.{member_of}
+use Rattle.ct_show.specs.Details.{instance_of}
+use Rattle.ct_grammar.specs.declared.fact.Fact.{Fact}
+use Rattle.ct_grammar.specs.declared.fact.Fact.TheVariants.{Up, Crashed, Idle, Instance, Round, Phase as InPhase, Delivered, Table}
+use Rattle.ct_grammar.specs.Numbers.{max_u32}
+use Rattle.ct_print.specs.Facts.{fact_text}
+use Rattle.ct_play.specs.Facts.{open_text, place_of, there}
+use Rattle.ct_play.specs.Played.{Played}
+use Rattle.ct_listing.specs.Expecting.{IsThere}
+use Rattle.ct_listing.proofs.OneLine.{decimal_line, two_lines}
+use Rattle.ct_listing.proofs.Quoted.{delivered_there, table_there}
+
+module _ (s : Played) (p : ℕ) where
+  crash_mark : (r : Bool) → is_member s.rehearsal.setting.members p ≡ true →
+      r ≡ (is_member s.rehearsal.setting.members p && is_crashed (state_of s.rehearsal) p) → is_crashed (state_of s.rehearsal) p ≡ r
+  crash_mark r member e = sym (rw member at e)
+
+  pub crashed_there : (r : Bool) → is_member s.rehearsal.setting.members p ≡ true →
+      r ≡ (is_member s.rehearsal.setting.members p && is_crashed (state_of s.rehearsal) p) → r ≡ true → IsThere s p Crashed
+  unfolding fact_text
+  crashed_there r member e is = record { same = rw (crash_mark r member e, is) refl; fits = tt; line = refl }
+
+  pub up_there : (r : Bool) → is_member s.rehearsal.setting.members p ≡ true →
+      r ≡ (is_member s.rehearsal.setting.members p && is_crashed (state_of s.rehearsal) p) → r ≡ false → IsThere s p Up
+  unfolding fact_text
+  up_there r member e is = record { same = rw (crash_mark r member e, is) refl; fits = tt; line = refl }
+
+  pub instance_there : (i : ℕ) → is_member s.rehearsal.setting.members p ≡ true → i ≡ instance_of s.rehearsal p → i ≤ max_u32 →
+      IsThere s p (Instance i)
+  unfolding fact_text instance_of
+  instance_there i member e small = record {
+    same = ap decimal (sym (rw (member, instance_of) at e));
+    fits = small;
+    line = two_lines (codes "instance") (decimal i) refl (decimal_line i);
+  }
+
+  pub idle_there : is_member s.rehearsal.setting.members p ≡ true → place_of s.rehearsal p ≡ None → IsThere s p Idle
+  unfolding fact_text
+  idle_there member none = record { same = closed _ (member_of s.rehearsal p).current (rw member at none); fits = tt; line = refl }
+    where
+      closed : {A B : Type 0} (f : A → B) (o : Option A) → option_map f o ≡ None → open_text (is_some o) ≡ codes "idle"
+      closed f None e = refl
+      closed f (Some x) e = absurd (cc)
+
+  pub round_there : (r : ℕ) (phase : Phase) → place_of s.rehearsal p ≡ Some (r, phase) → r ≤ max_u32 → IsThere s p (Round r)
+  unfolding fact_text
+  round_there r phase e small = record {
+    same = rw e refl;
+    fits = small;
+    line = two_lines (codes "round") (decimal r) refl (decimal_line r);
+  }
+
+  pub phase_there : (r : ℕ) (phase : Phase) → place_of s.rehearsal p ≡ Some (r, phase) → IsThere s p (InPhase phase)
+  unfolding fact_text
+  phase_there r Rest e = record { same = rw e refl; fits = tt; line = refl }
+  phase_there r Gather e = record { same = rw e refl; fits = tt; line = refl }
+  phase_there r Wait e = record { same = rw e refl; fits = tt; line = refl }
+  phase_there r Tally e = record { same = rw e refl; fits = tt; line = refl }
+
+  -- the texts that are appended to nothing
+  pub delivered_pushed : (old text kind : List ℕ) → old ≡ [] → text ≡ old ++ there s p (Delivered kind) → IsThere s p (Delivered text)
+  delivered_pushed old text kind none e = delivered_there s p text (e ∙ ap (λ (l : List ℕ). l ++ there s p (Delivered kind)) none)
+
+  pub table_pushed : (old text kind : List ℕ) → old ≡ [] → text ≡ old ++ there s p (Table kind) → IsThere s p (Table text)
+  table_pushed old text kind none e = table_there s p text (e ∙ ap (λ (l : List ℕ). l ++ there s p (Table kind)) none)

@@ -1,0 +1,49 @@
+-- What is written of the lines of a schedule: one line each, which is no record.
+use Rattle.std.proofs.Common.{◌≡◌, ℕ, true, false, List, [], ◌∷◌, ◌++◌, refl, ap, ◌∙◌, append_assoc}
+use Rattle.std.specs.Prelude.{decimal, codes}
+use Rattle.ct_grammar.specs.declared.act.Act.{Act}
+use Rattle.ct_grammar.specs.declared.fact.Fact.{Fact}
+use Rattle.ct_grammar.specs.declared.given.Given.{Given}
+use Rattle.ct_grammar.specs.declared.given.Given.TheVariants.{Members, Cells, Batch}
+use Rattle.ct_grammar.specs.declared.line.Line.TheVariants.{Given as Gives, Play as Plays}
+use Rattle.ct_grammar.specs.declared.play.Play.TheVariants.{Act as Acts, Expect}
+use Rattle.ct_grammar.specs.declared.who.Who.TheVariants.{One}
+use Rattle.ct_judge.specs.Reading.{begins_record}
+use Rattle.ct_print.specs.Acts.{act_text}
+use Rattle.ct_print.specs.Facts.{fact_text}
+use Rattle.ct_print.specs.Lines.{given_text, line_text, play_text}
+use Rattle.ct_print.specs.Members.{who_text}
+use Rattle.ct_listing.specs.Expecting.{IsLone}
+use Rattle.ct_listing.specs.Leading.{one_line}
+use Rattle.ct_listing.proofs.Pieces.{decimal_piece, no_brace}
+use Rattle.ct_listing.proofs.OneLine.{act_line, decimal_line, three_lines, two_lines}
+
+pub acts_line : (p : ℕ) (act : Act) → IsLone act → one_line (line_text (Plays (Acts (One p) act))) ≡ true
+unfolding line_text play_text who_text
+acts_line p act h = two_lines (decimal p) (act_text act) (decimal_line p) (act_line act h)
+
+pub acts_brace : (p : ℕ) (act : Act) (rest : List ℕ) → begins_record (line_text (Plays (Acts (One p) act)) ++ rest) ≡ false
+unfolding line_text play_text who_text
+acts_brace p act rest =
+    ap begins_record (append_assoc (decimal p) (32 ∷ act_text act) rest) ∙ no_brace (decimal p) (32 ∷ act_text act ++ rest)
+    (decimal_piece p)
+
+pub expect_line : (p : ℕ) (fact : Fact) → one_line (fact_text fact) ≡ true → one_line (line_text (Plays (Expect (One p) fact))) ≡ true
+unfolding line_text play_text who_text
+expect_line p fact h = three_lines (codes "expect") (decimal p) (fact_text fact) refl (decimal_line p) h
+
+pub expect_brace : (p : ℕ) (fact : Fact) (rest : List ℕ) → begins_record (line_text (Plays (Expect (One p) fact)) ++ rest) ≡ false
+unfolding line_text play_text
+expect_brace p fact rest = refl
+
+pub given_line : (given : Given) → one_line (line_text (Gives given)) ≡ true
+unfolding line_text given_text
+given_line (Members n) = two_lines (codes "members") (decimal n) refl (decimal_line n)
+given_line (Cells k) = two_lines (codes "cells") (decimal k) refl (decimal_line k)
+given_line (Batch b) = two_lines (codes "batch") (decimal b) refl (decimal_line b)
+
+pub given_brace : (given : Given) (rest : List ℕ) → begins_record (line_text (Gives given) ++ rest) ≡ false
+unfolding line_text given_text
+given_brace (Members n) rest = refl
+given_brace (Cells k) rest = refl
+given_brace (Batch b) rest = refl

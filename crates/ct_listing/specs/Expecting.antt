@@ -1,0 +1,21 @@
+-- What may be expected.
+use Rattle.std.specs.Prelude.{◌≡◌, ℕ, true}
+use Rattle.ct_grammar.specs.declared.act.Act.{Act}
+use Rattle.ct_grammar.specs.declared.act.Act.TheVariants.{LoseFrom}
+use Rattle.ct_grammar.specs.declared.fact.Fact.{Fact}
+use Rattle.ct_play.specs.Facts.{there, value}
+use Rattle.ct_play.specs.Played.{Played}
+use Rattle.ct_print.specs.Facts.{fact_text}
+use Rattle.ct_listing.specs.Leading.{one_line}
+use Rattle.ct_print.specs.Writable.{FactFits}
+
+-- an act of one step
+abbrev pub IsLone : Act → Type 0
+IsLone (LoseFrom set) = ⊥
+IsLone act = Unit {0}
+
+-- the fact is what is there at p, and can be written
+pub record IsThere (s : Played) (p : ℕ) (fact : Fact) : Type 0 where
+  pub same : there s p fact ≡ value fact
+  pub fits : FactFits fact
+  pub line : one_line (fact_text fact) ≡ true

@@ -1,0 +1,5 @@
+pub mod Line
+pub mod Leading
+pub mod Expecting
+pub mod Heading
+pub mod Listing

@@ -1,0 +1,17 @@
+//! Records as schedules: texts of which the judge of schedules makes the same records.
+#![tactic(auto)]
+
+mod acting;
+mod closing;
+mod heading;
+mod lines;
+mod naming;
+mod remarks;
+mod running;
+mod told;
+mod words;
+mod writing;
+
+pub use running::write_schedule;
+pub use words::schedule_command;
+pub use writing::schedule_of;
