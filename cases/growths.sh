@@ -217,8 +217,11 @@ for n in 47 70; do
 done
 
 # Each subcommand of the tool. A session gives its answers one by one, and a check tells a record's fault behind its name.
-for words in state report diagram steps; do
+for words in state report diagram steps schedule; do
     tool_calls is_whole suspicion.json "$words"
+done
+for words in state steps; do
+    tool_calls is_whole suspicion.json "$words" --json
 done
 tool_calls is_whole ../examples/second_receipt_is_refused.json steps
 tool_calls is_whole ../examples/coordinator_crashes.schedule record
