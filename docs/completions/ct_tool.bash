@@ -7,7 +7,7 @@
 _ct_tool_words() {
     case $1 in
     '')
-        commands='check diagram interact record report state steps walk help'
+        commands='check diagram interact record report schedule state steps walk help'
         options='-h --help -V --version'
         values=''
         operands='command'
@@ -18,8 +18,8 @@ _ct_tool_words() {
         operands='file+'
         ;;
     diagram)
-        options='--from --to -h --help'
-        values='--from=any --to=any'
+        options='--from --to --columns --member --only -h --help'
+        values='--from=any --to=any --columns=any --member=any --only=any'
         operands='file'
         ;;
     interact)
@@ -37,13 +37,18 @@ _ct_tool_words() {
         values=''
         operands='file'
         ;;
+    schedule)
+        options='-h --help'
+        values=''
+        operands='file'
+        ;;
     state)
-        options='--after -h --help'
+        options='--after --json -h --help'
         values='--after=any'
         operands='file'
         ;;
     steps)
-        options='--from --to --member -h --help'
+        options='--from --to --member --json -h --help'
         values='--from=any --to=any --member=any'
         operands='file'
         ;;
