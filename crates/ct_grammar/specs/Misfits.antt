@@ -7,6 +7,7 @@ use Rattle.ct_grammar.specs.declared.misfit.TheConstants.{LONGEST_WORD}
 use Rattle.ct_grammar.specs.declared.unfit.Unfit.{Unfit}
 use Rattle.ct_grammar.specs.declared.unfit.Unfit.TheVariants.{End, Word as Other}
 use Rattle.ct_grammar.specs.declared.wanted.Wanted.{Wanted}
+use Rattle.ct_grammar.specs.declared.wanted.Wanted.TheVariants.{Act}
 use Rattle.ct_grammar.specs.Words.{Word}
 use Rattle.ct_grammar.specs.Places.{told_at}
 use Rattle.ct_grammar.specs.Near.{near_name}
@@ -37,6 +38,10 @@ near_text None wanted = listed_text wanted
 
 unfoldable pub hint_text : Word → Wanted → List ℕ
 hint_text word wanted = near_text (near_name word (told_at wanted).names) wanted
+
+-- the same of a word that names no act
+abbrev pub act_hint : Word → List ℕ
+act_hint word = hint_text word Act
 
 -- the word; of a long one how many bytes it has
 unfoldable pub shown_word : Word → List ℕ

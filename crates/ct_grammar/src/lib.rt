@@ -78,7 +78,7 @@ pub use carried::Carried;
 pub use fact::Fact;
 pub use given::Given;
 pub use line::Line;
-pub use misfit::{LONGEST_WORD, Misfit};
+pub use misfit::{LONGEST_WORD, Misfit, push_act_hint};
 pub use numbers::members;
 pub use pick::Pick;
 pub use play::Play;

@@ -1,7 +1,7 @@
 //! Why lines are not understood.
 
 ghost use Rattle.std.specs.Prelude.{◌≡◌, ◌++◌, IfOk, OnOk, map, string_bytes};
-ghost use Rattle.ct_grammar.specs.Misfits.{misfit_of, misfit_text, word_text, hint_text, listed_text, names_text, shown_word};
+ghost use Rattle.ct_grammar.specs.Misfits.{misfit_of, misfit_text, word_text, act_hint, hint_text, listed_text, names_text, shown_word};
 
 use crate::near::near_name;
 use crate::places::told_at;
@@ -36,6 +36,13 @@ impl Misfit {
             Some(word) => push_word(text, word.as_str(), self.wanted),
         }
     }
+}
+
+/// Puts behind the text the act that is near to the word, as `; receive?`, or else the acts, as `: submit, receive, ..`.
+pub fn push_act_hint(text: &mut String, word: &str) -> Result<(), AllocError>
+    ensures { OnOk result (string_bytes text.new ≡ string_bytes text.old ++ act_hint word.now) }
+{
+    push_hint(text, word, Wanted::Act)
 }
 
 /// What does not fit among these words.
