@@ -6,3 +6,4 @@ pub mod Tracing
 mod Checks
 mod Reports
 pub mod Told
+mod Inputs

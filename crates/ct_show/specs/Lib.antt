@@ -6,6 +6,9 @@ pub mod JsonEnvelopes
 pub mod Lines
 pub mod Selected
 pub mod Facts
+pub mod GivenNames
+pub mod OddRecords
+pub mod OddSteps
 pub mod NoRecords
 pub mod Faults
 pub mod Answer

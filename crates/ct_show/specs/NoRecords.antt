@@ -1,13 +1,17 @@
 -- What is told of an input that is no record.
-use Rattle.std.specs.Prelude.{◌≡◌, ℕ, ◌==◌, Bool, false, ◌&&◌, ◌||◌, nat_eq, nat_le, List, [], ◌∷◌, codes, decimal, if◌then◌else◌}
-use Rattle.std.specs.Prelude.{Result, Ok, Err}
+use Rattle.std.specs.Prelude.{◌≡◌, ℕ, ◌==◌, Bool, false, ◌&&◌, ◌||◌, nat_eq, nat_le, List, [], ◌∷◌, codes, decimal}
+use Rattle.std.specs.Prelude.{Option, Some, None, Result, Ok, Err, if◌then◌else◌}
 use Rattle.std.specs.List.{concat, starts_with}
 use Rattle.std.specs.Result.{IsErrAnd}
 use Rattle.ct_records.specs.declared.read_fault.ReadFault.{ReadFault}
 use Rattle.ct_records.specs.declared.read_fault.ReadFault.TheVariants.{TooLong, NotJson, Shape, Version, OutOfMemory}
 use Rattle.ct_records.specs.declared.script.Script.{Script}
-use Rattle.ct_records.specs.Script.{script}
+use Rattle.serde_json.specs.Data.{Data}
+use Rattle.ct_records.specs.Script.{data_of, script}
 use Rattle.ct_records.specs.View.{rehearsal_of}
+use Rattle.ct_show.specs.declared.place.Place.{Place}
+use Rattle.ct_show.specs.OddRecords.{versions_line, whole_line}
+use Rattle.ct_show.specs.OddSteps.{step_line}
 
 -- its first byte is a digit
 abbrev pub begins_number : List ℕ → Bool
@@ -22,29 +26,40 @@ begins_schedule bytes =
 
 -- ---- the line
 
+-- where the input stops being JSON: nowhere, where it is the front of a JSON text
+abbrev pub place_text : Option Place → List ℕ
+place_text None = codes ": the input ends too early"
+place_text (Some place) = concat (codes " at line " ∷ decimal place.line ∷ codes ", column " ∷ decimal place.column ∷ [])
+
+abbrev pub not_json_line : Option Place → List ℕ
+not_json_line place = concat (codes "record: not JSON" ∷ place_text place ∷ [])
+
 -- of an input that is no JSON text
-abbrev pub json_line : List ℕ → List ℕ
-json_line bytes =
+abbrev pub json_line : Option Place → List ℕ → List ℕ
+json_line place bytes =
     if begins_schedule bytes then codes "record: not JSON; this is a schedule: ct_tool record makes a record of it"
-    else codes "record: not JSON"
+    else not_json_line place
 
 -- of a JSON text of another shape, as a whole or in the step of this number
-abbrev pub shape_line : ℕ → List ℕ
-shape_line at =
-    if at == 0 then codes "record: an object with the keys batch, cells, n, steps and version is wanted, each of its range"
-    else concat (codes "record: step " ∷ decimal at ∷ codes " is no step" ∷ [])
+abbrev pub shape_line : ℕ → Option Data → List ℕ
+shape_line at None = codes "record: not JSON"
+shape_line at (Some d) = if at == 0 then whole_line d else step_line at d
 
--- of the input with this first fault
-abbrev pub told_line : ReadFault → List ℕ → List ℕ
-told_line TooLong bytes = codes "record: too long"
-told_line NotJson bytes = json_line bytes
-told_line (Shape at) bytes = shape_line at
-told_line Version bytes = codes "record: version 1, 2 or 3 is wanted"
-told_line OutOfMemory bytes = codes "out of memory"
+-- of the input with this first fault, which stops being JSON at the place
+abbrev pub told_line : ReadFault → Option Place → List ℕ → List ℕ
+told_line TooLong place bytes = codes "record: too long"
+told_line NotJson place bytes = json_line place bytes
+told_line (Shape at) place bytes = shape_line at (data_of bytes)
+told_line Version place bytes = versions_line
+told_line OutOfMemory place bytes = codes "out of memory"
+
+-- this is told of the input with this first fault. Of the place where it stops being JSON nothing is said but that it is told
+abbrev pub IsToldAs : List ℕ → ReadFault → List ℕ → Type 0
+IsToldAs told fault bytes = (place : Option Place) × (told ≡ told_line fault place bytes)
 
 -- the input is no record, and this is told of it
 abbrev pub IsToldOf : List ℕ → List ℕ → Type 0
-IsToldOf told bytes = IsErrAnd (script bytes) (λ fault. told ≡ told_line fault bytes)
+IsToldOf told bytes = IsErrAnd (script bytes) (λ fault. IsToldAs told fault bytes)
 
 -- what was read: the record that the input is, or what is told of it
 abbrev pub IsReadOf : Result Script (List ℕ) → List ℕ → Type 0
