@@ -20,7 +20,7 @@ const REFUSED: &str = "{\"batch\":7,\"cells\":4,\"n\":1,\"steps\":[[\"begin\",1]
 
 // Its second step is none.
 const SHAPELESS: &str =
-    "{\"batch\":7,\"cells\":4,\"n\":1,\"steps\":[[\"crash\",1],[\"rest\",1]],\"version\":3}";
+    "{\"batch\":7,\"cells\":4,\"n\":1,\"steps\":[[\"crash\",1],[\"begins\",1]],\"version\":3}";
 
 const UNKNOWN: &str = "{\"batch\":7,\"cells\":4,\"n\":1,\"steps\":[],\"version\":4}";
 
@@ -96,8 +96,8 @@ fn each_fault_has_its_line(rt: HostRuntime) -> Result<(), Fail> {
         "refused.json",
     ];
     let text = "nowhere: no such file
-none.json: record: not JSON
-shapeless.json: record: step 2 is no step
+none.json: record: not JSON at line 1, column 1
+shapeless.json: record: step 2: begins is no step; begin?
 unknown.json: record: version 1, 2 or 3 is wanted
 refused.json: step 1: Nothing
 ";

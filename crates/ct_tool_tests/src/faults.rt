@@ -173,10 +173,18 @@ fn inputs_have_lines(alloc: Global) -> Result<bool, AllocError> {
             "members 2",
             "record: not JSON; this is a schedule: ct_tool record makes a record of it",
         ),
-        ("member 2", "record: not JSON"),
         (
-            "{\"cells\":4,\"n\":1,\"steps\":[[\"begin\",1],[\"began\",1]],\"version\":1}",
-            "record: step 2 is no step",
+            "{\"cells\":4,\n\"n\":}",
+            "record: not JSON at line 2, column 5",
+        ),
+        ("{\"cells\":4", "record: not JSON: the input ends too early"),
+        (
+            "{\"cells\":4,\"n\":17,\"steps\":[],\"version\":1}",
+            "record: n: 1 to 16 is wanted",
+        ),
+        (
+            "{\"cells\":4,\"n\":1,\"steps\":[[\"begin\",1],[\"recieve\",1]],\"version\":1}",
+            "record: step 2: recieve is no step; receive?",
         ),
         (
             "{\"cells\":4,\"n\":1,\"steps\":[],\"version\":4}",
