@@ -10,7 +10,7 @@ use Rattle.ct_records.specs.Text.{record_text}
 use Rattle.ct_model.specs.Rehearsal.{Rehearsal, state_of}
 use Rattle.ct_world.specs.Driving.{next_local}
 use Rattle.ct_show.specs.Facts.{member_facts}
-use Rattle.ct_show.specs.Json.{report_json}
+use Rattle.ct_json.specs.Json.{report_json}
 use Rattle.ct_show.specs.State.{first_receipt, next_text, own_enabled}
 use Rattle.ct_grammar.specs.declared.line.Line.{Line}
 use Rattle.ct_grammar.specs.declared.line.Line.TheVariants.{Play as Plays}

@@ -10,13 +10,14 @@ ghost use Rattle.ct_judge.specs.Answers.{record_answer, report_answer, state_ans
 use crate::naming::push_letters;
 use crate::wording::push_number;
 use ct_grammar::Question;
+use ct_json::report_json;
 use ct_model::Step;
 use ct_names::{
     MAX_ENVELOPES, MAX_INSTANCES, MAX_ROUNDS, MAX_STEPS, MAX_SUBMISSIONS, Member, Serial,
 };
 use ct_play::{Stage, first_near, waiting_at};
 use ct_records::write_record;
-use ct_show::{first_receipt, push_member_facts, push_next_of, push_own_enabled, report_json};
+use ct_show::{first_receipt, push_member_facts, push_next_of, push_own_enabled};
 use ct_world::World;
 use std::alloc::{AllocError, Global};
 

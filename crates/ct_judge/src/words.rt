@@ -2,8 +2,7 @@
 
 ghost use Rattle.std.specs.Prelude.{◌≡◌, false, IfOk};
 ghost use Rattle.clap.specs.Words.{app_of, rule_of};
-ghost use Rattle.ct_show.specs.Line.{flag_rule};
-ghost use Rattle.ct_judge.specs.Line.{interact_app, record_app};
+ghost use Rattle.ct_judge.specs.Line.{flag_rule, interact_app, record_app};
 
 use clap::{Arg, ArgAction, Command};
 use ct_streams::{file_argument, subcommand, value_option};

@@ -1,6 +1,6 @@
 -- What is shown of the state that a record leads to: two lines of the whole, and lines of each member.
 use Rattle.std.specs.Prelude.{ℕ, zero, suc, List, [], ◌∷◌, ◌++◌, length}
-use Rattle.std.specs.Prelude.{codes, decimal, flat_map, is_none, Option, Some, None, option_map}
+use Rattle.std.specs.Prelude.{codes, decimal, flat_map, is_none, Option, Some, None, option_map, option_and_then}
 use Rattle.std.specs.Prelude.{Bool, true, false, if◌then◌else◌}
 use Rattle.std.specs.Option.{option_map_or}
 use Rattle.std.specs.List.{concat}
@@ -91,14 +91,16 @@ is_apart _ = false
 unfoldable pub enabled_text : (before after : List ℕ) → Rehearsal → Step → List ℕ
 enabled_text before after w step = if is_none (cause w step) then concat (before ∷ step_text step ∷ after ∷ []) else []
 
+-- why a step is refused, where it is one that the member could take next
+abbrev pub told_refusal : Rehearsal → Step → Option Refusal
+told_refusal w step = option_and_then (λ refusal. if is_apart refusal then None else Some refusal) (cause w step)
+
 -- one that is refused, and why
 unfoldable pub refusal_line : Step → Refusal → List ℕ
-refusal_line step refusal =
-    if is_apart refusal then []
-    else concat (codes "  refused  " ∷ step_text step ∷ codes " " ∷ refusal_text refusal ∷ codes "\n" ∷ [])
+refusal_line step refusal = concat (codes "  refused  " ∷ step_text step ∷ codes " " ∷ refusal_text refusal ∷ codes "\n" ∷ [])
 
 abbrev pub refused_line : Rehearsal → Step → List ℕ
-refused_line w step = option_map_or (refusal_line step) (cause w step) []
+refused_line w step = option_map_or (refusal_line step) (told_refusal w step) []
 
 -- Choose with each of the first members
 abbrev pub first_choices : ℕ → ℕ → List Step

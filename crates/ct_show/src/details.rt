@@ -104,9 +104,9 @@ pub fn round_of(world: &World, member: Member) -> Round
     }
 }
 
-// The coordinator of that round.
+/// The coordinator of the round that the member is in.
 #[tactic(auto, unfolding(crate::specs::Details::coordinator_of))]
-pub(crate) fn coordinator_of(world: &World, member: Member) -> Member
+pub fn coordinator_of(world: &World, member: Member) -> Member
     ensures { result ≡ coordinator_of world.now.rehearsal member }
 {
     world.group().coordinator(round_of(world, member))

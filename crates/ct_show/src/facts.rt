@@ -16,9 +16,9 @@ use ct_names::{Member, Message, Refusal, Round, Serial};
 use ct_world::{Letter, World};
 use std::alloc::AllocError;
 
-// The line of the step of this number.
+/// Appends the line of the step of this number, counted from 1, which is refused so in the world.
 #[tactic(auto, unfolding(crate::specs::Facts::refused_text))]
-pub(crate) fn push_refused(
+pub fn push_refused(
     text: &mut String,
     world: &World,
     number: usize,

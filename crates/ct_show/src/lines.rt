@@ -1,15 +1,11 @@
 //! The lines of a run: one for each step.
 
-ghost use Rattle.std.specs.Prelude.{◌≡◌, ◌≤◌, [], if◌then◌else◌, OnOk};
+ghost use Rattle.std.specs.Prelude.{◌≤◌, OnOk};
 ghost use Rattle.ct_records.specs.Adds.{Adds};
 ghost use Rattle.ct_model.specs.Actor.{actor};
 ghost use Rattle.ct_show.specs.Lines.{head_text, line_text};
-ghost use Rattle.ct_show.specs.Selected.{line_in, is_selected};
 
 use crate::details::push_detail;
-use crate::form::Form;
-use crate::json_steps::push_step_json;
-use crate::selection::Selection;
 use crate::shapes::push_right;
 use crate::wires::push_sent;
 use ct_model::Step;
@@ -27,9 +23,9 @@ pub(crate) fn push_head(text: &mut String, number: usize, member: Member) -> Res
     text.push_str("  ")
 }
 
-// The line of the world's last step, before which so many envelopes had been sent.
+/// Appends the line of the world's last step, which has this number, counted from 1; so many envelopes had been sent before it.
 #[tactic(auto, unfolding(crate::specs::Lines::line_text))]
-fn push_line(
+pub fn push_line(
     text: &mut String,
     world: &World,
     before: u32,
@@ -43,43 +39,4 @@ fn push_line(
     push_detail(text, world, before, step)?;
     push_sent(text, world, before)?;
     text.push_str("\n")
-}
-
-// The same in a form.
-fn push_line_in(
-    text: &mut String,
-    form: Form,
-    world: &World,
-    before: u32,
-    number: usize,
-    step: Step,
-) -> Result<(), AllocError>
-    requires { before ≤ MAX_ENVELOPES }
-    ensures { OnOk result (Adds text.old text.new (line_in form world.now.rehearsal before number step)) }
-{
-    match form {
-        Form::Text => push_line(text, world, before, number, step),
-        Form::Json => push_step_json(text, world, before, number, step),
-    }
-}
-
-// The same where the step is asked for.
-pub(crate) fn push_selected(
-    text: &mut String,
-    selection: &Selection,
-    form: Form,
-    world: &World,
-    before: u32,
-    number: usize,
-    step: Step,
-) -> Result<(), AllocError>
-    requires { before ≤ MAX_ENVELOPES }
-    ensures { OnOk result (Adds text.old text.new
-        ((if is_selected selection.now number (actor step) then line_in form world.now.rehearsal before number step else []))) }
-{
-    if selection.shows(number, step.member()) {
-        push_line_in(text, form, world, before, number, step)
-    } else {
-        Ok(())
-    }
 }

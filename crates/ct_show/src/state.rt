@@ -7,8 +7,8 @@ ghost use Rattle.ct_model.specs.Rehearsal.{line_of};
 ghost use Rattle.ct_model.specs.State.{at_serial};
 ghost use Rattle.ct_records.specs.Report.{list_text};
 ghost use Rattle.ct_show.specs.State.{progress_text, standing_line, estimate_line, first_in, set_line, votes_lines};
-ghost use Rattle.ct_show.specs.State.{sender_text, waiting_line, is_apart, enabled_text, own_enabled, refusal_line, refused_line};
-ghost use Rattle.ct_show.specs.State.{first_choices, steps_lines, first_receipt, step_or, behind, receipt_behind};
+ghost use Rattle.ct_show.specs.State.{sender_text, waiting_line, is_apart, told_refusal, enabled_text, own_enabled, refusal_line, refused_line};
+ghost use Rattle.ct_show.specs.State.{first_choices, own_steps, steps_lines, first_receipt, step_or, behind, receipt_behind};
 ghost use Rattle.ct_show.specs.State.{next_between, next_text, next_line};
 ghost use Rattle.ct_show.specs.State.{member_lines, first_members, group_line, counts_line, state_lines};
 
@@ -23,9 +23,9 @@ use ct_records::push_separator;
 use ct_world::World;
 use std::alloc::{AllocError, Global};
 
-// The state of the world.
+/// The state of the world as text: two lines of the whole, and lines of each member.
 #[tactic(auto, unfolding(crate::specs::State::state_lines))]
-pub(crate) fn state_text(alloc: Global, traced: &Traced) -> Result<Vec<u8>, AllocError>
+pub fn state_text(alloc: Global, traced: &Traced) -> Result<Vec<u8>, AllocError>
     ensures { IfOk result (λ bytes. bytes.items ≡ state_lines traced.now.world.rehearsal traced.now.senders.items) }
 {
     let mut text = String::new(alloc);
@@ -215,8 +215,8 @@ fn push_envelope(
     text.push_str("\n")
 }
 
-// The member of the list at the serial.
-pub(crate) fn sender_at(senders: &[Member], serial: Serial) -> Option<Member>
+/// The member of the list at the serial, where there is one.
+pub fn sender_at(senders: &[Member], serial: Serial) -> Option<Member>
     ensures { result ≡ at_serial senders.now serial }
 {
     let place = (serial as usize).checked_sub(1)?;
@@ -260,7 +260,7 @@ pub fn push_own_enabled(
 }
 
 // The steps that a driver tries before a choice.
-pub(crate) fn first_steps(member: Member) -> [Step; 3]
+fn first_steps(member: Member) -> [Step; 3]
     ensures { result ≡ Step.Deliver member ∷ Step.Follow member ∷ Step.Begin member ∷ [] }
 {
     [
@@ -271,7 +271,7 @@ pub(crate) fn first_steps(member: Member) -> [Step; 3]
 }
 
 // Those that it tries after one.
-pub(crate) fn last_steps(member: Member) -> [Step; 4]
+fn last_steps(member: Member) -> [Step; 4]
     ensures { result ≡ Step.Adopt member ∷ Step.Conclude member ∷ Step.Enter member ∷ Step.Suspect member ∷ [] }
 {
     [
@@ -280,6 +280,17 @@ pub(crate) fn last_steps(member: Member) -> [Step; 4]
         Step::Enter(member),
         Step::Suspect(member),
     ]
+}
+
+/// The member's own steps in the order in which a driver tries them, with these choices.
+pub fn own_steps(alloc: Global, member: Member, choices: &[Step]) -> Result<Vec<Step>, AllocError>
+    ensures { IfOk result (λ steps. steps.items ≡ own_steps member choices.now) }
+{
+    let mut steps = Vec::new(alloc);
+    steps.extend_from_slice(&first_steps(member))?;
+    steps.extend_from_slice(choices)?;
+    steps.extend_from_slice(&last_steps(member))?;
+    Ok(steps)
 }
 
 fn push_choices(
@@ -344,9 +355,9 @@ fn push_refused(text: &mut String, world: &World, steps: &[Step]) -> Result<(), 
 fn push_if_refused(text: &mut String, world: &World, step: Step) -> Result<(), AllocError>
     ensures { OnOk result (Adds text.old text.new (refused_line world.now.rehearsal step)) }
 {
-    match world.enabled(&step) {
-        Ok(()) => Ok(()),
-        Err(refusal) => push_refusal(text, step, refusal),
+    match told_refusal(world, step) {
+        None => Ok(()),
+        Some(refusal) => push_refusal(text, step, refusal),
     }
 }
 
@@ -354,15 +365,27 @@ fn push_if_refused(text: &mut String, world: &World, step: Step) -> Result<(), A
 fn push_refusal(text: &mut String, step: Step, refusal: Refusal) -> Result<(), AllocError>
     ensures { OnOk result (Adds text.old text.new (refusal_line step refusal)) }
 {
-    if is_apart(refusal) {
-        Ok(())
-    } else {
-        write!(text, "  refused  {step} {refusal}\n")
+    write!(text, "  refused  {step} {refusal}\n")
+}
+
+/// Why the step is refused, where it is one that the member could take next.
+pub fn told_refusal(world: &World, step: Step) -> Option<Refusal>
+    ensures { result ≡ told_refusal world.now.rehearsal step }
+{
+    match world.enabled(&step) {
+        Ok(()) => None,
+        Err(refusal) => {
+            if is_apart(refusal) {
+                None
+            } else {
+                Some(refusal)
+            }
+        }
     }
 }
 
 // Whether a step that is refused so is none of those that the member could take next.
-pub(crate) fn is_apart(refusal: Refusal) -> bool
+fn is_apart(refusal: Refusal) -> bool
     ensures { result ≡ is_apart refusal }
 {
     match refusal {
@@ -418,8 +441,8 @@ pub fn push_next_of(
     push_next_between(text, "-", " or ", own, receipt)
 }
 
-// The same with a text that stands for none, and one between two steps.
-pub(crate) fn push_next_between(
+/// The same with a text that stands for none, and one between two steps.
+pub fn push_next_between(
     text: &mut String,
     none: &str,
     between: &str,

@@ -10,15 +10,17 @@ use ct_names::{Member, Refusal};
 use ct_world::{Replay, ReplayFault, Setup, World};
 use std::alloc::{AllocError, Global};
 
-// A world, and the member whose step sent each of its envelopes, in their order.
+/// A world, and whose steps sent its envelopes.
 #[derive(Drop)]
-pub(crate) struct Traced {
+pub struct Traced {
+    /// The world.
     pub world: World,
+    /// The member whose step sent each of its envelopes, in their order.
     pub senders: Vec<Member>,
 }
 
-// The world that these steps lead to, or the first of them that is refused.
-pub(crate) fn trace(alloc: Global, setup: Setup, steps: &[Step]) -> Result<Traced, ReplayFault>
+/// The world that these steps lead to, with the senders of its envelopes; else the first step that is refused, or that memory is.
+pub fn trace(alloc: Global, setup: Setup, steps: &[Step]) -> Result<Traced, ReplayFault>
     ensures world { IfOk result (λ traced. traced.world.rehearsal ≡ record_of setup steps.now) }
     ensures senders { IfOk result (λ traced. traced.senders.items ≡ senders (setting_of setup) steps.now) }
     ensures allowed { OnOk result (AllowsFirst (setting_of setup) setup.cells steps.now (length steps.now)) }

@@ -12,11 +12,12 @@ use ct_judge::{
 use ct_listing::{schedule_command, write_schedule};
 use ct_program::{CommandFault, answer_status};
 use ct_records::ProgramFault;
-use ct_show::{
-    CheckOptions, ShowFault, View, check, check_command, report_command, show, shown_end,
-    state_command, state_view, steps_command, steps_view,
-};
+use ct_show::{ShowFault, shown_end};
 use ct_streams::{Counted, FileFault, Files, NamedFault, Status, WordFault};
+use ct_views::{
+    CheckOptions, View, check, check_command, report_command, show, state_command, state_view,
+    steps_command, steps_view,
+};
 use ct_walk::{Call, FoundSeed, walk_call, walk_command, write_call};
 use host::{Host, can_write};
 use std::alloc::{AllocError, Global};

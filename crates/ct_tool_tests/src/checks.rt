@@ -1,5 +1,6 @@
 use ct_show::*;
 use ct_streams::{Counted, FileFault, Files};
+use ct_views::*;
 use std::alloc::Global;
 use std::test::Fail;
 

@@ -2,6 +2,7 @@ use ct_names::Refusal;
 use ct_records::{ProgramFault, read_record};
 use ct_show::*;
 use ct_streams::Counted;
+use ct_views::*;
 use ct_world::ReplayFault;
 use std::alloc::{AllocError, Global};
 use std::test::Fail;

@@ -1,0 +1,11 @@
+use Rattle.std.proofs.Common.{◌≡◌, ◌++◌}
+use Rattle.std.specs.Prelude.{drop, map, nat_lt, string_bytes}
+use Rattle.std.specs.List.{join_with_byte}
+use Rattle.ct_records.proofs.Joins.{rest_of}
+use Rattle.ct_json.specs.JsonState.{waiting_json}
+use Rattle.ct_json.proofs.json_state.push_waiting.Given as goal
+
+abbrev pub invariant-loop-i : goal.invariant-loop-i
+invariant-loop-i l =
+    string_bytes l.text ++ rest_of 44 (nat_lt 0 l.i) (drop l.i (map (waiting_json l.world.rehearsal l.senders) l.line))
+    ≡ string_bytes l.fn.text ++ join_with_byte 44 (map (waiting_json l.world.rehearsal l.senders) l.line)

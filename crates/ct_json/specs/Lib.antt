@@ -1,0 +1,5 @@
+pub mod Json
+pub mod JsonEnvelopes
+pub mod JsonParts
+pub mod JsonSteps
+pub mod JsonState

@@ -1,0 +1,379 @@
+//! The line of a step as JSON: an object, and a line feed. The world is the one after the step, or before it where it is refused.
+
+ghost use Rattle.std.specs.Prelude.{◌≡◌, ◌≤◌, codes, decimal, OnOk, option_map};
+ghost use Rattle.ct_records.specs.Adds.{Adds};
+ghost use Rattle.ct_model.specs.StepText.{step_entry};
+ghost use Rattle.ct_show.specs.Details.{instance_of};
+ghost use Rattle.ct_json.specs.Json.{key_json};
+ghost use Rattle.ct_json.specs.JsonEnvelopes.{envelope_json};
+ghost use Rattle.ct_json.specs.JsonSteps.{head_json, command_json, arguments_json, message_of, message_in, held, valued_json};
+ghost use Rattle.ct_json.specs.JsonSteps.{delivered_json, round_json, estimated_json, decision_at, concluded_json, outcome_json, step_json};
+ghost use Rattle.ct_json.specs.JsonSteps.{left_json, leaving_json, missing_json, letter_facts, serial_facts, member_facts, facts_json};
+ghost use Rattle.ct_json.specs.JsonSteps.{refused_json};
+
+use crate::json::{push_messages, push_messages_at};
+use crate::json_envelopes::{push_envelope, push_estimate_at, push_sent_at};
+use crate::json_parts::{push_part, push_replies};
+use ct_model::Step;
+use ct_names::{Command, Instance, MAX_ENVELOPES, Member, Message, Refusal, Round, Serial};
+use ct_show::{coordinator_of, instance_of, last_taking, round_of};
+use ct_world::{Letter, Wire, World};
+use std::alloc::AllocError;
+
+/// Appends the line of the world's last step, which has this number, counted from 1; so many envelopes had been sent before it.
+#[tactic(auto, unfolding(crate::specs::JsonSteps::step_json))]
+pub fn push_step_json(
+    text: &mut String,
+    world: &World,
+    before: u32,
+    number: usize,
+    step: Step,
+) -> Result<(), AllocError>
+    requires { before ≤ MAX_ENVELOPES }
+    ensures { OnOk result (Adds text.old text.new (step_json world.now.rehearsal before number step)) }
+{
+    push_head(text, number, step)?;
+    push_arguments(text, world, step)?;
+    push_outcome(text, world, before, step)?;
+    push_sent_at(text, world, before)?;
+    text.push_str("}\n")
+}
+
+/// Appends the line of the step of this number, counted from 1, which is refused so in the world.
+#[tactic(auto, unfolding(crate::specs::JsonSteps::refused_json))]
+pub fn push_refused_json(
+    text: &mut String,
+    world: &World,
+    number: usize,
+    step: Step,
+    refusal: Refusal,
+) -> Result<(), AllocError>
+    ensures { OnOk result (Adds text.old text.new (refused_json world.now.rehearsal number step refusal)) }
+{
+    push_head(text, number, step)?;
+    push_arguments(text, world, step)?;
+    write!(text, ",\"refusal\":\"{refusal}\"")?;
+    push_facts(text, world, step, refusal)?;
+    text.push_str("}\n")
+}
+
+// The number of the step, its member and its name.
+#[tactic(auto, unfolding(crate::specs::JsonSteps::head_json))]
+fn push_head(text: &mut String, number: usize, step: Step) -> Result<(), AllocError>
+    ensures { OnOk result (Adds text.old text.new (head_json number step)) }
+{
+    let member = step.member();
+    let name = name_of(step);
+    write!(
+        text,
+        "{{\"number\":{number},\"member\":{member},\"step\":\"{name}\""
+    )
+}
+
+// The step's name in a record.
+fn name_of(step: Step) -> &'static str
+    ensures { result.now ≡ (step_entry step).name }
+{
+    match step {
+        Step::Submit(_, _) => "submit",
+        Step::Receive(_, _) => "receive",
+        Step::Begin(_) => "begin",
+        Step::Enter(_) => "enter",
+        Step::Choose(_, _) => "choose",
+        Step::Adopt(_) => "adopt",
+        Step::Suspect(_) => "suspect",
+        Step::Conclude(_) => "conclude",
+        Step::Deliver(_) => "deliver",
+        Step::Follow(_) => "follow",
+        Step::Crash(_) => "crash",
+        Step::Postpone(_, _) => "postpone",
+        Step::Lose(_, _) => "lose",
+        Step::Repeat(_, _) => "repeat",
+    }
+}
+
+// The command of the step, the member that it names, or the envelope of the serial that it names.
+fn push_arguments(text: &mut String, world: &World, step: Step) -> Result<(), AllocError>
+    ensures { OnOk result (Adds text.old text.new (arguments_json world.now.rehearsal step)) }
+{
+    match step {
+        Step::Submit(_, command) => push_command_at(text, command),
+        Step::Choose(_, from) => push_from(text, from),
+        Step::Receive(_, serial) => push_envelope_at(text, world, serial),
+        Step::Postpone(_, serial) => push_envelope_at(text, world, serial),
+        Step::Lose(_, serial) => push_envelope_at(text, world, serial),
+        Step::Repeat(_, serial) => push_envelope_at(text, world, serial),
+        _ => Ok(()),
+    }
+}
+
+#[tactic(auto, unfolding(crate::specs::Json::key_json))]
+fn push_command_at(text: &mut String, command: Command) -> Result<(), AllocError>
+    ensures { OnOk result (Adds text.old text.new (key_json (codes "command") (command_json command))) }
+{
+    text.push_str(",\"command\":")?;
+    push_command(text, command)
+}
+
+// The command as a record has it.
+#[tactic(auto, unfolding(crate::specs::JsonSteps::command_json))]
+fn push_command(text: &mut String, command: Command) -> Result<(), AllocError>
+    ensures { OnOk result (Adds text.old text.new (command_json command)) }
+{
+    match command {
+        Command::Set(register, value) => write!(text, "[\"set\",{register},{value}]"),
+        Command::Add(register, amount) => write!(text, "[\"add\",{register},{amount}]"),
+        Command::Copy(from, to) => write!(text, "[\"copy\",{from},{to}]"),
+    }
+}
+
+#[tactic(auto, unfolding(crate::specs::Json::key_json))]
+fn push_from(text: &mut String, from: Member) -> Result<(), AllocError>
+    ensures { OnOk result (Adds text.old text.new (key_json (codes "from") (decimal from))) }
+{
+    write!(text, ",\"from\":{from}")
+}
+
+#[tactic(auto, unfolding(crate::specs::Json::key_json))]
+fn push_envelope_at(text: &mut String, world: &World, serial: Serial) -> Result<(), AllocError>
+    ensures { OnOk result (Adds text.old text.new (key_json (codes "envelope") (envelope_json world.now.rehearsal serial))) }
+{
+    text.push_str(",\"envelope\":")?;
+    push_envelope(text, None, world, serial)
+}
+
+// What the step came to, where so many envelopes had been sent before it.
+fn push_outcome(text: &mut String, world: &World, before: u32, step: Step) -> Result<(), AllocError>
+    requires { before ≤ MAX_ENVELOPES }
+    ensures { OnOk result (Adds text.old text.new (outcome_json world.now.rehearsal before step)) }
+{
+    match step {
+        Step::Submit(_, _) => push_message(text, world.letter(before + 1)),
+        Step::Begin(member) => push_proposal(text, world, member),
+        Step::Enter(member) => push_round(text, world, member),
+        Step::Choose(member, from) => {
+            push_estimated(text, world, member, world.heard_from(member, from))
+        }
+        Step::Adopt(member) => push_estimated(text, world, member, world.estimate(member)),
+        Step::Suspect(member) => push_estimated(text, world, member, world.estimate(member)),
+        Step::Conclude(member) => push_concluded(text, world, before, member),
+        Step::Deliver(member) => push_delivered(text, world, member),
+        Step::Follow(member) => push_delivered(text, world, member),
+        _ => Ok(()),
+    }
+}
+
+// The message that the envelope carries, where it carries one.
+fn push_message(text: &mut String, letter: Option<Letter>) -> Result<(), AllocError>
+    ensures { OnOk result (Adds text.old text.new (message_in letter)) }
+{
+    match letter {
+        None => Ok(()),
+        Some(letter) => push_message_of(text, &letter.wire),
+    }
+}
+
+fn push_message_of(text: &mut String, wire: &Wire) -> Result<(), AllocError>
+    ensures { OnOk result (Adds text.old text.new (message_of wire.now)) }
+{
+    match *wire {
+        Wire::Data(message) => write!(text, ",\"message\":\"{message}\""),
+        _ => Ok(()),
+    }
+}
+
+// The value that the member holds; no message where it holds none.
+#[tactic(auto, unfolding(crate::specs::JsonSteps::held))]
+fn held(world: &World, member: Member) -> &[Message]
+    ensures { result.now ≡ held world.now.rehearsal member }
+{
+    match world.estimate(member) {
+        None => &[],
+        Some((value, _)) => value,
+    }
+}
+
+// The instance, and messages at a key.
+#[tactic(auto, unfolding(crate::specs::JsonSteps::valued_json))]
+fn push_valued(
+    text: &mut String,
+    key: &str,
+    instance: Instance,
+    messages: &[Message],
+) -> Result<(), AllocError>
+    ensures { OnOk result (Adds text.old text.new (valued_json key.now instance messages.now)) }
+{
+    write!(text, ",\"instance\":{instance},\"{key}\":")?;
+    push_messages(text, messages)
+}
+
+fn push_proposal(text: &mut String, world: &World, member: Member) -> Result<(), AllocError>
+    ensures { OnOk result (Adds text.old text.new
+        (valued_json (codes "value") (instance_of world.now.rehearsal member) (held world.now.rehearsal member))) }
+{
+    push_valued(
+        text,
+        "value",
+        instance_of(world, member),
+        held(world, member),
+    )
+}
+
+// The batch of the instance, which the member delivered.
+#[tactic(auto, unfolding(crate::specs::JsonSteps::delivered_json))]
+fn push_delivered(text: &mut String, world: &World, member: Member) -> Result<(), AllocError>
+    ensures { OnOk result (Adds text.old text.new (delivered_json world.now.rehearsal member)) }
+{
+    let instance = instance_of(world, member);
+    let batch = world.batch(instance).unwrap_or(&[]);
+    push_valued(text, "delivered", instance, batch)
+}
+
+// The instance and the round that the member is in, and the coordinator.
+#[tactic(auto, unfolding(crate::specs::JsonSteps::round_json))]
+fn push_round(text: &mut String, world: &World, member: Member) -> Result<(), AllocError>
+    ensures { OnOk result (Adds text.old text.new (round_json world.now.rehearsal member)) }
+{
+    let instance = instance_of(world, member);
+    let round = round_of(world, member);
+    let coordinator = coordinator_of(world, member);
+    write!(
+        text,
+        ",\"instance\":{instance},\"round\":{round},\"coordinator\":{coordinator}"
+    )
+}
+
+// The same, and the estimate.
+#[tactic(auto, unfolding(crate::specs::JsonSteps::estimated_json))]
+fn push_estimated(
+    text: &mut String,
+    world: &World,
+    member: Member,
+    estimate: Option<(&[Message], Round)>,
+) -> Result<(), AllocError>
+    ensures { OnOk result (Adds text.old text.new
+        (estimated_json world.now.rehearsal member (option_map (λ e. (e.0.now, e.1)) estimate.entry))) }
+{
+    push_round(text, world, member)?;
+    push_estimate_at(text, estimate)
+}
+
+#[tactic(auto, unfolding(crate::specs::JsonSteps::concluded_json))]
+fn push_concluded(
+    text: &mut String,
+    world: &World,
+    before: u32,
+    member: Member,
+) -> Result<(), AllocError>
+    ensures { OnOk result (Adds text.old text.new (concluded_json world.now.rehearsal before member)) }
+{
+    push_round(text, world, member)?;
+    push_replies(text, world, member)?;
+    push_decision(text, world, before, member)
+}
+
+// Where something was sent since so many envelopes were, the value that the member holds is decided.
+#[tactic(auto, unfolding(crate::specs::JsonSteps::decision_at))]
+fn push_decision(
+    text: &mut String,
+    world: &World,
+    before: u32,
+    member: Member,
+) -> Result<(), AllocError>
+    ensures { OnOk result (Adds text.old text.new (decision_at world.now.rehearsal before member)) }
+{
+    if world.sent() == before {
+        return Ok(());
+    }
+    push_messages_at(text, "decided", held(world, member))
+}
+
+// The facts behind the refusal: the envelope that the step names, or where its member stands.
+fn push_facts(
+    text: &mut String,
+    world: &World,
+    step: Step,
+    refusal: Refusal,
+) -> Result<(), AllocError>
+    ensures { OnOk result (Adds text.old text.new (facts_json world.now.rehearsal step refusal)) }
+{
+    match step {
+        Step::Receive(_, serial) => push_serial_facts(text, world, serial, refusal),
+        Step::Postpone(_, serial) => push_serial_facts(text, world, serial, refusal),
+        Step::Lose(_, serial) => push_serial_facts(text, world, serial, refusal),
+        Step::Repeat(_, serial) => push_serial_facts(text, world, serial, refusal),
+        step => push_member_facts(text, world, step.member()),
+    }
+}
+
+fn push_serial_facts(
+    text: &mut String,
+    world: &World,
+    serial: Serial,
+    refusal: Refusal,
+) -> Result<(), AllocError>
+    ensures { OnOk result (Adds text.old text.new (serial_facts world.now.rehearsal serial refusal)) }
+{
+    push_letter_facts(text, world, serial, world.letter(serial), refusal)
+}
+
+// When the envelope left its line; how many were sent where there is none of the serial.
+fn push_letter_facts(
+    text: &mut String,
+    world: &World,
+    serial: Serial,
+    letter: Option<Letter>,
+    refusal: Refusal,
+) -> Result<(), AllocError>
+    ensures { OnOk result (Adds text.old text.new (letter_facts world.now.rehearsal serial letter refusal)) }
+{
+    match letter {
+        None => push_missing(text, world),
+        Some(_) => push_leaving(text, world, serial, refusal),
+    }
+}
+
+// How many envelopes were sent.
+#[tactic(auto, unfolding(crate::specs::JsonSteps::missing_json))]
+fn push_missing(text: &mut String, world: &World) -> Result<(), AllocError>
+    ensures { OnOk result (Adds text.old text.new (missing_json world.now.rehearsal)) }
+{
+    let sent = world.sent();
+    write!(text, ",\"envelopes\":{sent}")
+}
+
+// When the envelope left its line, where the refusal is that it doesn't wait.
+fn push_leaving(
+    text: &mut String,
+    world: &World,
+    serial: Serial,
+    refusal: Refusal,
+) -> Result<(), AllocError>
+    ensures { OnOk result (Adds text.old text.new (leaving_json world.now.rehearsal serial refusal)) }
+{
+    match refusal {
+        Refusal::NotWaiting => push_left(text, last_taking(world.record(), serial)),
+        _ => Ok(()),
+    }
+}
+
+fn push_left(text: &mut String, taking: Option<(usize, Step)>) -> Result<(), AllocError>
+    ensures { OnOk result (Adds text.old text.new (left_json taking)) }
+{
+    match taking {
+        None => Ok(()),
+        Some((number, step)) => {
+            write!(text, ",\"left\":{{\"number\":{number},\"entry\":{step}}}")
+        }
+    }
+}
+
+// Where the member stands.
+#[tactic(auto, unfolding(crate::specs::JsonSteps::member_facts))]
+fn push_member_facts(text: &mut String, world: &World, member: Member) -> Result<(), AllocError>
+    ensures { OnOk result (Adds text.old text.new (member_facts world.now.rehearsal member)) }
+{
+    let instance = instance_of(world, member);
+    write!(text, ",\"instance\":{instance}")?;
+    push_part(text, world, member)
+}

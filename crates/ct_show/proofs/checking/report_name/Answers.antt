@@ -1,6 +1,0 @@
-use Rattle.std.proofs.Common.{rules}
-use Rattle.ct_show.proofs.Reports.{other_name}
-use Rattle.ct_show.proofs.checking.report_name.Goals as goal
-
-pub returns-in-None : goal.returns-in-None
-returns-in-None c = rw (← other_name c.args.name.now c.in-None.ensures.cases) (search rules)

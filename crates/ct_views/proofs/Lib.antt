@@ -1,0 +1,5 @@
+mod Stepping
+mod Seen
+mod Checks
+mod Reports
+mod Told

@@ -1,0 +1,8 @@
+use Rattle.std.proofs.Common.{ap, codes, ◌∙◌}
+use Rattle.clap.specs.Words.{found_of}
+use Rattle.clap.proofs.WalkLemmas.{first_value-rows}
+use Rattle.ct_views.specs.Line.{member_of}
+use Rattle.ct_views.proofs.words.member_in.Goals as goal
+
+pub returns : goal.returns
+returns c = c.member_of.ensures ∙ ap member_of (c.get_str.ensures ∙ first_value-rows (found_of c.args.found.now) (codes "member"))

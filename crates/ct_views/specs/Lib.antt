@@ -1,0 +1,4 @@
+pub mod Selected
+pub mod Answer
+pub mod Line
+pub mod Checking
