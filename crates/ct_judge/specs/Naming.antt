@@ -15,7 +15,7 @@ use Rattle.ct_grammar.specs.declared.carried.Carried.{Carried}
 use Rattle.ct_grammar.specs.declared.carried.Carried.TheVariants.{Data, Est, Prop, Ack, Nack, Dec}
 use Rattle.ct_grammar.specs.declared.pick.Pick.{Pick}
 use Rattle.ct_grammar.specs.declared.pick.Pick.TheVariants.{Serial, First}
-use Rattle.ct_play.specs.Picking.{sender_of}
+use Rattle.ct_play.specs.Picking.{carried_of, sender_of}
 use Rattle.ct_judge.specs.declared.naming.TheConstants.{MOST_NAMED}
 
 -- ---- what is named
@@ -44,15 +44,6 @@ pick_name (Serial k) = concat (codes "#" ∷ decimal k ∷ [])
 pick_name (First carried from) = carried_name carried ++ from_name from
 
 -- ---- the envelope of a serial
-
--- what a wire carries
-abbrev pub carried_of : {V : Type 0} → Wire V → Carried
-carried_of (wire.Data m) = Data m.origin m.number
-carried_of (wire.Est k r p v t) = Est k r
-carried_of (wire.Prop k r v) = Prop k r
-carried_of (wire.Ack k r p) = Ack k r
-carried_of (wire.Nack k r p) = Nack k r
-carried_of (wire.Dec k r v) = Dec k r
 
 abbrev pub wire_name : Option (Envelope (Unit {0})) → List ℕ
 wire_name None = []

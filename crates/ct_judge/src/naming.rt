@@ -3,12 +3,12 @@
 ghost use Rattle.std.specs.Prelude.{◌≡◌, ◌++◌, [], ◌∷◌, OnOk, codes, decimal, flat_map};
 ghost use Rattle.std.specs.List.{concat};
 ghost use Rattle.ct_records.specs.Adds.{Adds};
-ghost use Rattle.ct_judge.specs.Naming.{carried_name, carried_of, command_name, envelope_name, from_name, letter_name, listed};
+ghost use Rattle.ct_judge.specs.Naming.{carried_name, command_name, envelope_name, from_name, letter_name, listed};
 ghost use Rattle.ct_judge.specs.Naming.{pick_name, round_name, set_name, shortened, value_in, value_name, wire_name};
 
 use ct_grammar::{Carried, Pick};
 use ct_names::{Command, Instance, Member, Message, Round, Serial};
-use ct_play::Stage;
+use ct_play::{Stage, carried_of};
 use ct_records::push_messages;
 use ct_show::push_round;
 use ct_world::{Letter, Wire};
@@ -89,40 +89,6 @@ fn push_wire_name(text: &mut String, letter: Option<Letter>) -> Result<(), Alloc
     match letter {
         None => Ok(()),
         Some(letter) => push_carried(text, carried_of(&letter.wire)),
-    }
-}
-
-// What the wire carries.
-fn carried_of(wire: &Wire) -> Carried
-    ensures { result ≡ carried_of wire.now }
-{
-    match *wire {
-        Wire::Data(message) => Carried::Data(message.origin(), message.number()),
-        Wire::Est {
-            instance,
-            round,
-            ..
-        } => Carried::Est(instance, round),
-        Wire::Prop {
-            instance,
-            round,
-            ..
-        } => Carried::Prop(instance, round),
-        Wire::Ack {
-            instance,
-            round,
-            ..
-        } => Carried::Ack(instance, round),
-        Wire::Nack {
-            instance,
-            round,
-            ..
-        } => Carried::Nack(instance, round),
-        Wire::Dec {
-            instance,
-            round,
-            ..
-        } => Carried::Dec(instance, round),
     }
 }
 

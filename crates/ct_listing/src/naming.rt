@@ -6,7 +6,7 @@ ghost use Rattle.ct_print.specs.Writable.{PickFits};
 
 use ct_grammar::{Carried, Pick};
 use ct_names::{Member, Serial};
-use ct_play::{Stage, picked, repeated, waiting_at};
+use ct_play::{Stage, carried_of, picked, repeated, waiting_at};
 use ct_world::Wire;
 
 // How many envelopes may have been sent since one that is repeated and not named by its serial: all of them are looked at.
@@ -74,36 +74,12 @@ impl Names {
 
     // Those of what carries the wire.
     fn of_wire(wire: &Wire, sender: Option<Member>) -> Names {
-        match *wire {
-            Wire::Data(message) => Names::relayed(
-                Carried::Data(message.origin(), message.number()),
-                sender,
-            ),
-            Wire::Prop {
-                instance,
-                round,
-                ..
-            } => Names::relayed(Carried::Prop(instance, round), sender),
-            Wire::Dec {
-                instance,
-                round,
-                ..
-            } => Names::relayed(Carried::Dec(instance, round), sender),
-            Wire::Est {
-                instance,
-                round,
-                ..
-            } => Names::own(Carried::Est(instance, round), sender),
-            Wire::Ack {
-                instance,
-                round,
-                ..
-            } => Names::own(Carried::Ack(instance, round), sender),
-            Wire::Nack {
-                instance,
-                round,
-                ..
-            } => Names::own(Carried::Nack(instance, round), sender),
+        let carried = carried_of(wire);
+        match carried {
+            Carried::Data(..) | Carried::Prop(..) | Carried::Dec(..) => {
+                Names::relayed(carried, sender)
+            }
+            Carried::Est(..) | Carried::Ack(..) | Carried::Nack(..) => Names::own(carried, sender),
         }
     }
 

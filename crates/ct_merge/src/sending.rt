@@ -1,10 +1,10 @@
 //! What a member may still send.
 
 use crate::full_name::FullName;
-use crate::naming::carried_of;
 use ct_grammar::Carried;
 use ct_model::{Phase, Step};
 use ct_names::{Instance, Member, Round};
+use ct_play::carried_of;
 use ct_world::{Letter, World};
 
 // ---- what it did

@@ -17,6 +17,15 @@ use Rattle.ct_grammar.specs.declared.carried.Carried.TheVariants.{Data, Est, Pro
 use Rattle.ct_grammar.specs.declared.pick.Pick.{Pick}
 use Rattle.ct_grammar.specs.declared.pick.Pick.TheVariants.{Serial, First}
 
+-- what a wire carries
+abbrev pub carried_of : {V : Type 0} → Wire V → Carried
+carried_of (wire.Data m) = Data m.origin m.number
+carried_of (wire.Est k r p v t) = Est k r
+carried_of (wire.Prop k r v) = Prop k r
+carried_of (wire.Ack k r p) = Ack k r
+carried_of (wire.Nack k r p) = Nack k r
+carried_of (wire.Dec k r v) = Dec k r
+
 -- a wire is what a line names: a message by its origin and number, another by its instance and round
 abbrev pub carries : {V : Type 0} → Wire V → Carried → Bool
 carries (wire.Data m) (Data o n) = (m.origin == o) && (m.number == n)

@@ -15,7 +15,7 @@ mod turning;
 pub use cuts::first_near;
 pub use facts::{push_there, push_wanted};
 pub use line_fault::LineFault;
-pub use picking::{picked, repeated, waiting_at};
+pub use picking::{carried_of, picked, repeated, waiting_at};
 pub use playing::play;
 pub use stage::Stage;
 pub use stating::{push_came_to, push_outcome};

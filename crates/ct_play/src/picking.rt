@@ -1,14 +1,48 @@
 //! Which envelopes a line names.
 
 ghost use Rattle.std.specs.Prelude.{◌≡◌, IfOk};
-ghost use Rattle.ct_play.specs.Picking.{carries, first_from, first_so, is_carried, is_from, is_gone, is_of, is_so, is_to, is_waiting};
-ghost use Rattle.ct_play.specs.Picking.{last_so, picked, repeated, waiting_at, waiting_from, waits_at, was_sent};
+ghost use Rattle.ct_play.specs.Picking.{carried_of, carries, first_from, first_so, is_carried, is_from, is_gone, is_of, is_so, is_to};
+ghost use Rattle.ct_play.specs.Picking.{is_waiting, last_so, picked, repeated, waiting_at, waiting_from, waits_at, was_sent};
 
 use crate::stage::Stage;
 use ct_grammar::{Carried, Pick};
 use ct_names::{Member, MemberSet, Serial};
 use ct_world::{Letter, Wire};
 use std::alloc::{AllocError, Global};
+
+/// What the wire carries.
+pub fn carried_of(wire: &Wire) -> Carried
+    ensures { result ≡ carried_of wire.now }
+{
+    match *wire {
+        Wire::Data(message) => Carried::Data(message.origin(), message.number()),
+        Wire::Est {
+            instance,
+            round,
+            ..
+        } => Carried::Est(instance, round),
+        Wire::Prop {
+            instance,
+            round,
+            ..
+        } => Carried::Prop(instance, round),
+        Wire::Ack {
+            instance,
+            round,
+            ..
+        } => Carried::Ack(instance, round),
+        Wire::Nack {
+            instance,
+            round,
+            ..
+        } => Carried::Nack(instance, round),
+        Wire::Dec {
+            instance,
+            round,
+            ..
+        } => Carried::Dec(instance, round),
+    }
+}
 
 /// The serial that is picked for the member.
 pub fn picked(stage: &Stage, member: Member, pick: Pick) -> Option<Serial>
