@@ -12,6 +12,7 @@ pub mod Questions
 pub mod Reasons
 pub mod Sides
 pub mod Stated
+pub mod Texts
 pub mod Turns
 pub mod Unfits
 pub mod Who

@@ -3,4 +3,4 @@ pub mod Hearing
 pub mod Kept
 pub mod Parts
 pub mod Lines
-pub mod Utf8
+pub mod Trimmed

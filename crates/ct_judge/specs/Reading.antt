@@ -3,19 +3,15 @@ use Rattle.std.specs.Prelude.{ℕ, ◌-◌, ◌==◌, Bool, false, List, [], ◌
 use Rattle.std.specs.Prelude.{Option, Some, None, Result, Ok, Err, if◌then◌else◌}
 use Rattle.std.specs.Char.{is_ascii_whitespace}
 use Rattle.std.specs.List.{prefix_len, suffix_len}
-use Rattle.std.specs.Str.{is_utf8}
 use Rattle.ct_grammar.specs.declared.line.Line.{Line}
 use Rattle.ct_grammar.specs.declared.misfit.Misfit.{Misfit}
 use Rattle.ct_grammar.specs.Lines.{line_of}
 use Rattle.ct_grammar.specs.Misfits.{misfit_text}
+use Rattle.ct_grammar.specs.Texts.{text_in}
 use Rattle.ct_judge.specs.Wording.{behind}
 use Rattle.ct_judge.specs.declared.misread.Misread.{Misread}
 use Rattle.ct_judge.specs.declared.misread.Misread.TheVariants.{NoText, Record, TooLong, NoLine}
 use Rattle.ct_judge.specs.declared.reading.TheConstants.{LONGEST_SHOWN}
-
--- the text that these bytes are
-unfoldable pub text_in : List ℕ → Option (List ℕ)
-text_in bytes = if is_utf8 bytes then Some bytes else None
 
 -- ---- the line that bytes are
 

@@ -1,13 +1,13 @@
 -- Whole schedules.
-use Rattle.std.specs.Prelude.{◌≡◌, ℕ, Bool, ◌+◌, ◌==◌, List, [], ◌∷◌, ◌++◌, codes, string_bytes, IsOk, IsOkAnd, ⊤, Option, Some, Result}
+use Rattle.std.specs.Prelude.{◌≡◌, ℕ, ◌+◌, List, [], ◌∷◌, ◌++◌, codes, string_bytes, IsOk, IsOkAnd, ⊤, Option, Some, Result}
 use Rattle.std.specs.Prelude.{Ok, Err}
-use Rattle.std.specs.List.{slice_split}
 use Rattle.std.specs.Io.KnownBytes.{Appends}
 use Rattle.ct_model.specs.Rehearsal.{Rehearsal, state_of}
 use Rattle.ct_model.specs.Run.{run}
 use Rattle.ct_model.specs.Safe.{IsSafe}
 use Rattle.ct_streams.specs.Streams.{WritesPart}
 use Rattle.ct_records.specs.Text.{record_text}
+use Rattle.ct_grammar.specs.Texts.{lines_of}
 use Rattle.ct_play.specs.Acting.{go_on}
 use Rattle.ct_judge.specs.Reading.{shown}
 use Rattle.ct_judge.specs.Standing.{Standing, start, world_of}
@@ -43,14 +43,6 @@ after_line t line = line_over t line (told t.standing line)
 abbrev pub after_lines : Progress → List (List ℕ) → Result Progress Stopped
 after_lines t [] = Ok t
 after_lines t (line ∷ lines) = go_on (after_line t line) (λ u. after_lines u lines)
-
--- ends a line
-abbrev pub is_feed : ℕ → Bool
-is_feed byte = byte == 10
-
--- the lines of a text: what its line feeds part, the last one up to the end
-unfoldable pub lines_of : List ℕ → List (List ℕ)
-lines_of text = slice_split is_feed text
 
 -- the world in the end; the last line is told where no line made one
 abbrev pub world_at : ℕ → Result Rehearsal LineFault → Result Rehearsal Stopped

@@ -3,7 +3,8 @@
 ghost use Rattle.std.specs.Prelude.{◌≡◌, ◌≢◌, ◌≤◌, ◌<◌, ◌^◌, length, Err, OnOk, IfOk, IfErr, IfSome, IsOk};
 ghost use Rattle.std.specs.Io.KnownBytes.{Appends};
 ghost use Rattle.ct_streams.specs.Streams.{FailsOnce, WritesPart, read_part};
-ghost use Rattle.ct_judge.specs.Schedule.{IsEndIn, IsFaultIn, IsFaultOrStream, IsOfLine, IsToldEnd, before_fault, beginning, lines_of};
+ghost use Rattle.ct_grammar.specs.Texts.{lines_of};
+ghost use Rattle.ct_judge.specs.Schedule.{IsEndIn, IsFaultIn, IsFaultOrStream, IsOfLine, IsToldEnd, before_fault, beginning};
 ghost use Rattle.ct_judge.specs.Schedule.{part_of, part_text, schedule};
 ghost use Rattle.ct_judge.specs.Standing.{world_of};
 

@@ -3,25 +3,14 @@
 ghost use Rattle.std.specs.Prelude.{◌≡◌, OnOk, IfOk, option_map};
 ghost use Rattle.ct_records.specs.Adds.{Adds};
 ghost use Rattle.ct_grammar.specs.Lines.{line_of};
-ghost use Rattle.ct_judge.specs.Reading.{begins_record, line_in, line_in_text, line_or, shown, shown_text, text_in, trimmed};
+ghost use Rattle.ct_judge.specs.Reading.{begins_record, line_in, line_in_text, line_or, shown, shown_text, trimmed};
 
 use crate::misread::Misread;
-use ct_grammar::{Line, line_of};
+use ct_grammar::{Line, line_of, text_in};
 use std::alloc::{AllocError, Global};
 
 /// How many bytes of a line a fault shows at most; a longer one is not shown.
 pub const LONGEST_SHOWN: usize = 200;
-
-// The text that these bytes are.
-#[tactic(auto, unfolding(crate::specs::Reading::text_in))]
-fn text_in(bytes: &[u8]) -> Option<&str>
-    ensures { option_map (λ text. text.now) result ≡ text_in bytes.now }
-{
-    match std::str::from_utf8(bytes) {
-        Ok(text) => Some(text),
-        Err(_) => None,
-    }
-}
 
 // The line that these bytes are.
 #[tactic(auto, unfolding(crate::specs::Reading::line_in))]

@@ -1,12 +1,14 @@
 //! A schedule in, its record out.
 
-ghost use Rattle.std.specs.Prelude.{◌≡◌, ◌≢◌, ◌⊎◌, ◌+◌, ◌≤◌, ◌<◌, ◌^◌, drop, length, position, Ok, Err, OnOk, IfOk, IfErr, IfSome, IsOkAnd};
+ghost use Rattle.std.specs.Prelude.{◌≡◌, ◌≢◌, ◌⊎◌, ◌+◌, ◌≤◌, ◌<◌, ◌^◌, length, Ok, Err, OnOk, IfOk, IfErr, IfSome, IsOkAnd};
 ghost use Rattle.ct_streams.specs.Streams.{FailsOnce, read_part};
+ghost use Rattle.ct_grammar.specs.Texts.{lines_of};
 ghost use Rattle.ct_judge.specs.Schedule.{IsFaultIn, IsFaultOrStream, IsLeftAt, IsRecordOf, IsSafeRun, Writes, WritesPartOf, after_lines};
-ghost use Rattle.ct_judge.specs.Schedule.{before_fault, is_feed, lines_of, schedule};
+ghost use Rattle.ct_judge.specs.Schedule.{before_fault, schedule};
 
 use crate::record_fault::RecordFault;
 use crate::recorder::Recorder;
+use ct_grammar::{behind, first_feed};
 use ct_records::write_record;
 use ct_streams::{Failed, InputFault, Sink, Source, read_all, write_all};
 use ct_world::World;
@@ -115,19 +117,4 @@ pub(crate) fn tell_lines(recorder: &mut Recorder, text: &[u8]) -> Result<(), Rec
         rest = behind(rest, end);
     }
     recorder.take(rest)
-}
-
-// Where the first line ends; None where the end ends it.
-fn first_feed(text: &[u8]) -> Option<usize>
-    ensures { result ≡ position is_feed text.now }
-{
-    text.iter().position(|byte| *byte == b'\n')
-}
-
-// What stands behind this place.
-fn behind(text: &[u8], place: usize) -> &[u8]
-    requires { place < length text.now }
-    ensures { result.now ≡ drop (place + 1) text.now }
-{
-    &text[place + 1..]
 }

@@ -1,20 +1,14 @@
 -- What stands before a line feed.
 use Rattle.std.proofs.Common.{◌≡◌, ◌<◌, ◌≤◌, ℕ, Bool, true, false, not, List, length, get_or, take, refl, sym, ap, ◌∙◌, subst, arith}
-use Rattle.std.proofs.Common.{cond, Some, None, length-take}
+use Rattle.std.proofs.Common.{Some, None, length-take}
 use Rattle.std.specs.List.{list_all, position, position_or_len, prefix_len}
-use Rattle.std.specs.Prelude.{nat_lt}
 use Rattle.std.specs.Str.{IsCharBoundary}
 use Rattle.std.proofs.lemmas.Bool.Decides.{nat_tests}
 use Rattle.std.proofs.lemmas.List.{get_or-take}
 use Rattle.std.proofs.lemmas.List.Sums.{fails_before_first, list_all-from_AllPass, passes_at_first, prefix_len-le-length}
-use Rattle.ct_judge.specs.Schedule.{is_feed}
+use Rattle.ct_grammar.specs.Texts.{is_feed}
+use Rattle.ct_grammar.proofs.LineFeeds.{no_place, place_there}
 use Rattle.ct_listing.specs.Leading.{one_line}
-
-place_there : (a n i : ℕ) → cond (nat_lt a n) (Some a) None ≡ Some i → (a < n) × (a ≡ i)
-place_there a n i h = grind (arith, nat_tests)
-
-no_place : (a n : ℕ) → cond (nat_lt a n) (Some a) None ≡ None → n ≤ a
-no_place a n h = grind (arith, nat_tests)
 
 feed_small : (c : ℕ) → is_feed c ≡ true → c < 128
 feed_small c e = grind (arith, nat_tests)

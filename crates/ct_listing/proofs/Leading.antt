@@ -16,8 +16,9 @@ use Rattle.ct_play.specs.Acting.{go_on}
 use Rattle.ct_play.specs.Played.{Played}
 use Rattle.ct_play.specs.Playing.{played}
 use Rattle.ct_judge.specs.Judging.{taken}
-use Rattle.ct_judge.specs.Reading.{begins_record, line_in, text_in}
-use Rattle.ct_judge.specs.Schedule.{Progress, Stopped, after_line, after_lines, beginning, finished, is_feed, lines_of, schedule}
+use Rattle.ct_grammar.specs.Texts.{is_feed, lines_of, text_in}
+use Rattle.ct_judge.specs.Reading.{begins_record, line_in}
+use Rattle.ct_judge.specs.Schedule.{Progress, Stopped, after_line, after_lines, beginning, finished, schedule}
 use Rattle.ct_judge.specs.Standing.{Standing, played_of, start}
 use Rattle.ct_judge.specs.Telling.{told}
 use Rattle.ct_listing.specs.Leading.{AddsLine, Leads, LeadsTo, comment_text, one_line}

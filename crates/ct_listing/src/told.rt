@@ -1,13 +1,11 @@
 //! Lines, as they join the text of a schedule.
 
 ghost use Rattle.std.specs.Prelude.{◌≡◌, ◌++◌, ◌∷◌, [], true, OnOk, string_bytes};
-ghost use Rattle.std.specs.List.{position};
 ghost use Rattle.ct_records.specs.Adds.{Adds};
-ghost use Rattle.ct_judge.specs.Schedule.{is_feed};
 ghost use Rattle.ct_listing.specs.Leading.{AddsLine, comment_text, one_line};
 ghost use Rattle.ct_print.specs.Lines.{line_text};
 
-use ct_grammar::Line;
+use ct_grammar::{Line, first_feed};
 use ct_print::push_line;
 use std::alloc::{AllocError, Global};
 
@@ -53,10 +51,4 @@ fn first_line(text: &str) -> &str
         Some(end) => &text[..end],
         None => text,
     }
-}
-
-fn first_feed(text: &[u8]) -> Option<usize>
-    ensures { result ≡ position is_feed text.now }
-{
-    text.iter().position(|byte| *byte == b'\n')
 }

@@ -3,5 +3,4 @@ pub mod Owning
 pub mod Playing
 pub mod Reading
 pub mod Taking
-pub mod Utf8
 pub mod Verdicts

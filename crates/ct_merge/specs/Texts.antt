@@ -1,8 +1,7 @@
 -- Logs as texts.
 use Rattle.std.specs.Prelude.{◌≡◌, ℕ, ◌+◌, Bool, false, not, ◌==◌, List, [], ◌∷◌, ◌++◌, Option, Some, None, Result, Ok, Err, ⊤}
 use Rattle.std.specs.Prelude.{unwrap_or, if◌then◌else◌}
-use Rattle.std.specs.List.{slice_split}
-use Rattle.std.specs.Str.{is_utf8}
+use Rattle.ct_grammar.specs.Texts.{lines_of, text_in}
 use Rattle.ct_play.specs.Acting.{go_on}
 use Rattle.ct_merge.specs.Entries.{entry_in}
 use Rattle.ct_merge.specs.Numbers.{no_numbers, with_given}
@@ -58,10 +57,6 @@ after_entry t (Ok Blank) = Ok t
 after_entry t (Ok (Given g)) = after_given t (no.Given g) (with_given t.numbers g)
 after_entry t (Ok (Told p line)) = after_told t p line
 
--- the text that these bytes are
-unfoldable pub text_in : List ℕ → Option (List ℕ)
-text_in bytes = if is_utf8 bytes then Some bytes else None
-
 abbrev pub entry_in_text : ℕ → Option (List ℕ) → Result Entry NoEntry
 entry_in_text p None = Err no.NoText
 entry_in_text p (Some text) = entry_in p text
@@ -76,14 +71,6 @@ after_line p t bytes = after_entry (record t { count = t.count + 1 }) (entry_in_
 abbrev pub after_lines : ℕ → LogSoFar → List (List ℕ) → Result LogSoFar Unread
 after_lines p t [] = Ok t
 after_lines p t (line ∷ lines) = go_on (after_line p t line) (λ u. after_lines p u lines)
-
--- ends a line
-abbrev pub is_feed : ℕ → Bool
-is_feed byte = byte == 10
-
--- the lines of a text: what its line feeds part, the last one up to the end
-unfoldable pub lines_of : List ℕ → List (List ℕ)
-lines_of text = slice_split is_feed text
 
 -- what a text says as a log, p's where its acts don't say whose it is
 unfoldable pub log_in : ℕ → List ℕ → Result LogSoFar Unread

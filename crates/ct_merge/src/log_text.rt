@@ -1,14 +1,15 @@
 //! Logs as texts.
 
-ghost use Rattle.std.specs.Prelude.{◌≡◌, ◌<◌, ◌^◌, ◌+◌, Ok, OnOk, IfOk, IfErr, position, drop, length, option_map};
-ghost use Rattle.ct_merge.specs.Texts.{IsFaultIn, after_entry, after_line, after_lines, after_told, entry_in_text, is_feed, lines_of};
-ghost use Rattle.ct_merge.specs.Texts.{log_in, text_in};
+ghost use Rattle.std.specs.Prelude.{◌≡◌, ◌<◌, ◌^◌, ◌+◌, Ok, OnOk, IfOk, IfErr, length};
+ghost use Rattle.ct_merge.specs.Texts.{IsFaultIn, after_entry, after_line, after_lines, after_told, entry_in_text, log_in};
+ghost use Rattle.ct_grammar.specs.Texts.{lines_of, text_in};
 
 use crate::entering::entry_in;
 use crate::entry::{Entry, NoEntry};
 use crate::log_fault::LogFault;
 use crate::log_line::LogLine;
 use crate::numbers::Numbers;
+use ct_grammar::{behind, first_feed, text_in};
 use ct_names::Member;
 use std::alloc::{AllocError, Global};
 use std::marker::Model;
@@ -157,30 +158,4 @@ fn entry_in_bytes(
         Some(text) => entry_in(alloc, member, text),
         None => Ok(Err(NoEntry::NoText)),
     }
-}
-
-// The text that these bytes are.
-#[tactic(auto, unfolding(crate::specs::Texts::text_in))]
-fn text_in(bytes: &[u8]) -> Option<&str>
-    ensures { option_map (λ text. text.now) result ≡ text_in bytes.now }
-{
-    match std::str::from_utf8(bytes) {
-        Ok(text) => Some(text),
-        Err(_) => None,
-    }
-}
-
-// Where the first line ends; None where the end ends it.
-fn first_feed(text: &[u8]) -> Option<usize>
-    ensures { result ≡ position is_feed text.now }
-{
-    text.iter().position(|byte| *byte == b'\n')
-}
-
-// What stands behind this place.
-fn behind(text: &[u8], place: usize) -> &[u8]
-    requires { place < length text.now }
-    ensures { result.now ≡ drop (place + 1) text.now }
-{
-    &text[place + 1..]
 }

@@ -1,4 +1,4 @@
-use Rattle.ct_judge.proofs.Utf8.{trims}
+use Rattle.ct_judge.proofs.Trimmed.{trims}
 use Rattle.ct_judge.proofs.reading.trimmed.Goals as goal
 
 pub returns : goal.returns

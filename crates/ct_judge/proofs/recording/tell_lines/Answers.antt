@@ -1,7 +1,9 @@
 use Rattle.std.proofs.Common.{rules, ◌≡◌, ◌+◌, ◌<◌, Some, Ok, length, take, drop, length-drop, sym, ap, ◌∙◌, arith}
 use Rattle.std.specs.List.{position}
-use Rattle.ct_judge.specs.Schedule.{after_line, after_lines, before_fault, is_feed, lines_of}
-use Rattle.ct_judge.proofs.Lines.{before_on, line_on, within_text}
+use Rattle.ct_grammar.specs.Texts.{is_feed, lines_of}
+use Rattle.ct_grammar.proofs.LineFeeds.{within_text}
+use Rattle.ct_judge.specs.Schedule.{after_line, after_lines, before_fault}
+use Rattle.ct_judge.proofs.Lines.{before_on, line_on}
 use Rattle.ct_judge.proofs.recording.tell_lines.Goals as goal
 
 pub loop-end-preserved : goal.loop-end-preserved

@@ -1,5 +1,6 @@
 use Rattle.std.proofs.Common.{◌≡◌, ◌≤◌, ◌+◌, length}
-use Rattle.ct_judge.specs.Schedule.{after_lines, before_fault, lines_of}
+use Rattle.ct_grammar.specs.Texts.{lines_of}
+use Rattle.ct_judge.specs.Schedule.{after_lines, before_fault}
 use Rattle.ct_judge.proofs.recording.tell_lines.Given as goal
 
 abbrev pub invariant-loop-end : goal.invariant-loop-end

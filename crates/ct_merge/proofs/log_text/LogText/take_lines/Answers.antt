@@ -1,7 +1,9 @@
 use Rattle.std.proofs.Common.{rules, ◌≡◌, ◌+◌, ◌<◌, Some, Ok, length, take, drop, length-drop, sym, ap, ◌∙◌, arith}
 use Rattle.std.specs.List.{position}
-use Rattle.ct_merge.specs.Texts.{after_line, after_lines, is_feed, lines_of}
-use Rattle.ct_merge.proofs.Reading.{line_on, within_text}
+use Rattle.ct_grammar.specs.Texts.{is_feed, lines_of}
+use Rattle.ct_grammar.proofs.LineFeeds.{within_text}
+use Rattle.ct_merge.specs.Texts.{after_line, after_lines}
+use Rattle.ct_merge.proofs.Reading.{line_on}
 use Rattle.ct_merge.proofs.log_text.LogText.take_lines.Goals as goal
 
 pub loop-end-preserved : goal.loop-end-preserved

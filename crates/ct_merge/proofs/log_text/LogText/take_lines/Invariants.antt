@@ -1,5 +1,6 @@
 use Rattle.std.proofs.Common.{◌≡◌, ◌≤◌, ◌+◌, length}
-use Rattle.ct_merge.specs.Texts.{after_lines, lines_of}
+use Rattle.ct_grammar.specs.Texts.{lines_of}
+use Rattle.ct_merge.specs.Texts.{after_lines}
 use Rattle.ct_merge.proofs.log_text.LogText.take_lines.Given as goal
 
 abbrev pub invariant-loop-end : goal.invariant-loop-end

@@ -1,5 +1,5 @@
-use Rattle.ct_merge.proofs.Utf8.{is_text, no_text}
-use Rattle.ct_merge.proofs.log_text.text_in.Goals as goal
+use Rattle.ct_grammar.proofs.Utf8.{is_text, no_text}
+use Rattle.ct_grammar.proofs.feeds.text_in.Goals as goal
 
 pub returns-in-Ok : goal.returns-in-Ok
 returns-in-Ok c = is_text c.args.bytes.now c.in-Ok.text.now c.in-Ok.ensures.cases.0 c.in-Ok.ensures.cases.1
