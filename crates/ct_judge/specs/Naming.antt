@@ -3,8 +3,6 @@ use Rattle.std.specs.Prelude.{ℕ, ◌-◌, List, [], ◌∷◌, ◌++◌, codes
 use Rattle.std.specs.Prelude.{if◌then◌else◌}
 use Rattle.std.specs.List.{concat}
 use Rattle.ct_names.specs.Value.{Value}
-use Rattle.ct_names.specs.declared.command.Command.{Command}
-use Rattle.ct_names.specs.declared.command.Command.TheVariants.{Set, Add, Copy}
 use Rattle.ct_model.specs.Rehearsal.{Rehearsal}
 use Rattle.ct_model.specs.declared.envelope.Envelope.{Envelope}
 use Rattle.ct_model.specs.declared.wire.Wire.{Wire}
@@ -15,6 +13,7 @@ use Rattle.ct_grammar.specs.declared.carried.Carried.{Carried}
 use Rattle.ct_grammar.specs.declared.carried.Carried.TheVariants.{Data, Est, Prop, Ack, Nack, Dec}
 use Rattle.ct_grammar.specs.declared.pick.Pick.{Pick}
 use Rattle.ct_grammar.specs.declared.pick.Pick.TheVariants.{Serial, First}
+use Rattle.ct_print.specs.Acts.{command_text}
 use Rattle.ct_play.specs.Picking.{carried_of, sender_of}
 use Rattle.ct_judge.specs.declared.naming.TheConstants.{MOST_NAMED}
 
@@ -55,18 +54,12 @@ envelope_name w k = concat (codes "#" ∷ decimal k ∷ codes " " ∷ wire_name 
 
 -- ---- the same with its value
 
--- a message's command, as a line submits it
-unfoldable pub command_name : Command → List ℕ
-command_name (Set register value) = concat (codes "set " ∷ decimal register ∷ codes " " ∷ decimal value ∷ [])
-command_name (Add register amount) = concat (codes "add " ∷ decimal register ∷ codes " " ∷ decimal amount ∷ [])
-command_name (Copy from to) = concat (codes "copy " ∷ decimal from ∷ codes " " ∷ decimal to ∷ [])
-
 abbrev pub set_name : Value → List ℕ
 set_name v = concat (codes "{" ∷ messages_text 44 v ∷ codes "}" ∷ [])
 
 -- a wire's value, and of an estimate the ts
 unfoldable pub value_name : {V : Type 0} → Wire V → Value → List ℕ
-value_name (wire.Data m) v = codes " " ++ command_name m.command
+value_name (wire.Data m) v = codes " " ++ command_text m.command
 value_name (wire.Est k r p _ t) v = concat (codes " " ∷ set_name v ∷ codes " ts " ∷ decimal t ∷ [])
 value_name (wire.Prop k r _) v = codes " " ++ set_name v
 value_name (wire.Ack k r p) v = []

@@ -1,14 +1,16 @@
 //! How a schedule names envelopes.
 
-ghost use Rattle.std.specs.Prelude.{◌≡◌, ◌++◌, [], ◌∷◌, OnOk, codes, decimal, flat_map};
+ghost use Rattle.std.specs.Prelude.{◌++◌, [], ◌∷◌, OnOk, codes, decimal, flat_map};
 ghost use Rattle.std.specs.List.{concat};
 ghost use Rattle.ct_records.specs.Adds.{Adds};
-ghost use Rattle.ct_judge.specs.Naming.{carried_name, command_name, envelope_name, from_name, letter_name, listed};
+ghost use Rattle.ct_print.specs.Acts.{command_text};
+ghost use Rattle.ct_judge.specs.Naming.{carried_name, envelope_name, from_name, letter_name, listed};
 ghost use Rattle.ct_judge.specs.Naming.{pick_name, round_name, set_name, shortened, value_in, value_name, wire_name};
 
 use ct_grammar::{Carried, Pick};
 use ct_names::{Command, Instance, Member, Message, Round, Serial};
 use ct_play::{Stage, carried_of};
+use ct_print::push_command;
 use ct_records::push_messages;
 use ct_show::push_round;
 use ct_world::{Letter, Wire};
@@ -126,7 +128,7 @@ fn push_value(text: &mut String, wire: &Wire, value: &[Message]) -> Result<(), A
     ensures { OnOk result (Adds text.old text.new (value_name wire.now value.now)) }
 {
     match *wire {
-        Wire::Data(message) => push_command(text, message.command()),
+        Wire::Data(message) => push_submitted(text, message.command()),
         Wire::Est { ts, .. } => push_estimate(text, value, ts),
         Wire::Prop { .. } => push_set(text, value),
         Wire::Ack { .. } => Ok(()),
@@ -136,15 +138,11 @@ fn push_value(text: &mut String, wire: &Wire, value: &[Message]) -> Result<(), A
 }
 
 // The command of a message, as a line submits it.
-#[tactic(auto, unfolding(crate::specs::Naming::command_name))]
-fn push_command(text: &mut String, command: Command) -> Result<(), AllocError>
-    ensures { OnOk result (Adds text.old text.new ((codes " " ++ command_name command))) }
+fn push_submitted(text: &mut String, command: Command) -> Result<(), AllocError>
+    ensures { OnOk result (Adds text.old text.new ((codes " " ++ command_text command))) }
 {
-    match command {
-        Command::Set(register, value) => write!(text, " set {register} {value}"),
-        Command::Add(register, amount) => write!(text, " add {register} {amount}"),
-        Command::Copy(from, to) => write!(text, " copy {from} {to}"),
-    }
+    text.push_str(" ")?;
+    push_command(text, command)
 }
 
 fn push_set(text: &mut String, value: &[Message]) -> Result<(), AllocError>

@@ -3,8 +3,6 @@ use Rattle.std.specs.Prelude.{ℕ, List, [], ◌∷◌, codes, decimal, Option, 
 use Rattle.std.specs.Prelude.{nat_lt, unwrap_or, Result, Ok, Err, fold, if◌then◌else◌}
 use Rattle.std.specs.List.{concat}
 use Rattle.std.specs.Str.{bytes_eq}
-use Rattle.ct_names.specs.declared.command.Command.{Command}
-use Rattle.ct_names.specs.declared.command.Command.TheVariants.{Set, Add, Copy}
 use Rattle.ct_names.specs.Message.{Message}
 use Rattle.ct_model.specs.Mapped.{without_value}
 use Rattle.ct_model.specs.Rehearsal.{Rehearsal, state_of}
@@ -23,6 +21,7 @@ use Rattle.ct_show.specs.Shapes.{set_text, value_text}
 use Rattle.ct_grammar.specs.declared.act.Act.{Act}
 use Rattle.ct_grammar.specs.declared.who.Who.{Who}
 use Rattle.ct_grammar.specs.declared.who.Who.TheVariants.{All}
+use Rattle.ct_print.specs.Acts.{command_text}
 use Rattle.ct_play.specs.Acting.{after_step, done_by_each, go_on, step_of}
 use Rattle.ct_play.specs.Played.{Played}
 use Rattle.ct_play.specs.Who.{named}
@@ -30,12 +29,6 @@ use Rattle.ct_play.specs.declared.line_fault.LineFault.{LineFault}
 use Rattle.ct_play.specs.declared.line_fault.LineFault.TheVariants.{NotSo}
 
 -- ---- what a step does
-
--- a command as a line has it, `set 0 7`
-unfoldable pub command_text : Command → List ℕ
-command_text (Set r v) = concat (codes "set " ∷ decimal r ∷ codes " " ∷ decimal v ∷ [])
-command_text (Add r v) = concat (codes "add " ∷ decimal r ∷ codes " " ∷ decimal v ∷ [])
-command_text (Copy a b) = concat (codes "copy " ∷ decimal a ∷ codes " " ∷ decimal b ∷ [])
 
 -- what a wire with this value carries: a command, an estimate and its ts, or a value; an ack and a nack carry nothing
 abbrev pub load_text : {V : Type 0} → Wire V → List Message → List ℕ

@@ -7,7 +7,7 @@ ghost use Rattle.ct_play.specs.Acting.{done_by_each};
 ghost use Rattle.ct_play.specs.Faults.{IsFaultOf};
 ghost use Rattle.ct_play.specs.Parts.{IsSaidByFirst, IsTaken};
 ghost use Rattle.ct_play.specs.Played.{IsLater};
-ghost use Rattle.ct_play.specs.Stating.{before, came_to, carried_text, command_text, done_so, done_so_by, done_so_by_each};
+ghost use Rattle.ct_play.specs.Stating.{before, came_to, carried_text, done_so, done_so_by, done_so_by_each};
 ghost use Rattle.ct_play.specs.Stating.{envelope_text, load_text, or_dash, outcome_at, outcome_in_turn, outcome_text, stated, unless_other};
 ghost use Rattle.ct_play.specs.Who.{named};
 
@@ -17,7 +17,8 @@ use crate::naming::named;
 use crate::stage::Stage;
 use ct_grammar::{Act, Text, Who};
 use ct_model::Step;
-use ct_names::{Command, Instance, Member, Message, Serial};
+use ct_names::{Instance, Member, Message, Serial};
+use ct_print::push_command;
 use ct_show::{instance_of, push_estimate_of, push_set, push_value};
 use ct_world::{Letter, Wire, World};
 use std::alloc::{AllocError, Global};
@@ -288,17 +289,5 @@ fn push_load(text: &mut String, wire: &Wire, value: &[Message]) -> Result<(), Al
         Wire::Ack { .. } => Ok(()),
         Wire::Nack { .. } => Ok(()),
         Wire::Dec { .. } => push_set(text, value),
-    }
-}
-
-// The command as a line has it.
-#[tactic(auto, unfolding(crate::specs::Stating::command_text))]
-fn push_command(text: &mut String, command: Command) -> Result<(), AllocError>
-    ensures { OnOk result (Adds text.old text.new (command_text command)) }
-{
-    match command {
-        Command::Set(register, value) => write!(text, "set {register} {value}"),
-        Command::Add(register, amount) => write!(text, "add {register} {amount}"),
-        Command::Copy(from, to) => write!(text, "copy {from} {to}"),
     }
 }

@@ -37,14 +37,22 @@ pub fn push_act(text: &mut String, act: &Act) -> Result<(), AllocError>
 }
 
 // `submit` and the command.
-#[tactic(auto, unfolding(crate::specs::Acts::command_text))]
 fn push_submit(text: &mut String, command: Command) -> Result<(), AllocError>
     ensures { OnOk result (string_bytes text.new ≡ string_bytes text.old ++ codes "submit " ++ command_text command) }
 {
+    text.push_str("submit ")?;
+    push_command(text, command)
+}
+
+/// Puts the command behind the text, as `set 0 7`. Where memory is refused, a beginning of it may stand there.
+#[tactic(auto, unfolding(crate::specs::Acts::command_text))]
+pub fn push_command(text: &mut String, command: Command) -> Result<(), AllocError>
+    ensures { OnOk result (string_bytes text.new ≡ string_bytes text.old ++ command_text command) }
+{
     match command {
-        Command::Set(register, value) => write!(text, "submit set {register} {value}"),
-        Command::Add(register, amount) => write!(text, "submit add {register} {amount}"),
-        Command::Copy(from, to) => write!(text, "submit copy {from} {to}"),
+        Command::Set(register, value) => write!(text, "set {register} {value}"),
+        Command::Add(register, amount) => write!(text, "add {register} {amount}"),
+        Command::Copy(from, to) => write!(text, "copy {from} {to}"),
     }
 }
 

@@ -10,6 +10,6 @@ mod law;
 mod lines;
 mod members;
 
-pub use acts::push_act;
+pub use acts::{push_act, push_command};
 pub use law::{law_read_back, law_writable};
 pub use lines::push_line;
