@@ -2,6 +2,7 @@
 use Rattle.std.specs.Prelude.{◌≤◌, false, Option, Some, None, ok_or, Result, Ok, List, [], ◌∷◌, take, fold, codes}
 use Rattle.clap.specs.Words.{App, Row, Rule, Text, all_of, first_of, new_app, with_rule}
 use Rattle.ct_program.specs.declared.free_options.FreeOptions.{FreeOptions}
+use Rattle.ct_program.specs.declared.free_options.TheConstants.{MAX_TURNS}
 use Rattle.ct_program.specs.Line.{free_rules, options_of}
 use Rattle.ct_streams.specs.Arguments.{option_rule, value_rule}
 use Rattle.ct_streams.specs.Values.{◌>>=◌, option_in}
@@ -75,7 +76,7 @@ run_of rows = do
 unfoldable pub walk_options : List Row → Text → Result WalkOptions Text
 walk_options rows name = do
   run ← run_of rows
-  every ← option_in rows (codes "every") 0 100000
+  every ← option_in rows (codes "every") 0 MAX_TURNS
   until ← sight_in rows name
   Ok (record { run = run; every = every; until = until })
 

@@ -1,12 +1,13 @@
 -- The ranges of the options of a walk.
 use Rattle.std.specs.Prelude.{◌≤◌, ℕ}
+use Rattle.ct_program.specs.declared.free_options.TheConstants.{MAX_TURNS}
 use Rattle.ct_program.specs.FreeOptions.{InRange}
 use Rattle.ct_walk.specs.declared.options.WalkOptions.{WalkOptions}
 
 -- each option is in its range
 pub record IsInRange (o : WalkOptions) : Type 0 where
   pub run : InRange o.run
-  pub every : o.every ≤ 100000
+  pub every : o.every ≤ MAX_TURNS
 
 -- the options with another seed
 abbrev pub with_seed : WalkOptions → ℕ → WalkOptions

@@ -1,6 +1,7 @@
 //! The turns of a walk.
 
 ghost use Rattle.std.specs.Prelude.{◌≡◌, ◌+◌, ◌-◌, ◌*◌, ◌^◌, ◌<◌, ◌≤◌, Some, None, IfOk, IfErr, IfSome, OnOk, slice_get};
+ghost use Rattle.ct_program.specs.declared.free_options.TheConstants.{MAX_TURNS};
 ghost use Rattle.ct_program.specs.FreeOptions.{InRange};
 ghost use Rattle.ct_walk.specs.Faults.{IsShort};
 ghost use Rattle.ct_walk.specs.Nearness.{rounds_for};
@@ -80,7 +81,7 @@ impl Walker {
 
     // How many turns are to be made at most, where each member makes so many.
     pub(crate) fn most_turns(&self, turns: u32) -> u64
-        requires turns { turns ≤ 100000 }
+        requires turns { turns ≤ MAX_TURNS }
         requires entries { entries_left self.now.scripts ≤ 4001 }
         ensures { result ≡ self.now.rehearsal.setting.members * turns + entries_left self.now.scripts }
     {

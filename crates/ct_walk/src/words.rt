@@ -13,15 +13,17 @@ use crate::call::{Call, Seeds};
 use crate::options::WalkOptions;
 use crate::sight::Sight;
 use clap::{Arg, ArgMatches, Command};
-use ct_program::{FreeOptions, found_options, with_free_options};
+use ct_program::{FreeOptions, MAX_TURNS, found_options, with_free_options};
 use ct_streams::{
     Given, Wanted, WordFault, default_option, number_in, option_in, subcommand, value_option,
 };
 use std::alloc::{AllocError, Global};
 
 // The help of the option `turns`.
-const TURNS: &str =
-    "How many turns there are for each member, 0 to 100000: N times the members are made, and one for each entry of the scripts; whose each is, is drawn, so a member takes more than N of them or fewer";
+const TURNS: &str = concat!(
+    "How many turns there are for each member, 0 to 100000: N times the members are made, and one for each entry of the scripts; ",
+    "whose each is, is drawn, so a member takes more than N of them or fewer",
+);
 
 // What stands after the options.
 const AFTER: &str = "Examples:
@@ -72,7 +74,7 @@ fn walk_options<'a>(found: &'a ArgMatches<'_>, name: &'a str) -> Result<WalkOpti
 {
     Ok(WalkOptions {
         run: run_options(found)?,
-        every: option_in(found, "every", 0, 100_000)?,
+        every: option_in(found, "every", 0, MAX_TURNS)?,
         until: sight(found, name)?,
     })
 }
@@ -163,7 +165,10 @@ pub fn walk_command<'a>(alloc: Global) -> Result<Command<'a>, AllocError>
     let command = subcommand(
         alloc,
         "walk",
-        "Runs a group of members in one thread, each turn's member drawn from the seed, and writes the record of the run to standard output; the same options give the same record",
+        concat!(
+            "Runs a group of members in one thread, each turn's member drawn from the seed, and writes the record of the run to standard ",
+            "output; the same options give the same record",
+        ),
         AFTER,
     );
     with_free_options(alloc, command, TURNS)?
