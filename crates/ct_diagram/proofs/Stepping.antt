@@ -16,7 +16,7 @@ use Rattle.ct_world.specs.declared.replay_fault.ReplayFault.{ReplayFault}
 use Rattle.ct_world.specs.Replay.{IsFaultOf, first_steps}
 use Rattle.ct_diagram.specs.declared.drawn.Drawn.{Drawn}
 use Rattle.ct_diagram.specs.declared.fault.DiagramFault.{DiagramFault}
-use Rattle.ct_diagram.specs.declared.fault.DiagramFault.TheVariants.{Program, TooManySteps, Unread}
+use Rattle.ct_diagram.specs.declared.fault.DiagramFault.TheVariants.{NoMember, Program, TooManySteps, Unread}
 use Rattle.ct_diagram.specs.declared.sight.Glance.{Glance}
 use Rattle.ct_diagram.specs.declared.window.Window.{Window}
 use Rattle.ct_diagram.specs.Diagram.{Layer, drawn_next, first_layer, first_trail, layer_next, one_drawn, one_of, FailsWith, IsOfReplay}
@@ -112,6 +112,7 @@ trail_below window s cells steps k trail is within narrow =
 -- a step that is refused is the fault of the record
 pub of_replay : (w : Rehearsal) (replay : ReplayFault) (fault : DiagramFault) →
     IsFaultOf w.setting w.cells w.steps replay.at replay.refusal → IsOfReplayFault replay fault → IsOfReplay fault w
+of_replay w replay (NoMember member members) h none = absurd none
 of_replay w replay (TooManySteps steps) h none = absurd none
 of_replay w replay (Unread told) h none = absurd none
 of_replay w replay (Program fault) h (inl memory) = rw memory.1 tt
@@ -126,6 +127,7 @@ handed_on (Err fault) w replay h given = of_replay w replay fault h given
 -- the same where so many steps can be drawn
 pub fails_on : (window : Window) (fault : DiagramFault) (w : Rehearsal) → steps_in window (part_of window w).steps ≤ MOST_STEPS →
     IsOfReplay fault (part_of window w) → FailsWith window fault w
+fails_on window (NoMember member members) w few h = absurd h
 fails_on window (TooManySteps steps) w few h = absurd h
 fails_on window (Unread told) w few h = absurd h
 fails_on window (Program fault) w few h = (few, h)

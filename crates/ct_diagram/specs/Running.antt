@@ -1,5 +1,5 @@
 -- What is drawn, by what the input says.
-use Rattle.std.specs.Prelude.{◌≤◌, ℕ, List, Option, Result, IsOkAnd, ⊤}
+use Rattle.std.specs.Prelude.{◌≡◌, ◌≤◌, ℕ, List, Option, Some, Result, IsOkAnd, ⊤}
 use Rattle.std.specs.Io.KnownBytes.{Appends}
 use Rattle.ct_model.specs.Rehearsal.{Rehearsal}
 use Rattle.ct_records.specs.declared.program_fault.ProgramFault.TheVariants.{Reader, Write, Memory}
@@ -9,11 +9,11 @@ use Rattle.ct_records.specs.Script.{script}
 use Rattle.ct_streams.specs.Streams.{WritesPart}
 use Rattle.ct_show.specs.NoRecords.{IsToldOf}
 use Rattle.ct_diagram.specs.declared.fault.DiagramFault.{DiagramFault}
-use Rattle.ct_diagram.specs.declared.fault.DiagramFault.TheVariants.{Unread, Program}
+use Rattle.ct_diagram.specs.declared.fault.DiagramFault.TheVariants.{NoMember, Unread, Program}
 use Rattle.ct_diagram.specs.declared.window.TheConstants.{MOST_STEPS}
 use Rattle.ct_diagram.specs.declared.window.Window.{Window}
 use Rattle.ct_diagram.specs.Diagram.{diagram_text, IsDiagram, FailsWith}
-use Rattle.ct_diagram.specs.Window.{part_of, steps_in}
+use Rattle.ct_diagram.specs.Window.{lacking, part_of, steps_in}
 
 -- the input is a record whose steps up to the window's last one are allowed, and as many of them as a diagram can have are the
 -- window's; their diagram, and nothing else, was written
@@ -28,8 +28,14 @@ DrawsPart window read old new = IsOkAnd read (λ w.
     IsAllowed (part_of window w) × (steps_in window (part_of window w).steps ≤ MOST_STEPS)
     × WritesPart old new (diagram_text window (part_of window w)))
 
--- the bytes that were read are no record, or the fault is that of drawing the record. Of streams and of memory nothing is said
+-- this is the first member that is asked for and that the group lacks, which has so many
+abbrev pub Lacks : Window → ℕ → ℕ → Rehearsal → Type 0
+Lacks window member members w = (lacking window w ≡ Some member) × (members ≡ w.setting.members)
+
+-- the bytes that were read are no record, or the record's group lacks a member that is asked for, or the fault is that of drawing the
+-- record. Of streams and of memory nothing is said
 abbrev pub FailsOn : Window → DiagramFault → List ℕ → Type 0
+FailsOn window (NoMember member members) bytes = IsOkAnd (script bytes) (Lacks window member members)
 FailsOn window (Unread told) bytes = IsToldOf told bytes
 FailsOn window (Program Reader) bytes = ⊤
 FailsOn window (Program Write) bytes = ⊤

@@ -1,5 +1,6 @@
 -- Which steps are drawn, and what of them.
-use Rattle.std.specs.Prelude.{ℕ, ◌+◌, ◌-◌, Bool, true, false, not, ◌&&◌, ◌||◌, nat_le, List, length, Option, Some, None}
+use Rattle.std.specs.Prelude.{ℕ, ◌+◌, ◌-◌, Bool, true, false, not, ◌&&◌, ◌||◌, nat_le, List, length, Option, Some, None, find}
+use Rattle.ct_names.specs.Group.{everyone, is_member}
 use Rattle.ct_names.specs.MemberSet.{has_member}
 use Rattle.ct_model.specs.declared.step.Step.{Step}
 use Rattle.ct_model.specs.declared.wire.Wire.{Wire}
@@ -24,6 +25,15 @@ steps_in window steps = (length steps + 1) - window.from
 abbrev pub has_named : Option (List ℕ) → ℕ → Bool
 has_named None p = true
 has_named (Some set) p = has_member set p
+
+-- the first member that is named and that a group of so many lacks
+abbrev pub stranger_of : ℕ → Option (List ℕ) → Option ℕ
+stranger_of members None = None
+stranger_of members (Some set) = find (λ p. has_member set p && not (is_member members p)) everyone
+
+-- the first member that is asked for and that the record's group lacks
+abbrev pub lacking : Window → Rehearsal → Option ℕ
+lacking window w = stranger_of w.setting.members window.members
 
 -- a message alone
 abbrev pub is_data : Wire (Unit {0}) → Bool

@@ -3,6 +3,7 @@
 ghost use Rattle.std.specs.Prelude.{◌≡◌, Some};
 ghost use Rattle.ct_diagram.specs.Faults.{fault_text, status_of};
 
+use ct_names::Member;
 use ct_records::ProgramFault;
 use ct_show::{FaultLine, NoRecord};
 use ct_streams::{InputFault, Status};
@@ -13,8 +14,17 @@ use std::fmt;
 /// Why no diagram is drawn, or not written. Its text is the line for standard error.
 #[derive(Debug, Drop)]
 pub enum DiagramFault {
+    /// The steps of a member are asked for that the record's group doesn't have.
+    NoMember {
+        /// The member.
+        member: Member,
+        /// The number of members.
+        members: u8,
+    },
     /// The window has this many steps of the record, more than `MOST_STEPS`.
-    TooManySteps { steps: usize },
+    TooManySteps {
+        steps: usize,
+    },
     /// The input is no record.
     Unread(NoRecord),
     /// One of the record's steps up to the window's last one is refused, a stream failed, or memory was refused.
@@ -22,11 +32,13 @@ pub enum DiagramFault {
 }
 
 impl DiagramFault {
-    /// The status that a program ends with: 3 where too many steps are asked for, 2 for the input, else the program's.
+    /// The status that a program ends with: 3 where a member that isn't there or too many steps are asked for, 2 for the input, else
+    /// the program's.
     pub fn status(&self) -> u8
         ensures { result ≡ status_of self.now }
     {
         match self {
+            DiagramFault::NoMember { .. } => Status::Words.code(),
             DiagramFault::TooManySteps { .. } => Status::Words.code(),
             DiagramFault::Unread(_) => Status::NoRecord.code(),
             DiagramFault::Program(fault) => fault.status(),
@@ -39,6 +51,12 @@ impl fmt::Display for DiagramFault {
 
     fn fmt<W: fmt::Write>(&self, f: &mut fmt::Formatter<W>) -> fmt::Result {
         match self {
+            DiagramFault::NoMember { member, members } => {
+                write!(
+                    f,
+                    "--member {member}: the record has members 1 to {members}"
+                )
+            }
             DiagramFault::TooManySteps { steps } => {
                 write!(
                     f,

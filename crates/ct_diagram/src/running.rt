@@ -1,10 +1,11 @@
 //! A record in, its diagram out.
 
-ghost use Rattle.std.specs.Prelude.{◌≡◌, ◌≢◌, ◌<◌, ◌^◌, Err, IfOk, IfErr, IfSome, OnOk};
+ghost use Rattle.std.specs.Prelude.{◌≡◌, ◌≢◌, ◌<◌, ◌^◌, Err, IfOk, IfErr, IfSome, IsOkAnd, None, OnOk};
 ghost use Rattle.ct_streams.specs.Streams.{FailsOnce};
 ghost use Rattle.ct_records.specs.Script.{script};
 ghost use Rattle.ct_streams.specs.Streams.{read_part};
 ghost use Rattle.ct_diagram.specs.Running.{Draws, DrawsPart, FailsOn, IsDiagramOf, IsOfDrawing};
+ghost use Rattle.ct_diagram.specs.Window.{lacking};
 
 use crate::drawing::diagram;
 use crate::fault::DiagramFault;
@@ -28,6 +29,8 @@ pub fn draw<R: Source, W: Sink>(
     // The input is a record whose steps up to the window's last one are allowed, and what was written is their diagram.
     ensures ok { OnOk result (IfSome (R.left reader.old) (λ input.
         Draws window.now (script input) (W.written writer.old) (W.written writer.new))) }
+    // Members that are asked for are members of the record's group.
+    ensures members { OnOk result (IfSome (R.left reader.old) (λ input. IsOkAnd (script input) (λ w. lacking window.now w ≡ None))) }
     ensures fault { IfErr result (λ fault. IfSome (R.left reader.old) (λ input. FailsOn window.now fault (read_part input))) }
     // Where the writer failed, some first bytes of such a diagram were written.
     ensures part { result ≡ Err (DiagramFault.Program ProgramFault.Write) → IfSome (R.left reader.old) (λ input.
@@ -48,6 +51,7 @@ pub fn draw<R: Source, W: Sink>(
 // The diagram of the record, whose bytes are freed before it is drawn.
 fn drawn(alloc: Global, bytes: Vec<u8>, window: &Window) -> Result<Vec<u8>, DiagramFault>
     ensures ok { IfOk result (λ text. IsDiagramOf window.now (script bytes.items) text.items) }
+    ensures members { OnOk result (IsOkAnd (script bytes.items) (λ w. lacking window.now w ≡ None)) }
     ensures fault { IfErr result (λ fault. IsOfDrawing window.now fault bytes.items) }
 {
     let script = match read_told(alloc, &bytes)? {
@@ -55,5 +59,9 @@ fn drawn(alloc: Global, bytes: Vec<u8>, window: &Window) -> Result<Vec<u8>, Diag
         Err(told) => return Err(DiagramFault::Unread(told)),
     };
     drop(bytes);
+    if let Some(member) = window.stranger(script.group) {
+        let members = script.group.n();
+        return Err(DiagramFault::NoMember { member, members });
+    }
     diagram(alloc, &script, window)
 }

@@ -1,13 +1,21 @@
 //! Which steps are drawn, and what of them.
 
 ghost use Rattle.std.specs.Prelude.{◌≡◌, ◌<◌, ◌+◌, ◌-◌, ◌^◌, ◌&&◌, ◌||◌, not};
-ghost use Rattle.ct_diagram.specs.Window.{is_drawn, has_named, is_data, is_sent_asked};
+ghost use Rattle.std.specs.Prelude.{find};
+ghost use Rattle.ct_names.specs.Group.{everyone, is_member};
+ghost use Rattle.ct_names.specs.MemberSet.{has_member};
+ghost use Rattle.ct_diagram.specs.Window.{is_drawn, has_named, is_data, is_sent_asked, stranger_of};
 
-use ct_names::{Member, MemberSet};
+use ct_names::{Group, MAX_MEMBERS, Member, MemberSet};
 use ct_world::Wire;
 
 /// How many steps a diagram has at most.
 pub const MOST_STEPS: usize = 400;
+
+// The numbers that a member may have.
+const EVERYONE: [Member; MAX_MEMBERS as usize] = [
+    1, 2, 3, 4, 5, 6, 7, 8, 9, 10, 11, 12, 13, 14, 15, 16,
+];
 
 /// The steps from one number to another, counted from 1, both of them drawn, in rows.
 #[derive(Clone, Copy, Debug, Drop, PartialEq, Eq)]
@@ -50,12 +58,33 @@ impl Window {
         }
     }
 
+    // The first member that is named and that the group lacks.
+    pub(crate) fn stranger(&self, group: Group) -> Option<Member>
+        ensures { result ≡ stranger_of group self.now.members }
+    {
+        match self.members {
+            None => None,
+            Some(set) => stranger(group, set),
+        }
+    }
+
     // Whether the envelope with this wire from one member to another is drawn.
     pub(crate) fn has_wire(&self, from: Member, to: Member, wire: &Wire) -> bool
         ensures { result ≡ is_sent_asked self.now from to wire.now }
     {
         (self.names(from) || self.names(to)) && !(self.consensus && is_data(wire))
     }
+}
+
+// The first member of the set that the group lacks.
+#[tactic(auto, unfolding(ct_names::specs::Group::members))]
+fn stranger(group: Group, set: MemberSet) -> Option<Member>
+    ensures { result ≡ find (λ p. has_member set p && not (is_member group p)) everyone }
+{
+    EVERYONE
+        .iter()
+        .copied()
+        .find(|member| set.contains(*member) && !group.has(*member))
 }
 
 // Whether the wire is a message alone.

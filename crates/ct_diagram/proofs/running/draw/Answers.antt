@@ -1,9 +1,11 @@
-use Rattle.std.proofs.Common.{◌≡◌, List, ℕ, Option, Result, Ok, Err}
-use Rattle.std.specs.Prelude.{IfErr, IfSome, IsErrAnd}
+use Rattle.std.proofs.Common.{◌≡◌, List, ℕ, Option, None, Result, Ok, Err, refl}
+use Rattle.std.specs.Prelude.{IfErr, IfSome, IsErrAnd, IsOkAnd}
 use Rattle.ct_streams.specs.Streams.{read_part}
 use Rattle.ct_diagram.specs.declared.fault.DiagramFault.{DiagramFault}
 use Rattle.ct_diagram.specs.declared.window.Window.{Window}
+use Rattle.ct_show.proofs.Seen.{input_seen}
 use Rattle.ct_diagram.specs.Running.{FailsOn}
+use Rattle.ct_diagram.specs.Window.{lacking}
 use Rattle.ct_diagram.proofs.Seen.{draws_seen, fault_seen, part_seen}
 use Rattle.ct_diagram.proofs.running.draw.Goals as goal
 
@@ -20,6 +22,12 @@ returns-in_err-text-clause-fault g c =
     let fault = c.in_err-text.field-0.0 in
     handed c.from_residual-in_err-text.result fault left c.args.window.now c.from_residual-in_err-text.ensures.1
     (fault_seen left c.in_ok-bytes.bytes.items c.args.window.now fault c.in_ok-bytes.ensures.bytes c.in_err-text.ensures.fault)
+
+pub returns-in-Ok-clause-members : goal.returns-in-Ok-clause-members
+returns-in-Ok-clause-members g c =
+    let bytes = c.in_ok-bytes.bytes.items in
+    input_seen (g.R.Source.left c.args.reader.now) bytes bytes (λ r. IsOkAnd r (λ w. lacking c.args.window.now w ≡ None))
+    c.in_ok-bytes.ensures.bytes refl c.in_ok-text.ensures.members
 
 pub returns-in-Ok-clause-ok : goal.returns-in-Ok-clause-ok
 returns-in-Ok-clause-ok g c =
