@@ -100,12 +100,19 @@ arrow_text w window sender begun drawn k e =
     concat (opening_text (kind_of e.wire) (end_class drawn.step drawn.sight) ∷ way_text w window sender begun e.to drawn.place
     ∷ who_text w k sender e.to ∷ begun_text window.from begun ∷ end_text drawn ∷ [])
 
+-- the envelope of serial k, where it is asked for, with the member whose step sent it
+abbrev pub asked : Window → List ℕ → ℕ → Option (Envelope (Unit {0})) → Option (ℕ × Envelope (Unit {0}))
+asked window senders k None = None
+asked window senders k (Some e) =
+    if is_sent_asked window (sender_at senders k) e.to e.wire then Some (sender_at senders k, e) else None
+
+abbrev pub arrow_of : Rehearsal → Window → List Drawn → Drawn → ℕ → Option (ℕ × Envelope (Unit {0})) → List ℕ
+arrow_of w window trail drawn k None = []
+arrow_of w window trail drawn k (Some sent) = arrow_text w window sent.0 (origin trail k) drawn k sent.1
+
 -- where it is asked for
 abbrev pub arrow_at : Rehearsal → Window → List ℕ → List Drawn → Drawn → ℕ → Option (Envelope (Unit {0})) → List ℕ
-arrow_at w window senders trail drawn k None = []
-arrow_at w window senders trail drawn k (Some e) =
-    if is_sent_asked window (sender_at senders k) e.to e.wire
-    then arrow_text w window (sender_at senders k) (origin trail k) drawn k e else []
+arrow_at w window senders trail drawn k e = arrow_of w window trail drawn k (asked window senders k e)
 
 abbrev pub taken_text : Rehearsal → Window → List ℕ → List Drawn → Drawn → Option ℕ → List ℕ
 taken_text w window senders trail drawn None = []
@@ -126,12 +133,14 @@ stub_arrow w window sender drawn last k e =
     concat (opening_text (kind_of e.wire) (codes " stub") ∷ short_text w window drawn e.to ∷ who_text w k sender e.to ∷ begun_in drawn
     ∷ last_text last ∷ [])
 
+abbrev pub stub_of : Rehearsal → Window → Drawn → List Step → ℕ → Option (ℕ × Envelope (Unit {0})) → List ℕ
+stub_of w window drawn later k None = []
+stub_of w window drawn later k (Some sent) =
+    if is_taken later k then [] else stub_arrow w window sent.0 drawn (drawn.number + length later) k sent.1
+
 -- where it is asked for, and none of the later steps takes it out of its line
 abbrev pub stub_at : Rehearsal → Window → List ℕ → Drawn → List Step → ℕ → Option (Envelope (Unit {0})) → List ℕ
-stub_at w window senders drawn later k None = []
-stub_at w window senders drawn later k (Some e) =
-    if is_sent_asked window (sender_at senders k) e.to e.wire
-    then (if is_taken later k then [] else stub_arrow w window (sender_at senders k) drawn (drawn.number + length later) k e) else []
+stub_at w window senders drawn later k e = stub_of w window drawn later k (asked window senders k e)
 
 -- that of the envelope that the step puts back
 abbrev pub returned_text : Rehearsal → Window → List ℕ → Drawn → List Step → Option ℕ → List ℕ

@@ -4,7 +4,7 @@ ghost use Rattle.std.specs.Prelude.{◌≡◌, ◌<◌, ◌+◌, ◌-◌, ◌^�
 ghost use Rattle.ct_records.specs.Adds.{Adds};
 ghost use Rattle.ct_show.specs.Wires.{letter_at};
 ghost use Rattle.ct_diagram.specs.Arrows.{kind_of, sender_at, grid_of, end_class, begun_at, begun_by, begun_word, begun_in, before_text};
-ghost use Rattle.ct_diagram.specs.Arrows.{begun_text, end_word, end_text, opening_text, way_text, who_text, arrow_text, arrow_at};
+ghost use Rattle.ct_diagram.specs.Arrows.{begun_text, end_word, end_text, opening_text, way_text, who_text, arrow_text, arrow_at, asked};
 ghost use Rattle.ct_diagram.specs.Arrows.{taken_text, short_text, last_text, stub_arrow, stub_at, returned_text, first_stubs, arrows};
 ghost use Rattle.ct_diagram.specs.Trail.{returned, taken};
 
@@ -70,9 +70,9 @@ fn push_arrow_at(
     ensures { OnOk result (Adds text.old text.new
         (arrow_at world.now.rehearsal window.now senders.now trail.now drawn serial (letter_at world.now.rehearsal serial))) }
 {
-    let sender = sender_at(senders, serial);
-    match world.letter(serial) {
-        Some(letter) if window.has_wire(sender, letter.to, &letter.wire) => push_arrow(
+    match asked(world, window, senders, serial) {
+        None => Ok(()),
+        Some((sender, letter)) => push_arrow(
             text,
             world,
             window,
@@ -82,7 +82,22 @@ fn push_arrow_at(
             serial,
             &letter,
         ),
-        _ => Ok(()),
+    }
+}
+
+// The envelope of the serial, where it is asked for, with the member whose step sent it.
+fn asked(
+    world: &World,
+    window: &Window,
+    senders: &[Member],
+    serial: Serial,
+) -> Option<(Member, Letter)>
+    ensures { result ≡ asked window.now senders.now serial (letter_at world.now.rehearsal serial) }
+{
+    let sender = sender_at(senders, serial);
+    match world.letter(serial) {
+        Some(letter) if window.has_wire(sender, letter.to, &letter.wire) => Some((sender, letter)),
+        _ => None,
     }
 }
 
@@ -334,15 +349,10 @@ fn push_stub_at(
     ensures { OnOk result (Adds text.old text.new
         (stub_at world.now.rehearsal window.now senders.now drawn later.now serial (letter_at world.now.rehearsal serial))) }
 {
-    let sender = sender_at(senders, serial);
-    match world.letter(serial) {
-        Some(letter) if window.has_wire(sender, letter.to, &letter.wire) => {
-            if is_taken(later, serial) {
-                Ok(())
-            } else {
-                let last = drawn.number + later.len();
-                push_stub_arrow(text, world, window, sender, drawn, last, serial, &letter)
-            }
+    match asked(world, window, senders, serial) {
+        Some((sender, letter)) if !is_taken(later, serial) => {
+            let last = drawn.number + later.len();
+            push_stub_arrow(text, world, window, sender, drawn, last, serial, &letter)
         }
         _ => Ok(()),
     }
