@@ -4,7 +4,7 @@
 -- 2. It has no key "version", or there is no whole number there.
 -- 3. It has a key that records of its version don't have; of several the first in the order of their bytes.
 -- 4. Of batch (in version 3 alone), cells, n and steps, in this order, one is missing, or has another value than is wanted.
-use Rattle.std.specs.Prelude.{ℕ, Bool, true, false, not, ◌==◌, ◌&&◌, ◌||◌, List, [], ◌∷◌, codes, decimal, Option, Some, None, is_some}
+use Rattle.std.specs.Prelude.{ℕ, Bool, not, ◌==◌, ◌&&◌, ◌||◌, List, [], ◌∷◌, codes, decimal, Option, Some, None, is_some}
 use Rattle.std.specs.Prelude.{option_and_then, if◌then◌else◌}
 use Rattle.std.specs.List.{concat}
 use Rattle.std.specs.Str.{bytes_eq}

@@ -1,5 +1,5 @@
 -- What is wrong with a step of a record.
-use Rattle.std.specs.Prelude.{ℕ, ◌-◌, List, [], ◌∷◌, ◌++◌, nat_le, codes, decimal, Option, Some, None, option_and_then, unwrap_or}
+use Rattle.std.specs.Prelude.{ℕ, ◌-◌, List, [], ◌∷◌, nat_le, codes, decimal, Option, Some, None, option_and_then, unwrap_or}
 use Rattle.std.specs.Prelude.{if◌then◌else◌}
 use Rattle.std.specs.List.{concat}
 use Rattle.serde_json.specs.Data.{Data}
@@ -8,7 +8,7 @@ use Rattle.ct_names.specs.declared.command.Command.TheVariants.{Set}
 use Rattle.ct_model.specs.declared.step.Step.{Step}
 use Rattle.ct_model.specs.declared.step.Step.TheVariants.{Submit, Receive, Begin, Enter, Choose, Adopt, Suspect, Conclude, Deliver}
 use Rattle.ct_model.specs.declared.step.Step.TheVariants.{Follow, Crash, Postpone, Lose, Repeat}
-use Rattle.ct_model.specs.StepText.{Number, byte, serial, value, largest, Rest, nothing, number, command, step_entry, step_text}
+use Rattle.ct_model.specs.StepText.{Number, byte, serial, value, Rest, nothing, number, command, step_entry, step_text}
 use Rattle.ct_grammar.specs.Misfits.{act_hint}
 use Rattle.ct_records.specs.Script.{named, since}
 use Rattle.ct_show.specs.GivenNames.{given_text}
