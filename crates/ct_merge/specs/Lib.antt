@@ -1,3 +1,4 @@
+pub mod Culprits
 pub mod Entries
 pub mod Logs
 pub mod Merging

@@ -6,6 +6,7 @@
 #![tactic(auto)]
 
 mod address;
+mod culprit_text;
 mod entering;
 mod entry;
 mod full_name;
@@ -22,6 +23,7 @@ mod standstill;
 mod taker;
 mod verdict;
 
+pub use culprit_text::push_culprit;
 pub use entry::NoEntry;
 pub use full_name::FullName;
 pub use log_act::LogAct;

@@ -1,0 +1,32 @@
+-- Why lines of logs are not taken, as text.
+use Rattle.std.specs.Prelude.{ℕ, List, [], ◌∷◌, codes, decimal}
+use Rattle.std.specs.List.{concat}
+use Rattle.ct_model.specs.Actor.{actor}
+use Rattle.ct_names.specs.RefusalText.{refusal_text}
+use Rattle.ct_names.specs.declared.refusal.Refusal.{Refusal}
+use Rattle.ct_play.specs.declared.line_fault.LineFault.{LineFault}
+use Rattle.ct_play.specs.declared.line_fault.LineFault.TheVariants.{Refused, NotSo}
+use Rattle.ct_merge.specs.declared.verdict.Culprit.{Culprit}
+use Rattle.ct_merge.specs.declared.verdict.Why.{Why}
+use Rattle.ct_merge.specs.declared.verdict.Why.TheVariants.{Fault, Never, Ended, Circle}
+
+-- a step of p that the rules refuse
+unfoldable pub refused_text : ℕ → Refusal → List ℕ
+refused_text p refusal = concat (codes "member " ∷ decimal p ∷ codes " is refused " ∷ refusal_text refusal ∷ [])
+
+-- a line that is refused by itself
+unfoldable pub fault_text : LineFault → List ℕ
+fault_text (Refused step refusal) = refused_text (actor step) refusal
+fault_text (NotSo p) = concat (codes "member " ∷ decimal p ∷ codes " came to something else than is stated" ∷ [])
+fault_text _ = codes "refused"
+
+-- why a line is not taken
+unfoldable pub why_text : Why → List ℕ
+why_text (Fault fault) = fault_text fault
+why_text (Never p) = concat (codes "it was not sent before, and member " ∷ decimal p ∷ codes " can't send it any more" ∷ [])
+why_text (Ended p) = concat (codes "the log of member " ∷ decimal p ∷ codes " ends before it is sent" ∷ [])
+why_text Circle = codes "it waits for a line that waits for it"
+
+-- the same of a line that is named before
+abbrev pub culprit_text : Culprit → List ℕ
+culprit_text c = why_text c.why

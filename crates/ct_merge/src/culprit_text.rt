@@ -1,0 +1,57 @@
+//! Why lines of logs are not taken, as text.
+
+ghost use Rattle.std.specs.Prelude.{◌≡◌, ◌++◌, OnOk, string_bytes};
+ghost use Rattle.ct_merge.specs.Culprits.{culprit_text, fault_text, refused_text, why_text};
+
+use crate::verdict::{Culprit, Why};
+use ct_names::{Member, Refusal};
+use ct_play::LineFault;
+use std::alloc::AllocError;
+
+/// Puts behind the text why the culprit's line is not taken, as `the log of member 2 ends before it is sent`; the line itself is the
+/// caller's to name. Where memory is refused, a beginning of it may stand there.
+pub fn push_culprit(text: &mut String, culprit: &Culprit) -> Result<(), AllocError>
+    ensures { OnOk result (string_bytes text.new ≡ string_bytes text.old ++ culprit_text culprit.now) }
+{
+    push_why(text, culprit.why)
+}
+
+#[tactic(auto, unfolding(crate::specs::Culprits::why_text))]
+fn push_why(text: &mut String, why: Why) -> Result<(), AllocError>
+    ensures { OnOk result (string_bytes text.new ≡ string_bytes text.old ++ why_text why) }
+{
+    match why {
+        Why::Fault(fault) => push_fault(text, fault),
+        Why::Never(from) => write!(
+            text,
+            "it was not sent before, and member {from} can't send it any more"
+        ),
+        Why::Ended(from) => write!(text, "the log of member {from} ends before it is sent"),
+        Why::Circle => text.push_str("it waits for a line that waits for it"),
+    }
+}
+
+// A line that is refused by itself.
+#[tactic(auto, unfolding(crate::specs::Culprits::fault_text))]
+fn push_fault(text: &mut String, fault: LineFault) -> Result<(), AllocError>
+    ensures { OnOk result (string_bytes text.new ≡ string_bytes text.old ++ fault_text fault) }
+{
+    match fault {
+        LineFault::Refused(step, refusal) => push_refused(text, step.member(), refusal),
+        LineFault::NotSo(member) => {
+            write!(
+                text,
+                "member {member} came to something else than is stated"
+            )
+        }
+        _ => text.push_str("refused"),
+    }
+}
+
+// A step of the member that the rules refuse.
+#[tactic(auto, unfolding(crate::specs::Culprits::refused_text))]
+fn push_refused(text: &mut String, member: Member, refusal: Refusal) -> Result<(), AllocError>
+    ensures { OnOk result (string_bytes text.new ≡ string_bytes text.old ++ refused_text member refusal) }
+{
+    write!(text, "member {member} is refused {refusal}")
+}
