@@ -1,6 +1,9 @@
 pub mod Advancing
+pub mod Halting
 pub mod Owning
 pub mod Playing
 pub mod Reading
+pub mod Standing
+pub mod Stopping
 pub mod Taking
 pub mod Verdicts

@@ -4,5 +4,6 @@ pub mod Logs
 pub mod Merging
 pub mod Names
 pub mod Numbers
+pub mod Stops
 pub mod Texts
 pub mod Verdicts

@@ -70,10 +70,11 @@ pub record IsTakenTo (w : Rehearsal) (p : ℕ) (log : List LogLine) (count : ℕ
   pub within : count ≤ length log
   pub is : IsLog w p (take count log)
 
--- what was taken: the record, and how many lines of each member's log
+-- what was taken: the record, and how many lines of each member's log; and whose log was tried last
 pub record Taken : Type 0 where
   pub rehearsal : Rehearsal
   pub counts : List ℕ
+  pub last : ℕ
 
 -- how many lines of p's log were taken
 abbrev pub count_of : List ℕ → ℕ → ℕ

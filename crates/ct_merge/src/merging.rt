@@ -5,12 +5,13 @@ ghost use Rattle.ct_world.specs.Setup.{setting_of};
 ghost use Rattle.ct_play.specs.Faults.{IsShort};
 ghost use Rattle.ct_merge.specs.Logs.{IsMerge};
 ghost use Rattle.ct_merge.specs.Merging.{IsSameGroup, IsTakenFrom};
-ghost use Rattle.ct_merge.specs.Verdicts.{IfAccepted};
+ghost use Rattle.ct_merge.specs.Stops.{IsCulprit};
+ghost use Rattle.ct_merge.specs.Verdicts.{IfAccepted, IfStopped};
 
 use crate::log_line::LogLine;
 use crate::progress::Progress;
-use crate::standstill::{culprit, standstill};
-use crate::verdict::{Verdict, Why};
+use crate::standstill::standstill;
+use crate::verdict::Verdict;
 use ct_play::LineFault;
 use ct_world::Setup;
 use std::alloc::Global;
@@ -23,6 +24,8 @@ pub fn merge(alloc: Global, setup: Setup, logs: &[Vec<LogLine>]) -> Result<Verdi
     ensures merged { IfOk result (λ verdict. IfAccepted verdict (λ w. IsMerge w logs.now)) }
     ensures setting { IfOk result (λ verdict. IfAccepted verdict (λ w. w.setting ≡ setting_of setup)) }
     ensures cells { IfOk result (λ verdict. IfAccepted verdict (λ w. w.cells ≡ setup.cells)) }
+    // A line that is told of is the next one of its log behind a run, and is not taken there.
+    ensures culprit { IfOk result (λ verdict. IfStopped verdict (IsCulprit logs.now)) }
     ensures err { IfErr result IsShort }
 {
     let progress = Progress::new(alloc, setup)?;
@@ -30,17 +33,19 @@ pub fn merge(alloc: Global, setup: Setup, logs: &[Vec<LogLine>]) -> Result<Verdi
 }
 
 // Takes the lines, and says what they come to.
-#[tactic(auto, using(crate::proofs::Verdicts::none_accepted))]
+#[tactic(auto, using(crate::proofs::Verdicts::none_accepted, crate::proofs::Halting::is_culprit))]
 fn judge(progress: Progress, logs: &[Vec<LogLine>]) -> Result<Verdict, LineFault>
     requires { IsTakenFrom logs.now progress }
     ensures merged { IfOk result (λ verdict. IfAccepted verdict (λ w. IsMerge w logs.now)) }
     ensures group { IfOk result (λ verdict. IfAccepted verdict (IsSameGroup progress.rehearsal)) }
+    ensures culprit { IfOk result (λ verdict. IfStopped verdict (IsCulprit logs.now)) }
     ensures err { IfErr result IsShort }
 {
     let mut progress = progress;
     match progress.run(logs) {
         Ok(()) => Ok(ended(progress, logs)),
-        Err(fault) => refusal(progress, fault),
+        Err(fault) if fault.is_short() => Err(fault),
+        Err(fault) => Ok(Verdict::Refused(progress.halted(fault))),
     }
 }
 
@@ -50,21 +55,10 @@ fn ended(progress: Progress, logs: &[Vec<LogLine>]) -> Verdict
     requires { IsTakenFrom logs.now progress }
     ensures merged { IfAccepted result (λ w. IsMerge w logs.now) }
     ensures record { IfAccepted result (λ w. w ≡ progress.rehearsal) }
+    ensures culprit { IfStopped result (IsCulprit logs.now) }
 {
     match standstill(&progress, logs) {
         Some(verdict) => verdict,
         None => Verdict::Accepted(progress.into_world()),
     }
-}
-
-// What a line comes to that is refused by itself, unless memory or the board was.
-fn refusal(progress: Progress, fault: LineFault) -> Result<Verdict, LineFault>
-    ensures none { IfOk result (λ verdict. IfAccepted verdict (λ w. ⊥)) }
-    ensures err { IfErr result IsShort }
-{
-    if fault.is_short() {
-        return Err(fault);
-    }
-    let culprit = culprit(&progress, progress.last(), Why::Fault(fault));
-    Ok(Verdict::Refused(culprit))
 }

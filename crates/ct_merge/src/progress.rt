@@ -4,10 +4,12 @@ ghost use Rattle.std.specs.Prelude.{◌≡◌, ◌≢◌, ◌≤◌, ℕ, [], tr
 ghost use Rattle.ct_names.specs.Group.{is_member};
 ghost use Rattle.ct_merge.specs.Logs.{log_of};
 ghost use Rattle.ct_merge.specs.Merging.{count_of, IsSameGroup, IsTakenFrom};
+ghost use Rattle.ct_merge.specs.Stops.{halted_at, IsHalt};
 ghost use Rattle.ct_world.specs.Setup.{record_of};
 
 use crate::log_line::LogLine;
 use crate::taker::Taker;
+use crate::verdict::{Culprit, Why};
 use ct_names::{MAX_MEMBERS, Member};
 use ct_play::{LineFault, Stage};
 use ct_world::{Setup, World};
@@ -26,13 +28,13 @@ pub(crate) struct Progress {
     last: Member,
 }
 
-// Contracts see the record and the numbers of lines.
+// Contracts see the record, the numbers of lines, and whose log was tried last.
 impl Model for Progress {
     ghost use Rattle.ct_merge.specs.Merging.{Taken};
 
     ghost Value = { Taken };
 
-    ghost view = { λ p. record { rehearsal = p.taker; counts = p.counts } };
+    ghost view = { λ p. record { rehearsal = p.taker; counts = p.counts; last = p.last } };
 }
 
 impl Progress {
@@ -68,6 +70,7 @@ impl Progress {
         requires { IsTakenFrom logs.now self.old }
         ensures taken { OnOk result (IsTakenFrom logs.now self.new) }
         ensures group { OnOk result (IsSameGroup self.old.rehearsal self.new.rehearsal) }
+        ensures halt { IfErr result (IsHalt logs.now self.new) }
     {
         // Each round but the last takes a line.
         for round in 0..=lines_of(logs) {
@@ -84,6 +87,7 @@ impl Progress {
         requires { IsTakenFrom logs.now self.old }
         ensures taken { OnOk result (IsTakenFrom logs.now self.new) }
         ensures group { OnOk result (IsSameGroup self.old.rehearsal self.new.rehearsal) }
+        ensures halt { IfErr result (IsHalt logs.now self.new) }
     {
         let mut some = false;
         for i in 0..self.stage().world().group().n() {
@@ -95,13 +99,14 @@ impl Progress {
     }
 
     // Takes lines of the member's log as far as they go. Whether there were some.
-    #[tactic(auto, using(crate::proofs::Advancing::advanced))]
+    #[tactic(auto, using(crate::proofs::Advancing::advanced, crate::proofs::Halting::halted))]
     fn advance(&mut self, member: Member, logs: &[Vec<LogLine>]) -> Result<bool, LineFault>
         requires member { is_member self.old.rehearsal.setting.members member ≡ true }
         requires few { member ≤ MAX_MEMBERS }
         requires taken { IsTakenFrom logs.now self.old }
         ensures taken { OnOk result (IsTakenFrom logs.now self.new) }
         ensures group { OnOk result (IsSameGroup self.old.rehearsal self.new.rehearsal) }
+        ensures halt { IfErr result (IsHalt logs.now self.new) }
     {
         let start = self.count(member);
         let mut count = start;
@@ -117,15 +122,22 @@ impl Progress {
         requires some { 1 ≤ member }
         requires few { member ≤ MAX_MEMBERS }
         ensures record { self.new.rehearsal ≡ self.old.rehearsal }
+        ensures last { self.new.last ≡ self.old.last }
         ensures here { count_of self.new.counts member ≡ count }
         ensures elsewhere { (q : ℕ) → 1 ≤ q → q ≢ member → count_of self.new.counts q ≡ count_of self.old.counts q }
     {
         self.counts[usize::from(member) - 1] = count;
     }
 
-    /// Whose log was tried last.
-    pub(crate) fn last(&self) -> Member {
-        self.last
+    /// The line of the log that was tried last, which has this fault.
+    pub(crate) fn halted(&self, fault: LineFault) -> Culprit
+        ensures { result ≡ halted_at self.now fault }
+    {
+        Culprit {
+            member: self.last,
+            place: self.count(self.last),
+            why: Why::Fault(fault),
+        }
     }
 
     /// How many lines of the member's log were taken.

@@ -1,12 +1,17 @@
 //! Lines of logs, taken one by one.
 
-ghost use Rattle.std.specs.Prelude.{◌≡◌, [], true, false, Ok, Some, IfErr, IfOk, IfSome, OnOk};
+ghost use Rattle.std.specs.Prelude.{◌≡◌, [], true, false, Ok, None, Some, IfErr, IfOk, IfSome, OnOk};
+ghost use Rattle.ct_model.specs.Actor.{actor};
+ghost use Rattle.ct_model.specs.Cause.{cause};
+ghost use Rattle.ct_model.specs.Lawful.{IsLawful};
 ghost use Rattle.ct_model.specs.Rehearsal.{extended};
 ghost use Rattle.ct_world.specs.Setup.{record_of};
+ghost use Rattle.ct_play.specs.Faults.{IsShort, UnlessShort, is_short};
 ghost use Rattle.ct_play.specs.Stating.{outcome_text};
 ghost use Rattle.ct_merge.specs.Logs.{act_of};
 ghost use Rattle.ct_merge.specs.Merging.{act_in, step_of, IsSameGroup, IsTakenTo, LeavesAll, LeavesOthers, Takes};
 ghost use Rattle.ct_merge.specs.Names.{full_name};
+ghost use Rattle.ct_merge.specs.Stops.{IsOther, IsRefusedBy, IsStuck, IsStuckIn, IsUnbrought};
 
 use crate::address::{Address, address_of};
 use crate::full_name::FullName;
@@ -73,6 +78,7 @@ impl Taker {
 
     /// Takes the lines of the member's log, of which so many were taken, as far as they go. The first of the others waits for an
     /// envelope that was not sent, or is refused.
+    #[tactic(auto, using(crate::proofs::Stopping::stuck_in))]
     pub(crate) fn take_on(
         &mut self,
         member: Member,
@@ -83,6 +89,7 @@ impl Taker {
         ensures taken { OnOk result (IsTakenTo self.new member log.now count.new) }
         ensures others { OnOk result (LeavesOthers member self.old self.new) }
         ensures group { OnOk result (IsSameGroup self.old self.new) }
+        ensures stuck { IfErr result (λ fault. UnlessShort (is_short fault) (IsStuckIn self.old member log.now count.new fault)) }
     {
         for place in *count..log.len() {
             if !self.take(member, &log[place])? {
@@ -94,15 +101,18 @@ impl Taker {
     }
 
     // Takes the line, unless it waits for an envelope that was not sent.
-    #[tactic(auto, using(crate::proofs::Taking::takes, crate::proofs::Taking::group_more))]
+    #[tactic(auto, using(crate::proofs::Taking::takes, crate::proofs::Taking::group_more, crate::proofs::Stopping::stuck))]
     fn take(&mut self, member: Member, line: &LogLine) -> Result<bool, LineFault>
         ensures takes { result ≡ Ok true → Takes self.old member line.now self.new }
         ensures waits { result ≡ Ok false → LeavesAll self.old self.new }
         ensures group { OnOk result (IsSameGroup self.old self.new) }
+        ensures stuck { IfErr result (λ fault. UnlessShort (is_short fault) (IsStuck self.old member line.now fault)) }
     {
+        lawful(self.stage.world());
         let Some(serial) = self.find(member, line.act)? else {
             return Ok(false);
         };
+        lawful(self.stage.world());
         let step = step_of(member, serial, line.act);
         self.step(step)?;
         self.compare(step, &line.said)?;
@@ -115,6 +125,7 @@ impl Taker {
         ensures told { IfOk result (λ found. IfSome found (λ serial. act_of self.new (step_of member serial act) ≡ Some act)) }
         ensures all { OnOk result (LeavesAll self.old self.new) }
         ensures group { OnOk result (IsSameGroup self.old self.new) }
+        ensures fault { IfErr result (λ fault. UnlessShort (is_short fault) (IsUnbrought self.old member fault)) }
     {
         match act {
             LogAct::Receive(name) => self.bring(member, name),
@@ -128,6 +139,7 @@ impl Taker {
         ensures named { IfOk result (λ found. IfSome found (λ serial. full_name self.new serial ≡ Some name)) }
         ensures all { OnOk result (LeavesAll self.old self.new) }
         ensures group { OnOk result (IsSameGroup self.old self.new) }
+        ensures fault { IfErr result (λ fault. UnlessShort (is_short fault) (IsUnbrought self.old member fault)) }
     {
         let Some(serial) = self.serials.get(&address_of(member, name)).copied() else {
             return Ok(None);
@@ -145,6 +157,7 @@ impl Taker {
     fn repeat(&mut self, member: Member, serial: Serial) -> Result<(), LineFault>
         ensures all { OnOk result (LeavesAll self.old self.new) }
         ensures group { OnOk result (IsSameGroup self.old self.new) }
+        ensures fault { IfErr result (λ fault. UnlessShort (is_short fault) (IsUnbrought self.old member fault)) }
     {
         match self.stage.world().enabled(&Step::Receive(member, serial)) {
             Err(Refusal::NotWaiting) => self.step(Step::Repeat(member, serial)),
@@ -154,7 +167,9 @@ impl Taker {
 
     // What the step came to is what is stated, if that is.
     fn compare(&self, step: Step, said: &Option<Text>) -> Result<(), LineFault>
-        ensures { OnOk result (IfSome said.now (λ text. outcome_text self.now step ≡ text)) }
+        ensures so { OnOk result (IfSome said.now (λ text. outcome_text self.now step ≡ text)) }
+        ensures other { IfErr result (λ fault. UnlessShort (is_short fault)
+            ((fault ≡ LineFault.NotSo (actor step)) × IsOther self.now step said.now)) }
     {
         let Some(said) = said else {
             return Ok(());
@@ -169,9 +184,11 @@ impl Taker {
     }
 
     // Takes the step.
-    #[tactic(auto, using(crate::proofs::Playing::joined))]
+    #[tactic(auto, using(crate::proofs::Playing::joined, crate::proofs::Playing::allowed, crate::proofs::Playing::refused))]
     fn step(&mut self, step: Step) -> Result<(), LineFault>
-        ensures { OnOk result (self.new ≡ extended self.old step) }
+        ensures joined { OnOk result (self.new ≡ extended self.old step) }
+        ensures allowed { OnOk result (cause self.old step ≡ None) }
+        ensures refused { IfErr result (λ fault. UnlessShort (is_short fault) (IsRefusedBy self.old step fault)) }
     {
         let sent = self.stage.world().sent();
         let line = Play::Act(Who::One(step.member()), act_in(step));
@@ -181,7 +198,8 @@ impl Taker {
 
     // Notes the envelopes that were sent since there were so many.
     fn note(&mut self, before: u32) -> Result<(), LineFault>
-        ensures { self.new ≡ self.old }
+        ensures same { self.new ≡ self.old }
+        ensures err { IfErr result IsShort }
     {
         for place in before..self.stage.world().sent() {
             let serial = place + 1;
@@ -201,6 +219,13 @@ impl Taker {
         }
         Ok(())
     }
+}
+
+/// A world's record is a run.
+pub(crate) fn lawful(world: &World)
+    ensures { IsLawful world.now.rehearsal }
+{
+    let _ = world.record();
 }
 
 // The step of the act, where it receives the envelope of this serial.

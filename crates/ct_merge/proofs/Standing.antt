@@ -1,0 +1,51 @@
+-- Logs that stand.
+use Rattle.std.proofs.Common.{◌≡◌, ℕ, ◌≤◌, ◌<◌, List, Some, inl, inr, length, slice_get, ap, sym, subst, ◌∙◌, arith, refl}
+use Rattle.std.proofs.lemmas.Option.{slice_get_cases}
+use Rattle.std.specs.Global.{Vec}
+use Rattle.ct_names.specs.declared.limit.TheConstants.{MAX_MEMBERS}
+use Rattle.ct_merge.specs.Logs.{log_of}
+use Rattle.ct_merge.specs.Merging.{Taken, count_of}
+use Rattle.ct_merge.specs.Stops.{IsCulpritAt, IsLed, IsNext, IsStand, IsWait, Receives}
+use Rattle.ct_merge.specs.declared.full_name.FullName.{FullName}
+use Rattle.ct_merge.specs.declared.log_act.LogAct.TheVariants.{Receive}
+use Rattle.ct_merge.specs.declared.log_line.LogLine.{LogLine}
+use Rattle.ct_merge.specs.declared.verdict.Culprit.{Culprit}
+use Rattle.ct_merge.specs.declared.verdict.Why.TheVariants.{Never, Ended, Circle}
+
+abbrev receives : (line : LogLine) (name : FullName) → line.act ≡ Receive name → Receives line name.from
+receives line name e = record { name = name; act = e; from = refl }
+
+module _ (logs : List (Vec LogLine)) (t : Taken) (p : ℕ) (line : LogLine) (name : FullName) (next : IsNext logs t p line)
+    (act : line.act ≡ Receive name)
+  where
+    pub never : IsStand logs t p (Never name.from)
+    never = record { line = line; next = next; reason = receives line name act }
+
+    pub ended : length (log_of logs name.from) ≤ count_of t.counts name.from → IsStand logs t p (Ended name.from)
+    ended over = record { line = line; next = next; reason = (receives line name act, over) }
+
+    pub awaits : count_of t.counts name.from < length (log_of logs name.from) → IsWait logs t p name.from
+    awaits more = record { line = line; next = next; receives = receives line name act; more = more }
+
+pub ruleset waits = (never, ended, awaits)
+
+element : (log : List LogLine) (n : ℕ) → n < length log → (line : LogLine) × (slice_get log n ≡ Some line)
+element log n within = elim (slice_get_cases log n).1 as (λ _. (line : LogLine) × (slice_get log n ≡ Some line)) [
+  | inl is ↦ (is.0, is.2)
+  | inr past ↦ absurd (omega (arith, within, past.0))
+]
+
+-- as many waits as members lead there
+pub circle : (logs : List (Vec LogLine)) (t : Taken) (p : ℕ) (culprit : Culprit) →
+    count_of t.counts p < length (log_of logs p) → IsLed logs t MAX_MEMBERS p → culprit.member ≡ p →
+    culprit.place ≡ count_of t.counts p → culprit.why ≡ Circle → IsCulpritAt logs t culprit
+circle logs t p culprit more led member place why =
+    let at : (line : LogLine) × (slice_get (log_of logs p) (count_of t.counts p) ≡ Some line) =
+    element (log_of logs p) (count_of t.counts p) more in
+    let stand : IsStand logs t p Circle = record { line = at.0; next = at.1; reason = led } in
+    record {
+      place = ap (count_of t.counts) member ∙ sym place;
+      stand =
+          subst (λ w. IsStand logs t culprit.member w) (sym why)
+          (subst (λ q. IsStand logs t q Circle) (sym member) stand);
+    }

@@ -1,0 +1,152 @@
+-- Where logs stand, and why.
+use Rattle.std.specs.Prelude.{◌≡◌, ◌≢◌, ◌⊎◌, ℕ, zero, suc, ◌≤◌, ◌<◌, List, Option, Some, None, length, slice_get, ⊤}
+use Rattle.std.specs.Global.{Vec}
+use Rattle.ct_names.specs.declared.limit.TheConstants.{MAX_MEMBERS}
+use Rattle.ct_names.specs.declared.refusal.Refusal.{Refusal}
+use Rattle.ct_model.specs.Actor.{actor}
+use Rattle.ct_model.specs.Cause.{cause}
+use Rattle.ct_model.specs.Lawful.{IsLawful}
+use Rattle.ct_model.specs.Rehearsal.{Rehearsal, extended}
+use Rattle.ct_model.specs.declared.step.Step.{Step}
+use Rattle.ct_model.specs.declared.step.Step.TheVariants.{Repeat}
+use Rattle.ct_play.specs.Stating.{outcome_text}
+use Rattle.ct_play.specs.Faults.{UnlessShort, is_short}
+use Rattle.ct_play.specs.declared.line_fault.LineFault.{LineFault}
+use Rattle.ct_play.specs.declared.line_fault.LineFault.TheVariants.{Refused, NotSo}
+use Rattle.ct_merge.specs.Logs.{act_of, log_of}
+use Rattle.ct_merge.specs.Merging.{IsSameGroup, IsTakenFrom, IsTakenTo, LeavesAll, LeavesOthers, Taken, count_of}
+use Rattle.ct_merge.specs.declared.full_name.FullName.{FullName}
+use Rattle.ct_merge.specs.declared.log_act.LogAct.TheVariants.{Receive}
+use Rattle.ct_merge.specs.declared.log_line.LogLine.{LogLine}
+use Rattle.ct_merge.specs.declared.standstill.Stand.{Stand}
+use Rattle.ct_merge.specs.declared.standstill.Stand.TheVariants.{Own, For}
+use Rattle.ct_merge.specs.declared.verdict.Culprit.{Culprit}
+use Rattle.ct_merge.specs.declared.verdict.Why.{Why}
+use Rattle.ct_merge.specs.declared.verdict.Why.TheVariants.{Fault, Never, Ended, Circle}
+
+-- ---- a line that is refused by itself
+
+-- the step after this record is p's, and the line tells of it
+pub record Tells (w : Rehearsal) (p : ℕ) (line : LogLine) (step : Step) : Type 0 where
+  pub actor : actor step ≡ p
+  pub act : act_of w step ≡ Some line.act
+
+-- the network brings p an envelope once more
+pub record IsRepetition (p : ℕ) (step : Step) : Type 0 where
+  pub serial : ℕ
+  pub is : step ≡ Repeat p serial
+
+-- a text is stated, and the step that led to this record came to another
+pub record IsOther (w : Rehearsal) (step : Step) (said : Option (List ℕ)) : Type 0 where
+  pub text : List ℕ
+  pub stated : said ≡ Some text
+  pub other : outcome_text w step ≢ text
+
+-- the step of which the line tells is allowed, and comes to something else than it states
+pub record Differs (w : Rehearsal) (p : ℕ) (line : LogLine) : Type 0 where
+  pub step : Step
+  pub tells : Tells w p line step
+  pub allowed : cause w step ≡ None
+  pub other : IsOther (extended w step) step line.said
+
+-- after this record the rules refuse the step, for this cause
+abbrev pub IsRefusedBy : Rehearsal → Step → LineFault → Type 0
+IsRefusedBy w step (Refused tried refusal) = (tried ≡ step) × (cause w step ≡ Some refusal)
+IsRefusedBy w step (NotSo p) = ⊥
+IsRefusedBy w step fault = ⊤
+
+-- the rules refuse p's line after this record, or the repetition that it asks for; or it comes to something else than it states
+abbrev pub IsFaultAt : Rehearsal → ℕ → LogLine → LineFault → Type 0
+IsFaultAt w p line (Refused step refusal) = (cause w step ≡ Some refusal) × (Tells w p line step ⊎ IsRepetition p step)
+IsFaultAt w p line (NotSo q) = (q ≡ p) × Differs w p line
+IsFaultAt w p line fault = ⊤
+
+-- the rules refuse the repetition of an envelope that was sent to p
+pub record IsUnbrought (w : Rehearsal) (p : ℕ) (fault : LineFault) : Type 0 where
+  pub serial : ℕ
+  pub refused : IsRefusedBy w (Repeat p serial) fault
+
+-- with repetitions alone behind the record, p's line is refused by itself
+pub record IsStuck (old : Rehearsal) (p : ℕ) (line : LogLine) (fault : LineFault) : Type 0 where
+  pub at : Rehearsal
+  pub lawful : IsLawful at
+  pub leaves : LeavesAll old at
+  pub group : IsSameGroup old at
+  pub fails : IsFaultAt at p line fault
+
+-- the same behind so many lines of its log
+pub record IsStuckIn (old : Rehearsal) (p : ℕ) (log : List LogLine) (count : ℕ) (fault : LineFault) : Type 0 where
+  pub at : Rehearsal
+  pub lawful : IsLawful at
+  pub taken : IsTakenTo at p log count
+  pub others : LeavesOthers p old at
+  pub group : IsSameGroup old at
+  pub line : LogLine
+  pub there : slice_get log count ≡ Some line
+  pub fails : IsFaultAt at p line fault
+
+-- ---- the line at which a log stands
+
+-- the line receives an envelope of q's
+pub record Receives (line : LogLine) (q : ℕ) : Type 0 where
+  pub name : FullName
+  pub act : line.act ≡ Receive name
+  pub from : name.from ≡ q
+
+-- all lines of q's log were taken
+abbrev pub IsOver : List (Vec LogLine) → Taken → ℕ → Type 0
+IsOver logs t q = length (log_of logs q) ≤ count_of t.counts q
+
+-- this is p's next line
+abbrev pub IsNext : List (Vec LogLine) → Taken → ℕ → LogLine → Type 0
+IsNext logs t p line = slice_get (log_of logs p) (count_of t.counts p) ≡ Some line
+
+-- p's log waits for that of q, which is not over
+pub record IsWait (logs : List (Vec LogLine)) (t : Taken) (p q : ℕ) : Type 0 where
+  pub line : LogLine
+  pub next : IsNext logs t p line
+  pub receives : Receives line q
+  pub more : count_of t.counts q < length (log_of logs q)
+
+-- a log waits for p's, and so many such waits lead there
+abbrev pub IsLed : List (Vec LogLine) → Taken → ℕ → ℕ → Type 0
+IsLed logs t zero p = ⊤
+IsLed logs t (suc n) p = (q : ℕ) × IsWait logs t q p × IsLed logs t n q
+
+-- why p's line is not taken behind these; where there are as many waits as members, they go in a circle
+abbrev pub IsWhy : List (Vec LogLine) → Taken → ℕ → LogLine → Why → Type 0
+IsWhy logs t p line (Fault fault) = IsFaultAt t.rehearsal p line fault
+IsWhy logs t p line (Never q) = Receives line q
+IsWhy logs t p line (Ended q) = Receives line q × IsOver logs t q
+IsWhy logs t p line Circle = IsLed logs t MAX_MEMBERS p
+
+-- p's next line is not taken for this reason
+pub record IsStand (logs : List (Vec LogLine)) (t : Taken) (p : ℕ) (why : Why) : Type 0 where
+  pub line : LogLine
+  pub next : IsNext logs t p line
+  pub reason : IsWhy logs t p line why
+
+-- so many lines of p's log were taken, and the next one is not, for this reason
+pub record IsCulpritAt (logs : List (Vec LogLine)) (t : Taken) (culprit : Culprit) : Type 0 where
+  pub place : count_of t.counts culprit.member ≡ culprit.place
+  pub stand : IsStand logs t culprit.member culprit.why
+
+-- there is a run of first lines of each log, behind which that is so
+pub record IsCulprit (logs : List (Vec LogLine)) (culprit : Culprit) : Type 0 where
+  pub so_far : Taken
+  pub lawful : IsLawful so_far.rehearsal
+  pub taken : IsTakenFrom logs so_far
+  pub is : IsCulpritAt logs so_far culprit
+
+-- the next line of the log that was tried last, which has this fault
+abbrev pub halted_at : Taken → LineFault → Culprit
+halted_at t fault = record { member = t.last; place = count_of t.counts t.last; why = Fault fault }
+
+-- no more lines are taken, as memory or the board was refused, or at this line
+abbrev pub IsHalt : List (Vec LogLine) → Taken → LineFault → Type 0
+IsHalt logs t fault = UnlessShort (is_short fault) (IsCulprit logs (halted_at t fault))
+
+-- where p's log stands: at its own line, or for that of another
+abbrev pub IsStandOf : List (Vec LogLine) → Taken → ℕ → Stand → Type 0
+IsStandOf logs t p (Own why) = IsStand logs t p why
+IsStandOf logs t p (For q) = IsWait logs t p q
