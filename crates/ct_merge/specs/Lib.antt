@@ -4,6 +4,7 @@ pub mod Logs
 pub mod Merging
 pub mod Names
 pub mod Numbers
+pub mod Sending
 pub mod Stops
 pub mod Texts
 pub mod Verdicts

@@ -1,39 +1,72 @@
 //! What a member may still send.
 
+ghost use Rattle.std.specs.Prelude.{◌≡◌};
+ghost use Rattle.ct_merge.specs.Sending.{choosing, concluding, has_before, is_later, is_passed, is_receipt, is_submission, may_come};
+ghost use Rattle.ct_merge.specs.Sending.{may_send, passes, phase_in, received, replying, submitted};
+
 use crate::full_name::FullName;
 use ct_grammar::Carried;
 use ct_model::{Phase, Step};
 use ct_names::{Instance, Member, Round};
-use ct_play::carried_of;
-use ct_world::{Letter, World};
+use ct_world::{Letter, Wire, World};
 
 // ---- what it did
 
-/// Whether the member received an envelope that carries this.
-fn received(world: &World, member: Member, carried: Carried) -> bool {
+// Whether the member received this message or decision.
+#[tactic(auto, unfolding(crate::specs::Sending::received))]
+fn received(world: &World, member: Member, carried: Carried) -> bool
+    ensures { result ≡ received world.now.rehearsal member carried }
+{
     world
         .record()
         .iter()
         .any(|step| is_receipt(world, member, carried, *step))
 }
 
-// Whether the step is the member's receipt of an envelope that carries this.
-fn is_receipt(world: &World, member: Member, carried: Carried, step: Step) -> bool {
+// Whether the step is the member's receipt of this message or decision.
+fn is_receipt(world: &World, member: Member, carried: Carried, step: Step) -> bool
+    ensures { result ≡ is_receipt world.now.rehearsal member carried step }
+{
     match step {
-        Step::Receive(who, serial) => who == member && is_carried(carried, world.letter(serial)),
+        Step::Receive(who, serial) => who == member && is_passed(carried, world.letter(serial)),
         _ => false,
     }
 }
 
-fn is_carried(carried: Carried, letter: Option<Letter>) -> bool {
+fn is_passed(carried: Carried, letter: Option<Letter>) -> bool
+    ensures { result ≡ is_passed carried letter }
+{
     match letter {
         None => false,
-        Some(letter) => carried_of(&letter.wire) == carried,
+        Some(letter) => passes(&letter.wire, carried),
+    }
+}
+
+// Whether the wire carries this message or decision.
+fn passes(wire: &Wire, carried: Carried) -> bool
+    ensures { result ≡ passes wire.now carried }
+{
+    match (wire, carried) {
+        (Wire::Data(message), Carried::Data(origin, number)) => {
+            message.origin() == origin && message.number() == number
+        }
+        (
+            Wire::Dec {
+                instance,
+                round,
+                ..
+            },
+            Carried::Dec(k, r),
+        ) => *instance == k && *round == r,
+        _ => false,
     }
 }
 
 // How many messages the member submitted.
-fn submitted(world: &World, member: Member) -> usize {
+#[tactic(auto, unfolding(crate::specs::Sending::submitted))]
+fn submitted(world: &World, member: Member) -> usize
+    ensures { result ≡ submitted world.now.rehearsal member }
+{
     world
         .record()
         .iter()
@@ -41,7 +74,9 @@ fn submitted(world: &World, member: Member) -> usize {
         .count()
 }
 
-fn is_submission(member: Member, step: Step) -> bool {
+fn is_submission(member: Member, step: Step) -> bool
+    ensures { result ≡ is_submission member step }
+{
     match step {
         Step::Submit(who, _) => who == member,
         _ => false,
@@ -51,21 +86,33 @@ fn is_submission(member: Member, step: Step) -> bool {
 // ---- what is still before it
 
 // Whether the round of the instance is one that the member has yet to enter.
-fn has_before(world: &World, member: Member, instance: Instance, round: Round) -> bool {
-    let Some((last, _)) = world.instance(member) else {
-        return false;
-    };
-    if last < instance {
-        return true;
-    }
-    match world.round(member) {
+#[tactic(auto, unfolding(crate::specs::Sending::has_before))]
+fn has_before(world: &World, member: Member, instance: Instance, round: Round) -> bool
+    ensures { result ≡ has_before world.now.rehearsal member instance round }
+{
+    match world.instance(member) {
         None => false,
-        Some((here, _)) => instance == last && here < round,
+        Some((last, _)) => {
+            last < instance || instance == last && is_later(world.round(member), round)
+        }
+    }
+}
+
+// Whether the round is behind where a member is.
+fn is_later(here: Option<(Round, Phase)>, round: Round) -> bool
+    ensures { result ≡ is_later here round }
+{
+    match here {
+        None => false,
+        Some((at, _)) => at < round,
     }
 }
 
 // The phase in which the member is in this round of the instance; None where it isn't in that.
-fn phase_in(world: &World, member: Member, instance: Instance, round: Round) -> Option<Phase> {
+#[tactic(auto, unfolding(crate::specs::Sending::phase_in))]
+fn phase_in(world: &World, member: Member, instance: Instance, round: Round) -> Option<Phase>
+    ensures { result ≡ phase_in world.now.rehearsal member instance round }
+{
     let (last, _) = world.instance(member)?;
     let (here, phase) = world.round(member)?;
     if instance == last && here == round {
@@ -76,50 +123,75 @@ fn phase_in(world: &World, member: Member, instance: Instance, round: Round) -> 
 }
 
 // Whether the member may still propose in this round.
-fn may_choose(world: &World, member: Member, instance: Instance, round: Round) -> bool {
+fn may_choose(world: &World, member: Member, instance: Instance, round: Round) -> bool
+    ensures { result ≡ choosing (phase_in world.now.rehearsal member instance round)
+        (has_before world.now.rehearsal member instance round) }
+{
     match phase_in(world, member, instance, round) {
         Some(Phase::Gather) => true,
-        Some(_) => false,
+        Some(Phase::Rest | Phase::Wait | Phase::Tally) => false,
         None => has_before(world, member, instance, round),
     }
 }
 
 // Whether it may still reply in it.
-fn may_reply(world: &World, member: Member, instance: Instance, round: Round) -> bool {
+fn may_reply(world: &World, member: Member, instance: Instance, round: Round) -> bool
+    ensures { result ≡ replying (phase_in world.now.rehearsal member instance round)
+        (has_before world.now.rehearsal member instance round) }
+{
     match phase_in(world, member, instance, round) {
         Some(Phase::Gather | Phase::Wait) => true,
-        Some(_) => false,
+        Some(Phase::Rest | Phase::Tally) => false,
         None => has_before(world, member, instance, round),
     }
 }
 
 // Whether it may still decide in it.
-fn may_conclude(world: &World, member: Member, instance: Instance, round: Round) -> bool {
+fn may_conclude(world: &World, member: Member, instance: Instance, round: Round) -> bool
+    ensures { result ≡ concluding (phase_in world.now.rehearsal member instance round)
+        (has_before world.now.rehearsal member instance round) }
+{
     match phase_in(world, member, instance, round) {
         Some(Phase::Rest) => false,
-        Some(_) => true,
+        Some(Phase::Gather | Phase::Wait | Phase::Tally) => true,
         None => has_before(world, member, instance, round),
     }
 }
 
 // What the member may still send to the other, while it is up: a message that it submits or gets for the first time; what it sends in
 // a round; a decision that it makes or gets for the first time.
-fn may_send(world: &World, from: Member, to: Member, carried: Carried) -> bool {
+#[tactic(auto, unfolding(crate::specs::Sending::may_send))]
+fn may_send(world: &World, from: Member, to: Member, carried: Carried) -> bool
+    ensures { result ≡ may_send world.now.rehearsal from to carried }
+{
     let group = world.group();
     match carried {
-        Carried::Data(origin, number) if origin == from => submitted(world, from) < number as usize,
-        Carried::Data(..) => !received(world, from, carried),
+        Carried::Data(origin, number) => {
+            if origin == from {
+                submitted(world, from) < number as usize
+            } else {
+                !received(world, from, Carried::Data(origin, number))
+            }
+        }
         Carried::Est(k, r) => group.coordinator(r) == to && has_before(world, from, k, r),
         Carried::Prop(k, r) => group.coordinator(r) == from && may_choose(world, from, k, r),
         Carried::Ack(k, r) => group.coordinator(r) == to && may_reply(world, from, k, r),
         Carried::Nack(k, r) => group.coordinator(r) == to && may_reply(world, from, k, r),
-        Carried::Dec(k, r) if group.coordinator(r) == from => may_conclude(world, from, k, r),
-        Carried::Dec(..) => !received(world, from, carried),
+        Carried::Dec(k, r) => {
+            if group.coordinator(r) == from {
+                may_conclude(world, from, k, r)
+            } else {
+                !received(world, from, Carried::Dec(k, r))
+            }
+        }
     }
 }
 
 /// Whether the envelope of this name may still be sent to the member.
-pub(crate) fn may_come(world: &World, to: Member, name: FullName) -> bool {
+#[tactic(auto, unfolding(crate::specs::Sending::may_come))]
+pub(crate) fn may_come(world: &World, to: Member, name: FullName) -> bool
+    ensures { result ≡ may_come world.now.rehearsal to name }
+{
     world.group().has(name.from)
         && !world.crashed(name.from)
         && may_send(world, name.from, to, name.carried)
