@@ -1,10 +1,12 @@
 -- Logs that stand.
-use Rattle.std.proofs.Common.{◌≡◌, ℕ, ◌≤◌, ◌<◌, List, Some, inl, inr, length, slice_get, ap, sym, subst, ◌∙◌, arith, refl}
+use Rattle.std.proofs.Common.{◌≡◌, ℕ, ◌≤◌, ◌<◌, Bool, true, false, List, Some, inl, inr, length, slice_get, ap, sym, subst, ◌∙◌, arith, refl}
 use Rattle.std.proofs.lemmas.Option.{slice_get_cases}
 use Rattle.std.specs.Global.{Vec}
 use Rattle.ct_names.specs.declared.limit.TheConstants.{MAX_MEMBERS}
 use Rattle.ct_merge.specs.Logs.{log_of}
 use Rattle.ct_merge.specs.Merging.{Taken, count_of}
+use Rattle.ct_model.specs.Rehearsal.{Rehearsal}
+use Rattle.ct_merge.specs.Sending.{may_come}
 use Rattle.ct_merge.specs.Stops.{IsCulpritAt, IsLed, IsNext, IsStand, IsWait, Receives}
 use Rattle.ct_merge.specs.declared.full_name.FullName.{FullName}
 use Rattle.ct_merge.specs.declared.log_act.LogAct.TheVariants.{Receive}
@@ -12,20 +14,24 @@ use Rattle.ct_merge.specs.declared.log_line.LogLine.{LogLine}
 use Rattle.ct_merge.specs.declared.verdict.Culprit.{Culprit}
 use Rattle.ct_merge.specs.declared.verdict.Why.TheVariants.{Never, Ended, Circle}
 
-abbrev receives : (line : LogLine) (name : FullName) → line.act ≡ Receive name → Receives line name.from
-receives line name e = record { name = name; act = e; from = refl }
+abbrev receives : (w : Rehearsal) (p : ℕ) (line : LogLine) (name : FullName) (b : Bool) → line.act ≡ Receive name →
+    may_come w p name ≡ b → Receives w p line name.from b
+receives w p line name b e m = record { name = name; act = e; from = refl; may = m }
 
 module _ (logs : List (Vec LogLine)) (t : Taken) (p : ℕ) (line : LogLine) (name : FullName) (next : IsNext logs t p line)
     (act : line.act ≡ Receive name)
   where
-    pub never : IsStand logs t p (Never name.from)
-    never = record { line = line; next = next; reason = receives line name act }
+    pub never : may_come t.rehearsal p name ≡ false → IsStand logs t p (Never name.from)
+    never m = record { line = line; next = next; reason = receives t.rehearsal p line name false act m }
 
-    pub ended : length (log_of logs name.from) ≤ count_of t.counts name.from → IsStand logs t p (Ended name.from)
-    ended over = record { line = line; next = next; reason = (receives line name act, over) }
+    pub ended : may_come t.rehearsal p name ≡ true → length (log_of logs name.from) ≤ count_of t.counts name.from →
+        IsStand logs t p (Ended name.from)
+    ended m over = record { line = line; next = next; reason = (receives t.rehearsal p line name true act m, over) }
 
-    pub awaits : count_of t.counts name.from < length (log_of logs name.from) → IsWait logs t p name.from
-    awaits more = record { line = line; next = next; receives = receives line name act; more = more }
+    pub awaits : may_come t.rehearsal p name ≡ true → count_of t.counts name.from < length (log_of logs name.from) →
+        IsWait logs t p name.from
+    awaits m more =
+        record { line = line; next = next; receives = receives t.rehearsal p line name true act m; more = more }
 
 pub ruleset waits = (never, ended, awaits)
 

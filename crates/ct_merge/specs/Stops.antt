@@ -1,5 +1,5 @@
 -- Where logs stand, and why.
-use Rattle.std.specs.Prelude.{◌≡◌, ◌≢◌, ◌⊎◌, ℕ, zero, suc, ◌≤◌, ◌<◌, List, Option, Some, None, length, slice_get, ⊤}
+use Rattle.std.specs.Prelude.{◌≡◌, ◌≢◌, ◌⊎◌, ℕ, zero, suc, ◌≤◌, ◌<◌, Bool, true, false, List, Option, Some, None, length, slice_get, ⊤}
 use Rattle.std.specs.Global.{Vec}
 use Rattle.ct_names.specs.declared.limit.TheConstants.{MAX_MEMBERS}
 use Rattle.ct_names.specs.declared.refusal.Refusal.{Refusal}
@@ -15,6 +15,7 @@ use Rattle.ct_play.specs.declared.line_fault.LineFault.{LineFault}
 use Rattle.ct_play.specs.declared.line_fault.LineFault.TheVariants.{Refused, NotSo}
 use Rattle.ct_merge.specs.Logs.{act_of, log_of}
 use Rattle.ct_merge.specs.Merging.{IsSameGroup, IsTakenFrom, IsTakenTo, LeavesAll, LeavesOthers, Taken, count_of}
+use Rattle.ct_merge.specs.Sending.{may_come}
 use Rattle.ct_merge.specs.declared.full_name.FullName.{FullName}
 use Rattle.ct_merge.specs.declared.log_act.LogAct.TheVariants.{Receive}
 use Rattle.ct_merge.specs.declared.log_line.LogLine.{LogLine}
@@ -87,11 +88,12 @@ pub record IsStuckIn (old : Rehearsal) (p : ℕ) (log : List LogLine) (count : �
 
 -- ---- the line at which a log stands
 
--- the line receives an envelope of q's
-pub record Receives (line : LogLine) (q : ℕ) : Type 0 where
+-- p's line receives an envelope of q's, which q may still send after this record, or may not
+pub record Receives (w : Rehearsal) (p : ℕ) (line : LogLine) (q : ℕ) (still : Bool) : Type 0 where
   pub name : FullName
   pub act : line.act ≡ Receive name
   pub from : name.from ≡ q
+  pub may : may_come w p name ≡ still
 
 -- all lines of q's log were taken
 abbrev pub IsOver : List (Vec LogLine) → Taken → ℕ → Type 0
@@ -101,11 +103,11 @@ IsOver logs t q = length (log_of logs q) ≤ count_of t.counts q
 abbrev pub IsNext : List (Vec LogLine) → Taken → ℕ → LogLine → Type 0
 IsNext logs t p line = slice_get (log_of logs p) (count_of t.counts p) ≡ Some line
 
--- p's log waits for that of q, which is not over
+-- p's log waits for that of q, which is not over, and q may still send what it waits for
 pub record IsWait (logs : List (Vec LogLine)) (t : Taken) (p q : ℕ) : Type 0 where
   pub line : LogLine
   pub next : IsNext logs t p line
-  pub receives : Receives line q
+  pub receives : Receives t.rehearsal p line q true
   pub more : count_of t.counts q < length (log_of logs q)
 
 -- a log waits for p's, and so many such waits lead there
@@ -116,8 +118,8 @@ IsLed logs t (suc n) p = (q : ℕ) × IsWait logs t q p × IsLed logs t n q
 -- why p's line is not taken behind these; where there are as many waits as members, they go in a circle
 abbrev pub IsWhy : List (Vec LogLine) → Taken → ℕ → LogLine → Why → Type 0
 IsWhy logs t p line (Fault fault) = IsFaultAt t.rehearsal p line fault
-IsWhy logs t p line (Never q) = Receives line q
-IsWhy logs t p line (Ended q) = Receives line q × IsOver logs t q
+IsWhy logs t p line (Never q) = Receives t.rehearsal p line q false
+IsWhy logs t p line (Ended q) = Receives t.rehearsal p line q true × IsOver logs t q
 IsWhy logs t p line Circle = IsLed logs t MAX_MEMBERS p
 
 -- p's next line is not taken for this reason

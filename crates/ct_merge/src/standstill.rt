@@ -62,7 +62,6 @@ fn awaited(
 }
 
 // Where the waits of the member's log lead.
-#[tactic(auto, using(crate::proofs::Standing::circle))]
 fn root(progress: &Progress, logs: &[Vec<LogLine>], member: Member) -> Culprit
     requires { count_of progress.now.counts member < length (log_of logs.now member) }
     ensures { IsCulpritAt logs.now progress.now result }
