@@ -36,7 +36,7 @@ pub use keeping::{keep, session_end};
 pub use line_refused::LineRefused;
 pub use naming::MOST_NAMED;
 pub use partial::record_partial;
-pub use reading::LONGEST_SHOWN;
+pub use reading::{LONGEST_SHOWN, push_shown};
 pub use record_fault::RecordFault;
 pub use recording::{MAX_LEN, record, recorded};
 pub use session::LONGEST;

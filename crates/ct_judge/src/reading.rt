@@ -50,9 +50,10 @@ fn line_of_text(alloc: Global, text: &str) -> Result<Result<Line, Misread>, Allo
     }
 }
 
-// The line before its fault.
+/// Puts the line before its fault: without blanks at its ends, a colon and a space behind it; nothing of one that is longer than
+/// [`LONGEST_SHOWN`] or no UTF-8.
 #[tactic(auto, unfolding(crate::specs::Reading::shown))]
-pub(crate) fn push_shown(text: &mut String, line: &[u8]) -> Result<(), AllocError>
+pub fn push_shown(text: &mut String, line: &[u8]) -> Result<(), AllocError>
     ensures { OnOk result (Adds text.old text.new (shown line.now)) }
 {
     push_shown_text(text, text_in(trimmed(line)))

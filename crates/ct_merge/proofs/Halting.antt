@@ -1,8 +1,7 @@
 -- Lines at which logs stop.
-use Rattle.std.proofs.Common.{◌≡◌, ◌≢◌, ℕ, ◌≤◌, Bool, true, false, List, Some, ap, sym, subst, ◌∙◌, refl, length}
+use Rattle.std.proofs.Common.{◌≡◌, ◌≢◌, ℕ, ◌≤◌, Bool, true, false, List, Some, sym, subst, refl}
 use Rattle.std.specs.Global.{Vec}
 use Rattle.std.specs.Prelude.{slice_get}
-use Rattle.ct_model.specs.Rehearsal.{Rehearsal}
 use Rattle.ct_play.specs.Faults.{UnlessShort, is_short}
 use Rattle.ct_play.specs.declared.line_fault.LineFault.{LineFault}
 use Rattle.ct_merge.specs.Logs.{log_of}

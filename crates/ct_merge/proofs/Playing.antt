@@ -1,5 +1,5 @@
 -- A step that is played as a line.
-use Rattle.std.proofs.Common.{◌≡◌, ℕ, Bool, true, false, Option, Some, None, IfSome, Result, Ok, Err, ap, sym, subst, ◌∙◌, refl}
+use Rattle.std.proofs.Common.{◌≡◌, ℕ, Bool, true, false, Option, Some, None, IfSome, Result, Ok, Err, ap, subst, refl}
 use Rattle.std.specs.Prelude.{if◌then◌else◌}
 use Rattle.ct_names.specs.declared.refusal.Refusal.{Refusal}
 use Rattle.ct_model.specs.Actor.{actor}

@@ -1,5 +1,6 @@
 -- Logs that stand.
-use Rattle.std.proofs.Common.{◌≡◌, ℕ, ◌≤◌, ◌<◌, Bool, true, false, List, Some, inl, inr, length, slice_get, ap, sym, subst, ◌∙◌, arith, refl}
+use Rattle.std.proofs.Common.{◌≡◌, ℕ, ◌≤◌, ◌<◌, Bool, true, false, List, Some, inl, inr, length}
+use Rattle.std.proofs.Common.{slice_get, ap, sym, subst, ◌∙◌, arith, refl}
 use Rattle.std.proofs.lemmas.Option.{slice_get_cases}
 use Rattle.std.specs.Global.{Vec}
 use Rattle.ct_names.specs.declared.limit.TheConstants.{MAX_MEMBERS}

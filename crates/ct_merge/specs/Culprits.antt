@@ -1,18 +1,39 @@
 -- Why lines of logs are not taken, as text.
-use Rattle.std.specs.Prelude.{ℕ, List, [], ◌∷◌, codes, decimal}
+use Rattle.std.specs.Prelude.{ℕ, List, [], ◌∷◌, ◌++◌, codes, decimal}
 use Rattle.std.specs.List.{concat}
 use Rattle.ct_model.specs.Actor.{actor}
 use Rattle.ct_names.specs.RefusalText.{refusal_text}
+use Rattle.ct_names.specs.declared.limit.Limit.{Limit}
+use Rattle.ct_names.specs.declared.limit.Limit.TheVariants.{Submissions, Instances, Rounds, Envelopes, Cells, Steps}
 use Rattle.ct_names.specs.declared.refusal.Refusal.{Refusal}
+use Rattle.ct_names.specs.declared.refusal.Refusal.TheVariants.{Full}
 use Rattle.ct_play.specs.declared.line_fault.LineFault.{LineFault}
 use Rattle.ct_play.specs.declared.line_fault.LineFault.TheVariants.{Refused, NotSo}
 use Rattle.ct_merge.specs.declared.verdict.Culprit.{Culprit}
 use Rattle.ct_merge.specs.declared.verdict.Why.{Why}
 use Rattle.ct_merge.specs.declared.verdict.Why.TheVariants.{Fault, Never, Ended, Circle}
 
+-- a limit of the whole record is met by all the logs
+abbrev pub limit_note : Limit → List ℕ
+limit_note Submissions = []
+limit_note Instances = []
+limit_note Rounds = []
+limit_note Envelopes = codes ", a limit of all the logs together: it accuses nobody"
+limit_note Cells = codes ", a limit of all the logs together: it accuses nobody"
+limit_note Steps = codes ", a limit of all the logs together: it accuses nobody"
+
+-- what is said behind a refusal
+unfoldable pub note_text : Refusal → List ℕ
+note_text (Full limit) = limit_note limit
+note_text _ = []
+
+-- p is refused a step
+unfoldable pub head_text : ℕ → Refusal → List ℕ
+head_text p refusal = concat (codes "member " ∷ decimal p ∷ codes " is refused " ∷ refusal_text refusal ∷ [])
+
 -- a step of p that the rules refuse
 unfoldable pub refused_text : ℕ → Refusal → List ℕ
-refused_text p refusal = concat (codes "member " ∷ decimal p ∷ codes " is refused " ∷ refusal_text refusal ∷ [])
+refused_text p refusal = head_text p refusal ++ note_text refusal
 
 -- a line that is refused by itself
 unfoldable pub fault_text : LineFault → List ℕ

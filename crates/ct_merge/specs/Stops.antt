@@ -2,7 +2,6 @@
 use Rattle.std.specs.Prelude.{◌≡◌, ◌≢◌, ◌⊎◌, ℕ, zero, suc, ◌≤◌, ◌<◌, Bool, true, false, List, Option, Some, None, length, slice_get, ⊤}
 use Rattle.std.specs.Global.{Vec}
 use Rattle.ct_names.specs.declared.limit.TheConstants.{MAX_MEMBERS}
-use Rattle.ct_names.specs.declared.refusal.Refusal.{Refusal}
 use Rattle.ct_model.specs.Actor.{actor}
 use Rattle.ct_model.specs.Cause.{cause}
 use Rattle.ct_model.specs.Lawful.{IsLawful}

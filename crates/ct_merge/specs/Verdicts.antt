@@ -1,7 +1,6 @@
 -- What logs come to.
 use Rattle.std.specs.Prelude.{⊤}
 use Rattle.ct_model.specs.Rehearsal.{Rehearsal}
-use Rattle.ct_world.specs.World.{WorldView}
 use Rattle.ct_merge.specs.declared.verdict.Culprit.{Culprit}
 use Rattle.ct_merge.specs.declared.verdict.Verdict.{Verdict}
 use Rattle.ct_merge.specs.declared.verdict.Verdict.TheVariants.{Accepted, Refused, Cut}

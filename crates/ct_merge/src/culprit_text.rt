@@ -1,10 +1,10 @@
 //! Why lines of logs are not taken, as text.
 
 ghost use Rattle.std.specs.Prelude.{◌≡◌, ◌++◌, OnOk, string_bytes};
-ghost use Rattle.ct_merge.specs.Culprits.{culprit_text, fault_text, refused_text, why_text};
+ghost use Rattle.ct_merge.specs.Culprits.{culprit_text, fault_text, head_text, note_text, refused_text, why_text};
 
 use crate::verdict::{Culprit, Why};
-use ct_names::{Member, Refusal};
+use ct_names::{Limit, Member, Refusal};
 use ct_play::LineFault;
 use std::alloc::AllocError;
 
@@ -53,5 +53,27 @@ fn push_fault(text: &mut String, fault: LineFault) -> Result<(), AllocError>
 fn push_refused(text: &mut String, member: Member, refusal: Refusal) -> Result<(), AllocError>
     ensures { OnOk result (string_bytes text.new ≡ string_bytes text.old ++ refused_text member refusal) }
 {
+    push_head(text, member, refusal)?;
+    push_note(text, refusal)
+}
+
+// The member is refused a step.
+#[tactic(auto, unfolding(crate::specs::Culprits::head_text))]
+fn push_head(text: &mut String, member: Member, refusal: Refusal) -> Result<(), AllocError>
+    ensures { OnOk result (string_bytes text.new ≡ string_bytes text.old ++ head_text member refusal) }
+{
     write!(text, "member {member} is refused {refusal}")
+}
+
+// A limit of the whole record is met by all the logs.
+#[tactic(auto, unfolding(crate::specs::Culprits::note_text))]
+fn push_note(text: &mut String, refusal: Refusal) -> Result<(), AllocError>
+    ensures { OnOk result (string_bytes text.new ≡ string_bytes text.old ++ note_text refusal) }
+{
+    match refusal {
+        Refusal::Full(Limit::Envelopes | Limit::Cells | Limit::Steps) => {
+            text.push_str(", a limit of all the logs together: it accuses nobody")
+        }
+        _ => Ok(()),
+    }
 }
