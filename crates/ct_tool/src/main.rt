@@ -10,6 +10,7 @@ use ct_judge::{
     record_command, record_partial, session_end,
 };
 use ct_listing::{schedule_command, write_schedule};
+use ct_logs::{merge_command, merge_form, merge_logs};
 use ct_program::{CommandFault, answer_status};
 use ct_records::ProgramFault;
 use ct_show::{ShowFault, shown_end};
@@ -52,6 +53,7 @@ fn command<'a>(alloc: Global) -> Result<Command<'a>, AllocError> {
         .subcommand(check_command(alloc)?)?
         .subcommand(diagram_command(alloc)?)?
         .subcommand(interact_command(alloc)?)?
+        .subcommand(merge_command(alloc)?)?
         .subcommand(record_command(alloc)?)?
         .subcommand(report_command(alloc)?)?
         .subcommand(schedule_command(alloc)?)?
@@ -66,6 +68,7 @@ fn call(rt: &HostRuntime, matches: &ArgMatches<'_>) -> ExitCode {
         Some(("check", found)) => check_files(rt, found),
         Some(("diagram", found)) => diagram(rt, found),
         Some(("interact", found)) => hold_session(rt, found),
+        Some(("merge", found)) => merge(rt, found),
         Some(("record", found)) => record_schedule(rt, found),
         Some(("report", found)) => view(rt, found, Ok(View::Report)),
         Some(("schedule", found)) => schedule(rt, found),
@@ -185,6 +188,23 @@ fn schedule(rt: &HostRuntime, found: &ArgMatches<'_>) -> ExitCode {
     let mut writer = Counted::new(io::writer(rt));
     let ended = write_schedule(rt.alloc(), &mut reader, &mut writer);
     end_shown(rt, name, shown_end(ended, writer.is_broken()))
+}
+
+// Writes the run of the logs that the words name, and tells what it shows.
+fn merge(rt: &HostRuntime, found: &ArgMatches<'_>) -> ExitCode {
+    let names = found.get_strs("files").unwrap_or(&[]);
+    let mut writer = Counted::new(io::writer(rt));
+    let form = merge_form(found);
+    match merge_logs(rt.alloc(), &Host::new(rt), names, form, &mut writer) {
+        Ok(told) => {
+            let _ = eprintln!(rt; "{told}");
+            ExitCode::SUCCESS
+        }
+        Err(fault) => {
+            let status = fault.status();
+            fail(rt, fault, status)
+        }
+    }
 }
 
 // Ends as what is shown of the record in this file did.

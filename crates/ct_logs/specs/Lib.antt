@@ -1,0 +1,4 @@
+pub mod Line
+pub mod Faults
+pub mod Writing
+pub mod Merged

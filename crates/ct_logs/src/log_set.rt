@@ -1,0 +1,173 @@
+//! The logs of a group.
+
+ghost use Rattle.std.specs.Prelude.{◌≤◌, length};
+
+use crate::group_numbers::GroupNumbers;
+use crate::misfit::Misfit;
+use crate::naming::{line_at, push_line};
+use crate::no_entry::push_no_entry;
+use ct_merge::{LogFault, LogLine, LogText, NoEntry};
+use ct_names::{MAX_MEMBERS, Member};
+use ct_world::Setup;
+use std::alloc::{AllocError, Global};
+
+// The logs of members, each in its member's place.
+#[derive(Drop)]
+pub(crate) struct LogSet {
+    numbers: GroupNumbers,
+    // The last member that has a log.
+    last: Member,
+    // Of each member the place of its log's file; None where it has none.
+    files: Vec<Option<usize>>,
+    logs: Vec<Vec<LogLine>>,
+    // Of each line of a log its number in the file.
+    places: Vec<Vec<usize>>,
+}
+
+impl LogSet {
+    // The logs that the files of these names and texts have.
+    pub(crate) fn read(alloc: Global, names: &[&str], texts: &[Vec<u8>]) -> Result<LogSet, Misfit> {
+        let mut set = LogSet::new(alloc)?;
+        for (i, text) in texts.iter().enumerate() {
+            set.take(alloc, name_at(names, i), i, text)?;
+        }
+        Ok(set)
+    }
+
+    // No log.
+    fn new(alloc: Global) -> Result<LogSet, AllocError> {
+        let mut set = LogSet {
+            numbers: GroupNumbers::new(),
+            last: 1,
+            files: Vec::new(alloc),
+            logs: Vec::new(alloc),
+            places: Vec::new(alloc),
+        };
+        for _ in 0..MAX_MEMBERS {
+            set.add(alloc)?;
+        }
+        Ok(set)
+    }
+
+    // One more member without a log.
+    fn add(&mut self, alloc: Global) -> Result<(), AllocError> {
+        if self.files.push(None).is_err()
+            || self.logs.push(Vec::new(alloc)).is_err()
+            || self.places.push(Vec::new(alloc)).is_err()
+        {
+            return Err(AllocError);
+        }
+        Ok(())
+    }
+
+    // The logs of the first n members.
+    pub(crate) fn logs(&self, n: u8) -> &[Vec<LogLine>]
+        ensures { length result.now ≤ n }
+    {
+        match self.logs.get(..usize::from(n)) {
+            Some(logs) => logs,
+            None => &[],
+        }
+    }
+
+    // The place of the file of the member's log.
+    pub(crate) fn file(&self, member: Member) -> Option<usize> {
+        let place = usize::from(member).checked_sub(1)?;
+        self.files.get(place).copied()?
+    }
+
+    // The number in the file of the line at this place of the member's log.
+    pub(crate) fn number(&self, member: Member, place: usize) -> Option<usize> {
+        let at = usize::from(member).checked_sub(1)?;
+        self.places.get(at)?.get(place).copied()
+    }
+
+    // Takes the text as the log in the file of this name, at this place among the files.
+    fn take(&mut self, alloc: Global, name: &str, file: usize, text: &[u8]) -> Result<(), Misfit> {
+        let Some(position) = member_at(file) else {
+            let told = format!(in alloc; "{name}: a group has no more than {MAX_MEMBERS} members")?;
+            return Err(Misfit::Told(told));
+        };
+        let log = read_log(alloc, name, position, text)?;
+        let (member, numbers, lines, places) = log.into_parts();
+        self.numbers = self.numbers.with(alloc, name, numbers)?;
+        let member = member.unwrap_or(position);
+        if self.file(member).is_some() {
+            let told = format!(in alloc; "{name}: member {member}'s log, as a file before it")?;
+            return Err(Misfit::Told(told));
+        }
+        self.put(file, member, lines, places);
+        Ok(())
+    }
+
+    // Puts the member's log in its place.
+    fn put(&mut self, file: usize, member: Member, lines: Vec<LogLine>, places: Vec<usize>) {
+        self.last = self.last.max(member);
+        let at = usize::from(member).saturating_sub(1);
+        if let Some(kept) = self.files.get_mut(at) {
+            *kept = Some(file);
+        }
+        if let Some(kept) = self.logs.get_mut(at) {
+            *kept = lines;
+        }
+        if let Some(kept) = self.places.get_mut(at) {
+            *kept = places;
+        }
+    }
+
+    // What a world of the group is made with, where the logs are of its members.
+    pub(crate) fn setup(&self, alloc: Global, names: &[&str]) -> Result<Setup, Misfit> {
+        let Some(setup) = self.numbers.setup(self.last) else {
+            return Err(Misfit::Told(String::from_str(alloc, "no logs")?));
+        };
+        let (last, n) = (self.last, setup.group.n());
+        if last > n {
+            let name = name_at(names, self.file(last).unwrap_or(0));
+            let told = format!(in alloc; "{name}: member {last}'s log, and members are 1 to {n}")?;
+            return Err(Misfit::Told(told));
+        }
+        Ok(setup)
+    }
+}
+
+// The member of this place, where there is one.
+fn member_at(place: usize) -> Option<Member> {
+    if place < usize::from(MAX_MEMBERS) {
+        Some((place as u8).saturating_add(1))
+    } else {
+        None
+    }
+}
+
+// The name at this place.
+pub(crate) fn name_at<'a>(names: &[&'a str], place: usize) -> &'a str {
+    match names.get(place) {
+        Some(name) => name,
+        None => "",
+    }
+}
+
+// The log of the text; the member's where its acts don't say whose it is.
+fn read_log(alloc: Global, name: &str, member: Member, text: &[u8]) -> Result<LogText, Misfit> {
+    match LogText::read(alloc, member, text) {
+        Ok(log) => Ok(log),
+        Err(LogFault::Line(at, why)) => {
+            Err(Misfit::Told(unread(alloc, name, at, line_at(text, at), &why)?))
+        }
+        Err(LogFault::Memory) => Err(Misfit::Memory),
+    }
+}
+
+// What is told of a line that does not stand in a log.
+fn unread(
+    alloc: Global,
+    name: &str,
+    at: usize,
+    line: &[u8],
+    why: &NoEntry,
+) -> Result<String, AllocError> {
+    let mut text = String::new(alloc);
+    push_line(&mut text, name, at, line)?;
+    push_no_entry(&mut text, why)?;
+    Ok(text)
+}

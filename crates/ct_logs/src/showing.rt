@@ -1,0 +1,49 @@
+//! From a run to what it shows.
+
+use crate::seen::Seen;
+use ct_model::Step;
+use ct_world::{Replay, ReplayFault, Setup, World};
+use std::alloc::{AllocError, Global};
+
+// What the steps show, which are all allowed.
+fn seen(alloc: Global, setup: Setup, steps: &[Step]) -> Result<Seen, ReplayFault> {
+    let mut replay = Replay::new(alloc, setup, steps)?;
+    let mut seen = Seen::new();
+    while !replay.is_over() {
+        let done = replay.step()?;
+        seen = seen.with(replay.world(), done.step);
+    }
+    Ok(seen)
+}
+
+// The line that tells of it.
+pub(crate) fn accepted(alloc: Global, setup: Setup, world: &World) -> Result<String, AllocError> {
+    let members = setup.group.n();
+    let seen = match seen(alloc, setup, world.record()) {
+        Ok(seen) => seen,
+        Err(_) => return Err(AllocError),
+    };
+    let mut text = String::new(alloc);
+    push_accepted(&mut text, members, seen)?;
+    Ok(text)
+}
+
+fn push_accepted(text: &mut String, members: u8, seen: Seen) -> Result<(), AllocError> {
+    let Seen {
+        lines,
+        instances,
+        round,
+        suspicions,
+        choices,
+        repetitions,
+    } = seen;
+    write!(
+        text,
+        "accepted: {members} members, {lines} lines; instances {instances}"
+    )?;
+    write!(text, ", largest round {round}, suspicions {suspicions}")?;
+    write!(
+        text,
+        ", choices between different ts {choices}, repetitions {repetitions}"
+    )
+}

@@ -1,0 +1,90 @@
+//! The words after `merge` on a command line.
+
+ghost use Rattle.std.specs.Prelude.{◌≡◌, false, IfOk, option_map};
+ghost use Rattle.clap.specs.Words.{app_of, found_of, rows_of, rule_of};
+ghost use Rattle.ct_judge.specs.Line.{flag_rule};
+ghost use Rattle.ct_logs.specs.Line.{form_in, form_of, logs_rule, merge_app};
+
+use crate::form::Form;
+use clap::{Arg, ArgAction, ArgMatches, Command};
+use ct_streams::subcommand;
+use std::alloc::{AllocError, Global};
+
+// What stands after the options.
+const AFTER: &str = "A log has the lines of one member, in its order:
+  members 3                            the number of members, in any log; without it that of the logs
+  1 submit set 0 7                     a step of the member; what it came to may stand behind it
+  receive data 1.1 from 2 set 0 7      a receipt, with who passed it on
+  begin {1.1}
+
+The first log is member 1's, unless its acts name another member, and so on.
+
+Examples:
+  ct_tool merge 1.log 2.log 3.log > run.schedule
+  ct_tool merge --record *.log | ct_tool report
+
+Status:
+  0  the logs are accepted, and their run was written
+  1  the logs are refused: no order of them is a run
+  2  a file is no log, or the logs are not those of a group
+  3  the words of the command line are refused
+  4  a read or a write failed
+  5  memory was refused
+  6  the logs are cut: one of them would have to go on";
+
+/// The subcommand `merge`.
+pub fn merge_command<'a>(alloc: Global) -> Result<Command<'a>, AllocError>
+    ensures { IfOk result (λ command. app_of command ≡ merge_app) }
+{
+    subcommand(
+        alloc,
+        "merge",
+        "Merges the logs of members into one run and writes it as a schedule, or tells of a line that stands in no run",
+        AFTER,
+    )
+    .arg(logs(alloc))?
+    .arg(flag(
+        alloc,
+        "record",
+        "Writes the run as a record, in place of a schedule",
+    ))
+}
+
+// One log or several.
+fn logs<'a>(alloc: Global) -> Arg<'a>
+    ensures rule { rule_of result ≡ logs_rule }
+    ensures local { result.global ≡ false }
+{
+    Arg::new(alloc, "files")
+        .value_name("LOG")
+        .action(ArgAction::Append)
+        .required(true)
+        .num_args(1..)
+        .help("The files that the logs of the members stand in; - for standard input")
+}
+
+// An option with no value.
+fn flag<'a>(alloc: Global, name: &'a str, help: &'a str) -> Arg<'a>
+    ensures rule { rule_of result ≡ flag_rule name.entry.now }
+    ensures local { result.global ≡ false }
+{
+    let option = Arg::new(alloc, name).long(name).help(help);
+    option.action(ArgAction::SetTrue)
+}
+
+/// As what the run is to be written.
+pub fn merge_form(found: &ArgMatches<'_>) -> Form
+    ensures { result ≡ form_in (rows_of (found_of found.now)) }
+{
+    form_of(found.get_str("record"))
+}
+
+// The form that the text of an option with no value asks for.
+fn form_of(text: Option<&str>) -> Form
+    ensures { result ≡ form_of (option_map (λ t. t.now) text.entry) }
+{
+    match text {
+        Some(text) if text == "true" => Form::Record,
+        _ => Form::Schedule,
+    }
+}
