@@ -5,8 +5,8 @@ programs' help and of docs/man/*.text.
     blocks.py CT CT_TOOL
 
 All is run in a copy of docs/, examples/, bench/ and cases/, in which crates/NAME/out/NAME and, on the path, NAME are the
-built programs. At the beginning of each document and each help run.json and another.json are a record, run.txt a schedule; commands
-find what those before them wrote. A block is told by its first line:
+built programs. At the beginning of each document and each help run.json and another.json are a record, run.txt a schedule, 1.log, 2.log
+and 3.log the logs of a run's members; commands find what those before them wrote. A block is told by its first line:
 
     members N               a schedule: `ct_tool record` writes its record, which is replayed; a line `..` stands for others
     {"batch": ..            a record, which is replayed; commands behind it find it as record.json
@@ -52,7 +52,9 @@ KINDS = {
 NOT_RUN = {
     ("README.md", "rt ci"): "the gate, which runs this",
     ("docs/ALGORITHM.md", "Enter               Choose             Adopt or Suspect             Conclude"): "a drawing",
-    ("docs/LOGS.md", "# the log of member 1"): "a log, which no command reads",
+    ("docs/LOGS.md", "# the log of member 1"): "a log without those of the others",
+    ("docs/LOGS.md", "accepted: 5 members, 812 lines; instances 3, largest round 4, suspicions 7, choices between different ts 2, "
+                     "repetitions 31"): "what is told of other logs; cases/logs.py has such lines",
     ("docs/ARCHITECTURE.md", "programs               ct             ct_tool             ct_memory"): "a drawing",
 }
 # So many of each kind are there at least.
@@ -152,9 +154,9 @@ class Tree:
             file.write(text)
 
     def renew(self) -> None:
-        """Makes run.json, another.json and run.txt."""
+        """Makes run.json, another.json, run.txt and the logs."""
         self.run("ct_tool walk --members 3 --seed 7 --turns 60 > run.json")
-        self.run("cp run.json another.json; cp examples/followers.schedule run.txt")
+        self.run("cp run.json another.json; cp examples/followers.schedule run.txt; python3 bench/split.py . < run.json")
 
     def run(self, command: str, text: str = "") -> Done:
         """Runs a command on the text."""

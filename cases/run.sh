@@ -1,13 +1,14 @@
 #!/usr/bin/env bash
 # Runs the built program `ct` on the cases of table.txt, on the records of ../examples, freely, and with little memory; and
-# the built program `ct_tool` on the cases of tool_table.txt, on the schedules of ../examples, and on the implementation in Python there.
+# the built program `ct_tool` on the cases of tool_table.txt, on the schedules of ../examples, and on the implementation in Python
+# and the cluster there.
 # Compares the man pages and the completions of both with their help, and runs what the documents show.
 #
 #     cases/run.sh [CT [CT_TOOL]]        the built programs; those of ../crates/*/out if left out
 #
 # Prints a line for each failing case and ends with `N passed, M failed`, and with
 # status 0 only where none failed. A run of more than 20 seconds fails, and so does a
-# case that has the name of another. Needs bash 4.4, Python 3.8, its package jsonschema (Debian's python3-jsonschema)
+# case that has the name of another. Needs bash 4.4, cc, Python 3.8, its package jsonschema (Debian's python3-jsonschema)
 # and, for a program in a document, rt.
 set -u
 export LC_ALL=C
@@ -425,6 +426,20 @@ check_json() {
     tally 'steps and states as JSON' "$wrong"
 }
 
+# check_logs: what is told of logs, of the runs of a cluster, and of small logs that are searched.
+check_logs() {
+    local ended
+    ended=$(PYTHONDONTWRITEBYTECODE=1 timeout -k 5 600 python3 logs.py "$tool" 2>"$folder/error" | tee "$folder/output" | tail -n 1)
+    if [[ $ended =~ ^([1-9][0-9]*)\ passed,\ ([0-9]+)\ failed$ ]]; then
+        passed=$((passed + BASH_REMATCH[1]))
+        failed=$((failed + BASH_REMATCH[2]))
+        head -n -1 "$folder/output"
+    else
+        failed=$((failed + 1))
+        echo "FAILED logs: '$(start_of "$folder/error")'"
+    fi
+}
+
 # check_blocks: what the documents and the programs' help show is run.
 check_blocks() {
     local ended
@@ -495,6 +510,8 @@ done
 check_rehearsal --runs 5
 check_rehearsal --runs 5 --members 5 --crash 2 --turns 1500
 check_rehearsal --members 1
+
+check_logs
 
 check_free_runs 'free runs'
 check_free_runs 'lossy free runs' --lose 20 --repeat 40 --batch 1

@@ -1,0 +1,159 @@
+#!/usr/bin/env python3
+"""Checks what `ct_tool merge` says of logs: small ones by hand, the cluster of examples/ with members killed and with each of its
+mistakes, and a comparison with a search through all orders.
+
+    logs.py CT_TOOL        the last line is N passed, M failed; needs cc
+"""
+from __future__ import annotations
+
+import os
+import re
+import subprocess
+import sys
+import tempfile
+from typing import Dict, List, NamedTuple
+
+HERE = os.path.dirname(os.path.abspath(__file__))
+SECONDS = 20
+SECONDS_OF_RUNS = 120
+RUNS_OF_A_MISTAKE = 3
+SETS = 40
+
+
+class Case(NamedTuple):
+    name: str
+    logs: Dict[str, str]
+    status: int
+    told: str
+
+
+GOSSIP = {"1.log": "members 2\nsubmit set 0 7\nreceive data 1.1 from 1\n", "2.log": "2 receive data 1.1 from 1 set 0 7\n"}
+
+TEN = "members 1\n" + "submit set 0 7\n" * 10 + "".join(f"receive data 1.{number} from 1\n" for number in range(1, 11))
+
+CASES = [
+    Case("two members", GOSSIP, 0,
+         "accepted: 2 members, 3 lines; instances 0, largest round 0, suspicions 0, choices between different ts 0, repetitions 0"),
+    Case("a second receipt", {**GOSSIP, "1.log": GOSSIP["1.log"] + "receive data 1.1 from 1\n"}, 0,
+         "accepted: 2 members, 4 lines; instances 0, largest round 0, suspicions 0, choices between different ts 0, repetitions 1"),
+    Case("one that begins with nothing", {"1.log": "members 2\n# nothing waits\nbegin\n"}, 1,
+         "refused: 1.log line 3: begin: member 1 is refused Nothing"),
+    Case("another command", {**GOSSIP, "2.log": "receive data 1.1 from 1 set 0 8\n"}, 1,
+         "refused: 2.log line 1: receive data 1.1 from 1 set 0 8: member 2 came to something else than is stated"),
+    Case("a crashed sender", {"1.log": "submit set 0 7\ncrash\n", "2.log": "receive est 1/1 from 1\n"}, 1,
+         "refused: 2.log line 1: receive est 1/1 from 1: it was not sent before, and member 1 can't send it any more"),
+    Case("a log that ends too early", {"1.log": "members 2\n", "2.log": "receive data 1.1 from 1\n"}, 6,
+         "cut: 2.log line 1: receive data 1.1 from 1: the log of member 1 ends before it is sent"),
+    Case("each waits for the other",
+         {"1.log": "receive data 2.1 from 2\nsubmit set 0 1\n", "2.log": "receive data 1.1 from 1\nsubmit set 0 2\n"}, 1,
+         "refused: 1.log line 1: receive data 2.1 from 2: it waits for a line that waits for it"),
+    Case("a word that is no act", {"1.log": "members 1\nrecieve data 1.1 from 1\n"}, 2,
+         "1.log line 2: recieve data 1.1 from 1: not understood: recieve is no act; receive?"),
+    Case("turns", {"1.log": "members 1\n1 turns 4\n"}, 2, "1.log line 2: 1 turns 4: no act of one member, as a log has"),
+    Case("a receipt without its sender", {"1.log": "members 1\nreceive data 1.1\n"}, 2,
+         "1.log line 2: receive data 1.1: the sender is missing: from and a member"),
+    Case("two logs of one member", {"1.log": "1 submit set 0 7\n", "2.log": "1 submit set 0 7\n"}, 2,
+         "2.log: member 1's log, as a file before it"),
+    Case("heads that disagree", {"1.log": "members 3\n", "2.log": "members 2\n"}, 2,
+         "2.log: members 2, and a log before it has members 3"),
+    Case("a value of more than eight messages, in short", {"1.log": TEN + "begin {1.1,1.2,1.3,1.4,1.5,1.6,1.7,1.8 and 2 more}\n"}, 0,
+         "accepted: 1 members, 21 lines; instances 1, largest round 0, suspicions 0, choices between different ts 0, repetitions 0"),
+    Case("another count of messages", {"1.log": TEN + "begin {1.1,1.2,1.3,1.4,1.5,1.6,1.7,1.8 and 3 more}\n"}, 1,
+         "refused: 1.log line 22: begin {1.1,1.2,1.3,1.4,1.5,1.6,1.7,1.8 and 3 more}: member 1 came to something else than is stated"),
+    Case("a member without a log", {"1.log": "members 3\n", "3.log": "3 begin\n"}, 1,
+         "refused: 3.log line 1: 3 begin: member 3 is refused Nothing"),
+    Case("a member that is not of the group", {"1.log": "members 2\n", "2.log": "3 begin\n"}, 2,
+         "2.log: member 3's log, and members are 1 to 2"),
+]
+
+
+def ran(words: List[str], folder: str, seconds: int = SECONDS) -> "subprocess.CompletedProcess[bytes]":
+    return subprocess.run(words, cwd=folder, stdin=subprocess.DEVNULL, stdout=subprocess.PIPE, stderr=subprocess.PIPE, timeout=seconds)
+
+
+def faults_of(tool: str, case: Case) -> List[str]:
+    """What is wrong with what the tool says of the case."""
+    with tempfile.TemporaryDirectory() as folder:
+        for name, text in case.logs.items():
+            with open(os.path.join(folder, name), "w", encoding="utf-8") as file:
+                file.write(text)
+        done = ran([tool, "merge", *case.logs], folder)
+        wrong = [] if done.returncode == case.status else [f"status {done.returncode}, not {case.status}"]
+        told = done.stderr.decode().rstrip("\n")
+        wrong += [] if told == case.told else [f"it tells '{told}', not '{case.told}'"]
+        if case.status:
+            return wrong + (["something is written"] if done.stdout else [])
+        return wrong + faults_of_written(tool, case, folder, done.stdout)
+
+
+def faults_of_written(tool: str, case: Case, folder: str, schedule: bytes) -> List[str]:
+    """What is wrong with the run that is written: of its schedule `record` makes the record that --record writes."""
+    with open(os.path.join(folder, "run.schedule"), "wb") as file:
+        file.write(schedule)
+    made = ran([tool, "record", "run.schedule"], folder)
+    written = ran([tool, "merge", "--record", *case.logs], folder)
+    if made.returncode or not made.stdout:
+        return [f"of its schedule no record is made: {made.stderr.decode()}"]
+    return [] if made.stdout == written.stdout else ["of its schedule another record is made than is written"]
+
+
+def runs_of(tool: str, *options: str) -> List[str]:
+    """What is told of runs of the cluster, a line a run."""
+    program = os.path.join(HERE, "..", "examples", "cluster", "run.py")
+    done = ran([sys.executable, program, "--tool", tool, "--members", "3", *options], HERE, SECONDS_OF_RUNS)
+    lines = done.stdout.decode().splitlines()
+    return lines if lines else [f"nothing is told: {done.stderr.decode()}"]
+
+
+def faults_of_killed(tool: str) -> List[str]:
+    lines = runs_of(tool, "--kill", "1", "--runs", "1")
+    good = re.fullmatch(r"run 1: 1 of 3 killed, [1-9]\d* lines, [1-9]\d* deliveries, .*: accepted", lines[0])
+    return [] if good else [lines[0]]
+
+
+def faults_of_mistake(tool: str, mistake: str, act: str) -> List[str]:
+    """The mistake is found in one of its runs, at the act that is wrong. Members suspect each other often: with one round an instance
+    all estimates have the same ts."""
+    lines = runs_of(tool, "--break", mistake, "--runs", str(RUNS_OF_A_MISTAKE), "--timeout", "0.005", "--growth", "0.0002")
+    return [] if any(re.search(rf": refused: .* line \d+: \d {act} ", line) for line in lines) else lines
+
+
+def faults_of_c(tool: str) -> List[str]:
+    """The log that the program in C writes is accepted, and delivers its message."""
+    with tempfile.TemporaryDirectory() as folder:
+        source = os.path.join(HERE, "..", "examples", "c", "log_demo.c")
+        for words in (["cc", "-std=c11", "-Wall", "-Wextra", "-Werror", "-o", "log_demo", source], ["./log_demo", "1.log"]):
+            done = ran(words, folder)
+            if done.returncode:
+                return [f"{words[0]}: {done.stderr.decode()}"]
+        done = ran([tool, "merge", "1.log"], folder)
+        is_right = done.returncode == 0 and b"expect 1 delivered 1.1\n" in done.stdout
+        return [] if is_right else [f"status {done.returncode}: {done.stderr.decode()}"]
+
+
+def faults_of_search(tool: str) -> List[str]:
+    """The search through all orders comes to the same verdicts, and to each of them."""
+    program = os.path.join(HERE, "..", "bench", "merge_search.py")
+    done = ran([sys.executable, program, "--tool", tool, "--sets", str(SETS)], HERE, SECONDS_OF_RUNS)
+    last = (done.stdout.decode().splitlines() or [done.stderr.decode()])[-1]
+    return [] if re.fullmatch(r"[1-9]\d* accepted, [1-9]\d* refused, [1-9]\d* cut; 0 differences", last) else [last]
+
+
+def main() -> int:
+    tool = os.path.abspath(sys.argv[1])
+    checks = [(case.name, faults_of(tool, case)) for case in CASES]
+    checks.append(("the log of a program in C", faults_of_c(tool)))
+    checks.append(("a cluster with a member killed", faults_of_killed(tool)))
+    for mistake, act in (("least-ts", "choose"), ("half", "choose"), ("arrival", "deliver")):
+        checks.append((f"a cluster with the mistake {mistake}", faults_of_mistake(tool, mistake, act)))
+    checks.append(("a search through all orders", faults_of_search(tool)))
+    for name, wrong in checks:
+        if wrong:
+            print(f"FAILED logs, {name}: {'; '.join(wrong)}")
+    failed = sum(1 for _, wrong in checks if wrong)
+    print(f"{len(checks) - failed} passed, {failed} failed")
+    return 1 if failed else 0
+
+
+if __name__ == "__main__":
+    sys.exit(main())
