@@ -227,6 +227,9 @@ tool_calls is_whole ../examples/second_receipt_is_refused.json steps
 tool_calls is_whole ../examples/coordinator_crashes.schedule record
 tool_calls is_whole /dev/null walk --members 3 --turns 20 --submit 2
 tool_calls is_session ../examples/coordinator_crashes.schedule interact --record "$folder/kept"
+python3 ../bench/split.py "$folder/logs" <suspicion.json
+tool_calls is_whole /dev/null merge "$folder"/logs/{1,2,3}.log
+tool_calls is_whole /dev/null merge --record "$folder"/logs/{1,2,3}.log
 tool_calls is_checked /dev/null check suspicion.json
 tool_calls is_checked /dev/null check --expect-reports ../examples/followers.json
 
