@@ -7,7 +7,7 @@
 _ct_tool_words() {
     case $1 in
     '')
-        commands='check diagram interact record report schedule state steps walk help'
+        commands='check diagram interact merge record report schedule state steps walk help'
         options='-h --help -V --version'
         values=''
         operands='command'
@@ -26,6 +26,11 @@ _ct_tool_words() {
         options='--record --strict -h --help'
         values='--record=file'
         operands=''
+        ;;
+    merge)
+        options='--record -h --help'
+        values=''
+        operands='file+'
         ;;
     record)
         options='--partial -h --help'
