@@ -145,8 +145,3 @@ quoted_fact (Some may) name words = map_ok (λ _. text_fact name (text_of words)
 -- the fact of this name
 unfoldable pub named_fact : Word → List Word → Result Fact Unfit
 named_fact name words = quoted_fact (quotable name words) name words
-
--- a fact
-unfoldable pub fact_of : List Word → Result Fact Unfit
-fact_of [] = Err (End wanted.Fact)
-fact_of (name ∷ words) = named_fact name words

@@ -1,6 +1,8 @@
 pub mod Acts
+pub mod Claims
 pub mod Cuts
 pub mod Facts
+pub mod Goals
 pub mod Leading
 pub mod Lines
 pub mod Misfits

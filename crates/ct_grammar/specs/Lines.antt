@@ -21,17 +21,22 @@ use Rattle.ct_grammar.specs.Numbers.{has_comma}
 use Rattle.ct_grammar.specs.Leading.{number_first, over}
 use Rattle.ct_grammar.specs.Who.{who_of}
 use Rattle.ct_grammar.specs.Stated.{acted}
-use Rattle.ct_grammar.specs.Turns.{expected_of, turns_of, settle_of}
+use Rattle.ct_grammar.specs.Turns.{turns_of, settle_of}
+use Rattle.ct_grammar.specs.Goals.{goal_in}
 use Rattle.ct_grammar.specs.Cuts.{cut_of}
 use Rattle.ct_grammar.specs.Questions.{lone_member, alone, question_of}
-use Rattle.ct_grammar.specs.Misfits.{misfit_of}
+use Rattle.ct_grammar.specs.Misfits.{told}
+
+-- what stands behind the members and is not `turns`: `settle` or an act
+unfoldable pub settled_or_acted : Who → List Word → Result Play Unfit
+settled_or_acted who [] = Err (End Doing)
+settled_or_acted who (name ∷ words) = if bytes_eq name (codes "settle") then settle_of who words else acted who (name ∷ words)
 
 -- what stands behind the members: `turns`, `settle` or an act
-unfoldable pub done_by : Who → List Word → Result Play Unfit
-done_by who [] = Err (End Doing)
+unfoldable pub done_by : Who → List Word → Result Play Misfit
+done_by who [] = told [] (settled_or_acted who [])
 done_by who (name ∷ words) =
-    if bytes_eq name (codes "turns") then turns_of who words else (
-    if bytes_eq name (codes "settle") then settle_of who words else acted who (name ∷ words))
+    if bytes_eq name (codes "turns") then turns_of who words else told (name ∷ words) (settled_or_acted who (name ∷ words))
 
 -- a crash, a cut or its end; otherwise a question
 unfoldable pub played_of : Word → List Word → Result Play Unfit
@@ -55,26 +60,26 @@ heading_of name words =
     if bytes_eq name (codes "batch") then map_ok (λ n. Gives (Batch n)) (lone_number 1 MAX_BOUND Bound words) else (
     map_ok Plays (played_of name words))))
 
--- what is expected of members; otherwise a line that a word of its own begins
-unfoldable pub worded : Word → List Word → Result Line Unfit
-worded name words =
-    if bytes_eq name (codes "expect") then map_ok (λ e. Plays (Expect e.0 e.1)) (expected_of words) else heading_of name words
+-- no list of members, which this word is not; otherwise a number of the group, and the others
+unfoldable pub named : Word → List Word → Result Line Unfit
+named name words = if has_comma name then Err (Other (length words) Set) else heading_of name words
+
+-- what is expected; otherwise a line that another word of its own begins
+unfoldable pub worded : List Word → Result Line Misfit
+worded [] = Ok Blank
+worded (name ∷ words) =
+    if bytes_eq name (codes "expect") then map_ok (λ goal. Plays (Expect goal)) (goal_in words) else told (name ∷ words) (named name words)
 
 -- what members do, where the first word names some; otherwise what that word begins
-unfoldable pub begun : Option Who → Word → List Word → Result Line Unfit
-begun None name words = if has_comma name then Err (Other (length words) Set) else worded name words
+unfoldable pub begun : Option Who → Word → List Word → Result Line Misfit
+begun None name words = worded (name ∷ words)
 begun (Some who) name words = map_ok Plays (done_by who words)
 
--- the line of these words
-unfoldable pub of_words : List Word → Result Line Unfit
+-- the line of these words, or why it is not understood
+unfoldable pub of_words : List Word → Result Line Misfit
 of_words [] = Ok Blank
 of_words (name ∷ words) = begun (who_of name) name words
 
--- the line, or why it is not understood
-abbrev pub told : List Word → Result Line Unfit → Result Line Misfit
-told words (Ok line) = Ok line
-told words (Err unfit) = Err (misfit_of words unfit)
-
 -- what the line says, or why it is not understood
 unfoldable pub line_of : List ℕ → Result Line Misfit
-line_of line = told (words_of line) (of_words (words_of line))
+line_of line = of_words (words_of line)

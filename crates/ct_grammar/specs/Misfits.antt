@@ -1,6 +1,6 @@
 -- Why lines are not understood.
 use Rattle.std.specs.Prelude.{ℕ, ◌-◌, List, [], ◌∷◌, ◌++◌, Option, Some, None, codes, decimal, length, nat_le, slice_get, unwrap_or}
-use Rattle.std.specs.Prelude.{if◌then◌else◌}
+use Rattle.std.specs.Prelude.{Result, Ok, Err, if◌then◌else◌}
 use Rattle.std.specs.List.{concat}
 use Rattle.ct_grammar.specs.declared.misfit.Misfit.{Misfit}
 use Rattle.ct_grammar.specs.declared.misfit.TheConstants.{LONGEST_WORD}
@@ -16,6 +16,11 @@ use Rattle.ct_grammar.specs.Near.{near_name}
 unfoldable pub misfit_of : List Word → Unfit → Misfit
 misfit_of words (End wanted) = record { word = None; wanted = wanted }
 misfit_of words (Other behind wanted) = record { word = Some (unwrap_or (slice_get words (length words - 1 - behind)) []); wanted = wanted }
+
+-- what the words say, or why they are not understood
+abbrev pub told : {A : Type 0} → List Word → Result A Unfit → Result A Misfit
+told words (Ok x) = Ok x
+told words (Err unfit) = Err (misfit_of words unfit)
 
 -- a comma before each name
 abbrev pub more_names : List Word → List ℕ

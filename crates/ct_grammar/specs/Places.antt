@@ -5,7 +5,7 @@ use Rattle.ct_grammar.specs.declared.wanted.Wanted.TheVariants.{Beginning, Group
 use Rattle.ct_grammar.specs.declared.wanted.Wanted.TheVariants.{Doing, Act, Command, Register, Amount, Envelope, Loss, Serial, Message}
 use Rattle.ct_grammar.specs.declared.wanted.Wanted.TheVariants.{Place, Rounds, Until, Fact, Phase, Reason, Instance, Round, Waiting}
 use Rattle.ct_grammar.specs.declared.wanted.Wanted.TheVariants.{Members, Quoted, Nothing, Suspecting, Sender, Statement}
-use Rattle.ct_grammar.specs.declared.wanted.Wanted.TheVariants.{SenderOrStatement}
+use Rattle.ct_grammar.specs.declared.wanted.Wanted.TheVariants.{SenderOrStatement, Term, Extent, Count, Chosen, Up, Unseen, Again}
 use Rattle.ct_grammar.specs.Words.{Word}
 
 -- the words that begin lines
@@ -27,12 +27,12 @@ acts =
     codes "submit" ∷ codes "receive" ∷ codes "begin" ∷ codes "enter" ∷ codes "choose" ∷ codes "adopt" ∷ codes "suspect" ∷
     codes "conclude" ∷ codes "deliver" ∷ codes "follow" ∷ codes "crash" ∷ codes "postpone" ∷ codes "lose" ∷ codes "repeat" ∷ []
 
--- the facts
+-- the facts, and the words that begin what only goals claim
 unfoldable pub facts : List Word
 facts =
     codes "up" ∷ codes "crashed" ∷ codes "idle" ∷ codes "instance" ∷ codes "round" ∷ codes "phase" ∷ codes "received" ∷
     codes "decided" ∷ codes "delivered" ∷ codes "table" ∷ codes "estimate" ∷ codes "heard" ∷ codes "acked" ∷ codes "refuses" ∷
-    codes "may" ∷ codes "waiting" ∷ codes "waits" ∷ []
+    codes "may" ∷ codes "waiting" ∷ codes "waits" ∷ codes "suspects" ∷ codes "follows" ∷ codes "chooses" ∷ codes "concludes" ∷ []
 
 -- the reasons
 unfoldable pub reasons : List Word
@@ -59,6 +59,10 @@ listed names denied due = record { names = names; is_listed = true; denied = den
 abbrev pub unnamed : Word → Word → Told
 unnamed denied due = record { names = []; is_listed = false; denied = denied; due = due }
 
+-- it could be one of these names, which what is said tells
+abbrev pub named : List Word → Word → Word → Told
+named names denied due = record { names = names; is_listed = false; denied = denied; due = due }
+
 -- the line could end there
 abbrev pub optional : List Word → Told
 optional names = record { names = names; is_listed = false; denied = codes "is left over"; due = codes "nothing" }
@@ -69,7 +73,6 @@ told_at GroupSize = unnamed (codes "is no number from 1 to 16") (codes "a number
 told_at CellCount = unnamed (codes "is no number from 0 to 1024") (codes "a number from 0 to 1024")
 told_at Bound = unnamed (codes "is no number from 1 to 1048560") (codes "a number from 1 to 1048560")
 told_at Member = unnamed (codes "is no member") (codes "a member")
-told_at Whom = unnamed (codes "is neither a member, a list of members nor all") (codes "a member, a list of members or all")
 told_at Set = unnamed (codes "is no list of members") (codes "a list of members")
 told_at Side = unnamed (codes "is no list of members that are named once") (codes "a list of members")
 told_at Bar = unnamed (codes "is not |") (codes "|")
@@ -94,11 +97,24 @@ told_at Until = unnamed (codes "is not until") (codes "until")
 told_at Fact = listed facts (codes "is no fact") (codes "a fact")
 told_at Phase = listed (codes "Rest" ∷ codes "Gather" ∷ codes "Wait" ∷ codes "Tally" ∷ []) (codes "is no phase") (codes "a phase")
 told_at Reason = listed reasons (codes "is no reason") (codes "a reason")
-told_at Instance = unnamed (codes "is no instance") (codes "an instance")
-told_at Round = unnamed (codes "is no round") (codes "a round")
-told_at Waiting = unnamed (codes "is no number of envelopes") (codes "a number of envelopes")
+told_at Instance = named (codes ">=" ∷ []) (codes "is no instance") (codes "an instance")
+told_at Round = named (codes ">=" ∷ []) (codes "is no round") (codes "a round")
+told_at Waiting = named (codes ">=" ∷ []) (codes "is no number of envelopes") (codes "a number of envelopes")
 told_at Members = unnamed (codes "is neither a list of members nor -") (codes "a list of members or -")
 told_at Quoted = unnamed (codes "is no text") (codes "a text")
+told_at Term =
+    named (codes "ever" ∷ codes "never" ∷ codes "all" ∷ codes "any" ∷ codes "up" ∷ [])
+    (codes "is neither ever, never, a member, a list of members, all, any nor up")
+    (codes "ever, never, a member, a list of members, all, any or up")
+told_at Whom =
+    named (codes "all" ∷ codes "any" ∷ codes "up" ∷ [])
+    (codes "is neither a member, a list of members, all, any nor up") (codes "a member, a list of members, all, any or up")
+told_at Extent = named (codes ">=" ∷ []) (codes "is neither a number nor >=") (codes "a number or >=")
+told_at Count = unnamed (codes "is no number") (codes "a number")
+told_at Chosen = listed reasons (codes "is neither a member nor a reason") (codes "a member or a reason")
+told_at Up = unnamed (codes "is not up") (codes "up")
+told_at Unseen = unnamed (codes "is not unseen") (codes "unseen")
+told_at Again = unnamed (codes "is not again") (codes "again")
 told_at Nothing = optional []
 told_at Suspecting = optional (codes "suspecting" ∷ [])
 told_at Sender = optional (codes "from" ∷ [])

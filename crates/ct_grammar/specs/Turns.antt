@@ -1,8 +1,7 @@
 -- Turns.
-use Rattle.std.specs.Prelude.{ℕ, ◌||◌, length, List, [], ◌∷◌, Result, Ok, Err, codes, if◌then◌else◌}
-use Rattle.std.specs.Option.{ok_or}
+use Rattle.std.specs.Prelude.{ℕ, Bool, false, ◌||◌, length, List, [], ◌∷◌, Result, Ok, Err, codes, if◌then◌else◌}
 use Rattle.std.specs.Str.{bytes_eq}
-use Rattle.ct_grammar.specs.declared.fact.Fact.{Fact}
+use Rattle.ct_grammar.specs.declared.misfit.Misfit.{Misfit}
 use Rattle.ct_grammar.specs.declared.play.Play.{Play}
 use Rattle.ct_grammar.specs.declared.play.Play.TheVariants.{Turns, Settle, Until}
 use Rattle.ct_grammar.specs.declared.unfit.Unfit.{Unfit}
@@ -12,8 +11,8 @@ use Rattle.ct_grammar.specs.declared.who.Who.{Who}
 use Rattle.ct_grammar.specs.Words.{Word}
 use Rattle.ct_grammar.specs.Unfits.{◌>>=◌, map_ok}
 use Rattle.ct_grammar.specs.Leading.{whole_first, set_first, over}
-use Rattle.ct_grammar.specs.Who.{who_of}
-use Rattle.ct_grammar.specs.Facts.{fact_of}
+use Rattle.ct_grammar.specs.Misfits.{told}
+use Rattle.ct_grammar.specs.Goals.{goal_in}
 
 -- the members that are suspected, none where `suspecting` does not stand first, and the words behind them
 unfoldable pub suspected : List Word → Result (List ℕ × List Word) Unfit
@@ -40,27 +39,33 @@ counted who words = do
   set ← lone_suspected n.1
   Ok (Turns who n.0 set)
 
--- members, and what is expected of them
-unfoldable pub expected_of : List Word → Result (Who × Fact) Unfit
-expected_of [] = Err (End wanted.Whom)
-expected_of (word ∷ words) = do
-  who ← ok_or (who_of word) (Other (length words) wanted.Whom)
-  fact ← fact_of words
-  Ok (who, fact)
+-- the words behind `until`
+unfoldable pub behind_until : List Word → Result (List Word) Unfit
+behind_until [] = Err (End wanted.Until)
+behind_until (word ∷ words) = if bytes_eq word (codes "until") then Ok words else Err (Other (length words) wanted.Until)
 
--- turns until a fact holds
-unfoldable pub until_of : Who → List ℕ → List Word → Result Play Unfit
-until_of who set [] = Err (End wanted.Until)
-until_of who set (word ∷ words) =
-    if bytes_eq word (codes "until") then map_ok (λ e. Until who set e.0 e.1) (expected_of words) else (
-    Err (Other (length words) wanted.Until))
+-- the members that are suspected, and the words behind `until`
+unfoldable pub watched : List Word → Result (List ℕ × List Word) Unfit
+watched words = do
+  r ← suspected words
+  goal ← behind_until r.1
+  Ok (r.0, goal)
+
+-- turns until a goal holds
+unfoldable pub until_of : Who → List Word → Result Play Misfit
+until_of who words = do
+  r ← told words (watched words)
+  goal ← goal_in r.1
+  Ok (Until who r.0 goal)
+
+-- `suspecting` or `until` stands first
+unfoldable pub says_until : List Word → Bool
+says_until [] = false
+says_until (word ∷ words) = bytes_eq word (codes "suspecting") || bytes_eq word (codes "until")
 
 -- what stands behind `turns`: how many rounds, or until when
-unfoldable pub turns_of : Who → List Word → Result Play Unfit
-turns_of who [] = Err (End wanted.Rounds)
-turns_of who (word ∷ words) =
-    if bytes_eq word (codes "suspecting") || bytes_eq word (codes "until") then (
-    suspected (word ∷ words) >>= (λ r. until_of who r.0 r.1)) else counted who (word ∷ words)
+unfoldable pub turns_of : Who → List Word → Result Play Misfit
+turns_of who words = if says_until words then until_of who words else told words (counted who words)
 
 -- what stands behind `settle`
 unfoldable pub settle_of : Who → List Word → Result Play Unfit

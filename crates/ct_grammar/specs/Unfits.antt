@@ -1,13 +1,12 @@
--- What words say, or where they stop to fit.
+-- What words say, or why they are not understood.
 use Rattle.std.specs.Prelude.{Result, Ok, Err}
-use Rattle.ct_grammar.specs.declared.unfit.Unfit.{Unfit}
 
 -- f of what they say
-abbrev pub map_ok : {A B : Type 0} → (A → B) → Result A Unfit → Result B Unfit
+abbrev pub map_ok : {A B E : Type 0} → (A → B) → Result A E → Result B E
 map_ok f (Ok x) = Ok (f x)
-map_ok f (Err unfit) = Err unfit
+map_ok f (Err e) = Err e
 
 infixl 10 ◌>>=◌
-abbrev pub ◌>>=◌ : {A B : Type 0} → Result A Unfit → (A → Result B Unfit) → Result B Unfit
+abbrev pub ◌>>=◌ : {A B E : Type 0} → Result A E → (A → Result B E) → Result B E
 (Ok x) >>= f = f x
-(Err unfit) >>= f = Err unfit
+(Err e) >>= f = Err e

@@ -4,7 +4,7 @@ ghost use Rattle.std.specs.Prelude.{◌≡◌, IfOk, map};
 ghost use Rattle.ct_grammar.specs.Facts.{phase_of, short_fact, ended, lone_act, lone_pick, lone_whole, phase_first, reason_first};
 ghost use Rattle.ct_grammar.specs.Facts.{refusal_of};
 ghost use Rattle.ct_grammar.specs.Facts.{act_fact, number_fact, says_set, lone_set, some_words, quotes_words, quotable, text_fact};
-ghost use Rattle.ct_grammar.specs.Facts.{named_fact, fact_of};
+ghost use Rattle.ct_grammar.specs.Facts.{named_fact};
 
 use crate::act::Act;
 use crate::acting::{act_first, behind_act};
@@ -79,9 +79,9 @@ fn lone_pick(words: &[&str]) -> Result<Pick, Unfit>
     Ok(pick)
 }
 
-// An instance, a round or an amount, alone.
+/// An instance, a round or an amount, alone.
 #[tactic(auto, unfolding(crate::specs::Facts::lone_whole))]
-fn lone_whole(words: &[&str], wanted: Wanted) -> Result<u32, Unfit>
+pub(crate) fn lone_whole(words: &[&str], wanted: Wanted) -> Result<u32, Unfit>
     ensures { result ≡ lone_whole wanted (map (λ word. word.now) words.now) }
 {
     let (n, rest) = whole_first(words, wanted)?;
@@ -242,25 +242,18 @@ fn text_fact(name: &str, text: Text) -> Fact
     }
 }
 
-// The fact of this name.
+/// The fact of this name.
 #[tactic(auto, unfolding(crate::specs::Facts::named_fact, crate::specs::Facts::quoted_fact))]
-fn named_fact(alloc: Global, name: &str, words: &[&str]) -> Result<Result<Fact, Unfit>, AllocError>
+pub(crate) fn named_fact(
+    alloc: Global,
+    name: &str,
+    words: &[&str],
+) -> Result<Result<Fact, Unfit>, AllocError>
     ensures { IfOk result (λ fact. fact ≡ named_fact name.now (map (λ word. word.now) words.now)) }
 {
     match quotable(name, words) {
         None => Ok(number_fact(name, words)),
         Some(Err(unfit)) => Ok(Err(unfit)),
         Some(Ok(())) => Ok(Ok(text_fact(name, joined(alloc, words)?))),
-    }
-}
-
-/// A fact.
-#[tactic(auto, unfolding(crate::specs::Facts::fact_of))]
-pub(crate) fn fact(alloc: Global, words: &[&str]) -> Result<Result<Fact, Unfit>, AllocError>
-    ensures { IfOk result (λ fact. fact ≡ fact_of (map (λ word. word.now) words.now)) }
-{
-    match words {
-        [] => Ok(Err(Unfit::End(Wanted::Fact))),
-        [name, rest @ ..] => named_fact(alloc, name, rest),
     }
 }

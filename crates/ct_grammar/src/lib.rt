@@ -1,4 +1,4 @@
-//! The lines of a schedule: a text in which a run is written step by step, its envelopes by what they carry.
+//! The lines of a schedule: a text in which a run is written step by step, its envelopes by what they carry; and goals.
 //!
 //! Spaces, tabs and carriage returns part words. A word that begins with `#` and no digit behind it begins a comment. Numbers
 //! are decimal digits alone, within the range of their type; zeros may stand first.
@@ -10,11 +10,11 @@
 //! WHO ACT              WHO: a member, a list `P,Q,..` (each 1 to 16), or `all`; also with what the act does behind it
 //! crash P              the same as `P crash`
 //! WHO turns N          also behind it `suspecting SET`
-//! WHO turns until WHO FACT, WHO turns suspecting SET until WHO FACT
+//! WHO turns until GOAL, WHO turns suspecting SET until GOAL
 //! WHO settle           also behind it `suspecting SET`
 //! cut SET | SET ..     no member twice
 //! heal
-//! expect WHO FACT
+//! expect GOAL
 //! enabled P, next P, state P, waiting P, report, record, limits
 //!
 //! SET                  P,Q,.., each 1 to 16
@@ -35,20 +35,37 @@
 //!
 //! A member or a register that no group or table has is understood, as member 0; the step is refused.
 //!
-//! Of a line that is not understood a [`Misfit`] says which word does not fit, or that the line ends too early, and what could
-//! stand there. A name that could stand there is near to the word where they are the same but for the case of ASCII letters, or
-//! where, behind what both begin with, one letter is more, less or another, or two are swapped.
+//! A goal says what a run shows: each of its terms holds. The word `and` parts them, so what a term quotes has no such word.
+//!
+//! ```text
+//! GOAL                 TERM, TERM and TERM ..
+//! TERM                 WHOM CLAIM, ever WHOM CLAIM, never WHOM CLAIM
+//! WHOM                 a member, a list P,Q,.. (each 1 to 16), all, any, up
+//! CLAIM                FACT, instance >= N, round >= N, waiting >= N,
+//!                      received count N, decided count N, delivered count N, each also with >= before N,
+//!                      decided N, delivered O.N before O.N, refuses choose REASON,
+//!                      suspects up, follows N, chooses unseen, concludes again
+//! ```
+//!
+//! Of a line or a goal that is not understood a [`Misfit`] says which word does not fit, or that it ends too early, and what could
+//! stand there. In a term that ends too early before an `and`, it is this word that does not fit. A name that could stand there is
+//! near to the word where they are the same but for the case of ASCII letters, or where, behind what both begin with, one letter is
+//! more, less or another, or two are swapped.
 #![tactic(auto)]
 
 mod act;
 mod acting;
 mod asking;
 mod carried;
+mod claim;
+mod claiming;
 mod cutting;
 mod expecting;
 mod fact;
 mod feeds;
 mod given;
+mod goal;
+mod goals;
 mod joining;
 mod leading;
 mod line;
@@ -66,6 +83,7 @@ mod reading;
 mod reason;
 mod sides;
 mod stating;
+mod term;
 mod text;
 mod told;
 mod turning;
@@ -76,9 +94,12 @@ mod words;
 
 pub use act::Act;
 pub use carried::Carried;
+pub use claim::{Amount, Claim, Extent, Name};
 pub use fact::Fact;
 pub use feeds::{behind, first_feed, text_in};
 pub use given::Given;
+pub use goal::Goal;
+pub use goals::goal_of;
 pub use line::Line;
 pub use misfit::{LONGEST_WORD, Misfit, push_act_hint};
 pub use numbers::members;
@@ -88,5 +109,6 @@ pub use question::Question;
 pub use reading::line_of;
 pub use reason::Reason;
 pub use sides::Sides;
+pub use term::{Term, When, Whom};
 pub use text::Text;
 pub use who::Who;

@@ -2,6 +2,7 @@
 
 ghost use Rattle.std.specs.Prelude.{◌≡◌, ◌++◌, IfOk, OnOk, map, string_bytes};
 ghost use Rattle.ct_grammar.specs.Misfits.{misfit_of, misfit_text, word_text, act_hint, hint_text, listed_text, names_text, shown_word};
+ghost use Rattle.ct_grammar.specs.Misfits.{told};
 
 use crate::near::near_name;
 use crate::places::told_at;
@@ -63,6 +64,20 @@ pub(crate) fn misfit_of(alloc: Global, words: &[&str], unfit: Unfit) -> Result<M
                 wanted,
             })
         }
+    }
+}
+
+/// What the words say, or why they are not understood.
+pub(crate) fn told<T: Drop>(
+    alloc: Global,
+    words: &[&str],
+    said: Result<T, Unfit>,
+) -> Result<Result<T, Misfit>, AllocError>
+    ensures { IfOk result (λ found. found ≡ told (map (λ word. word.now) words.now) said) }
+{
+    match said {
+        Ok(found) => Ok(Ok(found)),
+        Err(unfit) => Ok(Err(misfit_of(alloc, words, unfit)?)),
     }
 }
 

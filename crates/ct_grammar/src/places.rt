@@ -39,7 +39,7 @@ fn acts() -> &'static [&'static str]
     ]
 }
 
-// The facts, by name.
+// The facts, by name, and the words that begin what only goals claim.
 #[tactic(auto, unfolding(crate::specs::Places::facts))]
 fn facts() -> &'static [&'static str]
     ensures { map (λ name. name.now) result.now ≡ facts }
@@ -62,6 +62,10 @@ fn facts() -> &'static [&'static str]
         "may",
         "waiting",
         "waits",
+        "suspects",
+        "follows",
+        "chooses",
+        "concludes",
     ]
 }
 
@@ -122,10 +126,6 @@ pub(crate) fn told_at(wanted: Wanted) -> Told
             "a number from 1 to 1048560",
         ),
         Wanted::Member => Told::unnamed("is no member", "a member"),
-        Wanted::Whom => Told::unnamed(
-            "is neither a member, a list of members nor all",
-            "a member, a list of members or all",
-        ),
         Wanted::Set => Told::unnamed("is no list of members", "a list of members"),
         Wanted::Side => Told::unnamed(
             "is no list of members that are named once",
@@ -165,14 +165,38 @@ pub(crate) fn told_at(wanted: Wanted) -> Told
             "a phase",
         ),
         Wanted::Reason => Told::listed(reasons(), "is no reason", "a reason"),
-        Wanted::Instance => Told::unnamed("is no instance", "an instance"),
-        Wanted::Round => Told::unnamed("is no round", "a round"),
-        Wanted::Waiting => Told::unnamed("is no number of envelopes", "a number of envelopes"),
+        Wanted::Instance => Told::named(&[">="], "is no instance", "an instance"),
+        Wanted::Round => Told::named(&[">="], "is no round", "a round"),
+        Wanted::Waiting => Told::named(
+            &[">="],
+            "is no number of envelopes",
+            "a number of envelopes",
+        ),
         Wanted::Members => Told::unnamed(
             "is neither a list of members nor -",
             "a list of members or -",
         ),
         Wanted::Quoted => Told::unnamed("is no text", "a text"),
+        Wanted::Term => Told::named(
+            &["ever", "never", "all", "any", "up"],
+            "is neither ever, never, a member, a list of members, all, any nor up",
+            "ever, never, a member, a list of members, all, any or up",
+        ),
+        Wanted::Whom => Told::named(
+            &["all", "any", "up"],
+            "is neither a member, a list of members, all, any nor up",
+            "a member, a list of members, all, any or up",
+        ),
+        Wanted::Extent => Told::named(&[">="], "is neither a number nor >=", "a number or >="),
+        Wanted::Count => Told::unnamed("is no number", "a number"),
+        Wanted::Chosen => Told::listed(
+            reasons(),
+            "is neither a member nor a reason",
+            "a member or a reason",
+        ),
+        Wanted::Up => Told::unnamed("is not up", "up"),
+        Wanted::Unseen => Told::unnamed("is not unseen", "unseen"),
+        Wanted::Again => Told::unnamed("is not again", "again"),
         Wanted::Nothing => Told::optional(&[]),
         Wanted::Suspecting => Told::optional(&["suspecting"]),
         Wanted::Sender => Told::optional(&["from"]),

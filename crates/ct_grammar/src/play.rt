@@ -1,7 +1,7 @@
 //! What is played in a world.
 
 use crate::act::Act;
-use crate::fact::Fact;
+use crate::goal::Goal;
 use crate::question::Question;
 use crate::sides::Sides;
 use crate::text::Text;
@@ -20,14 +20,14 @@ pub enum Play {
     Turns(Who, u32, MemberSet),
     /// `all settle suspecting 2`: rounds of turns until in one of them nothing moved.
     Settle(Who, MemberSet),
-    /// `all turns suspecting 2 until 1,3 delivered 1.1`: turns until the fact holds of each of the latter.
-    Until(Who, MemberSet, Who, Fact),
+    /// `all turns suspecting 2 until 1,3 delivered 1.1`: turns until the goal holds.
+    Until(Who, MemberSet, Goal),
     /// `cut 1,2 | 3`: the group falls into sides.
     Cut(Sides),
     /// `heal`: there is no cut any more.
     Heal,
-    /// `expect 1 delivered 1.1`: the fact has to hold of each of these.
-    Expect(Who, Fact),
+    /// `expect 1 delivered 1.1`: the goal has to hold.
+    Expect(Goal),
     /// A question.
     Ask(Question),
 }

@@ -1,7 +1,7 @@
 //! From the text of a line to what it says.
 
 ghost use Rattle.std.specs.Prelude.{◌≡◌, ◌≤◌, IfOk, map};
-ghost use Rattle.ct_grammar.specs.Lines.{done_by, played_of, lone_number, heading_of, worded, begun, of_words, line_of};
+ghost use Rattle.ct_grammar.specs.Lines.{settled_or_acted, done_by, played_of, lone_number, heading_of, named, worded, of_words, line_of};
 ghost use Rattle.ct_grammar.specs.Questions.{alone};
 ghost use Rattle.ct_grammar.specs.declared.play.Play.TheVariants.{Heal};
 
@@ -9,14 +9,15 @@ use crate::act::Act;
 use crate::asking::{lone_member, question};
 use crate::cutting::cut;
 use crate::given::Given;
+use crate::goals::goal;
 use crate::leading::{number_first, over};
 use crate::line::Line;
-use crate::misfit::{Misfit, misfit_of};
+use crate::misfit::{Misfit, told};
 use crate::naming_members::who;
 use crate::numbers::has_comma;
 use crate::play::Play;
 use crate::stating::acted;
-use crate::turning::{expected, settle, turns};
+use crate::turning::{settle, turns};
 use crate::unfit::Unfit;
 use crate::wanted::Wanted;
 use crate::who::Who;
@@ -30,73 +31,81 @@ pub fn line_of(alloc: Global, text: &str) -> Result<Result<Line, Misfit>, AllocE
     ensures { IfOk result (λ line. line ≡ line_of text.now) }
 {
     let words = words_of(alloc, text)?;
-    match of_words(alloc, words.as_slice())? {
-        Ok(line) => Ok(Ok(line)),
-        Err(unfit) => Ok(Err(misfit_of(alloc, words.as_slice(), unfit)?)),
-    }
+    of_words(alloc, words.as_slice())
 }
 
 // The line of these words.
-#[tactic(auto, unfolding(crate::specs::Lines::of_words))]
-fn of_words(alloc: Global, words: &[&str]) -> Result<Result<Line, Unfit>, AllocError>
+#[tactic(auto, unfolding(crate::specs::Lines::of_words, crate::specs::Lines::begun))]
+fn of_words(alloc: Global, words: &[&str]) -> Result<Result<Line, Misfit>, AllocError>
     ensures { IfOk result (λ line. line ≡ of_words (map (λ word. word.now) words.now)) }
 {
-    match words {
-        [] => Ok(Ok(Line::Blank)),
-        [name, rest @ ..] => begun(alloc, who(name), name, rest),
-    }
-}
-
-// What members do, where the first word names some; otherwise what that word begins.
-#[tactic(auto, unfolding(crate::specs::Lines::begun))]
-fn begun(
-    alloc: Global,
-    who: Option<Who>,
-    name: &str,
-    words: &[&str],
-) -> Result<Result<Line, Unfit>, AllocError>
-    ensures { IfOk result (λ line. line ≡ begun who name.now (map (λ word. word.now) words.now)) }
-{
-    let Some(who) = who else {
-        if has_comma(name.as_bytes()) {
-            return Ok(Err(Unfit::before(words, Wanted::Set)));
-        }
-        return worded(alloc, name, words);
+    let [name, rest @ ..] = words else {
+        return Ok(Ok(Line::Blank));
     };
-    match done_by(alloc, who, words)? {
+    let Some(who) = who(name) else {
+        return worded(alloc, words);
+    };
+    match done_by(alloc, who, rest)? {
         Ok(play) => Ok(Ok(Line::Play(play))),
-        Err(unfit) => Ok(Err(unfit)),
+        Err(misfit) => Ok(Err(misfit)),
     }
 }
 
 // What stands behind the members: `turns`, `settle` or an act.
 #[tactic(auto, unfolding(crate::specs::Lines::done_by))]
-fn done_by(alloc: Global, who: Who, words: &[&str]) -> Result<Result<Play, Unfit>, AllocError>
+fn done_by(alloc: Global, who: Who, words: &[&str]) -> Result<Result<Play, Misfit>, AllocError>
     ensures { IfOk result (λ play. play ≡ done_by who (map (λ word. word.now) words.now)) }
+{
+    match words {
+        [name, rest @ ..] if *name == "turns" => turns(alloc, who, rest),
+        _ => told(alloc, words, settled_or_acted(alloc, who, words)?),
+    }
+}
+
+// What stands behind the members and is not `turns`: `settle` or an act.
+#[tactic(auto, unfolding(crate::specs::Lines::settled_or_acted))]
+fn settled_or_acted(
+    alloc: Global,
+    who: Who,
+    words: &[&str],
+) -> Result<Result<Play, Unfit>, AllocError>
+    ensures { IfOk result (λ play. play ≡ settled_or_acted who (map (λ word. word.now) words.now)) }
 {
     let [name, rest @ ..] = words else {
         return Ok(Err(Unfit::End(Wanted::Doing)));
     };
-    if *name == "turns" {
-        return turns(alloc, who, rest);
-    }
     if *name == "settle" {
         return Ok(settle(who, rest));
     }
     acted(alloc, who, words)
 }
 
-// What is expected of members; otherwise a line that a word of its own begins.
+// What is expected; otherwise a line that another word of its own begins.
 #[tactic(auto, unfolding(crate::specs::Lines::worded))]
-fn worded(alloc: Global, name: &str, words: &[&str]) -> Result<Result<Line, Unfit>, AllocError>
-    ensures { IfOk result (λ line. line ≡ worded name.now (map (λ word. word.now) words.now)) }
+fn worded(alloc: Global, words: &[&str]) -> Result<Result<Line, Misfit>, AllocError>
+    ensures { IfOk result (λ line. line ≡ worded (map (λ word. word.now) words.now)) }
 {
-    match name {
-        "expect" => match expected(alloc, words)? {
-            Ok((who, fact)) => Ok(Ok(Line::Play(Play::Expect(who, fact)))),
-            Err(unfit) => Ok(Err(unfit)),
-        },
-        _ => Ok(heading(name, words)),
+    let [name, rest @ ..] = words else {
+        return Ok(Ok(Line::Blank));
+    };
+    if *name != "expect" {
+        return told(alloc, words, named(name, rest));
+    }
+    match goal(alloc, rest)? {
+        Ok(goal) => Ok(Ok(Line::Play(Play::Expect(goal)))),
+        Err(misfit) => Ok(Err(misfit)),
+    }
+}
+
+// No list of members, which this word is not; otherwise a number of the group, and the others.
+#[tactic(auto, unfolding(crate::specs::Lines::named))]
+fn named(name: &str, words: &[&str]) -> Result<Line, Unfit>
+    ensures { result ≡ named name.now (map (λ word. word.now) words.now) }
+{
+    if has_comma(name.as_bytes()) {
+        Err(Unfit::before(words, Wanted::Set))
+    } else {
+        heading(name, words)
     }
 }
 

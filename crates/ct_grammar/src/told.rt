@@ -32,6 +32,22 @@ impl Told {
         }
     }
 
+    /// Where one of these names may stand, and what is said tells of them.
+    pub(crate) fn named(
+        names: &'static [&'static str],
+        denied: &'static str,
+        due: &'static str,
+    ) -> Told
+        ensures { result ≡ record { names = names.entry; is_listed = false; denied = denied.entry; due = due.entry } }
+    {
+        Told {
+            names,
+            is_listed: false,
+            denied,
+            due,
+        }
+    }
+
     /// Where what is wanted has no name.
     pub(crate) fn unnamed(denied: &'static str, due: &'static str) -> Told
         ensures names { result.names.now ≡ [] }

@@ -1,13 +1,13 @@
 //! Turns, in words.
 
 ghost use Rattle.std.specs.Prelude.{◌≡◌, IfOk, map};
-ghost use Rattle.ct_grammar.specs.Turns.{suspected, set_alone, lone_suspected, counted, expected_of, until_of, turns_of, settle_of};
+ghost use Rattle.ct_grammar.specs.Turns.{suspected, set_alone, lone_suspected, counted, behind_until, watched, until_of, says_until};
+ghost use Rattle.ct_grammar.specs.Turns.{turns_of, settle_of};
 ghost use Rattle.ct_grammar.specs.Unfits.{map_ok};
 
-use crate::expecting::fact;
-use crate::fact::Fact;
+use crate::goals::goal;
 use crate::leading::{over, set_first, whole_first};
-use crate::naming_members::who;
+use crate::misfit::{Misfit, misfit_of, told};
 use crate::play::Play;
 use crate::unfit::Unfit;
 use crate::wanted::Wanted;
@@ -67,45 +67,59 @@ fn counted(who: Who, words: &[&str]) -> Result<Play, Unfit>
     Ok(Play::Turns(who, n, lone_suspected(rest)?))
 }
 
-/// Members, and what is expected of them.
-#[tactic(auto, unfolding(crate::specs::Turns::expected_of))]
-pub(crate) fn expected(
-    alloc: Global,
-    words: &[&str],
-) -> Result<Result<(Who, Fact), Unfit>, AllocError>
-    ensures { IfOk result (λ expected. expected ≡ expected_of (map (λ word. word.now) words.now)) }
+// The words behind `until`.
+#[tactic(auto, unfolding(crate::specs::Turns::behind_until))]
+fn behind_until<'w, 'a>(words: &'w [&'a str]) -> Result<&'w [&'a str], Unfit>
+    ensures { map_ok (λ r. map (λ word. word.now) r.now) result ≡ behind_until (map (λ word. word.now) words.now) }
 {
-    let [name, rest @ ..] = words else {
-        return Ok(Err(Unfit::End(Wanted::Whom)));
-    };
-    let Some(who) = who(name) else {
-        return Ok(Err(Unfit::before(rest, Wanted::Whom)));
-    };
-    match fact(alloc, rest)? {
-        Ok(fact) => Ok(Ok((who, fact))),
-        Err(unfit) => Ok(Err(unfit)),
+    match words {
+        [] => Err(Unfit::End(Wanted::Until)),
+        [word, rest @ ..] => {
+            if *word == "until" {
+                Ok(rest)
+            } else {
+                Err(Unfit::before(rest, Wanted::Until))
+            }
+        }
     }
 }
 
-// Turns until a fact holds.
-#[tactic(auto, unfolding(crate::specs::Turns::until_of))]
-fn until(
-    alloc: Global,
-    who: Who,
-    set: MemberSet,
-    words: &[&str],
-) -> Result<Result<Play, Unfit>, AllocError>
-    ensures { IfOk result (λ play. play ≡ until_of who set (map (λ word. word.now) words.now)) }
+// The members that are suspected, and the words behind `until`.
+#[tactic(auto, unfolding(crate::specs::Turns::watched))]
+fn watched<'w, 'a>(words: &'w [&'a str]) -> Result<(MemberSet, &'w [&'a str]), Unfit>
+    ensures { map_ok (λ r. (r.0, map (λ word. word.now) r.1.now)) result ≡ watched (map (λ word. word.now) words.now) }
 {
-    let [word, rest @ ..] = words else {
-        return Ok(Err(Unfit::End(Wanted::Until)));
-    };
-    if *word != "until" {
-        return Ok(Err(Unfit::before(rest, Wanted::Until)));
+    match suspected(words) {
+        Ok((set, rest)) => match behind_until(rest) {
+            Ok(goal) => Ok((set, goal)),
+            Err(unfit) => Err(unfit),
+        },
+        Err(unfit) => Err(unfit),
     }
-    match expected(alloc, rest)? {
-        Ok((whom, fact)) => Ok(Ok(Play::Until(who, set, whom, fact))),
-        Err(unfit) => Ok(Err(unfit)),
+}
+
+// Turns until a goal holds.
+#[tactic(auto, unfolding(crate::specs::Turns::until_of))]
+fn until(alloc: Global, who: Who, words: &[&str]) -> Result<Result<Play, Misfit>, AllocError>
+    ensures { IfOk result (λ play. play ≡ until_of who (map (λ word. word.now) words.now)) }
+{
+    match watched(words) {
+        Ok((set, rest)) => match goal(alloc, rest)? {
+            Ok(goal) => Ok(Ok(Play::Until(who, set, goal))),
+            Err(misfit) => Ok(Err(misfit)),
+        },
+        Err(unfit) => Ok(Err(misfit_of(alloc, words, unfit)?)),
+    }
+}
+
+// Whether `suspecting` or `until` stands first.
+#[tactic(auto, unfolding(crate::specs::Turns::says_until))]
+fn says_until(words: &[&str]) -> bool
+    ensures { result ≡ says_until (map (λ word. word.now) words.now) }
+{
+    match words {
+        [] => false,
+        [word, ..] => *word == "suspecting" || *word == "until",
     }
 }
 
@@ -115,20 +129,13 @@ pub(crate) fn turns(
     alloc: Global,
     who: Who,
     words: &[&str],
-) -> Result<Result<Play, Unfit>, AllocError>
+) -> Result<Result<Play, Misfit>, AllocError>
     ensures { IfOk result (λ play. play ≡ turns_of who (map (λ word. word.now) words.now)) }
 {
-    match words {
-        [] => Ok(Err(Unfit::End(Wanted::Rounds))),
-        [word, ..] => {
-            if *word != "suspecting" && *word != "until" {
-                return Ok(counted(who, words));
-            }
-            match suspected(words) {
-                Ok((set, rest)) => until(alloc, who, set, rest),
-                Err(unfit) => Ok(Err(unfit)),
-            }
-        }
+    if says_until(words) {
+        until(alloc, who, words)
+    } else {
+        told(alloc, words, counted(who, words))
     }
 }
 

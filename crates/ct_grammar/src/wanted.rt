@@ -13,8 +13,6 @@ pub(crate) enum Wanted {
     Bound,
     /// A member.
     Member,
-    /// Of which members a fact is expected.
-    Whom,
     /// A list of members.
     Set,
     /// The members of a side of a cut.
@@ -61,6 +59,22 @@ pub(crate) enum Wanted {
     Members,
     /// The words of a line of the report.
     Quoted,
+    /// When a claim holds, or of whom.
+    Term,
+    /// Of whom a claim has to hold.
+    Whom,
+    /// How much there is, or `>=`.
+    Extent,
+    /// A number behind `>=`.
+    Count,
+    /// The member that is chosen, or the reason for which each choice is refused.
+    Chosen,
+    /// The word `up`.
+    Up,
+    /// The word `unseen`.
+    Unseen,
+    /// The word `again`.
+    Again,
     /// Nothing.
     Nothing,
     /// Nothing, or `suspecting`.

@@ -9,6 +9,6 @@ pub enum Who {
     One(Member),
     /// `1,3`: each of these, rising.
     Some(MemberSet),
-    /// `all`: each member that is up at its turn, rising; of an expectation each member of the group.
+    /// `all`: each member that is up at its turn, rising.
     All,
 }

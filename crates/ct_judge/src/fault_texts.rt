@@ -3,19 +3,22 @@
 ghost use Rattle.std.specs.Prelude.{◌≡◌, OnOk, IsTrue};
 ghost use Rattle.ct_records.specs.Adds.{Adds};
 ghost use Rattle.ct_names.specs.Group.{is_member};
+ghost use Rattle.ct_play.specs.Expecting.{unmet};
 ghost use Rattle.ct_play.specs.Facts.{there, wanted};
 ghost use Rattle.ct_play.specs.Stating.{came_to};
 ghost use Rattle.ct_judge.specs.Missing.{missing_text, none_from_text};
-ghost use Rattle.ct_judge.specs.Telling.{fault_in, if_member_text, not_met_text, not_reached_text, not_so_text, other_text};
+ghost use Rattle.ct_judge.specs.Telling.{claim_unmet, fault_in, goal_unmet, if_member_text, not_met_text, not_reached_text};
+ghost use Rattle.ct_judge.specs.Telling.{not_so_text, other_text, seen_text, term_unmet, untrue_text};
 ghost use Rattle.ct_judge.specs.Telling.{plain_text, stranger_text, unmet_text};
 ghost use Rattle.ct_judge.specs.Wording.{behind};
 
 use crate::missing::{push_across, push_missing, push_none_from};
 use crate::refusing::push_refused;
 use crate::wording::push_number;
-use ct_grammar::{Act, Fact, Line, Pick, Play, Text, Who};
+use ct_grammar::{Act, Claim, Fact, Goal, Line, Pick, Play, Term, Text, When, Who};
 use ct_names::Member;
-use ct_play::{LineFault, Stage, ended, push_came_to, push_there, push_wanted};
+use ct_play::{LineFault, Stage, amount_of, ended, push_came_to, push_there, push_wanted, unmet};
+use ct_print::{push_claim, push_term};
 use std::alloc::{AllocError, Global};
 
 // The fault of the line.
@@ -93,13 +96,13 @@ fn push_not_met(
     alloc: Global,
     text: &mut String,
     stage: &Stage,
-    member: Member,
+    member: Option<Member>,
     line: &Line,
 ) -> Result<(), AllocError>
     ensures { OnOk result (Adds text.old text.new (not_met_text stage.now member line.now)) }
 {
     match line {
-        Line::Play(Play::Expect(_, fact)) => push_unmet_if(text, stage, member, fact),
+        Line::Play(Play::Expect(goal)) => push_goal_unmet(alloc, text, stage, member, goal),
         Line::Play(play) => push_not_reached(alloc, text, stage, member, play),
         _ => text.push_str("not met"),
     }
@@ -110,33 +113,101 @@ fn push_not_reached(
     alloc: Global,
     text: &mut String,
     stage: &Stage,
-    member: Member,
+    member: Option<Member>,
     play: &Play,
 ) -> Result<(), AllocError>
     ensures { OnOk result (Adds text.old text.new (not_reached_text stage.now member play.now)) }
 {
-    let Play::Until(_, _, _, fact) = play else {
+    let Play::Until(_, _, goal) = play else {
         return text.push_str("not met");
     };
     match ended(alloc, stage, play) {
-        Ok(end) => push_unmet_if(text, &end, member, fact),
+        Ok(end) => push_goal_unmet(alloc, text, &end, member, goal),
         Err(_) => Err(AllocError),
     }
 }
 
-fn push_unmet_if(
+// The first term that does not hold, and the member by which it does not.
+fn push_goal_unmet(
+    alloc: Global,
+    text: &mut String,
+    stage: &Stage,
+    member: Option<Member>,
+    goal: &Goal,
+) -> Result<(), AllocError>
+    ensures { OnOk result (Adds text.old text.new (goal_unmet stage.now member (unmet stage.now goal.now))) }
+{
+    let Some(term) = unmet(alloc, stage, goal)? else {
+        return text.push_str("not met");
+    };
+    match member {
+        None => push_term_unmet(text, term),
+        Some(member) => push_claim_if(text, stage, member, &term.claim),
+    }
+}
+
+#[tactic(auto, unfolding(crate::specs::Telling::term_unmet, crate::specs::Wording::behind))]
+fn push_term_unmet(text: &mut String, term: &Term) -> Result<(), AllocError>
+    ensures { OnOk result (Adds text.old text.new (term_unmet term.now)) }
+{
+    text.push_str("not met: ")?;
+    push_term(text, term)?;
+    text.push_str(seen_text(term.when))
+}
+
+// What was seen of a term that is not about each of some members as they are now.
+fn seen_text(when: When) -> &'static str
+    ensures { result.now ≡ seen_text when }
+{
+    match when {
+        When::Now => ": no member shows it",
+        When::Ever => ": no beginning of the run shows it",
+        When::Never => ": a beginning of the run shows it",
+    }
+}
+
+fn push_claim_if(
     text: &mut String,
     stage: &Stage,
     member: Member,
-    fact: &Fact,
+    claim: &Claim,
 ) -> Result<(), AllocError>
-    ensures { OnOk result (Adds text.old text.new (if_member_text stage.now member (unmet_text stage.now member fact.now))) }
+    ensures { OnOk result (Adds text.old text.new (if_member_text stage.now member (claim_unmet stage.now member claim.now))) }
 {
     if stage.world().group().has(member) {
-        push_unmet(text, stage, member, fact)
+        push_claim_unmet(text, stage, member, claim)
     } else {
         push_stranger(text, member)
     }
+}
+
+// The claim that is not true of the member, and what is there, where that is a value or a number.
+fn push_claim_unmet(
+    text: &mut String,
+    stage: &Stage,
+    member: Member,
+    claim: &Claim,
+) -> Result<(), AllocError>
+    requires { IsTrue (is_member stage.now.rehearsal.setting.members member) }
+    ensures { OnOk result (Adds text.old text.new (claim_unmet stage.now member claim.now)) }
+{
+    match claim {
+        Claim::Fact(fact) => push_unmet(text, stage, member, fact),
+        Claim::Amount(what, _) => {
+            push_untrue(text, member, claim)?;
+            push_number(text, ", there is ", amount_of(stage, member, *what))
+        }
+        _ => push_untrue(text, member, claim),
+    }
+}
+
+#[tactic(auto, unfolding(crate::specs::Telling::untrue_text, crate::specs::Wording::behind))]
+fn push_untrue(text: &mut String, member: Member, claim: &Claim) -> Result<(), AllocError>
+    ensures { OnOk result (Adds text.old text.new (untrue_text member claim.now)) }
+{
+    push_number(text, "not met: member ", usize::from(member))?;
+    text.push_str(": expected ")?;
+    push_claim(text, claim)
 }
 
 #[tactic(auto, unfolding(crate::specs::Telling::unmet_text))]

@@ -25,7 +25,8 @@ Examples:
 
 Status:
   0  the input came to its end
-  1  a line was refused, with --strict; or a record is asked for, and the number of members was not given
+  1  a line was refused, with --strict; or there is no record to keep, as the
+     number of members was not given
   3  the words of the command line are refused
   4  a read or a write failed
   5  memory was refused";
@@ -34,13 +35,15 @@ Status:
 const AFTER_RECORD: &str = "Lines:
   members 3                    the number of members, before all else
   1 submit set 0 7             a step of a member; 1,3 or all: of several
-  all receive data 1.1 from 1  an envelope by what it carries, or by its serial: #2
-  cut 1,2 | 3                  sides, between which nothing is received; heal ends it
+  all receive data 1.1 from 1  an envelope by what it carries; by its serial: #2
+  cut 1,2 | 3                  sides that nothing passes between, up to heal
   1 begin
-  all settle suspecting 2      turns as a driver makes them, until nothing moves; turns 20: so many
+  all settle suspecting 2      turns as a driver makes them, until nothing moves
+  all turns 20                 so many turns of each
   all turns until all delivered 1.1
   expect all received 1.1      what has to be so
   expect 1 refuses enter Idle
+  expect never any round >= 3  a goal, as `ct_tool find --help` tells
 
 Examples:
   ct_tool record run.txt > run.json
@@ -49,7 +52,7 @@ Examples:
 
 Status:
   0  the record was written
-  1  a line is refused; with --partial the record of the lines before it was written
+  1  a line is refused; with --partial the lines before it were written
   2  the input is too long
   3  the words of the command line are refused
   4  a read or a write failed
@@ -62,7 +65,7 @@ pub fn interact_command<'a>(alloc: Global) -> Result<Command<'a>, AllocError>
     subcommand(
         alloc,
         "interact",
-        "Judges the lines on standard input as they come, and answers each with one line",
+        "Judges the lines on standard input as they come, and answers each\nwith one line",
         AFTER_INTERACT,
     )
     .arg(value_option(
@@ -94,13 +97,10 @@ pub fn record_command<'a>(alloc: Global) -> Result<Command<'a>, AllocError>
     subcommand(
         alloc,
         "record",
-        "Judges a schedule line by line and writes its record as JSON to standard output",
+        "Judges a schedule line by line and writes its record as JSON to\nstandard output",
         AFTER_RECORD,
     )
-    .arg(file_argument(
-        alloc,
-        "The file that the schedule stands in; - for standard input",
-    ))?
+    .arg(file_argument(alloc, "The file with the schedule; - for standard input"))?
     .arg(flag(
         alloc,
         "partial",

@@ -16,7 +16,7 @@ use Rattle.ct_play.specs.Faults.{IsFaultOf, IsShort}
 use Rattle.ct_play.specs.Played.{Played, with_step}
 use Rattle.ct_play.specs.Playing.{played}
 use Rattle.ct_play.specs.declared.line_fault.LineFault.{LineFault}
-use Rattle.ct_listing.specs.Expecting.{IsLone, IsThere}
+use Rattle.ct_listing.specs.Expecting.{IsLone, IsThere, fact_goal}
 use Rattle.ct_listing.specs.Leading.{AddsLine, Leads}
 use Rattle.ct_listing.proofs.Leading.{line_on, play_on}
 use Rattle.ct_listing.proofs.Playing.{lone_played, short_fault, there_played}
@@ -54,12 +54,11 @@ step_short text w p act step fault h next e =
     short_fault (played w (Acts (One p) act)) (with_step w step) fault (next_played text w p act step h next) e
 
 pub fact_on : (old new : List ℕ) (w : Played) (p : ℕ) (fact : Fact) → Leads old w → p ≤ max_u8 →
-    is_member w.rehearsal.setting.members p ≡ true → IsThere w p fact → AddsLine old new (line_text (Plays (Expect (One p) fact))) →
-    Leads new w
+    is_member w.rehearsal.setting.members p ≡ true → IsThere w p fact →
+    AddsLine old new (line_text (Plays (Expect (fact_goal p fact)))) → Leads new w
 fact_on old new w p fact h small member there adds =
-    play_on old new (Expect (One p) fact) w w h adds (small, there.fits) (expect_line p fact there.line) (λ rest e. expect_brace p fact
-    rest)
-    (there_played w p fact member there.same) refl
+    play_on old new (Expect (fact_goal p fact)) w w h adds (small, there.fits) (expect_line p fact there.line)
+    (λ rest e. expect_brace p fact rest) (there_played w p fact member there.same) refl
 
 pub blank_on : (old new : List ℕ) (w : Played) → Leads old w → AddsLine old new (line_text Blank) → Leads new w
 unfolding line_text

@@ -1,26 +1,37 @@
 -- One line more of a schedule.
 use Rattle.std.proofs.Common.{◌≡◌, ◌+◌, ℕ, Bool, true, false, not, List, [], ◌∷◌, ◌++◌, ap, sym, refl, ◌∙◌, subst, Some, None, Ok, Err}
-use Rattle.std.proofs.Common.{Result, append_assoc, append-nil, get_or, arith}
+use Rattle.std.proofs.Common.{Option, Result, append_assoc, append-nil, get_or, arith}
+use Rattle.std.specs.Prelude.{◌&&◌, is_ok}
 use Rattle.std.specs.List.{slice_split, All, list_all}
-use Rattle.std.specs.Str.{is_utf8}
+use Rattle.std.specs.Str.{IsUtf8, is_utf8}
 use Rattle.std.proofs.lemmas.Bool.Decides.{nat_tests}
 use Rattle.std.proofs.lemmas.List.Elements.{All-nil}
 use Rattle.std.proofs.lemmas.Str.{IsUtf8-nil, is_utf8-from_IsUtf8}
 use Rattle.std.proofs.lemmas.List.Sums.{AllPass-from_list_all}
 use Rattle.std.proofs.lemmas.List.Splits.{slice_split_at, slice_split_none}
 use Rattle.ct_grammar.specs.declared.line.Line.{Line}
-use Rattle.ct_grammar.specs.declared.line.Line.TheVariants.{Blank, Play as Plays}
+use Rattle.ct_grammar.specs.declared.goal.Goal.{Goal}
+use Rattle.ct_grammar.specs.declared.line.Line.TheVariants.{Blank, Given as Gives, Play as Plays}
+use Rattle.ct_grammar.specs.declared.misfit.Misfit.{Misfit}
 use Rattle.ct_grammar.specs.declared.play.Play.{Play}
+use Rattle.ct_grammar.specs.declared.play.Play.TheVariants.{Act as Acts, Stated, Turns, Settle, Until, Cut, Heal, Expect, Ask}
+use Rattle.ct_grammar.specs.declared.term.Term.{Term}
 use Rattle.ct_grammar.specs.Lines.{line_of}
+use Rattle.ct_grammar.specs.Sides.{whole}
+use Rattle.ct_model.specs.Rehearsal.{Rehearsal}
 use Rattle.ct_play.specs.Acting.{go_on}
+use Rattle.ct_play.specs.Expecting.{all_known, expected, unless_unmet, unmet}
+use Rattle.ct_play.specs.Goals.{uncut}
 use Rattle.ct_play.specs.Played.{Played}
 use Rattle.ct_play.specs.Playing.{played}
+use Rattle.ct_play.specs.declared.line_fault.LineFault.{LineFault}
 use Rattle.ct_judge.specs.Judging.{taken}
 use Rattle.ct_grammar.specs.Texts.{is_feed, lines_of, text_in}
 use Rattle.ct_judge.specs.Reading.{begins_record, line_in}
 use Rattle.ct_judge.specs.Schedule.{Progress, Stopped, after_line, after_lines, beginning, finished, schedule}
 use Rattle.ct_judge.specs.Standing.{Standing, played_of, start}
 use Rattle.ct_judge.specs.Telling.{told}
+use Rattle.ct_listing.specs.Goals.{IsExpecting, goal_line, if_taken, is_met_in, is_taken, line_if}
 use Rattle.ct_listing.specs.Leading.{AddsLine, Leads, LeadsTo, comment_text, one_line}
 use Rattle.ct_print.specs.Lines.{line_text}
 use Rattle.ct_print.specs.Writable.{IsWritable}
@@ -99,6 +110,70 @@ play_on old new play w v h adds fits one brace took same = record {
   uncut = same ∙ h.uncut;
 }
 
+-- ---- a line that expects a goal
+
+-- an expectation changes nothing
+expected_same : (s t : Played) (goal : Goal) → expected s goal ≡ Ok t → t ≡ s
+unfolding expected
+expected_same s t goal e = by_terms (all_known s.rehearsal.setting.members goal) (unmet s goal) e
+  where
+    by_terms : (known : Result (Unit {0}) LineFault) (first : Option Term) → go_on known (λ _. unless_unmet s first) ≡ Ok t → t ≡ s
+    by_terms (Ok u) None e = cc
+    by_terms (Ok u) (Some term) e = absurd (cc)
+    by_terms (Err fault) first e = absurd (cc)
+
+expected_taken : (s : Played) (goal : Goal) → is_ok (expected s goal) ≡ true → expected s goal ≡ Ok s
+expected_taken s goal e = by_result (expected s goal) refl e
+  where
+    by_result : (r : Result Played LineFault) → expected s goal ≡ r → is_ok r ≡ true → r ≡ Ok s
+    by_result (Ok t) same e = ap Ok (expected_same s t goal same)
+    by_result (Err fault) same e = absurd (cc)
+
+goal_on : (old new line : List ℕ) (w : Played) (goal : Goal) → Leads old w → is_utf8 line ≡ true → begins_record line ≡ false →
+    one_line line ≡ true → line_of line ≡ Ok (Plays (Expect goal)) → expected w goal ≡ Ok w → new ≡ old ++ (line ++ 10 ∷ []) → Leads new w
+unfolding played_of
+goal_on old new line w goal h utf8 brace one reads met is =
+    let after : Standing = record h.standing { played = Some w } in
+    record {
+      standing = after;
+      there = subst (λ l. LeadsTo l after) (sym is)
+          (bytes_on old line h.standing after h.there one
+          (after_read h.standing after h.there.number line (Plays (Expect goal)) utf8 brace reads (rw (h.world, met) refl)));
+      world = refl;
+      uncut = h.uncut;
+    }
+
+-- a line that is taken
+taken_on : (old new line : List ℕ) (w : Played) → Leads old w → is_utf8 line ≡ true → begins_record line ≡ false →
+    is_taken w line ≡ true → new ≡ old ++ (line ++ 10 ∷ []) → Leads new w
+taken_on old new line w h utf8 brace taken is = by_one (one_line line) refl taken
+  where
+    by_line : (r : Result Line Misfit) → one_line line ≡ true → line_of line ≡ r → is_met_in w r ≡ true → Leads new w
+    by_line (Ok (Plays (Expect goal))) one reads met =
+        goal_on old new line w goal h utf8 brace one reads (expected_taken w goal met) is
+    by_line (Ok Blank) one reads met = absurd (cc)
+    by_line (Ok (Gives given)) one reads met = absurd (cc)
+    by_line (Ok (Plays (Acts who act))) one reads met = absurd (cc)
+    by_line (Ok (Plays (Stated who act said))) one reads met = absurd (cc)
+    by_line (Ok (Plays (Turns who n set))) one reads met = absurd (cc)
+    by_line (Ok (Plays (Settle who set))) one reads met = absurd (cc)
+    by_line (Ok (Plays (Until who set goal))) one reads met = absurd (cc)
+    by_line (Ok (Plays (Cut sides))) one reads met = absurd (cc)
+    by_line (Ok (Plays Heal)) one reads met = absurd (cc)
+    by_line (Ok (Plays (Ask question))) one reads met = absurd (cc)
+    by_line (Err misfit) one reads met = absurd (cc)
+
+    by_one : (b : Bool) → one_line line ≡ b → b && is_met_in w (line_of line) ≡ true → Leads new w
+    by_one true one met = by_line (line_of line) one refl met
+    by_one false one met = absurd (cc)
+
+-- the line, where it is taken
+pub line_if_on : (old new line : List ℕ) (taken : Bool) (w : Played) (goal : Goal) → Leads old w → IsUtf8 line → line ≡ goal_line goal →
+    taken ≡ is_taken w line → new ≡ old ++ line_if taken line → Leads new w
+line_if_on old new line true w goal h utf8 same taken is =
+    taken_on old new line w h (is_utf8-from_IsUtf8 line utf8) (ap begins_record same) (sym taken) is
+line_if_on old new line false w goal h utf8 same taken is = subst (λ l. Leads l w) (sym (is ∙ append-nil old)) h
+
 -- ---- the beginning and the end
 
 -- of no text
@@ -118,3 +193,19 @@ unfolding schedule
 leads_end text w h =
     ap (λ (l : List ℕ). finished (after_lines beginning (lines_of l))) (sym (append-nil text))
     ∙ ap finished (h.there.ahead [] ∙ last_line h.standing h.there.number) ∙ rw h.world refl
+
+-- ---- a goal behind the schedule
+
+same_stage : (s : Played) (w : Rehearsal) → s.rehearsal ≡ w → s.sides ≡ whole → s ≡ uncut w
+same_stage s w e f = λ i. record { rehearsal = e i; sides = f i }
+
+leads_whole : (text : List ℕ) (s : Played) (w : Rehearsal) → Leads text s → s.rehearsal ≡ w → schedule text ≡ Ok w
+leads_whole text s w h same = leads_end text s h ∙ ap Ok same
+
+pub leads_parts : (before text : List ℕ) (s : Played) (w : Rehearsal) (goal : Goal) → Leads before s → s.rehearsal ≡ w →
+    text ≡ before ++ if_taken s (goal_line goal) → IsExpecting goal w text
+leads_parts before text s w goal h same is = (
+  before,
+  leads_whole before s w h same,
+  is ∙ ap (λ (u : Played). before ++ if_taken u (goal_line goal)) (same_stage s w same h.uncut),
+)

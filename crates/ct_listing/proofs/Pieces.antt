@@ -14,9 +14,9 @@ use Rattle.ct_grammar.specs.Texts.{is_feed}
 use Rattle.ct_listing.specs.Leading.{one_line}
 use Rattle.ct_listing.proofs.Comments.{words_apart}
 
--- a byte that neither parts words nor begins a comment or a record
+-- a byte that is no letter, and neither parts words nor begins a comment or a record
 abbrev pub is_mark : ℕ → Bool
-is_mark c = nat_le 36 c && nat_le c 122
+is_mark c = nat_le 36 c && nat_le c 61
 
 pub record IsPiece (word : Word) : Type 0 where
   pub some : 0 < length word

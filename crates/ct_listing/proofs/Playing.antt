@@ -19,14 +19,17 @@ use Rattle.ct_grammar.specs.declared.who.Who.TheVariants.{One}
 use Rattle.ct_grammar.specs.Sides.{side_of, together, whole}
 use Rattle.ct_play.specs.Acting.{after_step, done, go_on, step_of, stepped, unless_barred, unless_refused}
 use Rattle.ct_play.specs.Cuts.{barred, is_beside, is_near}
-use Rattle.ct_play.specs.Facts.{expected, holds, there, value}
+use Rattle.ct_play.specs.Claims.{is_true_of}
+use Rattle.ct_play.specs.Expecting.{expected, unmet}
+use Rattle.ct_play.specs.Facts.{holds, there, value}
 use Rattle.ct_play.specs.Faults.{IsFaultOf, IsShort, UnlessShort, is_short}
+use Rattle.ct_play.specs.Goals.{holds_for, unshown}
 use Rattle.ct_play.specs.Picking.{sender_of}
 use Rattle.ct_play.specs.Played.{Played, with_step}
 use Rattle.ct_play.specs.Playing.{played}
 use Rattle.ct_play.specs.Who.{known}
 use Rattle.ct_play.specs.declared.line_fault.LineFault.{LineFault}
-use Rattle.ct_listing.specs.Expecting.{IsLone}
+use Rattle.ct_listing.specs.Expecting.{IsLone, fact_goal}
 
 -- ---- no cut
 
@@ -107,10 +110,10 @@ unfolding known
 known_one n p member = rw member refl
 
 pub there_played : (s : Played) (p : ℕ) (fact : Fact) → is_member s.rehearsal.setting.members p ≡ true → there s p fact ≡ value fact →
-    played s (Expect (One p) fact) ≡ Ok s
-unfolding expected
+    played s (Expect (fact_goal p fact)) ≡ Ok s
+unfolding expected unmet holds_for unshown is_true_of
 there_played s p fact member e =
-    rw (known_one s.rehearsal.setting.members p member, holds_there s p fact member e) refl
+    rw (known_one s.rehearsal.setting.members p member, holds_there s p fact member e, member) refl
 
 -- ---- faults
 

@@ -1,8 +1,10 @@
 -- Texts of what is there, which a line can quote.
-use Rattle.std.proofs.Common.{◌≡◌, ◌<◌, ℕ, zero, suc, true, List, [], ◌∷◌, ◌++◌, refl, ap, sym, ◌∙◌, subst, arith, length, Option, Some}
-use Rattle.std.proofs.Common.{None}
+use Rattle.std.proofs.Common.{◌≡◌, ◌<◌, ℕ, zero, suc, Bool, true, false, not, List, [], ◌∷◌, ◌++◌, refl, ap, sym, ◌∙◌, subst, arith}
+use Rattle.std.proofs.Common.{length, Option, Some, None}
 use Rattle.std.specs.Prelude.{codes, map, slice_index}
-use Rattle.std.specs.List.{join_with_byte}
+use Rattle.std.specs.List.{join_with_byte, list_all}
+use Rattle.std.specs.Str.{bytes_eq}
+use Rattle.std.proofs.lemmas.Slice.Eq.{bytes_eq-Decides}
 use Rattle.ct_names.specs.Message.{Message}
 use Rattle.ct_names.specs.MessageText.{message_text}
 use Rattle.ct_model.specs.Rehearsal.{state_of}
@@ -10,7 +12,11 @@ use Rattle.ct_model.specs.State.{delivered}
 use Rattle.ct_table.specs.Table.{table}
 use Rattle.ct_world.specs.World.{member_of}
 use Rattle.ct_records.specs.Report.{first_registers, list_text, messages_text, nonzero, register_text, register_texts, table_text}
+use Rattle.ct_grammar.specs.Claims.{amount_claim, before, counted, delivered as claimed, event_claim, step_claim}
+use Rattle.ct_grammar.specs.Goals.{is_and}
 use Rattle.ct_grammar.specs.Words.{Word, text_of, words_of}
+use Rattle.ct_grammar.specs.declared.claim.Amount.{Amount}
+use Rattle.ct_grammar.specs.declared.claim.Amount.TheVariants as amount
 use Rattle.ct_grammar.specs.declared.fact.Fact.{Fact}
 use Rattle.ct_grammar.specs.declared.fact.Fact.TheVariants.{Delivered, Table}
 use Rattle.ct_play.specs.Facts.{there}
@@ -18,8 +24,8 @@ use Rattle.ct_play.specs.Played.{Played}
 use Rattle.ct_listing.specs.Expecting.{IsThere}
 use Rattle.ct_print.specs.Facts.{fact_text}
 use Rattle.ct_listing.specs.Leading.{one_line}
-use Rattle.ct_print.specs.Writable.{IsQuotable}
-use Rattle.ct_listing.proofs.Pieces.{IsPiece, Pieces, joined_line, pair_piece, words_back}
+use Rattle.ct_print.specs.Writable.{IsQuoted}
+use Rattle.ct_listing.proofs.Pieces.{IsPiece, Pieces, is_mark, joined_line, pair_piece, words_back}
 use Rattle.ct_listing.proofs.OneLine.{two_lines}
 
 some_joined : (word : Word) (words : List Word) → IsPiece word → 0 < length (join_with_byte 32 (word ∷ words))
@@ -27,18 +33,59 @@ some_joined word [] h = h.some
 some_joined [] (next ∷ words) h = absurd (omega (arith, h.some))
 some_joined (c ∷ cs) (next ∷ words) h = omega arith
 
-joined_quotable : (word : Word) (words : List Word) → Pieces (word ∷ words) → IsQuotable (join_with_byte 32 (word ∷ words))
-joined_quotable word words h = record {
-  words = ap text_of (words_back word words h);
-  some = some_joined word words h.0;
+-- ---- words with letters are others
+
+unlike : (word other : Word) → list_all is_mark word ≡ true → list_all is_mark other ≡ false → bytes_eq word other ≡ false
+unlike word other marks letters = by_test (bytes_eq word other) refl
+  where
+    by_test : (b : Bool) → bytes_eq word other ≡ b → b ≡ false
+    by_test false e = refl
+    by_test true e =
+        let same : word ≡ other = (bytes_eq-Decides word other).0 e in
+        sym marks ∙ (ap (list_all is_mark) same ∙ letters)
+
+no_and : (words : List Word) → Pieces words → list_all (λ word. not (is_and word)) words ≡ true
+no_and [] h = refl
+no_and (word ∷ words) h = rw (unlike word (codes "and") h.0.marks refl) (no_and words h.1)
+
+no_count : (what : Amount) (words : List Word) → Pieces words → counted what words ≡ None
+unfolding counted
+no_count what [] h = refl
+no_count what (word ∷ words) h = rw (unlike word (codes "count") h.0.marks refl) refl
+
+no_before : (words : List Word) → Pieces words → before words ≡ None
+unfolding before
+no_before [] h = refl
+no_before (first ∷ []) h = refl
+no_before (first ∷ middle ∷ []) h = refl
+no_before (first ∷ middle ∷ second ∷ []) h = rw (unlike middle (codes "before") h.1.0.marks refl) refl
+no_before (first ∷ middle ∷ second ∷ next ∷ words) h = refl
+
+plain_delivered : (words : List Word) → Pieces words → amount_claim (codes "delivered") words ≡ None
+unfolding amount_claim event_claim claimed
+plain_delivered words h = ap (λ o. claimed o words) (no_count amount.Delivered words h) ∙ no_before words h
+
+plain_table : (words : List Word) → Pieces words → amount_claim (codes "table") words ≡ None
+unfolding amount_claim event_claim step_claim
+plain_table words h = refl
+
+-- ---- quotes
+
+joined_quoted : (name : Word) (word : Word) (words : List Word) → Pieces (word ∷ words) → amount_claim name (word ∷ words) ≡ None →
+    IsQuoted name (join_with_byte 32 (word ∷ words))
+joined_quoted name word words h plain = record {
+  quotable = record { words = ap text_of (words_back word words h); some = some_joined word words h.0 };
+  no_and = ap (list_all (λ word. not (is_and word))) (words_back word words h) ∙ no_and (word ∷ words) h;
+  plain = ap (amount_claim name) (words_back word words h) ∙ plain;
 }
 
 dash : Pieces ((45 ∷ []) ∷ [])
 dash = (record { some = omega arith; marks = refl }, tt)
 
-list_quotable : (words : List Word) → Pieces words → IsQuotable (list_text 32 words)
-list_quotable [] h = joined_quotable (45 ∷ []) [] dash
-list_quotable (word ∷ words) h = joined_quotable word words h
+list_quoted : (name : Word) (words : List Word) → Pieces words → ((others : List Word) → Pieces others → amount_claim name others ≡ None) →
+    IsQuoted name (list_text 32 words)
+list_quoted name [] h plain = joined_quoted name (45 ∷ []) [] dash (plain _ dash)
+list_quoted name (word ∷ words) h plain = joined_quoted name word words h (plain _ h)
 
 list_line : (words : List Word) → Pieces words → one_line (list_text 32 words) ≡ true
 list_line [] h = refl
@@ -74,7 +121,8 @@ delivered_there s p text e =
     let pieces = message_pieces (delivered (member_of s.rehearsal p)) in
     record {
       same = sym e;
-      fits = subst IsQuotable (sym e) (list_quotable (map message_text (delivered (member_of s.rehearsal p))) pieces);
+      fits = subst (IsQuoted (codes "delivered")) (sym e)
+          (list_quoted (codes "delivered") (map message_text (delivered (member_of s.rehearsal p))) pieces plain_delivered);
       line = two_lines (codes "delivered") text refl
           (ap one_line e ∙ list_line (map message_text (delivered (member_of s.rehearsal p))) pieces);
     }
@@ -86,6 +134,7 @@ table_there s p text e =
     let values : List ℕ = table (delivered (member_of s.rehearsal p)) in
     record {
       same = sym e;
-      fits = subst IsQuotable (sym e) (list_quotable (first_registers values 16) (table_pieces values 16));
+      fits = subst (IsQuoted (codes "table")) (sym e)
+          (list_quoted (codes "table") (first_registers values 16) (table_pieces values 16) plain_table);
       line = two_lines (codes "table") text refl (ap one_line e ∙ list_line (first_registers values 16) (table_pieces values 16));
     }

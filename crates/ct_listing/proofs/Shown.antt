@@ -1,5 +1,5 @@
 -- What is written of the lines of a schedule: one line each, which is no record.
-use Rattle.std.proofs.Common.{◌≡◌, ℕ, true, false, List, [], ◌∷◌, ◌++◌, refl, ap, ◌∙◌, append_assoc}
+use Rattle.std.proofs.Common.{◌≡◌, ℕ, true, false, List, [], ◌∷◌, ◌++◌, refl, ap, ◌∙◌, append_assoc, append-nil}
 use Rattle.std.specs.Prelude.{decimal, codes}
 use Rattle.ct_grammar.specs.declared.act.Act.{Act}
 use Rattle.ct_grammar.specs.declared.fact.Fact.{Fact}
@@ -8,12 +8,14 @@ use Rattle.ct_grammar.specs.declared.given.Given.TheVariants.{Members, Cells, Ba
 use Rattle.ct_grammar.specs.declared.line.Line.TheVariants.{Given as Gives, Play as Plays}
 use Rattle.ct_grammar.specs.declared.play.Play.TheVariants.{Act as Acts, Expect}
 use Rattle.ct_grammar.specs.declared.who.Who.TheVariants.{One}
+use Rattle.ct_grammar.specs.Words.{text_of}
 use Rattle.ct_judge.specs.Reading.{begins_record}
 use Rattle.ct_print.specs.Acts.{act_text}
 use Rattle.ct_print.specs.Facts.{fact_text}
+use Rattle.ct_print.specs.Goals.{claim_text, goal_text, term_text, when_text, whom_text}
 use Rattle.ct_print.specs.Lines.{given_text, line_text, play_text}
 use Rattle.ct_print.specs.Members.{who_text}
-use Rattle.ct_listing.specs.Expecting.{IsLone}
+use Rattle.ct_listing.specs.Expecting.{IsLone, fact_goal}
 use Rattle.ct_listing.specs.Leading.{one_line}
 use Rattle.ct_listing.proofs.Pieces.{decimal_piece, no_brace}
 use Rattle.ct_listing.proofs.OneLine.{act_line, decimal_line, three_lines, two_lines}
@@ -28,11 +30,18 @@ acts_brace p act rest =
     ap begins_record (append_assoc (decimal p) (32 ∷ act_text act) rest) ∙ no_brace (decimal p) (32 ∷ act_text act ++ rest)
     (decimal_piece p)
 
-pub expect_line : (p : ℕ) (fact : Fact) → one_line (fact_text fact) ≡ true → one_line (line_text (Plays (Expect (One p) fact))) ≡ true
-unfolding line_text play_text who_text
-expect_line p fact h = three_lines (codes "expect") (decimal p) (fact_text fact) refl (decimal_line p) h
+fact_goal_text : (p : ℕ) (fact : Fact) → goal_text (fact_goal p fact) ≡ text_of (decimal p ∷ fact_text fact ∷ [])
+unfolding goal_text term_text when_text whom_text claim_text
+fact_goal_text p fact = append-nil (text_of (decimal p ∷ fact_text fact ∷ []))
 
-pub expect_brace : (p : ℕ) (fact : Fact) (rest : List ℕ) → begins_record (line_text (Plays (Expect (One p) fact)) ++ rest) ≡ false
+pub expect_line : (p : ℕ) (fact : Fact) → one_line (fact_text fact) ≡ true →
+    one_line (line_text (Plays (Expect (fact_goal p fact)))) ≡ true
+unfolding line_text play_text
+expect_line p fact h =
+    ap (λ (goal : List ℕ). one_line (text_of (codes "expect" ∷ goal ∷ []))) (fact_goal_text p fact)
+    ∙ three_lines (codes "expect") (decimal p) (fact_text fact) refl (decimal_line p) h
+
+pub expect_brace : (p : ℕ) (fact : Fact) (rest : List ℕ) → begins_record (line_text (Plays (Expect (fact_goal p fact))) ++ rest) ≡ false
 unfolding line_text play_text
 expect_brace p fact rest = refl
 

@@ -4,22 +4,25 @@ ghost use Rattle.std.specs.Prelude.{◌≡◌, Ok};
 ghost use Rattle.ct_model.specs.Actor.{actor};
 ghost use Rattle.ct_play.specs.Acting.{step_of};
 ghost use Rattle.ct_listing.specs.Expecting.{IsLone};
+ghost use Rattle.ct_listing.specs.Naming.{act_of};
 ghost use Rattle.ct_print.specs.Writable.{ActFits};
 
-use crate::naming::{repeated_name, waiting_name};
+use crate::naming::{Naming, repeated_name, waiting_name};
 use ct_grammar::Act;
 use ct_model::Step;
 use ct_play::Stage;
 
-// The act of a step that is taken next, which names its envelope.
-pub(crate) fn act_of(stage: &Stage, step: Step) -> Act
+/// The act of a step that is taken next, which names its envelope.
+pub fn act_of(stage: &Stage, step: Step, naming: Naming) -> Act
+    ensures is { result ≡ act_of naming stage.now.rehearsal step }
+    // It is one act of one step, which is that step, and can be written.
     ensures step { step_of stage.now.rehearsal (actor step) result ≡ Ok step }
     ensures lone { IsLone result }
     ensures fits { ActFits result }
 {
     match step {
         Step::Submit(_, command) => Act::Submit(command),
-        Step::Receive(member, serial) => Act::Receive(waiting_name(stage, member, serial)),
+        Step::Receive(member, serial) => Act::Receive(waiting_name(stage, member, serial, naming)),
         Step::Begin(_) => Act::Begin,
         Step::Enter(_) => Act::Enter,
         Step::Choose(_, from) => Act::Choose(from),
@@ -29,8 +32,10 @@ pub(crate) fn act_of(stage: &Stage, step: Step) -> Act
         Step::Deliver(_) => Act::Deliver,
         Step::Follow(_) => Act::Follow,
         Step::Crash(_) => Act::Crash,
-        Step::Postpone(member, serial) => Act::Postpone(waiting_name(stage, member, serial)),
-        Step::Lose(member, serial) => Act::Lose(waiting_name(stage, member, serial)),
-        Step::Repeat(member, serial) => Act::Repeat(repeated_name(stage, member, serial)),
+        Step::Postpone(member, serial) => Act::Postpone(waiting_name(
+            stage, member, serial, naming,
+        )),
+        Step::Lose(member, serial) => Act::Lose(waiting_name(stage, member, serial, naming)),
+        Step::Repeat(member, serial) => Act::Repeat(repeated_name(stage, member, serial, naming)),
     }
 }

@@ -3,6 +3,7 @@
 
 mod acting;
 mod closing;
+mod expecting;
 mod heading;
 mod lines;
 mod naming;
@@ -12,6 +13,8 @@ mod told;
 mod words;
 mod writing;
 
+pub use acting::act_of;
+pub use naming::{MOST_SINCE, Naming};
 pub use running::write_schedule;
 pub use words::schedule_command;
-pub use writing::schedule_of;
+pub use writing::{replay, schedule_expecting, schedule_of};

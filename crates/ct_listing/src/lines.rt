@@ -9,9 +9,10 @@ ghost use Rattle.ct_listing.specs.Expecting.{IsThere};
 ghost use Rattle.ct_listing.specs.Leading.{Leads};
 
 use crate::acting::act_of;
+use crate::naming::Naming;
 use crate::remarks::remark_of;
 use crate::told::push_told;
-use ct_grammar::{Fact, Line, Play, Who};
+use ct_grammar::{Claim, Fact, Goal, Line, Play, Term, When, Who, Whom};
 use ct_model::Step;
 use ct_names::Member;
 use ct_play::{LineFault, Stage, play};
@@ -31,7 +32,7 @@ pub(crate) fn push_step(
     ensures err { IfErr result IsShort }
 {
     let before = stage.world().sent();
-    let line = Play::Act(Who::One(step.member()), act_of(stage, step));
+    let line = Play::Act(Who::One(step.member()), act_of(stage, step, Naming::Short));
     play(alloc, stage, &line)?;
     let remark = remark_of(alloc, stage.world(), before, step)?;
     push_told(alloc, text, &Line::Play(line), &remark)?;
@@ -53,7 +54,13 @@ pub(crate) fn push_fact(
 {
     // For its clauses.
     let _ = stage;
-    let line = Play::Expect(Who::One(member), fact);
+    let mut terms = Vec::new(alloc);
+    terms.push(Term {
+        when: When::Now,
+        whom: Whom::One(member),
+        claim: Claim::Fact(fact),
+    })?;
+    let line = Play::Expect(Goal { terms });
     push_told(alloc, text, &Line::Play(line), "")?;
     Ok(())
 }

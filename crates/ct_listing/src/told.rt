@@ -25,7 +25,8 @@ pub(crate) fn push_told(
     Ok(())
 }
 
-fn push_with_feed(text: &mut String, line: &str) -> Result<(), AllocError>
+// Appends the line and a line feed.
+pub(crate) fn push_with_feed(text: &mut String, line: &str) -> Result<(), AllocError>
     ensures { OnOk result (Adds text.old text.new (line.now ++ 10 ∷ [])) }
 {
     text.push_str(line)?;

@@ -29,7 +29,7 @@ pub fn schedule_command<'a>(alloc: Global) -> Result<Command<'a>, AllocError>
     subcommand(
         alloc,
         "schedule",
-        "Replays a record and writes it as a schedule, of which `record` makes the same record",
+        "Replays a record and writes it as a schedule, of which `record`\nmakes the same record",
         AFTER,
     )
     .arg(file_argument(

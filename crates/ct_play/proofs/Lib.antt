@@ -1,9 +1,12 @@
 pub mod Counting
+pub mod Expected
 pub mod Faulty
 pub mod Finding
 pub mod Folding
 pub mod Lasts
 pub mod Later
+pub mod Looking
 pub mod Parts
 pub mod Results
+pub mod Seeing
 pub mod Trying

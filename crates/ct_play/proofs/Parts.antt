@@ -123,10 +123,10 @@ none_played s (play.Act who a) t e = none_done who a s (named s.rehearsal.settin
 none_played s (play.Stated who a text) t e = none_said who a text s (named s.rehearsal.setting.members who) t e
 none_played s (play.Turns who n set) t e = none_turned (play.Turns who n set) (named s.rehearsal.setting.members who) s n t e
 none_played s (play.Settle who set) t e = none_turned (play.Settle who set) (named s.rehearsal.setting.members who) s _ t e
-none_played s (play.Until who set aim fact) t e = none_turned (play.Until who set aim fact) (named s.rehearsal.setting.members who) s _ t e
+none_played s (play.Until who set goal) t e = none_turned (play.Until who set goal) (named s.rehearsal.setting.members who) s _ t e
 none_played s (play.Cut sides) t e = e
 none_played s play.Heal t e = e
-none_played s (play.Expect who fact) t e = e
+none_played s (play.Expect goal) t e = e
 none_played s (play.Ask question) t e = e
 
 -- where it was taken back

@@ -1,6 +1,6 @@
--- What lines expect of members, and what is there.
-use Rattle.std.specs.Prelude.{ℕ, Bool, false, not, List, [], ◌∷◌, codes, decimal, is_some, length, Option, Some, None}
-use Rattle.std.specs.Prelude.{option_map, Result, Ok, Err, find, if◌then◌else◌}
+-- What facts say of members, and what is there.
+use Rattle.std.specs.Prelude.{ℕ, Bool, false, List, [], ◌∷◌, codes, decimal, is_some, length, Option, Some, None}
+use Rattle.std.specs.Prelude.{option_map, Result, Ok, Err, if◌then◌else◌}
 use Rattle.std.specs.List.{concat}
 use Rattle.std.specs.Str.{bytes_eq}
 use Rattle.ct_names.specs.Group.{is_member}
@@ -24,15 +24,12 @@ use Rattle.ct_grammar.specs.declared.fact.Fact.{Fact}
 use Rattle.ct_grammar.specs.declared.fact.Fact.TheVariants.{Up, Crashed, Idle, Instance, Round, Phase as InPhase}
 use Rattle.ct_grammar.specs.declared.fact.Fact.TheVariants.{Received, Decided, Delivered, Table, Refuses}
 use Rattle.ct_grammar.specs.declared.fact.Fact.TheVariants.{May, Waiting, Waits, Heard, Acked, Estimate}
-use Rattle.ct_grammar.specs.declared.who.Who.{Who}
 use Rattle.ct_grammar.specs.Reasons.{reason_text}
-use Rattle.ct_play.specs.Acting.{go_on, step_of}
+use Rattle.ct_play.specs.Acting.{step_of}
 use Rattle.ct_play.specs.Cuts.{barred}
 use Rattle.ct_play.specs.Picking.{is_waiting, waiting_at}
 use Rattle.ct_play.specs.Played.{Played}
-use Rattle.ct_play.specs.Who.{known}
 use Rattle.ct_play.specs.declared.line_fault.LineFault.{LineFault}
-use Rattle.ct_play.specs.declared.line_fault.LineFault.TheVariants.{NotMet}
 
 -- ---- what is there, as the value of a fact of its kind is written
 
@@ -153,20 +150,3 @@ wanted fact = concat (word fact ∷ value fact ∷ [])
 unfoldable pub holds : Played → ℕ → Fact → Bool
 holds s p fact =
     if is_member s.rehearsal.setting.members p then bytes_eq (there s p fact) (value fact) else false
-
--- the first of these of which it does not hold
-abbrev pub unmet : Played → List ℕ → Fact → Option ℕ
-unmet s ps fact = find (λ p. not (holds s p fact)) ps
-
--- an expectation changes nothing
-abbrev pub unless_unmet : Played → Option ℕ → Result Played LineFault
-unless_unmet s None = Ok s
-unless_unmet s (Some p) = Err (NotMet p)
-
--- the fact has to hold of each of these
-abbrev pub expected_of : Played → List ℕ → Fact → Result Played LineFault
-expected_of s ps fact = unless_unmet s (unmet s ps fact)
-
--- the members have to be members of the group, and the fact has to hold of each
-unfoldable pub expected : Played → Who → Fact → Result Played LineFault
-expected s who fact = go_on (known s.rehearsal.setting.members who) (λ ps. expected_of s ps fact)

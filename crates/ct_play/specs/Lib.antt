@@ -1,7 +1,10 @@
 pub mod Acting
+pub mod Claims
 pub mod Cuts
+pub mod Expecting
 pub mod Facts
 pub mod Faults
+pub mod Goals
 pub mod Parts
 pub mod Picking
 pub mod Played

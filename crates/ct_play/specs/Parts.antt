@@ -64,5 +64,5 @@ IsPartOf s (ByAct who act) t = IsDoneByFirst who act s (named s.rehearsal.settin
 IsPartOf s (Stated who act text) t = IsSaidByFirst who act text s (named s.rehearsal.setting.members who) t
 IsPartOf s (Turns who n set) t = IsTurnedPart (Turns who n set) (named s.rehearsal.setting.members who) s n t
 IsPartOf s (Settle who set) t = IsTurnedPart (Settle who set) (named s.rehearsal.setting.members who) s MOST_ROUNDS t
-IsPartOf s (Until who set aim fact) t = IsTurnedPart (Until who set aim fact) (named s.rehearsal.setting.members who) s MOST_ROUNDS t
+IsPartOf s (Until who set goal) t = IsTurnedPart (Until who set goal) (named s.rehearsal.setting.members who) s MOST_ROUNDS t
 IsPartOf s _ t = t ≡ s

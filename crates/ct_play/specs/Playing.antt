@@ -7,7 +7,7 @@ use Rattle.ct_grammar.specs.declared.play.Play.TheVariants.{Act, Stated, Turns, 
 use Rattle.ct_grammar.specs.declared.question.Question.{Question}
 use Rattle.ct_grammar.specs.declared.question.Question.TheVariants.{Enabled, Next, State, Waiting, Report, Record, Limits}
 use Rattle.ct_play.specs.Acting.{acted}
-use Rattle.ct_play.specs.Facts.{expected}
+use Rattle.ct_play.specs.Expecting.{expected}
 use Rattle.ct_play.specs.Played.{Played}
 use Rattle.ct_play.specs.Stating.{stated}
 use Rattle.ct_play.specs.Turning.{reached, settled, turned}
@@ -34,8 +34,8 @@ played s (Act who act) = acted s who act
 played s (Stated who act text) = stated s who act text
 played s (Turns who n set) = turned s (Turns who n set) who n
 played s (Settle who set) = settled s (Settle who set) who
-played s (Until who set aim fact) = reached s (Until who set aim fact) who aim fact
+played s (Until who set goal) = reached s (Until who set goal) who goal
 played s (Cut sides) = Ok (record s { sides = sides })
 played s Heal = Ok (record s { sides = whole })
-played s (Expect who fact) = expected s who fact
+played s (Expect goal) = expected s goal
 played s (Ask question) = asked s question

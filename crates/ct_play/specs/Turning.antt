@@ -1,17 +1,18 @@
 -- Turns as a driver makes them, where it is given whom the failure detector suspects.
-use Rattle.std.specs.Prelude.{ℕ, zero, suc, ◌-◌, ◌==◌, Bool, false, List, [], Option, Some, None, Result, Ok, Err, fold, is_none, length}
+use Rattle.std.specs.Prelude.{ℕ, zero, suc, ◌-◌, ◌==◌, Bool, false, List, [], Option, Some, None, Result, Ok, Err, fold, length}
 use Rattle.std.specs.Prelude.{if◌then◌else◌}
 use Rattle.ct_names.specs.MemberSet.{has_member}
 use Rattle.ct_model.specs.declared.step.Step.{Step}
 use Rattle.ct_detect.specs.declared.ask.Ask.{Ask}
 use Rattle.ct_rehearse.specs.Choices.{after_try, ask_of, question, tried}
-use Rattle.ct_grammar.specs.declared.fact.Fact.{Fact}
+use Rattle.ct_grammar.specs.declared.goal.Goal.{Goal}
 use Rattle.ct_grammar.specs.declared.play.Play.{Play}
 use Rattle.ct_grammar.specs.declared.play.Play.TheVariants.{Turns, Settle, Until}
 use Rattle.ct_grammar.specs.declared.who.Who.{Who}
 use Rattle.ct_play.specs.Acting.{go_on}
 use Rattle.ct_play.specs.Cuts.{near}
-use Rattle.ct_play.specs.Facts.{expected_of, unmet}
+use Rattle.ct_play.specs.Expecting.{all_known, expected_of}
+use Rattle.ct_play.specs.Goals.{shows}
 use Rattle.ct_play.specs.Played.{Played, with_record}
 use Rattle.ct_play.specs.Who.{known, named}
 use Rattle.ct_play.specs.declared.line_fault.LineFault.{LineFault}
@@ -24,12 +25,12 @@ use Rattle.ct_play.specs.declared.turning.TheConstants.{MOST_ROUNDS}
 abbrev pub suspected_by : Play → List ℕ
 suspected_by (Turns who n set) = set
 suspected_by (Settle who set) = set
-suspected_by (Until who set aim fact) = set
+suspected_by (Until who set goal) = set
 suspected_by _ = []
 
--- the line's turns have come to their end: its fact holds of each
+-- the line's turns have come to their end: its goal holds
 abbrev pub has_ended : Played → Play → Bool
-has_ended s (Until who set aim fact) = is_none (unmet s (named s.rehearsal.setting.members aim) fact)
+has_ended s (Until who set goal) = shows goal s
 has_ended s _ = false
 
 -- the answer to a question: yes where the coordinator that is asked about is among these
@@ -84,13 +85,13 @@ rested play ps s =
 unfoldable pub settled : Played → Play → Who → Result Played LineFault
 settled s play who = go_on (known s.rehearsal.setting.members who) (λ ps. rested play ps s)
 
--- turns until the fact holds of each: after as many rounds as there may be it has to hold. Once it does no turn does anything
-unfoldable pub reached : Played → Play → Who → Who → Fact → Result Played LineFault
-reached s play who aim fact =
+-- turns until the goal holds: after as many rounds as there may be it has to hold. Once it does no turn does anything
+unfoldable pub reached : Played → Play → Who → Goal → Result Played LineFault
+reached s play who goal =
     go_on (known s.rehearsal.setting.members who)
-    (λ ps. go_on (known s.rehearsal.setting.members aim) (λ qs. expected_of (after_rounds play ps s MOST_ROUNDS) qs fact))
+    (λ ps. go_on (all_known s.rehearsal.setting.members goal) (λ _. expected_of (after_rounds play ps s MOST_ROUNDS) goal))
 
--- the stage on which the line looks at its fact: the one after its turns, where it makes turns until the fact holds
+-- the stage on which the line looks at its goal: the one after its turns, where it makes turns until the goal holds
 unfoldable pub ended : Played → Play → Played
-ended s (Until who set aim fact) = after_rounds (Until who set aim fact) (named s.rehearsal.setting.members who) s MOST_ROUNDS
+ended s (Until who set goal) = after_rounds (Until who set goal) (named s.rehearsal.setting.members who) s MOST_ROUNDS
 ended s _ = s

@@ -21,8 +21,8 @@ use std::alloc::Global;
 
 // ---- a step
 
-// The step that the member takes, of an act of several steps the first.
-pub(crate) fn step_of(stage: &Stage, member: Member, act: Act) -> Result<Step, LineFault>
+/// The step that the member takes, of an act of several steps the first.
+pub fn step_of(stage: &Stage, member: Member, act: Act) -> Result<Step, LineFault>
     ensures { result ≡ step_of stage.now.rehearsal member act }
 {
     match act {

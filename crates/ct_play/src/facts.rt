@@ -1,6 +1,6 @@
-//! What lines expect of members, and what is there.
+//! What facts say of members, and what is there.
 
-ghost use Rattle.std.specs.Prelude.{◌≡◌, Ok, OnOk, IfOk, IfErr, IsTrue, decimal, is_some};
+ghost use Rattle.std.specs.Prelude.{◌≡◌, OnOk, IfOk, IsTrue, decimal, is_some};
 ghost use Rattle.ct_records.specs.Adds.{Adds};
 ghost use Rattle.ct_names.specs.Group.{is_member};
 ghost use Rattle.ct_model.specs.Received.{received_by};
@@ -9,17 +9,15 @@ ghost use Rattle.ct_model.specs.State.{delivered};
 ghost use Rattle.ct_table.specs.Table.{table};
 ghost use Rattle.ct_world.specs.World.{member_of};
 ghost use Rattle.ct_records.specs.Report.{decisions_text, messages_text, table_text};
-ghost use Rattle.ct_play.specs.Facts.{act_cause, barred_text, cause_text, estimate_text, expected, expected_of, holds, open_text};
-ghost use Rattle.ct_play.specs.Facts.{place_text, round_text, set_text, step_cause, there, unmet, up_text, value, waits_text, wanted, word};
-ghost use Rattle.ct_play.specs.Faults.{IsFaultOf};
+ghost use Rattle.ct_play.specs.Facts.{act_cause, barred_text, cause_text, estimate_text, holds, open_text};
+ghost use Rattle.ct_play.specs.Facts.{place_text, round_text, set_text, step_cause, there, up_text, value, waits_text, wanted, word};
 
 use crate::acting::step_of;
 use crate::cuts::barred;
 use crate::line_fault::LineFault;
-use crate::naming::known;
 use crate::picking::{is_waiting, waiting_at};
 use crate::stage::Stage;
-use ct_grammar::{Fact, Who};
+use ct_grammar::Fact;
 use ct_model::{Phase, Step};
 use ct_names::{Member, MemberSet, Refusal, Round};
 use ct_records::{push_decisions, push_messages, push_table};
@@ -29,52 +27,14 @@ use std::alloc::{AllocError, Global};
 
 // ---- what is expected
 
-// The fact has to hold of each of these, which have to be members of the group.
-#[tactic(auto, unfolding(crate::specs::Facts::expected))]
-pub(crate) fn expect(alloc: Global, stage: &Stage, who: Who, fact: &Fact) -> Result<(), LineFault>
-    ensures ok { OnOk result (expected stage.now who fact.now ≡ Ok stage.now) }
-    ensures err { IfErr result (IsFaultOf (expected stage.now who fact.now)) }
-{
-    let members = known(alloc, stage.world().group(), who)?;
-    expect_of(alloc, stage, &members, fact)
-}
-
-// The fact has to hold of each of these.
-pub(crate) fn expect_of(
-    alloc: Global,
-    stage: &Stage,
-    members: &[Member],
-    fact: &Fact,
-) -> Result<(), LineFault>
-    ensures ok { OnOk result (expected_of stage.now members.now fact.now ≡ Ok stage.now) }
-    ensures err { IfErr result (IsFaultOf (expected_of stage.now members.now fact.now)) }
-{
-    match unmet(alloc, stage, members, fact)? {
-        None => Ok(()),
-        Some(member) => Err(LineFault::NotMet(member)),
-    }
-}
-
-// The first of these of which the fact does not hold.
-pub(crate) fn unmet(
-    alloc: Global,
-    stage: &Stage,
-    members: &[Member],
-    fact: &Fact,
-) -> Result<Option<Member>, AllocError>
-    ensures { IfOk result (λ first. first ≡ unmet stage.now members.now fact.now) }
-{
-    for member in members {
-        if !holds(alloc, stage, *member, fact)? {
-            return Ok(Some(*member));
-        }
-    }
-    Ok(None)
-}
-
 // Whether the fact holds of the member, which has to be one of the group's.
 #[tactic(auto, unfolding(crate::specs::Facts::holds))]
-fn holds(alloc: Global, stage: &Stage, member: Member, fact: &Fact) -> Result<bool, AllocError>
+pub(crate) fn holds(
+    alloc: Global,
+    stage: &Stage,
+    member: Member,
+    fact: &Fact,
+) -> Result<bool, AllocError>
     ensures { IfOk result (λ met. met ≡ holds stage.now member fact.now) }
 {
     if !stage.world().group().has(member) {

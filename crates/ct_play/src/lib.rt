@@ -2,8 +2,11 @@
 #![tactic(auto)]
 
 mod acting;
+mod claims;
 mod cuts;
+mod expecting;
 mod facts;
+mod goals;
 mod line_fault;
 mod naming;
 mod picking;
@@ -11,12 +14,18 @@ mod playing;
 mod stage;
 mod stating;
 mod turning;
+mod watch;
 
+pub use acting::step_of;
+pub use claims::amount_of;
 pub use cuts::first_near;
+pub use expecting::unmet;
 pub use facts::{push_there, push_wanted};
+pub use goals::shows;
 pub use line_fault::LineFault;
 pub use picking::{carried_of, picked, repeated, waiting_at};
 pub use playing::play;
 pub use stage::Stage;
 pub use stating::{push_came_to, push_outcome};
 pub use turning::{MOST_ROUNDS, ended};
+pub use watch::Watch;

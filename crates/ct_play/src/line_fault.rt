@@ -27,8 +27,8 @@ pub enum LineFault {
     Across(Member, Serial),
     /// The step is refused.
     Refused(Step, Refusal),
-    /// What is expected is not there at the member.
-    NotMet(Member),
+    /// What is expected does not hold; the first member by which it does not, if it is one.
+    NotMet(Option<Member>),
     /// Something moved in each round of as many as there may be.
     Restless,
     /// What the member did is not what is stated.

@@ -196,13 +196,13 @@ fn is_to(member: Member, letter: Option<Letter>) -> bool
 
 // Whether the envelope of the serial is so named.
 #[tactic(auto, unfolding(crate::specs::Picking::is_so))]
-fn is_so(stage: &Stage, carried: Carried, from: Option<Member>, serial: Serial) -> bool
+pub(crate) fn is_so(stage: &Stage, carried: Carried, from: Option<Member>, serial: Serial) -> bool
     ensures { result ≡ is_so stage.now.rehearsal carried from serial }
 {
     is_carried(carried, stage.world().letter(serial)) && is_from(from, stage.sender(serial))
 }
 
-fn is_carried(carried: Carried, letter: Option<Letter>) -> bool
+pub(crate) fn is_carried(carried: Carried, letter: Option<Letter>) -> bool
     ensures { result ≡ is_carried carried letter }
 {
     match letter {

@@ -7,7 +7,7 @@ ghost use Rattle.ct_play.specs.Playing.{asked, asked_of, played};
 ghost use Rattle.ct_play.specs.Parts.{IsPartOf};
 
 use crate::acting::act;
-use crate::facts::expect;
+use crate::expecting::expect;
 use crate::line_fault::LineFault;
 use crate::stage::Stage;
 use crate::stating::state;
@@ -47,10 +47,10 @@ fn play_on(alloc: Global, stage: &mut Stage, play: &Play) -> Result<(), LineFaul
         Play::Stated(who, what, said) => state(alloc, stage, who, what, said),
         Play::Turns(who, count, _) => turns(alloc, stage, play, *who, *count),
         Play::Settle(who, _) => settle(alloc, stage, play, *who),
-        Play::Until(who, _, aim, fact) => reach(alloc, stage, play, *who, *aim, fact),
+        Play::Until(who, _, goal) => reach(alloc, stage, play, *who, goal),
         Play::Cut(sides) => cut(stage, *sides),
         Play::Heal => cut(stage, Sides::whole()),
-        Play::Expect(who, fact) => expect(alloc, stage, *who, fact),
+        Play::Expect(goal) => expect(alloc, stage, goal),
         Play::Ask(question) => ask(stage, *question),
     }
 }

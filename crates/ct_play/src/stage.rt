@@ -1,6 +1,6 @@
 //! A world, whose step sent each of its envelopes, and how its group is cut.
 
-ghost use Rattle.std.specs.Prelude.{◌≡◌, ◌≤◌, ◌++◌, [], Ok, OnOk, OnErr, IfOk, IfErr, length, replicate, slice_get};
+ghost use Rattle.std.specs.Prelude.{◌≡◌, ◌≤◌, ◌++◌, [], None, Ok, OnOk, OnErr, IfOk, IfErr, length, replicate, slice_get};
 ghost use Rattle.ct_model.specs.Senders.{senders};
 ghost use Rattle.ct_world.specs.Setup.{record_of};
 ghost use Rattle.ct_grammar.specs.Sides.{whole};
@@ -71,9 +71,10 @@ impl Stage {
         self.stage.world()
     }
 
-    /// The world alone.
+    /// The world alone. No step is prepared in it.
     pub fn into_world(self) -> World
-        ensures { result.rehearsal ≡ self.rehearsal }
+        ensures rehearsal { result.rehearsal ≡ self.rehearsal }
+        ensures none { result.prepared ≡ None }
     {
         let Stage {
             alloc: _,
@@ -166,7 +167,7 @@ impl Stage {
     }
 
     // A stage with so many first steps.
-    fn first(&self, count: usize) -> Result<Stage, LineFault>
+    pub(crate) fn first(&self, count: usize) -> Result<Stage, LineFault>
         requires { count ≤ length self.now.rehearsal.steps }
         ensures ok { IfOk result (λ stage. stage ≡ first_part self.now count) }
         ensures err { IfErr result (λ fault. fault ≡ LineFault.OutOfMemory) }

@@ -2,7 +2,7 @@
 
 ghost use Rattle.std.specs.Prelude.{◌≡◌, false, not, Ok, Some, OnOk, OnErr, IfOk, IfErr};
 ghost use Rattle.ct_rehearse.specs.Choices.{question};
-ghost use Rattle.ct_play.specs.Facts.{expected_of};
+ghost use Rattle.ct_play.specs.Expecting.{all_known, expected_of};
 ghost use Rattle.ct_play.specs.Faults.{IsFaultOf, IsShort};
 ghost use Rattle.ct_play.specs.Parts.{IsTurnedByFirst, IsTurnedPart};
 ghost use Rattle.ct_play.specs.Played.{IsLater};
@@ -11,12 +11,13 @@ ghost use Rattle.ct_play.specs.Turning.{rested, settled, suspected_by, suspects,
 ghost use Rattle.ct_play.specs.Who.{named};
 
 use crate::cuts::near;
-use crate::facts::{expect_of, unmet};
+use crate::expecting::{all_known, expect_of};
+use crate::goals::shows;
 use crate::line_fault::LineFault;
 use crate::naming::{known, named};
 use crate::stage::Stage;
 use ct_detect::Ask;
-use ct_grammar::{Fact, Play, Who};
+use ct_grammar::{Goal, Play, Who};
 use ct_model::Step;
 use ct_names::{Member, MemberSet};
 use ct_rehearse::{choice, question};
@@ -86,7 +87,7 @@ fn suspected_by(play: &Play) -> MemberSet
     match play {
         Play::Turns(_, _, suspected) => *suspected,
         Play::Settle(_, suspected) => *suspected,
-        Play::Until(_, suspected, _, _) => *suspected,
+        Play::Until(_, suspected, _) => *suspected,
         _ => MemberSet::new(),
     }
 }
@@ -96,10 +97,7 @@ fn has_ended(alloc: Global, stage: &Stage, play: &Play) -> Result<bool, AllocErr
     ensures { IfOk result (λ ended. ended ≡ has_ended stage.now play.now) }
 {
     match play {
-        Play::Until(_, _, aim, fact) => {
-            let members = named(alloc, stage.world().group(), *aim)?;
-            Ok(unmet(alloc, stage, &members, fact)?.is_none())
-        }
+        Play::Until(_, _, goal) => shows(alloc, stage, goal),
         _ => Ok(false),
     }
 }
@@ -214,28 +212,27 @@ fn rest(alloc: Global, stage: &mut Stage, play: &Play, members: &[Member]) -> Re
     }
 }
 
-// Turns of these members until the fact holds of each of the others.
+// Turns of these members until the goal holds.
 #[tactic(auto, using(crate::proofs::Parts::turned_parts), unfolding(crate::specs::Turning::reached))]
 pub(crate) fn reach(
     alloc: Global,
     stage: &mut Stage,
     play: &Play,
     who: Who,
-    aim: Who,
-    fact: &Fact,
+    goal: &Goal,
 ) -> Result<(), LineFault>
-    ensures ok { OnOk result (reached stage.old play.now who aim fact.now ≡ Ok stage.new) }
-    ensures err { IfErr result (IsFaultOf (reached stage.old play.now who aim fact.now)) }
+    ensures ok { OnOk result (reached stage.old play.now who goal.now ≡ Ok stage.new) }
+    ensures err { IfErr result (IsFaultOf (reached stage.old play.now who goal.now)) }
     ensures part { OnErr result (IsTurnedPart play.now (named stage.old.rehearsal.setting.members who) stage.old MOST_ROUNDS stage.new) }
     ensures later { IsLater stage.old stage.new }
 {
     let members = known(alloc, stage.world().group(), who)?;
-    let aimed = known(alloc, stage.world().group(), aim)?;
+    all_known(alloc, stage.world().group(), goal)?;
     rounds(alloc, stage, play, &members, MOST_ROUNDS)?;
-    expect_of(alloc, stage, &aimed, fact)
+    expect_of(alloc, stage, goal)
 }
 
-/// The stage on which the line looks at its fact, made anew: the one after its turns, where it makes turns until the fact holds.
+/// The stage on which the line looks at its goal, made anew: the one after its turns, where it makes turns until the goal holds.
 /// A line that is refused leaves the stage as it was, so what was there instead is found here.
 #[tactic(auto, unfolding(crate::specs::Turning::ended))]
 pub fn ended(alloc: Global, stage: &Stage, play: &Play) -> Result<Stage, LineFault>
@@ -243,7 +240,7 @@ pub fn ended(alloc: Global, stage: &Stage, play: &Play) -> Result<Stage, LineFau
     ensures err { IfErr result IsShort }
 {
     let mut end = stage.again()?;
-    if let Play::Until(who, _, _, _) = play {
+    if let Play::Until(who, _, _) = play {
         let members = named(alloc, end.world().group(), *who)?;
         rounds(alloc, &mut end, play, &members, MOST_ROUNDS)?;
     }

@@ -25,7 +25,8 @@ use Rattle.ct_grammar.specs.declared.who.Who.{Who}
 use Rattle.ct_grammar.specs.declared.who.Who.TheVariants.{One, Some as Several, All}
 use Rattle.ct_grammar.specs.Facts.{phase_of, short_fact, ended, lone_act, lone_pick, lone_whole, phase_first, reason_first, refusal_of}
 use Rattle.ct_grammar.specs.Facts.{act_fact}
-use Rattle.ct_grammar.specs.Facts.{number_fact, lone_set, some_words, quotes_words, quotable, text_fact, quoted_fact, named_fact, fact_of}
+use Rattle.ct_grammar.specs.Facts.{number_fact, lone_set, some_words, quotes_words, quotable, text_fact, quoted_fact, named_fact}
+use Rattle.ct_grammar.specs.Goals.{is_and}
 use Rattle.ct_grammar.specs.Leading.{over}
 use Rattle.ct_grammar.specs.Numbers.{max_u8, max_u32, members_of, has_comma}
 use Rattle.ct_grammar.specs.Reasons.{reason_text, full_of, step_reason, reason_of}
@@ -64,7 +65,7 @@ some_of text h = go (words_of text) refl
 
 -- ---- members
 
-list_back : (set : List ℕ) → IsSomeSet set → (has_comma (list_text set) ≡ true) × (members_of (list_text set) ≡ Some set)
+pub list_back : (set : List ℕ) → IsSomeSet set → (has_comma (list_text set) ≡ true) × (members_of (list_text set) ≡ Some set)
 unfolding list_text set_text
 list_back [] h = absurd (omega (arith, h.some))
 list_back (p ∷ []) h =
@@ -130,54 +131,78 @@ reason_back (Rules Board) h = absurd (h.board refl)
 reason_back (Rules NotSent) h = refl
 reason_back (Rules StillWaiting) h = refl
 
-reason_word : (reason : Reason) → (is_word (reason_text reason) ≡ true) × (bytes_eq (reason_text reason) (codes "from") ≡ false)
-reason_word NotThere = (refl, refl)
-reason_word Across = (refl, refl)
-reason_word (Rules NoSuchMember) = (refl, refl)
-reason_word (Rules IsCrashed) = (refl, refl)
-reason_word (Rules NotWaiting) = (refl, refl)
-reason_word (Rules Busy) = (refl, refl)
-reason_word (Rules Nothing) = (refl, refl)
-reason_word (Rules IsIdle) = (refl, refl)
-reason_word (Rules WrongPhase) = (refl, refl)
-reason_word (Rules IsDecided) = (refl, refl)
-reason_word (Rules TooFew) = (refl, refl)
-reason_word (Rules NotLargest) = (refl, refl)
-reason_word (Rules NoProposal) = (refl, refl)
-reason_word (Rules HasProposal) = (refl, refl)
-reason_word (Rules Undecided) = (refl, refl)
-reason_word (Rules BadCommand) = (refl, refl)
-reason_word (Rules (Full Submissions)) = (refl, refl)
-reason_word (Rules (Full Instances)) = (refl, refl)
-reason_word (Rules (Full Rounds)) = (refl, refl)
-reason_word (Rules (Full Envelopes)) = (refl, refl)
-reason_word (Rules (Full Cells)) = (refl, refl)
-reason_word (Rules (Full Steps)) = (refl, refl)
-reason_word (Rules OutOfMemory) = (refl, refl)
-reason_word (Rules Board) = (refl, refl)
-reason_word (Rules NotSent) = (refl, refl)
-reason_word (Rules StillWaiting) = (refl, refl)
+pub reason_word : (reason : Reason) → (is_word (reason_text reason) ≡ true) × (bytes_eq (reason_text reason) (codes "from") ≡ false)
+    × (is_and (reason_text reason) ≡ false)
+reason_word NotThere = (refl, refl, refl)
+reason_word Across = (refl, refl, refl)
+reason_word (Rules NoSuchMember) = (refl, refl, refl)
+reason_word (Rules IsCrashed) = (refl, refl, refl)
+reason_word (Rules NotWaiting) = (refl, refl, refl)
+reason_word (Rules Busy) = (refl, refl, refl)
+reason_word (Rules Nothing) = (refl, refl, refl)
+reason_word (Rules IsIdle) = (refl, refl, refl)
+reason_word (Rules WrongPhase) = (refl, refl, refl)
+reason_word (Rules IsDecided) = (refl, refl, refl)
+reason_word (Rules TooFew) = (refl, refl, refl)
+reason_word (Rules NotLargest) = (refl, refl, refl)
+reason_word (Rules NoProposal) = (refl, refl, refl)
+reason_word (Rules HasProposal) = (refl, refl, refl)
+reason_word (Rules Undecided) = (refl, refl, refl)
+reason_word (Rules BadCommand) = (refl, refl, refl)
+reason_word (Rules (Full Submissions)) = (refl, refl, refl)
+reason_word (Rules (Full Instances)) = (refl, refl, refl)
+reason_word (Rules (Full Rounds)) = (refl, refl, refl)
+reason_word (Rules (Full Envelopes)) = (refl, refl, refl)
+reason_word (Rules (Full Cells)) = (refl, refl, refl)
+reason_word (Rules (Full Steps)) = (refl, refl, refl)
+reason_word (Rules OutOfMemory) = (refl, refl, refl)
+reason_word (Rules Board) = (refl, refl, refl)
+reason_word (Rules NotSent) = (refl, refl, refl)
+reason_word (Rules StillWaiting) = (refl, refl, refl)
 
 -- ---- facts
 
+abbrev pub fact_name : Fact → Word
+fact_name Up = codes "up"
+fact_name Crashed = codes "crashed"
+fact_name Idle = codes "idle"
+fact_name (Instance i) = codes "instance"
+fact_name (Round r) = codes "round"
+fact_name (InPhase phase) = codes "phase"
+fact_name (Received quoted) = codes "received"
+fact_name (Decided quoted) = codes "decided"
+fact_name (Delivered quoted) = codes "delivered"
+fact_name (Table quoted) = codes "table"
+fact_name (Refuses act reason) = codes "refuses"
+fact_name (May act) = codes "may"
+fact_name (Waiting n) = codes "waiting"
+fact_name (Waits pick) = codes "waits"
+fact_name (Heard quoted) = codes "heard"
+fact_name (Acked quoted) = codes "acked"
+fact_name (Estimate quoted) = codes "estimate"
+
+-- the words behind the name
+abbrev pub fact_rest : Fact → List Word
+fact_rest Up = []
+fact_rest Crashed = []
+fact_rest Idle = []
+fact_rest (Instance i) = decimal i ∷ []
+fact_rest (Round r) = decimal r ∷ []
+fact_rest (InPhase phase) = phase_word phase ∷ []
+fact_rest (Received quoted) = words_of quoted
+fact_rest (Decided quoted) = words_of quoted
+fact_rest (Delivered quoted) = words_of quoted
+fact_rest (Table quoted) = words_of quoted
+fact_rest (Refuses act reason) = act_words act ++ (reason_text reason ∷ [])
+fact_rest (May act) = act_words act
+fact_rest (Waiting n) = decimal n ∷ []
+fact_rest (Waits pick) = pick_words pick
+fact_rest (Heard quoted) = quoted ∷ []
+fact_rest (Acked quoted) = quoted ∷ []
+fact_rest (Estimate quoted) = words_of quoted
+
 abbrev pub fact_words : Fact → List Word
-fact_words Up = codes "up" ∷ []
-fact_words Crashed = codes "crashed" ∷ []
-fact_words Idle = codes "idle" ∷ []
-fact_words (Instance i) = codes "instance" ∷ decimal i ∷ []
-fact_words (Round r) = codes "round" ∷ decimal r ∷ []
-fact_words (InPhase phase) = codes "phase" ∷ phase_word phase ∷ []
-fact_words (Received quoted) = codes "received" ∷ words_of quoted
-fact_words (Decided quoted) = codes "decided" ∷ words_of quoted
-fact_words (Delivered quoted) = codes "delivered" ∷ words_of quoted
-fact_words (Table quoted) = codes "table" ∷ words_of quoted
-fact_words (Refuses act reason) = codes "refuses" ∷ (act_words act ++ (reason_text reason ∷ []))
-fact_words (May act) = codes "may" ∷ act_words act
-fact_words (Waiting n) = codes "waiting" ∷ decimal n ∷ []
-fact_words (Waits pick) = codes "waits" ∷ pick_words pick
-fact_words (Heard quoted) = codes "heard" ∷ quoted ∷ []
-fact_words (Acked quoted) = codes "acked" ∷ quoted ∷ []
-fact_words (Estimate quoted) = codes "estimate" ∷ words_of quoted
+fact_words fact = fact_name fact ∷ fact_rest fact
 
 pub fact_reads : (fact : Fact) → FactFits fact → Reads (fact_text fact) (fact_words fact)
 unfolding fact_text
@@ -190,10 +215,10 @@ fact_reads (InPhase Rest) h = led (codes "phase") _ _ refl (said (codes "Rest") 
 fact_reads (InPhase Gather) h = led (codes "phase") _ _ refl (said (codes "Gather") refl)
 fact_reads (InPhase Wait) h = led (codes "phase") _ _ refl (said (codes "Wait") refl)
 fact_reads (InPhase Tally) h = led (codes "phase") _ _ refl (said (codes "Tally") refl)
-fact_reads (Received quoted) h = led (codes "received") _ _ refl (quoted_reads quoted h)
-fact_reads (Decided quoted) h = led (codes "decided") _ _ refl (quoted_reads quoted h)
-fact_reads (Delivered quoted) h = led (codes "delivered") _ _ refl (quoted_reads quoted h)
-fact_reads (Table quoted) h = led (codes "table") _ _ refl (quoted_reads quoted h)
+fact_reads (Received quoted) h = led (codes "received") _ _ refl (quoted_reads quoted h.quotable)
+fact_reads (Decided quoted) h = led (codes "decided") _ _ refl (quoted_reads quoted h.quotable)
+fact_reads (Delivered quoted) h = led (codes "delivered") _ _ refl (quoted_reads quoted h.quotable)
+fact_reads (Table quoted) h = led (codes "table") _ _ refl (quoted_reads quoted h.quotable)
 fact_reads (Refuses act reason) h =
     led (codes "refuses") _ _ refl
     (beside _ (reason_text reason) (act_words act) (reason_text reason ∷ []) (act_reads act h.0)
@@ -203,9 +228,9 @@ fact_reads (Waiting n) h = led (codes "waiting") _ _ refl (number_reads max_u32 
 fact_reads (Waits pick) h = led (codes "waits") _ _ refl (pick_reads pick h)
 fact_reads (Heard quoted) h = led (codes "heard") _ _ refl (set_text_reads quoted h)
 fact_reads (Acked quoted) h = led (codes "acked") _ _ refl (set_text_reads quoted h)
-fact_reads (Estimate quoted) h = led (codes "estimate") _ _ refl (quoted_reads quoted h)
+fact_reads (Estimate quoted) h = led (codes "estimate") _ _ refl (quoted_reads quoted h.quotable)
 
-alone_back : (n : ℕ) (what : _) → n ≤ max_u32 → lone_whole what (decimal n ∷ []) ≡ Ok n
+pub alone_back : (n : ℕ) (what : _) → n ≤ max_u32 → lone_whole what (decimal n ∷ []) ≡ Ok n
 unfolding lone_whole over
 alone_back n what h = rw (whole_is_first n what [] h) refl
 
@@ -223,8 +248,8 @@ unfolding refusal_of reason_first over
 refusal_back act reason h k =
     rw (act_back act _ (reason_text reason ∷ []) h (reason_word reason).1, reason_back reason k) refl
 
-pub fact_back : (fact : Fact) → FactFits fact → fact_of (fact_words fact) ≡ Ok fact
-unfolding fact_of named_fact quotable quoted_fact quotes_words text_fact number_fact act_fact short_fact phase_first phase_of lone_set over
+pub fact_back : (fact : Fact) → FactFits fact → named_fact (fact_name fact) (fact_rest fact) ≡ Ok fact
+unfolding named_fact quotable quoted_fact quotes_words text_fact number_fact act_fact short_fact phase_first phase_of lone_set over
 fact_back Up h = refl
 fact_back Crashed h = refl
 fact_back Idle h = refl
@@ -234,14 +259,14 @@ fact_back (InPhase Rest) h = refl
 fact_back (InPhase Gather) h = refl
 fact_back (InPhase Wait) h = refl
 fact_back (InPhase Tally) h = refl
-fact_back (Received quoted) h = rw (some_of quoted h, h.words) refl
-fact_back (Decided quoted) h = rw (some_of quoted h, h.words) refl
-fact_back (Delivered quoted) h = rw (some_of quoted h, h.words) refl
-fact_back (Table quoted) h = rw (some_of quoted h, h.words) refl
+fact_back (Received quoted) h = rw (some_of quoted h.quotable, h.quotable.words) refl
+fact_back (Decided quoted) h = rw (some_of quoted h.quotable, h.quotable.words) refl
+fact_back (Delivered quoted) h = rw (some_of quoted h.quotable, h.quotable.words) refl
+fact_back (Table quoted) h = rw (some_of quoted h.quotable, h.quotable.words) refl
 fact_back (Refuses act reason) h = refusal_back act reason h.0 h.1
 fact_back (May act) h = rw (act_alone act h) refl
 fact_back (Waiting n) h = rw (alone_back n _ h) refl
 fact_back (Waits pick) h = rw (pick_alone pick h) refl
 fact_back (Heard quoted) h = rw h.set refl
 fact_back (Acked quoted) h = rw h.set refl
-fact_back (Estimate quoted) h = rw (some_of quoted h, h.words) refl
+fact_back (Estimate quoted) h = rw (some_of quoted h.quotable, h.quotable.words) refl

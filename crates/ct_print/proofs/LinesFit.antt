@@ -1,21 +1,21 @@
 -- Lines that are read can be written.
 use Rattle.std.proofs.Common.{ℕ, ◌≤◌, List, [], ◌∷◌}
-use Rattle.std.specs.Prelude.{codes, Option, Some, None, Result, Ok, Err, IfOk, IfSome}
+use Rattle.std.specs.Prelude.{codes, Option, Some, None, IfOk, IfSome}
 use Rattle.std.specs.Str.{bytes_eq}
 use Rattle.ct_names.specs.declared.limit.TheConstants.{MAX_BOUND, MAX_CELLS, MAX_MEMBERS}
-use Rattle.ct_grammar.specs.declared.line.Line.{Line}
 use Rattle.ct_grammar.specs.declared.who.Who.{Who}
 use Rattle.ct_grammar.specs.Cuts.{cut_of}
 use Rattle.ct_grammar.specs.Leading.{over, member_first, number_first}
-use Rattle.ct_grammar.specs.Turns.{expected_of}
-use Rattle.ct_grammar.specs.Lines.{done_by, played_of, lone_number, heading_of, worded, begun, of_words, told, line_of}
+use Rattle.ct_grammar.specs.Goals.{goal_in}
+use Rattle.ct_grammar.specs.Lines.{done_by, played_of, lone_number, heading_of, named, worded, begun, of_words, line_of}
 use Rattle.ct_grammar.specs.Numbers.{max_u8, has_comma}
 use Rattle.ct_grammar.specs.Questions.{lone_member, short_question, question_of}
 use Rattle.ct_grammar.specs.Who.{who_of}
 use Rattle.ct_grammar.specs.Words.{Word, words_of}
-use Rattle.ct_print.specs.Writable.{WhoFits, PlayFits, QuestionFits, IsWritable}
+use Rattle.ct_print.specs.Writable.{WhoFits, GoalFits, PlayFits, QuestionFits, IsWritable}
 use Rattle.ct_print.proofs.CutsFit.{cut_fits}
-use Rattle.ct_print.proofs.FactsFit.{done_fits, expected_fits}
+use Rattle.ct_print.proofs.GoalsFit.{told_fits, goal_fits}
+use Rattle.ct_print.proofs.TurnsFit.{done_fits}
 use Rattle.ct_print.proofs.Readable.{either, map_fits, then_fits, any_map, any_then}
 use Rattle.ct_print.proofs.Readable.{AreWords, words_behind, who_fits, member_first_fits, number_first_fits}
 use Rattle.ct_print.proofs.TextWords.{words_are_words}
@@ -62,24 +62,28 @@ heading_fits name words g =
     (number_fits 1 MAX_BOUND _ words g) (λ n h. h))
     (map_fits _ _ _ (played_of name words) (played_fits name words g) (λ play h. h))))
 
+named_fits : (name : Word) (words : List Word) → AreWords words → IfOk (named name words) IsWritable
+unfolding named
+named_fits name words g = either _ (has_comma name) _ _ tt (heading_fits name words g)
+
+worded_fits : (words : List Word) → AreWords words → IfOk (worded words) IsWritable
+unfolding worded
+worded_fits [] g = tt
+worded_fits (name ∷ words) g =
+    let rest : AreWords words = words_behind name words g in
+    either _ (bytes_eq name (codes "expect")) _ _ (map_fits GoalFits IsWritable _ (goal_in words) (goal_fits words rest) (λ goal k. k))
+    (told_fits IsWritable (name ∷ words) (named name words) (named_fits name words rest))
+
 words_fit : (words : List Word) → AreWords words → IfOk (of_words words) IsWritable
-unfolding of_words begun worded
+unfolding of_words begun
 words_fit [] g = tt
 words_fit (name ∷ words) g = go (who_of name) (who_fits name)
   where
     go : (who : Option Who) → IfSome who WhoFits → IfOk (begun who name words) IsWritable
-    go None h =
-        either _ (has_comma name) _ _ tt
-        (either _ (bytes_eq name (codes "expect")) _ _ (map_fits _ _ _ (expected_of words)
-        (expected_fits words (words_behind name words g)) (λ e k. k))
-        (heading_fits name words (words_behind name words g)))
+    go None h = worded_fits (name ∷ words) g
     go (Some who) h = map_fits _ _ _ (done_by who words) (done_fits who words h (words_behind name words g)) (λ play k. k)
-
-told_fits : (words : List Word) (r : Result Line _) → IfOk r IsWritable → IfOk (told words r) IsWritable
-told_fits words (Ok line) h = h
-told_fits words (Err unfit) h = tt
 
 -- a line that is read can be written
 pub readable : (bytes : List ℕ) → IfOk (line_of bytes) IsWritable
 unfolding line_of
-readable bytes = told_fits (words_of bytes) (of_words (words_of bytes)) (words_fit (words_of bytes) (words_are_words bytes))
+readable bytes = words_fit (words_of bytes) (words_are_words bytes)

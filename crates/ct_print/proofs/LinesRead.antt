@@ -11,7 +11,7 @@ use Rattle.ct_grammar.specs.declared.act.Act.{Act}
 use Rattle.ct_grammar.specs.declared.act.Act.TheVariants.{Submit, Receive, Begin, Enter, Choose, Adopt, Suspect, Conclude, Deliver}
 use Rattle.ct_grammar.specs.declared.act.Act.TheVariants.{Follow, Crash, Postpone, Lose, Repeat, LoseFrom}
 use Rattle.ct_grammar.specs.declared.carried.Carried.TheVariants.{Data, Est, Prop, Ack, Nack, Dec}
-use Rattle.ct_grammar.specs.declared.fact.Fact.{Fact}
+use Rattle.ct_grammar.specs.declared.goal.Goal.{Goal}
 use Rattle.ct_grammar.specs.declared.given.Given.{Given}
 use Rattle.ct_grammar.specs.declared.given.Given.TheVariants.{Members, Cells, Batch}
 use Rattle.ct_grammar.specs.declared.line.Line.{Line}
@@ -24,23 +24,27 @@ use Rattle.ct_grammar.specs.declared.question.Question.TheVariants.{Enabled, Nex
 use Rattle.ct_grammar.specs.declared.who.Who.{Who}
 use Rattle.ct_grammar.specs.Acts.{command_first, named_command}
 use Rattle.ct_grammar.specs.Leading.{over}
-use Rattle.ct_grammar.specs.Lines.{done_by, played_of, lone_number, heading_of, worded, begun, of_words, line_of}
+use Rattle.ct_grammar.specs.Lines.{settled_or_acted, done_by, played_of, lone_number, heading_of, named, worded, begun, of_words, line_of}
+use Rattle.ct_grammar.specs.Misfits.{told}
 use Rattle.ct_grammar.specs.Numbers.{max_u8, max_u32, number_of, members_of}
 use Rattle.ct_grammar.specs.Questions.{lone_member, short_question, question_of}
 use Rattle.ct_grammar.specs.Stated.{says_value, lone_value, lone_command, carried_statement, pick_statement, statement, taken, acted}
-use Rattle.ct_grammar.specs.Turns.{suspected, set_alone, lone_suspected, counted, expected_of, until_of, turns_of, settle_of}
+use Rattle.ct_grammar.specs.Turns.{suspected, set_alone, lone_suspected, counted, behind_until, watched, until_of, says_until, turns_of}
+use Rattle.ct_grammar.specs.Turns.{settle_of}
 use Rattle.ct_grammar.specs.Who.{who_of}
 use Rattle.ct_grammar.specs.Words.{Word, words_of, text_of, all_words}
 use Rattle.ct_print.specs.Acts.{act_text}
+use Rattle.ct_print.specs.Goals.{goal_text}
 use Rattle.ct_print.specs.Lines.{given_text, question_text, suspecting_text, play_text, line_text}
 use Rattle.ct_print.specs.Members.{set_text, who_text}
-use Rattle.ct_print.specs.Writable.{IsSet, IsSomeSet, WhoFits, ActFits, FactFits, GivenFits, QuestionFits, PlayFits, IsWritable}
+use Rattle.ct_print.specs.Writable.{IsSet, IsSomeSet, WhoFits, ActFits, GoalFits, GivenFits, QuestionFits, PlayFits, IsWritable}
 use Rattle.ct_print.specs.Writable.{IsStatement}
 use Rattle.ct_print.proofs.ActsRead.{number_is_first, member_is_first, whole_is_first, set_is_first, act_back, from_first}
 use Rattle.ct_print.proofs.CutsRead.{cut_words, cut_reads, cut_back}
-use Rattle.ct_print.proofs.FactsRead.{fact_words, fact_reads, fact_back, who_back}
+use Rattle.ct_print.proofs.FactsRead.{who_back}
 use Rattle.ct_print.proofs.Numeric.{decimal_numeric, numeric_other}
 use Rattle.ct_print.proofs.Spoken.{act_words, act_reads, led, said, number_reads, set_reads, quoted_reads, who_reads}
+use Rattle.ct_print.proofs.TermsRead.{goal_words, goal_reads, goal_back}
 use Rattle.ct_print.proofs.TextWords.{Reads, beside, words_from}
 
 -- ---- words
@@ -68,11 +72,10 @@ play_words (Acts who act) = who_text who ∷ act_words act
 play_words (Stated who act quoted) = who_text who ∷ (act_words act ++ words_of quoted)
 play_words (Turns who n set) = who_text who ∷ codes "turns" ∷ decimal n ∷ suspecting_words set
 play_words (Settle who set) = who_text who ∷ codes "settle" ∷ suspecting_words set
-play_words (Until who set whose fact) =
-    who_text who ∷ codes "turns" ∷ (suspecting_words set ++ (codes "until" ∷ who_text whose ∷ fact_words fact))
+play_words (Until who set goal) = who_text who ∷ codes "turns" ∷ (suspecting_words set ++ (codes "until" ∷ goal_words goal))
 play_words (Cut sides) = codes "cut" ∷ cut_words sides
 play_words Heal = codes "heal" ∷ []
-play_words (Expect who fact) = codes "expect" ∷ who_text who ∷ fact_words fact
+play_words (Expect goal) = codes "expect" ∷ goal_words goal
 play_words (Ask question) = question_words question
 
 abbrev pub line_words : Line → List Word
@@ -114,6 +117,10 @@ who_and : (who : Who) (text : List ℕ) (words : List Word) → WhoFits who → 
     Reads (who_text who ++ 32 ∷ text) (who_text who ∷ words)
 who_and who text words h k = beside (who_text who) text (who_text who ∷ []) words (who_reads who h) k
 
+all_reads : (goal : Goal) → GoalFits goal → Reads (goal_text goal) (goal_words goal)
+unfolding goal_text
+all_reads goal h = goal_reads goal h
+
 play_reads : (play : Play) → PlayFits play → Reads (play_text play) (play_words play)
 unfolding play_text
 play_reads (Acts who act) h = who_and who _ _ h.0 (act_reads act h.1)
@@ -125,13 +132,13 @@ play_reads (Turns who n set) h =
     (who_and who _ _ h.0 (led (codes "turns") _ _ refl (number_reads max_u32 n (omega arith) h.1)))
 play_reads (Settle who set) h =
     suspecting_reads _ (who_text who ∷ codes "settle" ∷ []) set h.1 (who_and who _ _ h.0 (said (codes "settle") refl))
-play_reads (Until who set whose fact) h =
+play_reads (Until who set goal) h =
     beside _ _ ((who_text who ∷ codes "turns" ∷ []) ++ suspecting_words set) _
     (suspecting_reads _ (who_text who ∷ codes "turns" ∷ []) set h.1 (who_and who _ _ h.0 (said (codes "turns") refl)))
-    (led (codes "until") _ _ refl (who_and whose _ _ h.2 (fact_reads fact h.3)))
+    (led (codes "until") _ _ refl (all_reads goal h.2))
 play_reads (Cut sides) h = led (codes "cut") _ _ refl (cut_reads sides h)
 play_reads Heal h = said (codes "heal") refl
-play_reads (Expect who fact) h = led (codes "expect") _ _ refl (who_and who _ _ h.0 (fact_reads fact h.1))
+play_reads (Expect goal) h = led (codes "expect") _ _ refl (all_reads goal h)
 play_reads (Ask question) h = question_reads question h
 
 line_reads : (line : Line) → IsWritable line → Reads (line_text line) (line_words line)
@@ -147,8 +154,9 @@ begun_by : (who : Who) (words : List Word) (play : Play) → WhoFits who → don
 unfolding of_words begun
 begun_by who words play h e = rw (who_back who h, e) refl
 
-act_done : (who : Who) (act : Act) (words : List Word) → done_by who (act_words act ++ words) ≡ acted who (act_words act ++ words)
-unfolding done_by
+act_done : (who : Who) (act : Act) (words : List Word) →
+    done_by who (act_words act ++ words) ≡ told (act_words act ++ words) (acted who (act_words act ++ words))
+unfolding done_by settled_or_acted
 act_done who (Submit command) words = refl
 act_done who (Receive pick) words = refl
 act_done who Begin words = refl
@@ -166,9 +174,9 @@ act_done who (Repeat pick) words = refl
 act_done who (LoseFrom set) words = refl
 
 act_taken : (who : Who) (act : Act) (words : List Word) → ActFits act → from_first words ≡ false →
-    done_by who (act_words act ++ words) ≡ taken who act words
+    done_by who (act_words act ++ words) ≡ told (act_words act ++ words) (taken who act words)
 unfolding acted
-act_taken who act words h e = act_done who act words ∙ taking
+act_taken who act words h e = act_done who act words ∙ ap (told (act_words act ++ words)) taking
   where
     taking : acted who (act_words act ++ words) ≡ taken who act words
     taking = rw (act_back act _ words h e) refl
@@ -215,7 +223,8 @@ stated_taken : (who : Who) (act : Act) (quoted : List ℕ) → ActFits act → I
     done_by who (act_words act ++ words_of quoted) ≡ Ok (Stated who act quoted)
 unfolding taken
 stated_taken who act quoted h k =
-    act_taken who act (words_of quoted) h (no_sender act (words_of quoted) k.stated) ∙ go (words_of quoted) refl k.stated
+    act_taken who act (words_of quoted) h (no_sender act (words_of quoted) k.stated)
+    ∙ ap (told (act_words act ++ words_of quoted)) (go (words_of quoted) refl k.stated)
   where
     go : (ws : List Word) → words_of quoted ≡ ws → statement act ws ≡ Ok tt → taken who act ws ≡ Ok (Stated who act quoted)
     go [] e s =
@@ -234,7 +243,7 @@ suspected_alone (p ∷ ps) h = rw (set_is_first (p ∷ ps) [] (some_set p ps h))
 
 turns_taken : (who : Who) (n : ℕ) (set : List ℕ) → n ≤ max_u32 → IsSet set →
     done_by who (codes "turns" ∷ decimal n ∷ suspecting_words set) ≡ Ok (Turns who n set)
-unfolding done_by turns_of counted
+unfolding done_by turns_of says_until counted
 turns_taken who n set h k =
     let numeric = decimal_numeric n (omega arith) in
     rw (
@@ -245,20 +254,15 @@ turns_taken who n set h k =
     ) refl
 
 settle_taken : (who : Who) (set : List ℕ) → IsSet set → done_by who (codes "settle" ∷ suspecting_words set) ≡ Ok (Settle who set)
-unfolding done_by settle_of
+unfolding done_by settled_or_acted settle_of
 settle_taken who set h = rw (suspected_alone set h) refl
 
-expected_back : (who : Who) (fact : Fact) → WhoFits who → FactFits fact → expected_of (who_text who ∷ fact_words fact) ≡ Ok (who, fact)
-unfolding expected_of
-expected_back who fact h k = rw (who_back who h, fact_back fact k) refl
-
-until_taken : (who : Who) (set : List ℕ) (whose : Who) (fact : Fact) → IsSet set → WhoFits whose → FactFits fact →
-    done_by who (codes "turns" ∷ (suspecting_words set ++ (codes "until" ∷ who_text whose ∷ fact_words fact))) ≡ Ok
-    (Until who set whose fact)
-unfolding done_by turns_of suspected until_of
-until_taken who [] whose fact h k l = rw (expected_back whose fact k l) refl
-until_taken who (p ∷ ps) whose fact h k l =
-    rw (set_is_first (p ∷ ps) (codes "until" ∷ who_text whose ∷ fact_words fact) (some_set p ps h), expected_back whose fact k l) refl
+until_taken : (who : Who) (set : List ℕ) (goal : Goal) → IsSet set → GoalFits goal →
+    done_by who (codes "turns" ∷ (suspecting_words set ++ (codes "until" ∷ goal_words goal))) ≡ Ok (Until who set goal)
+unfolding done_by turns_of says_until until_of watched suspected behind_until
+until_taken who [] goal h k = rw (goal_back goal k) refl
+until_taken who (p ∷ ps) goal h k =
+    rw (set_is_first (p ∷ ps) (codes "until" ∷ goal_words goal) (some_set p ps h), goal_back goal k) refl
 
 -- ---- lines
 
@@ -271,13 +275,13 @@ unfolding lone_number over
 number_alone low high n what h l m = rw (number_is_first low high n what [] h l m) refl
 
 given_back : (given : Given) → GivenFits given → of_words (given_words given) ≡ Ok (Gives given)
-unfolding of_words who_of members_of number_of begun worded heading_of
+unfolding of_words who_of members_of number_of begun worded named heading_of
 given_back (Members n) h = rw (number_alone 1 MAX_MEMBERS n _ (omega arith) h.0 h.1) refl
 given_back (Cells n) h = rw (number_alone 0 MAX_CELLS n _ (omega arith) (omega arith) h) refl
 given_back (Batch n) h = rw (number_alone 1 MAX_BOUND n _ (omega arith) h.0 h.1) refl
 
 question_back : (question : Question) → QuestionFits question → of_words (question_words question) ≡ Ok (Plays (Ask question))
-unfolding of_words who_of members_of number_of begun worded heading_of played_of question_of short_question over
+unfolding of_words who_of members_of number_of begun worded named heading_of played_of question_of short_question over
 question_back (Enabled p) h = rw (member_alone p h) refl
 question_back (Next p) h = rw (member_alone p h) refl
 question_back (State p) h = rw (member_alone p h) refl
@@ -287,16 +291,16 @@ question_back Record h = refl
 question_back Limits h = refl
 
 play_back : (play : Play) → PlayFits play → of_words (play_words play) ≡ Ok (Plays play)
-unfolding of_words who_of members_of number_of begun worded heading_of played_of over
+unfolding of_words who_of members_of number_of begun worded named heading_of played_of over
 play_back (Acts who act) h = begun_by who (act_words act) (Acts who act) h.0 (alone_taken who act h.1)
 play_back (Stated who act quoted) h =
     begun_by who (act_words act ++ words_of quoted) (Stated who act quoted) h.0 (stated_taken who act quoted h.1 h.2)
 play_back (Turns who n set) h = begun_by who _ (Turns who n set) h.0 (turns_taken who n set h.1 h.2)
 play_back (Settle who set) h = begun_by who _ (Settle who set) h.0 (settle_taken who set h.1)
-play_back (Until who set whose fact) h = begun_by who _ (Until who set whose fact) h.0 (until_taken who set whose fact h.1 h.2 h.3)
+play_back (Until who set goal) h = begun_by who _ (Until who set goal) h.0 (until_taken who set goal h.1 h.2)
 play_back (Cut sides) h = rw (cut_back sides h) refl
 play_back Heal h = refl
-play_back (Expect who fact) h = rw (expected_back who fact h.0 h.1) refl
+play_back (Expect goal) h = rw (goal_back goal h) refl
 play_back (Ask question) h = question_back question h
 
 line_back : (line : Line) → IsWritable line → of_words (line_words line) ≡ Ok line

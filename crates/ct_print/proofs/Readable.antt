@@ -53,12 +53,12 @@ ok_weaker P Q (Ok x) h f = f x h
 ok_weaker P Q (Err e) h f = tt
 
 -- what f makes of an answer, and what stands behind one
-pub map_fits : {A B : Type 0} (P : A → Type 0) (Q : B → Type 0) (f : A → B) (r : Result A _) → IfOk r P → ((x : A) → P x → Q (f x)) →
+pub map_fits : {A B E : Type 0} (P : A → Type 0) (Q : B → Type 0) (f : A → B) (r : Result A E) → IfOk r P → ((x : A) → P x → Q (f x)) →
     IfOk (map_ok f r) Q
 map_fits P Q f (Ok x) h k = k x h
 map_fits P Q f (Err e) h k = tt
 
-pub then_fits : {A B : Type 0} (P : A → Type 0) (Q : B → Type 0) (r : Result A _) (f : A → Result B _) → IfOk r P →
+pub then_fits : {A B E : Type 0} (P : A → Type 0) (Q : B → Type 0) (r : Result A E) (f : A → Result B E) → IfOk r P →
     ((x : A) → P x → IfOk (f x) Q) → IfOk (r >>= f) Q
 then_fits P Q (Ok x) f h k = k x h
 then_fits P Q (Err e) f h k = tt
@@ -68,11 +68,11 @@ found P None e h = tt
 found P (Some x) e h = h
 
 -- the same, whatever the answer is
-pub any_map : {A B : Type 0} (Q : B → Type 0) (f : A → B) (r : Result A _) → ((x : A) → Q (f x)) → IfOk (map_ok f r) Q
+pub any_map : {A B E : Type 0} (Q : B → Type 0) (f : A → B) (r : Result A E) → ((x : A) → Q (f x)) → IfOk (map_ok f r) Q
 any_map Q f (Ok x) k = k x
 any_map Q f (Err e) k = tt
 
-pub any_then : {A B : Type 0} (Q : B → Type 0) (r : Result A _) (f : A → Result B _) → ((x : A) → IfOk (f x) Q) → IfOk (r >>= f) Q
+pub any_then : {A B E : Type 0} (Q : B → Type 0) (r : Result A E) (f : A → Result B E) → ((x : A) → IfOk (f x) Q) → IfOk (r >>= f) Q
 any_then Q (Ok x) f k = k x
 any_then Q (Err e) f k = tt
 
@@ -109,7 +109,7 @@ number_between low high word =
     go m h true e = (leb-true low m e, h)
     go m h false e = tt
 
-two_within : (at high higher : ℕ) (word : Word) → IfSome (two_numbers at high higher word) (λ r. (r.0 ≤ high) × (r.1 ≤ higher))
+pub two_within : (at high higher : ℕ) (word : Word) → IfSome (two_numbers at high higher word) (λ r. (r.0 ≤ high) × (r.1 ≤ higher))
 unfolding two_numbers
 two_within at high higher word =
     some_bound _ _ (parted at word) (each (parted at word)

@@ -131,7 +131,7 @@ place_reads : (i r : ℕ) → i ≤ max_u32 → r ≤ max_u32 → Reads (place_w
 unfolding place_word
 place_reads i r h k = numeric_reads (decimal i ++ 47 ∷ (decimal r ++ [])) (two_numeric i r 47 (omega arith) (omega arith) refl)
 
-message_reads : (o n : ℕ) → o ≤ max_u8 → n ≤ max_u32 → Reads (message_word o n) (message_word o n ∷ [])
+pub message_reads : (o n : ℕ) → o ≤ max_u8 → n ≤ max_u32 → Reads (message_word o n) (message_word o n ∷ [])
 unfolding message_word
 message_reads o n h k = numeric_reads (decimal o ++ 46 ∷ (decimal n ++ [])) (two_numeric o n 46 (omega arith) (omega arith) refl)
 

@@ -1,6 +1,7 @@
 pub mod Acts
 pub mod Cuts
 pub mod Facts
+pub mod Goals
 pub mod Lines
 pub mod Members
 pub mod Writable

@@ -11,7 +11,7 @@ use Rattle.ct_grammar.specs.declared.question.Question.TheVariants.{Enabled, Nex
 use Rattle.ct_grammar.specs.Words.{text_of}
 use Rattle.ct_print.specs.Acts.{act_text}
 use Rattle.ct_print.specs.Cuts.{sides_text}
-use Rattle.ct_print.specs.Facts.{fact_text}
+use Rattle.ct_print.specs.Goals.{goal_text}
 use Rattle.ct_print.specs.Members.{set_text, who_text}
 
 -- a number of the group
@@ -40,11 +40,11 @@ play_text (Acts who act) = text_of (who_text who ∷ act_text act ∷ [])
 play_text (Stated who act said) = text_of (who_text who ∷ act_text act ∷ said ∷ [])
 play_text (Turns who n set) = text_of (who_text who ∷ codes "turns" ∷ decimal n ∷ []) ++ suspecting_text set
 play_text (Settle who set) = text_of (who_text who ∷ codes "settle" ∷ []) ++ suspecting_text set
-play_text (Until who set whose fact) =
-    text_of ((text_of (who_text who ∷ codes "turns" ∷ []) ++ suspecting_text set) ∷ codes "until" ∷ who_text whose ∷ fact_text fact ∷ [])
+play_text (Until who set goal) =
+    text_of ((text_of (who_text who ∷ codes "turns" ∷ []) ++ suspecting_text set) ∷ codes "until" ∷ goal_text goal ∷ [])
 play_text (Cut sides) = text_of (codes "cut" ∷ sides_text sides ∷ [])
 play_text Heal = codes "heal"
-play_text (Expect who fact) = text_of (codes "expect" ∷ who_text who ∷ fact_text fact ∷ [])
+play_text (Expect goal) = text_of (codes "expect" ∷ goal_text goal ∷ [])
 play_text (Ask question) = question_text question
 
 -- a line

@@ -1,5 +1,6 @@
 -- Which lines can be written: those that some text says.
-use Rattle.std.specs.Prelude.{◌≡◌, ◌≢◌, ◌≤◌, ◌<◌, ℕ, true, List, [], ◌∷◌, length, filter, Ok, IfSome}
+use Rattle.std.specs.Prelude.{◌≡◌, ◌≢◌, ◌≤◌, ◌<◌, ℕ, true, not, List, [], ◌∷◌, length, filter, None, Ok, IfSome, codes}
+use Rattle.std.specs.List.{list_all}
 use Rattle.ct_names.specs.Group.{everyone, IsMember}
 use Rattle.ct_names.specs.MemberSet.{has_member}
 use Rattle.ct_names.specs.declared.command.Command.{Command}
@@ -11,6 +12,13 @@ use Rattle.ct_grammar.specs.declared.act.Act.TheVariants.{Submit, Receive, Begin
 use Rattle.ct_grammar.specs.declared.act.Act.TheVariants.{Follow, Crash, Postpone, Lose, Repeat, LoseFrom}
 use Rattle.ct_grammar.specs.declared.carried.Carried.{Carried}
 use Rattle.ct_grammar.specs.declared.carried.Carried.TheVariants.{Data, Est, Prop, Ack, Nack, Dec}
+use Rattle.ct_grammar.specs.declared.claim.Amount.{Amount}
+use Rattle.ct_grammar.specs.declared.claim.Amount.TheVariants as amount
+use Rattle.ct_grammar.specs.declared.claim.Claim.{Claim}
+use Rattle.ct_grammar.specs.declared.claim.Claim.TheVariants as claims
+use Rattle.ct_grammar.specs.declared.claim.Extent.{Extent}
+use Rattle.ct_grammar.specs.declared.claim.Extent.TheVariants.{Exactly, AtLeast}
+use Rattle.ct_grammar.specs.declared.claim.Name.{Name}
 use Rattle.ct_grammar.specs.declared.fact.Fact.{Fact}
 use Rattle.ct_grammar.specs.declared.fact.Fact.TheVariants.{Up, Crashed, Idle, Instance, Round, Phase as InPhase}
 use Rattle.ct_grammar.specs.declared.fact.Fact.TheVariants.{Received, Decided, Delivered, Table, Refuses, May}
@@ -27,13 +35,18 @@ use Rattle.ct_grammar.specs.declared.question.Question.{Question}
 use Rattle.ct_grammar.specs.declared.question.Question.TheVariants.{Enabled, Next, State, Waiting, Report, Record, Limits}
 use Rattle.ct_grammar.specs.declared.reason.Reason.{Reason}
 use Rattle.ct_grammar.specs.declared.reason.Reason.TheVariants.{Rules}
+use Rattle.ct_grammar.specs.declared.term.Term.{Term}
+use Rattle.ct_grammar.specs.declared.term.Whom.{Whom}
+use Rattle.ct_grammar.specs.declared.term.Whom.TheVariants as whom
 use Rattle.ct_grammar.specs.declared.who.Who.{Who}
 use Rattle.ct_grammar.specs.declared.who.Who.TheVariants.{One, Some as Several, All}
+use Rattle.ct_grammar.specs.Claims.{amount_claim}
 use Rattle.ct_grammar.specs.Facts.{says_set}
+use Rattle.ct_grammar.specs.Goals.{is_and}
 use Rattle.ct_grammar.specs.Numbers.{max_u8, max_u32, max_u64}
 use Rattle.ct_grammar.specs.Sides.{whole, side_of}
 use Rattle.ct_grammar.specs.Stated.{statement}
-use Rattle.ct_grammar.specs.Words.{words_of, text_of}
+use Rattle.ct_grammar.specs.Words.{Word, words_of, text_of}
 
 -- ---- members
 
@@ -67,6 +80,12 @@ IsWord text = words_of text ≡ text ∷ []
 pub record IsQuotable (text : List ℕ) : Type 0 where
   pub words : text_of (words_of text) ≡ text
   pub some : 0 < length text
+
+-- what the fact of this name quotes: no word of it is `and`, and it is no other claim
+pub record IsQuoted (name : Word) (text : List ℕ) : Type 0 where
+  pub quotable : IsQuotable text
+  pub no_and : list_all (λ word. not (is_and word)) (words_of text) ≡ true
+  pub plain : amount_claim name (words_of text) ≡ None
 
 -- a set of members or `-`
 pub record IsSetText (text : List ℕ) : Type 0 where
@@ -128,17 +147,62 @@ FactFits Idle = Unit {0}
 FactFits (Instance i) = i ≤ max_u32
 FactFits (Round r) = r ≤ max_u32
 FactFits (InPhase phase) = Unit {0}
-FactFits (Received quoted) = IsQuotable quoted
-FactFits (Decided quoted) = IsQuotable quoted
-FactFits (Delivered quoted) = IsQuotable quoted
-FactFits (Table quoted) = IsQuotable quoted
+FactFits (Received quoted) = IsQuoted (codes "received") quoted
+FactFits (Decided quoted) = IsQuoted (codes "decided") quoted
+FactFits (Delivered quoted) = IsQuoted (codes "delivered") quoted
+FactFits (Table quoted) = IsQuoted (codes "table") quoted
 FactFits (Refuses act reason) = ActFits act × IsRules reason
 FactFits (May act) = ActFits act
 FactFits (ManyWait n) = n ≤ max_u32
 FactFits (Waits pick) = PickFits pick
 FactFits (Heard quoted) = IsSetText quoted
 FactFits (Acked quoted) = IsSetText quoted
-FactFits (Estimate quoted) = IsQuotable quoted
+FactFits (Estimate quoted) = IsQuoted (codes "estimate") quoted
+
+-- ---- goals
+
+-- what `count` stands behind; an instance, a round or an amount of envelopes that is exactly so is a fact
+abbrev pub IsCounted : Amount → Type 0
+IsCounted amount.Instance = ⊥
+IsCounted amount.Round = ⊥
+IsCounted amount.Waiting = ⊥
+IsCounted amount.Received = Unit {0}
+IsCounted amount.Decided = Unit {0}
+IsCounted amount.Delivered = Unit {0}
+
+abbrev pub AmountFits : Amount → Extent → Type 0
+AmountFits what (Exactly n) = IsCounted what × (n ≤ max_u32)
+AmountFits what (AtLeast n) = n ≤ max_u32
+
+abbrev pub NameFits : Name → Type 0
+NameFits name = (name.origin ≤ max_u8) × (name.number ≤ max_u32)
+
+abbrev pub ClaimFits : Claim → Type 0
+ClaimFits (claims.Fact fact) = FactFits fact
+ClaimFits (claims.Amount what extent) = AmountFits what extent
+ClaimFits (claims.Got i) = i ≤ max_u32
+ClaimFits (claims.Before a b) = NameFits a × NameFits b
+ClaimFits (claims.RefusesChoice reason) = IsRules reason
+ClaimFits claims.SuspectsUp = Unit {0}
+ClaimFits (claims.Follows i) = i ≤ max_u32
+ClaimFits claims.ChoosesUnseen = Unit {0}
+ClaimFits claims.ConcludesAgain = Unit {0}
+
+abbrev pub WhomFits : Whom → Type 0
+WhomFits (whom.One p) = p ≤ max_u8
+WhomFits (whom.Some set) = IsSomeSet set
+WhomFits whom.All = Unit {0}
+WhomFits whom.Any = Unit {0}
+WhomFits whom.Up = Unit {0}
+
+abbrev pub TermFits : Term → Type 0
+TermFits term = WhomFits term.whom × ClaimFits term.claim
+
+-- one term at least
+abbrev pub GoalFits : List Term → Type 0
+GoalFits [] = ⊥
+GoalFits (term ∷ []) = TermFits term
+GoalFits (term ∷ next ∷ terms) = TermFits term × GoalFits (next ∷ terms)
 
 -- ---- lines
 
@@ -161,10 +225,10 @@ PlayFits (Acts who act) = WhoFits who × ActFits act
 PlayFits (Stated who act said) = WhoFits who × ActFits act × IsStatement act said
 PlayFits (Turns who n set) = WhoFits who × (n ≤ max_u32) × IsSet set
 PlayFits (Settle who set) = WhoFits who × IsSet set
-PlayFits (Until who set whose fact) = WhoFits who × IsSet set × WhoFits whose × FactFits fact
+PlayFits (Until who set goal) = WhoFits who × IsSet set × GoalFits goal
 PlayFits (Cut sides) = IsCut sides
 PlayFits Heal = Unit {0}
-PlayFits (Expect who fact) = WhoFits who × FactFits fact
+PlayFits (Expect goal) = GoalFits goal
 PlayFits (Ask question) = QuestionFits question
 
 -- each number is one of its type, each set one of members, each text one that a line can quote

@@ -1,17 +1,15 @@
 //! Lines, as text.
 
-ghost use Rattle.std.specs.Prelude.{◌≡◌, ◌++◌, OnOk, ◌∷◌, [], codes, string_bytes};
-ghost use Rattle.ct_grammar.specs.Words.{text_of};
-ghost use Rattle.ct_print.specs.Facts.{fact_text};
+ghost use Rattle.std.specs.Prelude.{◌≡◌, ◌++◌, OnOk, codes, string_bytes};
 ghost use Rattle.ct_print.specs.Lines.{given_text, line_text, play_text, question_text, suspecting_text};
 ghost use Rattle.ct_grammar.specs.declared.play.Play.TheVariants.{Until};
 ghost use Rattle.ct_print.specs.Members.{set_text, who_text};
 
 use crate::acts::push_act;
 use crate::cuts::push_sides;
-use crate::facts::push_fact;
+use crate::goals::push_goal;
 use crate::members::{push_set, push_who};
-use ct_grammar::{Fact, Given, Line, Play, Question, Who};
+use ct_grammar::{Given, Goal, Line, Play, Question, Who};
 use ct_names::MemberSet;
 use std::alloc::AllocError;
 
@@ -66,15 +64,15 @@ fn push_play(text: &mut String, play: &Play) -> Result<(), AllocError>
             text.push_str("settle")?;
             push_suspecting(text, *set)
         }
-        Play::Until(who, set, whose, fact) => push_until(text, *who, *set, *whose, fact),
+        Play::Until(who, set, goal) => push_until(text, *who, *set, goal),
         Play::Cut(sides) => {
             text.push_str("cut ")?;
             push_sides(text, sides)
         }
         Play::Heal => text.push_str("heal"),
-        Play::Expect(who, fact) => {
+        Play::Expect(goal) => {
             text.push_str("expect ")?;
-            push_expected(text, *who, fact)
+            push_goal(text, goal)
         }
         Play::Ask(question) => push_question(text, *question),
     }
@@ -88,30 +86,16 @@ fn push_whose(text: &mut String, who: Who) -> Result<(), AllocError>
     text.push_str(" ")
 }
 
-// Members, and what is expected of them.
-fn push_expected(text: &mut String, who: Who, fact: &Fact) -> Result<(), AllocError>
-    ensures { OnOk result (string_bytes text.new ≡ string_bytes text.old ++ text_of (who_text who ∷ fact_text fact.now ∷ [])) }
-{
-    push_whose(text, who)?;
-    push_fact(text, fact)
-}
-
-// Turns until a fact holds.
+// Turns until a goal holds.
 #[tactic(auto, unfolding(crate::specs::Lines::play_text))]
-fn push_until(
-    text: &mut String,
-    who: Who,
-    set: MemberSet,
-    whose: Who,
-    fact: &Fact,
-) -> Result<(), AllocError>
-    ensures { OnOk result (string_bytes text.new ≡ string_bytes text.old ++ play_text (Until who set whose fact.now)) }
+fn push_until(text: &mut String, who: Who, set: MemberSet, goal: &Goal) -> Result<(), AllocError>
+    ensures { OnOk result (string_bytes text.new ≡ string_bytes text.old ++ play_text (Until who set goal.now)) }
 {
     push_whose(text, who)?;
     text.push_str("turns")?;
     push_suspecting(text, set)?;
     text.push_str(" until ")?;
-    push_expected(text, whose, fact)
+    push_goal(text, goal)
 }
 
 // Whom the failure detectors suspect; nothing where that is nobody.

@@ -19,9 +19,9 @@ pub(crate) fn push_who(text: &mut String, who: Who) -> Result<(), AllocError>
     }
 }
 
-// The members of the set, as a list that has a comma.
+/// The members of the set, as a list that has a comma.
 #[tactic(auto, unfolding(crate::specs::Members::list_text))]
-fn push_list(text: &mut String, set: MemberSet) -> Result<(), AllocError>
+pub(crate) fn push_list(text: &mut String, set: MemberSet) -> Result<(), AllocError>
     ensures { OnOk result (string_bytes text.new ≡ string_bytes text.old ++ list_text set) }
 {
     push_set(text, set)?;

@@ -1,5 +1,5 @@
 -- How the program's command line is read. `clap` gives what its commands make of words.
-use Rattle.std.specs.Prelude.{◌≡◌, ℕ, true, List, [], ◌∷◌, codes, Option, Some, None, option_map, option_and_then, Result, Ok}
+use Rattle.std.specs.Prelude.{◌≡◌, ℕ, true, List, [], ◌∷◌, ◌++◌, codes, Option, Some, None, option_map, option_and_then, Result, Ok}
 use Rattle.std.specs.Prelude.{if◌then◌else◌, ⊤}
 use Rattle.std.specs.Result.{result_ok}
 use Rattle.std.specs.Str.{bytes_eq}
@@ -18,16 +18,23 @@ use Rattle.ct_program.specs.declared.line_fault.LineFault.TheVariants.{Clap, Ran
 
 -- ---- what clap reads
 
--- the options after `members` and `turns`
-abbrev pub further_rules : List Rule
-further_rules =
-    option_rule (codes "seed") (codes "0") ∷ option_rule (codes "rate") (codes "64") ∷ option_rule (codes "cells") (codes "64")
-    ∷ option_rule (codes "submit") (codes "8") ∷ option_rule (codes "crash") (codes "0") ∷ option_rule (codes "postpone") (codes "0")
-    ∷ option_rule (codes "lose") (codes "0") ∷ option_rule (codes "repeat") (codes "0") ∷ option_rule (codes "batch") (codes "1048560") ∷ []
+-- the options after `members`, `turns` and `seed`
+abbrev pub other_rules : List Rule
+other_rules =
+    option_rule (codes "rate") (codes "64") ∷ option_rule (codes "cells") (codes "64") ∷ option_rule (codes "submit") (codes "8")
+    ∷ option_rule (codes "crash") (codes "0") ∷ option_rule (codes "postpone") (codes "0") ∷ option_rule (codes "lose") (codes "0")
+    ∷ option_rule (codes "repeat") (codes "0") ∷ option_rule (codes "batch") (codes "1048560") ∷ []
+
+abbrev pub group_rules : List Rule
+group_rules = required_rule (codes "members") ∷ option_rule (codes "turns") (codes "1000") ∷ []
 
 -- the options of a free run
 abbrev pub free_rules : List Rule
-free_rules = required_rule (codes "members") ∷ option_rule (codes "turns") (codes "1000") ∷ further_rules
+free_rules = group_rules ++ (option_rule (codes "seed") (codes "0") ∷ other_rules)
+
+-- the same but for `seed`
+abbrev pub seedless_rules : List Rule
+seedless_rules = group_rules ++ other_rules
 
 -- the subcommand `free`
 abbrev pub free_app : App
@@ -45,12 +52,13 @@ faults_of words = fault_of program words
 
 -- ---- what the words ask for
 
--- the options of a free run; else the line of the first one, in this order, that is no whole number of its range
-unfoldable pub options_of : List Row → Result FreeOptions Text
-options_of rows = do
+-- the options of a free run of this seed, where there is one; else the line of the first one, in this order, that is no whole
+-- number of its range
+unfoldable pub options_with : List Row → Result ℕ Text → Result FreeOptions Text
+options_with rows given = do
   members ← option_in rows (codes "members") 1 MAX_MEMBERS
   turns ← option_in rows (codes "turns") 0 MAX_TURNS
-  seed ← option_in rows (codes "seed") 0 4294967295
+  seed ← given
   rate ← option_in rows (codes "rate") 0 MAX_RATE
   cells ← option_in rows (codes "cells") 0 MAX_CELLS
   submit ← option_in rows (codes "submit") 0 MAX_EACH
@@ -72,6 +80,14 @@ options_of rows = do
     repeat = repeat;
     batch = batch;
   })
+
+-- the options of a free run
+abbrev pub options_of : List Row → Result FreeOptions Text
+options_of rows = options_with rows (option_in rows (codes "seed") 0 4294967295)
+
+-- the same where no seed is given, which is 0
+abbrev pub seedless_of : List Row → Result FreeOptions Text
+seedless_of rows = options_with rows (Ok 0)
 
 -- the call of a subcommand, by its name and what clap found for its options
 abbrev pub call_at : Text → List Row → Option Call

@@ -23,4 +23,4 @@ pub use freeing::free;
 pub use line_fault::LineFault;
 pub use planning::{losses, postponements, repetitions, submissions};
 pub use seeding::seeded;
-pub use words::{found_options, line, with_free_options};
+pub use words::{found_options, line, seedless_options, with_free_options, with_seedless_options};

@@ -1,10 +1,11 @@
 //! The words of a command line.
 
-ghost use Rattle.std.specs.Prelude.{◌≡◌, ℕ, List, [], ◌∷◌, fold, map, codes, Some, None, Err, OnOk, IfOk, IfErr};
+ghost use Rattle.std.specs.Prelude.{◌≡◌, ℕ, List, [], ◌∷◌, fold, map, codes, Some, None, Ok, Err, OnOk, IfOk, IfErr};
 ghost use Rattle.clap.specs.Words.{app_of, found_of, rows_of, with_rule};
 ghost use Rattle.ct_streams.specs.Arguments.{option_rule};
 ghost use Rattle.ct_program.specs.FreeOptions.{FreeInRange, InRange};
-ghost use Rattle.ct_program.specs.Line.{program, free_app, free_rules, faults_of, call_of, options_of, IsOfKind, IsMemory};
+ghost use Rattle.ct_program.specs.Line.{program, free_app, free_rules, group_rules, seedless_rules, faults_of, call_of};
+ghost use Rattle.ct_program.specs.Line.{options_of, options_with, seedless_of, IsOfKind, IsMemory};
 
 use crate::call::Call;
 use crate::free_options::{FreeOptions, MAX_EACH, MAX_RATE, MAX_TURNS};
@@ -40,15 +41,34 @@ pub fn line<'a>(alloc: Global, words: &'a [&'a str]) -> Result<Call, LineFault>
 
 /// The options of a free run that clap found; else the fault of the first one, in the order of the definition, that is no whole
 /// number of its range.
-#[tactic(auto, unfolding(crate::specs::Line::options_of))]
 pub fn found_options<'a>(found: &'a ArgMatches<'_>) -> Result<FreeOptions, WordFault<'a>>
     ensures exact { result ≡ options_of (rows_of (found_of found.now)) }
+    ensures range { IfOk result InRange }
+{
+    options_with(found, option_in(found, "seed", 0, u32::MAX))
+}
+
+/// The same of a command without the option `seed`; the seed is 0.
+pub fn seedless_options<'a>(found: &'a ArgMatches<'_>) -> Result<FreeOptions, WordFault<'a>>
+    ensures exact { result ≡ seedless_of (rows_of (found_of found.now)) }
+    ensures range { IfOk result InRange }
+{
+    options_with(found, Ok(0))
+}
+
+// The options of a free run of this seed, where there is one.
+#[tactic(auto, unfolding(crate::specs::Line::options_with))]
+fn options_with<'a>(
+    found: &'a ArgMatches<'_>,
+    seed: Result<u32, WordFault<'a>>,
+) -> Result<FreeOptions, WordFault<'a>>
+    ensures exact { result ≡ options_with (rows_of (found_of found.now)) seed.entry }
     ensures range { IfOk result InRange }
 {
     Ok(FreeOptions {
         members: option_in(found, "members", 1, MAX_MEMBERS as u32)? as u8,
         turns: option_in(found, "turns", 0, MAX_TURNS)?,
-        seed: option_in(found, "seed", 0, u32::MAX)?,
+        seed: seed?,
         rate: option_in(found, "rate", 0, MAX_RATE as u32)? as u16,
         cells: option_in(found, "cells", 0, MAX_CELLS as u32)? as u16,
         submit: option_in(found, "submit", 0, MAX_EACH as u32)? as u16,
@@ -75,7 +95,7 @@ fn command<'a>(alloc: Global) -> Result<Command<'a>, AllocError>
     let replay = subcommand(
         alloc,
         "replay",
-        "Reads a record from standard input, replays it and writes the report to standard output",
+        "Reads a record from standard input, replays it and writes the report\nto standard output",
         STATUSES,
     );
     Command::new(alloc, "ct")
@@ -90,61 +110,75 @@ fn free<'a>(alloc: Global) -> Result<Command<'a>, AllocError>
     ensures { IfOk result (λ command. app_of command ≡ free_app) }
 {
     let command = Command::new(alloc, "free").about(concat!(
-        "Runs a group of members under threads, with failure detectors that answer at random, ",
-        "and writes the record of the run to standard output",
+        "Runs a group of members under threads, with failure detectors that\n",
+        "answer at random, and writes the record of the run to standard output",
     ));
-    let turns = "How many turns the thread of each member takes, 0 to 100000";
+    let turns = "How many turns the thread of each member takes,\n0 to 100000";
     with_free_options(alloc, command, turns)
 }
 
-// The options of a free run but for `members` and `turns`: each with its name, the value where none is given, and its help.
-const OPTIONS: [(&str, &str, &str); 9] = [
-    (
-        "seed",
-        "0",
-        "Where the random answers come from, 0 to 4294967295: the failure detector of member m is seeded with this number plus m",
-    ),
+// The help of the option `seed`.
+const SEED: &str = concat!(
+    "Where the random answers come from,\n",
+    "0 to 4294967295: the failure detector of member m\n",
+    "is seeded with this number plus m",
+);
+
+// The options of a free run but for `members`, `turns` and `seed`: each with its name, the value where none is given, and its help.
+const OPTIONS: [(&str, &str, &str); 8] = [
     (
         "rate",
         "64",
-        "How many of 256 answers of a failure detector suspect the coordinator, 0 to 256",
+        "How many of 256 answers of a failure detector\nsuspect the coordinator, 0 to 256",
     ),
     (
         "cells",
         "64",
-        "How many batches of messages there is room for, 0 to 1024",
+        "How many batches of messages there is room for,\n0 to 1024",
     ),
     (
         "submit",
         "8",
-        "How many commands are submitted, 0 to 1000, by the members in turn",
+        "How many commands are submitted, 0 to 1000, by the\nmembers in turn",
     ),
     (
         "crash",
         "0",
-        "The member that crashes after the submissions, 1 to 16, or 0 for none",
+        "The member that crashes after the submissions,\n1 to 16, or 0 for none",
     ),
     (
         "postpone",
         "0",
-        "How many times a waiting envelope is postponed, 0 to 1000, at the members in turn",
+        "How many times a waiting envelope is postponed,\n0 to 1000, at the members in turn",
     ),
     (
         "lose",
         "0",
-        "How many times a waiting envelope is lost, 0 to 1000, at the members in turn",
+        "How many times a waiting envelope is lost,\n0 to 1000, at the members in turn",
     ),
     (
         "repeat",
         "0",
-        "How many envelopes are repeated, 0 to 1000: those of serial 1, 2 and so on, at the members in turn",
+        "How many envelopes are repeated, 0 to 1000: those\nof serial 1, 2 and so on,\nat the members in turn",
     ),
     (
         "batch",
         "1048560",
-        "How many messages a member proposes at most for an instance, 1 to 1048560",
+        "How many messages a member proposes at most for an\ninstance, 1 to 1048560",
     ),
 ];
+
+/// The command, and after its own arguments the options of a free run but for `seed`. This is the help of the option `turns`.
+pub fn with_seedless_options<'a>(
+    alloc: Global,
+    command: Command<'a>,
+    turns: &'a str,
+) -> Result<Command<'a>, AllocError>
+    ensures { IfOk result (λ longer. app_of longer ≡ fold with_rule (app_of command.entry) seedless_rules) }
+{
+    let command = with_group_options(alloc, command, turns)?;
+    with_options(alloc, command, &OPTIONS)
+}
 
 /// The command, and after its own arguments the options of a free run. This is the help of the option `turns`.
 pub fn with_free_options<'a>(
@@ -154,9 +188,22 @@ pub fn with_free_options<'a>(
 ) -> Result<Command<'a>, AllocError>
     ensures { IfOk result (λ longer. app_of longer ≡ fold with_rule (app_of command.entry) free_rules) }
 {
+    let command = with_group_options(alloc, command, turns)?;
+    let seed = default_option(alloc, "seed", "0", SEED);
+    with_options(alloc, command.arg(seed)?, &OPTIONS)
+}
+
+// The command, and the options `members` and `turns`.
+fn with_group_options<'a>(
+    alloc: Global,
+    command: Command<'a>,
+    turns: &'a str,
+) -> Result<Command<'a>, AllocError>
+    ensures { IfOk result (λ longer. app_of longer ≡ fold with_rule (app_of command.entry) group_rules) }
+{
     let members = required_option(alloc, "members", "The number of members, 1 to 16");
     let turns = default_option(alloc, "turns", "1000", turns);
-    with_options(alloc, command.arg(members)?.arg(turns)?, &OPTIONS)
+    command.arg(members)?.arg(turns)
 }
 
 // The command with these options too.

@@ -1,7 +1,5 @@
-use Rattle.std.proofs.Common.{◌∙◌, ◌≡◌, ap, sym, arith, ◌<◌, true, false}
-use Rattle.std.specs.Bool.{then_some}
-use Rattle.std.specs.Option.{option_or}
-use Rattle.ct_play.specs.Picking.{is_gone, last_of, was_sent}
+use Rattle.std.proofs.Common.{◌∙◌, ◌≡◌, sym, true, false}
+use Rattle.ct_play.specs.Picking.{is_gone, was_sent}
 use Rattle.ct_play.proofs.Lasts.{at_gone, one_less}
 use Rattle.ct_play.proofs.picking.last_so.Goals as goal
 

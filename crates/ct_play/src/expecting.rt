@@ -1,0 +1,100 @@
+//! What lines expect.
+
+ghost use Rattle.std.specs.Prelude.{◌≡◌, Ok, OnOk, IfOk, IfErr, option_map};
+ghost use Rattle.ct_play.specs.Expecting.{all_known, expected, expected_of, failing, failing_now, unmet, who_of};
+ghost use Rattle.ct_play.specs.Faults.{IsFaultOf};
+
+use crate::goals::{is_met, unshown};
+use crate::line_fault::LineFault;
+use crate::naming::known;
+use crate::stage::Stage;
+use ct_grammar::{Claim, Goal, Term, When, Who, Whom};
+use ct_names::{Group, Member};
+use std::alloc::{AllocError, Global};
+
+// The members that the goal names have to be members of the group, and it has to hold.
+#[tactic(auto, unfolding(crate::specs::Expecting::expected))]
+pub(crate) fn expect(alloc: Global, stage: &Stage, goal: &Goal) -> Result<(), LineFault>
+    ensures ok { OnOk result (expected stage.now goal.now ≡ Ok stage.now) }
+    ensures err { IfErr result (IsFaultOf (expected stage.now goal.now)) }
+{
+    all_known(alloc, stage.world().group(), goal)?;
+    expect_of(alloc, stage, goal)
+}
+
+// The goal has to hold.
+pub(crate) fn expect_of(alloc: Global, stage: &Stage, goal: &Goal) -> Result<(), LineFault>
+    ensures ok { OnOk result (expected_of stage.now goal.now ≡ Ok stage.now) }
+    ensures err { IfErr result (IsFaultOf (expected_of stage.now goal.now)) }
+{
+    match unmet(alloc, stage, goal)? {
+        None => Ok(()),
+        Some(term) => Err(LineFault::NotMet(failing(alloc, stage, term)?)),
+    }
+}
+
+// The members that the goal names have to be members of the group.
+pub(crate) fn all_known(alloc: Global, group: Group, goal: &Goal) -> Result<(), LineFault>
+    ensures ok { OnOk result (all_known group goal.now ≡ Ok tt) }
+    ensures err { IfErr result (IsFaultOf (all_known group goal.now)) }
+{
+    for term in &goal.terms {
+        known(alloc, group, who_of(&term.whom))?;
+    }
+    Ok(())
+}
+
+// Whom it names.
+fn who_of(whom: &Whom) -> Who
+    ensures { result ≡ who_of whom.now }
+{
+    match whom {
+        Whom::One(member) => Who::One(*member),
+        Whom::Some(set) => Who::Some(*set),
+        Whom::All => Who::All,
+        Whom::Any => Who::All,
+        Whom::Up => Who::All,
+    }
+}
+
+/// The first term of the goal that does not hold on the stage.
+#[tactic(auto, unfolding(crate::specs::Expecting::unmet))]
+pub fn unmet<'g>(
+    alloc: Global,
+    stage: &Stage,
+    goal: &'g Goal,
+) -> Result<Option<&'g Term>, AllocError>
+    ensures { IfOk result (λ first. option_map (λ term. term.now) first ≡ unmet stage.now goal.now) }
+{
+    for term in &goal.terms {
+        if !is_met(alloc, stage, term)? {
+            return Ok(Some(term));
+        }
+    }
+    Ok(None)
+}
+
+// The member by which the term does not hold, if it is one.
+fn failing(alloc: Global, stage: &Stage, term: &Term) -> Result<Option<Member>, AllocError>
+    ensures { IfOk result (λ member. member ≡ failing stage.now term.now) }
+{
+    match term.when {
+        When::Now => failing_now(alloc, stage, &term.whom, &term.claim),
+        When::Ever => Ok(None),
+        When::Never => Ok(None),
+    }
+}
+
+fn failing_now(
+    alloc: Global,
+    stage: &Stage,
+    whom: &Whom,
+    claim: &Claim,
+) -> Result<Option<Member>, AllocError>
+    ensures { IfOk result (λ member. member ≡ failing_now stage.now whom.now claim.now) }
+{
+    match whom {
+        Whom::Any => Ok(None),
+        _ => unshown(alloc, stage, whom, claim),
+    }
+}
