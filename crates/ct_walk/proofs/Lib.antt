@@ -5,3 +5,5 @@ pub mod Found
 pub mod Looping
 pub mod Nearest
 pub mod Rounds
+pub mod Trying
+pub mod Untils

@@ -1,9 +1,11 @@
 pub mod Options
 pub mod Walking
 pub mod Shown
+pub mod Sights
 pub mod Nearness
 pub mod Missing
 pub mod Finding
+pub mod Sizes
 pub mod Faults
 pub mod Texts
 pub mod Line

@@ -1,32 +1,43 @@
 -- What a command line may ask of walks. `clap` gives what its commands make of words.
-use Rattle.std.specs.Prelude.{◌≤◌, false, Option, Some, None, ok_or, Result, Ok, List, [], ◌∷◌, take, fold, codes}
+use Rattle.std.specs.Prelude.{◌≡◌, ◌≤◌, ⊤, ℕ, false, Option, Some, None, ok_or, Result, Ok, Err, List, [], ◌∷◌, fold, codes, string_bytes}
+use Rattle.std.specs.List.{concat, join_by}
+use Rattle.clap.specs.Lexer.{usize_max}
 use Rattle.clap.specs.Words.{App, Row, Rule, Text, all_of, first_of, new_app, with_rule}
+use Rattle.ct_grammar.specs.declared.goal.Goal.{Goal}
+use Rattle.ct_grammar.specs.declared.misfit.Misfit.{Misfit}
+use Rattle.ct_grammar.specs.Goals.{goal_of}
+use Rattle.ct_grammar.specs.Misfits.{misfit_text}
 use Rattle.ct_program.specs.declared.free_options.FreeOptions.{FreeOptions}
 use Rattle.ct_program.specs.declared.free_options.TheConstants.{MAX_TURNS}
-use Rattle.ct_program.specs.Line.{free_rules, options_of}
+use Rattle.ct_program.specs.Line.{free_rules, options_of, seedless_of, seedless_rules}
 use Rattle.ct_streams.specs.Arguments.{option_rule, value_rule}
+use Rattle.ct_streams.specs.declared.status.Status.TheVariants as status
+use Rattle.ct_streams.specs.Statuses.{code}
 use Rattle.ct_streams.specs.Values.{◌>>=◌, option_in}
 use Rattle.ct_streams.specs.WordFaults.{fault_line}
 use Rattle.ct_walk.specs.declared.call.Call.{Call}
 use Rattle.ct_walk.specs.declared.call.Call.TheVariants.{Walk, Find}
 use Rattle.ct_walk.specs.declared.call.Seeds.{Seeds}
+use Rattle.ct_walk.specs.declared.call_fault.CallFault.{CallFault}
+use Rattle.ct_walk.specs.declared.call_fault.CallFault.TheVariants.{Memory, Word, NoGoal}
 use Rattle.ct_walk.specs.declared.options.WalkOptions.{WalkOptions}
-use Rattle.ct_walk.specs.declared.sight.Sight.{Sight}
 use Rattle.ct_walk.specs.Options.{IsInRange}
-use Rattle.ct_walk.specs.Texts.{seeds_of, sight_of}
+use Rattle.ct_walk.specs.Sights.{in_full}
+use Rattle.ct_walk.specs.Texts.{seeds_of}
 
 -- ---- what clap reads
 
--- an option with two values, which need not be given
-abbrev pub sight_rule : Text → Rule
-sight_rule name = record (value_rule name) { range = Some (record { start_inclusive = 2; end_inclusive = 2 }); value_names = 2 }
+-- an option with one value or several, which need not be given
+abbrev pub goal_rule : Text → Rule
+goal_rule name =
+    record (value_rule name) { range = Some (record { start_inclusive = 1; end_inclusive = usize_max }); value_names = 1 }
 
 abbrev pub every_rule : Rule
 every_rule = record (option_rule (codes "every") (codes "0")) { value_names = 1 }
 
 -- it asks for another option, and may not stand beside a third
 abbrev pub find_rule : Rule
-find_rule = record (sight_rule (codes "find")) { is_free = false }
+find_rule = record (goal_rule (codes "find")) { is_free = false }
 
 -- it asks for another option
 abbrev pub seeds_rule : Rule
@@ -36,62 +47,92 @@ seeds_rule = record (value_rule (codes "seeds")) { value_names = 1; is_free = fa
 abbrev pub walk_app : App
 walk_app =
     fold with_rule (fold with_rule (new_app (codes "walk")) free_rules)
-    (every_rule ∷ sight_rule (codes "until") ∷ find_rule ∷ seeds_rule ∷ [])
+    (every_rule ∷ goal_rule (codes "until") ∷ find_rule ∷ seeds_rule ∷ [])
+
+-- the command, and after its arguments the options of a walk but for `seed`
+abbrev pub with_search_rules : App → App
+with_search_rules app = with_rule (fold with_rule app seedless_rules) every_rule
 
 -- ---- what the options ask for, or the line of the first one that asks for nothing
 
--- what would be right for `until` and `find`, and for `seeds`
-abbrev pub sights : Text
-sights = codes "decided or round, and a whole number from 1 to 4294967295"
-
+-- what would be right for `seeds`
 abbrev pub ranges : Text
 ranges = codes "A..B, whole numbers from 0 to 4294967295, A no larger than B"
 
--- what these texts name, which are given for the option
-abbrev pub given_sight : Text → List Text → Result Sight Text
-given_sight name texts = ok_or (sight_of texts) (fault_line name (take 2 texts) sights)
+-- the line of a text that is given for the option and is no goal
+abbrev pub no_goal_line : Text → Text → Misfit → Text
+no_goal_line name text misfit =
+    concat (codes "--" ∷ name ∷ codes " " ∷ text ∷ codes ": not understood: " ∷ misfit_text misfit ∷ [])
 
-abbrev pub sight_or_none : Text → Option (List Text) → Result (Option Sight) Text
-sight_or_none name None = Ok None
-sight_or_none name (Some texts) = do
-  sight ← given_sight name texts
-  Ok (Some sight)
+abbrev pub goal_or : Text → Text → Result Goal Misfit → Result Goal Text
+goal_or name text (Ok goal) = Ok goal
+goal_or name text (Err misfit) = Err (no_goal_line name text misfit)
 
--- what the option names, where it is given
-abbrev pub sight_in : List Row → Text → Result (Option Sight) Text
-sight_in rows name = sight_or_none name (all_of name rows)
+-- the goal of the text that is given for the option
+abbrev pub given_goal : Text → Text → Result Goal Text
+given_goal name text = goal_or name text (goal_of (in_full text))
+
+-- the words, with a space between them
+abbrev pub joined : List Text → Text
+joined words = join_by (λ word. word) (codes " ") words
+
+-- the goal of the words that are given for the option
+abbrev pub goal_or_none : Text → Option (List Text) → Result (Option Goal) Text
+goal_or_none name None = Ok None
+goal_or_none name (Some texts) = do
+  goal ← given_goal name (joined texts)
+  Ok (Some goal)
+
+-- the goal that is given for the option, where it is given
+abbrev pub goal_in : List Row → Text → Result (Option Goal) Text
+goal_in rows name = goal_or_none name (all_of name rows)
 
 -- the seeds that the text names
 abbrev pub given_seeds : Text → Result Seeds Text
 given_seeds text = ok_or (seeds_of text) (fault_line (codes "seeds") (text ∷ []) ranges)
 
--- the options that a walk shares with a free run, where the member that crashes is one of the group
-unfoldable pub run_of : List Row → Result FreeOptions Text
-run_of rows = do
-  run ← options_of rows
+-- these options, where the member that crashes is one of the group, and the others of a walk
+unfoldable pub options_with : List Row → FreeOptions → Result WalkOptions Text
+options_with rows run = do
   crash ← option_in rows (codes "crash") 0 run.members
-  Ok run
-
--- the options of a walk that is made until what the option of that name says
-unfoldable pub walk_options : List Row → Text → Result WalkOptions Text
-walk_options rows name = do
-  run ← run_of rows
   every ← option_in rows (codes "every") 0 MAX_TURNS
-  until ← sight_in rows name
-  Ok (record { run = run; every = every; until = until })
+  Ok (record { run = run; every = every })
 
-abbrev pub call_with : List Row → Option Text → Result Call Text
-call_with rows None = do
-  options ← walk_options rows (codes "until")
-  Ok (Walk options)
-call_with rows (Some text) = do
-  options ← walk_options rows (codes "find")
-  seeds ← given_seeds text
-  Ok (Find options seeds)
+-- the options of a walk
+abbrev pub walk_options : List Row → Result WalkOptions Text
+walk_options rows = do
+  run ← options_of rows
+  options_with rows run
+
+-- the same where no seed is given, which is 0
+abbrev pub search_options : List Row → Result WalkOptions Text
+search_options rows = do
+  run ← seedless_of rows
+  options_with rows run
+
+-- the seeds that are given
+abbrev pub seeds_or_line : Option Text → Result Seeds Text
+seeds_or_line None = Err (fault_line (codes "seeds") [] ranges)
+seeds_or_line (Some text) = given_seeds text
+
+abbrev pub seeds_in : List Row → Result Seeds Text
+seeds_in rows = seeds_or_line (first_of (codes "seeds") rows)
+
+-- the walks of the seeds, where this is looked for; else one walk
+abbrev pub call_for : List Row → WalkOptions → Option Goal → Result Call Text
+call_for rows options None = do
+  until ← goal_in rows (codes "until")
+  Ok (Walk options until)
+call_for rows options (Some goal) = do
+  seeds ← seeds_in rows
+  Ok (Find options goal seeds)
 
 -- what the options ask for
-abbrev pub walk_call : List Row → Result Call Text
-walk_call rows = call_with rows (first_of (codes "seeds") rows)
+unfoldable pub walk_call : List Row → Result Call Text
+walk_call rows = do
+  options ← walk_options rows
+  goal ← goal_in rows (codes "find")
+  call_for rows options goal
 
 -- the last seed is none before the first
 abbrev pub IsSeedsInRange : Seeds → Type 0
@@ -99,5 +140,24 @@ IsSeedsInRange seeds = seeds.first ≤ seeds.last
 
 -- each option is in its range
 abbrev pub IsCallInRange : Call → Type 0
-IsCallInRange (Walk o) = IsInRange o
-IsCallInRange (Find o seeds) = IsInRange o × IsSeedsInRange seeds
+IsCallInRange (Walk o until) = IsInRange o
+IsCallInRange (Find o goal seeds) = IsInRange o × IsSeedsInRange seeds
+
+-- ---- faults
+
+-- the line for standard error
+abbrev pub call_fault_text : CallFault → Text
+call_fault_text Memory = codes "out of memory"
+call_fault_text (Word line) = line
+call_fault_text (NoGoal line) = string_bytes line
+
+abbrev pub call_status_of : CallFault → ℕ
+call_status_of Memory = code status.Memory
+call_status_of (Word line) = code status.Words
+call_status_of (NoGoal line) = code status.Words
+
+-- where something comes to this, it may have this fault: the line, or want of memory, of which nothing is said
+abbrev pub IsCallFault : {A : Type 0} → Result A Text → CallFault → Type 0
+IsCallFault r Memory = ⊤
+IsCallFault r (Word line) = r ≡ Err line
+IsCallFault r (NoGoal line) = r ≡ Err (string_bytes line)

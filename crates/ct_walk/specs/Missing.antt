@@ -13,7 +13,7 @@ after_seed missed seed came_to =
 
 -- ---- the line
 
--- what is looked for, as `--find` names it
+-- what is looked for
 abbrev pub sight_text : Sight → List ℕ
 sight_text (Decided instance) = codes "decided " ++ decimal instance
 sight_text (Round round) = codes "round " ++ decimal round
@@ -34,11 +34,17 @@ several_text seeds sight seed came_to =
     concat (codes "no seed of " ∷ decimal seeds.first ∷ codes ".." ∷ decimal seeds.last ∷ codes " shows " ∷ sight_text sight
     ∷ codes ": seed " ∷ decimal seed ∷ codes " " ∷ came_text sight came_to ∷ [])
 
+-- where nothing is told of how near they came
+abbrev pub plain_text : Seeds → List ℕ
+plain_text seeds =
+    if seeds.first == seeds.last then concat (codes "seed " ∷ decimal seeds.first ∷ codes " does not show it" ∷ [])
+    else concat (codes "no seed of " ∷ decimal seeds.first ∷ codes ".." ∷ decimal seeds.last ∷ codes " shows it" ∷ [])
+
 abbrev pub sought_text : Missed → Option Sight → List ℕ
-sought_text missed None = codes "not found"
+sought_text missed None = plain_text missed.seeds
 sought_text missed (Some sight) =
     if missed.seeds.first == missed.seeds.last then one_text missed.seeds.first sight missed.came_to
     else several_text missed.seeds sight missed.seed missed.came_to
 
 abbrev pub missed_text : Missed → List ℕ
-missed_text missed = sought_text missed missed.until
+missed_text missed = sought_text missed missed.sight

@@ -1,5 +1,6 @@
 -- How near a walk comes to what is looked for.
 use Rattle.std.specs.Prelude.{◌≡◌, ◌≤◌, ◌<◌, ℕ, zero, suc, ◌+◌, max, Option, Some, None, unwrap_or, if◌then◌else◌}
+use Rattle.ct_grammar.specs.declared.goal.Goal.{Goal}
 use Rattle.ct_model.specs.Rehearsal.{Rehearsal}
 use Rattle.ct_rehearse.specs.Choices.{round_of}
 use Rattle.ct_world.specs.Decided.{last_decided}
@@ -8,7 +9,8 @@ use Rattle.ct_walk.specs.declared.options.WalkOptions.{WalkOptions}
 use Rattle.ct_walk.specs.declared.sight.Sight.{Sight}
 use Rattle.ct_walk.specs.declared.sight.Sight.TheVariants.{Decided, Round}
 use Rattle.ct_walk.specs.Options.{with_seed}
-use Rattle.ct_walk.specs.Shown.{is_shown}
+use Rattle.ct_walk.specs.Shown.{is_shown_by}
+use Rattle.ct_walk.specs.Sights.{sight_in}
 use Rattle.ct_walk.specs.Walking.{Walk, most_turns, start, turned, walked}
 
 -- ---- one walk
@@ -31,11 +33,11 @@ unfoldable pub largest_decided : Rehearsal → ℕ
 largest_decided w = largest_of (last_of w) w.setting.members
 
 -- the largest round that a member is in after one of so many turns more at most, where some were made
-unfoldable pub rounds_for : ℕ → Option Sight → ℕ → ℕ → Walk → ℕ
-rounds_for every until made zero w = 0
-rounds_for every until made (suc more) w =
+unfoldable pub rounds_for : ℕ → ℕ → ℕ → Walk → ℕ
+rounds_for every made zero w = 0
+rounds_for every made (suc more) w =
     let v = turned every (made + 1) w in
-    max (largest_round v.rehearsal) (if is_shown until v.rehearsal then 0 else rounds_for every until (made + 1) more v)
+    max (largest_round v.rehearsal) (if is_shown_by v.until v.rehearsal then 0 else rounds_for every (made + 1) more v)
 
 -- what a walk came to whose largest round this is, and whose record this
 abbrev pub came : Option Sight → ℕ → Rehearsal → ℕ
@@ -43,17 +45,21 @@ came None rounds w = 0
 came (Some (Decided instance)) rounds w = largest_decided w
 came (Some (Round round)) rounds w = rounds
 
--- what the walk came to: where a round is looked for, the largest one that a member is in after a turn; where a decision is, the
--- largest instance whose decision a member got
-unfoldable pub came_to : WalkOptions → ℕ
-came_to o = came o.until (rounds_for o.every o.until 0 (most_turns o.run) (start o.run)) (walked o)
+-- the largest round that a member is in after a turn of the walk
+abbrev pub rounds_of : WalkOptions → Option Goal → ℕ
+rounds_of o until = rounds_for o.every 0 (most_turns o.run) (start o.run until)
+
+-- what the walk came to: where the goal is `any round >= N`, the largest round that a member is in after a turn; where it is
+-- `any decided N`, the largest instance whose decision a member got; of others 0
+unfoldable pub came_to : WalkOptions → Option Goal → ℕ
+came_to o until = came (sight_in until) (rounds_of o until) (walked o until)
 
 -- ---- the walks of several seeds
 
 -- of the seeds from the first one on, below this end, this one's walk came to so much, and is the first that came nearest
-pub record IsNearest (o : WalkOptions) (first end seed reached : ℕ) : Type 0 where
+pub record IsNearest (o : WalkOptions) (until : Option Goal) (first end seed reached : ℕ) : Type 0 where
   pub low : first ≤ seed
   pub high : seed < end
-  pub comes : reached ≡ came_to (with_seed o seed)
-  pub before : (s : ℕ) → first ≤ s → s < seed → came_to (with_seed o s) < reached
-  pub behind : (s : ℕ) → seed ≤ s → s < end → came_to (with_seed o s) ≤ reached
+  pub comes : reached ≡ came_to (with_seed o seed) until
+  pub before : (s : ℕ) → first ≤ s → s < seed → came_to (with_seed o s) until < reached
+  pub behind : (s : ℕ) → seed ≤ s → s < end → came_to (with_seed o s) until ≤ reached

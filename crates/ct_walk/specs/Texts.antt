@@ -1,20 +1,8 @@
 -- What texts name that are given for the options of walks.
-use Rattle.std.specs.Prelude.{◌==◌, ◌&&◌, Bool, false, Option, Some, None, List, [], ◌∷◌, drop, codes, option_map, if◌then◌else◌}
-use Rattle.std.specs.Str.{bytes_eq}
+use Rattle.std.specs.Prelude.{◌==◌, ◌&&◌, Bool, false, Option, Some, None, [], ◌∷◌, drop, option_map, if◌then◌else◌}
 use Rattle.clap.specs.Words.{Text}
 use Rattle.ct_streams.specs.Arguments.{◌>>=◌, whole_in}
 use Rattle.ct_walk.specs.declared.call.Seeds.{Seeds}
-use Rattle.ct_walk.specs.declared.sight.Sight.{Sight}
-use Rattle.ct_walk.specs.declared.sight.Sight.TheVariants.{Decided, Round}
-
--- what `decided`, or `round`, and a number name
-abbrev pub sight_of : List Text → Option Sight
-sight_of [] = None
-sight_of (kind ∷ []) = None
-sight_of (kind ∷ number ∷ []) = do
-  n ← whole_in 1 4294967295 number
-  if bytes_eq kind (codes "decided") then Some (Decided n) else (if bytes_eq kind (codes "round") then Some (Round n) else None)
-sight_of (kind ∷ number ∷ more ∷ rest) = None
 
 -- the text begins with two points
 abbrev pub begins_with_points : Text → Bool

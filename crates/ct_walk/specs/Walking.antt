@@ -2,6 +2,7 @@
 use Rattle.std.specs.Prelude.{ℕ, zero, suc, ◌+◌, ◌*◌, ◌-◌, ◌%◌, ◌==◌, Bool, false, not, ◌&&◌, ◌||◌, nat_lt, List, [], length, drop, filter}
 use Rattle.std.specs.Prelude.{get_or, slice_get, set, sum_by, Option, Some, None, if◌then◌else◌}
 use Rattle.rand_pcg.specs.Lcg.{Lcg}
+use Rattle.ct_grammar.specs.declared.goal.Goal.{Goal}
 use Rattle.std.specs.List.{range_with_len}
 use Rattle.ct_model.specs.Rehearsal.{Rehearsal, empty}
 use Rattle.ct_detect.specs.declared.ask.Ask.{Ask}
@@ -13,13 +14,13 @@ use Rattle.ct_program.specs.FreeOptions.{setting_of}
 use Rattle.ct_program.specs.Planning.{scripts_of}
 use Rattle.ct_program.specs.Seeding.{first_detectors}
 use Rattle.ct_walk.specs.declared.options.WalkOptions.{WalkOptions}
-use Rattle.ct_walk.specs.declared.sight.Sight.{Sight}
-use Rattle.ct_walk.specs.Shown.{is_shown}
+use Rattle.ct_walk.specs.Shown.{is_shown_by}
 
--- the record; the generator of the words that turns are drawn by; the members' detectors, member 1's first; what is left of each
--- script, the first one's first
+-- the record; the goal that the walk is made until, where there is one; the generator of the words that turns are drawn by; the
+-- members' detectors, member 1's first; what is left of each script, the first one's first
 pub record Walk : Type 0 where
   pub rehearsal : Rehearsal
+  pub until : Option Goal
   pub draws : Lcg
   pub detectors : List SeededState
   pub scripts : List (List Disturbance)
@@ -112,16 +113,17 @@ turned every number w = if is_due every number w then entered w 0 else drawn eve
 -- ---- the walk
 
 -- after so many turns more at most, where some were made: the walk stops after the turn that shows what it is made until
-unfoldable pub walked_for : ℕ → Option Sight → ℕ → ℕ → Walk → Walk
-walked_for every until made zero w = w
-walked_for every until made (suc more) w =
+unfoldable pub walked_for : ℕ → ℕ → ℕ → Walk → Walk
+walked_for every made zero w = w
+walked_for every made (suc more) w =
     let v = turned every (made + 1) w in
-    if is_shown until v.rehearsal then v else walked_for every until (made + 1) more v
+    if is_shown_by v.until v.rehearsal then v else walked_for every (made + 1) more v
 
 -- before the first turn. The generator of draws starts from the seed, and the detector of member m from the seed and m
-unfoldable pub start : FreeOptions → Walk
-start o = record {
+unfoldable pub start : FreeOptions → Option Goal → Walk
+start o until = record {
   rehearsal = empty (setting_of o) o.cells;
+  until = until;
   draws = words_of_seed o.seed;
   detectors = first_detectors o o.members;
   scripts = scripts_of o;
@@ -135,6 +137,6 @@ entries_left scripts = sum_by (λ script. length script) scripts
 abbrev pub most_turns : FreeOptions → ℕ
 most_turns o = o.members * o.turns + entries_left (scripts_of o)
 
--- the record of the walk that these options ask for
-unfoldable pub walked : WalkOptions → Rehearsal
-walked o = (walked_for o.every o.until 0 (most_turns o.run) (start o.run)).rehearsal
+-- the record of the walk that these options ask for, made until the goal, where there is one
+unfoldable pub walked : WalkOptions → Option Goal → Rehearsal
+walked o until = (walked_for o.every 0 (most_turns o.run) (start o.run until)).rehearsal

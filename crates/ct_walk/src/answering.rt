@@ -1,22 +1,18 @@
 //! What members' detectors answer.
 
 ghost use Rattle.std.specs.Prelude.{◌≡◌, ◌-◌, ◌<◌, slice_get, Some};
-ghost use Rattle.ct_rehearse.specs.Choices.{question};
 ghost use Rattle.ct_walk.specs.Walking.{after_answer, answer};
 
 use ct_detect::{Ask, Detector, Seeded};
 use ct_names::Member;
-use ct_rehearse::question;
-use ct_world::World;
 
 // The answer to what a turn of the member asks; no where it asks nothing.
-pub(crate) fn answer(world: &World, detectors: &mut Vec<Seeded>, member: Member) -> bool
+pub(crate) fn answer(asked: Option<Ask>, detectors: &mut Vec<Seeded>, member: Member) -> bool
     requires { 0 < member }
-    ensures answer { result ≡ answer (question world.now.rehearsal member) (slice_get detectors.old.items (member - 1)) }
-    ensures after { detectors.new.items ≡ after_answer detectors.old.items member (question world.now.rehearsal member)
-        (slice_get detectors.old.items (member - 1)) }
+    ensures answer { result ≡ answer asked (slice_get detectors.old.items (member - 1)) }
+    ensures after { detectors.new.items ≡ after_answer detectors.old.items member asked (slice_get detectors.old.items (member - 1)) }
 {
-    match question(world, member) {
+    match asked {
         None => false,
         Some(ask) => answer_to(ask, detectors, member),
     }

@@ -1,14 +1,15 @@
 //! What a command line asks of walks.
 
 use crate::options::WalkOptions;
+use ct_grammar::Goal;
 
 /// What the words after `walk` ask for.
-#[derive(Clone, Copy, Debug, Drop, PartialEq, Eq)]
+#[derive(Drop)]
 pub enum Call {
-    /// To make the walk of these options, and write its record.
-    Walk(WalkOptions),
-    /// To make the walks of these seeds until one shows what it is made until, and write its record.
-    Find(WalkOptions, Seeds),
+    /// To make the walk of these options, until it shows the goal, where there is one, and write its record.
+    Walk(WalkOptions, Option<Goal>),
+    /// To make the walks of these seeds until one shows the goal, and write its record.
+    Find(WalkOptions, Goal, Seeds),
 }
 
 /// Seeds one after the other, the last one too.

@@ -1,9 +1,10 @@
 //! Why a walk is not made.
 
 ghost use Rattle.std.specs.Prelude.{◌≡◌, Some};
-ghost use Rattle.ct_walk.specs.Faults.{fault_text, status_of};
+ghost use Rattle.ct_walk.specs.Faults.{fault_text, status_of, IsShort};
 
 use crate::missed::Missed;
+use ct_play::LineFault;
 use ct_streams::Status;
 use std::alloc::AllocError;
 use std::fmt;
@@ -22,6 +23,16 @@ pub enum WalkFault {
 }
 
 impl WalkFault {
+    // The fault of a step for which memory or the board was short.
+    pub(crate) fn of(fault: LineFault) -> WalkFault
+        ensures { IsShort result }
+    {
+        match fault {
+            LineFault::Board => WalkFault::Board,
+            _ => WalkFault::Memory,
+        }
+    }
+
     /// The status that a program ends with: 1 where nothing is found, 4 for a stream, 5 for memory and the board.
     pub fn status(&self) -> u8
         ensures { result ≡ status_of self.now }

@@ -1,7 +1,7 @@
 //! Seeds whose walks show what is looked for.
 
 ghost use Rattle.std.specs.Prelude.{◌≡◌, ◌+◌, ◌-◌, None, Some, IfOk, IfErr};
-ghost use Rattle.ct_walk.specs.Finding.{first_seed, seeds_to, FindsNone};
+ghost use Rattle.ct_walk.specs.Finding.{first_of, FindsNone};
 ghost use Rattle.ct_walk.specs.Line.{IsSeedsInRange};
 ghost use Rattle.ct_walk.specs.Options.{IsInRange, with_seed};
 ghost use Rattle.ct_walk.specs.Walking.{walked};
@@ -11,22 +11,28 @@ use crate::fault::WalkFault;
 use crate::found_walk::FoundWalk;
 use crate::missed::Missed;
 use crate::options::WalkOptions;
-use crate::sight::is_shown;
+use crate::sight::sight_in;
 use crate::walking::walk_near;
+use ct_grammar::Goal;
 use std::alloc::Global;
 
-/// Makes the walks of the seeds from the first to the last one, in place of the options' one, until a walk shows what it is
-/// made until, and hands out that walk. Where none of them shows it the fault tells which came nearest.
-pub fn find(alloc: Global, options: &WalkOptions, seeds: Seeds) -> Result<FoundWalk, WalkFault>
+/// Makes the walks of the seeds from the first to the last one, in place of the options' one, until a walk shows the goal, and
+/// hands out that walk. Where none of them shows it the fault tells which came nearest.
+pub fn find(
+    alloc: Global,
+    options: &WalkOptions,
+    goal: &Goal,
+    seeds: Seeds,
+) -> Result<FoundWalk, WalkFault>
     requires range { IsInRange options.now }
     requires some { IsSeedsInRange seeds }
-    ensures seed { IfOk result (λ walk. first_seed options.now seeds.first (seeds_to seeds.first seeds.last) ≡ Some walk.seed) }
-    ensures walk { IfOk result (λ walk. walk.world.rehearsal ≡ walked (with_seed options.now walk.seed)) }
+    ensures seed { IfOk result (λ walk. first_of options.now goal.now seeds ≡ Some walk.seed) }
+    ensures walk { IfOk result (λ walk. walk.world.rehearsal ≡ walked (with_seed options.now walk.seed) (Some goal.now)) }
     ensures none { IfOk result (λ walk. walk.world.prepared ≡ None) }
-    ensures err { IfErr result (FindsNone options.now seeds) }
+    ensures err { IfErr result (FindsNone options.now goal.now seeds) }
 {
     let mut missed = Missed {
-        until: options.until,
+        sight: sight_in(Some(goal)),
         seeds,
         seed: seeds.first,
         came_to: 0,
@@ -34,8 +40,8 @@ pub fn find(alloc: Global, options: &WalkOptions, seeds: Seeds) -> Result<FoundW
     for seed in u64::from(seeds.first)..u64::from(seeds.last) + 1 {
         let seed = seed as u32;
         let options = options.with_seed(seed);
-        let walk = walk_near(alloc, &options)?;
-        if is_shown(options.until, &walk.world) {
+        let walk = walk_near(alloc, &options, Some(goal))?;
+        if walk.shows {
             return Ok(FoundWalk {
                 seed,
                 world: walk.world,

@@ -4,17 +4,22 @@
 
 mod answering;
 mod call;
+mod call_fault;
 mod came;
+mod choosing;
 mod fault;
 mod finding;
 mod found_seed;
 mod found_walk;
+mod goals;
 mod missed;
 mod near_walk;
 mod nearness;
 mod options;
 mod script;
 mod sight;
+mod sizing;
+mod walk_size;
 mod walker;
 mod walking;
 mod words;
@@ -22,13 +27,19 @@ mod worlds;
 mod writing;
 
 pub use call::{Call, Seeds};
+pub use call_fault::CallFault;
 pub use fault::WalkFault;
 pub use finding::find;
 pub use found_seed::FoundSeed;
 pub use found_walk::FoundWalk;
+pub use goals::{given_goal, goal_in, joined};
 pub use missed::Missed;
 pub use options::WalkOptions;
 pub use sight::Sight;
+pub use sizing::size_if_shown;
+pub use walk_size::WalkSize;
 pub use walking::walk;
-pub use words::{walk_call, walk_command};
+pub use words::{
+    search_options, seeds_in, walk_call, walk_command, walk_options, with_search_options,
+};
 pub use writing::write_call;

@@ -11,8 +11,8 @@ use std::fmt;
 /// How near the walks came where none shows what is looked for. Its text is the line for standard error.
 #[derive(Clone, Copy, Debug, Drop, PartialEq, Eq)]
 pub struct Missed {
-    /// What was looked for, where it was anything.
-    pub until: Option<Sight>,
+    /// What was looked for, where it is told how near the walks came to it.
+    pub sight: Option<Sight>,
     /// The seeds that were tried.
     pub seeds: Seeds,
     /// The first of them whose walk came nearest.
@@ -43,10 +43,13 @@ impl fmt::Display for Missed {
     ghost output = { λ missed. Some (missed_text missed) };
 
     fn fmt<W: fmt::Write>(&self, f: &mut fmt::Formatter<W>) -> fmt::Result {
-        let Some(sight) = self.until else {
-            return f.write_str("not found");
-        };
         let Seeds { first, last } = self.seeds;
+        let Some(sight) = self.sight else {
+            if first == last {
+                return write!(f, "seed {first} does not show it");
+            }
+            return write!(f, "no seed of {first}..{last} shows it");
+        };
         let seed = self.seed;
         let came = Came {
             sight,

@@ -39,10 +39,10 @@ fn last_of(world: &World, member: Member) -> Instance
 }
 
 // What a walk came to, that ended in this world, and whose largest round this is.
-pub(crate) fn came(until: Option<Sight>, rounds: Round, world: &World) -> u32
-    ensures { result ≡ came until rounds world.now.rehearsal }
+pub(crate) fn came(sight: Option<Sight>, rounds: Round, world: &World) -> u32
+    ensures { result ≡ came sight rounds world.now.rehearsal }
 {
-    match until {
+    match sight {
         None => 0,
         Some(Sight::Decided(_)) => largest_decided(world),
         Some(Sight::Round(_)) => rounds,

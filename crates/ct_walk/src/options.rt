@@ -3,7 +3,6 @@
 ghost use Rattle.std.specs.Prelude.{◌≡◌};
 ghost use Rattle.ct_walk.specs.Options.{with_seed};
 
-use crate::sight::Sight;
 use ct_program::FreeOptions;
 
 /// The options of a walk.
@@ -16,8 +15,6 @@ pub struct WalkOptions {
     /// The first script makes an entry at turn number `every`, at twice that, and so on, up to 100,000; 0 for a script
     /// whose turns are drawn like all others.
     pub every: u32,
-    /// What the walk stops at, once a member shows it.
-    pub until: Option<Sight>,
 }
 
 impl WalkOptions {
@@ -27,7 +24,7 @@ impl WalkOptions {
     {
         WalkOptions {
             run: FreeOptions { seed, ..self.run },
-            ..*self
+            every: self.every,
         }
     }
 }

@@ -1,20 +1,21 @@
-//! What walks are made until.
+//! Goals of one term that walks come near to.
 
-ghost use Rattle.std.specs.Prelude.{◌≡◌, Some};
+ghost use Rattle.std.specs.Prelude.{◌≡◌, Some, option_map};
 ghost use Rattle.ct_rehearse.specs.Choices.{round_of};
 ghost use Rattle.ct_walk.specs.Missing.{sight_text};
-ghost use Rattle.ct_walk.specs.Shown.{is_reached, is_shown, is_shown_by};
+ghost use Rattle.ct_walk.specs.Sights.{sight_in, sight_in_claim, sight_in_term, sight_in_terms};
 
+use ct_grammar::{Amount, Claim, Extent, Goal, Term, When, Whom};
 use ct_names::{Instance, Member, Round};
 use ct_world::World;
 use std::fmt;
 
-/// What a member shows.
+/// What a goal of one term asks of any member, of which a search tells how near its walks came.
 #[derive(Clone, Copy, Debug, Drop, PartialEq, Eq)]
 pub enum Sight {
-    /// It got the decision of this instance.
+    /// `any decided N`: it got the decision of this instance.
     Decided(Instance),
-    /// It is in this round of its open instance, or in a later one.
+    /// `any round >= N`: it is in this round of its open instance, or in a later one.
     Round(Round),
 }
 
@@ -29,35 +30,38 @@ impl fmt::Display for Sight {
     }
 }
 
-// Whether a member shows it; what is not asked for is not shown.
-#[tactic(auto, unfolding(crate::specs::Shown::is_shown))]
-pub(crate) fn is_shown(until: Option<Sight>, world: &World) -> bool
-    ensures { result ≡ is_shown until world.now.rehearsal }
+// What the goal asks for, where it is one such term.
+pub(crate) fn sight_in(until: Option<&Goal>) -> Option<Sight>
+    ensures { result ≡ sight_in (option_map (λ goal. goal.now) until.entry) }
 {
-    let Some(sight) = until else {
-        return false;
-    };
-    let mut shown = false;
-    for i in 0..world.group().n() {
-        shown = shown || is_shown_by(sight, world, i + 1);
+    sight_in_terms(&until?.terms)
+}
+
+fn sight_in_terms(terms: &[Term]) -> Option<Sight>
+    ensures { result ≡ sight_in_terms terms.now }
+{
+    match terms {
+        [term] => sight_in_term(term.when, term.whom, &term.claim),
+        _ => None,
     }
-    shown
 }
 
-// Whether a member shows it, where it is asked for.
-pub(crate) fn is_reached(until: Option<Sight>, world: &World) -> bool
-    ensures { result ≡ is_reached until world.now.rehearsal }
+fn sight_in_term(when: When, whom: Whom, claim: &Claim) -> Option<Sight>
+    ensures { result ≡ sight_in_term when whom claim.now }
 {
-    until.is_none() || is_shown(until, world)
+    match (when, whom) {
+        (When::Now, Whom::Any) => sight_in_claim(claim),
+        _ => None,
+    }
 }
 
-// Whether the member shows it.
-fn is_shown_by(sight: Sight, world: &World, member: Member) -> bool
-    ensures { result ≡ is_shown_by sight world.now.rehearsal member }
+fn sight_in_claim(claim: &Claim) -> Option<Sight>
+    ensures { result ≡ sight_in_claim claim.now }
 {
-    match sight {
-        Sight::Decided(instance) => world.decided(member, instance).is_some(),
-        Sight::Round(round) => round <= round_of(world, member),
+    match claim {
+        Claim::Amount(Amount::Round, Extent::AtLeast(round)) => Some(Sight::Round(*round)),
+        Claim::Got(instance) => Some(Sight::Decided(*instance)),
+        _ => None,
     }
 }
 

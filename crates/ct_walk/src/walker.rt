@@ -1,27 +1,28 @@
 //! The turns of a walk.
 
-ghost use Rattle.std.specs.Prelude.{◌≡◌, ◌+◌, ◌-◌, ◌*◌, ◌^◌, ◌<◌, ◌≤◌, Some, None, IfOk, IfErr, IfSome, OnOk, slice_get};
+ghost use Rattle.std.specs.Prelude.{◌≡◌, ◌+◌, ◌-◌, ◌*◌, ◌^◌, ◌<◌, ◌≤◌, Some, None, IfOk, IfErr, IfSome, OnOk, [], drop, get_or, option_map, set, slice_get};
 ghost use Rattle.ct_program.specs.declared.free_options.TheConstants.{MAX_TURNS};
 ghost use Rattle.ct_program.specs.FreeOptions.{InRange};
 ghost use Rattle.ct_walk.specs.Faults.{IsShort};
 ghost use Rattle.ct_walk.specs.Nearness.{rounds_for};
-ghost use Rattle.ct_walk.specs.Shown.{is_shown};
+ghost use Rattle.ct_walk.specs.Shown.{is_shown_by};
 ghost use Rattle.ct_rehearse.specs.Choices.{after_try};
 ghost use Rattle.ct_walk.specs.Walking.{drawn, drawn_scripts, driven, entered, entries_left, has_left, is_due};
 ghost use Rattle.ct_walk.specs.Walking.{is_drawn, made_by, start, turned, walked_for, workers};
 
-use crate::answering::answer;
+use crate::choosing::tried;
 use crate::fault::WalkFault;
 use crate::nearness::largest_round;
 use crate::script::Script;
-use crate::sight::{Sight, is_shown};
-use crate::worlds::first_stage;
+use crate::worlds::first_watch;
 use ct_detect::Seeded;
+use ct_grammar::Goal;
 use ct_model::Step;
-use ct_names::{Member, Refusal, Round};
+use ct_names::{Member, Round};
+use ct_play::Watch;
 use ct_program::{FreeOptions, losses, postponements, repetitions, seeded, submissions};
-use ct_rehearse::{choice, entry_step};
-use ct_world::{Stage, World};
+use ct_rehearse::{Disturbance, entry_step};
+use ct_world::World;
 use rand_core::SeedableRng;
 use rand_core::utils::NextWord;
 use rand_pcg::Pcg32;
@@ -33,33 +34,42 @@ const SCRIPTS: usize = 4;
 
 // A world, and all that its next turns depend on.
 #[derive(Drop)]
-pub(crate) struct Walker {
-    stage: Stage,
+pub(crate) struct Walker<'g> {
+    watch: Watch<'g>,
     draws: Pcg32,
     detectors: Vec<Seeded>,
     scripts: [Script; SCRIPTS],
 }
 
-// Contracts see all of it but the board.
-impl Model for Walker {
+// Contracts see all of it but the board and the sides of the group, which is not cut.
+impl<'g> Model for Walker<'g> {
+    ghost use Rattle.std.specs.Prelude.{◌≡◌};
+    ghost use Rattle.ct_grammar.specs.Sides.{whole};
     ghost use Rattle.ct_walk.specs.Walking.{Walk};
 
     ghost Value = { Walk };
 
     ghost view = { λ w. record {
-      rehearsal = w.stage.rehearsal;
+      rehearsal = w.watch.played.rehearsal;
+      until = w.watch.goal;
       draws = w.draws;
       detectors = w.detectors.items;
       scripts = w.scripts;
     } };
+
+    ghost invariant = { λ w. w.watch.played.sides ≡ whole };
 }
 
-impl Walker {
-    // The walk of these options before its first turn.
+impl<'g> Walker<'g> {
+    // The walk of these options before its first turn, made until the goal, where there is one.
     #[tactic(auto, unfolding(crate::specs::Walking::start, ct_detect::specs::Seeded::words_of_seed))]
-    pub(crate) fn new(alloc: Global, options: &FreeOptions) -> Result<Walker, WalkFault>
+    pub(crate) fn new(
+        alloc: Global,
+        options: &FreeOptions,
+        until: Option<&'g Goal>,
+    ) -> Result<Walker<'g>, WalkFault>
         requires range { InRange options.now }
-        ensures ok { IfOk result (λ walker. walker ≡ start options.now) }
+        ensures ok { IfOk result (λ walker. walker ≡ start options.now (option_map (λ goal. goal.now) until.entry)) }
         ensures few { IfOk result (λ walker. entries_left walker.scripts ≤ 4001) }
         ensures err { IfErr result IsShort }
     {
@@ -70,9 +80,9 @@ impl Walker {
             Script::new(losses(alloc, options)?),
             Script::new(repetitions(alloc, options)?),
         ];
-        let stage = first_stage(alloc, options)?;
+        let watch = first_watch(alloc, options, until)?;
         Ok(Walker {
-            stage,
+            watch,
             draws: Pcg32::seed_from_u64(u64::from(options.seed)),
             detectors,
             scripts,
@@ -85,7 +95,7 @@ impl Walker {
         requires entries { entries_left self.now.scripts ≤ 4001 }
         ensures { result ≡ self.now.rehearsal.setting.members * turns + entries_left self.now.scripts }
     {
-        let members = u64::from(self.stage.world().group().n());
+        let members = u64::from(self.world().group().n());
         let scripts: &[Script] = &self.scripts;
         let mut entries = 0;
         for script in scripts {
@@ -94,23 +104,17 @@ impl Walker {
         members * u64::from(turns) + entries
     }
 
-    // Makes so many turns at most, until a member shows what is asked for, and answers the largest round that a member came to.
-    pub(crate) fn walk(
-        &mut self,
-        every: u32,
-        until: Option<Sight>,
-        most: u64,
-    ) -> Result<Round, WalkFault>
-        ensures ok { OnOk result (self.new ≡ walked_for every until 0 most self.old) }
-        ensures rounds { IfOk result (λ rounds. rounds ≡ rounds_for every until 0 most self.old) }
+    // Makes so many turns at most, until one shows the goal, and answers the largest round that a member came to.
+    pub(crate) fn walk(&mut self, every: u32, most: u64) -> Result<Round, WalkFault>
+        ensures ok { OnOk result (self.new ≡ walked_for every 0 most self.old) }
+        ensures rounds { IfOk result (λ rounds. rounds ≡ rounds_for every 0 most self.old) }
         ensures err { IfErr result IsShort }
     {
         let mut rounds: Round = 0;
         for made in 0..most {
             self.turn(every, made + 1)?;
-            let world = self.stage.world();
-            rounds = rounds.max(largest_round(world));
-            if is_shown(until, world) {
+            rounds = rounds.max(largest_round(self.world()));
+            if self.shows() {
                 return Ok(rounds);
             }
         }
@@ -161,7 +165,7 @@ impl Walker {
         ensures some { 0 < result }
     {
         let scripts = (0..SCRIPTS).filter(|i| self.is_drawn(every, *i)).count();
-        u32::from(self.stage.world().group().n()) + scripts as u32
+        u32::from(self.world().group().n()) + scripts as u32
     }
 
     // The script of this number among those that are drawn.
@@ -191,7 +195,7 @@ impl Walker {
         ensures ok { OnOk result (self.new ≡ made_by every self.old place) }
         ensures err { IfErr result IsShort }
     {
-        let members = u32::from(self.stage.world().group().n());
+        let members = u32::from(self.world().group().n());
         if place < members {
             return self.drive(place as u8 + 1);
         }
@@ -208,8 +212,7 @@ impl Walker {
         ensures ok { OnOk result (self.new ≡ driven self.old member) }
         ensures err { IfErr result IsShort }
     {
-        let suspects = answer(self.stage.world(), &mut self.detectors, member);
-        let step = choice(self.stage.world(), member, suspects);
+        let step = tried(self.watch.stage().world(), &mut self.detectors, member);
         self.attempt(step)
     }
 
@@ -220,9 +223,9 @@ impl Walker {
         ensures ok { OnOk result (self.new ≡ entered self.old i) }
         ensures err { IfErr result IsShort }
     {
-        match self.scripts[i].next() {
+        match next_of(&mut self.scripts, i) {
             Some(entry) => {
-                let step = entry_step(self.stage.world(), &entry);
+                let step = entry_step(self.world(), &entry);
                 self.attempt(step)
             }
             None => Ok(()),
@@ -234,22 +237,54 @@ impl Walker {
         ensures ok { OnOk result (self.new ≡ record self.old { rehearsal = after_try self.old.rehearsal step }) }
         ensures err { IfErr result IsShort }
     {
-        let Some(step) = step else {
-            return Ok(());
-        };
-        match self.stage.step(&step) {
-            Err(Refusal::OutOfMemory) => Err(WalkFault::Memory),
-            Err(Refusal::Board) => Err(WalkFault::Board),
-            _ => Ok(()),
+        match step {
+            Some(step) => try_step(&mut self.watch, step),
+            None => Ok(()),
         }
     }
 
+    // Whether the goal is shown; what is not asked for is not shown.
+    pub(crate) fn shows(&self) -> bool
+        ensures { result ≡ is_shown_by self.now.until self.now.rehearsal }
+    {
+        self.watch.shows()
+    }
+
     // The world.
+    fn world(&self) -> &World
+        ensures { result.now.rehearsal ≡ self.now.rehearsal }
+    {
+        self.watch.stage().world()
+    }
+
+    // The world alone.
     pub(crate) fn into_world(self) -> World
-        ensures rehearsal { result.rehearsal ≡ self.rehearsal }
+        ensures rehearsal { result.rehearsal ≡ self.entry.rehearsal }
         ensures none { result.prepared ≡ None }
     {
-        let (world, _) = self.stage.into_parts();
-        world
+        self.watch.into_world()
+    }
+}
+
+// Takes the next entry of a script out.
+fn next_of(scripts: &mut [Script; SCRIPTS], i: usize) -> Option<Disturbance>
+    requires { i < 4 }
+    ensures next { result ≡ slice_get (get_or scripts.old i []) 0 }
+    ensures left { scripts.new ≡ set scripts.old i (drop 1 (get_or scripts.old i [])) }
+{
+    scripts[i].next()
+}
+
+// Tries the step. Where the rules refuse it nothing changes.
+fn try_step(watch: &mut Watch<'_>, step: Step) -> Result<(), WalkFault>
+    ensures ok { OnOk result (watch.new.played.rehearsal ≡ after_try watch.old.played.rehearsal (Some step)) }
+    ensures goal { watch.new.goal ≡ watch.old.goal }
+    ensures sides { watch.new.played.sides ≡ watch.old.played.sides }
+    ensures err { IfErr result IsShort }
+{
+    match watch.step(step) {
+        Ok(()) => Ok(()),
+        Err(fault) if fault.is_short() => Err(WalkFault::of(fault)),
+        Err(_) => Ok(()),
     }
 }

@@ -1,19 +1,23 @@
 //! The words after `walk` on a command line.
 
-ghost use Rattle.std.specs.Prelude.{◌≡◌, false, map, option_map, IfOk, IfSome};
+ghost use Rattle.std.specs.Prelude.{◌≡◌, false, option_map, Ok, IfOk, IfErr, IfSome};
 ghost use Rattle.clap.specs.Words.{app_of, found_of, rows_of, rule_of};
-ghost use Rattle.ct_walk.specs.Line.{every_rule, find_rule, seeds_rule, sight_rule, walk_app};
-ghost use Rattle.ct_walk.specs.Line.{call_with, given_seeds, given_sight, run_of, sight_in, sight_or_none, walk_call, walk_options};
-ghost use Rattle.ct_walk.specs.Line.{IsCallInRange, IsSeedsInRange};
+ghost use Rattle.ct_walk.specs.Line.{every_rule, find_rule, goal_rule, seeds_rule, walk_app, with_search_rules};
+ghost use Rattle.ct_walk.specs.Line.{given_seeds, options_with, search_options, seeds_in, seeds_or_line, walk_call, walk_options};
+ghost use Rattle.ct_walk.specs.Line.{IsCallFault, IsCallInRange, IsSeedsInRange};
 ghost use Rattle.ct_program.specs.FreeOptions.{InRange};
 ghost use Rattle.ct_walk.specs.Options.{IsInRange};
-ghost use Rattle.ct_walk.specs.Texts.{seeds_of, sight_of};
+ghost use Rattle.ct_walk.specs.Texts.{seeds_of};
 
 use crate::call::{Call, Seeds};
+use crate::call_fault::CallFault;
+use crate::goals::goal_in;
 use crate::options::WalkOptions;
-use crate::sight::Sight;
 use clap::{Arg, ArgMatches, Command};
-use ct_program::{FreeOptions, MAX_TURNS, found_options, with_free_options};
+use ct_program::{
+    FreeOptions, MAX_TURNS, found_options, seedless_options, with_free_options,
+    with_seedless_options,
+};
 use ct_streams::{
     Given, Wanted, WordFault, default_option, number_in, option_in, subcommand, value_option,
 };
@@ -21,117 +25,92 @@ use std::alloc::{AllocError, Global};
 
 // The help of the option `turns`.
 const TURNS: &str = concat!(
-    "How many turns there are for each member, 0 to 100000: N times the members are made, and one for each entry of the scripts; ",
-    "whose each is, is drawn, so a member takes more than N of them or fewer",
+    "How many turns there are for each member,\n",
+    "0 to 100000: N times the members are made, and one\n",
+    "for each entry of the scripts; whose each is, is\n",
+    "drawn, so a member takes more than N of them\n",
+    "or fewer",
 );
 
 // What stands after the options.
 const AFTER: &str = "Examples:
   ct_tool walk --members 3 > run.json
   ct_tool walk --members 5 --seed 7 --submit 20 --every 100 > run.json
-  ct_tool walk --members 3 --rate 128 --until decided 2 > run.json
-  ct_tool walk --members 3 --crash 2 --find round 5 --seeds 1..200 > run.json
+  ct_tool walk --members 3 --rate 128 --until 'any decided 2' > run.json
+  ct_tool walk --members 3 --find 'any round >= 5' --seeds 1..200 > run.json
+
+Goals are those that `ct_tool find --help` tells.
 
 Status:
   0  the record was written
-  1  no walk comes to what --until or --find asks for
+  1  no walk shows the goal of --until or --find
   3  the words of the command line are refused
   4  a write of standard output failed
   5  memory was refused";
 
-// What may stand after `--until` and `--find`, and after `--seeds`.
-const SIGHTS: &str = "decided or round, and a whole number from 1 to 4294967295";
-
+// What may stand after `--seeds`.
 const SEEDS: &str = "A..B, whole numbers from 0 to 4294967295, A no larger than B";
 
 /// What the options of `walk` ask for; else the fault of the first one, in the order of the definition, that asks for nothing.
-pub fn walk_call<'a>(found: &'a ArgMatches<'_>) -> Result<Call, WordFault<'a>>
-    ensures exact { result ≡ walk_call (rows_of (found_of found.now)) }
+#[tactic(auto, unfolding(crate::specs::Line::walk_call))]
+pub fn walk_call<'a>(alloc: Global, found: &'a ArgMatches<'_>) -> Result<Call, CallFault<'a>>
+    ensures ok { IfOk result (λ call. walk_call (rows_of (found_of found.now)) ≡ Ok call) }
     ensures range { IfOk result IsCallInRange }
+    ensures err { IfErr result (IsCallFault (walk_call (rows_of (found_of found.now)))) }
 {
-    call_with(found, found.get_str("seeds"))
-}
-
-// The same with what is given for `seeds`.
-fn call_with<'a>(found: &'a ArgMatches<'_>, seeds: Option<&'a str>) -> Result<Call, WordFault<'a>>
-    ensures exact { result ≡ call_with (rows_of (found_of found.now)) (option_map (λ text. text.now) seeds.entry) }
-    ensures range { IfOk result IsCallInRange }
-{
-    match seeds {
-        None => Ok(Call::Walk(walk_options(found, "until")?)),
-        Some(text) => {
-            let options = walk_options(found, "find")?;
-            Ok(Call::Find(options, given_seeds(text)?))
-        }
+    let options = walk_options(found)?;
+    match goal_in(alloc, found, "find")? {
+        None => Ok(Call::Walk(options, goal_in(alloc, found, "until")?)),
+        Some(goal) => Ok(Call::Find(options, goal, seeds_in(found)?)),
     }
 }
 
-// The options of a walk that is made until what the option of that name says.
-#[tactic(auto, unfolding(crate::specs::Line::walk_options))]
-fn walk_options<'a>(found: &'a ArgMatches<'_>, name: &'a str) -> Result<WalkOptions, WordFault<'a>>
-    ensures exact { result ≡ walk_options (rows_of (found_of found.now)) name.now }
+/// The options of a walk.
+pub fn walk_options<'a>(found: &'a ArgMatches<'_>) -> Result<WalkOptions, WordFault<'a>>
+    ensures exact { result ≡ walk_options (rows_of (found_of found.now)) }
     ensures range { IfOk result IsInRange }
 {
-    Ok(WalkOptions {
-        run: run_options(found)?,
-        every: option_in(found, "every", 0, MAX_TURNS)?,
-        until: sight(found, name)?,
-    })
+    options_with(found, found_options(found)?)
 }
 
-// The options that a walk shares with a free run, where the member that crashes is one of the group.
-#[tactic(auto, unfolding(crate::specs::Line::run_of))]
-fn run_options<'a>(found: &'a ArgMatches<'_>) -> Result<FreeOptions, WordFault<'a>>
-    ensures exact { result ≡ run_of (rows_of (found_of found.now)) }
-    ensures range { IfOk result InRange }
+/// The same of a command without the option `seed`; the seed is 0.
+pub fn search_options<'a>(found: &'a ArgMatches<'_>) -> Result<WalkOptions, WordFault<'a>>
+    ensures exact { result ≡ search_options (rows_of (found_of found.now)) }
+    ensures range { IfOk result IsInRange }
 {
-    let run = found_options(found)?;
+    options_with(found, seedless_options(found)?)
+}
+
+// These options, where the member that crashes is one of the group, and the others of a walk.
+#[tactic(auto, unfolding(crate::specs::Line::options_with))]
+fn options_with<'a>(
+    found: &'a ArgMatches<'_>,
+    run: FreeOptions,
+) -> Result<WalkOptions, WordFault<'a>>
+    requires { InRange run }
+    ensures exact { result ≡ options_with (rows_of (found_of found.now)) run }
+    ensures range { IfOk result IsInRange }
+{
     let _ = option_in(found, "crash", 0, u32::from(run.members))?;
-    Ok(run)
+    let every = option_in(found, "every", 0, MAX_TURNS)?;
+    Ok(WalkOptions { run, every })
 }
 
-// What the option names, where it is given.
-fn sight<'a>(found: &'a ArgMatches<'_>, name: &'a str) -> Result<Option<Sight>, WordFault<'a>>
-    ensures { result ≡ sight_in (rows_of (found_of found.now)) name.now }
+/// The seeds that are given.
+pub fn seeds_in<'a>(found: &'a ArgMatches<'_>) -> Result<Seeds, WordFault<'a>>
+    ensures exact { result ≡ seeds_in (rows_of (found_of found.now)) }
+    ensures range { IfOk result IsSeedsInRange }
 {
-    sight_or_none(name, found.get_strs(name))
+    seeds_or_line(found.get_str("seeds"))
 }
 
-// What the texts name that are given for the option, where it is given.
-fn sight_or_none<'a>(
-    name: &'a str,
-    texts: Option<&[&'a str]>,
-) -> Result<Option<Sight>, WordFault<'a>>
-    ensures { result ≡ sight_or_none name.now (option_map (λ texts. map (λ text. text.now) texts.now) texts.entry) }
+fn seeds_or_line<'a>(text: Option<&'a str>) -> Result<Seeds, WordFault<'a>>
+    ensures exact { result ≡ seeds_or_line (option_map (λ text. text.now) text.entry) }
+    ensures range { IfOk result IsSeedsInRange }
 {
-    match texts {
-        None => Ok(None),
-        Some(texts) => Ok(Some(given_sight(name, texts)?)),
-    }
-}
-
-// What these texts name.
-fn given_sight<'a>(name: &'a str, texts: &[&'a str]) -> Result<Sight, WordFault<'a>>
-    ensures { result ≡ given_sight name.now (map (λ text. text.now) texts.now) }
-{
-    match sight_of(texts) {
-        Some(sight) => Ok(sight),
-        None => Err(WordFault::new(name, Given::of(texts), Wanted::Words(SIGHTS))),
-    }
-}
-
-// `decided` and an instance, or `round` and a round.
-fn sight_of(texts: &[&str]) -> Option<Sight>
-    ensures { result ≡ sight_of (map (λ text. text.now) texts.now) }
-{
-    let [kind, number] = texts else {
-        return None;
-    };
-    let number = number_in(number, 1, u32::MAX)?;
-    match *kind {
-        "decided" => Some(Sight::Decided(number)),
-        "round" => Some(Sight::Round(number)),
-        _ => None,
+    match text {
+        Some(text) => given_seeds(text),
+        None => Err(WordFault::new("seeds", Given::Nothing, Wanted::Words(SEEDS))),
     }
 }
 
@@ -166,20 +145,31 @@ pub fn walk_command<'a>(alloc: Global) -> Result<Command<'a>, AllocError>
         alloc,
         "walk",
         concat!(
-            "Runs a group of members in one thread, each turn's member drawn from the seed, and writes the record of the run to standard ",
-            "output; the same options give the same record",
+            "Runs a group of members in one thread, each turn's member drawn from\n",
+            "the seed, and writes the record of the run to standard output; the\n",
+            "same options give the same record",
         ),
         AFTER,
     );
     with_free_options(alloc, command, TURNS)?
         .arg(every(alloc))?
-        .arg(sight_arg(
+        .arg(goal_arg(
             alloc,
             "until",
-            "Stops once a member got the decision of instance N (decided), or is in round N of an instance or in a later one (round)",
+            "Stops once the run shows the goal: decided N,\nround N, 'any round >= 4 and never 2 crashed' ..",
         ))?
         .arg(find_arg(alloc)?)?
         .arg(seeds_arg(alloc)?)
+}
+
+/// The command, and after its arguments the options of a walk but for `seed`.
+pub fn with_search_options<'a>(
+    alloc: Global,
+    command: Command<'a>,
+) -> Result<Command<'a>, AllocError>
+    ensures { IfOk result (λ longer. app_of longer ≡ with_search_rules (app_of command.entry)) }
+{
+    with_seedless_options(alloc, command, TURNS)?.arg(every(alloc))
 }
 
 fn every<'a>(alloc: Global) -> Arg<'a>
@@ -190,29 +180,37 @@ fn every<'a>(alloc: Global) -> Arg<'a>
         alloc,
         "every",
         "0",
-        "Makes the submissions and the crash at the turns N, 2N, 3N and so on, 0 to 100000; at 0 their turns are drawn like all others",
+        concat!(
+            "Makes the submissions and the crash at the turns N,\n",
+            "2N, 3N and so on, 0 to 100000; at 0 their turns are\n",
+            "drawn like all others",
+        ),
     )
     .value_name("N")
 }
 
-// An option that names what can be shown of a walk, that need not be given.
-fn sight_arg<'a>(alloc: Global, name: &'a str, help: &'a str) -> Arg<'a>
-    ensures rule { rule_of result ≡ sight_rule name.entry.now }
+// An option that is given a goal, that need not be given.
+fn goal_arg<'a>(alloc: Global, name: &'a str, help: &'a str) -> Arg<'a>
+    ensures rule { rule_of result ≡ goal_rule name.entry.now }
     ensures local { result.global ≡ false }
 {
     value_option(alloc, name, help)
-        .num_args(2)
-        .value_names(&["decided|round", "N"])
+        .num_args(1..)
+        .value_name("GOAL")
 }
 
 fn find_arg<'a>(alloc: Global) -> Result<Arg<'a>, AllocError>
     ensures rule { IfOk result (λ find. rule_of find ≡ find_rule) }
     ensures local { IfOk result (λ find. find.global ≡ false) }
 {
-    sight_arg(
+    goal_arg(
         alloc,
         "find",
-        "Tries the seeds of --seeds in place of --seed until a walk comes to this, and writes that walk, stopped as by --until",
+        concat!(
+            "Tries the seeds of --seeds in place of --seed until\n",
+            "a walk shows the goal, and writes that walk,\n",
+            "stopped as by --until",
+        ),
     )
     .requires_arg("seeds")?
     .conflicts_with("until")
@@ -225,7 +223,7 @@ fn seeds_arg<'a>(alloc: Global) -> Result<Arg<'a>, AllocError>
     value_option(
         alloc,
         "seeds",
-        "The seeds that --find tries, from A to B, both of them too: 0 to 4294967295",
+        "The seeds that --find tries, from A to B, both of\nthem too: 0 to 4294967295",
     )
     .value_name("A..B")
     .requires_arg("find")

@@ -1,19 +1,27 @@
 //! What a walk begins with.
 
-ghost use Rattle.std.specs.Prelude.{◌≡◌, IfOk, IfErr};
+ghost use Rattle.std.specs.Prelude.{◌≡◌, IfOk, IfErr, option_map};
 ghost use Rattle.ct_model.specs.Rehearsal.{empty};
 ghost use Rattle.ct_program.specs.FreeOptions.{InRange, setting_of};
+ghost use Rattle.ct_play.specs.Goals.{uncut};
 
 use crate::fault::WalkFault;
+use ct_grammar::Goal;
 use ct_names::Group;
+use ct_play::Watch;
 use ct_program::FreeOptions;
-use ct_world::{Setup, Stage};
+use ct_world::Setup;
 use std::alloc::Global;
 
-// The world before the first turn, and its board.
-pub(crate) fn first_stage(alloc: Global, options: &FreeOptions) -> Result<Stage, WalkFault>
+// The stage before the first turn, on which the goal is looked for, where there is one.
+pub(crate) fn first_watch<'g>(
+    alloc: Global,
+    options: &FreeOptions,
+    until: Option<&'g Goal>,
+) -> Result<Watch<'g>, WalkFault>
     requires { InRange options.now }
-    ensures ok { IfOk result (λ stage. stage.rehearsal ≡ empty (setting_of options.now) options.now.cells) }
+    ensures ok { IfOk result (λ watch. watch
+        ≡ record { played = uncut (empty (setting_of options.now) options.now.cells); goal = option_map (λ goal. goal.now) until.entry }) }
     ensures err { IfErr result (λ fault. fault ≡ WalkFault.Memory) }
 {
     let Some(group) = Group::new(options.members) else {
@@ -22,8 +30,8 @@ pub(crate) fn first_stage(alloc: Global, options: &FreeOptions) -> Result<Stage,
     let Some(setup) = Setup::new(group, options.cells, options.batch) else {
         unreachable!()
     };
-    match Stage::new(alloc, setup) {
-        Ok(stage) => Ok(stage),
+    match Watch::new(alloc, setup, until) {
+        Ok(watch) => Ok(watch),
         Err(_) => Err(WalkFault::Memory),
     }
 }

@@ -5,6 +5,7 @@ ghost use Rattle.ct_streams.specs.Streams.{FailsOnce};
 ghost use Rattle.ct_records.specs.Outcome.{IsOutcome};
 ghost use Rattle.ct_records.specs.Text.{record_text};
 ghost use Rattle.ct_walk.specs.Line.{IsCallInRange};
+ghost use Rattle.ct_walk.specs.Sights.{sight_in};
 ghost use Rattle.ct_walk.specs.Writing.{seed_for, IsSeedOf, IsWalkOf, Misses, WritesWalk, WritesWalkPart};
 
 use crate::call::{Call, Seeds};
@@ -13,8 +14,9 @@ use crate::finding::find;
 use crate::found_seed::FoundSeed;
 use crate::missed::Missed;
 use crate::options::WalkOptions;
-use crate::sight::is_reached;
+use crate::sight::sight_in;
 use crate::walking::walk_near;
+use ct_grammar::Goal;
 use ct_records::write_record;
 use ct_streams::{Failed, Sink, write_all};
 use ct_world::World;
@@ -77,18 +79,18 @@ fn called(alloc: Global, call: &Call) -> Result<Made, WalkFault>
     ensures quiet { IfErr result (λ fault. fault ≢ WalkFault.Write) }
 {
     match call {
-        Call::Walk(options) => {
-            let walk = walk_near(alloc, options)?;
-            if !is_reached(options.until, &walk.world) {
-                return Err(WalkFault::NotFound(missed(options, walk.came_to)));
+        Call::Walk(options, until) => {
+            let walk = walk_near(alloc, options, until.as_ref())?;
+            if until.is_some() && !walk.shows {
+                return Err(WalkFault::NotFound(missed(options, until.as_ref(), walk.came_to)));
             }
             Ok(Made {
                 found: None,
                 world: walk.world,
             })
         }
-        Call::Find(options, seeds) => {
-            let walk = find(alloc, options, *seeds)?;
+        Call::Find(options, goal, seeds) => {
+            let walk = find(alloc, options, goal, *seeds)?;
             Ok(Made {
                 found: Some(walk.seed),
                 world: walk.world,
@@ -98,9 +100,9 @@ fn called(alloc: Global, call: &Call) -> Result<Made, WalkFault>
 }
 
 // What is told of the one walk that was made, which came to so much.
-fn missed(options: &WalkOptions, came_to: u32) -> Missed
+fn missed(options: &WalkOptions, until: Option<&Goal>, came_to: u32) -> Missed
     ensures { result ≡ record {
-      until = options.now.until;
+      sight = sight_in (option_map (λ goal. goal.now) until.entry);
       seeds = record { first = options.now.run.seed; last = options.now.run.seed };
       seed = options.now.run.seed;
       came_to = came_to;
@@ -108,7 +110,7 @@ fn missed(options: &WalkOptions, came_to: u32) -> Missed
 {
     let seed = options.run.seed;
     Missed {
-        until: options.until,
+        sight: sight_in(until),
         seeds: Seeds {
             first: seed,
             last: seed,

@@ -1,11 +1,11 @@
-use Rattle.std.proofs.Common.{◌≡◌, ◌+◌, ◌-◌}
-use Rattle.ct_walk.specs.Finding.{first_seed, seeds_to}
+use Rattle.std.proofs.Common.{◌≡◌, ◌+◌, ◌-◌, Some}
+use Rattle.ct_walk.specs.Finding.{first_of, first_seed}
+use Rattle.ct_walk.specs.Sights.{sight_in}
 use Rattle.ct_walk.proofs.Nearest.{IsNearestSoFar}
 use Rattle.ct_walk.proofs.finding.find.Given as goal
 
 abbrev pub invariant-loop-seed : goal.invariant-loop-seed
 invariant-loop-seed l =
-    (first_seed l.options l.seed ((l.fn.seeds.last + 1) - l.seed)
-    ≡ first_seed l.options l.fn.seeds.first (seeds_to l.fn.seeds.first l.fn.seeds.last))
-    × (l.missed.until ≡ l.options.until) × (l.missed.seeds ≡ l.fn.seeds)
-    × IsNearestSoFar l.options l.fn.seeds.first l.seed l.missed
+    (first_seed l.options l.goal l.seed ((l.fn.seeds.last + 1) - l.seed) ≡ first_of l.options l.goal l.fn.seeds)
+    × (l.missed.sight ≡ sight_in (Some l.goal)) × (l.missed.seeds ≡ l.fn.seeds)
+    × IsNearestSoFar l.options (Some l.goal) l.fn.seeds.first l.seed l.missed

@@ -1,15 +1,33 @@
-use Rattle.std.proofs.Common.{◌∙◌}
+use Rattle.std.proofs.Common.{◌∙◌, ap, ap₂, option_map}
+use Rattle.ct_walk.specs.Nearness.{came}
+use Rattle.ct_walk.specs.Shown.{is_shown_by}
 use Rattle.ct_walk.proofs.Looping.{walked_is}
-use Rattle.ct_walk.proofs.Rounds.{came_is}
+use Rattle.ct_walk.proofs.Rounds.{came_is, rounds_are}
+use Rattle.ct_walk.proofs.Untils.{until_is}
 use Rattle.ct_walk.proofs.walking.walk_near.Goals as goal
 
 pub returns-clause-exact : goal.returns-clause-exact
 returns-clause-exact c =
     c.into_world-world.ensures.rehearsal
-    ∙ walked_is c.args.options.now c.in_ok-walker.walker c.walk.new.self _
+    ∙ walked_is c.args.options.now (option_map (λ goal. goal.now) c.args.until) c.in_ok-walker.walker c.walk.new.self _
     c.in_ok-walker.ensures.ok c.most_turns-most.ensures c.in_ok-rounds.ensures.ok
+
+pub returns-clause-shows : goal.returns-clause-shows
+returns-clause-shows c =
+    let o = c.args.options.now in
+    let until = option_map (λ goal. goal.now) c.args.until in
+    c.shows-shows.ensures
+    ∙ ap₂ is_shown_by (until_is o.run until o.every _ c.in_ok-walker.walker c.walk.new.self c.in_ok-walker.ensures.ok c.in_ok-rounds.ensures.ok)
+    (walked_is o until c.in_ok-walker.walker c.walk.new.self _ c.in_ok-walker.ensures.ok c.most_turns-most.ensures c.in_ok-rounds.ensures.ok)
 
 pub returns-clause-near : goal.returns-clause-near
 returns-clause-near c =
-    came_is c.args.options.now c.in_ok-walker.walker c.walk.new.self _ _ _ _ c.in_ok-walker.ensures.ok c.most_turns-most.ensures
-    c.in_ok-rounds.ensures.ok c.in_ok-rounds.ensures.rounds c.into_world-world.ensures.rehearsal c.came-came_to.ensures
+    came_is c.args.options.now (option_map (λ goal. goal.now) c.args.until) c.in_ok-walker.walker c.walk.new.self _ _ _ _
+    c.in_ok-walker.ensures.ok c.most_turns-most.ensures
+    c.in_ok-rounds.ensures.ok c.in_ok-rounds.ensures.rounds c.into_world-world.ensures.rehearsal
+    (c.came-came_to.ensures ∙ ap (λ sight. came sight c.in_ok-rounds.rounds c.into_world-world.result.rehearsal) c.sight_in.ensures)
+
+pub returns-clause-rounds : goal.returns-clause-rounds
+returns-clause-rounds c =
+    rounds_are c.args.options.now (option_map (λ goal. goal.now) c.args.until) c.in_ok-walker.walker _ _
+    c.in_ok-walker.ensures.ok c.most_turns-most.ensures c.in_ok-rounds.ensures.rounds

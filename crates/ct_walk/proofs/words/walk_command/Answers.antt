@@ -10,7 +10,7 @@ pub returns : goal.returns
 returns c =
     let run = c.in_ok-with_free_options.ensures ∙ ap (λ app. fold with_rule app free_rules) c.subcommand-command.ensures in
     let every = with_option _ _ _ _ _ c.in_ok-arg.ensures c.every.ensures.local run c.every.ensures.rule in
-    let until = with_option _ _ _ _ _ c.in_ok-arg-2.ensures c.sight_arg.ensures.local every c.sight_arg.ensures.rule in
+    let until = with_option _ _ _ _ _ c.in_ok-arg-2.ensures c.goal_arg.ensures.local every c.goal_arg.ensures.rule in
     let find = with_option _ _ _ _ _ c.in_ok-arg-3.ensures c.in_ok-find_arg.ensures.local until c.in_ok-find_arg.ensures.rule in
     IfOk-weaker c.arg-4.result _ _
     (λ r adds. with_option _ _ _ _ _ adds c.in_ok-seeds_arg.ensures.local find c.in_ok-seeds_arg.ensures.rule) c.arg-4.ensures
