@@ -1,0 +1,10 @@
+pub mod Hits
+pub mod Searching
+pub mod Spreads
+pub mod Tallies
+pub mod Counts
+pub mod Texts
+pub mod Tried
+pub mod Line
+pub mod Writing
+pub mod Counting

@@ -1,0 +1,12 @@
+//! Seeds whose walks show what is looked for.
+
+use ct_walk::WalkSize;
+
+// A seed whose walk shows the goal.
+#[derive(Clone, Copy, Debug, Drop, PartialEq, Eq)]
+pub(crate) struct Hit {
+    // The seed.
+    pub(crate) seed: u32,
+    // How far its walk goes.
+    pub(crate) size: WalkSize,
+}
