@@ -1,0 +1,9 @@
+pub mod Lines
+pub mod Runs
+pub mod Trials
+pub mod Shrinking
+pub mod Faults
+pub mod Line
+pub mod Summaries
+pub mod Texts
+pub mod Writing

@@ -1,0 +1,64 @@
+//! The beginning of a record that shows a goal.
+
+ghost use Rattle.std.specs.Prelude.{◌≡◌, ◌≤◌, Ok, None, IfOk, IfErr, OnOk, MatchOption, length};
+ghost use Rattle.ct_model.specs.Cause.{cause};
+ghost use Rattle.ct_world.specs.Replay.{AllowsFirst};
+ghost use Rattle.ct_world.specs.Setup.{setting_of};
+ghost use Rattle.ct_play.specs.Faults.{IsShort};
+ghost use Rattle.ct_play.specs.Played.{with_step};
+ghost use Rattle.ct_play.specs.Goals.{shows};
+ghost use Rattle.ct_shrink.specs.Lines.{after_line};
+ghost use Rattle.ct_shrink.specs.Runs.{IsFirstOf, IsNeverShown};
+
+use crate::kept_run::{KeptRun, kept_run, push_line};
+use crate::line::Line;
+use crate::naming::line_of;
+use ct_grammar::Goal;
+use ct_model::Step;
+use ct_play::{LineFault, Watch};
+use ct_world::Setup;
+use std::alloc::Global;
+
+// The first beginning of the record that shows the goal.
+pub(crate) fn first_run(
+    alloc: Global,
+    setup: &Setup,
+    steps: &[Step],
+    goal: &Goal,
+) -> Result<Option<KeptRun>, LineFault>
+    requires { AllowsFirst (setting_of setup.now) setup.now.cells steps.now (length steps.now) }
+    ensures first { IfOk result (λ first. MatchOption first (IsNeverShown (shows goal.now) setup.now steps.now)
+        (λ run. IsFirstOf (shows goal.now) setup.now steps.now run.lines.items run.world.rehearsal)) }
+    ensures err { IfErr result IsShort }
+{
+    let mut watch = Watch::new(alloc, *setup, Some(goal))?;
+    let mut lines = Vec::new(alloc);
+    for (i, step) in steps.iter().enumerate() {
+        // The invariant names it.
+        let _ = i;
+        if watch.shows() {
+            return Ok(Some(kept_run(lines, watch)));
+        }
+        let line = step_by(&mut watch, *step)?;
+        push_line(&mut lines, line.member, line.act)?;
+    }
+    if watch.shows() {
+        Ok(Some(kept_run(lines, watch)))
+    } else {
+        Ok(None)
+    }
+}
+
+// Takes the step, and answers its line.
+#[tactic(auto, unfolding(crate::specs::Lines::after_line, ct_play::specs::Acting::stepped))]
+fn step_by(watch: &mut Watch<'_>, step: Step) -> Result<Line, LineFault>
+    requires { cause watch.old.played.rehearsal step ≡ None }
+    ensures line { IfOk result (λ line. after_line watch.old.played line ≡ Ok watch.new.played) }
+    ensures step { OnOk result (watch.new.played ≡ with_step watch.old.played step) }
+    ensures goal { watch.new.goal ≡ watch.old.goal }
+    ensures err { IfErr result IsShort }
+{
+    let line = line_of(watch.stage(), step);
+    watch.step(step)?;
+    Ok(line)
+}

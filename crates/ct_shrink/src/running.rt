@@ -1,0 +1,119 @@
+//! A record in, a smaller run out.
+
+ghost use Rattle.std.specs.Prelude.{◌≡◌, ◌≢◌, ◌<◌, ◌^◌, Ok, Err, IfOk, IfErr, IfSome};
+ghost use Rattle.ct_streams.specs.Streams.{FailsOnce};
+ghost use Rattle.ct_records.specs.Script.{script};
+ghost use Rattle.ct_records.specs.View.{rehearsal_of};
+ghost use Rattle.ct_listing.specs.Listing.{IsOfListing};
+ghost use Rattle.ct_play.specs.Goals.{shows};
+ghost use Rattle.ct_shrink.specs.Writing.{FailsOn, IsFaultIn, IsFaultOn, IsSmallerIn, IsSmallerText, WritesSmaller, WritesSmallerInPart};
+
+use crate::making::shrink;
+use crate::options::ShrinkOptions;
+use crate::progress::Progress;
+use crate::shrink_fault::ShrinkFault;
+use crate::summary::Summary;
+use crate::writing::written;
+use ct_grammar::Goal;
+use ct_listing::replay;
+use ct_records::{ProgramFault, Script};
+use ct_show::{ShowFault, read_told};
+use ct_streams::{Failed, Sink, Source, read_all, write_all};
+use std::alloc::Global;
+
+// A smaller run as a text, and what is told of it.
+#[derive(Drop)]
+struct Made {
+    text: Vec<u8>,
+    summary: Summary,
+}
+
+/// Reads a record to its end, makes its run smaller and writes that; behind a schedule stands the line that expects the goal.
+/// The whole text is made before the first write. What the contract says of the input holds where the reader tells its bytes, and
+/// what it says of the output where the writer does.
+pub fn write_smaller<R: Source, W: Sink, P: Progress>(
+    alloc: Global,
+    reader: &mut R,
+    writer: &mut W,
+    goal: &Goal,
+    options: &ShrinkOptions,
+    progress: &mut P,
+) -> Result<Summary, ShrinkFault>
+    requires reads { R.failures reader.old < 2 ^ 63 }
+    requires writes { W.failures writer.old < 2 ^ 63 }
+    // The input is a record whose steps are all allowed, and what was written is a smaller run that shows the goal.
+    ensures ok { IfOk result (λ summary. IfSome (R.left reader.old) (λ input.
+        WritesSmaller (shows goal.now) goal.now options.now (script input) summary (W.written writer.old) (W.written writer.new))) }
+    ensures fault { IfErr result (λ fault. IfSome (R.left reader.old) (FailsOn (shows goal.now) fault)) }
+    // Where the writer failed, some first bytes of such a text were written.
+    ensures part { result ≡ Err (ShrinkFault.Show (ShowFault.Program ProgramFault.Write)) → IfSome (R.left reader.old) (λ input.
+        WritesSmallerInPart (shows goal.now) goal.now options.now (script input) (W.written writer.old) (W.written writer.new)) }
+    ensures reader { FailsOnce result (ShrinkFault.Show (ShowFault.Program ProgramFault.Reader))
+        (R.failures reader.old) (R.failures reader.new) }
+    ensures writer { FailsOnce result (ShrinkFault.Show (ShowFault.Program ProgramFault.Write))
+        (W.failures writer.old) (W.failures writer.new) }
+    // Nothing was written but where the writer failed.
+    ensures quiet { IfErr result (λ fault. fault ≢ ShrinkFault.Show (ShowFault.Program ProgramFault.Write) → writer.new ≡ writer.old) }
+{
+    let bytes = read_all(alloc, reader)?;
+    let made = smaller(alloc, bytes, goal, options, progress)?;
+    match write_all(writer, &made.text) {
+        Ok(()) => Ok(made.summary),
+        Err(Failed) => Err(ShrinkFault::Show(ShowFault::Program(ProgramFault::Write))),
+    }
+}
+
+// The smaller run of the record, whose bytes are freed before it is made.
+#[tactic(auto, using(crate::proofs::Reading::text_in, crate::proofs::Reading::fault_in))]
+fn smaller<P: Progress>(
+    alloc: Global,
+    bytes: Vec<u8>,
+    goal: &Goal,
+    options: &ShrinkOptions,
+    progress: &mut P,
+) -> Result<Made, ShrinkFault>
+    ensures ok { IfOk result (λ made.
+        IsSmallerIn (shows goal.now) goal.now options.now (script bytes.items) made.summary made.text.items) }
+    ensures fault { IfErr result (λ fault. IsFaultIn (shows goal.now) fault bytes.items) }
+{
+    let script = read(alloc, &bytes)?;
+    drop(bytes);
+    make(alloc, &script, goal, options, progress)
+}
+
+// The smaller run of the record.
+fn make<P: Progress>(
+    alloc: Global,
+    script: &Script,
+    goal: &Goal,
+    options: &ShrinkOptions,
+    progress: &mut P,
+) -> Result<Made, ShrinkFault>
+    ensures ok { IfOk result (λ made.
+        IsSmallerText (shows goal.now) goal.now options.now (rehearsal_of script.now) made.summary made.text.items) }
+    ensures fault { IfErr result (IsFaultOn (shows goal.now) (rehearsal_of script.now)) }
+{
+    replay(alloc, script)?;
+    let setup = script.setup();
+    let same = setup;
+    let shrunk = shrink(alloc, setup, &script.steps, goal, options.tries, progress)?;
+    let summary = Summary {
+        steps: script.steps.len(),
+        left: shrunk.lines.len(),
+        trials: shrunk.trials,
+        is_stopped: shrunk.is_stopped,
+    };
+    let text = written(alloc, same, shrunk.world, options.form, goal)?;
+    Ok(Made { text, summary })
+}
+
+// The record that the bytes are.
+fn read(alloc: Global, bytes: &[u8]) -> Result<Script, ShowFault>
+    ensures ok { IfOk result (λ read. script bytes.now ≡ Ok (rehearsal_of read)) }
+    ensures fault { IfErr result (λ fault. IsOfListing fault bytes.now) }
+{
+    match read_told(alloc, bytes)? {
+        Ok(script) => Ok(script),
+        Err(told) => Err(ShowFault::Unread(told)),
+    }
+}

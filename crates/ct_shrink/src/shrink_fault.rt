@@ -1,0 +1,96 @@
+//! Why no smaller run is made.
+
+ghost use Rattle.std.specs.Prelude.{◌≡◌, Some};
+ghost use Rattle.ct_shrink.specs.Faults.{fault_text, status_of};
+
+use ct_play::LineFault;
+use ct_records::ProgramFault;
+use ct_show::ShowFault;
+use ct_streams::{InputFault, Status};
+use std::fmt;
+
+/// Why no smaller run is made, or written. Its text is the line for standard error.
+#[derive(Debug, Drop)]
+pub enum ShrinkFault {
+    /// The run never shows the goal.
+    NotShown,
+    /// A cell of the board refused a batch.
+    Board,
+    /// The input is no record, a step of it is refused, a stream failed, or memory was refused.
+    Show(ShowFault),
+}
+
+impl ShrinkFault {
+    /// The status that a program ends with: 1 where the goal is not shown, 5 for the board, else that of what is shown of a record.
+    pub fn status(&self) -> u8
+        ensures { result ≡ status_of self.now }
+    {
+        match self {
+            ShrinkFault::NotShown => Status::Refused.code(),
+            ShrinkFault::Board => Status::Memory.code(),
+            ShrinkFault::Show(fault) => fault.status(),
+        }
+    }
+}
+
+impl fmt::Display for ShrinkFault {
+    ghost output = { λ fault. Some (fault_text fault) };
+
+    fn fmt<W: fmt::Write>(&self, f: &mut fmt::Formatter<W>) -> fmt::Result {
+        match self {
+            ShrinkFault::NotShown => f.write_str("the goal is not shown"),
+            ShrinkFault::Board => f.write_str("board refused"),
+            ShrinkFault::Show(fault) => write!(f, "{fault}"),
+        }
+    }
+}
+
+impl From<LineFault> for ShrinkFault {
+    ghost use Rattle.ct_shrink.specs.Faults.{of_line_fault};
+    ghost use Rattle.std.specs.Prelude.{◌≡◌};
+
+    ghost from_gives = { λ line fault. fault ≡ of_line_fault line };
+
+    fn from(line: LineFault) -> ShrinkFault {
+        match line {
+            LineFault::Board => ShrinkFault::Board,
+            _ => ShrinkFault::Show(ShowFault::Program(ProgramFault::Memory)),
+        }
+    }
+}
+
+impl From<ShowFault> for ShrinkFault {
+    ghost use Rattle.std.specs.Prelude.{◌≡◌};
+    ghost use Rattle.ct_shrink.specs.declared.shrink_fault.ShrinkFault.TheVariants.{Show};
+
+    ghost from_gives = { λ show fault. fault ≡ Show show };
+
+    fn from(show: ShowFault) -> ShrinkFault {
+        ShrinkFault::Show(show)
+    }
+}
+
+impl From<ProgramFault> for ShrinkFault {
+    ghost use Rattle.std.specs.Prelude.{◌≡◌};
+    ghost use Rattle.ct_show.specs.declared.show_fault.ShowFault.TheVariants.{Program};
+    ghost use Rattle.ct_shrink.specs.declared.shrink_fault.ShrinkFault.TheVariants.{Show};
+
+    ghost from_gives = { λ program fault. fault ≡ Show (Program program) };
+
+    fn from(program: ProgramFault) -> ShrinkFault {
+        ShrinkFault::Show(ShowFault::Program(program))
+    }
+}
+
+impl From<InputFault> for ShrinkFault {
+    ghost use Rattle.std.specs.Prelude.{◌≡◌};
+    ghost use Rattle.ct_records.specs.ProgramFault.{of_input_fault};
+    ghost use Rattle.ct_show.specs.declared.show_fault.ShowFault.TheVariants.{Program};
+    ghost use Rattle.ct_shrink.specs.declared.shrink_fault.ShrinkFault.TheVariants.{Show};
+
+    ghost from_gives = { λ input fault. fault ≡ Show (Program (of_input_fault input)) };
+
+    fn from(input: InputFault) -> ShrinkFault {
+        ShrinkFault::Show(ShowFault::from(input))
+    }
+}

@@ -1,0 +1,63 @@
+//! Trials of lines.
+
+ghost use Rattle.std.specs.Prelude.{◌≡◌, ◌++◌, [], OnOk, IfOk, IfErr, IfSome, option_map};
+ghost use Rattle.ct_play.specs.Faults.{IsShort};
+ghost use Rattle.ct_play.specs.Goals.{shows};
+ghost use Rattle.ct_shrink.specs.Lines.{after_taken, taken};
+ghost use Rattle.ct_shrink.specs.Runs.{IsRunOf};
+ghost use Rattle.ct_shrink.specs.Trials.{behind, trial};
+
+use crate::kept_run::{KeptRun, kept_run, push_line};
+use crate::line::Line;
+use crate::taking::take;
+use ct_grammar::{Act, Goal};
+use ct_names::Member;
+use ct_play::{LineFault, Watch};
+use ct_world::Setup;
+use std::alloc::Global;
+
+// The run that the trial of these lines leaves; None where it fails.
+pub(crate) fn trial(
+    alloc: Global,
+    setup: &Setup,
+    goal: &Goal,
+    lines: &[Line],
+) -> Result<Option<KeptRun>, LineFault>
+    ensures lines { IfOk result (λ kept. option_map (λ run. run.lines.items) kept ≡ trial (shows goal.now) setup.now lines.now) }
+    ensures run { IfOk result (λ kept. IfSome kept (λ run. IsRunOf (shows goal.now) setup.now run.lines.items run.world.rehearsal)) }
+    ensures err { IfErr result IsShort }
+{
+    let mut watch = Watch::new(alloc, *setup, Some(goal))?;
+    let mut kept = Vec::new(alloc);
+    for line in lines {
+        if watch.shows() {
+            return Ok(Some(kept_run(kept, watch)));
+        }
+        keep(&mut watch, &mut kept, line.member, line.act)?;
+    }
+    if watch.shows() {
+        Ok(Some(kept_run(kept, watch)))
+    } else {
+        Ok(None)
+    }
+}
+
+// Tries the line in which the member does this, and keeps it as it is taken.
+fn keep(
+    watch: &mut Watch<'_>,
+    kept: &mut Vec<Line>,
+    member: Member,
+    act: Act,
+) -> Result<(), LineFault>
+    ensures kept { OnOk result (kept.new.items
+        ≡ kept.old.items ++ behind (taken watch.old.played (record { member = member; act = act })) []) }
+    ensures after { OnOk result (watch.new.played
+        ≡ after_taken watch.old.played (taken watch.old.played (record { member = member; act = act }))) }
+    ensures goal { watch.new.goal ≡ watch.old.goal }
+    ensures err { IfErr result IsShort }
+{
+    if let Some(line) = take(watch, &Line { member, act })? {
+        push_line(kept, line.member, line.act)?;
+    }
+    Ok(())
+}
