@@ -3,15 +3,15 @@ use Rattle.std.proofs.Common.{◌≡◌, ◌≢◌, ℕ, ◌≤◌, Bool, true, 
 use Rattle.std.specs.Global.{Vec}
 use Rattle.std.specs.Prelude.{slice_get}
 use Rattle.ct_play.specs.Faults.{UnlessShort, is_short}
-use Rattle.ct_play.specs.declared.line_fault.LineFault.{LineFault}
 use Rattle.ct_merge.specs.Logs.{log_of}
 use Rattle.ct_merge.specs.Merging.{IsTakenFrom, Taken, count_of}
-use Rattle.ct_merge.specs.Stops.{IsCulprit, IsHalt, IsStuckIn, halted_at}
+use Rattle.ct_merge.specs.Stops.{IsCulprit, IsHalt, IsStuckIn, halted_at, line_fault_of}
+use Rattle.ct_merge.specs.declared.own_fault.OwnFault.{OwnFault}
 use Rattle.ct_merge.specs.declared.log_line.LogLine.{LogLine}
 use Rattle.ct_merge.proofs.Advancing.{advanced}
 use Rattle.ct_merge.proofs.Stopping.{unless_more}
 
-module _ (logs : List (Vec LogLine)) (old new : Taken) (p count : ℕ) (f : LineFault) where
+module _ (logs : List (Vec LogLine)) (old new : Taken) (p count : ℕ) (f : OwnFault) where
   culprit : IsTakenFrom logs old → count_of new.counts new.last ≡ count →
       ((q : ℕ) → 1 ≤ q → q ≢ new.last → count_of new.counts q ≡ count_of old.counts q) →
       IsStuckIn old.rehearsal new.last (log_of logs new.last) count f → IsCulprit logs (halted_at new f)
@@ -30,11 +30,13 @@ module _ (logs : List (Vec LogLine)) (old new : Taken) (p count : ℕ) (f : Line
             reason = h.fails;
           };
         };
+        run = tt;
       }
 
-  stuck_there : new.last ≡ p → UnlessShort (is_short f) (IsStuckIn old.rehearsal p (log_of logs p) count f) →
-      UnlessShort (is_short f) (IsStuckIn old.rehearsal new.last (log_of logs new.last) count f)
-  stuck_there last h = subst (λ q. UnlessShort (is_short f) (IsStuckIn old.rehearsal q (log_of logs q) count f)) (sym last) h
+  stuck_there : new.last ≡ p → UnlessShort (is_short (line_fault_of f)) (IsStuckIn old.rehearsal p (log_of logs p) count f) →
+      UnlessShort (is_short (line_fault_of f)) (IsStuckIn old.rehearsal new.last (log_of logs new.last) count f)
+  stuck_there last h =
+      subst (λ q. UnlessShort (is_short (line_fault_of f)) (IsStuckIn old.rehearsal q (log_of logs q) count f)) (sym last) h
 
   counted : new.last ≡ p → count_of new.counts p ≡ count → count_of new.counts new.last ≡ count
   counted last here = subst (λ q. count_of new.counts q ≡ count) (sym last) here
@@ -47,9 +49,10 @@ module _ (logs : List (Vec LogLine)) (old new : Taken) (p count : ℕ) (f : Line
   -- the line at which p's log stops
   pub halted : IsTakenFrom logs old → new.last ≡ p → count_of new.counts p ≡ count →
       ((q : ℕ) → 1 ≤ q → q ≢ p → count_of new.counts q ≡ count_of old.counts q) →
-      UnlessShort (is_short f) (IsStuckIn old.rehearsal p (log_of logs p) count f) → IsHalt logs new f
+      UnlessShort (is_short (line_fault_of f)) (IsStuckIn old.rehearsal p (log_of logs p) count f) → IsHalt logs new f
   halted before last here elsewhere h =
-      unless_more (is_short f) (IsStuckIn old.rehearsal new.last (log_of logs new.last) count f) (IsCulprit logs (halted_at new f))
+      unless_more (is_short (line_fault_of f)) (IsStuckIn old.rehearsal new.last (log_of logs new.last) count f)
+      (IsCulprit logs (halted_at new f))
       (culprit before (counted last here) (counted_besides last elsewhere)) (stuck_there last h)
 
 not_short : (b : Bool) (x : Type 0) → b ≡ false → UnlessShort b x → x
@@ -57,6 +60,6 @@ not_short true x e h = absurd (cc)
 not_short false x e h = h
 
 -- where nothing is short, there is a line
-pub is_culprit : (logs : List (Vec LogLine)) (t : Taken) (f : LineFault) → is_short f ≡ false → IsHalt logs t f →
+pub is_culprit : (logs : List (Vec LogLine)) (t : Taken) (f : OwnFault) → is_short (line_fault_of f) ≡ false → IsHalt logs t f →
     IsCulprit logs (halted_at t f)
-is_culprit logs t f e h = not_short (is_short f) (IsCulprit logs (halted_at t f)) e h
+is_culprit logs t f e h = not_short (is_short (line_fault_of f)) (IsCulprit logs (halted_at t f)) e h

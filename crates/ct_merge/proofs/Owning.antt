@@ -22,10 +22,10 @@ moments_more w (first ∷ steps) step =
     ∙ ap (λ (l : List Step). at w first ∷ moments (extended w first) steps ++ at (record w { steps = l }) step ∷ [])
     (append_assoc w.steps (first ∷ []) steps)
 
-abbrev only : Bool → Moment → List Moment
+abbrev pub only : Bool → Moment → List Moment
 only b m = if b then m ∷ [] else []
 
-own_more : (w : Rehearsal) (p : ℕ) (step : Step) → own (extended w step) p ≡ own w p ++ only (is_own p (at w step)) (at w step)
+pub own_more : (w : Rehearsal) (p : ℕ) (step : Step) → own (extended w step) p ≡ own w p ++ only (is_own p (at w step)) (at w step)
 unfolding own
 own_more w p step =
     ap (filter (is_own p)) (moments_more (empty w.setting w.cells) w.steps step)

@@ -12,7 +12,9 @@ use Rattle.ct_play.specs.declared.line_fault.LineFault.{LineFault}
 use Rattle.ct_play.specs.declared.line_fault.LineFault.TheVariants as fault
 use Rattle.ct_merge.specs.Logs.{act_of}
 use Rattle.ct_merge.specs.Merging.{IsSameGroup, IsTakenTo, LeavesAll, LeavesOthers, step_of}
-use Rattle.ct_merge.specs.Stops.{IsFaultAt, IsOther, IsRefusedBy, IsStuck, IsStuckIn, IsUnbrought, Tells}
+use Rattle.ct_merge.specs.Stops.{IsFaultAt, IsOther, IsOutcome, IsRefusedBy, IsStuck, IsStuckIn, IsUnbrought, Tells, line_fault_of}
+use Rattle.ct_merge.specs.declared.own_fault.OwnFault.{OwnFault}
+use Rattle.ct_merge.specs.declared.own_fault.OwnFault.TheVariants.{Line, CameTo}
 use Rattle.ct_merge.specs.declared.log_act.LogAct.{LogAct}
 use Rattle.ct_merge.specs.declared.log_act.LogAct.TheVariants as told
 use Rattle.ct_merge.specs.declared.log_line.LogLine.{LogLine}
@@ -39,7 +41,7 @@ acts p k told.Crash = refl
 abbrev same_group : (w : Rehearsal) → IsSameGroup w w
 same_group w = record { setting = refl; cells = refl }
 
-unbrought : (w : Rehearsal) (p : ℕ) (line : LogLine) (f : LineFault) → IsUnbrought w p f → IsFaultAt w p line f
+unbrought : (w : Rehearsal) (p : ℕ) (line : LogLine) (f : LineFault) → IsUnbrought w p f → IsFaultAt w p line (Line f)
 unbrought w p line (fault.Refused tried refusal) h =
     (ap (λ s. cause w s) h.refused.0 ∙ h.refused.1, inr (record { serial = h.serial; is = h.refused.0 }))
 unbrought w p line (fault.NotSo q) h = absurd h.refused
@@ -56,7 +58,7 @@ unbrought w p line fault.OutOfMemory h = tt
 unbrought w p line fault.Board h = tt
 
 refused : (w : Rehearsal) (p : ℕ) (line : LogLine) (step : Step) (f : LineFault) → Tells w p line step → IsRefusedBy w step f →
-    IsFaultAt w p line f
+    IsFaultAt w p line (Line f)
 refused w p line step (fault.Refused tried refusal) t h =
     (ap (λ s. cause w s) h.0 ∙ h.1, inl (subst (λ s. Tells w p line s) (sym h.0) t))
 refused w p line step (fault.NotSo q) t h = absurd h
@@ -74,17 +76,17 @@ refused w p line step fault.Board t h = tt
 
 -- the envelope of a line is not brought again
 pub stuck_before : (w : Rehearsal) (p : ℕ) (line : LogLine) (f : LineFault) → IsLawful w →
-    UnlessShort (is_short f) (IsUnbrought w p f) → UnlessShort (is_short f) (IsStuck w p line f)
+    UnlessShort (is_short f) (IsUnbrought w p f) → UnlessShort (is_short f) (IsStuck w p line (Line f))
 stuck_before w p line f lawful h =
-    unless_more (is_short f) (IsUnbrought w p f) (IsStuck w p line f)
+    unless_more (is_short f) (IsUnbrought w p f) (IsStuck w p line (Line f))
     (λ u. record { at = w; lawful = lawful; leaves = λ q. refl; group = same_group w; fails = unbrought w p line f u }) h
 
 -- its step is refused
 pub stuck_at : (old mid : Rehearsal) (p k : ℕ) (line : LogLine) (f : LineFault) → IsLawful mid → LeavesAll old mid → IsSameGroup old mid →
     act_of mid (step_of p k line.act) ≡ Some line.act → UnlessShort (is_short f) (IsRefusedBy mid (step_of p k line.act) f) →
-    UnlessShort (is_short f) (IsStuck old p line f)
+    UnlessShort (is_short f) (IsStuck old p line (Line f))
 stuck_at old mid p k line f lawful leaves group act h =
-    unless_more (is_short f) (IsRefusedBy mid (step_of p k line.act) f) (IsStuck old p line f)
+    unless_more (is_short f) (IsRefusedBy mid (step_of p k line.act) f) (IsStuck old p line (Line f))
     (λ r. record {
       at = mid;
       lawful = lawful;
@@ -93,29 +95,28 @@ stuck_at old mid p k line f lawful leaves group act h =
       fails = refused mid p line (step_of p k line.act) f (record { actor = acts p k line.act; act = act }) r;
     }) h
 
-differs : (mid new : Rehearsal) (p k : ℕ) (line : LogLine) (f : LineFault) → act_of mid (step_of p k line.act) ≡ Some line.act →
+differs : (mid new : Rehearsal) (p k : ℕ) (line : LogLine) (f : OwnFault) → act_of mid (step_of p k line.act) ≡ Some line.act →
     cause mid (step_of p k line.act) ≡ None → new ≡ extended mid (step_of p k line.act) →
-    (f ≡ fault.NotSo (actor (step_of p k line.act))) × IsOther new (step_of p k line.act) line.said → IsFaultAt mid p line f
-differs mid new p k line f act allowed e h =
-    subst (λ g. IsFaultAt mid p line g) (sym h.0) (
-      acts p k line.act,
-      record {
-        step = step_of p k line.act;
-        tells = record { actor = acts p k line.act; act = act };
-        allowed = allowed;
-        other = subst (λ (w : Rehearsal). IsOther w (step_of p k line.act) line.said) e h.1;
-      },
-    )
+    IsOutcome new (step_of p k line.act) line.said f → IsFaultAt mid p line f
+differs mid new p k line (Line fault) act allowed e h = absurd h
+differs mid new p k line (CameTo q came) act allowed e h = (
+  h.0 ∙ acts p k line.act,
+  record {
+    step = step_of p k line.act;
+    tells = record { actor = acts p k line.act; act = act };
+    allowed = allowed;
+    other = subst (λ (w : Rehearsal). IsOther w (step_of p k line.act) line.said came) e h.1;
+  },
+)
 
 -- it comes to something else than is stated
-pub stuck_after : (old mid new : Rehearsal) (p k : ℕ) (line : LogLine) (f : LineFault) → IsLawful mid → LeavesAll old mid →
+pub stuck_after : (old mid new : Rehearsal) (p k : ℕ) (line : LogLine) (f : OwnFault) → IsLawful mid → LeavesAll old mid →
     IsSameGroup old mid → act_of mid (step_of p k line.act) ≡ Some line.act → cause mid (step_of p k line.act) ≡ None →
     new ≡ extended mid (step_of p k line.act) →
-    UnlessShort (is_short f) ((f ≡ fault.NotSo (actor (step_of p k line.act))) × IsOther new (step_of p k line.act) line.said) →
-    UnlessShort (is_short f) (IsStuck old p line f)
+    UnlessShort (is_short (line_fault_of f)) (IsOutcome new (step_of p k line.act) line.said f) →
+    UnlessShort (is_short (line_fault_of f)) (IsStuck old p line f)
 stuck_after old mid new p k line f lawful leaves group act allowed e h =
-    unless_more (is_short f) ((f ≡ fault.NotSo (actor (step_of p k line.act))) × IsOther new (step_of p k line.act) line.said)
-    (IsStuck old p line f)
+    unless_more (is_short (line_fault_of f)) (IsOutcome new (step_of p k line.act) line.said f) (IsStuck old p line f)
     (λ r. record {
       at = mid;
       lawful = lawful;
@@ -127,14 +128,14 @@ stuck_after old mid new p k line f lawful leaves group act allowed e h =
 pub ruleset stuck = (stuck_before, stuck_at, stuck_after)
 
 -- behind more lines of its log
-pub stuck_in : (old mid : Rehearsal) (p : ℕ) (log : List LogLine) (place count : ℕ) (line : LogLine) (f : LineFault) →
+pub stuck_in : (old mid : Rehearsal) (p : ℕ) (log : List LogLine) (place count : ℕ) (line : LogLine) (f : OwnFault) →
     IsTakenTo mid p log place → count ≡ place → LeavesOthers p old mid → IsSameGroup old mid → place < length log →
-    get_or log place line ≡ line → UnlessShort (is_short f) (IsStuck mid p line f) →
-    UnlessShort (is_short f) (IsStuckIn old p log count f)
+    get_or log place line ≡ line → UnlessShort (is_short (line_fault_of f)) (IsStuck mid p line f) →
+    UnlessShort (is_short (line_fault_of f)) (IsStuckIn old p log count f)
 stuck_in old mid p log place count line f taken same others group within there h =
     let at_place : slice_get log place ≡ Some line = slice_get-get_or log place line within ∙ ap Some there in
-    let moved : UnlessShort (is_short f) (IsStuckIn old p log place f) =
-    unless_more (is_short f) (IsStuck mid p line f) (IsStuckIn old p log place f)
+    let moved : UnlessShort (is_short (line_fault_of f)) (IsStuckIn old p log place f) =
+    unless_more (is_short (line_fault_of f)) (IsStuck mid p line f) (IsStuckIn old p log place f)
     (λ s. record {
       at = s.at;
       lawful = s.lawful;
@@ -145,4 +146,4 @@ stuck_in old mid p log place count line f taken same others group within there h
       there = at_place;
       fails = s.fails;
     }) h in
-    subst (λ n. UnlessShort (is_short f) (IsStuckIn old p log n f)) (sym same) moved
+    subst (λ n. UnlessShort (is_short (line_fault_of f)) (IsStuckIn old p log n f)) (sym same) moved

@@ -8,7 +8,8 @@ use Rattle.ct_names.specs.declared.limit.Limit.TheVariants.{Submissions, Instanc
 use Rattle.ct_names.specs.declared.refusal.Refusal.{Refusal}
 use Rattle.ct_names.specs.declared.refusal.Refusal.TheVariants.{Full}
 use Rattle.ct_play.specs.declared.line_fault.LineFault.{LineFault}
-use Rattle.ct_play.specs.declared.line_fault.LineFault.TheVariants.{Refused, NotSo}
+use Rattle.ct_play.specs.declared.line_fault.LineFault.TheVariants.{Refused}
+use Rattle.ct_merge.specs.declared.own_fault.OwnFault.TheVariants.{Line, CameTo}
 use Rattle.ct_merge.specs.declared.verdict.Culprit.{Culprit}
 use Rattle.ct_merge.specs.declared.verdict.Why.{Why}
 use Rattle.ct_merge.specs.declared.verdict.Why.TheVariants.{Fault, Never, Ended, Circle}
@@ -35,15 +36,19 @@ head_text p refusal = concat (codes "member " ∷ decimal p ∷ codes " is refus
 unfoldable pub refused_text : ℕ → Refusal → List ℕ
 refused_text p refusal = head_text p refusal ++ note_text refusal
 
+-- what p came to, where something else is stated
+unfoldable pub came_to_text : ℕ → List ℕ → List ℕ
+came_to_text p came = concat (codes "member " ∷ decimal p ∷ codes " came to " ∷ came ∷ [])
+
 -- a line that is refused by itself
 unfoldable pub fault_text : LineFault → List ℕ
 fault_text (Refused step refusal) = refused_text (actor step) refusal
-fault_text (NotSo p) = concat (codes "member " ∷ decimal p ∷ codes " came to something else than is stated" ∷ [])
 fault_text _ = codes "refused"
 
 -- why a line is not taken
 unfoldable pub why_text : Why → List ℕ
-why_text (Fault fault) = fault_text fault
+why_text (Fault (Line fault)) = fault_text fault
+why_text (Fault (CameTo p came)) = came_to_text p came
 why_text (Never p) = concat (codes "it was not sent before, and member " ∷ decimal p ∷ codes " can't send it any more" ∷ [])
 why_text (Ended p) = concat (codes "the log of member " ∷ decimal p ∷ codes " ends before it is sent" ∷ [])
 why_text Circle = codes "it waits for a line that waits for it"

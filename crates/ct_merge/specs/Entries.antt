@@ -1,6 +1,7 @@
 -- What the lines of logs say.
-use Rattle.std.specs.Prelude.{ℕ, Bool, false, List, [], ◌∷◌, Option, Some, None, Result, Ok, Err, codes, decimal, if◌then◌else◌}
-use Rattle.std.specs.List.{concat}
+use Rattle.std.specs.Prelude.{ℕ, Bool, false, ◌||◌, List, [], ◌∷◌, Option, Some, None, Result, Ok, Err, codes, decimal, nat_eq}
+use Rattle.std.specs.Prelude.{if◌then◌else◌}
+use Rattle.std.specs.List.{concat, starts_with}
 use Rattle.std.specs.Char.{is_ascii_digit}
 use Rattle.ct_grammar.specs.Lines.{line_of}
 use Rattle.ct_grammar.specs.declared.act.Act.{Act}
@@ -68,6 +69,11 @@ abbrev pub is_numbered : List ℕ → Bool
 is_numbered [] = false
 is_numbered (c ∷ cs) = is_ascii_digit c
 
+-- the word of a number of the group stands first
+abbrev pub gives_number : List ℕ → Bool
+gives_number text =
+    starts_with nat_eq text (codes "members") || (starts_with nat_eq text (codes "cells") || starts_with nat_eq text (codes "batch"))
+
 -- the line behind the number of its member
 unfoldable pub numbered : ℕ → List ℕ → List ℕ
 numbered p text = concat (decimal p ∷ codes " " ∷ text ∷ [])
@@ -80,6 +86,6 @@ abbrev pub or_numbered : ℕ → List ℕ → Result Line Misfit → Result Entr
 or_numbered p text (Ok l) = entry_of (Ok l)
 or_numbered p text (Err misfit) = numbered_entry p text
 
--- what a line says in the log of p: a line of a schedule, which need not begin with p's number
+-- what a line says in the log of p: a line of a schedule, which need not begin with p's number where it tells of an act
 unfoldable pub entry_in : ℕ → List ℕ → Result Entry NoEntry
-entry_in p text = if is_numbered text then entry_of (line_of text) else or_numbered p text (line_of text)
+entry_in p text = if is_numbered text || gives_number text then entry_of (line_of text) else or_numbered p text (line_of text)

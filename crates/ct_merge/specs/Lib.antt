@@ -1,10 +1,16 @@
+pub mod Barred
 pub mod Culprits
+pub mod Deeds
 pub mod Entries
+pub mod Local
 pub mod Logs
 pub mod Merging
 pub mod Names
 pub mod Numbers
+pub mod Past
+pub mod Runs
 pub mod Sending
 pub mod Stops
 pub mod Texts
 pub mod Verdicts
+pub mod Waits

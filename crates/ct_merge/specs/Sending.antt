@@ -4,6 +4,7 @@ use Rattle.std.specs.Prelude.{if◌then◌else◌}
 use Rattle.std.specs.List.{list_any}
 use Rattle.ct_names.specs.Group.{coordinator, is_member}
 use Rattle.ct_model.specs.Mapped.{without_value}
+use Rattle.ct_model.specs.Received.{decided}
 use Rattle.ct_model.specs.Rehearsal.{Rehearsal, state_of}
 use Rattle.ct_model.specs.State.{at_serial, is_crashed}
 use Rattle.ct_model.specs.declared.envelope.Envelope.{Envelope}
@@ -20,9 +21,10 @@ use Rattle.ct_merge.specs.declared.full_name.FullName.{FullName}
 
 -- ---- what it did
 
--- the wire carries this message or decision
+-- the wire carries this message, proposal or decision
 abbrev pub passes : {V : Type 0} → Wire V → Carried → Bool
 passes (wire.Data m) (Data o n) = (m.origin == o) && (m.number == n)
+passes (wire.Prop i s v) (Prop k r) = (i == k) && (s == r)
 passes (wire.Dec i s v) (Dec k r) = (i == k) && (s == r)
 passes _ _ = false
 
@@ -30,12 +32,12 @@ abbrev pub is_passed : Carried → Option (Envelope (Unit {0})) → Bool
 is_passed carried None = false
 is_passed carried (Some e) = passes e.wire carried
 
--- the step is p's receipt of this message or decision
+-- the step is p's receipt of this message, proposal or decision
 abbrev pub is_receipt : Rehearsal → ℕ → Carried → Step → Bool
 is_receipt w p carried (Receive q k) = (q == p) && is_passed carried (option_map without_value (at_serial (state_of w).sent k))
 is_receipt w p carried _ = false
 
--- p received this message or decision
+-- p received this message, proposal or decision
 unfoldable pub received : Rehearsal → ℕ → Carried → Bool
 received w p carried = list_any (is_receipt w p carried) w.steps
 
@@ -65,9 +67,13 @@ abbrev pub is_ahead : Option (ℕ × Bool) → Option (ℕ × Phase) → ℕ →
 is_ahead None here k r = false
 is_ahead (Some last) here k r = nat_lt last.0 k || ((k == last.0) && is_later here r)
 
--- p has yet to enter this round of the instance
+-- p has a decision for the instance
+abbrev pub has_decided : Rehearsal → ℕ → ℕ → Bool
+has_decided w p k = is_some (if_member w p (decided (member_of w p).got k))
+
+-- p has yet to enter this round of the instance; it enters none once it has the instance's decision
 unfoldable pub has_before : Rehearsal → ℕ → ℕ → ℕ → Bool
-has_before w p k r = is_ahead (instance_at w p) (round_at w p) k r
+has_before w p k r = not (has_decided w p k) && is_ahead (instance_at w p) (round_at w p) k r
 
 abbrev pub phase_at : Option (ℕ × Bool) → Option (ℕ × Phase) → ℕ → ℕ → Option Phase
 phase_at (Some last) (Some here) k r = if (k == last.0) && (here.0 == r) then Some here.1 else None
@@ -101,14 +107,16 @@ concluding (Some Gather) before = true
 concluding (Some Wait) before = true
 concluding (Some Tally) before = true
 
--- while p is up it may still send this to q: a message that it submits or gets for the first time; what it sends in a round; a
--- decision that it makes or gets for the first time
+-- while p is up it may still send this to q: a message that it submits or gets for the first time; what it sends in a round, and no
+-- nack once it has the proposal; a decision that it makes or gets for the first time
 unfoldable pub may_send : Rehearsal → ℕ → ℕ → Carried → Bool
 may_send w p q (Data o n) = if o == p then nat_lt (submitted w p) n else not (received w p (Data o n))
 may_send w p q (Est k r) = (coordinator w.setting.members r == q) && has_before w p k r
 may_send w p q (Prop k r) = (coordinator w.setting.members r == p) && choosing (phase_in w p k r) (has_before w p k r)
 may_send w p q (Ack k r) = (coordinator w.setting.members r == q) && replying (phase_in w p k r) (has_before w p k r)
-may_send w p q (Nack k r) = (coordinator w.setting.members r == q) && replying (phase_in w p k r) (has_before w p k r)
+may_send w p q (Nack k r) =
+    (coordinator w.setting.members r == q)
+    && (replying (phase_in w p k r) (has_before w p k r) && not (received w p (Prop k r)))
 may_send w p q (Dec k r) =
     if coordinator w.setting.members r == p
     then concluding (phase_in w p k r) (has_before w p k r)

@@ -1,5 +1,6 @@
 -- Where logs stand, and why.
-use Rattle.std.specs.Prelude.{◌≡◌, ◌≢◌, ◌⊎◌, ℕ, zero, suc, ◌≤◌, ◌<◌, Bool, true, false, List, Option, Some, None, length, slice_get, ⊤}
+use Rattle.std.specs.Prelude.{◌≡◌, ◌≢◌, ◌⊎◌, ℕ, zero, suc, ◌≤◌, ◌<◌, Bool, true, false, List, Option, Some, None}
+use Rattle.std.specs.Prelude.{length, slice_get, IfSome, ⊤}
 use Rattle.std.specs.Global.{Vec}
 use Rattle.ct_names.specs.declared.limit.TheConstants.{MAX_MEMBERS}
 use Rattle.ct_model.specs.Actor.{actor}
@@ -18,6 +19,8 @@ use Rattle.ct_merge.specs.Sending.{may_come}
 use Rattle.ct_merge.specs.declared.full_name.FullName.{FullName}
 use Rattle.ct_merge.specs.declared.log_act.LogAct.TheVariants.{Receive}
 use Rattle.ct_merge.specs.declared.log_line.LogLine.{LogLine}
+use Rattle.ct_merge.specs.declared.own_fault.OwnFault.{OwnFault}
+use Rattle.ct_merge.specs.declared.own_fault.OwnFault.TheVariants.{Line, CameTo}
 use Rattle.ct_merge.specs.declared.standstill.Stand.{Stand}
 use Rattle.ct_merge.specs.declared.standstill.Stand.TheVariants.{Own, For}
 use Rattle.ct_merge.specs.declared.verdict.Culprit.{Culprit}
@@ -36,18 +39,29 @@ pub record IsRepetition (p : ℕ) (step : Step) : Type 0 where
   pub serial : ℕ
   pub is : step ≡ Repeat p serial
 
--- a text is stated, and the step that led to this record came to another
-pub record IsOther (w : Rehearsal) (step : Step) (said : Option (List ℕ)) : Type 0 where
+-- a text is stated, and the step that led to this record came to this, which is another
+pub record IsOther (w : Rehearsal) (step : Step) (said : Option (List ℕ)) (came : List ℕ) : Type 0 where
   pub text : List ℕ
   pub stated : said ≡ Some text
-  pub other : outcome_text w step ≢ text
+  pub is : outcome_text w step ≡ came
+  pub other : came ≢ text
 
--- the step of which the line tells is allowed, and comes to something else than it states
-pub record Differs (w : Rehearsal) (p : ℕ) (line : LogLine) : Type 0 where
+-- the step of which the line tells is allowed, and comes to this and not to what it states
+pub record Differs (w : Rehearsal) (p : ℕ) (line : LogLine) (came : List ℕ) : Type 0 where
   pub step : Step
   pub tells : Tells w p line step
   pub allowed : cause w step ≡ None
-  pub other : IsOther (extended w step) step line.said
+  pub other : IsOther (extended w step) step line.said came
+
+-- the fault that a line would have in a schedule
+abbrev pub line_fault_of : OwnFault → LineFault
+line_fault_of (Line fault) = fault
+line_fault_of (CameTo p came) = NotSo p
+
+-- this is what its member's step came to, which is something else than is stated
+abbrev pub IsOutcome : Rehearsal → Step → Option (List ℕ) → OwnFault → Type 0
+IsOutcome w step said (Line fault) = ⊥
+IsOutcome w step said (CameTo p came) = (p ≡ actor step) × IsOther w step said came
 
 -- after this record the rules refuse the step, for this cause
 abbrev pub IsRefusedBy : Rehearsal → Step → LineFault → Type 0
@@ -56,10 +70,11 @@ IsRefusedBy w step (NotSo p) = ⊥
 IsRefusedBy w step fault = ⊤
 
 -- the rules refuse p's line after this record, or the repetition that it asks for; or it comes to something else than it states
-abbrev pub IsFaultAt : Rehearsal → ℕ → LogLine → LineFault → Type 0
-IsFaultAt w p line (Refused step refusal) = (cause w step ≡ Some refusal) × (Tells w p line step ⊎ IsRepetition p step)
-IsFaultAt w p line (NotSo q) = (q ≡ p) × Differs w p line
-IsFaultAt w p line fault = ⊤
+abbrev pub IsFaultAt : Rehearsal → ℕ → LogLine → OwnFault → Type 0
+IsFaultAt w p line (Line (Refused step refusal)) = (cause w step ≡ Some refusal) × (Tells w p line step ⊎ IsRepetition p step)
+IsFaultAt w p line (Line (NotSo q)) = ⊥
+IsFaultAt w p line (Line fault) = ⊤
+IsFaultAt w p line (CameTo q came) = (q ≡ p) × Differs w p line came
 
 -- the rules refuse the repetition of an envelope that was sent to p
 pub record IsUnbrought (w : Rehearsal) (p : ℕ) (fault : LineFault) : Type 0 where
@@ -67,7 +82,7 @@ pub record IsUnbrought (w : Rehearsal) (p : ℕ) (fault : LineFault) : Type 0 wh
   pub refused : IsRefusedBy w (Repeat p serial) fault
 
 -- with repetitions alone behind the record, p's line is refused by itself
-pub record IsStuck (old : Rehearsal) (p : ℕ) (line : LogLine) (fault : LineFault) : Type 0 where
+pub record IsStuck (old : Rehearsal) (p : ℕ) (line : LogLine) (fault : OwnFault) : Type 0 where
   pub at : Rehearsal
   pub lawful : IsLawful at
   pub leaves : LeavesAll old at
@@ -75,7 +90,7 @@ pub record IsStuck (old : Rehearsal) (p : ℕ) (line : LogLine) (fault : LineFau
   pub fails : IsFaultAt at p line fault
 
 -- the same behind so many lines of its log
-pub record IsStuckIn (old : Rehearsal) (p : ℕ) (log : List LogLine) (count : ℕ) (fault : LineFault) : Type 0 where
+pub record IsStuckIn (old : Rehearsal) (p : ℕ) (log : List LogLine) (count : ℕ) (fault : OwnFault) : Type 0 where
   pub at : Rehearsal
   pub lawful : IsLawful at
   pub taken : IsTakenTo at p log count
@@ -132,20 +147,21 @@ pub record IsCulpritAt (logs : List (Vec LogLine)) (t : Taken) (culprit : Culpri
   pub place : count_of t.counts culprit.member ≡ culprit.place
   pub stand : IsStand logs t culprit.member culprit.why
 
--- there is a run of first lines of each log, behind which that is so
+-- there is a run of first lines of each log, behind which that is so; the one that is told, if it is
 pub record IsCulprit (logs : List (Vec LogLine)) (culprit : Culprit) : Type 0 where
   pub so_far : Taken
   pub lawful : IsLawful so_far.rehearsal
   pub taken : IsTakenFrom logs so_far
   pub is : IsCulpritAt logs so_far culprit
+  pub run : IfSome culprit.run (λ world. world.rehearsal ≡ so_far.rehearsal)
 
 -- the next line of the log that was tried last, which has this fault
-abbrev pub halted_at : Taken → LineFault → Culprit
-halted_at t fault = record { member = t.last; place = count_of t.counts t.last; why = Fault fault }
+abbrev pub halted_at : Taken → OwnFault → Culprit
+halted_at t fault = record { member = t.last; place = count_of t.counts t.last; why = Fault fault; run = None }
 
 -- no more lines are taken, as memory or the board was refused, or at this line
-abbrev pub IsHalt : List (Vec LogLine) → Taken → LineFault → Type 0
-IsHalt logs t fault = UnlessShort (is_short fault) (IsCulprit logs (halted_at t fault))
+abbrev pub IsHalt : List (Vec LogLine) → Taken → OwnFault → Type 0
+IsHalt logs t fault = UnlessShort (is_short (line_fault_of fault)) (IsCulprit logs (halted_at t fault))
 
 -- where p's log stands: at its own line, or for that of another
 abbrev pub IsStandOf : List (Vec LogLine) → Taken → ℕ → Stand → Type 0

@@ -72,9 +72,22 @@ abbrev pub after_lines : ℕ → LogSoFar → List (List ℕ) → Result LogSoFa
 after_lines p t [] = Ok t
 after_lines p t (line ∷ lines) = go_on (after_line p t line) (λ u. after_lines p u lines)
 
+-- x and these, but the last of them
+abbrev pub but_last_from : {A : Type 0} → A → List A → List A
+but_last_from x [] = []
+but_last_from x (y ∷ ys) = x ∷ but_last_from y ys
+
+abbrev pub but_last : {A : Type 0} → List A → List A
+but_last [] = []
+but_last (x ∷ xs) = but_last_from x xs
+
+-- the lines that a line feed ends; what stands behind the last one is torn
+unfoldable pub whole_lines : List ℕ → List (List ℕ)
+whole_lines text = but_last (lines_of text)
+
 -- what a text says as a log, p's where its acts don't say whose it is
 unfoldable pub log_in : ℕ → List ℕ → Result LogSoFar Unread
-log_in p text = after_lines p beginning (lines_of text)
+log_in p text = after_lines p beginning (whole_lines text)
 
 -- where a text comes to this, its reading may have this fault: its own, or want of memory
 abbrev pub IsFaultIn : Result LogSoFar Unread → LogFault → Type 0

@@ -1,8 +1,9 @@
 //! Why lines of logs are not taken, as text.
 
 ghost use Rattle.std.specs.Prelude.{◌≡◌, ◌++◌, OnOk, string_bytes};
-ghost use Rattle.ct_merge.specs.Culprits.{culprit_text, fault_text, head_text, note_text, refused_text, why_text};
+ghost use Rattle.ct_merge.specs.Culprits.{came_to_text, culprit_text, fault_text, head_text, note_text, refused_text, why_text};
 
+use crate::own_fault::OwnFault;
 use crate::verdict::{Culprit, Why};
 use ct_names::{Limit, Member, Refusal};
 use ct_play::LineFault;
@@ -13,15 +14,16 @@ use std::alloc::AllocError;
 pub fn push_culprit(text: &mut String, culprit: &Culprit) -> Result<(), AllocError>
     ensures { OnOk result (string_bytes text.new ≡ string_bytes text.old ++ culprit_text culprit.now) }
 {
-    push_why(text, culprit.why)
+    push_why(text, &culprit.why)
 }
 
 #[tactic(auto, unfolding(crate::specs::Culprits::why_text))]
-fn push_why(text: &mut String, why: Why) -> Result<(), AllocError>
-    ensures { OnOk result (string_bytes text.new ≡ string_bytes text.old ++ why_text why) }
+fn push_why(text: &mut String, why: &Why) -> Result<(), AllocError>
+    ensures { OnOk result (string_bytes text.new ≡ string_bytes text.old ++ why_text why.now) }
 {
     match why {
-        Why::Fault(fault) => push_fault(text, fault),
+        Why::Fault(OwnFault::Line(fault)) => push_fault(text, *fault),
+        Why::Fault(OwnFault::CameTo(member, came)) => push_came_to(text, *member, came.as_str()),
         Why::Never(from) => write!(
             text,
             "it was not sent before, and member {from} can't send it any more"
@@ -38,14 +40,16 @@ fn push_fault(text: &mut String, fault: LineFault) -> Result<(), AllocError>
 {
     match fault {
         LineFault::Refused(step, refusal) => push_refused(text, step.member(), refusal),
-        LineFault::NotSo(member) => {
-            write!(
-                text,
-                "member {member} came to something else than is stated"
-            )
-        }
         _ => text.push_str("refused"),
     }
+}
+
+// What the member came to, where something else is stated.
+#[tactic(auto, unfolding(crate::specs::Culprits::came_to_text))]
+fn push_came_to(text: &mut String, member: Member, came: &str) -> Result<(), AllocError>
+    ensures { OnOk result (string_bytes text.new ≡ string_bytes text.old ++ came_to_text member came.now) }
+{
+    write!(text, "member {member} came to {came}")
 }
 
 // A step of the member that the rules refuse.

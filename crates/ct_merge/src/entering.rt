@@ -2,7 +2,8 @@
 
 ghost use Rattle.std.specs.Prelude.{◌≡◌, IfOk};
 ghost use Rattle.ct_grammar.specs.Lines.{line_of};
-ghost use Rattle.ct_merge.specs.Entries.{act_in_log, entry_in, entry_of, is_numbered, numbered, numbered_entry, received, told};
+ghost use Rattle.ct_merge.specs.Entries.{act_in_log, entry_in, entry_of, gives_number, is_numbered, numbered, numbered_entry};
+ghost use Rattle.ct_merge.specs.Entries.{received, told};
 
 use crate::entry::{Entry, NoEntry};
 use crate::full_name::FullName;
@@ -22,7 +23,7 @@ pub(crate) fn entry_in(
     ensures { IfOk result (λ entry. entry ≡ entry_in member text.now) }
 {
     let line = line_of(alloc, text)?;
-    if is_numbered(text.as_bytes()) {
+    if is_numbered(text.as_bytes()) || gives_number(text.as_bytes()) {
         return Ok(entry_of(line));
     }
     match line {
@@ -53,6 +54,13 @@ fn is_numbered(text: &[u8]) -> bool
         [first, ..] => first.is_ascii_digit(),
         [] => false,
     }
+}
+
+// Whether the word of a number of the group stands first.
+fn gives_number(text: &[u8]) -> bool
+    ensures { result ≡ gives_number text.now }
+{
+    text.starts_with(b"members") || text.starts_with(b"cells") || text.starts_with(b"batch")
 }
 
 // What a log has of the line.

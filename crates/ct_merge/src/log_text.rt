@@ -1,8 +1,8 @@
 //! Logs as texts.
 
 ghost use Rattle.std.specs.Prelude.{◌≡◌, ◌<◌, ◌^◌, ◌+◌, Ok, OnOk, IfOk, IfErr, length};
-ghost use Rattle.ct_merge.specs.Texts.{IsFaultIn, after_entry, after_line, after_lines, after_told, entry_in_text, log_in};
-ghost use Rattle.ct_grammar.specs.Texts.{lines_of, text_in};
+ghost use Rattle.ct_merge.specs.Texts.{IsFaultIn, after_entry, after_line, after_lines, after_told, entry_in_text, log_in, whole_lines};
+ghost use Rattle.ct_grammar.specs.Texts.{text_in};
 
 use crate::entering::entry_in;
 use crate::entry::{Entry, NoEntry};
@@ -42,7 +42,8 @@ impl Model for LogText {
 }
 
 impl LogText {
-    /// Reads the text of a log, which is that of this member where its acts don't say whose it is.
+    /// Reads the text of a log, which is that of this member where its acts don't say whose it is. What stands behind its last line
+    /// feed is torn, and left out.
     #[tactic(auto, unfolding(crate::specs::Texts::log_in))]
     pub fn read(alloc: Global, member: Member, text: &[u8]) -> Result<LogText, LogFault>
         ensures ok { IfOk result (λ log. log_in member text.now ≡ Ok log) }
@@ -77,19 +78,19 @@ impl LogText {
         (member, numbers, lines, places)
     }
 
-    // Takes the lines of the text.
+    // Takes the lines of the text that a line feed ends.
     #[tactic(auto, using(crate::proofs::Reading::by_line))]
     fn take_lines(&mut self, alloc: Global, member: Member, text: &[u8]) -> Result<(), LogFault>
         requires { self.old.count + length text.now < 2 ^ 63 }
-        ensures ok { OnOk result (after_lines member self.old (lines_of text.now) ≡ Ok self.new) }
-        ensures fault { IfErr result (IsFaultIn (after_lines member self.old (lines_of text.now))) }
+        ensures ok { OnOk result (after_lines member self.old (whole_lines text.now) ≡ Ok self.new) }
+        ensures fault { IfErr result (IsFaultIn (after_lines member self.old (whole_lines text.now))) }
     {
         let mut rest = text;
         while let Some(end) = first_feed(rest) {
             self.take_line(alloc, member, &rest[..end])?;
             rest = behind(rest, end);
         }
-        self.take_line(alloc, member, rest)
+        Ok(())
     }
 
     // Takes a line.

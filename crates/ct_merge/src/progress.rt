@@ -8,6 +8,7 @@ ghost use Rattle.ct_merge.specs.Stops.{halted_at, IsHalt};
 ghost use Rattle.ct_world.specs.Setup.{record_of};
 
 use crate::log_line::LogLine;
+use crate::own_fault::OwnFault;
 use crate::taker::Taker;
 use crate::verdict::{Culprit, Why};
 use ct_names::{MAX_MEMBERS, Member};
@@ -66,7 +67,7 @@ impl Progress {
     }
 
     /// Takes lines of the logs as far as they go. A fault is that of the next line of the log that was tried last.
-    pub(crate) fn run(&mut self, logs: &[Vec<LogLine>]) -> Result<(), LineFault>
+    pub(crate) fn run(&mut self, logs: &[Vec<LogLine>]) -> Result<(), OwnFault>
         requires { IsTakenFrom logs.now self.old }
         ensures taken { OnOk result (IsTakenFrom logs.now self.new) }
         ensures group { OnOk result (IsSameGroup self.old.rehearsal self.new.rehearsal) }
@@ -83,7 +84,7 @@ impl Progress {
     }
 
     // Takes lines of each log in its turn. Whether there were some.
-    fn round(&mut self, logs: &[Vec<LogLine>]) -> Result<bool, LineFault>
+    fn round(&mut self, logs: &[Vec<LogLine>]) -> Result<bool, OwnFault>
         requires { IsTakenFrom logs.now self.old }
         ensures taken { OnOk result (IsTakenFrom logs.now self.new) }
         ensures group { OnOk result (IsSameGroup self.old.rehearsal self.new.rehearsal) }
@@ -100,7 +101,7 @@ impl Progress {
 
     // Takes lines of the member's log as far as they go. Whether there were some.
     #[tactic(auto, using(crate::proofs::Advancing::advanced, crate::proofs::Halting::halted))]
-    fn advance(&mut self, member: Member, logs: &[Vec<LogLine>]) -> Result<bool, LineFault>
+    fn advance(&mut self, member: Member, logs: &[Vec<LogLine>]) -> Result<bool, OwnFault>
         requires member { is_member self.old.rehearsal.setting.members member ≡ true }
         requires few { member ≤ MAX_MEMBERS }
         requires taken { IsTakenFrom logs.now self.old }
@@ -130,13 +131,14 @@ impl Progress {
     }
 
     /// The line of the log that was tried last, which has this fault.
-    pub(crate) fn halted(&self, fault: LineFault) -> Culprit
+    pub(crate) fn halted(&self, fault: OwnFault) -> Culprit
         ensures { result ≡ halted_at self.now fault }
     {
         Culprit {
             member: self.last,
             place: self.count(self.last),
             why: Why::Fault(fault),
+            run: None,
         }
     }
 

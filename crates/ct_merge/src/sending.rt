@@ -1,8 +1,8 @@
 //! What a member may still send.
 
 ghost use Rattle.std.specs.Prelude.{◌≡◌};
-ghost use Rattle.ct_merge.specs.Sending.{choosing, concluding, has_before, is_later, is_passed, is_receipt, is_submission, may_come};
-ghost use Rattle.ct_merge.specs.Sending.{may_send, passes, phase_in, received, replying, submitted};
+ghost use Rattle.ct_merge.specs.Sending.{choosing, concluding, has_before, has_decided, is_later, is_passed, is_receipt, is_submission};
+ghost use Rattle.ct_merge.specs.Sending.{may_come, may_send, passes, phase_in, received, replying, submitted};
 
 use crate::full_name::FullName;
 use ct_grammar::Carried;
@@ -12,7 +12,7 @@ use ct_world::{Letter, Wire, World};
 
 // ---- what it did
 
-// Whether the member received this message or decision.
+// Whether the member received this message, proposal or decision.
 #[tactic(auto, unfolding(crate::specs::Sending::received))]
 fn received(world: &World, member: Member, carried: Carried) -> bool
     ensures { result ≡ received world.now.rehearsal member carried }
@@ -23,7 +23,7 @@ fn received(world: &World, member: Member, carried: Carried) -> bool
         .any(|step| is_receipt(world, member, carried, *step))
 }
 
-// Whether the step is the member's receipt of this message or decision.
+// Whether the step is the member's receipt of this message, proposal or decision.
 fn is_receipt(world: &World, member: Member, carried: Carried, step: Step) -> bool
     ensures { result ≡ is_receipt world.now.rehearsal member carried step }
 {
@@ -42,7 +42,7 @@ fn is_passed(carried: Carried, letter: Option<Letter>) -> bool
     }
 }
 
-// Whether the wire carries this message or decision.
+// Whether the wire carries this message, proposal or decision.
 fn passes(wire: &Wire, carried: Carried) -> bool
     ensures { result ≡ passes wire.now carried }
 {
@@ -50,6 +50,14 @@ fn passes(wire: &Wire, carried: Carried) -> bool
         (Wire::Data(message), Carried::Data(origin, number)) => {
             message.origin() == origin && message.number() == number
         }
+        (
+            Wire::Prop {
+                instance,
+                round,
+                ..
+            },
+            Carried::Prop(k, r),
+        ) => *instance == k && *round == r,
         (
             Wire::Dec {
                 instance,
@@ -85,11 +93,21 @@ fn is_submission(member: Member, step: Step) -> bool
 
 // ---- what is still before it
 
-// Whether the round of the instance is one that the member has yet to enter.
+// Whether the member has a decision for the instance.
+fn has_decided(world: &World, member: Member, instance: Instance) -> bool
+    ensures { result ≡ has_decided world.now.rehearsal member instance }
+{
+    world.decided(member, instance).is_some()
+}
+
+// Whether the round of the instance is one that the member has yet to enter; it enters none once it has the instance's decision.
 #[tactic(auto, unfolding(crate::specs::Sending::has_before))]
 fn has_before(world: &World, member: Member, instance: Instance, round: Round) -> bool
     ensures { result ≡ has_before world.now.rehearsal member instance round }
 {
+    if has_decided(world, member, instance) {
+        return false;
+    }
     match world.instance(member) {
         None => false,
         Some((last, _)) => {
@@ -159,7 +177,7 @@ fn may_conclude(world: &World, member: Member, instance: Instance, round: Round)
 }
 
 // What the member may still send to the other, while it is up: a message that it submits or gets for the first time; what it sends in
-// a round; a decision that it makes or gets for the first time.
+// a round, and no nack once it has the proposal; a decision that it makes or gets for the first time.
 #[tactic(auto, unfolding(crate::specs::Sending::may_send))]
 fn may_send(world: &World, from: Member, to: Member, carried: Carried) -> bool
     ensures { result ≡ may_send world.now.rehearsal from to carried }
@@ -176,7 +194,11 @@ fn may_send(world: &World, from: Member, to: Member, carried: Carried) -> bool
         Carried::Est(k, r) => group.coordinator(r) == to && has_before(world, from, k, r),
         Carried::Prop(k, r) => group.coordinator(r) == from && may_choose(world, from, k, r),
         Carried::Ack(k, r) => group.coordinator(r) == to && may_reply(world, from, k, r),
-        Carried::Nack(k, r) => group.coordinator(r) == to && may_reply(world, from, k, r),
+        Carried::Nack(k, r) => {
+            group.coordinator(r) == to
+                && may_reply(world, from, k, r)
+                && !received(world, from, Carried::Prop(k, r))
+        }
         Carried::Dec(k, r) => {
             if group.coordinator(r) == from {
                 may_conclude(world, from, k, r)

@@ -2,22 +2,25 @@
 
 ghost use Rattle.std.specs.Prelude.{◌≡◌, ◌<◌, IfSome, None, Some, length, slice_get};
 ghost use Rattle.ct_merge.specs.Logs.{log_of};
-ghost use Rattle.ct_merge.specs.Merging.{IsTakenFrom, IsWholeTo, count_of};
-ghost use Rattle.ct_merge.specs.Stops.{IsCulprit, IsCulpritAt, IsStandOf};
-ghost use Rattle.ct_merge.specs.Verdicts.{IfAccepted, IfStopped};
+ghost use Rattle.ct_merge.specs.Merging.{IsWholeTo, count_of};
+ghost use Rattle.ct_merge.specs.Stops.{IsCulpritAt, IsStandOf};
 
 use crate::full_name::FullName;
 use crate::log_act::LogAct;
 use crate::log_line::LogLine;
+use crate::own_fault::OwnFault;
 use crate::progress::{Progress, log_of};
 use crate::sending::may_come;
-use crate::taker::lawful;
-use crate::verdict::{Culprit, Verdict, Why};
-use ct_names::{MAX_MEMBERS, Member};
+use crate::verdict::{Culprit, Why};
+use ct_model::Step;
+use ct_names::{MAX_MEMBERS, Member, Refusal, Serial};
 use ct_play::LineFault;
 
+// The serial of no envelope.
+const NO_SERIAL: Serial = 0;
+
 // Where a log stands: at its own line, or for the wait of the log of this member.
-#[derive(Clone, Copy)]
+#[derive(Drop)]
 enum Stand {
     Own(Why),
     For(Member),
@@ -31,9 +34,9 @@ fn stand_of(progress: &Progress, logs: &[Vec<LogLine>], member: Member) -> Stand
     match log_of(logs, member).get(progress.count(member)) {
         Some(line) => match line.act {
             LogAct::Receive(name) => awaited(progress, logs, member, line, name),
-            _ => Stand::Own(Why::Fault(LineFault::Restless)),
+            _ => Stand::Own(Why::Fault(OwnFault::Line(LineFault::Restless))),
         },
-        None => Stand::Own(Why::Fault(LineFault::Restless)),
+        None => Stand::Own(Why::Fault(OwnFault::Line(LineFault::Restless))),
     }
 }
 
@@ -51,8 +54,15 @@ fn awaited(
     ensures { IsStandOf logs.now progress.now member result }
 {
     let _ = line;
+    let world = progress.stage().world();
+    // Nothing more is brought to a member that crashed.
+    let brought = Step::Repeat(member, NO_SERIAL);
+    if let Err(Refusal::Crashed) = world.enabled(&brought) {
+        let fault = LineFault::Refused(brought, Refusal::Crashed);
+        return Stand::Own(Why::Fault(OwnFault::Line(fault)));
+    }
     let from = name.from;
-    if !may_come(progress.stage().world(), member, name) {
+    if !may_come(world, member, name) {
         return Stand::Own(Why::Never(from));
     }
     if log_of(logs, from).len() <= progress.count(from) {
@@ -87,25 +97,24 @@ fn culprit(progress: &Progress, member: Member, why: Why) -> Culprit
         member,
         place: progress.count(member),
         why,
+        run: None,
     }
 }
 
-/// What logs come to of which none goes on; None where each has ended.
-pub(crate) fn standstill(progress: &Progress, logs: &[Vec<LogLine>]) -> Option<Verdict>
-    requires { IsTakenFrom logs.now progress.now }
+/// The line at which logs stand of which none goes on: of those at which waits end, one that waits for a log that has ended only where
+/// all do; None where each log has ended.
+pub(crate) fn standstill(progress: &Progress, logs: &[Vec<LogLine>]) -> Option<Culprit>
     ensures whole { result ≡ None → IsWholeTo logs.now progress.now.counts progress.now.rehearsal.setting.members }
-    ensures never { IfSome result (λ verdict. IfAccepted verdict (λ w. ⊥)) }
-    ensures culprit { IfSome result (λ verdict. IfStopped verdict (IsCulprit logs.now)) }
+    ensures culprit { IfSome result (IsCulpritAt logs.now progress.now) }
 {
-    lawful(progress.stage().world());
     let mut cut = None;
     for i in 0..progress.stage().world().group().n() {
         let member = i + 1;
         if progress.count(member) < log_of(logs, member).len() {
             let culprit = root(progress, logs, member);
-            match culprit.why {
-                Why::Ended(_) => cut = Some(Verdict::Cut(culprit)),
-                _ => return Some(Verdict::Refused(culprit)),
+            match &culprit.why {
+                Why::Ended(_) => cut = Some(culprit),
+                _ => return Some(culprit),
             }
         }
     }

@@ -1,7 +1,6 @@
 //! Lines of logs, taken one by one.
 
 ghost use Rattle.std.specs.Prelude.{◌≡◌, [], true, false, Ok, None, Some, IfErr, IfOk, IfSome, OnOk};
-ghost use Rattle.ct_model.specs.Actor.{actor};
 ghost use Rattle.ct_model.specs.Cause.{cause};
 ghost use Rattle.ct_model.specs.Lawful.{IsLawful};
 ghost use Rattle.ct_model.specs.Rehearsal.{extended};
@@ -11,13 +10,14 @@ ghost use Rattle.ct_play.specs.Stating.{outcome_text};
 ghost use Rattle.ct_merge.specs.Logs.{act_of};
 ghost use Rattle.ct_merge.specs.Merging.{act_in, step_of, IsSameGroup, IsTakenTo, LeavesAll, LeavesOthers, Takes};
 ghost use Rattle.ct_merge.specs.Names.{full_name};
-ghost use Rattle.ct_merge.specs.Stops.{IsOther, IsRefusedBy, IsStuck, IsStuckIn, IsUnbrought};
+ghost use Rattle.ct_merge.specs.Stops.{IsOutcome, IsRefusedBy, IsStuck, IsStuckIn, IsUnbrought, line_fault_of};
 
 use crate::address::{Address, address_of};
 use crate::full_name::FullName;
 use crate::log_act::LogAct;
 use crate::log_line::LogLine;
 use crate::naming::full_name;
+use crate::own_fault::OwnFault;
 use ct_grammar::{Act, Pick, Play, Text, Who};
 use ct_model::Step;
 use ct_names::{Member, Refusal, Serial};
@@ -84,12 +84,13 @@ impl Taker {
         member: Member,
         log: &[LogLine],
         count: &mut usize,
-    ) -> Result<(), LineFault>
+    ) -> Result<(), OwnFault>
         requires { IsTakenTo self.old member log.now count.old }
         ensures taken { OnOk result (IsTakenTo self.new member log.now count.new) }
         ensures others { OnOk result (LeavesOthers member self.old self.new) }
         ensures group { OnOk result (IsSameGroup self.old self.new) }
-        ensures stuck { IfErr result (λ fault. UnlessShort (is_short fault) (IsStuckIn self.old member log.now count.new fault)) }
+        ensures stuck { IfErr result (λ fault. UnlessShort (is_short (line_fault_of fault))
+            (IsStuckIn self.old member log.now count.new fault)) }
     {
         for place in *count..log.len() {
             if !self.take(member, &log[place])? {
@@ -102,11 +103,11 @@ impl Taker {
 
     // Takes the line, unless it waits for an envelope that was not sent.
     #[tactic(auto, using(crate::proofs::Taking::takes, crate::proofs::Taking::group_more, crate::proofs::Stopping::stuck))]
-    fn take(&mut self, member: Member, line: &LogLine) -> Result<bool, LineFault>
+    fn take(&mut self, member: Member, line: &LogLine) -> Result<bool, OwnFault>
         ensures takes { result ≡ Ok true → Takes self.old member line.now self.new }
         ensures waits { result ≡ Ok false → LeavesAll self.old self.new }
         ensures group { OnOk result (IsSameGroup self.old self.new) }
-        ensures stuck { IfErr result (λ fault. UnlessShort (is_short fault) (IsStuck self.old member line.now fault)) }
+        ensures stuck { IfErr result (λ fault. UnlessShort (is_short (line_fault_of fault)) (IsStuck self.old member line.now fault)) }
     {
         lawful(self.stage.world());
         let Some(serial) = self.find(member, line.act)? else {
@@ -166,10 +167,10 @@ impl Taker {
     }
 
     // What the step came to is what is stated, if that is.
-    fn compare(&self, step: Step, said: &Option<Text>) -> Result<(), LineFault>
+    fn compare(&self, step: Step, said: &Option<Text>) -> Result<(), OwnFault>
         ensures so { OnOk result (IfSome said.now (λ text. outcome_text self.now step ≡ text)) }
-        ensures other { IfErr result (λ fault. UnlessShort (is_short fault)
-            ((fault ≡ LineFault.NotSo (actor step)) × IsOther self.now step said.now)) }
+        ensures other { IfErr result (λ fault. UnlessShort (is_short (line_fault_of fault))
+            (IsOutcome self.now step said.now fault)) }
     {
         let Some(said) = said else {
             return Ok(());
@@ -179,7 +180,7 @@ impl Taker {
         if text.as_str() == said.as_str() {
             Ok(())
         } else {
-            Err(LineFault::NotSo(step.member()))
+            Err(OwnFault::CameTo(step.member(), Text::new(text)))
         }
     }
 

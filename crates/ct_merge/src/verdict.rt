@@ -1,7 +1,7 @@
 //! What logs come to.
 
+use crate::own_fault::OwnFault;
 use ct_names::Member;
-use ct_play::LineFault;
 use ct_world::World;
 
 /// What the logs of members come to.
@@ -16,20 +16,22 @@ pub enum Verdict {
 }
 
 /// A line at which a log stands, and why.
-#[derive(Clone, Copy, Drop)]
+#[derive(Drop)]
 pub struct Culprit {
     /// Whose log it is.
     pub member: Member,
     /// The line's place in that log, counted from 0.
     pub place: usize,
     pub why: Why,
+    /// The run behind which logs wait; None where the line is the first that is refused by itself.
+    pub run: Option<World>,
 }
 
 /// Why a line is not taken.
-#[derive(Clone, Copy, Drop)]
+#[derive(Drop)]
 pub enum Why {
     /// It is refused by itself.
-    Fault(LineFault),
+    Fault(OwnFault),
     /// It receives what was not sent, and what this member can't send any more.
     Never(Member),
     /// It receives what was not sent, and the log of this member ends before.

@@ -28,7 +28,7 @@ struct Row {
     came: Came,
 }
 
-const ROWS: [Row; 7] = [
+const ROWS: [Row; 8] = [
     Row {
         name: "a message that is passed on, and repeated",
         texts: &[
@@ -37,10 +37,10 @@ const ROWS: [Row; 7] = [
 receive data 1.1 from 1 set 0 7
 receive data 1.1 from 2
 receive data 1.1 from 2
-begin {1.1}",
+begin {1.1}\n",
             "receive data 1.1 from 1 # the first line of its log
 2 begin
-enter {1.1} ts 0",
+enter {1.1} ts 0\n",
         ],
         came: Came::Accepted(9),
     },
@@ -50,17 +50,17 @@ enter {1.1} ts 0",
             "submit set 0 7
 receive data 1.1 from 1
 begin
-enter",
+enter\n",
             "receive data 1.1 from 1
 begin
 enter
-receive est 1/1 from 1 {1.2} ts 0",
+receive est 1/1 from 1 {1.2} ts 0\n",
         ],
         came: Came::Fault(2, 4),
     },
     Row {
         name: "an act that the rules refuse",
-        texts: &["begin"],
+        texts: &["begin\n"],
         came: Came::Fault(1, 1),
     },
     Row {
@@ -71,7 +71,7 @@ receive data 1.1 from 1
 begin
 enter
 suspect
-enter",
+enter\n",
             "receive data 1.1 from 1
 begin
 enter
@@ -79,7 +79,7 @@ receive est 1/1 from 1
 receive est 1/1 from 2
 choose 1
 receive ack 1/1 from 1
-receive prop 1/1 from 2",
+receive prop 1/1 from 2\n",
         ],
         came: Came::Never(2, 7),
     },
@@ -88,11 +88,11 @@ receive prop 1/1 from 2",
         texts: &[
             "submit set 0 7
 receive data 1.1 from 1
-begin",
+begin\n",
             "receive data 1.1 from 1
 begin
 enter
-receive est 1/1 from 1",
+receive est 1/1 from 1\n",
         ],
         came: Came::Cut(2, 4),
     },
@@ -104,22 +104,27 @@ receive data 1.1 from 1
 begin
 enter
 receive prop 1/1 from 2
-adopt",
+adopt\n",
             "receive data 1.1 from 1
 begin
 enter
 receive est 1/1 from 1
 receive est 1/1 from 2
 receive ack 1/1 from 1
-choose 1",
+choose 1\n",
         ],
         came: Came::Circle(1, 5),
+    },
+    Row {
+        name: "a last line that is torn",
+        texts: &["submit set 0 7\nbegin {1."],
+        came: Came::Accepted(1),
     },
     Row {
         name: "an envelope without its sender",
         texts: &[
             "submit set 0 7
-receive data 1.1",
+receive data 1.1\n",
         ],
         came: Came::NoLog(2),
     },

@@ -1,11 +1,10 @@
 use Rattle.std.proofs.Common.{◌≡◌, ◌≤◌, ◌+◌, length}
-use Rattle.ct_grammar.specs.Texts.{lines_of}
-use Rattle.ct_merge.specs.Texts.{after_lines}
+use Rattle.ct_merge.specs.Texts.{after_lines, whole_lines}
 use Rattle.ct_merge.proofs.log_text.LogText.take_lines.Given as goal
 
 abbrev pub invariant-loop-end : goal.invariant-loop-end
 invariant-loop-end l = record {
-  so_far : after_lines l.member l.fn.self (lines_of l.fn.text) ≡ after_lines l.member l.self (lines_of l.rest);
+  so_far : after_lines l.member l.fn.self (whole_lines l.fn.text) ≡ after_lines l.member l.self (whole_lines l.rest);
   few : l.self.count + length l.rest ≤ l.fn.self.count + length l.fn.text;
 }
 

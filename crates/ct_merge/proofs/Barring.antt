@@ -1,0 +1,266 @@
+-- Lines that are never taken.
+use Rattle.std.proofs.Common.{◌≡◌, ℕ, ◌<◌, ◌≤◌, ◌&&◌, true, false, ◌++◌, Option, Some, length}
+use Rattle.std.proofs.Common.{inl, inr, refl, sym, ap, ap₂, ◌∙◌, subst, arith}
+use Rattle.std.specs.Prelude.{slice_get, option_map}
+use Rattle.ct_names.specs.Group.{IsMember}
+use Rattle.ct_model.specs.Actor.{actor}
+use Rattle.ct_model.specs.AtValue.{Wire}
+use Rattle.ct_model.specs.Mapped.{without_value}
+use Rattle.ct_model.specs.Next.{Outcome, after, next, wire_to}
+use Rattle.ct_model.specs.Rehearsal.{Rehearsal, state_of, extended}
+use Rattle.ct_model.specs.Senders.{senders}
+use Rattle.ct_model.specs.Setting.{Setting}
+use Rattle.ct_model.specs.State.{State, Member, member, is_crashed, submissions, at_serial}
+use Rattle.ct_model.specs.declared.step.Step.{Step}
+use Rattle.ct_model.proofs.Basics.Options.{some-same, some-none}
+use Rattle.ct_model.proofs.Basics.Tests.{number_same}
+use Rattle.ct_model.proofs.Consensus.Sent.{Carries}
+use Rattle.ct_model.proofs.Relay.Messages.{next-is}
+use Rattle.ct_merge.specs.Barred.{IsDone, IsThere}
+use Rattle.ct_merge.specs.Barred.IsDone.{nobody, stopped, past}
+use Rattle.ct_merge.specs.Deeds.{letter, Sends, IsFrom, IsPosted}
+use Rattle.ct_merge.specs.Local.{outcome_of, IsLike, gets}
+use Rattle.ct_merge.specs.Logs.{Moment, act_of, is_own, own}
+use Rattle.ct_merge.specs.Merging.{step_of}
+use Rattle.ct_play.specs.Picking.{carried_of, sender_of}
+use Rattle.ct_merge.specs.Names.{full_name, named}
+use Rattle.ct_merge.specs.Past.{IsPast}
+use Rattle.ct_merge.specs.Runs.{IsRun}
+use Rattle.ct_grammar.specs.declared.carried.Carried.{Carried}
+use Rattle.ct_merge.specs.declared.full_name.FullName.{FullName}
+use Rattle.ct_merge.specs.declared.log_act.LogAct.{LogAct}
+use Rattle.ct_merge.specs.declared.log_act.LogAct.TheVariants.{Submit, Receive, Begin, Enter, Choose, Adopt, Suspect, Conclude, Deliver}
+use Rattle.ct_merge.specs.declared.log_act.LogAct.TheVariants.{Follow, Crash}
+use Rattle.ct_merge.proofs.Local.{next_outcome, outcome_is, outcome_local}
+use Rattle.ct_merge.proofs.Moments.{IsPlaced, get_below, get_last, get_there, no_own, own_cases, placed}
+use Rattle.ct_merge.proofs.SentOnce.{PastIn, named_past, past_kept, past_not, stepping}
+use Rattle.ct_merge.proofs.Owning.{at, only, own_more}
+use Rattle.ct_merge.proofs.Posting.{is_named, posted, sends_carries, sent_serial}
+use Rattle.ct_merge.proofs.Running.{known, by_steps, state_next}
+use Rattle.ct_merge.proofs.Sameness.{Acts, AreSame, below_or_not, both_get, like_there, same_deeds, same_wire, sends_same}
+use Rattle.ct_merge.proofs.Telling.{IsReceipt, IsToldStep, carried_same, received_wire, wire_named}
+
+-- ---- what is behind a member at an own step is so later
+
+PastOn : Rehearsal → Type 0
+PastOn w = (q i : ℕ) (m : Moment) (c : Carried) → IsMember w.setting.members q → slice_get (own w q) i ≡ Some m →
+    PastIn w.setting (state_of m.before) q c → PastIn w.setting (state_of w) q c
+
+past_more : (w : Rehearsal) (step : Step) (h : State) → IsRun w → next w.setting (state_of w) step ≡ Some h → PastOn w →
+    PastOn (extended w step)
+unfolding PastOn
+past_more w step h r e old q i m c isq there before =
+    let facts = known w r in
+    let now : PastIn w.setting (state_of w) q c = elim (own_cases w step q i m there) [
+      | inl a ↦ old q i m c isq a before
+      | inr b ↦ subst (λ (x : Moment). PastIn w.setting (state_of x.before) q c) b.is before
+    ] in
+    subst (λ x. PastIn w.setting x q c) (sym (state_next w step h e))
+    (past_kept w.setting (state_of w) step h (stepping w step h r e) facts.holds facts.knows q isq c now)
+
+past_on_run : (w : Rehearsal) → IsRun w → PastOn w
+unfolding PastOn
+past_on_run = by_steps PastOn
+    (λ s cells q i m c isq there before. some-none m (sym (ap (λ l. slice_get l i) (no_own s cells q)) ∙ there)) past_more
+
+-- an own step sends nothing that was behind its member at one that is no later
+past_sends : (w : Rehearsal) → IsRun w → (q i j : ℕ) (m n : Moment) (p : ℕ) (x : Wire) → IsMember w.setting.members q →
+    slice_get (own w q) i ≡ Some m → slice_get (own w q) j ≡ Some n → i ≤ j → PastIn w.setting (state_of m.before) q (carried_of x) →
+    Sends n p x → ⊥
+unfolding PastOn
+past_sends w r q i j m n p x isq there also low before sends =
+    let f = placed w r q j n also in
+    let s : Setting = n.before.setting in
+    let t = next-is s (state_of n.before) n.step f.state f.enabled in
+    let facts = known n.before f.run in
+    let same : (sends.outcome) ≡ t.outcome =
+    some-same sends.outcome t.outcome (sym sends.is ∙ outcome_is s (state_of n.before) n.step f.state t) in
+    let carried : Carries (t.outcome).mail x = subst (λ (o : Outcome). Carries o.mail x) same (sends_carries n p x sends) in
+    past_not s (state_of n.before) n.step f.state t facts.holds facts.knows x carried
+    (subst (λ z. PastIn s (state_of n.before) z (carried_of x)) (sym f.actor)
+    (subst (λ (z : Setting). PastIn z (state_of n.before) q (carried_of x)) (sym f.setting) (now f)))
+  where
+    now : IsPlaced w q j n → PastIn w.setting (state_of n.before) q (carried_of x)
+    now f = elim (below_or_not i j) [
+      | inl less ↦
+          let z = get_there (own n.before q) i (let count : length (own n.before q) ≡ j = f.count in omega arith) in
+          let same : z.0 ≡ m = some-same z.0 m (sym (f.earlier q i z.0 z.1) ∙ there) in
+          let before : PastIn n.before.setting (state_of (z.0).before) q (carried_of x) =
+          subst (λ (s : Setting). PastIn s (state_of (z.0).before) q (carried_of x)) (sym f.setting)
+          (subst (λ (y : Moment). PastIn w.setting (state_of y.before) q (carried_of x)) (sym same) before) in
+          subst (λ (s : Setting). PastIn s (state_of n.before) q (carried_of x)) f.setting
+          (past_on_run n.before f.run q i z.0 (carried_of x) (subst (λ (s : Setting). IsMember s.members q) (sym f.setting) isq) z.1 before)
+      | inr more ↦
+          let at_once : i ≡ j = omega arith in
+          let same : m ≡ n = some-same m n (sym there ∙ (ap (λ i. slice_get (own w q) i) at_once ∙ also)) in
+          subst (λ (y : Moment). PastIn w.setting (state_of y.before) q (carried_of x)) same before
+    ]
+
+-- ---- what is there
+
+abbrev full : Carried → ℕ → FullName
+full c q = record { carried = c; from = q }
+
+pub there_named : (w : Rehearsal) (p q k : ℕ) (x : Wire) (name : FullName) → IsFrom w q p x k → carried_of x ≡ name.carried →
+    q ≡ name.from → full_name w k ≡ Some name
+unfolding full_name sender_of
+there_named w p q k x name f carried from =
+    ap (λ o. named (option_map without_value o) (at_serial (senders w.setting w.steps) k)) f.there
+    ∙ (ap (λ o. named (Some (without_value (letter p x))) o) f.sender
+    ∙ ap Some (ap₂ full (carried_same x ∙ carried) from))
+
+pub there_wire : (w : Rehearsal) (p q k : ℕ) (x : Wire) → IsFrom w q p x k → wire_to (state_of w) p k ≡ Some x
+unfolding wire_to
+there_wire w p q k x f = rw (f.there, number_same p p refl) refl
+
+pub enabled_of : (s : Setting) (g : State) (step : Step) (o : Outcome) → outcome_of s g step ≡ Some o →
+    next s g step ≡ Some (after s g (actor step) o)
+enabled_of s g step o e = next_outcome s g step ∙ ap (option_map (after s g (actor step))) e
+
+-- what an own step sent is there
+pub sent_there : (w : Rehearsal) → IsRun w → (q i : ℕ) (m : Moment) (p : ℕ) (x : Wire) (name : FullName) → name.from ≡ q →
+    carried_of x ≡ name.carried → slice_get (own w q) i ≡ Some m → Sends m p x → IsThere w p name
+sent_there w r q i m p x name from carried there sends =
+    let k = sent_serial w r q i m p x there sends in
+    record { serial = k.0; wire = x; from = subst (λ z. IsFrom w z p x k.0) (sym from) k.1; carried = carried }
+
+-- who is done with it sends nothing of that name at an own step
+done_apart : (w t : Rehearsal) → IsRun w → t.setting ≡ w.setting → (q i j : ℕ) (m n : Moment) (p : ℕ) (x : Wire) (c : Carried) →
+    IsMember w.setting.members q → slice_get (own w q) i ≡ Some m → slice_get (own w q) j ≡ Some n → i ≤ j →
+    IsLike q (state_of m.before) (state_of t) → Sends n p x → carried_of x ≡ c → IsDone t q c → ⊥
+done_apart w t r group q i j m n p x c isq there also low alike sends carried (nobody out) =
+    out (subst (λ (z : Setting). IsMember z.members q) (sym group) isq)
+done_apart w t r group q i j m n p x c isq there also low alike sends carried (stopped crashed) =
+    let b = placed w r q i m there in
+    let s = next-is m.before.setting (state_of m.before) m.step b.state b.enabled in
+    let up : is_crashed (state_of m.before) q ≡ false = subst (λ z. is_crashed (state_of m.before) z ≡ false) b.actor s.up in
+    let down : is_crashed (state_of m.before) q ≡ true = ap (λ (z : Member). z.crashed) alike.member ∙ crashed in
+    cc
+done_apart w t r group q i j m n p x c isq there also low alike sends carried (past behind) =
+    let here : PastIn w.setting (state_of m.before) q c =
+    subst (λ (z : Setting). PastIn z (state_of m.before) q c) group
+    (subst (λ z. IsPast t.setting.members q z (submissions (state_of m.before).submitted q) c) (sym alike.member)
+    (subst (λ z. IsPast t.setting.members q (member (state_of t) q) z c) (sym alike.submitted) behind)) in
+    past_sends w r q i j m n p x isq there also low (subst (λ z. PastIn w.setting (state_of m.before) q z) (sym carried) here) sends
+
+-- ---- a member whose line is barred
+
+module _ (a : ℕ → ℕ → Option LogAct) (t : Rehearsal) (u : IsRun t) (acts_t : Acts a t) where
+  -- a step of its own that the line tells of
+  module _ (w : Rehearsal) (step : Step) (h : State) (r : IsRun w) (e : next w.setting (state_of w) step ≡ Some h)
+      (group : t.setting ≡ w.setting) (acts_w : Acts a w) (p : ℕ) (isp : IsMember w.setting.members p)
+      (count : length (own w p) ≡ length (own t p)) (act : LogAct) (x : IsToldStep w p step act) where
+    ist : (q : ℕ) → IsMember w.setting.members q → IsMember t.setting.members q
+    ist q isq = subst (λ (z : Setting). IsMember z.members q) (sym group) isq
+
+    same : (q : ℕ) → IsMember w.setting.members q → AreSame w t q
+    same = same_deeds a w t r u group acts_w acts_t
+
+    pub like : IsLike p (state_of w) (state_of t)
+    like = like_there w t p r u isp (ist p isp) (same p isp) count
+
+    -- what it receives
+    pub receipt : (name : FullName) → act ≡ Receive name → IsReceipt w p x.serial name
+    receipt name is =
+        let step_w = x.is ∙ ap (λ z. step_of p x.serial z) is in
+        received_wire w p x.serial name h (x.name name is) (subst (λ z. next w.setting (state_of w) z ≡ Some h) step_w e)
+
+    -- and which own step sent that
+    pub post : (name : FullName) (is : act ≡ Receive name) → IsPosted w name.from p (receipt name is).wire
+    post name is = posted w r name.from p (receipt name is).wire x.serial (receipt name is).from
+
+    pub poster : (name : FullName) (is : act ≡ Receive name) → IsMember w.setting.members name.from
+    poster name is =
+        (named_past w r name.from p (carried_of (receipt name is).wire) x.serial
+        (is_named w name.from p (receipt name is).wire x.serial (receipt name is).from)).0
+
+    -- it is none that t has too, as that would be there
+    pub not_before : (name : FullName) (is : act ≡ Receive name) → (IsThere t p name → ⊥) →
+        length (own t name.from) ≤ (post name is).place
+    unfolding AreSame
+    not_before name is unsent = elim (below_or_not (post name is).place (length (own t name.from))) [
+      | inl low ↦
+          let f = post name is in
+          let n = get_there (own t name.from) f.place low in
+          let deed = same name.from (poster name is) f.place f.moment n.0 f.there n.1 in
+          let b = placed w r name.from f.place f.moment f.there in
+          let c = placed t u name.from f.place n.0 n.1 in
+          absurd (unsent (sent_there t u name.from f.place n.0 p (receipt name is).wire name refl (receipt name is).carried n.1
+          (sends_same f.moment n.0 p (receipt name is).wire deed.outcome (b.setting ∙ (sym group ∙ sym c.setting)) f.sends)))
+      | inr high ↦ high
+    ]
+
+    -- it is no step of a member that is done with it
+    pub not_done : (name : FullName) (is : act ≡ Receive name) → length (own t name.from) ≤ (post name is).place →
+        IsDone t name.from name.carried → ⊥
+    unfolding AreSame
+    not_done name is later done =
+        let f = post name is in
+        let low : f.place < length (own w name.from) = get_below (own w name.from) f.place f.moment f.there in
+        let m = get_there (own w name.from) (length (own t name.from)) (omega arith) in
+        let b = placed w r name.from (length (own t name.from)) m.0 m.1 in
+        let ism : IsMember (m.0).before.setting.members name.from =
+        subst (λ (z : Setting). IsMember z.members name.from) (sym b.setting) (poster name is) in
+        let alike : IsLike name.from (state_of (m.0).before) (state_of t) =
+        like_there (m.0).before t name.from b.run u ism (ist name.from (poster name is))
+        (λ i y z at_m at_t. same name.from (poster name is) i y z (b.earlier name.from i y at_m) at_t) b.count in
+        done_apart w t r group name.from (length (own t name.from)) f.place m.0 f.moment p (receipt name is).wire name.carried
+        (poster name is) m.1 f.there later alike f.sends (receipt name is).carried done
+
+    -- so the line is not barred
+    found : (act : LogAct) → ((name : FullName) → act ≡ Receive name → IsThere t p name) →
+        ((name : FullName) → act ≡ Receive name → IsReceipt w p x.serial name) →
+        (k : ℕ) × (act_of t (step_of p k act) ≡ Some act) × (gets (state_of w) p x.serial act ≡ gets (state_of t) p k act)
+    found (Receive name) there received =
+        let f = there name refl in
+        let full_t : full_name t f.serial ≡ Some name = there_named t p name.from f.serial f.wire name f.from f.carried refl in
+        let y = wire_named t p f.serial name f.wire full_t (there_wire t p name.from f.serial f.wire f.from) in
+        let z = received name refl in (
+          f.serial,
+          ap (option_map Receive) full_t,
+          both_get (state_of w) (state_of t) p x.serial f.serial z.wire y.wire z.gets
+              (same_wire w t t p x.serial f.serial name r u u group same (λ q j n at. at) z y) y.gets,
+        )
+    found (Submit c) there received = (0, refl, refl)
+    found Begin there received = (0, refl, refl)
+    found Enter there received = (0, refl, refl)
+    found (Choose from) there received = (0, refl, refl)
+    found Adopt there received = (0, refl, refl)
+    found Suspect there received = (0, refl, refl)
+    found Conclude there received = (0, refl, refl)
+    found Deliver there received = (0, refl, refl)
+    found Follow there received = (0, refl, refl)
+    found Crash there received = (0, refl, refl)
+
+    -- what a line tells of behind the shorter run is enabled behind the longer one
+    pub enabled_too : ((name : FullName) → act ≡ Receive name → IsThere t p name) →
+        (k : ℕ) × (act_of t (step_of p k act) ≡ Some act) × (outcome_of w.setting (state_of w) step
+        ≡ outcome_of t.setting (state_of t) (step_of p k act))
+    enabled_too there =
+        let f = found act there receipt in (
+          f.0,
+          f.1,
+          ap (λ z. outcome_of w.setting (state_of w) z) x.is
+              ∙ (outcome_local w.setting (state_of w) (state_of t) p x.serial f.0 act like f.2
+              ∙ ap (λ (z : Setting). outcome_of z (state_of t) (step_of p f.0 act)) (sym group)),
+        )
+
+-- the step of a line is its member's own
+pub own_told : (w : Rehearsal) (p k : ℕ) (act : LogAct) → is_own p (at w (step_of p k act)) ≡ true
+own_told w p k (Submit c) = ap (λ b. b && true) (number_same p p refl)
+own_told w p k (Receive name) = ap (λ b. b && true) (number_same p p refl)
+own_told w p k Begin = ap (λ b. b && true) (number_same p p refl)
+own_told w p k Enter = ap (λ b. b && true) (number_same p p refl)
+own_told w p k (Choose from) = ap (λ b. b && true) (number_same p p refl)
+own_told w p k Adopt = ap (λ b. b && true) (number_same p p refl)
+own_told w p k Suspect = ap (λ b. b && true) (number_same p p refl)
+own_told w p k Conclude = ap (λ b. b && true) (number_same p p refl)
+own_told w p k Deliver = ap (λ b. b && true) (number_same p p refl)
+own_told w p k Follow = ap (λ b. b && true) (number_same p p refl)
+own_told w p k Crash = ap (λ b. b && true) (number_same p p refl)
+
+pub own_last : (w : Rehearsal) (step : Step) (p : ℕ) → is_own p (at w step) ≡ true →
+    slice_get (own (extended w step) p) (length (own w p)) ≡ Some (at w step)
+own_last w step p mine =
+    ap (λ l. slice_get l (length (own w p))) (own_more w p step ∙ ap (λ b. own w p ++ only b (at w step)) mine)
+    ∙ get_last (own w p) (at w step)

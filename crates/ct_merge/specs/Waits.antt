@@ -1,0 +1,82 @@
+-- Logs of which none goes on.
+use Rattle.std.specs.Prelude.{◌≡◌, ℕ, ◌≤◌, ◌<◌, Bool, true, false, List, Some, length, slice_get}
+use Rattle.std.specs.Global.{Vec}
+use Rattle.ct_names.specs.Group.{is_member}
+use Rattle.ct_names.specs.Prefix.{IsPrefix}
+use Rattle.ct_names.specs.declared.refusal.Refusal.{Refusal}
+use Rattle.ct_names.specs.declared.refusal.Refusal.TheVariants.{Full, NoSuchMember, NotSent, NotWaiting, StillWaiting}
+use Rattle.ct_model.specs.Rehearsal.{Rehearsal}
+use Rattle.ct_model.specs.Setting.{Setting}
+use Rattle.ct_model.specs.Stamps.{is_sent}
+use Rattle.ct_play.specs.declared.line_fault.LineFault.TheVariants.{Refused}
+use Rattle.ct_merge.specs.Logs.{IsMerge, log_of}
+use Rattle.ct_merge.specs.Merging.{Taken, count_of}
+use Rattle.ct_merge.specs.Names.{full_name}
+use Rattle.ct_merge.specs.Runs.{IsRun}
+use Rattle.ct_merge.specs.declared.full_name.FullName.{FullName}
+use Rattle.ct_merge.specs.declared.log_act.LogAct.TheVariants.{Receive}
+use Rattle.ct_merge.specs.declared.log_line.LogLine.{LogLine}
+use Rattle.ct_merge.specs.declared.own_fault.OwnFault.{OwnFault}
+use Rattle.ct_merge.specs.declared.own_fault.OwnFault.TheVariants.{Line, CameTo}
+use Rattle.ct_merge.specs.declared.verdict.Why.{Why}
+use Rattle.ct_merge.specs.declared.verdict.Why.TheVariants.{Fault}
+
+-- the serial is that of no envelope to p of this name
+abbrev pub UnlessNamed : Rehearsal → ℕ → FullName → ℕ → Type 0
+UnlessNamed w p name k = is_sent w p k ≡ true → full_name w k ≡ Some name → ⊥
+
+-- no envelope of this name was sent to p
+abbrev pub IsUnsent : Rehearsal → ℕ → FullName → Type 0
+IsUnsent w p name = (k : ℕ) → UnlessNamed w p name k
+
+-- none of the first n serials is that of one
+abbrev pub IsUnsentTo : Rehearsal → ℕ → FullName → ℕ → Type 0
+IsUnsentTo w p name n = (k : ℕ) → k ≤ n → UnlessNamed w p name k
+
+-- the line receives an envelope that was not sent
+pub record IsWaiting (w : Rehearsal) (p : ℕ) (line : LogLine) : Type 0 where
+  pub name : FullName
+  pub act : line.act ≡ Receive name
+  pub unsent : IsUnsent w p name
+
+-- p's log is over, or its next line waits
+abbrev pub WaitsAt : List (Vec LogLine) → Taken → ℕ → Type 0
+WaitsAt logs t p = (line : LogLine) → slice_get (log_of logs p) (count_of t.counts p) ≡ Some line → IsWaiting t.rehearsal p line
+
+-- so it is with each log
+abbrev pub AllWait : List (Vec LogLine) → Taken → Type 0
+AllWait logs t = (p : ℕ) → is_member t.rehearsal.setting.members p ≡ true → WaitsAt logs t p
+
+-- a log of a member is not over
+pub record SomeWaits (logs : List (Vec LogLine)) (t : Taken) : Type 0 where
+  pub member : ℕ
+  pub in_group : is_member t.rehearsal.setting.members member ≡ true
+  pub more : count_of t.counts member < length (log_of logs member)
+
+-- no run of this group is a merge of the logs
+abbrev pub HasNoMerge : Setting → List (Vec LogLine) → Type 0
+HasNoMerge s logs = (w : Rehearsal) → IsRun w → w.setting ≡ s → IsMerge w logs → ⊥
+
+-- a refusal for what the step is and how its member stands: for no limit, and for no place of an envelope
+abbrev pub is_own_cause : Refusal → Bool
+is_own_cause NoSuchMember = false
+is_own_cause NotWaiting = false
+is_own_cause NotSent = false
+is_own_cause StillWaiting = false
+is_own_cause (Full l) = false
+is_own_cause _ = true
+
+-- the line is refused so, or comes to something else than it states
+abbrev pub is_own_fault : OwnFault → Bool
+is_own_fault (Line (Refused step refusal)) = is_own_cause refusal
+is_own_fault (Line fault) = false
+is_own_fault (CameTo p came) = true
+
+-- the other logs begin with these
+abbrev pub AllBegin : List (Vec LogLine) → List (Vec LogLine) → Type 0
+AllBegin logs more = (p : ℕ) → IsPrefix (log_of logs p) (log_of more p)
+
+-- a log stands for an envelope that was not sent
+abbrev pub is_wait : Why → Bool
+is_wait (Fault fault) = false
+is_wait _ = true
