@@ -1,11 +1,14 @@
 //! Lines at which logs stand.
 
+use crate::instead::sent_instead;
 use crate::log_set::{LogSet, name_at};
 use crate::naming::{line_at, push_line};
-use ct_merge::{Culprit, push_culprit};
+use crate::torn::push_torn;
+use ct_grammar::Carried;
+use ct_merge::{Culprit, LogAct, Why, push_culprit};
 use std::alloc::{AllocError, Global};
 
-// What is told of the line: its file, its number, its text, and why it is not taken.
+// What is told of the line: its file, its number, its text, and why it is not taken; then of last lines that are torn.
 pub(crate) fn told_of(
     alloc: Global,
     names: &[&str],
@@ -24,7 +27,47 @@ pub(crate) fn told_of(
         line_at(bytes, number),
     )?;
     push_culprit(&mut text, &culprit)?;
+    push_instead(alloc, &mut text, names, set, &culprit)?;
+    push_torn(&mut text, names, texts)?;
     Ok(text)
+}
+
+// What the sender sent in place of what the line receives, and at which line, where it sent another reply to the round.
+fn push_instead(
+    alloc: Global,
+    text: &mut String,
+    names: &[&str],
+    set: &LogSet,
+    culprit: &Culprit,
+) -> Result<(), AllocError> {
+    let Culprit {
+        member,
+        place,
+        why: Why::Never(from),
+        run: Some(world),
+    } = culprit
+    else {
+        return Ok(());
+    };
+    let Some(LogAct::Receive(name)) = set.act(*member, *place) else {
+        return Ok(());
+    };
+    let Some(reply) = sent_instead(alloc, world, *member, name)? else {
+        return Ok(());
+    };
+    let file = name_at(names, set.file(*from).unwrap_or(0));
+    let number = set.number(*from, reply.place).unwrap_or(0);
+    text.push_str(": it sent ")?;
+    push_reply(text, reply.carried)?;
+    write!(text, " instead ({file} line {number})")
+}
+
+fn push_reply(text: &mut String, carried: Carried) -> Result<(), AllocError> {
+    match carried {
+        Carried::Ack(instance, round) => write!(text, "ack {instance}/{round}"),
+        Carried::Nack(instance, round) => write!(text, "nack {instance}/{round}"),
+        _ => Ok(()),
+    }
 }
 
 // The text at this place.

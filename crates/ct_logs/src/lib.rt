@@ -4,6 +4,7 @@
 mod culprit;
 mod form;
 mod group_numbers;
+mod instead;
 mod log_set;
 mod merge_fault;
 mod misfit;
@@ -13,6 +14,7 @@ mod reading;
 mod running;
 mod seen;
 mod showing;
+mod torn;
 mod words;
 mod writing;
 

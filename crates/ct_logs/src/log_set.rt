@@ -6,7 +6,7 @@ use crate::group_numbers::GroupNumbers;
 use crate::misfit::Misfit;
 use crate::naming::{line_at, push_line};
 use crate::no_entry::push_no_entry;
-use ct_merge::{LogFault, LogLine, LogText, NoEntry};
+use ct_merge::{LogAct, LogFault, LogLine, LogText, NoEntry};
 use ct_names::{MAX_MEMBERS, Member};
 use ct_world::Setup;
 use std::alloc::{AllocError, Global};
@@ -80,6 +80,13 @@ impl LogSet {
     pub(crate) fn number(&self, member: Member, place: usize) -> Option<usize> {
         let at = usize::from(member).checked_sub(1)?;
         self.places.get(at)?.get(place).copied()
+    }
+
+    // What the member did by the line at this place of its log.
+    pub(crate) fn act(&self, member: Member, place: usize) -> Option<LogAct> {
+        let at = usize::from(member).checked_sub(1)?;
+        let line = self.logs.get(at)?.get(place)?;
+        Some(line.act)
     }
 
     // Takes the text as the log in the file of this name, at this place among the files.

@@ -13,6 +13,7 @@ use crate::merge_fault::MergeFault;
 use crate::misfit::Misfit;
 use crate::reading::read_texts;
 use crate::showing::accepted;
+use crate::torn::push_torn;
 use crate::writing::written;
 use ct_merge::{Culprit, LogLine, Verdict, merge};
 use ct_play::LineFault;
@@ -54,7 +55,8 @@ pub fn merge_logs<F: Files, W: Sink>(
         return Err(MergeFault::Twice);
     }
     let texts = read_texts(alloc, files, names)?;
-    let AcceptedRun { text, told } = merged(alloc, names, &texts, form)?;
+    let AcceptedRun { text, mut told } = merged(alloc, names, &texts, form)?;
+    push_torn(&mut told, names, &texts)?;
     match write_all(writer, &text) {
         Ok(()) => Ok(told),
         Err(Failed) => Err(MergeFault::Write),

@@ -12,10 +12,10 @@ use std::alloc::{AllocError, Global};
 
 // What stands after the options.
 const AFTER: &str = "A log has the lines of one member, in its order:
-  members 3                            the number of members, in any log; without it that of the logs
-  1 submit set 0 7                     a step of the member; what it came to may stand behind it
-  receive data 1.1 from 2 set 0 7      a receipt, with who passed it on
-  begin {1.1}
+  members 3                        how many there are, in any log; else the logs
+  1 submit set 0 7                 a step of the member
+  receive data 1.1 from 2 set 0 7  a receipt, with who passed it on
+  begin {1.1}                      what a step came to may stand behind it
 
 The first log is member 1's, unless its acts name another member, and so on.
 
@@ -39,7 +39,10 @@ pub fn merge_command<'a>(alloc: Global) -> Result<Command<'a>, AllocError>
     subcommand(
         alloc,
         "merge",
-        "Merges the logs of members into one run and writes it as a schedule, or tells of a line that stands in no run",
+        concat!(
+            "Merges the logs of members into one run and writes it as a schedule,\n",
+            "or tells of a line that stands in no run",
+        ),
         AFTER,
     )
     .arg(logs(alloc))?
@@ -60,7 +63,7 @@ fn logs<'a>(alloc: Global) -> Arg<'a>
         .action(ArgAction::Append)
         .required(true)
         .num_args(1..)
-        .help("The files that the logs of the members stand in; - for standard input")
+        .help("The files that the members' logs stand in; - for standard input")
 }
 
 // An option with no value.
