@@ -7,7 +7,7 @@
 _ct_tool_words() {
     case $1 in
     '')
-        commands='check diagram interact merge record report schedule state steps walk help'
+        commands='check diagram find interact merge record report schedule shrink state steps walk help'
         options='-h --help -V --version'
         values=''
         operands='command'
@@ -21,6 +21,13 @@ _ct_tool_words() {
         options='--from --to --columns --member --only -h --help'
         values='--from=any --to=any --columns=any --member=any --only=any'
         operands='file'
+        ;;
+    find)
+        options='--members --turns --rate --cells --submit --crash --postpone --lose --repeat --batch --every --goal --seeds'
+        options+=' --jobs --quiet --count --json -h --help'
+        values='--members=any --turns=any --rate=any --cells=any --submit=any --crash=any --postpone=any --lose=any'
+        values+=' --repeat=any --batch=any --every=any --goal=any+ --seeds=any --jobs=any'
+        operands=''
         ;;
     interact)
         options='--record --strict -h --help'
@@ -47,6 +54,11 @@ _ct_tool_words() {
         values=''
         operands='file'
         ;;
+    shrink)
+        options='--goal --tries --record --quiet -h --help'
+        values='--goal=any --tries=any'
+        operands='file'
+        ;;
     state)
         options='--after --json -h --help'
         values='--after=any'
@@ -61,7 +73,7 @@ _ct_tool_words() {
         options='--members --turns --seed --rate --cells --submit --crash --postpone --lose --repeat --batch --every --until'
         options+=' --find --seeds -h --help'
         values='--members=any --turns=any --seed=any --rate=any --cells=any --submit=any --crash=any --postpone=any --lose=any'
-        values+=' --repeat=any --batch=any --every=any --until=decided|round,any --find=decided|round,any --seeds=any'
+        values+=' --repeat=any --batch=any --every=any --until=any+ --find=any+ --seeds=any'
         operands=''
         ;;
     help)

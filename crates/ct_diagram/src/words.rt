@@ -97,7 +97,10 @@ pub fn diagram_command<'a>(alloc: Global) -> Result<Command<'a>, AllocError>
     subcommand(
         alloc,
         "diagram",
-        "Replays a record and writes a picture of at most 400 of its steps as SVG: a line for each member, an arrow for each envelope",
+        concat!(
+            "Replays a record and writes a picture of at most 400 of its steps as\n",
+            "SVG: a line for each member, an arrow for each envelope",
+        ),
         AFTER,
     )
     .arg(file_argument(
@@ -108,15 +111,14 @@ pub fn diagram_command<'a>(alloc: Global) -> Result<Command<'a>, AllocError>
         alloc,
         "from",
         "1",
-        "The number of the first step that is drawn, from 1 on",
+        "The first step that is drawn, from 1 on",
     ))?
     .arg(default_option(
         alloc,
         "to",
         "4294967295",
-        "The number of the last step that is drawn",
-    )
-    .hide_default_value(true))?
+        "The last step that is drawn",
+    ).hide_default_value(true))?
     .arg(default_option(
         alloc,
         "columns",
@@ -126,11 +128,15 @@ pub fn diagram_command<'a>(alloc: Global) -> Result<Command<'a>, AllocError>
     .arg(value_option(
         alloc,
         "member",
-        "Draws the steps of this member, or of a list of members as 1,3, and the envelopes to and from them",
+        "Draws the steps of this member, or of a list of\nmembers as 1,3, and the envelopes to and from them",
     ))?
     .arg(value_option(
         alloc,
         "only",
-        "Draws steps and envelopes of this kind alone: consensus, which leaves out messages and what is done with them",
+        concat!(
+            "Draws steps and envelopes of this kind alone:\n",
+            "consensus, which leaves out messages and what is done\n",
+            "with them",
+        ),
     ))
 }

@@ -1,10 +1,18 @@
 //! The program `ct_tool`: it makes runs that can be made again, and shows runs. Each of its subcommands is a library's.
 #![tactic(auto)]
 
+ghost use Rattle.ct_find.specs.Line.{IsFindInRange};
+
 mod host;
+mod meter;
+mod terminal;
+mod trials;
 
 use clap::{ArgMatches, Command};
 use ct_diagram::{DiagramFault, diagram_command, diagram_window, draw, drawn_end};
+use ct_find::{
+    CountForm, FindCall, FindFault, count_form, find_call, find_command, write_count, write_found,
+};
 use ct_judge::{
     Heard, KeepFault, LineRefused, RecordFault, interact, interact_command, keep, record,
     record_command, record_partial, session_end,
@@ -14,17 +22,21 @@ use ct_logs::{merge_command, merge_form, merge_logs};
 use ct_program::{CommandFault, answer_status};
 use ct_records::ProgramFault;
 use ct_show::{ShowFault, shown_end};
+use ct_shrink::{ShrinkFault, shrink_command, shrink_options, write_smaller};
 use ct_streams::{Counted, FileFault, Files, NamedFault, Status, WordFault};
 use ct_views::{
     CheckOptions, View, check, check_command, report_command, show, state_command, state_view,
     steps_command, steps_view,
 };
-use ct_walk::{Call, FoundSeed, walk_call, walk_command, write_call};
+use ct_walk::{CallFault, FoundSeed, given_goal, walk_call, walk_command, write_call};
 use host::{Host, can_write};
+use meter::Meter;
 use std::alloc::{AllocError, Global};
 use std::fmt::Display;
 use std::io;
 use std::process::ExitCode;
+use std::thread::Threads;
+use trials::Trials;
 
 fn main(rt: HostRuntime) -> ExitCode {
     let words = match words(&rt) {
@@ -35,7 +47,7 @@ fn main(rt: HostRuntime) -> ExitCode {
         return refuse(&rt, CommandFault::Memory);
     };
     match command.try_get_matches_from(&words) {
-        Ok(matches) => call(&rt, &matches),
+        Ok(matches) => call(&rt, &rt, &matches),
         Err(error) => answer(&rt, &error),
     }
 }
@@ -52,26 +64,30 @@ fn command<'a>(alloc: Global) -> Result<Command<'a>, AllocError> {
         .subcommand_required(true)
         .subcommand(check_command(alloc)?)?
         .subcommand(diagram_command(alloc)?)?
+        .subcommand(find_command(alloc)?)?
         .subcommand(interact_command(alloc)?)?
         .subcommand(merge_command(alloc)?)?
         .subcommand(record_command(alloc)?)?
         .subcommand(report_command(alloc)?)?
         .subcommand(schedule_command(alloc)?)?
+        .subcommand(shrink_command(alloc)?)?
         .subcommand(state_command(alloc)?)?
         .subcommand(steps_command(alloc)?)?
         .subcommand(walk_command(alloc)?)
 }
 
-// Does what the subcommand asks for.
-fn call(rt: &HostRuntime, matches: &ArgMatches<'_>) -> ExitCode {
+// Does what the subcommand asks for; a search takes threads.
+fn call<R: Threads + Sync>(rt: &HostRuntime, threads: &R, matches: &ArgMatches<'_>) -> ExitCode {
     match matches.subcommand() {
         Some(("check", found)) => check_files(rt, found),
         Some(("diagram", found)) => diagram(rt, found),
+        Some(("find", found)) => find(rt, threads, found),
         Some(("interact", found)) => hold_session(rt, found),
         Some(("merge", found)) => merge(rt, found),
         Some(("record", found)) => record_schedule(rt, found),
         Some(("report", found)) => view(rt, found, Ok(View::Report)),
         Some(("schedule", found)) => schedule(rt, found),
+        Some(("shrink", found)) => shrink(rt, found),
         Some(("state", found)) => view(rt, found, state_view(found)),
         Some(("steps", found)) => view(rt, found, steps_view(found)),
         Some(("walk", found)) => walk(rt, found),
@@ -80,9 +96,9 @@ fn call(rt: &HostRuntime, matches: &ArgMatches<'_>) -> ExitCode {
 }
 
 fn walk(rt: &HostRuntime, found: &ArgMatches<'_>) -> ExitCode {
-    let call = match walk_call(found) {
+    let call = match walk_call(rt.alloc(), found) {
         Ok(call) => call,
-        Err(fault) => return refuse_word(rt, fault),
+        Err(fault) => return refuse_call(rt, fault),
     };
     let mut writer = Counted::new(io::writer(rt));
     match write_call(rt.alloc(), &call, &mut writer) {
@@ -90,6 +106,66 @@ fn walk(rt: &HostRuntime, found: &ArgMatches<'_>) -> ExitCode {
         Ok(Some(found)) => tell(rt, found),
         Err(fault) => fail(rt, fault, fault.status()),
     }
+}
+
+// Counts the seeds whose walks show the goal, where the words ask for that; else writes the record of the first one's walk.
+fn find<R: Threads + Sync>(rt: &HostRuntime, threads: &R, found: &ArgMatches<'_>) -> ExitCode {
+    let call = match find_call(rt.alloc(), found) {
+        Ok(call) => call,
+        Err(fault) => return refuse_call(rt, fault),
+    };
+    let meter = Meter::new(rt, call.seeds, found.get_flag("quiet"));
+    match count_form(found) {
+        Some(form) => count_found(rt, threads, call, form, meter),
+        None => find_first(rt, threads, call, meter),
+    }
+}
+
+// Writes the record of the walk that is looked for, and tells of its seed and the words that make it again.
+fn find_first<R: Threads + Sync>(
+    rt: &HostRuntime,
+    threads: &R,
+    call: FindCall,
+    mut meter: Meter<'_>,
+) -> ExitCode
+    requires range { IsFindInRange call }
+{
+    let mut writer = Counted::new(io::writer(rt));
+    let ended = write_found(threads, rt.alloc(), call, &mut writer, &mut meter);
+    meter.clear();
+    match ended {
+        Ok(found) => {
+            let _ = eprintln!(rt; "{}\n{}", found.seed, found.again);
+            ExitCode::SUCCESS
+        }
+        Err(fault) => fail_find(rt, fault),
+    }
+}
+
+// Writes the count of the seeds, and tells of it where no walk shows the goal.
+fn count_found<R: Threads + Sync>(
+    rt: &HostRuntime,
+    threads: &R,
+    call: FindCall,
+    form: CountForm,
+    mut meter: Meter<'_>,
+) -> ExitCode
+    requires range { IsFindInRange call }
+{
+    let mut writer = Counted::new(io::writer(rt));
+    let ended = write_count(threads, rt.alloc(), call, form, &mut writer, &mut meter);
+    meter.clear();
+    match ended {
+        Ok(None) => ExitCode::SUCCESS,
+        Ok(Some(none)) => fail_find(rt, FindFault::NotFound(none)),
+        Err(fault) => fail_find(rt, fault),
+    }
+}
+
+// Tells why nothing is found.
+fn fail_find(rt: &HostRuntime, fault: FindFault) -> ExitCode {
+    let status = fault.status();
+    fail(rt, fault, status)
 }
 
 // Tells of the seed that was found.
@@ -190,6 +266,54 @@ fn schedule(rt: &HostRuntime, found: &ArgMatches<'_>) -> ExitCode {
     end_shown(rt, name, shown_end(ended, writer.is_broken()))
 }
 
+// Writes a smaller run of the record that the words name, and tells how small it is.
+fn shrink(rt: &HostRuntime, found: &ArgMatches<'_>) -> ExitCode {
+    let options = match shrink_options(found) {
+        Ok(options) => options,
+        Err(fault) => return refuse_word(rt, fault),
+    };
+    let (Some(name), Some(text)) = (found.get_str("file"), found.get_str("goal")) else {
+        return refuse(rt, CommandFault::NoFile);
+    };
+    let goal = match given_goal(rt.alloc(), "goal", text) {
+        Ok(goal) => goal,
+        Err(fault) => return refuse_call(rt, fault),
+    };
+    let mut reader = match Host::new(rt).open(name) {
+        Ok(reader) => reader,
+        Err(fault) => return refuse_file(rt, name, fault),
+    };
+    let quiet = found.get_flag("quiet");
+    let mut trials = Trials::new(rt, quiet);
+    let mut writer = Counted::new(io::writer(rt));
+    let ended = write_smaller(
+        rt.alloc(),
+        &mut reader,
+        &mut writer,
+        &goal,
+        &options,
+        &mut trials,
+    );
+    trials.clear();
+    match ended {
+        Ok(summary) => {
+            if !quiet {
+                let _ = eprintln!(rt; "{summary}");
+            }
+            ExitCode::SUCCESS
+        }
+        Err(ShrinkFault::Show(fault)) => end_shown(
+            rt,
+            name,
+            shown_end(Err(fault), writer.is_broken()),
+        ),
+        Err(fault) => {
+            let status = fault.status();
+            fail(rt, fault, status)
+        }
+    }
+}
+
 // Writes the run of the logs that the words name, and tells what it shows.
 fn merge(rt: &HostRuntime, found: &ArgMatches<'_>) -> ExitCode {
     let names = found.get_strs("files").unwrap_or(&[]);
@@ -276,6 +400,12 @@ fn refuse(rt: &HostRuntime, fault: CommandFault) -> ExitCode {
 // Tells of an option that is given what it may not have.
 fn refuse_word(rt: &HostRuntime, fault: WordFault<'_>) -> ExitCode {
     fail(rt, fault, Status::Words.code())
+}
+
+// Tells of words that ask for no walk.
+fn refuse_call(rt: &HostRuntime, fault: CallFault<'_>) -> ExitCode {
+    let status = fault.status();
+    fail(rt, fault, status)
 }
 
 // Tells of a file that is not read or not made.

@@ -10,7 +10,7 @@ use std::fmt::Display;
 use std::test::Fail;
 
 // Whether the fault's line on standard error is this.
-fn is_line<D: Display>(alloc: Global, fault: &D, line: &str) -> bool {
+pub(crate) fn is_line<D: Display>(alloc: Global, fault: &D, line: &str) -> bool {
     match format!(in alloc; "{fault}") {
         Ok(text) => text.as_str() == line,
         Err(_) => false,
@@ -72,9 +72,9 @@ fn faults_of_kept_records_have_lines(rt: HostRuntime) {
 }
 
 // The fault of these seeds, the nearest of which came to so much.
-fn missed(sight: Sight, last: u32, came_to: u32) -> WalkFault {
+fn missed(sight: Option<Sight>, last: u32, came_to: u32) -> WalkFault {
     WalkFault::NotFound(Missed {
-        until: Some(sight),
+        sight,
         seeds: Seeds { first: 1, last },
         seed: 1,
         came_to,
@@ -84,20 +84,22 @@ fn missed(sight: Sight, last: u32, came_to: u32) -> WalkFault {
 fn walks_have_lines(alloc: Global) -> bool {
     let faults = [
         (
-            missed(Sight::Round(9), 200, 7),
+            missed(Some(Sight::Round(9)), 200, 7),
             "no seed of 1..200 shows round 9: seed 1 came to round 7",
             1,
         ),
         (
-            missed(Sight::Decided(9), 200, 0),
+            missed(Some(Sight::Decided(9)), 200, 0),
             "no seed of 1..200 shows decided 9: seed 1 decided none",
             1,
         ),
         (
-            missed(Sight::Round(9), 1, 0),
+            missed(Some(Sight::Round(9)), 1, 0),
             "seed 1 does not show round 9: it came to no round",
             1,
         ),
+        (missed(None, 200, 0), "no seed of 1..200 shows it", 1),
+        (missed(None, 1, 0), "seed 1 does not show it", 1),
         (WalkFault::Write, "write failed", 4),
         (WalkFault::Memory, "out of memory", 5),
         (WalkFault::Board, "board refused", 5),

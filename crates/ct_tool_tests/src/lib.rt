@@ -15,6 +15,10 @@ mod runs;
 #[cfg(test)]
 mod schedules;
 #[cfg(test)]
+mod searches;
+#[cfg(test)]
 mod shown;
+#[cfg(test)]
+mod smaller;
 #[cfg(test)]
 mod walks;

@@ -5,7 +5,7 @@ use ct_print::{push_act, push_line};
 use std::alloc::{AllocError, Global};
 
 // Lines that are written as they are given.
-const SAME: [&str; 70] = [
+const SAME: [&str; 84] = [
     "members 3",
     "cells 4",
     "batch 1048560",
@@ -76,10 +76,24 @@ const SAME: [&str; 70] = [
     "report",
     "record",
     "limits",
+    "expect any round >= 4",
+    "expect 1 instance >= 2 and 2 waiting >= 3",
+    "expect all received count 3",
+    "expect up delivered count >= 1",
+    "expect 3 decided count 0",
+    "expect 1,3 decided 2",
+    "expect all delivered 2.1 before 1.1",
+    "expect any refuses choose NotLargest",
+    "expect 1 refuses choose 2 NotLargest",
+    "expect any suspects up",
+    "expect 2 follows 1",
+    "expect any chooses unseen",
+    "expect ever any concludes again and never 2 crashed and all decided 1:1.1",
+    "all turns suspecting 2 until ever 1 idle and up delivered 1.1",
 ];
 
 // Lines that are given otherwise, and how they are written; a dash for one that is not understood.
-const OTHERS: [(&str, &str); 15] = [
+const OTHERS: [(&str, &str); 19] = [
     (
         "1 submit set 0 7            # a comment",
         "1 submit set 0 7",
@@ -104,6 +118,10 @@ const OTHERS: [(&str, &str); 15] = [
     (" \t\r", ""),
     ("", ""),
     ("# 1 begin", ""),
+    ("expect ever  3,1 round >= 04", "expect ever 1,3 round >= 4"),
+    ("expect 1 round = 4", "-"),
+    ("expect 1 up and", "-"),
+    ("expect and 1 up", "-"),
 ];
 
 // Whether the line, read and written, is that text.

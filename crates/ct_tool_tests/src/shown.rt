@@ -8,16 +8,21 @@ use std::alloc::{AllocError, Global};
 use std::test::Fail;
 
 // One member decides what it submitted.
-const RUN: &str =
-    "{\"cells\":4,\"n\":1,\"steps\":[[\"submit\",1,[\"set\",0,7]],[\"receive\",1,1],[\"begin\",1],[\"enter\",1],[\"receive\",1,2],[\"choose\",1,1],[\"receive\",1,3],[\"adopt\",1],[\"receive\",1,4],[\"conclude\",1],[\"receive\",1,5],[\"deliver\",1]],\"version\":1}";
+const RUN: &str = concat!(
+    "{\"cells\":4,\"n\":1,\"steps\":[[\"submit\",1,[\"set\",0,7]],[\"receive\",1,1],[\"begin\",1],[\"enter\",1],",
+    "[\"receive\",1,2],[\"choose\",1,1],[\"receive\",1,3],[\"adopt\",1],[\"receive\",1,4],[\"conclude\",1],",
+    "[\"receive\",1,5],[\"deliver\",1]],\"version\":1}",
+);
 
 // It receives its message twice.
 const TWICE: &str =
     "{\"cells\":4,\"n\":1,\"steps\":[[\"submit\",1,[\"set\",0,7]],[\"receive\",1,1],[\"receive\",1,1]],\"version\":1}";
 
 // Its message is lost and repeated, and then repeated while it waits.
-const LOST: &str =
-    "{\"batch\":7,\"cells\":4,\"n\":1,\"steps\":[[\"submit\",1,[\"set\",0,7]],[\"lose\",1,1],[\"repeat\",1,1],[\"repeat\",1,1]],\"version\":3}";
+const LOST: &str = concat!(
+    "{\"batch\":7,\"cells\":4,\"n\":1,\"steps\":[[\"submit\",1,[\"set\",0,7]],",
+    "[\"lose\",1,1],[\"repeat\",1,1],[\"repeat\",1,1]],\"version\":3}",
+);
 
 // An envelope of another member is repeated.
 const OTHERS: &str =
@@ -27,8 +32,13 @@ const OTHERS: &str =
 const UNSENT: &str = "{\"batch\":7,\"cells\":4,\"n\":1,\"steps\":[[\"repeat\",1,0]],\"version\":3}";
 
 // It proposes nine messages.
-const NINE: &str =
-    "{\"cells\":4,\"n\":1,\"steps\":[[\"submit\",1,[\"set\",0,7]],[\"submit\",1,[\"set\",0,7]],[\"submit\",1,[\"set\",0,7]],[\"submit\",1,[\"set\",0,7]],[\"submit\",1,[\"set\",0,7]],[\"submit\",1,[\"set\",0,7]],[\"submit\",1,[\"set\",0,7]],[\"submit\",1,[\"set\",0,7]],[\"submit\",1,[\"set\",0,7]],[\"receive\",1,1],[\"receive\",1,2],[\"receive\",1,3],[\"receive\",1,4],[\"receive\",1,5],[\"receive\",1,6],[\"receive\",1,7],[\"receive\",1,8],[\"receive\",1,9],[\"begin\",1]],\"version\":1}";
+const NINE: &str = concat!(
+    "{\"cells\":4,\"n\":1,\"steps\":[[\"submit\",1,[\"set\",0,7]],[\"submit\",1,[\"set\",0,7]],[\"submit\",1,",
+    "[\"set\",0,7]],[\"submit\",1,[\"set\",0,7]],[\"submit\",1,[\"set\",0,7]],[\"submit\",1,[\"set\",0,7]],",
+    "[\"submit\",1,[\"set\",0,7]],[\"submit\",1,[\"set\",0,7]],[\"submit\",1,[\"set\",0,7]],[\"receive\",1,1],",
+    "[\"receive\",1,2],[\"receive\",1,3],[\"receive\",1,4],[\"receive\",1,5],[\"receive\",1,6],[\"receive\",1,7],",
+    "[\"receive\",1,8],[\"receive\",1,9],[\"begin\",1]],\"version\":1}",
+);
 
 // The second member passes on what the first one sent.
 const RELAYED: &str =
@@ -100,9 +110,13 @@ member 1 up instance 1 round 1 Gather, coordinator 1
   next     [\"choose\",1,1]
 ";
 
-const JSON: &str =
-    "{\"group\":1,\"majority\":1,\"cells\":4,\"batch\":1048560,\"steps\":12,\"sent\":5,\"posted\":1,\"members\":[{\"member\":1,\"up\":true,\"instance\":1,\"open\":false,\"received\":[\"1.1\"],\"decided\":[{\"instance\":1,\"messages\":[\"1.1\"]}],\"delivered\":[\"1.1\"],\"table\":[7,0,0,0,0,0,0,0,0,0,0,0,0,0,0,0]}]}
-";
+const JSON: &str = concat!(
+    "{\"group\":1,\"majority\":1,\"cells\":4,\"batch\":1048560,\"steps\":12,\"sent\":5,\"posted\":1,",
+    "\"members\":[{\"member\":1,\"up\":true,\"instance\":1,\"open\":false,\"received\":[\"1.1\"],",
+    "\"decided\":[{\"instance\":1,\"messages\":[\"1.1\"]}],\"delivered\":[\"1.1\"],\"table\":[7,0,0,0,0,0,0,0,0,0,",
+    "0,0,0,0,0,0]}]}
+",
+);
 
 const ALL: View = View::Steps(
     Selection {
@@ -114,15 +128,21 @@ const ALL: View = View::Steps(
 );
 
 // A step that is refused, as JSON.
-const TWICE_JSON: &str =
-    "{\"number\":3,\"member\":1,\"step\":\"receive\",\"envelope\":{\"serial\":1,\"to\":1,\"kind\":\"Data\",\"message\":\"1.1\"},\"refusal\":\"NotWaiting\",\"left\":{\"number\":2,\"entry\":[\"receive\",1,1]}}
-";
+const TWICE_JSON: &str = concat!(
+    "{\"number\":3,\"member\":1,\"step\":\"receive\",\"envelope\":{\"serial\":1,\"to\":1,\"kind\":\"Data\",",
+    "\"message\":\"1.1\"},\"refusal\":\"NotWaiting\",\"left\":{\"number\":2,\"entry\":[\"receive\",1,1]}}
+",
+);
 
 // The state after its estimate was heard, as JSON.
-const HEARD_JSON: &str =
-    "{\"group\":1,\"majority\":1,\"cells\":4,\"batch\":1048560,\"steps\":5,\"sent\":2,\"posted\":0}
-{\"member\":1,\"up\":true,\"instance\":1,\"open\":true,\"round\":1,\"phase\":\"Gather\",\"coordinator\":1,\"estimate\":{\"value\":[\"1.1\"],\"timestamp\":0},\"heard\":[{\"member\":1,\"value\":[\"1.1\"],\"timestamp\":0}],\"acked\":[],\"replied\":[],\"received\":[\"1.1\"],\"decided\":[],\"delivered\":[],\"table\":[0,0,0,0,0,0,0,0,0,0,0,0,0,0,0,0],\"waiting\":[],\"enabled\":[[\"choose\",1,1]],\"refused\":[{\"entry\":[\"deliver\",1],\"refusal\":\"Undecided\"}],\"next\":[[\"choose\",1,1]]}
-";
+const HEARD_JSON: &str = concat!(
+    "{\"group\":1,\"majority\":1,\"cells\":4,\"batch\":1048560,\"steps\":5,\"sent\":2,\"posted\":0}\n",
+    "{\"member\":1,\"up\":true,\"instance\":1,\"open\":true,\"round\":1,\"phase\":\"Gather\",\"coordinator\":1,",
+    "\"estimate\":{\"value\":[\"1.1\"],\"timestamp\":0},\"heard\":[{\"member\":1,\"value\":[\"1.1\"],",
+    "\"timestamp\":0}],\"acked\":[],\"replied\":[],\"received\":[\"1.1\"],\"decided\":[],\"delivered\":[],",
+    "\"table\":[0,0,0,0,0,0,0,0,0,0,0,0,0,0,0,0],\"waiting\":[],\"enabled\":[[\"choose\",1,1]],",
+    "\"refused\":[{\"entry\":[\"deliver\",1],\"refusal\":\"Undecided\"}],\"next\":[[\"choose\",1,1]]}\n",
+);
 
 // What a view shows of a record, in words, and the text; and which step of the record is refused.
 type Shown = (

@@ -1,17 +1,18 @@
-ghost use Rattle.std.specs.Prelude.{◌≡◌, ◌≤◌, ◌<◌, None};
+ghost use Rattle.std.specs.Prelude.{◌≡◌, ◌≤◌};
 ghost use Rattle.ct_names.specs.declared.limit.TheConstants.{MAX_BOUND};
 ghost use Rattle.ct_walk.specs.Options.{IsInRange};
 
+use ct_grammar::{Goal, goal_of};
 use ct_model::Step;
 use ct_names::{MAX_BOUND, Round};
 use ct_program::FreeOptions;
 use ct_walk::*;
 use ct_world::World;
-use std::alloc::Global;
+use std::alloc::{AllocError, Global};
 use std::test::Fail;
 
 // The options of a walk of three members, the others as the command line has them by default.
-fn options(seed: u32) -> WalkOptions
+pub(crate) fn options(seed: u32) -> WalkOptions
     ensures { result ≡ record {
       run = record {
         members = 3;
@@ -27,7 +28,6 @@ fn options(seed: u32) -> WalkOptions
         batch = MAX_BOUND;
       };
       every = 0;
-      until = None;
     } }
 {
     WalkOptions {
@@ -45,7 +45,6 @@ fn options(seed: u32) -> WalkOptions
             batch: MAX_BOUND,
         },
         every: 0,
-        until: None,
     }
 }
 
@@ -61,7 +60,7 @@ fn walks_of_three_members_decide(rt: HostRuntime) -> Result<(), Fail> {
 fn posts(alloc: Global, options: &WalkOptions) -> Result<(bool, usize), WalkFault>
     requires { IsInRange options.now }
 {
-    let world = walk(alloc, options)?;
+    let world = walk(alloc, options, None)?;
     Ok((world.posted() > 0, submissions(&world)))
 }
 
@@ -98,7 +97,7 @@ fn is_repetition(step: &Step) -> bool {
 fn lost_and_repeated(alloc: Global, options: &WalkOptions) -> Result<(bool, bool), WalkFault>
     requires { IsInRange options.now }
 {
-    let world = walk(alloc, options)?;
+    let world = walk(alloc, options, None)?;
     let record = world.record();
     Ok((record.iter().any(is_loss), record.iter().any(is_repetition)))
 }
@@ -125,94 +124,105 @@ fn is_in_round(world: &World, wanted: Round) -> bool {
 fn is_part(alloc: Global, whole: &WalkOptions, world: &World) -> Result<bool, WalkFault>
     requires { IsInRange whole.now }
 {
-    let whole = walk(alloc, whole)?;
+    let whole = walk(alloc, whole, None)?;
     let is_shorter = world.record().len() < whole.record().len();
     Ok(is_shorter && whole.record().starts_with(world.record()))
 }
 
-fn stops_at_a_decision(
-    alloc: Global,
-    until: &WalkOptions,
-    whole: &WalkOptions,
-) -> Result<bool, WalkFault>
-    requires until { IsInRange until.now }
-    requires whole { IsInRange whole.now }
-{
-    let world = walk(alloc, until)?;
-    Ok(is_decided(&world) && is_part(alloc, whole, &world)?)
+// The goal of this text, where it is one.
+pub(crate) fn goal(alloc: Global, text: &str) -> Result<Option<Goal>, AllocError> {
+    match goal_of(alloc, text)? {
+        Ok(goal) => Ok(Some(goal)),
+        Err(_) => Ok(None),
+    }
 }
 
-fn stops_in_round(alloc: Global, until: &WalkOptions, wanted: Round) -> Result<bool, WalkFault>
-    requires { IsInRange until.now }
+// Whether the walk that is made until the goal ends at the first decision, and is not all of the walk.
+fn stops_at_a_decision(alloc: Global, until: &str, options: &WalkOptions) -> Result<bool, WalkFault>
+    requires { IsInRange options.now }
 {
-    Ok(is_in_round(&walk(alloc, until)?, wanted))
+    let Some(goal) = goal(alloc, until)? else {
+        return Ok(false);
+    };
+    let world = walk(alloc, options, Some(&goal))?;
+    Ok(is_decided(&world) && is_part(alloc, options, &world)?)
+}
+
+fn stops_in_round(
+    alloc: Global,
+    until: &str,
+    options: &WalkOptions,
+    wanted: Round,
+) -> Result<bool, WalkFault>
+    requires { IsInRange options.now }
+{
+    let Some(goal) = goal(alloc, until)? else {
+        return Ok(false);
+    };
+    Ok(is_in_round(&walk(alloc, options, Some(&goal))?, wanted))
 }
 
 #[test]
 fn a_walk_stops_at_what_it_is_made_until(rt: HostRuntime) -> Result<(), Fail> {
-    let mut until = options(3);
-    until.until = Some(Sight::Decided(1));
-    assert!(rt; stops_at_a_decision(rt.alloc(), &until, &options(3))?);
-    until.until = Some(Sight::Round(2));
-    assert!(rt; stops_in_round(rt.alloc(), &until, 2)?);
+    let alloc = rt.alloc();
+    assert!(rt; stops_at_a_decision(alloc, "any decided 1", &options(3))?);
+    assert!(rt; stops_in_round(alloc, "any round >= 2", &options(3), 2)?);
     Ok(())
 }
 
 // The walk that is found in some first seeds comes to the round.
-fn finds_round(
-    alloc: Global,
-    sought: &WalkOptions,
-    last: u32,
-    wanted: Round,
-) -> Result<bool, WalkFault>
-    requires range { IsInRange sought.now }
-    requires some { 1 ≤ last }
+fn finds_round(alloc: Global, sought: &str, last: u32, wanted: Round) -> Result<bool, WalkFault>
+    requires { 1 ≤ last }
 {
-    let walk = find(alloc, sought, Seeds { first: 1, last })?;
+    let Some(goal) = goal(alloc, sought)? else {
+        return Ok(false);
+    };
+    let walk = find(alloc, &options(0), &goal, Seeds { first: 1, last })?;
     Ok(is_in_round(&walk.world, wanted))
-}
-
-// What is told where none of some first seeds is found.
-fn told_of_none(alloc: Global, sought: &WalkOptions, last: u32) -> Option<Missed>
-    requires range { IsInRange sought.now }
-    requires some { 1 ≤ last }
-{
-    match find(alloc, sought, Seeds { first: 1, last }) {
-        Err(WalkFault::NotFound(missed)) => Some(missed),
-        _ => None,
-    }
-}
-
-// Whether the seed that is told of is the first of those whose walks come to the round that is told, and none comes further.
-fn is_nearest(alloc: Global, sought: &WalkOptions, missed: &Missed) -> Result<bool, WalkFault>
-    requires range { IsInRange sought.now }
-    requires some { 1 ≤ missed.now.seeds.last }
-    requires few { missed.now.came_to < 4294967295 }
-{
-    let last = missed.seeds.last;
-    let mut sought = *sought;
-    sought.until = Some(Sight::Round(missed.came_to));
-    let nearest = find(alloc, &sought, Seeds { first: 1, last })?;
-    sought.until = Some(Sight::Round(missed.came_to + 1));
-    let further = told_of_none(alloc, &sought, last);
-    Ok(nearest.seed == missed.seed && further.is_some())
 }
 
 #[test]
 fn the_first_seed_that_shows_it_is_found(rt: HostRuntime) -> Result<(), Fail> {
-    let mut sought = options(0);
-    sought.until = Some(Sight::Round(6));
-    assert!(rt; finds_round(rt.alloc(), &sought, 100, 6)?);
+    assert!(rt; finds_round(rt.alloc(), "any round >= 6", 100, 6)?);
     Ok(())
 }
 
-// Whether the seed that comes nearest to the round is told of.
-fn tells_the_nearest(alloc: Global, wanted: Round) -> Result<bool, WalkFault> {
-    let mut sought = options(0);
-    sought.until = Some(Sight::Round(wanted));
-    match told_of_none(alloc, &sought, 12) {
+// What is told where none of some first seeds is found.
+fn told_of_none(alloc: Global, sought: &str, last: u32) -> Result<Option<Missed>, WalkFault>
+    requires { 1 ≤ last }
+{
+    let Some(goal) = goal(alloc, sought)? else {
+        return Ok(None);
+    };
+    match find(alloc, &options(0), &goal, Seeds { first: 1, last }) {
+        Err(WalkFault::NotFound(missed)) => Ok(Some(missed)),
+        _ => Ok(None),
+    }
+}
+
+// The first of some first seeds whose walk comes to the round.
+fn first_in_round(alloc: Global, round: Round, last: u32) -> Result<Option<u32>, WalkFault>
+    requires { 1 ≤ last }
+{
+    let text = format!(in alloc; "any round >= {round}")?;
+    let Some(goal) = goal(alloc, &text)? else {
+        return Ok(None);
+    };
+    match find(alloc, &options(0), &goal, Seeds { first: 1, last }) {
+        Ok(walk) => Ok(Some(walk.seed)),
+        Err(WalkFault::NotFound(_)) => Ok(None),
+        Err(fault) => Err(fault),
+    }
+}
+
+// Whether the seed that comes nearest to the round is told of: the first whose walk comes to the round that is told, and none comes
+// further.
+fn tells_the_nearest(alloc: Global, sought: &str) -> Result<bool, WalkFault> {
+    match told_of_none(alloc, sought, 12)? {
         Some(missed) if missed.came_to < 100 && missed.seeds.last == 12 => {
-            is_nearest(alloc, &sought, &missed)
+            let nearest = first_in_round(alloc, missed.came_to, 12)?;
+            let further = first_in_round(alloc, missed.came_to + 1, 12)?;
+            Ok(nearest == Some(missed.seed) && further.is_none())
         }
         _ => Ok(false),
     }
@@ -220,6 +230,6 @@ fn tells_the_nearest(alloc: Global, wanted: Round) -> Result<bool, WalkFault> {
 
 #[test]
 fn the_seed_that_comes_nearest_is_told(rt: HostRuntime) -> Result<(), Fail> {
-    assert!(rt; tells_the_nearest(rt.alloc(), 5000)?);
+    assert!(rt; tells_the_nearest(rt.alloc(), "any round >= 5000")?);
     Ok(())
 }

@@ -24,7 +24,8 @@ const AFTER_CHECK: &str = "Examples:
   ct_tool check --quiet run.json && ct_tool report run.json
   ct_tool check --expect-reports examples/*.json
 
-A step of one of the project's examples is refused: the last line names it, and ends with status 1.
+A step of one of the project's examples is refused: the last line names it,
+and ends with status 1.
 
 Status, the largest of those of the records:
   0  each record is replayed
@@ -138,14 +139,14 @@ pub fn check_command<'a>(alloc: Global) -> Result<Command<'a>, AllocError>
     subcommand(
         alloc,
         "check",
-        "Replays records, and writes a line for each that is refused: the file and the fault",
+        "Replays records, and writes a line for each that is refused: the\nfile and the fault",
         AFTER_CHECK,
     )
     .arg(files(alloc))?
     .arg(flag(
         alloc,
         "expect-reports",
-        "Compares each report with the one beside the record: NAME.report beside NAME.json",
+        "Compares each report with the one beside the record:\nNAME.report beside NAME.json",
     ))?
     .arg(flag(alloc, "quiet", "Writes no line"))
 }
@@ -192,7 +193,10 @@ pub fn state_command<'a>(alloc: Global) -> Result<Command<'a>, AllocError>
     subcommand(
         alloc,
         "state",
-        "Replays the first steps of a record and writes where each member stands, what waits for it, and what it may do next",
+        concat!(
+            "Replays the first steps of a record and writes where each member\n",
+            "stands, what waits for it, and what it may do next",
+        ),
         AFTER_STATE,
     )
     .arg(file_argument(alloc, FILE))?
@@ -206,7 +210,7 @@ pub fn state_command<'a>(alloc: Global) -> Result<Command<'a>, AllocError>
     .arg(flag(
         alloc,
         "json",
-        "Writes a JSON object for the whole and one for each member",
+        "Writes a JSON object for the whole and one for each\nmember",
     ))
 }
 
@@ -217,7 +221,10 @@ pub fn steps_command<'a>(alloc: Global) -> Result<Command<'a>, AllocError>
     subcommand(
         alloc,
         "steps",
-        "Replays a record and writes a line for each step: its number, its member, what it read and what it sent",
+        concat!(
+            "Replays a record and writes a line for each step: its number, its\n",
+            "member, what it read and what it sent",
+        ),
         AFTER_STEPS,
     )
     .arg(file_argument(alloc, FILE))?
@@ -225,15 +232,14 @@ pub fn steps_command<'a>(alloc: Global) -> Result<Command<'a>, AllocError>
         alloc,
         "from",
         "1",
-        "The number of the first step that is shown, from 1 on",
+        "The first step that is shown, from 1 on",
     ))?
     .arg(default_option(
         alloc,
         "to",
         "4294967295",
-        "The number of the last step that is shown",
-    )
-    .hide_default_value(true))?
+        "The last step that is shown",
+    ).hide_default_value(true))?
     .arg(value_option(
         alloc,
         "member",
