@@ -179,7 +179,8 @@ def ends_cut(state, stuck, logs, p):
 
 def might_send(world, name):
     """Whether the sender might send the envelope of this name by steps that it takes later. In a round it may send what it comes to
-    later there; what it passes on, before its first receipt."""
+    later there, and no nack once it has the proposal; it enters none with the instance's decision; what it passes on, before its first
+    receipt."""
     to, q, kind, first, second = name
     if q not in world.members or not world.members[q].up:
         return False
@@ -191,8 +192,12 @@ def might_send(world, name):
         return (first, second) not in member.decided
     if (to if kind in ("est", "ack", "nack") else q) != coordinator:
         return False
+    if kind == "nack" and (first, second) in member.proposals:
+        return False
     if member.open and (first, second) == (member.last, member.open.round):
         return member.open.phase in {"est": (), "prop": ("Gather",), "dec": ("Gather", "Wait", "Tally")}.get(kind, ("Gather", "Wait"))
+    if first in member.decisions:
+        return False
     return first > member.last or bool(member.open) and first == member.last and second > member.open.round
 
 

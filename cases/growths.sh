@@ -227,6 +227,17 @@ tool_calls is_whole ../examples/second_receipt_is_refused.json steps
 tool_calls is_whole ../examples/coordinator_crashes.schedule record
 tool_calls is_whole /dev/null walk --members 3 --turns 20 --submit 2
 tool_calls is_session ../examples/coordinator_crashes.schedule interact --record "$folder/kept"
+# Goals, in a schedule, a session and walks; a search by two threads; a run that is made smaller, whole and up to a bound.
+printf '%s\n' 'members 1' '1 submit set 0 7' 'all turns until any decided 1 and never any crashed' \
+    'expect ever any round >= 1 and any delivered count 0' >"$folder/goals.schedule"
+tool_calls is_whole "$folder/goals.schedule" record
+tool_calls is_session "$folder/goals.schedule" interact
+tool_calls is_whole /dev/null walk --members 3 --turns 20 --submit 2 --until 'any round >= 2 and never any crashed'
+tool_calls is_whole /dev/null walk --members 3 --turns 5 --find 'round 9' --seeds 1..2
+tool_calls is_whole /dev/null find --members 3 --turns 20 --submit 2 --goal 'any round >= 2' --seeds 1..3 --jobs 2
+tool_calls is_whole /dev/null find --members 1 --turns 5 --submit 1 --goal 'any crashed' --seeds 1..3 --jobs 2
+tool_calls is_whole suspicion.json shrink --goal 'any suspects up'
+tool_calls is_whole suspicion.json shrink --goal 'any suspects up' --record --tries 1
 python3 ../bench/split.py "$folder/logs" <suspicion.json
 tool_calls is_whole /dev/null merge "$folder"/logs/{1,2,3}.log
 tool_calls is_whole /dev/null merge --record "$folder"/logs/{1,2,3}.log

@@ -2,7 +2,7 @@
 """Checks what `ct_tool merge` says of logs: small ones by hand, the cluster of examples/ with members killed and with each of its
 mistakes, and a comparison with a search through all orders.
 
-    logs.py CT_TOOL        the last line is N passed, M failed; needs cc
+    logs.py CT_TOOL        the last line is N passed, M failed; needs cc and rustc
 """
 from __future__ import annotations
 
@@ -29,6 +29,14 @@ class Case(NamedTuple):
 
 GOSSIP = {"1.log": "members 2\nsubmit set 0 7\nreceive data 1.1 from 1\n", "2.log": "2 receive data 1.1 from 1 set 0 7\n"}
 
+# Two members that come to a proposal.
+ONE = "members 2\nsubmit set 0 7\nreceive data 1.1 from 1\nbegin\nenter\n"
+TWO = "receive data 1.1 from 1\nbegin\nenter\nreceive est 1/1 from 1\nreceive est 1/1 from 2\nchoose 1\n"
+
+# One member that comes to a decision.
+ALONE = ("submit set 0 7\nreceive data 1.1 from 1\nbegin\nenter\nreceive est 1/1 from 1\nchoose 1\nreceive prop 1/1 from 1\nadopt\n"
+         "receive ack 1/1 from 1\nconclude\nreceive dec 1/1 from 1\ndeliver\n")
+
 TEN = "members 1\n" + "submit set 0 7\n" * 10 + "".join(f"receive data 1.{number} from 1\n" for number in range(1, 11))
 
 CASES = [
@@ -39,7 +47,7 @@ CASES = [
     Case("one that begins with nothing", {"1.log": "members 2\n# nothing waits\nbegin\n"}, 1,
          "refused: 1.log line 3: begin: member 1 is refused Nothing"),
     Case("another command", {**GOSSIP, "2.log": "receive data 1.1 from 1 set 0 8\n"}, 1,
-         "refused: 2.log line 1: receive data 1.1 from 1 set 0 8: member 2 came to something else than is stated"),
+         "refused: 2.log line 1: receive data 1.1 from 1 set 0 8: member 2 came to set 0 7"),
     Case("a crashed sender", {"1.log": "submit set 0 7\ncrash\n", "2.log": "receive est 1/1 from 1\n"}, 1,
          "refused: 2.log line 1: receive est 1/1 from 1: it was not sent before, and member 1 can't send it any more"),
     Case("a log that ends too early", {"1.log": "members 2\n", "2.log": "receive data 1.1 from 1\n"}, 6,
@@ -59,9 +67,36 @@ CASES = [
     Case("a value of more than eight messages, in short", {"1.log": TEN + "begin {1.1,1.2,1.3,1.4,1.5,1.6,1.7,1.8 and 2 more}\n"}, 0,
          "accepted: 1 members, 21 lines; instances 1, largest round 0, suspicions 0, choices between different ts 0, repetitions 0"),
     Case("another count of messages", {"1.log": TEN + "begin {1.1,1.2,1.3,1.4,1.5,1.6,1.7,1.8 and 3 more}\n"}, 1,
-         "refused: 1.log line 22: begin {1.1,1.2,1.3,1.4,1.5,1.6,1.7,1.8 and 3 more}: member 1 came to something else than is stated"),
+         "refused: 1.log line 22: begin {1.1,1.2,1.3,1.4,1.5,1.6,1.7,1.8 and 3 more}: member 1 came to "
+         "{1.1,1.2,1.3,1.4,1.5,1.6,1.7,1.8 and 2 more}"),
     Case("a member without a log", {"1.log": "members 3\n", "3.log": "3 begin\n"}, 1,
          "refused: 3.log line 1: 3 begin: member 3 is refused Nothing"),
+    Case("too many members", {"1.log": "members 17\nsubmit set 0 7\n"}, 2,
+         "1.log line 1: members 17: not understood: 17 is no number from 1 to 16"),
+    Case("a receipt after a crash", {"1.log": "members 2\ncrash\nreceive data 2.1 from 2\n", "2.log": "members 2\n"}, 1,
+         "refused: 1.log line 3: receive data 2.1 from 2: member 1 is refused Crashed"),
+    Case("a torn last line", {**GOSSIP, "2.log": GOSSIP["2.log"] + "2 begin {1."}, 0,
+         "accepted: 2 members, 3 lines; instances 0, largest round 0, suspicions 0, choices between different ts 0, repetitions 0\n"
+         "note: 2.log line 2: 2 begin {1.: no line feed ends it, so it is left out"),
+    Case("a line that is told, and a torn one", {"1.log": "members 2\nsubmit set 0 7\nreceive da", "2.log": "2 begin\n"}, 1,
+         "refused: 2.log line 1: 2 begin: member 2 is refused Nothing\n"
+         "note: 1.log line 3: receive da: no line feed ends it, so it is left out"),
+    Case("a round after the decision",
+         {"1.log": ONE + "receive prop 1/1 from 2\nadopt\nreceive dec 1/1 from 2\nreceive est 1/2 from 2\n",
+          "2.log": TWO + "receive prop 1/1 from 2\nadopt\nreceive ack 1/1 from 1\nreceive ack 1/1 from 2\nconclude\n"
+          "receive dec 1/1 from 2\n"}, 1,
+         "refused: 1.log line 9: receive est 1/2 from 2: it was not sent before, and member 2 can't send it any more"),
+    Case("a nack after the proposal", {"1.log": ONE + "receive prop 1/1 from 2\n", "2.log": TWO + "receive nack 1/1 from 1\n"}, 1,
+         "refused: 2.log line 7: receive nack 1/1 from 1: it was not sent before, and member 1 can't send it any more"),
+    Case("an ack where a nack was sent", {"1.log": ONE + "suspect\n", "2.log": TWO + "receive ack 1/1 from 1\n"}, 1,
+         "refused: 2.log line 7: receive ack 1/1 from 1: it was not sent before, and member 1 can't send it any more: "
+         "it sent nack 1/1 instead (1.log line 6)"),
+    Case("an ack that may still come", {"1.log": ONE + "receive prop 1/1 from 2\n", "2.log": TWO + "receive ack 1/1 from 1\n"}, 6,
+         "cut: 2.log line 7: receive ack 1/1 from 1: the log of member 1 ends before it is sent"),
+    Case("a decision without a cell", {"1.log": "members 1\ncells 0\n" + ALONE}, 1,
+         "refused: 1.log line 14: deliver: member 1 is refused Full(Cells), a limit of all the logs together: it accuses nobody"),
+    Case("a decision with a cell", {"1.log": "members 1\ncells 1\n" + ALONE}, 0,
+         "accepted: 1 members, 12 lines; instances 1, largest round 1, suspicions 0, choices between different ts 0, repetitions 0"),
     Case("a member that is not of the group", {"1.log": "members 2\n", "2.log": "3 begin\n"}, 2,
          "2.log: member 3's log, and members are 1 to 2"),
 ]
@@ -118,16 +153,18 @@ def faults_of_mistake(tool: str, mistake: str, act: str) -> List[str]:
     return [] if any(re.search(rf": refused: .* line \d+: \d {act} ", line) for line in lines) else lines
 
 
-def faults_of_c(tool: str) -> List[str]:
-    """The log that the program in C writes is accepted, and delivers its message."""
+def faults_of_program(tool: str, folder_of_source: str, compiler: List[str], last: str) -> List[str]:
+    """The log that the program in another language writes is accepted, and delivers messages up to the last; it writes no log anew."""
     with tempfile.TemporaryDirectory() as folder:
-        source = os.path.join(HERE, "..", "examples", "c", "log_demo.c")
-        for words in (["cc", "-std=c11", "-Wall", "-Wextra", "-Werror", "-o", "log_demo", source], ["./log_demo", "1.log"]):
-            done = ran(words, folder)
+        source = os.path.join(HERE, "..", "examples", folder_of_source)
+        for words in ([*compiler, "-o", "log_demo", source], ["./log_demo", "1.log"]):
+            done = ran(words, folder, SECONDS_OF_RUNS)
             if done.returncode:
                 return [f"{words[0]}: {done.stderr.decode()}"]
+        if ran(["./log_demo", "1.log"], folder).returncode != 1:
+            return ["a log that is there is opened again"]
         done = ran([tool, "merge", "1.log"], folder)
-        is_right = done.returncode == 0 and b"expect 1 delivered 1.1\n" in done.stdout
+        is_right = done.returncode == 0 and re.search(rf"^expect 1 delivered .*{last}$", done.stdout.decode(), re.MULTILINE)
         return [] if is_right else [f"status {done.returncode}: {done.stderr.decode()}"]
 
 
@@ -142,7 +179,10 @@ def faults_of_search(tool: str) -> List[str]:
 def main() -> int:
     tool = os.path.abspath(sys.argv[1])
     checks = [(case.name, faults_of(tool, case)) for case in CASES]
-    checks.append(("the log of a program in C", faults_of_c(tool)))
+    in_c = ["cc", "-std=c11", "-Wall", "-Wextra", "-Werror"]
+    in_rust = ["rustc", "--edition", "2021", "-D", "warnings", "-A", "dead_code"]
+    checks.append(("the log of a program in C", faults_of_program(tool, "c/log_demo.c", in_c, "1.1")))
+    checks.append(("the log of a program in Rust", faults_of_program(tool, "rust/log_demo.rs", in_rust, "1.10")))
     checks.append(("a cluster with a member killed", faults_of_killed(tool)))
     for mistake, act in (("least-ts", "choose"), ("half", "choose"), ("arrival", "deliver")):
         checks.append((f"a cluster with the mistake {mistake}", faults_of_mistake(tool, mistake, act)))

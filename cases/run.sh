@@ -1,25 +1,27 @@
 #!/usr/bin/env bash
 # Runs the built program `ct` on the cases of table.txt, on the records of ../examples, freely, and with little memory; and
-# the built program `ct_tool` on the cases of tool_table.txt, on the schedules of ../examples, and on the implementation in Python
-# and the cluster there.
+# the built program `ct_tool` on the cases of tool_table.txt, on the schedules of ../examples, on the implementation in Python
+# and the cluster there, over many goals, by a search over workers, and on a terminal.
 # Compares the man pages and the completions of both with their help, and runs what the documents show.
 #
 #     cases/run.sh [CT [CT_TOOL]]        the built programs; those of ../crates/*/out if left out
 #
 # Prints a line for each failing case and ends with `N passed, M failed`, and with
 # status 0 only where none failed. A run of more than 20 seconds fails, and so does a
-# case that has the name of another. Needs bash 4.4, cc, Python 3.8, its package jsonschema (Debian's python3-jsonschema)
-# and, for a program in a document, rt.
+# case that has the name of another. Needs bash 4.4, cc, Python 3.8, its packages jsonschema and distributed (Debian's
+# python3-jsonschema and python3-distributed) and, for a program in a document, rt.
 set -u
 export LC_ALL=C
 
 here=$(cd "$(dirname "$0")" && pwd)
 ct=${1:-$here/../crates/ct/out/ct}
 tool=${2:-$here/../crates/ct_tool/out/ct_tool}
-if ! python3 -c 'import jsonschema' 2>/dev/null; then
-    echo "cases/run.sh: no package jsonschema for python3 (Debian's python3-jsonschema)" >&2
-    exit 2
-fi
+for package in jsonschema distributed; do
+    if ! python3 -c "import $package" 2>/dev/null; then
+        echo "cases/run.sh: no package $package for python3 (Debian's python3-$package)" >&2
+        exit 2
+    fi
+done
 for program in "$ct" "$tool"; do
     if [[ ! -x $program || -d $program ]]; then
         echo "cases/run.sh: no program at $program" >&2
@@ -120,6 +122,7 @@ check() {
     [[ -z ${named[$name]-} ]] || wrong+=" another case has this name;"
     named[$name]=1
     read -ra words < <(printf '%b\n' "$2")
+    words=("${words[@]//\~/ }")
     : >"$folder/output"
     case $6 in
     @closed | @directory | @zeros | @piped\ *) ;;
@@ -222,6 +225,19 @@ check_pages() {
     fi
 }
 
+# check_widths: no line of help but the usage is longer than a terminal of 80 columns.
+check_widths() {
+    local name wrong='' program_of
+    for program_of in "$ct" "$tool"; do
+        for name in '' $("$program_of" --help | sed -n '/^Commands:/,/^$/s/^  \([^ ][^ ]*\).*/\1/p'); do
+            "$program_of" ${name:+"$name"} --help >"$folder/output" 2>"$folder/error"
+            [[ -s $folder/output || $name == help ]] || wrong+=" no help of $name;"
+            wrong+=$(awk -v name="$name" 'length > 80 && !/^Usage: / { printf " %s: %s;", name, $0 }' "$folder/output")
+        done
+    done
+    tally 'the width of help' "$wrong"
+}
+
 # completed WORDS..: what bash offers for the last word of a command line.
 completed() {
     local COMP_WORDS=("$@") COMP_CWORD=$(($# - 1)) COMPREPLY
@@ -238,8 +254,8 @@ check_completions() {
     [[ $(completed ct_tool help wal) == walk ]] || wrong+=" not the subcommand that help is wanted of;"
     [[ $(completed ct free --mem) == --members ]] || wrong+=" not an option;"
     [[ $(completed ct free --members '') == '' ]] || wrong+=" something where a number is wanted;"
-    [[ $(completed ct_tool walk --find d) == decided ]] || wrong+=" not a word that is a value;"
     [[ $(completed ct_tool walk --until decided '') == '' ]] || wrong+=" something where a second value is wanted;"
+    [[ $(completed ct_tool walk --find any crashed --see) == '--seed --seeds' ]] || wrong+=" not an option behind a goal;"
     [[ $(completed ct_tool steps --from 2 suspicion.j) == suspicion.json ]] || wrong+=" not a file;"
     [[ $(completed ct_tool steps a --fr) == --from ]] || wrong+=" not an option behind a file;"
     [[ $(completed ct replay '<' suspicion.j) == suspicion.json ]] || wrong+=" not a file behind <;"
@@ -426,31 +442,18 @@ check_json() {
     tally 'steps and states as JSON' "$wrong"
 }
 
-# check_logs: what is told of logs, of the runs of a cluster, and of small logs that are searched.
-check_logs() {
-    local ended
-    ended=$(PYTHONDONTWRITEBYTECODE=1 timeout -k 5 600 python3 logs.py "$tool" 2>"$folder/error" | tee "$folder/output" | tail -n 1)
+# check_by FILE NAME SECONDS WORDS..: the cases of a program in Python, whose last line says how many passed.
+check_by() {
+    local file=$1 name=$2 seconds=$3 ended
+    shift 3
+    ended=$(PYTHONDONTWRITEBYTECODE=1 timeout -k 5 "$seconds" python3 "$file" "$@" 2>"$folder/error" | tee "$folder/output" | tail -n 1)
     if [[ $ended =~ ^([1-9][0-9]*)\ passed,\ ([0-9]+)\ failed$ ]]; then
         passed=$((passed + BASH_REMATCH[1]))
         failed=$((failed + BASH_REMATCH[2]))
         head -n -1 "$folder/output"
     else
         failed=$((failed + 1))
-        echo "FAILED logs: '$(start_of "$folder/error")'"
-    fi
-}
-
-# check_blocks: what the documents and the programs' help show is run.
-check_blocks() {
-    local ended
-    ended=$(timeout -k 5 1500 python3 blocks.py "$ct" "$tool" 2>"$folder/error" | tee "$folder/output" | tail -n 1)
-    if [[ $ended =~ ^([0-9]+)\ passed,\ ([0-9]+)\ failed$ ]]; then
-        passed=$((passed + BASH_REMATCH[1]))
-        failed=$((failed + BASH_REMATCH[2]))
-        head -n -1 "$folder/output"
-    else
-        failed=$((failed + 1))
-        echo "FAILED blocks of the documents: '$(start_of "$folder/error")'"
+        echo "FAILED $name: '$(start_of "$folder/error")'"
     fi
 }
 
@@ -476,6 +479,7 @@ check_table() {
 }
 
 check_pages
+check_widths
 check_completions
 
 program=$tool
@@ -511,7 +515,10 @@ check_rehearsal --runs 5
 check_rehearsal --runs 5 --members 5 --crash 2 --turns 1500
 check_rehearsal --members 1
 
-check_logs
+check_by logs.py logs 600 "$tool"
+check_by goals.py goals 600 "$tool"
+check_by search.py search 600 "$tool"
+check_by terminal.py terminal 300 "$tool"
 
 check_free_runs 'free runs'
 check_free_runs 'lossy free runs' --lose 20 --repeat 40 --batch 1
@@ -519,7 +526,7 @@ check_free detectors
 check_free postpone
 check_free lossy
 
-check_blocks
+check_by blocks.py 'blocks of the documents' 1500 "$ct" "$tool"
 
 # Memory refused at different places: at the start, while reading, while replaying.
 record 3 60000 0 >"$folder/long"

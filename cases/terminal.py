@@ -1,0 +1,163 @@
+#!/usr/bin/env python3
+"""Checks what `ct_tool find` and `ct_tool shrink` tell on a terminal, and that ^C ends them at once, with nothing written.
+
+    terminal.py CT_TOOL        the last line is N passed, M failed
+"""
+from __future__ import annotations
+
+import fcntl
+import os
+import pty
+import re
+import select
+import signal
+import subprocess
+import sys
+import tempfile
+import termios
+import time
+from typing import Callable, List, NamedTuple, Set
+
+SECONDS = 60         # that a program may take
+QUIET_SECONDS = 2.5  # after which it would have told something
+JOBS = 2
+SEEDS_FIRST = 16     # that a thread tries at first
+SEEDS_MOST = 1 << 20  # and at most, before the others are waited for
+FIRST, LAST = 101, 4_000_000_000
+
+SEARCH = ["find", "--members", "1", "--turns", "0", "--submit", "1", "--goal", "any crashed", "--seeds", f"{FIRST}..{LAST}",
+          "--jobs", str(JOBS)]
+FOUND = ["find", "--members", "3", "--goal", "any round >= 3", "--seeds", "1..9"]
+LONG_WALK = ["walk", "--members", "5", "--turns", "20000", "--rate", "16", "--submit", "1000", "--lose", "100", "--repeat", "100"]
+LONG_SHRINK = ["shrink", "--goal", "any delivered count >= 300"]
+TRIED = re.compile(r"\r(\d+) of (\d+) seeds up to (\d+), \d+ a second, \d+ s left\x1b\[K")
+LEFT = re.compile(r"\r(\d+) trials, (\d+) steps left\x1b\[K")
+
+
+def whole_blocks(most: int) -> Set[int]:
+    """How many seeds were tried after each block, up to so many."""
+    tried, found = 0, set()
+    while tried < most:
+        tried += JOBS * min(SEEDS_MOST, SEEDS_FIRST + tried // 2 // JOBS)
+        found.add(tried)
+    return found
+
+
+class Late(Exception):
+    """A program doesn't tell in time what it has to."""
+
+
+class Told(NamedTuple):
+    """What stood on the terminal, how the program ended, and what it wrote to standard output."""
+    text: str
+    status: int
+    output: bytes
+
+
+def read_some(terminal: int) -> bytes:
+    """What comes on the terminal in a while; nothing at its end."""
+    if not select.select([terminal], [], [], 0.1)[0]:
+        return b""
+    try:
+        return os.read(terminal, 65_536)
+    except OSError:
+        return b""
+
+
+def told(words: List[str], is_enough: Callable[[str, float], bool]) -> Told:
+    """Runs the program with standard error on a terminal, where ^C is pressed once that is enough."""
+    terminal, its_side = pty.openpty()
+
+    def take_terminal() -> None:
+        os.setsid()
+        fcntl.ioctl(its_side, termios.TIOCSCTTY, 0)
+
+    with tempfile.TemporaryFile() as output:
+        # pylint: disable-next=subprocess-popen-preexec-fn
+        run = subprocess.Popen(words, stdin=subprocess.DEVNULL, stdout=output, stderr=its_side, preexec_fn=take_terminal)
+        began, text, is_pressed = time.monotonic(), b"", False
+        while run.poll() is None:
+            text += read_some(terminal)
+            seconds = time.monotonic() - began
+            if not is_pressed and is_enough(text.decode(), seconds):
+                os.write(terminal, b"\x03")
+                is_pressed = True
+            if seconds > SECONDS:
+                run.kill()
+                run.wait()
+                raise Late(f"{' '.join(words[1:3])} .. told {text!r} in {SECONDS} s")
+        text += read_some(terminal)
+        output.seek(0)
+        made = Told(text.decode(), run.returncode, output.read())
+    os.close(its_side)
+    os.close(terminal)
+    return made
+
+
+def faults_of_end(made: Told) -> List[str]:
+    """It ended by the signal, with nothing written."""
+    wrong = [] if made.status == -signal.SIGINT else [f"status {made.status}"]
+    return wrong + ([f"it wrote {made.output[:80]!r}"] if made.output else [])
+
+
+def rest(line: "re.Pattern[str]", text: str) -> str:
+    """What is told besides such lines, and the ^C that the terminal shows."""
+    return line.sub("", text).replace("^C", "", 1)
+
+
+def faults_of_search(tool: str) -> List[str]:
+    """Each line of a search that is interrupted names the last seed of a block."""
+    made = told([tool, *SEARCH], lambda text, _: len(TRIED.findall(text)) >= 2)
+    wrong, whole = faults_of_end(made), whole_blocks(LAST - FIRST)
+    for tried, of, last in TRIED.findall(made.text):
+        if int(tried) not in whole or int(last) != FIRST - 1 + int(tried) or int(of) != LAST - FIRST + 1:
+            wrong.append(f"it tells {tried} of {of} seeds up to {last}")
+    return wrong + ([f"it tells {made.text!r}"] if rest(TRIED, made.text) else [])
+
+
+def faults_of_shrink(tool: str) -> List[str]:
+    """So do those of trials that are interrupted: more trials each time, and no more steps."""
+    with tempfile.NamedTemporaryFile() as record:
+        subprocess.run([tool, *LONG_WALK], stdout=record, check=True, timeout=SECONDS)
+        made = told([tool, *LONG_SHRINK, record.name], lambda text, _: len(LEFT.findall(text)) >= 2)
+    wrong = faults_of_end(made)
+    lines = [(int(trials), -int(steps)) for trials, steps in LEFT.findall(made.text)]
+    wrong += [] if all(a[0] < b[0] and a[1] <= b[1] for a, b in zip(lines, lines[1:])) else [f"it tells {lines}"]
+    return wrong + ([f"it tells {made.text!r}"] if rest(LEFT, made.text) else [])
+
+
+def faults_of_quiet(tool: str) -> List[str]:
+    """Nothing is told with --quiet."""
+    made = told([tool, *SEARCH, "--quiet"], lambda _, seconds: seconds > QUIET_SECONDS)
+    return faults_of_end(made) + ([] if made.text == "^C" else [f"it tells {made.text!r}"])
+
+
+def faults_of_found(tool: str) -> List[str]:
+    """Where a seed is found at once, that alone is told."""
+    made = told([tool, *FOUND], lambda _text, _seconds: False)
+    wanted = "seed 1: 23 steps\r\nct_tool walk --members 3 --seed 1 --until 'any round >= 3'\r\n"
+    wrong = [] if made.text == wanted else [f"it tells {made.text!r}"]
+    return wrong + ([] if made.status == 0 and made.output.endswith(b'"version":3}\n') else [f"status {made.status}"])
+
+
+CHECKS = [("a search that is interrupted", faults_of_search), ("trials that are interrupted", faults_of_shrink),
+          ("a quiet search that is interrupted", faults_of_quiet), ("a search that finds", faults_of_found)]
+
+
+def main() -> int:
+    tool = os.path.abspath(sys.argv[1])
+    failed = 0
+    for name, faults in CHECKS:
+        try:
+            wrong = faults(tool)
+        except (Late, subprocess.SubprocessError) as late:
+            wrong = [str(late)]
+        if wrong:
+            failed += 1
+            print(f"FAILED terminal, {name}: {'; '.join(wrong)}")
+    print(f"{len(CHECKS) - failed} passed, {failed} failed")
+    return 1 if failed else 0
+
+
+if __name__ == "__main__":
+    sys.exit(main())
