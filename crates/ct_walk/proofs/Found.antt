@@ -18,9 +18,9 @@ use Rattle.ct_walk.specs.declared.sight.Sight.{Sight}
 use Rattle.ct_walk.specs.Line.{goal_in, goal_or_none, joined, no_goal_line, seeds_in, seeds_or_line}
 use Rattle.ct_walk.specs.Sights.{sight_by, sight_of}
 
-pub found_goal : (f : Found) (name : Text) (texts : Option (List Text)) → texts ≡ option_map raw_values (matched_of f name) →
-    goal_or_none name texts ≡ goal_in (rows_of f) name
-found_goal f name texts found = ap (goal_or_none name) (found ∙ raw_values-rows f name)
+pub found_goal : (f : Found) (n : ℕ) (name : Text) (texts : Option (List Text)) → texts ≡ option_map raw_values (matched_of f name) →
+    goal_or_none n name texts ≡ goal_in (rows_of f) n name
+found_goal f n name texts found = ap (goal_or_none n name) (found ∙ raw_values-rows f name)
 
 pub found_seeds : (f : Found) (text : Option Text) → text ≡ first_value f (codes "seeds") →
     seeds_or_line text ≡ seeds_in (rows_of f)

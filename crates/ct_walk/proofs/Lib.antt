@@ -4,6 +4,7 @@ mod Entries
 pub mod Found
 pub mod Looping
 pub mod Nearest
+pub mod Outside
 pub mod Rounds
 pub mod Trying
 pub mod Untils

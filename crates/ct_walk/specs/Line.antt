@@ -1,5 +1,6 @@
 -- What a command line may ask of walks. `clap` gives what its commands make of words.
-use Rattle.std.specs.Prelude.{◌≡◌, ◌≤◌, ⊤, ℕ, false, Option, Some, None, ok_or, Result, Ok, Err, List, [], ◌∷◌, fold, codes, string_bytes}
+use Rattle.std.specs.Prelude.{◌≡◌, ◌≤◌, ⊤, ℕ, false, Option, Some, None, ok_or, Result, Ok, Err, List, [], ◌∷◌, fold, codes, decimal}
+use Rattle.std.specs.Prelude.{string_bytes}
 use Rattle.std.specs.List.{concat, join_by}
 use Rattle.clap.specs.Lexer.{usize_max}
 use Rattle.clap.specs.Words.{App, Row, Rule, Text, all_of, first_of, new_app, with_rule}
@@ -23,6 +24,7 @@ use Rattle.ct_walk.specs.declared.call_fault.CallFault.TheVariants.{Memory, Word
 use Rattle.ct_walk.specs.declared.options.WalkOptions.{WalkOptions}
 use Rattle.ct_walk.specs.Options.{IsInRange}
 use Rattle.ct_walk.specs.Sights.{in_full}
+use Rattle.ct_walk.specs.Strangers.{stranger}
 use Rattle.ct_walk.specs.Texts.{seeds_of}
 
 -- ---- what clap reads
@@ -72,20 +74,36 @@ goal_or name text (Err misfit) = Err (no_goal_line name text misfit)
 abbrev pub given_goal : Text → Text → Result Goal Text
 given_goal name text = goal_or name text (goal_of (in_full text))
 
+-- the line of a goal that names a member that a group of n hasn't
+abbrev pub no_member_line : Text → Text → ℕ → ℕ → Text
+no_member_line name text member n =
+    concat (codes "--" ∷ name ∷ codes " " ∷ text ∷ codes ": no member " ∷ decimal member ∷ codes " of " ∷ decimal n ∷ [])
+
+-- the goal of the text, where a group of n has the members that it names
+abbrev pub unless_strange : Text → Text → ℕ → Goal → Option ℕ → Result Goal Text
+unless_strange name text n goal None = Ok goal
+unless_strange name text n goal (Some member) = Err (no_member_line name text member n)
+
+-- the goal of the text that is given for the option, of a group of n
+abbrev pub group_goal : ℕ → Text → Text → Result Goal Text
+group_goal n name text = do
+  goal ← given_goal name text
+  unless_strange name text n goal (stranger n goal)
+
 -- the words, with a space between them
 abbrev pub joined : List Text → Text
 joined words = join_by (λ word. word) (codes " ") words
 
 -- the goal of the words that are given for the option
-abbrev pub goal_or_none : Text → Option (List Text) → Result (Option Goal) Text
-goal_or_none name None = Ok None
-goal_or_none name (Some texts) = do
-  goal ← given_goal name (joined texts)
+abbrev pub goal_or_none : ℕ → Text → Option (List Text) → Result (Option Goal) Text
+goal_or_none n name None = Ok None
+goal_or_none n name (Some texts) = do
+  goal ← group_goal n name (joined texts)
   Ok (Some goal)
 
--- the goal that is given for the option, where it is given
-abbrev pub goal_in : List Row → Text → Result (Option Goal) Text
-goal_in rows name = goal_or_none name (all_of name rows)
+-- the goal of a group of n that is given for the option, where it is given
+abbrev pub goal_in : List Row → ℕ → Text → Result (Option Goal) Text
+goal_in rows n name = goal_or_none n name (all_of name rows)
 
 -- the seeds that the text names
 abbrev pub given_seeds : Text → Result Seeds Text
@@ -121,7 +139,7 @@ seeds_in rows = seeds_or_line (first_of (codes "seeds") rows)
 -- the walks of the seeds, where this is looked for; else one walk
 abbrev pub call_for : List Row → WalkOptions → Option Goal → Result Call Text
 call_for rows options None = do
-  until ← goal_in rows (codes "until")
+  until ← goal_in rows options.run.members (codes "until")
   Ok (Walk options until)
 call_for rows options (Some goal) = do
   seeds ← seeds_in rows
@@ -131,7 +149,7 @@ call_for rows options (Some goal) = do
 unfoldable pub walk_call : List Row → Result Call Text
 walk_call rows = do
   options ← walk_options rows
-  goal ← goal_in rows (codes "find")
+  goal ← goal_in rows options.run.members (codes "find")
   call_for rows options goal
 
 -- the last seed is none before the first

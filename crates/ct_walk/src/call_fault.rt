@@ -14,7 +14,7 @@ pub enum CallFault<'a> {
     Memory,
     /// An option is given what it may not have.
     Word(WordFault<'a>),
-    /// What an option is given is no goal; the line tells why it is not understood.
+    /// What an option is given is no goal, or names a member that the group hasn't; the line tells which.
     NoGoal(String),
 }
 

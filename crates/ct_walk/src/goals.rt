@@ -2,43 +2,47 @@
 
 ghost use Rattle.std.specs.Prelude.{◌≡◌, Ok, IfOk, IfErr, map, option_map, string_bytes};
 ghost use Rattle.clap.specs.Words.{found_of, rows_of};
-ghost use Rattle.ct_walk.specs.Line.{given_goal, goal_in, goal_or_none, joined, no_goal_line, IsCallFault};
+ghost use Rattle.ct_walk.specs.Line.{given_goal, goal_in, goal_or_none, group_goal, joined, no_goal_line, no_member_line, IsCallFault};
 ghost use Rattle.ct_walk.specs.Sights.{in_full, sight_by, sight_of};
 
 use crate::call_fault::CallFault;
 use crate::sight::Sight;
+use crate::strangers::stranger;
 use clap::ArgMatches;
 use ct_grammar::{Goal, Misfit, goal_of};
+use ct_names::Member;
 use ct_streams::number_in;
 use std::alloc::{AllocError, Global};
 
-/// The goal that is given for the option, in one word or several, where it is given. `decided N` and `round N` are short for
-/// `any decided N` and `any round >= N`.
+/// The goal of a group of n members that is given for the option, in one word or several, where it is given. `decided N` and
+/// `round N` are short for `any decided N` and `any round >= N`.
 pub fn goal_in<'a>(
     alloc: Global,
     found: &'a ArgMatches<'_>,
+    n: u8,
     name: &'a str,
 ) -> Result<Option<Goal>, CallFault<'a>>
-    ensures ok { IfOk result (λ goal. goal_in (rows_of (found_of found.now)) name.now ≡ Ok goal) }
-    ensures err { IfErr result (IsCallFault (goal_in (rows_of (found_of found.now)) name.now)) }
+    ensures ok { IfOk result (λ goal. goal_in (rows_of (found_of found.now)) n name.now ≡ Ok goal) }
+    ensures err { IfErr result (IsCallFault (goal_in (rows_of (found_of found.now)) n name.now)) }
 {
-    goal_or_none(alloc, name, found.get_strs(name))
+    goal_or_none(alloc, n, name, found.get_strs(name))
 }
 
 // The goal of the words that are given for the option, where it is given.
 fn goal_or_none<'a>(
     alloc: Global,
+    n: u8,
     name: &'a str,
     words: Option<&[&'a str]>,
 ) -> Result<Option<Goal>, CallFault<'a>>
-    ensures ok { IfOk result (λ goal. goal_or_none name.now (option_map (λ words. map (λ word. word.now) words.now) words.entry) ≡ Ok goal) }
-    ensures err { IfErr result (IsCallFault (goal_or_none name.now (option_map (λ words. map (λ word. word.now) words.now) words.entry))) }
+    ensures ok { IfOk result (λ goal. goal_or_none n name.now (option_map (λ words. map (λ word. word.now) words.now) words.entry) ≡ Ok goal) }
+    ensures err { IfErr result (IsCallFault (goal_or_none n name.now (option_map (λ words. map (λ word. word.now) words.now) words.entry))) }
 {
     match words {
         None => Ok(None),
         Some(words) => {
             let text = joined(alloc, words)?;
-            Ok(Some(given_goal(alloc, name, &text)?))
+            Ok(Some(group_goal(alloc, n, name, &text)?))
         }
     }
 }
@@ -63,6 +67,36 @@ pub fn given_goal<'a>(alloc: Global, name: &'a str, text: &str) -> Result<Goal, 
             Err(CallFault::NoGoal(line))
         }
     }
+}
+
+/// The same, where a group of n members has those that it names.
+pub fn group_goal<'a>(
+    alloc: Global,
+    n: u8,
+    name: &'a str,
+    text: &str,
+) -> Result<Goal, CallFault<'a>>
+    ensures ok { IfOk result (λ goal. group_goal n name.now text.now ≡ Ok goal) }
+    ensures err { IfErr result (IsCallFault (group_goal n name.now text.now)) }
+{
+    let goal = given_goal(alloc, name, text)?;
+    match stranger(n, &goal) {
+        None => Ok(goal),
+        Some(member) => Err(CallFault::NoGoal(no_member_line(alloc, name, text, member, n)?)),
+    }
+}
+
+// The line of a goal that names a member that a group of n hasn't.
+fn no_member_line(
+    alloc: Global,
+    name: &str,
+    text: &str,
+    member: Member,
+    n: u8,
+) -> Result<String, AllocError>
+    ensures { IfOk result (λ line. string_bytes line ≡ no_member_line name.now text.now member n) }
+{
+    format!(in alloc; "--{name} {text}: no member {member} of {n}")
 }
 
 // The line of a text that is no goal.

@@ -59,8 +59,9 @@ pub fn walk_call<'a>(alloc: Global, found: &'a ArgMatches<'_>) -> Result<Call, C
     ensures err { IfErr result (IsCallFault (walk_call (rows_of (found_of found.now)))) }
 {
     let options = walk_options(found)?;
-    match goal_in(alloc, found, "find")? {
-        None => Ok(Call::Walk(options, goal_in(alloc, found, "until")?)),
+    let n = options.run.members;
+    match goal_in(alloc, found, n, "find")? {
+        None => Ok(Call::Walk(options, goal_in(alloc, found, n, "until")?)),
         Some(goal) => Ok(Call::Find(options, goal, seeds_in(found)?)),
     }
 }
