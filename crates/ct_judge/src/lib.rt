@@ -39,6 +39,6 @@ pub use partial::record_partial;
 pub use reading::{LONGEST_SHOWN, push_shown};
 pub use record_fault::RecordFault;
 pub use recording::{MAX_LEN, record, recorded};
-pub use session::LONGEST;
+pub use session::{LONGEST, Session};
 pub use session_fault::SessionFault;
 pub use words::{interact_command, record_command};

@@ -1,6 +1,6 @@
 //! The lines of a session and their answers.
 
-ghost use Rattle.std.specs.Prelude.{◌≡◌, ◌≤◌, ◌++◌, Ok, OnOk, IfOk, IfErr, codes, length, nat_lt};
+ghost use Rattle.std.specs.Prelude.{◌≡◌, ◌≤◌, ◌++◌, Ok, OnOk, IfOk, IfErr, codes, length, nat_lt, option_map};
 ghost use Rattle.ct_records.specs.Adds.{Adds};
 ghost use Rattle.ct_judge.specs.Answers.{answer, is_refused, question_text, standing_after, taken_text};
 ghost use Rattle.ct_judge.specs.SessionFaults.{IsShort};
@@ -15,15 +15,17 @@ use crate::session_fault::SessionFault;
 use crate::stop::Stop;
 use crate::telling::tell_line;
 use ct_grammar::{Line, Play, Question};
+use ct_world::World;
 use std::alloc::{AllocError, Global};
 use std::marker::Model;
 
 /// How many bytes a line of a session has at most; a longer one is not understood.
 pub const LONGEST: usize = 4096;
 
-// A judge, the bytes of the line that is not over yet, one more than a line may have at most, and whether a line was refused.
+/// A session that hears a schedule byte by byte, and answers each line: a judge, the bytes of the line that is not over yet, one more
+/// than a line may have at most, and whether a line was refused.
 #[derive(Drop)]
-pub(crate) struct Session {
+pub struct Session {
     alloc: Global,
     judge: Judge,
     line: Vec<u8>,
@@ -40,7 +42,8 @@ impl Model for Session {
 }
 
 impl Session {
-    pub(crate) fn new(alloc: Global) -> Session
+    /// A session that heard nothing yet.
+    pub fn new(alloc: Global) -> Session
         ensures { result ≡ opening }
     {
         Session {
@@ -49,6 +52,13 @@ impl Session {
             line: Vec::new(alloc),
             refused: false,
         }
+    }
+
+    /// The world, once a line made it.
+    pub fn world(&self) -> Option<&World>
+        ensures { option_map (λ world. world.now.rehearsal) result ≡ option_map (λ w. w.rehearsal) self.now.standing.played }
+    {
+        self.judge.world()
     }
 
     // Whether a line has begun.
@@ -71,8 +81,9 @@ impl Session {
         Heard { judge, refused }
     }
 
-    // Hears a byte: a line feed ends the line, whose answer joins the text; another byte joins the line.
-    pub(crate) fn hear(&mut self, byte: u8, text: &mut String) -> Result<(), SessionFault>
+    /// Hears a byte: a line feed ends the line, whose answer joins the text; another byte joins the line. Want of memory or of the
+    /// board is the only error; then the session may have heard a part of the line.
+    pub fn hear(&mut self, byte: u8, text: &mut String) -> Result<(), SessionFault>
         ensures after { OnOk result (self.new ≡ after_byte self.old byte) }
         ensures text { OnOk result (Adds text.old text.new (said_at self.old byte)) }
         ensures err { IfErr result IsShort }
