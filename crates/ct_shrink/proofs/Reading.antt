@@ -15,16 +15,17 @@ use Rattle.ct_show.specs.declared.show_fault.ShowFault.TheVariants.{NoMember, Un
 use Rattle.ct_world.specs.Setup.{record_of}
 use Rattle.ct_world.specs.declared.setup.Setup.{Setup}
 use Rattle.ct_play.specs.Played.{Played}
+use Rattle.ct_walk.specs.Strangers.{stranger}
 use Rattle.ct_shrink.specs.Faults.{IsFaultOf}
 use Rattle.ct_shrink.specs.Runs.{IsNeverShown, IsNoLarger, IsRunOf}
 use Rattle.ct_shrink.specs.Trials.{IsLeast}
 use Rattle.ct_shrink.specs.declared.line.Line.{Line}
 use Rattle.ct_shrink.specs.declared.options.ShrinkOptions.{ShrinkOptions}
 use Rattle.ct_shrink.specs.declared.shrink_fault.ShrinkFault.{ShrinkFault}
-use Rattle.ct_shrink.specs.declared.shrink_fault.ShrinkFault.TheVariants.{NotShown, Board, Show}
+use Rattle.ct_shrink.specs.declared.shrink_fault.ShrinkFault.TheVariants.{NoMember as Stranger, NotShown, Board, Show}
 use Rattle.ct_shrink.specs.declared.summary.Summary.{Summary}
-use Rattle.ct_shrink.specs.Writing.{FailsOn, IsFaultIn, IsFaultOn, IsHidden, IsLeft, IsSmallerIn, IsSmallerText, WritesSmaller}
-use Rattle.ct_shrink.specs.Writing.{WritesSmallerInPart}
+use Rattle.ct_shrink.specs.Writing.{FailsOn, IsFaultIn, IsFaultOn, IsHidden, IsLeft, IsSmallerIn, IsSmallerText, IsStranger, KnowsMembers}
+use Rattle.ct_shrink.specs.Writing.{WritesSmaller, WritesSmallerInPart}
 
 -- ---- of a record and of its bytes
 
@@ -32,22 +33,30 @@ ok_and : (r : Result Rehearsal ReadFault) (w : Rehearsal) (P : Rehearsal → Typ
 ok_and r w P e p = subst (λ (q : Result Rehearsal ReadFault). IsOkAnd q P) (sym e) p
 
 pub text_in : (test : Played → Bool) (goal : Goal) (o : ShrinkOptions) (bytes : List ℕ) (w : Rehearsal) (told : Summary) (text : List ℕ) →
-    script bytes ≡ Ok w → IsSmallerText test goal o w told text → IsSmallerIn test goal o (script bytes) told text
-text_in test goal o bytes w told text e h = ok_and (script bytes) w (λ v. IsSmallerText test goal o v told text) e h
+    script bytes ≡ Ok w → stranger w.setting.members goal ≡ None → IsSmallerText test goal o w told text →
+    IsSmallerIn test goal o (script bytes) told text
+text_in test goal o bytes w told text e known h =
+    ok_and (script bytes) w (λ v. KnowsMembers goal v × IsSmallerText test goal o v told text) e (known, h)
 
-pub fault_in : (test : Played → Bool) (fault : ShrinkFault) (bytes : List ℕ) (w : Rehearsal) → script bytes ≡ Ok w →
-    IsFaultOn test w fault → IsFaultIn test fault bytes
-fault_in test NotShown bytes w e h = ok_and (script bytes) w (IsHidden test) e h
-fault_in test Board bytes w e h = tt
-fault_in test (Show (NoMember member members)) bytes w e h = absurd h
-fault_in test (Show (Unread told)) bytes w e h = absurd h
-fault_in test (Show (Program (of.Replay at refusal))) bytes w e h = rw e h
-fault_in test (Show (Program (of.Read fault))) bytes w e h = absurd h
-fault_in test (Show (Program of.Reader)) bytes w e h = absurd h
-fault_in test (Show (Program of.Write)) bytes w e h = absurd h
-fault_in test (Show (Program of.Memory)) bytes w e h = tt
-fault_in test (Show (Program of.Start)) bytes w e h = absurd h
-fault_in test (Show (Program of.Exchanged)) bytes w e h = absurd h
+pub fault_in : (test : Played → Bool) (goal : Goal) (fault : ShrinkFault) (bytes : List ℕ) (w : Rehearsal) → script bytes ≡ Ok w →
+    stranger w.setting.members goal ≡ None → IsFaultOn test w fault → IsFaultIn test goal fault bytes
+fault_in test goal (Stranger member members) bytes w e known h = absurd h
+fault_in test goal NotShown bytes w e known h = ok_and (script bytes) w (λ v. KnowsMembers goal v × IsHidden test v) e (known, h)
+fault_in test goal Board bytes w e known h = tt
+fault_in test goal (Show (NoMember member members)) bytes w e known h = absurd h
+fault_in test goal (Show (Unread told)) bytes w e known h = absurd h
+fault_in test goal (Show (Program (of.Replay at refusal))) bytes w e known h = rw e h
+fault_in test goal (Show (Program (of.Read fault))) bytes w e known h = absurd h
+fault_in test goal (Show (Program of.Reader)) bytes w e known h = absurd h
+fault_in test goal (Show (Program of.Write)) bytes w e known h = absurd h
+fault_in test goal (Show (Program of.Memory)) bytes w e known h = tt
+fault_in test goal (Show (Program of.Start)) bytes w e known h = absurd h
+fault_in test goal (Show (Program of.Exchanged)) bytes w e known h = absurd h
+
+pub stranger_in : (test : Played → Bool) (goal : Goal) (bytes : List ℕ) (w : Rehearsal) (member members : ℕ) → script bytes ≡ Ok w →
+    members ≡ w.setting.members → stranger members goal ≡ Some member → IsFaultIn test goal (Stranger member members) bytes
+stranger_in test goal bytes w member members e same strange =
+    ok_and (script bytes) w (IsStranger goal member members) e (same, subst (λ n. stranger n goal ≡ Some member) same strange)
 
 pub is_left : (test : Played → Bool) (tries : ℕ) (w : Rehearsal) (told : Summary) (left : Rehearsal) (setup : Setup) (lines : List Line) →
     record_of setup w.steps ≡ w → IsAllowed w → IsRunOf test setup lines left → IsNoLarger test setup w.steps (length left.steps) →
@@ -69,6 +78,7 @@ is_left test tries w told left setup lines same allowed run no_larger least stop
 
 fault_on : (test : Played → Bool) (setup : Setup) (steps : List Step) (w : Rehearsal) (fault : ShrinkFault) → record_of setup w.steps ≡ w →
     steps ≡ w.steps → IsFaultOf test setup steps fault → IsFaultOn test w fault
+fault_on test setup steps w (Stranger member members) e same h = absurd h
 fault_on test setup steps w NotShown e same h = (setup, e, subst (λ (l : List Step). IsNeverShown test setup l) same h)
 fault_on test setup steps w Board e same h = tt
 fault_on test setup steps w (Show (NoMember member members)) e same h = absurd h
@@ -105,28 +115,30 @@ part_seen test goal o left bytes told text out old new read h same a =
     input_seen left bytes bytes (λ r. WritesSmallerInPart test goal o r old new) read refl
     (told, text, h, subst (WritesPart old new) same a)
 
-fails : (test : Played → Bool) (fault : ShrinkFault) (bytes : List ℕ) → IsFaultIn test fault (read_part bytes) → FailsOn test fault bytes
-fails test NotShown bytes h = h
-fails test Board bytes h = h
-fails test (Show (NoMember member members)) bytes h = h
-fails test (Show (Unread told)) bytes h = h
-fails test (Show (Program of.Reader)) bytes h = tt
-fails test (Show (Program of.Write)) bytes h = tt
-fails test (Show (Program (of.Replay at refusal))) bytes h = h
-fails test (Show (Program (of.Read fault))) bytes h = h
-fails test (Show (Program of.Memory)) bytes h = h
-fails test (Show (Program of.Start)) bytes h = h
-fails test (Show (Program of.Exchanged)) bytes h = h
+fails : (test : Played → Bool) (goal : Goal) (fault : ShrinkFault) (bytes : List ℕ) → IsFaultIn test goal fault (read_part bytes) →
+    FailsOn test goal fault bytes
+fails test goal (Stranger member members) bytes h = h
+fails test goal NotShown bytes h = h
+fails test goal Board bytes h = h
+fails test goal (Show (NoMember member members)) bytes h = h
+fails test goal (Show (Unread told)) bytes h = h
+fails test goal (Show (Program of.Reader)) bytes h = tt
+fails test goal (Show (Program of.Write)) bytes h = tt
+fails test goal (Show (Program (of.Replay at refusal))) bytes h = h
+fails test goal (Show (Program (of.Read fault))) bytes h = h
+fails test goal (Show (Program of.Memory)) bytes h = h
+fails test goal (Show (Program of.Start)) bytes h = h
+fails test goal (Show (Program of.Exchanged)) bytes h = h
 
-fails_seen : (test : Played → Bool) (left : Option (List ℕ)) (bytes : List ℕ) (fault : ShrinkFault) →
-    IfSome left (λ input. bytes ≡ read_part input) → IsFaultIn test fault bytes → IfSome left (FailsOn test fault)
-fails_seen test None bytes fault read h = tt
-fails_seen test (Some input) bytes fault read h = fails test fault input (subst (IsFaultIn test fault) read h)
+fails_seen : (test : Played → Bool) (goal : Goal) (left : Option (List ℕ)) (bytes : List ℕ) (fault : ShrinkFault) →
+    IfSome left (λ input. bytes ≡ read_part input) → IsFaultIn test goal fault bytes → IfSome left (FailsOn test goal fault)
+fails_seen test goal None bytes fault read h = tt
+fails_seen test goal (Some input) bytes fault read h = fails test goal fault input (subst (IsFaultIn test goal fault) read h)
 
 -- the fault that is handed on
-pub handed : {T : Type 0} (test : Played → Bool) (r : Result T ShrinkFault) (fault : ShrinkFault) (left : Option (List ℕ))
+pub handed : {T : Type 0} (test : Played → Bool) (goal : Goal) (r : Result T ShrinkFault) (fault : ShrinkFault) (left : Option (List ℕ))
     (bytes : List ℕ) →
-    IsErrAnd r (λ e. e ≡ fault) → IfSome left (λ input. bytes ≡ read_part input) → IsFaultIn test fault bytes →
-    IfErr r (λ e. IfSome left (FailsOn test e))
-handed test (Ok x) fault left bytes same read h = tt
-handed test (Err e) fault left bytes same read h = rw same (fails_seen test left bytes fault read h)
+    IsErrAnd r (λ e. e ≡ fault) → IfSome left (λ input. bytes ≡ read_part input) → IsFaultIn test goal fault bytes →
+    IfErr r (λ e. IfSome left (FailsOn test goal e))
+handed test goal (Ok x) fault left bytes same read h = tt
+handed test goal (Err e) fault left bytes same read h = rw same (fails_seen test goal left bytes fault read h)

@@ -1,5 +1,5 @@
 -- What is written of runs that were made smaller.
-use Rattle.std.specs.Prelude.{◌≡◌, ◌≤◌, ⊤, ℕ, Bool, true, false, List, Option, length, Result, IsOkAnd}
+use Rattle.std.specs.Prelude.{◌≡◌, ◌≤◌, ⊤, ℕ, Bool, true, false, List, Option, Some, None, length, Result, IsOkAnd}
 use Rattle.std.specs.Io.KnownBytes.{Appends}
 use Rattle.ct_model.specs.Rehearsal.{Rehearsal}
 use Rattle.ct_world.specs.Setup.{record_of}
@@ -13,13 +13,14 @@ use Rattle.ct_grammar.specs.declared.goal.Goal.{Goal}
 use Rattle.ct_listing.specs.Listing.{IsOfListing, IsRefusal}
 use Rattle.ct_play.specs.Played.{Played}
 use Rattle.ct_show.specs.declared.show_fault.ShowFault.TheVariants.{Program}
+use Rattle.ct_walk.specs.Strangers.{stranger}
 use Rattle.ct_shrink.specs.Runs.{IsNeverShown, IsNoLarger, IsRunOf}
 use Rattle.ct_shrink.specs.Texts.{IsTextOf}
 use Rattle.ct_shrink.specs.Trials.{IsLeast}
 use Rattle.ct_shrink.specs.declared.line.Line.{Line}
 use Rattle.ct_shrink.specs.declared.options.ShrinkOptions.{ShrinkOptions}
 use Rattle.ct_shrink.specs.declared.shrink_fault.ShrinkFault.{ShrinkFault}
-use Rattle.ct_shrink.specs.declared.shrink_fault.ShrinkFault.TheVariants.{NotShown, Board, Show}
+use Rattle.ct_shrink.specs.declared.shrink_fault.ShrinkFault.TheVariants.{NoMember, NotShown, Board, Show}
 use Rattle.ct_shrink.specs.declared.summary.Summary.{Summary}
 
 -- of the record this run is left: it shows the goal, with no more steps than the first beginning of the record that does, and, unless no
@@ -44,9 +45,13 @@ pub record IsSmallerText (test : Played → Bool) (goal : Goal) (o : ShrinkOptio
   pub left : IsLeft test o.tries w told run
   pub written : IsTextOf o.form run goal text
 
+-- the group of the record has the members that the goal names
+abbrev pub KnowsMembers : Goal → Rehearsal → Type 0
+KnowsMembers goal w = stranger w.setting.members goal ≡ None
+
 -- the same of the bytes that were read
 abbrev pub IsSmallerIn : (Played → Bool) → Goal → ShrinkOptions → Result Rehearsal ReadFault → Summary → List ℕ → Type 0
-IsSmallerIn test goal o read told text = IsOkAnd read (λ w. IsSmallerText test goal o w told text)
+IsSmallerIn test goal o read told text = IsOkAnd read (λ w. KnowsMembers goal w × IsSmallerText test goal o w told text)
 
 -- the input is a record; a smaller run, and nothing else, was written
 abbrev pub WritesSmaller : (Played → Bool) → Goal → ShrinkOptions → Result Rehearsal ReadFault → Summary → Option (List ℕ) →
@@ -65,19 +70,26 @@ IsHidden test w = (setup : Setup) × (record_of setup w.steps ≡ w) × IsNeverS
 
 -- it never does, a step of it is refused, or memory was. Of the board nothing is said
 abbrev pub IsFaultOn : (Played → Bool) → Rehearsal → ShrinkFault → Type 0
+IsFaultOn test w (NoMember member members) = ⊥
 IsFaultOn test w NotShown = IsHidden test w
 IsFaultOn test w Board = ⊤
 IsFaultOn test w (Show (Program fault)) = IsRefusal fault w
 IsFaultOn test w (Show _) = ⊥
 
--- the fault is that of reading, of the record's steps, or of the goal. Of the board nothing is said
-abbrev pub IsFaultIn : (Played → Bool) → ShrinkFault → List ℕ → Type 0
-IsFaultIn test NotShown bytes = IsOkAnd (script bytes) (IsHidden test)
-IsFaultIn test Board bytes = ⊤
-IsFaultIn test (Show fault) bytes = IsOfListing fault bytes
+-- this is the first member that the goal names and that the group of the record, which has so many, hasn't
+abbrev pub IsStranger : Goal → ℕ → ℕ → Rehearsal → Type 0
+IsStranger goal member members w = (members ≡ w.setting.members) × (stranger w.setting.members goal ≡ Some member)
 
--- the input is no record, one of its steps is refused, or it never shows the goal. Of streams, of memory and of the board nothing is said
-abbrev pub FailsOn : (Played → Bool) → ShrinkFault → List ℕ → Type 0
-FailsOn test (Show (Program Reader)) input = ⊤
-FailsOn test (Show (Program Write)) input = ⊤
-FailsOn test fault input = IsFaultIn test fault (read_part input)
+-- the fault is that of reading, of the record's steps, or of the goal. Of the board nothing is said
+abbrev pub IsFaultIn : (Played → Bool) → Goal → ShrinkFault → List ℕ → Type 0
+IsFaultIn test goal (NoMember member members) bytes = IsOkAnd (script bytes) (IsStranger goal member members)
+IsFaultIn test goal NotShown bytes = IsOkAnd (script bytes) (λ w. KnowsMembers goal w × IsHidden test w)
+IsFaultIn test goal Board bytes = ⊤
+IsFaultIn test goal (Show fault) bytes = IsOfListing fault bytes
+
+-- the input is no record, the goal names a member that its group hasn't, one of its steps is refused, or it never shows the goal. Of
+-- streams, of memory and of the board nothing is said
+abbrev pub FailsOn : (Played → Bool) → Goal → ShrinkFault → List ℕ → Type 0
+FailsOn test goal (Show (Program Reader)) input = ⊤
+FailsOn test goal (Show (Program Write)) input = ⊤
+FailsOn test goal fault input = IsFaultIn test goal fault (read_part input)

@@ -12,6 +12,7 @@ use crate::making::shrink;
 use crate::options::ShrinkOptions;
 use crate::progress::Progress;
 use crate::shrink_fault::ShrinkFault;
+use crate::smaller_run::SmallerRun;
 use crate::summary::Summary;
 use crate::writing::written;
 use ct_grammar::Goal;
@@ -19,14 +20,8 @@ use ct_listing::replay;
 use ct_records::{ProgramFault, Script};
 use ct_show::{ShowFault, read_told};
 use ct_streams::{Failed, Sink, Source, read_all, write_all};
+use ct_walk::stranger;
 use std::alloc::Global;
-
-// A smaller run as a text, and what is told of it.
-#[derive(Drop)]
-struct Made {
-    text: Vec<u8>,
-    summary: Summary,
-}
 
 /// Reads a record to its end, makes its run smaller and writes that; behind a schedule stands the line that expects the goal.
 /// The whole text is made before the first write. What the contract says of the input holds where the reader tells its bytes, and
@@ -41,10 +36,11 @@ pub fn write_smaller<R: Source, W: Sink, P: Progress>(
 ) -> Result<Summary, ShrinkFault>
     requires reads { R.failures reader.old < 2 ^ 63 }
     requires writes { W.failures writer.old < 2 ^ 63 }
-    // The input is a record whose steps are all allowed, and what was written is a smaller run that shows the goal.
+    // The input is a record whose steps are all allowed and whose group has the members that the goal names, and what was written is a
+    // smaller run that shows the goal.
     ensures ok { IfOk result (λ summary. IfSome (R.left reader.old) (λ input.
         WritesSmaller (shows goal.now) goal.now options.now (script input) summary (W.written writer.old) (W.written writer.new))) }
-    ensures fault { IfErr result (λ fault. IfSome (R.left reader.old) (FailsOn (shows goal.now) fault)) }
+    ensures fault { IfErr result (λ fault. IfSome (R.left reader.old) (FailsOn (shows goal.now) goal.now fault)) }
     // Where the writer failed, some first bytes of such a text were written.
     ensures part { result ≡ Err (ShrinkFault.Show (ShowFault.Program ProgramFault.Write)) → IfSome (R.left reader.old) (λ input.
         WritesSmallerInPart (shows goal.now) goal.now options.now (script input) (W.written writer.old) (W.written writer.new)) }
@@ -56,7 +52,7 @@ pub fn write_smaller<R: Source, W: Sink, P: Progress>(
     ensures quiet { IfErr result (λ fault. fault ≢ ShrinkFault.Show (ShowFault.Program ProgramFault.Write) → writer.new ≡ writer.old) }
 {
     let bytes = read_all(alloc, reader)?;
-    let made = smaller(alloc, bytes, goal, options, progress)?;
+    let made = smaller_in(alloc, bytes, goal, options, progress)?;
     match write_all(writer, &made.text) {
         Ok(()) => Ok(made.summary),
         Err(Failed) => Err(ShrinkFault::Show(ShowFault::Program(ProgramFault::Write))),
@@ -64,38 +60,43 @@ pub fn write_smaller<R: Source, W: Sink, P: Progress>(
 }
 
 // The smaller run of the record, whose bytes are freed before it is made.
-#[tactic(auto, using(crate::proofs::Reading::text_in, crate::proofs::Reading::fault_in))]
-fn smaller<P: Progress>(
+#[tactic(auto, using(crate::proofs::Reading::text_in, crate::proofs::Reading::fault_in, crate::proofs::Reading::stranger_in))]
+fn smaller_in<P: Progress>(
     alloc: Global,
     bytes: Vec<u8>,
     goal: &Goal,
     options: &ShrinkOptions,
     progress: &mut P,
-) -> Result<Made, ShrinkFault>
+) -> Result<SmallerRun, ShrinkFault>
     ensures ok { IfOk result (λ made.
         IsSmallerIn (shows goal.now) goal.now options.now (script bytes.items) made.summary made.text.items) }
-    ensures fault { IfErr result (λ fault. IsFaultIn (shows goal.now) fault bytes.items) }
+    ensures fault { IfErr result (λ fault. IsFaultIn (shows goal.now) goal.now fault bytes.items) }
 {
     let script = read(alloc, &bytes)?;
     drop(bytes);
-    make(alloc, &script, goal, options, progress)
+    let members = script.group.n();
+    if let Some(member) = stranger(members, goal) {
+        return Err(ShrinkFault::NoMember { member, members });
+    }
+    smaller_of(alloc, &script, goal, options, progress)
 }
 
-// The smaller run of the record.
-fn make<P: Progress>(
+/// Makes the run of the record smaller, and answers its text; behind a schedule stands the line that expects the goal. Somebody is told
+/// after each trial.
+pub fn smaller_of<P: Progress>(
     alloc: Global,
     script: &Script,
     goal: &Goal,
     options: &ShrinkOptions,
     progress: &mut P,
-) -> Result<Made, ShrinkFault>
+) -> Result<SmallerRun, ShrinkFault>
+    // The record's steps are all allowed, and the text is a smaller run that shows the goal.
     ensures ok { IfOk result (λ made.
         IsSmallerText (shows goal.now) goal.now options.now (rehearsal_of script.now) made.summary made.text.items) }
     ensures fault { IfErr result (IsFaultOn (shows goal.now) (rehearsal_of script.now)) }
 {
     replay(alloc, script)?;
     let setup = script.setup();
-    let same = setup;
     let shrunk = shrink(alloc, setup, &script.steps, goal, options.tries, progress)?;
     let summary = Summary {
         steps: script.steps.len(),
@@ -103,8 +104,8 @@ fn make<P: Progress>(
         trials: shrunk.trials,
         is_stopped: shrunk.is_stopped,
     };
-    let text = written(alloc, same, shrunk.world, options.form, goal)?;
-    Ok(Made { text, summary })
+    let text = written(alloc, shrunk.world, options.form, goal)?;
+    Ok(SmallerRun { text, summary })
 }
 
 // The record that the bytes are.

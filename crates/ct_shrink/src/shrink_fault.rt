@@ -3,6 +3,7 @@
 ghost use Rattle.std.specs.Prelude.{◌≡◌, Some};
 ghost use Rattle.ct_shrink.specs.Faults.{fault_text, status_of};
 
+use ct_names::Member;
 use ct_play::LineFault;
 use ct_records::ProgramFault;
 use ct_show::ShowFault;
@@ -12,6 +13,13 @@ use std::fmt;
 /// Why no smaller run is made, or written. Its text is the line for standard error.
 #[derive(Debug, Drop)]
 pub enum ShrinkFault {
+    /// The goal names a member that the record's group doesn't have.
+    NoMember {
+        /// The member.
+        member: Member,
+        /// The number of members.
+        members: u8,
+    },
     /// The run never shows the goal.
     NotShown,
     /// A cell of the board refused a batch.
@@ -21,11 +29,13 @@ pub enum ShrinkFault {
 }
 
 impl ShrinkFault {
-    /// The status that a program ends with: 1 where the goal is not shown, 5 for the board, else that of what is shown of a record.
+    /// The status that a program ends with: 3 for a member that isn't there, 1 where the goal is not shown, 5 for the board, else that of
+    /// what is shown of a record.
     pub fn status(&self) -> u8
         ensures { result ≡ status_of self.now }
     {
         match self {
+            ShrinkFault::NoMember { .. } => Status::Words.code(),
             ShrinkFault::NotShown => Status::Refused.code(),
             ShrinkFault::Board => Status::Memory.code(),
             ShrinkFault::Show(fault) => fault.status(),
@@ -38,6 +48,9 @@ impl fmt::Display for ShrinkFault {
 
     fn fmt<W: fmt::Write>(&self, f: &mut fmt::Formatter<W>) -> fmt::Result {
         match self {
+            ShrinkFault::NoMember { member, members } => {
+                write!(f, "no member {member} of {members}")
+            }
             ShrinkFault::NotShown => f.write_str("the goal is not shown"),
             ShrinkFault::Board => f.write_str("board refused"),
             ShrinkFault::Show(fault) => write!(f, "{fault}"),

@@ -28,13 +28,14 @@ impl fmt::Display for Summary {
             trials,
             is_stopped,
         } = *self;
+        let unit = if trials == 1 { "trial" } else { "trials" };
         if is_stopped {
             write!(
                 f,
-                "of {steps} steps {left} are left; stopped after {trials} trials"
+                "of {steps} steps {left} are left; stopped after {trials} {unit}"
             )
         } else {
-            write!(f, "of {steps} steps {left} are left; {trials} trials")
+            write!(f, "of {steps} steps {left} are left; {trials} {unit}")
         }
     }
 }

@@ -1,7 +1,6 @@
 //! From a run to its text.
 
 ghost use Rattle.std.specs.Prelude.{◌≡◌, ◌++◌, ◌∷◌, [], IfOk, IfErr};
-ghost use Rattle.ct_world.specs.Setup.{setting_of};
 ghost use Rattle.ct_records.specs.Text.{record_text};
 ghost use Rattle.ct_records.specs.View.{rehearsal_of};
 ghost use Rattle.ct_shrink.specs.Texts.{IsTextOf};
@@ -10,25 +9,22 @@ use crate::form::Form;
 use ct_grammar::Goal;
 use ct_listing::schedule_expecting;
 use ct_records::{ProgramFault, Script, write_record};
-use ct_world::{Setup, World};
+use ct_world::World;
 use std::alloc::{AllocError, Global};
 
 // The run as a text of this form; behind a schedule stands that the goal is expected.
 pub(crate) fn written(
     alloc: Global,
-    setup: Setup,
     world: World,
     form: Form,
     goal: &Goal,
 ) -> Result<Vec<u8>, ProgramFault>
-    requires setting { world.rehearsal.setting ≡ setting_of setup }
-    requires cells { world.rehearsal.cells ≡ setup.cells }
     ensures text { IfOk result (λ text. IsTextOf form world.rehearsal goal.now text.items) }
     ensures err { IfErr result (λ fault. fault ≡ ProgramFault.Memory) }
 {
     match form {
         Form::Record => Ok(record_line(alloc, &world)?),
-        Form::Schedule => scheduled(alloc, setup, world, goal),
+        Form::Schedule => scheduled(alloc, world, goal),
     }
 }
 
@@ -42,18 +38,11 @@ fn record_line(alloc: Global, world: &World) -> Result<Vec<u8>, AllocError>
 }
 
 // The schedule, and the line that expects the goal.
-fn scheduled(
-    alloc: Global,
-    setup: Setup,
-    world: World,
-    goal: &Goal,
-) -> Result<Vec<u8>, ProgramFault>
-    requires setting { world.rehearsal.setting ≡ setting_of setup }
-    requires cells { world.rehearsal.cells ≡ setup.cells }
+fn scheduled(alloc: Global, world: World, goal: &Goal) -> Result<Vec<u8>, ProgramFault>
     ensures text { IfOk result (λ text. IsTextOf Form.Schedule world.rehearsal goal.now text.items) }
     ensures err { IfErr result (λ fault. fault ≡ ProgramFault.Memory) }
 {
-    let script = script_of(alloc, setup, &world)?;
+    let script = script_of(alloc, &world)?;
     drop(world);
     match schedule_expecting(alloc, &script, goal) {
         Ok(text) => Ok(text),
@@ -61,18 +50,16 @@ fn scheduled(
     }
 }
 
-// The record.
-fn script_of(alloc: Global, setup: Setup, world: &World) -> Result<Script, AllocError>
-    requires setting { world.now.rehearsal.setting ≡ setting_of setup }
-    requires cells { world.now.rehearsal.cells ≡ setup.cells }
+/// The record of the world.
+pub fn script_of(alloc: Global, world: &World) -> Result<Script, AllocError>
     ensures { IfOk result (λ script. rehearsal_of script ≡ world.now.rehearsal) }
 {
     let mut steps = Vec::new(alloc);
     steps.extend_from_slice(world.record())?;
     Ok(Script {
-        group: setup.group,
-        cells: setup.cells,
-        batch: setup.bound,
+        group: world.group(),
+        cells: world.cells(),
+        batch: world.bound(),
         steps,
     })
 }

@@ -4,7 +4,8 @@ use Rattle.ct_shrink.proofs.running.write_smaller.Goals as goal
 
 pub returns-in_err-made-clause-fault : goal.returns-in_err-made-clause-fault
 returns-in_err-made-clause-fault g c =
-    handed (shows c.args.goal.now) c.from_residual-in_err-made.result c.in_err-made.field-0.0 (g.R.Source.left c.args.reader.now)
+    handed (shows c.args.goal.now) c.args.goal.now c.from_residual-in_err-made.result c.in_err-made.field-0.0
+    (g.R.Source.left c.args.reader.now)
     c.in_ok-bytes.bytes.items c.from_residual-in_err-made.ensures.1 c.in_ok-bytes.ensures.bytes c.in_err-made.ensures.fault
 
 pub returns-in-Ok-clause-ok : goal.returns-in-Ok-clause-ok

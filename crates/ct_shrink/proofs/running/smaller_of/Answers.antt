@@ -5,7 +5,7 @@ use Rattle.ct_play.specs.Goals.{shows}
 use Rattle.ct_shrink.specs.Runs.{IsNoLarger}
 use Rattle.ct_shrink.specs.declared.summary.Summary.{Summary}
 use Rattle.ct_shrink.proofs.Reading.{faults_on, is_left}
-use Rattle.ct_shrink.proofs.running.make.Goals as goal
+use Rattle.ct_shrink.proofs.running.smaller_of.Goals as goal
 
 pub returns-in_err-shrunk-clause-fault : goal.returns-in_err-shrunk-clause-fault
 returns-in_err-shrunk-clause-fault g c =
