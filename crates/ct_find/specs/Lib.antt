@@ -7,4 +7,5 @@ pub mod Texts
 pub mod Tried
 pub mod Line
 pub mod Writing
+pub mod Best
 pub mod Counting

@@ -4,11 +4,13 @@ use Rattle.std.specs.Str.{bytes_eq}
 use Rattle.clap.specs.Lexer.{usize_max}
 use Rattle.clap.specs.Words.{App, Row, Rule, Text, all_of, first_of, new_app, new_rule, with_rule}
 use Rattle.clap.specs.declared.builder.action.ArgAction.TheVariants.{SetTrue}
-use Rattle.ct_streams.specs.Arguments.{required_rule, value_rule}
+use Rattle.ct_streams.specs.Arguments.{option_rule, required_rule, value_rule}
 use Rattle.ct_streams.specs.Values.{◌>>=◌, number_for}
 use Rattle.ct_streams.specs.WordFaults.{fault_line}
-use Rattle.ct_walk.specs.Line.{given_goal, joined, search_options, seeds_in, with_search_rules, IsSeedsInRange}
+use Rattle.ct_walk.specs.Line.{group_goal, joined, search_options, seeds_in, with_search_rules, IsSeedsInRange}
 use Rattle.ct_walk.specs.Options.{IsInRange}
+use Rattle.ct_shrink.specs.Line.{options_of}
+use Rattle.ct_find.specs.declared.best.BestOptions.{BestOptions}
 use Rattle.ct_find.specs.declared.call.FindCall.{FindCall}
 use Rattle.ct_find.specs.declared.count_text.CountForm.{CountForm}
 use Rattle.ct_find.specs.declared.count_text.CountForm.TheVariants.{Table, Json}
@@ -31,14 +33,26 @@ abbrev pub flag_rule : Text → Rule
 flag_rule name = record (new_rule name) { long = Some name; action = Some SetTrue }
 
 -- the same, which asks for another one beside it
-abbrev pub json_rule : Rule
-json_rule = record (flag_rule (codes "json")) { is_free = false }
+abbrev pub asking_rule : Text → Rule
+asking_rule name = record (flag_rule name) { is_free = false }
 
--- the subcommand `find`: the options of a walk but for its seed, and six of its own
+-- it may not stand beside another one
+abbrev pub best_rule : Rule
+best_rule = record (value_rule (codes "best")) { value_names = 1; is_free = false }
+
+-- it asks for another one
+abbrev pub tries_rule : Rule
+tries_rule = record (option_rule (codes "tries") (codes "10000")) { value_names = 1; is_free = false }
+
+-- the command, and after its arguments those of the smallest run
+abbrev pub with_best_rules : App → App
+with_best_rules app = fold with_rule app (best_rule ∷ tries_rule ∷ asking_rule (codes "record") ∷ [])
+
+-- the subcommand `find`: the options of a walk but for its seed, and nine of its own
 abbrev pub find_app : App
 find_app =
-    fold with_rule (with_search_rules (new_app (codes "find")))
-    (goal_rule ∷ seeds_rule ∷ jobs_rule ∷ flag_rule (codes "quiet") ∷ flag_rule (codes "count") ∷ json_rule ∷ [])
+    with_best_rules (fold with_rule (with_search_rules (new_app (codes "find")))
+    (goal_rule ∷ seeds_rule ∷ jobs_rule ∷ flag_rule (codes "quiet") ∷ flag_rule (codes "count") ∷ asking_rule (codes "json") ∷ []))
 
 -- ---- what the options ask for, or the line of the first one that asks for nothing
 
@@ -69,7 +83,7 @@ unfoldable pub find_call : List Row → Result FindCall Text
 find_call rows = do
   options ← search_options rows
   text ← text_in rows
-  goal ← given_goal (codes "goal") text
+  goal ← group_goal options.run.members (codes "goal") text
   seeds ← seeds_in rows
   jobs ← jobs_in rows
   Ok (record { options = options; goal = goal; text = text; seeds = seeds; jobs = jobs })
@@ -88,6 +102,18 @@ form_of false json = None
 -- as what the options ask for a count
 abbrev pub count_form : List Row → Option CountForm
 count_form rows = form_of (is_set (first_of (codes "count") rows)) (is_set (first_of (codes "json") rows))
+
+-- the number of walks that are made smaller, where that is given, and how
+abbrev pub best_or_none : List Row → Option Text → Result (Option BestOptions) Text
+best_or_none rows None = Ok None
+best_or_none rows (Some text) = do
+  count ← number_for (codes "best") 1 4294967295 text
+  shrink ← options_of rows
+  Ok (Some (record { count = count; shrink = shrink }))
+
+-- how the options ask for the smallest run, where they do
+abbrev pub best_options : List Row → Result (Option BestOptions) Text
+best_options rows = best_or_none rows (first_of (codes "best") rows)
 
 -- each option is in its range
 pub record IsFindInRange (call : FindCall) : Type 0 where

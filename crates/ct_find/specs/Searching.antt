@@ -1,5 +1,5 @@
 -- What a search has to find, and in which parts.
-use Rattle.std.specs.Prelude.{ℕ, ◌+◌, ◌-◌, min, Bool, false, nat_lt, List, [], ◌∷◌, length, take, Option, Some, None}
+use Rattle.std.specs.Prelude.{ℕ, ◌+◌, ◌-◌, min, Bool, false, nat_le, List, [], ◌∷◌, length, take, Option, Some, None}
 use Rattle.ct_grammar.specs.declared.goal.Goal.{Goal}
 use Rattle.ct_walk.specs.declared.options.WalkOptions.{WalkOptions}
 use Rattle.ct_walk.specs.declared.walk_size.WalkSize.{WalkSize}
@@ -13,14 +13,14 @@ abbrev pub hit_at : ℕ → Option WalkSize → List Hit
 hit_at seed None = []
 hit_at seed (Some size) = record { seed = seed; size = size } ∷ []
 
--- those that are asked for: the first one, or all
+-- those that are asked for: so many of the first ones, or all
 abbrev pub asked : Which → List Hit → List Hit
-asked First hits = take 1 hits
+asked (First count) hits = take count hits
 asked All hits = hits
 
 -- no more are asked for than these
 abbrev pub is_enough : Which → List Hit → Bool
-is_enough First hits = nat_lt 0 (length hits)
+is_enough (First count) hits = nat_le count (length hits)
 is_enough All hits = false
 
 -- those of the part that begins at this seed and has so many, below the end

@@ -6,7 +6,8 @@ use Rattle.ct_walk.specs.Finding.{first_of}
 use Rattle.ct_find.specs.declared.again.Again.{Again}
 use Rattle.ct_find.specs.declared.call.FindCall.{FindCall}
 use Rattle.ct_find.specs.declared.fault.FindFault.{FindFault}
-use Rattle.ct_find.specs.declared.fault.FindFault.TheVariants.{Walk, NotFound}
+use Rattle.ct_find.specs.Texts.{quoted}
+use Rattle.ct_find.specs.declared.fault.FindFault.TheVariants.{Walk, Shrink, NotFound}
 
 -- the search, as `walk` is asked for it
 abbrev pub search_of : FindCall → Call
@@ -17,7 +18,8 @@ abbrev pub FindsNothing : FindCall → FindFault → Type 0
 FindsNothing call (NotFound none) =
     (first_of call.options call.goal call.seeds ≡ None) × (none.seeds ≡ call.seeds) × (none.goal ≡ call.text)
 FindsNothing call (Walk fault) = ⊤
+FindsNothing call (Shrink fault) = ⊥
 
 -- the words are those of the walk of this seed
 abbrev pub Repeats : FindCall → ℕ → Again → Type 0
-Repeats call seed again = again ≡ record { options = call.options; seed = seed; goal = call.text }
+Repeats call seed again = again ≡ record { options = call.options; seed = seed; goal = quoted call.text }

@@ -16,7 +16,7 @@ pub struct Again {
     pub options: WalkOptions,
     /// Its seed.
     pub seed: u32,
-    /// The goal.
+    /// The goal, as it stands in single quotes for a shell.
     pub goal: Text,
 }
 

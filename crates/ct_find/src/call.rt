@@ -14,6 +14,6 @@ pub struct FindCall {
     pub text: Text,
     /// The seeds of the walks.
     pub seeds: Seeds,
-    /// How many threads there are, 1 to 64; None for as many as there are processors.
+    /// How many threads there are, 1 to 64; None for four for each processor.
     pub jobs: Option<u8>,
 }

@@ -16,13 +16,13 @@ pub enum CountForm {
     Json,
 }
 
-/// A tally that is written. Its text ends with a line feed.
+// A tally that is written. Its text ends with a line feed.
 #[derive(Clone, Copy, Debug, Drop)]
-pub struct CountText {
-    /// The tally.
-    pub tally: Tally,
-    /// As what it is written.
-    pub form: CountForm,
+pub(crate) struct CountText {
+    // The tally.
+    pub(crate) tally: Tally,
+    // As what it is written.
+    pub(crate) form: CountForm,
 }
 
 impl fmt::Display for CountText {

@@ -1,7 +1,7 @@
 //! What is looked for.
 
 ghost use Rattle.std.specs.Prelude.{◌≡◌};
-ghost use Rattle.ct_find.specs.Searching.{is_enough};
+ghost use Rattle.ct_find.specs.Searching.{asked, is_enough};
 
 use crate::hit::Hit;
 use ct_grammar::Goal;
@@ -21,8 +21,8 @@ pub(crate) struct Search<'a> {
 // Which seeds are asked for.
 #[derive(Clone, Copy, Debug, Drop, PartialEq, Eq)]
 pub(crate) enum Which {
-    // The first one.
-    First,
+    // So many of the first ones.
+    First(u32),
     // Each one.
     All,
 }
@@ -33,8 +33,19 @@ impl Which {
         ensures { result ≡ is_enough self hits.now }
     {
         match self {
-            Which::First => !hits.is_empty(),
+            Which::First(count) => hits.len() >= count as usize,
             Which::All => false,
         }
+    }
+
+    // Those of these that are asked for.
+    pub(crate) fn cut(self, hits: Vec<Hit>) -> Vec<Hit>
+        ensures { result.items ≡ asked self hits.items }
+    {
+        let mut hits = hits;
+        if let Which::First(count) = self {
+            hits.truncate(count as usize);
+        }
+        hits
     }
 }

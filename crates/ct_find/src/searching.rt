@@ -18,14 +18,18 @@ use ct_walk::{Seeds, WalkFault, WalkOptions, WalkSize, size_if_shown};
 use std::alloc::Global;
 use std::thread::{self, Threads};
 
-/// How many seeds each thread tries at first.
-pub const SEEDS_FIRST: u64 = 16;
+// How many seeds each thread tries at first.
+const SEEDS_FIRST: u64 = 16;
 
-/// How many turns a thread makes at a time at most, in walks of several seeds; one walk may have more.
-pub const TURNS_EACH: u64 = 1_048_576;
+// How many turns a thread makes at a time at most, in walks of several seeds; one walk may have more.
+const TURNS_EACH: u64 = 1_048_576;
 
-/// How many threads there are at most.
-pub const MAX_JOBS: u8 = 64;
+// How many threads there are at most.
+pub(crate) const MAX_JOBS: u8 = 64;
+
+// How many threads there are for a processor, where no number is asked for: their parts of a block take unlike times, and more of
+// them even that out.
+const JOBS_A_CORE: usize = 4;
 
 /// The first of the seeds whose walk shows the goal: so many threads try as many parts of the seeds at a time, and after each
 /// of these blocks the seeds that were tried are told. The answer is the same for every number of threads.
@@ -47,7 +51,7 @@ pub fn find_in_threads<R: Threads + Sync, P: Progress>(
     let search = Search {
         options,
         goal,
-        which: Which::First,
+        which: Which::First(1),
     };
     let hits = hits_in_threads(rt, alloc, search, seeds, jobs, progress)?;
     Ok(first_of(&hits))
@@ -87,12 +91,12 @@ pub(crate) fn hits_in_threads<R: Threads + Sync, P: Progress>(
         let more = hits_in_block(rt, alloc, search, next, stop, each, usize::from(jobs))?;
         hits.extend_from_slice(&more)?;
         if search.which.is_enough(&hits) {
-            return Ok(hits);
+            return Ok(search.which.cut(hits));
         }
         progress.tell((stop - 1) as u32, hits.len());
         next += block;
     }
-    Ok(hits)
+    Ok(search.which.cut(hits))
 }
 
 // How many seeds each thread tries next, where so many were tried and so many are left: half as many as it tried before, and
@@ -169,10 +173,10 @@ fn hits_in_block<R: Threads + Sync>(
             Err(fault) => return Err(*fault),
         }
         if which.is_enough(&hits) {
-            return Ok(hits);
+            return Ok(which.cut(hits));
         }
     }
-    Ok(hits)
+    Ok(which.cut(hits))
 }
 
 // Those of a part of so many seeds, from this one on, below the end.
@@ -198,10 +202,10 @@ fn hits_in_part(
         let size = size_if_shown(alloc, search.options, search.goal, seed)?;
         push_hit(&mut hits, seed, size)?;
         if search.which.is_enough(&hits) {
-            return Ok(hits);
+            return Ok(search.which.cut(hits));
         }
     }
-    Ok(hits)
+    Ok(search.which.cut(hits))
 }
 
 // Puts the seed behind the hits, where its walk shows the goal and goes so far.
@@ -218,8 +222,8 @@ fn push_hit(hits: &mut Vec<Hit>, seed: u32, size: Option<WalkSize>) -> Result<()
     }
 }
 
-/// So many threads, or as many as there are processors, but no more than `MAX_JOBS`.
-pub fn jobs_or_all<R: Threads>(rt: &R, jobs: Option<u8>) -> u8
+// So many threads, or `JOBS_A_CORE` for each processor, but no more than `MAX_JOBS`.
+pub(crate) fn jobs_or_all<R: Threads>(rt: &R, jobs: Option<u8>) -> u8
     ensures given { IfSome jobs (λ jobs. 0 < jobs → result ≡ jobs) }
     ensures some { 0 < result }
     ensures few { IfNone jobs (result ≤ 64) }
@@ -230,7 +234,10 @@ pub fn jobs_or_all<R: Threads>(rt: &R, jobs: Option<u8>) -> u8
         return jobs;
     }
     match thread::available_parallelism(rt) {
-        Ok(cores) => cores.get().min(usize::from(MAX_JOBS)) as u8,
+        Ok(cores) => cores
+            .get()
+            .saturating_mul(JOBS_A_CORE)
+            .min(usize::from(MAX_JOBS)) as u8,
         Err(_) => 1,
     }
 }

@@ -3,16 +3,21 @@
 ghost use Rattle.std.specs.Prelude.{◌≡◌, ◌<◌, false, map, option_map, Ok, IfOk, IfErr, IfSome};
 ghost use Rattle.clap.specs.Words.{app_of, found_of, rows_of, rule_of};
 ghost use Rattle.ct_walk.specs.Line.{IsCallFault};
-ghost use Rattle.ct_find.specs.Line.{count_form, find_app, find_call, flag_rule, form_of, goal_rule, is_set, jobs_in, jobs_or_none};
-ghost use Rattle.ct_find.specs.Line.{jobs_rule, json_rule, seeds_rule, text_in, text_or_line, IsFindInRange};
+ghost use Rattle.ct_find.specs.Line.{asking_rule, best_options, best_or_none, best_rule, count_form, find_app, find_call, flag_rule};
+ghost use Rattle.ct_find.specs.Line.{form_of, goal_rule, is_set, jobs_in, jobs_or_none, jobs_rule, seeds_rule, text_in, text_or_line};
+ghost use Rattle.ct_find.specs.Line.{tries_rule, with_best_rules, IsFindInRange};
 
+use crate::best::BestOptions;
 use crate::call::FindCall;
 use crate::count_text::CountForm;
 use crate::searching::MAX_JOBS;
 use clap::{Arg, ArgAction, ArgMatches, Command};
 use ct_grammar::Text;
-use ct_streams::{Given, Wanted, WordFault, number_for, required_option, subcommand, value_option};
-use ct_walk::{CallFault, given_goal, joined, search_options, seeds_in, with_search_options};
+use ct_shrink::{USUAL_TRIES, shrink_options};
+use ct_streams::{
+    Given, Wanted, WordFault, default_option, number_for, required_option, subcommand, value_option,
+};
+use ct_walk::{CallFault, group_goal, joined, search_options, seeds_in, with_search_options};
 use std::alloc::{AllocError, Global};
 
 // What stands after the options.
@@ -33,9 +38,10 @@ Examples:
   ct_tool find --members 5 --goal 'any round >= 4' --seeds 1..100000 > run.json
   ct_tool find --members 3 --crash 2 --goal 'up decided 2' --seeds 0..9 --jobs 2
   ct_tool find --members 3 --goal 'any round >= 4' --seeds 1..1000 --count
+  ct_tool find --members 3 --goal 'any round >= 4' --seeds 1..1000 --best 9
 
 Status:
-  0  the record was written, or the count, where a walk shows the goal
+  0  a run was written, or the count, where a walk shows the goal
   1  no walk shows the goal
   3  the words of the command line are refused
   4  a write of standard output failed
@@ -53,7 +59,7 @@ pub fn find_call<'a>(alloc: Global, found: &'a ArgMatches<'_>) -> Result<FindCal
 {
     let options = search_options(found)?;
     let text = text_in(alloc, found)?;
-    let goal = given_goal(alloc, "goal", text.as_str())?;
+    let goal = group_goal(alloc, options.run.members, "goal", text.as_str())?;
     let seeds = seeds_in(found)?;
     let jobs = jobs_in(found)?;
     Ok(FindCall {
@@ -116,11 +122,12 @@ pub fn find_command<'a>(alloc: Global) -> Result<Command<'a>, AllocError>
         "find",
         concat!(
             "Makes the walks of many seeds in threads, and writes the record of\n",
-            "the first seed's walk that shows the goal, or counts them",
+            "the first seed's walk that shows the goal, or counts them, or\n",
+            "writes the smallest run that is left of several of them",
         ),
         AFTER,
     );
-    with_search_options(alloc, command)?
+    let command = with_search_options(alloc, command)?
         .arg(goal_arg(alloc))?
         .arg(seeds_arg(alloc))?
         .arg(jobs_arg(alloc))?
@@ -130,7 +137,28 @@ pub fn find_command<'a>(alloc: Global) -> Result<Command<'a>, AllocError>
             "count",
             "Tries all the seeds, and writes how many of their\nwalks show the goal and how far those go, in place\nof a record",
         ))?
-        .arg(json_arg(alloc)?)
+        .arg(asking_flag(
+            alloc,
+            "json",
+            "count",
+            "Writes the count as a JSON object, in place of a\ntable",
+        )?)?;
+    with_best_options(alloc, command)
+}
+
+// The command, and after its arguments those of the smallest run.
+fn with_best_options<'a>(alloc: Global, command: Command<'a>) -> Result<Command<'a>, AllocError>
+    ensures { IfOk result (λ longer. app_of longer ≡ with_best_rules (app_of command.entry)) }
+{
+    command
+        .arg(best_arg(alloc)?)?
+        .arg(tries_arg(alloc)?)?
+        .arg(asking_flag(
+            alloc,
+            "record",
+            "best",
+            "Writes the smallest run as a record, in place of a\nschedule",
+        )?)
 }
 
 fn goal_arg<'a>(alloc: Global) -> Arg<'a>
@@ -165,21 +193,53 @@ fn jobs_arg<'a>(alloc: Global) -> Arg<'a>
     value_option(
         alloc,
         "jobs",
-        "How many threads there are, 1 to 64; without it as\nmany as there are processors",
+        "How many threads there are, 1 to 64; without it\nfour for each processor",
     )
     .value_name("N")
 }
 
-fn json_arg<'a>(alloc: Global) -> Result<Arg<'a>, AllocError>
-    ensures rule { IfOk result (λ json. rule_of json ≡ json_rule) }
-    ensures local { IfOk result (λ json. json.global ≡ false) }
+fn best_arg<'a>(alloc: Global) -> Result<Arg<'a>, AllocError>
+    ensures rule { IfOk result (λ best. rule_of best ≡ best_rule) }
+    ensures local { IfOk result (λ best. best.global ≡ false) }
 {
-    flag(
+    value_option(
         alloc,
-        "json",
-        "Writes the count as a JSON object, in place of a\ntable",
+        "best",
+        concat!(
+            "Makes the walks of the first K seeds that show the\n",
+            "goal smaller, as `ct_tool shrink` does, and writes\n",
+            "the smallest run: 1 or more",
+        ),
     )
-    .requires_arg("count")
+    .value_name("K")
+    .conflicts_with("count")
+}
+
+fn tries_arg<'a>(alloc: Global) -> Result<Arg<'a>, AllocError>
+    ensures rule { IfOk result (λ tries. rule_of tries ≡ tries_rule) }
+    ensures local { IfOk result (λ tries. tries.global ≡ false) }
+{
+    default_option(
+        alloc,
+        "tries",
+        USUAL_TRIES,
+        "How many trials are made at most for each of them,\n1 to 1000000",
+    )
+    .value_name("N")
+    .requires_arg("best")
+}
+
+// An option with no value, which asks for another one beside it.
+fn asking_flag<'a>(
+    alloc: Global,
+    name: &'a str,
+    needed: &'a str,
+    help: &'a str,
+) -> Result<Arg<'a>, AllocError>
+    ensures rule { IfOk result (λ option. rule_of option ≡ asking_rule name.entry.now) }
+    ensures local { IfOk result (λ option. option.global ≡ false) }
+{
+    flag(alloc, name, help).requires_arg(needed)
 }
 
 // An option with no value.
@@ -189,6 +249,31 @@ fn flag<'a>(alloc: Global, name: &'a str, help: &'a str) -> Arg<'a>
 {
     let option = Arg::new(alloc, name).long(name).help(help);
     option.action(ArgAction::SetTrue)
+}
+
+/// How the smallest run is asked for; None where it is not. Else the fault of the first option that asks for nothing.
+pub fn best_options<'a>(found: &'a ArgMatches<'_>) -> Result<Option<BestOptions>, WordFault<'a>>
+    ensures exact { result ≡ best_options (rows_of (found_of found.now)) }
+    ensures some { IfOk result (λ best. IfSome best (λ best. 0 < best.count)) }
+{
+    best_or_none(found, found.get_str("best"))
+}
+
+fn best_or_none<'a>(
+    found: &'a ArgMatches<'_>,
+    text: Option<&'a str>,
+) -> Result<Option<BestOptions>, WordFault<'a>>
+    ensures exact { result ≡ best_or_none (rows_of (found_of found.now)) (option_map (λ text. text.now) text.entry) }
+    ensures some { IfOk result (λ best. IfSome best (λ best. 0 < best.count)) }
+{
+    match text {
+        None => Ok(None),
+        Some(text) => {
+            let count = number_for("best", text, 1, u32::MAX)?;
+            let shrink = shrink_options(found)?;
+            Ok(Some(BestOptions { count, shrink }))
+        }
+    }
 }
 
 /// As what a count of the seeds is asked for; None where the record of a walk is.

@@ -11,6 +11,7 @@ use crate::again::Again;
 use crate::call::FindCall;
 use crate::fault::{FindFault, NotFound};
 use crate::progress::Progress;
+use crate::quoting::quoted_goal;
 use crate::searching::{find_in_threads, jobs_or_all};
 use ct_streams::Sink;
 use ct_walk::{Call, FoundSeed, Seeds, write_call};
@@ -59,6 +60,7 @@ pub fn write_found<R: Threads + Sync, W: Sink, P: Progress>(
     let Some(seed) = find_in_threads(rt, alloc, &options, &goal, seeds, jobs, progress)? else {
         return Err(FindFault::NotFound(NotFound { seeds, goal: text }));
     };
+    let words = quoted_goal(alloc, &text)?;
     let one = Seeds {
         first: seed,
         last: seed,
@@ -74,7 +76,7 @@ pub fn write_found<R: Threads + Sync, W: Sink, P: Progress>(
         again: Again {
             options,
             seed: found.seed,
-            goal: text,
+            goal: words,
         },
     })
 }

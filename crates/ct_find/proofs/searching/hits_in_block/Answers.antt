@@ -3,7 +3,7 @@ use Rattle.ct_walk.specs.declared.fault.WalkFault.{WalkFault}
 use Rattle.ct_find.specs.declared.hit.Hit.{Hit}
 use Rattle.ct_find.specs.Hits.{hits_from}
 use Rattle.ct_find.specs.Searching.{asked, is_enough, part_of}
-use Rattle.ct_find.proofs.Asked.{all_found, part_ends, part_passes}
+use Rattle.ct_find.proofs.Asked.{all_found, enough, part_adds}
 use Rattle.ct_find.proofs.Blocks.{part_next, parts_past}
 use Rattle.ct_find.proofs.searching.hits_in_block.Goals as goal
 
@@ -23,9 +23,10 @@ returns-then-is_enough-clause-hits g c =
     let given = (c.in_ok-all.ensures.each c.loop-i.i c.index.result.now c.loop-i-test.true).1.met in
     let found = items_are (part_of which o target start c.args.each c.args.end) _ _ _ given.0 (sym c.index.ensures) c.in-Ok.is in
     let adds = (c.in_ok-extend_from_slice-in-Ok).ensures.items ∙ ap (λ more. c.loop-i.hits.items ++ more) c.deref.ensures.value in
+    let more = part_adds which o target start c.args.end c.args.each c.loop-i.hits.items _ c.extend_from_slice.new.self.items _ adds
+    c.loop-i.invariant found in
     let now = ap (is_enough which) (sym c.deref-in-loop-i.ensures.value) ∙ (sym c.is_enough.ensures ∙ c.if-is_enough.true) in
-    part_ends which o target start c.args.end c.args.each c.loop-i.hits.items _ c.extend_from_slice.new.self.items _ adds found
-    c.loop-i.invariant.0 c.loop-i.invariant.1 now
+    c.cut.ensures ∙ enough which _ _ _ now more
 
 pub loop-i-preserved : goal.loop-i-preserved
 loop-i-preserved g c =
@@ -36,16 +37,14 @@ loop-i-preserved g c =
     let given = (c.in_ok-all.ensures.each c.loop-i.i c.index.result.now c.loop-i-test.true).1.met in
     let found = items_are (part_of which o target start c.args.each c.args.end) _ _ _ given.0 (sym c.index.ensures) c.in-Ok.is in
     let adds = (c.in_ok-extend_from_slice-in-Ok).ensures.items ∙ ap (λ more. c.loop-i.hits.items ++ more) c.deref.ensures.value in
-    let now = ap (is_enough which) (sym c.deref-in-loop-i.ensures.value) ∙ (sym c.is_enough.ensures ∙ c.if-is_enough.false) in
-    let next = part_next c.args.first c.loop-i.i c.args.each in (
-      ap (λ s. asked which (c.extend_from_slice.new.self.items ++ hits_from o target s (c.args.end - s))) next
-          ∙ part_passes which o target start c.args.end c.args.each c.loop-i.hits.items _ c.extend_from_slice.new.self.items _ adds found
-          c.loop-i.invariant.0 c.loop-i.invariant.1 now,
-      now,
-    )
+    let next = part_next c.args.first c.loop-i.i c.args.each in
+    ap (λ s. asked which (c.extend_from_slice.new.self.items ++ hits_from o target s (c.args.end - s))) next
+    ∙ part_adds which o target start c.args.end c.args.each c.loop-i.hits.items _ c.extend_from_slice.new.self.items _ adds
+    c.loop-i.invariant found
 
 pub returns-clause-hits : goal.returns-clause-hits
 returns-clause-hits g c =
     let past = parts_past c.args.first c.loop-i.i c.args.parts c.args.each c.args.end c.requires.all (omega (arith, c.loop-i-test.false)) in
-    all_found c.args.search.which c.args.search.options.now c.args.search.goal.now c.loop-i.hits.items _
-    (c.args.first + c.loop-i.i * c.args.each) _ past c.loop-i.invariant.0 c.loop-i.invariant.1
+    c.cut-2.ensures
+    ∙ all_found c.args.search.which c.args.search.options.now c.args.search.goal.now c.loop-i.hits.items _
+    (c.args.first + c.loop-i.i * c.args.each) _ past c.loop-i.invariant

@@ -1,7 +1,7 @@
 use Rattle.std.proofs.Common.{◌∙◌, ◌+◌, ◌-◌, ◌++◌, ap, arith, sym}
 use Rattle.ct_find.specs.Hits.{hits_from}
 use Rattle.ct_find.specs.Searching.{asked, is_enough}
-use Rattle.ct_find.proofs.Asked.{all_found, part_ends, part_passes}
+use Rattle.ct_find.proofs.Asked.{all_found, enough, part_adds}
 use Rattle.ct_find.proofs.searching.hits_in_threads.Goals as goal
 
 pub returns-then-is_enough-clause-hits : goal.returns-then-is_enough-clause-hits
@@ -13,9 +13,11 @@ returns-then-is_enough-clause-hits g c =
     let found = c.in_ok-more.ensures.hits
     ∙ ap (λ stop. asked which (hits_from o target next (stop - next))) c.min-stop.ensures in
     let adds = c.in_ok-extend_from_slice.ensures.items ∙ ap (λ more. c.loop-next.hits.items ++ more) c.deref.ensures.value in
+    let more = part_adds which o target next (c.from-end.result + 1) c.seeds_in_block-block.result c.loop-next.hits.items
+    c.in_ok-more.more.items
+    c.extend_from_slice.new.self.items _ adds c.loop-next.invariant found in
     let now = ap (is_enough which) (sym c.deref-in-loop-next.ensures.value) ∙ (sym c.is_enough.ensures ∙ c.if-is_enough.true) in
-    part_ends which o target next (c.from-end.result + 1) c.seeds_in_block-block.result c.loop-next.hits.items c.in_ok-more.more.items
-    c.extend_from_slice.new.self.items _ adds found c.loop-next.invariant.0 c.loop-next.invariant.1 now
+    c.cut.ensures ∙ enough which _ _ _ now more
 
 pub loop-next-preserved : goal.loop-next-preserved
 loop-next-preserved g c =
@@ -26,13 +28,11 @@ loop-next-preserved g c =
     let found = c.in_ok-more.ensures.hits
     ∙ ap (λ stop. asked which (hits_from o target next (stop - next))) c.min-stop.ensures in
     let adds = c.in_ok-extend_from_slice.ensures.items ∙ ap (λ more. c.loop-next.hits.items ++ more) c.deref.ensures.value in
-    let now = ap (is_enough which) (sym c.deref-in-loop-next.ensures.value) ∙ (sym c.is_enough.ensures ∙ c.if-is_enough.false) in (
-      part_passes which o target next (c.from-end.result + 1) c.seeds_in_block-block.result c.loop-next.hits.items c.in_ok-more.more.items
-          c.extend_from_slice.new.self.items _ adds found c.loop-next.invariant.0 c.loop-next.invariant.1 now,
-      now,
-    )
+    part_adds which o target next (c.from-end.result + 1) c.seeds_in_block-block.result c.loop-next.hits.items c.in_ok-more.more.items
+    c.extend_from_slice.new.self.items _ adds c.loop-next.invariant found
 
 pub returns-clause-hits : goal.returns-clause-hits
 returns-clause-hits g c =
-    all_found c.args.search.which c.args.search.options.now c.args.search.goal.now c.loop-next.hits.items _ c.loop-next.next _
-    (omega (arith, c.loop-next-test.false)) c.loop-next.invariant.0 c.loop-next.invariant.1
+    c.cut-2.ensures
+    ∙ all_found c.args.search.which c.args.search.options.now c.args.search.goal.now c.loop-next.hits.items _ c.loop-next.next _
+    (omega (arith, c.loop-next-test.false)) c.loop-next.invariant

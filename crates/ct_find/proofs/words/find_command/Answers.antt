@@ -2,6 +2,7 @@ use Rattle.std.proofs.Common.{ap, ◌∙◌}
 use Rattle.std.proofs.lemmas.Result.{IfOk-weaker}
 use Rattle.ct_streams.proofs.Options.{with_option}
 use Rattle.ct_walk.specs.Line.{with_search_rules}
+use Rattle.ct_find.specs.Line.{with_best_rules}
 use Rattle.ct_find.proofs.words.find_command.Goals as goal
 
 pub returns : goal.returns
@@ -12,5 +13,5 @@ returns c =
     let jobs = with_option _ _ _ _ _ c.in_ok-arg-3.ensures c.jobs_arg.ensures.local seeds c.jobs_arg.ensures.rule in
     let quiet = with_option _ _ _ _ _ c.in_ok-arg-4.ensures c.flag.ensures.local jobs c.flag.ensures.rule in
     let count = with_option _ _ _ _ _ c.in_ok-arg-5.ensures c.flag-2.ensures.local quiet c.flag-2.ensures.rule in
-    IfOk-weaker c.arg-6.result _ _
-    (λ r adds. with_option _ _ _ _ _ adds c.in_ok-json_arg.ensures.local count c.in_ok-json_arg.ensures.rule) c.arg-6.ensures
+    let json = with_option _ _ _ _ _ c.in_ok-command.ensures c.in_ok-asking_flag.ensures.local count c.in_ok-asking_flag.ensures.rule in
+    IfOk-weaker c.with_best_options.result _ _ (λ r adds. adds ∙ ap with_best_rules json) c.with_best_options.ensures

@@ -1,0 +1,11 @@
+use Rattle.std.proofs.Common.{ap, false, ◌∙◌}
+use Rattle.std.proofs.lemmas.Result.{IfOk-weaker}
+use Rattle.clap.specs.Words.{Rule, rule_of}
+use Rattle.ct_walk.proofs.Bound.{asks_rule}
+use Rattle.ct_find.proofs.words.tries_arg.Goals as goal
+
+pub returns-clause-rule : goal.returns-clause-rule
+returns-clause-rule c = IfOk-weaker c.requires_arg.result _ _ (λ tries adds. asks_rule c.value_name.result tries _ adds
+    ∙ ap (λ (rule : Rule). record rule { is_free = false })
+    (ap rule_of c.value_name.ensures ∙ ap (λ (rule : Rule). record rule { value_names = 1 }) c.default_option.ensures.rule))
+    c.requires_arg.ensures
