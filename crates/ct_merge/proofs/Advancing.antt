@@ -16,7 +16,7 @@ first_of : (a b : Bool) → (a && b) ≡ true → a ≡ true
 first_of true b e = refl
 first_of false b e = absurd (cc)
 
-positive : (n p : ℕ) → is_member n p ≡ true → 1 ≤ p
+pub positive : (n p : ℕ) → is_member n p ≡ true → 1 ≤ p
 positive n p e = leb-true 1 p (first_of (nat_le 1 p) (nat_le p n) e)
 
 taken_as : (old new : Rehearsal) (p : ℕ) (log : List LogLine) (a b : ℕ) → own new p ≡ own old p → b ≡ a → IsTakenTo old p log a →

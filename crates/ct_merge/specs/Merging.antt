@@ -3,6 +3,7 @@ use Rattle.std.specs.Prelude.{◌≡◌, ◌≢◌, ℕ, ◌-◌, ◌≤◌, tru
 use Rattle.std.specs.Global.{Vec}
 use Rattle.ct_names.specs.Group.{is_member}
 use Rattle.ct_model.specs.Rehearsal.{Rehearsal}
+use Rattle.ct_model.specs.Setting.{Setting}
 use Rattle.ct_model.specs.declared.step.Step.{Step}
 use Rattle.ct_model.specs.declared.step.Step.TheVariants as step
 use Rattle.ct_grammar.specs.declared.act.Act.{Act}
@@ -84,6 +85,16 @@ count_of counts p = slice_index counts (p - 1)
 abbrev pub IsTakenFrom : List (Vec LogLine) → Taken → Type 0
 IsTakenFrom logs t = (p : ℕ) → is_member t.rehearsal.setting.members p ≡ true →
     IsTakenTo t.rehearsal p (log_of logs p) (count_of t.counts p)
+
+-- the logs of a group, which may grow
+pub record Growing : Type 0 where
+  pub setting : Setting
+  pub cells : ℕ
+  pub logs : List (Vec LogLine)
+
+-- it has no line
+abbrev pub IsBare : Vec LogLine → Type 0
+IsBare log = log.items ≡ []
 
 -- the logs of the first n members have no more lines than were taken
 abbrev pub IsWholeTo : List (Vec LogLine) → List ℕ → ℕ → Type 0

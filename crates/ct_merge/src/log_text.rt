@@ -1,7 +1,8 @@
 //! Logs as texts.
 
-ghost use Rattle.std.specs.Prelude.{◌≡◌, ◌<◌, ◌^◌, ◌+◌, Ok, OnOk, IfOk, IfErr, length};
-ghost use Rattle.ct_merge.specs.Texts.{IsFaultIn, after_entry, after_line, after_lines, after_told, entry_in_text, log_in, whole_lines};
+ghost use Rattle.std.specs.Prelude.{◌≡◌, ◌<◌, ◌^◌, ◌+◌, [], Ok, OnOk, IfOk, IfErr, length};
+ghost use Rattle.ct_merge.specs.Texts.{IsFaultIn, after_entry, after_line, after_lines, after_told, beginning, entry_in_text, log_in};
+ghost use Rattle.ct_merge.specs.Texts.{whole_lines};
 ghost use Rattle.ct_grammar.specs.Texts.{text_in};
 
 use crate::entering::entry_in;
@@ -13,6 +14,7 @@ use ct_grammar::{behind, first_feed, text_in};
 use ct_names::Member;
 use std::alloc::{AllocError, Global};
 use std::marker::Model;
+use std::mem;
 
 /// The log of a member, as its text says it.
 #[derive(Drop)]
@@ -42,6 +44,19 @@ impl Model for LogText {
 }
 
 impl LogText {
+    /// The log of which nothing is read yet.
+    pub fn new(alloc: Global) -> LogText
+        ensures { result ≡ beginning }
+    {
+        LogText {
+            member: None,
+            numbers: Numbers::new(),
+            lines: Vec::new(alloc),
+            places: Vec::new(alloc),
+            count: 0,
+        }
+    }
+
     /// Reads the text of a log, which is that of this member where its acts don't say whose it is. What stands behind its last line
     /// feed is torn, and left out.
     #[tactic(auto, unfolding(crate::specs::Texts::log_in))]
@@ -49,38 +64,14 @@ impl LogText {
         ensures ok { IfOk result (λ log. log_in member text.now ≡ Ok log) }
         ensures fault { IfErr result (IsFaultIn (log_in member text.now)) }
     {
-        let mut log = LogText {
-            member: None,
-            numbers: Numbers::new(),
-            lines: Vec::new(alloc),
-            places: Vec::new(alloc),
-            count: 0,
-        };
-        log.take_lines(alloc, member, text)?;
+        let mut log = LogText::new(alloc);
+        log.read_on(alloc, member, text)?;
         Ok(log)
     }
 
-    /// Whose log it is, where its acts say that; the numbers of the group, as far as it gives them; and its lines, each with its number
-    /// in the text, from 1.
-    pub fn into_parts(self) -> (Option<Member>, Numbers, Vec<LogLine>, Vec<usize>)
-        ensures member { result.0 ≡ self.member }
-        ensures numbers { result.1 ≡ self.numbers }
-        ensures lines { result.2.items ≡ self.lines }
-        ensures places { result.3.items ≡ self.places }
-    {
-        let LogText {
-            member,
-            numbers,
-            lines,
-            places,
-            count: _,
-        } = self;
-        (member, numbers, lines, places)
-    }
-
-    // Takes the lines of the text that a line feed ends.
+    /// Reads what comes next of the log, as far as line feeds end its lines. How it stands behind a fault is open.
     #[tactic(auto, using(crate::proofs::Reading::by_line))]
-    fn take_lines(&mut self, alloc: Global, member: Member, text: &[u8]) -> Result<(), LogFault>
+    pub fn read_on(&mut self, alloc: Global, member: Member, text: &[u8]) -> Result<(), LogFault>
         requires { self.old.count + length text.now < 2 ^ 63 }
         ensures ok { OnOk result (after_lines member self.old (whole_lines text.now) ≡ Ok self.new) }
         ensures fault { IfErr result (IsFaultIn (after_lines member self.old (whole_lines text.now))) }
@@ -91,6 +82,30 @@ impl LogText {
             rest = behind(rest, end);
         }
         Ok(())
+    }
+
+    /// How many lines of the text are over.
+    pub fn count(&self) -> usize
+        ensures { result ≡ self.now.count }
+    {
+        self.count
+    }
+
+    /// Whose log it is, where its acts say that; the numbers of the group, as far as it gives them; and its lines, each with its number
+    /// in the text, from 1. They are let go here: the next time those come that are read from now on.
+    pub fn take_parts(
+        &mut self,
+        alloc: Global,
+    ) -> (Option<Member>, Numbers, Vec<LogLine>, Vec<usize>)
+        ensures member { result.0 ≡ self.old.member }
+        ensures numbers { result.1 ≡ self.old.numbers }
+        ensures lines { result.2.items ≡ self.old.lines }
+        ensures places { result.3.items ≡ self.old.places }
+        ensures rest { self.new ≡ record self.old { lines = []; places = [] } }
+    {
+        let lines = mem::replace(&mut self.lines, Vec::new(alloc));
+        let places = mem::replace(&mut self.places, Vec::new(alloc));
+        (self.member, self.numbers, lines, places)
     }
 
     // Takes a line.

@@ -40,9 +40,9 @@ pub fn merge(alloc: Global, setup: Setup, logs: &[Vec<LogLine>]) -> Result<Verdi
     judge(progress, logs)
 }
 
-// Takes the lines, and says what they come to.
+/// Takes the lines, and says what they come to.
 #[tactic(auto, using(crate::proofs::Verdicts::none_accepted, crate::proofs::Halting::is_culprit))]
-fn judge(progress: Progress, logs: &[Vec<LogLine>]) -> Result<Verdict, LineFault>
+pub(crate) fn judge(progress: Progress, logs: &[Vec<LogLine>]) -> Result<Verdict, LineFault>
     requires { IsTakenFrom logs.now progress }
     ensures merged { IfOk result (λ verdict. IfAccepted verdict (λ w. IsMerge w logs.now)) }
     ensures group { IfOk result (λ verdict. IfAccepted verdict (IsSameGroup progress.rehearsal)) }

@@ -1,6 +1,6 @@
 //! Lines of logs, taken one by one.
 
-ghost use Rattle.std.specs.Prelude.{◌≡◌, [], true, false, Ok, None, Some, IfErr, IfOk, IfSome, OnOk};
+ghost use Rattle.std.specs.Prelude.{◌≡◌, ◌≤◌, [], length, true, false, Ok, None, Some, IfErr, IfOk, IfSome, OnOk};
 ghost use Rattle.ct_model.specs.Cause.{cause};
 ghost use Rattle.ct_model.specs.Lawful.{IsLawful};
 ghost use Rattle.ct_model.specs.Rehearsal.{extended};
@@ -26,6 +26,9 @@ use ct_world::{Setup, World};
 use indexmap::IndexMap;
 use std::alloc::Global;
 use std::marker::Model;
+
+// How many lines of a log are taken before the next log's.
+const LINES_OF_A_TURN: usize = 8;
 
 /// A world into which the lines of logs are taken, with the serial of each envelope by its receiver and its full name.
 #[derive(Drop)]
@@ -76,8 +79,8 @@ impl Taker {
         stage.into_world()
     }
 
-    /// Takes the lines of the member's log, of which so many were taken, as far as they go. The first of the others waits for an
-    /// envelope that was not sent, or is refused.
+    /// Takes some next lines of the member's log, of which so many were taken: none only where the first of the others waits for an
+    /// envelope that was not sent, or is refused, or there is none.
     #[tactic(auto, using(crate::proofs::Stopping::stuck_in))]
     pub(crate) fn take_on(
         &mut self,
@@ -92,7 +95,7 @@ impl Taker {
         ensures stuck { IfErr result (λ fault. UnlessShort (is_short (line_fault_of fault))
             (IsStuckIn self.old member log.now count.new fault)) }
     {
-        for place in *count..log.len() {
+        for place in *count..end_of(log, *count) {
             if !self.take(member, &log[place])? {
                 return Ok(());
             }
@@ -220,6 +223,15 @@ impl Taker {
         }
         Ok(())
     }
+}
+
+// How far lines of the log are taken at a time, of which so many were taken. In turns of few lines the lines of waiting envelopes
+// stay short.
+fn end_of(log: &[LogLine], count: usize) -> usize
+    ensures within { result ≤ length log.now }
+    ensures more { count ≤ length log.now → count ≤ result }
+{
+    log.len().min(count.saturating_add(LINES_OF_A_TURN))
 }
 
 /// A world's record is a run.

@@ -1,6 +1,9 @@
 //! The logs of members, read and merged.
 
-use ct_merge::{LogFault, LogLine, LogText, Verdict, Why, merge};
+ghost use Rattle.std.specs.Prelude.{◌≡◌};
+ghost use Rattle.ct_world.specs.Setup.{setting_of};
+
+use ct_merge::{Culprit, LogFault, LogLine, LogText, Merger, Verdict, Why, merge};
 use ct_names::{Group, Member};
 use ct_world::Setup;
 use std::alloc::{AllocError, Global};
@@ -139,8 +142,8 @@ fn read(alloc: Global, texts: &[&str]) -> Result<Read, Fail> {
     let mut member: Member = 1;
     for text in texts {
         match LogText::read(alloc, member, text.as_bytes()) {
-            Ok(log) => {
-                let (_, _, lines, numbers) = log.into_parts();
+            Ok(mut log) => {
+                let (_, _, lines, numbers) = log.take_parts(alloc);
                 logs.push(lines)?;
                 places.push(numbers)?;
             }
@@ -160,46 +163,121 @@ fn number(places: &[Vec<usize>], member: Member, place: usize) -> usize {
     numbers.get(place).copied().unwrap_or(0)
 }
 
+// The group of three.
+fn setup() -> Option<Setup> {
+    Setup::new(Group::new(3)?, 64, 16)
+}
+
+// Where the logs stand; None where that can't be said.
+fn stand(places: &[Vec<usize>], culprit: &Culprit) -> Option<Came> {
+    let member = culprit.member;
+    let at = number(places, member, culprit.place);
+    match culprit.why {
+        Why::Fault(_) => Some(Came::Fault(member, at)),
+        Why::Never(_) => Some(Came::Never(member, at)),
+        Why::Circle => Some(Came::Circle(member, at)),
+        Why::Ended(_) => Some(Came::Cut(member, at)),
+    }
+}
+
+// What the logs come to, of which this is said.
+fn verdict_came(places: &[Vec<usize>], verdict: &Verdict) -> Option<Came> {
+    match verdict {
+        Verdict::Accepted(world) => Some(Came::Accepted(world.record().len())),
+        Verdict::Refused(culprit) if matches!(culprit.why, Why::Ended(_)) => None,
+        Verdict::Refused(culprit) | Verdict::Cut(culprit) => stand(places, culprit),
+    }
+}
+
 // What the texts come to as logs of a group of three; None where that can't be said.
 fn came_to(alloc: Global, texts: &[&str]) -> Result<Option<Came>, Fail> {
     let (logs, places) = match read(alloc, texts)? {
         Ok(read) => read,
         Err(at) => return Ok(Some(Came::NoLog(at))),
     };
-    let Some(group) = Group::new(3) else {
-        return Ok(None);
-    };
-    let Some(setup) = Setup::new(group, 64, 16) else {
+    let Some(setup) = setup() else {
         return Ok(None);
     };
     if logs.len() > usize::from(setup.group.n()) {
         return Ok(None);
     }
-    Ok(match merge(alloc, setup, &logs) {
-        Ok(Verdict::Accepted(world)) => Some(Came::Accepted(world.record().len())),
-        Ok(Verdict::Refused(culprit)) => {
-            let at = number(&places, culprit.member, culprit.place);
-            match culprit.why {
-                Why::Fault(_) => Some(Came::Fault(culprit.member, at)),
-                Why::Never(_) => Some(Came::Never(culprit.member, at)),
-                Why::Circle => Some(Came::Circle(culprit.member, at)),
-                Why::Ended(_) => None,
-            }
-        }
-        Ok(Verdict::Cut(culprit)) => {
-            Some(Came::Cut(
-                culprit.member,
-                number(&places, culprit.member, culprit.place),
-            ))
-        }
+    match merge(alloc, setup, &logs) {
+        Ok(verdict) => Ok(verdict_came(&places, &verdict)),
+        Err(_) => Ok(None),
+    }
+}
+
+// Logs of the group of the setup that grow.
+#[derive(Drop)]
+struct Grown {
+    setup: Setup,
+    merger: Merger,
+    ghost group: { merger.setting ≡ setting_of setup },
+}
+
+// With a line more in the member's log, or where that is refused; None where that can't be said.
+fn with(grown: Grown, member: Member, line: LogLine) -> Option<Result<Grown, Culprit>> {
+    let Grown { setup, mut merger } = grown;
+    if !setup.group.has(member) || merger.push(member, line).is_err() {
+        return None;
+    }
+    match merger.go_on() {
+        Ok(Ok(merger)) => Some(Ok(Grown { setup, merger })),
+        Ok(Err(culprit)) => Some(Err(culprit)),
         Err(_) => None,
-    })
+    }
+}
+
+// No log has a line; None where that can't be said.
+fn bare(alloc: Global, setup: Setup) -> Option<Grown> {
+    let same = setup;
+    match Merger::new(alloc, setup) {
+        Ok(merger) => Some(Grown {
+            setup: same,
+            merger,
+        }),
+        Err(_) => None,
+    }
+}
+
+// What the texts come to as logs that grow line by line; None where that can't be said.
+fn grew_to(alloc: Global, texts: &[&str]) -> Result<Option<Came>, Fail> {
+    let (logs, places) = match read(alloc, texts)? {
+        Ok(read) => read,
+        Err(at) => return Ok(Some(Came::NoLog(at))),
+    };
+    match grown_with(alloc, logs) {
+        None => Ok(None),
+        Some(Ok(verdict)) => Ok(verdict_came(&places, &verdict)),
+        Some(Err(culprit)) => Ok(stand(&places, &culprit)),
+    }
+}
+
+// What logs come to that grow line by line, or the line that is refused at once; None where that can't be said.
+fn grown_with(alloc: Global, logs: Vec<Vec<LogLine>>) -> Option<Result<Verdict, Culprit>> {
+    let mut grown = bare(alloc, setup()?)?;
+    let mut member: Member = 0;
+    for log in logs {
+        member = member.saturating_add(1);
+        for line in log {
+            grown = match with(grown, member, line)? {
+                Ok(grown) => grown,
+                Err(culprit) => return Some(Err(culprit)),
+            };
+        }
+    }
+    match grown.merger.end() {
+        Ok(verdict) => Some(Ok(verdict)),
+        Err(_) => None,
+    }
 }
 
 // The name of the first row that comes to something else.
 fn first_wrong(alloc: Global, rows: &[Row]) -> Result<Option<&'static str>, Fail> {
     for row in rows {
-        if came_to(alloc, row.texts)? != Some(row.came) {
+        if came_to(alloc, row.texts)? != Some(row.came)
+            || grew_to(alloc, row.texts)? != Some(row.came)
+        {
             return Ok(Some(row.name));
         }
     }

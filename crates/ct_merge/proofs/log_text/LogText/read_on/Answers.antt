@@ -4,7 +4,7 @@ use Rattle.ct_grammar.specs.Texts.{is_feed}
 use Rattle.ct_grammar.proofs.LineFeeds.{within_text}
 use Rattle.ct_merge.specs.Texts.{after_line, after_lines, whole_lines}
 use Rattle.ct_merge.proofs.Reading.{line_on}
-use Rattle.ct_merge.proofs.log_text.LogText.take_lines.Goals as goal
+use Rattle.ct_merge.proofs.log_text.LogText.read_on.Goals as goal
 
 pub loop-end-preserved : goal.loop-end-preserved
 loop-end-preserved c =

@@ -1,6 +1,6 @@
 use Rattle.std.proofs.Common.{◌≡◌, ◌≤◌, ◌+◌, length}
 use Rattle.ct_merge.specs.Texts.{after_lines, whole_lines}
-use Rattle.ct_merge.proofs.log_text.LogText.take_lines.Given as goal
+use Rattle.ct_merge.proofs.log_text.LogText.read_on.Given as goal
 
 abbrev pub invariant-loop-end : goal.invariant-loop-end
 invariant-loop-end l = record {
