@@ -1,12 +1,15 @@
 -- The words that `merge` takes. `clap` gives what its commands make of words.
-use Rattle.std.specs.Prelude.{true, List, [], ◌∷◌, codes, fold, Option, Some, None, if◌then◌else◌}
+use Rattle.std.specs.Prelude.{ℕ, true, false, List, [], ◌∷◌, codes, fold, Option, Some, None, Result, Ok, if◌then◌else◌}
 use Rattle.std.specs.Str.{bytes_eq}
 use Rattle.clap.specs.Words.{App, Row, Rule, Text, first_of, new_app, new_rule, with_rule}
 use Rattle.clap.specs.declared.builder.action.ArgAction.TheVariants.{Append}
 use Rattle.clap.specs.Lexer.{usize_max}
 use Rattle.ct_judge.specs.Line.{flag_rule}
+use Rattle.ct_streams.specs.Arguments.{value_rule}
+use Rattle.ct_streams.specs.Values.{◌>>=◌, number_for}
 use Rattle.ct_logs.specs.declared.form.Form.{Form}
 use Rattle.ct_logs.specs.declared.form.Form.TheVariants.{Schedule, Record}
+use Rattle.ct_logs.specs.declared.words.TheConstants.{MAX_IDLE}
 
 -- the names of one log or several
 abbrev pub logs_rule : Rule
@@ -17,9 +20,29 @@ logs_rule = record (new_rule (codes "files")) {
   range = Some (record { start_inclusive = 1; end_inclusive = usize_max });
 }
 
--- one log or several, and whether the run is written as a record
+-- an option with a value
+abbrev pub seconds_rule : Rule
+seconds_rule = record (value_rule (codes "idle")) { value_names = 1 }
+
+-- the same, which asks for another one beside it
+abbrev pub idle_rule : Rule
+idle_rule = record seconds_rule { is_free = false }
+
+-- one log or several, whether the run is written as a record, whether the logs are followed, and for how long without a line
 abbrev pub merge_app : App
-merge_app = fold with_rule (new_app (codes "merge")) (logs_rule ∷ flag_rule (codes "record") ∷ [])
+merge_app =
+    fold with_rule (new_app (codes "merge"))
+    (logs_rule ∷ flag_rule (codes "record") ∷ flag_rule (codes "follow") ∷ idle_rule ∷ [])
+
+abbrev pub idle_or_none : Option Text → Result (Option ℕ) Text
+idle_or_none None = Ok None
+idle_or_none (Some text) = do
+  idle ← number_for (codes "idle") 1 MAX_IDLE text
+  Ok (Some idle)
+
+-- the seconds that are given for `idle`, if they are; else the line of the fault
+abbrev pub idle_in : List Row → Result (Option ℕ) Text
+idle_in rows = idle_or_none (first_of (codes "idle") rows)
 
 -- the form that the text of an option with no value asks for
 abbrev pub form_of : Option Text → Form

@@ -9,6 +9,10 @@ use Rattle.ct_merge.specs.declared.log_line.LogLine.{LogLine}
 use Rattle.ct_logs.specs.declared.form.Form.{Form}
 use Rattle.ct_logs.specs.Writing.{IsTextOf}
 
+-- the record is a merge of some logs
+abbrev pub IsSomeMerge : Rehearsal → Type 0
+IsSomeMerge w = (logs : List (Vec LogLine)) × IsMerge w logs
+
 -- a run in which each member takes the steps of its log: it is the text in this form
 pub record IsRunOf (logs : List (Vec LogLine)) (form : Form) (text : List ℕ) : Type 0 where
   pub run : Rehearsal

@@ -5,7 +5,8 @@ use crate::log_set::{LogSet, name_at};
 use crate::naming::{line_at, push_line};
 use crate::torn::push_torn;
 use ct_grammar::Carried;
-use ct_merge::{Culprit, LogAct, Why, push_culprit};
+use ct_merge::{Culprit, FullName, LogAct, LogFault, LogText, Why, push_culprit};
+use ct_names::Member;
 use std::alloc::{AllocError, Global};
 
 // What is told of the line: its file, its number, its text, and why it is not taken; then of last lines that are torn.
@@ -27,7 +28,7 @@ pub(crate) fn told_of(
         line_at(bytes, number),
     )?;
     push_culprit(&mut text, &culprit)?;
-    push_instead(alloc, &mut text, names, set, &culprit)?;
+    push_instead(alloc, &mut text, names, texts, set, &culprit)?;
     push_torn(&mut text, names, texts)?;
     Ok(text)
 }
@@ -37,6 +38,7 @@ fn push_instead(
     alloc: Global,
     text: &mut String,
     names: &[&str],
+    texts: &[Vec<u8>],
     set: &LogSet,
     culprit: &Culprit,
 ) -> Result<(), AllocError> {
@@ -49,7 +51,10 @@ fn push_instead(
     else {
         return Ok(());
     };
-    let Some(LogAct::Receive(name)) = set.act(*member, *place) else {
+    let file = set.file(*member).unwrap_or(0);
+    let number = set.number(*member, *place).unwrap_or(0);
+    let line = line_at(text_at(texts, file), number);
+    let Some(name) = received(alloc, *member, line)? else {
         return Ok(());
     };
     let Some(reply) = sent_instead(alloc, world, *member, name)? else {
@@ -67,6 +72,31 @@ fn push_reply(text: &mut String, carried: Carried) -> Result<(), AllocError> {
         Carried::Ack(instance, round) => write!(text, "ack {instance}/{round}"),
         Carried::Nack(instance, round) => write!(text, "nack {instance}/{round}"),
         _ => Ok(()),
+    }
+}
+
+// The full name of the envelope that the line of the member's log receives.
+fn received(alloc: Global, member: Member, line: &[u8]) -> Result<Option<FullName>, AllocError> {
+    let mut text = Vec::new(alloc);
+    text.extend_from_slice(line)?;
+    text.push(b'\n')?;
+    let mut log = match LogText::read(alloc, member, &text) {
+        Ok(log) => log,
+        Err(LogFault::Memory) => return Err(AllocError),
+        Err(LogFault::Line(..)) => return Ok(None),
+    };
+    let (_, _, lines, _) = log.take_parts(alloc);
+    match lines.first() {
+        Some(line) => Ok(name_in(line.act)),
+        None => Ok(None),
+    }
+}
+
+// The full name of the envelope that the act receives.
+fn name_in(act: LogAct) -> Option<FullName> {
+    match act {
+        LogAct::Receive(name) => Some(name),
+        _ => None,
     }
 }
 

@@ -51,6 +51,15 @@ impl GroupNumbers {
         }
     }
 
+    // Those with which the world is made.
+    pub(crate) fn of(setup: Setup) -> GroupNumbers {
+        GroupNumbers {
+            members: Some(u32::from(setup.group.n())),
+            cells: Some(u32::from(setup.cells)),
+            batch: Some(setup.bound),
+        }
+    }
+
     // With those of the log in the file of this name, unless one is out of its range or another than was given.
     pub(crate) fn with(
         self,

@@ -2,23 +2,29 @@
 #![tactic(auto)]
 
 mod culprit;
+mod ending;
+mod following;
 mod form;
 mod group_numbers;
+mod growth;
 mod instead;
 mod log_set;
 mod merge_fault;
 mod misfit;
 mod naming;
 mod no_entry;
+mod pace;
 mod reading;
 mod running;
 mod seen;
 mod showing;
+mod tail;
 mod torn;
 mod words;
 mod writing;
 
 pub use form::Form;
 pub use merge_fault::MergeFault;
-pub use running::merge_logs;
-pub use words::{merge_command, merge_form};
+pub use pace::Pace;
+pub use running::{follow_logs, merge_logs};
+pub use words::{MAX_IDLE, merge_command, merge_form, merge_idle};

@@ -6,10 +6,11 @@ use crate::group_numbers::GroupNumbers;
 use crate::misfit::Misfit;
 use crate::naming::{line_at, push_line};
 use crate::no_entry::push_no_entry;
-use ct_merge::{LogAct, LogFault, LogLine, LogText, NoEntry};
+use ct_merge::{LogFault, LogLine, LogText, NoEntry, Numbers};
 use ct_names::{MAX_MEMBERS, Member};
 use ct_world::Setup;
 use std::alloc::{AllocError, Global};
+use std::mem;
 
 // The logs of members, each in its member's place.
 #[derive(Drop)]
@@ -35,7 +36,7 @@ impl LogSet {
     }
 
     // No log.
-    fn new(alloc: Global) -> Result<LogSet, AllocError> {
+    pub(crate) fn new(alloc: Global) -> Result<LogSet, AllocError> {
         let mut set = LogSet {
             numbers: GroupNumbers::new(),
             last: 1,
@@ -82,44 +83,101 @@ impl LogSet {
         self.places.get(at)?.get(place).copied()
     }
 
-    // What the member did by the line at this place of its log.
-    pub(crate) fn act(&self, member: Member, place: usize) -> Option<LogAct> {
-        let at = usize::from(member).checked_sub(1)?;
-        let line = self.logs.get(at)?.get(place)?;
-        Some(line.act)
-    }
-
     // Takes the text as the log in the file of this name, at this place among the files.
     fn take(&mut self, alloc: Global, name: &str, file: usize, text: &[u8]) -> Result<(), Misfit> {
-        let Some(position) = member_at(file) else {
-            let told = format!(in alloc; "{name}: a group has no more than {MAX_MEMBERS} members")?;
-            return Err(Misfit::Told(told));
-        };
-        let log = read_log(alloc, name, position, text)?;
-        let (member, numbers, lines, places) = log.into_parts();
-        self.numbers = self.numbers.with(alloc, name, numbers)?;
+        let position = position_of(alloc, name, file)?;
+        let mut log = read_log(alloc, name, position, text)?;
+        let (member, numbers, lines, places) = log.take_parts(alloc);
+        self.number_group(alloc, name, numbers)?;
         let member = member.unwrap_or(position);
-        if self.file(member).is_some() {
+        self.claim(alloc, name, file, member)?;
+        self.put(member, lines, places);
+        Ok(())
+    }
+
+    // Takes the numbers of the group that the log in the file of this name gives.
+    pub(crate) fn number_group(
+        &mut self,
+        alloc: Global,
+        name: &str,
+        numbers: Numbers,
+    ) -> Result<(), Misfit> {
+        self.numbers = self.numbers.with(alloc, name, numbers)?;
+        Ok(())
+    }
+
+    // The log in the file of this name, at this place among the files, is the member's, unless another file has that.
+    pub(crate) fn claim(
+        &mut self,
+        alloc: Global,
+        name: &str,
+        file: usize,
+        member: Member,
+    ) -> Result<(), Misfit> {
+        if self.file(member).is_some_and(|other| other != file) {
             let told = format!(in alloc; "{name}: member {member}'s log, as a file before it")?;
             return Err(Misfit::Told(told));
         }
-        self.put(file, member, lines, places);
+        self.last = self.last.max(member);
+        if let Some(kept) = self.files.get_mut(usize::from(member).saturating_sub(1)) {
+            *kept = Some(file);
+        }
         Ok(())
     }
 
     // Puts the member's log in its place.
-    fn put(&mut self, file: usize, member: Member, lines: Vec<LogLine>, places: Vec<usize>) {
-        self.last = self.last.max(member);
+    fn put(&mut self, member: Member, lines: Vec<LogLine>, places: Vec<usize>) {
         let at = usize::from(member).saturating_sub(1);
-        if let Some(kept) = self.files.get_mut(at) {
-            *kept = Some(file);
-        }
         if let Some(kept) = self.logs.get_mut(at) {
             *kept = lines;
         }
         if let Some(kept) = self.places.get_mut(at) {
             *kept = places;
         }
+    }
+
+    // The member's log goes on with lines that have these numbers in its file.
+    pub(crate) fn add_places(
+        &mut self,
+        member: Member,
+        places: &[usize],
+    ) -> Result<(), AllocError> {
+        let at = usize::from(member).saturating_sub(1);
+        match self.places.get_mut(at) {
+            Some(kept) => Ok(kept.extend_from_slice(places)?),
+            None => Ok(()),
+        }
+    }
+
+    // The member's log goes on with these lines.
+    pub(crate) fn add_lines(
+        &mut self,
+        member: Member,
+        lines: Vec<LogLine>,
+    ) -> Result<(), AllocError> {
+        let at = usize::from(member).saturating_sub(1);
+        let Some(kept) = self.logs.get_mut(at) else {
+            return Ok(());
+        };
+        for line in lines {
+            if kept.push(line).is_err() {
+                return Err(AllocError);
+            }
+        }
+        Ok(())
+    }
+
+    // The lines of the member's log, which has none from here on.
+    pub(crate) fn take_lines(&mut self, alloc: Global, member: Member) -> Vec<LogLine> {
+        match self.logs.get_mut(usize::from(member).saturating_sub(1)) {
+            Some(kept) => mem::replace(kept, Vec::new(alloc)),
+            None => Vec::new(alloc),
+        }
+    }
+
+    // The numbers of the group are settled: those that no log gives are the usual ones.
+    pub(crate) fn settle(&mut self, setup: Setup) {
+        self.numbers = GroupNumbers::of(setup);
     }
 
     // What a world of the group is made with, where the logs are of its members.
@@ -134,6 +192,17 @@ impl LogSet {
             return Err(Misfit::Told(told));
         }
         Ok(setup)
+    }
+}
+
+// The member whose log the file at this place is, where its acts don't say whose it is.
+pub(crate) fn position_of(alloc: Global, name: &str, file: usize) -> Result<Member, Misfit> {
+    match member_at(file) {
+        Some(member) => Ok(member),
+        None => {
+            let told = format!(in alloc; "{name}: a group has no more than {MAX_MEMBERS} members")?;
+            Err(Misfit::Told(told))
+        }
     }
 }
 
@@ -156,12 +225,32 @@ pub(crate) fn name_at<'a>(names: &[&'a str], place: usize) -> &'a str {
 
 // The log of the text; the member's where its acts don't say whose it is.
 fn read_log(alloc: Global, name: &str, member: Member, text: &[u8]) -> Result<LogText, Misfit> {
+    refuse_record(alloc, name, text)?;
     match LogText::read(alloc, member, text) {
         Ok(log) => Ok(log),
-        Err(LogFault::Line(at, why)) => {
-            Err(Misfit::Told(unread(alloc, name, at, line_at(text, at), &why)?))
+        Err(fault) => Err(misfit_of(alloc, name, text, fault)),
+    }
+}
+
+// A record is no log.
+pub(crate) fn refuse_record(alloc: Global, name: &str, text: &[u8]) -> Result<(), Misfit> {
+    match text {
+        [b'{', ..] => {
+            let told = format!(in alloc; "{name}: this is a record, not the log of a member")?;
+            Err(Misfit::Told(told))
         }
-        Err(LogFault::Memory) => Err(Misfit::Memory),
+        _ => Ok(()),
+    }
+}
+
+// What is told of a text that is no log.
+pub(crate) fn misfit_of(alloc: Global, name: &str, text: &[u8], fault: LogFault) -> Misfit {
+    match fault {
+        LogFault::Line(at, why) => match unread(alloc, name, at, line_at(text, at), &why) {
+            Ok(told) => Misfit::Told(told),
+            Err(_) => Misfit::Memory,
+        },
+        LogFault::Memory => Misfit::Memory,
     }
 }
 

@@ -34,9 +34,7 @@ fn read_text<F: Files>(alloc: Global, files: &F, name: &str) -> Result<Vec<u8>, 
         Err(fault) => return Err(unread(alloc, name, fault)),
     };
     match bytes_of(alloc, reader) {
-        Ok(bytes) if bytes.len() > MAX_LEN => {
-            Err(MergeFault::NoLogs(format!(in alloc; "{name}: too long")?))
-        }
+        Ok(bytes) if bytes.len() > MAX_LEN => Err(too_long(alloc, name)),
         Ok(bytes) => Ok(bytes),
         Err(InputFault::Reader) => Err(unread(alloc, name, FileFault::Read)),
         Err(InputFault::Memory) => Err(MergeFault::Memory),
@@ -51,8 +49,18 @@ fn bytes_of<R: Source + Drop>(alloc: Global, reader: R) -> Result<Vec<u8>, Input
     read_all(alloc, &mut reader)
 }
 
+// A file that has more bytes than a log.
+pub(crate) fn too_long(alloc: Global, name: &str) -> MergeFault
+    ensures { result ≢ MergeFault.Write }
+{
+    match format!(in alloc; "{name}: too long") {
+        Ok(text) => MergeFault::NoLogs(text),
+        Err(_) => MergeFault::Memory,
+    }
+}
+
 // A file that is not read.
-fn unread(alloc: Global, name: &str, fault: FileFault) -> MergeFault
+pub(crate) fn unread(alloc: Global, name: &str, fault: FileFault) -> MergeFault
     ensures { result ≢ MergeFault.Write }
 {
     match told(alloc, name, fault) {

@@ -3,12 +3,15 @@
 ghost use Rattle.std.specs.Prelude.{◌≡◌, false, IfOk, option_map};
 ghost use Rattle.clap.specs.Words.{app_of, found_of, rows_of, rule_of};
 ghost use Rattle.ct_judge.specs.Line.{flag_rule};
-ghost use Rattle.ct_logs.specs.Line.{form_in, form_of, logs_rule, merge_app};
+ghost use Rattle.ct_logs.specs.Line.{form_in, form_of, idle_in, idle_or_none, idle_rule, logs_rule, merge_app, seconds_rule};
 
 use crate::form::Form;
 use clap::{Arg, ArgAction, ArgMatches, Command};
-use ct_streams::subcommand;
+use ct_streams::{WordFault, number_for, subcommand, value_option};
 use std::alloc::{AllocError, Global};
+
+/// For how many seconds logs may be followed at most without a line.
+pub const MAX_IDLE: u32 = 86_400;
 
 // What stands after the options.
 const AFTER: &str = "A log has the lines of one member, in its order:
@@ -19,9 +22,15 @@ const AFTER: &str = "A log has the lines of one member, in its order:
 
 The first log is member 1's, unless its acts name another member, and so on.
 
+With --follow logs are read as they grow, and judged once the log that gives
+members has an act. A line that is refused whatever comes is told at once, all
+else in the end: once each log ends with a crash, or after S seconds without a
+line. ^C ends it, with nothing told.
+
 Examples:
   ct_tool merge 1.log 2.log 3.log > run.schedule
   ct_tool merge --record *.log | ct_tool report
+  ct_tool merge --follow --idle 10 *.log > run.schedule
 
 Status:
   0  the logs are accepted, and their run was written
@@ -50,7 +59,13 @@ pub fn merge_command<'a>(alloc: Global) -> Result<Command<'a>, AllocError>
         alloc,
         "record",
         "Writes the run as a record, in place of a schedule",
-    ))
+    ))?
+    .arg(flag(
+        alloc,
+        "follow",
+        "Reads the logs as they grow, and refuses at once",
+    ))?
+    .arg(idle(alloc)?)
 }
 
 // One log or several.
@@ -66,6 +81,26 @@ fn logs<'a>(alloc: Global) -> Arg<'a>
         .help("The files that the members' logs stand in; - for standard input")
 }
 
+// After how long a while without a line logs are taken to be over that are followed.
+fn idle<'a>(alloc: Global) -> Result<Arg<'a>, AllocError>
+    ensures rule { IfOk result (λ idle. rule_of idle ≡ idle_rule) }
+    ensures local { IfOk result (λ idle. idle.global ≡ false) }
+{
+    seconds(alloc).requires_arg("follow")
+}
+
+fn seconds<'a>(alloc: Global) -> Arg<'a>
+    ensures rule { rule_of result ≡ seconds_rule }
+    ensures local { result.global ≡ false }
+{
+    value_option(
+        alloc,
+        "idle",
+        "Takes logs that are followed to be over after S\nseconds without a line, 1 to 86400",
+    )
+    .value_name("S")
+}
+
 // An option with no value.
 fn flag<'a>(alloc: Global, name: &'a str, help: &'a str) -> Arg<'a>
     ensures rule { rule_of result ≡ flag_rule name.entry.now }
@@ -73,6 +108,22 @@ fn flag<'a>(alloc: Global, name: &'a str, help: &'a str) -> Arg<'a>
 {
     let option = Arg::new(alloc, name).long(name).help(help);
     option.action(ArgAction::SetTrue)
+}
+
+/// After how many seconds without a line logs that are followed are over, where that is given.
+pub fn merge_idle<'a>(found: &'a ArgMatches<'_>) -> Result<Option<u32>, WordFault<'a>>
+    ensures { result ≡ idle_in (rows_of (found_of found.now)) }
+{
+    idle_or_none(found.get_str("idle"))
+}
+
+fn idle_or_none<'a>(text: Option<&'a str>) -> Result<Option<u32>, WordFault<'a>>
+    ensures { result ≡ idle_or_none (option_map (λ text. text.now) text.entry) }
+{
+    match text {
+        None => Ok(None),
+        Some(text) => Ok(Some(number_for("idle", text, 1, MAX_IDLE)?)),
+    }
 }
 
 /// As what the run is to be written.

@@ -1,0 +1,20 @@
+-- An option that asks for another one.
+use Rattle.std.specs.Borrow.{Bor}
+use Rattle.std.specs.Prelude.{◌≡◌, ◌&&◌, ◌++◌, ◌∷◌, [], ℕ, List, Bool, false}
+use Rattle.std.proofs.Common.{◌∙◌, ap, arith, length-append}
+use Rattle.std.proofs.lemmas.Bool.Decides.{nat_tests}
+use Rattle.clap.specs.Words.{AddsRequirements, rule_of}
+use Rattle.clap.specs.Walk.{is_empty}
+use Rattle.clap.specs.declared.builder.arg.Arg.{Arg}
+use Rattle.clap.specs.declared.builder.arg.ArgPredicate.{ArgPredicate}
+
+one_more : {X : Type 0} (xs ys : List X) (x : X) → ys ≡ xs ++ x ∷ [] → is_empty ys ≡ false
+one_more xs ys x e = grind (arith, length-append, nat_tests)
+
+third : (a b c d : Bool) → c ≡ false → (a && (b && (c && d))) ≡ false
+third a b c d e = grind arith
+
+pub asks_rule : (old new : Arg) (need : ArgPredicate × Bor (List ℕ)) → AddsRequirements old new (need ∷ []) →
+    rule_of new ≡ record (rule_of old) { is_free = false }
+asks_rule old new need adds =
+    ap rule_of adds.0 ∙ ap (λ free. record (rule_of old) { is_free = free }) (third _ _ _ _ (one_more _ _ need adds.1))

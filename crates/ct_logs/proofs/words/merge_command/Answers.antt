@@ -1,0 +1,11 @@
+use Rattle.std.proofs.lemmas.Result.{IfOk-weaker}
+use Rattle.ct_streams.proofs.Options.{with_option}
+use Rattle.ct_logs.proofs.words.merge_command.Goals as goal
+
+pub returns : goal.returns
+returns c =
+    let logs = with_option _ _ _ _ _ c.in_ok-arg.ensures c.logs.ensures.local c.subcommand.ensures c.logs.ensures.rule in
+    let kept = with_option _ _ _ _ _ c.in_ok-arg-2.ensures c.flag.ensures.local logs c.flag.ensures.rule in
+    let follow = with_option _ _ _ _ _ c.in_ok-arg-3.ensures c.flag-2.ensures.local kept c.flag-2.ensures.rule in
+    IfOk-weaker c.arg-4.result _ _
+    (λ r adds. with_option _ _ _ _ _ adds c.in_ok-idle.ensures.local follow c.in_ok-idle.ensures.rule) c.arg-4.ensures

@@ -1,0 +1,122 @@
+//! What logs came to.
+
+ghost use Rattle.std.specs.Prelude.{◌≡◌, ◌≢◌, IfErr, IfOk};
+ghost use Rattle.ct_world.specs.Setup.{setting_of};
+ghost use Rattle.ct_merge.specs.Verdicts.{IfAccepted};
+ghost use Rattle.ct_logs.specs.Merged.{IsSomeMerge, IsSomeRun};
+
+use crate::culprit::told_of;
+use crate::form::Form;
+use crate::log_set::LogSet;
+use crate::merge_fault::MergeFault;
+use crate::misfit::Misfit;
+use crate::showing::accepted;
+use crate::torn::push_torn;
+use crate::writing::written;
+use ct_merge::{Culprit, Verdict};
+use ct_world::{Setup, World};
+use std::alloc::{AllocError, Global};
+
+// What is written of logs that are accepted, and what is told of them.
+#[derive(Drop)]
+pub(crate) struct AcceptedRun {
+    pub text: Vec<u8>,
+    pub told: String,
+}
+
+// What is written and told of logs that came to this; their texts are let go before that is made.
+pub(crate) fn end_of(
+    alloc: Global,
+    names: &[&str],
+    texts: Vec<Vec<u8>>,
+    set: LogSet,
+    setup: Setup,
+    verdict: Verdict,
+    form: Form,
+) -> Result<AcceptedRun, MergeFault>
+    requires merged { IfAccepted verdict IsSomeMerge }
+    requires setting { IfAccepted verdict (λ w. w.setting ≡ setting_of setup) }
+    requires cells { IfAccepted verdict (λ w. w.cells ≡ setup.cells) }
+    ensures run { IfOk result (λ run. IsSomeRun form run.text.items) }
+    ensures err { IfErr result (λ fault. fault ≢ MergeFault.Write) }
+{
+    match verdict {
+        Verdict::Accepted(world) => {
+            let torn = torn_of(alloc, names, &texts)?;
+            drop(texts);
+            drop(set);
+            accept(alloc, setup, world, form, torn.as_str())
+        }
+        Verdict::Refused(culprit) => Err(refused(alloc, names, &texts, &set, culprit)),
+        Verdict::Cut(culprit) => Err(cut(alloc, names, &texts, &set, culprit)),
+    }
+}
+
+// What is told of last lines that are torn.
+fn torn_of(alloc: Global, names: &[&str], texts: &[Vec<u8>]) -> Result<String, AllocError> {
+    let mut text = String::new(alloc);
+    push_torn(&mut text, names, texts)?;
+    Ok(text)
+}
+
+// What is written and told of the run.
+#[tactic(auto, using(crate::proofs::Merged::some_run))]
+fn accept(
+    alloc: Global,
+    setup: Setup,
+    world: World,
+    form: Form,
+    torn: &str,
+) -> Result<AcceptedRun, MergeFault>
+    requires setting { world.rehearsal.setting ≡ setting_of setup }
+    requires cells { world.rehearsal.cells ≡ setup.cells }
+    requires merged { IsSomeMerge world.rehearsal }
+    ensures run { IfOk result (λ run. IsSomeRun form run.text.items) }
+    ensures err { IfErr result (λ fault. fault ≡ MergeFault.Memory) }
+{
+    let same = setup;
+    let mut told = accepted(alloc, setup, &world)?;
+    told.push_str(torn)?;
+    let text = written(alloc, same, world, form)?;
+    Ok(AcceptedRun { text, told })
+}
+
+// Files that are no logs of a group.
+pub(crate) fn no_logs(misfit: Misfit) -> MergeFault
+    ensures { result ≢ MergeFault.Write }
+{
+    match misfit {
+        Misfit::Told(text) => MergeFault::NoLogs(text),
+        Misfit::Memory => MergeFault::Memory,
+    }
+}
+
+pub(crate) fn refused(
+    alloc: Global,
+    names: &[&str],
+    texts: &[Vec<u8>],
+    set: &LogSet,
+    culprit: Culprit,
+) -> MergeFault
+    ensures { result ≢ MergeFault.Write }
+{
+    match told_of(alloc, names, texts, set, culprit) {
+        Ok(text) => MergeFault::Refused(text),
+        Err(_) => MergeFault::Memory,
+    }
+}
+
+fn cut(
+    alloc: Global,
+    names: &[&str],
+    texts: &[Vec<u8>],
+    set: &LogSet,
+    culprit: Culprit,
+) -> MergeFault
+    ensures { result ≢ MergeFault.Write }
+{
+    match told_of(alloc, names, texts, set, culprit) {
+        Ok(text) => MergeFault::Cut(text),
+        Err(_) => MergeFault::Memory,
+    }
+}
