@@ -1,0 +1,10 @@
+pub mod Deeds
+pub mod Drawing
+pub mod Hearing
+pub mod Placing
+pub mod Plain
+pub mod Refusing
+pub mod Seeds
+pub mod Silent
+pub mod Taking
+pub mod Turns

@@ -1,0 +1,314 @@
+-- The places of lines.
+use Rattle.std.proofs.Common.{◌≡◌, ℕ, ◌+◌, ◌-◌, Bool, true, false, List, [], ◌∷◌, refl, ap, sym, ◌∙◌, subst}
+use Rattle.std.specs.List.{list_all}
+use Rattle.std.specs.Prelude.{◌&&◌, find, not, if◌then◌else◌, Option, Some, None, Result, Ok, Err, is_some}
+use Rattle.ct_model.specs.Rehearsal.{Rehearsal, empty}
+use Rattle.ct_model.specs.Setting.{Setting}
+use Rattle.ct_model.specs.declared.step.Step.{Step}
+use Rattle.ct_grammar.specs.Texts.{lines_of}
+use Rattle.ct_grammar.specs.declared.goal.Goal.{Goal}
+use Rattle.ct_grammar.specs.declared.line.Line.{Line}
+use Rattle.ct_grammar.specs.declared.line.Line.TheVariants.{Blank, Given, Play as Plays}
+use Rattle.ct_grammar.specs.declared.play.Play.{Play}
+use Rattle.ct_grammar.specs.declared.play.Play.TheVariants.{Act, Stated, Turns, Settle, Until, Cut, Heal, Expect, Ask}
+use Rattle.ct_grammar.specs.declared.term.Term.{Term}
+use Rattle.ct_grammar.specs.declared.who.Who.{Who}
+use Rattle.ct_play.specs.Acting.{go_on}
+use Rattle.ct_play.specs.Expecting.{all_known, expected, expected_of, unless_unmet, unmet}
+use Rattle.ct_play.specs.Goals.{is_met, shows}
+use Rattle.ct_play.specs.Played.{Played}
+use Rattle.ct_play.specs.Playing.{played}
+use Rattle.ct_play.specs.Turning.{after_round, after_rounds, is_still, reached, rested, settled, turned}
+use Rattle.ct_play.specs.Who.{known, named, stranger, unless_strange}
+use Rattle.ct_play.specs.declared.line_fault.LineFault.{LineFault}
+use Rattle.ct_play.specs.declared.line_fault.LineFault.TheVariants.{Restless}
+use Rattle.ct_play.specs.declared.turning.TheConstants.{MOST_ROUNDS}
+use Rattle.ct_judge.specs.Judging.{after_play, in_world, taken}
+use Rattle.ct_judge.specs.Reading.{line_in}
+use Rattle.ct_judge.specs.Schedule.{after_line, after_lines, finished, line_over, schedule}
+use Rattle.ct_judge.specs.Standing.{Standing, given_in, headed, made_of, made_with, played_of, played_or_made, record_in, start, world_of}
+use Rattle.ct_judge.specs.Telling.{Explained, told, told_if}
+use Rattle.ct_judge.specs.declared.heading.Heading.{Heading}
+use Rattle.ct_laws.specs.Places.{AreAllowed, AreOf, ArePlaces, HasPlaces, IsLine, IsPlay, IsShown, behind, joined}
+use Rattle.ct_laws.proofs.Deeds.{Grows, act_grows, allowed_both, both_behind, going_on, nothing_behind, stated_grows, grows_not}
+use Rattle.ct_laws.proofs.Silent.{asked_same, ends_at, if_free, plainly, unless_same}
+use Rattle.ct_laws.proofs.Taking.{Makes}
+use Rattle.ct_laws.proofs.Turns.{last_grows, rounds_grow}
+
+-- ---- what is played
+
+unless_named : (ps qs : List ℕ) (o : Option ℕ) → unless_strange ps o ≡ Ok qs → ps ≡ qs
+unless_named ps qs None h = cc h
+unless_named ps qs (Some p) h = absurd (cc h)
+
+known_named : (n : ℕ) (by : Who) (ps : List ℕ) → known n by ≡ Ok ps → named n by ≡ ps
+unfolding known
+known_named n by ps h = unless_named (named n by) ps (stranger n (named n by)) h
+
+-- steps of these, who are those that the line names
+of_named : (n : ℕ) (by : Who) (ps : List ℕ) (s t : Played) → known n by ≡ Ok ps → Grows (AreOf ps) s t → Grows (AreOf (named n by)) s t
+of_named n by ps s t h g = subst (λ qs. Grows (AreOf qs) s t) (sym (known_named n by ps h)) g
+
+turned_grows : (s t : Played) (play : Play) (by : Who) (n : ℕ) → turned s play by n ≡ Ok t →
+    Grows (AreOf (named s.rehearsal.setting.members by)) s t
+unfolding turned
+turned_grows s t play by n h =
+    let on = going_on (known s.rehearsal.setting.members by) (λ ps. Ok (after_rounds play ps s n)) t h in
+    let is : after_rounds play on.0 s n ≡ t = cc on.2 in
+    of_named s.rehearsal.setting.members by on.0 s t on.1 (subst (λ u. Grows (AreOf on.0) s u) is (rounds_grow play on.0 s n))
+
+still_same : (c : Bool) (t u : Played) → (if c then Ok t else Err Restless) ≡ Ok u → t ≡ u
+still_same true t u h = cc h
+still_same false t u h = absurd (cc h)
+
+rested_grows : (s t : Played) (play : Play) (ps : List ℕ) → rested play ps s ≡ Ok t → Grows (AreOf ps) s t
+unfolding rested
+rested_grows s t play ps h =
+    let before = after_rounds play ps s (MOST_ROUNDS - 1) in
+    let is : after_round play ps before ≡ t =
+    still_same (is_still before (after_round play ps before)) (after_round play ps before) t h in
+    subst (λ u. Grows (AreOf ps) s u) is (last_grows play ps s (MOST_ROUNDS - 1))
+
+settled_grows : (s t : Played) (play : Play) (by : Who) → settled s play by ≡ Ok t →
+    Grows (AreOf (named s.rehearsal.setting.members by)) s t
+unfolding settled
+settled_grows s t play by h =
+    let on = going_on (known s.rehearsal.setting.members by) (λ ps. rested play ps s) t h in
+    of_named s.rehearsal.setting.members by on.0 s t on.1 (rested_grows s t play on.0 on.2)
+
+-- ---- what is shown
+
+met_if : (c : Bool) (t : Term) (rest : Bool) (o : Option Term) → (if not c then Some t else o) ≡ None → (o ≡ None → rest ≡ true) →
+    (c && rest) ≡ true
+met_if true t rest o h more = more h
+met_if false t rest o h more = absurd (cc h)
+
+all_met : (s : Played) (goal : List Term) → find (λ t. not (is_met s t)) goal ≡ None → list_all (is_met s) goal ≡ true
+all_met s [] h = refl
+all_met s (t ∷ goal) h =
+    met_if (is_met s t) t (list_all (is_met s) goal) (find (λ t. not (is_met s t)) goal) h (all_met s goal)
+
+none_unmet : (s t : Played) (o : Option Term) → unless_unmet s o ≡ Ok t → o ≡ None
+none_unmet s t None h = refl
+none_unmet s t (Some term) h = absurd (cc h)
+
+expected_shows : (s t : Played) (goal : Goal) → expected_of s goal ≡ Ok t → IsShown s.rehearsal goal
+unfolding unmet shows
+expected_shows s t goal h = (s.sides, all_met s goal (none_unmet s t (unmet s goal) h))
+
+until_shown : (s t : Played) (by : Who) (goal : Goal) (ps : List ℕ) → IsShown t.rehearsal goal → Grows (AreOf ps) s t →
+    Grows (λ steps. AreOf ps steps × IsShown (behind s.rehearsal steps) goal) s t
+until_shown s t by goal ps shown g = record {
+  steps = g.steps;
+  is = g.is;
+  allowed = g.allowed;
+  so = (g.so, subst (λ w. IsShown w goal) g.is shown);
+}
+
+reached_grows : (s t : Played) (play : Play) (by : Who) (goal : Goal) → reached s play by goal ≡ Ok t →
+    Grows (λ steps. AreOf (named s.rehearsal.setting.members by) steps × IsShown (behind s.rehearsal steps) goal) s t
+unfolding reached
+reached_grows s t play by goal h =
+    let rounds : List ℕ → Played = λ ps. after_rounds play ps s MOST_ROUNDS in
+    let on = going_on (known s.rehearsal.setting.members by)
+    (λ ps. go_on (all_known s.rehearsal.setting.members goal) (λ _. expected_of (rounds ps) goal)) t h in
+    let more = going_on (all_known s.rehearsal.setting.members goal) (λ _. expected_of (rounds on.0) goal) t on.2 in
+    let is : t ≡ rounds on.0 = unless_same (rounds on.0) t (unmet (rounds on.0) goal) more.2 in
+    until_shown s t by goal (named s.rehearsal.setting.members by)
+    (subst (λ (u : Played). IsShown u.rehearsal goal) (sym is) (expected_shows (rounds on.0) t goal more.2))
+    (of_named s.rehearsal.setting.members by on.0 s t on.1
+    (subst (λ u. Grows (AreOf on.0) s u) (sym is) (rounds_grow play on.0 s MOST_ROUNDS)))
+
+expects_grows : (s t : Played) (goal : Goal) → expected s goal ≡ Ok t → Grows (λ steps. (steps ≡ []) × IsShown s.rehearsal goal) s t
+unfolding expected
+expects_grows s t goal h =
+    let on = going_on (all_known s.rehearsal.setting.members goal) (λ _. expected_of s goal) t h in
+    let same : t ≡ s = unless_same s t (unmet s goal) on.2 in
+    subst (λ u. Grows (λ steps. (steps ≡ []) × IsShown s.rehearsal goal) s u) (sym same)
+    (grows_not (λ steps. (steps ≡ []) × IsShown s.rehearsal goal) s (refl, expected_shows s t goal on.2))
+
+-- the steps of a line that is understood
+abbrev IsHere : Rehearsal → Line → List Step → Type 0
+IsHere w Blank steps = steps ≡ []
+IsHere w (Given given) steps = steps ≡ []
+IsHere w (Plays play) steps = IsPlay w play steps
+
+-- nothing joined the record
+grows_still : (s t : Played) → t.rehearsal ≡ s.rehearsal → Grows (λ steps. steps ≡ []) s t
+grows_still s t same = record { steps = []; is = same ∙ sym (nothing_behind s.rehearsal); allowed = tt; so = refl }
+
+rehearsal_in : Played → Result Played LineFault → Rehearsal
+rehearsal_in s (Ok t) = t.rehearsal
+rehearsal_in s (Err fault) = s.rehearsal
+
+play_grows : (s t : Played) (play : Play) → played s play ≡ Ok t → Grows (IsPlay s.rehearsal play) s t
+unfolding rehearsal_in
+play_grows s t (Act by act) h = act_grows by act (named s.rehearsal.setting.members by) s t h
+play_grows s t (Stated by act text) h = stated_grows by act text (named s.rehearsal.setting.members by) s t h
+play_grows s t (Turns by n set) h = turned_grows s t (Turns by n set) by n h
+play_grows s t (Settle by set) h = settled_grows s t (Settle by set) by h
+play_grows s t (Until by set goal) h = reached_grows s t (Until by set goal) by goal h
+play_grows s t (Cut sides) h = grows_still s t (sym (ap (λ (r : Result Played LineFault). rehearsal_in s r) h))
+play_grows s t Heal h = grows_still s t (sym (ap (λ (r : Result Played LineFault). rehearsal_in s r) h))
+play_grows s t (Expect goal) h = expects_grows s t goal h
+play_grows s t (Ask question) h = grows_still s t (ap (λ (u : Played). u.rehearsal) (asked_same s t question h))
+
+-- ---- where a line begins
+
+-- the record there, where the last one is w
+abbrev from : Rehearsal → Option Played → Rehearsal
+from w None = empty w.setting w.cells
+from w (Some p) = p.rehearsal
+
+record IsPlaced (w : Rehearsal) (s u : Standing) (Has : Rehearsal → List Step → Type 0) : Type 0 where
+  pub own : List Step
+  pub is : from w u.played ≡ behind (from w s.played) own
+  pub allowed : AreAllowed (from w s.played) own
+  pub so : Has (from w s.played) own
+
+made_empty : (h : Heading) (o : Option ℕ) (p : Played) (w : Rehearsal) → made_of h o ≡ Ok p → p.rehearsal.setting ≡ w.setting →
+    p.rehearsal.cells ≡ w.cells → empty w.setting w.cells ≡ p.rehearsal
+made_empty h None p w is setting cells = absurd (cc is)
+made_empty h (Some n) p w is setting cells =
+    let same : p ≡ made_with h n = sym (cc is) in
+    ap (λ (s : Setting). empty s w.cells) (sym setting) ∙ ap (λ c. empty p.rehearsal.setting c) (sym cells)
+    ∙ subst (λ (q : Played). empty q.rehearsal.setting q.rehearsal.cells ≡ q.rehearsal) (sym same) refl
+
+begins : (h : Heading) (o : Option Played) (p : Played) (w : Rehearsal) → played_or_made h o ≡ Ok p → p.rehearsal.setting ≡ w.setting →
+    p.rehearsal.cells ≡ w.cells → from w o ≡ p.rehearsal
+begins h None p w is setting cells = made_empty h h.group p w is setting cells
+begins h (Some q) p w is setting cells =
+    let same : q ≡ p = cc is in
+    ap (λ (r : Played). r.rehearsal) same
+
+-- the same group
+grown_setting : (p q : Played) (own : List Step) → q.rehearsal ≡ behind p.rehearsal own → q.rehearsal.setting ≡ p.rehearsal.setting
+grown_setting p q own is = ap (λ (w : Rehearsal). w.setting) is
+
+grown_cells : (p q : Played) (own : List Step) → q.rehearsal ≡ behind p.rehearsal own → q.rehearsal.cells ≡ p.rehearsal.cells
+grown_cells p q own is = ap (λ (w : Rehearsal). w.cells) is
+
+in_placed : (w : Rehearsal) (s u : Standing) (play : Play) (p q : Played) (rest : List Step) → played_of s ≡ Ok p →
+    played p play ≡ Ok q → u ≡ record s { played = Some q } → behind (from w u.played) rest ≡ w →
+    IsPlaced w s u (λ v steps. IsPlay v play steps)
+unfolding played_of
+in_placed w s u play p q rest of by at end =
+    let g = play_grows p q play by in
+    let from_u : from w u.played ≡ q.rehearsal = ap (λ (v : Standing). from w v.played) at in
+    let last : behind q.rehearsal rest ≡ w = ap (λ v. behind v rest) (sym from_u) ∙ end in
+    let setting : p.rehearsal.setting ≡ w.setting =
+    sym (grown_setting p q g.steps g.is) ∙ ap (λ (v : Rehearsal). v.setting) last in
+    let cells : p.rehearsal.cells ≡ w.cells = sym (grown_cells p q g.steps g.is) ∙ ap (λ (v : Rehearsal). v.cells) last in
+    let from_s : from w s.played ≡ p.rehearsal = begins s.heading s.played p w of setting cells in
+    record {
+      own = g.steps;
+      is = from_u ∙ g.is ∙ ap (λ v. behind v g.steps) (sym from_s);
+      allowed = subst (λ v. AreAllowed v g.steps) (sym from_s) g.allowed;
+      so = subst (λ v. IsPlay v play g.steps) (sym from_s) g.so;
+    }
+
+still_placed : (w : Rehearsal) (s u : Standing) → u.played ≡ s.played → IsPlaced w s u (λ _ steps. steps ≡ [])
+still_placed w s u same = record {
+  own = [];
+  is = ap (from w) same ∙ sym (nothing_behind (from w s.played));
+  allowed = tt;
+  so = refl;
+}
+
+in_world_on : (w : Rehearsal) (s u : Standing) (play : Play) (p : Played) (rest : List Step) (r : Result Played LineFault) →
+    played_of s ≡ Ok p → played p play ≡ r → in_world s r ≡ Ok u → behind (from w u.played) rest ≡ w →
+    IsPlaced w s u (λ v steps. IsPlay v play steps)
+in_world_on w s u play p rest (Ok q) of by h end =
+    let same : record s { played = Some q } ≡ u = cc h in
+    in_placed w s u play p q rest of by (sym same) end
+in_world_on w s u play p rest (Err fault) of by h end = absurd (cc h)
+
+play_placed : (w : Rehearsal) (s u : Standing) (play : Play) (rest : List Step) (r : Result Played LineFault) → played_of s ≡ r →
+    after_play s play r ≡ Ok u → behind (from w u.played) rest ≡ w → IsPlaced w s u (λ v steps. IsPlay v play steps)
+play_placed w s u play rest (Ok p) of h end = in_world_on w s u play p rest (played p play) of refl h end
+play_placed w s u play rest (Err fault) of h end = absurd (cc h)
+
+given_still : (s u : Standing) (o : Option Heading) → headed s o ≡ Ok u → u.played ≡ s.played
+given_still s u None h = absurd (cc h)
+given_still s u (Some heading) h =
+    ap (λ (v : Standing). v.played) (if_free (is_some s.played) (record s { heading = heading }) u h).1
+
+line_placed : (w : Rehearsal) (s u : Standing) (line : Line) (rest : List Step) → taken s line ≡ Ok u →
+    behind (from w u.played) rest ≡ w → IsPlaced w s u (λ v steps. IsHere v line steps)
+line_placed w s u Blank rest h end =
+    let same : s ≡ u = cc h in
+    still_placed w s u (ap (λ (v : Standing). v.played) (sym same))
+line_placed w s u (Given given) rest h end = still_placed w s u (given_still s u (given_in s.heading given) h)
+line_placed w s u (Plays play) rest h end = play_placed w s u play rest (played_of s) refl h end
+
+told_placed : (w : Rehearsal) (s u : Standing) (r : _) (rest : List Step) → told_if s r ≡ Ok u →
+    behind (from w u.played) rest ≡ w → IsPlaced w s u (λ v steps. IsLine v r steps)
+told_placed w s u (Ok Blank) rest h end = line_placed w s u Blank rest (plainly s u Blank (taken s Blank) h) end
+told_placed w s u (Ok (Given given)) rest h end =
+    line_placed w s u (Given given) rest (plainly s u (Given given) (taken s (Given given)) h) end
+told_placed w s u (Ok (Plays play)) rest h end =
+    line_placed w s u (Plays play) rest (plainly s u (Plays play) (taken s (Plays play)) h) end
+told_placed w s u (Err misread) rest h end = absurd (cc h)
+
+-- ---- all lines
+
+record AreAll (w : Rehearsal) (s : Standing) (lines : List (List ℕ)) : Type 0 where
+  pub places : List (List Step)
+  pub is : behind (from w s.played) (joined places) ≡ w
+  pub allowed : AreAllowed (from w s.played) (joined places)
+  pub are : ArePlaces (from w s.played) lines places
+
+ended_made : (h : Heading) (o : Option ℕ) (w : Rehearsal) → record_in (made_of h o) ≡ Ok w → behind (empty w.setting w.cells) [] ≡ w
+ended_made h None w is = absurd (cc is)
+ended_made h (Some n) w is =
+    let same : (made_with h n).rehearsal ≡ w = cc is in
+    subst (λ v. behind (empty v.setting v.cells) [] ≡ v) same refl
+
+ended_with : (h : Heading) (o : Option Played) (w : Rehearsal) → record_in (played_or_made h o) ≡ Ok w → behind (from w o) [] ≡ w
+ended_with h (Some p) w is =
+    let same : p.rehearsal ≡ w = cc is in
+    nothing_behind p.rehearsal ∙ same
+ended_with h None w is = ended_made h h.group w is
+
+one_placed : (w : Rehearsal) (s u : Standing) (line : List ℕ) (lines : List (List ℕ)) → told_if s (line_in line) ≡ Ok u →
+    AreAll w u lines → AreAll w s (line ∷ lines)
+one_placed w s u line lines h more =
+    let here = told_placed w s u (line_in line) (joined more.places) h more.is in
+    record {
+      places = here.own ∷ more.places;
+      is = sym (both_behind (from w s.played) here.own (joined more.places))
+          ∙ ap (λ v. behind v (joined more.places)) (sym here.is) ∙ more.is;
+      allowed = allowed_both here.own (joined more.places) (from w s.played) here.allowed
+          (subst (λ v. AreAllowed v (joined more.places)) here.is more.allowed);
+      are = (here.so, subst (λ v. ArePlaces v lines more.places) here.is more.are);
+    }
+
+line_over_placed : (w : Rehearsal) (s : Standing) (n : ℕ) (line : List ℕ) (lines : List (List ℕ)) (r : Result Standing Explained) →
+    told_if s (line_in line) ≡ r → ((u : Standing) (m : ℕ) → Makes u m lines w → AreAll w u lines) →
+    finished (go_on (line_over (record { standing = s; number = n }) line r) (λ v. after_lines v lines)) ≡ Ok w →
+    AreAll w s (line ∷ lines)
+line_over_placed w s n line lines (Ok u) is more h = one_placed w s u line lines is (more u (n + 1) h)
+line_over_placed w s n line lines (Err e) is more h = absurd (cc h)
+
+all_placed : (lines : List (List ℕ)) (w : Rehearsal) (s : Standing) (n : ℕ) → Makes s n lines w → AreAll w s lines
+unfolding after_line told played_of
+all_placed [] w s n h = record {
+  places = [];
+  is = ended_with s.heading s.played w (ends_at n (world_of s) w h);
+  allowed = tt;
+  are = tt;
+}
+all_placed (line ∷ lines) w s n h =
+    line_over_placed w s n line lines (told_if s (line_in line)) refl (λ u m. all_placed lines w u m) h
+
+pub placed : (text : List ℕ) (w : Rehearsal) → schedule text ≡ Ok w → HasPlaces w (lines_of text)
+unfolding schedule start
+placed text w h =
+    let all = all_placed (lines_of text) w start 0 h in
+    let steps : joined all.places ≡ w.steps = ap (λ (v : Rehearsal). v.steps) all.is in
+    record {
+      places = all.places;
+      all = steps;
+      allowed = subst (λ l. AreAllowed (empty w.setting w.cells) l) steps all.allowed;
+      are = all.are;
+    }

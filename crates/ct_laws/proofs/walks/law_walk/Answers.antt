@@ -1,0 +1,24 @@
+use Rattle.ct_laws.proofs.Seeds.{least, nowhere}
+use Rattle.ct_laws.proofs.Drawing.{always_yes, never_yes, only_asked, walk_allowed, walk_quiet}
+use Rattle.ct_laws.proofs.walks.law_walk.Goals as goal
+
+pub returns-clause-allowed : goal.returns-clause-allowed
+returns-clause-allowed c = walk_allowed
+
+pub returns-clause-asked : goal.returns-clause-asked
+returns-clause-asked c = only_asked
+
+pub returns-clause-always : goal.returns-clause-always
+returns-clause-always c = always_yes
+
+pub returns-clause-never : goal.returns-clause-never
+returns-clause-never c = never_yes
+
+pub returns-clause-quiet : goal.returns-clause-quiet
+returns-clause-quiet c = walk_quiet
+
+pub returns-clause-least : goal.returns-clause-least
+returns-clause-least c = least
+
+pub returns-clause-nowhere : goal.returns-clause-nowhere
+returns-clause-nowhere c = nowhere

@@ -1,0 +1,5 @@
+pub mod Places
+pub mod Refusals
+pub mod Schedules
+pub mod Sessions
+pub mod Walks
