@@ -1,0 +1,5 @@
+pub mod Apart
+pub mod Hearing
+pub mod Rooms
+pub mod SessionAtHeap
+pub mod WorldAtHeap

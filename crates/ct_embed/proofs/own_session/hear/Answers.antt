@@ -1,0 +1,15 @@
+use Rattle.std.proofs.Common.{◌∙◌}
+use Rattle.std.specs.Prelude.{string_bytes}
+use Rattle.ct_embed.proofs.Hearing.{stands_as, says_as}
+use Rattle.ct_embed.proofs.own_session.hear.Goals as goal
+
+pub loop-byte-preserved : goal.loop-byte-preserved
+loop-byte-preserved c =
+    let l = c.loop-byte in
+    let next = c.hear.new.self in
+    let heard = c.in_ok-hear.ensures in
+    record {
+      after = l.invariant.after ∙ stands_as l.session next c.args.bytes.now l.byte-index c.loop-byte-test.true heard.after;
+      said = l.invariant.said ∙ says_as l.session next (string_bytes l.text) (string_bytes c.hear.new.text) c.args.bytes.now
+          l.byte-index c.loop-byte-test.true heard.after heard.text;
+    }

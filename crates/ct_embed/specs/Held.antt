@@ -1,0 +1,13 @@
+-- What contracts see of what a caller holds: the record of a world, or what a session was told; None where it is closed.
+use Rattle.std.specs.Prelude.{Option}
+use Rattle.ct_model.specs.Rehearsal.{Rehearsal}
+use Rattle.ct_embed.specs.declared.held_session.HeldSession.{HeldSession}
+use Rattle.ct_embed.specs.declared.held_world.HeldWorld.{HeldWorld}
+use Rattle.ct_embed.specs.Seen.{seen}
+use Rattle.ct_embed.specs.Telling.{Talk}
+
+abbrev pub world_in : HeldWorld → Option Rehearsal
+world_in held = seen held.is_open held.handle.value
+
+abbrev pub talk_in : HeldSession → Option Talk
+talk_in held = seen held.is_open held.handle.value

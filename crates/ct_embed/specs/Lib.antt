@@ -1,0 +1,12 @@
+pub mod Applying
+pub mod Held
+pub mod LetterCodes
+pub mod MessageCodes
+pub mod Opening
+pub mod OwnedSession
+pub mod OwnedWorld
+pub mod RefusalNumbers
+pub mod Rooms
+pub mod Seen
+pub mod StepCodes
+pub mod Telling

@@ -1,0 +1,48 @@
+//! A session as its caller holds it.
+
+ghost use Rattle.std.specs.Prelude.{◌≡◌, Option, Some, None, option_map, true, false};
+ghost use Rattle.ct_embed.specs.Seen.{seen};
+
+use crate::own_session::OwnSession;
+use crate::parts::Parts;
+use crate::session_handle::SessionHandle;
+use std::alloc::Global;
+
+/// A session, as its caller holds it: zeros before it is opened and once it is closed.
+#[repr(C)]
+#[derive(Drop)]
+pub struct HeldSession {
+    pub handle: SessionHandle,
+    pub is_open: bool,
+    pub ghost same: { is_open ≡ handle.held },
+}
+
+impl HeldSession {
+    // Takes the session out, and leaves nothing.
+    pub(crate) fn take(&mut self, alloc: Global) -> Option<Box<OwnSession>>
+        ensures was { option_map (λ own. own.value) result ≡ seen self.old.is_open self.old.handle.value }
+        ensures is { self.new.is_open ≡ false }
+    {
+        let none = HeldSession {
+            handle: SessionHandle::none(alloc),
+            is_open: false,
+        };
+        let HeldSession { handle, is_open } = std::mem::replace(self, none);
+        if is_open {
+            Some(handle.into_parts().into_box())
+        } else {
+            None
+        }
+    }
+
+    // Puts one in.
+    pub(crate) fn put(&mut self, own: Box<OwnSession>)
+        ensures is { self.new.is_open ≡ true }
+        ensures value { self.new.handle.value ≡ own.value }
+    {
+        *self = HeldSession {
+            handle: SessionHandle::hold(Parts::of(own)),
+            is_open: true,
+        };
+    }
+}

@@ -1,0 +1,31 @@
+//! Worlds and sessions, for programs in other languages: a static library. `bindings/ct.h` says how C calls it.
+#![tactic(auto)]
+
+mod applied;
+mod drawing;
+mod held_session;
+mod held_world;
+mod letter_code;
+mod message_code;
+mod numbers;
+mod own_session;
+mod own_world;
+mod parts;
+mod refusal_number;
+mod room;
+mod said;
+mod sent;
+mod session_calls;
+mod session_handle;
+mod step_code;
+mod world_calls;
+mod world_handle;
+
+pub use applied::Applied;
+pub use held_session::HeldSession;
+pub use held_world::HeldWorld;
+pub use letter_code::LetterCode;
+pub use message_code::MessageCode;
+pub use session_handle::SessionHandle;
+pub use step_code::StepCode;
+pub use world_handle::WorldHandle;
