@@ -24,9 +24,9 @@ _ct_tool_words() {
         ;;
     find)
         options='--members --turns --rate --cells --submit --crash --postpone --lose --repeat --batch --every --goal --seeds'
-        options+=' --jobs --quiet --count --json -h --help'
+        options+=' --jobs --quiet --count --json --best --tries --record -h --help'
         values='--members=any --turns=any --rate=any --cells=any --submit=any --crash=any --postpone=any --lose=any'
-        values+=' --repeat=any --batch=any --every=any --goal=any+ --seeds=any --jobs=any'
+        values+=' --repeat=any --batch=any --every=any --goal=any+ --seeds=any --jobs=any --best=any --tries=any'
         operands=''
         ;;
     interact)
@@ -35,8 +35,8 @@ _ct_tool_words() {
         operands=''
         ;;
     merge)
-        options='--record -h --help'
-        values=''
+        options='--record --follow --idle -h --help'
+        values='--idle=any'
         operands='file+'
         ;;
     record)

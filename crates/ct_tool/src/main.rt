@@ -1,24 +1,29 @@
 //! The program `ct_tool`: it makes runs that can be made again, and shows runs. Each of its subcommands is a library's.
 #![tactic(auto)]
 
+ghost use Rattle.std.specs.Prelude.{◌<◌};
 ghost use Rattle.ct_find.specs.Line.{IsFindInRange};
 
+mod clockwork;
+mod goal_fault;
 mod host;
 mod meter;
 mod terminal;
 mod trials;
 
 use clap::{ArgMatches, Command};
+use clockwork::Clockwork;
 use ct_diagram::{DiagramFault, diagram_command, diagram_window, draw, drawn_end};
 use ct_find::{
-    CountForm, FindCall, FindFault, count_form, find_call, find_command, write_count, write_found,
+    BestOptions, CountForm, FindCall, FindFault, best_options, count_form, find_call, find_command,
+    write_best, write_count, write_found,
 };
 use ct_judge::{
     Heard, KeepFault, LineRefused, RecordFault, interact, interact_command, keep, record,
     record_command, record_partial, session_end,
 };
 use ct_listing::{schedule_command, write_schedule};
-use ct_logs::{merge_command, merge_form, merge_logs};
+use ct_logs::{MergeFault, follow_logs, merge_command, merge_form, merge_idle, merge_logs};
 use ct_program::{CommandFault, answer_status};
 use ct_records::ProgramFault;
 use ct_show::{ShowFault, shown_end};
@@ -29,11 +34,12 @@ use ct_views::{
     steps_command, steps_view,
 };
 use ct_walk::{CallFault, FoundSeed, given_goal, walk_call, walk_command, write_call};
+use goal_fault::GoalFault;
 use host::{Host, can_write};
 use meter::Meter;
 use std::alloc::{AllocError, Global};
 use std::fmt::Display;
-use std::io;
+use std::io::{self, ErrorKind};
 use std::process::ExitCode;
 use std::thread::Threads;
 use trials::Trials;
@@ -104,20 +110,27 @@ fn walk(rt: &HostRuntime, found: &ArgMatches<'_>) -> ExitCode {
     match write_call(rt.alloc(), &call, &mut writer) {
         Ok(None) => ExitCode::SUCCESS,
         Ok(Some(found)) => tell(rt, found),
-        Err(fault) => fail(rt, fault, fault.status()),
+        Err(fault) => fail_written(rt, fault, fault.status(), writer.is_broken()),
     }
 }
 
-// Counts the seeds whose walks show the goal, where the words ask for that; else writes the record of the first one's walk.
+// Counts the seeds whose walks show the goal, or writes the smallest run that is left of several, where the words ask for that; else
+// writes the record of the first one's walk.
 fn find<R: Threads + Sync>(rt: &HostRuntime, threads: &R, found: &ArgMatches<'_>) -> ExitCode {
     let call = match find_call(rt.alloc(), found) {
         Ok(call) => call,
         Err(fault) => return refuse_call(rt, fault),
     };
-    let meter = Meter::new(rt, call.seeds, found.get_flag("quiet"));
-    match count_form(found) {
-        Some(form) => count_found(rt, threads, call, form, meter),
-        None => find_first(rt, threads, call, meter),
+    let best = match best_options(found) {
+        Ok(best) => best,
+        Err(fault) => return refuse_word(rt, fault),
+    };
+    let quiet = found.get_flag("quiet");
+    let meter = Meter::new(rt, call.seeds, quiet);
+    match (count_form(found), best) {
+        (Some(form), _) => count_found(rt, threads, call, form, meter),
+        (None, Some(best)) => find_best(rt, threads, call, &best, meter, Trials::new(rt, quiet)),
+        (None, None) => find_first(rt, threads, call, meter),
     }
 }
 
@@ -138,7 +151,41 @@ fn find_first<R: Threads + Sync>(
             let _ = eprintln!(rt; "{}\n{}", found.seed, found.again);
             ExitCode::SUCCESS
         }
-        Err(fault) => fail_find(rt, fault),
+        Err(fault) => fail_find(rt, fault, writer.is_broken()),
+    }
+}
+
+// Writes the smallest run that is left of several walks, and tells of it and the words that make its walk again.
+fn find_best<R: Threads + Sync>(
+    rt: &HostRuntime,
+    threads: &R,
+    call: FindCall,
+    best: &BestOptions,
+    mut meter: Meter<'_>,
+    mut trials: Trials<'_>,
+) -> ExitCode
+    requires range { IsFindInRange call }
+    requires some { 0 < best.now.count }
+{
+    let alloc = rt.alloc();
+    let mut writer = Counted::new(io::writer(rt));
+    let ended = write_best(
+        threads,
+        alloc,
+        call,
+        best,
+        &mut writer,
+        &mut meter,
+        &mut trials,
+    );
+    meter.clear();
+    trials.clear();
+    match ended {
+        Ok(told) => {
+            let _ = eprintln!(rt; "{told}\n{}", told.again);
+            ExitCode::SUCCESS
+        }
+        Err(fault) => fail_find(rt, fault, writer.is_broken()),
     }
 }
 
@@ -157,15 +204,15 @@ fn count_found<R: Threads + Sync>(
     meter.clear();
     match ended {
         Ok(None) => ExitCode::SUCCESS,
-        Ok(Some(none)) => fail_find(rt, FindFault::NotFound(none)),
-        Err(fault) => fail_find(rt, fault),
+        Ok(Some(none)) => fail_find(rt, FindFault::NotFound(none), false),
+        Err(fault) => fail_find(rt, fault, writer.is_broken()),
     }
 }
 
-// Tells why nothing is found.
-fn fail_find(rt: &HostRuntime, fault: FindFault) -> ExitCode {
+// Tells why nothing is found, or not written.
+fn fail_find(rt: &HostRuntime, fault: FindFault, is_broken: bool) -> ExitCode {
     let status = fault.status();
-    fail(rt, fault, status)
+    fail_written(rt, fault, status, is_broken)
 }
 
 // Tells of the seed that was found.
@@ -194,7 +241,7 @@ fn record_schedule(rt: &HostRuntime, found: &ArgMatches<'_>) -> ExitCode {
         Err(RecordFault::Read) => refuse_file(rt, name, FileFault::Read),
         Err(fault) => {
             let status = fault.status();
-            fail(rt, fault, status)
+            fail_written(rt, fault, status, writer.is_broken())
         }
     }
 }
@@ -307,6 +354,10 @@ fn shrink(rt: &HostRuntime, found: &ArgMatches<'_>) -> ExitCode {
             name,
             shown_end(Err(fault), writer.is_broken()),
         ),
+        Err(fault @ ShrinkFault::NoMember { .. }) => {
+            let status = fault.status();
+            fail(rt, GoalFault { goal: text, fault }, status)
+        }
         Err(fault) => {
             let status = fault.status();
             fail(rt, fault, status)
@@ -316,17 +367,33 @@ fn shrink(rt: &HostRuntime, found: &ArgMatches<'_>) -> ExitCode {
 
 // Writes the run of the logs that the words name, and tells what it shows.
 fn merge(rt: &HostRuntime, found: &ArgMatches<'_>) -> ExitCode {
+    let idle = match merge_idle(found) {
+        Ok(idle) => idle,
+        Err(fault) => return refuse_word(rt, fault),
+    };
     let names = found.get_strs("files").unwrap_or(&[]);
-    let mut writer = Counted::new(io::writer(rt));
     let form = merge_form(found);
-    match merge_logs(rt.alloc(), &Host::new(rt), names, form, &mut writer) {
+    let (alloc, host) = (rt.alloc(), Host::new(rt));
+    let mut writer = Counted::new(io::writer(rt));
+    if found.get_flag("follow") {
+        let mut pace = Clockwork::new(rt, idle);
+        let ended = follow_logs(alloc, &host, names, form, &mut pace, &mut writer);
+        return end_merge(rt, ended, writer.is_broken());
+    }
+    let ended = merge_logs(alloc, &host, names, form, &mut writer);
+    end_merge(rt, ended, writer.is_broken())
+}
+
+// Tells what a merged run shows, or why none is written.
+fn end_merge(rt: &HostRuntime, ended: Result<String, MergeFault>, is_broken: bool) -> ExitCode {
+    match ended {
         Ok(told) => {
             let _ = eprintln!(rt; "{told}");
             ExitCode::SUCCESS
         }
         Err(fault) => {
             let status = fault.status();
-            fail(rt, fault, status)
+            fail_written(rt, fault, status, is_broken)
         }
     }
 }
@@ -382,9 +449,12 @@ fn check_files(rt: &HostRuntime, found: &ArgMatches<'_>) -> ExitCode {
     }
 }
 
-// A call for help or for the version is answered on standard output.
+// A call for help or for the version is answered on standard output. Nothing is wrong where nobody reads it any more.
 fn answer(rt: &HostRuntime, error: &clap::Error) -> ExitCode {
-    let printed = error.print(rt).is_ok();
+    let printed = match error.print(rt) {
+        Ok(()) => true,
+        Err(error) => error.kind() == ErrorKind::BrokenPipe,
+    };
     match answer_status(error.use_stderr(), printed) {
         Ok(status) => ExitCode::from(status),
         Err(fault) => refuse(rt, fault),
@@ -411,6 +481,20 @@ fn refuse_call(rt: &HostRuntime, fault: CallFault<'_>) -> ExitCode {
 // Tells of a file that is not read or not made.
 fn refuse_file(rt: &HostRuntime, name: &str, fault: FileFault) -> ExitCode {
     fail(rt, NamedFault { name, fault }, Status::Stream.code())
+}
+
+// Tells why nothing was written, or not to its end. Nothing is wrong where nobody reads it any more, so where the write that failed was
+// one into a pipe without a reader.
+fn fail_written<D: Display + Drop>(
+    rt: &HostRuntime,
+    fault: D,
+    status: u8,
+    is_broken: bool,
+) -> ExitCode {
+    if is_broken {
+        return ExitCode::SUCCESS;
+    }
+    fail(rt, fault, status)
 }
 
 // Prints the fault's line. Where standard error fails too, the status alone tells of the fault.

@@ -206,6 +206,126 @@ fn seeds_are_counted(rt: HostRuntime) -> Result<(), Fail> {
     Ok(())
 }
 
+// The smaller one of two runs that are as small is that of the first seed.
+const BEST: [&str; 7] = [
+    "find",
+    "--members=3",
+    "--turns=60",
+    "--goal=any round >= 3",
+    "--seeds=1..9",
+    "--best=2",
+    "--record",
+];
+
+const BEST_LINES: &str = "seed 1, best of 2: of 23 steps 8 are left; 34 trials
+ct_tool walk --members 3 --seed 1 --turns 60 --until 'any round >= 3'";
+
+const BEST_RECORD: &str = concat!(
+    "{\"batch\":1048560,\"cells\":64,\"n\":3,\"steps\":[[\"submit\",1,[\"add\",0,1]],[\"receive\",1,1],[\"begin\",1],",
+    "[\"enter\",1],[\"suspect\",1],[\"enter\",1],[\"suspect\",1],[\"enter\",1]],\"version\":3}\n",
+);
+
+// Three trials leave each of three walks as it is, and the third one is the shortest.
+const SHORT: [&str; 7] = [
+    "find",
+    "--members=3",
+    "--turns=60",
+    "--goal=any round >= 3",
+    "--seeds=2..9",
+    "--best=3",
+    "--tries=3",
+];
+
+const SHORT_LINES: &str = "seed 4, best of 3: of 27 steps 27 are left; stopped after 3 trials
+ct_tool walk --members 3 --seed 4 --turns 60 --until 'any round >= 3'";
+
+// How many trials were told of.
+#[derive(Clone, Copy, Debug, Drop, PartialEq, Eq)]
+struct Trials(u32);
+
+impl ct_shrink::Progress for Trials {
+    fn tried(&mut self, _trials: u32, _steps: usize) {
+        self.0 = self.0.saturating_add(1);
+    }
+}
+
+// The line and the status of the smallest run, which is written to this writer, and how many trials were told of; None where it isn't
+// asked for.
+fn best_to<R: Threads + Sync, W: Sink>(
+    rt: &R,
+    alloc: Global,
+    words: &[&str],
+    writer: &mut W,
+) -> Result<Option<(String, u8, Trials)>, Fail>
+    requires { W.failures writer.old < 2 ^ 63 }
+{
+    let matches = find_command(alloc)?.try_get_matches_from(words)?;
+    let options = match best_options(&matches) {
+        Ok(options) => options,
+        Err(fault) => return Err(Fail::new(fault)),
+    };
+    let Some(options) = options else {
+        return Ok(None);
+    };
+    let call = call_of(alloc, words)?;
+    let mut trials = Trials(0);
+    let (lines, status) = match write_best(
+        rt,
+        alloc,
+        call,
+        &options,
+        writer,
+        &mut Silent,
+        &mut trials,
+    ) {
+        Ok(best) => (format!(in alloc; "{best}\n{}", best.again)?, 0),
+        Err(fault) => (format!(in alloc; "{fault}")?, fault.status()),
+    };
+    Ok(Some((lines, status, trials)))
+}
+
+// Whether these are the lines and the number of trials, and the text that is written begins so.
+fn is_best<R: Threads + Sync>(
+    rt: &R,
+    alloc: Global,
+    words: &[&str],
+    lines: &str,
+    trials: u32,
+    text: &str,
+) -> Result<bool, Fail> {
+    let mut writer = Counted::new(Vec::new(alloc));
+    let Some(ended) = best_to(rt, alloc, words, &mut writer)? else {
+        return Ok(false);
+    };
+    let written = writer.into_inner();
+    Ok(
+        ended.0.as_str() == lines
+            && ended.1 == 0
+            && ended.2 == Trials(trials)
+            && written.starts_with(text.as_bytes()),
+    )
+}
+
+// Whether a writer that takes the first nine bytes of the run alone is named.
+fn fails_to_write_best<R: Threads + Sync>(rt: &R, alloc: Global) -> Result<bool, Fail> {
+    let mut room = [0u8; 9];
+    let mut writer = Counted::new(&mut room[..]);
+    let Some(ended) = best_to(rt, alloc, &BEST, &mut writer)? else {
+        return Ok(false);
+    };
+    Ok(ended.0.as_str() == "write failed" && ended.1 == 4 && room == *b"{\"batch\":")
+}
+
+#[test]
+fn the_smallest_of_several_runs_is_written(rt: HostRuntime) -> Result<(), Fail> {
+    let alloc = rt.alloc();
+    assert!(rt; is_best(&rt, alloc, &BEST, BEST_LINES, 73, BEST_RECORD)?);
+    assert!(rt; is_best(&rt, alloc, &SHORT, SHORT_LINES, 9, "members 3\n")?);
+    assert!(rt; fails_to_write_best(&rt, alloc)?);
+    assert!(rt; best_to(&rt, alloc, &FAR, &mut Counted::new(Vec::new(alloc)))?.is_none());
+    Ok(())
+}
+
 // The first of some seeds in which a second instance is decided.
 fn first_decided<R: Threads + Sync>(
     rt: &R,
@@ -228,13 +348,6 @@ fn seeds_are_looked_through_up_to_the_last(rt: HostRuntime) -> Result<(), Fail> 
     assert_eq!(rt; first_decided(&rt, rt.alloc(), 472)?, Some(472));
     assert_eq!(rt; first_decided(&rt, rt.alloc(), 471)?, None);
     Ok(())
-}
-
-#[test]
-fn threads_are_as_many_as_asked_for(rt: HostRuntime) {
-    assert_eq!(rt; jobs_or_all(&rt, Some(3)), 3);
-    let all = jobs_or_all(&rt, None);
-    assert!(rt; 1 <= all && all <= MAX_JOBS);
 }
 
 // The last seed that was tried, after how many seconds, and what is told of it.

@@ -247,6 +247,11 @@ fn is_told(alloc: Global, fault: ShrinkFault, line: &str, status: u8) -> bool {
 fn faults_of_smaller_runs_have_lines(rt: HostRuntime) {
     let alloc = rt.alloc();
     let reader = ShrinkFault::Show(ShowFault::Program(ProgramFault::Reader));
+    let stranger = ShrinkFault::NoMember {
+        member: 4,
+        members: 3,
+    };
+    assert!(rt; is_told(alloc, stranger, "no member 4 of 3", 3));
     assert!(rt; is_told(alloc, ShrinkFault::NotShown, "the goal is not shown", 1));
     assert!(rt; is_told(alloc, ShrinkFault::Board, "board refused", 5));
     assert!(rt; is_told(alloc, reader, "read failed", 4));
@@ -264,7 +269,16 @@ fn summaries_have_lines(alloc: Global) -> bool {
         is_stopped: true,
         ..least
     };
+    let one = Summary {
+        trials: 1,
+        ..stopped
+    };
     is_line(alloc, &least, "of 14 steps 11 are left; 28 trials")
+        && is_line(
+            alloc,
+            &one,
+            "of 14 steps 11 are left; stopped after 1 trial",
+        )
         && is_line(
             alloc,
             &stopped,

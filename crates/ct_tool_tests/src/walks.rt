@@ -233,3 +233,41 @@ fn the_seed_that_comes_nearest_is_told(rt: HostRuntime) -> Result<(), Fail> {
     assert!(rt; tells_the_nearest(rt.alloc(), "any round >= 5000")?);
     Ok(())
 }
+
+// Goals of three members, and the line of each that names a member which they haven't.
+const STRANGE: [(&str, &str); 4] = [
+    ("3 up and any crashed", ""),
+    ("4 crashed", "--goal 4 crashed: no member 4 of 3"),
+    (
+        "any up and never 1,5 up",
+        "--goal any up and never 1,5 up: no member 5 of 3",
+    ),
+    (
+        "ever 0 up and 9 up",
+        "--goal ever 0 up and 9 up: no member 0 of 3",
+    ),
+];
+
+// The first of these that is told otherwise.
+fn told_otherwise(alloc: Global) -> Result<Option<&'static str>, AllocError> {
+    for (text, wanted) in STRANGE {
+        let told = match group_goal(alloc, 3, "goal", text) {
+            Ok(_) => String::new(alloc),
+            Err(fault) => format!(in alloc; "{fault}")?,
+        };
+        if told.as_str() != wanted {
+            return Ok(Some(text));
+        }
+    }
+    Ok(None)
+}
+
+#[test]
+fn a_group_has_the_members_of_its_goals(rt: HostRuntime) -> Result<(), Fail> {
+    assert_eq!(rt; told_otherwise(rt.alloc())?, None);
+    assert_eq!(rt;
+        goal(rt.alloc(), "1,3 up")?.and_then(|goal| stranger(2, &goal)),
+        Some(3)
+    );
+    Ok(())
+}
