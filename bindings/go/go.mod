@@ -1,0 +1,3 @@
+module malletochre
+
+go 1.19

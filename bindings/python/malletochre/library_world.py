@@ -1,0 +1,122 @@
+"""A world over libct.so."""
+from __future__ import annotations
+
+from ctypes import byref, c_uint32, c_uint64
+from typing import Any, List, Optional, Tuple
+
+from . import library
+from .envelopes import Ack, Content, Data, Decision, Envelope, Estimate, Message, Nack, Proposal
+from .refusal import Refusal, StepRefused
+from .steps import COMMANDS, WORD, Crash, Step, step_of_numbers, within
+
+REGISTERS = 16
+
+
+def _message(it: library.MessageNumbers) -> Message:
+    return Message(it.origin, it.number, COMMANDS[it.command - 1](it.reg, it.value))
+
+
+def _content(it: library.Letter) -> Content:
+    """What the envelope of these numbers carries."""
+    if it.kind == 1:
+        return Data(_message(it.message))
+    if it.kind == 2:
+        return Estimate(it.instance, it.round, it.source, it.ts)
+    if it.kind == 3:
+        return Proposal(it.instance, it.round)
+    if it.kind == 6:
+        return Decision(it.instance, it.round)
+    return Ack(it.instance, it.round, it.source) if it.kind == 4 else Nack(it.instance, it.round, it.source)
+
+
+class LibraryWorld:
+    """What a `World` asks of the library. Each call is given the struct at its one address."""
+
+    def __init__(self, members: int, cells: int, bound: int) -> None:
+        self._hold()
+        status = library.call("ct_world_open")(self._at, members, cells, bound)
+        if status:
+            raise MemoryError() if status == library.OUT_OF_MEMORY else ValueError("not a setup")
+
+    def _hold(self) -> None:
+        """A closed handle, and the calls that are made most."""
+        self._handle = library.Handle()
+        self._at = byref(self._handle)
+        self._apply, self._close = library.call("ct_apply"), library.call("ct_world_close")
+
+    def apply(self, step: Step) -> range:
+        effect = self._apply(self._at, *step.numbers())
+        first = effect.first
+        if effect.refusal:
+            raise StepRefused(step, Refusal(effect.refusal))
+        return range(first, first + effect.count)
+
+    def refusal(self, step: Step) -> Optional[Refusal]:
+        status = library.call("ct_enabled")(self._at, *step.numbers())
+        return Refusal(status) if status else None
+
+    def has_crashed(self, member: int) -> bool:
+        return self.refusal(Crash(member)) is Refusal.CRASHED
+
+    def next(self, member: int) -> Optional[Step]:
+        it = library.call("ct_next")(self._at, member)
+        return step_of_numbers(it.kind, it.member, it.a, it.b, it.c) if it.kind else None
+
+    def steps(self) -> List[Step]:
+        steps = self._list("ct_steps", library.StepNumbers, 0) or []
+        return [step_of_numbers(it.kind, it.member, it.a, it.b, it.c) for it in steps]
+
+    def serials(self, member: int) -> List[int]:
+        return self._list("ct_waiting", c_uint32, member) or []
+
+    def _list(self, name: str, kind: Any, *which: int) -> Optional[List[Any]]:
+        """The elements that the call of this name writes."""
+        at, call = self._at, library.call(name)
+
+        def fill(room: Any, length: int) -> int:
+            count: int = call(at, *which, room, length)
+            return count
+
+        return library.elements(kind, fill)
+
+    def _messages(self, name: str, *which: int) -> Optional[List[Message]]:
+        messages = self._list(name, library.MessageNumbers, *which)
+        return None if messages is None else [_message(it) for it in messages]
+
+    def envelope(self, serial: int) -> Optional[Envelope]:
+        within(WORD, serial=serial)
+        it = library.call("ct_envelope")(self._at, serial)
+        return Envelope(serial, it.to, _content(it)) if it.kind else None
+
+    def value(self, serial: int) -> Optional[Tuple[Message, ...]]:
+        within(WORD, serial=serial)
+        value = self._messages("ct_value", serial)
+        return None if value is None else tuple(value)
+
+    def received(self, member: int) -> List[Message]:
+        return self._messages("ct_received", member) or []
+
+    def decided(self, member: int, instance: int) -> Optional[Tuple[Message, ...]]:
+        within(WORD, instance=instance)
+        decision = self._messages("ct_decided", member, instance)
+        return None if decision is None else tuple(decision)
+
+    def delivered(self, member: int) -> List[Message]:
+        return self._messages("ct_delivered", member) or []
+
+    def table(self, member: int) -> List[int]:
+        return self._list("ct_table", c_uint64, member) or [0] * REGISTERS
+
+    def copy(self) -> LibraryWorld:
+        other = object.__new__(LibraryWorld)
+        other._hold()
+        if library.call("ct_copy")(self._at, other._at):
+            raise MemoryError
+        return other
+
+    def close(self) -> None:
+        self._close(self._at)
+
+    def __del__(self) -> None:
+        if hasattr(self, "_handle"):
+            self.close()

@@ -1,0 +1,20 @@
+//! Links libct.a of bindings/out, or of the folder that the variable CT_LIB_DIR names.
+
+use std::env;
+use std::path::PathBuf;
+
+fn main() {
+    let folder = match env::var_os("CT_LIB_DIR") {
+        Some(folder) => PathBuf::from(folder),
+        None => PathBuf::from(env!("CARGO_MANIFEST_DIR")).join("../out"),
+    };
+    let library = folder.join("libct.a");
+    println!("cargo:rerun-if-env-changed=CT_LIB_DIR");
+    println!("cargo:rerun-if-changed={}", library.display());
+    if !library.exists() {
+        eprintln!("no {}: bindings/build.sh makes it, or CT_LIB_DIR names the folder that has it", library.display());
+        std::process::exit(1);
+    }
+    println!("cargo:rustc-link-search=native={}", folder.display());
+    println!("cargo:rustc-link-lib=static=ct");
+}

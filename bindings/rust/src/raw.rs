@@ -1,0 +1,76 @@
+//! The C interface, as bindings/ct.h declares it; what the calls and numbers mean stands there.
+
+use std::ffi::c_void;
+
+/// In place of a count: there is no such list.
+pub const NONE: usize = usize::MAX;
+
+/// A world or a session, as C holds it: zeros at first.
+#[repr(C)]
+pub struct Handle {
+    pub at: *mut c_void,
+    pub is_open: bool,
+}
+
+#[repr(C)]
+#[derive(Clone, Copy, Default)]
+pub struct Step {
+    pub c: u64,
+    pub a: u32,
+    pub b: u8,
+    pub kind: u8,
+    pub member: u8,
+}
+
+#[repr(C)]
+#[derive(Clone, Copy)]
+pub struct Effect {
+    pub refusal: u32,
+    pub first: u32,
+    pub count: u32,
+}
+
+#[repr(C)]
+#[derive(Clone, Copy, Default)]
+pub struct Message {
+    pub value: u64,
+    pub number: u32,
+    pub origin: u8,
+    pub command: u8,
+    pub reg: u8,
+}
+
+#[repr(C)]
+#[derive(Clone, Copy, Default)]
+pub struct Letter {
+    pub message: Message,
+    pub instance: u32,
+    pub round: u32,
+    pub ts: u32,
+    pub kind: u8,
+    pub to: u8,
+    pub from: u8,
+}
+
+extern "C" {
+    pub fn ct_world_open(world: *mut Handle, members: u8, cells: u16, bound: u32) -> u32;
+    pub fn ct_world_close(world: *mut Handle);
+    pub fn ct_copy(from: *mut Handle, into: *mut Handle) -> u32;
+    pub fn ct_apply(world: *mut Handle, kind: u8, member: u8, a: u32, b: u8, c: u64) -> Effect;
+    pub fn ct_enabled(world: *mut Handle, kind: u8, member: u8, a: u32, b: u8, c: u64) -> u32;
+    pub fn ct_next(world: *mut Handle, member: u8) -> Step;
+    pub fn ct_steps(world: *mut Handle, from: usize, room: *mut Step, length: usize) -> usize;
+    pub fn ct_waiting(world: *mut Handle, member: u8, room: *mut u32, length: usize) -> usize;
+    pub fn ct_envelope(world: *mut Handle, serial: u32) -> Letter;
+    pub fn ct_value(world: *mut Handle, serial: u32, room: *mut Message, length: usize) -> usize;
+    pub fn ct_received(world: *mut Handle, member: u8, room: *mut Message, length: usize) -> usize;
+    pub fn ct_decided(world: *mut Handle, member: u8, instance: u32, room: *mut Message, length: usize) -> usize;
+    pub fn ct_delivered(world: *mut Handle, member: u8, room: *mut Message, length: usize) -> usize;
+    pub fn ct_table(world: *mut Handle, member: u8, room: *mut u64, length: usize) -> usize;
+    pub fn ct_session_open(session: *mut Handle) -> u32;
+    pub fn ct_session_close(session: *mut Handle);
+    pub fn ct_tell(session: *mut Handle, bytes: *const u8, length: usize) -> u32;
+    pub fn ct_answers(session: *mut Handle, room: *mut u8, length: usize) -> usize;
+    pub fn ct_record(session: *mut Handle) -> u32;
+    pub fn ct_diagram(session: *mut Handle) -> u32;
+}

@@ -1,0 +1,210 @@
+/* What calls answer on closed handles, in the wrong order, with wrong numbers and lengths, and on two threads with a handle each.
+   Prints `N passed, M failed`. */
+#include "ct.h"
+#include <pthread.h>
+#include <stdio.h>
+#include <string.h>
+
+enum { MEMBERS = 3, CELLS = 8, BOUND = 1048560, ROUNDS = 2000 };
+
+static int passed, failed;
+
+static void check(const char *what, bool holds) {
+    passed += holds;
+    failed += !holds;
+    if (!holds) {
+        printf("FAILED %s\n", what);
+    }
+}
+
+static size_t steps_of(ct_world *world) {
+    ct_step none;
+    return ct_steps(world, 0, &none, 0);
+}
+
+/* Each call on a closed world. */
+static void closed_world(ct_world *world, const char *what) {
+    ct_message message;
+    ct_step step;
+    uint32_t serial;
+    uint64_t value;
+    ct_world other = {0};
+    check(what, !world->is_open && ct_apply(world, CT_CRASH, 1, 0, 0, 0).refusal == CT_NOT_OPEN);
+    check(what, ct_apply(world, CT_CRASH, 1, 0, 0, 0).first == 0 && ct_apply(world, CT_CRASH, 1, 0, 0, 0).count == 0);
+    check(what, ct_enabled(world, CT_CRASH, 1, 0, 0, 0) == CT_NOT_OPEN);
+    check(what, ct_next(world, 1).kind == 0 && ct_envelope(world, 1).kind == 0);
+    check(what, ct_steps(world, 0, &step, 1) == CT_NONE && ct_waiting(world, 1, &serial, 1) == CT_NONE);
+    check(what, ct_value(world, 1, &message, 1) == CT_NONE && ct_received(world, 1, &message, 1) == CT_NONE);
+    check(what, ct_decided(world, 1, 1, &message, 1) == CT_NONE && ct_delivered(world, 1, &message, 1) == CT_NONE);
+    check(what, ct_table(world, 1, &value, 1) == CT_NONE);
+    check(what, ct_copy(world, &other) == CT_NOT_OPEN && !other.is_open);
+    ct_world_close(world);
+    check(what, !world->is_open && world->at == NULL);
+}
+
+static void setups(void) {
+    static const struct {
+        uint8_t members;
+        uint16_t cells;
+        uint32_t bound;
+    } bad[] = {{0, 1, 1}, {17, 1, 1}, {255, 1, 1}, {3, 1025, 1}, {3, 65535, 1}, {3, 1, 0}, {3, 1, 1048561}, {3, 1, UINT32_MAX}};
+    ct_world world = {0};
+    for (size_t i = 0; i < sizeof bad / sizeof *bad; i++) {
+        check("a bad setup", ct_world_open(&world, bad[i].members, bad[i].cells, bad[i].bound) == CT_BAD_SETUP && !world.is_open);
+    }
+    check("the largest setup", ct_world_open(&world, 16, 1024, 1048560) == CT_DONE && world.is_open);
+    ct_world_close(&world);
+    check("the least setup", ct_world_open(&world, 1, 0, 1) == CT_DONE && world.is_open);
+    ct_world_close(&world);
+    closed_world(&world, "a world that was closed");
+}
+
+static void bad_steps(ct_world *world) {
+    static const ct_step bad[] = {
+        {.kind = 0}, {.kind = 15}, {.kind = 255}, {.kind = CT_BEGIN, .a = 1}, {.kind = CT_BEGIN, .b = 1}, {.kind = CT_BEGIN, .c = 1},
+        {.kind = CT_RECEIVE, .a = 1, .b = 1}, {.kind = CT_RECEIVE, .a = 1, .c = 1}, {.kind = CT_CHOOSE, .a = 256},
+        {.kind = CT_CHOOSE, .a = 1, .c = 1}, {.kind = CT_SUBMIT}, {.kind = CT_SUBMIT, .a = 4}, {.kind = CT_SUBMIT, .a = 256 + CT_SET},
+        {.kind = CT_SUBMIT, .a = CT_COPY, .c = 256},
+    };
+    for (size_t i = 0; i < sizeof bad / sizeof *bad; i++) {
+        const ct_step *it = &bad[i];
+        ct_effect effect = ct_apply(world, it->kind, 1, it->a, it->b, it->c);
+        check("a bad step", effect.refusal == CT_BAD_STEP && effect.first == 0 && effect.count == 0);
+        check("a bad step", ct_enabled(world, it->kind, 1, it->a, it->b, it->c) == CT_BAD_STEP);
+    }
+    check("a bad step changes nothing", steps_of(world) == 0);
+}
+
+static void order(void) {
+    ct_world world = {0}, other = {0};
+    closed_world(&world, "a world that was never opened");
+    check("open", ct_world_open(&world, MEMBERS, CELLS, BOUND) == CT_DONE);
+    bad_steps(&world);
+    check("submit", ct_apply(&world, CT_SUBMIT, 1, CT_SET, 0, 7).count == MEMBERS);
+    void *at = world.at;
+    check("opened again", ct_world_open(&world, 1, 1, 1) == CT_ALREADY_OPEN && world.at == at && steps_of(&world) == 1);
+    check("no member", ct_apply(&world, CT_BEGIN, 4, 0, 0, 0).refusal == CT_NO_SUCH_MEMBER);
+    check("no register", ct_apply(&world, CT_SUBMIT, 1, CT_SET, 16, 7).refusal == CT_BAD_COMMAND);
+    check("begin too soon", ct_apply(&world, CT_BEGIN, 1, 0, 0, 0).refusal == CT_NOTHING);
+    check("begin too soon", ct_enabled(&world, CT_BEGIN, 1, 0, 0, 0) == CT_NOTHING);
+    check("another's serial", ct_apply(&world, CT_RECEIVE, 1, 2, 0, 0).refusal == CT_NOT_WAITING);
+    check("a refusal changes nothing", steps_of(&world) == 1);
+    check("copy", ct_copy(&world, &other) == CT_DONE && steps_of(&other) == 1);
+    check("copy into an open one", ct_copy(&world, &other) == CT_ALREADY_OPEN && steps_of(&other) == 1);
+    check("a copy is another world", ct_apply(&other, CT_CRASH, 2, 0, 0, 0).refusal == CT_DONE && steps_of(&world) == 1);
+    ct_world_close(&world);
+    check("a copy outlives", steps_of(&other) == 2 && ct_apply(&other, CT_RECEIVE, 1, 1, 0, 0).refusal == CT_DONE);
+    ct_world_close(&other);
+    check("opened once more", ct_world_open(&world, 1, 1, 1) == CT_DONE && steps_of(&world) == 0);
+    ct_world_close(&world);
+}
+
+static void lengths(void) {
+    ct_world world = {0};
+    uint32_t serials[4] = {9, 9, 9, 9};
+    ct_message messages[3];
+    ct_step steps[4];
+    uint64_t table[17];
+    memset(messages, 0x55, sizeof messages);
+    memset(table, 0x55, sizeof table);
+    memset(steps, 0x55, sizeof steps);
+    const uint64_t untouched = table[16];
+    check("open", ct_world_open(&world, 1, 1, BOUND) == CT_DONE);
+    for (int i = 0; i < 3; i++) {
+        check("submit", ct_apply(&world, CT_SUBMIT, 1, CT_ADD, 0, 5).first == (uint32_t)i + 1);
+    }
+    check("count", ct_waiting(&world, 1, serials, 0) == 3 && serials[0] == 9);
+    check("fewer", ct_waiting(&world, 1, serials, 2) == 3 && serials[0] == 1 && serials[1] == 2 && serials[2] == 9);
+    check("more", ct_waiting(&world, 1, serials, 4) == 3 && serials[2] == 3 && serials[3] == 9);
+    check("no line", ct_waiting(&world, 2, serials, 4) == CT_NONE && ct_waiting(&world, 0, serials, 4) == CT_NONE && serials[0] == 1);
+    for (uint32_t serial = 1; serial <= 3; serial++) {
+        check("receive", ct_apply(&world, CT_RECEIVE, 1, serial, 0, 0).refusal == CT_DONE);
+    }
+    check("received", ct_received(&world, 1, messages, 2) == 3 && messages[0].number == 1 && messages[1].number == 2);
+    check("received, behind the room", messages[2].origin == 0x55 && messages[1].value == 5 && messages[1].command == CT_ADD);
+    check("steps from a place", ct_steps(&world, 4, steps, 1) == 2 && steps[0].kind == CT_RECEIVE && steps[0].a == 2);
+    check("steps, behind the room", steps[1].kind == 0x55);
+    check("steps behind the end", ct_steps(&world, 6, steps, 4) == 0 && ct_steps(&world, SIZE_MAX, steps, 4) == 0 && steps[1].kind == 0x55);
+    check("table", ct_table(&world, 1, table, 16) == 16 && table[0] == 0 && table[16] == untouched);
+    check("no value", ct_value(&world, 1, messages, 3) == CT_NONE && ct_value(&world, 99, messages, 3) == CT_NONE);
+    check("no decision", ct_decided(&world, 1, 0, messages, 3) == CT_NONE && ct_decided(&world, 1, 1, messages, 3) == CT_NONE);
+    check("no envelope", ct_envelope(&world, 0).kind == 0 && ct_envelope(&world, 4).kind == 0 && ct_envelope(&world, 3).kind == CT_DATA);
+    check("nothing delivered", ct_delivered(&world, 1, messages, 0) == 0);
+    ct_world_close(&world);
+}
+
+static const uint8_t *bytes(const char *text) { return (const uint8_t *)text; }
+
+static void sessions(void) {
+    ct_session session = {0}, other = {0};
+    uint8_t room[16];
+    memset(room, 'x', sizeof room);
+    check("a closed session", ct_tell(&session, bytes("members 3\n"), 10) == CT_NOT_OPEN && ct_answers_length(&session) == CT_NONE);
+    check("a closed session", ct_answers(&session, room, 16) == CT_NONE && room[0] == 'x');
+    check("a closed session", ct_record(&session) == CT_NOT_OPEN && ct_diagram(&session) == CT_NOT_OPEN);
+    ct_session_close(&session);
+    check("open", ct_session_open(&session) == CT_DONE && ct_session_open(&session) == CT_ALREADY_OPEN);
+    check("nothing waits", ct_answers_length(&session) == 0 && ct_answers(&session, room, 16) == 0 && room[0] == 'x');
+    check("no world", ct_record(&session) == CT_NO_WORLD && ct_diagram(&session) == CT_NO_WORLD);
+    check("no bytes", ct_tell(&session, bytes(""), 0) == CT_DONE && ct_answers_length(&session) == 0);
+    check("a part of a line", ct_tell(&session, bytes("members"), 7) == CT_DONE && ct_answers_length(&session) == 0);
+    check("its end", ct_tell(&session, bytes(" 3\n1 sub"), 8) == CT_DONE && ct_answers_length(&session) == 3);
+    check("no world", ct_record(&session) == CT_NO_WORLD);
+    check("more lines", ct_tell(&session, bytes("mit set 0 7\n2 begin\n"), 20) == CT_DONE);
+    check("a part of the answers", ct_answers(&session, room, 6) == ct_answers_length(&session) && memcmp(room, "ok 1-3x", 7) == 0);
+    check("a question", ct_tell(&session, bytes("next 2\n"), 7) == CT_DONE && ct_answers(&session, room, 16) == 21);
+    check("its answer", memcmp(room, "next [\"receive\",", 16) == 0);
+    check("the record", ct_record(&session) == CT_DONE && ct_answers_length(&session) == 81 && ct_answers(&session, room, 8) == 81);
+    check("the record", memcmp(room, "{\"batch\"", 8) == 0);
+    check("the diagram", ct_diagram(&session) == CT_DONE && ct_answers(&session, room, 4) > 1000 && memcmp(room, "<svg", 4) == 0);
+    check("other sessions know nothing", ct_session_open(&other) == CT_DONE && ct_record(&other) == CT_NO_WORLD);
+    ct_session_close(&session);
+    check("closed", !session.is_open && ct_tell(&session, bytes("\n"), 1) == CT_NOT_OPEN);
+    ct_session_close(&other);
+}
+
+/* A world under turns of all members; how many messages member 1 delivered. */
+static void *rehearse(void *into) {
+    ct_world world = {0};
+    ct_world_open(&world, MEMBERS, 1024, BOUND);
+    for (int round = 0; round < ROUNDS; round++) {
+        ct_apply(&world, CT_SUBMIT, (uint8_t)(round % MEMBERS + 1), CT_ADD, 0, 1);
+        for (uint8_t member = 1; member <= MEMBERS; member++) {
+            ct_step step = ct_next(&world, member);
+            uint32_t serial;
+            if (step.kind != 0 && step.kind != CT_SUSPECT) {
+                ct_apply(&world, step.kind, member, step.a, step.b, step.c);
+            }
+            for (int i = 0; i < 4 && ct_waiting(&world, member, &serial, 1) > 0; i++) {
+                ct_apply(&world, CT_RECEIVE, member, serial, 0, 0);
+            }
+        }
+    }
+    ct_message none;
+    *(size_t *)into = ct_delivered(&world, 1, &none, 0);
+    ct_world_close(&world);
+    return NULL;
+}
+
+static void threads(void) {
+    pthread_t thread[2];
+    size_t delivered[3] = {0};
+    for (int i = 0; i < 2; i++) {
+        check("a thread", pthread_create(&thread[i], NULL, rehearse, &delivered[i]) == 0);
+    }
+    for (int i = 0; i < 2; i++) {
+        pthread_join(thread[i], NULL);
+    }
+    rehearse(&delivered[2]);
+    check("two threads with a world each", delivered[0] > 100 && delivered[0] == delivered[1] && delivered[0] == delivered[2]);
+}
+
+int main(void) {
+    setups();
+    order();
+    lengths();
+    sessions();
+    threads();
+    printf("%d passed, %d failed\n", passed, failed);
+    return failed != 0;
+}

@@ -1,0 +1,131 @@
+/* Refuses each allocation of a scenario in turn. Linked with -Wl,--wrap=malloc,--wrap=realloc,--wrap=free: the n-th call for memory answers
+   null. Then the call that asked answers CT_OUT_OF_MEMORY and leaves what its contract says, the scenario is done again where it was
+   stopped, and all memory is given back. Prints `N passed, M failed`, where N is the number of allocations. */
+#include "ct.h"
+#include <stdio.h>
+#include <stdlib.h>
+#include <string.h>
+
+void *__real_malloc(size_t n);
+void *__real_realloc(void *at, size_t n);
+void __real_free(void *at);
+
+static long asked, refused_at, held;
+static bool has_refused;
+
+static bool refuses(void) {
+    has_refused = has_refused || asked + 1 == refused_at;
+    return ++asked == refused_at;
+}
+
+void *__wrap_malloc(size_t n) {
+    void *at = refuses() ? NULL : __real_malloc(n);
+    held += at != NULL;
+    return at;
+}
+
+void *__wrap_realloc(void *at, size_t n) {
+    void *new = refuses() ? NULL : __real_realloc(at, n);
+    held += new != NULL && at == NULL;
+    return new;
+}
+
+void __wrap_free(void *at) {
+    held -= at != NULL;
+    __real_free(at);
+}
+
+/* Whether what happened here is what should: the call is refused exactly where an allocation was. */
+static bool is_told(uint32_t status, bool refused_before) { return (status == CT_OUT_OF_MEMORY) == (has_refused && !refused_before); }
+
+static size_t steps_of(ct_world *world) {
+    ct_step none;
+    return ct_steps(world, 0, &none, 0);
+}
+
+/* The step; where memory is refused nothing has changed, and the second try does it. */
+static bool step(ct_world *world, uint8_t kind, uint8_t member, uint32_t a, uint8_t b, uint64_t c) {
+    bool before = has_refused;
+    size_t steps = steps_of(world);
+    uint32_t status = ct_apply(world, kind, member, a, b, c).refusal;
+    if (!is_told(status, before)) {
+        return false;
+    }
+    if (status == CT_OUT_OF_MEMORY) {
+        return steps_of(world) == steps && ct_apply(world, kind, member, a, b, c).refusal == CT_DONE;
+    }
+    return steps_of(world) == steps + (status == CT_DONE);
+}
+
+static bool turns(ct_world *world) {
+    bool good = true;
+    for (int round = 0; round < 40; round++) {
+        good = good && step(world, CT_SUBMIT, (uint8_t)(round % 3 + 1), CT_ADD, 1, 1);
+        for (uint8_t member = 1; member <= 3; member++) {
+            ct_step next = ct_next(world, member);
+            uint32_t serial;
+            if (next.kind != 0 && next.kind != CT_SUSPECT) {
+                good = good && step(world, next.kind, member, next.a, next.b, next.c);
+            } else if (ct_waiting(world, member, &serial, 1) > 0) {
+                good = good && step(world, round % 7 ? CT_RECEIVE : CT_POSTPONE, member, serial, 0, 0);
+            }
+        }
+    }
+    return good;
+}
+
+static bool worlds(void) {
+    ct_world world = {0}, other = {0};
+    bool before = has_refused;
+    uint32_t status = ct_world_open(&world, 3, 64, 1048560);
+    bool good = is_told(status, before) && (status == CT_DONE) == world.is_open;
+    if (status != CT_DONE) {
+        good = good && ct_world_open(&world, 3, 64, 1048560) == CT_DONE;
+    }
+    good = good && turns(&world);
+    before = has_refused;
+    status = ct_copy(&world, &other);
+    good = good && is_told(status, before) && (status == CT_DONE) == other.is_open;
+    good = good && (status != CT_DONE || steps_of(&other) == steps_of(&world));
+    ct_world_close(&world);
+    ct_world_close(&other);
+    return good;
+}
+
+static bool sessions(void) {
+    static const char text[] = "members 3\n1 submit set 0 7\nall turns 12\n2 begin\nreport\nstate 1\nexpect all delivered 1.1\nwaiting 2\n";
+    ct_session session = {0};
+    bool before = has_refused, good;
+    uint32_t status = ct_session_open(&session);
+    good = is_told(status, before) && (status == CT_DONE) == session.is_open;
+    if (status == CT_DONE) {
+        before = has_refused;
+        status = ct_tell(&session, (const uint8_t *)text, sizeof text - 1);
+        good = good && is_told(status, before) && (status == CT_DONE) == session.is_open;
+    }
+    for (int i = 0; session.is_open && i < 2; i++) {
+        before = has_refused;
+        status = i == 0 ? ct_record(&session) : ct_diagram(&session);
+        good = good && is_told(status, before) && session.is_open && (status == CT_DONE || ct_answers_length(&session) == 0);
+    }
+    ct_session_close(&session);
+    return good;
+}
+
+int main(void) {
+    int passed = 0, failed = 0;
+    do {
+        asked = 0, has_refused = false, refused_at++;
+        bool good = worlds();
+        good = sessions() && good;
+        good = good && held == 0;
+        passed += good;
+        failed += !good;
+        if (!good) {
+            held = 0;
+            printf("FAILED allocation %ld\n", refused_at);
+        }
+    } while (has_refused);
+    printf("%d passed, %d failed\n", passed, failed);
+    return failed != 0;
+}
