@@ -30,9 +30,12 @@ fn write(path: &str) -> Result<()> {
 }
 
 fn main() -> ExitCode {
-    let Some(path) = std::env::args().nth(1) else {
-        eprintln!("usage: log_demo FILE");
-        return ExitCode::from(2);
+    let path = match std::env::args().nth(1) {
+        Some(path) => path,
+        None => {
+            eprintln!("usage: log_demo FILE");
+            return ExitCode::from(2);
+        }
     };
     match write(&path) {
         Ok(()) => ExitCode::SUCCESS,
