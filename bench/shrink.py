@@ -137,7 +137,7 @@ def shrunk(tool: str, record: bytes, text: str, *words: str) -> Left:
     made = ran([tool, "record"], done.stdout)
     if made.returncode:
         return Left(before, 0, None, seconds, [f"its schedule is not taken: {made.stderr.decode().strip()}"])
-    trials = re.search(r"(\d+) trials", told)
+    trials = re.search(r"(\d+) trials?", told)
     faults = faults_of(record, made.stdout, goal, before, "stopped" in told)
     if ran([tool, "shrink", "--goal", text, "--record", *words], record).stdout != made.stdout:
         faults.append("--record writes another record")

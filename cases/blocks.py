@@ -4,7 +4,7 @@ programs' help and of docs/man/*.text.
 
     blocks.py CT CT_TOOL
 
-All is run in a copy of docs/, examples/, bench/ and cases/, in which crates/NAME/out/NAME and, on the path, NAME are the
+All is run in a copy of docs/, examples/, bench/, cases/ and bindings/python/, in which crates/NAME/out/NAME and, on the path, NAME are the
 built programs. At the beginning of each document and each help run.json and another.json are a record, run.txt a schedule, 1.log, 2.log
 and 3.log the logs of a run's members; commands find what those before them wrote. A block is told by its first line:
 
@@ -140,7 +140,7 @@ class Tree:
 
     def __init__(self, folder: str, ct: str, tool: str) -> None:
         self.folder = folder
-        for name in ("docs", "examples", "bench", "cases"):
+        for name in ("docs", "examples", "bench", "cases", "bindings/python"):
             shutil.copytree(os.path.join(ROOT, name), os.path.join(folder, name))
         for name, program in (("ct", ct), ("ct_tool", tool)):
             for place in (os.path.join("crates", name, "out"), "bin"):

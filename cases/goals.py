@@ -1,7 +1,7 @@
 #!/usr/bin/env python3
 """Checks `ct_tool find` and `ct_tool shrink` over many goals: what is found is the same with 1, 2 and 4 jobs, and the least of the seeds
 by the model of bench/, and so is what is counted; what is left of a run is a run that shows its goal, and no longer does without any of
-its lines; the table of docs/GOALS.md is right.
+its lines; the smallest run that is left of several walks is that of one after the other; the table of docs/GOALS.md is right.
 
     goals.py CT_TOOL        the last line is N passed, M failed
 """
@@ -142,6 +142,15 @@ TALLIES = [
     Case("any suspects up", CALM, 9, 9, False),
 ]
 
+# Of how many walks the smallest run is wanted: goals, and the options of the walks and their seeds.
+BESTS = [
+    (3, Case("any suspects up", QUICK, 1, 50, True)),
+    (4, Case("any round >= 3", CALM, 1, 400, True)),
+    (9, Case("any decided 2", QUICK, 188, 480, True)),    # fewer walks show it
+    (1, Case("any chooses unseen", LOSSY, 3, 9, True)),
+    (5, Case("any round >= 60", QUICK, 1, 30, False)),
+]
+
 # What is shrunk: goals, and the options of the walks in which they are found.
 SHRUNK = [
     ("any round >= 5", QUICK),
@@ -220,6 +229,43 @@ def faults_of_shrunk(tool: str, goal: str, options: str) -> List[str]:
         return [f"nothing is found: {told}"]
     left = shrink.shrunk(tool, record, goal)
     return left.faults + ([] if 0 < left.after < left.before else [f"{left.after} of {left.before} steps are left"])
+
+
+def hits_of(tool: str, case: Case, most: int) -> List[int]:
+    """So many of the first seeds whose walks show the goal, or all of them."""
+    hits: List[int] = []
+    first = case.first
+    while first <= case.last and len(hits) < most:
+        status, _, told = find(tool, case._replace(first=first))
+        if status:
+            break
+        hits.append(int(told[len("seed "):told.index(":")]))
+        first = hits[-1] + 1
+    return hits
+
+
+def faults_of_best(tool: str, most: int, case: Case) -> List[str]:
+    """What is wrong with the smallest run that is left of so many walks."""
+    best, wrong = ["--best", str(most)], []
+    for words in ([], ["--record"], ["--tries", "7"]):
+        made = [find(tool, case, *best, *words, "--jobs", jobs) for jobs in JOBS]
+        wrong += [f"with {jobs} jobs it is another answer: {other[2]!r}" for jobs, other in zip(JOBS, made) if other != made[0]]
+        status, text, told = made[0]
+        if not case.is_found:
+            wrong += [] if (status, text, told) == (*find(tool, case)[:2], find(tool, case)[2]) else [f"it tells {told!r}"]
+            continue
+        hits = hits_of(tool, case, most)
+        left = {}
+        for seed in hits:
+            record = find(tool, case._replace(first=seed, last=seed))[1]
+            left[seed] = shrink.ran([tool, "shrink", "--goal", case.goal, *words], record)
+        sizes = {seed: int(done.stderr.split()[3]) for seed, done in left.items()}
+        seed = min(hits, key=lambda seed: (sizes[seed], seed))
+        again = find(tool, case._replace(first=seed, last=seed))[2].splitlines()[1]
+        wanted = f"seed {seed}, best of {len(hits)}: {left[seed].stderr.decode()}{again}\n"
+        wrong += [] if (status, told) == (0, wanted) else [f"{words}: it tells {told!r}, not {wanted!r}"]
+        wrong += [] if text == left[seed].stdout else [f"{words}: it writes another run than `shrink` of seed {seed}"]
+    return wrong
 
 
 def sizes_of(tool: str, case: Case) -> List[Tuple[int, int]]:
@@ -315,6 +361,8 @@ def main() -> int:
     for case in TALLIES:
         checks.append((f"count {case.goal}, seeds {case.first}..{case.last}", lambda case=case: faults_of_count(tool, case)))
     checks.append(("--json alone", lambda: faults_of_json_alone(tool)))
+    for most, case in BESTS:
+        checks.append((f"best of {most}, {case.goal}", lambda most=most, case=case: faults_of_best(tool, most, case)))
     for goal, walks in SHRUNK:
         checks.append((f"shrink {goal}", lambda goal=goal, walks=walks: faults_of_shrunk(tool, goal, walks)))
     checks.append(("what is no goal", lambda: faults_of_words(tool)))

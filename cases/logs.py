@@ -1,6 +1,6 @@
 #!/usr/bin/env python3
-"""Checks what `ct_tool merge` says of logs: small ones by hand, the cluster of examples/ with members killed and with each of its
-mistakes, and a comparison with a search through all orders.
+"""Checks what `ct_tool merge` says of logs: small ones by hand, logs that grow, the cluster of examples/ with members killed and with each
+of its mistakes, and a comparison with a search through all orders.
 
     logs.py CT_TOOL        the last line is N passed, M failed; needs cc and rustc
 """
@@ -11,13 +11,15 @@ import re
 import subprocess
 import sys
 import tempfile
-from typing import Dict, List, NamedTuple
+import time
+from typing import Dict, List, NamedTuple, Sequence, Tuple
 
 HERE = os.path.dirname(os.path.abspath(__file__))
 SECONDS = 20
 SECONDS_OF_RUNS = 120
 RUNS_OF_A_MISTAKE = 3
 SETS = 40
+MOMENT = 0.3    # between what a writer appends
 
 
 class Case(NamedTuple):
@@ -57,6 +59,7 @@ CASES = [
          "refused: 1.log line 1: receive data 2.1 from 2: it waits for a line that waits for it"),
     Case("a word that is no act", {"1.log": "members 1\nrecieve data 1.1 from 1\n"}, 2,
          "1.log line 2: recieve data 1.1 from 1: not understood: recieve is no act; receive?"),
+    Case("a record", {"1.log": '{"batch":1048560,"cells":64,"n":1,"steps":[]}\n'}, 2, "1.log: this is a record, not the log of a member"),
     Case("turns", {"1.log": "members 1\n1 turns 4\n"}, 2, "1.log line 2: 1 turns 4: no act of one member, as a log has"),
     Case("a receipt without its sender", {"1.log": "members 1\nreceive data 1.1\n"}, 2,
          "1.log line 2: receive data 1.1: the sender is missing: from and a member"),
@@ -102,6 +105,48 @@ CASES = [
 ]
 
 
+class Growing(NamedTuple):
+    """Logs that grow while they are followed: what stands there first, and what is appended later, to which log."""
+    name: str
+    logs: Dict[str, str]
+    later: Sequence[Tuple[str, str]]
+    options: Sequence[str]
+    status: int
+    told: str
+
+
+CRASHED = {"1.log": GOSSIP["1.log"] + "crash\n", "2.log": GOSSIP["2.log"]}
+
+GROWING = [
+    Growing("lines that come", {"1.log": "", "2.log": ""},
+            [("2.log", GOSSIP["2.log"]), *[("1.log", f"{line}\n") for line in GOSSIP["1.log"].splitlines()]], ("--idle", "1"), 0,
+            "accepted: 2 members, 3 lines; instances 0, largest round 0, suspicions 0, choices between different ts 0, repetitions 0"),
+    Growing("a line that is refused at once", GOSSIP, [("2.log", "2 begin\n2 begin\n")], (), 1,
+            "refused: 2.log line 3: 2 begin: member 2 is refused Busy"),
+    Growing("a line that is refused once its log has come to it", {**GOSSIP, "1.log": "members 2\nsubmit set 0 8\n"}, [], (), 1,
+            "refused: 2.log line 1: 2 receive data 1.1 from 1 set 0 7: member 2 came to set 0 8"),
+    Growing("a line that waits, and is refused in the end", {**GOSSIP, "2.log": "2 receive data 1.2 from 1\n"}, [("1.log", "crash\n")],
+            ("--idle", "1"), 1,
+            "refused: 2.log line 1: 2 receive data 1.2 from 1: it was not sent before, and member 1 can't send it any more"),
+    Growing("a log that ends too early", {**GOSSIP, "2.log": "2 receive data 1.2 from 1\n"}, [], ("--idle", "1"), 6,
+            "cut: 2.log line 1: 2 receive data 1.2 from 1: the log of member 1 ends before it is sent"),
+    Growing("a torn line that is completed", {**GOSSIP, "2.log": "2 receive data 1.1 fr"},
+            [("2.log", "om 1 set 0 7\n")], ("--idle", "1"), 0,
+            "accepted: 2 members, 3 lines; instances 0, largest round 0, suspicions 0, choices between different ts 0, repetitions 0"),
+    Growing("a torn line that stays so", {**GOSSIP, "2.log": "2 receive data 1.1 fr"}, [], ("--idle", "1"), 0,
+            "accepted: 2 members, 2 lines; instances 0, largest round 0, suspicions 0, choices between different ts 0, repetitions 0\n"
+            "note: 2.log line 1: 2 receive data 1.1 fr: no line feed ends it, so it is left out"),
+    Growing("all crash", CRASHED, [("2.log", "crash\n")], (), 0,
+            "accepted: 2 members, 5 lines; instances 0, largest round 0, suspicions 0, choices between different ts 0, repetitions 0"),
+    Growing("no members", {"1.log": "submit set 0 7\nreceive data 1.1 from 1\n", "2.log": GOSSIP["2.log"]}, [], ("--idle", "1"), 0,
+            "accepted: 2 members, 3 lines; instances 0, largest round 0, suspicions 0, choices between different ts 0, repetitions 0"),
+    Growing("another number of the group", GOSSIP, [("2.log", "members 3\n")], (), 2,
+            "2.log: members 3, and a log before it has members 2"),
+    Growing("a word that is no act", GOSSIP, [("2.log", "2 bgin\n")], (), 2,
+            "2.log line 2: 2 bgin: not understood: bgin is no act; begin?"),
+]
+
+
 def ran(words: List[str], folder: str, seconds: int = SECONDS) -> "subprocess.CompletedProcess[bytes]":
     return subprocess.run(words, cwd=folder, stdin=subprocess.DEVNULL, stdout=subprocess.PIPE, stderr=subprocess.PIPE, timeout=seconds)
 
@@ -130,6 +175,32 @@ def faults_of_written(tool: str, case: Case, folder: str, schedule: bytes) -> Li
     if made.returncode or not made.stdout:
         return [f"of its schedule no record is made: {made.stderr.decode()}"]
     return [] if made.stdout == written.stdout else ["of its schedule another record is made than is written"]
+
+
+def faults_of_growing(tool: str, case: Growing) -> List[str]:
+    """What is wrong with what the tool says of logs that grow; of those that are accepted it writes what it writes of them as a whole."""
+    with tempfile.TemporaryDirectory() as folder:
+        for name, text in case.logs.items():
+            with open(os.path.join(folder, name), "w", encoding="utf-8") as file:
+                file.write(text)
+        words = [tool, "merge", "--follow", *case.options, *case.logs]
+        with subprocess.Popen(words, cwd=folder, stdin=subprocess.DEVNULL, stdout=subprocess.PIPE, stderr=subprocess.PIPE) as running:
+            for name, text in case.later:
+                time.sleep(MOMENT)
+                with open(os.path.join(folder, name), "a", encoding="utf-8") as file:
+                    file.write(text)
+            try:
+                output, told = running.communicate(timeout=SECONDS)
+            except subprocess.TimeoutExpired:
+                running.kill()
+                return ["it doesn't end"]
+        wrong = [] if running.returncode == case.status else [f"status {running.returncode}, not {case.status}"]
+        said = told.decode().rstrip("\n")
+        wrong += [] if said == case.told else [f"it tells '{said}', not '{case.told}'"]
+        whole = ran([tool, "merge", *case.logs], folder)
+        if case.status == 0 and sorted(output.splitlines()) != sorted(whole.stdout.splitlines()):
+            wrong.append("of the whole logs something else is written")
+        return wrong + (["something is written"] if case.status and output else [])
 
 
 def runs_of(tool: str, *options: str) -> List[str]:
@@ -179,6 +250,7 @@ def faults_of_search(tool: str) -> List[str]:
 def main() -> int:
     tool = os.path.abspath(sys.argv[1])
     checks = [(case.name, faults_of(tool, case)) for case in CASES]
+    checks += [(f"followed: {case.name}", faults_of_growing(tool, case)) for case in GROWING]
     in_c = ["cc", "-std=c11", "-Wall", "-Wextra", "-Werror"]
     in_rust = ["rustc", "--edition", "2021", "-D", "warnings", "-A", "dead_code"]
     checks.append(("the log of a program in C", faults_of_program(tool, "c/log_demo.c", in_c, "1.1")))
