@@ -3,8 +3,9 @@
 #
 #     bindings/build.sh [ARCHIVE]
 #
-# ARCHIVE: the static library; crates/ct_embed/out/libct_embed.a if left out. Where that isn't there `rt lib` proves and builds it. Both
-# libraries define `ct_*` and nothing else, and need malloc, realloc, free, memcpy, memmove and memset: the three functions by which the
+# ARCHIVE: the static library; crates/ct_embed/out/libct_embed.a if left out. Where that isn't there it is proved and built, over what
+# `rt ci` left of the crates below it (archive.py) or, where that isn't there either, by `rt lib`, which proves them too. Both libraries
+# define `ct_*` and nothing else, and need malloc, realloc, free, memcpy, memmove and memset: the three functions by which the
 # code asks for memory (liblibc_c.a of the toolchain) are kept in.
 set -euo pipefail
 
@@ -18,7 +19,7 @@ for tool in rt cc ld objcopy ar; do
 done
 heap=$(dirname "$(realpath "$(command -v rt)")")/../c/liblibc_c.a
 [[ -e $heap ]] || { echo "bindings/build.sh: no $heap" >&2; exit 2; }
-[[ $# -gt 0 || -e $archive ]] || (cd "$crate" && rt lib)
+[[ $# -gt 0 || -e $archive ]] || python3 "$here/archive.py" || (cd "$crate" && rt lib)
 [[ -e $archive ]] || { echo "bindings/build.sh: no $archive" >&2; exit 2; }
 
 mkdir -p "$out"
