@@ -15,6 +15,7 @@ impl Handle {
         Handle(NonNull::from(Box::leak(Box::new(raw::Handle { at: null_mut(), is_open: false }))))
     }
 
+    #[inline]
     pub(crate) fn at(&self) -> *mut raw::Handle {
         self.0.as_ptr()
     }

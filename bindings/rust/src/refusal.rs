@@ -94,6 +94,7 @@ const NUMBERED: [Refusal; 24] = [
 
 impl Refusal {
     /// The refusal of this number of ct.h, or Ok at 0. Others never come where a step is well formed and the world open.
+    #[inline]
     pub(crate) fn of(number: u32) -> Result<(), Refusal> {
         match number {
             0 => Ok(()),

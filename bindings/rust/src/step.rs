@@ -50,6 +50,7 @@ impl Step {
     }
 
     /// The step by its numbers of ct.h.
+    #[inline]
     pub(crate) fn numbers(self) -> raw::Step {
         let of = |kind, member, a| raw::Step { kind, member, a, ..raw::Step::default() };
         match self {
