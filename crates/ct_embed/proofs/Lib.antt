@@ -1,4 +1,5 @@
 pub mod Apart
+pub mod Copying
 pub mod Hearing
 pub mod Rooms
 pub mod SessionAtHeap

@@ -5,6 +5,7 @@ pub mod MessageCodes
 pub mod Opening
 pub mod OwnedSession
 pub mod OwnedWorld
+pub mod Owning
 pub mod RefusalNumbers
 pub mod Rooms
 pub mod Seen

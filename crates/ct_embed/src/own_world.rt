@@ -1,6 +1,6 @@
 //! A world with a board of its own.
 
-ghost use Rattle.std.specs.Prelude.{◌≡◌, [], None, OnOk, OnErr, IfOk, IfErr};
+ghost use Rattle.std.specs.Prelude.{◌≡◌, ◌⊎◌, [], None, OnOk, OnErr, IfOk, IfErr};
 ghost use Rattle.ct_model.specs.Cause.{cause};
 ghost use Rattle.ct_model.specs.Rehearsal.{state_of};
 ghost use Rattle.ct_model.specs.Run.{run};
@@ -27,14 +27,14 @@ pub(crate) struct OwnWorld {
 
 // Contracts see the record.
 impl Model for OwnWorld {
-    ghost use Rattle.std.specs.Prelude.{◌≡◌, None};
     ghost use Rattle.ct_model.specs.Rehearsal.{Rehearsal};
+    ghost use Rattle.ct_embed.specs.Owning.{IsOwn};
 
     ghost Value = { Rehearsal };
 
     ghost view = { λ w. w.world.rehearsal };
 
-    ghost invariant = { λ w. w.world.prepared ≡ None };
+    ghost invariant = { λ w. IsOwn w.world };
 }
 
 impl OwnWorld {
@@ -64,9 +64,10 @@ impl OwnWorld {
         Ok(Sent::after(before, count))
     }
 
-    // A world of its own with the same setup and record.
+    // A world of its own with the same setup and record. Only memory or the new board can refuse.
     pub(crate) fn copy(&self, alloc: Global) -> Result<OwnWorld, Refusal>
-        ensures { IfOk result (λ own. own ≡ self.now) }
+        ensures ok { IfOk result (λ own. own ≡ self.now) }
+        ensures err { IfErr result (λ refusal. (refusal ≡ Refusal.OutOfMemory) ⊎ (refusal ≡ Refusal.Board)) }
     {
         let world = &self.world;
         match World::replay(

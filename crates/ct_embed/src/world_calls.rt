@@ -23,7 +23,7 @@ use crate::applied::Applied;
 use crate::held_world::HeldWorld;
 use crate::letter_code::LetterCode;
 use crate::message_code::MessageCode;
-use crate::numbers::{ALREADY_OPEN, BAD_SETUP, BAD_STEP, NOT_OPEN, OUT_OF_MEMORY};
+use crate::numbers::{ALREADY_OPEN, BAD_SETUP, BAD_STEP, BOARD, NOT_OPEN, OUT_OF_MEMORY};
 use crate::own_world::OwnWorld;
 use crate::refusal_number::refusal_number;
 use crate::room::{NONE, copy_messages, copy_serials, copy_steps, copy_table};
@@ -80,6 +80,7 @@ pub extern "C" fn ct_copy(from: &mut HeldWorld, into: &mut HeldWorld, alloc: Glo
     ensures closed { world_in from.old ≡ None → result ≡ NOT_OPEN }
     ensures open { world_in from.old ≢ None → IfSome (world_in into.old) (λ w. result ≡ ALREADY_OPEN) }
     ensures ok { result ≡ 0 → world_in into.new ≡ world_in from.old }
+    ensures refusal { IsNumber result (0 ∷ NOT_OPEN ∷ ALREADY_OPEN ∷ OUT_OF_MEMORY ∷ BOARD ∷ []) }
     ensures err { result ≢ 0 → world_in into.new ≡ world_in into.old }
     ensures same { world_in from.new ≡ world_in from.old }
 {
@@ -94,6 +95,7 @@ pub extern "C" fn ct_copy(from: &mut HeldWorld, into: &mut HeldWorld, alloc: Glo
 fn copy_into(own: &OwnWorld, into: &mut HeldWorld, alloc: Global) -> u32
     ensures open { IfSome (world_in into.old) (λ w. result ≡ ALREADY_OPEN) }
     ensures ok { result ≡ 0 → world_in into.new ≡ Some own.now }
+    ensures refusal { IsNumber result (0 ∷ ALREADY_OPEN ∷ OUT_OF_MEMORY ∷ BOARD ∷ []) }
     ensures err { result ≢ 0 → world_in into.new ≡ world_in into.old }
 {
     if let Some(other) = into.take(alloc) {
