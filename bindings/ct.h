@@ -164,7 +164,7 @@ uint32_t ct_world_open(ct_world *world, uint8_t members, uint16_t cells, uint32_
 void ct_world_close(ct_world *world) CT_NONNULL;
 
 /* Makes `into`, which is closed, a world of its own with the same setup and record as `from`. CT_DONE, CT_NOT_OPEN where `from` is
-   closed, CT_ALREADY_OPEN where `into` is open, or CT_OUT_OF_MEMORY. Takes as long as replaying the record. */
+   closed, CT_ALREADY_OPEN where `into` is open, CT_OUT_OF_MEMORY or CT_BOARD. Takes as long as replaying the record. */
 uint32_t ct_copy(ct_world *from, ct_world *into) CT_NONNULL;
 
 /* Does the step, or refuses it: refusal is CT_DONE, CT_NOT_OPEN, CT_BAD_STEP, or 1 to 24. Takes time by what the step touches. */

@@ -152,9 +152,10 @@ pub extern "C" fn ct_apply(
         kind,
         member,
     };
-    let applied = match code.step() {
+    let step = code.step();
+    let applied = match &step {
         None => Applied::refused(BAD_STEP),
-        Some(step) => match own.apply(&step) {
+        Some(step) => match own.apply(step) {
             Ok(sent) => Applied::done(sent),
             Err(refusal) => Applied::refused(refusal_number(refusal)),
         },
