@@ -1,9 +1,8 @@
 -- Walks, turn by turn.
 use Rattle.std.proofs.Common.{◌≡◌, ◌+◌, ◌-◌, ℕ, zero, suc, Bool, true, false, List, [], ◌∷◌, ◌++◌, refl, ap, sym, ◌∙◌, subst}
-use Rattle.std.proofs.Common.{arith, set}
 use Rattle.std.proofs.lemmas.List.{append_cancel_left}
-use Rattle.std.proofs.lemmas.Bool.Decides.{nat_tests}
 use Rattle.std.specs.Prelude.{◌%◌, if◌then◌else◌, nat_lt, Option, Some, None, is_none, option_map, slice_get, ⊤}
+use Rattle.ct_names.specs.Prefix.{IsPrefix}
 use Rattle.ct_names.specs.declared.refusal.Refusal.{Refusal}
 use Rattle.ct_model.specs.Cause.{cause}
 use Rattle.ct_model.specs.Rehearsal.{Rehearsal, empty, extended}
@@ -17,24 +16,17 @@ use Rattle.ct_rehearse.specs.declared.disturbance.Disturbance.{Disturbance}
 use Rattle.ct_rehearse.specs.declared.disturbance.Disturbance.TheVariants as entry
 use Rattle.ct_grammar.specs.declared.goal.Goal.{Goal}
 use Rattle.ct_program.specs.FreeOptions.{setting_of}
-use Rattle.ct_program.specs.Seeding.{detector_of, first_detectors}
+use Rattle.ct_program.specs.Seeding.{first_detectors}
 use Rattle.ct_program.specs.declared.free_options.FreeOptions.{FreeOptions}
 use Rattle.ct_play.specs.Played.{Played}
 use Rattle.ct_walk.specs.Shown.{is_shown_by}
-use Rattle.ct_walk.specs.Walking.{Walk, after_answer, after_ask, after_entry, after_script, answer, drawn, drawn_scripts, driven, entered}
-use Rattle.ct_walk.specs.Walking.{is_due, left_of, made_by, most_turns, says_yes, start, turned, walked, walked_for, workers}
+use Rattle.ct_walk.specs.Walking.{Walk, after_answer, after_entry, after_script, answer, drawn, drawn_scripts, driven, entered}
+use Rattle.ct_walk.specs.Walking.{is_due, left_of, made_by, most_turns, start, turned, walked, walked_for, workers}
 use Rattle.ct_walk.specs.declared.options.WalkOptions.{WalkOptions}
 use Rattle.ct_laws.specs.Places.{AreAllowed, behind}
 use Rattle.ct_laws.specs.Walks.{HaveNoSuspicion, is_suspicion}
 use Rattle.ct_laws.proofs.Deeds.{Grows, grows_not, grows_on}
-
--- ---- answers
-
-pub always_yes : (d : SeededState) → d.rate ≡ 256 → says_yes d ≡ true
-always_yes d h = grind (arith, nat_tests)
-
-pub never_yes : (d : SeededState) → d.rate ≡ 0 → says_yes d ≡ false
-never_yes d h = grind (arith, nat_tests)
+use Rattle.ct_laws.proofs.Rates.{AllRated, never_yes, rated_first, rated_there, still_rated}
 
 -- ---- what is tried without a yes
 
@@ -144,42 +136,20 @@ try_goes quiet w (Some step) h = free_goes quiet w step (cause w step) refl h
 
 -- ---- detectors of rate 0
 
-abbrev AllNever : List SeededState → Type 0
-AllNever [] = ⊤
-AllNever (d ∷ ds) = (d.rate ≡ 0) × AllNever ds
-
 abbrev AreSilent : Bool → List SeededState → Type 0
-AreSilent true ds = AllNever ds
+AreSilent true ds = AllRated 0 ds
 AreSilent false ds = ⊤
-
-never_there : (ds : List SeededState) (i : ℕ) (d : SeededState) → AllNever ds → slice_get ds i ≡ Some d → d.rate ≡ 0
-never_there [] i d h is = absurd (cc is)
-never_there (x ∷ ds) zero d h is =
-    let same : x ≡ d = cc is in
-    ap (λ (y : SeededState). y.rate) (sym same) ∙ h.0
-never_there (x ∷ ds) (suc i) d h is = never_there ds i d h.1 is
-
-never_set : (ds : List SeededState) (i : ℕ) (d : SeededState) → AllNever ds → d.rate ≡ 0 → AllNever (set ds i d)
-never_set [] i d h k = tt
-never_set (x ∷ ds) zero d h k = (k, h.1)
-never_set (x ∷ ds) (suc i) d h k = (h.0, never_set ds i d h.1 k)
-
-answered_never : (ds : List SeededState) (p : ℕ) (ask : Option Ask) (o : Option SeededState) → slice_get ds (p - 1) ≡ o → AllNever ds →
-    AllNever (after_answer ds p ask o)
-answered_never ds p None o is h = h
-answered_never ds p (Some ask) None is h = h
-answered_never ds p (Some ask) (Some d) is h = never_set ds (p - 1) (after_ask d ask) h (never_there ds (p - 1) d h is)
 
 answered_silent : (quiet : Bool) (ds : List SeededState) (p : ℕ) (ask : Option Ask) → AreSilent quiet ds →
     AreSilent quiet (after_answer ds p ask (slice_get ds (p - 1)))
-answered_silent true ds p ask h = answered_never ds p ask (slice_get ds (p - 1)) refl h
+answered_silent true ds p ask h = still_rated 0 ds p ask h
 answered_silent false ds p ask h = tt
 
-never_answers : (ds : List SeededState) (p : ℕ) (ask : Option Ask) (o : Option SeededState) → slice_get ds (p - 1) ≡ o → AllNever ds →
+never_answers : (ds : List SeededState) (p : ℕ) (ask : Option Ask) (o : Option SeededState) → slice_get ds (p - 1) ≡ o → AllRated 0 ds →
     answer ask o ≡ false
 never_answers ds p None o is h = refl
 never_answers ds p (Some ask) None is h = refl
-never_answers ds p (Some ask) (Some d) is h = never_yes d (never_there ds (p - 1) d h is)
+never_answers ds p (Some ask) (Some d) is h = never_yes d (rated_there 0 ds (p - 1) d h is)
 
 tried_no : (w : Rehearsal) (p : ℕ) (ask : Ask) (yes : Bool) → yes ≡ false → IsCalm (tried w p (Some (ask, yes)))
 tried_no w p ask true nay = absurd (cc)
@@ -249,6 +219,13 @@ unfolding turned
 turned_on quiet every number w h =
     if_on quiet (is_due every number w) w (entered w 0) (drawn every w) (entered_on quiet w 0 h) (drawn_on quiet every w h)
 
+-- the steps of a record begin those after a turn
+pub turn_begins : (every number : ℕ) (w : Walk) → IsPrefix w.rehearsal.steps (turned every number w).rehearsal.steps
+unfolding Goes
+turn_begins every number w =
+    let g = (turned_on false every number w tt).goes in
+    (g.steps, sym (ap (λ (v : Rehearsal). v.steps) g.is))
+
 -- ---- the walk
 
 if_goes : (quiet c : Bool) (w : Rehearsal) (u v : Walk) → Goes quiet w u.rehearsal → Goes quiet w v.rehearsal →
@@ -267,13 +244,8 @@ walk_goes quiet every made (suc more) w h =
     if_goes quiet (is_shown_by v.until v.rehearsal) w.rehearsal v rest gone.goes
     (goes_on quiet w.rehearsal v.rehearsal rest.rehearsal gone.goes (walk_goes quiet every (made + 1) more v gone.silent))
 
-never_joined : (a b : List SeededState) → AllNever a → AllNever b → AllNever (a ++ b)
-never_joined [] b h k = k
-never_joined (d ∷ a) b h k = (h.0, never_joined a b h.1 k)
-
-never_first : (o : FreeOptions) (k : ℕ) → o.rate ≡ 0 → AllNever (first_detectors o k)
-never_first o zero h = tt
-never_first o (suc k) h = never_joined (first_detectors o k) (detector_of o (suc k) ∷ []) (never_first o k h) (h, tt)
+never_first : (o : FreeOptions) → o.rate ≡ 0 → AllRated 0 (first_detectors o o.members)
+never_first o h = subst (λ rate. AllRated rate (first_detectors o o.members)) h (rated_first o o.members)
 
 walked_goes : (quiet : Bool) (o : WalkOptions) (until : Option Goal) → AreSilent quiet (first_detectors o.run o.run.members) →
     Goes quiet (empty (setting_of o.run) o.run.cells) (walked o until)
@@ -291,7 +263,7 @@ pub walk_allowed : (o : WalkOptions) (until : Option Goal) → AreAllowed (empty
 walk_allowed o until = (steps_of false o until (walked_goes false o until tt)).0
 
 pub walk_quiet : (o : WalkOptions) (until : Option Goal) → o.run.rate ≡ 0 → HaveNoSuspicion (walked o until).steps
-walk_quiet o until h = (steps_of true o until (walked_goes true o until (never_first o.run o.run.members h))).1
+walk_quiet o until h = (steps_of true o until (walked_goes true o until (never_first o.run h))).1
 
 -- ---- a member whose detector says no
 

@@ -1,10 +1,14 @@
 pub mod Deeds
 pub mod Drawing
 pub mod Hearing
+pub mod Passing
 pub mod Placing
 pub mod Plain
+pub mod Rates
 pub mod Refusing
 pub mod Seeds
 pub mod Silent
+pub mod Stopping
 pub mod Taking
+pub mod Trying
 pub mod Turns

@@ -26,7 +26,7 @@ AllBy p [] = ⊤
 AllBy p (step ∷ steps) = (actor step ≡ p) × AllBy p steps
 
 -- a step that is tried, if any, is p's
-abbrev IsTry : ℕ → Option Step → Type 0
+abbrev pub IsTry : ℕ → Option Step → Type 0
 IsTry p None = ⊤
 IsTry p (Some step) = actor step ≡ p
 
@@ -44,7 +44,7 @@ candidates_by : (p : ℕ) (o : Option ℕ) →
 candidates_by p None = (refl, (refl, (refl, (refl, (refl, (refl, (refl, tt)))))))
 candidates_by p (Some from) = (refl, (refl, (refl, (refl, (refl, (refl, (refl, (refl, tt))))))))
 
-next_by : (w : Rehearsal) (p : ℕ) → IsTry p (next_local w p)
+pub next_by : (w : Rehearsal) (p : ℕ) → IsTry p (next_local w p)
 next_by w p = found_by (λ s. is_none (cause w s)) p (candidates p (member_of w p)) (candidates_by p (best_heard (member_of w p)))
 
 receipt_by : (p : ℕ) (o : Option ℕ) → IsTry p (receives p o)

@@ -4,8 +4,10 @@
 
 mod schedules;
 mod sessions;
+mod untils;
 mod walks;
 
 pub use schedules::law_schedule;
 pub use sessions::law_session;
+pub use untils::law_until;
 pub use walks::law_walk;

@@ -1,9 +1,17 @@
 use Rattle.ct_laws.proofs.Seeds.{least, nowhere}
-use Rattle.ct_laws.proofs.Drawing.{always_yes, never_yes, only_asked, walk_allowed, walk_quiet}
+use Rattle.ct_laws.proofs.Drawing.{only_asked, walk_allowed, walk_quiet}
+use Rattle.ct_laws.proofs.Rates.{always_yes, never_yes}
+use Rattle.ct_laws.proofs.Trying.{each_asks, has_turns}
 use Rattle.ct_laws.proofs.walks.law_walk.Goals as goal
 
 pub returns-clause-allowed : goal.returns-clause-allowed
 returns-clause-allowed c = walk_allowed
+
+pub returns-clause-tries : goal.returns-clause-tries
+returns-clause-tries c = has_turns
+
+pub returns-clause-each : goal.returns-clause-each
+returns-clause-each c = each_asks
 
 pub returns-clause-asked : goal.returns-clause-asked
 returns-clause-asked c = only_asked

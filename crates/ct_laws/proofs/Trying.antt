@@ -1,0 +1,385 @@
+-- Walks as lists of turns.
+use Rattle.std.proofs.Common.{◌≡◌, ◌≢◌, ◌⊎◌, inl, inr, ◌<◌, ◌≤◌, ◌+◌, ◌-◌, ℕ, zero, suc, Bool, true, false, true≢false, List, [], ◌∷◌, ◌++◌}
+use Rattle.std.proofs.Common.{refl, ap, sym, ◌∙◌, subst, append_assoc, arith, drop, get_or, length, set}
+use Rattle.std.proofs.Common.{get_or-set_other, get_or-set_same}
+use Rattle.std.proofs.lemmas.Bool.Decides.{nat_tests}
+use Rattle.std.specs.Prelude.{◌==◌, ◌%◌, ◌&&◌, not, if◌then◌else◌, nat_lt, Option, Some, None, is_none, is_some}
+use Rattle.std.specs.Prelude.{option_map, slice_get}
+use Rattle.ct_names.specs.Group.{IsMember, is_member}
+use Rattle.ct_names.specs.declared.refusal.Refusal.{Refusal}
+use Rattle.ct_names.specs.declared.refusal.Refusal.TheVariants.{Crashed, NoSuchMember}
+use Rattle.ct_names.proofs.Lists.{found-find}
+use Rattle.ct_model.specs.Actor.{actor}
+use Rattle.ct_model.specs.Cause.{cause, or_else}
+use Rattle.ct_model.specs.Passed.{extended_by, passed}
+use Rattle.ct_model.specs.Rehearsal.{Rehearsal, extended, state_of}
+use Rattle.ct_model.specs.State.{is_crashed}
+use Rattle.ct_model.specs.declared.step.Step.{Step}
+use Rattle.ct_model.specs.declared.step.Step.TheVariants as step
+use Rattle.ct_world.specs.Driving.{candidates, next_local}
+use Rattle.ct_world.specs.World.{member_of}
+use Rattle.ct_detect.specs.Seeded.{SeededState, after_word, next_word}
+use Rattle.ct_detect.specs.declared.ask.Ask.{Ask}
+use Rattle.ct_rehearse.specs.Choices.{after_try, ask_of, asked_for, chosen, first_waiting, has_crashed, question, tried}
+use Rattle.ct_rehearse.specs.declared.disturbance.Disturbance.{Disturbance}
+use Rattle.ct_grammar.specs.declared.goal.Goal.{Goal}
+use Rattle.ct_program.specs.declared.free_options.FreeOptions.{FreeOptions}
+use Rattle.ct_walk.specs.Shown.{is_shown_by}
+use Rattle.ct_walk.specs.Walking.{Walk, after_answer, after_entry, after_script, answer, drawn, drawn_scripts, driven, entered, is_due, left_of, made_by}
+use Rattle.ct_walk.specs.Walking.{most_turns, start, turned, walked, walked_for, workers}
+use Rattle.ct_walk.specs.declared.options.WalkOptions.{WalkOptions}
+use Rattle.ct_laws.specs.Tries.{AreTurns, HasTurns, IsAnswer, IsTurn, WalkTurn, after_turn, entries_in, tried_in, tries}
+use Rattle.ct_laws.specs.Tries.WalkTurn.{OfMember, OfScript}
+use Rattle.ct_laws.proofs.Passing.{first_passes, none_pass}
+use Rattle.ct_laws.proofs.Rates.{AllRated, always_yes, first_many, never_yes, rated_first, rated_there, still_many, still_rated}
+use Rattle.ct_laws.proofs.Turns.{IsTry, next_by}
+
+-- ---- the turns of a walk that goes on
+
+-- some turns, so many at most
+record IsMade (o : FreeOptions) (w v : Walk) (most : ℕ) : Type 0 where
+  pub turns : List WalkTurn
+  pub are : AreTurns o w.rehearsal turns
+  pub few : length turns ≤ most
+  pub left : (i : ℕ) → entries_in i turns ++ left_of v i ≡ left_of w i
+  pub is : v.rehearsal ≡ extended_by w.rehearsal (passed w.rehearsal (tries w.rehearsal turns))
+
+-- one turn
+record IsOne (o : FreeOptions) (w v : Walk) : Type 0 where
+  pub turn : WalkTurn
+  pub fits : IsTurn o w.rehearsal turn
+  pub left : (i : ℕ) → entries_in i (turn ∷ []) ++ left_of v i ≡ left_of w i
+  pub is : v.rehearsal ≡ after_turn w.rehearsal turn
+
+-- none
+record IsNone (w v : Walk) : Type 0 where
+  pub left : (i : ℕ) → left_of v i ≡ left_of w i
+  pub is : v.rehearsal ≡ w.rehearsal
+
+abbrev IsNext : FreeOptions → Walk → Walk → Type 0
+IsNext o w v = IsOne o w v ⊎ IsNone w v
+
+none_made : (o : FreeOptions) (w : Walk) (most : ℕ) → IsMade o w w most
+none_made o w most = record {
+  turns = [];
+  are = tt;
+  few = omega arith;
+  left = λ i. refl;
+  is = none_pass w.rehearsal;
+}
+
+entries_if : (b : Bool) (e : Disturbance) (more : List Disturbance) → (if b then e ∷ more else more) ≡ (if b then e ∷ [] else []) ++ more
+entries_if true e more = refl
+entries_if false e more = refl
+
+entries_first : (i : ℕ) (turn : WalkTurn) (turns : List WalkTurn) → entries_in i (turn ∷ turns) ≡ entries_in i (turn ∷ []) ++ entries_in i turns
+entries_first i (OfMember p answer) turns = refl
+entries_first i (OfScript j e) turns = entries_if (i == j) e (entries_in i turns)
+
+one_more : (o : FreeOptions) (w u v : Walk) (most : ℕ) → IsOne o w u → IsMade o u v most → IsMade o w v (suc most)
+one_more o w u v most one m =
+    let few : length m.turns ≤ most = m.few in
+    record {
+      turns = one.turn ∷ m.turns;
+      are = (one.fits, subst (λ r. AreTurns o r m.turns) one.is m.are);
+      few = omega (arith, few);
+      left = λ i.
+          ap (λ l. l ++ left_of v i) (entries_first i one.turn m.turns)
+          ∙ append_assoc (entries_in i (one.turn ∷ [])) (entries_in i m.turns) (left_of v i)
+          ∙ ap (λ l. entries_in i (one.turn ∷ []) ++ l) (m.left i) ∙ one.left i;
+      is = subst (λ r. v.rehearsal ≡ extended_by r (passed r (tries r m.turns))) one.is m.is
+          ∙ sym (first_passes w.rehearsal (tried_in w.rehearsal one.turn) (tries (after_turn w.rehearsal one.turn) m.turns));
+    }
+
+none_more : (o : FreeOptions) (w u v : Walk) (most : ℕ) → IsNone w u → IsMade o u v most → IsMade o w v (suc most)
+none_more o w u v most none m =
+    let few : length m.turns ≤ most = m.few in
+    record {
+      turns = m.turns;
+      are = subst (λ r. AreTurns o r m.turns) none.is m.are;
+      few = omega (arith, few);
+      left = λ i. m.left i ∙ none.left i;
+      is = subst (λ r. v.rehearsal ≡ extended_by r (passed r (tries r m.turns))) none.is m.is;
+    }
+
+next_more : (o : FreeOptions) (w u v : Walk) (most : ℕ) → IsNext o w u → IsMade o u v most → IsMade o w v (suc most)
+next_more o w u v most (inl one) m = one_more o w u v most one m
+next_more o w u v most (inr none) m = none_more o w u v most none m
+
+-- ---- the detectors
+
+-- those of a walk that can go on
+record IsReady (o : FreeOptions) (w : Walk) : Type 0 where
+  pub size : w.rehearsal.setting.members ≡ o.members
+  pub many : length w.detectors ≡ o.members
+  pub rated : AllRated o.rate w.detectors
+
+-- ---- a turn of a member
+
+answered : Option Ask → Bool → Option Bool
+answered None said = None
+answered (Some ask) said = Some said
+
+asks_so : (asks : Option Ask) (said : Bool) → is_some (answered asks said) ≡ is_some asks
+unfolding answered
+asks_so None said = refl
+asks_so (Some ask) said = refl
+
+same_try : (w : Rehearsal) (p : ℕ) (asks : Option Ask) (d : Option SeededState) →
+    tried w p (Some (ask_of w p, answer asks d)) ≡ tried w p (option_map (λ said. (ask_of w p, said)) (answered asks (answer asks d)))
+unfolding answered tried
+same_try w p None d = refl
+same_try w p (Some ask) d = refl
+
+no_detector : (ds : List SeededState) (i : ℕ) → i < length ds → slice_get ds i ≡ None → ⊥
+no_detector [] i low h = absurd (omega (arith, low))
+no_detector (d ∷ ds) zero low h = absurd (cc h)
+no_detector (d ∷ ds) (suc i) low h = no_detector ds i (omega (arith, low)) h
+
+is_answer : (rate : ℕ) (ds : List SeededState) (i : ℕ) (asks : Option Ask) (d : Option SeededState) → slice_get ds i ≡ d → i < length ds →
+    AllRated rate ds → IsAnswer rate (answered asks (answer asks d))
+unfolding answered
+is_answer rate ds i None d is low h = tt
+is_answer rate ds i (Some ask) None is low h = absurd (no_detector ds i low is)
+is_answer rate ds i (Some ask) (Some d) is low h =
+    let same : d.rate ≡ rate = rated_there rate ds i d h is in
+    ((λ zero. never_yes d (same ∙ zero)), (λ most. always_yes d (same ∙ most)))
+
+driven_one : (o : FreeOptions) (w : Walk) (p : ℕ) → IsMember o.members p → IsReady o w → IsOne o w (driven w p)
+unfolding driven
+driven_one o w p there ready =
+    let asks = question w.rehearsal p in
+    let d = slice_get w.detectors (p - 1) in
+    let many : length w.detectors ≡ o.members = ready.many in
+    let low : 1 ≤ p = there.0 in
+    let high : p ≤ o.members = there.1 in
+    record {
+      turn = OfMember p (answered asks (answer asks d));
+      fits = (
+        there,
+        asks_so asks (answer asks d),
+        is_answer o.rate w.detectors (p - 1) asks d refl (omega (arith, many, low, high)) ready.rated,
+      );
+      left = λ i. refl;
+      is = ap (after_try w.rehearsal) (same_try w.rehearsal p asks d);
+    }
+
+driven_size : (w : Walk) (p : ℕ) → (driven w p).detectors ≡ after_answer w.detectors p (question w.rehearsal p) (slice_get w.detectors (p - 1))
+unfolding driven
+driven_size w p = refl
+
+-- ---- a turn of a script
+
+set_nothing : (scripts : List (List Disturbance)) (i j : ℕ) → get_or scripts i [] ≡ [] → get_or (set scripts i []) j [] ≡ get_or scripts j []
+set_nothing [] i j h = refl
+set_nothing (s ∷ scripts) zero zero h = sym h
+set_nothing (s ∷ scripts) zero (suc j) h = refl
+set_nothing (s ∷ scripts) (suc i) zero h = refl
+set_nothing (s ∷ scripts) (suc i) (suc j) h = set_nothing scripts i j h
+
+script_there : (scripts : List (List Disturbance)) (i : ℕ) (e : Disturbance) (more : List Disturbance) → get_or scripts i [] ≡ e ∷ more →
+    i < length scripts
+script_there [] i e more h = absurd (cc h)
+script_there (s ∷ scripts) zero e more h = omega arith
+script_there (s ∷ scripts) (suc i) e more h =
+    let rest : i < length scripts = script_there scripts i e more h in
+    omega (arith, rest)
+
+set_rest : (scripts : List (List Disturbance)) (i j : ℕ) (e : Disturbance) (more : List Disturbance) (b : Bool) → (j == i) ≡ b →
+    get_or scripts i [] ≡ e ∷ more → (if b then e ∷ [] else []) ++ get_or (set scripts i more) j [] ≡ get_or scripts j []
+set_rest scripts i j e more true same h =
+    let is : i ≡ j = grind (arith, nat_tests) in
+    subst (λ n. e ∷ get_or (set scripts i more) n [] ≡ get_or scripts n []) is
+    (ap (λ l. e ∷ l) (get_or-set_same scripts i more [] (script_there scripts i e more h)) ∙ sym h)
+set_rest scripts i j e more false other h =
+    let not : j ≢ i = λ is. absurd (true≢false (sym (grind (arith, nat_tests)) ∙ other)) in
+    get_or-set_other scripts i j more [] not
+
+entered_by : (o : FreeOptions) (w : Walk) (i : ℕ) (entries : List Disturbance) → left_of w i ≡ entries → IsNext o w (entered w i)
+unfolding entered
+entered_by o w i [] is =
+    let same : drop 1 (left_of w i) ≡ [] = ap (drop 1) is in
+    inr (record {
+      left = λ j.
+          ap (λ l. get_or (set w.scripts i l) j []) same ∙ set_nothing w.scripts i j is;
+      is = ap (λ l. after_entry w.rehearsal (slice_get l 0)) is;
+    })
+entered_by o w i (e ∷ more) is = inl (record {
+  turn = OfScript i e;
+  fits = tt;
+  left = λ j.
+      ap (λ l. (if j == i then e ∷ [] else []) ++ get_or (set w.scripts i (drop 1 l)) j []) is
+      ∙ set_rest w.scripts i j e more (j == i) refl is;
+  is = ap (λ l. after_entry w.rehearsal (slice_get l 0)) is;
+})
+
+-- ---- any turn
+
+if_setting : (b : Bool) (w : Rehearsal) (step : Step) → (if b then extended w step else w).setting ≡ w.setting
+if_setting true w step = refl
+if_setting false w step = refl
+
+try_setting : (w : Rehearsal) (tries : Option Step) → (after_try w tries).setting ≡ w.setting
+try_setting w None = refl
+try_setting w (Some step) = if_setting (is_none (cause w step)) w step
+
+next_setting : (o : FreeOptions) (w v : Walk) → IsNext o w v → v.rehearsal.setting ≡ w.rehearsal.setting
+next_setting o w v (inl one) = ap (λ (r : Rehearsal). r.setting) one.is ∙ try_setting w.rehearsal (tried_in w.rehearsal one.turn)
+next_setting o w v (inr none) = ap (λ (r : Rehearsal). r.setting) none.is
+
+-- a turn that leaves a walk which can go on
+record HasTurned (o : FreeOptions) (w v : Walk) : Type 0 where
+  pub next : IsNext o w v
+  pub ready : IsReady o v
+
+ready_by : (o : FreeOptions) (w v : Walk) → IsReady o w → IsNext o w v → length v.detectors ≡ length w.detectors →
+    AllRated o.rate v.detectors → HasTurned o w v
+ready_by o w v ready next many rated = record {
+  next = next;
+  ready = record {
+    size = ap (λ s. s.members) (next_setting o w v next) ∙ ready.size;
+    many = many ∙ ready.many;
+    rated = rated;
+  };
+}
+
+driven_on : (o : FreeOptions) (w : Walk) (p : ℕ) → IsMember o.members p → IsReady o w → HasTurned o w (driven w p)
+driven_on o w p there ready =
+    let asks = question w.rehearsal p in
+    let d = slice_get w.detectors (p - 1) in
+    let are = driven_size w p in
+    ready_by o w (driven w p) ready (inl (driven_one o w p there ready))
+    (ap (λ (ds : List SeededState). length ds) are ∙ still_many w.detectors p asks d)
+    (subst (λ ds. AllRated o.rate ds) (sym are) (still_rated o.rate w.detectors p asks ready.rated))
+
+same_detectors : (w : Walk) (i : ℕ) → (entered w i).detectors ≡ w.detectors
+unfolding entered
+same_detectors w i = refl
+
+entered_on : (o : FreeOptions) (w : Walk) (i : ℕ) → IsReady o w → HasTurned o w (entered w i)
+entered_on o w i ready =
+    let are = same_detectors w i in
+    ready_by o w (entered w i) ready (entered_by o w i (left_of w i) refl) (ap (λ (ds : List SeededState). length ds) are)
+    (subst (λ ds. AllRated o.rate ds) (sym are) ready.rated)
+
+script_on : (o : FreeOptions) (w : Walk) (i : Option ℕ) → IsReady o w → HasTurned o w (after_script w i)
+script_on o w None ready = record { next = inr (record { left = λ i. refl; is = refl }); ready = ready }
+script_on o w (Some i) ready = entered_on o w i ready
+
+made_if : (o : FreeOptions) (every : ℕ) (w : Walk) (k : ℕ) (b : Bool) → nat_lt k w.rehearsal.setting.members ≡ b → IsReady o w →
+    HasTurned o w (if b then driven w (k + 1) else after_script w (slice_get (drawn_scripts every w) (k - w.rehearsal.setting.members)))
+made_if o every w k true below ready =
+    let size : w.rehearsal.setting.members ≡ o.members = ready.size in
+    let low : k < w.rehearsal.setting.members = grind (arith, nat_tests) in
+    driven_on o w (k + 1) (omega arith, omega (arith, low, size)) ready
+made_if o every w k false above ready = script_on o w (slice_get (drawn_scripts every w) (k - w.rehearsal.setting.members)) ready
+
+made_on : (o : FreeOptions) (every : ℕ) (w : Walk) (k : ℕ) → IsReady o w → HasTurned o w (made_by every w k)
+unfolding made_by
+made_on o every w k ready = made_if o every w k (nat_lt k w.rehearsal.setting.members) refl ready
+
+-- the words that turns are drawn by are no part of it
+undrawn : (o : FreeOptions) (w u v : Walk) → IsNext o (record w { draws = u.draws }) v → IsNext o w v
+undrawn o w u v (inl one) = inl (record { turn = one.turn; fits = one.fits; left = one.left; is = one.is })
+undrawn o w u v (inr none) = inr (record { left = none.left; is = none.is })
+
+drawn_on : (o : FreeOptions) (every : ℕ) (w : Walk) → IsReady o w → HasTurned o w (drawn every w)
+unfolding drawn
+drawn_on o every w ready =
+    let v = record w { draws = after_word w.draws } in
+    let made = made_on o every v (next_word w.draws % workers every w)
+    (record { size = ready.size; many = ready.many; rated = ready.rated }) in
+    record { next = undrawn o w v (made_by every v (next_word w.draws % workers every w)) made.next; ready = made.ready }
+
+if_on : (o : FreeOptions) (b : Bool) (w u v : Walk) → HasTurned o w u → HasTurned o w v → HasTurned o w (if b then u else v)
+if_on o true w u v h k = h
+if_on o false w u v h k = k
+
+turned_on : (o : FreeOptions) (every number : ℕ) (w : Walk) → IsReady o w → HasTurned o w (turned every number w)
+unfolding turned
+turned_on o every number w ready =
+    if_on o (is_due every number w) w (entered w 0) (drawn every w) (entered_on o w 0 ready) (drawn_on o every w ready)
+
+-- ---- the walk
+
+if_made : (o : FreeOptions) (b : Bool) (w u v : Walk) (most : ℕ) → IsMade o w u most → IsMade o w v most →
+    IsMade o w (if b then u else v) most
+if_made o true w u v most h k = h
+if_made o false w u v most h k = k
+
+walk_made : (o : FreeOptions) (every made more : ℕ) (w : Walk) → IsReady o w → IsMade o w (walked_for every made more w) more
+unfolding walked_for
+walk_made o every made zero w ready = none_made o w zero
+walk_made o every made (suc more) w ready =
+    let v = turned every (made + 1) w in
+    let on = turned_on o every (made + 1) w ready in
+    let rest = walked_for every (made + 1) more v in
+    if_made o (is_shown_by v.until v.rehearsal) w v rest (suc more)
+    (next_more o w v v more on.next (none_made o v more))
+    (next_more o w v rest more on.next (walk_made o every (made + 1) more v on.ready))
+
+start_ready : (o : FreeOptions) (until : Option Goal) → IsReady o (start o until)
+unfolding start
+start_ready o until = record { size = refl; many = first_many o o.members; rated = rated_first o o.members }
+
+started : (o : FreeOptions) (until : Option Goal) (v : Walk) → IsMade o (start o until) v (most_turns o) → HasTurns o v.rehearsal
+unfolding start
+started o until v m = record {
+  turns = m.turns;
+  are = m.are;
+  few = m.few;
+  scripts = λ i. (left_of v i, m.left i);
+  steps = ap (λ (w : Rehearsal). w.steps) m.is;
+}
+
+pub has_turns : (o : WalkOptions) (until : Option Goal) → HasTurns o.run (walked o until)
+unfolding walked
+has_turns o until =
+    let end = walked_for o.every 0 (most_turns o.run) (start o.run until) in
+    started o.run until end (walk_made o.run o.every 0 (most_turns o.run) (start o.run until) (start_ready o.run until))
+
+-- ---- a member that asks
+
+asked_next : (o : Option Step) (ask a : Ask) → asked_for o ask ≡ Some a → (q : ℕ) × (o ≡ Some (step.Suspect q))
+asked_next (Some (step.Suspect q)) ask a h = (q, refl)
+asked_next _ ask a h = absurd (cc h)
+
+up_by : (a b : Bool) (o : Option Refusal) →
+    is_none (or_else (if not a then Some NoSuchMember else (if b then Some Crashed else None)) o) ≡ true → (a && b) ≡ false
+up_by true true o h = absurd (cc h)
+up_by true false o h = refl
+up_by false b o h = refl
+
+up : (w : Rehearsal) (s : Step) → is_none (cause w s) ≡ true → has_crashed w (actor s) ≡ false
+unfolding cause
+up w s h = up_by (is_member w.setting.members (actor s)) (is_crashed (state_of w) (actor s)) _ h
+
+chosen_so : (w : Rehearsal) (p : ℕ) (o : Option Step) (crashed : Bool) → o ≡ Some (step.Suspect p) → crashed ≡ false →
+    (if crashed then None else chosen p (first_waiting w p) true o) ≡ Some (step.Suspect p)
+chosen_so w p o true is up = absurd (cc up)
+chosen_so w p o false is up = ap (chosen p (first_waiting w p) true) is
+
+tries_it : (w : Rehearsal) (p : ℕ) (ask : Ask) → next_local w p ≡ Some (step.Suspect p) → is_none (cause w (step.Suspect p)) ≡ true →
+    tried w p (Some (ask, true)) ≡ Some (step.Suspect p)
+unfolding tried
+tries_it w p ask is free = chosen_so w p (next_local w p) (has_crashed w p) is (up w (step.Suspect p) free)
+
+extends_if : (b : Bool) (w : Rehearsal) (s : Step) → b ≡ true → (if b then extended w s else w) ≡ extended w s
+extends_if true w s h = refl
+extends_if false w s h = absurd (cc h)
+
+next_is : (w : Rehearsal) (p : ℕ) (ask : Ask) (q : ℕ) → next_local w p ≡ Some (step.Suspect q) →
+    after_try w (tried w p (Some (ask, true))) ≡ extended w (step.Suspect p)
+next_is w p ask q is =
+    let own : q ≡ p = subst (λ o. IsTry p o) is (next_by w p) in
+    let same : next_local w p ≡ Some (step.Suspect p) = is ∙ ap (λ n. Some (step.Suspect n)) own in
+    let free : is_none (cause w (step.Suspect p)) ≡ true =
+    (found-find (λ s. is_none (cause w s)) (step.Suspect p) (candidates p (member_of w p)) same).1 in
+    ap (after_try w) (tries_it w p ask same free) ∙ extends_if (is_none (cause w (step.Suspect p))) w (step.Suspect p) free
+
+pub each_asks : (w : Rehearsal) (p : ℕ) (ask : Ask) → question w p ≡ Some ask →
+    after_try w (tried w p (Some (ask_of w p, true))) ≡ extended w (step.Suspect p)
+unfolding question
+each_asks w p ask h =
+    let next = asked_next (next_local w p) (ask_of w p) ask h in
+    next_is w p (ask_of w p) next.0 next.1
