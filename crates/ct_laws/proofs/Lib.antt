@@ -1,10 +1,13 @@
 pub mod Deeds
 pub mod Drawing
 pub mod Hearing
+pub mod LetterFacts
+pub mod MemberFacts
 pub mod Passing
 pub mod Placing
 pub mod Plain
 pub mod Rates
+pub mod Reasons
 pub mod Refusing
 pub mod Seeds
 pub mod Silent

@@ -1,12 +1,14 @@
-//! Laws of the definitions by which schedules and sessions are judged, and walks made: what they come to, in words of their lines
-//! and steps.
+//! Laws of the definitions by which schedules and sessions are judged, walks made, and refusals told: what they come to, in words of
+//! lines, steps and states.
 #![tactic(auto)]
 
+mod facts;
 mod schedules;
 mod sessions;
 mod untils;
 mod walks;
 
+pub use facts::law_facts;
 pub use schedules::law_schedule;
 pub use sessions::law_session;
 pub use untils::law_until;

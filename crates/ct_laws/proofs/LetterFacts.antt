@@ -1,0 +1,213 @@
+-- The facts of an envelope are true.
+use Rattle.std.proofs.Common.{◌≡◌, ◌⊎◌, inl, inr, ◌<◌, ◌≤◌, ◌==◌, ℕ, zero, suc, Bool, true, false, List, [], ◌∷◌, ◌++◌, refl, ap, sym, ◌∙◌, subst}
+use Rattle.std.proofs.Common.{append-nil, arith, codes, decimal, length}
+use Rattle.std.proofs.lemmas.Bool.Decides.{nat_tests}
+use Rattle.std.proofs.lemmas.Option.{slice_get_within}
+use Rattle.std.proofs.Math.Nat.{eq-or-lt_of_le}
+use Rattle.std.specs.List.{concat}
+use Rattle.std.specs.Prelude.{if◌then◌else◌, Option, Some, None, option_and_then, option_map, slice_get, unwrap_or}
+use Rattle.ct_names.specs.declared.refusal.Refusal.{Refusal}
+use Rattle.ct_names.specs.declared.refusal.Refusal.TheVariants as refusal
+use Rattle.ct_model.specs.AtValue.{Envelope}
+use Rattle.ct_model.specs.Mapped.{without_value}
+use Rattle.ct_model.specs.Rehearsal.{Rehearsal, line_of, state_of}
+use Rattle.ct_model.specs.State.{at_serial}
+use Rattle.ct_model.specs.Waiting.{has_serial}
+use Rattle.ct_model.specs.Wire.{value_of}
+use Rattle.ct_model.specs.declared.step.Step.{Step}
+use Rattle.ct_model.specs.declared.step.Step.TheVariants as step
+use Rattle.ct_show.specs.Facts.{last_taking, leaving_text, left_in, left_text, letter_facts, missing_text, place_text, returns, serial_facts}
+use Rattle.ct_show.specs.Facts.{takes, taking_or}
+use Rattle.ct_show.specs.Wires.{carried_text, letter_text, serial_text}
+use Rattle.ct_laws.specs.Facts.{AreTrue, Fact, IsLeaving, IsReturning, IsTaking, IsTrue, fact_text, texts_of}
+use Rattle.ct_laws.specs.Facts.Fact.{Carries, GoesTo, LeftIn, Unsent, Waits, WentTo}
+
+-- ---- the last step that takes a serial
+
+-- of the first steps this is the last one that takes the serial, and none behind it puts it back
+record IsLast (steps : List Step) (k count number : ℕ) (step : Step) : Type 0 where
+  pub to : number ≤ count
+  pub there : at_serial steps number ≡ Some step
+  pub so : takes step k ≡ true
+  pub after : (later : ℕ) (other : Step) → number < later → later ≤ count → at_serial steps later ≡ Some other →
+      (takes other k ≡ false) × (returns other k ≡ false)
+
+last_here : (steps : List Step) (k i : ℕ) (s : Step) → slice_get steps i ≡ Some s → takes s k ≡ true → IsLast steps k (suc i) (suc i) s
+last_here steps k i s there so = record {
+  to = omega arith;
+  there = there;
+  so = so;
+  after = λ later other low high is. absurd (omega (arith, low, high));
+}
+
+after_by : (steps : List Step) (k number i : ℕ) (o : Option Step) → slice_get steps i ≡ o →
+    ((s : Step) → o ≡ Some s → (takes s k ≡ false) × (returns s k ≡ false)) →
+    ((later : ℕ) (other : Step) → number < later → later ≤ i → at_serial steps later ≡ Some other →
+    (takes other k ≡ false) × (returns other k ≡ false)) → (later : ℕ) (other : Step) → number < later →
+    (later ≡ suc i) ⊎ (later < suc i) → at_serial steps later ≡ Some other → (takes other k ≡ false) × (returns other k ≡ false)
+after_by steps k number i o is here before later other low (inl same) there =
+    here other (sym is ∙ subst (λ n. at_serial steps n ≡ Some other) same there)
+after_by steps k number i o is here before later other low (inr less) there = before later other low (omega (arith, less)) there
+
+last_before : (steps : List Step) (k i number : ℕ) (s : Step) (o : Option Step) → slice_get steps i ≡ o →
+    ((t : Step) → o ≡ Some t → (takes t k ≡ false) × (returns t k ≡ false)) → IsLast steps k i number s →
+    IsLast steps k (suc i) number s
+last_before steps k i number s o is here l =
+    let to : number ≤ i = l.to in
+    record {
+      to = omega (arith, to);
+      there = l.there;
+      so = l.so;
+      after = λ later other low high there. after_by steps k number i o is here l.after later other low (eq-or-lt_of_le high) there;
+    }
+
+last_step : (steps : List Step) (k i number : ℕ) (s t : Step) (taking returning : Bool) (before : Option (ℕ × Step)) →
+    slice_get steps i ≡ Some t → takes t k ≡ taking → returns t k ≡ returning →
+    (before ≡ Some (number, s) → IsLast steps k i number s) →
+    (if taking then Some (suc i, t) else (if returning then None else before)) ≡ Some (number, s) → IsLast steps k (suc i) number s
+last_step steps k i number s t true returning before is took put more h =
+    let same : Some (suc i, t) ≡ Some (number, s) = h in
+    let count : suc i ≡ number = ap (λ (o : Option (ℕ × Step)). (unwrap_or o (0, t)).0) same in
+    let step : t ≡ s = ap (λ (o : Option (ℕ × Step)). (unwrap_or o (0, t)).1) same in
+    subst (λ n. IsLast steps k (suc i) n s) count (subst (λ x. IsLast steps k (suc i) (suc i) x) step (last_here steps k i t is took))
+last_step steps k i number s t false true before is took put more h = absurd (cc h)
+last_step steps k i number s t false false before is took put more h =
+    last_before steps k i number s (Some t) is
+    (λ x same. let own : t ≡ x = cc same in (subst (λ y. takes y k ≡ false) own took, subst (λ y. returns y k ≡ false) own put))
+    (more h)
+
+last_by : (steps : List Step) (k i number : ℕ) (s : Step) (before : Option (ℕ × Step)) (o : Option Step) → slice_get steps i ≡ o →
+    (before ≡ Some (number, s) → IsLast steps k i number s) → taking_or before k (suc i) o ≡ Some (number, s) →
+    IsLast steps k (suc i) number s
+last_by steps k i number s before None is more h = last_before steps k i number s None is (λ t same. absurd (cc same)) (more h)
+last_by steps k i number s before (Some t) is more h =
+    last_step steps k i number s t (takes t k) (returns t k) before is refl refl more h
+
+is_last : (steps : List Step) (k count number : ℕ) (s : Step) → last_taking steps k count ≡ Some (number, s) → IsLast steps k count number s
+is_last steps k zero number s h = absurd (cc h)
+is_last steps k (suc i) number s h =
+    last_by steps k i number s (last_taking steps k i) (slice_get steps i) refl (is_last steps k i number s) h
+
+takes_so : (s : Step) (k : ℕ) → takes s k ≡ true → IsTaking k s
+takes_so (step.Receive p i) k h = (p, inl (grind (arith, nat_tests)))
+takes_so (step.Lose p i) k h = (p, inr (grind (arith, nat_tests)))
+takes_so _ k h = absurd (cc h)
+
+same_serial : (k : ℕ) → (k == k) ≡ true
+same_serial k = grind (arith, nat_tests)
+
+takes_not : (s : Step) (k : ℕ) → takes s k ≡ false → IsTaking k s → ⊥
+takes_not s k h (q, inl same) = cc (sym (same_serial k) ∙ sym (ap (λ t. takes t k) same) ∙ h)
+takes_not s k h (q, inr same) = cc (sym (same_serial k) ∙ sym (ap (λ t. takes t k) same) ∙ h)
+
+returns_not : (s : Step) (k : ℕ) → returns s k ≡ false → IsReturning k s → ⊥
+returns_not s k h (q, same) = cc (sym (same_serial k) ∙ sym (ap (λ t. returns t k) same) ∙ h)
+
+at_within : {A : Type 0} (xs : List A) (number : ℕ) (x : A) → at_serial xs number ≡ Some x → number ≤ length xs
+at_within xs zero x h = omega arith
+at_within xs (suc i) x h =
+    let less : i < length xs = slice_get_within xs i x h in
+    omega (arith, less)
+
+is_leaving : (w : Rehearsal) (k number : ℕ) (s : Step) → IsLast w.steps k (length w.steps) number s → IsLeaving w k number s
+is_leaving w k number s l = record {
+  there = l.there;
+  takes = takes_so s k l.so;
+  last = λ later other low there so. takes_not other k (l.after later other low (at_within w.steps later other there) there).0 so;
+  gone = λ later other low there so. returns_not other k (l.after later other low (at_within w.steps later other there) there).1 so;
+}
+
+-- ---- the facts of the envelope
+
+left_facts : Option (ℕ × Step) → List Fact
+left_facts None = []
+left_facts (Some t) = LeftIn t.0 t.1 ∷ []
+
+left_is : (o : Option (ℕ × Step)) → left_text o ≡ texts_of (left_facts o)
+unfolding left_facts left_in
+left_is None = refl
+left_is (Some t) = sym (append-nil _)
+
+left_true : (w : Rehearsal) (p k : ℕ) (r : Refusal) (o : Option (ℕ × Step)) → last_taking w.steps k (length w.steps) ≡ o →
+    AreTrue w p k r (left_facts o)
+unfolding left_facts
+left_true w p k r None is = tt
+left_true w p k r (Some t) is = (is_leaving w k t.0 t.1 (is_last w.steps k (length w.steps) t.0 t.1 is), tt)
+
+leaving_facts : Rehearsal → ℕ → Refusal → List Fact
+leaving_facts w k refusal.NotWaiting = left_facts (last_taking w.steps k (length w.steps))
+leaving_facts w k _ = []
+
+leaving_is : (w : Rehearsal) (k : ℕ) (r : Refusal) → leaving_text w k r ≡ texts_of (leaving_facts w k r)
+unfolding leaving_facts
+leaving_is w k refusal.NotWaiting = left_is (last_taking w.steps k (length w.steps))
+leaving_is w k _ = refl
+
+leaving_true : (w : Rehearsal) (p k : ℕ) (r : Refusal) → AreTrue w p k r (leaving_facts w k r)
+unfolding leaving_facts
+leaving_true w p k refusal.NotWaiting =
+    left_true w p k refusal.NotWaiting (last_taking w.steps k (length w.steps)) refl
+leaving_true w p k _ = tt
+
+place_fact : ℕ → Refusal → Fact
+place_fact q refusal.NotSent = WentTo q
+place_fact q refusal.StillWaiting = Waits
+place_fact q _ = GoesTo q
+
+place_is : (q : ℕ) (r : Refusal) → place_text q r ≡ fact_text (place_fact q r)
+unfolding place_fact
+place_is q refusal.NotSent = refl
+place_is q refusal.StillWaiting = refl
+place_is q _ = refl
+
+place_true : (w : Rehearsal) (p k : ℕ) (r : Refusal) (e : Envelope) → at_serial (state_of w).sent k ≡ Some e →
+    (r ≡ refusal.StillWaiting → has_serial k (line_of w p) ≡ true) → IsTrue w p k r (place_fact e.to r)
+unfolding place_fact
+place_true w p k refusal.NotSent e is waits = (e, is, refl)
+place_true w p k refusal.StillWaiting e is waits = waits refl
+place_true w p k _ e is waits = (e, is, refl)
+
+carried_is : (w : Rehearsal) (k : ℕ) (e : Envelope) → at_serial (state_of w).sent k ≡ Some e → serial_text w k ≡ fact_text (Carries k e.wire)
+unfolding serial_text carried_text
+carried_is w k e is =
+    ap (λ o. concat (codes "#" ∷ decimal k ∷ codes " "
+    ∷ letter_text (option_map without_value o) (unwrap_or (option_and_then (λ (e : Envelope). value_of e.wire) o) []) ∷ [])) is
+
+-- the text of these is that of an envelope
+pub record TellsLetter (w : Rehearsal) (p k : ℕ) (r : Refusal) (text : List ℕ) : Type 0 where
+  pub facts : List Fact
+  pub is : text ≡ texts_of facts
+  pub are : AreTrue w p k r facts
+
+letter_shape : (a b c : List ℕ) → a ++ (b ++ (c ++ [])) ≡ a ++ (b ++ c)
+letter_shape a b c = ap (λ l. a ++ (b ++ l)) (append-nil c)
+
+tells_sent : (w : Rehearsal) (p k : ℕ) (r : Refusal) (e : Envelope) → at_serial (state_of w).sent k ≡ Some e →
+    (r ≡ refusal.StillWaiting → has_serial k (line_of w p) ≡ true) → TellsLetter w p k r (letter_facts w k (Some (without_value e)) r)
+tells_sent w p k r e is waits = record {
+  facts = Carries k e.wire ∷ place_fact e.to r ∷ leaving_facts w k r;
+  is = letter_shape (serial_text w k) (place_text e.to r) (leaving_text w k r)
+      ∙ ap (λ l. l ++ (place_text e.to r ++ leaving_text w k r)) (carried_is w k e is)
+      ∙ ap (λ l. fact_text (Carries k e.wire) ++ (l ++ leaving_text w k r)) (place_is e.to r)
+      ∙ ap (λ l. fact_text (Carries k e.wire) ++ (fact_text (place_fact e.to r) ++ l)) (leaving_is w k r);
+  are = ((refl, (e, is, refl)), (place_true w p k r e is waits, leaving_true w p k r));
+}
+
+tells_unsent : (w : Rehearsal) (p k : ℕ) (r : Refusal) → at_serial (state_of w).sent k ≡ None →
+    TellsLetter w p k r (letter_facts w k None r)
+unfolding missing_text
+tells_unsent w p k r is = record {
+  facts = Unsent k (length (state_of w).sent) ∷ [];
+  is = sym (append-nil _);
+  are = ((refl, is, refl), tt);
+}
+
+tells_by : (w : Rehearsal) (p k : ℕ) (r : Refusal) (o : Option Envelope) → at_serial (state_of w).sent k ≡ o →
+    (r ≡ refusal.StillWaiting → has_serial k (line_of w p) ≡ true) → TellsLetter w p k r (letter_facts w k (option_map without_value o) r)
+tells_by w p k r None is waits = tells_unsent w p k r is
+tells_by w p k r (Some e) is waits = tells_sent w p k r e is waits
+
+pub tells_letter : (w : Rehearsal) (p k : ℕ) (r : Refusal) → (r ≡ refusal.StillWaiting → has_serial k (line_of w p) ≡ true) →
+    TellsLetter w p k r (serial_facts w k r)
+unfolding serial_facts
+tells_letter w p k r waits = tells_by w p k r (at_serial (state_of w).sent k) refl waits

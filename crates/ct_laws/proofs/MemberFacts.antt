@@ -1,0 +1,410 @@
+-- The facts of a member are true.
+use Rattle.std.proofs.Common.{◌≡◌, ◌⊎◌, inl, inr, ◌<◌, ◌≤◌, ◌==◌, ℕ, zero, suc, Bool, true, false, List, [], ◌∷◌, ◌++◌, refl, ap, ap₂, sym, ◌∙◌, subst}
+use Rattle.std.proofs.Common.{append_assoc, append-nil, arith, codes, decimal, length, find, filter_map, eqb-true}
+use Rattle.std.proofs.lemmas.Bool.Decides.{nat_tests}
+use Rattle.std.proofs.Math.Nat.{eq-or-lt_of_le}
+use Rattle.std.specs.List.{concat}
+use Rattle.std.specs.Option.{option_map_or}
+use Rattle.std.specs.Prelude.{if◌then◌else◌, Option, Some, None, is_some, option_and_then, option_map, unwrap_or}
+use Rattle.ct_names.specs.Group.{IsMember, coordinator, everyone, is_member}
+use Rattle.ct_names.specs.Membership.{IsIn}
+use Rattle.ct_names.specs.Value.{Value}
+use Rattle.ct_names.specs.declared.refusal.Refusal.{Refusal}
+use Rattle.ct_names.proofs.Groups.{once-everyone}
+use Rattle.ct_names.proofs.Lists.{IsIn-append_left, IsIn-append_right, IsIn-filter, IsIn-filter_map, IsIn-filter_passes, IsWithoutRepeats-filter}
+use Rattle.ct_names.proofs.Lists.{found-find, found-list_any, list_any-found}
+use Rattle.ct_model.specs.AtValue.{Standing, Wire}
+use Rattle.ct_model.specs.Next.{own_ballots}
+use Rattle.ct_model.specs.Received.{Heard as HeardOf, ackers, ballots, estimate_from, estimate_of as estimate_in, has_ack, has_reply, heard_from}
+use Rattle.ct_model.specs.Received.{is_ack, is_reply}
+use Rattle.ct_model.specs.Rehearsal.{Rehearsal}
+use Rattle.ct_model.specs.declared.phase.Phase.{Phase}
+use Rattle.ct_model.specs.declared.wire.Wire.TheVariants.{Ack, Est, Nack}
+use Rattle.ct_model.proofs.Consensus.Readings.{acked-of, acker-got, estimates-got}
+use Rattle.ct_world.specs.Standing.{acked_by, estimate_by, heard_by, replied_by}
+use Rattle.ct_world.specs.World.{if_member, member_of}
+use Rattle.ct_show.specs.Details.{acks_text, coordinator_of, coordinator_text, estimate_of, instance_of, round_of, size_of}
+use Rattle.ct_show.specs.Facts.{first_heard, heard_text, led_text, member_facts, part_text, phase_in, place_in, votes_text}
+use Rattle.ct_show.specs.Shapes.{estimate_text, phase_text}
+use Rattle.ct_laws.specs.Facts.{AreMany, AreTrue, Fact, HasGot, NamesHeard, TellsMember, fact_text, texts_of}
+use Rattle.ct_laws.specs.Facts.Fact.{Acked, Began, Heard, Holds, Idle, InRound, LedBy}
+
+-- ---- lists of facts
+
+pub texts_joined : (a b : List Fact) → texts_of (a ++ b) ≡ texts_of a ++ texts_of b
+texts_joined [] b = refl
+texts_joined (fact ∷ a) b =
+    ap (λ l. fact_text fact ++ l) (texts_joined a b) ∙ sym (append_assoc (fact_text fact) (texts_of a) (texts_of b))
+
+pub true_joined : (w : Rehearsal) (p k : ℕ) (refusal : Refusal) (a b : List Fact) → AreTrue w p k refusal a → AreTrue w p k refusal b →
+    AreTrue w p k refusal (a ++ b)
+true_joined w p k refusal [] b h more = more
+true_joined w p k refusal (fact ∷ a) b h more = (h.0, true_joined w p k refusal a b h.1 more)
+
+-- ---- what is read of a member of the group
+
+is_there : (n p : ℕ) → IsMember n p → is_member n p ≡ true
+is_there n p h =
+    let low : 1 ≤ p = h.0 in
+    let high : p ≤ n = h.1 in
+    grind (arith, nat_tests)
+
+of_group : {A : Type 0} (w : Rehearsal) (p : ℕ) (x : Option A) → IsMember w.setting.members p → if_member w p x ≡ x
+of_group w p x h = ap (λ b. if b then x else None) (is_there w.setting.members p h)
+
+instance_is : (w : Rehearsal) (p : ℕ) → IsMember w.setting.members p → instance_of w p ≡ (member_of w p).last
+unfolding instance_of
+instance_is w p h =
+    ap (λ b. (unwrap_or {T = ℕ × Bool} (if b then Some ((member_of w p).last, is_some (member_of w p).current) else None) (0, false)).0)
+    (is_there w.setting.members p h)
+
+-- ---- estimates that it heard
+
+heard_fact : ℕ → Option (Value × ℕ) → List Fact
+heard_fact q None = []
+heard_fact q (Some e) = Heard q e.0 e.1 ∷ []
+
+heard_facts : Rehearsal → ℕ → ℕ → List Fact
+heard_facts w p zero = []
+heard_facts w p (suc q) = heard_facts w p q ++ heard_fact (suc q) (if_member w p (heard_by (member_of w p) (suc q)))
+
+one_heard : (q : ℕ) (o : Option (Value × ℕ)) → heard_text (codes ", heard ") (codes "") q o ≡ texts_of (heard_fact q o)
+unfolding heard_fact heard_text
+one_heard q None = refl
+one_heard q (Some e) = sym (append-nil _)
+
+all_heard : (w : Rehearsal) (p n : ℕ) → first_heard (codes ", heard ") (codes "") w p n ≡ texts_of (heard_facts w p n)
+unfolding heard_facts
+all_heard w p zero = refl
+all_heard w p (suc q) =
+    let last = if_member w p (heard_by (member_of w p) (suc q)) in
+    ap₂ (λ a b. a ++ b) (all_heard w p q) (one_heard (suc q) last) ∙ sym (texts_joined (heard_facts w p q) (heard_fact (suc q) last))
+
+-- what is heard of q is the estimate among the ballots
+heard_is : (w : Rehearsal) (p q : ℕ) (c : Standing) → IsMember w.setting.members p → (member_of w p).current ≡ Some c →
+    if_member w p (heard_by (member_of w p) q) ≡ option_map (λ e. (e.value, e.ts)) (estimate_from (own_ballots (member_of w p) c) q)
+heard_is w p q c there is =
+    of_group w p (heard_by (member_of w p) q) there
+    ∙ ap (λ o. option_and_then (λ c. option_map (λ e. (e.value, e.ts)) (estimate_from (own_ballots (member_of w p) c) q)) o) is
+
+heard_got : (w : Rehearsal) (p q : ℕ) (c : Standing) (e : HeardOf Value) → estimate_from (own_ballots (member_of w p) c) q ≡ Some e →
+    HasGot w p (Est (member_of w p).last c.round q e.value e.ts)
+heard_got w p q c e is =
+    let m = member_of w p in
+    let found = found-find (λ (x : HeardOf Value). x.member == q) e (own_ballots m c).estimates is in
+    let same : e.member ≡ q = eqb-true e.member q found.1 in
+    subst (λ n. IsIn (Est m.last c.round n e.value e.ts) m.got) same (estimates-got m.got m.last c.round e found.0)
+
+one_true : (w : Rehearsal) (p q k : ℕ) (refusal : Refusal) (c : Standing) (o : Option (HeardOf Value)) → (member_of w p).current ≡ Some c →
+    estimate_from (own_ballots (member_of w p) c) q ≡ o → AreTrue w p k refusal (heard_fact q (option_map (λ e. (e.value, e.ts)) o))
+unfolding heard_fact
+one_true w p q k refusal c None is from = tt
+one_true w p q k refusal c (Some e) is from = ((c, is, heard_got w p q c e from), tt)
+
+all_true : (w : Rehearsal) (p k : ℕ) (refusal : Refusal) (c : Standing) (n : ℕ) → IsMember w.setting.members p →
+    (member_of w p).current ≡ Some c → AreTrue w p k refusal (heard_facts w p n)
+unfolding heard_facts
+all_true w p k refusal c zero there is = tt
+all_true w p k refusal c (suc q) there is =
+    let last = if_member w p (heard_by (member_of w p) (suc q)) in
+    true_joined w p k refusal (heard_facts w p q) (heard_fact (suc q) last) (all_true w p k refusal c q there is)
+    (subst (λ o. AreTrue w p k refusal (heard_fact (suc q) o)) (sym (heard_is w p (suc q) c there is))
+    (one_true w p (suc q) k refusal c (estimate_from (own_ballots (member_of w p) c) (suc q)) is refl))
+
+-- ---- each that it heard is named
+
+found_if : {A : Type 0} (test : A → Bool) (x y : A) (xs : List A) (b : Bool) → test y ≡ b → (x ≡ y) ⊎ IsIn x xs → test x ≡ true →
+    (IsIn x xs → (z : A) × (find test xs ≡ Some z)) → (z : A) × ((if b then Some y else find test xs) ≡ Some z)
+found_if test x y xs true is h so more = (y, refl)
+found_if test x y xs false is (inl same) so more = absurd (cc (sym so ∙ ap test same ∙ is))
+found_if test x y xs false is (inr h) so more = more h
+
+find_there : {A : Type 0} (test : A → Bool) (x : A) (xs : List A) → IsIn x xs → test x ≡ true → (z : A) × (find test xs ≡ Some z)
+find_there test x [] h so = absurd h
+find_there test x (y ∷ xs) h so = found_if test x y xs (test y) refl h so (λ more. find_there test x xs more so)
+
+got_heard : (got : List Wire) (k r q : ℕ) (v : Value) (ts : ℕ) → IsIn q everyone → IsIn (Est k r q v ts) got →
+    (e : HeardOf Value) × (estimate_from (ballots got k r) q ≡ Some e)
+unfolding ballots
+got_heard got k r q v ts there h =
+    let mine = λ (x : HeardOf Value). x.member == q in
+    let e : HeardOf Value = record { member = q; value = v; ts = ts } in
+    let first = find_there mine e (filter_map (estimate_in k r) got)
+    (IsIn-filter_map (estimate_in k r) (Est k r q v ts) e got (grind (arith, nat_tests)) h) (grind (arith, nat_tests)) in
+    let own = (found-find mine first.0 (filter_map (estimate_in k r) got) first.1).1 in
+    find_there mine first.0 (filter_map (heard_from got k r) everyone)
+    (IsIn-filter_map (heard_from got k r) q first.0 everyone first.1 there) own
+
+in_fact : (q : ℕ) (o : Option (Value × ℕ)) (e : Value × ℕ) → o ≡ Some e → NamesHeard q (heard_fact q o)
+unfolding heard_fact
+in_fact q None e is = absurd (cc is)
+in_fact q (Some x) e is = (x.0, x.1, inl refl)
+
+named_by : (w : Rehearsal) (p q n : ℕ) → (q ≡ suc n) ⊎ (q < suc n) → (q < suc n → NamesHeard q (heard_facts w p n)) →
+    NamesHeard q (heard_fact q (if_member w p (heard_by (member_of w p) q))) → NamesHeard q (heard_facts w p (suc n))
+unfolding heard_facts
+named_by w p q n (inl same) before here =
+    let last = heard_fact (suc n) (if_member w p (heard_by (member_of w p) (suc n))) in
+    let named = subst (λ i. NamesHeard i (heard_fact i (if_member w p (heard_by (member_of w p) i)))) same here in
+    let names : NamesHeard (suc n) (heard_facts w p n ++ last) =
+    (named.0, named.1, IsIn-append_right (Heard (suc n) named.0 named.1) (heard_facts w p n) last named.2) in
+    subst (λ i. NamesHeard i (heard_facts w p n ++ last)) (sym same) names
+named_by w p q n (inr less) before here =
+    let last = heard_fact (suc n) (if_member w p (heard_by (member_of w p) (suc n))) in
+    let named = before less in
+    (named.0, named.1, IsIn-append_left (Heard q named.0 named.1) (heard_facts w p n) last named.2)
+
+named_in : (w : Rehearsal) (p q n : ℕ) → 1 ≤ q → q ≤ n → NamesHeard q (heard_fact q (if_member w p (heard_by (member_of w p) q))) →
+    NamesHeard q (heard_facts w p n)
+named_in w p q zero low high here = absurd (omega (arith, low, high))
+named_in w p q (suc n) low high here =
+    named_by w p q n (eq-or-lt_of_le high) (λ less. named_in w p q n low (omega (arith, less)) here) here
+
+each_named : (w : Rehearsal) (p q : ℕ) (c : Standing) (v : Value) (ts : ℕ) → IsMember w.setting.members p →
+    (member_of w p).current ≡ Some c → IsMember w.setting.members q → IsIn q everyone →
+    HasGot w p (Est (member_of w p).last c.round q v ts) → NamesHeard q (heard_facts w p w.setting.members)
+each_named w p q c v ts there is member one h =
+    let m = member_of w p in
+    let e = got_heard m.got m.last c.round q v ts one h in
+    let told : if_member w p (heard_by m q) ≡ Some (e.0.value, e.0.ts) =
+    heard_is w p q c there is ∙ ap (option_map (λ e. (e.value, e.ts))) e.1 in
+    named_in w p q w.setting.members member.0 member.1
+    (in_fact q (if_member w p (heard_by m q)) (e.0.value, e.0.ts) told)
+
+-- ---- replies
+
+acks_many : (got : List Wire) (k r : ℕ) → AreMany (λ q. IsIn (Ack k r q) got) (length (ballots got k r).acked)
+acks_many got k r = record {
+  set = ackers got k r;
+  once = IsWithoutRepeats-filter (has_ack got k r) everyone once-everyone;
+  all = λ q one h.
+      IsIn-filter (has_ack got k r) q everyone (list_any-found (is_ack k r q) (Ack k r q) got h (grind (arith, nat_tests))) one;
+  only = λ q h. acker-got got k r q h;
+  size = ap length (sym (acked-of got k r));
+}
+
+reply_wire : (k r q : ℕ) (wire : Wire) → is_reply k r q wire ≡ true → (wire ≡ Ack k r q) ⊎ (wire ≡ Nack k r q)
+reply_wire k r q (Ack i s p) h = inl (grind (arith, nat_tests))
+reply_wire k r q (Nack i s p) h = inr (grind (arith, nat_tests))
+reply_wire k r q _ h = absurd (cc h)
+
+abbrev IsReply : List Wire → ℕ → ℕ → ℕ → Type 0
+IsReply got k r q = IsIn (Ack k r q) got ⊎ IsIn (Nack k r q) got
+
+reply_got : (got : List Wire) (k r q : ℕ) (wire : Wire) → IsIn wire got → (wire ≡ Ack k r q) ⊎ (wire ≡ Nack k r q) → IsReply got k r q
+reply_got got k r q wire h (inl same) = inl (subst (λ x. IsIn x got) same h)
+reply_got got k r q wire h (inr same) = inr (subst (λ x. IsIn x got) same h)
+
+got_reply : (got : List Wire) (k r q : ℕ) → IsReply got k r q → has_reply got k r q ≡ true
+got_reply got k r q (inl h) = list_any-found (is_reply k r q) (Ack k r q) got h (grind (arith, nat_tests))
+got_reply got k r q (inr h) = list_any-found (is_reply k r q) (Nack k r q) got h (grind (arith, nat_tests))
+
+replies_many : (got : List Wire) (k r : ℕ) → AreMany (IsReply got k r) (length (ballots got k r).replied)
+unfolding ballots
+replies_many got k r = record {
+  set = (ballots got k r).replied;
+  once = IsWithoutRepeats-filter (has_reply got k r) everyone once-everyone;
+  all = λ q one h. IsIn-filter (has_reply got k r) q everyone (got_reply got k r q h) one;
+  only = λ q h.
+      let f = found-list_any (is_reply k r q) got (IsIn-filter_passes (has_reply got k r) q everyone h) in
+      reply_got got k r q f.item f.is_in (reply_wire k r q f.item f.passes);
+  size = refl;
+}
+
+-- ---- the text
+
+idle_shape : (a b c : List ℕ) → a ++ (b ++ (c ++ [])) ≡ (a ++ (b ++ [])) ++ (c ++ [])
+idle_shape a b c = simp (append_assoc, append-nil) refl
+
+-- an instance, a round and its phase, who leads it, an estimate, those that were heard, and replies
+open_shape : (a b c d e f g h : List ℕ) →
+    a ++ (b ++ (((c ++ (d ++ [])) ++ ((e ++ (f ++ (g ++ (h ++ [])))) ++ [])) ++ []))
+    ≡ (a ++ (b ++ [])) ++ (c ++ (d ++ ((e ++ (f ++ [])) ++ (g ++ (h ++ [])))))
+open_shape a b c d e f g h = simp (append_assoc, append-nil) refl
+
+led_facts : ℕ → ℕ → List Fact
+led_facts r p = if r == 0 then [] else LedBy p ∷ []
+
+led_by : (b : Bool) (r p : ℕ) → (if b then [] else coordinator_text p) ≡ texts_of (if b then [] else LedBy p ∷ [])
+unfolding coordinator_text
+led_by true r p = refl
+led_by false r p = sym (append-nil _)
+
+led_is : (r p : ℕ) → led_text r p ≡ texts_of (led_facts r p)
+unfolding led_facts
+led_is r p = led_by (r == 0) r p
+
+led_if : (b : Bool) (w : Rehearsal) (p k : ℕ) (refusal : Refusal) (c : Standing) → (member_of w p).current ≡ Some c →
+    AreTrue w p k refusal (if b then [] else LedBy (coordinator w.setting.members c.round) ∷ [])
+led_if true w p k refusal c is = tt
+led_if false w p k refusal c is = ((c, is, refl), tt)
+
+led_true : (w : Rehearsal) (p k : ℕ) (refusal : Refusal) (c : Standing) → (member_of w p).current ≡ Some c →
+    AreTrue w p k refusal (led_facts c.round (coordinator w.setting.members c.round))
+unfolding led_facts
+led_true w p k refusal c is = led_if (c.round == 0) w p k refusal c is
+
+-- what is told where an instance is open
+open_facts : Rehearsal → ℕ → Standing → List Fact
+open_facts w p c =
+    let m = member_of w p in
+    Began m.last ∷ InRound c.round c.phase ∷ (led_facts c.round (coordinator w.setting.members c.round)
+    ++ (Holds c.estimate c.ts ∷ (heard_facts w p w.setting.members
+    ++ Acked (length (own_ballots m c).acked) (length (own_ballots m c).replied) ∷ [])))
+
+-- where the member has these, its text is of those
+told_text : (i r : ℕ) (phase : Phase) (q : ℕ) (estimate : Option (Value × ℕ)) (heard : List ℕ) (acks replies : ℕ) → List ℕ
+told_text i r phase q estimate heard acks replies =
+    concat (codes "instance " ∷ decimal i ∷ concat (concat (concat (codes " round " ∷ decimal r ∷ codes " " ∷ phase_text phase ∷ [])
+    ∷ led_text r q ∷ []) ∷ concat (codes ", estimate " ∷ estimate_text estimate ∷ heard
+    ∷ concat (codes "," ∷ codes " acks " ∷ decimal acks ∷ codes " of " ∷ decimal replies ∷ []) ∷ []) ∷ []) ∷ [])
+
+abbrev place : Standing → ℕ × Phase
+place c = (c.round, c.phase)
+
+same_place : (w : Rehearsal) (p : ℕ) (c : Standing) → IsMember w.setting.members p → (member_of w p).current ≡ Some c →
+    if_member {A = ℕ × Phase} w p (option_map (λ c. (c.round, c.phase)) (member_of w p).current) ≡ Some (c.round, c.phase)
+same_place w p c there is =
+    of_group w p (option_map place (member_of w p).current) there ∙ ap (option_map place) is
+
+same_round : (w : Rehearsal) (p : ℕ) (c : Standing) → IsMember w.setting.members p → (member_of w p).current ≡ Some c →
+    coordinator_of w p ≡ coordinator w.setting.members c.round
+unfolding coordinator_of round_of
+same_round w p c there is =
+    ap (λ o. coordinator w.setting.members (option_map_or (λ (r : ℕ × Phase). r.0) o 0)) (same_place w p c there is)
+
+same_estimate : (w : Rehearsal) (p : ℕ) (c : Standing) → IsMember w.setting.members p → (member_of w p).current ≡ Some c →
+    if_member w p (estimate_by (member_of w p)) ≡ Some (c.estimate, c.ts)
+same_estimate w p c there is =
+    of_group w p (estimate_by (member_of w p)) there ∙ ap (option_map (λ c. (c.estimate, c.ts))) is
+
+same_acks : (w : Rehearsal) (p : ℕ) (c : Standing) → IsMember w.setting.members p → (member_of w p).current ≡ Some c →
+    size_of (if_member w p (acked_by (member_of w p))) ≡ length (own_ballots (member_of w p) c).acked
+unfolding size_of
+same_acks w p c there is =
+    ap (λ o. option_map_or (λ (l : List ℕ). length l) o 0) (of_group w p (acked_by (member_of w p)) there
+    ∙ ap (option_map (λ c. (own_ballots (member_of w p) c).acked)) is)
+
+same_replies : (w : Rehearsal) (p : ℕ) (c : Standing) → IsMember w.setting.members p → (member_of w p).current ≡ Some c →
+    size_of (if_member w p (replied_by (member_of w p))) ≡ length (own_ballots (member_of w p) c).replied
+unfolding size_of
+same_replies w p c there is =
+    ap (λ o. option_map_or (λ (l : List ℕ). length l) o 0) (of_group w p (replied_by (member_of w p)) there
+    ∙ ap (option_map (λ c. (own_ballots (member_of w p) c).replied)) is)
+
+-- the text, with the parts that the member has
+member_text : (w : Rehearsal) (p : ℕ) (r : Option (ℕ × Phase)) →
+    if_member {A = ℕ × Phase} w p (option_map (λ c. (c.round, c.phase)) (member_of w p).current) ≡ r →
+    member_facts w p ≡ concat (codes "instance " ∷ decimal (instance_of w p) ∷ part_text w p r ∷ [])
+unfolding member_facts
+member_text w p r is = ap (λ o. concat (codes "instance " ∷ decimal (instance_of w p) ∷ part_text w p o ∷ [])) is
+
+open_text : (w : Rehearsal) (p : ℕ) (c : Standing) → IsMember w.setting.members p → (member_of w p).current ≡ Some c →
+    member_facts w p ≡ told_text (instance_of w p) c.round c.phase (coordinator_of w p) (if_member w p (estimate_by (member_of w p)))
+    (first_heard (codes ", heard ") (codes "") w p w.setting.members) (size_of (if_member w p (acked_by (member_of w p))))
+    (size_of (if_member w p (replied_by (member_of w p))))
+unfolding told_text place_in votes_text phase_in estimate_of acks_text
+open_text w p c there is = member_text w p (Some (c.round, c.phase)) (same_place w p c there is)
+
+told_same : (i j r : ℕ) (phase : Phase) (q p : ℕ) (e f : Option (Value × ℕ)) (heard those : List ℕ) (acks a replies b : ℕ) → i ≡ j → q ≡ p →
+    e ≡ f → heard ≡ those → acks ≡ a → replies ≡ b → told_text i r phase q e heard acks replies ≡ told_text j r phase p f those a b
+told_same i j r phase q p e f heard those acks a replies b is leads holds hears acked replied = cc
+
+told_is : (w : Rehearsal) (p : ℕ) (c : Standing) → IsMember w.setting.members p → (member_of w p).current ≡ Some c →
+    member_facts w p ≡ told_text (member_of w p).last c.round c.phase (coordinator w.setting.members c.round) (Some (c.estimate, c.ts))
+    (texts_of (heard_facts w p w.setting.members)) (length (own_ballots (member_of w p) c).acked)
+    (length (own_ballots (member_of w p) c).replied)
+told_is w p c there is =
+    open_text w p c there is
+    ∙ told_same (instance_of w p) (member_of w p).last c.round c.phase (coordinator_of w p) (coordinator w.setting.members c.round)
+    (if_member w p (estimate_by (member_of w p))) (Some (c.estimate, c.ts)) (first_heard (codes ", heard ") (codes "") w p w.setting.members)
+    (texts_of (heard_facts w p w.setting.members)) (size_of (if_member w p (acked_by (member_of w p))))
+    (length (own_ballots (member_of w p) c).acked) (size_of (if_member w p (replied_by (member_of w p))))
+    (length (own_ballots (member_of w p) c).replied) (instance_is w p there) (same_round w p c there is) (same_estimate w p c there is)
+    (all_heard w p w.setting.members) (same_acks w p c there is) (same_replies w p c there is)
+
+facts_shape : (w : Rehearsal) (p : ℕ) (c : Standing) →
+    told_text (member_of w p).last c.round c.phase (coordinator w.setting.members c.round) (Some (c.estimate, c.ts))
+    (texts_of (heard_facts w p w.setting.members)) (length (own_ballots (member_of w p) c).acked)
+    (length (own_ballots (member_of w p) c).replied) ≡ texts_of (open_facts w p c)
+unfolding told_text open_facts
+facts_shape w p c =
+    let m = member_of w p in
+    let led = led_facts c.round (coordinator w.setting.members c.round) in
+    let heard = heard_facts w p w.setting.members in
+    let acks = Acked (length (own_ballots m c).acked) (length (own_ballots m c).replied) ∷ [] in
+    let parts = open_shape (codes "instance ") (decimal m.last) (fact_text (InRound c.round c.phase))
+    (led_text c.round (coordinator w.setting.members c.round)) (codes ", estimate ") (estimate_text (Some (c.estimate, c.ts)))
+    (texts_of heard) (fact_text (Acked (length (own_ballots m c).acked) (length (own_ballots m c).replied))) in
+    let behind = ap₂ (λ a b. a ++ (fact_text (Holds c.estimate c.ts) ++ b)) (led_is c.round (coordinator w.setting.members c.round))
+    (sym (texts_joined heard acks)) ∙ sym (texts_joined led (Holds c.estimate c.ts ∷ (heard ++ acks))) in
+    parts ∙ ap (λ l. fact_text (Began m.last) ++ (fact_text (InRound c.round c.phase) ++ l)) behind
+
+open_true : (w : Rehearsal) (p : ℕ) (c : Standing) (k : ℕ) (refusal : Refusal) → IsMember w.setting.members p →
+    (member_of w p).current ≡ Some c → AreTrue w p k refusal (open_facts w p c)
+unfolding open_facts
+open_true w p c k refusal there is =
+    let m = member_of w p in
+    let led = led_facts c.round (coordinator w.setting.members c.round) in
+    let heard = heard_facts w p w.setting.members in
+    let acks = Acked (length (own_ballots m c).acked) (length (own_ballots m c).replied) ∷ [] in
+    let replied : AreTrue w p k refusal acks =
+    ((c, is, (acks_many m.got m.last c.round, replies_many m.got m.last c.round)), tt) in (
+      refl,
+      (
+        (c, is, (refl, refl)),
+        true_joined w p k refusal led (Holds c.estimate c.ts ∷ (heard ++ acks)) (led_true w p k refusal c is)
+            ((c, is, (refl, refl)), true_joined w p k refusal heard acks (all_true w p k refusal c w.setting.members there is) replied),
+      ),
+    )
+
+named_later : (w : Rehearsal) (p : ℕ) (c : Standing) (q : ℕ) → NamesHeard q (heard_facts w p w.setting.members) →
+    NamesHeard q (open_facts w p c)
+unfolding open_facts
+named_later w p c q named =
+    let m = member_of w p in
+    let led = led_facts c.round (coordinator w.setting.members c.round) in
+    let heard = heard_facts w p w.setting.members in
+    let acks = Acked (length (own_ballots m c).acked) (length (own_ballots m c).replied) ∷ [] in
+    let one = Heard q named.0 named.1 in (
+      named.0,
+      named.1,
+      inr (inr (IsIn-append_right one led (Holds c.estimate c.ts ∷ (heard ++ acks))
+          (inr (IsIn-append_left one heard acks named.2)))),
+    )
+
+-- ---- where it stands
+
+same_standing : (w : Rehearsal) (p : ℕ) (c d : Standing) → (member_of w p).current ≡ Some c → (member_of w p).current ≡ Some d → c ≡ d
+same_standing w p c d is so = let same : Some c ≡ Some d = sym is ∙ so in cc same
+
+tells_open : (w : Rehearsal) (p : ℕ) (c : Standing) → IsMember w.setting.members p → (member_of w p).current ≡ Some c →
+    TellsMember w p (member_facts w p)
+tells_open w p c there is = record {
+  facts = open_facts w p c;
+  is = told_is w p c there is ∙ facts_shape w p c;
+  are = λ k refusal. open_true w p c k refusal there is;
+  heard = λ d q v ts so member one h.
+      named_later w p c q (each_named w p q d v ts there so member one h);
+}
+
+tells_idle : (w : Rehearsal) (p : ℕ) → IsMember w.setting.members p → (member_of w p).current ≡ None → TellsMember w p (member_facts w p)
+tells_idle w p there is =
+    let m = member_of w p in
+    let none = of_group w p (option_map place m.current) there ∙ ap (option_map place) is in
+    record {
+      facts = Began m.last ∷ Idle ∷ [];
+      is = member_text w p None none
+          ∙ ap (λ i. concat (codes "instance " ∷ decimal i ∷ codes " idle" ∷ [])) (instance_is w p there)
+          ∙ idle_shape (codes "instance ") (decimal m.last) (codes " idle");
+      are = λ k refusal. (refl, (is, tt));
+      heard = λ c q v ts so member one h. absurd (cc (sym is ∙ so));
+    }
+
+tells_by : (w : Rehearsal) (p : ℕ) (o : Option Standing) → IsMember w.setting.members p → (member_of w p).current ≡ o →
+    TellsMember w p (member_facts w p)
+tells_by w p None there is = tells_idle w p there is
+tells_by w p (Some c) there is = tells_open w p c there is
+
+pub tells_member : (w : Rehearsal) (p : ℕ) → IsMember w.setting.members p → TellsMember w p (member_facts w p)
+tells_member w p there = tells_by w p (member_of w p).current there refl
