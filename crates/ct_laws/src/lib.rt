@@ -5,11 +5,13 @@
 mod facts;
 mod schedules;
 mod sessions;
+mod tries;
 mod untils;
 mod walks;
 
 pub use facts::law_facts;
 pub use schedules::law_schedule;
 pub use sessions::law_session;
+pub use tries::law_try;
 pub use untils::law_until;
 pub use walks::law_walk;
