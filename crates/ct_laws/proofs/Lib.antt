@@ -1,3 +1,4 @@
+pub mod Answering
 pub mod Deeds
 pub mod Drawing
 pub mod Hearing

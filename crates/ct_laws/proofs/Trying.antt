@@ -3,7 +3,7 @@ use Rattle.std.proofs.Common.{◌≡◌, ◌≢◌, ◌⊎◌, inl, inr, ◌<◌
 use Rattle.std.proofs.Common.{refl, ap, sym, ◌∙◌, subst, append_assoc, arith, drop, get_or, length, set}
 use Rattle.std.proofs.Common.{get_or-set_other, get_or-set_same}
 use Rattle.std.proofs.lemmas.Bool.Decides.{nat_tests}
-use Rattle.std.specs.Prelude.{◌==◌, ◌%◌, ◌&&◌, not, if◌then◌else◌, nat_lt, Option, Some, None, is_none, is_some}
+use Rattle.std.specs.Prelude.{◌==◌, ◌%◌, ◌&&◌, not, if◌then◌else◌, nat_lt, Option, Some, None, is_none}
 use Rattle.std.specs.Prelude.{option_map, slice_get}
 use Rattle.ct_names.specs.Group.{IsMember, is_member}
 use Rattle.ct_names.specs.declared.refusal.Refusal.{Refusal}
@@ -23,13 +23,16 @@ use Rattle.ct_detect.specs.declared.ask.Ask.{Ask}
 use Rattle.ct_rehearse.specs.Choices.{after_try, ask_of, asked_for, chosen, first_waiting, has_crashed, question, tried}
 use Rattle.ct_rehearse.specs.declared.disturbance.Disturbance.{Disturbance}
 use Rattle.ct_grammar.specs.declared.goal.Goal.{Goal}
+use Rattle.ct_program.specs.Seeding.{detector_of}
 use Rattle.ct_program.specs.declared.free_options.FreeOptions.{FreeOptions}
 use Rattle.ct_walk.specs.Shown.{is_shown_by}
 use Rattle.ct_walk.specs.Walking.{Walk, after_answer, after_entry, after_script, answer, drawn, drawn_scripts, driven, entered, is_due, left_of, made_by}
 use Rattle.ct_walk.specs.Walking.{most_turns, start, turned, walked, walked_for, workers}
 use Rattle.ct_walk.specs.declared.options.WalkOptions.{WalkOptions}
-use Rattle.ct_laws.specs.Tries.{AreTurns, HasTurns, IsAnswer, IsTurn, WalkTurn, after_turn, entries_in, tried_in, tries}
+use Rattle.ct_laws.specs.Tries.{AreTurns, HasTurns, IsAnswer, IsTurn, WalkTurn, after_turn, answers_to, entries_in, first_answers}
+use Rattle.ct_laws.specs.Tries.{tried_in, tries}
 use Rattle.ct_laws.specs.Tries.WalkTurn.{OfMember, OfScript}
+use Rattle.ct_laws.proofs.Answering.{Follows, answered, answers_first, asks_so, detector_at, follows_by, follows_not, joined_answers}
 use Rattle.ct_laws.proofs.Passing.{first_passes, none_pass}
 use Rattle.ct_laws.proofs.Rates.{AllRated, always_yes, first_many, never_yes, rated_first, rated_there, still_many, still_rated}
 use Rattle.ct_laws.proofs.Turns.{IsTry, next_by}
@@ -42,6 +45,8 @@ record IsMade (o : FreeOptions) (w v : Walk) (most : ℕ) : Type 0 where
   pub are : AreTurns o w.rehearsal turns
   pub few : length turns ≤ most
   pub left : (i : ℕ) → entries_in i turns ++ left_of v i ≡ left_of w i
+  pub answers : (p : ℕ) (d : SeededState) → 1 ≤ p → slice_get w.detectors (p - 1) ≡ Some d →
+      answers_to p turns ≡ first_answers d (length (answers_to p turns))
   pub is : v.rehearsal ≡ extended_by w.rehearsal (passed w.rehearsal (tries w.rehearsal turns))
 
 -- one turn
@@ -49,11 +54,14 @@ record IsOne (o : FreeOptions) (w v : Walk) : Type 0 where
   pub turn : WalkTurn
   pub fits : IsTurn o w.rehearsal turn
   pub left : (i : ℕ) → entries_in i (turn ∷ []) ++ left_of v i ≡ left_of w i
+  pub said : (p : ℕ) (d : SeededState) → 1 ≤ p → slice_get w.detectors (p - 1) ≡ Some d →
+      Follows (answers_to p (turn ∷ [])) v.detectors p d
   pub is : v.rehearsal ≡ after_turn w.rehearsal turn
 
 -- none
 record IsNone (w v : Walk) : Type 0 where
   pub left : (i : ℕ) → left_of v i ≡ left_of w i
+  pub same : v.detectors ≡ w.detectors
   pub is : v.rehearsal ≡ w.rehearsal
 
 abbrev IsNext : FreeOptions → Walk → Walk → Type 0
@@ -65,6 +73,7 @@ none_made o w most = record {
   are = tt;
   few = omega arith;
   left = λ i. refl;
+  answers = λ p d low is. refl;
   is = none_pass w.rehearsal;
 }
 
@@ -87,6 +96,10 @@ one_more o w u v most one m =
           ap (λ l. l ++ left_of v i) (entries_first i one.turn m.turns)
           ∙ append_assoc (entries_in i (one.turn ∷ [])) (entries_in i m.turns) (left_of v i)
           ∙ ap (λ l. entries_in i (one.turn ∷ []) ++ l) (m.left i) ∙ one.left i;
+      answers = λ p d low is.
+          answers_first p one.turn m.turns
+          ∙ joined_answers p d (answers_to p (one.turn ∷ [])) (answers_to p m.turns) u.detectors (one.said p d low is)
+          (λ e there. m.answers p e low there) ∙ ap (λ l. first_answers d (length l)) (sym (answers_first p one.turn m.turns));
       is = subst (λ r. v.rehearsal ≡ extended_by r (passed r (tries r m.turns))) one.is m.is
           ∙ sym (first_passes w.rehearsal (tried_in w.rehearsal one.turn) (tries (after_turn w.rehearsal one.turn) m.turns));
     }
@@ -99,6 +112,7 @@ none_more o w u v most none m =
       are = subst (λ r. AreTurns o r m.turns) none.is m.are;
       few = omega (arith, few);
       left = λ i. m.left i ∙ none.left i;
+      answers = λ p d low is. m.answers p d low (ap (λ ds. slice_get ds (p - 1)) none.same ∙ is);
       is = subst (λ r. v.rehearsal ≡ extended_by r (passed r (tries r m.turns))) none.is m.is;
     }
 
@@ -116,18 +130,9 @@ record IsReady (o : FreeOptions) (w : Walk) : Type 0 where
 
 -- ---- a turn of a member
 
-answered : Option Ask → Bool → Option Bool
-answered None said = None
-answered (Some ask) said = Some said
-
-asks_so : (asks : Option Ask) (said : Bool) → is_some (answered asks said) ≡ is_some asks
-unfolding answered
-asks_so None said = refl
-asks_so (Some ask) said = refl
-
 same_try : (w : Rehearsal) (p : ℕ) (asks : Option Ask) (d : Option SeededState) →
     tried w p (Some (ask_of w p, answer asks d)) ≡ tried w p (option_map (λ said. (ask_of w p, said)) (answered asks (answer asks d)))
-unfolding answered tried
+unfolding tried
 same_try w p None d = refl
 same_try w p (Some ask) d = refl
 
@@ -138,7 +143,6 @@ no_detector (d ∷ ds) (suc i) low h = no_detector ds i (omega (arith, low)) h
 
 is_answer : (rate : ℕ) (ds : List SeededState) (i : ℕ) (asks : Option Ask) (d : Option SeededState) → slice_get ds i ≡ d → i < length ds →
     AllRated rate ds → IsAnswer rate (answered asks (answer asks d))
-unfolding answered
 is_answer rate ds i None d is low h = tt
 is_answer rate ds i (Some ask) None is low h = absurd (no_detector ds i low is)
 is_answer rate ds i (Some ask) (Some d) is low h =
@@ -161,6 +165,7 @@ driven_one o w p there ready =
         is_answer o.rate w.detectors (p - 1) asks d refl (omega (arith, many, low, high)) ready.rated,
       );
       left = λ i. refl;
+      said = λ q e from is. follows_by w.detectors q p e asks (q == p) refl from low is;
       is = ap (after_try w.rehearsal) (same_try w.rehearsal p asks d);
     }
 
@@ -202,6 +207,7 @@ entered_by o w i [] is =
     inr (record {
       left = λ j.
           ap (λ l. get_or (set w.scripts i l) j []) same ∙ set_nothing w.scripts i j is;
+      same = refl;
       is = ap (λ l. after_entry w.rehearsal (slice_get l 0)) is;
     })
 entered_by o w i (e ∷ more) is = inl (record {
@@ -210,6 +216,7 @@ entered_by o w i (e ∷ more) is = inl (record {
   left = λ j.
       ap (λ l. (if j == i then e ∷ [] else []) ++ get_or (set w.scripts i (drop 1 l)) j []) is
       ∙ set_rest w.scripts i j e more (j == i) refl is;
+  said = λ p d low there. follows_not w.detectors p d there;
   is = ap (λ l. after_entry w.rehearsal (slice_get l 0)) is;
 })
 
@@ -263,7 +270,7 @@ entered_on o w i ready =
     (subst (λ ds. AllRated o.rate ds) (sym are) ready.rated)
 
 script_on : (o : FreeOptions) (w : Walk) (i : Option ℕ) → IsReady o w → HasTurned o w (after_script w i)
-script_on o w None ready = record { next = inr (record { left = λ i. refl; is = refl }); ready = ready }
+script_on o w None ready = record { next = inr (record { left = λ i. refl; same = refl; is = refl }); ready = ready }
 script_on o w (Some i) ready = entered_on o w i ready
 
 made_if : (o : FreeOptions) (every : ℕ) (w : Walk) (k : ℕ) (b : Bool) → nat_lt k w.rehearsal.setting.members ≡ b → IsReady o w →
@@ -280,8 +287,8 @@ made_on o every w k ready = made_if o every w k (nat_lt k w.rehearsal.setting.me
 
 -- the words that turns are drawn by are no part of it
 undrawn : (o : FreeOptions) (w u v : Walk) → IsNext o (record w { draws = u.draws }) v → IsNext o w v
-undrawn o w u v (inl one) = inl (record { turn = one.turn; fits = one.fits; left = one.left; is = one.is })
-undrawn o w u v (inr none) = inr (record { left = none.left; is = none.is })
+undrawn o w u v (inl one) = inl (record { turn = one.turn; fits = one.fits; left = one.left; said = one.said; is = one.is })
+undrawn o w u v (inr none) = inr (record { left = none.left; same = none.same; is = none.is })
 
 drawn_on : (o : FreeOptions) (every : ℕ) (w : Walk) → IsReady o w → HasTurned o w (drawn every w)
 unfolding drawn
@@ -329,6 +336,7 @@ started o until v m = record {
   are = m.are;
   few = m.few;
   scripts = λ i. (left_of v i, m.left i);
+  answers = λ p there. m.answers p (detector_of o p) there.0 (detector_at o o.members p there.0 there.1);
   steps = ap (λ (w : Rehearsal). w.steps) m.is;
 }
 

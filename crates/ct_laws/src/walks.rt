@@ -18,9 +18,10 @@ ghost use Rattle.ct_laws.specs.Tries.{HasTurns};
 ghost use Rattle.ct_laws.specs.Walks.{HaveNoSuspicion, IsLeast, NoneBelow};
 
 /// Each step of a walk is allowed behind those before it. The steps are the allowed ones of a list of tries, each what a driver does at
-/// a member or the next entry of a script. A member suspects a coordinator only where its detector says yes, which a detector of rate
-/// 256 always does and one of rate 0 never; so at rate 0 nobody is suspected. Where one that is asked says yes, the coordinator is
-/// suspected. The seed that a search names is the least one of its seeds whose walk shows the goal; where it names none, none does.
+/// a member, by the next answer of the member's own detector where it asks one, or the next entry of a script. A member suspects a
+/// coordinator only where its detector says yes, which a detector of rate 256 always does and one of rate 0 never; so at rate 0 nobody is
+/// suspected. Where one that is asked says yes, the coordinator is suspected. The seed that a search names is the least one of its seeds
+/// whose walk shows the goal; where it names none, none does.
 pub fn law_walk()
     ensures allowed { (o : WalkOptions) (until : Option Goal) → AreAllowed (empty (setting_of o.run) o.run.cells) (walked o until).steps }
     ensures tries { (o : WalkOptions) (until : Option Goal) → HasTurns o.run (walked o until) }
