@@ -1,6 +1,6 @@
 -- The facts of an envelope are true.
-use Rattle.std.proofs.Common.{◌≡◌, ◌⊎◌, inl, inr, ◌<◌, ◌≤◌, ◌==◌, ℕ, zero, suc, Bool, true, false, List, [], ◌∷◌, ◌++◌, refl, ap, sym, ◌∙◌, subst}
-use Rattle.std.proofs.Common.{append-nil, arith, codes, decimal, length}
+use Rattle.std.proofs.Common.{◌≡◌, ◌⊎◌, inl, inr, ◌<◌, ◌≤◌, ◌==◌, ℕ, zero, suc, Bool, true, false, List, [], ◌∷◌, ◌++◌, refl, ap, sym}
+use Rattle.std.proofs.Common.{◌∙◌, subst, append-nil, arith, codes, decimal, length}
 use Rattle.std.proofs.lemmas.Bool.Decides.{nat_tests}
 use Rattle.std.proofs.lemmas.Option.{slice_get_within}
 use Rattle.std.proofs.Math.Nat.{eq-or-lt_of_le}
@@ -16,8 +16,8 @@ use Rattle.ct_model.specs.Waiting.{has_serial}
 use Rattle.ct_model.specs.Wire.{value_of}
 use Rattle.ct_model.specs.declared.step.Step.{Step}
 use Rattle.ct_model.specs.declared.step.Step.TheVariants as step
-use Rattle.ct_show.specs.Facts.{last_taking, leaving_text, left_in, left_text, letter_facts, missing_text, place_text, returns, serial_facts}
-use Rattle.ct_show.specs.Facts.{takes, taking_or}
+use Rattle.ct_show.specs.Facts.{last_taking, leaving_text, left_in, left_text, letter_facts, missing_text, place_text, returns}
+use Rattle.ct_show.specs.Facts.{serial_facts, takes, taking_or}
 use Rattle.ct_show.specs.Wires.{carried_text, letter_text, serial_text}
 use Rattle.ct_laws.specs.Facts.{AreTrue, Fact, IsLeaving, IsReturning, IsTaking, IsTrue, fact_text, texts_of}
 use Rattle.ct_laws.specs.Facts.Fact.{Carries, GoesTo, LeftIn, Unsent, Waits, WentTo}
@@ -167,7 +167,8 @@ place_true w p k refusal.NotSent e is waits = (e, is, refl)
 place_true w p k refusal.StillWaiting e is waits = waits refl
 place_true w p k _ e is waits = (e, is, refl)
 
-carried_is : (w : Rehearsal) (k : ℕ) (e : Envelope) → at_serial (state_of w).sent k ≡ Some e → serial_text w k ≡ fact_text (Carries k e.wire)
+carried_is : (w : Rehearsal) (k : ℕ) (e : Envelope) → at_serial (state_of w).sent k ≡ Some e →
+    serial_text w k ≡ fact_text (Carries k e.wire)
 unfolding serial_text carried_text
 carried_is w k e is =
     ap (λ o. concat (codes "#" ∷ decimal k ∷ codes " "

@@ -1,6 +1,6 @@
 -- The facts of a member are true.
-use Rattle.std.proofs.Common.{◌≡◌, ◌⊎◌, inl, inr, ◌<◌, ◌≤◌, ◌==◌, ℕ, zero, suc, Bool, true, false, List, [], ◌∷◌, ◌++◌, refl, ap, ap₂, sym, ◌∙◌, subst}
-use Rattle.std.proofs.Common.{append_assoc, append-nil, arith, codes, decimal, length, find, filter_map, eqb-true}
+use Rattle.std.proofs.Common.{◌≡◌, ◌⊎◌, inl, inr, ◌<◌, ◌≤◌, ◌==◌, ℕ, zero, suc, Bool, true, false, List, [], ◌∷◌, ◌++◌, refl, ap, ap₂}
+use Rattle.std.proofs.Common.{sym, ◌∙◌, subst, append_assoc, append-nil, arith, codes, decimal, length, find, filter_map, eqb-true}
 use Rattle.std.proofs.lemmas.Bool.Decides.{nat_tests}
 use Rattle.std.proofs.Math.Nat.{eq-or-lt_of_le}
 use Rattle.std.specs.List.{concat}
@@ -11,12 +11,12 @@ use Rattle.ct_names.specs.Membership.{IsIn}
 use Rattle.ct_names.specs.Value.{Value}
 use Rattle.ct_names.specs.declared.refusal.Refusal.{Refusal}
 use Rattle.ct_names.proofs.Groups.{once-everyone}
-use Rattle.ct_names.proofs.Lists.{IsIn-append_left, IsIn-append_right, IsIn-filter, IsIn-filter_map, IsIn-filter_passes, IsWithoutRepeats-filter}
-use Rattle.ct_names.proofs.Lists.{found-find, found-list_any, list_any-found}
+use Rattle.ct_names.proofs.Lists.{IsIn-append_left, IsIn-append_right, IsIn-filter, IsIn-filter_map, IsIn-filter_passes}
+use Rattle.ct_names.proofs.Lists.{IsWithoutRepeats-filter, found-find, found-list_any, list_any-found}
 use Rattle.ct_model.specs.AtValue.{Standing, Wire}
 use Rattle.ct_model.specs.Next.{own_ballots}
-use Rattle.ct_model.specs.Received.{Heard as HeardOf, ackers, ballots, estimate_from, estimate_of as estimate_in, has_ack, has_reply, heard_from}
-use Rattle.ct_model.specs.Received.{is_ack, is_reply}
+use Rattle.ct_model.specs.Received.{Heard as HeardOf, ackers, ballots, estimate_from, estimate_of as estimate_in, has_ack, has_reply}
+use Rattle.ct_model.specs.Received.{heard_from, is_ack, is_reply}
 use Rattle.ct_model.specs.Rehearsal.{Rehearsal}
 use Rattle.ct_model.specs.declared.phase.Phase.{Phase}
 use Rattle.ct_model.specs.declared.wire.Wire.TheVariants.{Ack, Est, Nack}
@@ -317,7 +317,8 @@ told_is : (w : Rehearsal) (p : ℕ) (c : Standing) → IsMember w.setting.member
 told_is w p c there is =
     open_text w p c there is
     ∙ told_same (instance_of w p) (member_of w p).last c.round c.phase (coordinator_of w p) (coordinator w.setting.members c.round)
-    (if_member w p (estimate_by (member_of w p))) (Some (c.estimate, c.ts)) (first_heard (codes ", heard ") (codes "") w p w.setting.members)
+    (if_member w p (estimate_by (member_of w p))) (Some (c.estimate, c.ts))
+    (first_heard (codes ", heard ") (codes "") w p w.setting.members)
     (texts_of (heard_facts w p w.setting.members)) (size_of (if_member w p (acked_by (member_of w p))))
     (length (own_ballots (member_of w p) c).acked) (size_of (if_member w p (replied_by (member_of w p))))
     (length (own_ballots (member_of w p) c).replied) (instance_is w p there) (same_round w p c there is) (same_estimate w p c there is)

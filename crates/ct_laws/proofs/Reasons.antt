@@ -44,7 +44,8 @@ first_limit [] r are h = absurd (cc h)
 first_limit (test ∷ tests) r are h = first_limit_by test.fires test tests r are.0 (first_limit tests r are.1) h
 
 limit_by : (w : Rehearsal) (s : Step) (o : Option State) (r : Refusal) →
-    option_and_then (λ h. first_fault (limit_tests w.cells (length w.steps + 1) h (actor s))) o ≡ Some r → (l : Limit) × (r ≡ refusal.Full l)
+    option_and_then (λ h. first_fault (limit_tests w.cells (length w.steps + 1) h (actor s))) o ≡ Some r →
+    (l : Limit) × (r ≡ refusal.Full l)
 limit_by w s None r h = absurd (cc h)
 limit_by w s (Some g) r h =
     first_limit (limit_tests w.cells (length w.steps + 1) g (actor s)) r (
@@ -73,7 +74,8 @@ no_wait w s h = let l = full_only w s refusal.StillWaiting h in cc l.1
 
 -- ---- a refusal since the envelope waits
 
-waits_by : (a b c d : Bool) (o : Option Refusal) → or_else (if a then Some refusal.NoSuchMember else (if b then Some refusal.Crashed else None))
+waits_by : (a b c d : Bool) (o : Option Refusal) →
+    or_else (if a then Some refusal.NoSuchMember else (if b then Some refusal.Crashed else None))
     (or_else (if c then Some refusal.NotSent else (if d then Some refusal.StillWaiting else None)) o) ≡ Some refusal.StillWaiting →
     (o ≡ Some refusal.StillWaiting → ⊥) → d ≡ true
 waits_by true b c d o h other = absurd (cc h)
@@ -82,7 +84,8 @@ waits_by false false true d o h other = absurd (cc h)
 waits_by false false false true o h other = refl
 waits_by false false false false o h other = absurd (other h)
 
-away_by : (a b c : Bool) (o : Option Refusal) → or_else (if a then Some refusal.NoSuchMember else (if b then Some refusal.Crashed else None))
+away_by : (a b c : Bool) (o : Option Refusal) →
+    or_else (if a then Some refusal.NoSuchMember else (if b then Some refusal.Crashed else None))
     (or_else (if c then Some refusal.NotWaiting else None) o) ≡ Some refusal.StillWaiting → (o ≡ Some refusal.StillWaiting → ⊥) → ⊥
 away_by true b c o h other = cc h
 away_by false true c o h other = cc h
@@ -135,14 +138,16 @@ same_refusal w s r other h same = h ∙ ap Some same
 pub tells_step : (w : Rehearsal) (s : Step) (r : Refusal) → cause w s ≡ Some r → IsMember w.setting.members (actor s) →
     TellsFacts w s r (facts_text w s r)
 tells_step w (step.Receive p k) r h there =
-    of_letter w (step.Receive p k) p k r refl refl (λ same. receive_waits w p k (same_refusal w (step.Receive p k) r refusal.StillWaiting h same))
+    of_letter w (step.Receive p k) p k r refl refl
+    (λ same. receive_waits w p k (same_refusal w (step.Receive p k) r refusal.StillWaiting h same))
 tells_step w (step.Postpone p k) r h there =
     of_letter w (step.Postpone p k) p k r refl refl
     (λ same. postpone_waits w p k (same_refusal w (step.Postpone p k) r refusal.StillWaiting h same))
 tells_step w (step.Lose p k) r h there =
     of_letter w (step.Lose p k) p k r refl refl (λ same. lose_waits w p k (same_refusal w (step.Lose p k) r refusal.StillWaiting h same))
 tells_step w (step.Repeat p k) r h there =
-    of_letter w (step.Repeat p k) p k r refl refl (λ same. repeat_waits w p k (same_refusal w (step.Repeat p k) r refusal.StillWaiting h same))
+    of_letter w (step.Repeat p k) p k r refl refl
+    (λ same. repeat_waits w p k (same_refusal w (step.Repeat p k) r refusal.StillWaiting h same))
 tells_step w (step.Submit p c) r h there = of_member w (step.Submit p c) r _ (tells_member w p there)
 tells_step w (step.Begin p) r h there = of_member w (step.Begin p) r _ (tells_member w p there)
 tells_step w (step.Enter p) r h there = of_member w (step.Enter p) r _ (tells_member w p there)

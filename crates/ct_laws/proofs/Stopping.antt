@@ -1,6 +1,6 @@
 -- Where walks end that are made until a goal.
-use Rattle.std.proofs.Common.{◌≡◌, ◌⊎◌, inl, inr, ◌<◌, ◌≤◌, ◌+◌, ◌-◌, ℕ, zero, suc, Bool, true, false, List, ◌++◌, refl, ap, sym, ◌∙◌, subst}
-use Rattle.std.proofs.Common.{append-nil, append_assoc, arith}
+use Rattle.std.proofs.Common.{◌≡◌, ◌⊎◌, inl, inr, ◌<◌, ◌≤◌, ◌+◌, ◌-◌, ℕ, zero, suc, Bool, true, false, List, ◌++◌, refl, ap, sym, ◌∙◌}
+use Rattle.std.proofs.Common.{subst, append-nil, append_assoc, arith}
 use Rattle.std.proofs.Math.Nat.{eq-or-lt_of_le}
 use Rattle.std.specs.Prelude.{◌%◌, if◌then◌else◌, Option, Some, None}
 use Rattle.ct_names.specs.Prefix.{IsPrefix}
@@ -219,7 +219,8 @@ begins_same a = (_, append-nil a)
 
 begins_turn : (o : WalkOptions) (k : ℕ) → IsPrefix (record_at o k).steps (record_at o (k + 1)).steps
 begins_turn o k =
-    subst (λ (w : Walk). IsPrefix (record_at o k).steps w.rehearsal.steps) (sym (next_turn o k)) (turn_begins o.every (k + 1) (after_turns o k))
+    subst (λ (w : Walk). IsPrefix (record_at o k).steps w.rehearsal.steps) (sym (next_turn o k))
+    (turn_begins o.every (k + 1) (after_turns o k))
 
 begins_more : (o : WalkOptions) (more k : ℕ) → IsPrefix (record_at o k).steps (record_at o (k + more)).steps
 begins_more o zero k =

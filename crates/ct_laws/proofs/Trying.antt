@@ -3,8 +3,7 @@ use Rattle.std.proofs.Common.{◌≡◌, ◌≢◌, ◌⊎◌, inl, inr, ◌<◌
 use Rattle.std.proofs.Common.{refl, ap, sym, ◌∙◌, subst, append_assoc, arith, drop, get_or, length, set}
 use Rattle.std.proofs.Common.{get_or-set_other, get_or-set_same}
 use Rattle.std.proofs.lemmas.Bool.Decides.{nat_tests}
-use Rattle.std.specs.Prelude.{◌==◌, ◌%◌, ◌&&◌, not, if◌then◌else◌, nat_lt, Option, Some, None, is_none}
-use Rattle.std.specs.Prelude.{option_map, slice_get}
+use Rattle.std.specs.Prelude.{◌==◌, ◌%◌, ◌&&◌, not, if◌then◌else◌, nat_lt, Option, Some, None, is_none, option_map, slice_get}
 use Rattle.ct_names.specs.Group.{IsMember, is_member}
 use Rattle.ct_names.specs.declared.refusal.Refusal.{Refusal}
 use Rattle.ct_names.specs.declared.refusal.Refusal.TheVariants.{Crashed, NoSuchMember}
@@ -26,8 +25,8 @@ use Rattle.ct_grammar.specs.declared.goal.Goal.{Goal}
 use Rattle.ct_program.specs.Seeding.{detector_of}
 use Rattle.ct_program.specs.declared.free_options.FreeOptions.{FreeOptions}
 use Rattle.ct_walk.specs.Shown.{is_shown_by}
-use Rattle.ct_walk.specs.Walking.{Walk, after_answer, after_entry, after_script, answer, drawn, drawn_scripts, driven, entered, is_due, left_of, made_by}
-use Rattle.ct_walk.specs.Walking.{most_turns, start, turned, walked, walked_for, workers}
+use Rattle.ct_walk.specs.Walking.{Walk, after_answer, after_entry, after_script, answer, drawn, drawn_scripts, driven, entered, is_due}
+use Rattle.ct_walk.specs.Walking.{left_of, made_by, most_turns, start, turned, walked, walked_for, workers}
 use Rattle.ct_walk.specs.declared.options.WalkOptions.{WalkOptions}
 use Rattle.ct_laws.specs.Tries.{AreTurns, HasTurns, IsAnswer, IsTurn, WalkTurn, after_turn, answers_to, entries_in, first_answers}
 use Rattle.ct_laws.specs.Tries.{tried_in, tries}
@@ -81,7 +80,8 @@ entries_if : (b : Bool) (e : Disturbance) (more : List Disturbance) → (if b th
 entries_if true e more = refl
 entries_if false e more = refl
 
-entries_first : (i : ℕ) (turn : WalkTurn) (turns : List WalkTurn) → entries_in i (turn ∷ turns) ≡ entries_in i (turn ∷ []) ++ entries_in i turns
+entries_first : (i : ℕ) (turn : WalkTurn) (turns : List WalkTurn) →
+    entries_in i (turn ∷ turns) ≡ entries_in i (turn ∷ []) ++ entries_in i turns
 entries_first i (OfMember p answer) turns = refl
 entries_first i (OfScript j e) turns = entries_if (i == j) e (entries_in i turns)
 
@@ -169,13 +169,15 @@ driven_one o w p there ready =
       is = ap (after_try w.rehearsal) (same_try w.rehearsal p asks d);
     }
 
-driven_size : (w : Walk) (p : ℕ) → (driven w p).detectors ≡ after_answer w.detectors p (question w.rehearsal p) (slice_get w.detectors (p - 1))
+driven_size : (w : Walk) (p : ℕ) →
+    (driven w p).detectors ≡ after_answer w.detectors p (question w.rehearsal p) (slice_get w.detectors (p - 1))
 unfolding driven
 driven_size w p = refl
 
 -- ---- a turn of a script
 
-set_nothing : (scripts : List (List Disturbance)) (i j : ℕ) → get_or scripts i [] ≡ [] → get_or (set scripts i []) j [] ≡ get_or scripts j []
+set_nothing : (scripts : List (List Disturbance)) (i j : ℕ) → get_or scripts i [] ≡ [] →
+    get_or (set scripts i []) j [] ≡ get_or scripts j []
 set_nothing [] i j h = refl
 set_nothing (s ∷ scripts) zero zero h = sym h
 set_nothing (s ∷ scripts) zero (suc j) h = refl
