@@ -11,9 +11,10 @@ ghost use Rattle.ct_show.specs.Facts.{facts_text, member_facts};
 ghost use Rattle.ct_judge.specs.Refusing.{reason_text};
 ghost use Rattle.ct_laws.specs.Facts.{TellsFacts, TellsMember};
 
-/// What is told of a refused step is a list of facts that are true of the state before it: where its member stands, in words of its
-/// state and of the envelopes that it got; the envelope that it names, in words of those that were sent and of the steps; or when its
-/// member crashed, and what would be right. A member's facts name each member of which it has an estimate of its round.
+/// The text that is told of a refused step, in the lines of steps and by the judge of schedules, is that of a list of facts which are true
+/// of the state before it: where its member stands, in words of its state and of the wires that it got; the envelope that it names, in
+/// words of those that were sent and of the steps; or when its member crashed, and what would be right. A member's facts name each member
+/// of which it has an estimate of its round.
 pub fn law_facts()
     ensures member { (w : Rehearsal) (p : ℕ) → IsMember w.setting.members p → TellsMember w p (member_facts w p) }
     ensures steps { (w : Rehearsal) (step : Step) (refusal : Refusal) → cause w step ≡ Some refusal →
