@@ -1,3 +1,4 @@
+pub mod Diagrams
 pub mod Facts
 pub mod Places
 pub mod Refusals
@@ -6,3 +7,4 @@ pub mod Sessions
 pub mod Tries
 pub mod Untils
 pub mod Walks
+pub mod Xml

@@ -1,7 +1,8 @@
-//! Laws of the definitions by which schedules and sessions are judged, walks made, and refusals told: what they come to, in words of
-//! lines, steps and states.
+//! Laws of the definitions by which schedules and sessions are judged, walks made, refusals told and diagrams drawn: what they come to,
+//! in words of lines, steps, states and envelopes.
 #![tactic(auto)]
 
+mod diagrams;
 mod facts;
 mod schedules;
 mod sessions;
@@ -9,6 +10,7 @@ mod tries;
 mod untils;
 mod walks;
 
+pub use diagrams::law_diagram;
 pub use facts::law_facts;
 pub use schedules::law_schedule;
 pub use sessions::law_session;

@@ -1,0 +1,125 @@
+-- A diagram is XML.
+use Rattle.std.proofs.Common.{ℕ, zero, suc, ◌+◌, ◌*◌, List, [], ◌∷◌, length, drop, take, refl, codes}
+use Rattle.std.proofs.Common.{Option, Some, None}
+use Rattle.std.specs.Prelude.{slice_get}
+use Rattle.ct_model.specs.Actor.{actor}
+use Rattle.ct_model.specs.Rehearsal.{Rehearsal, extended}
+use Rattle.ct_model.specs.Senders.{senders}
+use Rattle.ct_model.specs.declared.step.Step.{Step}
+use Rattle.ct_diagram.specs.Arrows.{arrows, grid_of}
+use Rattle.ct_diagram.specs.Diagram.{Layer, arrows_layer, diagram_text, first_layer, framed_text, layer_next, marks_layer}
+use Rattle.ct_diagram.specs.Diagram.{shades_layer, whole_layer}
+use Rattle.ct_diagram.specs.Frame
+use Rattle.ct_diagram.specs.Grid.{lane, row_of, spot_of, top_of}
+use Rattle.ct_diagram.specs.Window.{is_drawn}
+use Rattle.ct_diagram.specs.declared.window.Window.{Window}
+use Rattle.ct_laws.specs.Xml.{IsXml}
+use Rattle.ct_laws.proofs.Reader.{is_xml}
+use Rattle.ct_laws.proofs.Reader.Reading.{Start, End}
+use Rattle.ct_laws.proofs.DrawnTexts.{Grid, IsInSvg, arrows_read, both_in, end_mild, if_in, in_group, in_svg, shades_read, sighted_reads}
+use Rattle.ct_laws.proofs.Reading.{Leads, leads, reads}
+use Rattle.ct_laws.proofs.Reading.Piece.{Fixed, Number, Known}
+use Rattle.ct_laws.proofs.Records.{part}
+use Rattle.ct_laws.proofs.Trails.{drawn_at, trail_at}
+
+-- ---- the frame
+
+sizes_read : (wide high : ℕ) → Leads Start (Frame.sizes_text wide high) in_svg
+unfolding Frame.sizes_text
+sizes_read wide high =
+    reads Start (Fixed (codes "<svg xmlns='http://www.w3.org/2000/svg' width='") ∷ Number wide ∷ Fixed (codes "' height='") ∷ Number high
+    ∷ Fixed (codes "' viewBox='0 30 ") ∷ Number wide ∷ Fixed (codes " ") ∷ Number high ∷ Fixed (codes "'>\n") ∷ [])
+    (tt, (tt, (tt, (tt, (tt, (tt, (tt, (tt, (tt, tt)))))))))
+
+head_reads : (g : Grid) (end : ℕ) → Leads Start (Frame.head_text g end) in_svg
+head_reads g end =
+    leads Start in_svg in_svg (Frame.sizes_text (Frame.width g end) (Frame.low g end + 32)) _
+    (sizes_read (Frame.width g end) (Frame.low g end + 32)) refl
+
+name_reads : (p y : ℕ) → IsInSvg (Frame.name_text p y)
+unfolding Frame.name_text
+name_reads p y =
+    reads in_svg (Fixed (codes "<text class='name' x='6' y='") ∷ Number (y + 4) ∷ Fixed (codes "'>member ") ∷ Number p
+    ∷ Fixed (codes "</text>\n") ∷ []) (tt, (tt, (tt, (tt, (tt, tt)))))
+
+line_reads : (y right : ℕ) → IsInSvg (Frame.line_text y right)
+unfolding Frame.line_text
+line_reads y right =
+    reads in_svg (Fixed (codes "<path class='lane' d='M") ∷ Number 70 ∷ Fixed (codes " ") ∷ Number y ∷ Fixed (codes "H") ∷ Number right
+    ∷ Fixed (codes "'/>\n") ∷ []) (tt, (tt, (tt, (tt, (tt, (tt, (tt, tt)))))))
+
+row_reads : (g : Grid) (row right k : ℕ) → IsInSvg (Frame.row_text g row right k)
+row_reads g row right zero = refl
+row_reads g row right (suc k) =
+    let y = top_of g row + lane g * suc k in
+    both_in (Frame.row_text g row right k) (Frame.lane_text (suc k) y right) (row_reads g row right k)
+    (both_in (Frame.name_text (suc k) y) (Frame.line_text y right) (name_reads (suc k) y) (line_reads y right))
+
+rows_read : (g : Grid) (end k : ℕ) → IsInSvg (Frame.rows_text g end k)
+rows_read g end zero = refl
+rows_read g end (suc k) =
+    both_in (Frame.rows_text g end k) (Frame.row_text g k (Frame.row_end g end k) g.n) (rows_read g end k)
+    (row_reads g k (Frame.row_end g end k) g.n)
+
+below_reads : (low : ℕ) → Leads in_svg (Frame.below_text low) in_group
+unfolding Frame.below_text
+below_reads low =
+    reads in_svg (Fixed (codes "<g transform='translate(12 ") ∷ Number low ∷ Fixed (codes ")'>\n") ∷ []) (tt, (tt, (tt, tt)))
+
+legend_reads : Leads in_group Frame.legend_text End
+unfolding Frame.legend_text
+legend_reads = refl
+
+foot_reads : (g : Grid) (end : ℕ) → Leads in_svg (Frame.foot_text g end) End
+foot_reads g end =
+    leads in_svg in_group End (Frame.below_text (Frame.low g end)) Frame.legend_text (below_reads (Frame.low g end)) legend_reads
+
+framed_reads : (g : Grid) (end : ℕ) (shades arrows marks : List ℕ) → IsInSvg shades → IsInSvg arrows → IsInSvg marks →
+    Leads Start (framed_text g end shades arrows marks) End
+unfolding framed_text
+framed_reads g end shades arrows marks h i j =
+    reads Start (Known (Frame.head_text g end) in_svg ∷ Known shades in_svg ∷ Known (Frame.rows_text g end (row_of g end + 1)) in_svg
+    ∷ Known arrows in_svg ∷ Known marks in_svg ∷ Known (Frame.foot_text g end) End ∷ [])
+    (head_reads g end, (h, (rows_read g end (row_of g end + 1), (i, (j, (foot_reads g end, tt))))))
+
+-- ---- the layers
+
+-- what a layer has of each step is XML
+abbrev Reads : Layer → Window → Rehearsal → Type 0
+Reads layer window w = (n : ℕ) (step : Step) →
+    IsInSvg (layer window (extended (part w n) step) (senders w.setting (take (n + 1) w.steps)) (trail_at window w n)
+    (drawn_at window w n step) (drop (n + 1) w.steps))
+
+next_reads : (layer : Layer) (window : Window) (w : Rehearsal) → Reads layer window w → (n : ℕ) (o : Option Step) →
+    IsInSvg (layer_next layer window (part w n) (senders w.setting (take (n + 1) w.steps)) (trail_at window w n) n (drop (n + 1) w.steps) o)
+next_reads layer window w h n None = refl
+next_reads layer window w h n (Some step) = if_in (is_drawn window (n + 1)) _ (h n step)
+
+layer_reads : (layer : Layer) (window : Window) (w : Rehearsal) → Reads layer window w → (n : ℕ) →
+    IsInSvg (first_layer layer window w.setting w.cells w.steps n)
+layer_reads layer window w h zero = refl
+layer_reads layer window w h (suc n) =
+    both_in (first_layer layer window w.setting w.cells w.steps n) _ (layer_reads layer window w h n)
+    (next_reads layer window w h n (slice_get w.steps n))
+
+shades_layer_reads : (window : Window) (w : Rehearsal) → Reads shades_layer window w
+shades_layer_reads window w n step = shades_read (extended (part w n) step) (grid_of w window) (drawn_at window w n step)
+
+arrows_layer_reads : (window : Window) (w : Rehearsal) → Reads arrows_layer window w
+arrows_layer_reads window w n step =
+    let d = drawn_at window w n step in
+    arrows_read (extended (part w n) step) window (senders w.setting (take (n + 1) w.steps)) (trail_at window w n) d (drop (n + 1) w.steps)
+    (end_mild d.step d.sight)
+
+marks_layer_reads : (window : Window) (w : Rehearsal) → Reads marks_layer window w
+marks_layer_reads window w n step =
+    let d = drawn_at window w n step in
+    sighted_reads (extended (part w n) step) d (spot_of (grid_of w window) d.place (actor d.step)) d.sight
+
+pub diagram_reads : (window : Window) (w : Rehearsal) → IsXml (diagram_text window w)
+diagram_reads window w =
+    is_xml (diagram_text window w)
+    (framed_reads (grid_of w window) _ (whole_layer shades_layer window w) (whole_layer arrows_layer window w)
+    (whole_layer marks_layer window w) (layer_reads shades_layer window w (shades_layer_reads window w) (length w.steps))
+    (layer_reads arrows_layer window w (arrows_layer_reads window w) (length w.steps))
+    (layer_reads marks_layer window w (marks_layer_reads window w) (length w.steps)))
