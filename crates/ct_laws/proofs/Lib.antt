@@ -28,4 +28,5 @@ pub mod Taking
 pub mod Trails
 pub mod Trying
 pub mod Turns
+pub mod Values
 pub mod Waits

@@ -1,5 +1,11 @@
 pub mod Diagrams
 pub mod Facts
+pub mod Fitting
+pub mod JsonEnvelopes
+pub mod JsonReport
+pub mod JsonState
+pub mod JsonSteps
+pub mod JsonValues
 pub mod Places
 pub mod Refusals
 pub mod Schedules

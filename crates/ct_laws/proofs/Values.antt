@@ -1,0 +1,20 @@
+-- The values that JSON is read as.
+pub mod Bounded
+pub mod Compact
+pub mod Depths
+pub mod EnvelopesRead
+pub mod Feedless
+pub mod Fields
+pub mod PartRead
+pub mod ReadFitting
+pub mod ReportDepth
+pub mod ReportRead
+pub mod ReportWhole
+pub mod StateDepth
+pub mod StateRead
+pub mod StateWhole
+pub mod StepsDepth
+pub mod StepsRead
+pub mod StepsWhole
+pub mod Unescaped
+pub mod WholeNumbers

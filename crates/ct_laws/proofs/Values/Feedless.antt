@@ -1,0 +1,126 @@
+-- Compact texts have no line feed, so each is a line of its own.
+use Rattle.std.proofs.Common.{◌≡◌, ◌⊎◌, inl, inr, ℕ, zero, suc, ◌<◌, ◌≤◌, Bool, true, false, not, ◌&&◌, List, [], ◌∷◌, ◌++◌, map}
+use Rattle.std.proofs.Common.{refl, ap, sym, ◌∙◌, subst, arith, decimal}
+use Rattle.std.proofs.lemmas.Bool.{cases_eq, cases_lt, ne_eqb, and_parts}
+use Rattle.std.specs.List.{list_all}
+use Rattle.json.specs.Print.{escape, escape_byte, quoted}
+use Rattle.json.proofs.Printed.Strings.{escape_byte_plain}
+use Rattle.serde_json.specs.Data.{Num, unsigned, negative, float, Data, null, boolean, number, string, array, object, Items, no_items}
+use Rattle.serde_json.specs.Data.{item, Members, no_members, member, depth}
+use Rattle.serde_json.specs.Written.{comma_if, compact_text, items_text, members_text}
+use Rattle.ct_grammar.specs.Texts.{is_feed}
+use Rattle.ct_laws.specs.JsonValues.{AreRead}
+use Rattle.ct_laws.specs.Sessions.{but_nothing, lines_heard, text_of}
+use Rattle.ct_laws.proofs.Values.Compact.{compact_read}
+use Rattle.ct_laws.proofs.Values.Depths.{Each}
+use Rattle.ct_laws.proofs.Plain.{ArePlain, IsPlain, ended, lines_ended}
+use Rattle.ct_laws.proofs.Values.Unescaped.{AreSelf, decimal_self}
+use Rattle.ct_laws.proofs.Values.WholeNumbers.{HasWholeNumbers, HaveWholeNumbers, IsWhole, ItemsHaveWholeNumbers, MembersHaveWholeNumbers}
+
+both_plain : (xs ys : List ℕ) → IsPlain xs → IsPlain ys → IsPlain (xs ++ ys)
+both_plain [] ys h k = k
+both_plain (x ∷ xs) ys h k = (h.0, both_plain xs ys h.1 k)
+
+self_plain : (xs : List ℕ) → AreSelf xs → IsPlain xs
+self_plain [] h = tt
+self_plain (x ∷ xs) h = (ne_eqb x 10 (λ e. let low = h.0.no_control in omega arith), self_plain xs h.1)
+
+-- ---- strings
+
+not_false : (b : Bool) → not b ≡ true → b ≡ false
+not_false true h = cc
+not_false false h = refl
+
+all_plain : (xs : List ℕ) → list_all (λ b. not (is_feed b)) xs ≡ true → IsPlain xs
+all_plain [] h = tt
+all_plain (x ∷ xs) h = let both = and_parts (not (is_feed x)) _ h in (not_false (is_feed x) both.0, all_plain xs both.1)
+
+-- it passes for each number below
+abbrev passes_below : (ℕ → Bool) → ℕ → Bool
+passes_below test zero = true
+passes_below test (suc n) = test n && passes_below test n
+
+below_passes : (test : ℕ → Bool) (n : ℕ) → passes_below test n ≡ true → (x : ℕ) → x < n → test x ≡ true
+below_passes test zero h x low = absurd (omega arith)
+below_passes test (suc n) h x low =
+    let both = and_parts (test n) (passes_below test n) h in
+    elim (cases_eq x n) [
+      | inl e ↦ ap test e ∙ both.0
+      | inr other ↦ below_passes test n both.1 x (omega arith)
+    ]
+
+escaped_plain : (x : ℕ) → IsPlain (escape_byte x)
+unfolding escape_byte
+escaped_plain x = go (cases_eq x 34) (cases_eq x 92) (cases_lt x 32)
+  where
+    go : (x ≡ 34) ⊎ (x ≡ 34 → ⊥) → (x ≡ 92) ⊎ (x ≡ 92 → ⊥) → (x < 32) ⊎ (32 ≤ x) → IsPlain (escape_byte x)
+    go (inl e) b c = subst (λ y. IsPlain (escape_byte y)) (sym e) (refl, (refl, tt))
+    go (inr q) (inl e) c = subst (λ y. IsPlain (escape_byte y)) (sym e) (refl, (refl, tt))
+    go (inr q) (inr b) (inl c) =
+        all_plain (escape_byte x) (below_passes (λ y. list_all (λ z. not (is_feed z)) (escape_byte y)) 32 refl x c)
+    go (inr q) (inr b) (inr l) =
+        subst (λ t. IsPlain t) (sym (escape_byte_plain x q b l)) (ne_eqb x 10 (λ e. omega arith), tt)
+
+escape_plain : (s : List ℕ) → IsPlain (escape s)
+escape_plain [] = tt
+escape_plain (x ∷ s) = both_plain (escape_byte x) (escape s) (escaped_plain x) (escape_plain s)
+
+quoted_plain : (s : List ℕ) → IsPlain (quoted s)
+quoted_plain s = (refl, both_plain (escape s) (34 ∷ []) (escape_plain s) (refl, tt))
+
+-- ---- values
+
+number_plain : (n : Num) → IsWhole n → IsPlain (compact_text (number n))
+number_plain (unsigned n) h = self_plain (decimal n) (decimal_self n)
+number_plain (negative z) h = absurd h
+number_plain (float x) h = absurd h
+
+comma_plain : (later : Bool) → IsPlain (comma_if later)
+comma_plain true = (refl, tt)
+comma_plain false = tt
+
+mutual
+  text_plain : (d : Data) → HasWholeNumbers d → IsPlain (compact_text d)
+  text_plain null h = (refl, (refl, (refl, (refl, tt))))
+  text_plain (boolean true) h = (refl, (refl, (refl, (refl, tt))))
+  text_plain (boolean false) h = (refl, (refl, (refl, (refl, (refl, tt)))))
+  text_plain (number n) h = number_plain n h
+  text_plain (string s) h = quoted_plain s
+  text_plain (array ds) h = (refl, items_plain false ds h)
+  text_plain (object ms) h = (refl, members_plain false ms h)
+
+  items_plain : (later : Bool) (ds : Items) → ItemsHaveWholeNumbers ds → IsPlain (items_text later ds)
+  items_plain later no_items h = (refl, tt)
+  items_plain later (item d ds) h =
+      both_plain (comma_if later) _ (comma_plain later) (both_plain (compact_text d) _ (text_plain d h.0) (items_plain true ds h.1))
+
+  members_plain : (later : Bool) (ms : Members) → MembersHaveWholeNumbers ms → IsPlain (members_text later ms)
+  members_plain later no_members h = (refl, tt)
+  members_plain later (member k d ms) h =
+      both_plain (comma_if later) _ (comma_plain later)
+      (both_plain (quoted k) _ (quoted_plain k)
+      (refl, both_plain (compact_text d) _ (text_plain d h.0) (members_plain true ms h.1)))
+
+-- ---- lines of values
+
+nothing_behind : (lines : List (List ℕ)) → but_nothing (ended lines) ≡ lines
+nothing_behind [] = refl
+nothing_behind (line ∷ []) = refl
+nothing_behind (line ∷ (next ∷ lines)) = ap (λ l. line ∷ l) (nothing_behind (next ∷ lines))
+
+texts_plain : (values : List Data) → HaveWholeNumbers values → ArePlain (map compact_text values)
+texts_plain [] h = tt
+texts_plain (d ∷ values) h = (text_plain d h.0, texts_plain values h.1)
+
+each_read : (values : List Data) → HaveWholeNumbers values → Each (λ d. depth d ≤ 127) values → AreRead (map compact_text values) values
+each_read [] h k = tt
+each_read (d ∷ values) h k = (compact_read d h.0 k.0, each_read values h.1 k.1)
+
+-- the lines of these values are read as they
+pub lines_read : (values : List Data) → HaveWholeNumbers values → Each (λ d. depth d ≤ 127) values →
+    AreRead (lines_heard (text_of (map compact_text values))) values
+unfolding lines_heard
+lines_read values h k =
+    let texts = map compact_text values in
+    subst (λ lines. AreRead lines values) (sym (ap but_nothing (lines_ended texts (texts_plain values h)) ∙ nothing_behind texts))
+    (each_read values h k)

@@ -1,0 +1,74 @@
+-- The value that the report of a record is, as JSON.
+use Rattle.std.specs.Prelude.{ℕ, List, [], ◌∷◌, ◌++◌, length, codes, not, is_some, flat_map, unwrap_or}
+use Rattle.std.specs.Option.{option_map_or}
+use Rattle.serde_json.specs.Data.{Data, boolean, string}
+use Rattle.ct_names.specs.Group.{counting, majority, members}
+use Rattle.ct_names.specs.Message.{Message}
+use Rattle.ct_names.specs.MessageText.{message_text}
+use Rattle.ct_names.specs.Value.{Value}
+use Rattle.ct_model.specs.AtValue.{Wire}
+use Rattle.ct_model.specs.Cause.{order}
+use Rattle.ct_model.specs.Received.{decided, received_by}
+use Rattle.ct_model.specs.Rehearsal.{Rehearsal, state_of}
+use Rattle.ct_model.specs.Safe.{delivered_by}
+use Rattle.ct_model.specs.State.{is_crashed, member}
+use Rattle.ct_records.specs.Values.{num}
+use Rattle.ct_table.specs.Table.{table}
+use Rattle.ct_world.specs.Decided.{last_decided}
+use Rattle.ct_laws.specs.JsonValues.{Field, array_by, array_of, object_of}
+
+-- a message, by its name
+abbrev pub message_value : Message → Data
+message_value m = string (message_text m)
+
+abbrev pub messages_value : List Message → Data
+messages_value messages = array_by message_value messages
+
+-- an instance and what was decided for it
+abbrev pub decision_value : ℕ → Value → Data
+decision_value k value = object_of ((codes "instance", num k) ∷ (codes "messages", messages_value value) ∷ [])
+
+-- the decision for an instance, where there is one
+abbrev pub decision_values : List Wire → ℕ → List Data
+decision_values got k = option_map_or (λ value. decision_value k value ∷ []) (decided got k) []
+
+-- each decision among these wires, by instance
+abbrev pub decisions_value : List Wire → Data
+decisions_value got = array_of (flat_map (decision_values got) (counting 1 (unwrap_or (last_decided got) 0)))
+
+-- what the record begins with
+abbrev pub group_fields : Rehearsal → List Field
+group_fields w =
+    (codes "group", num w.setting.members) ∷ (codes "majority", num (majority w.setting.members)) ∷ (codes "cells", num w.cells)
+    ∷ (codes "batch", num w.setting.bound) ∷ []
+
+-- how many steps it has, how many envelopes these sent and how many batches they posted
+abbrev pub counts_fields : Rehearsal → List Field
+counts_fields w =
+    (codes "steps", num (length w.steps)) ∷ (codes "sent", num (length (state_of w).sent))
+    ∷ (codes "posted", num (length (order (state_of w)))) ∷ []
+
+-- the registers of a table
+abbrev pub table_value : List ℕ → Data
+table_value values = array_by num values
+
+-- whether a member is up, the last instance that it began, and whether that is open
+abbrev pub standing_fields : Rehearsal → ℕ → List Field
+standing_fields w p =
+    (codes "member", num p) ∷ (codes "up", boolean (not (is_crashed (state_of w) p)))
+    ∷ (codes "instance", num (member (state_of w) p).last) ∷ (codes "open", boolean (is_some (member (state_of w) p).current)) ∷ []
+
+-- what it received, which decisions it got, what it delivered, and the registers of the table that this makes
+abbrev pub history_fields : Rehearsal → ℕ → List Field
+history_fields w p =
+    (codes "received", messages_value (received_by (state_of w) p)) ∷ (codes "decided", decisions_value (member (state_of w) p).got)
+    ∷ (codes "delivered", messages_value (delivered_by (state_of w) p))
+    ∷ (codes "table", table_value (table (delivered_by (state_of w) p))) ∷ []
+
+-- a member
+abbrev pub member_value : Rehearsal → ℕ → Data
+member_value w p = object_of (standing_fields w p ++ history_fields w p)
+
+unfoldable pub report_value : Rehearsal → Data
+report_value w =
+    object_of (group_fields w ++ (counts_fields w ++ (codes "members", array_by (member_value w) (members w.setting.members)) ∷ []))
