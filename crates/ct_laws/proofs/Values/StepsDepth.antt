@@ -38,7 +38,8 @@ use Rattle.ct_laws.specs.Sessions.{lines_heard, text_of}
 use Rattle.ct_laws.proofs.Values.Depths.{Each, depth_by, each_both, each_flat}
 use Rattle.ct_laws.proofs.Values.Feedless.{lines_read}
 use Rattle.ct_laws.proofs.Values.ReportDepth.{messages_depth}
-use Rattle.ct_laws.proofs.Values.StateDepth.{deep_both, envelope_deep, estimate_deep, fields_depth, part_fields_deep, replies_deep, step_deep}
+use Rattle.ct_laws.proofs.Values.StateDepth.{deep_both, envelope_deep, estimate_deep, fields_depth, part_fields_deep, replies_deep}
+use Rattle.ct_laws.proofs.Values.StateDepth.{step_deep}
 use Rattle.ct_laws.proofs.Values.StateRead.{text_both}
 use Rattle.ct_laws.proofs.Values.StepsRead.{refused_line_same, steps_same, values_at}
 use Rattle.ct_laws.proofs.Values.WholeNumbers.{HaveWholeNumbers}

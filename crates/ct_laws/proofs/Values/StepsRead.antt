@@ -49,7 +49,8 @@ use Rattle.ct_laws.specs.JsonSteps as value
 use Rattle.ct_laws.specs.JsonValues.{Field, object_of}
 use Rattle.ct_laws.specs.Sessions.{text_of}
 use Rattle.ct_laws.proofs.Values.EnvelopesRead.{envelope_same, estimate_at_says}
-use Rattle.ct_laws.proofs.Values.Fields.{Says, counted_places, counting_more, fields_text, joined, nothing, object_parts, says_array, says_key}
+use Rattle.ct_laws.proofs.Values.Fields.{Says, counted_places, counting_more, fields_text, joined, nothing, object_parts, says_array}
+use Rattle.ct_laws.proofs.Values.Fields.{says_key}
 use Rattle.ct_laws.proofs.Values.PartRead.{part_says, replies_open}
 use Rattle.ct_laws.proofs.Values.ReportRead.{message_same, messages_same}
 use Rattle.ct_laws.proofs.Values.StateRead.{refusal_plain, step_same, text_both}

@@ -45,7 +45,8 @@ use Rattle.ct_laws.proofs.Values.Bounded.{HasNext, has_next}
 use Rattle.ct_laws.proofs.Values.Depths.{each_from, whole_by}
 use Rattle.ct_laws.proofs.Values.Fields.{counted_places}
 use Rattle.ct_laws.proofs.Values.ReportWhole.{IsSized, Whole, messages_whole, sized_first, whole_fields}
-use Rattle.ct_laws.proofs.Values.StateWhole.{command_whole, envelope_whole, estimate_small, estimate_whole, part_fields_whole, replies_whole}
+use Rattle.ct_laws.proofs.Values.StateWhole.{command_whole, envelope_whole, estimate_small, estimate_whole, part_fields_whole}
+use Rattle.ct_laws.proofs.Values.StateWhole.{replies_whole}
 use Rattle.ct_laws.proofs.Values.StateWhole.{round_small, step_whole, ts_small}
 use Rattle.ct_laws.proofs.Values.StepsRead.{values_at}
 use Rattle.ct_laws.proofs.Values.WholeNumbers.{HasWholeNumbers, HaveWholeNumbers}
