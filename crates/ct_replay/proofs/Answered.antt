@@ -1,0 +1,58 @@
+-- What is said of the bytes that were read holds of the input.
+use Rattle.std.proofs.Common.{◌≡◌, ℕ, List, Option, Some, None, Result, Ok, Err, sym, subst, ◌∙◌}
+use Rattle.std.specs.Prelude.{IfSome, IfOk, IfErr, IsOkAnd}
+use Rattle.ct_model.specs.Rehearsal.{Rehearsal}
+use Rattle.ct_records.specs.declared.program_fault.ProgramFault.{ProgramFault}
+use Rattle.ct_records.specs.declared.program_fault.ProgramFault.TheVariants.{Replay, Read, Start, Exchanged}
+use Rattle.ct_records.specs.Fits.{IsStorable}
+use Rattle.ct_records.specs.Outcome.{IsOutcome}
+use Rattle.ct_records.specs.Script.{script}
+use Rattle.ct_records.specs.Report.{report_text}
+use Rattle.ct_records.specs.Replay.{IsReplayed, IsReportOf, IsFaultIn}
+use Rattle.ct_records.specs.Text.{record_text}
+use Rattle.ct_records.proofs.Written.{round_trip}
+use Rattle.ct_replay.specs.Front.{IsBegun}
+
+-- the report of a world whose record was read
+pub report_is : (w : Rehearsal) (text : List ℕ) → IsBegun w → IsStorable w → IsOutcome w → text ≡ report_text w →
+    IsReportOf (record_text w) text
+report_is w text h storable outcome is =
+    rw (round_trip w storable) (record { allowed = h.allowed; outcome = outcome }, is)
+
+fault_of : (fault : ProgramFault) (bytes input : List ℕ) → script bytes ≡ script input → IsFaultIn fault bytes → IsFaultIn fault input
+fault_of (Replay at refusal) bytes input e h = rw (← e) h
+fault_of (Read fault) bytes input e h = sym e ∙ h
+fault_of Start bytes input e h = absurd h
+fault_of Exchanged bytes input e h = absurd h
+fault_of _ bytes input e h = tt
+
+pub fault_in : (fault : ProgramFault) (left : Option (List ℕ)) (bytes : List ℕ) → IfSome left (λ input. script bytes ≡ script input) →
+    IsFaultIn fault bytes → IfSome left (IsFaultIn fault)
+fault_in fault None bytes same h = tt
+fault_in fault (Some input) bytes same h = fault_of fault bytes input same h
+
+pub report_in : (left : Option (List ℕ)) (bytes text : List ℕ) → IfSome left (λ input. script bytes ≡ script input) →
+    IsReportOf bytes text → IfSome left (λ input. IsReportOf input text)
+report_in None bytes text same h = tt
+report_in (Some input) bytes text same h = rw (← same) h
+
+ok_weaker : {T E : Type 0} (r : Result T E) (P Q : T → Type 0) → ((x : T) → P x → Q x) → IsOkAnd r P → IsOkAnd r Q
+ok_weaker (Ok x) P Q f h = f x h
+ok_weaker (Err e) P Q f h = h
+
+-- what holds of the text holds of the report
+pub told : (left : Option (List ℕ)) (text out : List ℕ) (P : List ℕ → Type 0) → IfSome left (λ input. IsReportOf input text) →
+    out ≡ text → P out → IfSome left (λ input. IsOkAnd (script input) (λ w. IsReplayed w × P (report_text w)))
+told None text out P h e holds = tt
+told (Some input) text out P h e holds =
+    ok_weaker (script input) (λ w. IsReplayed w × (text ≡ report_text w)) (λ w. IsReplayed w × P (report_text w))
+    (λ w both. (both.0, subst P (e ∙ both.1) holds)) h
+
+-- the same of what a result holds
+pub if_ok : {T E : Type 0} (r : Result T E) (P Q : T → Type 0) → ((x : T) → P x → Q x) → IfOk r P → IfOk r Q
+if_ok (Ok x) P Q f h = f x h
+if_ok (Err e) P Q f h = tt
+
+pub if_err : {T E : Type 0} (r : Result T E) (P Q : E → Type 0) → ((e : E) → P e → Q e) → IfErr r P → IfErr r Q
+if_err (Ok x) P Q f h = tt
+if_err (Err e) P Q f h = f e h

@@ -1,0 +1,4 @@
+pub mod Texts
+pub mod Allowed
+pub mod Sources
+pub mod Answered

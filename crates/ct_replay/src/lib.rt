@@ -1,0 +1,15 @@
+//! A record that is replayed while it is read: neither its text nor a list of its steps is kept beside its world.
+#![tactic(auto)]
+
+mod answering;
+mod head;
+mod naming;
+mod number;
+mod piece;
+mod plain;
+mod replaying;
+mod running;
+mod so_far;
+mod taking;
+
+pub use replaying::replay_while_read;

@@ -1,0 +1,74 @@
+//! A record in, its report out.
+
+ghost use Rattle.std.specs.Prelude.{◌≡◌, ◌≢◌, ◌<◌, ◌^◌, Err, OnOk, IfOk, IfErr, IfSome};
+ghost use Rattle.ct_streams.specs.Streams.{FailsOnce};
+ghost use Rattle.ct_records.specs.Replay.{IsReportOf, WritesReport, WritesReportPart, IsFaultIn};
+ghost use Rattle.ct_records.specs.Text.{record_text};
+ghost use Rattle.ct_replay.specs.Front.{IsBegun};
+
+use crate::answering::answer;
+use crate::piece::{piece, read_up_to};
+use crate::running::run;
+use crate::so_far::is_storable;
+use ct_records::{MAX_LEN, ProgramFault, report};
+use ct_streams::{Failed, Sink, Source, write_all};
+use ct_world::Stage;
+use std::alloc::Global;
+
+/// Reads a record to its end, replays it and writes the report, as `ct_records::run_replay` does. The steps of a record that
+/// is written as `write_record` writes it are done as they are read. Where something else is met, or a step is refused, what
+/// was read is written once more from the steps that were done, and all is read before the first step. The whole report is
+/// made before the first write. What the contract says of the input holds where the reader tells its bytes, and what it says
+/// of the output where the writer does.
+pub fn replay_while_read<R: Source, W: Sink>(
+    alloc: Global,
+    reader: &mut R,
+    writer: &mut W,
+) -> Result<(), ProgramFault>
+    requires reads { R.failures reader.old < 2 ^ 63 }
+    requires writes { W.failures writer.old < 2 ^ 63 }
+    // The input is a record whose steps are all allowed, so a run that ends in a safe state, and what was written is
+    // its report, which shows that state.
+    ensures ok { OnOk result (IfSome (R.left reader.old) (λ input.
+        WritesReport input (W.written writer.old) (W.written writer.new))) }
+    ensures fault { IfErr result (λ fault. IfSome (R.left reader.old) (IsFaultIn fault)) }
+    // Only a fault of the writer has written anything: some first bytes of the report.
+    ensures quiet { IfErr result (λ fault. fault ≢ ProgramFault.Write → writer.new ≡ writer.old) }
+    ensures part { result ≡ Err ProgramFault.Write → IfSome (R.left reader.old) (λ input.
+        WritesReportPart input (W.written writer.old) (W.written writer.new)) }
+    ensures reader { FailsOnce result ProgramFault.Reader (R.failures reader.old) (R.failures reader.new) }
+    ensures writer { FailsOnce result ProgramFault.Write (W.failures writer.old) (W.failures writer.new) }
+{
+    let text = report_of(alloc, reader)?;
+    match write_all(writer, &text) {
+        Ok(()) => Ok(()),
+        Err(Failed) => Err(ProgramFault::Write),
+    }
+}
+
+// The report of the record that the source has.
+fn report_of<R: Source>(alloc: Global, reader: &mut R) -> Result<Vec<u8>, ProgramFault>
+    requires { R.failures reader.old < 2 ^ 63 }
+    ensures ok { IfOk result (λ text. IfSome (R.left reader.old) (λ input. IsReportOf input text.items)) }
+    ensures fault { IfErr result (λ fault. IfSome (R.left reader.old) (IsFaultIn fault)) }
+    ensures no_write { result ≢ Err ProgramFault.Write }
+    ensures reader { FailsOnce result ProgramFault.Reader (R.failures reader.old) (R.failures reader.new) }
+{
+    let mut piece = piece(alloc)?;
+    let mut bytes = Vec::new(alloc);
+    if let Some(stage) = run(alloc, reader, &mut piece, &mut bytes)? {
+        return report_after(alloc, &stage);
+    }
+    read_up_to(reader, &mut piece, &mut bytes, MAX_LEN + 1)?;
+    answer(alloc, bytes)
+}
+
+// The report of the world.
+fn report_after(alloc: Global, stage: &Stage) -> Result<Vec<u8>, ProgramFault>
+    requires { IsBegun stage.now.rehearsal }
+    ensures ok { IfOk result (λ text. IsReportOf (record_text stage.now.rehearsal) text.items) }
+    ensures err { IfErr result (λ fault. fault ≡ ProgramFault.Memory) }
+{
+    is_storable(stage.world());
+    Ok(report(alloc, stage.world())?)
+}
