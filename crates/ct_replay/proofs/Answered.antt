@@ -9,15 +9,21 @@ use Rattle.ct_records.specs.Outcome.{IsOutcome}
 use Rattle.ct_records.specs.Script.{script}
 use Rattle.ct_records.specs.Report.{report_text}
 use Rattle.ct_records.specs.Replay.{IsReplayed, IsReportOf, IsFaultIn}
-use Rattle.ct_records.specs.Text.{record_text}
-use Rattle.ct_records.proofs.Written.{round_trip}
-use Rattle.ct_replay.specs.Front.{IsBegun}
+use Rattle.ct_replay.specs.Front.{IsBegun, IsReadOf, IsWholeOf}
+use Rattle.ct_replay.proofs.Ended.{whole_says}
+use Rattle.ct_replay.proofs.Sources.{input_is}
 
 -- the report of a world whose record was read
-pub report_is : (w : Rehearsal) (text : List ℕ) → IsBegun w → IsStorable w → IsOutcome w → text ≡ report_text w →
-    IsReportOf (record_text w) text
-report_is w text h storable outcome is =
-    rw (round_trip w storable) (record { allowed = h.allowed; outcome = outcome }, is)
+pub report_is : (w : Rehearsal) (text bytes : List ℕ) → IsBegun w → IsStorable w → IsOutcome w → text ≡ report_text w →
+    IsWholeOf bytes w → IsReportOf bytes text
+report_is w text bytes h storable outcome is whole =
+    rw (whole_says w bytes storable whole) (record { allowed = h.allowed; outcome = outcome }, is)
+
+pub report_read : (left new : Option (List ℕ)) (w : Rehearsal) (text : List ℕ) → IsReadOf left new w →
+    ((bytes : List ℕ) → IsWholeOf bytes w → IsReportOf bytes text) → IfSome left (λ input. IsReportOf input text)
+report_read None new w text h says = tt
+report_read (Some input) new w text h says =
+    subst (λ t. IsReportOf t text) (sym (input_is (Some input) new h.bytes h.read)) (says h.bytes h.whole)
 
 fault_of : (fault : ProgramFault) (bytes input : List ℕ) → script bytes ≡ script input → IsFaultIn fault bytes → IsFaultIn fault input
 fault_of (Replay at refusal) bytes input e h = rw (← e) h

@@ -43,8 +43,8 @@ advances_behind a b f x y h = record {
 pub advances_as : (a b : Option (List ℕ)) (x y z : List ℕ) → Advances a b x y → y ≡ z → Advances a b x z
 advances_as a b x y z h is = rw (← is) h
 
-pub all_read : (a b : Option (List ℕ)) (y z : List ℕ) → Advances a b [] y → y ≡ z → IsAtEnd b → IsRead a b z
-all_read a b y z h is end = record { consumed = subst (Consumes a b) (sym h.text ∙ is) h.consumed; end = end }
+pub all_read : (a b : Option (List ℕ)) (y : List ℕ) → Advances a b [] y → IsAtEnd b → IsRead a b y
+all_read a b y h end = record { consumed = subst (Consumes a b) (sym h.text) h.consumed; end = end }
 
 -- what was read is the input
 pub input_is : (a b : Option (List ℕ)) (z : List ℕ) → IsRead a b z → IfSome a (λ input. input ≡ z)
@@ -85,5 +85,5 @@ pub start_on : (a b d : Option (List ℕ)) (x bytes taken left z : List ℕ) (w 
 start_on a b d x bytes taken left z w used empty h same front is more =
     let now : bytes ≡ front_text w ++ left =
     sym same ∙ front.text ∙ ap (λ t. front_text w ++ t) (ap (drop used) same ∙ sym is) in
-    advances_more a b d [] (front_text w ++ left) z (advances_as a b [] bytes (front_text w ++ left) (subst (λ t. Advances a b t bytes) empty h) now)
-    more
+    let read : Advances a b [] bytes = subst (λ t. Advances a b t bytes) empty h in
+    advances_more a b d [] (front_text w ++ left) z (advances_as a b [] bytes (front_text w ++ left) read now) more

@@ -1,6 +1,6 @@
 -- Texts of records, piece by piece.
-use Rattle.std.proofs.Common.{◌≡◌, ℕ, ◌+◌, ◌-◌, ◌≤◌, Bool, true, false, List, [], ◌∷◌, ◌++◌, length, take, codes, decimal, refl, sym, ap, ◌∙◌}
-use Rattle.std.proofs.Common.{arith, append_assoc, append-nil, length-append, lt-ltb}
+use Rattle.std.proofs.Common.{inl, inr, ◌≡◌, ℕ, ◌+◌, ◌-◌, ◌≤◌, Bool, true, false, List, [], ◌∷◌, ◌++◌, length, take, codes, decimal}
+use Rattle.std.proofs.Common.{refl, sym, ap, ◌∙◌, arith, append_assoc, append-nil, length-append, lt-ltb}
 use Rattle.std.specs.Prelude.{drop, map, nat_lt}
 use Rattle.std.specs.List.{concat, join_with_byte}
 use Rattle.std.proofs.Math.Seq.{drop-append-add, take-append_seam}
@@ -10,7 +10,7 @@ use Rattle.ct_model.specs.declared.step.Step.TheVariants.{Receive, Postpone}
 use Rattle.ct_model.specs.Rehearsal.{Rehearsal, extended}
 use Rattle.ct_model.specs.StepText.{step_text}
 use Rattle.ct_records.specs.Text.{steps_text, record_text}
-use Rattle.ct_replay.specs.Front.{head_text, front_text, last_text, comma_if, IsFrontOf}
+use Rattle.ct_replay.specs.Front.{head_text, front_text, last_text, comma_if, IsFrontOf, IsLast, IsWholeOf}
 
 -- ---- steps
 
@@ -102,9 +102,15 @@ front_at w new bytes rest h same =
     rw same (record { text = h.text ∙ ap (λ t. front_text w ++ t) at })
 
 -- the whole record
-pub record_is : (w : Rehearsal) → record_text w ≡ front_text w ++ last_text
+record_is : (w : Rehearsal) → record_text w ≡ front_text w ++ last_text
 unfolding record_text head_text
 record_is w = rw (front_is w) (simp append_assoc)
+
+pub whole_is : (w : Rehearsal) (last : List ℕ) → IsLast last → IsWholeOf (front_text w ++ last) w
+whole_is w last (inl alone) = inl (ap (λ t. front_text w ++ t) alone ∙ sym (record_is w))
+whole_is w last (inr ended) =
+    inr (ap (λ t. front_text w ++ t) ended ∙ sym (append_assoc (front_text w) last_text (10 ∷ []))
+    ∙ ap (λ t. t ++ 10 ∷ []) (sym (record_is w)))
 
 pub front_cut : (w : Rehearsal) (text : List ℕ) (n : ℕ) → text ≡ record_text w → n ≡ length text - 14 → take n text ≡ front_text w
 front_cut w text n is e =

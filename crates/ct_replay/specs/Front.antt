@@ -5,7 +5,7 @@ use Rattle.std.specs.Io.KnownBytes.{Consumes, IsAtEnd}
 use Rattle.ct_model.specs.Rehearsal.{Rehearsal}
 use Rattle.ct_records.specs.Fits.{AllFit}
 use Rattle.ct_records.specs.Replay.{IsAllowed}
-use Rattle.ct_records.specs.Text.{steps_text}
+use Rattle.ct_records.specs.Text.{steps_text, record_text}
 
 -- ---- texts
 
@@ -22,6 +22,14 @@ front_text w = concat (head_text w ∷ steps_text w.steps ∷ [])
 -- behind the last step
 abbrev pub last_text : List ℕ
 last_text = codes "],\"version\":3}"
+
+-- that, alone or with a line end
+abbrev pub IsLast : List ℕ → Type 0
+IsLast bytes = (bytes ≡ last_text) ⊎ (bytes ≡ last_text ++ 10 ∷ [])
+
+-- the text of the record, alone or with a line end
+abbrev pub IsWholeOf : List ℕ → Rehearsal → Type 0
+IsWholeOf bytes w = (bytes ≡ record_text w) ⊎ (bytes ≡ record_text w ++ 10 ∷ [])
 
 -- a comma, where another step stands before
 abbrev pub comma_if : Bool → List ℕ → List ℕ
@@ -54,6 +62,12 @@ pub record Advances (old new : Option (List ℕ)) (before after : List ℕ) : Ty
 pub record IsRead (old new : Option (List ℕ)) (bytes : List ℕ) : Type 0 where
   pub consumed : Consumes old new bytes
   pub end : IsAtEnd new
+
+-- the text of the record is all that the source had
+pub record IsReadOf (old new : Option (List ℕ)) (w : Rehearsal) : Type 0 where
+  pub bytes : List ℕ
+  pub read : IsRead old new bytes
+  pub whole : IsWholeOf bytes w
 
 -- there are so many bytes, or the source has no more
 abbrev pub IsEnough : ℕ → Option (List ℕ) → List ℕ → Type 0

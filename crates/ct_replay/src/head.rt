@@ -1,9 +1,10 @@
 //! From the first bytes of a record to what its world is made with.
 
-ghost use Rattle.std.specs.Prelude.{◌≡◌, ◌≤◌, [], ◌++◌, length, IfSome, IsTrue};
+ghost use Rattle.std.specs.Prelude.{◌≡◌, ◌≤◌, [], ◌++◌, length, IfSome};
 ghost use Rattle.ct_world.specs.Setup.{record_of};
 ghost use Rattle.ct_replay.specs.Front.{IsFrontOf};
 
+use crate::naming::is;
 use crate::number::number;
 use ct_names::{Group, MAX_BOUND, MAX_CELLS, MAX_MEMBERS};
 use ct_world::Setup;
@@ -29,11 +30,4 @@ fn behind_text<'a>(bytes: &'a [u8], text: &str) -> Option<&'a [u8]>
 {
     let (first, rest) = bytes.split_at_checked(text.len())?;
     if is(first, text) { Some(rest) } else { None }
-}
-
-// Whether the bytes are this text.
-fn is(bytes: &[u8], text: &str) -> bool
-    ensures { IsTrue result → bytes.now ≡ text.now }
-{
-    bytes == text.as_bytes()
 }

@@ -78,10 +78,10 @@ pub(crate) fn commanded_step(name: &[u8], p: Member, command: Command) -> Option
     is(name, "submit").then_some(Step::Submit(p, command))
 }
 
-// Whether the name is this text.
+/// Whether the bytes are this text.
 #[inline(always)]
-fn is(name: &[u8], text: &str) -> bool
-    ensures { IsTrue result → name.now ≡ text.now }
+pub(crate) fn is(bytes: &[u8], text: &str) -> bool
+    ensures { IsTrue result → bytes.now ≡ text.now }
 {
-    name == text.as_bytes()
+    bytes == text.as_bytes()
 }

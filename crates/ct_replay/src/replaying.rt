@@ -1,10 +1,9 @@
 //! A record in, its report out.
 
-ghost use Rattle.std.specs.Prelude.{◌≡◌, ◌≢◌, ◌<◌, ◌^◌, Err, OnOk, IfOk, IfErr, IfSome};
+ghost use Rattle.std.specs.Prelude.{◌≡◌, ◌≢◌, ◌<◌, ◌^◌, ℕ, List, Err, OnOk, IfOk, IfErr, IfSome};
 ghost use Rattle.ct_streams.specs.Streams.{FailsOnce};
 ghost use Rattle.ct_records.specs.Replay.{IsReportOf, WritesReport, WritesReportPart, IsFaultIn};
-ghost use Rattle.ct_records.specs.Text.{record_text};
-ghost use Rattle.ct_replay.specs.Front.{IsBegun};
+ghost use Rattle.ct_replay.specs.Front.{IsBegun, IsWholeOf};
 
 use crate::answering::answer;
 use crate::piece::{piece, read_up_to};
@@ -16,10 +15,10 @@ use ct_world::Stage;
 use std::alloc::Global;
 
 /// Reads a record to its end, replays it and writes the report, as `ct_records::run_replay` does. The steps of a record that
-/// is written as `write_record` writes it are done as they are read. Where something else is met, or a step is refused, what
-/// was read is written once more from the steps that were done, and all is read before the first step. The whole report is
-/// made before the first write. What the contract says of the input holds where the reader tells its bytes, and what it says
-/// of the output where the writer does.
+/// is written as `write_record` writes it, a line end behind it or not, are done as they are read. Where something else is
+/// met, or a step is refused, what was read is written once more from the steps that were done, and all is read before the
+/// first step. The whole report is made before the first write. What the contract says of the input holds where the reader
+/// tells its bytes, and what it says of the output where the writer does.
 pub fn replay_while_read<R: Source, W: Sink>(
     alloc: Global,
     reader: &mut R,
@@ -66,7 +65,7 @@ fn report_of<R: Source>(alloc: Global, reader: &mut R) -> Result<Vec<u8>, Progra
 // The report of the world.
 fn report_after(alloc: Global, stage: &Stage) -> Result<Vec<u8>, ProgramFault>
     requires { IsBegun stage.now.rehearsal }
-    ensures ok { IfOk result (λ text. IsReportOf (record_text stage.now.rehearsal) text.items) }
+    ensures ok { IfOk result (λ text. (bytes : List ℕ) → IsWholeOf bytes stage.now.rehearsal → IsReportOf bytes text.items) }
     ensures err { IfErr result (λ fault. fault ≡ ProgramFault.Memory) }
 {
     is_storable(stage.world());

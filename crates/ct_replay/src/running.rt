@@ -2,9 +2,8 @@
 
 ghost use Rattle.std.specs.Prelude.{◌≡◌, ◌≤◌, ◌<◌, ◌^◌, ◌++◌, [], true, Ok, None, length, drop, IfOk, OnOk, IfSome};
 ghost use Rattle.std.specs.Io.KnownBytes.{IsAtEnd};
-ghost use Rattle.ct_records.specs.Text.{record_text};
 ghost use Rattle.ct_streams.specs.Streams.{FailsOnce};
-ghost use Rattle.ct_replay.specs.Front.{Advances, IsBegun, IsFrontOf, IsRead, front_text, last_text};
+ghost use Rattle.ct_replay.specs.Front.{Advances, IsBegun, IsFrontOf, IsLast, IsReadOf, front_text};
 
 use crate::head::head;
 use crate::piece::{read_more, read_up_to};
@@ -21,8 +20,8 @@ const HEAD_LEN: usize = 64;
 // More bytes than a step has with the comma before it, and than there are behind the last.
 const STEP_LEN: usize = 64;
 
-/// The world of the record that the source has, where that is written as `write_record` writes it, and each step is done. If
-/// not, what was read of it stands in the bytes.
+/// The world of the record that the source has, where that is written as `write_record` writes it, a line end behind it or
+/// not, and each step is done. If not, what was read of it stands in the bytes.
 pub(crate) fn run<R: Source>(
     alloc: Global,
     reader: &mut R,
@@ -33,7 +32,7 @@ pub(crate) fn run<R: Source>(
     requires room { 0 < length piece.old }
     requires empty { bytes.old.items ≡ [] }
     ensures whole { IfOk result (λ o. IfSome o (λ stage.
-        IsRead (R.left reader.old) (R.left reader.new) (record_text stage.rehearsal) × IsBegun stage.rehearsal)) }
+        IsReadOf (R.left reader.old) (R.left reader.new) stage.rehearsal × IsBegun stage.rehearsal)) }
     ensures part { result ≡ Ok None → Advances (R.left reader.old) (R.left reader.new) [] bytes.new.items }
     ensures failures { FailsOnce result InputFault.Reader (R.failures reader.old) (R.failures reader.new) }
 {
@@ -82,7 +81,7 @@ fn run_steps<R: Source>(
         (front_text stage.old.rehearsal ++ bytes.old.items) (front_text stage.new.rehearsal ++ bytes.new.items)) }
     ensures begun { OnOk result (IsBegun stage.new.rehearsal) }
     ensures end { IfOk result (λ all. all ≡ true → IsAtEnd (R.left reader.new)) }
-    ensures last { IfOk result (λ all. all ≡ true → bytes.new.items ≡ last_text) }
+    ensures last { IfOk result (λ all. all ≡ true → IsLast bytes.new.items) }
     ensures failures { FailsOnce result InputFault.Reader (R.failures reader.old) (R.failures reader.new) }
 {
     for _ in 0..MAX_LEN {

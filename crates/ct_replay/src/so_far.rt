@@ -2,8 +2,9 @@
 
 ghost use Rattle.std.specs.Prelude.{◌≡◌, ◌≤◌, ◌++◌, length, drop, vec_len, IfOk, IsTrue};
 ghost use Rattle.ct_records.specs.Fits.{AllFit, IsStorable};
-ghost use Rattle.ct_replay.specs.Front.{front_text, last_text};
+ghost use Rattle.ct_replay.specs.Front.{front_text, IsLast};
 
+use crate::naming::is;
 use ct_records::write_record;
 use ct_world::World;
 use std::alloc::{AllocError, Global};
@@ -22,11 +23,11 @@ pub(crate) fn text_so_far(alloc: Global, world: &World, rest: &[u8]) -> Result<V
     Ok(text)
 }
 
-/// Whether the bytes are the text behind the last step.
+/// Whether the bytes are the text behind the last step, alone or with a line end.
 pub(crate) fn is_last(bytes: &[u8]) -> bool
-    ensures { IsTrue result → bytes.now ≡ last_text }
+    ensures { IsTrue result → IsLast bytes.now }
 {
-    bytes == "],\"version\":3}".as_bytes()
+    is(bytes, "],\"version\":3}") || is(bytes, "],\"version\":3}\n")
 }
 
 /// Drops the first bytes.

@@ -7,9 +7,9 @@ use Rattle.ct_replay.proofs.Answered.{report_is}
 use Rattle.ct_replay.proofs.replaying.report_after.Goals as goal
 
 pub returns-clause-ok : goal.returns-clause-ok
-returns-clause-ok c =
+returns-clause-ok c = λ bytes whole.
     let w = c.args.stage.now.rehearsal in
     let first : c.world.result.now.rehearsal ≡ w = ap (λ (v : WorldView). v.rehearsal) c.world.ensures in
     let second : c.world-2.result.now.rehearsal ≡ w = ap (λ (v : WorldView). v.rehearsal) c.world-2.ensures in
-    report_is w c.in_ok-report.field-0.items c.requires (subst IsStorable first c.is_storable.ensures)
-    (subst IsOutcome second c.report.ensures.outcome) (c.in_ok-report.ensures.text ∙ ap report_text second)
+    report_is w c.in_ok-report.field-0.items bytes c.requires (subst IsStorable first c.is_storable.ensures)
+    (subst IsOutcome second c.report.ensures.outcome) (c.in_ok-report.ensures.text ∙ ap report_text second) whole
