@@ -1,7 +1,7 @@
 #!/usr/bin/env bash
 # Times `ct replay` on generated records and compares its reports with bench/model.py.
 #
-#     bench/run.sh [--whole] [--version V] [--beside PROGRAM] [CT]
+#     bench/run.sh [--whole] [--version V] [--beside PROGRAM].. [--runs N] [CT]
 #
 # CT: the built program; crates/ct/out/ct if left out. --whole adds records of the
 # whole algorithm: without and with crashes; lossy ones, of a network that loses and
@@ -9,12 +9,13 @@
 # they propose one at a time; and ones of three members at which 9,000 and 90,000 are,
 # of whom two begin each instance and the third follows. --version: records of an older
 # version, of the kinds that it can say. --beside: a program that replays the record on
-# its standard input too, run in turn with CT.
+# its standard input too, run in turn with CT; once for each such program. A program
+# that is called ct is given the word replay.
 #
 # Prints a table row for each record: processor seconds (user and system, the least
-# of three runs), peak resident memory in MiB, and whether the report is the model's;
-# with --beside the same of that program, and CT's seconds and MiB over its. Ends with
-# status 1 where a report is another.
+# of N runs, 3 if left out), peak resident memory in MiB, and whether each report is the
+# model's; with --beside the same of each such program, and CT's seconds and MiB over its.
+# Ends with status 1 where a report is another.
 set -euo pipefail
 
 here=$(cd "$(dirname "$0")" && pwd)
@@ -29,19 +30,26 @@ program() {
 }
 
 kinds=(plain)
+programs=()
 names=(ct)
 version=3
+runs=3
 while [[ ${1-} == --* ]]; do
     case $1 in
         --whole) kinds+=(whole crashes lossy pending followers) ;;
         --version) version=${2-}; shift ;;
-        --beside) beside=$(program "${2-}"); names+=(beside); shift ;;
+        --beside) programs+=("$(program "${2-}")"); names+=("beside${#programs[@]}"); shift ;;
+        --runs) runs=${2-}; shift ;;
         *) echo "bench/run.sh: no option $1" >&2; exit 2 ;;
     esac
     shift
 done
 if [[ $version != [123] ]]; then
     echo "bench/run.sh: no version '$version'" >&2
+    exit 2
+fi
+if [[ ! $runs =~ ^[1-9][0-9]?$ ]]; then
+    echo "bench/run.sh: --runs is 1 to 99" >&2
     exit 2
 fi
 ct=$(program "${1:-$here/../crates/ct/out/ct}")
@@ -63,30 +71,33 @@ else
     timed=(python3 -c "$stand_in")
 fi
 
-# run NAME: one run of ct or of the program beside it; adds to $folder/NAME.costs.
+# run NAME: one run of ct or of a program beside it; adds to $folder/NAME.costs.
 run() {
-    local words=("$ct" replay)
-    [[ $1 == ct ]] || words=("$beside")
+    local words=("$ct")
+    [[ $1 == ct ]] || words=("${programs[${1#beside} - 1]}")
+    [[ ${words[0]##*/} != ct ]] || words+=(replay)
     "${timed[@]}" "$folder/$1.costs" "${words[@]}" <"$record" >"$folder/report"
 }
 
-# outcome: runs all in turn, three times, and says how their reports are.
+# outcome: runs all in turn, as often as is asked for, and says how their reports are.
 outcome() {
-    local name
+    local name turn
     rm -f "$folder"/*.costs
-    for name in "${names[@]}" "${names[@]}" "${names[@]}"; do
-        if ! run "$name"; then
-            echo "$name failed"
-            return
-        elif ! cmp -s "$folder/report" "$folder/wanted"; then
-            echo "$name: another than the model's"
-            return
-        fi
+    for ((turn = 0; turn < runs; turn++)); do
+        for name in "${names[@]}"; do
+            if ! run "$name"; then
+                echo "$name failed"
+                return
+            elif ! cmp -s "$folder/report" "$folder/wanted"; then
+                echo "$name: another than the model's"
+                return
+            fi
+        done
     done
     echo "as the model's"
 }
 
-# columns: the least seconds and the greatest MiB of each, and the ratios.
+# columns: the least seconds and the greatest MiB of each, and ct's over those of each other.
 columns() {
     local costs=("${names[@]/#/$folder/}")
     awk '
@@ -94,8 +105,10 @@ columns() {
         FNR == 1 || $1 + $2 < seconds[i] { seconds[i] = $1 + $2 }
         $3 > peak[i] { peak[i] = $3 }
         END {
-            for (j = 1; j <= i; j++) printf " %8.2f %6d", seconds[j], peak[j] / 1024
-            if (i == 2) printf " %8s %6.2f", seconds[2] ? sprintf("%.2f", seconds[1] / seconds[2]) : "-", peak[1] / peak[2]
+            for (j = 1; j <= i; j++) {
+                printf " %8.2f %6d", seconds[j], peak[j] / 1024
+                if (j > 1) printf " %6s %6.2f", seconds[j] ? sprintf("%.2f", seconds[1] / seconds[j]) : "-", peak[1] / peak[j]
+            }
         }' "${costs[@]/%/.costs}"
 }
 
@@ -133,7 +146,9 @@ sizes() {
 failed=0
 printf '%-9s %8s %9s' record members steps
 printf ' %8s %6s' seconds MiB
-[[ ${#names[@]} == 1 ]] || printf ' %8s %6s %8s %6s' beside MiB ratio ratio
+for name in "${names[@]:1}"; do
+    printf ' %8s %6s %6s %6s' "$name" MiB ratio ratio
+done
 printf '  %s\n' report
 for kind in "${kinds[@]}"; do
     for members in $(groups "$kind"); do
