@@ -3,6 +3,8 @@
 once more, and none of those is, as `rt lib` would.
 
     archive.py      writes crates/ct_embed/out/libct_embed.a; status 1 where a library below is missing or older than its sources
+
+Beside it stays ct_embed.bc, the LLVM bitcode that it was compiled from, of which page/module.sh makes a WebAssembly module.
 """
 from __future__ import annotations
 
@@ -10,9 +12,14 @@ import os
 import shutil
 import subprocess
 import sys
+import tempfile
 from typing import Dict, List
 
 CRATE = "ct_embed"
+KEEPING = """#!/bin/bash
+for it in "$@"; do case $it in *.bc) /bin/cp "$it" "{kept}";; esac; done
+exec "{clang}" "$@"
+"""
 ROOT = os.path.normpath(os.path.join(os.path.dirname(os.path.abspath(__file__)), ".."))
 
 
@@ -51,6 +58,21 @@ def is_missing(crate: str) -> bool:
                for source in sources for folder, _, names in os.walk(source) for name in names)
 
 
+def keeping(kit: str, folder: str, kept: str) -> str:
+    """A toolchain in this folder that is the kit's, and keeps the bitcode that its clang compiles."""
+    real = os.path.join(kit, "toolchain")
+    os.makedirs(os.path.join(folder, "bin"))
+    os.symlink(os.path.join(real, "lib"), os.path.join(folder, "lib"))
+    for name in os.listdir(os.path.join(real, "bin")):
+        if name != "clang":
+            os.symlink(os.path.join(real, "bin", name), os.path.join(folder, "bin", name))
+    clang = os.path.join(folder, "bin", "clang")
+    with open(clang, "w", encoding="utf-8") as file:
+        file.write(KEEPING.format(kept=kept, clang=os.path.join(real, "bin", "clang")))
+    os.chmod(clang, 0o755)
+    return folder
+
+
 def main() -> int:
     table = crates()
     under = below(table, CRATE)
@@ -62,10 +84,13 @@ def main() -> int:
         words += ["--extern", f"{name}={library(name) if name in table else os.path.join(kit, 'rlibs', f'{name}.rlib')}"]
     for folder in [os.path.join(kit, "rlibs"), *(os.path.dirname(library(it)) for it in under)]:
         words += ["-L", f"dependency={folder}"]
-    words += ["--antt-project", os.path.join(kit, "rattle", "logic", "antt-project.json"), "--logic-built", os.path.join(kit, "logic_built")]
-    words += ["--toolchain", os.path.join(kit, "toolchain"), "--jobs", "1", "-o", os.path.join("out", f"lib{CRATE}.a")]
-    os.makedirs(os.path.join(ROOT, "crates", CRATE, "out"), exist_ok=True)
-    return subprocess.run(words, cwd=os.path.join(ROOT, "crates", CRATE), check=False).returncode
+    words += ["--antt-project", os.path.join(kit, "rattle", "logic", "antt-project.json")]
+    words += ["--logic-built", os.path.join(kit, "logic_built"), "--jobs", "1", "-o", os.path.join("out", f"lib{CRATE}.a")]
+    out = os.path.join(ROOT, "crates", CRATE, "out")
+    os.makedirs(out, exist_ok=True)
+    with tempfile.TemporaryDirectory() as folder:
+        words += ["--toolchain", keeping(kit, folder, os.path.join(out, f"{CRATE}.bc"))]
+        return subprocess.run(words, cwd=os.path.join(ROOT, "crates", CRATE), check=False).returncode
 
 
 if __name__ == "__main__":
