@@ -1,0 +1,179 @@
+// A run: the lines of a schedule that the library took, the first one that it refused, and the steps that they came to.
+
+import { World } from "./world.js";
+import { Trips } from "./trips.js";
+import { Places } from "./places.js";
+import { lineOf, withLongNumbers } from "./record.js";
+
+const BLOCK = 2000;
+const HEADING = /^\s*((members|cells|batch)([ \t\r].*)?|#(?![0-9]).*)?$/;
+const QUESTION = /^(enabled|next|state|waiting|report|record|limits)( |$)/;
+const ONE_STEP = /^ *(\d+) +(receive|begin|enter|choose|adopt|suspect|conclude|deliver|follow|postpone|repeat|crash|submit|lose +#)/;
+
+// Whether an answer is a fault: neither ok nor an answer to a question.
+export const isFault = (answer) => answer !== "ok" && !/^ok \d/.test(answer) && !QUESTION.test(answer);
+
+export class Run {
+  constructor(library, { live, past }) {
+    this.live = live; // stands behind the last line, cuts and all
+    this.past = past; // stands behind `pastAt` steps of the record
+    this.world = new World(library);
+    this.clear();
+  }
+
+  clear() {
+    this.lines = []; // those that were taken
+    this.ends = []; // by line: how many steps there are behind it
+    this.fault = null; // of the first line that was refused: { line, text, answer }
+    this.isSettled = false; // a line was told that is no heading, so questions may be asked
+    this.group = null;
+    this.steps = [];
+    this.places = new Places();
+    this.trips = null;
+    this.pastAt = 0;
+    this.told = []; // by step: where its member stands behind it, if that was told with its line
+    this.live.begin();
+    this.past.begin();
+  }
+
+  // Judges these lines from the first one on; lines behind one that is refused are left. `told` hears of the share that is done.
+  async judge(lines, told = async () => {}) {
+    this.clear();
+    for (let at = 0; at < lines.length && !this.fault; at += BLOCK) {
+      this.take(lines.slice(at, at + BLOCK), at);
+      await told(at / lines.length / 2);
+    }
+    const news = this.news();
+    for (let at = 0; at < news.length; at += BLOCK) {
+      this.follow(news.slice(at, at + BLOCK));
+      await told(0.5 + at / news.length / 2);
+    }
+  }
+
+  // Judges one more line: its answer. One that is refused changes nothing.
+  say(line) {
+    const [answer, limits] = this.live.tell([line, "limits"]);
+    if (!isFault(answer)) {
+      this.keep(line, limits);
+      this.follow(this.news());
+    }
+    return answer;
+  }
+
+  // Tells a block of lines. Behind each one goes a question that tells how many steps it came to or, where it is one, where its
+  // member stands then.
+  take(block, before) {
+    const questions = block.map((line) => this.question(line));
+    const answers = this.live.tell(block.flatMap((line, i) => (questions[i] ? [line, questions[i]] : [line])));
+    let at = 0;
+    for (let i = 0; i < block.length; i++) {
+      const answer = answers[at++];
+      if (isFault(answer)) {
+        this.fault = { line: before + i, text: block[i], answer };
+        this.goBack();
+        return;
+      }
+      this.keep(block[i], questions[i] ? answers[at++] : "");
+    }
+  }
+
+  question(line) {
+    this.isSettled ||= !HEADING.test(line);
+    if (!this.isSettled) return "";
+    const member = ONE_STEP.exec(line)?.[1];
+    return member ? `state ${member}` : "limits";
+  }
+
+  keep(line, told) {
+    const before = this.ends.at(-1) ?? 0;
+    this.lines.push(line);
+    if (told.startsWith("state ")) {
+      this.told[before] = told;
+      this.ends.push(before + 1);
+    } else {
+      this.ends.push(Number(/steps (\d+) of/.exec(told)?.[1] ?? before));
+    }
+  }
+
+  // Has the session stand behind the lines that were taken: those behind the refused one were told, too.
+  goBack() {
+    this.live.begin();
+    for (let at = 0; at < this.lines.length; at += BLOCK) this.live.tell(this.lines.slice(at, at + BLOCK));
+  }
+
+  // The steps that lines came to since, by the library's record.
+  news() {
+    if (isFault(this.live.ask("limits"))) return [];
+    const record = JSON.parse(withLongNumbers(this.live.record()));
+    if (!this.group) {
+      this.group = { members: record.n, cells: record.cells, batch: record.batch };
+      this.trips = new Trips(record.n);
+      this.world.begin(this.group);
+      this.beginPast();
+    }
+    return record.steps.slice(this.steps.length);
+  }
+
+  beginPast() {
+    const { members, cells, batch } = this.group;
+    this.past.begin();
+    this.past.tell([`members ${members}`, `cells ${cells}`, `batch ${batch}`]);
+    this.pastAt = 0;
+  }
+
+  // Does steps that are new in the world; where their members stand behind them was told, or the past is asked.
+  follow(steps) {
+    const first = this.steps.length;
+    for (const step of steps) {
+      this.trips.add(step, this.world.apply(step));
+      this.steps.push(step);
+    }
+    const answers = steps.map((_, i) => this.told[first + i]);
+    if (answers.every((answer) => answer !== undefined)) answers.forEach((answer) => this.places.push(answer));
+    else this.followInPast(first, steps);
+    if (this.steps.length >= this.told.length) this.told = [];
+  }
+
+  followInPast(first, steps) {
+    this.goTo(first);
+    const answers = this.past.tell(steps.flatMap((step) => [lineOf(step), `state ${step[1]}`]));
+    steps.forEach((_, i) => this.places.push(answers[2 * i + 1]));
+    this.pastAt = this.steps.length;
+  }
+
+  // Has the session of what was stand behind so many steps.
+  goTo(at) {
+    if (at < this.pastAt) this.beginPast();
+    while (this.pastAt < at) {
+      const end = Math.min(at, this.pastAt + BLOCK);
+      this.past.tell(this.steps.slice(this.pastAt, end).map(lineOf));
+      this.pastAt = end;
+    }
+  }
+
+  // What the library answers to questions behind so many steps.
+  askAt(at, questions) {
+    this.goTo(at);
+    return this.past.tell(questions);
+  }
+
+  // The line that the last of so many steps is of, or -1.
+  lineOf(at) {
+    if (at === 0) return -1;
+    let [low, high] = [0, this.ends.length];
+    while (low < high) {
+      const middle = (low + high) >> 1;
+      if (this.ends[middle] < at) low = middle + 1;
+      else high = middle;
+    }
+    return low;
+  }
+
+  // The lines up to so many steps; of a line that goes on behind them the steps stand as lines of their own.
+  linesUpTo(at) {
+    let whole = 0;
+    while (whole < this.lines.length && this.ends[whole] <= at) whole++;
+    const done = whole > 0 ? this.ends[whole - 1] : 0;
+    return [...this.lines.slice(0, whole), ...this.steps.slice(done, at).map(lineOf)];
+  }
+}

@@ -1,0 +1,36 @@
+// What steps and envelopes are called, in the words of schedules.
+
+const MOST_NAMES = 8;
+
+export function valueText(names) {
+  if (names.length <= MOST_NAMES) return `{${names.join(",")}}`;
+  return `{${names.slice(0, MOST_NAMES).join(",")} and ${names.length - MOST_NAMES} more}`;
+}
+
+// An envelope: its serial and what it carries.
+export function envelopeText(world, serial) {
+  const it = world.envelope(serial);
+  if (!it) return `#${serial}`;
+  if (it.kind === "data") return `#${serial} data ${it.message.name} ${it.message.command}`;
+  const sender = it.from ? ` from ${it.from}` : "";
+  const names = world.value(serial);
+  const value = names ? ` ${valueText(names)}` : "";
+  return `#${serial} ${it.kind} ${it.instance}/${it.round}${sender}${value}${it.kind === "est" ? ` ts ${it.ts}` : ""}`;
+}
+
+// A step of a record: what it does, without its member.
+export function actText(world, step) {
+  const [name, , what] = step;
+  if (name === "submit") return `submit ${what.join(" ")}`;
+  if (["receive", "postpone", "lose", "repeat"].includes(name)) return `${name} ${envelopeText(world, what)}`;
+  return what === undefined ? name : `${name} ${what}`;
+}
+
+// What became of a trip: a text, and the step at which it ended, if it did.
+export function fateText(trips, trip) {
+  const end = trips.to.at(trip);
+  if (end < 0) return "waits";
+  return `${trips.isLost.at(trip) ? "lost" : "received"} in step ${end + 1}`;
+}
+
+export const count = (number, word) => `${number.toLocaleString("en")} ${word}${number === 1 ? "" : "s"}`;

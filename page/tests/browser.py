@@ -1,0 +1,374 @@
+#!/usr/bin/env python3
+"""Tests the page in Chromium, from the disk, as one uses it: by clicks and by keys.
+
+    browser.py PAGE KEPT CT CT_TOOL FOLDER [SHOTS]
+
+PAGE: the page; KEPT: the one that is kept in the repository; CT, CT_TOOL: the programs, which say what is right; FOLDER: what
+bindings/tests/inputs.py wrote; SHOTS: a folder for screenshots. Ends with a line `N passed, M failed`.
+"""
+import json
+import os
+import subprocess
+import sys
+import tempfile
+import time
+import traceback
+
+from page import Page
+
+HERE = os.path.dirname(os.path.abspath(__file__))
+ROOT = os.path.normpath(os.path.join(HERE, "..", ".."))
+BIG_STEPS = 100000
+BIG_SECONDS = 5.0
+TRIES = 3
+SMOOTH_SECONDS = 0.05
+LINK_LETTERS = 4000
+
+
+def read(*names: str) -> str:
+    with open(os.path.join(ROOT, *names), encoding="utf-8") as file:
+        return file.read()
+
+
+def acts_of(schedule: str) -> list:
+    """The lines of a schedule without what is blank or a comment."""
+    lines = [line.split(" #")[0].strip() for line in schedule.splitlines()]
+    return [line for line in lines if line and not line.startswith("#")]
+
+
+def worked_example(page: Page) -> None:
+    """The log of docs/TEN_MINUTES.md, with its mistake mended: each line by a button, and the report in the end."""
+    page.open()
+    lines = acts_of(page.told_by(os.path.join(ROOT, "docs", "TEN_MINUTES.md")))
+    for line in lines[1:]:
+        page.act(line)
+        assert page.alert() == "", page.alert()
+    for member in (1, 2, 3):
+        assert "delivered 1.1; table 0=7" in page.member(member), page.member(member)
+    assert page.lines()[:2] == ["members 3", "1 submit set 0 7"]
+    page.shot("light")
+
+
+def refused_step(page: Page) -> None:
+    """A step that is refused tells its cause and the facts, and changes nothing."""
+    page.open("#example=coordinator_crashes")
+    before = page.lines()
+    page.click("#members-now article[data-member='3'] summary")
+    page.press("3 choose 1")
+    assert page.alert().startswith("3 choose 1: refused 3 Idle: "), page.alert()
+    assert page.lines() == before
+    page.say("1 begin")
+    assert page.alert() == "1 begin: refused 1 Nothing: instance 2 idle", page.alert()
+    page.shot("refused")
+
+
+def undo_and_redo(page: Page) -> None:
+    page.open()
+    for line in ("1 submit set 0 7", "1 receive data 1.1 from 1", "1 begin"):
+        page.act(line)
+    page.click("#undo")
+    page.until(lambda: page.steps() == 2)
+    page.keys("body", "control+z")
+    page.until(lambda: page.steps() == 1)
+    page.click("#redo")
+    page.until(lambda: page.steps() == 2)
+    page.keys("body", "control+shift+z")
+    page.until(lambda: page.steps() == 3)
+    assert page.lines()[-1] == "1 begin"
+
+
+def network(page: Page) -> None:
+    """What is lost, postponed, repeated, cut off and healed."""
+    page.open()
+    page.act("1 submit set 0 7")
+    page.press("2 lose data 1.1 from 1")
+    page.press("3 postpone data 1.1 from 1")
+    page.click("article[data-member='2'] details[data-repeats] summary")
+    page.click("article[data-member='2'] button[data-repeat]")
+    assert page.lines()[-1] == "2 repeat #2", page.lines()
+    page.click("#cut input[value='3']")
+    page.click("#do-cut")
+    page.press("3 receive data 1.1 from 1")
+    assert page.alert() == "3 receive data 1.1 from 1: across the cut: #3 data 1.1 from 1", page.alert()
+    page.click("#heal")
+    page.press("3 receive data 1.1 from 1")
+    page.click("#settle")
+    assert page.lines()[-1] == "all settle" and "delivered 1.1" in page.member(3), page.member(3)
+    page.click("#suspected input[value='2']")
+    page.click("#turn")
+    assert page.lines()[-1] == "all turns 1 suspecting 2"
+    page.press("crash 1")
+    assert "crashed" in page.member(1)
+
+
+def edited(page: Page) -> None:
+    """The refused line is marked in the schedule, and mending it takes the run on."""
+    page.open()
+    page.write("members 3\n1 submit set 0 7\n1 enter\n1 receive data 1.1\n")
+    page.until(lambda: page.fault() == "line 3: 1 enter: refused 1 Idle: instance 0 idle")
+    assert page.text("#gutter .refused") == "✕ 3", page.text("#gutter .refused")
+    page.shot("edited")
+    page.write("members 3\n1 submit set 0 7\n1 receive data 1.1\n1 begin\n1 enter\n")
+    page.until(lambda: page.fault() == "" and page.steps() == 4)
+
+
+def arrows(page: Page) -> None:
+    """Each envelope has an arrow, and each that was received ends at its receipt."""
+    for name, width in (("coordinator_crashes", 2600), ("lost_and_repeated", 2600)):
+        page.size(width, 1000)
+        page.open(f"#example={name}")
+        record = json.loads(page.record())
+        serials = page.run("return [...new Set([...document.querySelectorAll('.way')].map((it) => +it.dataset.serial))].length")
+        sent = page.run("return ct.app.run.trips.sender.length - 1")
+        assert serials == sent > 0, (serials, sent)
+        gone = sum(step[0] in ("receive", "lose") for step in record["steps"])
+        assert page.run("return document.querySelectorAll('.tip, .lost').length - document.querySelectorAll('#legend .tip').length") == gone
+    page.size()
+
+
+def looked_at(page: Page) -> None:
+    """A step that is clicked: its states, and its causal past."""
+    page.open("#example=coordinator_crashes&at=62")
+    page.run("document.querySelector('[data-step=\"24\"] circle').dispatchEvent(new MouseEvent('click', { bubbles: true }))")
+    assert page.text("#step summary") == "Step 25: member 3, choose 1", page.text("#step summary")
+    rows = page.text("#step table")
+    assert "round 2 Gather" in rows and "round 2 Wait" in rows, rows
+    assert "#26 prop 1/2 {1.1,3.1}, to 1: received in step 30" in page.text("#step ul"), page.text("#step ul")
+    lit = page.run("return [...document.querySelectorAll('.mark:not(.dim)')].map((it) => +it.dataset.step + 1)")
+    assert 25 in lit and 18 in lit and 19 not in lit and 26 not in lit, lit
+    page.shot("past")
+    page.click("#fork")
+    page.until(lambda: page.steps() == 25)
+
+
+def filtered(page: Page) -> None:
+    page.open("#example=coordinator_crashes")
+    page.click("#filter summary")
+    for kind in ("data", "submit", "delivery", "crash", "network"):
+        page.click(f"input[name=kind][value={kind}]")
+    steps = page.run("return [...document.querySelectorAll('.mark')].map((it) => ct.app.run.steps[it.dataset.step][0])")
+    assert steps and not {"submit", "deliver", "crash", "postpone"} & set(steps), steps
+    page.click("#all")
+    page.click("input[name=only][value='2']")
+    assert page.text("#sheet .names") == "member 1member 3", page.text("#sheet .names")
+    page.click("#all")
+    page.run("const it = document.getElementById('only-instance'); it.value = 2; it.dispatchEvent(new Event('input'))")
+    first = page.run("return ct.app.columns.shown[0] + 1")
+    assert first == 38, first
+
+
+def saved_and_opened(page: Page) -> None:
+    """What is saved opens as the same run: schedule, record and link; `ct` replays the record."""
+    page.open("#example=lost_and_repeated")
+    record = page.record()
+    schedule = page.saved("#save-schedule", "run.schedule")
+    assert schedule == read("examples", "lost_and_repeated.schedule")
+    kept = page.saved("#save-record", "run.json")
+    assert kept == record + "\n"
+    ran = subprocess.run([page.ct, "replay"], input=kept.encode(), stdout=subprocess.PIPE, check=True)
+    assert ran.stdout.decode() == read("examples", "lost_and_repeated.report")
+    for text, name in ((schedule, "again.schedule"), (kept, "again.json")):
+        page.open()
+        page.give(name, text)
+        page.until(lambda: page.record() == record)
+    page.open()
+    page.drop("dropped.json", kept)
+    page.until(lambda: page.record() == record)
+    picture = page.saved("#save-svg", "run.svg")
+    assert picture.startswith("<svg ") and "var(" not in picture
+    assert picture.count("data-trip=") == page.run("return ct.app.run.trips.from.length")
+    page.click("#link")
+    page.until(lambda: "#s=" in page.address())
+    address = page.address()
+    assert len(address) < LINK_LETTERS, len(address)
+    page.open()
+    page.open(address[address.index("#"):])
+    page.until(lambda: page.record() == record)
+
+
+def no_record(page: Page) -> None:
+    """What is no record is told, and leaves the run."""
+    page.open("#example=locked_value")
+    page.give("bad.json", '{"n":3,"cells":4,"steps":[],"version":9}')
+    page.until(lambda: page.alert() == "bad.json: no record: version 1, 2 or 3 is wanted")
+    assert page.steps() == 153
+    page.give("bad.json", '{"n":3,"cells":4,"steps":[["fly",1]],"version":1}')
+    page.until(lambda: page.fault().startswith("line 3: 1 fly: not understood: fly is no act"))
+    page.open("#s=nothing")
+    assert page.alert().startswith("the link: "), page.alert()
+
+
+def long_numbers(page: Page) -> None:
+    page.open()
+    page.say("1 submit set 3 18446744073709551615")
+    page.say("all settle")
+    assert '["set",3,18446744073709551615]' in page.record()
+    page.run("ct.app.look(1)")
+    assert "#1 data 1.1 set 3 18446744073709551615, to 1" in page.text("#step ul"), page.text("#step ul")
+
+
+def by_keys(page: Page) -> None:
+    """A run by the keyboard alone: from the first button to a delivery, and back through the diagram."""
+    page.open()
+    page.walk_to("submit")
+    page.type("\n")
+    for _ in range(60):
+        if "delivered 1.1" in page.member(1):
+            break
+        page.walk_to("A turn for all")
+        page.type("\n")
+    assert "delivered 1.1" in page.member(1), page.member(1)
+    end = page.steps()
+    page.walk_to_id("diagram")
+    page.type("left")
+    page.until(lambda: page.at() == end - 1)
+    page.type("home")
+    page.until(lambda: page.at() == 0)
+    page.type("right")
+    page.until(lambda: page.at() == 1)
+    page.type("end")
+    page.until(lambda: page.at() == end)
+    page.type("\n")
+    page.until(lambda: page.run("return ct.app.isPast"))
+
+
+def named(page: Page) -> None:
+    """Each control has a name for screen readers, and each field of a refused step is told by an alert."""
+    page.open("#example=locked_value")
+    nameless = page.run("""return [...document.querySelectorAll('button, input, select, textarea, summary, [role]')].filter((it) => {
+      const label = it.getAttribute('aria-label') || it.getAttribute('aria-labelledby') || it.labels?.length || it.textContent.trim();
+      return !label && !['alert', 'status'].includes(it.getAttribute('role'));
+    }).map((it) => it.outerHTML.slice(0, 80))""")
+    assert nameless == [], nameless
+
+
+def smooth(page: Page) -> None:
+    """A run of 1,000 steps: a step back or forth takes few milliseconds."""
+    page.open()
+    page.give("run.json", page.made(5, 1000))
+    page.until(lambda: page.steps() == 1000)
+    took = page.run("""const start = performance.now();
+      for (let at = 400; at < 460; at++) { ct.app.go(at, true); document.body.offsetHeight; }
+      for (let at = 460; at > 400; at--) { ct.app.go(at, true); document.body.offsetHeight; }
+      return (performance.now() - start) / 120000""")
+    print(f"  a step of 1,000: {1000 * took:.1f} ms")
+    assert took < SMOOTH_SECONDS, took
+
+
+def big(page: Page) -> None:
+    """A record of 100,000 steps opens within five seconds, the best of a few times on a machine that does other things."""
+    text = page.made(5, BIG_STEPS)
+    took = BIG_SECONDS
+    for _ in range(TRIES):
+        page.open()
+        page.give("big.json", text)
+        page.until(lambda: page.steps() == BIG_STEPS and " s" in page.text("#status"), 60)
+        took = float(page.text("#status").split(" in ")[1].split()[0])
+        print(f"  {page.text('#status')}")
+        if took < BIG_SECONDS:
+            break
+    assert took < BIG_SECONDS, took
+    page.run("ct.app.go(50000, true)")
+    assert page.text("#place") == "50000 of 100000"
+    assert 0 < page.run("return document.querySelectorAll('.mark').length") < 500
+    page.shot("big")
+
+
+def dark_and_narrow(page: Page) -> None:
+    page.open("#example=locked_value&at=60")
+    page.click("#theme")
+    page.shot("dark")
+    page.size(500, 1500)
+    page.run("document.getElementById('step').open = true")
+    assert page.run("return document.documentElement.scrollWidth <= innerWidth")
+    page.shot("narrow")
+    page.size()
+
+
+def scenarios(page: Page) -> None:
+    """The links of the documents open, and their runs are taken whole."""
+    names = page.links(["README.md", "docs", "page"])
+    assert len(names) >= 5, names
+    for name in names:
+        page.open(f"#example={name}")
+        assert page.steps() > 0, name
+        wanted = "line 29: 3 choose 1: refused 3 NotLargest: instance 1 round 2 Gather, " if name == "broken" else ""
+        assert page.fault().startswith(wanted) and bool(page.fault()) == bool(wanted), page.fault()
+
+
+def same_answers(page: Page) -> None:
+    """The module answers 200,000 lines as `ct_tool interact` does, also the one of the page that is kept."""
+    with open(os.path.join(page.inputs, "lines_told"), encoding="utf-8") as file:
+        lines = file.read()
+    wanted = subprocess.run([page.tool, "interact"], input=lines.encode(), stdout=subprocess.PIPE, check=True).stdout.decode()
+    for path in (page.path, page.kept):
+        page.open(path=path)
+        print(f"  {os.path.getsize(path):,} bytes, loaded in {page.run('return ct.loaded'):.0f} ms")
+        for size in (1, 5000):
+            took, answers = page.run(TELL, lines, size)
+            assert answers == wanted, first_other(answers, wanted)
+            count = lines.count("\n")
+            print(f"  {count:,} lines, {size} at once: {count / took:,.0f} a second")
+
+
+TELL = """const session = new ct.app.run.live.constructor(ct.app.run.world.library);
+  const lines = arguments[0].split('\\n').slice(0, -1);
+  const answers = [];
+  const start = performance.now();
+  for (let at = 0; at < lines.length; at += arguments[1]) answers.push(...session.tell(lines.slice(at, at + arguments[1])));
+  const took = (performance.now() - start) / 1000;
+  session.close();
+  return [took, answers.join('\\n') + '\\n'];"""
+
+
+def first_other(one: str, other: str) -> str:
+    for number, (left, right) in enumerate(zip(one.splitlines(), other.splitlines()), 1):
+        if left != right:
+            return f"answer {number}: {left} and not {right}"
+    return "another number of answers"
+
+
+def same_steps(page: Page) -> None:
+    """Steps as typed calls send what the lines of the same record send."""
+    with open(os.path.join(page.inputs, "serials_told"), encoding="utf-8") as file:
+        lines = file.read()
+    answers = subprocess.run([page.tool, "interact"], input=lines.encode(), stdout=subprocess.PIPE, check=True).stdout.decode()
+    page.open()
+    with open(os.path.join(page.inputs, "record.json"), encoding="utf-8") as file:
+        sent = page.run("""const record = JSON.parse(arguments[0].replace(/\\b[0-9]{16,}\\b/g, '"$&"'));
+          const world = ct.app.run.world;
+          world.begin({ members: record.n, cells: record.cells, batch: record.batch });
+          const sent = ({ first, count }) => count ? [first, first + count - 1] : [];
+          return record.steps.map((step) => sent(world.apply(step)));""", file.read())
+    wanted = [[int(it) for it in (line[3:].split("-") * 2)[:2]] if len(line) > 2 else [] for line in answers.splitlines()]
+    assert sent == wanted[len(wanted) - len(sent):], "serials of another step"
+
+
+TESTS = [worked_example, refused_step, undo_and_redo, network, edited, arrows, looked_at, filtered, saved_and_opened, no_record,
+         long_numbers, by_keys, named, smooth, big, dark_and_narrow, scenarios, same_answers,
+         same_steps]
+
+
+def main() -> int:
+    failed = 0
+    with tempfile.TemporaryDirectory() as folder:
+        page = Page([os.path.abspath(it) for it in sys.argv[1:6]], ROOT, folder, sys.argv[6] if len(sys.argv) > 6 else None)
+        for test in TESTS:
+            start = time.time()
+            try:
+                test(page)
+                faults = page.console()
+                assert faults == [], faults
+                print(f"ok {test.__name__} ({time.time() - start:.1f} s)")
+            except Exception:  # pylint: disable=broad-except
+                failed += 1
+                print(f"FAILED {test.__name__}")
+                traceback.print_exc(file=sys.stdout)
+                page.console()
+        page.close()
+    print(f"{len(TESTS) - failed} passed, {failed} failed")
+    return 1 if failed else 0
+
+
+if __name__ == "__main__":
+    sys.exit(main())
