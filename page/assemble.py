@@ -2,7 +2,8 @@
 """Makes the page of its parts: one file that needs nothing else.
 
     assemble.py MODULE OUT      MODULE: the WebAssembly module; OUT: the page
-    assemble.py --check PAGE    status 1 where the page is not what these parts and its own module make
+    assemble.py --again PAGE    makes the page anew, with the module that it has
+    assemble.py --check PAGE    status 1 where that would change it
 """
 import base64
 import gzip
@@ -73,13 +74,19 @@ def page(module: str) -> str:
     return text
 
 
+def again(path: str) -> str:
+    """The page of these parts with the module of the one that is there."""
+    found = re.search(r'id="module">([^<]*)<', read(path))
+    return page(found[1]) if found else sys.exit(f"assemble.py: {path}: no module")
+
+
 def main() -> int:
-    if sys.argv[1] == "--check":
-        kept = read(sys.argv[2])
-        found = re.search(r'id="module">([^<]*)<', kept)
-        return 0 if found and page(found[1]) == kept else 1
-    with open(sys.argv[2], "w", encoding="utf-8") as file:
-        file.write(page(packed(sys.argv[1])))
+    word, path = sys.argv[1:]
+    if word == "--check":
+        return 0 if again(path) == read(path) else 1
+    text = again(path) if word == "--again" else page(packed(word))
+    with open(path, "w", encoding="utf-8") as file:
+        file.write(text)
     return 0
 
 

@@ -57,6 +57,9 @@ async function start() {
   const run = new Run(held, { live: new Session(held), past: new Session(held) });
   const app = made(run);
   wire(app, scenarios);
+  const failed = (error) => app.alert(`the page failed: ${error?.message ?? error}`);
+  addEventListener("error", (event) => failed(event.error ?? event.message));
+  addEventListener("unhandledrejection", (event) => failed(event.reason));
   await follow(app, scenarios);
   addEventListener("hashchange", () => follow(app, scenarios));
   window.ct = { app, loaded: performance.now() - began };

@@ -59,6 +59,7 @@ def refused_step(page: Page) -> None:
     assert page.lines() == before
     page.say("1 begin")
     assert page.alert() == "1 begin: refused 1 Nothing: instance 2 idle", page.alert()
+    assert page.run("const it = document.getElementById('alert').getBoundingClientRect(); return it.top >= 0 && it.bottom < innerHeight")
     page.shot("refused")
 
 
