@@ -38,4 +38,5 @@ done
 ln -s "$kit/toolchain/bin/ld.lld" wasm-ld
 # The stack lies below all else, so that a call which is too deep ends the module, and is as large as a program's on Linux.
 mapfile -t calls < <(sed -n 's/^[a-z].*[ *]\(ct_[a-z_]*\)(.*/--export=\1/p' "$here/../bindings/ct.h")
-./wasm-ld -m wasm64 --no-entry --gc-sections --strip-all --stack-first -z stack-size=8388608 "${calls[@]}" library.o heap.o module.o wide.o -o "$out"
+./wasm-ld -m wasm64 --no-entry --gc-sections --strip-all --stack-first -z stack-size=8388608 "${calls[@]}" \
+    library.o heap.o module.o wide.o -o "$out"

@@ -1,7 +1,6 @@
 // The arrows of envelopes in the diagram.
 
 import { envelopeText, fateText } from "./wording.js";
-import { LANE } from "./layout.js";
 import { safe } from "./safe.js";
 
 const FEW_STEPS = 3000;
@@ -59,14 +58,14 @@ function arrow(run, layout, trip, { isDim, titles }) {
 function stub(layout, start, sender, { kind, to }) {
   const [x, y] = [layout.x(start), layout.y(sender)];
   const down = layout.columns.rows.has(to) ? Math.sign(layout.y(to) - y) : 0;
-  const [dx, dy] = down === 0 ? [layout.radius * 1.6, -LANE * 0.3] : [layout.radius * 1.5, down * LANE * 0.36];
+  const [dx, dy] = down === 0 ? [layout.radius * 1.6, -layout.lane * 0.3] : [layout.radius * 1.5, down * layout.lane * 0.36];
   return `<path class="arrow waits ${kind}" d="M${x} ${y}l${dx.toFixed(1)} ${dy.toFixed(1)}"/>`;
 }
 
 function whole(layout, start, stop, sender, { kind, to }, isLost) {
   const [x1, y1, x2, y2] = [layout.x(start), layout.y(sender), layout.x(stop), layout.y(to)];
   const isOwn = y1 === y2;
-  const [bx, by] = isOwn ? [(x1 + x2) / 2, y1 - LANE * 0.62] : [x1, y1];
+  const [bx, by] = isOwn ? [(x1 + x2) / 2, y1 - layout.lane * 0.62] : [x1, y1];
   const gone = isLost ? 9 : layout.radius * 0.6 + 1;
   const long = Math.hypot(x2 - bx, y2 - by) || 1;
   const [ux, uy] = [(x2 - bx) / long, (y2 - by) / long];

@@ -1,15 +1,23 @@
 // Where the steps and the members stand in the diagram.
 
 export const LEFT = 84;
-export const TOP = 44;
-export const LANE = 66;
+const TOP = 44;
 const BOTTOM = 46;
+// Between the lines of members, of groups up to so many.
+const LANES = [[5, 66], [8, 54], [16, 42]];
+
+const laneOf = (columns) => LANES.find(([most]) => columns.members.length <= most)[1];
+
+export const heightOf = (columns) => TOP + Math.max(0, columns.members.length - 1) * laneOf(columns) + BOTTOM;
 
 // Where things stand: of the columns, the width of one, and the window `from` to before `to`.
 export class Layout {
   constructor(columns, width, from, to) {
     Object.assign(this, { columns, width, from, to: Math.min(to, columns.length) });
     this.radius = Math.min(10.5, width * 0.42);
+    this.lane = laneOf(columns);
+    this.height = heightOf(columns);
+    this.full = LEFT + columns.length * width + 40;
   }
 
   x(column) {
@@ -17,16 +25,6 @@ export class Layout {
   }
 
   y(member) {
-    return TOP + this.columns.rows.get(member) * LANE;
-  }
-
-  get height() {
-    return heightOf(this.columns);
-  }
-
-  get full() {
-    return LEFT + this.columns.length * this.width + 40;
+    return TOP + this.columns.rows.get(member) * this.lane;
   }
 }
-
-export const heightOf = (columns) => TOP + Math.max(0, columns.members.length - 1) * LANE + BOTTOM;
