@@ -8,6 +8,7 @@ import { markTitle } from "./marks.js";
 const WIDTHS = [4, 6, 9, 13, 18, 26, 34, 46];
 const FIRST_WIDTH = 5;
 const MARGIN = 12;
+const MOST_WIDE = 8000000; // browsers cut what is wider
 
 export class Diagram {
   constructor(box, sheet, choose) {
@@ -22,7 +23,7 @@ export class Diagram {
   }
 
   get width() {
-    return WIDTHS[this.zoom];
+    return Math.min(WIDTHS[this.zoom], MOST_WIDE / Math.max(1, this.columns.length));
   }
 
   // Shows these columns of a run, so many steps done.
@@ -63,10 +64,11 @@ export class Diagram {
     const left = this.box.scrollLeft;
     const from = Math.max(0, Math.floor((left - LEFT) / this.width) - MARGIN);
     const to = Math.ceil((left + this.box.clientWidth - LEFT) / this.width) + MARGIN;
-    const layout = new Layout(this.columns, this.width, Math.min(from, this.columns.length), to);
-    this.svg.setAttribute("width", Math.max(layout.full, this.box.clientWidth));
+    const layout = new Layout(this.columns, this.width, { from, to, left });
+    this.svg.style.left = `${left}px`;
+    this.svg.setAttribute("width", this.box.clientWidth);
     this.svg.setAttribute("height", layout.height);
-    this.svg.innerHTML = draw(this.run, layout, { chosen: this.at - 1, past: this.isPast, left });
+    this.svg.innerHTML = draw(this.run, layout, { chosen: this.at - 1, past: this.isPast });
   }
 
   // Has what the pointer rests on say what it is.

@@ -8,11 +8,11 @@ import { shades } from "./shades.js";
 const NUMBERS = 5;
 
 // The parts of the diagram. `chosen` is a step that is marked, or -1; with `past` all that doesn't stand before it is dim.
-export function draw(run, layout, { chosen = -1, past = false, left = 0, titles = false } = {}) {
+export function draw(run, layout, { chosen = -1, past = false, titles = false } = {}) {
   const isDim = (step, member) => past && chosen >= 0 && !run.trips.isBefore(step, member, chosen);
   return [
     shades(run, layout), lanes(layout), cursor(layout, chosen),
-    arrows(run, layout, { isDim, titles }), marks(run, layout, { isDim, titles, chosen }), names(layout, left),
+    arrows(run, layout, { isDim, titles }), marks(run, layout, { isDim, titles, chosen }), names(layout),
   ].join("");
 }
 
@@ -33,7 +33,7 @@ function cursor(layout, chosen) {
   return `<path class="cursor" d="M${x} 18V${layout.height - 6}"/>`;
 }
 
-function names(layout, left) {
-  const texts = layout.columns.members.map((member) => `<text x="${left + 6}" y="${layout.y(member) + 4}">member ${member}</text>`);
-  return `<g class="names"><rect x="${left}" width="${LEFT - 14}" height="${layout.height}"/>${texts.join("")}</g>`;
+function names(layout) {
+  const texts = layout.columns.members.map((member) => `<text x="6" y="${layout.y(member) + 4}">member ${member}</text>`);
+  return `<g class="names"><rect width="${LEFT - 14}" height="${layout.height}"/>${texts.join("")}</g>`;
 }

@@ -10,18 +10,18 @@ const laneOf = (columns) => LANES.find(([most]) => columns.members.length <= mos
 
 export const heightOf = (columns) => TOP + Math.max(0, columns.members.length - 1) * laneOf(columns) + BOTTOM;
 
-// Where things stand: of the columns, the width of one, and the window `from` to before `to`.
+// Where things stand: of the columns, the width of one, the window `from` to before `to`, and how far left of the picture the first
+// column begins.
 export class Layout {
-  constructor(columns, width, from, to) {
-    Object.assign(this, { columns, width, from, to: Math.min(to, columns.length) });
+  constructor(columns, width, { from, to, left }) {
+    Object.assign(this, { columns, width, left, from: Math.min(from, columns.length), to: Math.min(to, columns.length) });
     this.radius = Math.min(10.5, width * 0.42);
     this.lane = laneOf(columns);
     this.height = heightOf(columns);
-    this.full = LEFT + columns.length * width + 40;
   }
 
   x(column) {
-    return LEFT + (column + 0.5) * this.width;
+    return LEFT + (column + 0.5) * this.width - this.left;
   }
 
   y(member) {

@@ -1,6 +1,6 @@
 // The members as they stand, and what each may do: a button for each line that one may tell.
 
-import { stepsIn } from "./record.js";
+import { stepsIn, withLongNumbers } from "./record.js";
 import { envelopeText } from "./wording.js";
 import { goneTo, waitingIn } from "./envelopes.js";
 import { safe } from "./safe.js";
@@ -25,7 +25,7 @@ export class Members {
     const questions = ["report", ...members.flatMap((p) => [`state ${p}`, `enabled ${p}`, `next ${p}`, `waiting ${p}`])];
     const answers = members.length === 0 ? [] : isEnd ? run.live.tell(questions) : run.askAt(at, questions);
     const kept = this.focused();
-    const report = members.length ? JSON.parse(answers[0].replace(/^report /, "")) : { members: [] };
+    const report = members.length ? JSON.parse(withLongNumbers(answers[0].replace(/^report /, ""))) : { members: [] };
     this.box.innerHTML = report.members.map((facts, i) => this.member(facts, answers.slice(1 + 4 * i, 5 + 4 * i), isEnd)).join("");
     this.focus(kept);
   }

@@ -17,14 +17,13 @@ export function download(name, text, type) {
 // The diagram as a file: all columns that are shown, of very many those around the step.
 export function picture(run, columns, at, style) {
   const from = columns.length > MOST_COLUMNS ? Math.max(0, columns.before(at) - MOST_COLUMNS / 2) : 0;
-  const layout = new Layout(columns, WIDTH, from, from + MOST_COLUMNS);
-  const start = from * WIDTH;
-  const width = layout.x(layout.to) + 30 - start;
-  const body = draw(run, layout, { left: start, titles: true });
+  const layout = new Layout(columns, WIDTH, { from, to: from + MOST_COLUMNS, left: from * WIDTH });
+  const width = layout.x(layout.to) + 30;
+  const body = draw(run, layout, { titles: true });
   const look = colours(style);
   return `<svg xmlns="http://www.w3.org/2000/svg" class="diagram" width="${width}" height="${layout.height}" `
-    + `viewBox="${start} 0 ${width} ${layout.height}"><style>${look}</style>`
-    + `<rect x="${start}" width="${width}" height="${layout.height}" style="fill:${colour("--paper")}"/>${body}</svg>\n`;
+    + `viewBox="0 0 ${width} ${layout.height}"><style>${look}</style>`
+    + `<rect width="${width}" height="${layout.height}" style="fill:${colour("--paper")}"/>${body}</svg>\n`;
 }
 
 const colour = (name) => getComputedStyle(document.documentElement).getPropertyValue(name).trim();

@@ -204,6 +204,7 @@ def long_numbers(page: Page) -> None:
     page.say("1 submit set 3 18446744073709551615")
     page.say("all settle")
     assert '["set",3,18446744073709551615]' in page.record()
+    assert "table 3=18446744073709551615" in page.member(2), page.member(2)
     page.run("ct.app.look(1)")
     assert "#1 data 1.1 set 3 18446744073709551615, to 1" in page.text("#step ul"), page.text("#step ul")
 
