@@ -4,7 +4,7 @@
 #     page/build.sh [OUT]
 #
 # OUT: the page; page/ct.html, which is kept in the repository, if left out. The library's bitcode is that of its proved build,
-# crates/ct_embed/out/ct_embed.bc; where it isn't there or is older than the library's sources, bindings/archive.py proves and builds the
+# crates/ct_embed/out/ct_embed.bc; where it isn't there or is older than a source of the crates, bindings/archive.py proves and builds the
 # library, over what `rt ci` left of the crates below it.
 set -euo pipefail
 
@@ -16,7 +16,7 @@ bitcode=$crate/out/ct_embed.bc
 for tool in rt python3; do
     command -v "$tool" >/dev/null || { echo "page/build.sh: no $tool on the path" >&2; exit 2; }
 done
-newer() { find "$crate/src" "$crate/specs" "$crate/proofs" -newer "$bitcode" -type f | grep -q .; }
+newer() { find "$here"/../crates/*/{src,specs} -newer "$bitcode" -type f | grep -q .; }
 if [[ ! -e $bitcode ]] || newer; then
     python3 "$here/../bindings/archive.py" || { echo "page/build.sh: no bitcode; run rt ci before" >&2; exit 2; }
 fi

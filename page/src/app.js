@@ -3,7 +3,7 @@
 import { Columns } from "./columns.js";
 import { Past } from "./past.js";
 import { detail, heading } from "./detail.js";
-import { isFault } from "./run.js";
+import { isAnswer, isFault } from "./run.js";
 import { isRecord, linesOfRecord, readRecord } from "./record.js";
 import { count } from "./wording.js";
 
@@ -33,9 +33,9 @@ export class App {
     this.lines = lines;
     await this.run.judge(lines, told);
     this.wait(false);
+    this.parts.began(this);
     this.columns = new Columns(this.run, this.filter);
     this.status("");
-    this.parts.began(this);
     this.go(at === null ? this.run.steps.length : Math.min(at, this.run.steps.length), false);
   }
 
@@ -81,8 +81,9 @@ export class App {
     const answer = this.run.say(line);
     if (isFault(answer)) return this.alert(`${line}: ${answer}`);
     this.alert("");
+    this.status(isAnswer(answer) ? answer : "");
+    if (isAnswer(answer)) return;
     this.parts.step.open = false;
-    this.status(answer.startsWith("ok") ? "" : answer);
     const taken = this.run.lines.length;
     this.history.keep(this.lines);
     const rest = this.lines.slice(taken - 1);

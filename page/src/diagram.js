@@ -76,8 +76,12 @@ export class Diagram {
     if (!it || it.querySelector("title")) return;
     const title = document.createElementNS("http://www.w3.org/2000/svg", "title");
     const { step, trip } = it.dataset;
-    title.textContent = step === undefined ? arrowTitle(this.run, Number(trip)) : markTitle(this.run, Number(step));
+    title.textContent = step === undefined ? this.titleOf(Number(trip)) : markTitle(this.run, Number(step));
     it.prepend(title);
+  }
+
+  titleOf(trip) {
+    return arrowTitle(this.run, trip);
   }
 
   clicked(event) {

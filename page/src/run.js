@@ -10,8 +10,11 @@ const HEADING = /^\s*((members|cells|batch)([ \t\r].*)?|#(?![0-9]).*)?$/;
 const QUESTION = /^(enabled|next|state|waiting|report|record|limits)( |$)/;
 const ONE_STEP = /^ *(\d+) +(receive|begin|enter|choose|adopt|suspect|conclude|deliver|follow|postpone|repeat|crash|submit|lose +#)/;
 
-// Whether an answer is a fault: neither ok nor an answer to a question.
-export const isFault = (answer) => answer !== "ok" && !/^ok \d/.test(answer) && !QUESTION.test(answer);
+const isOk = (answer) => answer === "ok" || /^ok \d/.test(answer);
+
+// What an answer to a question begins with stands in no fault.
+export const isAnswer = (answer) => QUESTION.test(answer);
+export const isFault = (answer) => !isOk(answer) && !isAnswer(answer);
 
 export class Run {
   constructor(library, { live, past }) {
@@ -50,10 +53,10 @@ export class Run {
     }
   }
 
-  // Judges one more line: its answer. One that is refused changes nothing.
+  // Judges one more line: its answer. One that is refused changes nothing, and a question is not kept.
   say(line) {
     const [answer, limits] = this.live.tell([line, "limits"]);
-    if (!isFault(answer)) {
+    if (isOk(answer)) {
       this.keep(line, limits);
       this.follow(this.news());
     }

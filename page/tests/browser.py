@@ -8,6 +8,7 @@ bindings/tests/inputs.py wrote; SHOTS: a folder for screenshots. Ends with a lin
 """
 import json
 import os
+import re
 import subprocess
 import sys
 import tempfile
@@ -61,6 +62,9 @@ def refused_step(page: Page) -> None:
     assert page.alert() == "1 begin: refused 1 Nothing: instance 2 idle", page.alert()
     assert page.run("const it = document.getElementById('alert').getBoundingClientRect(); return it.top >= 0 && it.bottom < innerHeight")
     page.shot("refused")
+    page.say("limits")
+    assert page.alert() == "" and page.text("#status").startswith("limits submissions 65535, "), page.text("#status")
+    assert page.lines() == before
 
 
 def undo_and_redo(page: Page) -> None:
@@ -346,9 +350,34 @@ def same_steps(page: Page) -> None:
     assert sent == wanted[len(wanted) - len(sent):], "serials of another step"
 
 
+def same_envelopes(page: Page) -> None:
+    """What a world tells of envelopes by typed calls is what a session tells of those that wait."""
+    page.open("#example=five_members")
+    told = page.run("""const { run } = ct.app;
+      const told = new Map();
+      for (let at = 0; at <= run.steps.length; at += 7) {
+        for (const answer of run.askAt(at, [1, 2, 3, 4, 5].map((member) => `waiting ${member}`))) {
+          for (const text of answer.replace(/^waiting -?/, '').split(/, (?=#)/).filter(Boolean)) told.set(text.split(' ')[0], text);
+        }
+      }
+      ct.app.look(run.steps.length);
+      return [...told.values()]""")
+    assert len(told) > 400, len(told)
+    shown = {}
+    for text in page.run("return Array.from({ length: ct.app.run.trips.from.length }, (_, trip) => ct.app.parts.diagram.titleOf(trip))"):
+        shown[text.split(" ")[0]] = text.split(", sent by ")[0]
+    for text in told:
+        serial = text.split(" ")[0]
+        assert without_sender(shown[serial]) == without_sender(text), (shown[serial], text)
+
+
+def without_sender(text: str) -> str:
+    return re.sub(r" from \d+", "", text)
+
+
 TESTS = [worked_example, refused_step, undo_and_redo, network, edited, arrows, looked_at, filtered, saved_and_opened, no_record,
          long_numbers, by_keys, named, smooth, big, dark_and_narrow, scenarios, same_answers,
-         same_steps]
+         same_steps, same_envelopes]
 
 
 def main() -> int:
