@@ -6,12 +6,14 @@
 PAGE: the page; KEPT: the one that is kept in the repository; CT, CT_TOOL: the programs, which say what is right; FOLDER: what
 bindings/tests/inputs.py wrote; SHOTS: a folder for screenshots. Ends with a line `N passed, M failed`.
 """
+import http.server
 import json
 import os
 import re
 import subprocess
 import sys
 import tempfile
+import threading
 import time
 import traceback
 
@@ -302,6 +304,28 @@ def scenarios(page: Page) -> None:
         assert page.fault().startswith(wanted) and bool(page.fault()) == bool(wanted), page.fault()
 
 
+def served(page: Page) -> None:
+    """The page comes from a web server, too, which is asked for nothing else."""
+    asked = []
+
+    class Handler(http.server.SimpleHTTPRequestHandler):
+        """Serves the page's folder, and keeps what was asked for."""
+
+        def __init__(self, *words) -> None:
+            super().__init__(*words, directory=os.path.dirname(page.path))
+
+        def log_message(self, *words) -> None:
+            asked.append(self.path)
+
+    with http.server.ThreadingHTTPServer(("127.0.0.1", 0), Handler) as server:
+        threading.Thread(target=server.serve_forever, daemon=True).start()
+        page.visit(f"http://127.0.0.1:{server.server_port}/{os.path.basename(page.path)}#example=locked_value")
+        assert page.steps() == 153
+        page.open()
+        server.shutdown()
+    assert set(asked) <= {f"/{os.path.basename(page.path)}", "/favicon.ico"}, asked
+
+
 def same_answers(page: Page) -> None:
     """The module answers 200,000 lines as `ct_tool interact` does, also the one of the page that is kept."""
     with open(os.path.join(page.inputs, "lines_told"), encoding="utf-8") as file:
@@ -376,7 +400,7 @@ def without_sender(text: str) -> str:
 
 
 TESTS = [worked_example, refused_step, undo_and_redo, network, edited, arrows, looked_at, filtered, saved_and_opened, no_record,
-         long_numbers, by_keys, named, smooth, big, dark_and_narrow, scenarios, same_answers,
+         long_numbers, by_keys, named, smooth, big, dark_and_narrow, scenarios, served, same_answers,
          same_steps, same_envelopes]
 
 

@@ -43,8 +43,11 @@ class Page:
 
     def open(self, hash_: str = "", path: str = "") -> None:
         """The page anew, once it stands."""
+        self.visit(f"file://{path or self.path}{hash_}")
+
+    def visit(self, address: str) -> None:
         self.driver.get("about:blank")
-        self.driver.get(f"file://{path or self.path}{hash_}")
+        self.driver.get(address)
         self.until(lambda: self.run("return !!window.ct"))
 
     def run(self, script: str, *words):
