@@ -2,10 +2,10 @@
 
    A block has a head of 16 bytes before it, with its class, and lies at a multiple of 16. Sizes of one class are one: up to 128 the
    multiples of 16, above that four sizes for each power of two. A block that is given back waits in the list of its class. The last
-   block grows in its place. Memory comes from `heap_grow`, which the module has from WebAssembly and the test from an array. */
+   block grows in its place where none waits that is as large; else the same work would leave ever more large blocks. Memory comes from `heap_grow`, which the module has from WebAssembly and the test from an array. */
 #include "heap.h"
 
-#define HEAD 16
+#define HEAD HEAP_ALIGNMENT
 #define SMALL 128
 #define FEW_CLASSES 8 /* those of the sizes up to SMALL */
 #define CLASSES 160
@@ -90,7 +90,7 @@ void *heap_change(void *place, u64 kept, u64 n) {
     old = heap_size(block->class);
     if (size <= old)
         return place;
-    if ((u64)block + old == top && reaches((u64)block + size)) {
+    if (!lists[class] && (u64)block + old == top && reaches((u64)block + size)) {
         top = (u64)block + size;
         block->class = class;
         return place;

@@ -4,6 +4,9 @@
 
 typedef unsigned long u64;
 
+/* Blocks lie at its multiples. */
+#define HEAP_ALIGNMENT 16
+
 void *heap_take(u64 n);
 void heap_give(void *place);
 void *heap_change(void *place, u64 kept, u64 n);

@@ -17,15 +17,11 @@ struct tried {
 
 static struct tried tried(void *place) { return (struct tried){place != 0, place}; }
 
-/* Alignments are at most 16. Of no bytes a block is made, too. */
-struct tried rattle_alloc(u64 n, u64 align) {
-    (void)align;
-    return tried(heap_take(n));
-}
+/* A larger alignment than that of blocks is refused, as want of memory is. Of no bytes a block is made, too. */
+struct tried rattle_alloc(u64 n, u64 align) { return tried(align > HEAP_ALIGNMENT ? 0 : heap_take(n)); }
 
 struct tried rattle_realloc(void *place, u64 kept, u64 n, u64 align) {
-    (void)align;
-    return tried(heap_change(place, kept, n));
+    return tried(align > HEAP_ALIGNMENT ? 0 : heap_change(place, kept, n));
 }
 
 void rattle_dealloc(void *place) {

@@ -263,6 +263,17 @@ def smooth(page: Page) -> None:
     assert took < SMOOTH_SECONDS, took
 
 
+def steady(page: Page) -> None:
+    """A run that is judged again and again takes no more memory than after a few times."""
+    page.open()
+    page.give("run.json", page.made(5, 1000))
+    page.until(lambda: page.steps() == 1000)
+    again = "for (let i = 0; i < arguments[0]; i++) await ct.app.change([...ct.app.lines]);"
+    memory = "return ct.app.run.world.library.calls.memory.buffer.byteLength"
+    few, many = [page.run(f"return (async () => {{ {again} {memory} }})()", times) for times in (10, 100)]
+    assert many == few, (few, many)
+
+
 def big(page: Page) -> None:
     """A record of 100,000 steps opens within five seconds, the best of a few times on a machine that does other things."""
     text = page.made(5, BIG_STEPS)
@@ -400,7 +411,7 @@ def without_sender(text: str) -> str:
 
 
 TESTS = [worked_example, refused_step, undo_and_redo, network, edited, arrows, looked_at, filtered, saved_and_opened, no_record,
-         long_numbers, by_keys, named, smooth, big, dark_and_narrow, scenarios, served, same_answers,
+         long_numbers, by_keys, named, smooth, steady, big, dark_and_narrow, scenarios, served, same_answers,
          same_steps, same_envelopes]
 
 

@@ -11,7 +11,10 @@
 #define PAGES 1024ul
 #define BLOCKS 600
 #define TURNS 60000
-#define HEAD 16
+#define HEAD HEAP_ALIGNMENT
+#define LISTS 7
+#define FEW 8
+#define MANY 100
 
 static _Alignas(16) unsigned char memory[PAGES * PAGE];
 static unsigned char owned[PAGES * PAGE / 16];
@@ -115,8 +118,30 @@ static void turns(u64 *refused, u64 *changed) {
     }
 }
 
+/* Lists that grow, each behind the one before it, and are given back in the end. */
+static void work(void) {
+    for (int i = 0; i < LISTS; i++) {
+        must(take(i, 24), "there is memory");
+        for (u64 size = 64; size < 40000; size += size / 2)
+            must(change(i, size * (u64)(i % 3 + 1)), "there is memory");
+    }
+    for (int i = 0; i < LISTS; i++)
+        give(i);
+}
+
+/* The same work again and again takes no more memory than after a few times. */
+static void steady(void) {
+    for (int i = 0; i < FEW; i++)
+        work();
+    u64 few = pages;
+    for (int i = 0; i < MANY; i++)
+        work();
+    must(pages == few, "the same work takes no more memory");
+}
+
 int main(void) {
     u64 refused = 0, changed = 0;
+    steady();
     turns(&refused, &changed);
     must(refused > 0 && changed > 0, "memory was refused, and blocks changed");
     must(heap_take(1ul << 50) == 0, "what is too large is refused");
