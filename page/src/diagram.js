@@ -15,6 +15,7 @@ export class Diagram {
     Object.assign(this, { box, sheet, choose, zoom: FIRST_WIDTH, columns: null, run: null, at: 0, isPast: false });
     this.svg = document.createElementNS("http://www.w3.org/2000/svg", "svg");
     this.svg.setAttribute("class", "diagram");
+    this.svg.setAttribute("aria-hidden", "true"); // the step that one looks at is told below
     sheet.append(this.svg);
     box.addEventListener("scroll", () => this.later());
     new ResizeObserver(() => this.later()).observe(box);
