@@ -2,7 +2,8 @@
 
    A block has a head of 16 bytes before it, with its class, and lies at a multiple of 16. Sizes of one class are one: up to 128 the
    multiples of 16, above that four sizes for each power of two. A block that is given back waits in the list of its class. The last
-   block grows in its place where none waits that is as large; else the same work would leave ever more large blocks. Memory comes from `heap_grow`, which the module has from WebAssembly and the test from an array. */
+   block grows in its place where none waits that is as large; else the same work would leave ever more large blocks. Memory comes from
+   `heap_grow`, which the module has from WebAssembly and the test from an array. */
 #include "heap.h"
 
 #define HEAD HEAP_ALIGNMENT

@@ -46,6 +46,7 @@ def worked_example(page: Page) -> None:
     for line in lines[1:]:
         page.act(line)
         assert page.alert() == "", page.alert()
+        assert page.marked() == page.next_steps(), line
     for member in (1, 2, 3):
         assert "delivered 1.1; table 0=7" in page.member(member), page.member(member)
     assert page.lines()[:2] == ["members 3", "1 submit set 0 7"]
@@ -113,6 +114,7 @@ def edited(page: Page) -> None:
     page.open()
     page.write("members 3\n1 submit set 0 7\n1 enter\n1 receive data 1.1\n")
     page.until(lambda: page.fault() == "line 3: 1 enter: refused 1 Idle: instance 0 idle")
+    assert json.loads(page.record())["steps"] == [["submit", 1, ["set", 0, 7]]], page.record()
     assert page.text("#gutter .refused") == "✕ 3", page.text("#gutter .refused")
     page.shot("edited")
     page.write("members 3\n1 submit set 0 7\n1 receive data 1.1\n1 begin\n1 enter\n")
@@ -128,14 +130,29 @@ def arrows(page: Page) -> None:
         serials = page.run("return [...new Set([...document.querySelectorAll('.way')].map((it) => +it.dataset.serial))].length")
         sent = page.run("return ct.app.run.trips.sender.length - 1")
         assert serials == sent > 0, (serials, sent)
-        gone = sum(step[0] in ("receive", "lose") for step in record["steps"])
-        assert page.run("return document.querySelectorAll('.tip, .lost').length - document.querySelectorAll('#legend .tip').length") == gone
+        for name, selector in (("receive", "#sheet .tip"), ("lose", "#sheet .lost")):
+            wanted = sum(step[0] == name for step in record["steps"])
+            assert page.run(f"return document.querySelectorAll('{selector}').length") == wanted, name
+        assert page.run(FAR_TIPS) == [], page.run(FAR_TIPS)
     page.size()
+
+
+FAR_TIPS = """const { trips } = ct.app.run;
+  const place = (it) => it.getAttribute(it.tagName === 'g' ? 'transform' : 'd').match(/-?[0-9.]+/g).slice(0, 2).map(Number);
+  return [...document.querySelectorAll('.way')].filter((way) => way.querySelector('.tip, .lost')).map((way) => {
+    const step = trips.to.at(Number(way.dataset.trip));
+    const [x, y] = place(document.querySelector(`.mark[data-step="${step}"]`));
+    const [tipX, tipY] = place(way.querySelector('.tip, .lost'));
+    return [step, Math.hypot(x - tipX, y - tipY)];
+  }).filter(([, far]) => far > 25);"""
 
 
 def looked_at(page: Page) -> None:
     """A step that is clicked: its states, and its causal past."""
     page.open("#example=coordinator_crashes&at=62")
+    page.run("ct.app.go(30, false)")
+    assert page.run("const [a, b] = ['#gutter .here', '#editor'].map((it) => document.querySelector(it).getBoundingClientRect());"
+                    "return a.top >= b.top && a.bottom <= b.bottom")
     page.run("document.querySelector('[data-step=\"24\"] circle').dispatchEvent(new MouseEvent('click', { bubbles: true }))")
     assert page.text("#step summary") == "Step 25: member 3, choose 1", page.text("#step summary")
     rows = page.text("#step table")
@@ -159,9 +176,11 @@ def filtered(page: Page) -> None:
     page.click("input[name=only][value='2']")
     assert page.text("#sheet .names") == "member 1member 3", page.text("#sheet .names")
     page.click("#all")
-    page.run("const it = document.getElementById('only-instance'); it.value = 2; it.dispatchEvent(new Event('input'))")
-    first = page.run("return ct.app.columns.shown[0] + 1")
-    assert first == 38, first
+    for instance, first, last in ((2, 38, 61), (1, 8, 43)):
+        page.run("const it = document.getElementById('only-instance'); it.value = arguments[0]; it.dispatchEvent(new Event('input'))",
+                 instance)
+        shown = page.run("return [ct.app.columns.shown[0] + 1, ct.app.columns.shown.at(-1) + 1]")
+        assert shown == [first, last], shown
 
 
 def saved_and_opened(page: Page) -> None:
@@ -174,6 +193,12 @@ def saved_and_opened(page: Page) -> None:
     assert kept == record + "\n"
     ran = subprocess.run([page.ct, "replay"], input=kept.encode(), stdout=subprocess.PIPE, check=True)
     assert ran.stdout.decode() == read("examples", "lost_and_repeated.report")
+    page.open("#example=bounded_proposals")
+    bounded = page.record()
+    assert '"batch":2,' in bounded
+    page.open()
+    page.give("bounded.json", bounded)
+    page.until(lambda: page.record() == bounded)
     for text, name in ((schedule, "again.schedule"), (kept, "again.json")):
         page.open()
         page.give(name, text)

@@ -84,6 +84,25 @@ class Page:
     def member(self, member: int) -> str:
         return self.text(f"article[data-member='{member}']")
 
+    def marked(self) -> List[str]:
+        """The lines of the buttons that are marked as the driver's next steps."""
+        selector = "button.next, .envelope.next button:first-child"
+        return self.run(f"return [...document.querySelectorAll('{selector}')].map((it) => it.dataset.line)")
+
+    def next_steps(self) -> List[str]:
+        """The same, by the library's answers: a receipt by the name of the envelope that waits."""
+        return self.run("""const found = [];
+          for (const article of document.querySelectorAll('article')) {
+            const p = article.dataset.member;
+            const [next, waiting] = ct.app.run.live.tell([`next ${p}`, `waiting ${p}`]);
+            for (const [, text] of next.matchAll(/(\\[[^\\]]*\\])/g)) {
+              const [name, , what] = JSON.parse(text);
+              const words = new RegExp(`#${what} (\\\\S+ \\\\S+ from \\\\d+)`).exec(waiting);
+              found.push([p, name, name === 'receive' ? words[1] : what].filter((it) => it !== undefined).join(' '));
+            }
+          }
+          return found""")
+
     def lines(self) -> List[str]:
         return self.run("return document.getElementById('text').value").split("\n")
 
