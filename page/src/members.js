@@ -8,7 +8,9 @@ import { safe } from "./safe.js";
 const ACTS = ["begin", "enter", "adopt", "suspect", "conclude", "deliver", "follow"];
 const MOST_WAITING = 16;
 const MOST_GONE = 40;
-const MOST_TOLD = 30;
+const MOST_TOLD = 20;
+const MOST_DECISIONS = 4;
+const MOST_DECIDED = 8;
 
 export class Members {
   constructor(box, tell) {
@@ -155,10 +157,15 @@ function gone(p) {
 
 const waits = (count) => `<span class="label">${count === 0 ? "nothing waits" : `${count} wait for ever`}</span>`;
 
-// What it delivered, and its table.
-function outcome({ delivered, table }) {
-  const shown = delivered.slice(-MOST_TOLD);
-  const list = delivered.length ? `${delivered.length > MOST_TOLD ? ".. " : ""}${shown.join(" ")}` : "nothing";
-  const registers = table.map((value, i) => [i, value]).filter(([, value]) => value !== 0).map(([i, value]) => `${i}=${value}`);
-  return `<br>delivered ${safe(list)}${registers.length ? `; table ${safe(registers.join(" "))}` : ""}`;
+// What the report says of it, in its words; of long lists the last part.
+function outcome({ received, decided, delivered, table }) {
+  const decisions = decided.map(({ instance, messages }) => `${instance}:${lastOf(messages, MOST_DECIDED, ",")}`);
+  const registers = table.map((value, i) => [value, `${i}=${value}`]).filter(([value]) => value !== 0).map(([, text]) => text);
+  const lines = [["received", received], ["decided", decisions], ["delivered", delivered], ["table", registers]];
+  return lines.map(([word, list]) => `\n${word} ${safe(lastOf(list, word === "decided" ? MOST_DECISIONS : MOST_TOLD, " "))}`).join("");
+}
+
+function lastOf(list, most, between) {
+  if (list.length === 0) return "-";
+  return `${list.length > most ? `..${between}` : ""}${list.slice(-most).join(between)}`;
 }

@@ -47,8 +47,11 @@ def worked_example(page: Page) -> None:
         page.act(line)
         assert page.alert() == "", page.alert()
         assert page.marked() == page.next_steps(), line
+    ran = subprocess.run([page.ct, "replay"], input=page.record().encode(), stdout=subprocess.PIPE, check=True)
+    report = ran.stdout.decode().splitlines()[2:]
+    assert report[3] == "delivered 1.1" and len(report) == 15, report
     for member in (1, 2, 3):
-        assert "delivered 1.1; table 0=7" in page.member(member), page.member(member)
+        assert "\n".join(report[5 * member - 4:5 * member]) in page.facts(member), (page.facts(member), report)
     assert page.lines()[:2] == ["members 3", "1 submit set 0 7"]
     page.shot("light")
 

@@ -84,6 +84,9 @@ class Page:
     def member(self, member: int) -> str:
         return self.text(f"article[data-member='{member}']")
 
+    def facts(self, member: int) -> str:
+        return self.text(f"article[data-member='{member}'] .facts")
+
     def marked(self) -> List[str]:
         """The lines of the buttons that are marked as the driver's next steps."""
         selector = "button.next, .envelope.next button:first-child"
