@@ -6,7 +6,7 @@ export async function packed(text) {
   return base64(bytes).replaceAll("+", "-").replaceAll("/", "_").replace(/=+$/, "");
 }
 
-export async function unpacked(letters) {
+async function unpacked(letters) {
   const bytes = bytesOf(letters.replaceAll("-", "+").replaceAll("_", "/"));
   return new TextDecoder().decode(await through(new DecompressionStream("deflate-raw"), bytes));
 }

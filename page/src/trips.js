@@ -5,7 +5,7 @@ import { Ints } from "./ints.js";
 
 const NETWORK = new Set(["postpone", "lose", "repeat"]);
 const HOLD = 256;
-export const NOWHERE = -1;
+const NOWHERE = -1;
 
 export class Trips {
   constructor(members) {

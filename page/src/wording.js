@@ -2,7 +2,7 @@
 
 const MOST_NAMES = 8;
 
-export function valueText(names) {
+function valueText(names) {
   if (names.length <= MOST_NAMES) return `{${names.join(",")}}`;
   return `{${names.slice(0, MOST_NAMES).join(",")} and ${names.length - MOST_NAMES} more}`;
 }
