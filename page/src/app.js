@@ -3,12 +3,14 @@
 import { Columns } from "./columns.js";
 import { Past } from "./past.js";
 import { detail, heading } from "./detail.js";
+import { namedLines } from "./envelopes.js";
 import { isAnswer, isFault } from "./run.js";
 import { isRecord, linesOfRecord, readRecord } from "./record.js";
 import { count } from "./wording.js";
 
 const NO_FILTER = { members: null, kinds: null, instance: null };
 const PAUSE = 200;
+const MOST_NAMED = 5000;
 
 export class App {
   constructor(run, parts) {
@@ -71,8 +73,17 @@ export class App {
     }
     const start = performance.now();
     await this.change(lines, at);
+    if (isRecord(text)) await this.rename(lines, at);
     const took = ((performance.now() - start) / 1000).toFixed(2);
     this.status(`${name ? `${name}: ` : ""}${count(this.run.steps.length, "step")} in ${took} s`);
+  }
+
+  // Has the lines of a record name envelopes by what they carry, where it is not too long, and where they then come to the same steps.
+  async rename(lines, at) {
+    if (this.run.fault || this.run.steps.length === 0 || lines.length > MOST_NAMED) return;
+    const steps = JSON.stringify(this.run.steps);
+    await this.judge(namedLines(this.run), at);
+    if (JSON.stringify(this.run.steps) !== steps) await this.judge(lines, at);
   }
 
   // Tells a line behind those that were taken, or null: then all is shown anew.

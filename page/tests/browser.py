@@ -221,6 +221,18 @@ def saved_and_opened(page: Page) -> None:
     page.until(lambda: page.record() == record)
 
 
+def named_by_content(page: Page) -> None:
+    """A record opens as a schedule in which envelopes go by what they carry; also of a network that loses and repeats."""
+    page.open()
+    page.give("run.json", read("examples", "lost_and_repeated.json"))
+    page.until(lambda: page.steps() == 34)
+    assert "2 lose est 1/1 from 1" in page.lines() and "#" not in "".join(page.lines()), page.lines()
+    made = page.made(4, 2000, "--lose", "5", "--repeat", "5", "--crash", "1")
+    page.give("lossy.json", made)
+    page.until(lambda: page.steps() == 2000 and page.record() == made.strip())
+    assert "#" not in "".join(page.lines())
+
+
 def no_record(page: Page) -> None:
     """What is no record is told, and leaves the run."""
     page.open("#example=locked_value")
@@ -438,9 +450,9 @@ def without_sender(text: str) -> str:
     return re.sub(r" from \d+", "", text)
 
 
-TESTS = [worked_example, refused_step, undo_and_redo, network, edited, arrows, looked_at, filtered, saved_and_opened, no_record,
-         long_numbers, by_keys, named, smooth, steady, big, dark_and_narrow, scenarios, served, same_answers,
-         same_steps, same_envelopes]
+TESTS = [worked_example, refused_step, undo_and_redo, network, edited, arrows, looked_at, filtered, saved_and_opened,
+         named_by_content, no_record, long_numbers, by_keys, named, smooth, steady, big, dark_and_narrow, scenarios, served,
+         same_answers, same_steps, same_envelopes]
 
 
 def main() -> int:

@@ -225,9 +225,9 @@ class Page:
         program = "\n".join(line[4:] for line in block.splitlines()).replace("N // 2", "N // 2 + 1")
         return subprocess.run([sys.executable, "-c", program], stdout=subprocess.PIPE, check=True, text=True).stdout
 
-    def made(self, members: int, steps: int) -> str:
+    def made(self, members: int, steps: int, *more: str) -> str:
         """A record of so many steps."""
-        words = ["--whole", "--members", str(members), "--steps", str(steps)]
+        words = [*more, "--whole", "--members", str(members), "--steps", str(steps)]
         ran = subprocess.run([sys.executable, os.path.join(self.root, "bench", "generate.py"), *words], stdout=subprocess.PIPE,
                              stderr=subprocess.DEVNULL, check=True, text=True)
         return ran.stdout
