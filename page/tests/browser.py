@@ -26,6 +26,7 @@ BIG_SECONDS = 5.0
 TRIES = 3
 SMOOTH_SECONDS = 0.05
 LINK_LETTERS = 4000
+RANDOM_ACTS = 700
 
 
 def read(*names: str) -> str:
@@ -359,6 +360,16 @@ def scenarios(page: Page) -> None:
         assert page.fault().startswith(wanted) and bool(page.fault()) == bool(wanted), page.fault()
 
 
+def at_random(page: Page) -> None:
+    """Whatever is pressed in whatever order, lines, steps, record and text fit together."""
+    with open(os.path.join(HERE, "at_random.js"), encoding="utf-8") as file:
+        script = file.read()
+    for seed in (1, 77):
+        page.open()
+        found = page.run_async(script, seed, RANDOM_ACTS)
+        assert found == [], found
+
+
 def served(page: Page) -> None:
     """The page comes from a web server, too, which is asked for nothing else."""
     asked = []
@@ -455,7 +466,7 @@ def without_sender(text: str) -> str:
 
 
 TESTS = [worked_example, refused_step, undo_and_redo, network, edited, arrows, looked_at, filtered, saved_and_opened,
-         named_by_content, no_record, long_numbers, by_keys, named, smooth, steady, big, dark_and_narrow, scenarios, served,
+         named_by_content, no_record, long_numbers, by_keys, named, smooth, steady, big, dark_and_narrow, scenarios, at_random, served,
          same_answers, same_steps, same_envelopes]
 
 

@@ -53,6 +53,9 @@ class Page:
     def run(self, script: str, *words):
         return self.driver.execute_script(script, *words)
 
+    def run_async(self, script: str, *words):
+        return self.driver.execute_async_script(script, *words)
+
     def until(self, holds: Callable[[], bool], seconds: float = WAIT_SECONDS) -> None:
         """Waits until this holds."""
         end = time.time() + seconds
