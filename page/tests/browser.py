@@ -121,6 +121,9 @@ def edited(page: Page) -> None:
     assert json.loads(page.record())["steps"] == [["submit", 1, ["set", 0, 7]]], page.record()
     assert page.text("#gutter .refused") == "✕ 3", page.text("#gutter .refused")
     page.shot("edited")
+    page.press("1 receive data 1.1 from 1")
+    page.until(lambda: page.fault() == "line 4: 1 enter: refused 1 Idle: instance 0 idle")
+    assert page.lines()[2:4] == ["1 receive data 1.1 from 1", "1 enter"], page.lines()
     page.write("members 3\n1 submit set 0 7\n1 receive data 1.1\n1 begin\n1 enter\n")
     page.until(lambda: page.fault() == "" and page.steps() == 4)
 
