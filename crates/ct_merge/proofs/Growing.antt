@@ -26,7 +26,7 @@ taken_longer w p log more rest count e h =
     subst (λ l. IsTakenTo w p l count) (sym e) whole
 
 -- p's log goes on with a line
-grown_on : (old new : List (Vec LogLine)) (t : Taken) (p : ℕ) (line : LogLine) → IsTakenFrom old t →
+pub grown_on : (old new : List (Vec LogLine)) (t : Taken) (p : ℕ) (line : LogLine) → IsTakenFrom old t →
     log_of new p ≡ log_of old p ++ line ∷ [] → ((q : ℕ) → 1 ≤ q → q ≢ p → log_of new q ≡ log_of old q) → IsTakenFrom new t
 grown_on old new t p line before here others q in_group = elim (cases_eq q p) [
   | inl same ↦

@@ -3,6 +3,7 @@ pub mod Barring
 pub mod Begun
 pub mod Beyond
 pub mod Failing
+pub mod GoingOn
 pub mod Growing
 pub mod Halting
 pub mod Local

@@ -8,6 +8,7 @@ pub mod Merging
 pub mod Names
 pub mod Numbers
 pub mod Past
+pub mod Presuming
 pub mod Runs
 pub mod Sending
 pub mod Stops

@@ -119,8 +119,12 @@ fn no_lines(alloc: Global, count: u8) -> Result<Vec<Vec<LogLine>>, AllocError>
     Ok(logs)
 }
 
-// The member's log goes on with the line.
-fn push_line(logs: &mut Vec<Vec<LogLine>>, member: Member, line: LogLine) -> Result<(), AllocError>
+/// The member's log goes on with the line.
+pub(crate) fn push_line(
+    logs: &mut Vec<Vec<LogLine>>,
+    member: Member,
+    line: LogLine,
+) -> Result<(), AllocError>
     requires { is_member (length logs.old.items) member ≡ true }
     ensures here { OnOk result (log_of logs.new.items member ≡ log_of logs.old.items member ++ line ∷ []) }
     ensures others { (q : ℕ) → 1 ≤ q → q ≢ member → log_of logs.new.items q ≡ log_of logs.old.items q }

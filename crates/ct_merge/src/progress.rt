@@ -7,11 +7,12 @@ ghost use Rattle.ct_merge.specs.Merging.{count_of, IsSameGroup, IsTakenFrom};
 ghost use Rattle.ct_merge.specs.Stops.{halted_at, IsHalt};
 ghost use Rattle.ct_world.specs.Setup.{record_of};
 
+use crate::full_name::FullName;
 use crate::log_line::LogLine;
 use crate::own_fault::OwnFault;
 use crate::taker::Taker;
 use crate::verdict::{Culprit, Why};
-use ct_names::{MAX_MEMBERS, Member};
+use ct_names::{MAX_MEMBERS, Member, Serial};
 use ct_play::{LineFault, Stage};
 use ct_world::{Setup, World};
 use std::alloc::Global;
@@ -57,6 +58,11 @@ impl Progress {
         ensures { result.now.rehearsal ≡ self.now.rehearsal }
     {
         self.taker.stage()
+    }
+
+    /// The serial of the envelope of this name that was sent to the member.
+    pub(crate) fn serial(&self, member: Member, name: FullName) -> Option<Serial> {
+        self.taker.serial(member, name)
     }
 
     /// The world alone.

@@ -70,9 +70,9 @@ fn passes(wire: &Wire, carried: Carried) -> bool
     }
 }
 
-// How many messages the member submitted.
+/// How many messages the member submitted.
 #[tactic(auto, unfolding(crate::specs::Sending::submitted))]
-fn submitted(world: &World, member: Member) -> usize
+pub(crate) fn submitted(world: &World, member: Member) -> usize
     ensures { result ≡ submitted world.now.rehearsal member }
 {
     world

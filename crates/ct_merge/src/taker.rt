@@ -67,6 +67,11 @@ impl Taker {
         &self.stage
     }
 
+    /// The serial of the envelope of this name that was sent to the member.
+    pub(crate) fn serial(&self, member: Member, name: FullName) -> Option<Serial> {
+        self.serials.get(&address_of(member, name)).copied()
+    }
+
     /// The world alone.
     pub(crate) fn into_world(self) -> World
         ensures { result.rehearsal ≡ self }

@@ -1,5 +1,8 @@
 //! What logs come to.
 
+ghost use Rattle.std.specs.Prelude.{◌≡◌};
+ghost use Rattle.ct_merge.specs.Waits.{is_wait};
+
 use crate::own_fault::OwnFault;
 use ct_names::Member;
 use ct_world::World;
@@ -38,4 +41,13 @@ pub enum Why {
     Ended(Member),
     /// It receives what was not sent, and the log of its sender waits for an envelope in its turn, and so on round to this line.
     Circle,
+}
+
+impl Why {
+    /// Whether the line stands for an envelope that was not sent.
+    pub(crate) fn is_wait(&self) -> bool
+        ensures { result ≡ is_wait self.now }
+    {
+        !matches!(self, Why::Fault(_))
+    }
 }
