@@ -55,6 +55,8 @@ NOT_RUN = {
     ("docs/LOGS.md", "# the log of member 1"): "a log without those of the others",
     ("docs/LOGS.md", "accepted: 5 members, 812 lines; instances 3, largest round 4, suspicions 7, choices between different ts 2, "
                      "repetitions 31"): "what is told of other logs; cases/logs.py has such lines",
+    ("docs/LOGS.md", "presumed: 12 steps of member 2, 1 step of member 4; 5 members, 825 lines; instances 3, largest round 4, suspicions 7, "
+     "choices .."): "what is told of a run with presumed steps",
     ("docs/ARCHITECTURE.md", "programs               ct             ct_tool             ct_memory"): "a drawing",
 }
 # So many of each kind are there at least.

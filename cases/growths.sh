@@ -241,6 +241,7 @@ tool_calls is_whole suspicion.json shrink --goal 'any suspects up' --record --tr
 python3 ../bench/split.py "$folder/logs" <suspicion.json
 tool_calls is_whole /dev/null merge "$folder"/logs/{1,2,3}.log
 tool_calls is_whole /dev/null merge --record "$folder"/logs/{1,2,3}.log
+tool_calls is_whole /dev/null merge --presume presumed/{1,2,3}.log
 tool_calls is_checked /dev/null check suspicion.json
 tool_calls is_checked /dev/null check --expect-reports ../examples/followers.json
 

@@ -1,6 +1,6 @@
 #!/usr/bin/env python3
-"""Checks what `ct_tool merge` says of logs: small ones by hand, logs that grow, the cluster of examples/ with members killed and with each
-of its mistakes, and a comparison with a search through all orders.
+"""Checks what `ct_tool merge` says of logs: small ones by hand, logs whose ends are lost, logs that grow, the cluster of examples/ with
+members killed and with each of its mistakes, and a comparison with a search through all orders.
 
     logs.py CT_TOOL        the last line is N passed, M failed; needs cc and rustc
 """
@@ -20,6 +20,7 @@ SECONDS_OF_RUNS = 120
 RUNS_OF_A_MISTAKE = 3
 SETS = 40
 MOMENT = 0.3    # between what a writer appends
+WRITTEN = (0, 7)    # the statuses with which a run is written
 
 
 class Case(NamedTuple):
@@ -27,6 +28,7 @@ class Case(NamedTuple):
     logs: Dict[str, str]
     status: int
     told: str
+    options: Sequence[str] = ()
 
 
 GOSSIP = {"1.log": "members 2\nsubmit set 0 7\nreceive data 1.1 from 1\n", "2.log": "2 receive data 1.1 from 1 set 0 7\n"}
@@ -104,6 +106,53 @@ CASES = [
          "2.log: member 3's log, and members are 1 to 2"),
 ]
 
+PRESUME = ("--presume",)
+
+
+def lost_tail() -> Dict[str, str]:
+    """The logs of a cluster whose member 1 was killed; the last 16 lines of its log are lost."""
+    folder = os.path.join(HERE, "presumed")
+    logs = {}
+    for name in sorted(os.listdir(folder)):
+        with open(os.path.join(folder, name), encoding="utf-8") as file:
+            logs[name] = file.read()
+    return logs
+
+
+PRESUMED = [
+    Case("a submission that is lost", {"1.log": "members 2\n", "2.log": "receive data 1.1 from 1 set 0 7\n"}, 7,
+         "presumed: 1 step of member 1; 2 members, 2 lines; instances 0, largest round 0, suspicions 0, choices between different ts 0, "
+         "repetitions 0", PRESUME),
+    Case("a submission of which the command is stated nowhere", {"1.log": "members 2\n", "2.log": "receive data 1.1 from 1\n"}, 6,
+         "cut: 2.log line 1: receive data 1.1 from 1: the log of member 1 ends before it is sent", PRESUME),
+    Case("a message of which two commands are stated",
+         {"1.log": "members 3\n", "2.log": "receive data 1.1 from 1 set 0 7\n", "3.log": "receive data 1.1 from 1 set 0 8\n"}, 6,
+         "cut: 3.log line 1: receive data 1.1 from 1 set 0 8: the log of member 1 ends before it is sent", PRESUME),
+    Case("a message that a member without a log passes on",
+         {"1.log": "members 3\nsubmit set 0 7\nreceive data 1.1 from 1\n", "3.log": "3 receive data 1.1 from 2\n"}, 7,
+         "presumed: 1 step of member 2; 3 members, 4 lines; instances 0, largest round 0, suspicions 0, choices between different ts 0, "
+         "repetitions 0", PRESUME),
+    Case("an ack that is lost", {"1.log": ONE + "receive prop 1/1 from 2\n", "2.log": TWO + "receive ack 1/1 from 1\n"}, 7,
+         "presumed: 1 step of member 1; 2 members, 13 lines; instances 1, largest round 1, suspicions 0, choices between different ts 0, "
+         "repetitions 0", PRESUME),
+    Case("a nack that is lost", {"1.log": ONE, "2.log": TWO + "receive nack 1/1 from 1\n"}, 7,
+         "presumed: 1 step of member 1; 2 members, 12 lines; instances 1, largest round 1, suspicions 1, choices between different ts 0, "
+         "repetitions 0", PRESUME),
+    Case("logs that are accepted as they are", GOSSIP, 0,
+         "accepted: 2 members, 3 lines; instances 0, largest round 0, suspicions 0, choices between different ts 0, repetitions 0",
+         PRESUME),
+    Case("logs that are refused as they are", {"1.log": "members 2\nbegin\n", "2.log": "receive data 1.1 from 1 set 0 7\n"}, 1,
+         "refused: 1.log line 2: begin: member 1 is refused Nothing", PRESUME),
+    Case("a cluster with a member killed whose last lines are lost", lost_tail(), 7,
+         "presumed: 7 steps of member 1; 3 members, 138 lines; instances 3, largest round 4, suspicions 3, choices between different ts 0, "
+         "repetitions 8", PRESUME),
+    Case("the same without --presume", lost_tail(), 6,
+         "cut: 2.log line 8: 2 receive est 1/1 from 1 {3.1} ts 0: the log of member 1 ends before it is sent"),
+    Case("ends that are presumed of logs that are followed", GOSSIP, 3,
+         "error: the argument '--presume' cannot be used with '--follow'\n\nUsage: ct_tool merge --presume <LOG>...\n\n"
+         "For more information, try '--help'.", ("--presume", "--follow")),
+]
+
 
 class Growing(NamedTuple):
     """Logs that grow while they are followed: what stands there first, and what is appended later, to which log."""
@@ -157,11 +206,11 @@ def faults_of(tool: str, case: Case) -> List[str]:
         for name, text in case.logs.items():
             with open(os.path.join(folder, name), "w", encoding="utf-8") as file:
                 file.write(text)
-        done = ran([tool, "merge", *case.logs], folder)
+        done = ran([tool, "merge", *case.options, *case.logs], folder)
         wrong = [] if done.returncode == case.status else [f"status {done.returncode}, not {case.status}"]
         told = done.stderr.decode().rstrip("\n")
         wrong += [] if told == case.told else [f"it tells '{told}', not '{case.told}'"]
-        if case.status:
+        if case.status not in WRITTEN:
             return wrong + (["something is written"] if done.stdout else [])
         return wrong + faults_of_written(tool, case, folder, done.stdout)
 
@@ -171,7 +220,7 @@ def faults_of_written(tool: str, case: Case, folder: str, schedule: bytes) -> Li
     with open(os.path.join(folder, "run.schedule"), "wb") as file:
         file.write(schedule)
     made = ran([tool, "record", "run.schedule"], folder)
-    written = ran([tool, "merge", "--record", *case.logs], folder)
+    written = ran([tool, "merge", "--record", *case.options, *case.logs], folder)
     if made.returncode or not made.stdout:
         return [f"of its schedule no record is made: {made.stderr.decode()}"]
     return [] if made.stdout == written.stdout else ["of its schedule another record is made than is written"]
@@ -249,7 +298,7 @@ def faults_of_search(tool: str) -> List[str]:
 
 def main() -> int:
     tool = os.path.abspath(sys.argv[1])
-    checks = [(case.name, faults_of(tool, case)) for case in CASES]
+    checks = [(case.name, faults_of(tool, case)) for case in CASES + PRESUMED]
     checks += [(f"followed: {case.name}", faults_of_growing(tool, case)) for case in GROWING]
     in_c = ["cc", "-std=c11", "-Wall", "-Wextra", "-Werror"]
     in_rust = ["rustc", "--edition", "2021", "-D", "warnings", "-A", "dead_code"]

@@ -35,7 +35,7 @@ _ct_tool_words() {
         operands=''
         ;;
     merge)
-        options='--record --follow --idle -h --help'
+        options='--record --presume --follow --idle -h --help'
         values='--idle=any'
         operands='file+'
         ;;

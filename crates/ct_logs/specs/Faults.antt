@@ -1,8 +1,9 @@
--- The statuses of faults.
-use Rattle.std.specs.Prelude.{ℕ}
+-- The statuses of faults, and of runs that were written.
+use Rattle.std.specs.Prelude.{ℕ, if◌then◌else◌}
 use Rattle.ct_streams.specs.declared.status.Status.TheVariants as status
 use Rattle.ct_streams.specs.Statuses.{code}
 use Rattle.ct_logs.specs.declared.merge_fault.MergeFault.{MergeFault}
+use Rattle.ct_logs.specs.declared.told.Told.{Told}
 use Rattle.ct_logs.specs.declared.merge_fault.MergeFault.TheVariants.{Refused, Cut, NoLogs, Twice, File, Write, Memory, Board}
 
 -- logs that are cut have a status of their own
@@ -15,3 +16,7 @@ status_of (File fault text) = code status.Stream
 status_of Write = code status.Stream
 status_of Memory = code status.Memory
 status_of Board = code status.Memory
+
+-- a run in which steps are presumed has one too
+abbrev pub told_status : Told → ℕ
+told_status told = if told.is_presumed then 7 else 0

@@ -20,6 +20,10 @@ logs_rule = record (new_rule (codes "files")) {
   range = Some (record { start_inclusive = 1; end_inclusive = usize_max });
 }
 
+-- an option with no value that may not stand beside another
+abbrev pub presume_rule : Rule
+presume_rule = record (flag_rule (codes "presume")) { is_free = false }
+
 -- an option with a value
 abbrev pub seconds_rule : Rule
 seconds_rule = record (value_rule (codes "idle")) { value_names = 1 }
@@ -28,11 +32,12 @@ seconds_rule = record (value_rule (codes "idle")) { value_names = 1 }
 abbrev pub idle_rule : Rule
 idle_rule = record seconds_rule { is_free = false }
 
--- one log or several, whether the run is written as a record, whether the logs are followed, and for how long without a line
+-- one log or several, whether the run is written as a record, whether ends are presumed, whether the logs are followed, and for how
+-- long without a line
 abbrev pub merge_app : App
 merge_app =
     fold with_rule (new_app (codes "merge"))
-    (logs_rule ∷ flag_rule (codes "record") ∷ flag_rule (codes "follow") ∷ idle_rule ∷ [])
+    (logs_rule ∷ flag_rule (codes "record") ∷ presume_rule ∷ flag_rule (codes "follow") ∷ idle_rule ∷ [])
 
 abbrev pub idle_or_none : Option Text → Result (Option ℕ) Text
 idle_or_none None = Ok None

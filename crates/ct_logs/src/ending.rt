@@ -11,6 +11,7 @@ use crate::log_set::LogSet;
 use crate::merge_fault::MergeFault;
 use crate::misfit::Misfit;
 use crate::showing::accepted;
+use crate::told::Told;
 use crate::torn::push_torn;
 use crate::writing::written;
 use ct_merge::{Culprit, Verdict};
@@ -21,10 +22,10 @@ use std::alloc::{AllocError, Global};
 #[derive(Drop)]
 pub(crate) struct AcceptedRun {
     pub text: Vec<u8>,
-    pub told: String,
+    pub told: Told,
 }
 
-// What is written and told of logs that came to this; their texts are let go before that is made.
+// What is written and told of logs that came to this, with such steps presumed; their texts are let go before that is made.
 pub(crate) fn end_of(
     alloc: Global,
     names: &[&str],
@@ -33,6 +34,7 @@ pub(crate) fn end_of(
     setup: Setup,
     verdict: Verdict,
     form: Form,
+    presumed: &str,
 ) -> Result<AcceptedRun, MergeFault>
     requires merged { IfAccepted verdict IsSomeMerge }
     requires setting { IfAccepted verdict (λ w. w.setting ≡ setting_of setup) }
@@ -45,7 +47,7 @@ pub(crate) fn end_of(
             let torn = torn_of(alloc, names, &texts)?;
             drop(texts);
             drop(set);
-            accept(alloc, setup, world, form, torn.as_str())
+            accept(alloc, setup, world, form, torn.as_str(), presumed)
         }
         Verdict::Refused(culprit) => Err(refused(alloc, names, &texts, &set, culprit)),
         Verdict::Cut(culprit) => Err(cut(alloc, names, &texts, &set, culprit)),
@@ -67,6 +69,7 @@ fn accept(
     world: World,
     form: Form,
     torn: &str,
+    presumed: &str,
 ) -> Result<AcceptedRun, MergeFault>
     requires setting { world.rehearsal.setting ≡ setting_of setup }
     requires cells { world.rehearsal.cells ≡ setup.cells }
@@ -75,10 +78,25 @@ fn accept(
     ensures err { IfErr result (λ fault. fault ≡ MergeFault.Memory) }
 {
     let same = setup;
-    let mut told = accepted(alloc, setup, &world)?;
-    told.push_str(torn)?;
+    let told = told_of_run(alloc, setup, &world, torn, presumed)?;
     let text = written(alloc, same, world, form)?;
     Ok(AcceptedRun { text, told })
+}
+
+// What is told of the run.
+fn told_of_run(
+    alloc: Global,
+    setup: Setup,
+    world: &World,
+    torn: &str,
+    presumed: &str,
+) -> Result<Told, AllocError> {
+    let mut text = accepted(alloc, setup, world, presumed)?;
+    text.push_str(torn)?;
+    Ok(Told {
+        text,
+        is_presumed: !presumed.is_empty(),
+    })
 }
 
 // Files that are no logs of a group.

@@ -1,7 +1,9 @@
 //! Logs that are followed.
 
-ghost use Rattle.std.specs.Prelude.{◌≢◌, IfErr, IfOk};
-ghost use Rattle.ct_logs.specs.Merged.{IsSomeRun};
+ghost use Rattle.std.specs.Prelude.{◌≡◌, ◌≢◌, IfErr, IfOk};
+ghost use Rattle.ct_world.specs.Setup.{setting_of};
+ghost use Rattle.ct_merge.specs.Verdicts.{IfAccepted};
+ghost use Rattle.ct_logs.specs.Merged.{IsSomeMerge, IsSomeRun};
 
 use crate::ending::{AcceptedRun, end_of, no_logs, refused};
 use crate::form::Form;
@@ -12,10 +14,12 @@ use crate::misfit::Misfit;
 use crate::pace::Pace;
 use crate::reading::{too_long, unread};
 use crate::tail::{Parts, Tail};
-use ct_merge::{Culprit, LogLine};
+use ct_merge::{Culprit, LogLine, Verdict};
 use ct_names::Member;
 use ct_streams::{FileFault, Files, Source};
+use ct_world::Setup;
 use std::alloc::{AllocError, Global};
+use std::mem;
 
 // How many bytes of a log are read at a time.
 const PIECE: usize = 65_536;
@@ -29,6 +33,14 @@ struct Following<R: Source + Drop> {
     is_headed: bool,
     // None before the numbers of the group are settled.
     growth: Option<Growth>,
+}
+
+// What logs came to that ended, and their texts.
+#[derive(Drop)]
+struct Ended {
+    setup: Setup,
+    verdict: Verdict,
+    texts: Vec<Vec<u8>>,
 }
 
 // What came of logs, in bytes and lines; or a line that is refused.
@@ -64,19 +76,31 @@ fn opened<F: Files>(
 ) -> Result<Following<F::Reader>, MergeFault>
     ensures { IfErr result (λ fault. fault ≢ MergeFault.Write) }
 {
-    let mut tails = Vec::new(alloc);
+    let mut following = Following {
+        tails: Vec::new(alloc),
+        set: LogSet::new(alloc)?,
+        is_headed: false,
+        growth: None,
+    };
+    open_all(alloc, files, names, &mut following.tails)?;
+    Ok(following)
+}
+
+fn open_all<F: Files>(
+    alloc: Global,
+    files: &F,
+    names: &[&str],
+    tails: &mut Vec<Tail<F::Reader>>,
+) -> Result<(), MergeFault>
+    ensures { IfErr result (λ fault. fault ≢ MergeFault.Write) }
+{
     for (file, name) in names.iter().enumerate() {
         let tail = open(alloc, files, name, file)?;
         if tails.push(tail).is_err() {
             return Err(MergeFault::Memory);
         }
     }
-    Ok(Following {
-        tails,
-        set: LogSet::new(alloc)?,
-        is_headed: false,
-        growth: None,
-    })
+    Ok(())
 }
 
 // The log in the file of this name, at this place among the files.
@@ -109,8 +133,21 @@ impl<R: Source + Drop> Following<R> {
         ensures { IfErr result (λ fault. fault ≢ MergeFault.Write) }
     {
         let mut piece = vec![in alloc; 0u8; PIECE]?;
+        self.watch_by(alloc, names, pace, &mut piece)
+    }
+
+    // The same, with a piece of each log read at a time.
+    fn watch_by<P: Pace>(
+        &mut self,
+        alloc: Global,
+        names: &[&str],
+        pace: &mut P,
+        piece: &mut [u8],
+    ) -> Result<Option<Culprit>, MergeFault>
+        ensures { IfErr result (λ fault. fault ≢ MergeFault.Write) }
+    {
         for _ in 0..u64::MAX {
-            match self.look(alloc, names, &mut piece)? {
+            match self.look(alloc, names, piece)? {
                 Look::Refused(culprit) => return Ok(Some(culprit)),
                 Look::Came(bytes, lines) => {
                     if self.is_over() || !pace.goes_on(bytes, lines) {
@@ -179,24 +216,45 @@ impl<R: Source + Drop> Following<R> {
         let Some(tail) = self.tails.get_mut(file) else {
             return Ok(0);
         };
-        let Parts {
-            member,
-            numbers,
-            lines,
-            places,
-        } = tail.take(alloc, name)?;
-        self.set.number_group(alloc, name, numbers)?;
-        let Some(member) = member else {
-            return Ok(0);
+        let mut parts = tail.take(alloc, name)?;
+        match self.belongs(alloc, names, file, &parts)? {
+            Some(member) => self.add_parts(alloc, member, &mut parts),
+            None => Ok(0),
+        }
+    }
+
+    // Whose log it is, where its acts say that.
+    fn belongs(
+        &mut self,
+        alloc: Global,
+        names: &[&str],
+        file: usize,
+        parts: &Parts,
+    ) -> Result<Option<Member>, Misfit> {
+        let name = name_at(names, file);
+        self.set.number_group(alloc, name, parts.numbers)?;
+        let Some(member) = parts.member else {
+            return Ok(None);
         };
-        self.is_headed = self.is_headed || numbers.members.is_some();
+        self.is_headed = self.is_headed || parts.numbers.members.is_some();
         self.set.claim(alloc, name, file, member)?;
         if self.growth.is_some() {
             self.set.setup(alloc, names)?;
         }
-        self.set.add_places(member, &places)?;
+        Ok(Some(member))
+    }
+
+    // The member's log goes on with what came. How many lines.
+    fn add_parts(
+        &mut self,
+        alloc: Global,
+        member: Member,
+        parts: &mut Parts,
+    ) -> Result<usize, Misfit> {
+        self.set.add_places(member, &parts.places)?;
+        let lines = mem::replace(&mut parts.lines, Vec::new(alloc));
         self.add(member, lines)?;
-        Ok(places.len())
+        Ok(parts.places.len())
     }
 
     // The member's log goes on with these lines.
@@ -237,10 +295,16 @@ impl<R: Source + Drop> Following<R> {
         self.set.settle(same);
         let n = setup.group.n();
         let mut growth = Growth::new(alloc, setup)?;
+        self.fill(alloc, &mut growth, n)?;
+        Ok(growth)
+    }
+
+    // The logs of the first n members go on with the lines that are read.
+    fn fill(&mut self, alloc: Global, growth: &mut Growth, n: u8) -> Result<(), AllocError> {
         for i in 0..n {
             growth.add(i + 1, self.set.take_lines(alloc, i + 1))?;
         }
-        Ok(growth)
+        Ok(())
     }
 
     // Whether each log ends with a crash.
@@ -254,24 +318,37 @@ impl<R: Source + Drop> Following<R> {
         ensures err { IfErr result (λ fault. fault ≢ MergeFault.Write) }
     {
         let mut following = self;
-        let growth = following.last_growth(alloc, names)?;
+        let Ended {
+            setup,
+            verdict,
+            texts,
+        } = following.ended(alloc, names)?;
         let Following {
             tails,
             set,
             is_headed: _,
             growth: _,
         } = following;
+        drop(tails);
+        end_of(alloc, names, texts, set, setup, verdict, form, "")
+    }
+
+    // The same, with the texts of the logs.
+    fn ended(&mut self, alloc: Global, names: &[&str]) -> Result<Ended, MergeFault>
+        ensures merged { IfOk result (λ ended. IfAccepted ended.verdict IsSomeMerge) }
+        ensures setting { IfOk result (λ ended. IfAccepted ended.verdict (λ w. w.setting ≡ setting_of ended.setup)) }
+        ensures cells { IfOk result (λ ended. IfAccepted ended.verdict (λ w. w.cells ≡ ended.setup.cells)) }
+        ensures err { IfErr result (λ fault. fault ≢ MergeFault.Write) }
+    {
+        let growth = self.last_growth(alloc, names)?;
         let setup = growth.setup;
         let verdict = growth.end()?;
-        end_of(
-            alloc,
-            names,
-            texts_of(alloc, tails)?,
-            set,
+        let texts = texts_of(alloc, &mut self.tails)?;
+        Ok(Ended {
             setup,
             verdict,
-            form,
-        )
+            texts,
+        })
     }
 
     // The group; by the numbers that logs give, where they were not settled.
@@ -299,32 +376,37 @@ impl<R: Source + Drop> Following<R> {
     }
 
     // The logs are refused at this line.
-    fn refuse(self, alloc: Global, names: &[&str], culprit: Culprit) -> MergeFault
+    fn refuse(&mut self, alloc: Global, names: &[&str], culprit: Culprit) -> MergeFault
         ensures { result ≢ MergeFault.Write }
     {
-        let Following {
-            tails,
-            set,
-            is_headed: _,
-            growth: _,
-        } = self;
-        match texts_of(alloc, tails) {
-            Ok(texts) => refused(alloc, names, &texts, &set, culprit),
+        match texts_of(alloc, &mut self.tails) {
+            Ok(texts) => refused(alloc, names, &texts, &self.set, culprit),
             Err(_) => MergeFault::Memory,
         }
     }
 }
 
-// The texts of the logs.
+// The texts of the logs, which these have no more.
 fn texts_of<R: Source + Drop>(
     alloc: Global,
-    tails: Vec<Tail<R>>,
+    tails: &mut Vec<Tail<R>>,
 ) -> Result<Vec<Vec<u8>>, AllocError> {
     let mut texts = Vec::new(alloc);
-    for tail in tails {
-        if texts.push(tail.into_text()).is_err() {
-            return Err(AllocError);
+    push_texts(alloc, tails, &mut texts)?;
+    Ok(texts)
+}
+
+fn push_texts<R: Source + Drop>(
+    alloc: Global,
+    tails: &mut Vec<Tail<R>>,
+    texts: &mut Vec<Vec<u8>>,
+) -> Result<(), AllocError> {
+    for file in 0..tails.len() {
+        if let Some(tail) = tails.get_mut(file) {
+            if texts.push(tail.take_text(alloc)).is_err() {
+                return Err(AllocError);
+            }
         }
     }
-    Ok(texts)
+    Ok(())
 }

@@ -77,6 +77,14 @@ impl LogSet {
         self.files.get(place).copied()?
     }
 
+    // How many lines were read of the log at this place.
+    pub(crate) fn count(&self, place: usize) -> usize {
+        match self.places.get(place) {
+            Some(places) => places.len(),
+            None => 0,
+        }
+    }
+
     // The number in the file of the line at this place of the member's log.
     pub(crate) fn number(&self, member: Member, place: usize) -> Option<usize> {
         let at = usize::from(member).checked_sub(1)?;

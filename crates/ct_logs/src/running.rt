@@ -13,7 +13,9 @@ use crate::growth::short;
 use crate::log_set::LogSet;
 use crate::merge_fault::MergeFault;
 use crate::pace::Pace;
+use crate::presumed::presumed;
 use crate::reading::read_texts;
+use crate::told::Told;
 use ct_merge::{Verdict, merge};
 use ct_streams::{Failed, Files, Sink, write_all};
 use ct_world::Setup;
@@ -26,7 +28,7 @@ pub fn merge_logs<F: Files, W: Sink>(
     names: &[&str],
     form: Form,
     writer: &mut W,
-) -> Result<String, MergeFault>
+) -> Result<Told, MergeFault>
     requires { W.failures writer.old < 2 ^ 63 }
     // What was written is a run in which each member takes the steps of its log.
     ensures ok { OnOk result (WritesRun form (W.written writer.old) (W.written writer.new)) }
@@ -55,7 +57,7 @@ pub fn follow_logs<F: Files, W: Sink, P: Pace>(
     form: Form,
     pace: &mut P,
     writer: &mut W,
-) -> Result<String, MergeFault>
+) -> Result<Told, MergeFault>
     requires { W.failures writer.old < 2 ^ 63 }
     // What was written is a run in which each member takes the steps of its log.
     ensures ok { OnOk result (WritesRun form (W.written writer.old) (W.written writer.new)) }
@@ -69,6 +71,34 @@ pub fn follow_logs<F: Files, W: Sink, P: Pace>(
     }
     let AcceptedRun { text: run, told } = followed(alloc, files, names, form, pace)?;
     match write_all(writer, &run) {
+        Ok(()) => Ok(told),
+        Err(Failed) => Err(MergeFault::Write),
+    }
+}
+
+/// The same of logs whose ends may be lost: where they are cut, members are taken to have gone on behind their logs, so that they sent
+/// what others received, as it is stated there.
+pub fn presume_logs<F: Files, W: Sink>(
+    alloc: Global,
+    files: &F,
+    names: &[&str],
+    form: Form,
+    writer: &mut W,
+) -> Result<Told, MergeFault>
+    requires { W.failures writer.old < 2 ^ 63 }
+    // What was written is a run in which each member takes the steps of some log.
+    ensures ok { OnOk result (WritesRun form (W.written writer.old) (W.written writer.new)) }
+    // Where the writer failed, some first bytes of such a text were written; else nothing was.
+    ensures part { result ≡ Err MergeFault.Write → WritesRunInPart form (W.written writer.old) (W.written writer.new) }
+    ensures quiet { IfErr result (λ fault. fault ≢ MergeFault.Write → writer.new ≡ writer.old) }
+    ensures writer { FailsOnce result MergeFault.Write (W.failures writer.old) (W.failures writer.new) }
+{
+    if has_input_twice(names) {
+        return Err(MergeFault::Twice);
+    }
+    let texts = read_texts(alloc, files, names)?;
+    let AcceptedRun { text: likely, told } = presumed(alloc, names, texts, form)?;
+    match write_all(writer, &likely) {
         Ok(()) => Ok(told),
         Err(Failed) => Err(MergeFault::Write),
     }
@@ -116,7 +146,7 @@ fn judged(
     };
     let same = setup;
     let verdict = verdict_of(alloc, setup, &set)?;
-    end_of(alloc, names, texts, set, same, verdict, form)
+    end_of(alloc, names, texts, set, same, verdict, form, "")
 }
 
 // What the logs of the group come to.

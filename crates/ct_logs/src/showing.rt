@@ -16,19 +16,33 @@ fn seen(alloc: Global, setup: Setup, steps: &[Step]) -> Result<Seen, ReplayFault
     Ok(seen)
 }
 
-// The line that tells of it.
-pub(crate) fn accepted(alloc: Global, setup: Setup, world: &World) -> Result<String, AllocError> {
+// The line that tells of it, and of steps of it that are presumed.
+pub(crate) fn accepted(
+    alloc: Global,
+    setup: Setup,
+    world: &World,
+    presumed: &str,
+) -> Result<String, AllocError> {
     let members = setup.group.n();
     let seen = match seen(alloc, setup, world.record()) {
         Ok(seen) => seen,
         Err(_) => return Err(AllocError),
     };
     let mut text = String::new(alloc);
-    push_accepted(&mut text, members, seen)?;
+    push_verdict(&mut text, presumed)?;
+    push_seen(&mut text, members, seen)?;
     Ok(text)
 }
 
-fn push_accepted(text: &mut String, members: u8, seen: Seen) -> Result<(), AllocError> {
+fn push_verdict(text: &mut String, presumed: &str) -> Result<(), AllocError> {
+    if presumed.is_empty() {
+        text.push_str("accepted: ")
+    } else {
+        write!(text, "presumed: {presumed}; ")
+    }
+}
+
+fn push_seen(text: &mut String, members: u8, seen: Seen) -> Result<(), AllocError> {
     let Seen {
         lines,
         instances,
@@ -39,7 +53,7 @@ fn push_accepted(text: &mut String, members: u8, seen: Seen) -> Result<(), Alloc
     } = seen;
     write!(
         text,
-        "accepted: {members} members, {lines} lines; instances {instances}"
+        "{members} members, {lines} lines; instances {instances}"
     )?;
     write!(text, ", largest round {round}, suspicions {suspicions}")?;
     write!(

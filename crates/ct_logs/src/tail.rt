@@ -11,6 +11,7 @@ use ct_merge::{LogAct, LogFault, LogLine, LogText, Numbers};
 use ct_names::Member;
 use ct_streams::{Failed, Source};
 use std::alloc::{AllocError, Global};
+use std::mem;
 
 // A log that is read while it grows, and what was read of it.
 #[derive(Drop)]
@@ -91,18 +92,9 @@ impl<R: Source + Drop> Tail<R> {
         })
     }
 
-    // The text.
-    pub(crate) fn into_text(self) -> Vec<u8> {
-        let Tail {
-            reader: _,
-            log: _,
-            text,
-            over: _,
-            position: _,
-            member: _,
-            is_crashed: _,
-        } = self;
-        text
+    // The text, which it has no more.
+    pub(crate) fn take_text(&mut self, alloc: Global) -> Vec<u8> {
+        mem::replace(&mut self.text, Vec::new(alloc))
     }
 }
 

@@ -3,7 +3,8 @@
 ghost use Rattle.std.specs.Prelude.{◌≡◌, false, IfOk, option_map};
 ghost use Rattle.clap.specs.Words.{app_of, found_of, rows_of, rule_of};
 ghost use Rattle.ct_judge.specs.Line.{flag_rule};
-ghost use Rattle.ct_logs.specs.Line.{form_in, form_of, idle_in, idle_or_none, idle_rule, logs_rule, merge_app, seconds_rule};
+ghost use Rattle.ct_logs.specs.Line.{form_in, form_of, idle_in, idle_or_none, idle_rule, logs_rule, merge_app};
+ghost use Rattle.ct_logs.specs.Line.{presume_rule, seconds_rule};
 
 use crate::form::Form;
 use clap::{Arg, ArgAction, ArgMatches, Command};
@@ -27,6 +28,10 @@ members has an act. A line that is refused whatever comes is told at once, all
 else in the end: once each log ends with a crash, or after S seconds without a
 line. ^C ends it, with nothing told.
 
+With --presume members go on behind logs that are cut, so that they send what
+others received. How many steps of whom are presumed is told; it isn't known
+that they were these.
+
 Examples:
   ct_tool merge 1.log 2.log 3.log > run.schedule
   ct_tool merge --record *.log | ct_tool report
@@ -39,7 +44,8 @@ Status:
   3  the words of the command line are refused
   4  a read or a write failed
   5  memory was refused
-  6  the logs are cut: one of them would have to go on";
+  6  the logs are cut: one of them would have to go on
+  7  the logs are cut, and a run was written in which they go on (--presume)";
 
 /// The subcommand `merge`.
 pub fn merge_command<'a>(alloc: Global) -> Result<Command<'a>, AllocError>
@@ -60,6 +66,7 @@ pub fn merge_command<'a>(alloc: Global) -> Result<Command<'a>, AllocError>
         "record",
         "Writes the run as a record, in place of a schedule",
     ))?
+    .arg(presume(alloc)?)?
     .arg(flag(
         alloc,
         "follow",
@@ -79,6 +86,22 @@ fn logs<'a>(alloc: Global) -> Arg<'a>
         .required(true)
         .num_args(1..)
         .help("The files that the members' logs stand in; - for standard input")
+}
+
+// Whether ends of logs may be lost, which is not asked of logs that grow.
+fn presume<'a>(alloc: Global) -> Result<Arg<'a>, AllocError>
+    ensures rule { IfOk result (λ presume. rule_of presume ≡ presume_rule) }
+    ensures local { IfOk result (λ presume. presume.global ≡ false) }
+{
+    flag(
+        alloc,
+        "presume",
+        concat!(
+            "Where the logs are cut: takes their ends to be lost,\n",
+            "and what others received as sent behind them",
+        ),
+    )
+    .conflicts_with("follow")
 }
 
 // After how long a while without a line logs are taken to be over that are followed.

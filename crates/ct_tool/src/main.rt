@@ -23,7 +23,9 @@ use ct_judge::{
     record_command, record_partial, session_end,
 };
 use ct_listing::{schedule_command, write_schedule};
-use ct_logs::{MergeFault, follow_logs, merge_command, merge_form, merge_idle, merge_logs};
+use ct_logs::{
+    MergeFault, Told, follow_logs, merge_command, merge_form, merge_idle, merge_logs, presume_logs,
+};
 use ct_program::{CommandFault, answer_status};
 use ct_records::ProgramFault;
 use ct_show::{ShowFault, shown_end};
@@ -380,16 +382,22 @@ fn merge(rt: &HostRuntime, found: &ArgMatches<'_>) -> ExitCode {
         let ended = follow_logs(alloc, &host, names, form, &mut pace, &mut writer);
         return end_merge(rt, ended, writer.is_broken());
     }
-    let ended = merge_logs(alloc, &host, names, form, &mut writer);
+    let ended = if found.get_flag("presume") {
+        presume_logs(alloc, &host, names, form, &mut writer)
+    } else {
+        merge_logs(alloc, &host, names, form, &mut writer)
+    };
     end_merge(rt, ended, writer.is_broken())
 }
 
 // Tells what a merged run shows, or why none is written.
-fn end_merge(rt: &HostRuntime, ended: Result<String, MergeFault>, is_broken: bool) -> ExitCode {
+fn end_merge(rt: &HostRuntime, ended: Result<Told, MergeFault>, is_broken: bool) -> ExitCode {
     match ended {
         Ok(told) => {
-            let _ = eprintln!(rt; "{told}");
-            ExitCode::SUCCESS
+            let status = told.status();
+            let Told { text, .. } = told;
+            let _ = eprintln!(rt; "{text}");
+            ExitCode::from(status)
         }
         Err(fault) => {
             let status = fault.status();

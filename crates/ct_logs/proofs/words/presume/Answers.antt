@@ -1,0 +1,9 @@
+use Rattle.std.proofs.Common.{ap, false, ◌∙◌}
+use Rattle.std.proofs.lemmas.Result.{IfOk-weaker}
+use Rattle.clap.specs.Words.{Rule}
+use Rattle.ct_logs.proofs.Asking.{bars_rule}
+use Rattle.ct_logs.proofs.words.presume.Goals as goal
+
+pub returns-clause-rule : goal.returns-clause-rule
+returns-clause-rule c = IfOk-weaker c.conflicts_with.result _ _ (λ presume bars. bars_rule c.flag.result presume _ bars
+    ∙ ap (λ (rule : Rule). record rule { is_free = false }) c.flag.ensures.rule) c.conflicts_with.ensures
