@@ -1,10 +1,11 @@
 #!/usr/bin/env python3
-"""Builds the static library of crates/ct_embed over the libraries that `rt ci` left in the folders of the crates below it: it is proved
-once more, and none of those is, as `rt lib` would.
+"""Builds the static library of crates/ct_embed, or the program ct_tool, over the libraries that `rt ci` left in the folders of the crates
+below it: it is proved once more, and none of those is, as `rt lib` would.
 
-    archive.py      writes crates/ct_embed/out/libct_embed.a; status 1 where a library below is missing or older than its sources
+    archive.py              writes crates/ct_embed/out/libct_embed.a; status 1 where a library below is missing or older than its sources
+    archive.py ct_tool      keeps the program's bitcode alone
 
-Beside it stays ct_embed.bc, the LLVM bitcode that it was compiled from, of which page/module.sh makes a WebAssembly module.
+In the crate's folder out stays NAME.bc, the LLVM bitcode that it was compiled from, of which page/module.sh makes a WebAssembly module.
 """
 from __future__ import annotations
 
@@ -15,7 +16,9 @@ import sys
 import tempfile
 from typing import Dict, List
 
-CRATE = "ct_embed"
+# The crates that are built, and how: the library's file stays, the program's does not.
+CRATES = {"ct_embed": ["src/lib.rt", "--crate-type", "staticlib"], "ct_tool": ["src/main.rt"]}
+KEPT = {"ct_embed": "libct_embed.a"}
 KEEPING = """#!/bin/bash
 for it in "$@"; do case $it in *.bc) /bin/cp "$it" "{kept}";; esac; done
 exec "{clang}" "$@"
@@ -74,23 +77,25 @@ def keeping(kit: str, folder: str, kept: str) -> str:
 
 
 def main() -> int:
+    crate = sys.argv[1] if len(sys.argv) > 1 else "ct_embed"
     table = crates()
-    under = below(table, CRATE)
+    under = below(table, crate)
     if any(is_missing(it) for it in under):
         return 1
     kit = os.path.normpath(os.path.join(os.path.dirname(os.path.realpath(shutil.which("rt") or "rt")), ".."))
-    words = [os.path.join(kit, "bin", "rattle"), "build", "--crate-name", CRATE, "src/lib.rt", "--crate-type", "staticlib"]
-    for name in ["std", *table[CRATE]]:
+    words = [os.path.join(kit, "bin", "rattle"), "build", "--crate-name", crate, *CRATES[crate]]
+    for name in ["std", *table[crate]]:
         words += ["--extern", f"{name}={library(name) if name in table else os.path.join(kit, 'rlibs', f'{name}.rlib')}"]
     for folder in [os.path.join(kit, "rlibs"), *(os.path.dirname(library(it)) for it in under)]:
         words += ["-L", f"dependency={folder}"]
     words += ["--antt-project", os.path.join(kit, "rattle", "logic", "antt-project.json")]
-    words += ["--logic-built", os.path.join(kit, "logic_built"), "--jobs", "1", "-o", os.path.join("out", f"lib{CRATE}.a")]
-    out = os.path.join(ROOT, "crates", CRATE, "out")
+    words += ["--logic-built", os.path.join(kit, "logic_built"), "--jobs", str(os.cpu_count() or 1)]
+    out = os.path.join(ROOT, "crates", crate, "out")
     os.makedirs(out, exist_ok=True)
     with tempfile.TemporaryDirectory() as folder:
-        words += ["--toolchain", keeping(kit, folder, os.path.join(out, f"{CRATE}.bc"))]
-        return subprocess.run(words, cwd=os.path.join(ROOT, "crates", CRATE), check=False).returncode
+        words += ["-o", os.path.join(out, KEPT[crate]) if crate in KEPT else os.path.join(folder, f"{crate}.o")]
+        words += ["--toolchain", keeping(kit, os.path.join(folder, "toolchain"), os.path.join(out, f"{crate}.bc"))]
+        return subprocess.run(words, cwd=os.path.join(ROOT, "crates", crate), check=False).returncode
 
 
 if __name__ == "__main__":

@@ -1,9 +1,9 @@
 #!/usr/bin/env python3
 """Makes the page of its parts: one file that needs nothing else.
 
-    assemble.py MODULE OUT      MODULE: the WebAssembly module; OUT: the page
-    assemble.py --again PAGE    makes the page anew, with the module that it has
-    assemble.py --check PAGE    status 1 where that would change it
+    assemble.py MODULE TOOL OUT     MODULE, TOOL: the WebAssembly modules of the library and of ct_tool; OUT: the page
+    assemble.py --again PAGE        makes the page anew, with the modules that it has
+    assemble.py --check PAGE        status 1 where that would change it
 """
 import base64
 import gzip
@@ -56,14 +56,17 @@ def packed(path: str) -> str:
         return base64.b64encode(gzip.compress(file.read(), 9, mtime=0)).decode()
 
 
-def page(module: str) -> str:
-    """The page with this module."""
+def page(module: str, tool: str) -> str:
+    """The page with these modules."""
     text = read(SOURCES, "page.html")
     parts = {
         "/*STYLE*/": read(SOURCES, "style.css"),
+        "/*SEARCH-STYLE*/": read(SOURCES, "search.css"),
         "/*DIAGRAM*/": read(SOURCES, "diagram.css"),
         "<!--TRUST-->": read(SOURCES, "trust.html"),
+        "<!--SEARCH-->": read(SOURCES, "search.html"),
         "/*MODULE*/": module,
+        "/*TOOL*/": tool,
         "/*SCENARIOS*/": examples(),
         "/*SCRIPT*/": "const modules = {};\n" + "".join(scope(it) for it in order(FIRST, [])),
     }
@@ -75,16 +78,17 @@ def page(module: str) -> str:
 
 
 def again(path: str) -> str:
-    """The page of these parts with the module of the one that is there."""
-    found = re.search(r'id="module">([^<]*)<', read(path))
-    return page(found[1]) if found else sys.exit(f"assemble.py: {path}: no module")
+    """The page of these parts with the modules of the one that is there."""
+    text = read(path)
+    found = [re.search(rf'id="{name}">([^<]*)<', text) for name in ("module", "tool")]
+    return page(*(it[1] for it in found)) if all(found) else sys.exit(f"assemble.py: {path}: a module is missing")
 
 
 def main() -> int:
-    word, path = sys.argv[1:]
-    if word == "--check":
+    *words, path = sys.argv[1:]
+    if words == ["--check"]:
         return 0 if again(path) == read(path) else 1
-    text = again(path) if word == "--again" else page(packed(word))
+    text = again(path) if words == ["--again"] else page(*(packed(it) for it in words))
     with open(path, "w", encoding="utf-8") as file:
         file.write(text)
     return 0

@@ -1,26 +1,32 @@
 #!/usr/bin/env bash
-# Makes the page of the proved library.
+# Makes the page of the proved library and of the proved program ct_tool.
 #
 #     page/build.sh [OUT]
 #
-# OUT: the page; page/ct.html, which is kept in the repository, if left out. The library's bitcode is that of its proved build,
-# crates/ct_embed/out/ct_embed.bc; where it isn't there or is older than a source of the crates, bindings/archive.py proves and builds the
-# library, over what `rt ci` left of the crates below it.
+# OUT: the page; page/ct.html, which is kept in the repository, if left out. The bitcode is that of their proved builds,
+# crates/NAME/out/NAME.bc; where it isn't there or is older than a source of the crates, bindings/archive.py proves and builds them, over
+# what `rt ci` left of the crates below.
 set -euo pipefail
 
 here=$(cd "$(dirname "$0")" && pwd)
 out=$(realpath -m "${1:-$here/ct.html}")
-crate=$here/../crates/ct_embed
-bitcode=$crate/out/ct_embed.bc
 
 for tool in rt python3; do
     command -v "$tool" >/dev/null || { echo "page/build.sh: no $tool on the path" >&2; exit 2; }
 done
-newer() { find "$here"/../crates/*/{src,specs} -newer "$bitcode" -type f | grep -q .; }
-if [[ ! -e $bitcode ]] || newer; then
-    python3 "$here/../bindings/archive.py" || { echo "page/build.sh: no bitcode; run rt ci before" >&2; exit 2; }
-fi
+newer() { find "$here"/../crates/*/{src,specs} -newer "$1" -type f | grep -q .; }
+
+# module CRATE OUT [program]: the module of the crate's bitcode.
+module() {
+    local bitcode=$here/../crates/$1/out/$1.bc
+    if [[ ! -e $bitcode ]] || newer "$bitcode"; then
+        python3 "$here/../bindings/archive.py" "$1" || { echo "page/build.sh: no bitcode of $1; run rt ci before" >&2; exit 2; }
+    fi
+    bash "$here/module.sh" "$bitcode" "${@:2}"
+}
+
 mkdir -p "$here/out"
-bash "$here/module.sh" "$bitcode" "$here/out/ct.wasm"
-python3 "$here/assemble.py" "$here/out/ct.wasm" "$out"
-ls -l "$here/out/ct.wasm" "$out"
+module ct_embed "$here/out/ct.wasm"
+module ct_tool "$here/out/tool.wasm" program
+python3 "$here/assemble.py" "$here/out/ct.wasm" "$here/out/tool.wasm" "$out"
+ls -l "$here/out/ct.wasm" "$here/out/tool.wasm" "$out"

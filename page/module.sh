@@ -1,8 +1,8 @@
 #!/usr/bin/env bash
-# Makes the WebAssembly module of the proved library: compiles the LLVM bitcode of its static library once more, for 64-bit
-# WebAssembly, with the clang of the toolchain, and links it with the heap in C.
+# Makes the WebAssembly module of the proved library, or of the proved program ct_tool: compiles the LLVM bitcode of its build once
+# more, for 64-bit WebAssembly, with the clang of the toolchain, and links it with the heap in C, and a program with its system in C.
 #
-#     page/module.sh BITCODE OUT
+#     page/module.sh BITCODE OUT [program]
 #
 # The toolchain itself builds no module of code that asks for memory. Pointers have 64 bits in both, so every layout stays as it is.
 set -euo pipefail
@@ -10,6 +10,14 @@ set -euo pipefail
 here=$(cd "$(dirname "$0")" && pwd)
 bitcode=$(realpath "$1")
 out=$(realpath -m "$2")
+parts=(heap module wide)
+level=-O3
+mapfile -t calls < <(sed -n 's/^[a-z].*[ *]\(ct_[a-z_]*\)(.*/--export=\1/p' "$here/../bindings/ct.h")
+if [[ ${3:-} == program ]]; then
+    parts+=(system)
+    calls=(--export=main)
+    level=-Os # 770 KB of page in place of 955; a search takes a third longer
+fi
 kit=$(dirname "$(realpath "$(command -v rt)")")/..
 clang=$kit/toolchain/bin/clang
 work=$(mktemp -d)
@@ -31,12 +39,11 @@ if grep -q '@llvm\.x86' wasm.ll; then
 fi
 
 wasm=(--no-default-config --target=wasm64-unknown-unknown -mbulk-memory -msimd128)
-"$clang" "${wasm[@]}" -mllvm -sink-common-insts=false -x ir wasm.ll -c -O3 -ffunction-sections -fdata-sections -o library.o
-for part in heap module wide; do
+"$clang" "${wasm[@]}" -mllvm -sink-common-insts=false -x ir wasm.ll -c "$level" -ffunction-sections -fdata-sections -o library.o
+for part in "${parts[@]}"; do
     "$clang" "${wasm[@]}" -nostdlib -ffreestanding -O2 -Wall -Wextra -Wno-incompatible-library-redeclaration -c "$here/$part.c" -o "$part.o"
 done
 ln -s "$kit/toolchain/bin/ld.lld" wasm-ld
 # The stack lies below all else, so that a call which is too deep ends the module, and is as large as a program's on Linux.
-mapfile -t calls < <(sed -n 's/^[a-z].*[ *]\(ct_[a-z_]*\)(.*/--export=\1/p' "$here/../bindings/ct.h")
 ./wasm-ld -m wasm64 --no-entry --gc-sections --strip-all --stack-first -z stack-size=8388608 "${calls[@]}" \
-    library.o heap.o module.o wide.o -o "$out"
+    library.o "${parts[@]/%/.o}" -o "$out"

@@ -6,7 +6,9 @@ import { Editor } from "./editor.js";
 import { Library } from "./library.js";
 import { Members } from "./members.js";
 import { Run } from "./run.js";
+import { Search } from "./search.js";
 import { Session } from "./session.js";
+import { Tool } from "./tool.js";
 import { begin, refresh, theme, wire } from "./controls.js";
 import { asked, bytesOf, through } from "./link.js";
 import { legend } from "./legend.js";
@@ -57,12 +59,13 @@ async function start() {
   const run = new Run(held, { live: new Session(held), past: new Session(held) });
   const app = made(run);
   wire(app, scenarios);
+  const search = new Search(app, new Tool(at("tool").textContent));
   const failed = (error) => app.alert(`the page failed: ${error?.message ?? error}`);
   addEventListener("error", (event) => failed(event.error ?? event.message));
   addEventListener("unhandledrejection", (event) => failed(event.reason));
   await follow(app, scenarios);
   addEventListener("hashchange", () => follow(app, scenarios));
-  window.ct = { app, loaded: performance.now() - began };
+  window.ct = { app, search, loaded: performance.now() - began };
 }
 
 await start();

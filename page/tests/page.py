@@ -17,7 +17,7 @@ WIDE = (1400, 1000)
 WAIT_SECONDS = 20
 SCRIPT_SECONDS = 120
 TABS = 400
-NAMES = {"left": Keys.ARROW_LEFT, "right": Keys.ARROW_RIGHT, "home": Keys.HOME, "end": Keys.END, "\n": Keys.ENTER}
+NAMES = {"left": Keys.ARROW_LEFT, "right": Keys.ARROW_RIGHT, "home": Keys.HOME, "end": Keys.END, "\n": Keys.ENTER, "escape": Keys.ESCAPE}
 
 
 class Page:

@@ -1,0 +1,170 @@
+"""The page looks for runs and makes them smaller: what ct_tool does in it is what the built program does."""
+import json
+import os
+import re
+import subprocess
+import time
+from typing import List, Tuple
+
+from page import Page
+
+OPTIONS = "--turns 300 --rate 32 --lose 40 --repeat 80 --batch 1"
+GOALS = ["any round >= 5", "any chooses unseen", "any delivered 2.1 before 1.1"]
+NOWHERE = "any round >= 90"
+SEEDS = 3000
+MANY_SEEDS = 4000000
+SECONDS = 60.0
+
+
+def of_tool(page: Page, *words: str, given: str = "") -> Tuple[str, str, int]:
+    """What the built program writes, what it tells, and its status."""
+    ran = subprocess.run([page.tool, *words], input=given.encode(), stdout=subprocess.PIPE, stderr=subprocess.PIPE, check=False)
+    return ran.stdout.decode(), ran.stderr.decode(), ran.returncode
+
+
+def find_words(goal: str, last: int, options: str = OPTIONS) -> List[str]:
+    return ["find", "--jobs", "1", "--members", "3", "--goal", goal, "--seeds", f"1..{last}", *options.split()]
+
+
+def fill(page: Page, **fields) -> None:
+    """Writes into the fields of the search."""
+    page.run("for (const [id, value] of Object.entries(arguments[0])) document.getElementById(id).value = value",
+             {name.replace("_", "-"): value for name, value in fields.items()})
+
+
+def is_over(page: Page) -> bool:
+    return page.run("return !ct.search.tool.isRunning && !document.getElementById('do-find').disabled && !ct.app.isWaiting")
+
+
+def look(page: Page, goal: str, last: int = 1000, options: str = OPTIONS, button: str = "#do-find") -> dict:
+    """Has the page look for the goal, and waits until it is done: what its ct_tool wrote."""
+    fill(page, goal=goal, seed_last=str(last), options=options)
+    page.run("ct.search.last = null")
+    page.click(button)
+    page.until(lambda: is_over(page), SECONDS)
+    page.until(lambda: page.text("#progress") != "" or page.alert() != "" or page.text("#found") != "")
+    return page.run("return ct.search.last")
+
+
+def seed_of(goal: str, root: str) -> int:
+    """The seed that docs/GOALS.md tells."""
+    with open(os.path.join(root, "docs", "GOALS.md"), encoding="utf-8") as file:
+        return int(re.search(rf"^\| `{re.escape(goal)}` \|[^|]*\| (\d+) \|", file.read(), re.M)[1])
+
+
+def finds(page: Page) -> None:
+    """The same seed and the same record as the built program's."""
+    page.open()
+    for goal in GOALS:
+        ended = look(page, goal)
+        out, err, status = of_tool(page, *find_words(goal, 1000))
+        assert (ended["out"], ended["status"]) == (out, status), goal
+        assert err.startswith(f"seed {seed_of(goal, page.root)}: ") and page.text("#found") == err.strip(), (err, page.text("#found"))
+        assert json.loads(page.record())["steps"] == json.loads(out)["steps"], goal
+        assert page.text("#progress") == f"Opened: {page.steps()} steps.", page.text("#progress")
+    page.shot("found")
+
+
+def makes_smaller(page: Page) -> None:
+    """The same schedule as the built program's, of a run that was found and of one that was changed then."""
+    page.open()
+    for goal in GOALS[:2]:
+        record = look(page, goal)["out"]
+        ended = look(page, goal, button="#shrink")
+        out, err, _ = of_tool(page, "shrink", "--goal", goal, given=record)
+        assert (ended["out"], ended["status"]) == (out, 0), goal
+        assert page.lines() == out.rstrip("\n").split("\n") and page.fault() == "", page.fault()
+        assert page.text("#found") == err.strip() and re.search(r"\d+ steps \d+ are left", err), page.text("#found")
+    page.shot("smaller")
+    page.click("#undo")
+    page.until(lambda: json.loads(page.record())["steps"] == json.loads(record)["steps"])
+    look(page, "any round >= 60", button="#shrink")
+    assert page.text("#progress") == "the goal is not shown", page.text("#progress")
+
+
+def no_goal(page: Page) -> None:
+    """A goal that is none, words that are none, and a goal that no walk shows: what the program tells."""
+    page.open()
+    before = page.lines()
+    for words in (("any rounds >= 4", OPTIONS), ("4 crashed", OPTIONS), ("any round >= 5", "--loose 4")):
+        look(page, words[0], options=words[1])
+        told = of_tool(page, *find_words(words[0], 1000, words[1]))[1]
+        assert page.alert() == told.strip(), (page.alert(), told)
+    assert "not understood" in of_tool(page, *find_words("any rounds >= 4", 9))[1]
+    page.shot("no_goal")
+    look(page, NOWHERE, 20)
+    assert page.alert() == "" and page.text("#progress") == f"no seed of 1..20 shows {NOWHERE}", page.text("#progress")
+    assert page.lines() == before
+
+
+def counts(page: Page) -> None:
+    """A count is shown, and no run is opened."""
+    page.open()
+    before = page.lines()
+    look(page, "any decided 2", 200, "--turns 100 --count")
+    assert page.text("#found") == of_tool(page, *find_words("any decided 2", 200, "--turns 100 --count"))[0].strip()
+    assert page.lines() == before
+
+
+def cancelled(page: Page) -> None:
+    """A long search tells how far it is, lets the page go on meanwhile, and is ended by the button and by a key."""
+    page.open()
+    for end in (lambda: page.click("#cancel"), lambda: escape(page)):
+        fill(page, goal=NOWHERE, seed_last=str(MANY_SEEDS), options=OPTIONS)
+        page.click("#do-find")
+        page.until(lambda: re.match(rf"\d+ of {MANY_SEEDS} seeds ", page.text("#progress")) is not None, SECONDS)
+        first = page.text("#progress")
+        page.until(lambda: page.text("#progress") != first, SECONDS)
+        page.act("1 submit set 0 7")
+        page.click("#undo")
+        page.until(lambda: page.steps() == 0)
+        page.shot("searching")
+        end()
+        page.until(lambda: is_over(page))
+        assert page.text("#progress") == "Cancelled.", page.text("#progress")
+    assert look(page, GOALS[0])["status"] == 0
+
+
+def escape(page: Page) -> None:
+    page.run("document.getElementById('goal').focus()")
+    page.type("escape")
+
+
+def found_by_keys(page: Page) -> None:
+    """Without a mouse: the goal is written, Enter looks for it, and the next key makes it smaller."""
+    page.open()
+    page.walk_to_id("goal")
+    page.type("\n")
+    page.until(lambda: is_over(page) and page.text("#found") != "", SECONDS)
+    assert page.run("return document.activeElement.id") == "goal"
+    page.walk_to_id("shrink")
+    page.type("\n")
+    page.until(lambda: is_over(page) and "are left" in page.text("#found"), SECONDS)
+    assert page.run("return document.activeElement.id") == "shrink"
+
+
+def on_narrow_screens(page: Page) -> None:
+    """The search in the dark and on a narrow screen, in which nothing goes beyond the edge."""
+    page.size(390, 900)
+    page.open()
+    page.click("#theme")
+    look(page, GOALS[0])
+    assert page.run("return document.documentElement.scrollWidth <= innerWidth")
+    page.run("document.getElementById('search').scrollIntoView()")
+    page.shot("search_narrow")
+    page.size()
+
+
+def speed(page: Page) -> None:
+    """How many seeds are tried in a second, beside the built program in one thread."""
+    page.open()
+    start = time.time()
+    assert look(page, NOWHERE, SEEDS)["status"] == 1
+    here = time.time() - start
+    start = time.time()
+    of_tool(page, *find_words(NOWHERE, SEEDS))
+    built = time.time() - start
+    print(f"  {SEEDS:,} seeds: {SEEDS / here:,.0f} a second, the built program {SEEDS / built:,.0f}")
+
+
+SEEKING = [finds, makes_smaller, no_goal, counts, cancelled, found_by_keys, on_narrow_screens, speed]
