@@ -21,8 +21,10 @@ CRATES = {"ct_embed": ["src/lib.rt", "--crate-type", "staticlib"], "ct_tool": ["
 KEPT = {"ct_embed": "libct_embed.a"}
 KEEPING = """#!/bin/bash
 for it in "$@"; do case $it in *.bc) /bin/cp "$it" "{kept}";; esac; done
-exec "{clang}" "$@"
+exec "{clang}" {words}
 """
+ALL_WORDS = '"$@"'
+QUICK_WORDS = '"${@/#-O3/-O0}"'  # for an object file that nobody runs
 ROOT = os.path.normpath(os.path.join(os.path.dirname(os.path.abspath(__file__)), ".."))
 
 
@@ -61,8 +63,8 @@ def is_missing(crate: str) -> bool:
                for source in sources for folder, _, names in os.walk(source) for name in names)
 
 
-def keeping(kit: str, folder: str, kept: str) -> str:
-    """A toolchain in this folder that is the kit's, and keeps the bitcode that its clang compiles."""
+def keeping(kit: str, folder: str, kept: str, words: str) -> str:
+    """A toolchain in this folder that is the kit's, and keeps the bitcode that its clang compiles, by these words."""
     real = os.path.join(kit, "toolchain")
     os.makedirs(os.path.join(folder, "bin"))
     os.symlink(os.path.join(real, "lib"), os.path.join(folder, "lib"))
@@ -71,7 +73,7 @@ def keeping(kit: str, folder: str, kept: str) -> str:
             os.symlink(os.path.join(real, "bin", name), os.path.join(folder, "bin", name))
     clang = os.path.join(folder, "bin", "clang")
     with open(clang, "w", encoding="utf-8") as file:
-        file.write(KEEPING.format(kept=kept, clang=os.path.join(real, "bin", "clang")))
+        file.write(KEEPING.format(kept=kept, clang=os.path.join(real, "bin", "clang"), words=words))
     os.chmod(clang, 0o755)
     return folder
 
@@ -94,7 +96,8 @@ def main() -> int:
     os.makedirs(out, exist_ok=True)
     with tempfile.TemporaryDirectory() as folder:
         words += ["-o", os.path.join(out, KEPT[crate]) if crate in KEPT else os.path.join(folder, f"{crate}.o")]
-        words += ["--toolchain", keeping(kit, os.path.join(folder, "toolchain"), os.path.join(out, f"{crate}.bc"))]
+        compiled = ALL_WORDS if crate in KEPT else QUICK_WORDS
+        words += ["--toolchain", keeping(kit, os.path.join(folder, "toolchain"), os.path.join(out, f"{crate}.bc"), compiled)]
         return subprocess.run(words, cwd=os.path.join(ROOT, "crates", crate), check=False).returncode
 
 
