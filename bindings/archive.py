@@ -25,6 +25,7 @@ exec "{clang}" {words}
 """
 ALL_WORDS = '"$@"'
 QUICK_WORDS = '"${@/#-O3/-O0}"'  # for an object file that nobody runs
+MOST_JOBS = 4
 ROOT = os.path.normpath(os.path.join(os.path.dirname(os.path.abspath(__file__)), ".."))
 
 
@@ -91,7 +92,7 @@ def main() -> int:
     for folder in [os.path.join(kit, "rlibs"), *(os.path.dirname(library(it)) for it in under)]:
         words += ["-L", f"dependency={folder}"]
     words += ["--antt-project", os.path.join(kit, "rattle", "logic", "antt-project.json")]
-    words += ["--logic-built", os.path.join(kit, "logic_built"), "--jobs", str(os.cpu_count() or 1)]
+    words += ["--logic-built", os.path.join(kit, "logic_built"), "--jobs", str(min(os.cpu_count() or 1, MOST_JOBS))]
     out = os.path.join(ROOT, "crates", crate, "out")
     os.makedirs(out, exist_ok=True)
     with tempfile.TemporaryDirectory() as folder:

@@ -3,7 +3,7 @@
 import { count } from "./wording.js";
 
 const SHOWN_ALONE = ["--count", "--help", "-h"];
-const STATUS = { 1: "it was not found", 4: "a read or a write failed", 5: "out of memory" };
+const STATUS = { 1: "it is not shown", 4: "a read or a write failed", 5: "out of memory" };
 const PAUSE = 100;
 const at = (id) => document.getElementById(id);
 
@@ -71,12 +71,10 @@ export class Search {
   // Shows how it ended.
   async end({ status, out, err }, isAlone) {
     const told = lasting(err);
-    const isRefused = status !== 0 && !(status === 1 && isAlone);
-    if (isRefused && status !== 1) {
-      this.show("");
-      return this.app.alert(told || STATUS[status] || `status ${status}`);
-    }
-    if (isRefused || isAlone) return this.show(isRefused ? told || STATUS[status] : "", isRefused ? "" : out);
+    this.show("");
+    if (status > 1) return this.app.alert(told || STATUS[status] || `status ${status}`);
+    if (isAlone) return this.show(told, out);
+    if (status === 1) return this.show(told || STATUS[status]);
     while (this.app.isWaiting) await new Promise((done) => setTimeout(done, PAUSE));
     await this.app.open(out);
     this.show(`Opened: ${count(this.app.run.steps.length, "step")}.`, told);

@@ -14,6 +14,7 @@ NOWHERE = "any round >= 90"
 SEEDS = 3000
 MANY_SEEDS = 4000000
 SECONDS = 60.0
+LONGER_THAN_A_LINE = 2.2
 
 
 def of_tool(page: Page, *words: str, given: str = "") -> Tuple[str, str, int]:
@@ -58,6 +59,7 @@ def finds(page: Page) -> None:
     for goal in GOALS:
         ended = look(page, goal)
         out, err, status = of_tool(page, *find_words(goal, 1000))
+        assert ended["words"] == find_words(goal, 1000), ended["words"]
         assert (ended["out"], ended["status"]) == (out, status), goal
         assert err.startswith(f"seed {seed_of(goal, page.root)}: ") and page.text("#found") == err.strip(), (err, page.text("#found"))
         assert json.loads(page.record())["steps"] == json.loads(out)["steps"], goal
@@ -66,10 +68,11 @@ def finds(page: Page) -> None:
 
 
 def makes_smaller(page: Page) -> None:
-    """The same schedule as the built program's, of a run that was found and of one that was changed then."""
+    """The same schedule as the built program's, of the whole run that was found, whatever step one looks at."""
     page.open()
     for goal in GOALS[:2]:
         record = look(page, goal)["out"]
+        page.click("#back")
         ended = look(page, goal, button="#shrink")
         out, err, _ = of_tool(page, "shrink", "--goal", goal, given=record)
         assert (ended["out"], ended["status"]) == (out, 0), goal
@@ -97,13 +100,18 @@ def no_goal(page: Page) -> None:
     assert page.lines() == before
 
 
-def counts(page: Page) -> None:
-    """A count is shown, and no run is opened."""
+def other_options(page: Page) -> None:
+    """A count is shown, and no run is opened; of several runs the smallest one is."""
     page.open()
     before = page.lines()
     look(page, "any decided 2", 200, "--turns 100 --count")
     assert page.text("#found") == of_tool(page, *find_words("any decided 2", 200, "--turns 100 --count"))[0].strip()
+    look(page, NOWHERE, 20, "--turns 100 --count")
+    out, err, _ = of_tool(page, *find_words(NOWHERE, 20, "--turns 100 --count"))
+    assert (page.text("#found"), page.text("#progress")) == (out.strip(), err.strip()), page.text("#progress")
     assert page.lines() == before
+    look(page, "any chooses unseen", 60, f"{OPTIONS} --best 3")
+    assert "\n".join(page.lines()) + "\n" == of_tool(page, *find_words("any chooses unseen", 60, f"{OPTIONS} --best 3"))[0]
 
 
 def cancelled(page: Page) -> None:
@@ -122,6 +130,8 @@ def cancelled(page: Page) -> None:
         end()
         page.until(lambda: is_over(page))
         assert page.text("#progress") == "Cancelled.", page.text("#progress")
+    time.sleep(LONGER_THAN_A_LINE)
+    assert page.text("#progress") == "Cancelled.", page.text("#progress")
     assert look(page, GOALS[0])["status"] == 0
 
 
@@ -167,4 +177,4 @@ def speed(page: Page) -> None:
     print(f"  {SEEDS:,} seeds: {SEEDS / here:,.0f} a second, the built program {SEEDS / built:,.0f}")
 
 
-SEEKING = [finds, makes_smaller, no_goal, counts, cancelled, found_by_keys, on_narrow_screens, speed]
+SEEKING = [finds, makes_smaller, no_goal, other_options, cancelled, found_by_keys, on_narrow_screens, speed]
