@@ -33,6 +33,7 @@ export class Diagram {
     const full = LEFT + columns.length * this.width + 60;
     this.sheet.style.width = `${full}px`;
     this.sheet.style.height = `${heightOf(columns)}px`;
+    this.svg.style.left = "0"; // where it stood it could lie beyond a shorter run's sheet
     this.reveal();
     this.paint();
   }

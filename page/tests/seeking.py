@@ -78,6 +78,8 @@ def makes_smaller(page: Page) -> None:
         assert (ended["out"], ended["status"]) == (out, 0), goal
         assert page.lines() == out.rstrip("\n").split("\n") and page.fault() == "", page.fault()
         assert page.text("#found") == err.strip() and re.search(r"\d+ steps \d+ are left", err), page.text("#found")
+        assert page.run("const { scrollLeft, scrollWidth, clientWidth } = document.getElementById('diagram'); "
+                        "return scrollLeft === 0 && scrollWidth === clientWidth"), "the diagram of a short run is scrolled"
     page.shot("smaller")
     page.click("#undo")
     page.until(lambda: json.loads(page.record())["steps"] == json.loads(record)["steps"])
