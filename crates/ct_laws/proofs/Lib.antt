@@ -3,6 +3,7 @@ pub mod ArrowLists
 pub mod ArrowTexts
 pub mod ArrowWays
 pub mod Deeds
+pub mod Expecting
 pub mod Documents
 pub mod Drawing
 pub mod DrawnArrows

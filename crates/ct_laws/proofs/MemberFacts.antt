@@ -43,13 +43,13 @@ true_joined w p k refusal (fact ∷ a) b h more = (h.0, true_joined w p k refusa
 
 -- ---- what is read of a member of the group
 
-is_there : (n p : ℕ) → IsMember n p → is_member n p ≡ true
+pub is_there : (n p : ℕ) → IsMember n p → is_member n p ≡ true
 is_there n p h =
     let low : 1 ≤ p = h.0 in
     let high : p ≤ n = h.1 in
     grind (arith, nat_tests)
 
-of_group : {A : Type 0} (w : Rehearsal) (p : ℕ) (x : Option A) → IsMember w.setting.members p → if_member w p x ≡ x
+pub of_group : {A : Type 0} (w : Rehearsal) (p : ℕ) (x : Option A) → IsMember w.setting.members p → if_member w p x ≡ x
 of_group w p x h = ap (λ b. if b then x else None) (is_there w.setting.members p h)
 
 instance_is : (w : Rehearsal) (p : ℕ) → IsMember w.setting.members p → instance_of w p ≡ (member_of w p).last
@@ -123,7 +123,7 @@ find_there : {A : Type 0} (test : A → Bool) (x : A) (xs : List A) → IsIn x x
 find_there test x [] h so = absurd h
 find_there test x (y ∷ xs) h so = found_if test x y xs (test y) refl h so (λ more. find_there test x xs more so)
 
-got_heard : (got : List Wire) (k r q : ℕ) (v : Value) (ts : ℕ) → IsIn q everyone → IsIn (Est k r q v ts) got →
+pub got_heard : (got : List Wire) (k r q : ℕ) (v : Value) (ts : ℕ) → IsIn q everyone → IsIn (Est k r q v ts) got →
     (e : HeardOf Value) × (estimate_from (ballots got k r) q ≡ Some e)
 unfolding ballots
 got_heard got k r q v ts there h =

@@ -29,8 +29,9 @@ use Rattle.ct_judge.specs.Schedule.{after_line, after_lines, finished, line_over
 use Rattle.ct_judge.specs.Standing.{Standing, given_in, headed, made_of, made_with, played_of, played_or_made, record_in, start, world_of}
 use Rattle.ct_judge.specs.Telling.{Explained, told, told_if}
 use Rattle.ct_judge.specs.declared.heading.Heading.{Heading}
-use Rattle.ct_laws.specs.Places.{AreAllowed, AreOf, ArePlaces, HasPlaces, IsLine, IsPlay, IsShown, behind, joined}
-use Rattle.ct_laws.proofs.Deeds.{Grows, act_grows, allowed_both, both_behind, going_on, nothing_behind, stated_grows, grows_not}
+use Rattle.ct_laws.specs.Places.{AreAllowed, AreOf, ArePlaces, EachIsAllowed, HasPlaces, IsLine, IsPlay, IsShown, behind, joined}
+use Rattle.ct_laws.proofs.Deeds.{Grows, act_grows, allowed_both, both_behind, going_on, grows_more, nothing_behind, stated_grows, grows_not}
+use Rattle.ct_laws.proofs.Expecting.Showing.{shows_so}
 use Rattle.ct_laws.proofs.Silent.{asked_same, ends_at, if_free, plainly, unless_same}
 use Rattle.ct_laws.proofs.Taking.{Makes}
 use Rattle.ct_laws.proofs.Turns.{last_grows, rounds_grow}
@@ -92,21 +93,31 @@ none_unmet : (s t : Played) (o : Option Term) → unless_unmet s o ≡ Ok t → 
 none_unmet s t None h = refl
 none_unmet s t (Some term) h = absurd (cc h)
 
-expected_shows : (s t : Played) (goal : Goal) → expected_of s goal ≡ Ok t → IsShown s.rehearsal goal
+expected_shows : (s t : Played) (goal : Goal) → expected_of s goal ≡ Ok t → EachIsAllowed s.rehearsal → IsShown s.rehearsal goal
 unfolding unmet shows
-expected_shows s t goal h = (s.sides, all_met s goal (none_unmet s t (unmet s goal) h))
+expected_shows s t goal h whole = (s.sides, shows_so goal s whole (all_met s goal (none_unmet s t (unmet s goal) h)))
 
-until_shown : (s t : Played) (by : Who) (goal : Goal) (ps : List ℕ) → IsShown t.rehearsal goal → Grows (AreOf ps) s t →
-    Grows (λ steps. AreOf ps steps × IsShown (behind s.rehearsal steps) goal) s t
+-- and so is one with more steps
+whole_behind : (w : Rehearsal) (steps : List Step) → EachIsAllowed w → AreAllowed w steps → EachIsAllowed (behind w steps)
+whole_behind w steps whole more = allowed_both w.steps steps (empty w.setting w.cells) whole more
+
+until_shown : (s t : Played) (by : Who) (goal : Goal) (ps : List ℕ) → (EachIsAllowed t.rehearsal → IsShown t.rehearsal goal) →
+    Grows (AreOf ps) s t →
+    Grows (λ steps. EachIsAllowed s.rehearsal → AreOf ps steps × IsShown (behind s.rehearsal steps) goal) s t
 until_shown s t by goal ps shown g = record {
   steps = g.steps;
   is = g.is;
   allowed = g.allowed;
-  so = (g.so, subst (λ w. IsShown w goal) g.is shown);
+  so = λ whole. (
+    g.so,
+    subst (λ w. IsShown w goal) g.is
+        (shown (subst EachIsAllowed (sym g.is) (whole_behind s.rehearsal g.steps whole g.allowed))),
+  );
 }
 
 reached_grows : (s t : Played) (play : Play) (by : Who) (goal : Goal) → reached s play by goal ≡ Ok t →
-    Grows (λ steps. AreOf (named s.rehearsal.setting.members by) steps × IsShown (behind s.rehearsal steps) goal) s t
+    Grows (λ steps. EachIsAllowed s.rehearsal →
+    AreOf (named s.rehearsal.setting.members by) steps × IsShown (behind s.rehearsal steps) goal) s t
 unfolding reached
 reached_grows s t play by goal h =
     let rounds : List ℕ → Played = λ ps. after_rounds play ps s MOST_ROUNDS in
@@ -115,17 +126,19 @@ reached_grows s t play by goal h =
     let more = going_on (all_known s.rehearsal.setting.members goal) (λ _. expected_of (rounds on.0) goal) t on.2 in
     let is : t ≡ rounds on.0 = unless_same (rounds on.0) t (unmet (rounds on.0) goal) more.2 in
     until_shown s t by goal (named s.rehearsal.setting.members by)
-    (subst (λ (u : Played). IsShown u.rehearsal goal) (sym is) (expected_shows (rounds on.0) t goal more.2))
+    (subst (λ (u : Played). EachIsAllowed u.rehearsal → IsShown u.rehearsal goal) (sym is) (expected_shows (rounds on.0) t goal more.2))
     (of_named s.rehearsal.setting.members by on.0 s t on.1
     (subst (λ u. Grows (AreOf on.0) s u) (sym is) (rounds_grow play on.0 s MOST_ROUNDS)))
 
-expects_grows : (s t : Played) (goal : Goal) → expected s goal ≡ Ok t → Grows (λ steps. (steps ≡ []) × IsShown s.rehearsal goal) s t
+expects_grows : (s t : Played) (goal : Goal) → expected s goal ≡ Ok t →
+    Grows (λ steps. EachIsAllowed s.rehearsal → (steps ≡ []) × IsShown s.rehearsal goal) s t
 unfolding expected
 expects_grows s t goal h =
     let on = going_on (all_known s.rehearsal.setting.members goal) (λ _. expected_of s goal) t h in
     let same : t ≡ s = unless_same s t (unmet s goal) on.2 in
-    subst (λ u. Grows (λ steps. (steps ≡ []) × IsShown s.rehearsal goal) s u) (sym same)
-    (grows_not (λ steps. (steps ≡ []) × IsShown s.rehearsal goal) s (refl, expected_shows s t goal on.2))
+    subst (λ u. Grows (λ steps. EachIsAllowed s.rehearsal → (steps ≡ []) × IsShown s.rehearsal goal) s u) (sym same)
+    (grows_not (λ steps. EachIsAllowed s.rehearsal → (steps ≡ []) × IsShown s.rehearsal goal) s
+    (λ whole. (refl, expected_shows s t goal on.2 whole)))
 
 -- the steps of a line that is understood
 abbrev IsHere : Rehearsal → Line → List Step → Type 0
@@ -141,17 +154,30 @@ rehearsal_in : Played → Result Played LineFault → Rehearsal
 rehearsal_in s (Ok t) = t.rehearsal
 rehearsal_in s (Err fault) = s.rehearsal
 
-play_grows : (s t : Played) (play : Play) → played s play ≡ Ok t → Grows (IsPlay s.rehearsal play) s t
+-- whatever the record is
+anyhow : (P : List Step → Type 0) (s t : Played) → Grows P s t → Grows (λ steps. EachIsAllowed s.rehearsal → P steps) s t
+anyhow P s t g = grows_more P (λ steps. EachIsAllowed s.rehearsal → P steps) s t (λ steps h whole. h) g
+
+play_grows : (s t : Played) (play : Play) → played s play ≡ Ok t →
+    Grows (λ steps. EachIsAllowed s.rehearsal → IsPlay s.rehearsal play steps) s t
 unfolding rehearsal_in
-play_grows s t (Act by act) h = act_grows by act (named s.rehearsal.setting.members by) s t h
-play_grows s t (Stated by act text) h = stated_grows by act text (named s.rehearsal.setting.members by) s t h
-play_grows s t (Turns by n set) h = turned_grows s t (Turns by n set) by n h
-play_grows s t (Settle by set) h = settled_grows s t (Settle by set) by h
+play_grows s t (Act by act) h =
+    anyhow (IsPlay s.rehearsal (Act by act)) s t (act_grows by act (named s.rehearsal.setting.members by) s t h)
+play_grows s t (Stated by act text) h =
+    anyhow (IsPlay s.rehearsal (Stated by act text)) s t (stated_grows by act text (named s.rehearsal.setting.members by) s t h)
+play_grows s t (Turns by n set) h =
+    anyhow (IsPlay s.rehearsal (Turns by n set)) s t (turned_grows s t (Turns by n set) by n h)
+play_grows s t (Settle by set) h =
+    anyhow (IsPlay s.rehearsal (Settle by set)) s t (settled_grows s t (Settle by set) by h)
 play_grows s t (Until by set goal) h = reached_grows s t (Until by set goal) by goal h
-play_grows s t (Cut sides) h = grows_still s t (sym (ap (λ (r : Result Played LineFault). rehearsal_in s r) h))
-play_grows s t Heal h = grows_still s t (sym (ap (λ (r : Result Played LineFault). rehearsal_in s r) h))
+play_grows s t (Cut sides) h =
+    anyhow (IsPlay s.rehearsal (Cut sides)) s t
+    (grows_still s t (sym (ap (λ (r : Result Played LineFault). rehearsal_in s r) h)))
+play_grows s t Heal h =
+    anyhow (IsPlay s.rehearsal Heal) s t (grows_still s t (sym (ap (λ (r : Result Played LineFault). rehearsal_in s r) h)))
 play_grows s t (Expect goal) h = expects_grows s t goal h
-play_grows s t (Ask question) h = grows_still s t (ap (λ (u : Played). u.rehearsal) (asked_same s t question h))
+play_grows s t (Ask question) h =
+    anyhow (IsPlay s.rehearsal (Ask question)) s t (grows_still s t (ap (λ (u : Played). u.rehearsal) (asked_same s t question h)))
 
 -- ---- where a line begins
 
@@ -190,7 +216,7 @@ grown_cells p q own is = ap (λ (w : Rehearsal). w.cells) is
 
 in_placed : (w : Rehearsal) (s u : Standing) (play : Play) (p q : Played) (rest : List Step) → played_of s ≡ Ok p →
     played p play ≡ Ok q → u ≡ record s { played = Some q } → behind (from w u.played) rest ≡ w →
-    IsPlaced w s u (λ v steps. IsPlay v play steps)
+    IsPlaced w s u (λ v steps. EachIsAllowed v → IsPlay v play steps)
 unfolding played_of
 in_placed w s u play p q rest of by at end =
     let g = play_grows p q play by in
@@ -204,27 +230,27 @@ in_placed w s u play p q rest of by at end =
       own = g.steps;
       is = from_u ∙ g.is ∙ ap (λ v. behind v g.steps) (sym from_s);
       allowed = subst (λ v. AreAllowed v g.steps) (sym from_s) g.allowed;
-      so = subst (λ v. IsPlay v play g.steps) (sym from_s) g.so;
+      so = subst (λ v. EachIsAllowed v → IsPlay v play g.steps) (sym from_s) g.so;
     }
 
-still_placed : (w : Rehearsal) (s u : Standing) → u.played ≡ s.played → IsPlaced w s u (λ _ steps. steps ≡ [])
+still_placed : (w : Rehearsal) (s u : Standing) → u.played ≡ s.played → IsPlaced w s u (λ v steps. EachIsAllowed v → steps ≡ [])
 still_placed w s u same = record {
   own = [];
   is = ap (from w) same ∙ sym (nothing_behind (from w s.played));
   allowed = tt;
-  so = refl;
+  so = λ whole. refl;
 }
 
 in_world_on : (w : Rehearsal) (s u : Standing) (play : Play) (p : Played) (rest : List Step) (r : Result Played LineFault) →
     played_of s ≡ Ok p → played p play ≡ r → in_world s r ≡ Ok u → behind (from w u.played) rest ≡ w →
-    IsPlaced w s u (λ v steps. IsPlay v play steps)
+    IsPlaced w s u (λ v steps. EachIsAllowed v → IsPlay v play steps)
 in_world_on w s u play p rest (Ok q) of by h end =
     let same : record s { played = Some q } ≡ u = cc h in
     in_placed w s u play p q rest of by (sym same) end
 in_world_on w s u play p rest (Err fault) of by h end = absurd (cc h)
 
 play_placed : (w : Rehearsal) (s u : Standing) (play : Play) (rest : List Step) (r : Result Played LineFault) → played_of s ≡ r →
-    after_play s play r ≡ Ok u → behind (from w u.played) rest ≡ w → IsPlaced w s u (λ v steps. IsPlay v play steps)
+    after_play s play r ≡ Ok u → behind (from w u.played) rest ≡ w → IsPlaced w s u (λ v steps. EachIsAllowed v → IsPlay v play steps)
 play_placed w s u play rest (Ok p) of h end = in_world_on w s u play p rest (played p play) of refl h end
 play_placed w s u play rest (Err fault) of h end = absurd (cc h)
 
@@ -234,7 +260,7 @@ given_still s u (Some heading) h =
     ap (λ (v : Standing). v.played) (if_free (is_some s.played) (record s { heading = heading }) u h).1
 
 line_placed : (w : Rehearsal) (s u : Standing) (line : Line) (rest : List Step) → taken s line ≡ Ok u →
-    behind (from w u.played) rest ≡ w → IsPlaced w s u (λ v steps. IsHere v line steps)
+    behind (from w u.played) rest ≡ w → IsPlaced w s u (λ v steps. EachIsAllowed v → IsHere v line steps)
 line_placed w s u Blank rest h end =
     let same : s ≡ u = cc h in
     still_placed w s u (ap (λ (v : Standing). v.played) (sym same))
@@ -242,7 +268,7 @@ line_placed w s u (Given given) rest h end = still_placed w s u (given_still s u
 line_placed w s u (Plays play) rest h end = play_placed w s u play rest (played_of s) refl h end
 
 told_placed : (w : Rehearsal) (s u : Standing) (r : _) (rest : List Step) → told_if s r ≡ Ok u →
-    behind (from w u.played) rest ≡ w → IsPlaced w s u (λ v steps. IsLine v r steps)
+    behind (from w u.played) rest ≡ w → IsPlaced w s u (λ v steps. EachIsAllowed v → IsLine v r steps)
 told_placed w s u (Ok Blank) rest h end = line_placed w s u Blank rest (plainly s u Blank (taken s Blank) h) end
 told_placed w s u (Ok (Given given)) rest h end =
     line_placed w s u (Given given) rest (plainly s u (Given given) (taken s (Given given)) h) end
@@ -256,7 +282,7 @@ record AreAll (w : Rehearsal) (s : Standing) (lines : List (List ℕ)) : Type 0 
   pub places : List (List Step)
   pub is : behind (from w s.played) (joined places) ≡ w
   pub allowed : AreAllowed (from w s.played) (joined places)
-  pub are : ArePlaces (from w s.played) lines places
+  pub are : EachIsAllowed (from w s.played) → ArePlaces (from w s.played) lines places
 
 ended_made : (h : Heading) (o : Option ℕ) (w : Rehearsal) → record_in (made_of h o) ≡ Ok w → behind (empty w.setting w.cells) [] ≡ w
 ended_made h None w is = absurd (cc is)
@@ -280,7 +306,11 @@ one_placed w s u line lines h more =
           ∙ ap (λ v. behind v (joined more.places)) (sym here.is) ∙ more.is;
       allowed = allowed_both here.own (joined more.places) (from w s.played) here.allowed
           (subst (λ v. AreAllowed v (joined more.places)) here.is more.allowed);
-      are = (here.so, subst (λ v. ArePlaces v lines more.places) here.is more.are);
+      are = λ whole. (
+        here.so whole,
+        subst (λ v. ArePlaces v lines more.places) here.is
+            (more.are (subst EachIsAllowed (sym here.is) (whole_behind (from w s.played) here.own whole here.allowed))),
+      );
     }
 
 line_over_placed : (w : Rehearsal) (s : Standing) (n : ℕ) (line : List ℕ) (lines : List (List ℕ)) (r : Result Standing Explained) →
@@ -296,7 +326,7 @@ all_placed [] w s n h = record {
   places = [];
   is = ended_with s.heading s.played w (ends_at n (world_of s) w h);
   allowed = tt;
-  are = tt;
+  are = λ whole. tt;
 }
 all_placed (line ∷ lines) w s n h =
     line_over_placed w s n line lines (told_if s (line_in line)) refl (λ u m. all_placed lines w u m) h
@@ -310,5 +340,5 @@ placed text w h =
       places = all.places;
       all = steps;
       allowed = subst (λ l. AreAllowed (empty w.setting w.cells) l) steps all.allowed;
-      are = all.are;
+      are = all.are tt;
     }

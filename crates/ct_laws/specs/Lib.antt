@@ -1,4 +1,5 @@
 pub mod Diagrams
+pub mod Expectations
 pub mod Facts
 pub mod Fitting
 pub mod JsonEnvelopes
@@ -10,6 +11,7 @@ pub mod Places
 pub mod Refusals
 pub mod Schedules
 pub mod Sessions
+pub mod Showing
 pub mod Tries
 pub mod Untils
 pub mod Walks

@@ -17,11 +17,11 @@ use Rattle.ct_grammar.specs.declared.play.Play.TheVariants.{Act as ByAct, Stated
 use Rattle.ct_grammar.specs.declared.who.Who.{Who}
 use Rattle.ct_grammar.specs.declared.who.Who.TheVariants.{All}
 use Rattle.ct_play.specs.Acting.{step_of}
-use Rattle.ct_play.specs.Goals.{shows}
 use Rattle.ct_play.specs.Picking.{waiting_from}
 use Rattle.ct_play.specs.Stating.{outcome_text}
 use Rattle.ct_play.specs.Who.{named}
 use Rattle.ct_judge.specs.Reading.{line_in}
+use Rattle.ct_laws.specs.Showing.{AreMet}
 
 -- ---- steps behind a record
 
@@ -32,6 +32,10 @@ behind w steps = record w { steps = w.steps ++ steps }
 abbrev pub AreAllowed : Rehearsal → List Step → Type 0
 AreAllowed w [] = ⊤
 AreAllowed w (step ∷ steps) = (cause w step ≡ None) × AreAllowed (extended w step) steps
+
+-- each step of the record is allowed behind those before it
+abbrev pub EachIsAllowed : Rehearsal → Type 0
+EachIsAllowed w = AreAllowed (empty w.setting w.cells) w.steps
 
 -- ---- what a line says of its steps
 
@@ -65,9 +69,9 @@ abbrev pub AreOf : List ℕ → List Step → Type 0
 AreOf ps [] = ⊤
 AreOf ps (step ∷ steps) = IsIn (actor step) ps × AreOf ps steps
 
--- the record shows the goal, with some cut of the group
+-- each term of the goal is met by the record, with some cut of the group
 abbrev pub IsShown : Rehearsal → Goal → Type 0
-IsShown w goal = (sides : List ℕ) × (shows goal (record { rehearsal = w; sides = sides }) ≡ true)
+IsShown w goal = (sides : List ℕ) × AreMet (record { rehearsal = w; sides = sides }) goal
 
 -- an act has the steps of the members that it names, turns have steps of theirs, up to a goal where they are made until it, and
 -- other lines none; what is expected is shown
@@ -102,5 +106,5 @@ joined (steps ∷ places) = steps ++ joined places
 pub record HasPlaces (w : Rehearsal) (lines : List (List ℕ)) : Type 0 where
   pub places : List (List Step)
   pub all : joined places ≡ w.steps
-  pub allowed : AreAllowed (empty w.setting w.cells) w.steps
+  pub allowed : EachIsAllowed w
   pub are : ArePlaces (empty w.setting w.cells) lines places

@@ -1,8 +1,9 @@
-//! Laws of the definitions by which schedules and sessions are judged, walks made, refusals told and diagrams drawn: what they come to,
-//! in words of lines, steps, states and envelopes. Laws of what is written as JSON: the values that it is read as.
+//! Laws of the definitions by which schedules and sessions are judged, facts expected, walks made, refusals told and diagrams drawn: what
+//! they come to, in words of lines, steps, states and envelopes. Laws of what is written as JSON: the values that it is read as.
 #![tactic(auto)]
 
 mod diagrams;
+mod expectations;
 mod facts;
 mod reading_json;
 mod schedules;
@@ -12,6 +13,7 @@ mod untils;
 mod walks;
 
 pub use diagrams::law_diagram;
+pub use expectations::law_expect;
 pub use facts::law_facts;
 pub use reading_json::{law_fitting, law_report_json, law_state_json, law_steps_json};
 pub use schedules::law_schedule;

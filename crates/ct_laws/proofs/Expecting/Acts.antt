@@ -1,0 +1,290 @@
+-- What is expected of acts and of envelopes that wait.
+use Rattle.std.proofs.Common.{◌≡◌, ◌⊎◌, inl, inr, ◌≤◌, ℕ, zero, suc, Bool, true, false, List, [], ◌∷◌, ◌&&◌, length, refl, ap}
+use Rattle.std.proofs.Common.{sym, ◌∙◌, subst, arith, codes, find, Option, Some, None, Ok, Err, Result, is_some, eqb-true, ◌==◌}
+use Rattle.std.proofs.Math.Nat.{eq-or-lt_of_le}
+use Rattle.std.proofs.lemmas.Bool.Decides.{nat_tests}
+use Rattle.std.specs.Prelude.{if◌then◌else◌}
+use Rattle.std.specs.Option.{option_or}
+use Rattle.ct_names.specs.Membership.{IsIn}
+use Rattle.ct_names.specs.declared.refusal.Refusal.{Refusal}
+use Rattle.ct_names.proofs.Lists.{contrary, found-find, found-list_any, list_any-found}
+use Rattle.ct_model.specs.Cause.{cause}
+use Rattle.ct_model.specs.Rehearsal.{Rehearsal, line_of, state_of}
+use Rattle.ct_model.specs.declared.step.Step.{Step}
+use Rattle.ct_model.specs.declared.step.Step.TheVariants as step
+use Rattle.ct_grammar.specs.Reasons.{reason_text}
+use Rattle.ct_grammar.specs.declared.act.Act.{Act}
+use Rattle.ct_grammar.specs.declared.act.Act.TheVariants.{Submit, Receive, Begin, Enter, Choose, Adopt, Suspect, Conclude, Deliver, Follow}
+use Rattle.ct_grammar.specs.declared.act.Act.TheVariants.{Crash, Postpone, Lose, Repeat, LoseFrom}
+use Rattle.ct_grammar.specs.declared.pick.Pick.{Pick}
+use Rattle.ct_grammar.specs.declared.pick.Pick.TheVariants.{Serial, First}
+use Rattle.ct_grammar.specs.declared.reason.Reason.{Reason}
+use Rattle.ct_grammar.specs.declared.reason.Reason.TheVariants.{NotThere, Across, Rules}
+use Rattle.ct_grammar.specs.declared.carried.Carried.{Carried}
+use Rattle.ct_play.specs.Acting.{first_loss, go_on, step_of, there}
+use Rattle.ct_play.specs.Cuts.{barred, is_near}
+use Rattle.ct_play.specs.Facts.{act_cause, cause_text, step_cause}
+use Rattle.ct_play.specs.Picking.{first_from, first_so, is_gone, is_of, is_so, is_waiting, last_of, last_so, picked, repeated, sender_of}
+use Rattle.ct_play.specs.Picking.{waiting_at, waits_at, was_sent}
+use Rattle.ct_play.specs.Played.{Played}
+use Rattle.ct_play.specs.declared.line_fault.LineFault.{LineFault}
+use Rattle.ct_play.specs.declared.line_fault.LineFault.TheVariants as fault
+use Rattle.ct_laws.specs.Expectations.{ComesTo, HasNever, HasNone, HasNoneFrom, HasWaiting, IsAcross, IsNotThere, IsOpen, IsRefusedFor}
+use Rattle.ct_laws.proofs.Expecting.Names.{not_allowed, same_reason}
+
+-- ---- lists
+
+none_if : {A : Type 0} (test : A → Bool) (y : A) (ys : List A) (b : Bool) → test y ≡ b → (if b then Some y else find test ys) ≡ None →
+    (find test ys ≡ None → (x : A) → IsIn x ys → test x ≡ false) → (x : A) → (x ≡ y) ⊎ IsIn x ys → test x ≡ false
+none_if test y ys true is h more x at = absurd (cc h)
+none_if test y ys false is h more x (inl same) = ap test same ∙ is
+none_if test y ys false is h more x (inr later) = more h x later
+
+-- where none is found, none passes
+pub none_passes : {A : Type 0} (test : A → Bool) (xs : List A) → find test xs ≡ None → (x : A) → IsIn x xs → test x ≡ false
+none_passes test [] h x never = absurd never
+none_passes test (y ∷ ys) h x at = none_if test y ys (test y) refl h (none_passes test ys) x at
+
+pub none_found : {A : Type 0} (test : A → Bool) (xs : List A) → ((x : A) → IsIn x xs → test x ≡ false) → find test xs ≡ None
+none_found test [] h = refl
+none_found test (y ∷ ys) h =
+    ap (λ b. if b then Some y else find test ys) (h y (inl refl)) ∙ none_found test ys (λ x at. h x (inr at))
+
+-- ---- the last that passes
+
+last_if : (test : ℕ → Bool) (n k : ℕ) (b : Bool) → test (suc n) ≡ b → (if b then Some (suc n) else last_of test n) ≡ None →
+    (last_of test n ≡ None → k ≤ n → test k ≡ false) → (k ≡ suc n) ⊎ (suc k ≤ suc n) → test k ≡ false
+last_if test n k true is h more at = absurd (cc h)
+last_if test n k false is h more (inl same) = ap test same ∙ is
+last_if test n k false is h more (inr less) = more h (omega (arith, less))
+
+no_last : (test : ℕ → Bool) (n k : ℕ) → last_of test n ≡ None → 1 ≤ k → k ≤ n → test k ≡ false
+no_last test zero k h low high = absurd (omega (arith, low, high))
+no_last test (suc n) k h low high =
+    last_if test n k (test (suc n)) refl h (λ none small. no_last test n k none low small) (eq-or-lt_of_le high)
+
+last_none : (test : ℕ → Bool) (n : ℕ) → ((k : ℕ) → 1 ≤ k → k ≤ n → test k ≡ false) → last_of test n ≡ None
+last_none test zero h = refl
+last_none test (suc n) h =
+    ap (λ b. if b then Some (suc n) else last_of test n) (h (suc n) (omega arith) (omega arith))
+    ∙ last_none test n (λ k low high. h k low (omega (arith, high)))
+
+-- ---- what waits at a member of the group
+
+second_none : (a b : Option ℕ) → option_or a b ≡ None → b ≡ None
+second_none None b h = h
+second_none (Some k) b h = absurd (cc h)
+
+not_both : (a b : Bool) → a ≡ false → (a && b) ≡ false
+not_both true b h = absurd (cc h)
+not_both false b h = refl
+
+-- the member's line is what waits there
+module _ (w : Rehearsal) (p : ℕ) (line : waiting_at w p ≡ line_of w p) where
+  in_line : (k : ℕ) → IsIn k (waiting_at w p) → IsIn k (line_of w p)
+  in_line k h = subst (λ l. IsIn k l) line h
+
+  waits_in : (k : ℕ) → IsIn k (line_of w p) → IsIn k (waiting_at w p)
+  waits_in k h = subst (λ l. IsIn k l) (sym line) h
+
+  -- ---- waits
+
+  first_waits : (carried : Carried) (from : Option ℕ) (o : Option ℕ) → first_so w p carried from ≡ o → is_some o ≡ true →
+      HasWaiting w p (First carried from)
+  unfolding first_so
+  first_waits carried from None is h = absurd (cc h)
+  first_waits carried from (Some k) is h =
+      let f = found-find (is_so w carried from) k (waiting_at w p) is in (k, in_line k f.0, f.1)
+
+  pub waits_so : (pick : Pick) → is_waiting w p pick ≡ true → HasWaiting w p pick
+  unfolding waits_at
+  waits_so (Serial k) h =
+      let f = found-list_any (λ q. q == k) (waiting_at w p) h in
+      subst (λ q. IsIn q (line_of w p)) (eqb-true f.item k f.passes) (in_line f.item f.is_in)
+  waits_so (First carried from) h = first_waits carried from (first_so w p carried from) refl h
+
+  some_first : (carried : Carried) (from : Option ℕ) (o : Option ℕ) → first_so w p carried from ≡ o →
+      HasWaiting w p (First carried from) → is_some o ≡ true
+  unfolding first_so
+  some_first carried from None is h =
+      contrary (is_so w carried from h.0) h.2 (none_passes (is_so w carried from) (waiting_at w p) is h.0 (waits_in h.0 h.1))
+  some_first carried from (Some k) is h = refl
+
+  pub so_waits : (pick : Pick) → HasWaiting w p pick → is_waiting w p pick ≡ true
+  unfolding waits_at
+  so_waits (Serial k) h = list_any-found (λ q. q == k) k (waiting_at w p) (waits_in k h) (grind (arith, nat_tests))
+  so_waits (First carried from) h = some_first carried from (first_so w p carried from) refl h
+
+  -- ---- nothing is so named
+
+  picked_none : (pick : Pick) → picked w p pick ≡ None → HasNone w p pick
+  unfolding first_so
+  picked_none (Serial k) h = absurd (cc h)
+  picked_none (First carried from) h = λ k at. none_passes (is_so w carried from) (waiting_at w p) h k (waits_in k at)
+
+  none_picked : (pick : Pick) → HasNone w p pick → picked w p pick ≡ None
+  unfolding first_so
+  none_picked (Serial k) h = absurd h
+  none_picked (First carried from) h = none_found (is_so w carried from) (waiting_at w p) (λ k at. h k (in_line k at))
+
+  repeated_none : (pick : Pick) → repeated w p pick ≡ None → HasNever w p pick
+  unfolding last_so
+  repeated_none (Serial k) h = absurd (cc h)
+  repeated_none (First carried from) h = λ k low high.
+      no_last (was_sent w p carried from) (length (state_of w).sent) k
+      (second_none (last_of (is_gone w p carried from) (length (state_of w).sent))
+      (last_of (was_sent w p carried from) (length (state_of w).sent)) h) low high
+
+  none_repeated : (pick : Pick) → HasNever w p pick → repeated w p pick ≡ None
+  unfolding last_so is_gone
+  none_repeated (Serial k) h = absurd h
+  none_repeated (First carried from) h =
+      ap (λ o. option_or o (last_of (was_sent w p carried from) (length (state_of w).sent)))
+      (last_none (is_gone w p carried from) (length (state_of w).sent)
+      (λ k low high. not_both (was_sent w p carried from k) _ (h k low high)))
+      ∙ last_none (was_sent w p carried from) (length (state_of w).sent) h
+
+  from_none : (set : List ℕ) → first_from w p set ≡ None → HasNoneFrom w p set
+  unfolding first_from
+  from_none set h = λ k q at is has.
+      contrary (is_of set (sender_of w k))
+      (ap (is_of set) is ∙ list_any-found (λ x. x == q) q set has (grind (arith, nat_tests)))
+      (none_passes (λ k. is_of set (sender_of w k)) (waiting_at w p) h k (waits_in k at))
+
+  of_none : (set : List ℕ) (k : ℕ) (o : Option ℕ) (b : Bool) → ((q : ℕ) → o ≡ Some q → IsIn q set → ⊥) → is_of set o ≡ b → b ≡ false
+  of_none set k None b h is = sym is
+  of_none set k (Some q) false h is = refl
+  of_none set k (Some q) true h is =
+      let f = found-list_any (λ x. x == q) set is in
+      absurd (h q refl (subst (λ x. IsIn x set) (eqb-true f.item q f.passes) f.is_in))
+
+  none_from : (set : List ℕ) → HasNoneFrom w p set → first_from w p set ≡ None
+  unfolding first_from
+  none_from set h =
+      none_found (λ k. is_of set (sender_of w k)) (waiting_at w p)
+      (λ k at. of_none set k (sender_of w k) (is_of set (sender_of w k)) (λ q is has. h k q (in_line k at) is has) refl)
+
+  -- ---- the step of an act
+
+  there_err : {A : Type 0} (pick : Pick) (o : Option ℕ) (f : ℕ → Result A LineFault) (e : LineFault) →
+      ((k : ℕ) → f k ≡ Err e → ⊥) → go_on (there p pick o) f ≡ Err e → o ≡ None
+  there_err pick None f e never h = refl
+  there_err pick (Some k) f e never h = absurd (never k h)
+
+  loss_err : (set : List ℕ) (o : Option ℕ) (e : LineFault) → first_loss p set o ≡ Err e → o ≡ None
+  loss_err set None e h = refl
+  loss_err set (Some k) e h = absurd (cc h)
+
+  pub not_there : (act : Act) (e : LineFault) → step_of w p act ≡ Err e → IsNotThere w p act
+  not_there (Receive pick) e h = picked_none pick (there_err pick (picked w p pick) (λ k. Ok (step.Receive p k)) e (λ k n. cc n) h)
+  not_there (Postpone pick) e h = picked_none pick (there_err pick (picked w p pick) (λ k. Ok (step.Postpone p k)) e (λ k n. cc n) h)
+  not_there (Lose pick) e h = picked_none pick (there_err pick (picked w p pick) (λ k. Ok (step.Lose p k)) e (λ k n. cc n) h)
+  not_there (Repeat pick) e h = repeated_none pick (there_err pick (repeated w p pick) (λ k. Ok (step.Repeat p k)) e (λ k n. cc n) h)
+  not_there (LoseFrom set) e h = from_none set (loss_err set (first_from w p set) e h)
+  not_there (Submit c) e h = cc h
+  not_there Begin e h = cc h
+  not_there Enter e h = cc h
+  not_there (Choose from) e h = cc h
+  not_there Adopt e h = cc h
+  not_there Suspect e h = cc h
+  not_there Conclude e h = cc h
+  not_there Deliver e h = cc h
+  not_there Follow e h = cc h
+  not_there Crash e h = cc h
+
+  -- the act comes to no step
+  abbrev pub IsStuck : Act → Type 0
+  IsStuck act = (e : LineFault) × (step_of w p act ≡ Err e)
+
+  pub stuck : (act : Act) → IsNotThere w p act → IsStuck act
+  stuck (Receive pick) h =
+      (fault.NotThere p pick, ap (λ o. go_on (there p pick o) (λ k. Ok (step.Receive p k))) (none_picked pick h))
+  stuck (Postpone pick) h =
+      (fault.NotThere p pick, ap (λ o. go_on (there p pick o) (λ k. Ok (step.Postpone p k))) (none_picked pick h))
+  stuck (Lose pick) h =
+      (fault.NotThere p pick, ap (λ o. go_on (there p pick o) (λ k. Ok (step.Lose p k))) (none_picked pick h))
+  stuck (Repeat pick) h =
+      (fault.NotThere p pick, ap (λ o. go_on (there p pick o) (λ k. Ok (step.Repeat p k))) (none_repeated pick h))
+  stuck (LoseFrom set) h = (fault.NoneFrom p set, ap (first_loss p set) (none_from set h))
+  stuck act h = absurd h
+
+-- ---- the cut
+
+across_if : (s : Played) (q k : ℕ) (b : Bool) (f : LineFault) → is_near s q k ≡ b → (if b then None else Some (fault.Across q k)) ≡ Some f →
+    is_near s q k ≡ false
+across_if s q k true f is h = absurd (cc h)
+across_if s q k false f is h = is
+
+is_across : (s : Played) (step : Step) (f : LineFault) → barred s step ≡ Some f → IsAcross s step
+is_across s (step.Receive q k) f h = across_if s q k (is_near s q k) f refl h
+is_across s _ f h = absurd (cc h)
+
+open_if : (s : Played) (q k : ℕ) (b : Bool) → is_near s q k ≡ b → (if b then None else Some (fault.Across q k)) ≡ None →
+    is_near s q k ≡ true
+open_if s q k true is h = is
+open_if s q k false is h = absurd (cc h)
+
+is_open : (s : Played) (step : Step) → barred s step ≡ None → IsOpen s step
+is_open s (step.Receive q k) h = open_if s q k (is_near s q k) refl h
+is_open s _ h = tt
+
+across_bars : (s : Played) (step : Step) → IsAcross s step → (f : LineFault) × (barred s step ≡ Some f)
+across_bars s (step.Receive q k) h = (fault.Across q k, ap (λ b. if b then None else Some (fault.Across q k)) h)
+across_bars s _ h = absurd h
+
+open_passes : (s : Played) (step : Step) → IsOpen s step → barred s step ≡ None
+open_passes s (step.Receive q k) h = ap (λ b. if b then None else Some (fault.Across q k)) h
+open_passes s _ h = refl
+
+-- ---- why an act is refused
+
+module _ (s : Played) (p : ℕ) (act : Act) (line : waiting_at s.rehearsal p ≡ line_of s.rehearsal p) where
+  -- the step is refused for this reason
+  step_for : (step : Step) (o : Option LineFault) (c : Option Refusal) (reason : Reason) → step_of s.rehearsal p act ≡ Ok step →
+      barred s step ≡ o → cause s.rehearsal step ≡ c → cause_text o c ≡ reason_text reason → IsRefusedFor s p act reason
+  step_for step o (Some refusal) reason is bars causes h =
+      subst (IsRefusedFor s p act) (same_reason (Rules refusal) reason h) (step, is, causes)
+  step_for step None None reason is bars causes h = not_allowed reason (sym h)
+  step_for step (Some f) None reason is bars causes h =
+      subst (IsRefusedFor s p act) (same_reason Across reason h) (step, is, (causes, is_across s step f bars))
+
+  refused_by : (r : Result Step LineFault) (reason : Reason) → step_of s.rehearsal p act ≡ r → act_cause s r ≡ reason_text reason →
+      IsRefusedFor s p act reason
+  unfolding step_cause
+  refused_by (Err e) reason is h =
+      subst (IsRefusedFor s p act) (same_reason NotThere reason h) (not_there s.rehearsal p line act e is)
+  refused_by (Ok step) reason is h = step_for step (barred s step) (cause s.rehearsal step) reason is refl refl h
+
+  pub refused_for : (reason : Reason) → act_cause s (step_of s.rehearsal p act) ≡ reason_text reason → IsRefusedFor s p act reason
+  refused_for reason h = refused_by (step_of s.rehearsal p act) reason refl h
+
+  pub for_refused : (reason : Reason) → IsRefusedFor s p act reason → act_cause s (step_of s.rehearsal p act) ≡ reason_text reason
+  unfolding step_cause
+  for_refused NotThere h = ap (act_cause s) (stuck s.rehearsal p line act h).1
+  for_refused Across h =
+      ap (act_cause s) h.1 ∙ ap (cause_text (barred s h.0)) h.2.0
+      ∙ ap (λ o. cause_text o None) (across_bars s h.0 h.2.1).1
+  for_refused (Rules refusal) h = ap (act_cause s) h.1 ∙ ap (cause_text (barred s h.0)) h.2
+
+  step_free : (step : Step) (o : Option LineFault) (c : Option Refusal) → step_of s.rehearsal p act ≡ Ok step →
+      barred s step ≡ o → cause s.rehearsal step ≡ c → cause_text o c ≡ codes "allowed" →
+      ComesTo s.rehearsal p act (λ step. (cause s.rehearsal step ≡ None) × IsOpen s step)
+  step_free step o (Some refusal) is bars causes h = not_allowed (Rules refusal) h
+  step_free step None None is bars causes h = (step, is, (causes, is_open s step bars))
+  step_free step (Some f) None is bars causes h = not_allowed Across h
+
+  free_by : (r : Result Step LineFault) → step_of s.rehearsal p act ≡ r → act_cause s r ≡ codes "allowed" →
+      ComesTo s.rehearsal p act (λ step. (cause s.rehearsal step ≡ None) × IsOpen s step)
+  unfolding step_cause
+  free_by (Err e) is h = not_allowed NotThere h
+  free_by (Ok step) is h = step_free step (barred s step) (cause s.rehearsal step) is refl refl h
+
+  pub may_so : act_cause s (step_of s.rehearsal p act) ≡ codes "allowed" →
+      ComesTo s.rehearsal p act (λ step. (cause s.rehearsal step ≡ None) × IsOpen s step)
+  may_so h = free_by (step_of s.rehearsal p act) refl h
+
+  pub so_may : ComesTo s.rehearsal p act (λ step. (cause s.rehearsal step ≡ None) × IsOpen s step) →
+      act_cause s (step_of s.rehearsal p act) ≡ codes "allowed"
+  unfolding step_cause
+  so_may h =
+      ap (act_cause s) h.1 ∙ ap (cause_text (barred s h.0)) h.2.0 ∙ ap (λ o. cause_text o None) (open_passes s h.0 h.2.1)
