@@ -4,3 +4,4 @@ pub mod Decimals
 pub mod Members
 pub mod Names
 pub mod Showing
+pub mod Steps

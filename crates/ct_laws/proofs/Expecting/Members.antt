@@ -158,7 +158,7 @@ once_waiting w p law =
 
 -- ---- what stands in a place
 
-abbrev place : Standing → ℕ × Phase
+abbrev pub place : Standing → ℕ × Phase
 place c = (c.round, c.phase)
 
 round_by : (w : Rehearsal) (p r : ℕ) (o : Option Standing) → IsLawful w → (member_of w p).current ≡ o →
@@ -184,7 +184,7 @@ module _ (w : Rehearsal) (p : ℕ) (member : IsMember w.setting.members p) where
   unfolding waiting_at
   line_is = ap (λ b. unwrap_or (if b then Some (line_of w p) else None) []) (is_there w.setting.members p member)
 
-  place_is : place_of w p ≡ option_map place (member_of w p).current
+  pub place_is : place_of w p ≡ option_map place (member_of w p).current
   place_is = of_group w p (option_map place (member_of w p).current) member
 
   heard_is : if_member w p (all_heard_by (member_of w p)) ≡ all_heard_by (member_of w p)

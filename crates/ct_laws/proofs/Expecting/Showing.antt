@@ -21,7 +21,7 @@ use Rattle.ct_model.specs.Lawful.{IsLawful}
 use Rattle.ct_model.specs.Next.{own_ballots}
 use Rattle.ct_model.specs.Received.{Heard as HeardOf, ballots, decided, estimate_from, estimate_of as estimate_in, heard_from}
 use Rattle.ct_model.specs.Rehearsal.{Rehearsal, empty, extended, state_of}
-use Rattle.ct_model.specs.State.{is_crashed}
+use Rattle.ct_model.specs.State.{delivered, is_crashed}
 use Rattle.ct_model.specs.declared.step.Step.{Step}
 use Rattle.ct_model.specs.declared.step.Step.TheVariants.{Choose}
 use Rattle.ct_model.specs.declared.wire.Wire.TheVariants.{Est}
@@ -53,6 +53,8 @@ use Rattle.ct_laws.specs.Places.{AreAllowed, EachIsAllowed, behind}
 use Rattle.ct_laws.specs.Showing.{AreMet, Claims, IsAt, IsEnough, IsOf, IsWhen, RefusesHeard}
 use Rattle.ct_laws.proofs.Deeds.{both_behind, nothing_behind}
 use Rattle.ct_laws.proofs.Expecting.Members.{holds_so, is_of_group, own_member, so_holds}
+use Rattle.ct_laws.proofs.Expecting.Steps.{before_so, chooses_so, concludes_so, follows_so, so_before, so_chooses, so_concludes, so_follows}
+use Rattle.ct_laws.proofs.Expecting.Steps.{none_of, not_true, or_first, or_last, so_suspects, suspects_so}
 use Rattle.ct_laws.proofs.Expecting.Acts.{none_found, none_passes}
 use Rattle.ct_laws.proofs.MemberFacts.{got_heard, is_there, of_group}
 use Rattle.ct_laws.proofs.Expecting.Names.{same_reason}
@@ -198,14 +200,22 @@ module _ (s : Played) (p : ℕ) (member : IsMember s.rehearsal.setting.members p
   says_so (claim.Amount what extent) law h = enough_so extent _ h
   says_so (claim.Got k) law h = got_by (decided (member_of s.rehearsal p).got k) h
   says_so (claim.RefusesChoice reason) law h = choice_so reason h
-  says_so _ law h = h
+  says_so (claim.Before one other) law h = before_so (delivered (member_of s.rehearsal p)) one other h
+  says_so claim.SuspectsUp law h = suspects_so s.rehearsal p member h
+  says_so (claim.Follows k) law h = follows_so s.rehearsal p k h
+  says_so claim.ChoosesUnseen law h = chooses_so s.rehearsal p member h
+  says_so claim.ConcludesAgain law h = concludes_so s.rehearsal p member h
 
   so_says : (c : Claim) → Claims s p c → says s p c ≡ true
   so_says (claim.Fact fact) h = so_holds s p fact member h
   so_says (claim.Amount what extent) h = so_enough extent _ h
   so_says (claim.Got k) h = ap (λ (o : Option Value). is_some o) h.1
   so_says (claim.RefusesChoice reason) h = so_choice reason h.0 h.1
-  so_says _ h = h
+  so_says (claim.Before one other) h = so_before (delivered (member_of s.rehearsal p)) one other h
+  so_says claim.SuspectsUp h = so_suspects s.rehearsal p member h.0 h.1
+  so_says (claim.Follows k) h = so_follows s.rehearsal p k h.0 h.1
+  so_says claim.ChoosesUnseen h = so_chooses s.rehearsal p member h.0 h.1 h.2
+  so_says claim.ConcludesAgain h = so_concludes s.rehearsal p member h.0 h.1
 
 true_by : (s : Played) (p : ℕ) (c : Claim) (b : Bool) → is_member s.rehearsal.setting.members p ≡ b → IsLawful s.rehearsal →
     (if b then says s p c else false) ≡ true → IsMember s.rehearsal.setting.members p × Claims s p c
@@ -232,14 +242,6 @@ none_is (Some k) h = absurd (cc h)
 not_false : (b : Bool) → not b ≡ false → b ≡ true
 not_false true h = refl
 not_false false h = absurd (cc h)
-
-not_true : (b : Bool) → not b ≡ true → b ≡ false
-not_true true h = absurd (cc h)
-not_true false h = refl
-
-none_of : (b : Bool) → not (b && false) ≡ true
-none_of true = refl
-none_of false = refl
 
 all_none : (s : Played) (c : Claim) (ps : List ℕ) → is_none (find (λ p. not (is_true_of s p c)) ps) ≡ true → (p : ℕ) → IsIn p ps →
     is_true_of s p c ≡ true
@@ -326,14 +328,6 @@ unfolding was_seen
 seen s term zero h = record { steps = 0; few = omega arith; holds = h }
 seen s term (suc n) h = seen_if s term n (was_seen s term n) refl h (seen s term n)
 
-first_or : (a b : Bool) → a ≡ true → (a || b) ≡ true
-first_or true b h = refl
-first_or false b h = absurd (cc h)
-
-last_or : (a b : Bool) → b ≡ true → (a || b) ≡ true
-last_or true b h = refl
-last_or false b h = h
-
 is_zero : (k : ℕ) → k ≤ 0 → 0 ≡ k
 is_zero zero h = refl
 is_zero (suc k) h = absurd (omega (arith, h))
@@ -342,9 +336,9 @@ was : (s : Played) (term : Term) (n k : ℕ) → k ≤ n → holds_at (first_par
 unfolding was_seen
 was s term zero k h holds = ap (λ i. holds_at (first_part s i) term) (is_zero k h) ∙ holds
 was s term (suc n) k h holds = elim (eq-or-lt_of_le h) [
-  | inl same ↦ last_or (was_seen s term n) (holds_at (first_part s (suc n)) term)
+  | inl same ↦ or_last (was_seen s term n) (holds_at (first_part s (suc n)) term)
       (sym (ap (λ i. holds_at (first_part s i) term) same) ∙ holds)
-  | inr less ↦ first_or (was_seen s term n) (holds_at (first_part s (suc n)) term) (was s term n k (omega (arith, less)) holds)
+  | inr less ↦ or_first (was_seen s term n) (holds_at (first_part s (suc n)) term) (was s term n k (omega (arith, less)) holds)
 ]
 
 ever_so : (s : Played) (term : Term) → EachIsAllowed s.rehearsal → IsSeen s term (length s.rehearsal.steps) → IsWhen Ever s term
