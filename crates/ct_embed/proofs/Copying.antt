@@ -1,6 +1,6 @@
 -- A record each of whose steps is allowed after those before it: it grows by such a step, and its replay is refused for no cause.
-use Rattle.std.proofs.Common.{◌≡◌, ◌⊎◌, ℕ, zero, suc, ◌+◌, ◌<◌, List, [], ◌∷◌, ◌++◌, length, get_or, take, Some, None, sym, ap, ap₂, ◌∙◌, subst, arith}
-use Rattle.std.proofs.Common.{inl, inr}
+use Rattle.std.proofs.Common.{◌≡◌, ◌⊎◌, ℕ, zero, suc, ◌+◌, ◌<◌, List, [], ◌∷◌, ◌++◌, length, get_or, take, Some, None}
+use Rattle.std.proofs.Common.{inl, inr, sym, ap, ap₂, ◌∙◌, subst, arith}
 use Rattle.std.specs.Prelude.{slice_get, unwrap_or, Result, Ok, Err, OnOk, OnErr, IfOk}
 use Rattle.std.proofs.lemmas.Bool.{cases_lt}
 use Rattle.std.proofs.lemmas.List.{length-append, take-append-le, take_all}
@@ -24,7 +24,8 @@ none_yet s cells k step low at = absurd (omega (arith, low))
 
 same_steps : (w : Rehearsal) (steps : List Step) (step : Step) → steps ≡ w.steps → cause w step ≡ None →
     cause (record { setting = w.setting; cells = w.cells; steps = steps }) step ≡ None
-same_steps w steps step e allowed = subst (λ l. cause (record { setting = w.setting; cells = w.cells; steps = l }) step ≡ None) (sym e) allowed
+same_steps w steps step e allowed =
+    subst (λ l. cause (record { setting = w.setting; cells = w.cells; steps = l }) step ≡ None) (sym e) allowed
 
 pub one_more : (w : Rehearsal) (step : Step) → AllowsFirst w.setting w.cells w.steps (length w.steps) → cause w step ≡ None →
     AllowsFirst w.setting w.cells (w.steps ++ step ∷ []) (length (w.steps ++ step ∷ []))
@@ -58,8 +59,8 @@ spared_all s cells steps (suc i) refusal allowed h =
     let there : slice_get steps i ≡ Some step = nth_read steps i (Submit 0 (Set 0 0)) h.within in
     spared (first_steps s cells steps i) step refusal (allowed i step h.within there) (h.refused step there)
 
-grown : (w new : Rehearsal) (step : Step) → AllowsFirst w.setting w.cells w.steps (length w.steps) → cause w step ≡ None → new ≡ extended w step →
-    AllowsFirst new.setting new.cells new.steps (length new.steps)
+grown : (w new : Rehearsal) (step : Step) → AllowsFirst w.setting w.cells w.steps (length w.steps) → cause w step ≡ None →
+    new ≡ extended w step → AllowsFirst new.setting new.cells new.steps (length new.steps)
 grown w new step before now joined = subst (λ (v : Rehearsal). AllowsFirst v.setting v.cells v.steps (length v.steps)) (sym joined)
     (one_more w step before now)
 
