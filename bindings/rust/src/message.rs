@@ -17,7 +17,7 @@ pub enum Command {
 impl Command {
     /// The command by its numbers of ct.h: its kind, its register, and the rest.
     #[inline]
-    pub(crate) fn numbers(self) -> (u32, u8, u64) {
+    pub(crate) fn numbers(self) -> (u8, u8, u64) {
         match self {
             Command::Set(register, value) => (1, register, value),
             Command::Add(register, amount) => (2, register, amount),

@@ -6,7 +6,6 @@ use std::fmt;
 
 /// One step of a member, which stands first. docs/ALGORITHM.md says what each does.
 #[derive(Clone, Copy, Debug, PartialEq, Eq, Hash)]
-#[repr(u8)]
 pub enum Step {
     /// Broadcasts a message with this command.
     Submit(MemberNumber, Command),
@@ -46,33 +45,33 @@ const NAMES: [&str; 14] = [
 
 impl Step {
     /// The member that takes it.
-    #[inline]
     pub fn member(self) -> MemberNumber {
-        match self {
-            Step::Submit(member, _) | Step::Choose(member, _) => member,
-            Step::Receive(member, _) | Step::Postpone(member, _) | Step::Lose(member, _) | Step::Repeat(member, _) => member,
-            Step::Begin(member) | Step::Enter(member) | Step::Adopt(member) | Step::Suspect(member) => member,
-            Step::Conclude(member) | Step::Deliver(member) | Step::Follow(member) | Step::Crash(member) => member,
-        }
+        self.numbers().member
     }
 
-    /// The number of its kind in ct.h: its place among the steps, from 1.
-    #[inline]
-    fn kind(self) -> u8 {
-        // `repr(u8)` has that place, from 0, stand first.
-        unsafe { *(&self as *const Step).cast::<u8>() + 1 }
-    }
-
-    /// The step by its numbers of ct.h. Kind and member stand at one place in every step, so they are read without a branch.
+    /// The step by its numbers of ct.h.
     #[inline]
     pub(crate) fn numbers(self) -> raw::Step {
-        let (a, b, c) = match self {
-            Step::Submit(_, command) => command.numbers(),
-            Step::Receive(_, serial) | Step::Postpone(_, serial) | Step::Lose(_, serial) | Step::Repeat(_, serial) => (serial, 0, 0),
-            Step::Choose(_, from) => (u32::from(from), 0, 0),
-            _ => (0, 0, 0),
-        };
-        raw::Step { c, a, b, kind: self.kind(), member: self.member() }
+        let of = |kind, member, a| raw::Step { kind, member, a, ..raw::Step::default() };
+        match self {
+            Step::Submit(member, command) => {
+                let (a, b, c) = command.numbers();
+                raw::Step { kind: 1, member, a: u32::from(a), b, c }
+            }
+            Step::Receive(member, serial) => of(2, member, serial),
+            Step::Begin(member) => of(3, member, 0),
+            Step::Enter(member) => of(4, member, 0),
+            Step::Choose(member, from) => of(5, member, u32::from(from)),
+            Step::Adopt(member) => of(6, member, 0),
+            Step::Suspect(member) => of(7, member, 0),
+            Step::Conclude(member) => of(8, member, 0),
+            Step::Deliver(member) => of(9, member, 0),
+            Step::Follow(member) => of(10, member, 0),
+            Step::Crash(member) => of(11, member, 0),
+            Step::Postpone(member, serial) => of(12, member, serial),
+            Step::Lose(member, serial) => of(13, member, serial),
+            Step::Repeat(member, serial) => of(14, member, serial),
+        }
     }
 
     /// The step of these numbers, which the library wrote; None where they say that there is none.
