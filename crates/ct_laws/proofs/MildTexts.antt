@@ -51,12 +51,12 @@ first_mild list n =
     mild (Mild (Shapes.names_text (take n list)) ∷ Fixed (codes " and ") ∷ Number (length list - n) ∷ Fixed (codes " more") ∷ [])
     (names_mild (take n list), (refl, (refl, tt)))
 
-shortened_mild : (list : List Message) → IsMild (Shapes.shortened list)
+shortened_mild : (messages : List Message) → IsMild (Shapes.shortened messages)
 unfolding Shapes.shortened
-shortened_mild list =
-    if_mild (nat_le (length list) 8) (Shapes.names_text list)
-    (concat (Shapes.names_text (take 8 list) ∷ codes " and " ∷ decimal (length list - 8) ∷ codes " more" ∷ [])) (names_mild list)
-    (first_mild list 8)
+shortened_mild messages =
+    if_mild (nat_le (length messages) 8) (Shapes.names_text messages)
+    (concat (Shapes.names_text (take 8 messages) ∷ codes " and " ∷ decimal (length messages - 8) ∷ codes " more" ∷ []))
+    (names_mild messages) (first_mild messages 8)
 
 set_mild : (list : List Message) → IsMild (Shapes.set_text list)
 unfolding Shapes.set_text
