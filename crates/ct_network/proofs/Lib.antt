@@ -2,3 +2,4 @@ pub mod Posts
 pub mod Waiting
 pub mod Joins
 pub mod Readings
+pub mod Packing

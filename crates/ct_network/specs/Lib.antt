@@ -1,3 +1,5 @@
+pub mod Packed
+pub mod EnvelopeList
 pub mod WaitingLine
 pub mod Network
 pub mod Lines

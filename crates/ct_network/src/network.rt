@@ -9,6 +9,7 @@ mod moving;
 mod preparing;
 mod sending;
 
+use crate::envelopes::Envelopes;
 use crate::line::Line;
 use crate::lines;
 use ct_model::Envelope;
@@ -19,14 +20,14 @@ use std::marker::Model;
 /// The network of a group: every envelope that was sent, and the serials that wait at each member.
 #[derive(Drop)]
 pub struct Network {
-    envelopes: Vec<Envelope>,
+    envelopes: Envelopes,
     lines: Vec<Line>,
     // So many more serials can join each line without memory, and perhaps more.
     spare: usize,
 }
 
 impl Model for Network {
-    ghost use Rattle.std.specs.Prelude.{◌-◌, ◌&&◌, nat_le, nat_lt, length, vec_len, vec_capacity};
+    ghost use Rattle.std.specs.Prelude.{◌&&◌, nat_le, nat_lt, length};
     ghost use Rattle.ct_network.specs.Lines.{serials_of, HaveRoom};
     ghost use Rattle.ct_network.specs.Network.{NetworkView};
 
@@ -35,7 +36,7 @@ impl Model for Network {
     ghost view = { λ a. record {
       sent = a.envelopes.items;
       lines = serials_of a.lines.items;
-      has_room = nat_le (length a.lines.items) (vec_capacity a.envelopes - vec_len a.envelopes) && nat_lt 0 a.spare;
+      has_room = nat_le (length a.lines.items) a.envelopes.room && nat_lt 0 a.spare;
     } };
 
     ghost invariant = { λ a. HaveRoom a.lines.items a.spare };
@@ -48,7 +49,7 @@ impl Network {
         ensures lines { IfOk result (λ network. network.lines ≡ replicate members []) }
     {
         Ok(Network {
-            envelopes: Vec::new(alloc),
+            envelopes: Envelopes::new(alloc),
             lines: lines::new_lines(alloc, members)?,
             spare: 0,
         })
@@ -60,7 +61,7 @@ impl Network {
         ensures lines { IfOk result (λ network. network.lines ≡ self.now.lines) }
     {
         Ok(Network {
-            envelopes: Vec::from_slice(alloc, &self.envelopes)?,
+            envelopes: self.envelopes.copy(alloc)?,
             lines: lines::copy_lines(alloc, &self.lines)?,
             spare: 0,
         })
@@ -81,11 +82,12 @@ impl Network {
     }
 
     /// The envelope with this serial. None where none was sent.
+    #[inline(always)]
     pub fn envelope(&self, serial: Serial) -> Option<Envelope>
         ensures { result ≡ at_serial self.now.sent serial }
     {
         let at = (serial as usize).checked_sub(1)?;
-        self.envelopes.get(at).copied()
+        self.envelopes.get(at)
     }
 
     /// The serials that wait at the member, in order. None where there is no such member.

@@ -14,7 +14,7 @@ impl Network {
     pub fn has_room(&self) -> bool
         ensures { result ≡ self.now.has_room }
     {
-        self.envelopes.capacity() - self.envelopes.len() >= self.lines.len() && self.spare > 0
+        self.envelopes.room() >= self.lines.len() && self.spare > 0
     }
 
     /// Makes room for what one step sends. Where memory is refused that room was missing. What was sent and what waits
@@ -26,7 +26,7 @@ impl Network {
         ensures sent { self.new.sent ≡ self.old.sent }
         ensures lines { self.new.lines ≡ self.old.lines }
     {
-        self.envelopes.reserve(self.lines.len())?;
+        self.envelopes.make_room(self.lines.len())?;
         if self.spare == 0 {
             lines::make_room(&mut self.lines, AHEAD)?;
             self.spare = AHEAD;

@@ -1,6 +1,6 @@
 //! Mail is sent: its envelopes get the next serials, and these come to the ends of the lines.
 
-ghost use Rattle.std.specs.Prelude.{◌≡◌, ℕ, ◌+◌, ◌-◌, ◌<◌, ◌≤◌, ◌++◌, true, length, IsTrue, vec_len, vec_capacity};
+ghost use Rattle.std.specs.Prelude.{◌≡◌, ℕ, ◌+◌, ◌-◌, ◌<◌, ◌≤◌, ◌++◌, true, length, IsTrue};
 ghost use Rattle.ct_names.specs.Group.{is_member};
 ghost use Rattle.ct_model.specs.Waiting.{serials_to};
 ghost use Rattle.ct_model.specs.Wire.{envelopes};
@@ -8,9 +8,10 @@ ghost use Rattle.ct_model.specs.declared.mail.Mail.TheVariants.{One, All};
 ghost use Rattle.ct_network.specs.Lines.{serials_of, HaveRoom};
 ghost use Rattle.ct_network.specs.Network.{line_at, IsAddressed};
 
+use crate::envelopes::Envelopes;
 use crate::line::Line;
 use crate::network::Network;
-use ct_model::{Envelope, Mail, Wire};
+use ct_model::{Mail, Wire};
 use ct_names::{MAX_ENVELOPES, MAX_MEMBERS, Member};
 
 impl Network {
@@ -44,11 +45,11 @@ impl Network {
 }
 
 // The wire goes to this member: an envelope is sent, and its serial joins the member's line.
-fn send_one(sent: &mut Vec<Envelope>, lines: &mut Vec<Line>, to: Member, wire: Wire)
+fn send_one(sent: &mut Envelopes, lines: &mut Vec<Line>, to: Member, wire: Wire)
     requires room { HaveRoom lines.old.items 1 }
-    requires capacity { vec_len sent.old < vec_capacity sent.old }
+    requires place { 0 < sent.old.room }
     requires to { is_member (length lines.old.items) to ≡ true }
-    requires few { vec_len sent.old < MAX_ENVELOPES }
+    requires few { length sent.old.items < MAX_ENVELOPES }
     ensures sent { sent.new.items ≡ sent.old.items ++ envelopes (length lines.old.items) (One to wire) }
     ensures members { length lines.new.items ≡ length lines.old.items }
     ensures room { (least : ℕ) → HaveRoom lines.old.items least → HaveRoom lines.new.items (least - 1) }
@@ -56,16 +57,16 @@ fn send_one(sent: &mut Vec<Envelope>, lines: &mut Vec<Line>, to: Member, wire: W
         line_at (serials_of lines.new.items) q ≡ line_at (serials_of lines.old.items) q
         ++ serials_to q (length sent.old.items) (envelopes (length lines.old.items) (One to wire)) }
 {
-    let _ = sent.push(Envelope { to, wire });
+    sent.add_one(to, wire);
     let line = &mut lines[to as usize - 1];
     line.join(sent.len() as u32);
 }
 
 // The wire goes to each member in turn: an envelope is sent, and its serial joins the member's line.
-fn send_to_all(sent: &mut Vec<Envelope>, lines: &mut Vec<Line>, wire: Wire)
+fn send_to_all(sent: &mut Envelopes, lines: &mut Vec<Line>, wire: Wire)
     requires room { HaveRoom lines.old.items 1 }
-    requires capacity { vec_len sent.old + length lines.old.items ≤ vec_capacity sent.old }
-    requires few { vec_len sent.old + length lines.old.items ≤ MAX_ENVELOPES }
+    requires places { length lines.old.items ≤ sent.old.room }
+    requires few { length sent.old.items + length lines.old.items ≤ MAX_ENVELOPES }
     requires small { length lines.old.items ≤ MAX_MEMBERS }
     ensures sent { sent.new.items ≡ sent.old.items ++ envelopes (length lines.old.items) (All wire) }
     ensures members { length lines.new.items ≡ length lines.old.items }
@@ -74,14 +75,10 @@ fn send_to_all(sent: &mut Vec<Envelope>, lines: &mut Vec<Line>, wire: Wire)
         line_at (serials_of lines.new.items) q ≡ line_at (serials_of lines.old.items) q
         ++ serials_to q (length sent.old.items) (envelopes (length lines.old.items) (All wire)) }
 {
-    // Each envelope gets a copy.
-    let wire = &wire;
+    let before = sent.len() as u32;
+    sent.add_all(lines.len() as u8, wire);
     for i in 0..lines.len() {
-        let _ = sent.push(Envelope {
-            to: i as u8 + 1,
-            wire: *wire,
-        });
         let line = &mut lines[i];
-        line.join(sent.len() as u32);
+        line.join(before + i as u32 + 1);
     }
 }

@@ -11,7 +11,7 @@ send_to_all-requires-clause-few c =
     let sent : length now.sent ≡ length c.self.inside.envelopes.items = ap (λ (v : NetworkView). length v.sent) (sym c.self.view_is) in
     let lines : length now.lines ≡ length c.self.inside.lines.items =
     ap (λ (v : NetworkView). length v.lines) (sym c.self.view_is) ∙ length-map c.self.inside.lines.items (λ l. l.serials) in
-    omega (arith, c.requires.few, length-all (length now.lines) c.args.mail c.in-All.wire c.in-All.is, c.self.inside.envelopes.ok.0)
+    omega (arith, c.requires.few, length-all (length now.lines) c.args.mail c.in-All.wire c.in-All.is)
 
 pub returns-in-All-clause-number : goal.returns-in-All-clause-number
 returns-in-All-clause-number c =

@@ -1,7 +1,4 @@
-use Rattle.std.proofs.Common.{◌≡◌, ℕ, ◌+◌, ◌-◌, ◌≤◌, ◌++◌, length, get_or, vec_len}
-use Rattle.std.specs.Prelude.{vec_capacity}
-use Rattle.ct_model.specs.Wire.{envelopes}
-use Rattle.ct_model.specs.declared.mail.Mail.TheVariants.{All}
+use Rattle.std.proofs.Common.{◌≡◌, ℕ, ◌-◌, ◌≤◌, length, get_or}
 use Rattle.ct_network.specs.WaitingLine.{WaitingLine}
 use Rattle.ct_network.specs.Lines.{HaveFirstRoom, HaveRoom}
 use Rattle.ct_network.proofs.Joins.{HaveJoined}
@@ -9,11 +6,8 @@ use Rattle.ct_network.proofs.network.sending.send_to_all.Given as goal
 
 abbrev pub invariant-loop-i : goal.invariant-loop-i
 invariant-loop-i l = record {
-  sent : l.sent.items ≡ l.fn.sent.items ++ envelopes l.i (All l.wire);
-  capacity : vec_capacity l.fn.sent ≤ vec_capacity l.sent;
-  number : vec_len l.sent ≡ vec_len l.fn.sent + l.i;
   as_many : length l.lines.items ≡ length l.fn.lines.items;
-  done : HaveJoined l.fn.lines.items l.lines.items (length l.fn.sent.items) l.i;
+  done : HaveJoined l.fn.lines.items l.lines.items l.before l.i;
   room : (least : ℕ) → HaveRoom l.fn.lines.items least → HaveFirstRoom l.i l.lines.items (least - 1);
   rest : (k : ℕ) (d : WaitingLine) → l.i ≤ k → get_or l.lines.items k d ≡ get_or l.fn.lines.items k d;
 }
