@@ -1,209 +1,189 @@
--- What stays as it is when one more is taken: what the marks cover and the others are what was taken.
-use Rattle.std.proofs.Common.{◌≡◌, ℕ, ◌+◌, ◌<◌, ◌≤◌, Bool, true, false, not, cond, List, [], ◌∷◌, ◌++◌, refl, sym, ap, ◌∙◌, subst}
-use Rattle.std.proofs.Common.{inl, inr, ◌⊎◌, ◌==◌, eqb-true, le_trans, arith, max, slice_index}
+-- What stays as it is when one more is taken, and when the marks cover more numbers.
+use Rattle.std.proofs.Common.{◌≡◌, ℕ, ◌+◌, ◌≤◌, Bool, true, false, ◌||◌, List, [], ◌∷◌, ◌++◌, Option, Some, None, refl, sym, ap, ◌∙◌}
+use Rattle.std.proofs.Common.{inl, inr, ◌⊎◌, arith, length, get_or, zero, suc, true≢false}
+use Rattle.std.specs.Prelude.{option_map, replicate, unwrap_or}
 use Rattle.std.specs.List.{list_any}
-use Rattle.std.proofs.lemmas.Bool.{eqb-false}
-use Rattle.ct_names.specs.Membership.{IsIn}
-use Rattle.ct_names.proofs.Lists
-use Rattle.ct_relay.specs.declared.firsts.TheConstants.{ORIGINS}
+use Rattle.std.proofs.lemmas.List.Folds.{list_any-append}
+use Rattle.std.proofs.lemmas.List.{length-append, length-replicate, get_or_past}
+use Rattle.std.proofs.lemmas.Bool.Decides.{nat_tests}
+use Rattle.ct_names.specs.MemberSet.{has_member}
 use Rattle.ct_relay.specs.declared.relay_id.RelayId.{RelayId}
 use Rattle.ct_relay.specs.declared.relay_id.RelayId.TheVariants.{Data, Dec}
 use Rattle.ct_relay.specs.Taken.{is_id, with_id}
-use Rattle.ct_relay.specs.Marks.{Marks, StaysElsewhere, IsCovered, HasLost, IsKept}
-use Rattle.ct_relay.proofs.Receipts.{found-in, once-last, out, was-in, still-in}
+use Rattle.ct_relay.specs.Marks.{covers, told, covers_id, told_of, with_mark_of, IsKept}
+use Rattle.ct_relay.proofs.Receipts.{once-last, out, same-is_id}
+use Rattle.ct_relay.proofs.Marked.{or-false, told-with_mark}
 
-module _ (order : List RelayId) (marks : Marks) (others : List RelayId) (kept : IsKept order marks others) where
-  -- a message was taken: the mark `last` of its origin is no longer below its number
-  module _ (seen : Marks) (origin number : ℕ)
-      (here : origin < ORIGINS → slice_index seen.last origin ≡ max (slice_index marks.last origin) number)
-      (elsewhere : StaysElsewhere origin marks.last seen.last) where
-    grown : (o : ℕ) → o < ORIGINS → slice_index marks.last o ≤ slice_index seen.last o
-    grown o small = grind (arith, slice_index marks.last o, slice_index marks.last origin, slice_index seen.last origin)
+-- one more comes last
+added : (ids : List RelayId) (id x : RelayId) → list_any (is_id x) (ids ++ id ∷ []) ≡ (list_any (is_id x) ids || is_id x id)
+added ids id x = list_any-append (is_id x) ids (id ∷ []) ∙ ap (λ b. list_any (is_id x) ids || b) (sym (or-false (is_id x id)))
 
-    within-seen : (o n : ℕ) → o < ORIGINS → IsIn (Data o n) (order ++ Data origin number ∷ []) → n ≤ slice_index seen.last o
-    within-seen o n small there = by (Lists.IsIn-append_cases (Data o n) order (Data origin number ∷ []) there)
-      where
-        by : IsIn (Data o n) order ⊎ IsIn (Data o n) (Data origin number ∷ []) → n ≤ slice_index seen.last o
-        by (inl before) = le_trans (kept.within o n small before) (grown o small)
-        by (inr (inl e)) = grind (arith, slice_index seen.last origin)
-        by (inr (inr none)) = absurd none
+some-same : (a b : Bool) → Some a ≡ Some b → b ≡ a
+some-same a b e = sym (ap (λ t. unwrap_or t false) e)
 
-    -- it is the next one: the mark `all` is raised
-    module _ (raised : Marks) (through : ℕ) (absent : IsIn (Data origin number) order → ⊥) (small : origin < ORIGINS)
-        (next : number ≡ slice_index marks.all origin + 1) (same : seen.all ≡ marks.all)
-        (all_here : slice_index raised.all origin ≡ through) (all_elsewhere : StaysElsewhere origin seen.all raised.all)
-        (last_same : raised.last ≡ seen.last) (least : number ≤ through)
-        (follow : (k : ℕ) → number < k → k ≤ through → IsIn (Data origin k) others) where
-      abbrev it : List RelayId
-      it = Data origin number ∷ []
+some-none : (a : Bool) → Some a ≡ None → ⊥
+some-none a e = absurd (cc)
 
-      before : (id : RelayId) → IsIn id order → IsIn id (order ++ it)
-      before id there = Lists.IsIn-append_left id order it there
+-- what is covered is told of, and nothing else is
+uncovered-none : (marks : List (List ℕ)) (id : RelayId) → covers_id marks id ≡ false → told_of marks id ≡ None
+uncovered-none marks (Data origin number) e = rw e refl
+uncovered-none marks (Dec instance round) e = refl
 
-      all-elsewhere : (o : ℕ) → (o == origin) ≡ false → slice_index raised.all o ≡ slice_index marks.all o
-      all-elsewhere o e = all_elsewhere o (eqb-false o origin e) ∙ ap (λ all. slice_index all o) same
+covered-some : (marks : List (List ℕ)) (id : RelayId) → covers_id marks id ≡ true → told_of marks id ≡ None → ⊥
+covered-some marks (Data origin number) e none = some-none _ (rw e at none)
+covered-some marks (Dec instance round) e none = true≢false (sym e)
 
-      at_origin : (n : ℕ) → 1 ≤ n → n ≤ through → (n < number) ⊎ (n ≡ number) ⊎ (number < n) → IsIn (Data origin n) (order ++ it)
-      at_origin n least_one most (inl below) = before (Data origin n) (kept.covered_taken (Data origin n) (small, least_one, omega arith))
-      at_origin n least_one most (inr (inl is)) = rw is (Lists.IsIn-append_right (Data origin number) order it (inl refl))
-      at_origin n least_one most (inr (inr above)) = before (Data origin n) (kept.others_taken (Data origin n) (follow n above most))
+same-marks : (marks : List (List ℕ)) (id : RelayId) → covers_id marks id ≡ false → with_mark_of marks id ≡ marks
+same-marks marks (Data origin number) e = rw e refl
+same-marks marks (Dec instance round) e = refl
 
-      covered-raised : (id : RelayId) → IsCovered raised id → IsIn id (order ++ it)
-      covered-raised (Dec instance round) covered = absurd covered
-      covered-raised (Data o n) covered = at (o == origin) refl
-        where
-          at : (b : Bool) → (o == origin) ≡ b → IsIn (Data o n) (order ++ it)
-          at true e =
-              let o_same : o ≡ origin = eqb-true o origin e in
-              let most : n ≤ through = omega (arith, covered.2, ap (λ x. slice_index raised.all x) o_same, all_here) in
-              rw o_same (at_origin n covered.1 most (grind arith))
-          at false e = before (Data o n) (kept.covered_taken (Data o n) (covered.0, covered.1, omega (arith, covered.2, all-elsewhere o e)))
+-- of two messages of which one is told of, the other is another
+apart : (marks : List (List ℕ)) (id x : RelayId) (b : Bool) → covers_id marks id ≡ true → told_of marks x ≡ None → is_id x id ≡ b →
+    b ≡ false
+apart marks id x false covered none e = refl
+apart marks id x true covered none e =
+    absurd (covered-some marks id covered (ap (told_of marks) (sym (same-is_id x id e)) ∙ none))
 
-      still-covered : (id : RelayId) → IsCovered marks id → IsCovered raised id
-      still-covered (Dec instance round) covered = covered
-      still-covered (Data o n) covered = (covered.0, covered.1, at (o == origin) refl)
-        where
-          at : (b : Bool) → (o == origin) ≡ b → n ≤ slice_index raised.all o
-          at true e = grind (arith, eqb-true o origin e)
-          at false e = omega (arith, covered.2, all-elsewhere o e)
+other-apart : (marks : List (List ℕ)) (id x : RelayId) (b t : Bool) → covers_id marks id ≡ false → told_of marks x ≡ Some t →
+    is_id x id ≡ b → b ≡ false
+other-apart marks id x false t uncovered some e = refl
+other-apart marks id x true t uncovered some e =
+    absurd (some-none t (sym some ∙ ap (told_of marks) (same-is_id x id e) ∙ uncovered-none marks id uncovered))
 
-      kept-raised : (id : RelayId) → IsIn id order ⊎ IsIn id it → IsIn id others ⊎ IsCovered raised id
-      kept-raised id (inl there) = elim (kept.kept id there) [ inl i ↦ inl i | inr covered ↦ inr (still-covered id covered) ]
-      kept-raised id (inr (inl is)) = inr (subst (IsCovered raised) (sym is) (small, omega arith, omega arith))
-      kept-raised id (inr (inr none)) = absurd none
+or-kept : (a b c : Bool) → (a ≡ true → b ≡ true) → (a || c) ≡ true → (b || c) ≡ true
+or-kept true b c k e = rw (k refl) refl
+or-kept false true c k e = refl
+or-kept false false c k e = e
 
-      pub raised-kept : IsKept (order ++ Data origin number ∷ []) raised others
-      raised-kept = record {
-        once = once-last order (Data origin number) absent kept.once;
-        others_taken = λ id there. before id (kept.others_taken id there);
-        covered_taken = covered-raised;
-        kept = λ id there. kept-raised id (Lists.IsIn-append_cases id order it there);
-        within = λ o n o_small there. subst (λ last. n ≤ slice_index last o) (sym last_same) (within-seen o n o_small there);
-      }
+absorbed : (a b : Bool) → (b ≡ true → a ≡ true) → (a || b) ≡ a
+absorbed true b k = refl
+absorbed false true k = sym (k refl)
+absorbed false false k = refl
 
-  -- it stands with the others
-  module _ (id : RelayId) (absent : IsIn id order → ⊥) (seen : Marks) (same : seen.all ≡ marks.all)
-      (within : (o n : ℕ) → o < ORIGINS → IsIn (Data o n) (order ++ id ∷ []) → n ≤ slice_index seen.last o) where
+module _ (order : List RelayId) (marks : List (List ℕ)) (others : List RelayId) (kept : IsKept order marks others) (id : RelayId)
+    (first : list_any (is_id id) order ≡ false) where
+  -- it is covered, and leaves the others as they are
+  module _ (covered : covers_id marks id ≡ true) where
+    covered-marked : (x : RelayId) (b : Bool) (t : Option Bool) → told_of marks x ≡ t → option_map (λ a. a || is_id x id) t ≡ Some b →
+        b ≡ list_any (is_id x) (order ++ id ∷ [])
+    covered-marked x b None is e = absurd (cc)
+    covered-marked x b (Some a) is e =
+        some-same (a || is_id x id) b e ∙ ap (λ l. l || is_id x id) (kept.covered x a is) ∙ sym (added order id x)
+
+    still-none : (x : RelayId) (t : Option Bool) → option_map (λ a. a || is_id x id) t ≡ None → t ≡ None
+    still-none x None e = refl
+    still-none x (Some a) e = absurd (cc)
+
+    uncovered-marked : (x : RelayId) → told_of marks x ≡ None → list_any (is_id x) others ≡ list_any (is_id x) (order ++ id ∷ [])
+    uncovered-marked x none =
+        kept.uncovered x none
+        ∙ sym (added order id x ∙ ap (λ i. list_any (is_id x) order || i) (apart marks id x (is_id x id) covered none refl)
+        ∙ sym (or-false _))
+
+    pub marked-kept : IsKept (order ++ id ∷ []) (with_mark_of marks id) others
+    marked-kept = record {
+      once = once-last order id (out order id first) kept.once;
+      taken = λ x there. added order id x ∙ ap (λ l. l || is_id x id) (kept.taken x there);
+      covered = λ x b e. covered-marked x b (told_of marks x) refl (sym (told-with_mark marks id x) ∙ e);
+      uncovered = λ x e. uncovered-marked x (still-none x (told_of marks x) (sym (told-with_mark marks id x) ∙ e));
+    }
+
+  -- it is not covered, and stands with the others
+  module _ (uncovered : covers_id marks id ≡ false) where
     not-other : with_id others id ≡ others ++ id ∷ []
-    not-other = at (list_any (is_id id) others) refl
-      where
-        at : (b : Bool) → list_any (is_id id) others ≡ b → cond (not b) (others ++ id ∷ []) others ≡ others ++ id ∷ []
-        at true found = absurd (absent (kept.others_taken id (found-in others id found)))
-        at false missing = refl
+    not-other = rw (kept.uncovered id (uncovered-none marks id uncovered) ∙ first) refl
 
-    covered-seen : (x : RelayId) → IsCovered marks x → IsCovered seen x
-    covered-seen (Dec instance round) covered = covered
-    covered-seen (Data o n) covered = (covered.0, covered.1, omega (arith, covered.2, ap (λ all. slice_index all o) same))
+    covered-other : (x : RelayId) (b : Bool) → told_of marks x ≡ Some b → b ≡ list_any (is_id x) (order ++ id ∷ [])
+    covered-other x b e =
+        kept.covered x b e
+        ∙ sym (added order id x ∙ ap (λ i. list_any (is_id x) order || i) (other-apart marks id x (is_id x id) b uncovered e refl)
+        ∙ sym (or-false _))
 
-    seen-covered : (x : RelayId) → IsCovered seen x → IsCovered marks x
-    seen-covered (Dec instance round) covered = covered
-    seen-covered (Data o n) covered = (covered.0, covered.1, omega (arith, covered.2, ap (λ all. slice_index all o) same))
-
-    kept-added : (x : RelayId) → IsIn x order ⊎ IsIn x (id ∷ []) → IsIn x (others ++ id ∷ []) ⊎ IsCovered seen x
-    kept-added x (inl there) = elim (kept.kept x there) [
-      | inl i ↦ inl (Lists.IsIn-append_left x others (id ∷ []) i)
-      | inr covered ↦ inr (covered-seen x covered)
-    ]
-    kept-added x (inr is) = inl (Lists.IsIn-append_right x others (id ∷ []) is)
-
-    taken-added : (x : RelayId) → IsIn x others ⊎ IsIn x (id ∷ []) → IsIn x (order ++ id ∷ [])
-    taken-added x (inl there) = Lists.IsIn-append_left x order (id ∷ []) (kept.others_taken x there)
-    taken-added x (inr is) = Lists.IsIn-append_right x order (id ∷ []) is
-
-    added-kept : IsKept (order ++ id ∷ []) seen (with_id others id)
-    added-kept = rw not-other (record {
-      once = once-last order id absent kept.once;
-      others_taken = λ x there. taken-added x (Lists.IsIn-append_cases x others (id ∷ []) there);
-      covered_taken = λ x covered. Lists.IsIn-append_left x order (id ∷ []) (kept.covered_taken x (seen-covered x covered));
-      kept = λ x there. kept-added x (Lists.IsIn-append_cases x order (id ∷ []) there);
-      within = within;
+    pub other-kept : IsKept (order ++ id ∷ []) (with_mark_of marks id) (with_id others id)
+    other-kept = rw (same-marks marks id uncovered, not-other) (record {
+      once = once-last order id (out order id first) kept.once;
+      taken = λ x there. added order id x
+          ∙ or-kept (list_any (is_id x) others) (list_any (is_id x) order) (is_id x id) (kept.taken x) (sym (added others id x) ∙ there);
+      covered = covered-other;
+      uncovered = λ x e. added others id x ∙ ap (λ l. l || is_id x id) (kept.uncovered x e) ∙ sym (added order id x);
     })
 
-  -- so does a message that is not the next one, and a decision, which changes no mark
-  pub seen-kept : (seen : Marks) (origin number : ℕ) →
-      (origin < ORIGINS → slice_index seen.last origin ≡ max (slice_index marks.last origin) number) →
-      StaysElsewhere origin marks.last seen.last → (IsIn (Data origin number) order → ⊥) → seen.all ≡ marks.all →
-      IsKept (order ++ Data origin number ∷ []) seen (with_id others (Data origin number))
-  seen-kept seen origin number here elsewhere absent same =
-      added-kept (Data origin number) absent seen same (within-seen seen origin number here elsewhere)
+abbrev none : List ℕ
+none = []
 
-  decision-within : (instance round o n : ℕ) → o < ORIGINS → IsIn (Data o n) (order ++ Dec instance round ∷ []) →
-      n ≤ slice_index marks.last o
-  decision-within instance round o n small there =
-      grind (arith, Lists.IsIn-append_cases (Data o n) order (Dec instance round ∷ []) there)
+-- places that are added last are empty, as those past the end are
+filled : (more n : ℕ) → get_or (replicate more none) n none ≡ none
+filled zero n = refl
+filled (suc more) zero = refl
+filled (suc more) (suc n) = filled more n
 
-  pub decision-kept : (instance round : ℕ) → (IsIn (Dec instance round) order → ⊥) →
-      IsKept (order ++ Dec instance round ∷ []) marks (with_id others (Dec instance round))
-  decision-kept instance round absent = added-kept (Dec instance round) absent marks refl (decision-within instance round)
+padded : (marks : List (List ℕ)) (more n : ℕ) → get_or (marks ++ replicate more none) n none ≡ get_or marks n none
+padded [] more n = filled more n
+padded (set ∷ marks) more zero = refl
+padded (set ∷ marks) more (suc n) = padded marks more n
 
--- what the marks cover leaves the others
-pub lost-kept : (order : List RelayId) (marks : Marks) (others left : List RelayId) (origin from to : ℕ) → IsKept order marks others →
-    origin < ORIGINS → slice_index marks.all origin ≡ to → HasLost origin from to others left → IsKept order marks left
-lost-kept order marks others left origin from to kept small all lost = record {
+-- what the longer marks tell: the same, or that what they cover now was not taken
+module _ (marks : List (List ℕ)) (more : ℕ) where
+  abbrev longer : List (List ℕ)
+  longer = marks ++ replicate more []
+
+  module _ (origin number : ℕ) where
+    long : length longer ≡ length marks + more
+    long = length-append marks (replicate more none) ∙ ap (λ k. length marks + k) (length-replicate more none)
+
+    covers-longer : covers marks origin number ≡ true → covers longer origin number ≡ true
+    covers-longer e = grind (arith, nat_tests, long)
+
+    past : covers marks origin number ≡ false → covers longer origin number ≡ true → length marks ≤ number
+    past out there = grind (arith, nat_tests)
+
+    same-at : (b a : Bool) → covers marks origin number ≡ b → told marks origin number ≡ Some a → told longer origin number ≡ Some a
+    same-at false a is e = absurd (some-none a (sym (rw is at e)))
+    same-at true a is e =
+        rw (covers-longer is) (ap (λ s. Some (has_member s origin)) (padded marks more number) ∙ rw is at e)
+
+    more-at : (b c : Bool) → covers marks origin number ≡ b → covers longer origin number ≡ c → told marks origin number ≡ None →
+        (told longer origin number ≡ None) ⊎ (told longer origin number ≡ Some false)
+    more-at true c is is_longer e = absurd (some-none _ (rw is at e))
+    more-at false false is is_longer e = inl (rw is_longer refl)
+    more-at false true is is_longer e =
+        inr (rw is_longer (ap (λ s. Some (has_member s origin))
+        (padded marks more number ∙ get_or_past marks number none (past is is_longer))))
+
+  told-same : (x : RelayId) (a : Bool) → told_of marks x ≡ Some a → told_of longer x ≡ Some a
+  told-same (Data origin number) a e = same-at origin number (covers marks origin number) a refl e
+  told-same (Dec instance round) a e = e
+
+  told-more : (x : RelayId) → told_of marks x ≡ None → (told_of longer x ≡ None) ⊎ (told_of longer x ≡ Some false)
+  told-more (Data origin number) e = more-at origin number (covers marks origin number) (covers longer origin number) refl refl e
+  told-more (Dec instance round) e = inl e
+
+-- the marks cover more numbers, and what the others have of them is marked
+pub grown-kept : (order : List RelayId) (marks grown new : List (List ℕ)) (others : List RelayId) (more : ℕ) → IsKept order marks others →
+    grown ≡ marks ++ replicate more [] →
+    ((id : RelayId) → told_of new id ≡ option_map (λ b. b || list_any (is_id id) others) (told_of grown id)) → IsKept order new others
+grown-kept order marks grown new others more kept is tells = record {
   once = kept.once;
-  others_taken = λ id there. kept.others_taken id (lost.were id there);
-  covered_taken = kept.covered_taken;
-  kept = λ id there. at id (kept.kept id there);
-  within = kept.within;
+  taken = kept.taken;
+  covered = λ x b e. covered x b (told_of marks x) refl (sym (tells_longer x) ∙ e);
+  uncovered = λ x e. kept.uncovered x (still x (told_of marks x) refl (sym (tells_longer x) ∙ e));
 }
   where
-    at : (id : RelayId) → IsIn id others ⊎ IsCovered marks id → IsIn id left ⊎ IsCovered marks id
-    at id (inr covered) = inr covered
-    at id (inl there) = elim (lost.are id there) [
-      | inl i ↦ inl i
-      | inr gone ↦ inr (subst (IsCovered marks) (sym gone.3) (small, omega (arith, gone.1), omega (arith, gone.2, all)))
+    tells_longer : (x : RelayId) → told_of new x ≡ option_map (λ a. a || list_any (is_id x) others) (told_of (longer marks more) x)
+    tells_longer x = tells x ∙ ap (λ g. option_map (λ a. a || list_any (is_id x) others) (told_of g x)) is
+
+    covered : (x : RelayId) (b : Bool) (t : Option Bool) → told_of marks x ≡ t →
+        option_map (λ a. a || list_any (is_id x) others) (told_of (longer marks more) x) ≡ Some b → b ≡ list_any (is_id x) order
+    covered x b (Some a) is e =
+        some-same _ b (sym (ap (option_map (λ a. a || list_any (is_id x) others)) (told-same marks more x a is)) ∙ e)
+        ∙ ap (λ l. l || list_any (is_id x) others) (kept.covered x a is)
+        ∙ absorbed (list_any (is_id x) order) (list_any (is_id x) others) (kept.taken x)
+    covered x b None is e = elim (told-more marks more x is) [
+      | inl still ↦ absurd (some-none b (sym (rw still at e)))
+      | inr empty ↦ some-same _ b (sym (ap (option_map (λ a. a || list_any (is_id x) others)) empty) ∙ e) ∙ kept.uncovered x is
     ]
 
--- one more message leaves the others
-pub lost-next : (origin from before : ℕ) (old now next : List RelayId) → from ≤ before → HasLost origin from before old now →
-    ((q : RelayId) → list_any (is_id q) next ≡ cond (is_id (Data origin (before + 1)) q) false (list_any (is_id q) now)) →
-    HasLost origin from (before + 1) old next
-lost-next origin from before old now next least lost updated = record {
-  were = λ id there. lost.were id (was-in now next (Data origin (before + 1)) updated id there);
-  are = λ id there. at id (lost.are id there);
-}
-  where
-    at : (id : RelayId) → IsIn id now ⊎ ((k : ℕ) × (from < k) × (k ≤ before) × (id ≡ Data origin k)) →
-        IsIn id next ⊎ ((k : ℕ) × (from < k) × (k ≤ before + 1) × (id ≡ Data origin k))
-    at id (inr gone) = inr (gone.0, gone.1, omega (arith, gone.2), gone.3)
-    at id (inl there) = elim (still-in now next (Data origin (before + 1)) updated id there) [
-      | inl i ↦ inl i
-      | inr same ↦ inr (before + 1, omega arith, omega arith, same)
-    ]
-
--- the next message is not there, so none leaves
-pub lost-last : (origin from before : ℕ) (old now next : List RelayId) → HasLost origin from before old now →
-    list_any (is_id (Data origin (before + 1))) now ≡ false →
-    ((q : RelayId) → list_any (is_id q) next ≡ cond (is_id (Data origin (before + 1)) q) false (list_any (is_id q) now)) →
-    HasLost origin from before old next × (IsIn (Data origin (before + 1)) old → ⊥)
-lost-last origin from before old now next lost absent updated = (
-  record {
-    were = λ id there. lost.were id (was-in now next (Data origin (before + 1)) updated id there);
-    are = λ id there. at id (lost.are id there);
-  },
-  λ there. gone (lost.are (Data origin (before + 1)) there),
-)
-  where
-    at : (id : RelayId) → IsIn id now ⊎ ((k : ℕ) × (from < k) × (k ≤ before) × (id ≡ Data origin k)) →
-        IsIn id next ⊎ ((k : ℕ) × (from < k) × (k ≤ before) × (id ≡ Data origin k))
-    at id (inr left) = inr left
-    at id (inl there) = elim (still-in now next (Data origin (before + 1)) updated id there) [
-      | inl i ↦ inl i
-      | inr same ↦ absurd (out now (Data origin (before + 1)) absent (subst (λ x. IsIn x now) same there))
-    ]
-
-    gone : IsIn (Data origin (before + 1)) now ⊎ ((k : ℕ) × (from < k) × (k ≤ before) × (Data origin (before + 1) ≡ Data origin k)) → ⊥
-    gone (inl there) = out now (Data origin (before + 1)) absent there
-    gone (inr past) = grind arith
-
--- all messages from one number to another, and the next
-pub all-next : (others : List RelayId) (origin from to : ℕ) → ((k : ℕ) → from < k → k ≤ to → IsIn (Data origin k) others) →
-    IsIn (Data origin (to + 1)) others → (k : ℕ) → from < k → k ≤ to + 1 → IsIn (Data origin k) others
-all-next others origin from to all next k above within = at_or_before cases
-  where
-    cases : (k ≤ to) ⊎ (k ≡ to + 1)
-    cases = grind arith
-
-    at_or_before : (k ≤ to) ⊎ (k ≡ to + 1) → IsIn (Data origin k) others
-    at_or_before (inl before) = all k above before
-    at_or_before (inr same) = rw same next
+    still : (x : RelayId) (t : Option Bool) → told_of marks x ≡ t →
+        option_map (λ a. a || list_any (is_id x) others) (told_of (longer marks more) x) ≡ None → told_of marks x ≡ None
+    still x None is e = is
+    still x (Some a) is e = absurd (some-none _ (rw (told-same marks more x a is) at e))

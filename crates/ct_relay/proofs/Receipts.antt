@@ -1,6 +1,6 @@
 -- What was taken stands in the list once, and is found there.
-use Rattle.std.proofs.Common.{arith, ◌≡◌, ◌⊎◌, Bool, true, false, cond, ◌||◌, ◌∙◌, ◌==◌, List, [], ◌∷◌, ◌++◌}
-use Rattle.std.proofs.Common.{refl, sym, subst, ap₂, inl, inr, eq-eqb, eqb-true}
+use Rattle.std.proofs.Common.{arith, ◌≡◌, true, false, ◌==◌, List, [], ◌∷◌, ◌++◌}
+use Rattle.std.proofs.Common.{refl, subst, ap₂, inl, inr, eq-eqb, eqb-true}
 use Rattle.std.specs.List.{list_any}
 use Rattle.ct_names.specs.Membership.{IsIn, IsWithoutRepeats}
 use Rattle.ct_names.proofs.Lists
@@ -22,14 +22,9 @@ same-is_id (Dec instance round) (Data other n) e = absurd (cc)
 same-is_id (Dec instance round) (Dec k r) e =
     ap₂ (λ i s. Dec i s) (eqb-true _ _ (Lists.both-left (instance == k) _ e)) (eqb-true _ _ (Lists.both-right (instance == k) _ e))
 
--- what stands in the list is found, and what is found stands there
+-- what stands in the list is found
 pub in-found : (ids : List RelayId) (id : RelayId) → IsIn id ids → list_any (is_id id) ids ≡ true
 in-found ids id there = Lists.list_any-found (is_id id) id ids there (is_id-refl id)
-
-pub found-in : (ids : List RelayId) (id : RelayId) → list_any (is_id id) ids ≡ true → IsIn id ids
-found-in ids id found =
-    let f = Lists.found-list_any (is_id id) ids found in
-    subst (λ x. IsIn x ids) (sym (same-is_id id f.item f.passes)) f.is_in
 
 -- what is not found is not in the list
 pub out : (ids : List RelayId) (id : RelayId) → list_any (is_id id) ids ≡ false → IsIn id ids → ⊥
@@ -46,33 +41,3 @@ once-last ids id absent once = Lists.IsWithoutRepeats-append ids (id ∷ []) onc
 -- a set takes one more as the list does
 pub insert_key-with_id : (ids : List RelayId) (id : RelayId) → insert_key equal.eq ids id ≡ with_id ids id
 insert_key-with_id ids id = grind arith
-
--- the comparison of the code is that of the definitions
-same-test : (x y : RelayId) → equal.eq x y ≡ is_id x y
-same-test (Data origin number) (Data other n) = refl
-same-test (Data origin number) (Dec k r) = refl
-same-test (Dec instance round) (Data other n) = refl
-same-test (Dec instance round) (Dec k r) = refl
-
-same-found : (ids : List RelayId) (id : RelayId) → list_any (equal.eq id) ids ≡ list_any (is_id id) ids
-same-found [] id = refl
-same-found (x ∷ xs) id = ap₂ (λ a b. a || b) (same-test id x) (same-found xs id)
-
-pub same-updated : (old new : List RelayId) (id : RelayId) →
-    ((q : RelayId) → list_any (equal.eq q) new ≡ cond (equal.eq id q) false (list_any (equal.eq q) old)) → (q : RelayId) →
-    list_any (is_id q) new ≡ cond (is_id id q) false (list_any (is_id q) old)
-same-updated old new id updated q =
-    sym (same-found new q) ∙ updated q ∙ ap₂ (λ t o. cond t false o) (same-test id q) (same-found old q)
-
--- one that is taken out was there, and all others still are
-module _ (old new : List RelayId) (id : RelayId)
-    (updated : (q : RelayId) → list_any (is_id q) new ≡ cond (is_id id q) false (list_any (is_id q) old)) where
-  pub was-in : (x : RelayId) → IsIn x new → IsIn x old
-  was-in x there = found-in old x (grind (arith, in-found new x there, updated x))
-
-  pub still-in : (x : RelayId) → IsIn x old → IsIn x new ⊎ (x ≡ id)
-  still-in x there = at (is_id id x) refl
-    where
-      at : (b : Bool) → is_id id x ≡ b → IsIn x new ⊎ (x ≡ id)
-      at true same = inr (sym (same-is_id id x same))
-      at false other = inl (found-in new x (grind (arith, in-found old x there, updated x)))

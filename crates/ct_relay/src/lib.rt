@@ -3,7 +3,7 @@
 #![tactic(auto)]
 
 mod action;
-mod firsts;
+mod marks;
 mod relay;
 mod relay_id;
 

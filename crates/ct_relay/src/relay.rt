@@ -1,15 +1,14 @@
 //! The first receipts of a member.
 
-ghost use Rattle.std.specs.Prelude.{◌≡◌, ℕ, ◌+◌, ◌<◌, ◌≤◌, List, [], ◌∷◌, ◌++◌, if◌then◌else◌, false, IsTrue, IfOk, OnOk, OnErr};
-ghost use Rattle.ct_names.specs.Membership.{IsIn, IsWithoutRepeats};
-ghost use Rattle.ct_relay.specs.declared.relay_id.RelayId.TheVariants.{Data};
+ghost use Rattle.std.specs.Prelude.{◌≡◌, ◌+◌, ◌<◌, ◌≤◌, ◌||◌, List, [], ◌∷◌, ◌++◌, false, option_map, IsTrue, IfOk, OnOk, OnErr};
+ghost use Rattle.std.specs.List.{list_any};
+ghost use Rattle.ct_names.specs.Membership.{IsWithoutRepeats};
 ghost use Rattle.ct_relay.specs.declared.relay_id.RelayId.{RelayId as Id};
-ghost use Rattle.indexmap.specs.IndexSet.{spare};
-ghost use Rattle.ct_relay.specs.Marks.{told_of, is_next_of, HasLost, IsKept};
-ghost use Rattle.ct_relay.specs.Taken.{is_first, with_id, action_of};
+ghost use Rattle.ct_relay.specs.Marks.{covers_id, told_of, with_mark_of, IsKept};
+ghost use Rattle.ct_relay.specs.Taken.{is_id, is_first, with_id, action_of};
 
 use crate::action::Action;
-use crate::firsts::Firsts;
+use crate::marks::Marks;
 use crate::relay_id::RelayId;
 use ct_names::Member;
 use indexmap::IndexSet;
@@ -22,8 +21,9 @@ pub struct Relay {
     me: Member,
     // All that was taken, in the order of first receipt.
     order: Vec<RelayId>,
-    firsts: Firsts,
-    // What was taken besides: decisions, and messages that came before one with a smaller number, until that has come.
+    // The messages among them that the marks cover.
+    marks: Marks,
+    // The rest: decisions, and messages that the marks didn't cover when they were taken.
     others: IndexSet<RelayId>,
 }
 
@@ -44,7 +44,7 @@ impl Model for Relay {
           nat_lt (vec_len relay.order) (vec_capacity relay.order) && nat_lt 0 (spare relay.others);
     } };
 
-    ghost invariant = { λ relay. IsKept relay.order.items relay.firsts relay.others.keys };
+    ghost invariant = { λ relay. IsKept relay.order.items relay.marks relay.others.keys };
 }
 
 impl Relay {
@@ -56,7 +56,7 @@ impl Relay {
         Relay {
             me,
             order: Vec::new(alloc),
-            firsts: Firsts::new(),
+            marks: Marks::new(alloc),
             others: IndexSet::new(alloc),
         }
     }
@@ -69,7 +69,7 @@ impl Relay {
         Ok(Relay {
             me: self.me,
             order: Vec::from_slice(alloc, &self.order)?,
-            firsts: self.firsts,
+            marks: self.marks.copy(alloc)?,
             others: self.others.clone()?,
         })
     }
@@ -86,7 +86,7 @@ impl Relay {
         ensures value { result ≡ is_first self.now.ids id }
         ensures once { IsWithoutRepeats self.now.ids }
     {
-        match told(&self.firsts, id) {
+        match told(&self.marks, id) {
             Some(taken) => !taken,
             None => !self.others.contains(&id),
         }
@@ -108,7 +108,9 @@ impl Relay {
         ensures refused { OnErr result (self.old.has_room ≡ false) }
     {
         self.order.reserve(1)?;
-        self.others.reserve(1)
+        self.others.reserve(1)?;
+        lengthen(&mut self.marks, self.others.as_slice());
+        Ok(())
     }
 
     /// Takes it, and says what to do with it: at its first receipt it is delivered, and relayed unless this member sent
@@ -122,7 +124,7 @@ impl Relay {
         let deliver = self.first(id);
         if deliver {
             self.order.push(id).unwrap();
-            if !cover(&mut self.firsts, &mut self.others, id) {
+            if !mark(&mut self.marks, id) {
                 self.others.insert(id).unwrap();
             }
         }
@@ -133,54 +135,42 @@ impl Relay {
     }
 }
 
-// Whether it was taken, where the marks tell it.
-fn told(firsts: &Firsts, id: RelayId) -> Option<bool>
-    ensures { result ≡ told_of firsts.now id }
+// Whether it was taken, where the marks cover it.
+fn told(marks: &Marks, id: RelayId) -> Option<bool>
+    ensures { result ≡ told_of marks.now id }
 {
     match id {
-        RelayId::Data { origin, number } => firsts.tells(origin, number),
+        RelayId::Data { origin, number } => marks.told(origin, number),
         RelayId::Dec { .. } => None,
     }
 }
 
-// Notes that it was taken. Whether the marks cover it now: where they don't it has to stand with the others. What the marks
-// come to cover leaves the others.
-fn cover(firsts: &mut Firsts, others: &mut IndexSet<RelayId>, id: RelayId) -> bool
-    ensures next { result ≡ is_next_of firsts.old id }
-    ensures kept { (order : List Id) → IsKept order firsts.old others.old.keys → (IsIn id order → ⊥)
-        → IsKept (order ++ id ∷ []) firsts.new (if result then others.new.keys else with_id others.new.keys id) }
-    ensures room { spare others.old ≤ spare others.new }
+// Notes that it was taken, where the marks cover it. Whether they do.
+fn mark(marks: &mut Marks, id: RelayId) -> bool
+    ensures covered { result ≡ covers_id marks.old id }
+    ensures marks { marks.new ≡ with_mark_of marks.old id }
 {
-    let RelayId::Data { origin, number } = id else {
-        return false;
-    };
-    firsts.see(origin, number);
-    if !firsts.is_next(origin, number) {
-        return false;
+    match id {
+        RelayId::Data { origin, number } => marks.add(origin, number),
+        RelayId::Dec { .. } => false,
     }
-    let all = take_from(others, origin, number, firsts.last(origin));
-    firsts.raise(origin, all);
-    true
 }
 
-// The number, `last` at most, to which the others have all messages of the origin after `number`. These leave the others.
-fn take_from(others: &mut IndexSet<RelayId>, origin: Member, number: u32, last: u32) -> u32
-    requires { number ≤ last }
-    ensures least { number ≤ result }
-    ensures largest { result ≤ last }
-    ensures all { (k : ℕ) → number < k → k ≤ result → IsIn (Data origin k) others.old.keys }
-    ensures next { result < last → IsIn (Data origin (result + 1)) others.old.keys → ⊥ }
-    ensures left { HasLost origin number result others.old.keys others.new.keys }
-    ensures room { spare others.old ≤ spare others.new }
+// Lets the marks cover more numbers where larger ones are coming, and marks what the others have of them. Where memory is
+// refused the marks stay as they were.
+fn lengthen(marks: &mut Marks, others: &[RelayId])
+    ensures { (order : List Id) → IsKept order marks.old others.now → IsKept order marks.new others.now }
 {
-    for before in number..last {
-        let next = RelayId::Data {
-            origin,
-            number: before + 1,
-        };
-        if !others.swap_remove(&next) {
-            return before;
-        }
+    if marks.grow() {
+        mark_all(marks, others);
     }
-    last
+}
+
+// Notes that all these were taken, where the marks cover them.
+fn mark_all(marks: &mut Marks, ids: &[RelayId])
+    ensures { (id : Id) → told_of marks.new id ≡ option_map (λ b. b || list_any (is_id id) ids.now) (told_of marks.old id) }
+{
+    for id in ids {
+        mark(marks, *id);
+    }
 }
