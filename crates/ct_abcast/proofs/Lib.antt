@@ -3,3 +3,4 @@ pub mod Fresh
 pub mod Parts
 pub mod Pending
 pub mod Same
+pub mod Within

@@ -5,6 +5,7 @@ ghost use Rattle.std.specs.Prelude.{OnOk, OnErr};
 ghost use Rattle.ct_names.specs.Value.{has};
 ghost use Rattle.ct_abcast.specs.Batches.{joined, batch_after};
 
+use crate::last::Last;
 use ct_names::{Message, MsgSet};
 use indexmap::IndexSet;
 use std::alloc::{AllocError, Global};
@@ -17,15 +18,18 @@ pub struct Delivered {
     messages: IndexSet<Message>,
     // Where each batch ends in it.
     ends: Vec<usize>,
+    // The largest number of each origin in it.
+    last: Last,
 }
 
 // Contracts see the batches and the room for more.
 impl Model for Delivered {
-    ghost use Rattle.std.specs.Prelude.{nat_lt, length};
+    ghost use Rattle.std.specs.Prelude.{nat_lt};
     ghost use Rattle.std.specs.Vec.{vec_len, vec_capacity};
     ghost use Rattle.indexmap.specs.IndexSet.{spare};
     ghost use Rattle.ct_abcast.specs.Batches.{Batches};
-    ghost use Rattle.ct_abcast.specs.Ends.{parts, AreEnds};
+    ghost use Rattle.ct_abcast.specs.Ends.{parts};
+    ghost use Rattle.ct_abcast.specs.Last.{IsDelivered};
 
     ghost Value = { Batches };
 
@@ -36,7 +40,7 @@ impl Model for Delivered {
           nat_lt (vec_len d.ends) (vec_capacity d.ends);
     } };
 
-    ghost invariant = { λ d. AreEnds 0 d.ends.items (length d.messages.keys) };
+    ghost invariant = { λ d. IsDelivered d.messages.keys d.ends.items d.last };
 }
 
 impl Delivered {
@@ -47,6 +51,7 @@ impl Delivered {
         Delivered {
             messages: IndexSet::new(alloc),
             ends: Vec::new(alloc),
+            last: Last::new(),
         }
     }
 
@@ -57,10 +62,13 @@ impl Delivered {
         self.messages.as_slice()
     }
 
-    // Whether the message was delivered.
+    // Whether the message was delivered. A number that is larger than all of the origin tells that it was not.
     pub fn contains(&self, message: &Message) -> bool
         ensures { result ≡ has (joined self.now.batches) message.now }
     {
+        if self.last.is_past(message) {
+            return false;
+        }
         self.messages.contains(message)
     }
 
@@ -122,6 +130,7 @@ impl Delivered {
         ensures room { self.old.room ≤ self.new.room + length set.now }
     {
         for message in set.items() {
+            self.last.see(message);
             self.messages.insert(*message).unwrap();
         }
         self.ends.push(self.messages.len()).unwrap();
@@ -134,6 +143,7 @@ impl Delivered {
         Ok(Delivered {
             messages: self.messages.clone()?,
             ends: Vec::from_slice(alloc, &self.ends)?,
+            last: self.last,
         })
     }
 }

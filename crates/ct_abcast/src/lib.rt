@@ -5,6 +5,7 @@
 mod batch;
 mod caster;
 mod delivered;
+mod last;
 mod ordered;
 
 pub use batch::Batch;

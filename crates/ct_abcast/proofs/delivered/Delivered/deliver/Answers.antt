@@ -8,6 +8,7 @@ use Rattle.ct_names.proofs.Values.{IsWithoutRepeats-ordered}
 use Rattle.ct_abcast.specs.Batches.{batch_after}
 use Rattle.ct_abcast.specs.Ends.{parts}
 use Rattle.ct_abcast.proofs.Fresh.{insert-more}
+use Rattle.ct_abcast.proofs.Within.{within-insert}
 use Rattle.ct_abcast.proofs.Parts.{delivered-ends, delivered-parts, batch-is}
 use Rattle.ct_abcast.proofs.delivered.Delivered.deliver.Goals as goal
 
@@ -24,6 +25,8 @@ loop-message-preserved c =
           ∙ insert-more c.self.inside.messages.keys items c.loop-message.message-index c.message-item.result once c.loop-message-test.true
           c.message-item.is);
       ends = c.loop-message.invariant.ends;
+      within = within-insert _ c.see.new.self c.loop-message.self-inside.messages.keys c.insert.new.self.keys c.message-item.result
+          c.loop-message.invariant.within c.see.ensures.here c.see.ensures.grown inserted;
       room = omega (arith, c.insert.ensures.spare, c.loop-message.invariant.room);
     }
 
@@ -41,16 +44,19 @@ ends_are : (c : goal.After-unwrap-2) → c.push.new.self.items ≡ c.self.inside
 ends_are c = search rules
 
 pub invariant_of-self : goal.invariant_of-self
-invariant_of-self c =
-    delivered-ends c.self.inside.ends.items c.push.new.self.items c.self.inside.messages.keys c.loop-message.self-inside.messages.keys
-    (minus c.args.set.now c.self.inside.messages.keys) c.self.invariant (all_is c) (ends_are c)
+invariant_of-self c = record {
+  ends_there = delivered-ends c.self.inside.ends.items c.push.new.self.items c.self.inside.messages.keys
+      c.loop-message.self-inside.messages.keys (minus c.args.set.now c.self.inside.messages.keys) c.self.invariant.ends_there (all_is c)
+      (ends_are c);
+  within = c.loop-message.invariant.within;
+}
 
 pub returns-clause-batches : goal.returns-clause-batches
 returns-clause-batches c =
     let more = minus c.args.set.now c.self.inside.messages.keys in
     delivered-parts c.self.inside.ends.items c.push.new.self.items c.self.inside.messages.keys c.loop-message.self-inside.messages.keys more
-    c.self.invariant (all_is c) (ends_are c)
+    c.self.invariant.ends_there (all_is c) (ends_are c)
     ∙ (ap (λ batch. parts 0 c.self.inside.ends.items c.self.inside.messages.keys ++ batch ∷ [])
-    (batch-is c.self.inside.ends.items c.self.inside.messages.keys c.args.set.now c.self.invariant
+    (batch-is c.self.inside.ends.items c.self.inside.messages.keys c.args.set.now c.self.invariant.ends_there
     c.items-message-items.ensures.ordered)
     ∙ ap (λ v. v.batches ++ batch_after v.batches c.args.set.now ∷ []) c.self.view_is)
