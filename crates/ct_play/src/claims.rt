@@ -6,7 +6,8 @@ ghost use Rattle.ct_model.specs.Cause.{cause};
 ghost use Rattle.ct_world.specs.World.{member_of};
 ghost use Rattle.ct_play.specs.Claims.{amount_of, carries_other, chooses_unseen, concludes_again, decides_again, decision_count, follows};
 ghost use Rattle.ct_play.specs.Claims.{gets, has_got, is_again, is_earlier, is_enough, is_led, is_named, is_refused_so, is_other_decision};
-ghost use Rattle.ct_play.specs.Claims.{is_true_of, is_unseen, last_step, refuses_choice, refuses_heard, round_at, says, stands_before, suspects_up};
+ghost use Rattle.ct_play.specs.Claims.{is_true_of, is_unseen, last_step, refuses_choice, refuses_heard, round_at, says, stands_before};
+ghost use Rattle.ct_play.specs.Claims.{suspects_up};
 ghost use Rattle.ct_play.specs.Claims.{takes_memory, was_other};
 ghost use Rattle.ct_play.specs.Facts.{place_of};
 

@@ -57,7 +57,8 @@ impl<'g> Model for Watch<'g> {
 impl<'g> Watch<'g> {
     /// A stage without steps. Only memory can be refused.
     pub fn new(alloc: Global, setup: Setup, goal: Option<&'g Goal>) -> Result<Watch<'g>, LineFault>
-        ensures ok { IfOk result (λ watch. watch ≡ record { played = uncut (record_of setup []); goal = option_map (λ goal. goal.now) goal.entry }) }
+        ensures ok { IfOk result (λ watch. watch ≡
+            record { played = uncut (record_of setup []); goal = option_map (λ goal. goal.now) goal.entry }) }
         ensures err { IfErr result (λ fault. fault ≡ LineFault.OutOfMemory) }
     {
         let terms = terms(goal);

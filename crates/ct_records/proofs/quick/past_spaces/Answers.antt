@@ -6,4 +6,5 @@ pub loop-i-init : goal.loop-i-init
 loop-i-init c = skipped_none c.past_line_end-rest.result.now
 
 pub loop-i-preserved : goal.loop-i-preserved
-loop-i-preserved c = skipped_more c.past_line_end-rest.result.now c.loop-i.i 0 c.loop-i-test.true (sym c.if-not-is_space.ensures) c.loop-i.invariant
+loop-i-preserved c = skipped_more c.past_line_end-rest.result.now c.loop-i.i 0 c.loop-i-test.true (sym c.if-not-is_space.ensures)
+    c.loop-i.invariant
