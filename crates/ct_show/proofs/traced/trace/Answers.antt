@@ -1,8 +1,9 @@
-use Rattle.std.proofs.Common.{◌≡◌, ◌+◌, Some, refl, subst, take}
+use Rattle.std.proofs.Common.{◌≡◌, ◌+◌, Some, refl, ap, ◌∙◌, subst, length, take}
 use Rattle.ct_model.specs.Rehearsal.{Rehearsal, state_of}
 use Rattle.ct_model.specs.Run.{run}
 use Rattle.ct_model.specs.Senders.{senders, senders_from}
-use Rattle.ct_world.specs.Replay.{first_steps}
+use Rattle.ct_world.specs.Replay.{AllowsFirst, first_steps}
+use Rattle.ct_world.specs.Setup.{setting_of}
 use Rattle.ct_world.specs.Stage.{ReplayView, so_far}
 use Rattle.ct_world.specs.World.{IsDone}
 use Rattle.ct_show.proofs.Tracing.{traced_more}
@@ -24,8 +25,18 @@ loop-replay-preserved c =
     rw h.ok (record {
       whole = whole;
       senders = traced_more _ i (i + 1) step sent c.loop-replay.senders.items c.note.new.senders.items
-          (subst (λ (w : Rehearsal). run w.setting (take i w.steps) ≡ Some (state_of (first_steps w.setting w.cells w.steps i))) whole h.runs)
-          (subst (λ (w : Rehearsal). IsDone (first_steps w.setting w.cells w.steps i) step (first_steps w.setting w.cells w.steps (i + 1)) sent)
+          (subst (λ (w : Rehearsal). run w.setting (take i w.steps) ≡ Some (state_of (first_steps w.setting w.cells w.steps i)))
+          whole h.runs)
+          (subst
+          (λ (w : Rehearsal). IsDone (first_steps w.setting w.cells w.steps i) step (first_steps w.setting w.cells w.steps (i + 1)) sent)
           whole next)
           c.loop-replay.invariant.senders (rw (← c.member.ensures) c.in-Ok.ensures);
     })
+
+pub returns-clause-allowed : goal.returns-clause-allowed
+returns-clause-allowed c =
+    let whole = c.loop-replay.invariant.whole in
+    let all : c.loop-replay.replay.done ≡ length c.args.steps.now =
+    c.loop-replay-test.ensures.over refl ∙ ap (λ (w : Rehearsal). length w.steps) whole in
+    subst (AllowsFirst (setting_of c.args.setup) c.args.setup.cells c.args.steps.now) all
+    (subst (λ (w : Rehearsal). AllowsFirst w.setting w.cells w.steps c.loop-replay.replay.done) whole c.loop-replay-test.ensures.allowed)
