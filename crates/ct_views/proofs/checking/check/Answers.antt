@@ -12,5 +12,5 @@ loop-name-preserved g c = record {
 pub returns-in_err-status-clause-part : goal.returns-in_err-status-clause-part
 returns-in_err-status-clause-part g c =
     on_err c.from_residual.result _
-    (checks_stop _ _ (λ name. name.now) c.args.names.now c.loop-name.name-index _ c.loop-name-test.true _ _ _ _ c.loop-name.invariant.checked
-    c.in_err-status.ensures.part)
+    (checks_stop _ _ (λ name. name.now) c.args.names.now c.loop-name.name-index _ c.loop-name-test.true _ _ _ _
+    c.loop-name.invariant.checked c.in_err-status.ensures.part)
