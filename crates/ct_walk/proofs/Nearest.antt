@@ -14,7 +14,8 @@ abbrev pub IsNearestSoFar : WalkOptions → Option Goal → ℕ → ℕ → Miss
 IsNearestSoFar o until first end missed =
     ((end ≡ first) × (missed.seed ≡ first) × (missed.came_to ≡ 0)) ⊎ IsNearest o until first end missed.seed missed.came_to
 
-module _ (o : WalkOptions) (until : Option Goal) (first seed : ℕ) (missed : Missed) (came : ℕ) (low : first ≤ seed) (is : came ≡ came_to (with_seed o seed) until) where
+module _ (o : WalkOptions) (until : Option Goal) (first seed : ℕ) (missed : Missed) (came : ℕ) (low : first ≤ seed)
+    (is : came ≡ came_to (with_seed o seed) until) where
   -- the next seed's walk came nearer than all before
   nearer : nat_lt missed.came_to came ≡ true → IsNearestSoFar o until first seed missed → IsNearest o until first (seed + 1) seed came
   nearer more (inl none) = record {

@@ -58,4 +58,5 @@ pub came_is : (o : WalkOptions) (until : Option Goal) (w v : Walk) (most rounds 
     → record-is ≡ v.rehearsal → came-to ≡ came (sight_in until) rounds record-is → came-to ≡ came_to o until
 unfolding came_to
 came_is o until w v most rounds came-to r starts most_is goes counts same is =
-    is ∙ ap₂ (λ (n : ℕ) (x : Rehearsal). came (sight_in until) n x) (rounds_are o until w most rounds starts most_is counts) (same ∙ walked_is o until w v most starts most_is goes)
+    is ∙ ap₂ (λ (n : ℕ) (x : Rehearsal). came (sight_in until) n x) (rounds_are o until w most rounds starts most_is counts)
+    (same ∙ walked_is o until w v most starts most_is goes)

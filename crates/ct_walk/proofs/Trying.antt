@@ -34,8 +34,8 @@ unfolding stepped
 after_refused s step fault refused = refused_by s step fault (cause s.rehearsal step) refused
 
 -- the same where nothing was short
-pub after_kept : (old new : Watched) (step : Step) (fault : LineFault) → is_short fault ≡ false → IsFaultOf (stepped old.played step) fault →
-    IsKept old new fault → new.played.rehearsal ≡ after_try old.played.rehearsal (Some step)
+pub after_kept : (old new : Watched) (step : Step) (fault : LineFault) → is_short fault ≡ false →
+    IsFaultOf (stepped old.played step) fault → IsKept old new fault → new.played.rehearsal ≡ after_try old.played.rehearsal (Some step)
 after_kept old new step fault told refused kept =
     let same : new ≡ old = subst (λ b. UnlessShort b (new ≡ old)) told kept in
     let is : stepped old.played step ≡ Err fault = subst (λ b. UnlessShort b (stepped old.played step ≡ Err fault)) told refused in

@@ -35,8 +35,10 @@ fn goal_or_none<'a>(
     name: &'a str,
     words: Option<&[&'a str]>,
 ) -> Result<Option<Goal>, CallFault<'a>>
-    ensures ok { IfOk result (λ goal. goal_or_none n name.now (option_map (λ words. map (λ word. word.now) words.now) words.entry) ≡ Ok goal) }
-    ensures err { IfErr result (IsCallFault (goal_or_none n name.now (option_map (λ words. map (λ word. word.now) words.now) words.entry))) }
+    ensures ok { IfOk result (λ goal.
+        goal_or_none n name.now (option_map (λ words. map (λ word. word.now) words.now) words.entry) ≡ Ok goal) }
+    ensures err { IfErr result
+        (IsCallFault (goal_or_none n name.now (option_map (λ words. map (λ word. word.now) words.now) words.entry))) }
 {
     match words {
         None => Ok(None),

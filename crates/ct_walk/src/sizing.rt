@@ -32,7 +32,8 @@ pub fn size_if_shown(
 
 // How far the walk goes, where it shows what it was made until.
 fn size_shown(walk: &NearWalk) -> Option<WalkSize>
-    ensures { result ≡ (if walk.now.shows then Some (record { steps = length walk.now.world.rehearsal.steps; round = walk.now.rounds }) else None) }
+    ensures { result ≡
+        (if walk.now.shows then Some (record { steps = length walk.now.world.rehearsal.steps; round = walk.now.rounds }) else None) }
 {
     if !walk.shows {
         return None;

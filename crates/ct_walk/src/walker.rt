@@ -1,6 +1,7 @@
 //! The turns of a walk.
 
-ghost use Rattle.std.specs.Prelude.{◌≡◌, ◌+◌, ◌-◌, ◌*◌, ◌^◌, ◌<◌, ◌≤◌, Some, None, IfOk, IfErr, IfSome, OnOk, [], drop, get_or, option_map, set, slice_get};
+ghost use Rattle.std.specs.Prelude.{◌≡◌, ◌+◌, ◌-◌, ◌*◌, ◌^◌, ◌<◌, ◌≤◌, Some, None, IfOk, IfErr, IfSome, OnOk, [], drop, get_or, option_map};
+ghost use Rattle.std.specs.Prelude.{set, slice_get};
 ghost use Rattle.ct_program.specs.declared.free_options.TheConstants.{MAX_TURNS};
 ghost use Rattle.ct_program.specs.FreeOptions.{InRange};
 ghost use Rattle.ct_walk.specs.Faults.{IsShort};

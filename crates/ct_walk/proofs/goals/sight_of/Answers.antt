@@ -12,5 +12,6 @@ returns-in_err-kind c =
 pub returns : goal.returns
 unfolding sight_of
 returns c =
-    let parts = split_once_first 32 c.args.text.now (Some (c.in_ok-kind.kind, c.in_ok-kind.number)) c.in_ok-kind.ensures.cases (omega arith) in
+    let parts =
+    split_once_first 32 c.args.text.now (Some (c.in_ok-kind.kind, c.in_ok-kind.number)) c.in_ok-kind.ensures.cases (omega arith) in
     c.sight_by.ensures ∙ ap₂ sight_by parts.1 parts.2

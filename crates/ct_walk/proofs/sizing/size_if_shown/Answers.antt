@@ -22,7 +22,9 @@ size_is o w goal seed shows steps round is shown counts largest =
     ap (λ b. size_with b steps round) shown
     ∙ (ap (λ n. size_with (is_shown_by (Some goal) (walked w (Some goal))) n round) counts
     ∙ (ap (λ n. size_with (is_shown_by (Some goal) (walked w (Some goal))) (length (walked w (Some goal)).steps) n) largest
-    ∙ ap (λ (x : WalkOptions). size_with (is_shown_by (Some goal) (walked x (Some goal))) (length (walked x (Some goal)).steps) (rounds_of x (Some goal))) is))
+    ∙ ap (λ (x : WalkOptions).
+    size_with (is_shown_by (Some goal) (walked x (Some goal))) (length (walked x (Some goal)).steps) (rounds_of x (Some goal)))
+    is))
 
 pub returns-clause-ok : goal.returns-clause-ok
 returns-clause-ok c =

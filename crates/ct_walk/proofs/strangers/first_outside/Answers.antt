@@ -13,7 +13,8 @@ loop-i-init c = refl
 pub returns-then-is_outside : goal.returns-then-is_outside
 returns-then-is_outside c =
     let outside : ℕ → Bool = λ p. has_member c.args.set p && not (is_member c.args.n p) in
-    sym (member_found outside c.loop-i.i 16 (omega (arith, c.loop-i-test.true)) c.loop-i.invariant (sym c.is_outside.ensures ∙ c.if-is_outside.true))
+    sym (member_found outside c.loop-i.i 16 (omega (arith, c.loop-i-test.true)) c.loop-i.invariant
+    (sym c.is_outside.ensures ∙ c.if-is_outside.true))
     ∙ (find-filter (has_member c.args.set) (λ p. not (is_member c.args.n p)) everyone
     ∙ ap (first_outside c.args.n) (sym c.len.ensures.members))
 
