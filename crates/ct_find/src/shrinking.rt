@@ -70,5 +70,7 @@ fn walked(alloc: Global, options: &WalkOptions, goal: &Goal, seed: u32) -> Resul
     let mut options = *options;
     options.run.seed = seed;
     let world = ct_walk::walk(alloc, &options, Some(goal))?;
-    Ok(ct_shrink::script_of(alloc, &world)?)
+    let script = ct_shrink::script_of(alloc, &world);
+    drop(world);
+    Ok(script?)
 }

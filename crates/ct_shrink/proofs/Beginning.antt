@@ -1,9 +1,8 @@
 -- The beginnings of a record, one after the other.
 use Rattle.std.proofs.Common.{◌≡◌, Bool, ℕ, ◌+◌, ◌<◌, ◌≤◌, true, false, List, [], ◌∷◌, ◌++◌, length, take, get_or, Ok, ap, sym}
-use Rattle.std.proofs.Common.{◌∙◌, arith, below_more, length-append, subst}
+use Rattle.std.proofs.Common.{◌∙◌, arith, below_more, length-append}
 use Rattle.std.proofs.lemmas.List.{take_more}
 use Rattle.ct_model.specs.declared.step.Step.{Step}
-use Rattle.ct_model.specs.Rehearsal.{Rehearsal}
 use Rattle.ct_world.specs.Setup.{record_of}
 use Rattle.ct_world.specs.declared.setup.Setup.{Setup}
 use Rattle.ct_play.specs.Goals.{uncut}
@@ -70,12 +69,3 @@ pub never_begun : (test : Played → Bool) (setup : Setup) (steps : List Step) (
     test s ≡ false → IsBegun test setup steps i lines s → IsNeverShown test setup steps
 never_begun test setup steps lines i s all e h k within =
     hidden_more test setup steps i s h.stage e h.before k (omega (arith, within, all))
-
--- the first beginning, where its lines and its record are named otherwise
-pub begun_left : (test : Played →
-    Bool) (setup : Setup) (steps : List Step) (lines left : List Line) (i : ℕ) (s : Played) (w : Rehearsal) →
-    left ≡ lines → w ≡ s.rehearsal → i ≤ length steps → test s ≡ true → IsBegun test setup steps i lines s → IsFirstOf test setup
-    steps left w
-begun_left test setup steps lines left i s w e f within shown h =
-    subst (λ l. IsFirstOf test setup steps l w) (sym e)
-    (subst (λ v. IsFirstOf test setup steps lines v) (sym f) (shown_begun test setup steps lines i s within shown h))

@@ -1,10 +1,9 @@
 -- How a trial goes on.
 use Rattle.std.proofs.Common.{◌≡◌, ℕ, suc, ◌+◌, ◌<◌, ◌≤◌, Bool, true, false, List, [], ◌∷◌, ◌++◌, length, drop, get_or, Option}
 use Rattle.std.proofs.Common.{Some, None, Ok}
-use Rattle.std.proofs.Common.{ap, sym, refl, ◌∙◌, append-nil, append_assoc, add-one, drop-cons, subst}
+use Rattle.std.proofs.Common.{ap, sym, refl, ◌∙◌, append-nil, append_assoc, add-one, drop-cons}
 use Rattle.std.specs.Prelude.{option_map}
 use Rattle.std.proofs.lemmas.List.{drop_all}
-use Rattle.ct_model.specs.Rehearsal.{Rehearsal}
 use Rattle.ct_world.specs.Setup.{record_of}
 use Rattle.ct_world.specs.declared.setup.Setup.{Setup}
 use Rattle.ct_play.specs.Goals.{uncut}
@@ -96,11 +95,3 @@ shown_run test setup lines s e h =
       count = h.count;
       shown = ap test (sym same) ∙ e;
     }
-
--- the same where its lines and its record are named otherwise
-pub run_left : (test : Played → Bool) (setup : Setup) (lines left : List Line) (s : Played) (w : Rehearsal) → left ≡ lines →
-    w ≡ s.rehearsal →
-    test s ≡ true → IsLed setup lines s → IsRunOf test setup left w
-run_left test setup lines left s w e f shown h =
-    subst (λ l. IsRunOf test setup l w) (sym e)
-    (subst (λ v. IsRunOf test setup lines v) (sym f) (shown_run test setup lines s shown h))

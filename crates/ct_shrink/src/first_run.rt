@@ -1,16 +1,16 @@
 //! The beginning of a record that shows a goal.
 
-ghost use Rattle.std.specs.Prelude.{◌≡◌, ◌≤◌, Ok, None, IfOk, IfErr, OnOk, MatchOption, length};
+ghost use Rattle.std.specs.Prelude.{◌≡◌, ◌≤◌, [], Ok, None, Some, IfOk, IfErr, OnOk, MatchOption, length};
 ghost use Rattle.ct_model.specs.Cause.{cause};
 ghost use Rattle.ct_world.specs.Replay.{AllowsFirst};
-ghost use Rattle.ct_world.specs.Setup.{setting_of};
+ghost use Rattle.ct_world.specs.Setup.{record_of, setting_of};
 ghost use Rattle.ct_play.specs.Faults.{IsShort};
 ghost use Rattle.ct_play.specs.Played.{with_step};
-ghost use Rattle.ct_play.specs.Goals.{shows};
+ghost use Rattle.ct_play.specs.Goals.{shows, uncut};
 ghost use Rattle.ct_shrink.specs.Lines.{after_line};
 ghost use Rattle.ct_shrink.specs.Runs.{IsFirstOf, IsNeverShown};
 
-use crate::kept_run::{KeptRun, kept_run, push_line};
+use crate::kept_run::{KeptRun, push_line};
 use crate::line::Line;
 use crate::naming::line_of;
 use ct_grammar::Goal;
@@ -32,18 +32,52 @@ pub(crate) fn first_run(
     ensures err { IfErr result IsShort }
 {
     let mut watch = Watch::new(alloc, *setup, Some(goal))?;
+    match first_lines(alloc, setup, steps, goal, &mut watch) {
+        Ok(Some(lines)) => Ok(Some(KeptRun {
+            lines,
+            world: watch.into_world(),
+        })),
+        Ok(None) => {
+            drop(watch);
+            Ok(None)
+        }
+        Err(fault) => {
+            drop(watch);
+            Err(fault)
+        }
+    }
+}
+
+// Takes the steps until the goal is shown, and answers their lines; None where it is never shown.
+fn first_lines(
+    alloc: Global,
+    setup: &Setup,
+    steps: &[Step],
+    goal: &Goal,
+    watch: &mut Watch<'_>,
+) -> Result<Option<Vec<Line>>, LineFault>
+    requires steps { AllowsFirst (setting_of setup.now) setup.now.cells steps.now (length steps.now) }
+    requires played { watch.old.played ≡ uncut (record_of setup.now []) }
+    requires goal { watch.old.goal ≡ Some goal.now }
+    ensures first { IfOk result (λ first. MatchOption first (IsNeverShown (shows goal.now) setup.now steps.now)
+        (λ lines. IsFirstOf (shows goal.now) setup.now steps.now lines.items watch.new.played.rehearsal)) }
+    ensures err { IfErr result IsShort }
+{
+    // The contract names them.
+    let _ = setup;
+    let _ = goal;
     let mut lines = Vec::new(alloc);
     for (i, step) in steps.iter().enumerate() {
         // The invariant names it.
         let _ = i;
         if watch.shows() {
-            return Ok(Some(kept_run(lines, watch)));
+            return Ok(Some(lines));
         }
-        let line = step_by(&mut watch, *step)?;
+        let line = step_by(watch, *step)?;
         push_line(&mut lines, line.member, line.act)?;
     }
     if watch.shows() {
-        Ok(Some(kept_run(lines, watch)))
+        Ok(Some(lines))
     } else {
         Ok(None)
     }

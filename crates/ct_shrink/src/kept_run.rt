@@ -5,7 +5,6 @@ ghost use Rattle.std.specs.Prelude.{◌≡◌, ◌++◌, ◌∷◌, [], OnOk};
 use crate::line::Line;
 use ct_grammar::Act;
 use ct_names::Member;
-use ct_play::Watch;
 use ct_world::World;
 use std::alloc::AllocError;
 
@@ -14,17 +13,6 @@ use std::alloc::AllocError;
 pub(crate) struct KeptRun {
     pub(crate) lines: Vec<Line>,
     pub(crate) world: World,
-}
-
-// The run of the stage, with these lines.
-pub(crate) fn kept_run(lines: Vec<Line>, watch: Watch<'_>) -> KeptRun
-    ensures lines { result.lines.items ≡ lines.items }
-    ensures world { result.world.rehearsal ≡ watch.entry.played.rehearsal }
-{
-    KeptRun {
-        lines,
-        world: watch.into_world(),
-    }
 }
 
 // Appends the line in which the member does this.

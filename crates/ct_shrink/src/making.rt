@@ -49,11 +49,16 @@ pub fn shrink<P: Progress>(
         return Err(ShrinkFault::NotShown);
     };
     let mut shrinking = Shrinking { run, trials: 0 };
-    let is_stopped = shrinking.shrink(&job, progress)?;
-    Ok(Shrunk {
-        world: shrinking.run.world,
-        lines: shrinking.run.lines,
-        trials: shrinking.trials,
-        is_stopped,
-    })
+    match shrinking.shrink(&job, progress) {
+        Ok(is_stopped) => Ok(Shrunk {
+            world: shrinking.run.world,
+            lines: shrinking.run.lines,
+            trials: shrinking.trials,
+            is_stopped,
+        }),
+        Err(fault) => {
+            drop(shrinking);
+            Err(ShrinkFault::from(fault))
+        }
+    }
 }

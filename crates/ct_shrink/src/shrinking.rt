@@ -15,6 +15,7 @@ use crate::progress::Progress;
 use crate::trying::trial;
 use ct_play::LineFault;
 use std::alloc::{AllocError, Global};
+use std::mem;
 
 // The smallest run so far, and how many trials were made.
 #[derive(Drop)]
@@ -208,13 +209,15 @@ impl Shrinking {
     {
         let _ = job;
         let _ = lines;
-        match kept {
-            Some(run) if run.lines.len() < self.run.lines.len() => {
-                self.run = run;
-                Tried::Smaller
-            }
-            _ => Tried::Same,
+        let Some(run) = kept else {
+            return Tried::Same;
+        };
+        if run.lines.len() >= self.run.lines.len() {
+            drop(run);
+            return Tried::Same;
         }
+        drop(mem::replace(&mut self.run, run));
+        Tried::Smaller
     }
 }
 

@@ -1,13 +1,14 @@
 //! Trials of lines.
 
-ghost use Rattle.std.specs.Prelude.{◌≡◌, ◌++◌, [], OnOk, IfOk, IfErr, IfSome, option_map};
+ghost use Rattle.std.specs.Prelude.{◌≡◌, ◌++◌, [], Some, OnOk, IfOk, IfErr, IfSome, option_map};
+ghost use Rattle.ct_world.specs.Setup.{record_of};
 ghost use Rattle.ct_play.specs.Faults.{IsShort};
-ghost use Rattle.ct_play.specs.Goals.{shows};
+ghost use Rattle.ct_play.specs.Goals.{shows, uncut};
 ghost use Rattle.ct_shrink.specs.Lines.{after_taken, taken};
 ghost use Rattle.ct_shrink.specs.Runs.{IsRunOf};
 ghost use Rattle.ct_shrink.specs.Trials.{behind, trial};
 
-use crate::kept_run::{KeptRun, kept_run, push_line};
+use crate::kept_run::{KeptRun, push_line};
 use crate::line::Line;
 use crate::taking::take;
 use ct_grammar::{Act, Goal};
@@ -28,15 +29,48 @@ pub(crate) fn trial(
     ensures err { IfErr result IsShort }
 {
     let mut watch = Watch::new(alloc, *setup, Some(goal))?;
+    match kept_lines(alloc, setup, goal, lines, &mut watch) {
+        Ok(Some(lines)) => Ok(Some(KeptRun {
+            lines,
+            world: watch.into_world(),
+        })),
+        Ok(None) => {
+            drop(watch);
+            Ok(None)
+        }
+        Err(fault) => {
+            drop(watch);
+            Err(fault)
+        }
+    }
+}
+
+// Tries the lines until the goal is shown, and answers those that were taken; None where it is never shown.
+fn kept_lines(
+    alloc: Global,
+    setup: &Setup,
+    goal: &Goal,
+    lines: &[Line],
+    watch: &mut Watch<'_>,
+) -> Result<Option<Vec<Line>>, LineFault>
+    requires played { watch.old.played ≡ uncut (record_of setup.now []) }
+    requires goal { watch.old.goal ≡ Some goal.now }
+    ensures lines { IfOk result (λ kept. option_map (λ kept. kept.items) kept ≡ trial (shows goal.now) setup.now lines.now) }
+    ensures run { IfOk result (λ kept. IfSome kept (λ kept. IsRunOf (shows goal.now) setup.now kept.items watch.new.played.rehearsal)) }
+    ensures err { IfErr result IsShort }
+{
+    // The contract names them.
+    let _ = setup;
+    let _ = goal;
     let mut kept = Vec::new(alloc);
     for line in lines {
         if watch.shows() {
-            return Ok(Some(kept_run(kept, watch)));
+            return Ok(Some(kept));
         }
-        keep(&mut watch, &mut kept, line.member, line.act)?;
+        keep(watch, &mut kept, line.member, line.act)?;
     }
     if watch.shows() {
-        Ok(Some(kept_run(kept, watch)))
+        Ok(Some(kept))
     } else {
         Ok(None)
     }

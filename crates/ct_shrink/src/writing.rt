@@ -23,7 +23,11 @@ pub(crate) fn written(
     ensures err { IfErr result (λ fault. fault ≡ ProgramFault.Memory) }
 {
     match form {
-        Form::Record => Ok(record_line(alloc, &world)?),
+        Form::Record => {
+            let text = record_line(alloc, &world);
+            drop(world);
+            Ok(text?)
+        }
         Form::Schedule => scheduled(alloc, world, goal),
     }
 }
@@ -42,9 +46,9 @@ fn scheduled(alloc: Global, world: World, goal: &Goal) -> Result<Vec<u8>, Progra
     ensures text { IfOk result (λ text. IsTextOf Form.Schedule world.rehearsal goal.now text.items) }
     ensures err { IfErr result (λ fault. fault ≡ ProgramFault.Memory) }
 {
-    let script = script_of(alloc, &world)?;
+    let script = script_of(alloc, &world);
     drop(world);
-    match schedule_expecting(alloc, &script, goal) {
+    match schedule_expecting(alloc, &script?, goal) {
         Ok(text) => Ok(text),
         Err(_) => Err(ProgramFault::Memory),
     }

@@ -1,7 +1,7 @@
 use Rattle.std.proofs.Common.{◌≡◌, Some}
 use Rattle.ct_play.specs.Goals.{shows}
 use Rattle.ct_shrink.proofs.Beginning.{IsBegun}
-use Rattle.ct_shrink.proofs.first_run.first_run.Given as goal
+use Rattle.ct_shrink.proofs.first_run.first_lines.Given as goal
 
 abbrev pub invariant-loop-i : goal.invariant-loop-i
 invariant-loop-i l = record {

@@ -1,7 +1,7 @@
 use Rattle.std.proofs.Common.{◌≡◌, Some}
 use Rattle.ct_play.specs.Goals.{shows}
 use Rattle.ct_shrink.proofs.Trials.{IsTrying}
-use Rattle.ct_shrink.proofs.trying.trial.Given as goal
+use Rattle.ct_shrink.proofs.trying.kept_lines.Given as goal
 
 abbrev pub invariant-loop-line : goal.invariant-loop-line
 invariant-loop-line l = record {

@@ -1,29 +1,26 @@
-use Rattle.std.proofs.Common.{ap, sym, ◌∙◌, true, false, Some}
-use Rattle.ct_play.specs.Goals.{Watched, shows}
+use Rattle.std.proofs.Common.{sym, ◌∙◌, true, false}
+use Rattle.ct_play.specs.Goals.{shows}
 use Rattle.ct_shrink.proofs.Leading.{looked_for}
-use Rattle.ct_shrink.proofs.Trials.{never_tried, none_tried, one_tried, run_left, shown_tried}
-use Rattle.ct_shrink.proofs.trying.trial.Goals as goal
+use Rattle.ct_shrink.proofs.Trials.{never_tried, none_tried, one_tried, shown_run, shown_tried}
+use Rattle.ct_shrink.proofs.trying.kept_lines.Goals as goal
 
 pub loop-line-init : goal.loop-line-init
 loop-line-init c = record {
-  goal = ap (λ (w : Watched). w.goal) c.in_ok-watch.ensures.ok;
-  trying = none_tried (shows c.args.goal.now) c.args.setup.now c.args.lines.now c.new-kept.result.items c.in_ok-watch.watch.played
-      (ap (λ (w : Watched). w.played) c.in_ok-watch.ensures.ok) c.new-kept.ensures.items;
+  goal = c.requires.goal;
+  trying = none_tried (shows c.args.goal.now) c.args.setup.now c.args.lines.now c.new-kept.result.items c.args.watch.now.played
+      c.requires.played c.new-kept.ensures.items;
 }
 
 pub returns-then-shows-clause-lines : goal.returns-then-shows-clause-lines
 returns-then-shows-clause-lines c =
     let s = c.loop-line.watch.played in
-    ap Some c.kept_run.ensures.lines
-    ∙ sym (shown_tried (shows c.args.goal.now) c.args.setup.now c.args.lines.now c.loop-line.kept.items c.loop-line.line-index s
+    sym (shown_tried (shows c.args.goal.now) c.args.setup.now c.args.lines.now c.loop-line.kept.items c.loop-line.line-index s
     (looked_for c.loop-line.watch.goal c.args.goal.now s true c.if-shows.ensures c.loop-line.invariant.goal) c.loop-line.invariant.trying)
 
 pub returns-then-shows-clause-run : goal.returns-then-shows-clause-run
 returns-then-shows-clause-run c =
     let s = c.loop-line.watch.played in
-    run_left (shows c.args.goal.now) c.args.setup.now c.loop-line.kept.items c.kept_run.result.lines.items s
-    c.kept_run.result.world.rehearsal
-    c.kept_run.ensures.lines c.kept_run.ensures.world
+    shown_run (shows c.args.goal.now) c.args.setup.now c.loop-line.kept.items s
     (looked_for c.loop-line.watch.goal c.args.goal.now s true c.if-shows.ensures c.loop-line.invariant.goal)
     c.loop-line.invariant.trying.led
 
@@ -42,16 +39,14 @@ loop-line-preserved c =
 pub returns-then-shows-2-clause-lines : goal.returns-then-shows-2-clause-lines
 returns-then-shows-2-clause-lines c =
     let s = c.loop-line.watch.played in
-    ap Some c.kept_run-then-shows-2.ensures.lines
-    ∙ sym (shown_tried (shows c.args.goal.now) c.args.setup.now c.args.lines.now c.loop-line.kept.items c.loop-line.line-index s
+    sym (shown_tried (shows c.args.goal.now) c.args.setup.now c.args.lines.now c.loop-line.kept.items c.loop-line.line-index s
     (looked_for c.loop-line.watch.goal c.args.goal.now s true c.if-shows-2.ensures c.loop-line.invariant.goal)
     c.loop-line.invariant.trying)
 
 pub returns-then-shows-2-clause-run : goal.returns-then-shows-2-clause-run
 returns-then-shows-2-clause-run c =
     let s = c.loop-line.watch.played in
-    run_left (shows c.args.goal.now) c.args.setup.now c.loop-line.kept.items c.kept_run-then-shows-2.result.lines.items s
-    c.kept_run-then-shows-2.result.world.rehearsal c.kept_run-then-shows-2.ensures.lines c.kept_run-then-shows-2.ensures.world
+    shown_run (shows c.args.goal.now) c.args.setup.now c.loop-line.kept.items s
     (looked_for c.loop-line.watch.goal c.args.goal.now s true c.if-shows-2.ensures c.loop-line.invariant.goal)
     c.loop-line.invariant.trying.led
 

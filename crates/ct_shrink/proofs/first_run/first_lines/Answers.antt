@@ -4,31 +4,32 @@ use Rattle.ct_names.specs.declared.command.Command.TheVariants.{Set}
 use Rattle.ct_model.specs.Cause.{cause}
 use Rattle.ct_model.specs.declared.step.Step.{Step}
 use Rattle.ct_model.specs.declared.step.Step.TheVariants.{Submit}
-use Rattle.ct_play.specs.Goals.{Watched, shows}
+use Rattle.ct_play.specs.Goals.{shows}
 use Rattle.ct_play.specs.Played.{Played}
-use Rattle.ct_shrink.proofs.Beginning.{begun_left, never_begun, none_begun, one_begun}
+use Rattle.ct_shrink.proofs.Beginning.{never_begun, none_begun, one_begun, shown_begun}
 use Rattle.ct_shrink.proofs.Leading.{looked_for}
-use Rattle.ct_shrink.proofs.first_run.first_run.Goals as goal
+use Rattle.ct_shrink.proofs.first_run.first_lines.Goals as goal
 
 pub loop-i-init : goal.loop-i-init
 loop-i-init c = record {
-  goal = ap (λ (w : Watched). w.goal) c.in_ok-watch.ensures.ok;
-  begun = none_begun (shows c.args.goal.now) c.args.setup.now c.args.steps.now c.new-lines.result.items c.in_ok-watch.watch.played
-      (ap (λ (w : Watched). w.played) c.in_ok-watch.ensures.ok) c.new-lines.ensures.items;
+  goal = c.requires.goal;
+  begun = none_begun (shows c.args.goal.now) c.args.setup.now c.args.steps.now c.new-lines.result.items c.args.watch.now.played
+      c.requires.played c.new-lines.ensures.items;
 }
 
 pub returns-then-shows-clause-first : goal.returns-then-shows-clause-first
 returns-then-shows-clause-first c =
     let s = c.loop-i.watch.played in
-    begun_left (shows c.args.goal.now) c.args.setup.now c.args.steps.now c.loop-i.lines.items c.kept_run.result.lines.items c.loop-i.i s
-    c.kept_run.result.world.rehearsal c.kept_run.ensures.lines c.kept_run.ensures.world (omega (arith, c.loop-i-test.true))
+    shown_begun (shows c.args.goal.now) c.args.setup.now c.args.steps.now c.loop-i.lines.items c.loop-i.i s
+    (omega (arith, c.loop-i-test.true))
     (looked_for c.loop-i.watch.goal c.args.goal.now s true c.if-shows.ensures c.loop-i.invariant.goal) c.loop-i.invariant.begun
 
 pub step_by-requires : goal.step_by-requires
 step_by-requires c =
     let step : Step = get_or c.args.steps.now c.loop-i.i (Submit 0 (Set 0 0)) in
     ap (λ (t : Played). cause t.rehearsal step) c.loop-i.invariant.begun.stage
-    ∙ c.requires c.loop-i.i step c.loop-i-test.true (slice_get-get_or c.args.steps.now c.loop-i.i (Submit 0 (Set 0 0)) c.loop-i-test.true)
+    ∙ c.requires.steps c.loop-i.i step c.loop-i-test.true
+    (slice_get-get_or c.args.steps.now c.loop-i.i (Submit 0 (Set 0 0)) c.loop-i-test.true)
 
 pub loop-i-preserved : goal.loop-i-preserved
 loop-i-preserved c =
@@ -46,11 +47,8 @@ loop-i-preserved c =
 pub returns-then-shows-2-clause-first : goal.returns-then-shows-2-clause-first
 returns-then-shows-2-clause-first c =
     let s = c.loop-i.watch.played in
-    begun_left (shows c.args.goal.now) c.args.setup.now c.args.steps.now c.loop-i.lines.items
-    c.kept_run-then-shows-2.result.lines.items c.loop-i.i s
-    c.kept_run-then-shows-2.result.world.rehearsal c.kept_run-then-shows-2.ensures.lines c.kept_run-then-shows-2.ensures.world
-    c.loop-i.auto.i-end (looked_for c.loop-i.watch.goal c.args.goal.now s true c.if-shows-2.ensures c.loop-i.invariant.goal)
-    c.loop-i.invariant.begun
+    shown_begun (shows c.args.goal.now) c.args.setup.now c.args.steps.now c.loop-i.lines.items c.loop-i.i s c.loop-i.auto.i-end
+    (looked_for c.loop-i.watch.goal c.args.goal.now s true c.if-shows-2.ensures c.loop-i.invariant.goal) c.loop-i.invariant.begun
 
 pub returns-else-shows-2-clause-first : goal.returns-else-shows-2-clause-first
 returns-else-shows-2-clause-first c =
