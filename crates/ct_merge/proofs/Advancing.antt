@@ -1,6 +1,6 @@
 -- Lines of several logs.
 use Rattle.std.proofs.Common.{◌≡◌, ◌≢◌, ℕ, ◌≤◌, ◌&&◌, Bool, true, false, List, [], inl, inr, ap, sym, subst, ◌∙◌, refl, arith}
-use Rattle.std.proofs.Common.{leb-true, nat_le, ◌-◌, length, take}
+use Rattle.std.proofs.Common.{leb-true, nat_le, ◌-◌, take}
 use Rattle.std.specs.Prelude.{filter, slice_index}
 use Rattle.std.specs.Global.{Vec}
 use Rattle.std.specs.List.{AllZip}

@@ -1,5 +1,5 @@
 -- Logs whose ends may be lost.
-use Rattle.std.proofs.Common.{◌≡◌, ◌≢◌, ℕ, zero, suc, ◌≤◌, ◌++◌, true, List, [], ◌∷◌, inl, inr, sym, ap, subst, ◌∙◌, refl}
+use Rattle.std.proofs.Common.{◌≡◌, ◌≢◌, ℕ, zero, suc, ◌≤◌, ◌++◌, List, [], ◌∷◌, inl, inr, sym, ap, subst, ◌∙◌, refl}
 use Rattle.std.proofs.Common.{arith, length, take, append-nil, append_assoc}
 use Rattle.std.specs.Global.{Vec}
 use Rattle.std.specs.List.{AllZip}

@@ -18,6 +18,7 @@ pub mod Running
 pub mod Sameness
 pub mod SentOnce
 pub mod Standing
+pub mod Standstills
 pub mod Stopping
 pub mod Taking
 pub mod Telling

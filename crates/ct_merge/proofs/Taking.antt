@@ -1,5 +1,5 @@
 -- Lines that are taken.
-use Rattle.std.proofs.Common.{◌≡◌, ◌≢◌, ℕ, ◌+◌, ◌<◌, ◌≤◌, ◌==◌, Bool, true, false, not, ◌&&◌, List, [], ◌∷◌, ◌++◌, Some, IfSome}
+use Rattle.std.proofs.Common.{◌≡◌, ◌≢◌, ℕ, ◌+◌, ◌<◌, ◌==◌, Bool, true, false, ◌&&◌, List, [], ◌∷◌, ◌++◌, Some, IfSome}
 use Rattle.std.proofs.Common.{ap, sym, ◌∙◌, refl, length, take, get_or, arith, subst}
 use Rattle.std.specs.List.{AllZip}
 use Rattle.std.proofs.lemmas.Bool.{eq-eqb, ne_eqb}
@@ -8,7 +8,7 @@ use Rattle.std.proofs.lemmas.Slice.Zip.{all_zipped_more}
 use Rattle.ct_model.specs.Rehearsal.{Rehearsal, extended}
 use Rattle.ct_model.specs.declared.step.Step.{Step}
 use Rattle.ct_model.specs.declared.step.Step.TheVariants.{Repeat}
-use Rattle.ct_play.specs.Stating.{outcome_text}
+use Rattle.ct_merge.specs.Stating.{is_stated, log_outcome}
 use Rattle.ct_merge.specs.Logs.{IsTold, act_of, is_own, own}
 use Rattle.ct_merge.specs.Merging.{IsSameGroup, IsTakenTo, LeavesAll, LeavesOthers, Takes, step_of}
 use Rattle.ct_merge.specs.declared.log_act.LogAct.{LogAct}
@@ -85,12 +85,15 @@ pub ruleset grouped = (group_same, group_step)
 -- the line is taken by its step, which came to what it states
 pub takes : (old mid new : Rehearsal) (p k : ℕ) (line : LogLine) → LeavesAll old mid →
     act_of mid (step_of p k line.act) ≡ Some line.act → new ≡ extended mid (step_of p k line.act) →
-    IfSome line.said (λ text. outcome_text new (step_of p k line.act) ≡ text) → Takes old p line new
+    IfSome line.said (λ text. is_stated (log_outcome new (step_of p k line.act)) text ≡ true) → Takes old p line new
 takes old mid new p k line same act e said =
     let step : Step = step_of p k line.act in
     record {
       moment = at mid step;
-      told = record { act = act; said = subst (λ (w : Rehearsal). IfSome line.said (λ text. outcome_text w step ≡ text)) e said };
+      told = record {
+        act = act;
+        said = subst (λ (w : Rehearsal). IfSome line.said (λ text. is_stated (log_outcome w step) text ≡ true)) e said;
+      };
       own =
           ap (λ (w : Rehearsal). own w p) e
           ∙ (own_joins mid p step (own_step mid p k line.act) ∙ ap (λ l. l ++ at mid step ∷ []) (same p));

@@ -1,5 +1,5 @@
 -- Serials of no envelope of a name, and logs that stand.
-use Rattle.std.proofs.Common.{◌≡◌, ◌≢◌, ℕ, zero, suc, ◌+◌, ◌<◌, ◌≤◌, ◌==◌, true, false, List, [], ◌∷◌, Option, Some, None, length, inl, inr}
+use Rattle.std.proofs.Common.{◌≡◌, ◌≢◌, ℕ, zero, suc, ◌+◌, ◌<◌, ◌≤◌, true, false, List, [], ◌∷◌, Option, Some, None, length, inl, inr}
 use Rattle.std.proofs.Common.{refl, sym, ap, ◌∙◌, subst, arith}
 use Rattle.std.specs.Prelude.{IfSome, is_some, option_and_then, option_map}
 use Rattle.std.specs.Global.{Vec}
@@ -14,7 +14,7 @@ use Rattle.ct_model.specs.Stamps.{is_sent}
 use Rattle.ct_model.specs.State.{at_serial}
 use Rattle.ct_model.specs.When.{when}
 use Rattle.ct_model.specs.declared.envelope.Envelope.{Envelope as AnyEnvelope}
-use Rattle.ct_model.proofs.Basics.Options.{some-none, some-same}
+use Rattle.ct_model.proofs.Basics.Options.{some-same}
 use Rattle.ct_model.proofs.Basics.Tests.{number_other}
 use Rattle.ct_play.specs.declared.line_fault.LineFault.TheVariants.{Restless}
 use Rattle.ct_merge.specs.Logs.{log_of}

@@ -10,7 +10,6 @@ use Rattle.ct_names.specs.declared.refusal.Refusal.TheVariants.{Full}
 use Rattle.ct_play.specs.declared.line_fault.LineFault.{LineFault}
 use Rattle.ct_play.specs.declared.line_fault.LineFault.TheVariants.{Refused}
 use Rattle.ct_merge.specs.declared.own_fault.OwnFault.TheVariants.{Line, CameTo}
-use Rattle.ct_merge.specs.declared.verdict.Culprit.{Culprit}
 use Rattle.ct_merge.specs.declared.verdict.Why.{Why}
 use Rattle.ct_merge.specs.declared.verdict.Why.TheVariants.{Fault, Never, Ended, Circle}
 
@@ -52,7 +51,3 @@ why_text (Fault (CameTo p came)) = came_to_text p came
 why_text (Never p) = concat (codes "it was not sent before, and member " ∷ decimal p ∷ codes " can't send it any more" ∷ [])
 why_text (Ended p) = concat (codes "the log of member " ∷ decimal p ∷ codes " ends before it is sent" ∷ [])
 why_text Circle = codes "it waits for a line that waits for it"
-
--- the same of a line that is named before
-abbrev pub culprit_text : Culprit → List ℕ
-culprit_text c = why_text c.why

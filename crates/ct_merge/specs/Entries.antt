@@ -14,18 +14,19 @@ use Rattle.ct_grammar.specs.declared.pick.Pick.TheVariants as picks
 use Rattle.ct_grammar.specs.declared.play.Play.{Play}
 use Rattle.ct_grammar.specs.declared.play.Play.TheVariants as plays
 use Rattle.ct_grammar.specs.declared.who.Who.TheVariants.{One}
+use Rattle.ct_merge.specs.Proposers.{act_lacks_sender, without_sender}
 use Rattle.ct_merge.specs.declared.entry.Entry.{Entry}
 use Rattle.ct_merge.specs.declared.entry.Entry.TheVariants.{Blank, Given, Told}
 use Rattle.ct_merge.specs.declared.entry.NoEntry.{NoEntry}
-use Rattle.ct_merge.specs.declared.entry.NoEntry.TheVariants.{NoLine, NoAct, Network, Serial, NoSender}
+use Rattle.ct_merge.specs.declared.entry.NoEntry.TheVariants.{NoLine, NoAct, Network, Serial}
 use Rattle.ct_merge.specs.declared.log_act.LogAct.{LogAct}
 use Rattle.ct_merge.specs.declared.log_act.LogAct.TheVariants.{Submit, Receive, Begin, Enter, Choose, Adopt, Suspect, Conclude, Deliver}
 use Rattle.ct_merge.specs.declared.log_act.LogAct.TheVariants.{Follow, Crash}
 
--- a receipt, as logs have it: the envelope is named in full
+-- a receipt, as logs have it: the envelope is named in full, a proposal perhaps without its sender
 abbrev pub received : Pick → Result LogAct NoEntry
 received (picks.Serial k) = Err Serial
-received (picks.First carried None) = Err NoSender
+received (picks.First carried None) = without_sender carried
 received (picks.First carried (Some p)) = Ok (Receive (record { carried = carried; from = p }))
 
 -- an act, as logs have it: none that the network does
@@ -43,13 +44,13 @@ act_in_log acts.Follow = Ok Follow
 act_in_log acts.Crash = Ok Crash
 act_in_log _ = Err Network
 
-abbrev pub told_as : ℕ → Option (List ℕ) → Result LogAct NoEntry → Result Entry NoEntry
-told_as p said (Ok act) = Ok (Told p (record { act = act; said = said }))
-told_as p said (Err why) = Err why
+abbrev pub told_as : ℕ → Option (List ℕ) → Bool → Result LogAct NoEntry → Result Entry NoEntry
+told_as p said lacks_sender (Ok act) = Ok (Told p (record { act = act; said = said; lacks_sender = lacks_sender }))
+told_as p said lacks_sender (Err why) = Err why
 
 -- what p did, and what that came to, where it is stated
 abbrev pub told : ℕ → Act → Option (List ℕ) → Result Entry NoEntry
-told p a said = told_as p said (act_in_log a)
+told p a said = told_as p said (act_lacks_sender a) (act_in_log a)
 
 -- what a line plays, as logs have it: an act of one member, with what it came to or without
 abbrev pub played : Play → Result Entry NoEntry
@@ -86,6 +87,6 @@ abbrev pub or_numbered : ℕ → List ℕ → Result Line Misfit → Result Entr
 or_numbered p text (Ok l) = entry_of (Ok l)
 or_numbered p text (Err misfit) = numbered_entry p text
 
--- what a line says in the log of p: a line of a schedule, which need not begin with p's number where it tells of an act
-unfoldable pub entry_in : ℕ → List ℕ → Result Entry NoEntry
-entry_in p text = if is_numbered text || gives_number text then entry_of (line_of text) else or_numbered p text (line_of text)
+-- what a line says in the log of p as a line of a schedule, which need not begin with p's number where it tells of an act
+unfoldable pub plain_entry : ℕ → List ℕ → Result Entry NoEntry
+plain_entry p text = if is_numbered text || gives_number text then entry_of (line_of text) else or_numbered p text (line_of text)

@@ -1,4 +1,5 @@
 pub mod Barred
+pub mod Conclusions
 pub mod Culprits
 pub mod Deeds
 pub mod Entries
@@ -9,8 +10,12 @@ pub mod Names
 pub mod Numbers
 pub mod Past
 pub mod Presuming
+pub mod Proposers
 pub mod Runs
+pub mod Senders
 pub mod Sending
+pub mod Standstills
+pub mod Stating
 pub mod Stops
 pub mod Texts
 pub mod Verdicts

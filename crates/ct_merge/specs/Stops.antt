@@ -1,5 +1,5 @@
 -- Where logs stand, and why.
-use Rattle.std.specs.Prelude.{◌≡◌, ◌≢◌, ◌⊎◌, ℕ, zero, suc, ◌≤◌, ◌<◌, Bool, true, false, List, Option, Some, None}
+use Rattle.std.specs.Prelude.{◌≡◌, ◌⊎◌, ℕ, zero, suc, ◌≤◌, ◌<◌, Bool, true, false, List, Option, Some, None}
 use Rattle.std.specs.Prelude.{length, slice_get, IfSome, ⊤}
 use Rattle.std.specs.Global.{Vec}
 use Rattle.ct_names.specs.declared.limit.TheConstants.{MAX_MEMBERS}
@@ -9,20 +9,20 @@ use Rattle.ct_model.specs.Lawful.{IsLawful}
 use Rattle.ct_model.specs.Rehearsal.{Rehearsal, extended}
 use Rattle.ct_model.specs.declared.step.Step.{Step}
 use Rattle.ct_model.specs.declared.step.Step.TheVariants.{Repeat}
-use Rattle.ct_play.specs.Stating.{outcome_text}
 use Rattle.ct_play.specs.Faults.{UnlessShort, is_short}
 use Rattle.ct_play.specs.declared.line_fault.LineFault.{LineFault}
 use Rattle.ct_play.specs.declared.line_fault.LineFault.TheVariants.{Refused, NotSo}
 use Rattle.ct_merge.specs.Logs.{act_of, log_of}
 use Rattle.ct_merge.specs.Merging.{IsSameGroup, IsTakenFrom, IsTakenTo, LeavesAll, LeavesOthers, Taken, count_of}
 use Rattle.ct_merge.specs.Sending.{may_come}
+use Rattle.ct_merge.specs.Stating.{is_stated, log_outcome}
 use Rattle.ct_merge.specs.declared.full_name.FullName.{FullName}
 use Rattle.ct_merge.specs.declared.log_act.LogAct.TheVariants.{Receive}
 use Rattle.ct_merge.specs.declared.log_line.LogLine.{LogLine}
 use Rattle.ct_merge.specs.declared.own_fault.OwnFault.{OwnFault}
 use Rattle.ct_merge.specs.declared.own_fault.OwnFault.TheVariants.{Line, CameTo}
-use Rattle.ct_merge.specs.declared.standstill.Stand.{Stand}
-use Rattle.ct_merge.specs.declared.standstill.Stand.TheVariants.{Own, For}
+use Rattle.ct_merge.specs.declared.stand.Stand.{Stand}
+use Rattle.ct_merge.specs.declared.stand.Stand.TheVariants.{Own, For}
 use Rattle.ct_merge.specs.declared.verdict.Culprit.{Culprit}
 use Rattle.ct_merge.specs.declared.verdict.Why.{Why}
 use Rattle.ct_merge.specs.declared.verdict.Why.TheVariants.{Fault, Never, Ended, Circle}
@@ -39,12 +39,12 @@ pub record IsRepetition (p : ℕ) (step : Step) : Type 0 where
   pub serial : ℕ
   pub is : step ≡ Repeat p serial
 
--- a text is stated, and the step that led to this record came to this, which is another
+-- a text is stated, and the step that led to this record came to this, which the text doesn't state
 pub record IsOther (w : Rehearsal) (step : Step) (said : Option (List ℕ)) (came : List ℕ) : Type 0 where
   pub text : List ℕ
   pub stated : said ≡ Some text
-  pub is : outcome_text w step ≡ came
-  pub other : came ≢ text
+  pub is : log_outcome w step ≡ came
+  pub other : is_stated came text ≡ false
 
 -- the step of which the line tells is allowed, and comes to this and not to what it states
 pub record Differs (w : Rehearsal) (p : ℕ) (line : LogLine) (came : List ℕ) : Type 0 where

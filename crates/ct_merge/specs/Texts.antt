@@ -3,7 +3,7 @@ use Rattle.std.specs.Prelude.{◌≡◌, ℕ, ◌+◌, Bool, false, not, ◌==�
 use Rattle.std.specs.Prelude.{unwrap_or, if◌then◌else◌}
 use Rattle.ct_grammar.specs.Texts.{lines_of, text_in}
 use Rattle.ct_play.specs.Acting.{go_on}
-use Rattle.ct_merge.specs.Entries.{entry_in}
+use Rattle.ct_merge.specs.Conclusions.{entry_in}
 use Rattle.ct_merge.specs.Numbers.{no_numbers, with_given}
 use Rattle.ct_merge.specs.declared.entry.Entry.{Entry}
 use Rattle.ct_merge.specs.declared.entry.Entry.TheVariants.{Blank, Given, Told}

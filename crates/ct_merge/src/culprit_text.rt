@@ -1,24 +1,18 @@
 //! Why lines of logs are not taken, as text.
 
 ghost use Rattle.std.specs.Prelude.{◌≡◌, ◌++◌, OnOk, string_bytes};
-ghost use Rattle.ct_merge.specs.Culprits.{came_to_text, culprit_text, fault_text, head_text, note_text, refused_text, why_text};
+ghost use Rattle.ct_merge.specs.Culprits.{came_to_text, fault_text, head_text, note_text, refused_text, why_text};
 
 use crate::own_fault::OwnFault;
-use crate::verdict::{Culprit, Why};
+use crate::verdict::Why;
 use ct_names::{Limit, Member, Refusal};
 use ct_play::LineFault;
 use std::alloc::AllocError;
 
-/// Puts behind the text why the culprit's line is not taken, as `the log of member 2 ends before it is sent`; the line itself is the
-/// caller's to name. Where memory is refused, a beginning of it may stand there.
-pub fn push_culprit(text: &mut String, culprit: &Culprit) -> Result<(), AllocError>
-    ensures { OnOk result (string_bytes text.new ≡ string_bytes text.old ++ culprit_text culprit.now) }
-{
-    push_why(text, &culprit.why)
-}
-
+/// Puts behind the text why a line is not taken, as `the log of member 2 ends before it is sent`; the line itself is the caller's to name.
+/// Where memory is refused, a beginning of it may stand there.
 #[tactic(auto, unfolding(crate::specs::Culprits::why_text))]
-fn push_why(text: &mut String, why: &Why) -> Result<(), AllocError>
+pub fn push_why(text: &mut String, why: &Why) -> Result<(), AllocError>
     ensures { OnOk result (string_bytes text.new ≡ string_bytes text.old ++ why_text why.now) }
 {
     match why {

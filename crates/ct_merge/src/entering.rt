@@ -2,25 +2,26 @@
 
 ghost use Rattle.std.specs.Prelude.{◌≡◌, IfOk};
 ghost use Rattle.ct_grammar.specs.Lines.{line_of};
-ghost use Rattle.ct_merge.specs.Entries.{act_in_log, entry_in, entry_of, gives_number, is_numbered, numbered, numbered_entry};
+ghost use Rattle.ct_merge.specs.Entries.{act_in_log, entry_of, gives_number, is_numbered, numbered, numbered_entry, plain_entry};
 ghost use Rattle.ct_merge.specs.Entries.{received, told};
+ghost use Rattle.ct_merge.specs.Proposers.{is_proposal, pick_lacks_sender, act_lacks_sender, without_sender};
 
 use crate::entry::{Entry, NoEntry};
 use crate::full_name::FullName;
 use crate::log_act::LogAct;
 use crate::log_line::LogLine;
-use ct_grammar::{Act, Line, Misfit, Pick, Play, Text, Who, line_of};
+use ct_grammar::{Act, Carried, Line, Misfit, Pick, Play, Text, Who, line_of};
 use ct_names::Member;
 use std::alloc::{AllocError, Global};
 
-/// What the line says, in the log of this member where it names none.
-#[tactic(auto, unfolding(crate::specs::Entries::entry_in))]
-pub(crate) fn entry_in(
+/// What the line says as one of a schedule, in the log of this member where it names none.
+#[tactic(auto, unfolding(crate::specs::Entries::plain_entry))]
+pub(crate) fn plain_entry(
     alloc: Global,
     member: Member,
     text: &str,
 ) -> Result<Result<Entry, NoEntry>, AllocError>
-    ensures { IfOk result (λ entry. entry ≡ entry_in member text.now) }
+    ensures { IfOk result (λ entry. entry ≡ plain_entry member text.now) }
 {
     let line = line_of(alloc, text)?;
     if is_numbered(text.as_bytes()) || gives_number(text.as_bytes()) {
@@ -81,8 +82,17 @@ fn entry_of(line: Result<Line, Misfit>) -> Result<Entry, NoEntry>
 fn told(member: Member, act: Act, said: Option<Text>) -> Result<Entry, NoEntry>
     ensures { result ≡ told member act said }
 {
+    let same = act;
+    let lacks_sender = act_lacks_sender(same);
     match act_in_log(act) {
-        Ok(act) => Ok(Entry::Told(member, LogLine { act, said })),
+        Ok(act) => Ok(Entry::Told(
+            member,
+            LogLine {
+                act,
+                said,
+                lacks_sender,
+            },
+        )),
         Err(why) => Err(why),
     }
 }
@@ -115,7 +125,42 @@ fn received(pick: Pick) -> Result<LogAct, NoEntry>
 {
     match pick {
         Pick::Serial(_) => Err(NoEntry::Serial),
-        Pick::First(_, None) => Err(NoEntry::NoSender),
+        Pick::First(carried, None) => without_sender(carried),
         Pick::First(carried, Some(from)) => Ok(LogAct::Receive(FullName { carried, from })),
     }
+}
+
+// A receipt without a sender: of a proposal, which stands there as no member's until the group is known.
+fn without_sender(carried: Carried) -> Result<LogAct, NoEntry>
+    ensures { result ≡ without_sender carried }
+{
+    match carried {
+        Carried::Prop(..) => Ok(LogAct::Receive(FullName { carried, from: 0 })),
+        _ => Err(NoEntry::NoSender),
+    }
+}
+
+// Whether the act receives a proposal that is named without its sender.
+fn act_lacks_sender(act: Act) -> bool
+    ensures { result ≡ act_lacks_sender act }
+{
+    match act {
+        Act::Receive(pick) => pick_lacks_sender(pick),
+        _ => false,
+    }
+}
+
+fn pick_lacks_sender(pick: Pick) -> bool
+    ensures { result ≡ pick_lacks_sender pick }
+{
+    match pick {
+        Pick::First(carried, None) => is_proposal(carried),
+        _ => false,
+    }
+}
+
+fn is_proposal(carried: Carried) -> bool
+    ensures { result ≡ is_proposal carried }
+{
+    matches!(carried, Carried::Prop(..))
 }

@@ -6,11 +6,13 @@
 #![tactic(auto)]
 
 mod address;
+mod concluding;
 mod culprit_text;
 mod ends;
 mod entering;
 mod entry;
 mod full_name;
+mod furthest;
 mod laws;
 mod log_act;
 mod log_fault;
@@ -27,15 +29,21 @@ mod progress;
 mod receipts;
 mod rounds_behind;
 mod sending;
+mod sending_line;
+mod stand;
 mod standstill;
 mod stated;
+mod stating;
+mod stopped_line;
+mod stopped_lines;
 mod taker;
 mod unsent;
 mod verdict;
 
-pub use culprit_text::push_culprit;
+pub use culprit_text::push_why;
 pub use entry::NoEntry;
 pub use full_name::FullName;
+pub use furthest::stopped;
 pub use laws::{law_local, law_merge, law_names, law_same, law_stopped};
 pub use log_act::LogAct;
 pub use log_fault::LogFault;
@@ -47,4 +55,7 @@ pub use numbers::Numbers;
 pub use own_fault::OwnFault;
 pub use presuming::presume;
 pub use presumption::Presumption;
+pub use stand::Stand;
+pub use stopped_line::StoppedLine;
+pub use stopped_lines::StoppedLines;
 pub use verdict::{Culprit, Verdict, Why};

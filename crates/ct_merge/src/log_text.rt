@@ -5,7 +5,7 @@ ghost use Rattle.ct_merge.specs.Texts.{IsFaultIn, after_entry, after_line, after
 ghost use Rattle.ct_merge.specs.Texts.{whole_lines};
 ghost use Rattle.ct_grammar.specs.Texts.{text_in};
 
-use crate::entering::entry_in;
+use crate::concluding::entry_in;
 use crate::entry::{Entry, NoEntry};
 use crate::log_fault::LogFault;
 use crate::log_line::LogLine;

@@ -103,6 +103,25 @@ impl Merger {
         let Merger { progress, logs } = self;
         judge(progress, &logs)
     }
+
+    /// The same, and the logs, member 1's first.
+    pub fn end_with_logs(self) -> Result<(Verdict, Vec<Vec<LogLine>>), LineFault>
+        // What is accepted is a merge of the logs.
+        ensures merged { IfOk result (λ ended. IfAccepted ended.0 (λ w. IsMerge w self.logs)) }
+        ensures setting { IfOk result (λ ended. IfAccepted ended.0 (λ w. w.setting ≡ self.setting)) }
+        ensures cells { IfOk result (λ ended. IfAccepted ended.0 (λ w. w.cells ≡ self.cells)) }
+        // A line that is told of is the next one of its log behind a run, and is not taken there.
+        ensures culprit { IfOk result (λ ended. IfStopped ended.0 (IsCulprit self.logs)) }
+        // Where it is told of as one that waits, no run of the group is a merge of the logs.
+        ensures none { IfOk result (λ ended. IfStopped ended.0 (λ culprit. is_wait culprit.why ≡ true →
+            HasNoMerge self.setting self.logs)) }
+        ensures logs { IfOk result (λ ended. ended.1.items ≡ self.logs) }
+        ensures err { IfErr result IsShort }
+    {
+        let Merger { progress, logs } = self;
+        let verdict = judge(progress, &logs)?;
+        Ok((verdict, logs))
+    }
 }
 
 // So many logs without a line.

@@ -243,7 +243,12 @@ fn go_further(
     if !progress.stage().world().group().has(member) {
         return Ok(Advance::Fails);
     }
-    push_line(logs, member, LogLine { act, said: None })?;
+    let line = LogLine {
+        act,
+        said: None,
+        lacks_sender: false,
+    };
+    push_line(logs, member, line)?;
     if !run_on(progress, logs)? {
         return Ok(Advance::Fails);
     }

@@ -19,7 +19,7 @@ use std::alloc::Global;
 use std::marker::Model;
 
 // A number for each member that a group can have.
-const MEMBERS: usize = MAX_MEMBERS as usize;
+pub(crate) const MEMBERS: usize = MAX_MEMBERS as usize;
 
 /// A world into which the lines of logs are taken, and how many lines of each member's log were taken.
 #[derive(Drop)]
@@ -79,10 +79,20 @@ impl Progress {
         ensures group { OnOk result (IsSameGroup self.old.rehearsal self.new.rehearsal) }
         ensures halt { IfErr result (IsHalt logs.now self.new) }
     {
+        self.run_to(logs, &[])
+    }
+
+    /// The same, of each member's log up to its end of these.
+    pub(crate) fn run_to(&mut self, logs: &[Vec<LogLine>], ends: &[usize]) -> Result<(), OwnFault>
+        requires { IsTakenFrom logs.now self.old }
+        ensures taken { OnOk result (IsTakenFrom logs.now self.new) }
+        ensures group { OnOk result (IsSameGroup self.old.rehearsal self.new.rehearsal) }
+        ensures halt { IfErr result (IsHalt logs.now self.new) }
+    {
         // Each round but the last takes a line.
         for round in 0..=lines_of(logs) {
             let _ = round;
-            if !self.round(logs)? {
+            if !self.round(logs, ends)? {
                 return Ok(());
             }
         }
@@ -90,7 +100,7 @@ impl Progress {
     }
 
     // Takes lines of each log in its turn. Whether there were some.
-    fn round(&mut self, logs: &[Vec<LogLine>]) -> Result<bool, OwnFault>
+    fn round(&mut self, logs: &[Vec<LogLine>], ends: &[usize]) -> Result<bool, OwnFault>
         requires { IsTakenFrom logs.now self.old }
         ensures taken { OnOk result (IsTakenFrom logs.now self.new) }
         ensures group { OnOk result (IsSameGroup self.old.rehearsal self.new.rehearsal) }
@@ -98,16 +108,21 @@ impl Progress {
     {
         let mut some = false;
         for i in 0..self.stage().world().group().n() {
-            if self.advance(i + 1, logs)? {
+            if self.advance(i + 1, logs, end_of(ends, i + 1))? {
                 some = true;
             }
         }
         Ok(some)
     }
 
-    // Takes lines of the member's log as far as they go. Whether there were some.
+    // Takes lines of the member's log as far as they go, up to this end. Whether there were some.
     #[tactic(auto, using(crate::proofs::Advancing::advanced, crate::proofs::Halting::halted))]
-    fn advance(&mut self, member: Member, logs: &[Vec<LogLine>]) -> Result<bool, OwnFault>
+    fn advance(
+        &mut self,
+        member: Member,
+        logs: &[Vec<LogLine>],
+        end: usize,
+    ) -> Result<bool, OwnFault>
         requires member { is_member self.old.rehearsal.setting.members member ≡ true }
         requires few { member ≤ MAX_MEMBERS }
         requires taken { IsTakenFrom logs.now self.old }
@@ -118,7 +133,9 @@ impl Progress {
         let start = self.count(member);
         let mut count = start;
         self.last = member;
-        let ended = self.taker.take_on(member, log_of(logs, member), &mut count);
+        let ended = self
+            .taker
+            .take_on(member, log_of(logs, member), end, &mut count);
         self.note(member, count);
         ended?;
         Ok(count > start)
@@ -166,6 +183,14 @@ pub(crate) fn log_of(logs: &[Vec<LogLine>], member: Member) -> &[LogLine]
     match logs.get(usize::from(member).saturating_sub(1)) {
         Some(log) => log,
         None => &[],
+    }
+}
+
+// The end of the member's log; of one that has none the largest.
+fn end_of(ends: &[usize], member: Member) -> usize {
+    match ends.get(usize::from(member).saturating_sub(1)) {
+        Some(end) => *end,
+        None => usize::MAX,
     }
 }
 

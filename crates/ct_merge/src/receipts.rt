@@ -149,6 +149,7 @@ fn said_at(log: &[LogLine], place: usize) -> Option<&str> {
             LogLine {
                 act: _,
                 said: Some(text),
+                lacks_sender: _,
             },
         ) => Some(text.as_str()),
         _ => None,

@@ -11,6 +11,7 @@ use crate::log_line::LogLine;
 use crate::own_fault::OwnFault;
 use crate::progress::{Progress, log_of};
 use crate::sending::may_come;
+use crate::stand::Stand;
 use crate::verdict::{Culprit, Why};
 use ct_model::Step;
 use ct_names::{MAX_MEMBERS, Member, Refusal, Serial};
@@ -19,15 +20,8 @@ use ct_play::LineFault;
 // The serial of no envelope.
 const NO_SERIAL: Serial = 0;
 
-// Where a log stands: at its own line, or for the wait of the log of this member.
-#[derive(Drop)]
-enum Stand {
-    Own(Why),
-    For(Member),
-}
-
-// Where the log of the member stands.
-fn stand_of(progress: &Progress, logs: &[Vec<LogLine>], member: Member) -> Stand
+/// Where the log of the member stands.
+pub(crate) fn stand_of(progress: &Progress, logs: &[Vec<LogLine>], member: Member) -> Stand
     requires { count_of progress.now.counts member < length (log_of logs.now member) }
     ensures { IsStandOf logs.now progress.now member result }
 {

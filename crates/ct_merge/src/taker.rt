@@ -6,10 +6,10 @@ ghost use Rattle.ct_model.specs.Lawful.{IsLawful};
 ghost use Rattle.ct_model.specs.Rehearsal.{extended};
 ghost use Rattle.ct_world.specs.Setup.{record_of};
 ghost use Rattle.ct_play.specs.Faults.{IsShort, UnlessShort, is_short};
-ghost use Rattle.ct_play.specs.Stating.{outcome_text};
 ghost use Rattle.ct_merge.specs.Logs.{act_of};
 ghost use Rattle.ct_merge.specs.Merging.{act_in, step_of, IsSameGroup, IsTakenTo, LeavesAll, LeavesOthers, Takes};
 ghost use Rattle.ct_merge.specs.Names.{full_name};
+ghost use Rattle.ct_merge.specs.Stating.{is_stated, log_outcome};
 ghost use Rattle.ct_merge.specs.Stops.{IsOutcome, IsRefusedBy, IsStuck, IsStuckIn, IsUnbrought, line_fault_of};
 
 use crate::address::{Address, address_of};
@@ -18,10 +18,11 @@ use crate::log_act::LogAct;
 use crate::log_line::LogLine;
 use crate::naming::full_name;
 use crate::own_fault::OwnFault;
+use crate::stating::{is_stated, push_log_outcome};
 use ct_grammar::{Act, Pick, Play, Text, Who};
 use ct_model::Step;
 use ct_names::{Member, Refusal, Serial};
-use ct_play::{LineFault, Stage, play, push_outcome};
+use ct_play::{LineFault, Stage, play};
 use ct_world::{Setup, World};
 use indexmap::IndexMap;
 use std::alloc::Global;
@@ -84,13 +85,14 @@ impl Taker {
         stage.into_world()
     }
 
-    /// Takes some next lines of the member's log, of which so many were taken: none only where the first of the others waits for an
-    /// envelope that was not sent, or is refused, or there is none.
+    /// Takes some next lines of the member's log, of which so many were taken, up to this end: none only where the first of the others
+    /// waits for an envelope that was not sent, or is refused, or there is none.
     #[tactic(auto, using(crate::proofs::Stopping::stuck_in))]
     pub(crate) fn take_on(
         &mut self,
         member: Member,
         log: &[LogLine],
+        end: usize,
         count: &mut usize,
     ) -> Result<(), OwnFault>
         requires { IsTakenTo self.old member log.now count.old }
@@ -100,7 +102,7 @@ impl Taker {
         ensures stuck { IfErr result (λ fault. UnlessShort (is_short (line_fault_of fault))
             (IsStuckIn self.old member log.now count.new fault)) }
     {
-        for place in *count..end_of(log, *count) {
+        for place in *count..end_of(log, end, *count) {
             if !self.take(member, &log[place])? {
                 return Ok(());
             }
@@ -174,9 +176,9 @@ impl Taker {
         }
     }
 
-    // What the step came to is what is stated, if that is.
+    // What the step came to is what is stated of it, if something is.
     fn compare(&self, step: Step, said: &Option<Text>) -> Result<(), OwnFault>
-        ensures so { OnOk result (IfSome said.now (λ text. outcome_text self.now step ≡ text)) }
+        ensures so { OnOk result (IfSome said.now (λ text. is_stated (log_outcome self.now step) text ≡ true)) }
         ensures other { IfErr result (λ fault. UnlessShort (is_short (line_fault_of fault))
             (IsOutcome self.now step said.now fault)) }
     {
@@ -184,8 +186,8 @@ impl Taker {
             return Ok(());
         };
         let mut text = String::new(self.alloc);
-        push_outcome(&mut text, self.stage.world(), step)?;
-        if text.as_str() == said.as_str() {
+        push_log_outcome(&mut text, self.stage.world(), step)?;
+        if is_stated(text.as_str(), said.as_str()) {
             Ok(())
         } else {
             Err(OwnFault::CameTo(step.member(), Text::new(text)))
@@ -230,13 +232,14 @@ impl Taker {
     }
 }
 
-// How far lines of the log are taken at a time, of which so many were taken. In turns of few lines the lines of waiting envelopes
-// stay short.
-fn end_of(log: &[LogLine], count: usize) -> usize
-    ensures within { result ≤ length log.now }
-    ensures more { count ≤ length log.now → count ≤ result }
+// How far lines of the log are taken at a time, up to this end, of which so many were taken. In turns of few lines the lines of
+// waiting envelopes stay short.
+fn end_of(log: &[LogLine], end: usize, count: usize) -> usize
+    ensures within { count ≤ length log.now → result ≤ length log.now }
+    ensures more { count ≤ result }
 {
-    log.len().min(count.saturating_add(LINES_OF_A_TURN))
+    let turn = count.saturating_add(LINES_OF_A_TURN);
+    log.len().min(end).min(turn).max(count)
 }
 
 /// A world's record is a run.

@@ -37,8 +37,8 @@ fn is_there(stage: &Stage, member: Member, name: FullName) -> bool
     false
 }
 
-// Whether the member's log is over, or its next line waits for an envelope that was not sent.
-fn waits(progress: &Progress, logs: &[Vec<LogLine>], member: Member) -> bool
+/// Whether the member's log is over, or its next line waits for an envelope that was not sent.
+pub(crate) fn waits(progress: &Progress, logs: &[Vec<LogLine>], member: Member) -> bool
     ensures waits { result ≡ true → WaitsAt logs.now progress.now member }
     ensures more { result ≡ false → count_of progress.now.counts member < length (log_of logs.now member) }
 {

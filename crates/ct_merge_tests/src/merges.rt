@@ -31,7 +31,7 @@ struct Row {
     came: Came,
 }
 
-const ROWS: [Row; 8] = [
+const ROWS: [Row; 10] = [
     Row {
         name: "a message that is passed on, and repeated",
         texts: &[
@@ -119,6 +119,42 @@ choose 1\n",
         came: Came::Circle(1, 5),
     },
     Row {
+        name: "a proposal without its sender, and estimates without their ts",
+        texts: &[
+            "submit set 0 7
+receive data 1.1 from 1
+begin
+enter {1.1}
+receive prop 1/1 {1.1}
+adopt {1.1}\n",
+            "receive data 1.1 from 1
+begin
+enter
+receive est 1/1 from 1 {1.1}
+receive est 1/1 from 2
+choose 1\n",
+        ],
+        came: Came::Accepted(12),
+    },
+    Row {
+        name: "an adoption of another value",
+        texts: &[
+            "submit set 0 7
+receive data 1.1 from 1
+begin
+enter
+receive prop 1/1
+adopt {1.2}\n",
+            "receive data 1.1 from 1
+begin
+enter
+receive est 1/1 from 1
+receive est 1/1 from 2
+choose 1\n",
+        ],
+        came: Came::Fault(1, 6),
+    },
+    Row {
         name: "a last line that is torn",
         texts: &["submit set 0 7\nbegin {1."],
         came: Came::Accepted(1),
@@ -144,7 +180,7 @@ fn read(alloc: Global, texts: &[&str]) -> Result<Read, Fail> {
         match LogText::read(alloc, member, text.as_bytes()) {
             Ok(mut log) => {
                 let (_, _, lines, numbers) = log.take_parts(alloc);
-                logs.push(lines)?;
+                logs.push(with_senders(lines))?;
                 places.push(numbers)?;
             }
             Err(LogFault::Line(at, _)) => return Ok(Err(at)),
@@ -153,6 +189,17 @@ fn read(alloc: Global, texts: &[&str]) -> Result<Read, Fail> {
         member = member.saturating_add(1);
     }
     Ok(Ok((logs, places)))
+}
+
+// The lines, as they are in the group of three.
+fn with_senders(lines: Vec<LogLine>) -> Vec<LogLine> {
+    let mut lines = lines;
+    if let Some(group) = Group::new(3) {
+        for line in &mut lines {
+            line.name_sender(group);
+        }
+    }
+    lines
 }
 
 // The number of the line at this place of the member's log.

@@ -1,5 +1,5 @@
-use Rattle.std.proofs.Common.{rules, ◌≡◌, true, Ok, ap, sym, refl, arith, get_or, ◌+◌}
-use Rattle.ct_merge.specs.Merging.{IsTakenTo, Takes}
+use Rattle.std.proofs.Common.{rules, ◌≡◌, true, Ok, ap, sym, refl, arith, get_or}
+use Rattle.ct_merge.specs.Merging.{Takes}
 use Rattle.ct_merge.proofs.Taking.{group_on, others_on, taken_more}
 use Rattle.ct_merge.proofs.taker.Taker.take_on.Goals as goal
 

@@ -1,5 +1,5 @@
 use Rattle.ct_merge.specs.Merging.{IsSameGroup, IsTakenFrom}
-use Rattle.ct_merge.proofs.progress.Progress.run.Given as goal
+use Rattle.ct_merge.proofs.progress.Progress.run_to.Given as goal
 
 abbrev pub invariant-loop-round : goal.invariant-loop-round
 invariant-loop-round l = record {

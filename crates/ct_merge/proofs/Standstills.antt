@@ -1,0 +1,125 @@
+-- Lines at which logs stand that are taken as far as they go.
+use Rattle.std.proofs.Common.{◌≡◌, ◌≢◌, ℕ, ◌+◌, ◌<◌, ◌≤◌, ◌||◌, ◌==◌, Bool, true, false, List, [], ◌∷◌, ◌++◌, length}
+use Rattle.std.proofs.Common.{inl, inr, refl, sym, ap, subst, ◌∙◌, arith}
+use Rattle.std.specs.Prelude.{All, ◌⊎◌}
+use Rattle.std.specs.Global.{Vec}
+use Rattle.std.proofs.lemmas.Bool.{cases_eq, eq-eqb}
+use Rattle.std.proofs.lemmas.Bool.Decides.{nat_tests}
+use Rattle.std.proofs.lemmas.List.Elements.{All-push}
+use Rattle.std.proofs.lemmas.List.Folds.{list_any-append}
+use Rattle.ct_names.specs.Group.{is_member}
+use Rattle.ct_model.specs.Lawful.{IsLawful}
+use Rattle.ct_model.specs.Setting.{Setting}
+use Rattle.ct_play.specs.declared.line_fault.LineFault.TheVariants.{Restless}
+use Rattle.ct_merge.specs.Logs.{log_of}
+use Rattle.ct_merge.specs.Merging.{IsTakenFrom, Taken, count_of}
+use Rattle.ct_merge.specs.Standstills.{AreStopped, AreToldTo, IsRefusedLine, IsStoppedAt, IsTold, is_refused, is_waiting}
+use Rattle.ct_merge.specs.Stops.{IsCulprit, IsStand}
+use Rattle.ct_merge.specs.Waits.{is_wait}
+use Rattle.ct_merge.specs.declared.log_line.LogLine.{LogLine}
+use Rattle.ct_merge.specs.declared.own_fault.OwnFault.TheVariants.{Line}
+use Rattle.ct_merge.specs.declared.stopped_line.StoppedLine.{StoppedLine}
+use Rattle.ct_merge.specs.declared.stopped_lines.StoppedLines.{StoppedLines}
+use Rattle.ct_merge.specs.declared.verdict.Culprit.{Culprit}
+use Rattle.ct_merge.specs.declared.verdict.Why.TheVariants.{Fault}
+use Rattle.ct_merge.proofs.Moments.{get_there}
+
+-- one more that is refused by itself
+pub refused_more : (logs : List (Vec LogLine)) (refused more : List Culprit) (c : Culprit) → All (IsRefusedLine logs) refused →
+    IsCulprit logs c → is_wait c.why ≡ false → more ≡ refused ++ c ∷ [] → All (IsRefusedLine logs) more
+refused_more logs refused more c all is fault e =
+    subst (λ l. All (IsRefusedLine logs) l) (sym e)
+    (All-push (IsRefusedLine logs) refused c all (record { is = is; fault = fault }))
+
+-- one more that stands
+pub stopped_more : (logs : List (Vec LogLine)) (t : Taken) (lines more : List StoppedLine) (s : StoppedLine) →
+    All (IsStoppedAt logs t) lines → IsStoppedAt logs t s → more ≡ lines ++ s ∷ [] → All (IsStoppedAt logs t) more
+stopped_more logs t lines more s all at e =
+    subst (λ l. All (IsStoppedAt logs t) l) (sym e) (All-push (IsStoppedAt logs t) lines s all at)
+
+-- ---- a line of each log
+
+module _ (logs : List (Vec LogLine)) (t : Taken) (refused : List Culprit) where
+  nobody : (p : ℕ) → is_member 0 p ≡ true → ⊥
+  nobody p e = grind (arith, nat_tests)
+
+  before_it : (n p : ℕ) → is_member (n + 1) p ≡ true → p ≢ n + 1 → is_member n p ≡ true
+  before_it n p e other = grind (arith, nat_tests)
+
+  pub told_none : (lines : List StoppedLine) → AreToldTo logs t refused lines 0
+  told_none lines p member = absurd (nobody p member)
+
+  told_next : (lines more : List StoppedLine) (i : ℕ) → AreToldTo logs t refused lines i →
+      ((p : ℕ) → is_waiting lines p ≡ true → is_waiting more p ≡ true) → IsTold logs t refused more (i + 1) →
+      AreToldTo logs t refused more (i + 1)
+  told_next lines more i before kept here p member = elim (cases_eq p (i + 1)) [
+    | inl same ↦ subst (λ q. IsTold logs t refused more q) (sym same) here
+    | inr other ↦ still p (before p (before_it i p member other))
+  ]
+    where
+      still : (p : ℕ) → IsTold logs t refused lines p → IsTold logs t refused more p
+      still p (inl over) = inl over
+      still p (inr (inl stands)) = inr (inl stands)
+      still p (inr (inr waits)) = inr (inr (kept p waits))
+
+  -- its log is over, or refused there
+  pub told_before : (lines : List StoppedLine) (i p : ℕ) → p ≡ i + 1 → AreToldTo logs t refused lines i →
+      ((length (log_of logs p) ≤ count_of t.counts p) ⊎ (is_refused refused p (count_of t.counts p) ≡ true)) →
+      AreToldTo logs t refused lines (i + 1)
+  told_before lines i p e before told =
+      told_next lines lines i before (λ q h. h) (subst (λ q. IsTold logs t refused lines q) e (here told))
+    where
+      here : ((length (log_of logs p) ≤ count_of t.counts p) ⊎ (is_refused refused p (count_of t.counts p) ≡ true)) →
+          IsTold logs t refused lines p
+      here (inl over) = inl over
+      here (inr stands) = inr (inl stands)
+
+  either : (a b : Bool) → a ≡ true → (a || b) ≡ true
+  either true b e = refl
+  either false b e = absurd (cc)
+
+  or_true : (a b : Bool) → b ≡ true → (a || b) ≡ true
+  or_true true b e = refl
+  or_true false b e = e
+
+  -- its line is told now
+  pub told_pushed : (lines more : List StoppedLine) (s : StoppedLine) (i p : ℕ) → p ≡ i + 1 → AreToldTo logs t refused lines i →
+      s.member ≡ p → more ≡ lines ++ s ∷ [] → AreToldTo logs t refused more (i + 1)
+  told_pushed lines more s i p e before member pushed =
+      told_next lines more i before (λ q h. more_told q ∙ either (is_waiting lines q) (is_waiting (s ∷ []) q) h)
+      (inr (inr (more_told (i + 1) ∙ or_true (is_waiting lines (i + 1)) (is_waiting (s ∷ []) (i + 1)) now)))
+    where
+      more_told : (q : ℕ) → is_waiting more q ≡ (is_waiting lines q || is_waiting (s ∷ []) q)
+      more_told q =
+          ap (λ l. is_waiting l q) pushed ∙ list_any-append (λ (x : StoppedLine). x.member == q) lines (s ∷ [])
+
+      now : is_waiting (s ∷ []) (i + 1) ≡ true
+      now = either (s.member == (i + 1)) false (eq-eqb s.member (i + 1) (member ∙ e))
+
+pub ruleset all_told = (stopped_more, told_none, told_before, told_pushed)
+
+-- ---- all of them
+
+-- a line that waits for nothing is told of as no refusal
+pub restless_stand : (logs : List (Vec LogLine)) (t : Taken) (p : ℕ) → count_of t.counts p < length (log_of logs p) →
+    IsStand logs t p (Fault (Line Restless))
+restless_stand logs t p more =
+    let at = get_there (log_of logs p) (count_of t.counts p) more in
+    record { line = at.0; next = at.1; reason = tt }
+
+-- a line is told of each log that is not over
+pub stopped_all : (s : Setting) (logs : List (Vec LogLine)) (lines : StoppedLines) (t : Taken) (seen : List Culprit) →
+    IsLawful t.rehearsal → t.rehearsal.setting ≡ s → IsTakenFrom logs t → All (IsRefusedLine logs) lines.refused.items →
+    All (IsStoppedAt logs t) lines.waiting.items → seen ≡ lines.refused.items →
+    AreToldTo logs t seen lines.waiting.items t.rehearsal.setting.members → AreStopped s logs lines
+stopped_all s logs lines t seen law group taken refused waiting same each = record {
+  so_far = t;
+  lawful = law;
+  group = group;
+  taken = taken;
+  refused = refused;
+  waiting = waiting;
+  each =
+      subst (λ (z : Setting). AreToldTo logs t lines.refused.items lines.waiting.items z.members) group
+      (subst (λ l. AreToldTo logs t l lines.waiting.items t.rehearsal.setting.members) same each);
+}
