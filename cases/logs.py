@@ -58,13 +58,35 @@ CASES = [
          "cut: 2.log line 1: receive data 1.1 from 1: the log of member 1 ends before it is sent"),
     Case("each waits for the other",
          {"1.log": "receive data 2.1 from 2\nsubmit set 0 1\n", "2.log": "receive data 1.1 from 1\nsubmit set 0 2\n"}, 1,
-         "refused: 1.log line 1: receive data 2.1 from 2: it waits for a line that waits for it"),
+         "refused: 1.log line 1: receive data 2.1 from 2: it waits for a line that waits for it\n"
+         "circle: 1.log line 1: receive data 2.1 from 2: it waits for 2.log line 2: submit set 0 2\n"
+         "circle: 2.log line 1: receive data 1.1 from 1: it waits for 1.log line 2: submit set 0 1"),
     Case("a word that is no act", {"1.log": "members 1\nrecieve data 1.1 from 1\n"}, 2,
          "1.log line 2: recieve data 1.1 from 1: not understood: recieve is no act; receive?"),
     Case("a record", {"1.log": '{"batch":1048560,"cells":64,"n":1,"steps":[]}\n'}, 2, "1.log: this is a record, not the log of a member"),
     Case("turns", {"1.log": "members 1\n1 turns 4\n"}, 2, "1.log line 2: 1 turns 4: no act of one member, as a log has"),
     Case("a receipt without its sender", {"1.log": "members 1\nreceive data 1.1\n"}, 2,
          "1.log line 2: receive data 1.1: the sender is missing: from and a member"),
+    Case("a proposal without its sender", {"1.log": ONE + "receive prop 1/1\n", "2.log": TWO}, 0,
+         "accepted: 2 members, 11 lines; instances 1, largest round 1, suspicions 0, choices between different ts 0, repetitions 0"),
+    Case("a proposal without its sender, which the member itself would have to choose",
+         {"1.log": ONE + "receive prop 1/2\n", "2.log": TWO}, 1,
+         "refused: 1.log line 6: receive prop 1/2: it waits for a line that waits for it\n"
+         "circle: 1.log line 6: receive prop 1/2: no line of 1.log sends it"),
+    Case("a proposal of no member", {"1.log": ONE + "receive prop 1/1 from 0\n", "2.log": TWO}, 1,
+         "refused: 1.log line 6: receive prop 1/1 from 0: it was not sent before, and member 0 can't send it any more"),
+    Case("estimates without their ts",
+         {"1.log": ONE.replace("enter", "enter {1.1}") + "receive prop 1/1 {1.1}\nadopt {1.1}\n",
+          "2.log": TWO.replace("est 1/1 from 1", "est 1/1 from 1 {1.1}")}, 0,
+         "accepted: 2 members, 12 lines; instances 1, largest round 1, suspicions 0, choices between different ts 0, repetitions 0"),
+    Case("an adoption of another value", {"1.log": ONE + "receive prop 1/1\nadopt {1.2}\n", "2.log": TWO}, 1,
+         "refused: 1.log line 7: adopt {1.2}: member 1 came to {1.1} ts 1"),
+    Case("half of an estimate", {"1.log": ONE + "receive prop 1/1\nadopt {1.1\n", "2.log": TWO}, 1,
+         "refused: 1.log line 7: adopt {1.1: member 1 came to {1.1} ts 1"),
+    Case("a conclusion with its value", {"1.log": "members 1\n" + ALONE.replace("conclude", "conclude {1.1} # decided")}, 0,
+         "accepted: 1 members, 12 lines; instances 1, largest round 1, suspicions 0, choices between different ts 0, repetitions 0"),
+    Case("a conclusion with another value", {"1.log": "members 1\n" + ALONE.replace("conclude", "1 conclude {1.2}")}, 1,
+         "refused: 1.log line 11: 1 conclude {1.2}: member 1 came to {1.1}"),
     Case("two logs of one member", {"1.log": "1 submit set 0 7\n", "2.log": "1 submit set 0 7\n"}, 2,
          "2.log: member 1's log, as a file before it"),
     Case("heads that disagree", {"1.log": "members 3\n", "2.log": "members 2\n"}, 2,
@@ -106,6 +128,38 @@ CASES = [
          "2.log: member 3's log, and members are 1 to 2"),
 ]
 
+# What is told besides the first line.
+BESIDES = [
+    Case("two lines that are refused by themselves",
+         {"1.log": "members 3\nsubmit set 0 7\nbegin\n", "2.log": "receive data 1.1 from 1 set 0 8\n",
+          "3.log": "receive data 1.1 from 1 set 0 7\n"}, 1,
+         "refused: 1.log line 3: begin: member 1 is refused Nothing\n"
+         "also refused: 2.log line 1: receive data 1.1 from 1 set 0 8: member 2 came to set 0 7"),
+    Case("a circle of three",
+         {"1.log": "members 3\nsubmit set 0 1\nreceive data 3.1 from 3\nsubmit set 0 2\n",
+          "2.log": "receive data 1.2 from 1\nsubmit set 1 1\n", "3.log": "receive data 2.1 from 2\nsubmit set 2 1\n"}, 1,
+         "refused: 3.log line 1: receive data 2.1 from 2: it waits for a line that waits for it\n"
+         "circle: 3.log line 1: receive data 2.1 from 2: it waits for 2.log line 2: submit set 1 1\n"
+         "circle: 2.log line 1: receive data 1.2 from 1: it waits for 1.log line 4: submit set 0 2\n"
+         "circle: 1.log line 3: receive data 3.1 from 3: it waits for 3.log line 2: submit set 2 1"),
+    Case("a line that waits for a log which is refused, and one that waits for that",
+         {"1.log": "members 3\nbegin\nsubmit set 0 7\n", "2.log": "receive data 1.1 from 1\n", "3.log": "receive data 1.1 from 2\n"}, 1,
+         "refused: 1.log line 2: begin: member 1 is refused Nothing\n"
+         "waits: 2.log line 1: receive data 1.1 from 1: it waits for 1.log line 3: submit set 0 7\n"
+         "waits: 3.log line 1: receive data 1.1 from 2: it waits for 2.log line 1: receive data 1.1 from 1"),
+    Case("a line that a log ends before, and one that no line sends",
+         {"1.log": "members 4\nbegin\n", "2.log": "receive data 3.1 from 3\n", "4.log": "4 receive data 1.1 from 1\n"}, 1,
+         "refused: 1.log line 2: begin: member 1 is refused Nothing\n"
+         "also cut: 2.log line 1: receive data 3.1 from 3: the log of member 3 ends before it is sent\n"
+         "waits: 4.log line 1: 4 receive data 1.1 from 1: no line of 1.log sends it"),
+    Case("three lines that are refused, each as another is stated",
+         {"1.log": "members 3\nsubmit set 0 7\nreceive data 1.1 from 1 set 0 1\n", "2.log": "receive data 1.1 from 1 set 0 2\n",
+          "3.log": "receive data 1.1 from 1 set 0 3\n"}, 1,
+         "refused: 1.log line 3: receive data 1.1 from 1 set 0 1: member 1 came to set 0 7\n"
+         "also refused: 2.log line 1: receive data 1.1 from 1 set 0 2: member 2 came to set 0 7\n"
+         "also refused: 3.log line 1: receive data 1.1 from 1 set 0 3: member 3 came to set 0 7"),
+]
+
 PRESUME = ("--presume",)
 
 
@@ -127,7 +181,8 @@ PRESUMED = [
          "cut: 2.log line 1: receive data 1.1 from 1: the log of member 1 ends before it is sent", PRESUME),
     Case("a message of which two commands are stated",
          {"1.log": "members 3\n", "2.log": "receive data 1.1 from 1 set 0 7\n", "3.log": "receive data 1.1 from 1 set 0 8\n"}, 6,
-         "cut: 3.log line 1: receive data 1.1 from 1 set 0 8: the log of member 1 ends before it is sent", PRESUME),
+         "cut: 3.log line 1: receive data 1.1 from 1 set 0 8: the log of member 1 ends before it is sent\n"
+         "also cut: 2.log line 1: receive data 1.1 from 1 set 0 7: the log of member 1 ends before it is sent", PRESUME),
     Case("a message that a member without a log passes on",
          {"1.log": "members 3\nsubmit set 0 7\nreceive data 1.1 from 1\n", "3.log": "3 receive data 1.1 from 2\n"}, 7,
          "presumed: 1 step of member 2; 3 members, 4 lines; instances 0, largest round 0, suspicions 0, choices between different ts 0, "
@@ -142,12 +197,14 @@ PRESUMED = [
          "accepted: 2 members, 3 lines; instances 0, largest round 0, suspicions 0, choices between different ts 0, repetitions 0",
          PRESUME),
     Case("logs that are refused as they are", {"1.log": "members 2\nbegin\n", "2.log": "receive data 1.1 from 1 set 0 7\n"}, 1,
-         "refused: 1.log line 2: begin: member 1 is refused Nothing", PRESUME),
+         "refused: 1.log line 2: begin: member 1 is refused Nothing\n"
+         "waits: 2.log line 1: receive data 1.1 from 1 set 0 7: no line of 1.log sends it", PRESUME),
     Case("a cluster with a member killed whose last lines are lost", lost_tail(), 7,
          "presumed: 7 steps of member 1; 3 members, 138 lines; instances 3, largest round 4, suspicions 3, choices between different ts 0, "
          "repetitions 8", PRESUME),
     Case("the same without --presume", lost_tail(), 6,
-         "cut: 2.log line 8: 2 receive est 1/1 from 1 {3.1} ts 0: the log of member 1 ends before it is sent"),
+         "cut: 2.log line 8: 2 receive est 1/1 from 1 {3.1} ts 0: the log of member 1 ends before it is sent\n"
+         "waits: 3.log line 9: 3 receive prop 1/1 from 2 {3.1}: it waits for 2.log line 9: 2 choose 1 {3.1}"),
     Case("ends that are presumed of logs that are followed", GOSSIP, 3,
          "error: the argument '--presume' cannot be used with '--follow'\n\nUsage: ct_tool merge --presume <LOG>...\n\n"
          "For more information, try '--help'.", ("--presume", "--follow")),
@@ -191,6 +248,9 @@ GROWING = [
             "accepted: 2 members, 3 lines; instances 0, largest round 0, suspicions 0, choices between different ts 0, repetitions 0"),
     Growing("another number of the group", GOSSIP, [("2.log", "members 3\n")], (), 2,
             "2.log: members 3, and a log before it has members 2"),
+    Growing("a proposal without its sender", {"1.log": ONE + "receive prop 1/1\n", "2.log": TWO[:TWO.index("choose")]},
+            [("2.log", "choose 1\n")], ("--idle", "1"), 0,
+            "accepted: 2 members, 11 lines; instances 1, largest round 1, suspicions 0, choices between different ts 0, repetitions 0"),
     Growing("a word that is no act", GOSSIP, [("2.log", "2 bgin\n")], (), 2,
             "2.log line 2: 2 bgin: not understood: bgin is no act; begin?"),
 ]
@@ -298,7 +358,7 @@ def faults_of_search(tool: str) -> List[str]:
 
 def main() -> int:
     tool = os.path.abspath(sys.argv[1])
-    checks = [(case.name, faults_of(tool, case)) for case in CASES + PRESUMED]
+    checks = [(case.name, faults_of(tool, case)) for case in CASES + BESIDES + PRESUMED]
     checks += [(f"followed: {case.name}", faults_of_growing(tool, case)) for case in GROWING]
     in_c = ["cc", "-std=c11", "-Wall", "-Wextra", "-Werror"]
     in_rust = ["rustc", "--edition", "2021", "-D", "warnings", "-A", "dead_code"]

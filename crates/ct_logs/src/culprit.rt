@@ -1,67 +1,84 @@
 //! Lines at which logs stand.
 
 use crate::instead::sent_instead;
-use crate::log_set::{LogSet, name_at};
-use crate::naming::{line_at, push_line};
+use crate::others::push_others;
+use crate::sources::Sources;
 use crate::torn::push_torn;
 use ct_grammar::Carried;
-use ct_merge::{Culprit, FullName, LogAct, LogFault, LogText, Why, push_culprit};
+use ct_merge::{Culprit, FullName, LogAct, LogFault, LogText, StoppedLines, Why, push_why};
 use ct_names::Member;
+use ct_world::World;
 use std::alloc::{AllocError, Global};
 
-// What is told of the line: its file, its number, its text, and why it is not taken; then of last lines that are torn.
+// What is told of the line: its file, its number, its text, and why it is not taken; then of the others at which logs stand, and of last
+// lines that are torn.
 pub(crate) fn told_of(
     alloc: Global,
-    names: &[&str],
-    texts: &[Vec<u8>],
-    set: &LogSet,
-    culprit: Culprit,
+    sources: Sources<'_>,
+    culprit: &Culprit,
+    stopped: Option<&StoppedLines>,
 ) -> Result<String, AllocError> {
     let mut text = String::new(alloc);
-    let file = set.file(culprit.member).unwrap_or(0);
-    let number = set.number(culprit.member, culprit.place).unwrap_or(0);
-    let bytes = text_at(texts, file);
-    push_line(
+    let Culprit {
+        member,
+        place,
+        why,
+        run,
+    } = culprit;
+    push_reason(
+        alloc,
         &mut text,
-        name_at(names, file),
-        number,
-        line_at(bytes, number),
+        sources,
+        *member,
+        *place,
+        why,
+        run.as_ref(),
     )?;
-    push_culprit(&mut text, &culprit)?;
-    push_instead(alloc, &mut text, names, texts, set, &culprit)?;
-    push_torn(&mut text, names, texts)?;
+    if let Some(stopped) = stopped {
+        push_others(alloc, &mut text, sources, culprit, stopped)?;
+    }
+    push_torn(&mut text, sources.names, sources.texts)?;
     Ok(text)
+}
+
+// The line at this place of the member's log, and why it is not taken; what was sent instead is looked up in the run.
+pub(crate) fn push_reason(
+    alloc: Global,
+    text: &mut String,
+    sources: Sources<'_>,
+    member: Member,
+    place: usize,
+    why: &Why,
+    run: Option<&World>,
+) -> Result<(), AllocError> {
+    sources.push(text, member, place)?;
+    push_why(text, why)?;
+    match (why, run) {
+        (Why::Never(from), Some(world)) => {
+            push_instead(alloc, text, sources, member, place, *from, world)
+        }
+        _ => Ok(()),
+    }
 }
 
 // What the sender sent in place of what the line receives, and at which line, where it sent another reply to the round.
 fn push_instead(
     alloc: Global,
     text: &mut String,
-    names: &[&str],
-    texts: &[Vec<u8>],
-    set: &LogSet,
-    culprit: &Culprit,
+    sources: Sources<'_>,
+    member: Member,
+    place: usize,
+    from: Member,
+    world: &World,
 ) -> Result<(), AllocError> {
-    let Culprit {
-        member,
-        place,
-        why: Why::Never(from),
-        run: Some(world),
-    } = culprit
-    else {
+    let Some(name) = received(alloc, member, sources.line(member, place))? else {
         return Ok(());
     };
-    let file = set.file(*member).unwrap_or(0);
-    let number = set.number(*member, *place).unwrap_or(0);
-    let line = line_at(text_at(texts, file), number);
-    let Some(name) = received(alloc, *member, line)? else {
+    let Some(reply) = sent_instead(alloc, world, member, name)? else {
         return Ok(());
     };
-    let Some(reply) = sent_instead(alloc, world, *member, name)? else {
-        return Ok(());
-    };
-    let file = name_at(names, set.file(*from).unwrap_or(0));
-    let number = set.number(*from, reply.place).unwrap_or(0);
+    let file = sources.name(from);
+    let number = sources.number(from, reply.place);
     text.push_str(": it sent ")?;
     push_reply(text, reply.carried)?;
     write!(text, " instead ({file} line {number})")
@@ -97,13 +114,5 @@ fn name_in(act: LogAct) -> Option<FullName> {
     match act {
         LogAct::Receive(name) => Some(name),
         _ => None,
-    }
-}
-
-// The text at this place.
-fn text_at(texts: &[Vec<u8>], place: usize) -> &[u8] {
-    match texts.get(place) {
-        Some(text) => text,
-        None => &[],
     }
 }

@@ -7,14 +7,16 @@ ghost use Rattle.ct_logs.specs.Merged.{IsSomeMerge, IsSomeRun};
 
 use crate::culprit::told_of;
 use crate::form::Form;
+use crate::judged::Judged;
 use crate::log_set::LogSet;
 use crate::merge_fault::MergeFault;
 use crate::misfit::Misfit;
 use crate::showing::accepted;
+use crate::sources::Sources;
 use crate::told::Told;
 use crate::torn::push_torn;
 use crate::writing::written;
-use ct_merge::{Culprit, Verdict};
+use ct_merge::{Culprit, StoppedLines, Verdict};
 use ct_world::{Setup, World};
 use std::alloc::{AllocError, Global};
 
@@ -32,16 +34,17 @@ pub(crate) fn end_of(
     texts: Vec<Vec<u8>>,
     set: LogSet,
     setup: Setup,
-    verdict: Verdict,
+    judged: Judged,
     form: Form,
     presumed: &str,
 ) -> Result<AcceptedRun, MergeFault>
-    requires merged { IfAccepted verdict IsSomeMerge }
-    requires setting { IfAccepted verdict (λ w. w.setting ≡ setting_of setup) }
-    requires cells { IfAccepted verdict (λ w. w.cells ≡ setup.cells) }
+    requires merged { IfAccepted judged.verdict IsSomeMerge }
+    requires setting { IfAccepted judged.verdict (λ w. w.setting ≡ setting_of setup) }
+    requires cells { IfAccepted judged.verdict (λ w. w.cells ≡ setup.cells) }
     ensures run { IfOk result (λ run. IsSomeRun form run.text.items) }
     ensures err { IfErr result (λ fault. fault ≢ MergeFault.Write) }
 {
+    let Judged { verdict, stopped } = judged;
     match verdict {
         Verdict::Accepted(world) => {
             let torn = torn_of(alloc, names, &texts)?;
@@ -49,8 +52,14 @@ pub(crate) fn end_of(
             drop(set);
             accept(alloc, setup, world, form, torn.as_str(), presumed)
         }
-        Verdict::Refused(culprit) => Err(refused(alloc, names, &texts, &set, culprit)),
-        Verdict::Cut(culprit) => Err(cut(alloc, names, &texts, &set, culprit)),
+        Verdict::Refused(culprit) => {
+            let sources = sources(names, &texts, &set);
+            Err(refused(alloc, sources, &culprit, stopped.as_ref()))
+        }
+        Verdict::Cut(culprit) => {
+            let sources = sources(names, &texts, &set);
+            Err(cut(alloc, sources, &culprit, stopped.as_ref()))
+        }
     }
 }
 
@@ -109,16 +118,24 @@ pub(crate) fn no_logs(misfit: Misfit) -> MergeFault
     }
 }
 
+// The files of these names and texts.
+pub(crate) fn sources<'a>(
+    names: &'a [&'a str],
+    texts: &'a [Vec<u8>],
+    set: &'a LogSet,
+) -> Sources<'a> {
+    Sources { names, texts, set }
+}
+
 pub(crate) fn refused(
     alloc: Global,
-    names: &[&str],
-    texts: &[Vec<u8>],
-    set: &LogSet,
-    culprit: Culprit,
+    sources: Sources<'_>,
+    culprit: &Culprit,
+    stopped: Option<&StoppedLines>,
 ) -> MergeFault
     ensures { result ≢ MergeFault.Write }
 {
-    match told_of(alloc, names, texts, set, culprit) {
+    match told_of(alloc, sources, culprit, stopped) {
         Ok(text) => MergeFault::Refused(text),
         Err(_) => MergeFault::Memory,
     }
@@ -126,14 +143,13 @@ pub(crate) fn refused(
 
 fn cut(
     alloc: Global,
-    names: &[&str],
-    texts: &[Vec<u8>],
-    set: &LogSet,
-    culprit: Culprit,
+    sources: Sources<'_>,
+    culprit: &Culprit,
+    stopped: Option<&StoppedLines>,
 ) -> MergeFault
     ensures { result ≢ MergeFault.Write }
 {
-    match told_of(alloc, names, texts, set, culprit) {
+    match told_of(alloc, sources, culprit, stopped) {
         Ok(text) => MergeFault::Cut(text),
         Err(_) => MergeFault::Memory,
     }

@@ -5,16 +5,17 @@ ghost use Rattle.ct_world.specs.Setup.{setting_of};
 ghost use Rattle.ct_merge.specs.Verdicts.{IfAccepted};
 ghost use Rattle.ct_logs.specs.Merged.{IsSomeMerge, IsSomeRun};
 
-use crate::ending::{AcceptedRun, end_of, no_logs, refused};
+use crate::ending::{AcceptedRun, end_of, no_logs, refused, sources};
 use crate::form::Form;
 use crate::growth::Growth;
+use crate::judged::Judged;
 use crate::log_set::{LogSet, name_at, position_of};
 use crate::merge_fault::MergeFault;
 use crate::misfit::Misfit;
 use crate::pace::Pace;
 use crate::reading::{too_long, unread};
 use crate::tail::{Parts, Tail};
-use ct_merge::{Culprit, LogLine, Verdict};
+use ct_merge::{Culprit, LogLine};
 use ct_names::Member;
 use ct_streams::{FileFault, Files, Source};
 use ct_world::Setup;
@@ -39,7 +40,7 @@ struct Following<R: Source + Drop> {
 #[derive(Drop)]
 struct Ended {
     setup: Setup,
-    verdict: Verdict,
+    judged: Judged,
     texts: Vec<Vec<u8>>,
 }
 
@@ -320,7 +321,7 @@ impl<R: Source + Drop> Following<R> {
         let mut following = self;
         let Ended {
             setup,
-            verdict,
+            judged,
             texts,
         } = following.ended(alloc, names)?;
         let Following {
@@ -330,23 +331,23 @@ impl<R: Source + Drop> Following<R> {
             growth: _,
         } = following;
         drop(tails);
-        end_of(alloc, names, texts, set, setup, verdict, form, "")
+        end_of(alloc, names, texts, set, setup, judged, form, "")
     }
 
     // The same, with the texts of the logs.
     fn ended(&mut self, alloc: Global, names: &[&str]) -> Result<Ended, MergeFault>
-        ensures merged { IfOk result (λ ended. IfAccepted ended.verdict IsSomeMerge) }
-        ensures setting { IfOk result (λ ended. IfAccepted ended.verdict (λ w. w.setting ≡ setting_of ended.setup)) }
-        ensures cells { IfOk result (λ ended. IfAccepted ended.verdict (λ w. w.cells ≡ ended.setup.cells)) }
+        ensures merged { IfOk result (λ ended. IfAccepted ended.judged.verdict IsSomeMerge) }
+        ensures setting { IfOk result (λ ended. IfAccepted ended.judged.verdict (λ w. w.setting ≡ setting_of ended.setup)) }
+        ensures cells { IfOk result (λ ended. IfAccepted ended.judged.verdict (λ w. w.cells ≡ ended.setup.cells)) }
         ensures err { IfErr result (λ fault. fault ≢ MergeFault.Write) }
     {
         let growth = self.last_growth(alloc, names)?;
         let setup = growth.setup;
-        let verdict = growth.end()?;
+        let judged = growth.end(alloc)?;
         let texts = texts_of(alloc, &mut self.tails)?;
         Ok(Ended {
             setup,
-            verdict,
+            judged,
             texts,
         })
     }
@@ -380,7 +381,10 @@ impl<R: Source + Drop> Following<R> {
         ensures { result ≢ MergeFault.Write }
     {
         match texts_of(alloc, &mut self.tails) {
-            Ok(texts) => refused(alloc, names, &texts, &self.set, culprit),
+            Ok(texts) => {
+                let sources = sources(names, &texts, &self.set);
+                refused(alloc, sources, &culprit, None)
+            }
             Err(_) => MergeFault::Memory,
         }
     }

@@ -5,8 +5,9 @@ ghost use Rattle.ct_world.specs.Setup.{setting_of};
 ghost use Rattle.ct_merge.specs.Verdicts.{IfAccepted};
 ghost use Rattle.ct_logs.specs.Merged.{IsSomeMerge};
 
+use crate::judged::{Judged, stopped_of};
 use crate::merge_fault::MergeFault;
-use ct_merge::{Culprit, LogLine, Merger, Verdict};
+use ct_merge::{Culprit, LogLine, Merger};
 use ct_names::Member;
 use ct_play::LineFault;
 use ct_world::Setup;
@@ -46,6 +47,8 @@ impl Growth {
 
     fn push(&mut self, member: Member, line: LogLine) -> Result<(), AllocError> {
         if self.setup.group.has(member) {
+            let mut line = line;
+            line.name_sender(self.setup.group);
             self.merger.push(member, line)?;
         }
         Ok(())
@@ -64,16 +67,18 @@ impl Growth {
     }
 
     // What the logs come to that end here.
-    pub(crate) fn end(self) -> Result<Verdict, MergeFault>
-        ensures merged { IfOk result (λ verdict. IfAccepted verdict IsSomeMerge) }
-        ensures setting { IfOk result (λ verdict. IfAccepted verdict (λ w. w.setting ≡ setting_of self.setup)) }
-        ensures cells { IfOk result (λ verdict. IfAccepted verdict (λ w. w.cells ≡ self.setup.cells)) }
+    pub(crate) fn end(self, alloc: Global) -> Result<Judged, MergeFault>
+        ensures merged { IfOk result (λ judged. IfAccepted judged.verdict IsSomeMerge) }
+        ensures setting { IfOk result (λ judged. IfAccepted judged.verdict (λ w. w.setting ≡ setting_of self.setup)) }
+        ensures cells { IfOk result (λ judged. IfAccepted judged.verdict (λ w. w.cells ≡ self.setup.cells)) }
         ensures err { IfErr result (λ fault. fault ≢ MergeFault.Write) }
     {
         let Growth { setup, merger } = self;
-        let _ = setup;
-        match merger.end() {
-            Ok(verdict) => Ok(verdict),
+        match merger.end_with_logs() {
+            Ok((verdict, logs)) => {
+                let stopped = stopped_of(alloc, setup, &verdict, &logs)?;
+                Ok(Judged { verdict, stopped })
+            }
             Err(fault) => Err(short(fault)),
         }
     }

@@ -7,7 +7,7 @@ use crate::misfit::Misfit;
 use crate::naming::{line_at, push_line};
 use crate::no_entry::push_no_entry;
 use ct_merge::{LogFault, LogLine, LogText, NoEntry, Numbers};
-use ct_names::{MAX_MEMBERS, Member};
+use ct_names::{Group, MAX_MEMBERS, Member};
 use ct_world::Setup;
 use std::alloc::{AllocError, Global};
 use std::mem;
@@ -180,6 +180,15 @@ impl LogSet {
         match self.logs.get_mut(usize::from(member).saturating_sub(1)) {
             Some(kept) => mem::replace(kept, Vec::new(alloc)),
             None => Vec::new(alloc),
+        }
+    }
+
+    // Names the senders of proposals that are named without, as it is in this group.
+    pub(crate) fn name_senders(&mut self, group: Group) {
+        for log in &mut self.logs {
+            for line in log {
+                line.name_sender(group);
+            }
         }
     }
 

@@ -8,9 +8,10 @@ ghost use Rattle.ct_logs.specs.Merged.{IsSomeMerge, IsSomeRun};
 use crate::ending::{AcceptedRun, end_of, no_logs};
 use crate::form::Form;
 use crate::growth::short;
+use crate::judged::{Judged, stopped_of};
 use crate::log_set::LogSet;
 use crate::merge_fault::MergeFault;
-use ct_merge::{LogLine, Presumption, Verdict, presume};
+use ct_merge::{LogLine, Presumption, StoppedLines, Verdict, presume};
 use ct_world::Setup;
 use std::alloc::{AllocError, Global};
 
@@ -47,39 +48,47 @@ fn judged(
     };
     let same = setup;
     let mut set = set;
-    let (verdict, lines) = verdict_of(alloc, setup, &mut set)?;
-    end_of(
-        alloc,
-        names,
-        texts,
-        set,
-        same,
-        verdict,
-        form,
-        lines.as_str(),
-    )
+    set.name_senders(setup.group);
+    let (judged, lines) = judged_of(alloc, setup, &mut set)?;
+    end_of(alloc, names, texts, set, same, judged, form, lines.as_str())
 }
 
 // What the logs of the group come to, of which the set has no lines from here on; and what is told of lines that are presumed.
-fn verdict_of(
-    alloc: Global,
-    setup: Setup,
-    set: &mut LogSet,
-) -> Result<(Verdict, String), MergeFault>
-    ensures merged { IfOk result (λ r. IfAccepted r.0 IsSomeMerge) }
-    ensures setting { IfOk result (λ r. IfAccepted r.0 (λ w. w.setting ≡ setting_of setup)) }
-    ensures cells { IfOk result (λ r. IfAccepted r.0 (λ w. w.cells ≡ setup.cells)) }
+fn judged_of(alloc: Global, setup: Setup, set: &mut LogSet) -> Result<(Judged, String), MergeFault>
+    ensures merged { IfOk result (λ r. IfAccepted r.0.verdict IsSomeMerge) }
+    ensures setting { IfOk result (λ r. IfAccepted r.0.verdict (λ w. w.setting ≡ setting_of setup)) }
+    ensures cells { IfOk result (λ r. IfAccepted r.0.verdict (λ w. w.cells ≡ setup.cells)) }
     ensures err { IfErr result (λ fault. fault ≢ MergeFault.Write) }
 {
     let logs = logs_of(alloc, setup.group.n(), set)?;
+    let same = setup;
     match presume(alloc, setup, logs) {
         Ok(Presumption { verdict, logs }) => {
             let lines = lines_beside(alloc, set, &logs)?;
-            drop(logs);
-            Ok((verdict, lines))
+            let stopped = stopped_as_read(alloc, same, set, &verdict, logs)?;
+            Ok((Judged { verdict, stopped }, lines))
         }
         Err(fault) => Err(short(fault)),
     }
+}
+
+// The lines at which the logs stand as they were read, that come to this; None where they are accepted.
+fn stopped_as_read(
+    alloc: Global,
+    setup: Setup,
+    set: &LogSet,
+    verdict: &Verdict,
+    logs: Vec<Vec<LogLine>>,
+) -> Result<Option<StoppedLines>, MergeFault>
+    ensures { IfErr result (λ fault. fault ≢ MergeFault.Write) }
+{
+    let mut logs = logs;
+    for place in 0..logs.len() {
+        if let Some(log) = logs.get_mut(place) {
+            log.truncate(set.count(place));
+        }
+    }
+    stopped_of(alloc, setup, verdict, &logs)
 }
 
 // The logs of the first n members, of which the set has no lines from here on.

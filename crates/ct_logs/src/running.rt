@@ -10,13 +10,14 @@ use crate::ending::{AcceptedRun, end_of, no_logs};
 use crate::following::followed;
 use crate::form::Form;
 use crate::growth::short;
+use crate::judged::{Judged, stopped_of};
 use crate::log_set::LogSet;
 use crate::merge_fault::MergeFault;
 use crate::pace::Pace;
 use crate::presumed::presumed;
 use crate::reading::read_texts;
 use crate::told::Told;
-use ct_merge::{Verdict, merge};
+use ct_merge::merge;
 use ct_streams::{Failed, Files, Sink, write_all};
 use ct_world::Setup;
 use std::alloc::Global;
@@ -145,20 +146,26 @@ fn judged(
         Err(misfit) => return Err(no_logs(misfit)),
     };
     let same = setup;
-    let verdict = verdict_of(alloc, setup, &set)?;
-    end_of(alloc, names, texts, set, same, verdict, form, "")
+    let mut set = set;
+    set.name_senders(setup.group);
+    let judged = judged_of(alloc, setup, &set)?;
+    end_of(alloc, names, texts, set, same, judged, form, "")
 }
 
 // What the logs of the group come to.
-fn verdict_of(alloc: Global, setup: Setup, set: &LogSet) -> Result<Verdict, MergeFault>
-    ensures merged { IfOk result (λ verdict. IfAccepted verdict IsSomeMerge) }
-    ensures setting { IfOk result (λ verdict. IfAccepted verdict (λ w. w.setting ≡ setting_of setup)) }
-    ensures cells { IfOk result (λ verdict. IfAccepted verdict (λ w. w.cells ≡ setup.cells)) }
+fn judged_of(alloc: Global, setup: Setup, set: &LogSet) -> Result<Judged, MergeFault>
+    ensures merged { IfOk result (λ judged. IfAccepted judged.verdict IsSomeMerge) }
+    ensures setting { IfOk result (λ judged. IfAccepted judged.verdict (λ w. w.setting ≡ setting_of setup)) }
+    ensures cells { IfOk result (λ judged. IfAccepted judged.verdict (λ w. w.cells ≡ setup.cells)) }
     ensures err { IfErr result (λ fault. fault ≢ MergeFault.Write) }
 {
-    let n = setup.group.n();
-    match merge(alloc, setup, set.logs(n)) {
-        Ok(verdict) => Ok(verdict),
+    let same = setup;
+    let logs = set.logs(setup.group.n());
+    match merge(alloc, setup, logs) {
+        Ok(verdict) => {
+            let stopped = stopped_of(alloc, same, &verdict, logs)?;
+            Ok(Judged { verdict, stopped })
+        }
         Err(fault) => Err(short(fault)),
     }
 }

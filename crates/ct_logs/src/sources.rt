@@ -1,0 +1,64 @@
+//! The files of logs.
+
+use crate::log_set::{LogSet, name_at};
+use crate::naming::{line_at, push_line};
+use ct_names::Member;
+use std::alloc::AllocError;
+
+// How many characters stand behind a line, before what is told of it: a colon and a blank.
+const BETWEEN: u8 = 2;
+
+// The files in which the lines of logs stand: their names, their texts, and whose log each has.
+#[derive(Clone, Copy)]
+pub(crate) struct Sources<'a> {
+    pub names: &'a [&'a str],
+    pub texts: &'a [Vec<u8>],
+    pub set: &'a LogSet,
+}
+
+impl<'a> Sources<'a> {
+    // The name of the file of the member's log.
+    pub(crate) fn name(self, member: Member) -> &'a str {
+        name_at(self.names, self.set.file(member).unwrap_or(0))
+    }
+
+    // The number in its file of the line at this place of the member's log.
+    pub(crate) fn number(self, member: Member, place: usize) -> usize {
+        self.set.number(member, place).unwrap_or(0)
+    }
+
+    // The line at this place of the member's log.
+    pub(crate) fn line(self, member: Member, place: usize) -> &'a [u8] {
+        let text = match self.texts.get(self.set.file(member).unwrap_or(0)) {
+            Some(text) => text.as_slice(),
+            None => &[],
+        };
+        line_at(text, self.number(member, place))
+    }
+
+    // The file of the line, its number and its text.
+    pub(crate) fn push(
+        self,
+        text: &mut String,
+        member: Member,
+        place: usize,
+    ) -> Result<(), AllocError> {
+        let name = self.name(member);
+        let number = self.number(member, place);
+        push_line(text, name, number, self.line(member, place))
+    }
+
+    // The same, with nothing behind it.
+    pub(crate) fn push_last(
+        self,
+        text: &mut String,
+        member: Member,
+        place: usize,
+    ) -> Result<(), AllocError> {
+        self.push(text, member, place)?;
+        for _ in 0..BETWEEN {
+            let _ = text.pop();
+        }
+        Ok(())
+    }
+}
