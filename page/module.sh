@@ -16,7 +16,7 @@ mapfile -t calls < <(sed -n 's/^[a-z].*[ *]\(ct_[a-z_]*\)(.*/--export=\1/p' "$he
 if [[ ${3:-} == program ]]; then
     parts+=(system)
     calls=(--export=main)
-    level=-Os # 770 KB of page in place of 955; a search takes a third longer
+    level=-Os # a fifth less of page; a search takes a third longer
 fi
 kit=$(dirname "$(realpath "$(command -v rt)")")/..
 clang=$kit/toolchain/bin/clang

@@ -1,6 +1,7 @@
 /* Refuses each allocation of a scenario in turn. Linked with -Wl,--wrap=malloc,--wrap=realloc,--wrap=free: the n-th call for memory answers
-   null. Then the call that asked answers CT_OUT_OF_MEMORY and leaves what its contract says, the scenario is done again where it was
-   stopped, and all memory is given back. Prints `N passed, M failed`, where N is the number of allocations. */
+   null. Then the call that asked answers CT_OUT_OF_MEMORY and leaves what its contract says, and the scenario is done again where it was
+   stopped; or it asked for room ahead, and comes to what it comes to with ample memory. All memory is given back. Prints `N passed, M
+   failed`, where N is the number of allocations. */
 #include "ct.h"
 #include <stdio.h>
 #include <stdlib.h>
@@ -35,8 +36,20 @@ void __wrap_free(void *at) {
     __real_free(at);
 }
 
-/* Whether what happened here is what should: the call is refused exactly where an allocation was. */
-static bool is_told(uint32_t status, bool refused_before) { return (status == CT_OUT_OF_MEMORY) == (has_refused && !refused_before); }
+/* The scenario in which no allocation is refused, and what the world's record has in it at its end. */
+enum { NEVER = -1 };
+static size_t ample_steps;
+
+/* How many calls were done though an allocation was refused in them: room ahead for the first receipts of three members, some times. */
+enum { MOST_WITHOUT_ROOM = 15 };
+static int without_room;
+
+/* Whether what happened here is what should: the call is refused only where an allocation was. */
+static bool is_told(uint32_t status, bool refused_before) {
+    bool refused_here = has_refused && !refused_before;
+    without_room += refused_here && status != CT_OUT_OF_MEMORY;
+    return refused_here || status != CT_OUT_OF_MEMORY;
+}
 
 static size_t steps_of(ct_world *world) {
     ct_step none;
@@ -83,6 +96,8 @@ static bool worlds(void) {
         good = good && ct_world_open(&world, 3, 64, 1048560) == CT_DONE;
     }
     good = good && turns(&world);
+    ample_steps = refused_at == NEVER ? steps_of(&world) : ample_steps;
+    good = good && steps_of(&world) == ample_steps;
     before = has_refused;
     status = ct_copy(&world, &other);
     good = good && is_told(status, before) && (status == CT_DONE) == other.is_open;
@@ -114,6 +129,12 @@ static bool sessions(void) {
 
 int main(void) {
     int passed = 0, failed = 0;
+    refused_at = NEVER;
+    if (!worlds() || !sessions() || ample_steps == 0) {
+        printf("FAILED with ample memory\n");
+        return 1;
+    }
+    refused_at = 0;
     do {
         asked = 0, has_refused = false, refused_at++;
         bool good = worlds();
@@ -126,6 +147,7 @@ int main(void) {
             printf("FAILED allocation %ld\n", refused_at);
         }
     } while (has_refused);
+    failed += without_room > MOST_WITHOUT_ROOM;
     printf("%d passed, %d failed\n", passed, failed);
     return failed != 0;
 }

@@ -92,7 +92,7 @@ def text(path: str) -> str:
 
 
 def judged(tool: str, logs: List[str]) -> Tuple[int, str]:
-    """The status of the judge, and what it says."""
+    """The status of the judge, and the first line of what it says."""
     try:
         done = subprocess.run([tool, "merge", *logs], stdin=subprocess.DEVNULL, stdout=subprocess.PIPE, stderr=subprocess.PIPE,
                               universal_newlines=True, timeout=SECONDS_OF_JUDGE)
@@ -100,7 +100,8 @@ def judged(tool: str, logs: List[str]) -> Tuple[int, str]:
         raise Failed(str(error)) from None
     if done.returncode not in VERDICTS:
         raise Failed(f"{tool} merge ends with status {done.returncode}: {done.stderr.strip()}")
-    return done.returncode, (done.stderr.strip() or done.stdout.strip())
+    said = (done.stderr.strip() or done.stdout.strip()).splitlines()
+    return done.returncode, said[0] if said else ""
 
 
 def counts(logs: List[str]) -> str:
