@@ -1,9 +1,10 @@
--- What the marks tell after one more message was taken.
+-- What the marks tell after one more was taken.
 use Rattle.std.proofs.Common.{◌≡◌, ℕ, ◌<◌, Bool, true, false, Option, ◌||◌, ◌&&◌, ◌==◌, List, [], length, Some, None, refl, sym, ap}
 use Rattle.std.proofs.Common.{ap₂, ◌∙◌, arith, eqb-true, set, length-set, nat_lt}
 use Rattle.std.specs.Prelude.{option_map, slice_index_or}
 use Rattle.std.proofs.lemmas.Bool.Decides.{nat_tests}
 use Rattle.std.proofs.lemmas.Bool.{eqb-false}
+use Rattle.std.proofs.Math.Bool.{and_comm}
 use Rattle.std.proofs.lemmas.List.{get_or-set_same, get_or-set_other}
 use Rattle.ct_names.specs.Group.{is_member}
 use Rattle.ct_names.specs.MemberSet.{has_member, with_member}
@@ -11,6 +12,7 @@ use Rattle.ct_names.specs.declared.limit.TheConstants.{MAX_MEMBERS}
 use Rattle.ct_names.proofs.Groups.{member_from_one, member_to_n}
 use Rattle.ct_names.proofs.Lists
 use Rattle.ct_names.proofs.MemberSets.{has_member-filter, in-everyone}
+use Rattle.ct_relay.specs.declared.known.Known.{Known}
 use Rattle.ct_relay.specs.declared.relay_id.RelayId.{RelayId}
 use Rattle.ct_relay.specs.declared.relay_id.RelayId.TheVariants.{Data, Dec}
 use Rattle.ct_relay.specs.Taken.{is_id}
@@ -41,7 +43,7 @@ module _ (marks : List (List ℕ)) (origin number o n : ℕ) where
   abbrev new : List (List ℕ)
   new = set marks number (with_member (slice_index_or marks number []) origin)
 
-  -- a set at the message's place has the origin, and all others have what they had
+  -- a set at its place has the origin, and all others have what they had
   module _ (less : number < length marks) (is : is_member MAX_MEMBERS o ≡ true) where
     at_number : (b : Bool) → (n == number) ≡ b →
         has_member (slice_index_or new n []) o ≡ (has_member (slice_index_or marks n []) o || ((o == origin) && (n == number)))
@@ -85,14 +87,17 @@ module _ (marks : List (List ℕ)) (origin number o n : ℕ) where
   told-added false e = rw e (not-covered (covers marks o n) e refl)
   told-added true e = rw e (is-covered (covers marks o n) e refl)
 
--- what they tell of a message after another was noted
-pub told-with_mark : (marks : List (List ℕ)) (id x : RelayId) →
-    told_of (with_mark_of marks id) x ≡ option_map (λ b. b || is_id x id) (told_of marks x)
-told-with_mark marks (Data origin number) (Data o n) = told-added marks origin number o n (covers marks origin number) refl
-told-with_mark marks (Data origin number) (Dec instance round) = refl
-told-with_mark marks (Dec instance round) (Dec k r) = refl
-told-with_mark marks (Dec instance round) (Data o n) = at (told marks o n)
-  where
-    at : (told : Option Bool) → told ≡ option_map (λ t. t || false) told
-    at None = refl
-    at (Some t) = ap (λ b. Some b) (or-false t)
+pub no-more : (told : Option Bool) → told ≡ option_map (λ t. t || false) told
+no-more None = refl
+no-more (Some t) = ap (λ b. Some b) (or-false t)
+
+-- what they tell after one was noted
+pub told-with_mark : (known : Known) (id x : RelayId) →
+    told_of (with_mark_of known id) x ≡ option_map (λ b. b || is_id x id) (told_of known x)
+told-with_mark known (Data origin number) (Data o n) =
+    told-added known.messages origin number o n (covers known.messages origin number) refl
+told-with_mark known (Data origin number) (Dec k r) = no-more (told known.decisions r k)
+told-with_mark known (Dec instance round) (Data o n) = no-more (told known.messages o n)
+told-with_mark known (Dec instance round) (Dec k r) =
+    told-added known.decisions round instance r k (covers known.decisions round instance) refl
+    ∙ ap (λ both. option_map (λ t. t || both) (told known.decisions r k)) (and_comm (r == round) (k == instance))

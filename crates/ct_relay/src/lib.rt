@@ -3,6 +3,7 @@
 #![tactic(auto)]
 
 mod action;
+mod known;
 mod marks;
 mod relay;
 mod relay_id;

@@ -1,4 +1,4 @@
-//! Which messages were taken, as marks by number and origin.
+//! Marks by number and origin.
 
 ghost use Rattle.std.specs.Prelude.{◌≡◌, ℕ, ◌-◌, ◌++◌, [], nat_lt, length, replicate, IfOk};
 ghost use Rattle.ct_relay.specs.Marks.{covers, told, with_mark};
@@ -7,14 +7,14 @@ use ct_names::{MAX_MEMBERS, MAX_SUBMISSIONS, Member, MemberSet};
 use std::alloc::{AllocError, Global};
 use std::marker::Model;
 
-/// How many numbers have marks at most: 0 and all that a member submits.
+/// How many numbers have marks at most: 0 and all that a member submits, which are more than the instances.
 const MOST: usize = MAX_SUBMISSIONS as usize + 1;
 
 /// How many numbers have marks at first.
 const FIRST: usize = 64;
 
-/// Of each number, from 0 on, the origins whose message of that number was taken. They cover the numbers below their length
-/// and the members that a group can have.
+/// Of each number, from 0 on, the origins that have a mark at that number. They cover the numbers below their length and the
+/// origins from 1 to [`MAX_MEMBERS`].
 #[derive(Drop)]
 pub struct Marks {
     sets: Vec<MemberSet>,
@@ -52,19 +52,19 @@ impl Marks {
         })
     }
 
-    /// Whether the message was taken, where they cover it.
-    pub fn told(&self, origin: Member, number: u32) -> Option<bool>
+    /// Whether it has a mark, where they cover it.
+    pub fn told(&self, origin: u32, number: u32) -> Option<bool>
         ensures { result ≡ told self.now origin number }
     {
         if self.covers(origin, number) {
-            Some(self.sets[number as usize].contains(origin))
+            Some(self.sets[number as usize].contains(origin as Member))
         } else {
             None
         }
     }
 
-    /// Notes that the message was taken, where they cover it. Whether they do.
-    pub fn add(&mut self, origin: Member, number: u32) -> bool
+    /// Marks it, where they cover it. Whether they do.
+    pub fn add(&mut self, origin: u32, number: u32) -> bool
         ensures covered { result ≡ covers self.old origin number }
         ensures marks { self.new ≡ with_mark self.old origin number }
     {
@@ -74,7 +74,7 @@ impl Marks {
         let covered = self.covers(origin, number);
         if covered {
             let mut set = self.sets[number as usize];
-            set.insert(origin);
+            set.insert(origin as Member);
             self.sets[number as usize] = set;
         }
         covered
@@ -95,10 +95,10 @@ impl Marks {
         self.sets.resize(longer, MemberSet::new()).is_ok()
     }
 
-    // Whether they have a place for the message.
-    fn covers(&self, origin: Member, number: u32) -> bool
+    // Whether they have a place for it.
+    fn covers(&self, origin: u32, number: u32) -> bool
         ensures { result ≡ covers self.now origin number }
     {
-        (number as usize) < self.sets.len() && 1 <= origin && origin <= MAX_MEMBERS
+        (number as usize) < self.sets.len() && 1 <= origin && origin <= u32::from(MAX_MEMBERS)
     }
 }

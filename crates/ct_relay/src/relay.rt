@@ -1,14 +1,11 @@
 //! The first receipts of a member.
 
-ghost use Rattle.std.specs.Prelude.{◌≡◌, ◌+◌, ◌<◌, ◌≤◌, ◌||◌, List, [], ◌∷◌, ◌++◌, false, option_map, IsTrue, IfOk, OnOk, OnErr};
-ghost use Rattle.std.specs.List.{list_any};
+ghost use Rattle.std.specs.Prelude.{◌≡◌, [], false, IsTrue, IfOk, OnOk, OnErr};
 ghost use Rattle.ct_names.specs.Membership.{IsWithoutRepeats};
-ghost use Rattle.ct_relay.specs.declared.relay_id.RelayId.{RelayId as Id};
-ghost use Rattle.ct_relay.specs.Marks.{covers_id, told_of, with_mark_of, IsKept};
-ghost use Rattle.ct_relay.specs.Taken.{is_id, is_first, with_id, action_of};
+ghost use Rattle.ct_relay.specs.Taken.{is_first, with_id, action_of};
 
 use crate::action::Action;
-use crate::marks::Marks;
+use crate::known::Known;
 use crate::relay_id::RelayId;
 use ct_names::Member;
 use indexmap::IndexSet;
@@ -21,9 +18,9 @@ pub struct Relay {
     me: Member,
     // All that was taken, in the order of first receipt.
     order: Vec<RelayId>,
-    // The messages among them that the marks cover.
-    marks: Marks,
-    // The rest: decisions, and messages that the marks didn't cover when they were taken.
+    // What the marks cover of it.
+    known: Known,
+    // The rest: what the marks didn't cover when it was taken.
     others: IndexSet<RelayId>,
 }
 
@@ -44,7 +41,7 @@ impl Model for Relay {
           nat_lt (vec_len relay.order) (vec_capacity relay.order) && nat_lt 0 (spare relay.others);
     } };
 
-    ghost invariant = { λ relay. IsKept relay.order.items relay.marks relay.others.keys };
+    ghost invariant = { λ relay. IsKept relay.order.items relay.known relay.others.keys };
 }
 
 impl Relay {
@@ -56,7 +53,7 @@ impl Relay {
         Relay {
             me,
             order: Vec::new(alloc),
-            marks: Marks::new(alloc),
+            known: Known::new(alloc),
             others: IndexSet::new(alloc),
         }
     }
@@ -69,7 +66,7 @@ impl Relay {
         Ok(Relay {
             me: self.me,
             order: Vec::from_slice(alloc, &self.order)?,
-            marks: self.marks.copy(alloc)?,
+            known: self.known.copy(alloc)?,
             others: self.others.clone()?,
         })
     }
@@ -86,7 +83,7 @@ impl Relay {
         ensures value { result ≡ is_first self.now.ids id }
         ensures once { IsWithoutRepeats self.now.ids }
     {
-        match told(&self.marks, id) {
+        match self.known.told(id) {
             Some(taken) => !taken,
             None => !self.others.contains(&id),
         }
@@ -109,7 +106,7 @@ impl Relay {
     {
         self.order.reserve(1)?;
         self.others.reserve(1)?;
-        lengthen(&mut self.marks, self.others.as_slice());
+        self.known.lengthen(self.others.as_slice());
         Ok(())
     }
 
@@ -124,7 +121,7 @@ impl Relay {
         let deliver = self.first(id);
         if deliver {
             self.order.push(id).unwrap();
-            if !mark(&mut self.marks, id) {
+            if !self.known.add(id) {
                 self.others.insert(id).unwrap();
             }
         }
@@ -132,45 +129,5 @@ impl Relay {
             relay: deliver && sender != self.me,
             deliver,
         }
-    }
-}
-
-// Whether it was taken, where the marks cover it.
-fn told(marks: &Marks, id: RelayId) -> Option<bool>
-    ensures { result ≡ told_of marks.now id }
-{
-    match id {
-        RelayId::Data { origin, number } => marks.told(origin, number),
-        RelayId::Dec { .. } => None,
-    }
-}
-
-// Notes that it was taken, where the marks cover it. Whether they do.
-fn mark(marks: &mut Marks, id: RelayId) -> bool
-    ensures covered { result ≡ covers_id marks.old id }
-    ensures marks { marks.new ≡ with_mark_of marks.old id }
-{
-    match id {
-        RelayId::Data { origin, number } => marks.add(origin, number),
-        RelayId::Dec { .. } => false,
-    }
-}
-
-// Lets the marks cover more numbers where larger ones are coming, and marks what the others have of them. Where memory is
-// refused the marks stay as they were.
-fn lengthen(marks: &mut Marks, others: &[RelayId])
-    ensures { (order : List Id) → IsKept order marks.old others.now → IsKept order marks.new others.now }
-{
-    if marks.grow() {
-        mark_all(marks, others);
-    }
-}
-
-// Notes that all these were taken, where the marks cover them.
-fn mark_all(marks: &mut Marks, ids: &[RelayId])
-    ensures { (id : Id) → told_of marks.new id ≡ option_map (λ b. b || list_any (is_id id) ids.now) (told_of marks.old id) }
-{
-    for id in ids {
-        mark(marks, *id);
     }
 }
