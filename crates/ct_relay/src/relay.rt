@@ -111,9 +111,10 @@ impl Relay {
     }
 
     /// Takes it, and says what to do with it: at its first receipt it is delivered, and relayed unless this member sent
-    /// it; later nothing is done. It takes no memory. Room for one more has to be prepared anew.
+    /// it; later nothing is done. It takes no memory: a first receipt needs room, which has to be prepared anew for the
+    /// next one.
     pub fn take(&mut self, id: RelayId, sender: Member) -> Action
-        requires { IsTrue self.old.has_room }
+        requires { IsTrue (is_first self.old.ids id) → IsTrue self.old.has_room }
         ensures action { result ≡ action_of self.old id sender }
         ensures ids { self.new.ids ≡ with_id self.old.ids id }
         ensures me { self.new.me ≡ self.old.me }
