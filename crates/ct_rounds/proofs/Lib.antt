@@ -2,3 +2,4 @@ pub mod Copies
 pub mod Rising
 pub mod Picks
 pub mod Estimates
+pub mod Places

@@ -1,6 +1,7 @@
 //! The inbox of one member for one instance.
 
-ghost use Rattle.std.specs.Prelude.{◌≡◌, ℕ, [], false, IsTrue, IfOk, IfSome, OnOk, OnErr, option_map};
+ghost use Rattle.std.specs.Prelude.{◌≡◌, ℕ, [], false, IsTrue, IfOk, IfSome, OnOk, OnErr, nat_eq, option_map, option_copied};
+ghost use Rattle.std.specs.Map.{lookup};
 ghost use Rattle.ct_model.specs.Received.{heard, estimate_from};
 ghost use Rattle.ct_model.specs.Faults.{has_largest};
 ghost use Rattle.ct_model.specs.Counted.{NamesSomebody, count_at};
@@ -8,6 +9,7 @@ ghost use Rattle.ct_model.specs.Wire.{vote_round};
 ghost use Rattle.ct_rounds.specs.Best.{best};
 ghost use Rattle.ct_rounds.specs.Inbox.{ballots_at, has_room};
 
+use crate::lookup::{find, find_mut, index_in_order};
 use crate::tally::Tally;
 use ct_model::Wire;
 use ct_names::{Member, MemberSet, Round, ValueId};
@@ -72,7 +74,7 @@ impl Inbox {
     pub fn has_room(&self, round: Round) -> bool
         ensures { result ≡ has_room self.now round }
     {
-        self.tallies.contains_key(&round)
+        self.tally(round).is_some()
     }
 
     /// Counts the wire in, where it is a vote of a round. Takes no memory.
@@ -85,7 +87,7 @@ impl Inbox {
         let Some(round) = wire.vote_round() else {
             return;
         };
-        match self.tallies.get_mut(&round) {
+        match find_mut(&mut self.tallies, &round, index_in_order(round)) {
             Some(tally) => tally.take(wire),
             None => unreachable!(),
         }
@@ -95,7 +97,7 @@ impl Inbox {
     pub fn heard(&self, round: Round) -> MemberSet
         ensures { result ≡ heard (ballots_at self.now round) }
     {
-        match self.tallies.get(&round) {
+        match self.tally(round) {
             Some(tally) => tally.heard(),
             None => MemberSet::new(),
         }
@@ -105,7 +107,7 @@ impl Inbox {
     pub fn best(&self, round: Round) -> Option<Member>
         ensures { result ≡ best (ballots_at self.now round) }
     {
-        match self.tallies.get(&round) {
+        match self.tally(round) {
             Some(tally) => tally.best(),
             None => None,
         }
@@ -115,7 +117,7 @@ impl Inbox {
     pub fn largest(&self, round: Round, from: Member) -> bool
         ensures { result ≡ has_largest (ballots_at self.now round) from }
     {
-        match self.tallies.get(&round) {
+        match self.tally(round) {
             Some(tally) => tally.largest(from),
             None => false,
         }
@@ -125,7 +127,7 @@ impl Inbox {
     pub fn estimate(&self, round: Round, from: Member) -> Option<ValueId>
         ensures { result ≡ option_map (λ e. e.value) (estimate_from (ballots_at self.now round) from) }
     {
-        match self.tallies.get(&round) {
+        match self.tally(round) {
             Some(tally) => tally.estimate(from),
             None => None,
         }
@@ -135,7 +137,7 @@ impl Inbox {
     pub fn ts(&self, round: Round, from: Member) -> Option<Round>
         ensures { result ≡ option_map (λ e. e.ts) (estimate_from (ballots_at self.now round) from) }
     {
-        match self.tallies.get(&round) {
+        match self.tally(round) {
             Some(tally) => tally.ts(from),
             None => None,
         }
@@ -145,7 +147,7 @@ impl Inbox {
     pub fn proposal(&self, round: Round) -> Option<ValueId>
         ensures { result ≡ (ballots_at self.now round).proposal }
     {
-        match self.tallies.get(&round) {
+        match self.tally(round) {
             Some(tally) => tally.proposal(),
             None => None,
         }
@@ -155,7 +157,7 @@ impl Inbox {
     pub fn replied(&self, round: Round) -> MemberSet
         ensures { result ≡ (ballots_at self.now round).replied }
     {
-        match self.tallies.get(&round) {
+        match self.tally(round) {
             Some(tally) => tally.replied(),
             None => MemberSet::new(),
         }
@@ -165,9 +167,16 @@ impl Inbox {
     pub fn acked(&self, round: Round) -> MemberSet
         ensures { result ≡ (ballots_at self.now round).acked }
     {
-        match self.tallies.get(&round) {
+        match self.tally(round) {
             Some(tally) => tally.acked(),
             None => MemberSet::new(),
         }
+    }
+
+    // The tally of the round. Rounds mostly get theirs in order.
+    fn tally(&self, round: Round) -> Option<&Tally>
+        ensures { option_copied result ≡ lookup (nat_eq round) self.now }
+    {
+        find(&self.tallies, &round, index_in_order(round))
     }
 }
