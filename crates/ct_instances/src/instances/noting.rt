@@ -8,7 +8,7 @@ ghost use Rattle.ct_model.specs.Received.{decision_of};
 ghost use Rattle.ct_instances.specs.Kept.{ballots_of, decision_at, has_room, has_room_open};
 
 use super::Instances;
-use ct_rounds::Wire;
+use ct_rounds::{Wire, find_mut, index_in_order};
 
 impl Instances {
     /// Notes the wire, whether or not its instance is open, which takes no memory. Of an instance's decisions the
@@ -25,7 +25,7 @@ impl Instances {
         let Some(instance) = wire.instance() else {
             return;
         };
-        match self.entries.get_mut(&instance) {
+        match find_mut(&mut self.entries, &instance, index_in_order(instance)) {
             Some(entry) => {
                 entry.inbox.note(wire);
                 entry.decision = entry.decision.or(wire.decision());

@@ -7,7 +7,7 @@ ghost use Rattle.ct_instances.specs.Kept.{ballots_of, decision_at, has_room, has
 use super::Instances;
 use crate::entry::Entry;
 use ct_names::{Instance, Round};
-use ct_rounds::{Inbox, Wire};
+use ct_rounds::{Inbox, Wire, find_mut, index_in_order};
 use std::alloc::AllocError;
 
 impl Instances {
@@ -22,7 +22,7 @@ impl Instances {
         ensures rooms { (k r : ℕ) → IsTrue (has_room_of self.old k r) → IsTrue (has_room_of self.new k r) }
         ensures rest { self.new ≡ record self.old { entries = self.new.entries } }
     {
-        if self.entries.contains_key(&instance) {
+        if self.has_room_open(instance) {
             return Ok(());
         }
         let entry = Entry {
@@ -59,10 +59,18 @@ impl Instances {
         ensures rooms { (k r : ℕ) → IsTrue (has_room_of self.old k r) → IsTrue (has_room_of self.new k r) }
         ensures rest { self.new ≡ record self.old { entries = self.new.entries } }
     {
-        self.prepare_open(instance)?;
-        match self.entries.get_mut(&instance) {
+        match find_mut(&mut self.entries, &instance, index_in_order(instance)) {
             Some(entry) => entry.inbox.prepare(round),
-            None => unreachable!(),
+            None => {
+                let mut inbox = Inbox::new(self.alloc);
+                inbox.prepare(round)?;
+                let entry = Entry {
+                    inbox,
+                    decision: None,
+                };
+                self.entries.insert(instance, entry)?;
+                Ok(())
+            }
         }
     }
 }

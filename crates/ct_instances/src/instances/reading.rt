@@ -1,13 +1,14 @@
 //! What is known of the instances.
 
 ghost use Rattle.std.specs.Prelude.{◌≡◌, IfSome, option_map, option_copied};
-ghost use Rattle.ct_instances.specs.Kept.{decision_at, has_room, has_room_of, has_room_open};
+ghost use Rattle.ct_instances.specs.Kept.{decision_at, entry_of, has_room, has_room_of, has_room_open};
 ghost use Rattle.ct_instances.specs.Opened.{IsPart};
 ghost use Rattle.ct_instances.specs.Steps.{open_rounds};
 
 use super::Instances;
+use crate::entry::Entry;
 use ct_names::{Instance, Round, ValueId};
-use ct_rounds::{Consensus, Inbox, Wire};
+use ct_rounds::{Consensus, Inbox, Wire, find, index_in_order};
 
 impl Instances {
     /// The last instance that was begun, 0 before the first.
@@ -32,7 +33,7 @@ impl Instances {
         if self.part.is_none() {
             return None;
         }
-        match self.entries.get(&self.last) {
+        match self.entry(self.last) {
             Some(entry) => Some(&entry.inbox),
             None => unreachable!(),
         }
@@ -42,7 +43,7 @@ impl Instances {
     pub fn decided(&self, instance: Instance) -> Option<ValueId>
         ensures { result ≡ decision_at self.now instance }
     {
-        match self.entries.get(&instance) {
+        match self.entry(instance) {
             Some(entry) => entry.decision,
             None => None,
         }
@@ -52,7 +53,7 @@ impl Instances {
     pub fn has_room_open(&self, instance: Instance) -> bool
         ensures { result ≡ has_room_open self.now instance }
     {
-        self.entries.contains_key(&instance)
+        self.entry(instance).is_some()
     }
 
     /// Whether the wire can be noted without memory; a message always.
@@ -69,9 +70,16 @@ impl Instances {
     fn has_room_of(&self, instance: Instance, round: Round) -> bool
         ensures { result ≡ has_room_of self.now instance round }
     {
-        match self.entries.get(&instance) {
+        match self.entry(instance) {
             Some(entry) => entry.inbox.has_room(round),
             None => false,
         }
+    }
+
+    // What is kept of the instance. Instances mostly get their entries in order.
+    pub(super) fn entry(&self, instance: Instance) -> Option<&Entry>
+        ensures { option_copied result ≡ entry_of self.now instance }
+    {
+        find(&self.entries, &instance, index_in_order(instance))
     }
 }

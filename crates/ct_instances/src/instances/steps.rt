@@ -9,7 +9,7 @@ ghost use Rattle.ct_instances.specs.Steps.{faults, taken, passes_rounds};
 use super::Instances;
 use ct_model::Move;
 use ct_names::{MAX_ROUNDS, Member, Refusal};
-use ct_rounds::Mail;
+use ct_rounds::{Mail, find, index_in_order};
 
 impl Instances {
     /// Takes a step that `fault` allows, and that begins no round beyond the limit.
@@ -20,7 +20,7 @@ impl Instances {
     {
         match &mut self.part {
             None => unreachable!(),
-            Some(consensus) => match self.entries.get(&self.last) {
+            Some(consensus) => match find(&self.entries, &self.last, index_in_order(self.last)) {
                 None => unreachable!(),
                 Some(entry) => consensus.take(&entry.inbox, action),
             },
