@@ -82,10 +82,16 @@ pub record AreNewSeats (n k : ℕ) (seats : List Seat) : Type 0 where
 abbrev pub AreSameSeats : List Seat → List Seat → Type 0
 AreSameSeats old new = map content new ≡ map content old
 
+-- whether the wire is a message or a decision that comes for the first time
+abbrev pub is_new : Taken → AnyWire ℕ → Bool
+is_new taken (Data m) = is_first taken.ids (id.Data m.origin m.number)
+is_new taken (Dec k r v) = is_first taken.ids (id.Dec k r)
+is_new taken _ = false
+
 -- room to receive the wire
 pub record CanReceive (seat : Seat) (x : AnyWire ℕ) : Type 0 where
-  pub relay : seat.relay.has_room ≡ true
-  pub message : 1 ≤ seat.caster.room
+  pub relay : is_new seat.relay x ≡ true → seat.relay.has_room ≡ true
+  pub message : is_new seat.relay x ≡ true → 1 ≤ seat.caster.room
   pub note : has_room seat.instances x ≡ true
 
 -- whether the member passes the wire on: it gets it for the first time, and didn't send it to all before

@@ -11,13 +11,15 @@ use ct_rounds::Wire;
 use std::alloc::{AllocError, Global};
 
 impl Seat {
-    /// Room to receive the wire.
+    /// Room to receive the wire. A message or a decision that came before needs none at the relay.
     pub fn prepare_receive(&mut self, wire: &Wire) -> Result<(), AllocError>
         ensures same { content self.new ≡ content self.old }
         ensures ok { OnOk result (CanReceive self.new wire.now) }
     {
-        self.relay.prepare()?;
-        self.caster.prepare(1)?;
+        if self.is_new(wire) {
+            self.relay.prepare()?;
+            self.caster.prepare(1)?;
+        }
         self.instances.prepare(wire)
     }
 

@@ -4,7 +4,7 @@ ghost use Rattle.std.specs.Prelude.{◌≡◌, ◌≤◌, true};
 ghost use Rattle.ct_model.specs.declared.wire.Wire.TheVariants.{Data, Dec};
 ghost use Rattle.ct_relay.specs.Taken.{with_id};
 ghost use Rattle.ct_model.specs.Counted.{NamesSomebody};
-ghost use Rattle.ct_world.specs.Seats.{CanReceive, HasReceived, HasSameRest, ids_with, is_passed_on, passed_on, received_with};
+ghost use Rattle.ct_world.specs.Seats.{CanReceive, HasReceived, HasSameRest, ids_with, is_new, is_passed_on, passed_on, received_with};
 
 use crate::seat::Seat;
 use ct_names::{Group, Instance, Message, Round};
@@ -12,6 +12,21 @@ use ct_relay::RelayId;
 use ct_rounds::{Mail, Wire};
 
 impl Seat {
+    /// Whether the wire is a message or a decision that comes for the first time.
+    pub fn is_new(&self, wire: &Wire) -> bool
+        ensures { result ≡ is_new self.now.relay wire.now }
+    {
+        match *wire {
+            Wire::Data(message) => self.relay.first(name_of(&message)),
+            Wire::Dec {
+                instance,
+                round,
+                ..
+            } => self.relay.first(RelayId::Dec { instance, round }),
+            _ => false,
+        }
+    }
+
     /// Whether the member passes the wire on: it gets it for the first time, and didn't send it to all before.
     pub fn passes_on(&self, group: Group, wire: &Wire) -> bool
         ensures { result ≡ is_passed_on group self.now.relay wire.now }
@@ -53,8 +68,8 @@ impl Seat {
 
     // The message is received where it comes for the first time. Whether it is passed on.
     fn receive_message(&mut self, message: Message) -> bool
-        requires relay { self.old.relay.has_room ≡ true }
-        requires room { 1 ≤ self.old.caster.room }
+        requires relay { is_new self.old.relay (Data message) ≡ true → self.old.relay.has_room ≡ true }
+        requires room { is_new self.old.relay (Data message) ≡ true → 1 ≤ self.old.caster.room }
         ensures ids { self.new.relay.ids ≡ ids_with self.old.relay.ids (Data message) }
         ensures received { self.new.caster.received ≡ received_with self.old.relay.ids self.old.caster.received (Data message) }
         ensures rest { HasSameRest self.old self.new }
@@ -69,7 +84,7 @@ impl Seat {
 
     // The decision is taken. Whether it is passed on.
     fn receive_decision(&mut self, group: Group, instance: Instance, round: Round) -> bool
-        requires relay { self.old.relay.has_room ≡ true }
+        requires relay { is_new self.old.relay (Dec instance round 0) ≡ true → self.old.relay.has_room ≡ true }
         ensures ids { self.new.relay.ids ≡ with_id self.old.relay.ids (RelayId.Dec instance round) }
         ensures received { self.new.caster ≡ self.old.caster }
         ensures rest { HasSameRest self.old self.new }
