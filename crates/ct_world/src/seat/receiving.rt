@@ -32,15 +32,9 @@ impl Seat {
         ensures { result ≡ is_passed_on group self.now.relay wire.now }
     {
         match *wire {
-            Wire::Data(message) => self.relay.first(name_of(&message))
-                && message.origin() != self.relay.me(),
-            Wire::Dec {
-                instance,
-                round,
-                ..
-            } => {
-                self.relay.first(RelayId::Dec { instance, round })
-                    && group.coordinator(round) != self.relay.me()
+            Wire::Data(message) => self.is_new(wire) && message.origin() != self.relay.me(),
+            Wire::Dec { round, .. } => {
+                self.is_new(wire) && group.coordinator(round) != self.relay.me()
             }
             _ => false,
         }
