@@ -14,3 +14,4 @@ pub mod Written
 pub mod Plain
 pub mod Keys
 pub mod Members
+pub mod Allowed

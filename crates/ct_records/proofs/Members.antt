@@ -1,6 +1,6 @@
 -- From the lexemes of an object's members to what the object says.
-use Rattle.std.proofs.Common.{◌≡◌, ℕ, ◌<◌, ◌≤◌, ◌^◌, true, List, [], ◌∷◌, ◌++◌, length, decimal, Option, Some, None, Ok, refl, sym, ap, ◌∙◌}
-use Rattle.std.proofs.Common.{arith, append_assoc, append-nil, inl, inr, ne_eqb, false}
+use Rattle.std.proofs.Common.{◌≡◌, ℕ, ◌<◌, ◌≤◌, ◌^◌, true, List, [], ◌∷◌, ◌++◌, length, codes, decimal, Option, Some, None, Ok, refl, sym, ap, ◌∙◌}
+use Rattle.std.proofs.Common.{arith, append_assoc, append-nil, inl, inr, ne_eqb, false, subst}
 use Rattle.std.specs.Prelude.{◌⊎◌, All, option_map, option_and_then}
 use Rattle.std.specs.Str.{IsUtf8}
 use Rattle.json.specs.Token as json
@@ -22,9 +22,11 @@ use Rattle.ct_model.specs.StepText as steps
 use Rattle.ct_model.specs.StepText.{Rest, nothing, command, step_entry}
 use Rattle.ct_records.specs.Fits.{AllFit, IsStorable}
 use Rattle.ct_records.specs.Plain.{lexemes, number_lexeme, entry_lexemes, rest_lexemes, steps_lexemes, Begins, IsPlain, members_from}
-use Rattle.ct_records.specs.Plain.{Adds, Takes, Closes, IsBound}
+use Rattle.ct_records.specs.Plain.{members_with, Adds, Takes, Closes, SoFar, IsPast, IsUpToSteps, IsBound}
+use Rattle.ct_records.specs.declared.parts.Numbers.{Numbers}
 use Rattle.ct_records.specs.Script.{since, of_value, max_len, script}
 use Rattle.ct_records.specs.Values.{num, entry_data, rest_data, step_data, steps_data}
+use Rattle.ct_records.proofs.Keys.{adds_steps}
 use Rattle.ct_records.proofs.Plain.{commas, opens_object}
 use Rattle.ct_records.proofs.Stored.{steps_stored}
 use Rattle.ct_records.proofs.Whole.{script_read}
@@ -118,11 +120,8 @@ takes_steps key ss bytes value after old new h0 h1 fit adds =
 
 -- ---- all members
 
--- whatever follows, the members found so far stand before it
-abbrev pub SoFar : List ℕ → Members → List ℕ → Type 0
-SoFar start found now =
-    (ms : tree.Members) (all : Members) → ((p : Place) → may_begin p ≡ true → punctuate p (lexemes now) ≡ members_tokens ms)
-    → of_members ms found ≡ Some all → members_depth ms ≤ 3 → Closes start all
+pub so_far_none : (start : List ℕ) → SoFar start no_members start
+so_far_none start ms all t c s = record { trees = ms; tokens = t; converts = c; shallow = s }
 
 comma_tokens : (after : List Lexeme) → punctuate after_value (comma ∷ after) ≡ punctuate after_comma after
 unfolding punctuate
@@ -150,6 +149,38 @@ so_far_end start now after found more so_far takes last ended =
     takes.tokens p may ended
     ∙ ap (λ l. json.key takes.key ∷ (json_tokens (outline takes.entry) ++ l)) (ap (punctuate after_value) last ∙ end_tokens))
     (rw (takes.converts, takes.puts) refl) (omega (arith, takes.shallow))
+
+-- one more member behind the last
+pub past_more : (start after next end : List ℕ) (found more : Members) → IsPast start found after → Begins after 44 next →
+    Takes next found more end → IsPast start more end
+past_more start after next end found more past begins takes = record {
+  last = next;
+  earlier = found;
+  so_far = so_far_more start past.last after next past.earlier found past.so_far past.takes begins;
+  takes = takes;
+}
+
+pub past_end : (start after : List ℕ) (found : Members) → IsPast start found after → lexemes after ≡ token end_object ∷ [] →
+    ends_word after ≡ true → Closes start found
+past_end start after found past last ended = so_far_end start past.last after past.earlier found past.so_far past.takes last ended
+
+-- a key is this text
+pub key_is : (key text bytes value : List ℕ) → key ≡ text → IsPlain text →
+    (IsPlain key → lexemes bytes ≡ token (string key) ∷ colon ∷ lexemes value) →
+    lexemes bytes ≡ token (string text) ∷ colon ∷ lexemes value
+key_is key text bytes value same plain h = subst (λ k. IsPlain k → lexemes bytes ≡ token (string k) ∷ colon ∷ lexemes value) same h plain
+
+-- the numbers that stand before the steps, and the steps
+pub past_steps : (start list after : List ℕ) (numbers : Numbers) (ss : List Step) → IsUpToSteps start numbers list →
+    lexemes list ≡ token begin_array ∷ steps_lexemes false ss (token end_array ∷ lexemes after) → AllFit ss →
+    IsPast start (members_with numbers (Some ss)) after
+past_steps start list after numbers ss front text fit = record {
+  last = front.at;
+  earlier = members_with numbers None;
+  so_far = front.so_far;
+  takes = takes_steps (codes "steps") ss front.at list after _ _ (λ _. front.key) text fit
+      (adds_steps (codes "steps") ss numbers.batch numbers.cells numbers.n None numbers.version refl);
+}
 
 -- ---- the whole
 

@@ -4,7 +4,7 @@ use Rattle.std.specs.Prelude.{option_map, if◌then◌else◌, IfSome}
 use Rattle.json.specs.Token as json
 use Rattle.json.specs.Token.{begin_array, end_array, string, number}
 use Rattle.json.specs.Json as tree
-use Rattle.json.specs.Lex.{Lexeme, token, comma, lex, between, Place, may_begin, punctuate, after_value}
+use Rattle.json.specs.Lex.{Lexeme, token, comma, colon, lex, between, Place, may_begin, punctuate, after_value}
 use Rattle.json.specs.Print.{quoted}
 use Rattle.json.specs.Tree.{json_tokens, members_tokens, depth, members_depth}
 use Rattle.json.specs.Word.{is_operator, ends_word}
@@ -14,10 +14,13 @@ use Rattle.serde_json.specs.Written.{outline}
 use Rattle.ct_names.specs.declared.command.Command.{Command}
 use Rattle.ct_names.specs.declared.limit.TheConstants.{MAX_BOUND, MAX_STEPS}
 use Rattle.ct_model.specs.declared.step.Step.{Step}
+use Rattle.ct_model.specs.Cause.{cause}
+use Rattle.ct_model.specs.Rehearsal.{Rehearsal, extended}
 use Rattle.ct_model.specs.StepText as steps
 use Rattle.ct_model.specs.StepText.{amount, Rest, nothing, command, command_entry, step_entry}
 use Rattle.ct_records.specs.Fits.{RestFits, StepFits, AllFit}
 use Rattle.ct_records.specs.Values.{num, steps_data}
+use Rattle.ct_records.specs.declared.parts.Numbers.{Numbers}
 use Rattle.ct_records.specs.declared.parts.Parts.{Parts}
 
 -- ---- lexemes, before what follows
@@ -100,9 +103,13 @@ members_from batch cells n steps version =
     (member_if (codes "n") (option_map num n) (member_if (codes "steps") (option_map (λ ss. array (steps_data ss)) steps)
     (member_if (codes "version") (option_map num version) no_members))))
 
+-- these numbers and steps
+abbrev pub members_with : Numbers → Option (List Step) → Members
+members_with numbers steps = members_from numbers.batch numbers.cells numbers.n steps numbers.version
+
 -- the members of an object that were read
 abbrev pub members_of : Parts → Members
-members_of p = members_from p.batch p.cells p.n (option_map (λ steps. steps.items) p.steps) p.version
+members_of p = members_with p.numbers (option_map (λ steps. steps.items) p.steps)
 
 abbrev pub PartsFit : Parts → Type 0
 PartsFit p = IfSome p.steps (λ steps. StepsFit steps.items)
@@ -110,6 +117,10 @@ PartsFit p = IfSome p.steps (λ steps. StepsFit steps.items)
 -- the value is put at the key
 abbrev pub Adds : List ℕ → Data → Members → Members → Type 0
 Adds key d old new = IsPlain key × (put key d old ≡ new)
+
+-- the number is put at the key, whatever the steps are
+abbrev pub AddsNumber : List ℕ → ℕ → Numbers → Numbers → Type 0
+AddsNumber key n old new = (steps : Option (List Step)) → Adds key (num n) (members_with old steps) (members_with new steps)
 
 -- a key with its value stands in front, and takes the members from old to new
 pub record Takes (bytes : List ℕ) (old new : Members) (after : List ℕ) : Type 0 where
@@ -127,6 +138,43 @@ pub record Closes (bytes : List ℕ) (found : Members) : Type 0 where
   pub tokens : (p : Place) → may_begin p ≡ true → punctuate p (lexemes bytes) ≡ members_tokens trees
   pub converts : of_members trees no_members ≡ Some found
   pub shallow : members_depth trees ≤ 3
+
+-- whatever follows, the members found so far stand before it
+abbrev pub SoFar : List ℕ → Members → List ℕ → Type 0
+SoFar start found now =
+    (ms : tree.Members) (all : Members) → ((p : Place) → may_begin p ≡ true → punctuate p (lexemes now) ≡ members_tokens ms)
+    → of_members ms found ≡ Some all → members_depth ms ≤ 3 → Closes start all
+
+-- a member that is a number stands in front
+abbrev pub TakesNumber : List ℕ → Numbers → Numbers → List ℕ → Type 0
+TakesNumber bytes old new after =
+    (steps : Option (List Step)) → Takes bytes (members_with old steps) (members_with new steps) after
+
+-- the numbers stand before the key of the steps, and the list behind that
+pub record IsUpToSteps (start : List ℕ) (numbers : Numbers) (list : List ℕ) : Type 0 where
+  pub at : List ℕ
+  pub so_far : SoFar start (members_with numbers None) at
+  pub key : lexemes at ≡ token (string (codes "steps")) ∷ colon ∷ lexemes list
+
+-- the members found so far stand before what follows, and there is one at least
+pub record IsPast (start : List ℕ) (found : Members) (after : List ℕ) : Type 0 where
+  pub last : List ℕ
+  pub earlier : Members
+  pub so_far : SoFar start earlier last
+  pub takes : Takes last earlier found after
+
+-- the numbers that stand before are joined by those behind, and these are the last members
+abbrev pub IsRest : Numbers → List ℕ → Numbers → Type 0
+IsRest old after new = (start : List ℕ) (steps : List Step) → IsPast start (members_with old (Some steps)) after →
+    Closes start (members_with new (Some steps))
+
+-- one more step is done: the bytes begin with it, behind a comma where another stands before it
+pub record IsStep (old new : Rehearsal) (later : Bool) (bytes after : List ℕ) : Type 0 where
+  pub step : Step
+  pub joined : new ≡ extended old step
+  pub allowed : cause old step ≡ None
+  pub text : lexemes bytes ≡ comma_if later (step_lexemes step (lexemes after))
+  pub fits : StepFits step
 
 -- the bound of a record of the version: named in version 3 alone, and else the largest
 pub record IsBound (version : ℕ) (named : Option ℕ) (bound : ℕ) : Type 0 where

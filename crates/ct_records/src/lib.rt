@@ -1,6 +1,7 @@
 //! Records and reports: the text of a record is read and written, replayed, and its report made.
 #![tactic(auto)]
 
+mod applying;
 mod law;
 mod naming;
 mod parts;
@@ -16,6 +17,7 @@ mod setting_up;
 mod version;
 mod writing;
 
+pub use applying::replay_plain;
 pub use law::law_round_trip;
 pub use program_fault::ProgramFault;
 pub use quick::read_plain;

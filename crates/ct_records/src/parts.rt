@@ -1,8 +1,9 @@
 //! The parts of a record.
 
-ghost use Rattle.std.specs.Prelude.{◌≡◌, ◌≤◌, All, IfSome, IsTrue, Ok};
-ghost use Rattle.serde_json.specs.Data.{array, object};
-ghost use Rattle.ct_records.specs.Plain.{Adds, IsBound, PartsFit, StepsFit, members_of};
+ghost use Rattle.std.specs.Prelude.{◌≡◌, ◌≤◌, All, IfSome, IsTrue, Ok, Some, None};
+ghost use Rattle.serde_json.specs.Data.{array, object, no_members};
+ghost use Rattle.ct_records.specs.Fits.{AllFit};
+ghost use Rattle.ct_records.specs.Plain.{Adds, AddsNumber, IsBound, PartsFit, StepsFit, members_of, members_with};
 ghost use Rattle.ct_records.specs.Script.{of_value, since};
 ghost use Rattle.ct_records.specs.Values.{num, steps_data};
 ghost use Rattle.ct_records.specs.View.{rehearsal_of};
@@ -12,15 +13,77 @@ use crate::script::Script;
 use crate::version::{BOUNDED, FIRST, since};
 use ct_model::Step;
 use ct_names::{Group, MAX_BOUND, MAX_CELLS, MAX_MEMBERS};
+use ct_world::World;
 
-/// The parts of a record that were read so far, by their keys.
-#[derive(Drop)]
-pub(crate) struct Parts {
+/// The numbers of a record that were read so far, by their keys.
+#[derive(Clone, Copy)]
+pub(crate) struct Numbers {
     pub batch: Option<u64>,
     pub cells: Option<u64>,
     pub n: Option<u64>,
-    pub steps: Option<Vec<Step>>,
     pub version: Option<u64>,
+}
+
+impl Numbers {
+    /// None of them.
+    pub(crate) fn none() -> Numbers
+        ensures { members_with result None ≡ no_members }
+    {
+        Numbers {
+            batch: None,
+            cells: None,
+            n: None,
+            version: None,
+        }
+    }
+
+    /// With the number at the key.
+    pub(crate) fn with(self, key: &[u8], n: u64) -> Option<Numbers>
+        ensures { IfSome result (AddsNumber key.now n self) }
+    {
+        let n = Some(n);
+        if is(key, "batch") {
+            Some(Numbers { batch: n, ..self })
+        } else if is(key, "cells") {
+            Some(Numbers { cells: n, ..self })
+        } else if is(key, "n") {
+            Some(Numbers { n, ..self })
+        } else if is(key, "version") {
+            Some(Numbers { version: n, ..self })
+        } else {
+            None
+        }
+    }
+
+    /// Whether they are those of the world's record, and records of their version have each of its steps.
+    pub(crate) fn are_of(self, world: &World) -> bool
+        requires { AllFit world.now.rehearsal.steps }
+        ensures { IsTrue result → of_value (object (members_with self (Some world.now.rehearsal.steps))) ≡ Ok world.now.rehearsal }
+    {
+        let Some(version) = self.version else {
+            return false;
+        };
+        let Some(cells) = self.cells else {
+            return false;
+        };
+        let Some(n) = self.n else {
+            return false;
+        };
+        let Some(batch) = bound(version, self.batch) else {
+            return false;
+        };
+        if cells != u64::from(world.cells()) || n != u64::from(world.group().n()) {
+            return false;
+        }
+        batch == world.bound() && has_all(version, world.record())
+    }
+}
+
+/// The parts of a record that were read so far.
+#[derive(Drop)]
+pub(crate) struct Parts {
+    pub numbers: Numbers,
+    pub steps: Option<Vec<Step>>,
 }
 
 impl Parts {
@@ -29,18 +92,8 @@ impl Parts {
         ensures adds { IfSome result (λ parts. Adds key.now (num n) (members_of self) (members_of parts)) }
         ensures steps { IfSome result (λ parts. parts.steps ≡ self.steps) }
     {
-        let n = Some(n);
-        if is(key, "batch") {
-            Some(Parts { batch: n, ..self })
-        } else if is(key, "cells") {
-            Some(Parts { cells: n, ..self })
-        } else if is(key, "n") {
-            Some(Parts { n, ..self })
-        } else if is(key, "version") {
-            Some(Parts { version: n, ..self })
-        } else {
-            None
-        }
+        let numbers = self.numbers.with(key, n)?;
+        Some(Parts { numbers, ..self })
     }
 
     /// With the steps, where that is the key.
@@ -64,10 +117,10 @@ impl Parts {
         requires { PartsFit self }
         ensures { IfSome result (λ s. of_value (object (members_of self)) ≡ Ok (rehearsal_of s)) }
     {
-        let version = self.version?;
-        let batch = bound(version, self.batch)?;
-        let cells = self.cells?;
-        let n = self.n?;
+        let version = self.numbers.version?;
+        let batch = bound(version, self.numbers.batch)?;
+        let cells = self.numbers.cells?;
+        let n = self.numbers.n?;
         let steps = self.steps?;
         if cells > MAX_CELLS as u64 || n > MAX_MEMBERS as u64 || !has_all(version, &steps) {
             return None;

@@ -12,14 +12,14 @@ ghost use Rattle.ct_records.specs.Script.{max_len, script};
 ghost use Rattle.ct_records.specs.View.{rehearsal_of};
 
 use crate::naming::{BYTE, SERIAL, commanded_step, named_command, numbered_step, short_step};
-use crate::parts::Parts;
+use crate::parts::{Numbers, Parts};
 use crate::script::Script;
 use ct_model::Step;
 use ct_names::{Command, MAX_STEPS, Member};
 use std::alloc::{AllocError, Global};
 
-// How many keys a record has at most.
-const KEYS: usize = 5;
+/// How many keys a record has at most.
+pub(crate) const KEYS: usize = 5;
 
 // The last digit of the largest number.
 const LAST_DIGIT: u8 = 5;
@@ -49,11 +49,8 @@ fn members(alloc: Global, bytes: &[u8]) -> Result<Option<Parts>, AllocError>
     ensures fit { IfOk result (λ o. IfSome o PartsFit) }
 {
     let mut parts = Parts {
-        batch: None,
-        cells: None,
-        n: None,
+        numbers: Numbers::none(),
         steps: None,
-        version: None,
     };
     let mut rest = bytes;
     for _ in 0..KEYS {
@@ -72,8 +69,8 @@ fn members(alloc: Global, bytes: &[u8]) -> Result<Option<Parts>, AllocError>
     Ok(None)
 }
 
-// Whether the bracket that closes an object stands there alone.
-fn closes(bytes: &[u8]) -> bool
+/// Whether the bracket that closes an object stands there alone.
+pub(crate) fn closes(bytes: &[u8]) -> bool
     ensures lexemes { IsTrue result → lexemes bytes.now ≡ token end_object ∷ [] }
     ensures ends { IsTrue result → ends_word bytes.now ≡ true }
 {
@@ -186,9 +183,9 @@ fn is_space(byte: u8) -> bool
     byte == b' ' || byte == b'\t' || byte == b'\n' || byte == b'\r'
 }
 
-// What follows the byte, which may stand behind white space.
+/// What follows the byte, which may stand behind white space.
 #[inline(always)]
-fn behind(bytes: &[u8], byte: u8) -> Option<&[u8]>
+pub(crate) fn behind(bytes: &[u8], byte: u8) -> Option<&[u8]>
     ensures { IfSome result (λ rest. Begins bytes.now byte rest.now) }
 {
     match bytes {
@@ -297,9 +294,9 @@ fn add_step<'a>(
     Ok(Some(rest))
 }
 
-// What follows the comma, where another step stands before this one.
+/// What follows the comma, where another step stands before this one.
 #[inline(always)]
-fn behind_another(bytes: &[u8], later: bool) -> Option<&[u8]>
+pub(crate) fn behind_another(bytes: &[u8], later: bool) -> Option<&[u8]>
     ensures { IfSome result (λ rest. lexemes bytes.now ≡ comma_if later (lexemes rest.now)) }
 {
     if later {
@@ -309,9 +306,9 @@ fn behind_another(bytes: &[u8], later: bool) -> Option<&[u8]>
     }
 }
 
-// A Receive.
+/// A Receive.
 #[inline(always)]
-fn receipt(bytes: &[u8]) -> Option<(Step, &[u8])>
+pub(crate) fn receipt(bytes: &[u8]) -> Option<(Step, &[u8])>
     ensures text { IfSome result (λ r. lexemes bytes.now ≡ step_lexemes r.0 (lexemes r.1.now)) }
     ensures fits { IfSome result (λ r. StepFits r.0) }
 {
@@ -323,9 +320,9 @@ fn receipt(bytes: &[u8]) -> Option<(Step, &[u8])>
     Some((step, behind(rest, b']')?))
 }
 
-// Any step.
+/// Any step.
 #[inline(never)]
-fn named_step(bytes: &[u8]) -> Option<(Step, &[u8])>
+pub(crate) fn named_step(bytes: &[u8]) -> Option<(Step, &[u8])>
     ensures text { IfSome result (λ r. lexemes bytes.now ≡ step_lexemes r.0 (lexemes r.1.now)) }
     ensures fits { IfSome result (λ r. StepFits r.0) }
 {
@@ -368,8 +365,8 @@ fn command(bytes: &[u8]) -> Option<(Command, &[u8])>
     Some((command, behind(rest, b']')?))
 }
 
-// The key that stands before a colon, and what follows that.
-fn key(bytes: &[u8]) -> Option<(&[u8], &[u8])>
+/// The key that stands before a colon, and what follows that.
+pub(crate) fn key(bytes: &[u8]) -> Option<(&[u8], &[u8])>
     ensures { IfSome result (λ r. IsPlain r.0.now → lexemes bytes.now ≡ token (string r.0.now) ∷ colon ∷ lexemes r.1.now) }
 {
     let (key, rest) = word(bytes)?;
@@ -394,9 +391,9 @@ fn letters(bytes: &[u8]) -> Option<(&[u8], &[u8])>
     Some((&bytes[..end], &bytes[end + 1..]))
 }
 
-// The number, and what follows it.
+/// The number, and what follows it.
 #[inline(always)]
-fn amount(bytes: &[u8], high: u64) -> Option<(u64, &[u8])>
+pub(crate) fn amount(bytes: &[u8], high: u64) -> Option<(u64, &[u8])>
     ensures text { IfSome result (λ r. ends_word r.1.now ≡ true → lexemes bytes.now ≡ number_lexeme r.0 ∷ lexemes r.1.now) }
     ensures within { IfSome result (λ r. r.0 ≤ high) }
 {

@@ -1,5 +1,4 @@
-use Rattle.ct_records.specs.Plain.{PartsFit, members_of}
-use Rattle.ct_records.proofs.Members.{SoFar}
+use Rattle.ct_records.specs.Plain.{PartsFit, SoFar, members_of}
 use Rattle.ct_records.proofs.quick.members.Given as goal
 
 abbrev pub invariant-loop : goal.invariant-loop
