@@ -8,7 +8,7 @@ use Rattle.ct_records.specs.Fits.{IsStorable}
 use Rattle.ct_records.specs.Outcome.{IsOutcome}
 use Rattle.ct_records.specs.Script.{script}
 use Rattle.ct_records.specs.Report.{report_text}
-use Rattle.ct_records.specs.Replay.{IsReplayed, IsReportOf, IsFaultIn}
+use Rattle.ct_records.specs.Replay.{IsAllowed, IsReplayed, IsReportOf, IsFaultIn}
 use Rattle.ct_replay.specs.Front.{IsBegun, IsReadOf, IsWholeOf}
 use Rattle.ct_replay.proofs.Ended.{whole_says}
 use Rattle.ct_replay.proofs.Sources.{input_is}
@@ -18,6 +18,12 @@ pub report_is : (w : Rehearsal) (text bytes : List ℕ) → IsBegun w → IsStor
     IsWholeOf bytes w → IsReportOf bytes text
 report_is w text bytes h storable outcome is whole =
     rw (whole_says w bytes storable whole) (record { allowed = h.allowed; outcome = outcome }, is)
+
+-- the report of a world whose steps are those that the bytes say
+pub report_done : (w : Rehearsal) (text bytes seen : List ℕ) → seen ≡ bytes → script seen ≡ Ok w → IsAllowed w → IsOutcome w →
+    text ≡ report_text w → IsReportOf bytes text
+report_done w text bytes seen same says allowed outcome is =
+    rw (← same, says) (record { allowed = allowed; outcome = outcome }, is)
 
 pub report_read : (left new : Option (List ℕ)) (w : Rehearsal) (text : List ℕ) → IsReadOf left new w →
     ((bytes : List ℕ) → IsWholeOf bytes w → IsReportOf bytes text) → IfSome left (λ input. IsReportOf input text)

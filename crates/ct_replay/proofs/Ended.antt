@@ -1,5 +1,5 @@
 -- The text of a record with a line end behind it says that record.
-use Rattle.std.proofs.Common.{◌≡◌, ℕ, ◌+◌, ◌*◌, ◌≤◌, List, [], ◌∷◌, ◌++◌, length, codes, decimal, Some, None, Ok, refl, sym, ap, ◌∙◌}
+use Rattle.std.proofs.Common.{◌≡◌, ℕ, ◌+◌, ◌*◌, List, [], ◌∷◌, ◌++◌, length, codes, decimal, Some, None, Ok, refl, sym, ap, ◌∙◌}
 use Rattle.std.proofs.Common.{arith, append_assoc, inl, inr}
 use Rattle.std.proofs.lemmas.Fmt.{decimal_digit}
 use Rattle.json.specs.Lex.{token}
@@ -7,20 +7,18 @@ use Rattle.json.specs.Word.{ends_word}
 use Rattle.json.specs.Token.{end_object}
 use Rattle.json.proofs.OnLiterals.{json_on_literals}
 use Rattle.serde_json.specs.Data.{Members, no_members}
-use Rattle.ct_model.specs.declared.step.Step.{Step}
-use Rattle.ct_model.specs.declared.step.Step.TheVariants.{Follow}
 use Rattle.ct_model.specs.Rehearsal.{Rehearsal}
 use Rattle.ct_records.specs.Fits.{IsStorable}
 use Rattle.ct_records.specs.Plain.{lexemes, Begins, Closes, members_from}
-use Rattle.ct_records.specs.Script.{script, since}
+use Rattle.ct_records.specs.Script.{script}
 use Rattle.ct_records.specs.Text.{steps_text, record_text}
 use Rattle.ct_records.proofs.Keys.{adds_batch, adds_cells, adds_n, adds_steps, adds_version}
 use Rattle.ct_records.proofs.Lengths as lengths
 use Rattle.ct_records.proofs.Lengths.{Text}
-use Rattle.ct_records.proofs.Members.{SoFar, so_far_more, so_far_end, takes_number, takes_steps, plain_script, parts_say}
+use Rattle.ct_records.proofs.Members.{so_far_none, so_far_more, so_far_end, takes_number, takes_steps, plain_script, parts_say}
 use Rattle.ct_records.proofs.Plain.{object_ends, space_skipped}
 use Rattle.ct_records.proofs.Stored.{steps_width}
-use Rattle.ct_records.proofs.Written.{round_trip}
+use Rattle.ct_records.proofs.Written.{is_known, round_trip}
 use Rattle.ct_replay.specs.Front.{IsWholeOf}
 use Rattle.ct_replay.proofs.Lexed.{comma_first, key_first, value_first, list_first}
 
@@ -43,9 +41,6 @@ from_batch w r = codes "\"batch\":" ++ (decimal w.setting.bound ++ 44 ∷ from_c
 
 -- ---- the members
 
-first : (start : List ℕ) → SoFar start no_members start
-first start ms all t c s = record { trees = ms; tokens = t; converts = c; shallow = s }
-
 closes_object : (r : List ℕ) → lexemes r ≡ lexemes [] → lexemes (125 ∷ r) ≡ token end_object ∷ []
 closes_object r none = object_ends (125 ∷ r) r [] (record { text = refl; ends = λ e. refl }) none refl
 
@@ -59,7 +54,7 @@ all_members w r h none =
     let c = w.cells in
     let n = w.setting.members in
     let start = from_batch w r in
-    let batch = so_far_more start start (44 ∷ from_cells w r) (from_cells w r) no_members _ (first start)
+    let batch = so_far_more start start (44 ∷ from_cells w r) (from_cells w r) no_members _ (so_far_none start)
     (takes_number (codes "batch") b start (decimal b ++ 44 ∷ from_cells w r) (44 ∷ from_cells w r) no_members _
     (key_first (codes "batch") (decimal b ++ 44 ∷ from_cells w r)) (value_first b (44 ∷ from_cells w r) (omega (arith, h.few_bound)))
     (omega (arith, h.few_bound)) (adds_batch (codes "batch") b None None None None None refl)) (comma_first (from_cells w r)) in
@@ -82,11 +77,6 @@ all_members w r h none =
     (adds_version (codes "version") 3 (Some b) (Some c) (Some n) (Some w.steps) None refl)) (closes_object r none) refl
 
 -- ---- the whole
-
--- every step is one of version 3
-is_known : (s : Step) → since s ≤ 3
-is_known (Follow p) = omega arith
-is_known _ = omega arith
 
 -- a record that is written, and what follows it
 split : (a b c d e f g h i r : List ℕ) → (a ++ (b ++ (c ++ (d ++ (e ++ (f ++ (g ++ (h ++ i)))))))) ++ r
