@@ -28,6 +28,66 @@ fn a_record_may_be_older(rt: HostRuntime) {
 }
 
 #[test]
+fn an_entry_may_stand_on_a_line_of_its_own(rt: HostRuntime) {
+    let record =
+        "{\n \"version\": 3,\n \"n\": 3,\n \"cells\": 4,\n \"batch\": 1048560,\n \"steps\": [\n  [\n   \"submit\",\n   1,\n   [\n    \"set\",\n    0,\n    7\n   ]\n  ],\n  [\n   \"receive\",\n   1,\n   1\n  ],\n  [\n   \"receive\",\n   2,\n   2\n  ]\n ]\n}\n";
+    assert!(rt; answers(rt.alloc(), record, Ok(()), REPORT));
+}
+
+// The bound is taken to be the largest where it isn't named before the steps.
+#[test]
+fn a_bound_may_stand_behind_the_steps(rt: HostRuntime) {
+    let report =
+        "group 1 majority 1 cells 4\nsteps 2 sent 1 posted 0\nmember 1 up instance 0 idle\nreceived 1.1\ndecided -\ndelivered -\ntable -\n";
+    let record =
+        "{\"cells\":4,\"n\":1,\"steps\":[[\"submit\",1,[\"set\",0,7]],[\"receive\",1,1]],\"version\":3,\"batch\":1}";
+    assert!(rt; answers(rt.alloc(), record, Ok(()), report));
+    let record =
+        "{\"cells\":4,\"n\":1,\"steps\":[[\"submit\",1,[\"set\",0,7]],[\"receive\",1,1]],\"version\":3}";
+    assert!(rt;
+        refuses(
+            rt.alloc(),
+            record,
+            ProgramFault::Read(ReadFault::Shape { at: 0 })
+        )
+    );
+}
+
+// A step that an older record lacks is a fault of the text, also where the version stands behind the steps.
+#[test]
+fn an_older_record_may_have_a_newer_step(rt: HostRuntime) {
+    let record =
+        "{\"cells\":4,\"n\":2,\"steps\":[[\"submit\",1,[\"set\",0,7]],[\"lose\",1,1]],\"version\":1}";
+    assert!(rt;
+        refuses(
+            rt.alloc(),
+            record,
+            ProgramFault::Read(ReadFault::Shape { at: 2 })
+        )
+    );
+}
+
+#[test]
+fn a_spaced_step_may_be_refused(rt: HostRuntime) {
+    let fault = ProgramFault::Replay {
+        at: 2,
+        refusal: Refusal::NotWaiting,
+    };
+    let record =
+        "{\"version\": 3, \"n\": 3, \"cells\": 4, \"batch\": 1, \"steps\": [[\"submit\", 1, [\"set\", 0, 7]], [\"receive\", 1, 2], [\"receive\", 2, 2]]}";
+    assert!(rt; refuses(rt.alloc(), record, fault));
+    let record =
+        "{\"cells\": 4, \"n\": 3, \"steps\": [[\"submit\", 1, [\"set\", 0, 7]], [\"receive\", 1, 2], [\"begin\"]], \"version\": 2}";
+    assert!(rt;
+        refuses(
+            rt.alloc(),
+            record,
+            ProgramFault::Read(ReadFault::Shape { at: 3 })
+        )
+    );
+}
+
+#[test]
 fn a_name_may_have_an_escape(rt: HostRuntime) {
     let record =
         "{\"batch\":1048560,\"cells\":4,\"n\":3,\"steps\":[[\"submit\",1,[\"set\",0,7]],[\"receive\",1,1],[\"\\u0072eceive\",2,2]],\"version\":3}";
