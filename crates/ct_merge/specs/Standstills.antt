@@ -59,9 +59,10 @@ IsTold logs t refused lines p =
 abbrev pub AreToldTo : List (Vec LogLine) → Taken → List Culprit → List StoppedLine → ℕ → Type 0
 AreToldTo logs t refused lines n = (p : ℕ) → is_member n p ≡ true → IsTold logs t refused lines p
 
--- there is a run of this group, of first lines of each log, behind which each log that is not over stands at one of these lines
+-- this is a run of the group, of first lines of each log, behind which each log that is not over stands at one of these lines
 pub record AreStopped (s : Setting) (logs : List (Vec LogLine)) (lines : StoppedLines) : Type 0 where
   pub so_far : Taken
+  pub run : lines.run.rehearsal ≡ so_far.rehearsal
   pub lawful : IsLawful so_far.rehearsal
   pub group : so_far.rehearsal.setting ≡ s
   pub taken : IsTakenFrom logs so_far

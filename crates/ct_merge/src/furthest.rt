@@ -40,7 +40,11 @@ pub fn stopped(
     let progress = furthest(alloc, setup, logs, &mut refused)?;
     lawful(progress.stage().world());
     let waiting = waiting(alloc, &progress, logs, &refused)?;
-    Ok(StoppedLines { refused, waiting })
+    Ok(StoppedLines {
+        refused,
+        waiting,
+        run: progress.into_world(),
+    })
 }
 
 // How far the logs go, each up to a line that is refused by itself; puts these lines behind the others.

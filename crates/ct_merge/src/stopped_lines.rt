@@ -2,6 +2,7 @@
 
 use crate::stopped_line::StoppedLine;
 use crate::verdict::Culprit;
+use ct_world::World;
 
 /// The lines at which logs stand that are taken as far as they go: one of each log that is not over.
 #[derive(Drop)]
@@ -10,4 +11,6 @@ pub struct StoppedLines {
     pub refused: Vec<Culprit>,
     /// Of each other log its next line behind the run of all.
     pub waiting: Vec<StoppedLine>,
+    /// The run of all, as far as they go.
+    pub run: World,
 }
