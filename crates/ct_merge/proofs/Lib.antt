@@ -6,6 +6,7 @@ pub mod Failing
 pub mod GoingOn
 pub mod Growing
 pub mod Halting
+pub mod InOrder
 pub mod Local
 pub mod Moments
 pub mod Outcomes
@@ -25,3 +26,4 @@ pub mod Telling
 pub mod Unnamed
 pub mod Verdicts
 pub mod Waiting
+pub mod Walking

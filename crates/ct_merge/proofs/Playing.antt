@@ -45,7 +45,11 @@ plays s r (Postpone p k) e = e
 plays s r (Lose p k) e = e
 plays s r (Repeat p k) e = e
 
--- the record has the step then
+-- the stage has the step then
+pub played_step : (s t : Played) (step : Step) → acted s (One (actor step)) (act_in step) ≡ Ok t → t ≡ with_step s step
+played_step s t step e = after_is s t step (plays s (Ok t) step e)
+
+-- so has the record
 pub joined : (s t : Played) (step : Step) → acted s (One (actor step)) (act_in step) ≡ Ok t → t.rehearsal ≡ extended s.rehearsal step
 joined s t step e = ap (λ (u : Played). u.rehearsal) (after_is s t step (plays s (Ok t) step e))
 

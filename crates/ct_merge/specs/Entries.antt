@@ -1,9 +1,10 @@
 -- What the lines of logs say.
-use Rattle.std.specs.Prelude.{ℕ, Bool, false, ◌||◌, List, [], ◌∷◌, Option, Some, None, Result, Ok, Err, codes, decimal, nat_eq}
+use Rattle.std.specs.Prelude.{ℕ, Bool, false, ◌||◌, List, [], ◌∷◌, Option, Some, None, Result, Ok, Err, codes, decimal, drop, length, nat_eq}
 use Rattle.std.specs.Prelude.{if◌then◌else◌}
 use Rattle.std.specs.List.{concat, starts_with}
 use Rattle.std.specs.Char.{is_ascii_digit}
 use Rattle.ct_grammar.specs.Lines.{line_of}
+use Rattle.ct_grammar.specs.Texts.{text_in}
 use Rattle.ct_grammar.specs.declared.act.Act.{Act}
 use Rattle.ct_grammar.specs.declared.act.Act.TheVariants as acts
 use Rattle.ct_grammar.specs.declared.line.Line.{Line}
@@ -14,6 +15,7 @@ use Rattle.ct_grammar.specs.declared.pick.Pick.TheVariants as picks
 use Rattle.ct_grammar.specs.declared.play.Play.{Play}
 use Rattle.ct_grammar.specs.declared.play.Play.TheVariants as plays
 use Rattle.ct_grammar.specs.declared.who.Who.TheVariants.{One}
+use Rattle.ct_merge.specs.Expected.{expected}
 use Rattle.ct_merge.specs.Proposers.{act_lacks_sender, without_sender}
 use Rattle.ct_merge.specs.declared.entry.Entry.{Entry}
 use Rattle.ct_merge.specs.declared.entry.Entry.TheVariants.{Blank, Given, Told}
@@ -52,10 +54,11 @@ told_as p said lacks_sender (Err why) = Err why
 abbrev pub told : ℕ → Act → Option (List ℕ) → Result Entry NoEntry
 told p a said = told_as p said (act_lacks_sender a) (act_in_log a)
 
--- what a line plays, as logs have it: an act of one member, with what it came to or without
+-- what a line plays, as logs have it: an act of one member, with what it came to or without; or what is expected of one
 abbrev pub played : Play → Result Entry NoEntry
 played (plays.Act (One p) a) = told p a None
 played (plays.Stated (One p) a said) = told p a (Some said)
+played (plays.Expect goal) = expected goal
 played _ = Err NoAct
 
 -- what a log has of a line
@@ -75,18 +78,40 @@ abbrev pub gives_number : List ℕ → Bool
 gives_number text =
     starts_with nat_eq text (codes "members") || (starts_with nat_eq text (codes "cells") || starts_with nat_eq text (codes "batch"))
 
--- the line behind the number of its member
+-- what stands behind the word of an expectation, if that stands first
+unfoldable pub fact_behind : List ℕ → Option (List ℕ)
+fact_behind text =
+    if starts_with nat_eq text (codes "expect ") then text_in (drop (length (codes "expect ")) text) else None
+
+-- a digit begins that
+abbrev pub digit_first : Option (List ℕ) → Bool
+digit_first None = false
+digit_first (Some fact) = is_numbered fact
+
+-- something is expected of members that a digit begins
+abbrev pub names_whom : List ℕ → Bool
+names_whom text = digit_first (fact_behind text)
+
+abbrev pub numbered_at : ℕ → List ℕ → Option (List ℕ) → List ℕ
+numbered_at p text None = concat (decimal p ∷ codes " " ∷ text ∷ [])
+numbered_at p text (Some fact) = concat (codes "expect " ∷ decimal p ∷ codes " " ∷ fact ∷ [])
+
+-- the line with the number of its member: before it, or behind the word of an expectation
 unfoldable pub numbered : ℕ → List ℕ → List ℕ
-numbered p text = concat (decimal p ∷ codes " " ∷ text ∷ [])
+numbered p text = numbered_at p text (fact_behind text)
 
 unfoldable pub numbered_entry : ℕ → List ℕ → Result Entry NoEntry
 numbered_entry p text = entry_of (line_of (numbered p text))
 
--- the line, or that behind the number where it is none
+-- the line, or that with the number where it is none
 abbrev pub or_numbered : ℕ → List ℕ → Result Line Misfit → Result Entry NoEntry
 or_numbered p text (Ok l) = entry_of (Ok l)
 or_numbered p text (Err misfit) = numbered_entry p text
 
--- what a line says in the log of p as a line of a schedule, which need not begin with p's number where it tells of an act
+-- what a line says in the log of p as a line of a schedule, which need not have p's number where it tells of an act, or of what is
+-- expected
 unfoldable pub plain_entry : ℕ → List ℕ → Result Entry NoEntry
-plain_entry p text = if is_numbered text || gives_number text then entry_of (line_of text) else or_numbered p text (line_of text)
+plain_entry p text =
+    if is_numbered text || (gives_number text || names_whom text)
+    then entry_of (line_of text)
+    else or_numbered p text (line_of text)

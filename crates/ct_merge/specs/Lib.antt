@@ -3,6 +3,7 @@ pub mod Conclusions
 pub mod Culprits
 pub mod Deeds
 pub mod Entries
+pub mod Expected
 pub mod Local
 pub mod Logs
 pub mod Merging
@@ -17,6 +18,7 @@ pub mod Sending
 pub mod Standstills
 pub mod Stating
 pub mod Stops
+pub mod Testing
 pub mod Texts
 pub mod Verdicts
 pub mod Waits

@@ -2,11 +2,13 @@
 use Rattle.std.specs.Prelude.{◌≡◌, ℕ, ◌+◌, Bool, false, not, ◌==◌, List, [], ◌∷◌, ◌++◌, Option, Some, None, Result, Ok, Err, ⊤}
 use Rattle.std.specs.Prelude.{unwrap_or, if◌then◌else◌}
 use Rattle.ct_grammar.specs.Texts.{lines_of, text_in}
+use Rattle.ct_grammar.specs.declared.goal.Goal.{Goal}
 use Rattle.ct_play.specs.Acting.{go_on}
 use Rattle.ct_merge.specs.Conclusions.{entry_in}
+use Rattle.ct_merge.specs.Expected.{Expecting, behind_act, nothing_expected, with_expectation}
 use Rattle.ct_merge.specs.Numbers.{no_numbers, with_given}
 use Rattle.ct_merge.specs.declared.entry.Entry.{Entry}
-use Rattle.ct_merge.specs.declared.entry.Entry.TheVariants.{Blank, Given, Told}
+use Rattle.ct_merge.specs.declared.entry.Entry.TheVariants.{Blank, Given, Told, Expected}
 use Rattle.ct_merge.specs.declared.entry.NoEntry.{NoEntry}
 use Rattle.ct_merge.specs.declared.entry.NoEntry.TheVariants as no
 use Rattle.ct_merge.specs.declared.log_fault.LogFault.{LogFault}
@@ -15,12 +17,13 @@ use Rattle.ct_merge.specs.declared.log_line.LogLine.{LogLine}
 use Rattle.ct_merge.specs.declared.numbers.Numbers.{Numbers}
 
 -- what lines of a log said: whose it is, once that is said; the numbers of the group; what its member did, each with the number
--- of its line in the text; and how many lines of the text are over
+-- of its line in the text; what is expected of it; and how many lines of the text are over
 pub record LogSoFar : Type 0 where
   pub member : Option ℕ
   pub numbers : Numbers
   pub lines : List LogLine
   pub places : List ℕ
+  pub expected : Expecting
   pub count : ℕ
 
 -- the first line, counted from 1, that does not stand in a log, and why
@@ -29,7 +32,8 @@ pub record Unread : Type 0 where
   pub why : NoEntry
 
 abbrev pub beginning : LogSoFar
-beginning = record { member = None; numbers = no_numbers; lines = []; places = []; count = 0 }
+beginning =
+    record { member = None; numbers = no_numbers; lines = []; places = []; expected = nothing_expected; count = 0 }
 
 -- ---- one line
 
@@ -43,7 +47,19 @@ abbrev pub after_told : LogSoFar → ℕ → LogLine → Result LogSoFar Unread
 after_told t p line =
     if is_other t.member p
     then Err (record { at = t.count; why = no.Other p })
-    else Ok (record t { member = Some p; lines = t.lines ++ line ∷ []; places = t.places ++ t.count ∷ [] })
+    else Ok (record t {
+      member = Some p;
+      lines = t.lines ++ line ∷ [];
+      places = t.places ++ t.count ∷ [];
+      expected = behind_act t.expected;
+    })
+
+-- after what is expected of p, in its log
+abbrev pub after_expected : LogSoFar → ℕ → Goal → Result LogSoFar Unread
+after_expected t p goal =
+    if is_other t.member p
+    then Err (record { at = t.count; why = no.Other p })
+    else Ok (record t { member = Some p; expected = with_expectation t.expected t.count goal })
 
 -- after a number of the group
 abbrev pub after_given : LogSoFar → NoEntry → Option Numbers → Result LogSoFar Unread
@@ -56,6 +72,7 @@ after_entry t (Err why) = Err (record { at = t.count; why = why })
 after_entry t (Ok Blank) = Ok t
 after_entry t (Ok (Given g)) = after_given t (no.Given g) (with_given t.numbers g)
 after_entry t (Ok (Told p line)) = after_told t p line
+after_entry t (Ok (Expected p goal)) = after_expected t p goal
 
 abbrev pub entry_in_text : ℕ → Option (List ℕ) → Result Entry NoEntry
 entry_in_text p None = Err no.NoText

@@ -1,18 +1,22 @@
 //! From the text of a line to what a log says.
 
-ghost use Rattle.std.specs.Prelude.{◌≡◌, IfOk};
+ghost use Rattle.std.specs.Prelude.{◌≡◌, IfOk, option_map, string_bytes};
 ghost use Rattle.ct_grammar.specs.Lines.{line_of};
-ghost use Rattle.ct_merge.specs.Entries.{act_in_log, entry_of, gives_number, is_numbered, numbered, numbered_entry, plain_entry};
-ghost use Rattle.ct_merge.specs.Entries.{received, told};
+ghost use Rattle.ct_merge.specs.Entries.{act_in_log, entry_of, fact_behind, gives_number, is_numbered, names_whom, numbered};
+ghost use Rattle.ct_merge.specs.Entries.{numbered_entry, plain_entry, received, told};
 ghost use Rattle.ct_merge.specs.Proposers.{is_proposal, pick_lacks_sender, act_lacks_sender, without_sender};
 
 use crate::entry::{Entry, NoEntry};
+use crate::expecting::expected;
 use crate::full_name::FullName;
 use crate::log_act::LogAct;
 use crate::log_line::LogLine;
-use ct_grammar::{Act, Carried, Line, Misfit, Pick, Play, Text, Who, line_of};
+use ct_grammar::{Act, Carried, Line, Misfit, Pick, Play, Text, Who, line_of, text_in};
 use ct_names::Member;
 use std::alloc::{AllocError, Global};
+
+// What stands before an expectation.
+const EXPECT: &[u8] = b"expect ";
 
 /// What the line says as one of a schedule, in the log of this member where it names none.
 #[tactic(auto, unfolding(crate::specs::Entries::plain_entry))]
@@ -24,7 +28,7 @@ pub(crate) fn plain_entry(
     ensures { IfOk result (λ entry. entry ≡ plain_entry member text.now) }
 {
     let line = line_of(alloc, text)?;
-    if is_numbered(text.as_bytes()) || gives_number(text.as_bytes()) {
+    if is_numbered(text.as_bytes()) || (gives_number(text.as_bytes()) || names_whom(text)) {
         return Ok(entry_of(line));
     }
     match line {
@@ -33,7 +37,7 @@ pub(crate) fn plain_entry(
     }
 }
 
-// What the line says behind the number of the member.
+// What the line says with the number of the member: before it, or behind the word that expects something.
 #[tactic(auto, unfolding(crate::specs::Entries::numbered_entry, crate::specs::Entries::numbered))]
 fn numbered_entry(
     alloc: Global,
@@ -42,9 +46,33 @@ fn numbered_entry(
 ) -> Result<Result<Entry, NoEntry>, AllocError>
     ensures { IfOk result (λ entry. entry ≡ numbered_entry member text.now) }
 {
-    let mut numbered = String::new(alloc);
-    write!(numbered, "{member} {text}")?;
+    let numbered = numbered(alloc, member, text)?;
     Ok(entry_of(line_of(alloc, numbered.as_str())?))
+}
+
+#[tactic(auto, unfolding(crate::specs::Entries::numbered))]
+fn numbered(alloc: Global, member: Member, text: &str) -> Result<String, AllocError>
+    ensures { IfOk result (λ line. string_bytes line ≡ numbered member text.now) }
+{
+    let mut line = String::new(alloc);
+    match fact_behind(text) {
+        None => write!(line, "{member} {text}")?,
+        Some(fact) => write!(line, "expect {member} {fact}")?,
+    }
+    Ok(line)
+}
+
+// What stands behind the word of an expectation, if that stands first.
+#[tactic(auto, unfolding(crate::specs::Entries::fact_behind))]
+fn fact_behind(text: &str) -> Option<&str>
+    ensures { option_map (λ fact. fact.now) result ≡ fact_behind text.now }
+{
+    let text = text.as_bytes();
+    if text.starts_with(EXPECT) {
+        text_in(&text[EXPECT.len()..])
+    } else {
+        None
+    }
 }
 
 // Whether a digit stands first.
@@ -64,6 +92,16 @@ fn gives_number(text: &[u8]) -> bool
     text.starts_with(b"members") || text.starts_with(b"cells") || text.starts_with(b"batch")
 }
 
+// Whether something is expected of members that a digit begins.
+fn names_whom(text: &str) -> bool
+    ensures { result ≡ names_whom text.now }
+{
+    match fact_behind(text) {
+        None => false,
+        Some(fact) => is_numbered(fact.as_bytes()),
+    }
+}
+
 // What a log has of the line.
 fn entry_of(line: Result<Line, Misfit>) -> Result<Entry, NoEntry>
     ensures { result ≡ entry_of line }
@@ -74,6 +112,7 @@ fn entry_of(line: Result<Line, Misfit>) -> Result<Entry, NoEntry>
         Ok(Line::Given(given)) => Ok(Entry::Given(given)),
         Ok(Line::Play(Play::Act(Who::One(member), act))) => told(member, act, None),
         Ok(Line::Play(Play::Stated(Who::One(member), act, said))) => told(member, act, Some(said)),
+        Ok(Line::Play(Play::Expect(goal))) => expected(goal),
         Ok(Line::Play(_)) => Err(NoEntry::NoAct),
     }
 }

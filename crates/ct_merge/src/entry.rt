@@ -1,7 +1,7 @@
 //! What lines of logs say.
 
 use crate::log_line::LogLine;
-use ct_grammar::{Given, Misfit};
+use ct_grammar::{Given, Goal, Misfit};
 use ct_names::Member;
 
 /// What a line of a log says.
@@ -13,6 +13,8 @@ pub(crate) enum Entry {
     Given(Given),
     /// What this member did.
     Told(Member, LogLine),
+    /// What has to be so of this member there.
+    Expected(Member, Goal),
 }
 
 /// Why a line does not stand in a log.
@@ -32,6 +34,12 @@ pub enum NoEntry {
     NoSender,
     /// This member did it, and the log is another's.
     Other(Member),
+    /// What it expects is not one fact of one member as it is there.
+    NoFact,
+    /// It expects a fact that depends on the order of the others.
+    OpenFact,
+    /// It expects a refusal that depends on the order of the others.
+    OpenRefusal,
     /// Another number of the group was given before.
     Given(Given),
 }

@@ -1,16 +1,17 @@
 //! Logs as texts.
 
-ghost use Rattle.std.specs.Prelude.{◌≡◌, ◌<◌, ◌^◌, ◌+◌, [], Ok, OnOk, IfOk, IfErr, length};
-ghost use Rattle.ct_merge.specs.Texts.{IsFaultIn, after_entry, after_line, after_lines, after_told, beginning, entry_in_text, log_in};
-ghost use Rattle.ct_merge.specs.Texts.{whole_lines};
+ghost use Rattle.std.specs.Prelude.{◌≡◌, ◌<◌, ◌^◌, ◌+◌, [], Ok, OnOk, OnErr, IfOk, IfErr, Some, length, true, false};
+ghost use Rattle.ct_merge.specs.Texts.{IsFaultIn, after_entry, after_expected, after_line, after_lines, after_told, beginning};
+ghost use Rattle.ct_merge.specs.Texts.{entry_in_text, is_other, log_in, whole_lines};
 ghost use Rattle.ct_grammar.specs.Texts.{text_in};
 
 use crate::concluding::entry_in;
 use crate::entry::{Entry, NoEntry};
+use crate::expectation::Expectations;
 use crate::log_fault::LogFault;
 use crate::log_line::LogLine;
 use crate::numbers::Numbers;
-use ct_grammar::{behind, first_feed, text_in};
+use ct_grammar::{Goal, behind, first_feed, text_in};
 use ct_names::Member;
 use std::alloc::{AllocError, Global};
 use std::marker::Model;
@@ -24,12 +25,14 @@ pub struct LogText {
     lines: Vec<LogLine>,
     // Of each of them its number in the text.
     places: Vec<usize>,
+    expected: Expectations,
     // How many lines of the text are over.
     count: usize,
 }
 
 // Contracts see what was read.
 impl Model for LogText {
+    ghost use Rattle.std.specs.Prelude.{◌≤◌};
     ghost use Rattle.ct_merge.specs.Texts.{LogSoFar};
 
     ghost Value = { LogSoFar };
@@ -39,8 +42,11 @@ impl Model for LogText {
       numbers = log.numbers;
       lines = log.lines.items;
       places = log.places.items;
+      expected = log.expected;
       count = log.count;
     } };
+
+    ghost invariant = { λ log. log.expected.acts ≤ log.count };
 }
 
 impl LogText {
@@ -53,6 +59,7 @@ impl LogText {
             numbers: Numbers::new(),
             lines: Vec::new(alloc),
             places: Vec::new(alloc),
+            expected: Expectations::new(alloc),
             count: 0,
         }
     }
@@ -108,6 +115,14 @@ impl LogText {
         (self.member, self.numbers, lines, places)
     }
 
+    /// What is expected of its member, which is let go here as those are.
+    pub fn take_expected(&mut self, alloc: Global) -> Expectations
+        ensures expected { result ≡ self.old.expected }
+        ensures rest { self.new ≡ record self.old { expected = record self.old.expected { list = [] } } }
+    {
+        self.expected.take(alloc)
+    }
+
     // Takes a line.
     #[tactic(auto, unfolding(crate::specs::Texts::after_line))]
     fn take_line(&mut self, alloc: Global, member: Member, bytes: &[u8]) -> Result<(), LogFault>
@@ -125,6 +140,7 @@ impl LogText {
 
     // Takes what a line says.
     fn take_entry(&mut self, entry: Entry) -> Result<(), LogFault>
+        requires { self.old.expected.acts < self.old.count }
         ensures ok { OnOk result (after_entry self.old (Ok entry) ≡ Ok self.new) }
         ensures fault { IfErr result (IsFaultIn (after_entry self.old (Ok entry))) }
         ensures count { self.new.count ≡ self.old.count }
@@ -139,19 +155,19 @@ impl LogText {
                 None => Err(LogFault::Line(self.count, NoEntry::Given(given))),
             },
             Entry::Told(member, line) => self.take_told(member, line),
+            Entry::Expected(member, goal) => self.expect(member, goal),
         }
     }
 
     // Takes what the member did.
     fn take_told(&mut self, member: Member, line: LogLine) -> Result<(), LogFault>
+        requires { self.old.expected.acts < self.old.count }
         ensures ok { OnOk result (after_told self.old member line ≡ Ok self.new) }
         ensures fault { IfErr result (IsFaultIn (after_told self.old member line)) }
         ensures count { self.new.count ≡ self.old.count }
     {
-        if self.member.is_some_and(|p| p != member) {
-            return Err(LogFault::Line(self.count, NoEntry::Other(member)));
-        }
-        self.member = Some(member);
+        self.claim(member)?;
+        self.expected.pass_act();
         if self.lines.push(line).is_err() {
             return Err(LogFault::Memory);
         }
@@ -159,6 +175,34 @@ impl LogText {
             Ok(()) => Ok(()),
             Err(_) => Err(LogFault::Memory),
         }
+    }
+
+    // Takes what is expected of the member.
+    fn expect(&mut self, member: Member, goal: Goal) -> Result<(), LogFault>
+        ensures ok { OnOk result (after_expected self.old member goal ≡ Ok self.new) }
+        ensures fault { IfErr result (IsFaultIn (after_expected self.old member goal)) }
+        ensures count { self.new.count ≡ self.old.count }
+    {
+        self.claim(member)?;
+        match self.expected.push(self.count, goal) {
+            Ok(()) => Ok(()),
+            Err(_) => Err(LogFault::Memory),
+        }
+    }
+
+    // It is the member's log, unless it is another's.
+    fn claim(&mut self, member: Member) -> Result<(), LogFault>
+        ensures mine { OnOk result (is_other self.old.member member ≡ false) }
+        ensures ok { OnOk result (self.new ≡ record self.old { member = Some member }) }
+        ensures other { IfErr result (λ fault. fault ≡ LogFault.Line self.old.count (NoEntry.Other member)) }
+        ensures theirs { OnErr result (is_other self.old.member member ≡ true) }
+        ensures same { OnErr result (self.new ≡ self.old) }
+    {
+        if self.member.is_some_and(|p| p != member) {
+            return Err(LogFault::Line(self.count, NoEntry::Other(member)));
+        }
+        self.member = Some(member);
+        Ok(())
     }
 }
 

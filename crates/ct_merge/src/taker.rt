@@ -268,8 +268,8 @@ fn step_of(member: Member, serial: Serial, act: LogAct) -> Step
     }
 }
 
-// What a schedule calls the step, its envelope by the serial.
-fn act_in(step: Step) -> Act
+/// What a schedule calls the step, its envelope by the serial.
+pub(crate) fn act_in(step: Step) -> Act
     ensures { result ≡ act_in step }
 {
     match step {
