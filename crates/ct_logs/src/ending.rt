@@ -15,6 +15,7 @@ use crate::showing::accepted;
 use crate::sources::Sources;
 use crate::told::Told;
 use crate::torn::push_torn;
+use crate::unmet::unmet_text;
 use crate::writing::written;
 use ct_merge::{Culprit, StoppedLines, Verdict};
 use ct_world::{Setup, World};
@@ -45,6 +46,11 @@ pub(crate) fn end_of(
     ensures err { IfErr result (λ fault. fault ≢ MergeFault.Write) }
 {
     let Judged { verdict, stopped } = judged;
+    let same = setup;
+    let files = sources(names, &texts, &set);
+    if let Some(text) = unmet_in(alloc, files, same, &verdict, stopped.as_ref())? {
+        return Err(MergeFault::Refused(text));
+    }
     match verdict {
         Verdict::Accepted(world) => {
             let torn = torn_of(alloc, names, &texts)?;
@@ -60,6 +66,23 @@ pub(crate) fn end_of(
             let sources = sources(names, &texts, &set);
             Err(cut(alloc, sources, &culprit, stopped.as_ref()))
         }
+    }
+}
+
+// What is told of an expectation that does not hold in the run, as far as the logs go.
+fn unmet_in(
+    alloc: Global,
+    sources: Sources<'_>,
+    setup: Setup,
+    verdict: &Verdict,
+    stopped: Option<&StoppedLines>,
+) -> Result<Option<String>, MergeFault>
+    ensures { IfErr result (λ fault. fault ≢ MergeFault.Write) }
+{
+    match (verdict, stopped) {
+        (Verdict::Accepted(world), _) => unmet_text(alloc, sources, setup, world),
+        (_, Some(stopped)) => unmet_text(alloc, sources, setup, &stopped.run),
+        (_, None) => Ok(None),
     }
 }
 

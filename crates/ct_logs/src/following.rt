@@ -342,6 +342,7 @@ impl<R: Source + Drop> Following<R> {
         ensures err { IfErr result (λ fault. fault ≢ MergeFault.Write) }
     {
         let growth = self.last_growth(alloc, names)?;
+        self.put_expected(alloc);
         let setup = growth.setup;
         let judged = growth.end(alloc)?;
         let texts = texts_of(alloc, &mut self.tails)?;
@@ -363,6 +364,16 @@ impl<R: Source + Drop> Following<R> {
                     return Err(no_logs(misfit));
                 }
                 self.settle(alloc, names)
+            }
+        }
+    }
+
+    // Puts what each log expects of its member in its place.
+    fn put_expected(&mut self, alloc: Global) {
+        for file in 0..self.tails.len() {
+            if let Some(tail) = self.tails.get_mut(file) {
+                let member = tail.member.unwrap_or(tail.position);
+                self.set.put_expected(member, tail.take_expected(alloc));
             }
         }
     }

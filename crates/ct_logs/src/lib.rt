@@ -25,6 +25,7 @@ mod sources;
 mod tail;
 mod told;
 mod torn;
+mod unmet;
 mod words;
 mod writing;
 

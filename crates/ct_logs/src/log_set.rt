@@ -6,7 +6,7 @@ use crate::group_numbers::GroupNumbers;
 use crate::misfit::Misfit;
 use crate::naming::{line_at, push_line};
 use crate::no_entry::push_no_entry;
-use ct_merge::{LogFault, LogLine, LogText, NoEntry, Numbers};
+use ct_merge::{Expectations, LogFault, LogLine, LogText, NoEntry, Numbers};
 use ct_names::{Group, MAX_MEMBERS, Member};
 use ct_world::Setup;
 use std::alloc::{AllocError, Global};
@@ -23,6 +23,8 @@ pub(crate) struct LogSet {
     logs: Vec<Vec<LogLine>>,
     // Of each line of a log its number in the file.
     places: Vec<Vec<usize>>,
+    // What each log expects of its member.
+    expected: Vec<Expectations>,
 }
 
 impl LogSet {
@@ -43,6 +45,7 @@ impl LogSet {
             files: Vec::new(alloc),
             logs: Vec::new(alloc),
             places: Vec::new(alloc),
+            expected: Vec::new(alloc),
         };
         for _ in 0..MAX_MEMBERS {
             set.add(alloc)?;
@@ -55,6 +58,7 @@ impl LogSet {
         if self.files.push(None).is_err()
             || self.logs.push(Vec::new(alloc)).is_err()
             || self.places.push(Vec::new(alloc)).is_err()
+            || self.expected.push(Expectations::new(alloc)).is_err()
         {
             return Err(AllocError);
         }
@@ -67,6 +71,14 @@ impl LogSet {
     {
         match self.logs.get(..usize::from(n)) {
             Some(logs) => logs,
+            None => &[],
+        }
+    }
+
+    // What the logs of the first n members expect of them.
+    pub(crate) fn expected(&self, n: u8) -> &[Expectations] {
+        match self.expected.get(..usize::from(n)) {
+            Some(expected) => expected,
             None => &[],
         }
     }
@@ -95,11 +107,13 @@ impl LogSet {
     fn take(&mut self, alloc: Global, name: &str, file: usize, text: &[u8]) -> Result<(), Misfit> {
         let position = position_of(alloc, name, file)?;
         let mut log = read_log(alloc, name, position, text)?;
+        let expected = log.take_expected(alloc);
         let (member, numbers, lines, places) = log.take_parts(alloc);
         self.number_group(alloc, name, numbers)?;
         let member = member.unwrap_or(position);
         self.claim(alloc, name, file, member)?;
         self.put(member, lines, places);
+        self.put_expected(member, expected);
         Ok(())
     }
 
@@ -141,6 +155,14 @@ impl LogSet {
         }
         if let Some(kept) = self.places.get_mut(at) {
             *kept = places;
+        }
+    }
+
+    // Puts what the member's log expects in its place.
+    pub(crate) fn put_expected(&mut self, member: Member, expected: Expectations) {
+        let at = usize::from(member).saturating_sub(1);
+        if let Some(kept) = self.expected.get_mut(at) {
+            *kept = expected;
         }
     }
 

@@ -12,6 +12,15 @@ pub(crate) fn push_no_entry(text: &mut String, why: &NoEntry) -> Result<(), Allo
             text.push_str("not understood: ")?;
             misfit.push_onto(text)
         }
+        NoEntry::NoFact => text.push_str(
+            "not understood: a log expects one FACT a line, of its own member as it is there: expect FACT",
+        ),
+        NoEntry::OpenFact => {
+            text.push_str("not understood: this fact depends on the order of the others")
+        }
+        NoEntry::OpenRefusal => {
+            text.push_str("not understood: this refusal depends on the order of the others")
+        }
         NoEntry::NoAct => text.push_str("no act of one member, as a log has"),
         NoEntry::Network => {
             text.push_str(

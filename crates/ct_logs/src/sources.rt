@@ -29,11 +29,15 @@ impl<'a> Sources<'a> {
 
     // The line at this place of the member's log.
     pub(crate) fn line(self, member: Member, place: usize) -> &'a [u8] {
-        let text = match self.texts.get(self.set.file(member).unwrap_or(0)) {
+        line_at(self.text(member), self.number(member, place))
+    }
+
+    // The text of the member's log.
+    fn text(self, member: Member) -> &'a [u8] {
+        match self.texts.get(self.set.file(member).unwrap_or(0)) {
             Some(text) => text.as_slice(),
             None => &[],
-        };
-        line_at(text, self.number(member, place))
+        }
     }
 
     // The file of the line, its number and its text.
@@ -43,9 +47,22 @@ impl<'a> Sources<'a> {
         member: Member,
         place: usize,
     ) -> Result<(), AllocError> {
-        let name = self.name(member);
-        let number = self.number(member, place);
-        push_line(text, name, number, self.line(member, place))
+        self.push_numbered(text, member, self.number(member, place))
+    }
+
+    // The same of the line of this number.
+    pub(crate) fn push_numbered(
+        self,
+        text: &mut String,
+        member: Member,
+        number: usize,
+    ) -> Result<(), AllocError> {
+        push_line(
+            text,
+            self.name(member),
+            number,
+            line_at(self.text(member), number),
+        )
     }
 
     // The same, with nothing behind it.

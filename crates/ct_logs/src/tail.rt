@@ -7,7 +7,7 @@ ghost use Rattle.std.specs.Io.{ReadsAtMost};
 use crate::log_set::{misfit_of, refuse_record};
 use crate::misfit::Misfit;
 use ct_judge::MAX_LEN;
-use ct_merge::{LogAct, LogFault, LogLine, LogText, Numbers};
+use ct_merge::{Expectations, LogAct, LogFault, LogLine, LogText, Numbers};
 use ct_names::Member;
 use ct_streams::{Failed, Source};
 use std::alloc::{AllocError, Global};
@@ -90,6 +90,11 @@ impl<R: Source + Drop> Tail<R> {
             lines,
             places,
         })
+    }
+
+    // What was read that the log expects of its member, which it has no more.
+    pub(crate) fn take_expected(&mut self, alloc: Global) -> Expectations {
+        self.log.take_expected(alloc)
     }
 
     // The text, which it has no more.

@@ -20,8 +20,9 @@ const AFTER: &str = "A log has the lines of one member, in its order:
   1 submit set 0 7                 a step of the member
   receive data 1.1 from 2 set 0 7  a receipt, with who passed it on
   begin {1.1}                      what a step came to may stand behind it
+  expect 1 delivered 1.1           a fact of the member that has to be so there
 
-The first log is member 1's, unless its acts name another member, and so on.
+The first log is member 1's, unless its lines name another member, and so on.
 
 With --follow logs are read as they grow, and judged once the log that gives
 members has an act. A line that is refused whatever comes is told at once, all
@@ -39,7 +40,7 @@ Examples:
 
 Status:
   0  the logs are accepted, and their run was written
-  1  the logs are refused: no order of them is a run
+  1  the logs are refused: no order of them is a run, or a fact isn't so
   2  a file is no log, or the logs are not those of a group
   3  the words of the command line are refused
   4  a read or a write failed

@@ -1,0 +1,105 @@
+//! Expectations that do not hold.
+
+ghost use Rattle.std.specs.Prelude.{◌≢◌, IfErr, IsTrue};
+ghost use Rattle.ct_names.specs.Group.{is_member};
+
+use crate::growth::short;
+use crate::merge_fault::MergeFault;
+use crate::sources::Sources;
+use crate::torn::push_torn;
+use ct_grammar::{Claim, Goal, Whom};
+use ct_merge::{Expectations, Unmet, first_unmet};
+use ct_names::Member;
+use ct_play::{Stage, amount_of, push_there, push_wanted, unmet};
+use ct_print::push_claim;
+use ct_world::{Setup, World};
+use std::alloc::{AllocError, Global};
+
+// What is told of the first expectation of the logs that does not hold in the run, and of last lines that are torn.
+pub(crate) fn unmet_text(
+    alloc: Global,
+    sources: Sources<'_>,
+    setup: Setup,
+    world: &World,
+) -> Result<Option<String>, MergeFault>
+    ensures { IfErr result (λ fault. fault ≢ MergeFault.Write) }
+{
+    let expected = sources.set.expected(setup.group.n());
+    if !expects_some(expected) {
+        return Ok(None);
+    }
+    match first_unmet(alloc, setup, world.record(), expected) {
+        Ok(None) => Ok(None),
+        Ok(Some(unmet)) => Ok(Some(told_of(alloc, sources, expected, &unmet)?)),
+        Err(fault) => Err(short(fault)),
+    }
+}
+
+// Whether one of the logs expects something.
+fn expects_some(expected: &[Expectations]) -> bool {
+    expected
+        .iter()
+        .any(|expectations| !expectations.list().is_empty())
+}
+
+// The line of the expectation, and why it does not hold.
+fn told_of(
+    alloc: Global,
+    sources: Sources<'_>,
+    expected: &[Expectations],
+    unmet: &Unmet,
+) -> Result<String, AllocError> {
+    let mut text = String::new(alloc);
+    let at = usize::from(unmet.member).saturating_sub(1);
+    if let Some(expectations) = expected.get(at) {
+        if let Some(expectation) = expectations.list().get(unmet.index) {
+            sources.push_numbered(&mut text, unmet.member, expectation.number)?;
+            push_unmet(alloc, &mut text, &unmet.stage, &expectation.goal)?;
+        }
+    }
+    push_torn(&mut text, sources.names, sources.texts)?;
+    Ok(text)
+}
+
+// The first term of the goal that does not hold on the stage, and what is there.
+fn push_unmet(
+    alloc: Global,
+    text: &mut String,
+    stage: &Stage,
+    goal: &Goal,
+) -> Result<(), AllocError> {
+    let Some(term) = unmet(alloc, stage, goal)? else {
+        return text.push_str("not met");
+    };
+    match term.whom {
+        Whom::One(member) if stage.world().group().has(member) => {
+            push_claim_unmet(text, stage, member, &term.claim)
+        }
+        _ => text.push_str("not met"),
+    }
+}
+
+// The claim, which is not true of the member, and what is there, where that is a value or a number.
+fn push_claim_unmet(
+    text: &mut String,
+    stage: &Stage,
+    member: Member,
+    claim: &Claim,
+) -> Result<(), AllocError>
+    requires { IsTrue (is_member stage.now.rehearsal.setting.members member) }
+{
+    text.push_str("expected ")?;
+    match claim {
+        Claim::Fact(fact) => {
+            push_wanted(text, fact)?;
+            text.push_str(", there is ")?;
+            push_there(text, stage, member, fact)
+        }
+        Claim::Amount(what, _) => {
+            push_claim(text, claim)?;
+            let count = amount_of(stage, member, *what);
+            write!(text, ", there is {count}")
+        }
+        _ => push_claim(text, claim),
+    }
+}
