@@ -1,6 +1,6 @@
 #!/usr/bin/env python3
-"""Checks what `ct_tool merge` says of logs: small ones by hand, logs whose ends are lost, logs that grow, the cluster of examples/ with
-members killed and with each of its mistakes, and a comparison with a search through all orders.
+"""Checks what `ct_tool merge` says of logs: small ones by hand, with what they expect, logs whose ends are lost, logs that grow, the
+cluster of examples/ with members killed and with each of its mistakes, and a comparison with a search through all orders.
 
     logs.py CT_TOOL        the last line is N passed, M failed; needs cc and rustc
 """
@@ -160,6 +160,65 @@ BESIDES = [
          "also refused: 3.log line 1: receive data 1.1 from 1 set 0 3: member 3 came to set 0 7"),
 ]
 
+SEEN = "instances 1, largest round 1, suspicions 0, choices between different ts 0, repetitions 0"
+NO_FACT = "not understood: a log expects one FACT a line, of its own member as it is there: expect FACT"
+
+# What logs expect.
+EXPECTED = [
+    Case("expectations that hold",
+         {"1.log": "members 1\nexpect 1 delivered -\n"
+          + ALONE.replace("conclude\n", "conclude\nexpect phase Rest\nexpect 1 instance >= 1\n")
+          + "expect 1 delivered 1.1\nexpect table 0=7\nexpect 1 refuses begin Nothing\nexpect up\nexpect may crash\n"}, 0,
+         f"accepted: 1 members, 12 lines; {SEEN}"),
+    Case("an expectation that does not hold", {"1.log": "members 1\n" + ALONE + "expect 1 delivered 1.1\nexpect 1 table 0=8\n"}, 1,
+         "refused: 1.log line 15: expect 1 table 0=8: expected table 0=8, there is 0=7"),
+    Case("one that holds a line later", {"1.log": "members 1\n" + ALONE.replace("deliver\n", "expect delivered 1.1\ndeliver\n")}, 1,
+         "refused: 1.log line 13: expect delivered 1.1: expected delivered 1.1, there is -"),
+    Case("a count that is not there", {**GOSSIP, "2.log": GOSSIP["2.log"] + "expect 2 received count 2\n"}, 1,
+         "refused: 2.log line 2: expect 2 received count 2: expected received count 2, there is 1"),
+    Case("a refusal for another reason", {**GOSSIP, "2.log": "expect refuses begin Busy\n" + GOSSIP["2.log"]}, 1,
+         "refused: 2.log line 1: expect refuses begin Busy: expected refuses Busy, there is Nothing"),
+    Case("a state behind a crash", {**GOSSIP, "2.log": GOSSIP["2.log"] + "crash\nexpect crashed\nexpect refuses begin Crashed\n"}, 0,
+         "accepted: 2 members, 4 lines; instances 0, largest round 0, suspicions 0, choices between different ts 0, repetitions 0"),
+    Case("an expectation that says whose log it is", {"a.log": "members 2\nexpect 2 received -\nbegin\n"}, 1,
+         "refused: a.log line 3: begin: member 2 is refused Nothing"),
+    Case("what is expected of another member", {**GOSSIP, "2.log": GOSSIP["2.log"] + "expect 1 up\n"}, 2,
+         "2.log line 2: expect 1 up: member 1's, in the log of another"),
+    Case("what is expected of all", {"1.log": "members 2\nexpect all received 1.1\n"}, 2,
+         f"1.log line 2: expect all received 1.1: {NO_FACT}"),
+    Case("what is expected of those that are up", {"1.log": "members 2\nexpect up received 1.1\n"}, 2,
+         f"1.log line 2: expect up received 1.1: {NO_FACT}"),
+    Case("what is never to be", {"1.log": "members 2\nexpect never 1 crashed\n"}, 2, f"1.log line 2: expect never 1 crashed: {NO_FACT}"),
+    Case("two facts", {"1.log": "members 2\nexpect 1 up and 1 idle\n"}, 2, f"1.log line 2: expect 1 up and 1 idle: {NO_FACT}"),
+    Case("a word that is no fact", {"1.log": "members 2\nexpect dlivered 1.1\n"}, 2,
+         "1.log line 2: expect dlivered 1.1: not understood: dlivered is no fact; delivered?"),
+    Case("a refusal that depends on the others",
+         {"1.log": "members 2\n", "2.log": "expect 2 refuses receive data 1.1 from 1 NotThere\n"}, 2,
+         "2.log line 1: expect 2 refuses receive data 1.1 from 1 NotThere: "
+         "not understood: this refusal depends on the order of the others"),
+    Case("a limit", {"1.log": "members 1\n1 begin\nexpect refuses begin Full(Steps)\n"}, 2,
+         "1.log line 3: expect refuses begin Full(Steps): not understood: this refusal depends on the order of the others"),
+    Case("what waits", {"1.log": "members 1\nexpect 1 waiting 0\n"}, 2,
+         "1.log line 2: expect 1 waiting 0: not understood: this fact depends on the order of the others"),
+    Case("the last step of the run", {"1.log": "members 1\nexpect 1 follows 1\n"}, 2,
+         "1.log line 2: expect 1 follows 1: not understood: this fact depends on the order of the others"),
+    Case("the first of several that do not hold",
+         {"1.log": "members 2\nsubmit set 0 7\nexpect received 1.1\n", "2.log": "2 receive data 1.1 from 1\nexpect received -\nbegin\n"}, 1,
+         "refused: 2.log line 2: expect received -: expected received -, there is 1.1"),
+    Case("an expectation before the line that is refused", {"1.log": "members 2\nexpect idle\nexpect round 1\nbegin\nexpect round 2\n"}, 1,
+         "refused: 1.log line 3: expect round 1: expected round 1, there is idle"),
+    Case("one behind the line that is refused", {"1.log": "members 2\nbegin\nexpect round 1\n"}, 1,
+         "refused: 1.log line 2: begin: member 1 is refused Nothing"),
+    Case("an expectation before the line that is cut",
+         {"1.log": "members 2\n", "2.log": "expect received 1.1\nreceive data 1.1 from 1\n"}, 1,
+         "refused: 2.log line 1: expect received 1.1: expected received 1.1, there is -"),
+    Case("one behind the line that is cut", {"1.log": "members 2\n", "2.log": "receive data 1.1 from 1\nexpect received -\n"}, 6,
+         "cut: 2.log line 1: receive data 1.1 from 1: the log of member 1 ends before it is sent"),
+    Case("an expectation that does not hold, and a torn line", {"1.log": "members 1\nexpect crashed\nsubmit set"}, 1,
+         "refused: 1.log line 2: expect crashed: expected crashed, there is up\n"
+         "note: 1.log line 3: submit set: no line feed ends it, so it is left out"),
+]
+
 PRESUME = ("--presume",)
 
 
@@ -190,6 +249,13 @@ PRESUMED = [
     Case("an ack that is lost", {"1.log": ONE + "receive prop 1/1 from 2\n", "2.log": TWO + "receive ack 1/1 from 1\n"}, 7,
          "presumed: 1 step of member 1; 2 members, 13 lines; instances 1, largest round 1, suspicions 0, choices between different ts 0, "
          "repetitions 0", PRESUME),
+    Case("what is expected before a step that is presumed",
+         {"1.log": ONE + "receive prop 1/1 from 2\nexpect phase Wait\n", "2.log": TWO + "receive ack 1/1 from 1\n"}, 7,
+         "presumed: 1 step of member 1; 2 members, 13 lines; instances 1, largest round 1, suspicions 0, choices between different ts 0, "
+         "repetitions 0", PRESUME),
+    Case("what is expected and is so behind one alone",
+         {"1.log": ONE + "receive prop 1/1 from 2\nexpect phase Rest\n", "2.log": TWO + "receive ack 1/1 from 1\n"}, 1,
+         "refused: 1.log line 7: expect phase Rest: expected phase Rest, there is Wait", PRESUME),
     Case("a nack that is lost", {"1.log": ONE, "2.log": TWO + "receive nack 1/1 from 1\n"}, 7,
          "presumed: 1 step of member 1; 2 members, 12 lines; instances 1, largest round 1, suspicions 1, choices between different ts 0, "
          "repetitions 0", PRESUME),
@@ -251,6 +317,11 @@ GROWING = [
     Growing("a proposal without its sender", {"1.log": ONE + "receive prop 1/1\n", "2.log": TWO[:TWO.index("choose")]},
             [("2.log", "choose 1\n")], ("--idle", "1"), 0,
             "accepted: 2 members, 11 lines; instances 1, largest round 1, suspicions 0, choices between different ts 0, repetitions 0"),
+    Growing("expectations that hold", {**GOSSIP, "2.log": "expect 2 received -\n"},
+            [("2.log", GOSSIP["2.log"] + "expect received 1.1\n")], ("--idle", "1"), 0,
+            "accepted: 2 members, 3 lines; instances 0, largest round 0, suspicions 0, choices between different ts 0, repetitions 0"),
+    Growing("an expectation that does not hold in the end", GOSSIP, [("2.log", "expect received -\n"), ("2.log", "crash\n")],
+            ("--idle", "1"), 1, "refused: 2.log line 2: expect received -: expected received -, there is 1.1"),
     Growing("a word that is no act", GOSSIP, [("2.log", "2 bgin\n")], (), 2,
             "2.log line 2: 2 bgin: not understood: bgin is no act; begin?"),
 ]
@@ -358,7 +429,7 @@ def faults_of_search(tool: str) -> List[str]:
 
 def main() -> int:
     tool = os.path.abspath(sys.argv[1])
-    checks = [(case.name, faults_of(tool, case)) for case in CASES + BESIDES + PRESUMED]
+    checks = [(case.name, faults_of(tool, case)) for case in CASES + BESIDES + EXPECTED + PRESUMED]
     checks += [(f"followed: {case.name}", faults_of_growing(tool, case)) for case in GROWING]
     in_c = ["cc", "-std=c11", "-Wall", "-Wextra", "-Werror"]
     in_rust = ["rustc", "--edition", "2021", "-D", "warnings", "-A", "dead_code"]
