@@ -1,17 +1,18 @@
 -- What logs expect, tested along a run.
-use Rattle.std.proofs.Common.{◌≡◌, ◌≢◌, ℕ, zero, suc, ◌+◌, ◌<◌, ◌≤◌, ◌==◌, ◌&&◌, Bool, true, false, not, List, [], ◌∷◌, ◌++◌, length, Option}
-use Rattle.std.proofs.Common.{Some, None, inl, inr, ◌⊎◌, ap, sym, subst, ◌∙◌, refl, arith, append_assoc, append-nil, length-append, take, drop, leb-true, nat_le, get_or}
+use Rattle.std.proofs.Common.{◌≡◌, ◌≢◌, ℕ, zero, suc, ◌+◌, ◌<◌, ◌≤◌, ◌==◌, ◌&&◌, Bool, true, false, not, List, [], ◌∷◌, ◌++◌, length}
+use Rattle.std.proofs.Common.{Option, Some, None, inl, inr, ap, sym, subst, ◌∙◌, refl, arith, append_assoc, append-nil, length-append}
+use Rattle.std.proofs.Common.{take, drop, leb-true, nat_le, get_or}
 use Rattle.std.specs.Prelude.{slice_get, is_some, option_map, IfSome}
 use Rattle.std.proofs.lemmas.Bool.{cases_eq}
 use Rattle.std.proofs.lemmas.Bool.Decides.{nat_tests}
 use Rattle.ct_names.specs.Group.{is_member}
 use Rattle.ct_model.specs.Actor.{actor}
-use Rattle.ct_model.specs.Rehearsal.{Rehearsal, empty, extended}
+use Rattle.ct_model.specs.Rehearsal.{Rehearsal, extended}
 use Rattle.ct_model.specs.declared.step.Step.{Step}
 use Rattle.ct_model.proofs.Basics.Options.{some-same, some-none}
 use Rattle.ct_play.specs.Played.{Played, with_step}
 use Rattle.ct_grammar.specs.Sides.{whole}
-use Rattle.ct_merge.specs.Expected.{AllHold, AreOrdered, AreWithin, Expecting, Holds, IsMet, IsMetIn, IsUnmet, behind, expected_of, or_whole}
+use Rattle.ct_merge.specs.Expected.{AllHold, AreOrdered, Expecting, Holds, IsMet, IsMetIn, IsUnmet, behind, expected_of, or_whole}
 use Rattle.ct_merge.specs.Logs.{Moment, is_own, is_repeat, own}
 use Rattle.ct_merge.specs.Merging.{count_of}
 use Rattle.ct_merge.specs.Testing.{AreFrom, AreMet, AreTested, Fails, FailsBefore, GoesOnTo, IsFailing, IsTested, StaysTested, Walked}

@@ -1,6 +1,6 @@
 -- What the lines of logs say.
-use Rattle.std.specs.Prelude.{ℕ, Bool, false, ◌||◌, List, [], ◌∷◌, Option, Some, None, Result, Ok, Err, codes, decimal, drop, length, nat_eq}
-use Rattle.std.specs.Prelude.{if◌then◌else◌}
+use Rattle.std.specs.Prelude.{ℕ, Bool, false, ◌||◌, List, [], ◌∷◌, Option, Some, None, Result, Ok, Err, codes, decimal, drop, length}
+use Rattle.std.specs.Prelude.{nat_eq, if◌then◌else◌}
 use Rattle.std.specs.List.{concat, starts_with}
 use Rattle.std.specs.Char.{is_ascii_digit}
 use Rattle.ct_grammar.specs.Lines.{line_of}
