@@ -111,9 +111,10 @@ restless_stand logs t p more =
 pub stopped_all : (s : Setting) (logs : List (Vec LogLine)) (lines : StoppedLines) (t : Taken) (seen : List Culprit) →
     IsLawful t.rehearsal → t.rehearsal.setting ≡ s → IsTakenFrom logs t → All (IsRefusedLine logs) lines.refused.items →
     All (IsStoppedAt logs t) lines.waiting.items → seen ≡ lines.refused.items →
-    AreToldTo logs t seen lines.waiting.items t.rehearsal.setting.members → AreStopped s logs lines
-stopped_all s logs lines t seen law group taken refused waiting same each = record {
+    AreToldTo logs t seen lines.waiting.items t.rehearsal.setting.members → lines.run.rehearsal ≡ t.rehearsal → AreStopped s logs lines
+stopped_all s logs lines t seen law group taken refused waiting same each run = record {
   so_far = t;
+  run = run;
   lawful = law;
   group = group;
   taken = taken;
