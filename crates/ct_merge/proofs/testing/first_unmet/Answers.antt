@@ -1,4 +1,5 @@
-use Rattle.std.proofs.Common.{rules, ◌≡◌, ℕ, ◌+◌, ◌∙◌, Ok, Some, true, false, ap, sym, subst, take}
+use Rattle.std.proofs.Common.{rules, ◌≡◌, ℕ, ◌+◌, ◌∙◌, Ok, Some, true, false, ap, arith, sym, subst, take}
+use Rattle.std.proofs.lemmas.List.{take_all}
 use Rattle.std.specs.Prelude.{slice_get}
 use Rattle.ct_names.specs.Group.{is_member}
 use Rattle.ct_model.specs.Actor.{actor}
@@ -6,6 +7,7 @@ use Rattle.ct_world.specs.Setup.{record_of}
 use Rattle.ct_grammar.specs.Sides.{whole}
 use Rattle.ct_play.specs.Played.{Played}
 use Rattle.ct_merge.specs.Merging.{count_of}
+use Rattle.ct_merge.specs.Testing.{AreTested}
 use Rattle.ct_merge.proofs.Walking.{failed_on, is_unmet, none_tested, stage_on, tested_on}
 use Rattle.ct_merge.proofs.testing.first_unmet.Goals as goal
 
@@ -42,3 +44,10 @@ loop-i-preserved c =
       tested = tested_on w c.loop-i.i c.step_at-step.result c.loop-i.walk c.pass.new.self c.args.expected.now there c.loop-i.invariant.stage
           (c.pass.ensures.tested ok) c.loop-i.invariant.tested;
     }
+
+pub end-requires-clause-tested : goal.end-requires-clause-tested
+end-requires-clause-tested c =
+    let steps = c.args.steps.now in
+    let all : take c.loop-i.i steps ≡ steps = take_all c.loop-i.i steps (omega (arith, c.loop-i-test.false)) in
+    subst (λ v. AreTested v c.args.expected.now c.loop-i.walk)
+    (sym (ap (λ (s : Played). s.rehearsal) c.loop-i.invariant.stage ∙ ap (record_of c.args.setup) all)) c.loop-i.invariant.tested
