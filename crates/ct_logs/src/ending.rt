@@ -47,8 +47,8 @@ pub(crate) fn end_of(
 {
     let Judged { verdict, stopped } = judged;
     let same = setup;
-    let files = sources(names, &texts, &set);
-    if let Some(text) = unmet_in(alloc, files, same, &verdict, stopped.as_ref())? {
+    let unmet = unmet_in(alloc, names, &texts, &set, same, &verdict, stopped.as_ref())?;
+    if let Some(text) = unmet {
         return Err(MergeFault::Refused(text));
     }
     match verdict {
@@ -72,16 +72,19 @@ pub(crate) fn end_of(
 // What is told of an expectation that does not hold in the run, as far as the logs go.
 fn unmet_in(
     alloc: Global,
-    sources: Sources<'_>,
+    names: &[&str],
+    texts: &[Vec<u8>],
+    set: &LogSet,
     setup: Setup,
     verdict: &Verdict,
     stopped: Option<&StoppedLines>,
 ) -> Result<Option<String>, MergeFault>
     ensures { IfErr result (λ fault. fault ≢ MergeFault.Write) }
 {
+    let files = sources(names, texts, set);
     match (verdict, stopped) {
-        (Verdict::Accepted(world), _) => unmet_text(alloc, sources, setup, world),
-        (_, Some(stopped)) => unmet_text(alloc, sources, setup, &stopped.run),
+        (Verdict::Accepted(world), _) => unmet_text(alloc, files, setup, world),
+        (_, Some(stopped)) => unmet_text(alloc, files, setup, &stopped.run),
         (_, None) => Ok(None),
     }
 }
