@@ -58,14 +58,22 @@ pub(crate) fn end_of(
             drop(set);
             accept(alloc, setup, world, form, torn.as_str(), presumed)
         }
-        Verdict::Refused(culprit) => {
-            let sources = sources(names, &texts, &set);
-            Err(refused(alloc, sources, &culprit, stopped.as_ref()))
-        }
-        Verdict::Cut(culprit) => {
-            let sources = sources(names, &texts, &set);
-            Err(cut(alloc, sources, &culprit, stopped.as_ref()))
-        }
+        Verdict::Refused(culprit) => Err(refused_in(
+            alloc,
+            names,
+            &texts,
+            &set,
+            &culprit,
+            stopped.as_ref(),
+        )),
+        Verdict::Cut(culprit) => Err(cut_in(
+            alloc,
+            names,
+            &texts,
+            &set,
+            &culprit,
+            stopped.as_ref(),
+        )),
     }
 }
 
@@ -167,15 +175,31 @@ pub(crate) fn refused(
     }
 }
 
-fn cut(
+// The same of logs with these names and texts.
+fn refused_in(
     alloc: Global,
-    sources: Sources<'_>,
+    names: &[&str],
+    texts: &[Vec<u8>],
+    set: &LogSet,
     culprit: &Culprit,
     stopped: Option<&StoppedLines>,
 ) -> MergeFault
     ensures { result ≢ MergeFault.Write }
 {
-    match told_of(alloc, sources, culprit, stopped) {
+    refused(alloc, sources(names, texts, set), culprit, stopped)
+}
+
+fn cut_in(
+    alloc: Global,
+    names: &[&str],
+    texts: &[Vec<u8>],
+    set: &LogSet,
+    culprit: &Culprit,
+    stopped: Option<&StoppedLines>,
+) -> MergeFault
+    ensures { result ≢ MergeFault.Write }
+{
+    match told_of(alloc, sources(names, texts, set), culprit, stopped) {
         Ok(text) => MergeFault::Cut(text),
         Err(_) => MergeFault::Memory,
     }
