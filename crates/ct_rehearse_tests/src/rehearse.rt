@@ -55,14 +55,19 @@ fn does_all(world: &mut World, board: &Board, steps: &[Step]) -> bool {
     true
 }
 
-// Such a world, in which the first member has submitted a message, and its board.
-fn submitted(alloc: Global, n: u8) -> Option<(World, Board)> {
-    let (mut world, board) = started(alloc, n)?;
-    if does_all(&mut world, &board, &[Step::Submit(1, SEVEN)]) {
+// The world and its board after these steps too, where all were done.
+fn after(start: Option<(World, Board)>, steps: &[Step]) -> Option<(World, Board)> {
+    let (mut world, board) = start?;
+    if does_all(&mut world, &board, steps) {
         Some((world, board))
     } else {
         None
     }
+}
+
+// Such a world, in which the first member has submitted a message, and its board.
+fn submitted(alloc: Global, n: u8) -> Option<(World, Board)> {
+    after(started(alloc, n), &[Step::Submit(1, SEVEN)])
 }
 
 // Detectors of n members that suspect nobody.
@@ -106,18 +111,19 @@ fn ran_in<L: Ledger + Send + Sync, R: Threads + Wait + Sync, G: Gate>(
     hall.run_free(rt, alloc, plan, detectors, gate, share).ok()
 }
 
-// What a rehearsal from this world on comes to.
+// What a rehearsal from this world on comes to, where there are a world and detectors.
 fn ran<R: Threads + Wait + Sync, G: Gate>(
     rt: &R,
     alloc: Global,
-    start: (World, Board),
+    start: Option<(World, Board)>,
     plan: &Plan,
-    detectors: Vec<Box<dyn Detector>>,
+    detectors: Option<Vec<Box<dyn Detector>>>,
     gate: &G,
 ) -> Option<Rehearsed>
     requires { IsWithin plan.now }
 {
-    let (world, board) = start;
+    let detectors = detectors?;
+    let (world, board) = start?;
     if usize::from(world.group().n()) != detectors.len() {
         return None;
     }

@@ -8,9 +8,9 @@ use ct_detect::Always;
 fn run_from<R: Threads + Wait + Sync>(
     rt: &R,
     alloc: Global,
-    start: (World, Board),
+    start: Option<(World, Board)>,
     turns: u32,
-    detectors: Vec<Box<dyn Detector>>,
+    detectors: Option<Vec<Box<dyn Detector>>>,
 ) -> Option<Rehearsed>
     requires { turns ≤ 100 }
 {
@@ -30,11 +30,18 @@ fn one_suspects(alloc: Global) -> Result<Vec<Box<dyn Detector>>, AllocError> {
 }
 
 // Whether the first member alone came to suspect.
+fn has_first_suspected(world: &World) -> bool {
+    let record = world.record();
+    record.contains(&Step::Suspect(1)) && !record.contains(&Step::Suspect(2))
+}
+
+// The same after a run of both.
 fn first_suspected<R: Threads + Wait + Sync>(rt: &R, alloc: Global) -> Option<bool> {
-    let detectors = one_suspects(alloc).ok()?;
-    let done = run_from(rt, alloc, submitted(alloc, 2)?, 100, detectors)?;
-    let record = done.world.record();
-    Some(record.contains(&Step::Suspect(1)) && !record.contains(&Step::Suspect(2)))
+    let detectors = one_suspects(alloc).ok();
+    let done = run_from(rt, alloc, submitted(alloc, 2), 100, detectors)?;
+    let suspected = has_first_suspected(&done.world);
+    drop(done);
+    Some(suspected)
 }
 
 #[test]
@@ -45,20 +52,16 @@ fn each_member_has_the_detector_in_its_place(rt: HostRuntime) -> Result<(), Fail
 
 // Three members, of which the first waits in round 1 with nothing in its line, and the others have crashed.
 fn waiting_alone(alloc: Global) -> Option<(World, Board)> {
-    let (mut world, board) = started(alloc, 3)?;
-    let is_waiting = does_all(&mut world, &board, &waiting_in_round_one());
-    if is_waiting && does_all(&mut world, &board, &[Step::Crash(2), Step::Crash(3)]) {
-        Some((world, board))
-    } else {
-        None
-    }
+    let waiting = after(started(alloc, 3), &waiting_in_round_one());
+    after(waiting, &[Step::Crash(2), Step::Crash(3)])
 }
 
 // What four turns of each come to where the detectors say yes at the fourth ask, and the last step.
 fn fourth_ask<R: Threads + Wait + Sync>(rt: &R, alloc: Global) -> Option<(Made, Option<Step>)> {
-    let detectors = at_each(alloc, 4)?;
-    let done = run_from(rt, alloc, waiting_alone(alloc)?, 4, detectors)?;
-    Some((done.made, done.world.record().last().copied()))
+    let done = run_from(rt, alloc, waiting_alone(alloc), 4, at_each(alloc, 4))?;
+    let came = (done.made, done.world.record().last().copied());
+    drop(done);
+    Some(came)
 }
 
 // The first member asks once in each of its turns, and comes to suspect in the last one.

@@ -23,11 +23,28 @@ impl Marks {
         }
     }
 
-    fn come(&mut self, worker: u32)
+    // A worker comes to its first turn, and found the right record or not.
+    fn come(&mut self, worker: u32, right: bool)
         requires { 0 < worker }
     {
+        self.right_before = self.right_before.saturating_add(u32::from(right));
         if let Some(came) = self.came.get_mut(worker as usize - 1) {
             *came = true;
+        }
+    }
+
+    // A worker made its turn, and found the right record or not.
+    fn go(&mut self, right: bool) {
+        self.right_after = self.right_after.saturating_add(u32::from(right));
+    }
+
+    // What they come to beside the world after the run.
+    fn tally(&self, settled: &World) -> Tally {
+        Tally {
+            gave_up: self.gave_up,
+            right: (self.right_before, self.right_after),
+            steps: settled.record().len(),
+            sent: settled.sent(),
         }
     }
 
@@ -54,17 +71,28 @@ fn own_step(worker: u32) -> Step {
     }
 }
 
+// Whether the record begins with the submission and holds, or doesn't hold, the worker's own step.
+fn is_right(record: &[Step], worker: u32, own: bool) -> bool {
+    record.first() == Some(&Step::Submit(1, SEVEN)) && record.contains(&own_step(worker)) == own
+}
+
 impl<'a, L: Ledger> Meeting<'a, L> {
-    // Whether the record begins with the submission and holds, or doesn't hold, the worker's own step.
+    // Whether the world's record is right so.
     fn sees<R: Wait>(&self, rt: &R, worker: u32, own: bool) -> bool {
         match self.hall.snapshot(rt, self.alloc) {
-            Ok(world) => {
-                let record = world.record();
-                let begins = record.first() == Some(&Step::Submit(1, SEVEN));
-                begins && record.contains(&own_step(worker)) == own
-            }
+            Ok(world) => is_right(world.record(), worker, own),
             Err(_) => false,
         }
+    }
+
+    fn into_marks(self) -> Marks {
+        let Meeting {
+            hall: _,
+            alloc: _,
+            workers: _,
+            marks,
+        } = self;
+        marks.into_inner()
     }
 
     // Waits until all came; false where they did not.
@@ -81,11 +109,7 @@ impl<'a, L: Ledger> Meeting<'a, L> {
 impl<'a, L: Ledger + Send + Sync> Gate for Meeting<'a, L> {
     fn before<R: Wait>(&self, rt: &R, worker: u32, _turn: u32) {
         let right = self.sees(rt, worker, false);
-        {
-            let mut marks = self.marks.lock(rt);
-            marks.right_before = marks.right_before.saturating_add(u32::from(right));
-            marks.come(worker);
-        }
+        self.marks.lock(rt).come(worker, right);
         if !self.wait(rt) {
             self.marks.lock(rt).gave_up = true;
         }
@@ -93,8 +117,7 @@ impl<'a, L: Ledger + Send + Sync> Gate for Meeting<'a, L> {
 
     fn after<R: Wait>(&self, rt: &R, worker: u32, _turn: u32) {
         let right = self.sees(rt, worker, true);
-        let mut marks = self.marks.lock(rt);
-        marks.right_after = marks.right_after.saturating_add(u32::from(right));
+        self.marks.lock(rt).go(right);
     }
 }
 
@@ -119,7 +142,36 @@ struct Tally {
     sent: u32,
 }
 
-// Two members and the plan's scripts, which wait for one another in their only turns.
+// The hall's members and the plan's scripts, which wait for one another in their only turns.
+fn met_in<L: Ledger + Send + Sync, R: Threads + Wait + Sync>(
+    rt: &R,
+    alloc: Global,
+    hall: &Hall<L>,
+    share: &mut Share<L>,
+    plan: &Plan,
+) -> Option<Tally>
+    requires plan { IsWithin plan.now }
+    requires entries { entries plan.now ≤ 100000 }
+    requires parts { share.old.parts ≡ 1000 }
+    requires steps { share.old.steps ≤ 1000000 }
+    requires whole { L.parts ≡ 1000 }
+{
+    let gate = Meeting {
+        hall,
+        alloc,
+        workers: usize::from(hall.group().n()) + plan.scripts.len(),
+        marks: Mutex::new(Marks::none()),
+    };
+    let made = ran_in(rt, alloc, hall, share, plan, &gate);
+    let marks = gate.into_marks();
+    let _ = made?;
+    let settled = hall.settled(rt, alloc, share).ok()?;
+    let tally = marks.tally(&settled);
+    drop(settled);
+    Some(tally)
+}
+
+// The same of two members.
 fn met<L: Ledger + Send + Sync, R: Threads + Wait + Sync>(
     rt: &R,
     alloc: Global,
@@ -134,27 +186,9 @@ fn met<L: Ledger + Send + Sync, R: Threads + Wait + Sync>(
 {
     let (world, board) = submitted(alloc, 2)?;
     let (hall, mut share) = Hall::<L>::new(blank, world, board);
-    let gate = Meeting {
-        hall: &hall,
-        alloc,
-        workers: usize::from(hall.group().n()) + plan.scripts.len(),
-        marks: Mutex::new(Marks::none()),
-    };
-    ran_in(rt, alloc, &hall, &mut share, plan, &gate)?;
-    let Meeting {
-        hall: _,
-        alloc: _,
-        workers: _,
-        marks,
-    } = gate;
-    let settled = hall.settled(rt, alloc, &mut share).ok()?;
-    let marks = marks.into_inner();
-    Some(Tally {
-        gave_up: marks.gave_up,
-        right: (marks.right_before, marks.right_after),
-        steps: settled.record().len(),
-        sent: settled.sent(),
-    })
+    let tally = met_in(rt, alloc, &hall, &mut share, plan);
+    drop(hall);
+    tally
 }
 
 fn two_met<L: Ledger + Send + Sync, R: Threads + Wait + Sync>(

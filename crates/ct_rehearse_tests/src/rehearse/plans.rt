@@ -28,7 +28,30 @@ fn scripted(alloc: Global) -> Result<Plan, AllocError>
     Ok(Plan { turns: 0, scripts })
 }
 
-// Three members and a script: what was made, the calls of the gate, and whether the record has these steps.
+// A run in this hall: what was made, the calls of the gate, and whether the record has these steps.
+fn made_in<L: Ledger + Send + Sync, R: Threads + Wait + Sync>(
+    rt: &R,
+    alloc: Global,
+    hall: &Hall<L>,
+    share: &mut Share<L>,
+    plan: &Plan,
+    steps: &[Step],
+) -> Option<(Made, (u32, u32), bool)>
+    requires plan { IsWithin plan.now }
+    requires entries { entries plan.now ≤ 100000 }
+    requires parts { share.old.parts ≡ 1000 }
+    requires steps { share.old.steps ≤ 1000000 }
+    requires whole { L.parts ≡ 1000 }
+{
+    let gate = Counting::new();
+    let made = ran_in(rt, alloc, hall, share, plan, &gate)?;
+    let settled = hall.settled(rt, alloc, share).ok()?;
+    let is_recorded = settled.record() == steps;
+    drop(settled);
+    Some((made, gate.into_calls(), is_recorded))
+}
+
+// The same of three members and a script.
 fn disturbed<L: Ledger + Send + Sync, R: Threads + Wait + Sync>(
     rt: &R,
     alloc: Global,
@@ -39,13 +62,13 @@ fn disturbed<L: Ledger + Send + Sync, R: Threads + Wait + Sync>(
     requires parts { blank.parts ≡ L.parts }
     requires whole { L.parts ≡ 1000 }
 {
+    let plan = scripted(alloc).ok()?;
     let (world, board) = submitted(alloc, 3)?;
     let (hall, mut share) = Hall::<L>::new(blank, world, board);
-    let plan = scripted(alloc).ok()?;
-    let gate = Counting::new();
-    let made = ran_in(rt, alloc, &hall, &mut share, &plan, &gate)?;
-    let settled = hall.settled(rt, alloc, &mut share).ok()?;
-    Some((made, gate.into_calls(), settled.record() == steps))
+    let came = made_in(rt, alloc, &hall, &mut share, &plan, steps);
+    drop(hall);
+    drop(plan);
+    came
 }
 
 #[test]

@@ -59,9 +59,12 @@ fn rehearsed<L: Ledger>(
     requires parts { blank.parts ≡ L.parts }
     requires whole { L.parts ≡ 1000 }
 {
-    let (world, _board) = started(alloc, 1)?;
+    let (world, own) = started(alloc, 1)?;
+    drop(own);
     let (mut desk, mut share) = Desk::<L>::new(blank, world);
-    compared(&mut desk, &mut share, board, steps, done)
+    let seen = compared(&mut desk, &mut share, board, steps, done);
+    drop(desk);
+    seen
 }
 
 // The list that delivers, of which the last step is recorded where the batch is posted.

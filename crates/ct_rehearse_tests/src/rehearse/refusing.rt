@@ -16,6 +16,26 @@ struct Come {
     gave_up: bool,
 }
 
+impl Come {
+    // Whether the entry was made, or the member made its turns.
+    fn has_come(&self, for_entry: bool) -> bool {
+        if for_entry {
+            self.entry
+        } else {
+            self.turns == BEFORE
+        }
+    }
+
+    // A worker made this turn.
+    fn go(&mut self, worker: u32, turn: u32) {
+        if worker == 2 {
+            self.entry = true;
+        } else {
+            self.turns = turn;
+        }
+    }
+}
+
 // A gate that has the only entry of the only script come right after those turns of the only member.
 #[derive(Drop)]
 struct Between {
@@ -26,8 +46,7 @@ impl Between {
     // Waits until the member made its turns, or until the entry was made.
     fn wait<R: Wait>(&self, rt: &R, for_entry: bool) {
         for _ in 0..10_000_000u32 {
-            let come = *self.come.lock(rt);
-            if (for_entry && come.entry) || (!for_entry && come.turns == BEFORE) {
+            if self.come.lock(rt).has_come(for_entry) {
                 return;
             }
             thread::yield_now();
@@ -46,12 +65,7 @@ impl Gate for Between {
     }
 
     fn after<R: Wait>(&self, rt: &R, worker: u32, turn: u32) {
-        let mut come = self.come.lock(rt);
-        if worker == 2 {
-            come.entry = true;
-        } else {
-            come.turns = turn;
-        }
+        self.come.lock(rt).go(worker, turn);
     }
 }
 
@@ -69,10 +83,7 @@ fn crashing(alloc: Global) -> Result<Plan, AllocError>
 
 // What the turns come to where the board has no cell, and whether a worker gave up waiting.
 fn made_without_cells<R: Threads + Wait + Sync>(rt: &R, alloc: Global) -> Option<(Made, bool)> {
-    let (mut world, board) = with_cells(alloc, 1, 0)?;
-    if !does_all(&mut world, &board, &[Step::Submit(1, SEVEN)]) {
-        return None;
-    }
+    let plan = crashing(alloc).ok()?;
     let gate = Between {
         come: Mutex::new(Come {
             turns: 0,
@@ -80,10 +91,12 @@ fn made_without_cells<R: Threads + Wait + Sync>(rt: &R, alloc: Global) -> Option
             gave_up: false,
         }),
     };
-    let (plan, detectors) = (crashing(alloc).ok()?, never(alloc, 1).ok()?);
-    let done = ran(rt, alloc, (world, board), &plan, detectors, &gate)?;
+    let start = after(with_cells(alloc, 1, 0), &[Step::Submit(1, SEVEN)]);
+    let done = ran(rt, alloc, start, &plan, never(alloc, 1).ok(), &gate)?;
+    let made = done.made;
+    drop(done);
     let Between { come } = gate;
-    Some((done.made, come.into_inner().gave_up))
+    Some((made, come.into_inner().gave_up))
 }
 
 // The board refuses the batch of the first delivery at each turn from the twelfth on. The member crashes after two such turns,

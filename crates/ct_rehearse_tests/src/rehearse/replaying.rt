@@ -55,6 +55,14 @@ fn has_same_members(world: &World, other: &World) -> bool {
     })
 }
 
+// Whether both have the same record, envelopes and batches, and their members delivered the same.
+fn is_same(world: &World, other: &World) -> bool {
+    world.record() == other.record()
+        && world.sent() == other.sent()
+        && world.posted() == other.posted()
+        && has_same_members(world, other)
+}
+
 // Whether the world is that after its record, from nothing.
 fn is_replayed(alloc: Global, world: &World) -> bool {
     match World::replay(
@@ -64,12 +72,7 @@ fn is_replayed(alloc: Global, world: &World) -> bool {
         world.bound(),
         world.record(),
     ) {
-        Ok((again, _board)) => {
-            again.record() == world.record()
-                && again.sent() == world.sent()
-                && again.posted() == world.posted()
-                && has_same_members(&again, world)
-        }
+        Ok((again, _board)) => is_same(&again, world),
         Err(_) => false,
     }
 }
@@ -104,14 +107,26 @@ fn three(alloc: Global, kind: u8) -> Option<Vec<Box<dyn Detector>>> {
     Some(detectors)
 }
 
+// Whether members took steps, and the record replays.
+fn has_steps_and_replays(alloc: Global, done: &Rehearsed) -> bool {
+    done.made.steps > 5 && is_replayed(alloc, &done.world)
+}
+
 // Runs three members with such detectors: all 605 turns pass the gate, members take steps, and the record replays.
 fn replays<R: Threads + Wait + Sync>(rt: &R, alloc: Global, kind: u8) -> Option<bool> {
     let plan = disturbed(alloc).ok()?;
     let gate = Counting::new();
-    let detectors = three(alloc, kind)?;
-    let done = ran(rt, alloc, started(alloc, 3)?, &plan, detectors, &gate)?;
-    let passed_all = gate.into_calls() == (605, 605);
-    Some(passed_all && done.made.steps > 5 && is_replayed(alloc, &done.world))
+    let done = ran(
+        rt,
+        alloc,
+        started(alloc, 3),
+        &plan,
+        three(alloc, kind),
+        &gate,
+    )?;
+    let is_whole = has_steps_and_replays(alloc, &done);
+    drop(done);
+    Some(is_whole && gate.into_calls() == (605, 605))
 }
 
 #[test]

@@ -1,4 +1,4 @@
-ghost use Rattle.std.specs.Prelude.{◌≡◌};
+ghost use Rattle.std.specs.Prelude.{◌≡◌, ◌≤◌};
 
 use super::following::Followed;
 use super::*;
@@ -47,7 +47,32 @@ fn is_shown<L: Ledger, R: Wait>(
     }
 }
 
-// One member, one submission, 100 turns: what was made, whether the worlds that are shown have it, and whether a watcher follows.
+// 100 turns of the hall's members: what was made, whether the worlds that are shown have the message, and whether a watcher
+// follows.
+fn in_hall<L: Ledger + Send + Sync, R: Threads + Wait + Sync>(
+    rt: &R,
+    alloc: Global,
+    hall: &Hall<L>,
+    share: &mut Share<L>,
+    message: Message,
+) -> Option<(Made, bool, bool)>
+    requires parts { share.old.parts ≡ 1000 }
+    requires steps { share.old.steps ≤ 1000000 }
+    requires whole { L.parts ≡ 1000 }
+{
+    let plan = Plan {
+        turns: 100,
+        scripts: Vec::new(alloc),
+    };
+    let made = ran_in(rt, alloc, hall, share, &plan, &NoGate);
+    drop(plan);
+    let made = made?;
+    let shown = is_shown(rt, alloc, hall, share, message);
+    let followed = is_followed(rt, alloc, hall, message)?;
+    Some((made, shown, followed))
+}
+
+// The same of one member and one submission.
 fn one_member<L: Ledger + Send + Sync, R: Threads + Wait + Sync>(
     rt: &R,
     alloc: Global,
@@ -60,14 +85,9 @@ fn one_member<L: Ledger + Send + Sync, R: Threads + Wait + Sync>(
 {
     let (world, board) = submitted(alloc, 1)?;
     let (hall, mut share) = Hall::<L>::new(blank, world, board);
-    let plan = Plan {
-        turns: 100,
-        scripts: Vec::new(alloc),
-    };
-    let made = ran_in(rt, alloc, &hall, &mut share, &plan, &NoGate)?;
-    let shown = is_shown(rt, alloc, &hall, &mut share, message);
-    let followed = is_followed(rt, alloc, &hall, message)?;
-    Some((made, shown, followed))
+    let came = in_hall(rt, alloc, &hall, &mut share, message);
+    drop(hall);
+    came
 }
 
 #[test]

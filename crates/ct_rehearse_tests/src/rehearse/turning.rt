@@ -49,6 +49,10 @@ fn is_undecided(world: &World, member: Member) -> bool {
         && world.round(member).is_some()
 }
 
+fn are_undecided(world: &World) -> bool {
+    is_undecided(world, 1) && is_undecided(world, 2)
+}
+
 // Two members, one submission: whether both are undecided after their turns.
 fn suspecting<L: Ledger>(alloc: Global, blank: Blank) -> Option<bool>
     requires name { blank.name ≡ L.name }
@@ -58,8 +62,10 @@ fn suspecting<L: Ledger>(alloc: Global, blank: Blank) -> Option<bool>
     let (world, board) = submitted(alloc, 2)?;
     let (mut desk, mut share) = Desk::<L>::new(blank, world);
     let turned = all_suspect(&mut desk, &mut share, &board);
-    let world = desk.world();
-    Some(turned && is_undecided(world, 1) && is_undecided(world, 2))
+    let undecided = are_undecided(desk.world());
+    drop(desk);
+    drop(board);
+    Some(turned && undecided)
 }
 
 #[test]
@@ -110,12 +116,12 @@ fn asking<L: Ledger>(alloc: Global, blank: Blank, yes_at: u32) -> Option<[Option
     requires parts { blank.parts ≡ L.parts }
     requires whole { L.parts ≡ 1000 }
 {
-    let (mut world, board) = started(alloc, 3)?;
-    if !does_all(&mut world, &board, &waiting_in_round_one()) {
-        return None;
-    }
+    let (world, board) = after(started(alloc, 3), &waiting_in_round_one())?;
     let (mut desk, mut share) = Desk::<L>::new(blank, world);
-    asked(&mut desk, &mut share, &board, yes_at)
+    let came = asked(&mut desk, &mut share, &board, yes_at);
+    drop(desk);
+    drop(board);
+    came
 }
 
 // A fourth ask comes in the fourth turn, so not in the three that are made.
@@ -194,6 +200,8 @@ fn disturbances<L: Ledger>(alloc: Global, blank: Blank) -> Option<([Option<Came>
     let (mut desk, mut whole) = Desk::<L>::new(blank, world);
     let mut part = whole.split();
     let turns = five_tries(&mut desk, &mut part, &board);
+    drop(desk);
+    drop(board);
     Some((turns, part.steps()))
 }
 

@@ -74,17 +74,24 @@ fn two_instances() -> [Step; 24] {
     ]
 }
 
-#[test]
-fn a_watcher_reads_what_another_thread_posts(rt: HostRuntime) -> Result<(), Fail> {
-    let alloc = rt.alloc();
-    let (world, board) = started(alloc, 1).ok_or("a world")?;
-    let steps = two_instances();
-    let (shared, steps) = (&board, steps.as_slice());
-    let (seen, posted) = thread::join(
-        &rt,
+// What a watcher comes to while another thread does these steps, and whether all were done.
+fn watched<R: Threads>(
+    rt: &R,
+    alloc: Global,
+    steps: &[Step],
+) -> Option<(Result<Seen, AllocError>, bool)> {
+    let (world, board) = started(alloc, 1)?;
+    let shared = &board;
+    Some(thread::join(
+        rt,
         move || watch(alloc, shared),
         move || post_all(shared, world, steps),
-    );
+    ))
+}
+
+#[test]
+fn a_watcher_reads_what_another_thread_posts(rt: HostRuntime) -> Result<(), Fail> {
+    let (seen, posted) = watched(&rt, rt.alloc(), &two_instances()).ok_or("a world")?;
     assert!(rt; posted);
     let first = Message::new(1, 2, Command::Set(0, 5));
     let second = Message::new(1, 1, Command::Copy(0, 1));
