@@ -40,8 +40,9 @@ void __wrap_free(void *at) {
 enum { NEVER = -1 };
 static size_t ample_steps;
 
-/* How many calls were done though an allocation was refused in them: room ahead for the first receipts of three members, some times. */
-enum { MOST_WITHOUT_ROOM = 15 };
+/* How many calls were done though an allocation was refused in them: room ahead for the first receipts of messages and of
+   decisions by three members, some times. */
+enum { MOST_WITHOUT_ROOM = 24 };
 static int without_room;
 
 /* Whether what happened here is what should: the call is refused only where an allocation was. */
