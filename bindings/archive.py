@@ -25,7 +25,7 @@ exec "{clang}" {words}
 """
 ALL_WORDS = '"$@"'
 QUICK_WORDS = '"${@/#-O3/-O0}"'  # for an object file that nobody runs
-MOST_JOBS = 4
+MOST_JOBS = 2  # each further one loads the libraries once more, and takes as much memory
 ROOT = os.path.normpath(os.path.join(os.path.dirname(os.path.abspath(__file__)), ".."))
 
 
