@@ -99,19 +99,19 @@ impl Line {
         ensures room { self.old.room ≤ self.new.room }
     {
         let waiting = self.kept.len() - self.start;
-        self.kept.rotate_left(self.start);
+        self.kept.copy_within(self.start.., 0);
         self.kept.truncate(waiting);
         self.start = 0;
     }
 }
 
 // Removes the item at this place from `start` on, and leaves the rest one place further on.
+#[inline(always)]
 fn take_out(kept: &mut [Serial], start: usize, at: usize)
     requires { start + at < length kept.old }
     ensures { drop (start + 1) kept.new ≡ remove (drop start kept.old) at }
 {
     if at > 0 {
-        let front = &mut kept[start..start + at + 1];
-        front.rotate_right(1);
+        kept.copy_within(start..start + at, start + 1);
     }
 }

@@ -24,13 +24,14 @@ use Rattle.ct_network.specs.Network.{NetworkView, line_at, place_of}
 use Rattle.ct_abcast.specs.Cast.{undelivered}
 use Rattle.ct_instances.specs.Kept.{decision_at, has_room_open}
 use Rattle.ct_instances.specs.Named.{value_at, NamesEnvelopes}
+use Rattle.ct_world.specs.declared.arrival.Arrival.{Arrival}
 use Rattle.ct_world.specs.declared.kept.Kept.{Kept}
 use Rattle.ct_world.specs.declared.prepared.Prepared.{Prepared}
 use Rattle.ct_world.specs.declared.prepared.Prepared.TheVariants.{Receive, Begin, Close, Postpone, Lose}
 use Rattle.ct_world.specs.declared.seat.Seat.{Seat}
 use Rattle.ct_world.specs.Closing.{closed_instance, closing_step}
 use Rattle.ct_world.specs.Prepared.{step_in}
-use Rattle.ct_world.specs.Seats.{Keeps, CanReceive, new_seat}
+use Rattle.ct_world.specs.Seats.{Keeps, CanReceive, is_new, new_seat}
 use Rattle.ct_world.specs.World.{IsDone}
 
 -- the fields of a world besides its record: the network, the values by number, and the seats
@@ -97,6 +98,12 @@ abbrev pub IsFound : Kept → Step → ℕ → ℕ → Result ℕ Refusal → Ty
 IsFound kept step p k found = MatchResult found (λ place. IsFoundAt (rehearsal_of kept) step p k place)
     (λ refusal. cause (rehearsal_of kept) step ≡ Some refusal)
 
+-- p may receive this serial, which waits at this place, and it has this wire, which is new to p or not
+pub record IsArrival (kept : Kept) (p k : ℕ) (arrival : Arrival) : Type 0 where
+  pub found : IsFoundAt (rehearsal_of kept) (step.Receive p k) p k arrival.place
+  pub sent : at_serial kept.network.sent k ≡ Some (record { to = arrival.to; wire = arrival.wire })
+  pub new : arrival.new ≡ is_new (seat_of kept.seats.items p).relay arrival.wire
+
 -- the serial waits at this place, and p can receive its wire
 pub record HasReceiveRoom (w : Rehearsal) (f : Fields) (p k place : ℕ) : Type 0 where
   pub placed : place_of k (line_of w p) ≡ Some place
@@ -162,6 +169,21 @@ pub record Does (old : Kept) (step : Step) (new : Kept) (sent : ℕ) : Type 0 wh
   pub done : IsDone (rehearsal_of old) step (rehearsal_of new) sent
   pub still : order (state_of (rehearsal_of new)) ≡ order (state_of (rehearsal_of old))
   pub sound : IsSound new
+
+-- the step was allowed and is done, which posts nothing
+pub record IsDoneAtOnce (old : Kept) (step : Step) (new : Kept) (sent : ℕ) : Type 0 where
+  pub allowed : cause (rehearsal_of old) step ≡ None
+  pub does : Does old step new sent
+
+-- the step was refused by its cause or for want of memory; the record stayed, and what follows from it
+pub record IsRefusedAtOnce (old : Kept) (step : Step) (new : Kept) (refusal : Refusal) : Type 0 where
+  pub same : rehearsal_of new ≡ rehearsal_of old
+  pub sound : IsSound new
+  pub named : refusal ≡ unwrap_or (cause (rehearsal_of old) step) OutOfMemory
+
+-- one of the two
+abbrev pub DoesAtOnce : Kept → Step → Kept → Result ℕ Refusal → Type 0
+DoesAtOnce old step new made = MatchResult made (IsDoneAtOnce old step new) (IsRefusedAtOnce old step new)
 
 -- what is kept of a world, and the room for the prepared step
 pub record IsReady (kept : Kept) (prepared : Option Prepared) : Type 0 where

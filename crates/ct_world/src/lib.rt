@@ -2,6 +2,7 @@
 //! algorithm that ends in this world.
 #![tactic(auto)]
 
+mod arrival;
 mod closing;
 mod effect;
 mod kept;

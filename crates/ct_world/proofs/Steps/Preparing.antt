@@ -13,7 +13,7 @@ use Rattle.ct_world.specs.declared.prepared.Prepared.TheVariants.{Receive, Begin
 use Rattle.ct_world.specs.declared.seat.Seat.{Seat}
 use Rattle.ct_world.specs.Prepared.{step_in}
 use Rattle.ct_world.specs.Seats.{content, AreSameSeats}
-use Rattle.ct_world.specs.Kept.{Fields, IsWorld, IsSound, HasOwnRoom, NeedsNoMore, MakesRoom, fields_of, rehearsal_of, seat_of}
+use Rattle.ct_world.specs.Kept.{Fields, IsWorld, IsSound, HasOwnRoom, HasRoom, NeedsNoMore, MakesRoom, fields_of, rehearsal_of, seat_of}
 use Rattle.ct_world.proofs.Steps.Doing.{IsAllowedIn}
 use Rattle.ct_world.proofs.Basics.Rooms.{IsRoomier, world-roomier, same_set}
 
@@ -42,6 +42,17 @@ module _ {k new : Kept} (r : IsReserved k new) where
   pub reserved_sound : IsSound k → IsSound new
   reserved_sound sound = subst (λ w. IsWorld w (fields_of new)) (sym reserved_same) (world-roomier sound r.roomier)
 
+-- there is room for a step that was allowed
+pub ready_for : {k new : Kept} {room : Prepared} (r : IsReserved k new) → cause (rehearsal_of k) (step_in room) ≡ None →
+    vec_len new.steps < vec_capacity new.steps → new.network.has_room ≡ true → HasOwnRoom (rehearsal_of k) (fields_of new) room →
+    HasRoom new room
+ready_for {new = new} {room = room} r allowed for_step for_sending own = record {
+  allowed = ap (λ w. cause w (step_in room)) (reserved_same r) ∙ allowed;
+  for_step = for_step;
+  for_sending = for_sending;
+  for_itself = subst (λ w. HasOwnRoom w (fields_of new) room) (sym (reserved_same r)) own;
+}
+
 module _ {k new : Kept} {step : Step} (sound : IsSound k) (r : IsReserved k new) (allowed : cause (rehearsal_of k) step ≡ None) where
   -- the step is refused for want of memory
   pub no_memory : {refusal : Refusal} → refusal ≡ OutOfMemory → MakesRoom k step new (Err refusal)
@@ -59,12 +70,7 @@ module _ {k new : Kept} {step : Step} (sound : IsSound k) (r : IsReserved k new)
     sound = reserved_sound r sound;
     outcome = record {
       named = named;
-      ready = record {
-        allowed = ap (λ w. cause w (step_in room)) (reserved_same r) ∙ ap (cause (rehearsal_of k)) named ∙ allowed;
-        for_step = for_step;
-        for_sending = for_sending;
-        for_itself = subst (λ w. HasOwnRoom w (fields_of new) room) (sym (reserved_same r)) own;
-      };
+      ready = ready_for r (ap (cause (rehearsal_of k)) named ∙ allowed) for_step for_sending own;
     };
   }
 

@@ -8,19 +8,24 @@ use Rattle.ct_model.specs.Counted.{NamesSomebody}
 use Rattle.ct_model.specs.Lawful.{is_waiting}
 use Rattle.ct_model.specs.Next.{is_relayed}
 use Rattle.ct_model.specs.Rehearsal.{Rehearsal, state_of, extended}
-use Rattle.ct_model.specs.State.{member, at_serial}
+use Rattle.ct_model.specs.State.{Member, member, at_serial}
 use Rattle.ct_model.specs.Waiting.{without}
 use Rattle.ct_model.specs.declared.envelope.Envelope.{Envelope as AnyEnvelope}
+use Rattle.ct_model.specs.declared.wire.Wire.{Wire as AnyWire}
+use Rattle.ct_model.specs.declared.wire.Wire.TheVariants.{Data, Dec}
 use Rattle.ct_model.specs.declared.mail.Mail.{Mail as AnyMail}
 use Rattle.ct_model.specs.declared.mail.Mail.TheVariants.{Nobody, All}
 use Rattle.ct_model.proofs.Basics.Options.{some-same}
 use Rattle.ct_model.proofs.Steps.Receive.{receive_outcome, receive_outcome-is, receive_taken, receive_waits, cause-receive}
 use Rattle.ct_model.proofs.Record.Taken.{IsTaken}
+use Rattle.ct_names.specs.Value.{Value}
 use Rattle.ct_network.specs.Network.{NetworkView, line_at}
+use Rattle.ct_relay.specs.Taken.{is_first}
+use Rattle.ct_relay.specs.declared.relay_id.RelayId.TheVariants as id
 use Rattle.ct_instances.specs.Named.{NamesWire, NamesMail}
 use Rattle.ct_instances.proofs.Named.{named_all, named_sender, named_wire}
 use Rattle.ct_world.specs.declared.seat.Seat.{Seat}
-use Rattle.ct_world.specs.Seats.{HasReceived, CanReceive, is_passed_on, passed_on}
+use Rattle.ct_world.specs.Seats.{Content, HasReceived, CanReceive, Keeps, content, is_new, is_passed_on, passed_on}
 use Rattle.ct_world.specs.Kept.{Fields, IsWorld, IsActor, values_of, seat_of}
 use Rattle.ct_world.proofs.Steps.Doing.{IsAllowed}
 use Rattle.ct_world.proofs.Basics.Members.{seat-same}
@@ -105,3 +110,16 @@ pub receive_room : (seats : List Seat) (p : ℕ) (seat : Seat) {o : Option (AnyE
     o ≡ Some x → CanReceive seat x.wire → (y : AnyEnvelope ℕ) → o ≡ Some y → CanReceive (seat_of (set seats (p - 1) seat) p) y.wire
 receive_room seats p seat {x = x} within is can y e =
     rw (seat-same seats p seat within) (subst (λ (z : AnyEnvelope ℕ). CanReceive seat z.wire) (some-same x y (sym is ∙ e)) can)
+
+-- two seats that keep what one member has know the same
+pub new_same : {n : ℕ} {vs us : List Value} {p : ℕ} {m : Member} {one other : Seat} → Keeps n vs p m one → Keeps n us p m other →
+    (x : AnyWire ℕ) → is_new one.relay x ≡ is_new other.relay x
+new_same k l (Data m) = k.taken (id.Data m.origin m.number) ∙ sym (l.taken (id.Data m.origin m.number))
+new_same k l (Dec instance round v) = k.taken (id.Dec instance round) ∙ sym (l.taken (id.Dec instance round))
+new_same k l _ = refl
+
+-- whatever room there is
+pub new_roomier : (old new : Seat) → content new ≡ content old → (x : AnyWire ℕ) → is_new new.relay x ≡ is_new old.relay x
+new_roomier old new same (Data m) = ap (λ (c : Content). is_first c.seat.relay.ids (id.Data m.origin m.number)) same
+new_roomier old new same (Dec instance round v) = ap (λ (c : Content). is_first c.seat.relay.ids (id.Dec instance round)) same
+new_roomier old new same _ = refl

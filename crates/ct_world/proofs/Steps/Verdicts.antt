@@ -1,17 +1,19 @@
 -- Why a step is refused, as a call answers it.
 use Rattle.std.proofs.Common.{◌≡◌, Option, Some, refl, ap, sym, ◌∙◌, subst}
-use Rattle.std.specs.Prelude.{ℕ, Result, Ok, Err, IsErrAnd, IsOk, OnOk}
+use Rattle.std.specs.Prelude.{ℕ, Result, Ok, Err, IsErrAnd, IsOk, MatchResult, OnOk}
 use Rattle.std.proofs.lemmas.Result.{MatchResult-weaker}
 use Rattle.ct_names.specs.declared.refusal.Refusal.{Refusal}
 use Rattle.ct_model.specs.declared.step.Step.{Step}
+use Rattle.ct_model.specs.declared.step.Step.TheVariants.{Receive}
 use Rattle.ct_model.specs.Allowed.{IsAllowed}
 use Rattle.ct_model.specs.Cause.{cause}
 use Rattle.ct_model.specs.Lawful.{IsLawful}
 use Rattle.ct_model.specs.Rehearsal.{Rehearsal}
 use Rattle.ct_model.proofs.Basics.Options.{some-none}
 use Rattle.ct_model.proofs.Record.Allowed.{allowed-free, cause-allowed}
+use Rattle.ct_world.specs.declared.arrival.Arrival.{Arrival}
 use Rattle.ct_world.specs.declared.kept.Kept.{Kept}
-use Rattle.ct_world.specs.Kept.{IsFound, IsVerdict, rehearsal_of}
+use Rattle.ct_world.specs.Kept.{IsArrival, IsFound, IsVerdict, rehearsal_of}
 use Rattle.ct_world.specs.World.{verdict}
 
 -- the verdict on one refusal is that on another that is the same
@@ -45,3 +47,9 @@ pub not_found : (kept : Kept) (step : Step) (p k : ℕ) (r : Result ℕ Refusal)
     cause (rehearsal_of kept) step ≡ Some refusal → IsFound kept step p k r
 not_found kept step p k (Ok x) is h = absurd is
 not_found kept step p k (Err x) is h = h ∙ sym (ap Some is)
+
+pub not_arrived : (kept : Kept) (p k : ℕ) (r : Result Arrival Refusal) {refusal : Refusal} → IsErrAnd r (λ x. x ≡ refusal) →
+    cause (rehearsal_of kept) (Receive p k) ≡ Some refusal →
+    MatchResult r (IsArrival kept p k) (λ x. cause (rehearsal_of kept) (Receive p k) ≡ Some x)
+not_arrived kept p k (Ok x) is h = absurd is
+not_arrived kept p k (Err x) is h = h ∙ sym (ap Some is)

@@ -1,9 +1,9 @@
 //! Postpone: a serial moves to the end of its line. Lose: it leaves its line, and is not received.
 
 ghost use Rattle.ct_model.specs.Cause.{cause};
-ghost use Rattle.ct_world.specs.Kept.{Does, HasRoom, IsFound, IsSound, IsVerdict, MakesRoom, rehearsal_of};
+ghost use Rattle.ct_world.specs.Kept.{Does, DoesAtOnce, HasRoom, IsFound, IsSound, IsVerdict, MakesRoom, rehearsal_of};
 
-use super::preparing::join;
+use super::preparing::{join, reserve};
 use crate::kept::Kept;
 use crate::prepared::Prepared;
 use ct_model::Step;
@@ -55,6 +55,21 @@ impl Kept {
     {
         let place = self.find_waiting(member, serial)?;
         self.plain(Prepared::Lose(member, serial, place))
+    }
+
+    // Does a Postpone where it is allowed and memory is given.
+    #[inline(always)]
+    pub(super) fn postpone_at_once(
+        &mut self,
+        member: Member,
+        serial: Serial,
+    ) -> Result<u32, Refusal>
+        requires { IsSound self.old }
+        ensures { DoesAtOnce self.old (Step.Postpone member serial) self.new result }
+    {
+        let place = self.find_waiting(member, serial)?;
+        reserve(&mut self.steps, &mut self.network)?;
+        Ok(self.postpone(member, serial, place))
     }
 
     // Does a Postpone, which sends nothing.

@@ -35,6 +35,9 @@ pub(super) fn reserve(steps: &mut Vec<Step>, network: &mut Network) -> Result<()
     let Ok(()) = steps.reserve(1) else {
         return Err(Refusal::OutOfMemory);
     };
+    if network.has_room() {
+        return Ok(());
+    }
     match network.prepare() {
         Ok(()) => Ok(()),
         Err(_) => Err(Refusal::OutOfMemory),

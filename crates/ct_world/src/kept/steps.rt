@@ -1,9 +1,9 @@
 //! What is done for each kind of step: the test of whether it is allowed, and its two halves.
 
-ghost use Rattle.std.specs.Prelude.{◌≡◌, IfErr, IfOk, OnErr};
+ghost use Rattle.std.specs.Prelude.{◌≡◌, None, IfErr, IfOk, OnErr, OnOk};
 ghost use Rattle.ct_model.specs.Cause.{cause};
 ghost use Rattle.ct_world.specs.Kept.{HasRoom, IsSound, IsVerdict, MakesRoom, rehearsal_of};
-ghost use Rattle.ct_world.specs.Posting.{HasPosted, IsRefusedByBoard};
+ghost use Rattle.ct_world.specs.Posting.{HasPosted, IsRefusal, IsRefusedByBoard};
 ghost use Rattle.ct_world.specs.Prepared.{step_in};
 ghost use Rattle.ct_world.specs.World.{IsDone};
 
@@ -59,6 +59,30 @@ impl Kept {
             Step::Postpone(member, serial) => self.prepare_postpone(member, serial),
             Step::Lose(member, serial) => self.prepare_lose(member, serial),
             Step::Repeat(member, serial) => self.prepare_repeat(member, serial),
+        }
+    }
+
+    /// Does the step, as `make_room` and then `take`. The most frequent ones look at what they need once.
+    pub fn take_at_once(&mut self, board: &Board, step: &Step) -> Result<Effect, Refusal>
+        requires sound { IsSound self.old }
+        ensures allowed { OnOk result (cause (rehearsal_of self.old) step.now ≡ None) }
+        ensures done { IfOk result (λ effect. IsDone (rehearsal_of self.old) step.now (rehearsal_of self.new) effect.sent) }
+        ensures posted { IfOk result (λ effect. HasPosted board.now (rehearsal_of self.old) (rehearsal_of self.new) effect.receipt) }
+        ensures refusal { IfErr result (λ refusal. IsRefusal (rehearsal_of self.old) step.now refusal) }
+        ensures same { OnErr result (rehearsal_of self.new ≡ rehearsal_of self.old) }
+        ensures sound { IsSound self.new }
+    {
+        match *step {
+            Step::Receive(member, serial) => {
+                Ok(Effect::of(self.receive_at_once(member, serial)?))
+            }
+            Step::Postpone(member, serial) => {
+                Ok(Effect::of(self.postpone_at_once(member, serial)?))
+            }
+            _ => {
+                let room = self.make_room(step)?;
+                self.take(board, room)
+            }
         }
     }
 

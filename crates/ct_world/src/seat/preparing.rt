@@ -3,7 +3,7 @@
 ghost use Rattle.std.specs.Prelude.{◌≡◌, ◌+◌, ◌≤◌, true, take, IfOk, OnOk};
 ghost use Rattle.ct_abcast.specs.Cast.{undelivered};
 ghost use Rattle.ct_instances.specs.Kept.{has_room_open};
-ghost use Rattle.ct_world.specs.Seats.{CanReceive, content};
+ghost use Rattle.ct_world.specs.Seats.{CanReceive, content, is_new};
 
 use crate::seat::Seat;
 use ct_names::{MAX_INSTANCES, MsgSet};
@@ -11,12 +11,15 @@ use ct_rounds::Wire;
 use std::alloc::{AllocError, Global};
 
 impl Seat {
-    /// Room to receive the wire. A message or a decision that came before needs none at the relay.
-    pub fn prepare_receive(&mut self, wire: &Wire) -> Result<(), AllocError>
+    /// Room to receive the wire, which is new to the member or not. A message or a decision that came before needs none at
+    /// the relay.
+    #[inline(always)]
+    pub fn prepare_receive(&mut self, wire: &Wire, new: bool) -> Result<(), AllocError>
+        requires { new ≡ is_new self.old.relay wire.now }
         ensures same { content self.new ≡ content self.old }
         ensures ok { OnOk result (CanReceive self.new wire.now) }
     {
-        if self.is_new(wire) {
+        if new {
             self.relay.prepare()?;
             self.caster.prepare(1)?;
         }

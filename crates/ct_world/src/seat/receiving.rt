@@ -27,21 +27,24 @@ impl Seat {
         }
     }
 
-    /// Whether the member passes the wire on: it gets it for the first time, and didn't send it to all before.
-    pub fn passes_on(&self, group: Group, wire: &Wire) -> bool
+    /// Whether the member passes the wire on, which is new to it or not: it gets it for the first time, and didn't send it
+    /// to all before.
+    #[inline(always)]
+    pub fn passes_on(&self, group: Group, wire: &Wire, new: bool) -> bool
+        requires { new ≡ is_new self.now.relay wire.now }
         ensures { result ≡ is_passed_on group self.now.relay wire.now }
     {
         match *wire {
-            Wire::Data(message) => self.is_new(wire) && message.origin() != self.relay.me(),
-            Wire::Dec { round, .. } => {
-                self.is_new(wire) && group.coordinator(round) != self.relay.me()
-            }
+            Wire::Data(message) => new && message.origin() != self.relay.me(),
+            Wire::Dec { round, .. } => new && group.coordinator(round) != self.relay.me(),
             _ => false,
         }
     }
 
-    /// The member gets the wire, and answers what it sends.
-    pub fn receive(&mut self, group: Group, wire: Wire) -> Mail
+    /// The member gets the wire, which is new to it or not, and answers what it sends.
+    #[inline(always)]
+    pub fn receive(&mut self, group: Group, wire: Wire, new: bool) -> Mail
+        requires new { new ≡ is_new self.old.relay wire }
         requires room { CanReceive self.old wire }
         requires sender { NamesSomebody wire }
         ensures received { HasReceived self.old wire self.new }
@@ -49,12 +52,12 @@ impl Seat {
     {
         self.instances.note(&wire);
         let relay = match wire {
-            Wire::Data(message) => self.receive_message(message),
+            Wire::Data(message) => new && self.receive_message(message),
             Wire::Dec {
                 instance,
                 round,
                 ..
-            } => self.receive_decision(group, instance, round),
+            } => new && self.receive_decision(group, instance, round),
             _ => false,
         };
         if relay { Mail::All(wire) } else { Mail::Nobody }

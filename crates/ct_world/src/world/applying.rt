@@ -26,8 +26,7 @@ impl World {
         ensures safe { IsSafe self.new.rehearsal.setting (state_of self.new.rehearsal) }
     {
         self.prepared = None;
-        let room = self.kept.make_room(step)?;
-        self.kept.take(board, room)
+        self.kept.take_at_once(board, step)
     }
 
     /// Makes the room that the step needs. It refuses as `enabled`, or with OutOfMemory. Then, and not after a refusal,

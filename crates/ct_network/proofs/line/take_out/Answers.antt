@@ -1,31 +1,22 @@
-use Rattle.std.proofs.Common.{◌≡◌, ◌+◌, ◌<◌, ◌++◌, length, drop, take, remove, ℕ, ◌-◌, List, suc, ap, sym, ◌∙◌, arith, append_assoc}
-use Rattle.std.proofs.lemmas.List.{drop-drop, drop_at, take-take, length-drop, length-take-le}
+use Rattle.std.proofs.Common.{◌≡◌, ◌+◌, ◌-◌, ◌<◌, ◌++◌, length, drop, take, remove, ℕ, List, suc, refl, ap, sym, ◌∙◌, append_assoc, arith}
+use Rattle.std.specs.List.{copy_within}
+use Rattle.std.proofs.lemmas.List.{drop-drop, drop_at, length-take-le}
 use Rattle.ct_network.proofs.line.take_out.Goals as goal
 
--- after a rotation by one of the part from a on, n long, the rest lacks the part's last
-pulled : (xs ys : List ℕ) (a i n : ℕ) → a + i < length xs → n ≡ i + 1 →
-    ys ≡ drop (length (take n (drop a xs)) - 1) (take n (drop a xs)) ++ take (length (take n (drop a xs)) - 1) (take n (drop a xs)) →
-    drop (a + 1) (take a xs ++ (ys ++ drop n (drop a xs))) ≡ remove (drop a xs) i
-pulled xs ys a i n h en e =
-    let r : List ℕ = drop a xs in
-    let m : List ℕ = take n r in
-    let lr : length r ≡ length xs - a = length-drop a xs in
-    let lm : length m ≡ n = length-take-le n r (omega arith) in
-    let back : length m - 1 ≡ i = omega arith in
-    let ld : length (drop i m) ≡ 1 = length-drop i m ∙ omega arith in
-    let ys_is : ys ≡ drop i m ++ take i r = e ∙ ap (λ k. drop k m ++ take k m) back
-    ∙ ap (λ zs. drop i m ++ zs) (take-take i n r (omega arith)) in
-    sym (drop-drop 1 a (take a xs ++ (ys ++ drop n r)))
-    ∙ ap (drop 1) (drop_at (take a xs) (ys ++ drop n r) a (length-take-le a xs (omega arith)))
-    ∙ ap (λ zs. drop 1 (zs ++ drop n r)) ys_is
-    ∙ ap (drop 1) (append_assoc (drop i m) (take i r) (drop n r))
-    ∙ drop_at (drop i m) (take i r ++ drop n r) 1 ld
-    ∙ (let next : n ≡ suc i = omega arith in ap (λ k. take i r ++ drop k r) next)
+-- what stands behind the place a, once the i before its i-th were copied one place on
+pulled : (xs : List ℕ) (a i j : ℕ) → a + i < length xs → j ≡ a + i → drop (a + 1) (copy_within xs a j (a + 1)) ≡ remove (drop a xs) i
+pulled xs a i j h end =
+    let back : j - a ≡ i = omega (arith, end) in
+    let place : a + 1 + i ≡ a + suc i = omega arith in
+    ap (drop (a + 1)) (append_assoc (take (a + 1) xs) (take (j - a) (drop a xs)) (drop (a + 1 + (j - a)) xs))
+    ∙ ap (λ k. drop (a + 1) (take (a + 1) xs ++ (take k (drop a xs) ++ drop (a + 1 + k) xs))) back
+    ∙ drop_at (take (a + 1) xs) (take i (drop a xs) ++ drop (a + 1 + i) xs) (a + 1) (length-take-le (a + 1) xs (omega (arith, h)))
+    ∙ ap (λ k. take i (drop a xs) ++ drop k xs) place
+    ∙ ap (λ zs. take i (drop a xs) ++ zs) (sym (drop-drop (suc i) a xs))
 
 pub returns-then-at-gt0 : goal.returns-then-at-gt0
-returns-then-at-gt0 c = pulled c.args.kept.now c.rotate_right.new.self c.args.start c.args.at
-    (c.args.start + c.args.at + 1 - c.args.start) c.requires
-    (omega arith) c.rotate_right.ensures.after
+returns-then-at-gt0 c = ap (drop (c.args.start + 1)) c.copy_within.ensures.after
+    ∙ pulled c.args.kept.now c.args.start c.args.at (c.args.start + c.args.at) c.requires refl
 
 pub returns-else-at-gt0 : goal.returns-else-at-gt0
 returns-else-at-gt0 c =
