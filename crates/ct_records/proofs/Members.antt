@@ -1,5 +1,6 @@
 -- From the lexemes of an object's members to what the object says.
-use Rattle.std.proofs.Common.{◌≡◌, ℕ, ◌<◌, ◌≤◌, ◌^◌, true, List, [], ◌∷◌, ◌++◌, length, codes, decimal, Option, Some, None, Ok, refl, sym, ap, ◌∙◌}
+use Rattle.std.proofs.Common.{◌≡◌, ℕ, ◌<◌, ◌≤◌, ◌^◌, true, List, [], ◌∷◌, ◌++◌, length, codes, decimal, Option, Some, None, Ok, refl}
+use Rattle.std.proofs.Common.{sym, ap, ◌∙◌}
 use Rattle.std.proofs.Common.{arith, append_assoc, append-nil, inl, inr, ne_eqb, false, subst}
 use Rattle.std.specs.Prelude.{◌⊎◌, All, option_map, option_and_then}
 use Rattle.std.specs.Str.{IsUtf8}
@@ -7,12 +8,12 @@ use Rattle.json.specs.Token as json
 use Rattle.json.specs.Token.{begin_object, end_object, begin_array, end_array, string}
 use Rattle.json.specs.Json as tree
 use Rattle.json.specs.Lex.{Lexeme, token, comma, colon, Place, fresh, after_comma, after_key, after_value, may_begin, punctuate, tokens}
-use Rattle.json.specs.Tree.{json_tokens, items_tokens, members_tokens, members_depth}
+use Rattle.json.specs.Tree.{json_tokens, items_tokens, members_tokens}
 use Rattle.json.specs.Word.{ends_word}
 use Rattle.json.proofs.OnLiterals.{json_on_literals}
 use Rattle.json.proofs.Printed.Trees.{value-json_tokens}
 use Rattle.serde_json.specs.Data.{array, number, object, Members, no_members}
-use Rattle.serde_json.specs.Read.{read, of_json, of_members}
+use Rattle.serde_json.specs.Read.{read, of_json}
 use Rattle.serde_json.specs.Written.{outline, items_outline}
 use Rattle.serde_json.proofs.Numbers.{number_of-decimal}
 use Rattle.ct_names.specs.declared.limit.TheConstants.{MAX_BOUND}

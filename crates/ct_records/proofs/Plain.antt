@@ -18,12 +18,12 @@ use Rattle.json.proofs.Printed.Numbers.{lex-number}
 use Rattle.json.proofs.Printed.Strings.{content-escape, lex-escape}
 use Rattle.ct_names.specs.declared.command.Command.{Command}
 use Rattle.ct_model.specs.declared.step.Step.{Step}
-use Rattle.ct_model.specs.declared.step.Step.TheVariants.{Receive}
+use Rattle.ct_model.specs.declared.step.Step.TheVariants.{Postpone, Receive}
 use Rattle.ct_model.specs.StepText as steps
 use Rattle.ct_model.specs.StepText.{Number, Rest, nothing, command, Entry, amount, largest, command_entry, step_entry}
 use Rattle.ct_records.specs.Fits.{CommandFits, StepFits}
-use Rattle.ct_records.specs.Plain.{lexemes, number_lexeme, command_lexemes, step_lexemes, receive_lexemes, comma_if, steps_lexemes}
-use Rattle.ct_records.specs.Plain.{Begins, IsPlain, Continues}
+use Rattle.ct_records.specs.Plain.{lexemes, number_lexeme, command_lexemes, step_lexemes, named_lexemes, pair_lexemes}
+use Rattle.ct_records.specs.Plain.{comma_if, steps_lexemes, Begins, IsPlain, Continues}
 use Rattle.ct_records.specs.Script.{named, fits, rest_fits, commands, named_command, alone, with_number, with_command}
 use Rattle.ct_records.specs.Script.{short_step, numbered_step, commanded_step}
 use Rattle.ct_records.proofs.Names.{step_name, command_name}
@@ -276,22 +276,38 @@ receive_first : (r : List ℕ) → lexemes (codes "\"receive\"" ++ r) ≡ token 
 unfolding json_on_literals
 receive_first r = word_first (codes "receive") (codes "\"receive\"" ++ r) r refl refl
 
-pub receive_compact : (bytes r : List ℕ) → bytes ≡ codes "[\"receive\"," ++ r → lexemes bytes ≡ receive_lexemes (lexemes r)
+pub receive_compact : (bytes r : List ℕ) → bytes ≡ codes "[\"receive\"," ++ r →
+    lexemes bytes ≡ named_lexemes (codes "receive") (lexemes r)
 unfolding lex
 receive_compact bytes r is = ap lexemes is ∙ ap (λ l. token begin_array ∷ l) (receive_first (44 ∷ r))
 
+postpone_first : (r : List ℕ) → lexemes (codes "\"postpone\"" ++ r) ≡ token (string (codes "postpone")) ∷ lexemes r
+unfolding json_on_literals
+postpone_first r = word_first (codes "postpone") (codes "\"postpone\"" ++ r) r refl refl
+
+postpone_compact : (bytes r : List ℕ) → bytes ≡ codes "[\"postpone\"," ++ r →
+    lexemes bytes ≡ named_lexemes (codes "postpone") (lexemes r)
+unfolding lex
+postpone_compact bytes r is = ap lexemes is ∙ ap (λ l. token begin_array ∷ l) (postpone_first (44 ∷ r))
+
 pub receive_spaced : (bytes a t b after : List ℕ) → Begins bytes 91 a → lexemes a ≡ lexemes t → t ≡ codes "\"receive\"" ++ b →
-    Begins b 44 after → lexemes bytes ≡ receive_lexemes (lexemes after)
+    Begins b 44 after → lexemes bytes ≡ named_lexemes (codes "receive") (lexemes after)
 receive_spaced bytes a t b after h0 same is h1 =
     let name : lexemes a ≡ token (string (codes "receive")) ∷ lexemes b = same ∙ ap lexemes is ∙ receive_first b in
     rw (opens bytes a h0, name, commas b after h1) refl
 
-pub receipt_lexed : (p n : ℕ) (bytes d e f g after : List ℕ) → lexemes bytes ≡ receive_lexemes (lexemes d) →
-    (ends_word e ≡ true → lexemes d ≡ number_lexeme p ∷ lexemes e) → Begins e 44 f →
-    (ends_word g ≡ true → lexemes f ≡ number_lexeme n ∷ lexemes g) → Begins g 93 after →
-    lexemes bytes ≡ step_lexemes (Receive p n) (lexemes after)
-receipt_lexed p n bytes d e f g after h0 h1 h2 h3 h4 =
-    rw (h0, h1 (h2.ends refl), commas e f h2, h3 (h4.ends refl), closes g after h4) refl
+pub pair_lexed : (p n : ℕ) (bytes e f g after : List ℕ) → (ends_word e ≡ true → lexemes bytes ≡ number_lexeme p ∷ lexemes e) →
+    Begins e 44 f → (ends_word g ≡ true → lexemes f ≡ number_lexeme n ∷ lexemes g) → Begins g 93 after →
+    lexemes bytes ≡ pair_lexemes p n (lexemes after)
+pair_lexed p n bytes e f g after h0 h1 h2 h3 = rw (h0 (h1.ends refl), commas e f h1, h2 (h3.ends refl), closes g after h3) refl
+
+pub receive_lexed : (p n : ℕ) (bytes after : List ℕ) → lexemes bytes ≡ pair_lexemes p n (lexemes after) →
+    named_lexemes (codes "receive") (lexemes bytes) ≡ step_lexemes (Receive p n) (lexemes after)
+receive_lexed p n bytes after is = rw is refl
+
+pub postpone_lexed : (p n : ℕ) (bytes d after : List ℕ) → bytes ≡ codes "[\"postpone\"," ++ d →
+    lexemes d ≡ pair_lexemes p n (lexemes after) → lexemes bytes ≡ step_lexemes (Postpone p n) (lexemes after)
+postpone_lexed p n bytes d after h0 h1 = postpone_compact bytes d h0 ∙ rw h1 refl
 
 pub step_fits : (name : List ℕ) (p : ℕ) (s : Step) (bytes after : List ℕ) → p ≤ 255 → Continues name p bytes s after → StepFits s
 step_fits name p s bytes after small is = (rw is.of_member small, is.fits)

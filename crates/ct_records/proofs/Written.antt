@@ -127,7 +127,7 @@ record_is false version w is h =
 -- ---- the whole
 
 -- every step is one of version 3
-is_known : (s : Step) → since s ≤ 3
+pub is_known : (s : Step) → since s ≤ 3
 is_known (Follow p) = omega arith
 is_known _ = omega arith
 

@@ -47,9 +47,13 @@ rest_lexemes (command c) after = comma ∷ command_lexemes c after
 abbrev pub step_lexemes : Step → List Lexeme → List Lexeme
 step_lexemes s after = entry_lexemes (step_entry s).name (step_entry s).first (rest_lexemes (step_entry s).rest (token end_array ∷ after))
 
--- the bracket, the name of a Receive and the comma behind it
-abbrev pub receive_lexemes : List Lexeme → List Lexeme
-receive_lexemes after = token begin_array ∷ token (string (codes "receive")) ∷ comma ∷ after
+-- the bracket, a name and the comma behind it
+abbrev pub named_lexemes : List ℕ → List Lexeme → List Lexeme
+named_lexemes name after = token begin_array ∷ token (string name) ∷ comma ∷ after
+
+-- two numbers, and the bracket behind them
+abbrev pub pair_lexemes : ℕ → ℕ → List Lexeme → List Lexeme
+pair_lexemes p n after = number_lexeme p ∷ comma ∷ number_lexeme n ∷ token end_array ∷ after
 
 abbrev pub comma_if : Bool → List Lexeme → List Lexeme
 comma_if later after = if later then comma ∷ after else after

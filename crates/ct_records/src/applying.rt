@@ -11,7 +11,7 @@ ghost use Rattle.ct_records.specs.Script.{script};
 
 use crate::naming::is;
 use crate::parts::Numbers;
-use crate::quick::{KEYS, amount, behind, behind_another, closes, key, named_step, receipt};
+use crate::quick::{KEYS, amount, any_step, behind, behind_another, closes, key, postponement, receipt};
 use crate::reading::MAX_LEN;
 use ct_model::Step;
 use ct_names::{Group, MAX_BOUND, MAX_CELLS, MAX_MEMBERS, MAX_STEPS};
@@ -147,8 +147,11 @@ fn next_step(bytes: &[u8], later: bool) -> Option<(Step, &[u8])>
     ensures fits { IfSome result (λ r. StepFits r.0) }
 {
     let start = behind_another(bytes, later)?;
-    if let Some(receive) = receipt(start) {
-        return Some(receive);
+    if let Some(received) = receipt(start) {
+        return Some(received);
     }
-    named_step(start)
+    if let Some(postponed) = postponement(start) {
+        return Some(postponed);
+    }
+    any_step(start)
 }

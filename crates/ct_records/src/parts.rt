@@ -10,7 +10,7 @@ ghost use Rattle.ct_records.specs.View.{rehearsal_of};
 
 use crate::naming::is;
 use crate::script::Script;
-use crate::version::{BOUNDED, FIRST, since};
+use crate::version::{BOUNDED, FIRST, LATEST, since};
 use ct_model::Step;
 use ct_names::{Group, MAX_BOUND, MAX_CELLS, MAX_MEMBERS};
 use ct_world::World;
@@ -75,7 +75,7 @@ impl Numbers {
         if cells != u64::from(world.cells()) || n != u64::from(world.group().n()) {
             return false;
         }
-        batch == world.bound() && has_all(version, world.record())
+        batch == world.bound() && knows(version, world.record())
     }
 }
 
@@ -122,7 +122,7 @@ impl Parts {
         let cells = self.numbers.cells?;
         let n = self.numbers.n?;
         let steps = self.steps?;
-        if cells > MAX_CELLS as u64 || n > MAX_MEMBERS as u64 || !has_all(version, &steps) {
+        if cells > MAX_CELLS as u64 || n > MAX_MEMBERS as u64 || !knows(version, &steps) {
             return None;
         }
         Some(Script {
@@ -147,7 +147,17 @@ fn bound(version: u64, named: Option<u64>) -> Option<u32>
     }
 }
 
-// Whether records of the version have each of the steps.
+// Whether records of the version have each of the steps. The last version has every step.
+fn knows(version: u64, steps: &[Step]) -> bool
+    ensures { IsTrue result → All (λ s. since s ≤ version) steps.now }
+{
+    if version == LATEST {
+        return true;
+    }
+    has_all(version, steps)
+}
+
+// The same, step by step.
 fn has_all(version: u64, steps: &[Step]) -> bool
     ensures { IsTrue result → All (λ s. since s ≤ version) steps.now }
 {

@@ -6,7 +6,8 @@ ghost use Rattle.json.specs.Lex.{token, comma, colon};
 ghost use Rattle.json.specs.Token.{begin_array, end_array, end_object, string};
 ghost use Rattle.json.specs.Word.{ends_word, is_space};
 ghost use Rattle.ct_records.specs.Fits.{CommandFits, StepFits};
-ghost use Rattle.ct_records.specs.Plain.{lexemes, number_lexeme, command_lexemes, step_lexemes, receive_lexemes, comma_if, steps_lexemes};
+ghost use Rattle.ct_records.specs.Plain.{lexemes, number_lexeme, command_lexemes, step_lexemes, named_lexemes, pair_lexemes};
+ghost use Rattle.ct_records.specs.Plain.{comma_if, steps_lexemes};
 ghost use Rattle.ct_records.specs.Plain.{Begins, IsPlain, Continues, HasNext, PartsFit, StepsFit, Takes, Closes, members_of};
 ghost use Rattle.ct_records.specs.Script.{max_len, script};
 ghost use Rattle.ct_records.specs.View.{rehearsal_of};
@@ -15,7 +16,7 @@ use crate::naming::{BYTE, SERIAL, commanded_step, named_command, numbered_step, 
 use crate::parts::{Numbers, Parts};
 use crate::script::Script;
 use ct_model::Step;
-use ct_names::{Command, MAX_STEPS, Member};
+use ct_names::{Command, MAX_STEPS, Member, Serial};
 use std::alloc::{AllocError, Global};
 
 /// How many keys a record has at most.
@@ -134,7 +135,39 @@ fn trimmed(bytes: &[u8]) -> &[u8]
 {
     match bytes {
         [first, ..] if *first > b' ' => bytes,
-        _ => past_spaces(bytes),
+        _ => past_white(bytes),
+    }
+}
+
+// The same where the first byte is white space. Most often it is one space.
+#[inline(always)]
+fn past_white(bytes: &[u8]) -> &[u8]
+    ensures same { lexemes bytes.now ≡ lexemes result.now }
+    ensures ends { ends_word result.now ≡ true → ends_word bytes.now ≡ true }
+{
+    match behind_one_space(bytes) {
+        Some(rest) => rest,
+        None => past_spaces(bytes),
+    }
+}
+
+// What follows a space, where no white space stands behind it.
+#[inline(always)]
+fn behind_one_space(bytes: &[u8]) -> Option<&[u8]>
+    ensures { IfSome result (λ rest. bytes.now ≡ 32 ∷ rest.now) }
+{
+    match bytes {
+        [b' ', rest @ ..] if begins_with_mark(rest) => Some(rest),
+        _ => None,
+    }
+}
+
+// Whether the first byte is no white space.
+#[inline(always)]
+fn begins_with_mark(bytes: &[u8]) -> bool {
+    match bytes {
+        [first, ..] => *first > b' ',
+        [] => false,
     }
 }
 
@@ -199,26 +232,15 @@ pub(crate) fn behind(bytes: &[u8], byte: u8) -> Option<&[u8]>
 fn behind_spaces(bytes: &[u8], byte: u8) -> Option<&[u8]>
     ensures { IfSome result (λ rest. Begins bytes.now byte rest.now) }
 {
-    match past_spaces(bytes) {
+    match past_white(bytes) {
         [first, rest @ ..] if *first == byte => Some(rest),
         _ => None,
     }
 }
 
-// What follows the name of a Receive and the comma behind it.
+// What follows the name of a Receive and the comma behind it, without white space.
 #[inline(always)]
 fn behind_receive(bytes: &[u8]) -> Option<&[u8]>
-    ensures { IfSome result (λ rest. lexemes bytes.now ≡ receive_lexemes (lexemes rest.now)) }
-{
-    match behind_compact_receive(bytes) {
-        Some(rest) => Some(rest),
-        None => behind_spaced_receive(bytes),
-    }
-}
-
-// The same without white space.
-#[inline(always)]
-fn behind_compact_receive(bytes: &[u8]) -> Option<&[u8]>
     ensures { IfSome result (λ rest. bytes.now ≡ codes "[\"receive\"," ++ rest.now) }
 {
     match bytes {
@@ -240,10 +262,35 @@ fn behind_compact_receive(bytes: &[u8]) -> Option<&[u8]>
     }
 }
 
-// The same with white space between any tokens.
-#[inline(never)]
+// The same of a Postpone.
+#[inline(always)]
+fn behind_postpone(bytes: &[u8]) -> Option<&[u8]>
+    ensures { IfSome result (λ rest. bytes.now ≡ codes "[\"postpone\"," ++ rest.now) }
+{
+    match bytes {
+        [
+            b'[',
+            b'"',
+            b'p',
+            b'o',
+            b's',
+            b't',
+            b'p',
+            b'o',
+            b'n',
+            b'e',
+            b'"',
+            b',',
+            rest @ ..,
+        ] => Some(rest),
+        _ => None,
+    }
+}
+
+// What follows the name of a Receive and the comma behind it, with white space between any tokens.
+#[inline(always)]
 fn behind_spaced_receive(bytes: &[u8]) -> Option<&[u8]>
-    ensures { IfSome result (λ rest. lexemes bytes.now ≡ receive_lexemes (lexemes rest.now)) }
+    ensures { IfSome result (λ rest. lexemes bytes.now ≡ named_lexemes (codes "receive") (lexemes rest.now)) }
 {
     let rest = behind(bytes, b'[')?;
     let rest = behind_name(trimmed(rest))?;
@@ -270,8 +317,8 @@ fn behind_name(bytes: &[u8]) -> Option<&[u8]>
     }
 }
 
-// Adds the next step, behind a comma where another stands before it, and answers what follows it. Most steps are receipts:
-// each way ends by its own push, so that these stay in registers.
+// Adds the next step, behind a comma where another stands before it, and answers what follows it. Most steps are receipts
+// and postponements: each way ends by its own push, so that these stay in registers.
 #[inline(always)]
 fn add_step<'a>(
     steps: &mut Vec<Step>,
@@ -287,42 +334,87 @@ fn add_step<'a>(
         steps.push(step)?;
         return Ok(Some(rest));
     }
-    let Some((step, rest)) = named_step(start) else {
+    if let Some((step, rest)) = postponement(start) {
+        steps.push(step)?;
+        return Ok(Some(rest));
+    }
+    let Some((step, rest)) = any_step(start) else {
         return Ok(None);
     };
     steps.push(step)?;
     Ok(Some(rest))
 }
 
-/// What follows the comma, where another step stands before this one.
+/// Where another step stands before this one, what follows the comma and the white space behind it.
 #[inline(always)]
 pub(crate) fn behind_another(bytes: &[u8], later: bool) -> Option<&[u8]>
     ensures { IfSome result (λ rest. lexemes bytes.now ≡ comma_if later (lexemes rest.now)) }
 {
-    if later {
-        behind(bytes, b',')
-    } else {
-        Some(bytes)
+    if !later {
+        return Some(bytes);
     }
+    let rest = behind(bytes, b',')?;
+    Some(trimmed(rest))
 }
 
-/// A Receive.
+/// A Receive, without white space up to its member.
 #[inline(always)]
 pub(crate) fn receipt(bytes: &[u8]) -> Option<(Step, &[u8])>
     ensures text { IfSome result (λ r. lexemes bytes.now ≡ step_lexemes r.0 (lexemes r.1.now)) }
     ensures fits { IfSome result (λ r. StepFits r.0) }
 {
     let rest = behind_receive(bytes)?;
-    let (p, rest) = amount(rest, BYTE)?;
-    let rest = behind(rest, b',')?;
-    let (serial, rest) = amount(rest, SERIAL)?;
-    let step = Step::Receive(p as u8, serial as u32);
-    Some((step, behind(rest, b']')?))
+    received(rest)
+}
+
+/// A Postpone, without white space up to its member.
+#[inline(always)]
+pub(crate) fn postponement(bytes: &[u8]) -> Option<(Step, &[u8])>
+    ensures text { IfSome result (λ r. lexemes bytes.now ≡ step_lexemes r.0 (lexemes r.1.now)) }
+    ensures fits { IfSome result (λ r. StepFits r.0) }
+{
+    let rest = behind_postpone(bytes)?;
+    let (p, serial, rest) = member_and_serial(rest)?;
+    Some((Step::Postpone(p, serial), rest))
 }
 
 /// Any step.
 #[inline(never)]
-pub(crate) fn named_step(bytes: &[u8]) -> Option<(Step, &[u8])>
+pub(crate) fn any_step(bytes: &[u8]) -> Option<(Step, &[u8])>
+    ensures text { IfSome result (λ r. lexemes bytes.now ≡ step_lexemes r.0 (lexemes r.1.now)) }
+    ensures fits { IfSome result (λ r. StepFits r.0) }
+{
+    if let Some(rest) = behind_spaced_receive(bytes) {
+        return received(rest);
+    }
+    named_step(bytes)
+}
+
+// The Receive behind its name.
+#[inline(always)]
+fn received(bytes: &[u8]) -> Option<(Step, &[u8])>
+    ensures text { IfSome result (λ r. named_lexemes (codes "receive") (lexemes bytes.now) ≡ step_lexemes r.0 (lexemes r.1.now)) }
+    ensures fits { IfSome result (λ r. StepFits r.0) }
+{
+    let (p, serial, rest) = member_and_serial(bytes)?;
+    Some((Step::Receive(p, serial), rest))
+}
+
+// A member, a comma and a serial, and what follows the bracket behind these.
+#[inline(always)]
+fn member_and_serial(bytes: &[u8]) -> Option<(Member, Serial, &[u8])>
+    ensures { IfSome result (λ r. lexemes bytes.now ≡ pair_lexemes r.0 r.1 (lexemes r.2.now)) }
+{
+    let (p, rest) = amount(bytes, BYTE)?;
+    let rest = behind(rest, b',')?;
+    let (serial, rest) = amount(rest, SERIAL)?;
+    let rest = behind(rest, b']')?;
+    Some((p as u8, serial as u32, rest))
+}
+
+// The step of any name.
+#[inline(always)]
+fn named_step(bytes: &[u8]) -> Option<(Step, &[u8])>
     ensures text { IfSome result (λ r. lexemes bytes.now ≡ step_lexemes r.0 (lexemes r.1.now)) }
     ensures fits { IfSome result (λ r. StepFits r.0) }
 {

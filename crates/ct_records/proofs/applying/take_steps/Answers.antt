@@ -2,7 +2,7 @@ use Rattle.std.proofs.Common.{◌∷◌, [], ◌∙◌, false, refl, sym, ap, ar
 use Rattle.std.specs.Prelude.{nat_lt}
 use Rattle.json.specs.Lex.{token}
 use Rattle.json.specs.Token.{begin_array}
-use Rattle.ct_records.specs.Plain.{IsStep, steps_lexemes}
+use Rattle.ct_records.specs.Plain.{steps_lexemes}
 use Rattle.ct_records.proofs.Allowed.{allowed_more}
 use Rattle.ct_records.proofs.Fitting.{fit_push}
 use Rattle.ct_records.proofs.Plain.{steps_joined, opens, closes}

@@ -11,4 +11,5 @@ loop-preserved c = λ start steps past.
 
 pub returns-then-closes : goal.returns-then-closes
 returns-then-closes c = λ start steps past.
-    past_end start _ _ (c.loop.invariant start steps past) (c.closes.ensures.lexemes c.if-closes.true) (c.closes.ensures.ends c.if-closes.true)
+    past_end start _ _ (c.loop.invariant start steps past) (c.closes.ensures.lexemes c.if-closes.true)
+    (c.closes.ensures.ends c.if-closes.true)

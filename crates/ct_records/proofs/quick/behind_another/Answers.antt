@@ -1,5 +1,7 @@
-use Rattle.ct_records.proofs.Plain.{if_some, commas}
+use Rattle.std.proofs.Common.{◌∙◌, ◌∷◌, ap}
+use Rattle.json.specs.Lex.{comma}
+use Rattle.ct_records.proofs.Plain.{commas}
 use Rattle.ct_records.proofs.quick.behind_another.Goals as goal
 
-pub returns-then-later : goal.returns-then-later
-returns-then-later c = rw c.if-later.true (if_some _ _ c.behind.result (λ rest h. commas _ _ h) c.behind.ensures)
+pub returns : goal.returns
+returns c = rw c.if-not-later.false (commas c.args.bytes.now _ c.in_ok-rest.ensures ∙ ap (λ l. comma ∷ l) c.trimmed.ensures.same)

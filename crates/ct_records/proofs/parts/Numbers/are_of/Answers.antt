@@ -17,7 +17,7 @@ returns-then-batch-bound c = λ holds.
     let batch : c.in-Some-bound.batch ≡ w.setting.bound = cc in
     parts_say p.batch p.cells p.n p.version (Some w.steps) version w c.in-Some.is (c.in-Some-cells.is ∙ ap (λ x. Some x) cells)
     (c.in-Some-n.is ∙ ap (λ x. Some x) n) refl (subst (IsBound version p.batch) batch c.in-Some-bound.ensures)
-    (subst (All (λ s. since s ≤ version)) c.record.ensures.value (c.has_all.ensures holds)) (record {
+    (subst (All (λ s. since s ≤ version)) c.record.ensures.value (c.knows.ensures holds)) (record {
       some_members = omega (arith, c.n.ensures.at_least_one);
       few_members = omega (arith, c.n.ensures.at_most);
       some_bound = omega (arith, c.bound-2.ensures.some, c.bound-2.ensures.value);

@@ -13,9 +13,10 @@ returns c =
       steps = c.in_ok-steps.steps.items;
     } in
     let fits = rw c.in_ok-steps.was at c.requires in
-    let all = parts_say p.numbers.batch p.numbers.cells p.numbers.n p.numbers.version (option_map (λ steps. steps.items) p.steps) c.in_ok-version.version w
+    let all = parts_say p.numbers.batch p.numbers.cells p.numbers.n p.numbers.version (option_map (λ steps. steps.items) p.steps)
+    c.in_ok-version.version w
     c.in_ok-version.was c.in_ok-cells.was c.in_ok-n.was (ap (option_map (λ steps. steps.items)) c.in_ok-steps.was) c.in_ok-batch.ensures
-    (rw c.deref.ensures.value at (c.has_all.ensures c.if-not-has_all.false)) (record {
+    (rw c.deref.ensures.value at (c.knows.ensures c.if-not-knows.false)) (record {
       some_members = grind arith;
       few_members = grind arith;
       some_bound = c.in_ok-batch.ensures.some;
