@@ -1,5 +1,5 @@
 -- The text of a record with a line end behind it says that record.
-use Rattle.std.proofs.Common.{◌≡◌, ℕ, ◌+◌, ◌*◌, ◌≤◌, List, [], ◌∷◌, ◌++◌, length, codes, decimal, Some, None, Ok, refl, sym, ap, ◌∙◌}
+use Rattle.std.proofs.Common.{◌≡◌, ℕ, ◌+◌, ◌*◌, List, [], ◌∷◌, ◌++◌, length, codes, decimal, Some, None, Ok, refl, sym, ap, ◌∙◌}
 use Rattle.std.proofs.Common.{arith, append_assoc, inl, inr}
 use Rattle.std.proofs.lemmas.Fmt.{decimal_digit}
 use Rattle.json.specs.Lex.{token}
@@ -7,12 +7,10 @@ use Rattle.json.specs.Word.{ends_word}
 use Rattle.json.specs.Token.{end_object}
 use Rattle.json.proofs.OnLiterals.{json_on_literals}
 use Rattle.serde_json.specs.Data.{Members, no_members}
-use Rattle.ct_model.specs.declared.step.Step.{Step}
-use Rattle.ct_model.specs.declared.step.Step.TheVariants.{Follow}
 use Rattle.ct_model.specs.Rehearsal.{Rehearsal}
 use Rattle.ct_records.specs.Fits.{IsStorable}
 use Rattle.ct_records.specs.Plain.{lexemes, Begins, Closes, members_from}
-use Rattle.ct_records.specs.Script.{script, since}
+use Rattle.ct_records.specs.Script.{script}
 use Rattle.ct_records.specs.Text.{steps_text, record_text}
 use Rattle.ct_records.proofs.Keys.{adds_batch, adds_cells, adds_n, adds_steps, adds_version}
 use Rattle.ct_records.proofs.Lengths as lengths
@@ -20,7 +18,7 @@ use Rattle.ct_records.proofs.Lengths.{Text}
 use Rattle.ct_records.proofs.Members.{so_far_none, so_far_more, so_far_end, takes_number, takes_steps, plain_script, parts_say}
 use Rattle.ct_records.proofs.Plain.{object_ends, space_skipped}
 use Rattle.ct_records.proofs.Stored.{steps_width}
-use Rattle.ct_records.proofs.Written.{round_trip}
+use Rattle.ct_records.proofs.Written.{is_known, round_trip}
 use Rattle.ct_replay.specs.Front.{IsWholeOf}
 use Rattle.ct_replay.proofs.Lexed.{comma_first, key_first, value_first, list_first}
 
@@ -79,11 +77,6 @@ all_members w r h none =
     (adds_version (codes "version") 3 (Some b) (Some c) (Some n) (Some w.steps) None refl)) (closes_object r none) refl
 
 -- ---- the whole
-
--- every step is one of version 3
-is_known : (s : Step) → since s ≤ 3
-is_known (Follow p) = omega arith
-is_known _ = omega arith
 
 -- a record that is written, and what follows it
 split : (a b c d e f g h i r : List ℕ) → (a ++ (b ++ (c ++ (d ++ (e ++ (f ++ (g ++ (h ++ i)))))))) ++ r
