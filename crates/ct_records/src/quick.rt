@@ -151,6 +151,27 @@ fn past_white(bytes: &[u8]) -> &[u8]
     }
 }
 
+// What follows one space, where one stands there.
+#[inline(always)]
+fn past_space(bytes: &[u8]) -> &[u8]
+    ensures { lexemes bytes.now ≡ lexemes result.now }
+{
+    match behind_space(bytes) {
+        Some(rest) => rest,
+        None => bytes,
+    }
+}
+
+#[inline(always)]
+fn behind_space(bytes: &[u8]) -> Option<&[u8]>
+    ensures { IfSome result (λ rest. bytes.now ≡ 32 ∷ rest.now) }
+{
+    match bytes {
+        [b' ', rest @ ..] => Some(rest),
+        _ => None,
+    }
+}
+
 // What follows a space, where no white space stands behind it.
 #[inline(always)]
 fn behind_one_space(bytes: &[u8]) -> Option<&[u8]>
@@ -225,6 +246,17 @@ pub(crate) fn behind(bytes: &[u8], byte: u8) -> Option<&[u8]>
         [first, rest @ ..] if *first == byte => Some(rest),
         [first, ..] if *first > b' ' => None,
         _ => behind_spaces(bytes, byte),
+    }
+}
+
+// The same without white space.
+#[inline(always)]
+fn right_behind(bytes: &[u8], byte: u8) -> Option<&[u8]>
+    ensures { IfSome result (λ rest. Begins bytes.now byte rest.now) }
+{
+    match bytes {
+        [first, rest @ ..] if *first == byte => Some(rest),
+        _ => None,
     }
 }
 
@@ -357,24 +389,25 @@ pub(crate) fn behind_another(bytes: &[u8], later: bool) -> Option<&[u8]>
     Some(trimmed(rest))
 }
 
-/// A Receive, without white space up to its member.
+/// A Receive, without white space but for one space before a number.
 #[inline(always)]
 pub(crate) fn receipt(bytes: &[u8]) -> Option<(Step, &[u8])>
     ensures text { IfSome result (λ r. lexemes bytes.now ≡ step_lexemes r.0 (lexemes r.1.now)) }
     ensures fits { IfSome result (λ r. StepFits r.0) }
 {
     let rest = behind_receive(bytes)?;
-    received(rest)
+    let (p, serial, rest) = close_pair(rest)?;
+    Some((Step::Receive(p, serial), rest))
 }
 
-/// A Postpone, without white space up to its member.
+/// A Postpone, without white space but for one space before a number.
 #[inline(always)]
 pub(crate) fn postponement(bytes: &[u8]) -> Option<(Step, &[u8])>
     ensures text { IfSome result (λ r. lexemes bytes.now ≡ step_lexemes r.0 (lexemes r.1.now)) }
     ensures fits { IfSome result (λ r. StepFits r.0) }
 {
     let rest = behind_postpone(bytes)?;
-    let (p, serial, rest) = member_and_serial(rest)?;
+    let (p, serial, rest) = close_pair(rest)?;
     Some((Step::Postpone(p, serial), rest))
 }
 
@@ -409,6 +442,18 @@ fn member_and_serial(bytes: &[u8]) -> Option<(Member, Serial, &[u8])>
     let rest = behind(rest, b',')?;
     let (serial, rest) = amount(rest, SERIAL)?;
     let rest = behind(rest, b']')?;
+    Some((p as u8, serial as u32, rest))
+}
+
+// The same without white space but for one space before a number: nothing is called here, so that all stays in registers.
+#[inline(always)]
+fn close_pair(bytes: &[u8]) -> Option<(Member, Serial, &[u8])>
+    ensures { IfSome result (λ r. lexemes bytes.now ≡ pair_lexemes r.0 r.1 (lexemes r.2.now)) }
+{
+    let (p, rest) = close_amount(bytes, BYTE)?;
+    let rest = right_behind(rest, b',')?;
+    let (serial, rest) = close_amount(rest, SERIAL)?;
+    let rest = right_behind(rest, b']')?;
     Some((p as u8, serial as u32, rest))
 }
 
@@ -493,6 +538,16 @@ pub(crate) fn amount(bytes: &[u8], high: u64) -> Option<(u64, &[u8])>
     Some((n, rest))
 }
 
+// The same where one space stands before the number, or none.
+#[inline(always)]
+fn close_amount(bytes: &[u8], high: u64) -> Option<(u64, &[u8])>
+    ensures text { IfSome result (λ r. ends_word r.1.now ≡ true → lexemes bytes.now ≡ number_lexeme r.0 ∷ lexemes r.1.now) }
+    ensures within { IfSome result (λ r. r.0 ≤ high) }
+{
+    let (n, rest) = number(past_space(bytes), high)?;
+    Some((n, rest))
+}
+
 // The number that the first digits write, without a zero before it, and what follows them.
 #[inline(always)]
 fn number(bytes: &[u8], high: u64) -> Option<(u64, &[u8])>
@@ -513,6 +568,9 @@ fn number(bytes: &[u8], high: u64) -> Option<(u64, &[u8])>
         let next = digit(bytes[i]);
         if next > 9 {
             return (n <= high).then_some((n, &bytes[i..]));
+        }
+        if n > high {
+            return None;
         }
         if overflows(n, next) {
             return None;
