@@ -11,7 +11,9 @@ ghost use Rattle.ct_records.specs.Script.{script};
 
 use crate::naming::is;
 use crate::parts::Numbers;
-use crate::quick::{KEYS, amount, any_step, behind, behind_another, closes, key, postponement, receipt};
+use crate::quick::{
+    KEYS, amount, any_step, behind, behind_another, closes, key, postponement, receipt,
+};
 use crate::reading::MAX_LEN;
 use ct_model::Step;
 use ct_names::{Group, MAX_BOUND, MAX_CELLS, MAX_MEMBERS, MAX_STEPS};
