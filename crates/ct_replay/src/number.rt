@@ -38,6 +38,10 @@ pub(crate) fn number(bytes: &[u8], high: u64) -> Option<(u64, &[u8])>
         if next > 9 {
             return (n <= high).then_some((n, &bytes[i..]));
         }
+        // Below a small limit nothing overflows, and the compiler drops the next test.
+        if n > high {
+            return None;
+        }
         if overflows(n, next) {
             return None;
         }
