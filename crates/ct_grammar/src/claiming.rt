@@ -4,6 +4,8 @@ ghost use Rattle.std.specs.Prelude.{◌≡◌, IfOk, map};
 ghost use Rattle.ct_grammar.specs.Claims.{extent_of, counted, at_least, one_number, decided, name_of, in_order, before, delivered};
 ghost use Rattle.ct_grammar.specs.Claims.{chosen, refused_choice, refused, word_alone, followed, step_claim, event_claim};
 ghost use Rattle.ct_grammar.specs.Claims.{amount_claim, or_fact, claim_of};
+ghost use Rattle.ct_grammar.specs.Unfits.{map_ok};
+ghost use Rattle.ct_grammar.specs.declared.claim.Claim.{Claim};
 
 use crate::claim::{Amount, Claim, Extent, Name};
 use crate::expecting::{lone_whole, named_fact};
@@ -185,19 +187,32 @@ fn refused(words: &[&str]) -> Option<Result<Claim, Unfit>>
     }
 }
 
-// This word alone, and what it claims.
+// This word alone.
 #[tactic(auto, unfolding(crate::specs::Claims::word_alone))]
-fn word_alone(name: &str, wanted: Wanted, claim: Claim, words: &[&str]) -> Result<Claim, Unfit>
-    ensures { result ≡ word_alone name.now wanted claim (map (λ word. word.now) words.now) }
+fn only(name: &str, wanted: Wanted, words: &[&str]) -> Result<(), Unfit>
+    ensures { (claim : Claim) → word_alone name.now wanted claim (map (λ word. word.now) words.now) ≡ map_ok (λ _. claim) result }
 {
     let [word, rest @ ..] = words else {
         return Err(Unfit::End(wanted));
     };
-    if *word != name {
-        return Err(Unfit::before(rest, wanted));
+    if *word == name {
+        over(rest, Wanted::Nothing)
+    } else {
+        Err(Unfit::before(rest, wanted))
     }
-    over(rest, Wanted::Nothing)?;
-    Ok(claim)
+}
+
+// This word alone, and what it claims.
+fn word_alone(name: &str, wanted: Wanted, claim: Claim, words: &[&str]) -> Result<Claim, Unfit>
+    ensures { result ≡ word_alone name.now wanted claim (map (λ word. word.now) words.now) }
+{
+    match only(name, wanted, words) {
+        Ok(()) => Ok(claim),
+        Err(unfit) => {
+            drop(claim);
+            Err(unfit)
+        }
+    }
 }
 
 // The follow of an instance, alone.

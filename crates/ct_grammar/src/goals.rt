@@ -2,6 +2,7 @@
 
 ghost use Rattle.std.specs.Prelude.{◌≡◌, ◌<◌, ◌+◌, ◌∷◌, [], length, take, drop, IfOk, IfSome, IfNone, map};
 ghost use Rattle.ct_grammar.specs.Goals.{whom_of, claimed, term_of, parts_of, misfit_before_and, told_before_and, goal_in, goal_of};
+ghost use Rattle.ct_grammar.specs.Unfits.{map_ok};
 
 use crate::claiming::claim;
 use crate::goal::Goal;
@@ -23,11 +24,33 @@ pub fn goal_of(alloc: Global, text: &str) -> Result<Result<Goal, Misfit>, AllocE
 }
 
 /// The goal of these words, or which of them does not fit.
-#[tactic(auto, unfolding(crate::specs::Goals::goal_in))]
 pub(crate) fn goal(alloc: Global, words: &[&str]) -> Result<Result<Goal, Misfit>, AllocError>
     ensures { IfOk result (λ goal. goal ≡ goal_in (map (λ word. word.now) words.now)) }
 {
     let mut terms = Vec::new(alloc);
+    match push_terms(alloc, &mut terms, words) {
+        Ok(Ok(())) => Ok(Ok(Goal { terms })),
+        Ok(Err(misfit)) => {
+            drop(terms);
+            Ok(Err(misfit))
+        }
+        Err(error) => {
+            drop(terms);
+            Err(error)
+        }
+    }
+}
+
+// Puts the terms of these words into an empty list.
+#[tactic(auto, unfolding(crate::specs::Goals::goal_in))]
+fn push_terms(
+    alloc: Global,
+    terms: &mut Vec<Term>,
+    words: &[&str],
+) -> Result<Result<(), Misfit>, AllocError>
+    requires { terms.old.items ≡ [] }
+    ensures { IfOk result (λ done. map_ok (λ _. terms.new.items) done ≡ goal_in (map (λ word. word.now) words.now)) }
+{
     let mut rest = words;
     while let Some(i) = first_and(rest) {
         match term_before_and(alloc, &rest[..i])? {
@@ -39,7 +62,7 @@ pub(crate) fn goal(alloc: Global, words: &[&str]) -> Result<Result<Goal, Misfit>
     match term(alloc, rest)? {
         Ok(term) => {
             terms.push(term)?;
-            Ok(Ok(Goal { terms }))
+            Ok(Ok(()))
         }
         Err(unfit) => Ok(Err(misfit_of(alloc, rest, unfit)?)),
     }

@@ -2,7 +2,7 @@ use Rattle.std.proofs.Common.{◌≡◌, ◌+◌, Ok, Err, take, drop, sym, ◌�
 use Rattle.ct_grammar.specs.Goals.{goal_in, term_of, told_before_and}
 use Rattle.ct_grammar.proofs.WordsCut.{read}
 use Rattle.ct_grammar.proofs.TermsRead.{term_read, misfit_read}
-use Rattle.ct_grammar.proofs.goals.goal.Goals as goal
+use Rattle.ct_grammar.proofs.goals.push_terms.Goals as goal
 
 pub returns-in-Err : goal.returns-in-Err
 unfolding goal_in

@@ -2,7 +2,7 @@ use Rattle.std.proofs.Common.{◌≡◌, length}
 use Rattle.ct_grammar.specs.Goals.{parts_of, terms_of}
 use Rattle.ct_grammar.proofs.WordsCut.{read}
 use Rattle.ct_grammar.proofs.TermsRead.{behind_terms}
-use Rattle.ct_grammar.proofs.goals.goal.Given as goal
+use Rattle.ct_grammar.proofs.goals.push_terms.Given as goal
 
 -- the terms of the rest are still to come
 abbrev pub invariant-loop-i : goal.invariant-loop-i
