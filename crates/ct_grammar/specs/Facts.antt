@@ -83,15 +83,19 @@ refusal_of words = do
   reason ← reason_first r.1
   Ok (Refuses r.0 reason)
 
+-- a fact of one word, alone
+abbrev pub plain_fact : Word → List Word → Result Fact Unfit
+plain_fact name words = do
+  fact ← ok_or (short_fact name) (Other (length words) wanted.Fact)
+  _ ← over wanted.Nothing words
+  Ok fact
+
 -- the facts of an act and of an envelope; otherwise those of one word
 unfoldable pub act_fact : Word → List Word → Result Fact Unfit
 act_fact name words =
     if bytes_eq name (codes "refuses") then refusal_of words else (
     if bytes_eq name (codes "may") then map_ok May (lone_act words) else (
-    if bytes_eq name (codes "waits") then map_ok Waits (lone_pick words) else (do
-      fact ← ok_or (short_fact name) (Other (length words) wanted.Fact)
-      _ ← over wanted.Nothing words
-      Ok fact)))
+    if bytes_eq name (codes "waits") then map_ok Waits (lone_pick words) else plain_fact name words))
 
 -- the facts of a number and of a phase; otherwise those of an act and of an envelope
 unfoldable pub number_fact : Word → List Word → Result Fact Unfit

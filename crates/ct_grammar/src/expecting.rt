@@ -3,7 +3,7 @@
 ghost use Rattle.std.specs.Prelude.{◌≡◌, IfOk, map};
 ghost use Rattle.ct_grammar.specs.Facts.{phase_of, short_fact, ended, lone_act, lone_pick, lone_whole, phase_first, reason_first};
 ghost use Rattle.ct_grammar.specs.Facts.{refusal_of};
-ghost use Rattle.ct_grammar.specs.Facts.{act_fact, number_fact, says_set, lone_set, some_words, quotes_words, quotable, text_fact};
+ghost use Rattle.ct_grammar.specs.Facts.{plain_fact, act_fact, number_fact, says_set, lone_set, some_words, quotes_words, quotable, text_fact};
 ghost use Rattle.ct_grammar.specs.Facts.{named_fact};
 
 use crate::act::Act;
@@ -139,13 +139,23 @@ fn act_fact(name: &str, words: &[&str]) -> Result<Fact, Unfit>
         "refuses" => refusal(words),
         "may" => Ok(Fact::May(lone_act(words)?)),
         "waits" => Ok(Fact::Waits(lone_pick(words)?)),
-        _ => match short_fact(name) {
-            Some(fact) => {
-                over(words, Wanted::Nothing)?;
-                Ok(fact)
+        _ => plain_fact(name, words),
+    }
+}
+
+// A fact of one word, alone.
+fn plain_fact(name: &str, words: &[&str]) -> Result<Fact, Unfit>
+    ensures { result ≡ plain_fact name.now (map (λ word. word.now) words.now) }
+{
+    match short_fact(name) {
+        Some(fact) => match over(words, Wanted::Nothing) {
+            Ok(()) => Ok(fact),
+            Err(unfit) => {
+                drop(fact);
+                Err(unfit)
             }
-            None => Err(Unfit::before(words, Wanted::Fact)),
         },
+        None => Err(Unfit::before(words, Wanted::Fact)),
     }
 }
 

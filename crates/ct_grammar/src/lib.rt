@@ -85,7 +85,6 @@ mod sides;
 mod stating;
 mod term;
 mod text;
-mod told;
 mod turning;
 mod unfit;
 mod wanted;

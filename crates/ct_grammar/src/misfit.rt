@@ -5,7 +5,7 @@ ghost use Rattle.ct_grammar.specs.Misfits.{misfit_of, misfit_text, word_text, ac
 ghost use Rattle.ct_grammar.specs.Misfits.{told};
 
 use crate::near::near_name;
-use crate::places::told_at;
+use crate::places::{denied, due, is_listed, names};
 use crate::text::Text;
 use crate::unfit::Unfit;
 use crate::wanted::Wanted;
@@ -31,7 +31,7 @@ impl Misfit {
         match &self.word {
             None => {
                 text.push_str("the line ends where ")?;
-                text.push_str(told_at(self.wanted).due)?;
+                text.push_str(due(self.wanted))?;
                 text.push_str(" is due")
             }
             Some(word) => push_word(text, word.as_str(), self.wanted),
@@ -88,7 +88,7 @@ fn push_word(text: &mut String, word: &str, wanted: Wanted) -> Result<(), AllocE
 {
     push_shown(text, word)?;
     text.push_str(" ")?;
-    text.push_str(told_at(wanted).denied)?;
+    text.push_str(denied(wanted))?;
     push_hint(text, word, wanted)
 }
 
@@ -109,7 +109,7 @@ fn push_shown(text: &mut String, word: &str) -> Result<(), AllocError>
 fn push_hint(text: &mut String, word: &str, wanted: Wanted) -> Result<(), AllocError>
     ensures { OnOk result (string_bytes text.new ≡ string_bytes text.old ++ hint_text word.now wanted) }
 {
-    match near_name(word, told_at(wanted).names) {
+    match near_name(word, names(wanted)) {
         Some(name) => {
             text.push_str("; ")?;
             text.push_str(name)?;
@@ -124,12 +124,11 @@ fn push_hint(text: &mut String, word: &str, wanted: Wanted) -> Result<(), AllocE
 fn push_listed(text: &mut String, wanted: Wanted) -> Result<(), AllocError>
     ensures { OnOk result (string_bytes text.new ≡ string_bytes text.old ++ listed_text wanted) }
 {
-    let told = told_at(wanted);
-    if !told.is_listed {
+    if !is_listed(wanted) {
         return Ok(());
     }
     text.push_str(":")?;
-    push_names(text, told.names)
+    push_names(text, names(wanted))
 }
 
 // The names, with commas between them.

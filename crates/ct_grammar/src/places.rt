@@ -3,7 +3,6 @@
 ghost use Rattle.std.specs.Prelude.{◌≡◌, map};
 ghost use Rattle.ct_grammar.specs.Places.{beginnings, doings, acts, facts, reasons, told_at};
 
-use crate::told::Told;
 use crate::wanted::Wanted;
 
 // The words that begin lines.
@@ -102,105 +101,165 @@ fn reasons() -> &'static [&'static str]
     ]
 }
 
-/// What is told of a place where this is wanted.
+/// The names that could stand there; none where what is wanted has no name.
 #[tactic(auto, unfolding(crate::specs::Places::told_at))]
-pub(crate) fn told_at(wanted: Wanted) -> Told
-    ensures names { map (λ name. name.now) result.names.now ≡ (told_at wanted).names }
-    ensures is_listed { result.is_listed ≡ (told_at wanted).is_listed }
-    ensures denied { result.denied.now ≡ (told_at wanted).denied }
-    ensures due { result.due.now ≡ (told_at wanted).due }
+pub(crate) fn names(wanted: Wanted) -> &'static [&'static str]
+    ensures { map (λ name. name.now) result.now ≡ (told_at wanted).names }
 {
     match wanted {
-        Wanted::Beginning => Told::listed(
-            beginnings(),
-            "is neither a member nor a word that begins a line",
-            "a line",
-        ),
-        Wanted::GroupSize => Told::unnamed("is no number from 1 to 16", "a number from 1 to 16"),
-        Wanted::CellCount => Told::unnamed(
-            "is no number from 0 to 1024",
-            "a number from 0 to 1024",
-        ),
-        Wanted::Bound => Told::unnamed(
-            "is no number from 1 to 1048560",
-            "a number from 1 to 1048560",
-        ),
-        Wanted::Member => Told::unnamed("is no member", "a member"),
-        Wanted::Set => Told::unnamed("is no list of members", "a list of members"),
-        Wanted::Side => Told::unnamed(
-            "is no list of members that are named once",
-            "a list of members",
-        ),
-        Wanted::Bar => Told::unnamed("is not |", "|"),
-        Wanted::Doing => Told::listed(doings(), "is no act", "an act"),
-        Wanted::Act => Told::listed(acts(), "is no act", "an act"),
-        Wanted::Command => Told::listed(&["set", "add", "copy"], "is no command", "a command"),
-        Wanted::Register => Told::unnamed("is no register", "a register"),
-        Wanted::Amount => Told::unnamed("is no value", "a value"),
-        Wanted::Envelope => Told::listed(
-            &["data", "est", "prop", "ack", "nack", "dec", "#SERIAL"],
-            "is no envelope",
-            "an envelope",
-        ),
-        Wanted::Loss => Told::listed(
-            &[
-                "from", "data", "est", "prop", "ack", "nack", "dec", "#SERIAL",
-            ],
-            "is no envelope",
-            "an envelope",
-        ),
-        Wanted::Serial => Told::unnamed("is no serial", "a serial"),
-        Wanted::Message => Told::unnamed("is no message", "a message"),
-        Wanted::Place => Told::unnamed("is no instance/round", "an instance/round"),
-        Wanted::Rounds => Told::listed(
-            &["suspecting", "until"],
-            "is neither a number of rounds nor a word that stands here",
-            "a number of rounds",
-        ),
-        Wanted::Until => Told::unnamed("is not until", "until"),
-        Wanted::Fact => Told::listed(facts(), "is no fact", "a fact"),
-        Wanted::Phase => Told::listed(
-            &["Rest", "Gather", "Wait", "Tally"],
-            "is no phase",
-            "a phase",
-        ),
-        Wanted::Reason => Told::listed(reasons(), "is no reason", "a reason"),
-        Wanted::Instance => Told::named(&[">="], "is no instance", "an instance"),
-        Wanted::Round => Told::named(&[">="], "is no round", "a round"),
-        Wanted::Waiting => Told::named(
-            &[">="],
-            "is no number of envelopes",
-            "a number of envelopes",
-        ),
-        Wanted::Members => Told::unnamed(
-            "is neither a list of members nor -",
-            "a list of members or -",
-        ),
-        Wanted::Quoted => Told::unnamed("is no text", "a text"),
-        Wanted::Term => Told::named(
-            &["ever", "never", "all", "any", "up"],
-            "is neither ever, never, a member, a list of members, all, any nor up",
-            "ever, never, a member, a list of members, all, any or up",
-        ),
-        Wanted::Whom => Told::named(
-            &["all", "any", "up"],
-            "is neither a member, a list of members, all, any nor up",
-            "a member, a list of members, all, any or up",
-        ),
-        Wanted::Extent => Told::named(&[">="], "is neither a number nor >=", "a number or >="),
-        Wanted::Count => Told::unnamed("is no number", "a number"),
-        Wanted::Chosen => Told::listed(
-            reasons(),
-            "is neither a member nor a reason",
-            "a member or a reason",
-        ),
-        Wanted::Up => Told::unnamed("is not up", "up"),
-        Wanted::Unseen => Told::unnamed("is not unseen", "unseen"),
-        Wanted::Again => Told::unnamed("is not again", "again"),
-        Wanted::Nothing => Told::optional(&[]),
-        Wanted::Suspecting => Told::optional(&["suspecting"]),
-        Wanted::Sender => Told::optional(&["from"]),
-        Wanted::Statement => Told::optional(&["set", "add", "copy"]),
-        Wanted::SenderOrStatement => Told::optional(&["from", "set", "add", "copy"]),
+        Wanted::Beginning => beginnings(),
+        Wanted::Doing => doings(),
+        Wanted::Act => acts(),
+        Wanted::Command | Wanted::Statement => &["set", "add", "copy"],
+        Wanted::Envelope => &["data", "est", "prop", "ack", "nack", "dec", "#SERIAL"],
+        Wanted::Loss => &[
+            "from", "data", "est", "prop", "ack", "nack", "dec", "#SERIAL",
+        ],
+        Wanted::Rounds => &["suspecting", "until"],
+        Wanted::Fact => facts(),
+        Wanted::Phase => &["Rest", "Gather", "Wait", "Tally"],
+        Wanted::Reason | Wanted::Chosen => reasons(),
+        Wanted::Instance | Wanted::Round | Wanted::Waiting | Wanted::Extent => &[">="],
+        Wanted::Term => &["ever", "never", "all", "any", "up"],
+        Wanted::Whom => &["all", "any", "up"],
+        Wanted::Suspecting => &["suspecting"],
+        Wanted::Sender => &["from"],
+        Wanted::SenderOrStatement => &["from", "set", "add", "copy"],
+        Wanted::GroupSize
+        | Wanted::CellCount
+        | Wanted::Bound
+        | Wanted::Member
+        | Wanted::Set
+        | Wanted::Side
+        | Wanted::Bar
+        | Wanted::Register
+        | Wanted::Amount
+        | Wanted::Serial
+        | Wanted::Message
+        | Wanted::Place
+        | Wanted::Until
+        | Wanted::Members
+        | Wanted::Quoted
+        | Wanted::Count
+        | Wanted::Up
+        | Wanted::Unseen
+        | Wanted::Again
+        | Wanted::Nothing => &[],
+    }
+}
+
+/// Whether the names are told where none is near.
+#[tactic(auto, unfolding(crate::specs::Places::told_at))]
+pub(crate) fn is_listed(wanted: Wanted) -> bool
+    ensures { result ≡ (told_at wanted).is_listed }
+{
+    matches!(
+        wanted,
+        Wanted::Beginning
+            | Wanted::Doing
+            | Wanted::Act
+            | Wanted::Command
+            | Wanted::Envelope
+            | Wanted::Loss
+            | Wanted::Rounds
+            | Wanted::Fact
+            | Wanted::Phase
+            | Wanted::Reason
+            | Wanted::Chosen
+    )
+}
+
+/// What is said of another word that stands there.
+#[tactic(auto, unfolding(crate::specs::Places::told_at))]
+pub(crate) fn denied(wanted: Wanted) -> &'static str
+    ensures { result.now ≡ (told_at wanted).denied }
+{
+    match wanted {
+        Wanted::Beginning => "is neither a member nor a word that begins a line",
+        Wanted::GroupSize => "is no number from 1 to 16",
+        Wanted::CellCount => "is no number from 0 to 1024",
+        Wanted::Bound => "is no number from 1 to 1048560",
+        Wanted::Member => "is no member",
+        Wanted::Set => "is no list of members",
+        Wanted::Side => "is no list of members that are named once",
+        Wanted::Bar => "is not |",
+        Wanted::Doing | Wanted::Act => "is no act",
+        Wanted::Command => "is no command",
+        Wanted::Register => "is no register",
+        Wanted::Amount => "is no value",
+        Wanted::Envelope | Wanted::Loss => "is no envelope",
+        Wanted::Serial => "is no serial",
+        Wanted::Message => "is no message",
+        Wanted::Place => "is no instance/round",
+        Wanted::Rounds => "is neither a number of rounds nor a word that stands here",
+        Wanted::Until => "is not until",
+        Wanted::Fact => "is no fact",
+        Wanted::Phase => "is no phase",
+        Wanted::Reason => "is no reason",
+        Wanted::Instance => "is no instance",
+        Wanted::Round => "is no round",
+        Wanted::Waiting => "is no number of envelopes",
+        Wanted::Members => "is neither a list of members nor -",
+        Wanted::Quoted => "is no text",
+        Wanted::Term => "is neither ever, never, a member, a list of members, all, any nor up",
+        Wanted::Whom => "is neither a member, a list of members, all, any nor up",
+        Wanted::Extent => "is neither a number nor >=",
+        Wanted::Count => "is no number",
+        Wanted::Chosen => "is neither a member nor a reason",
+        Wanted::Up => "is not up",
+        Wanted::Unseen => "is not unseen",
+        Wanted::Again => "is not again",
+        Wanted::Nothing
+        | Wanted::Suspecting
+        | Wanted::Sender
+        | Wanted::Statement
+        | Wanted::SenderOrStatement => "is left over",
+    }
+}
+
+/// What is due there, where the line ends.
+#[tactic(auto, unfolding(crate::specs::Places::told_at))]
+pub(crate) fn due(wanted: Wanted) -> &'static str
+    ensures { result.now ≡ (told_at wanted).due }
+{
+    match wanted {
+        Wanted::Beginning => "a line",
+        Wanted::GroupSize => "a number from 1 to 16",
+        Wanted::CellCount => "a number from 0 to 1024",
+        Wanted::Bound => "a number from 1 to 1048560",
+        Wanted::Member => "a member",
+        Wanted::Set | Wanted::Side => "a list of members",
+        Wanted::Bar => "|",
+        Wanted::Doing | Wanted::Act => "an act",
+        Wanted::Command => "a command",
+        Wanted::Register => "a register",
+        Wanted::Amount => "a value",
+        Wanted::Envelope | Wanted::Loss => "an envelope",
+        Wanted::Serial => "a serial",
+        Wanted::Message => "a message",
+        Wanted::Place => "an instance/round",
+        Wanted::Rounds => "a number of rounds",
+        Wanted::Until => "until",
+        Wanted::Fact => "a fact",
+        Wanted::Phase => "a phase",
+        Wanted::Reason => "a reason",
+        Wanted::Instance => "an instance",
+        Wanted::Round => "a round",
+        Wanted::Waiting => "a number of envelopes",
+        Wanted::Members => "a list of members or -",
+        Wanted::Quoted => "a text",
+        Wanted::Term => "ever, never, a member, a list of members, all, any or up",
+        Wanted::Whom => "a member, a list of members, all, any or up",
+        Wanted::Extent => "a number or >=",
+        Wanted::Count => "a number",
+        Wanted::Chosen => "a member or a reason",
+        Wanted::Up => "up",
+        Wanted::Unseen => "unseen",
+        Wanted::Again => "again",
+        Wanted::Nothing
+        | Wanted::Suspecting
+        | Wanted::Sender
+        | Wanted::Statement
+        | Wanted::SenderOrStatement => "nothing",
     }
 }
