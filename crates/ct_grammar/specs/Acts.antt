@@ -7,6 +7,7 @@ use Rattle.ct_names.specs.declared.command.Command.TheVariants.{Set, Add, Copy}
 use Rattle.ct_grammar.specs.declared.act.Act.{Act}
 use Rattle.ct_grammar.specs.declared.act.Act.TheVariants.{Submit, Receive, Begin, Enter, Choose, Adopt, Suspect, Conclude, Deliver}
 use Rattle.ct_grammar.specs.declared.act.Act.TheVariants.{Follow, Crash, Postpone, Lose, Repeat, LoseFrom}
+use Rattle.ct_grammar.specs.declared.pick.Pick.{Pick}
 use Rattle.ct_grammar.specs.declared.unfit.Unfit.{Unfit}
 use Rattle.ct_grammar.specs.declared.unfit.Unfit.TheVariants.{End, Word as Other}
 use Rattle.ct_grammar.specs.declared.wanted.Wanted.{Wanted}
@@ -55,6 +56,12 @@ lose_first [] = Err (End Loss)
 lose_first (word ∷ words) =
     if bytes_eq word (codes "from") then map_ok (λ r. (LoseFrom r.0, r.1)) (set_first words) else (
     map_ok (λ r. (Lose r.0, r.1)) (pick_first Loss (word ∷ words)))
+
+-- the act of this name on the envelope
+abbrev pub act_on : Word → Pick → Act
+act_on name pick =
+    if bytes_eq name (codes "receive") then Receive pick else (
+    if bytes_eq name (codes "postpone") then Postpone pick else Repeat pick)
 
 -- the acts on an envelope, and the words behind them; otherwise those of one word
 unfoldable pub picked_act : Wanted → Word → List Word → Result (Act × List Word) Unfit

@@ -31,6 +31,14 @@ unfoldable pub place_first : List Word → Result ((ℕ × ℕ) × List Word) Un
 place_first [] = Err (End Place)
 place_first (word ∷ words) = map_ok (λ n. (n, words)) (ok_or (two_numbers 47 max_u32 max_u32 word) (Other (length words) Place))
 
+-- what is carried of this instance and round, by its kind
+abbrev pub carried_at : Word → ℕ × ℕ → Carried
+carried_at kind place =
+    if bytes_eq kind (codes "est") then Est place.0 place.1 else (
+    if bytes_eq kind (codes "prop") then Prop place.0 place.1 else (
+    if bytes_eq kind (codes "ack") then Ack place.0 place.1 else (
+    if bytes_eq kind (codes "nack") then Nack place.0 place.1 else Dec place.0 place.1)))
+
 -- what is carried, by its kind and its name, and the words behind it
 unfoldable pub carried_first : Wanted → Word → List Word → Result (Carried × List Word) Unfit
 carried_first wanted kind words =

@@ -1,12 +1,13 @@
 //! What members do, in words.
 
 ghost use Rattle.std.specs.Prelude.{◌≡◌, ◌≤◌, IfOk, map};
-ghost use Rattle.ct_grammar.specs.Acts.{operands, named_command, command_first, short_act, lose_first, picked_act, long_act};
+ghost use Rattle.ct_grammar.specs.Acts.{operands, named_command, command_first, short_act, lose_first, act_on, picked_act, long_act};
 ghost use Rattle.ct_grammar.specs.Acts.{act_first, behind_act};
 ghost use Rattle.ct_grammar.specs.Unfits.{map_ok};
 
 use crate::act::Act;
 use crate::leading::{member_first, number_first, set_first};
+use crate::pick::Pick;
 use crate::picking::{behind_pick, pick_first};
 use crate::unfit::Unfit;
 use crate::wanted::Wanted;
@@ -106,6 +107,17 @@ fn lose_first<'w, 'a>(words: &'w [&'a str]) -> Result<(Act, &'w [&'a str]), Unfi
     Ok((Act::Lose(pick), rest))
 }
 
+// The act of this name on the envelope.
+fn act_on(name: &str, pick: Pick) -> Act
+    ensures { result ≡ act_on name.now pick }
+{
+    match name {
+        "receive" => Act::Receive(pick),
+        "postpone" => Act::Postpone(pick),
+        _ => Act::Repeat(pick),
+    }
+}
+
 // The acts on an envelope, and the words behind them; otherwise those of one word.
 #[tactic(auto, unfolding(crate::specs::Acts::picked_act))]
 fn picked_act<'w, 'a>(
@@ -116,17 +128,9 @@ fn picked_act<'w, 'a>(
     ensures { map_ok (λ r. (r.0, map (λ word. word.now) r.1.now)) result ≡ picked_act wanted name.now (map (λ word. word.now) words.now) }
 {
     match name {
-        "receive" => {
+        "receive" | "postpone" | "repeat" => {
             let (pick, rest) = pick_first(words, Wanted::Envelope)?;
-            Ok((Act::Receive(pick), rest))
-        }
-        "postpone" => {
-            let (pick, rest) = pick_first(words, Wanted::Envelope)?;
-            Ok((Act::Postpone(pick), rest))
-        }
-        "repeat" => {
-            let (pick, rest) = pick_first(words, Wanted::Envelope)?;
-            Ok((Act::Repeat(pick), rest))
+            Ok((act_on(name, pick), rest))
         }
         _ => match short_act(name) {
             Some(act) => Ok((act, words)),

@@ -1,7 +1,7 @@
 //! Which envelope words name.
 
 ghost use Rattle.std.specs.Prelude.{◌≡◌, map};
-ghost use Rattle.ct_grammar.specs.Picks.{serial_of, message_first, place_first, carried_first, sent_pick, pick_first, behind_sender};
+ghost use Rattle.ct_grammar.specs.Picks.{serial_of, message_first, place_first, carried_at, carried_first, sent_pick, pick_first, behind_sender};
 ghost use Rattle.ct_grammar.specs.Picks.{behind_pick};
 ghost use Rattle.ct_grammar.specs.Unfits.{map_ok};
 
@@ -53,6 +53,20 @@ fn place_first<'w, 'a>(words: &'w [&'a str]) -> Result<((Instance, Round), &'w [
     }
 }
 
+// What is carried of this instance and round, by its kind.
+fn carried_at(kind: &str, place: (Instance, Round)) -> Carried
+    ensures { result ≡ carried_at kind.now place }
+{
+    let (i, r) = place;
+    match kind {
+        "est" => Carried::Est(i, r),
+        "prop" => Carried::Prop(i, r),
+        "ack" => Carried::Ack(i, r),
+        "nack" => Carried::Nack(i, r),
+        _ => Carried::Dec(i, r),
+    }
+}
+
 // What is carried, by its kind and its name, and the words behind it.
 #[tactic(auto, unfolding(crate::specs::Picks::carried_first))]
 fn carried_first<'w, 'a>(
@@ -65,25 +79,9 @@ fn carried_first<'w, 'a>(
 {
     match kind {
         "data" => message_first(words),
-        "est" => {
-            let ((i, r), rest) = place_first(words)?;
-            Ok((Carried::Est(i, r), rest))
-        }
-        "prop" => {
-            let ((i, r), rest) = place_first(words)?;
-            Ok((Carried::Prop(i, r), rest))
-        }
-        "ack" => {
-            let ((i, r), rest) = place_first(words)?;
-            Ok((Carried::Ack(i, r), rest))
-        }
-        "nack" => {
-            let ((i, r), rest) = place_first(words)?;
-            Ok((Carried::Nack(i, r), rest))
-        }
-        "dec" => {
-            let ((i, r), rest) = place_first(words)?;
-            Ok((Carried::Dec(i, r), rest))
+        "est" | "prop" | "ack" | "nack" | "dec" => {
+            let (place, rest) = place_first(words)?;
+            Ok((carried_at(kind, place), rest))
         }
         _ => Err(Unfit::before(words, wanted)),
     }

@@ -1,4 +1,3 @@
-use Rattle.std.proofs.Common.{◌≡◌, ◌++◌}
 use Rattle.std.specs.Prelude.{string_bytes}
 use Rattle.ct_grammar.proofs.TextJoined.{text_begins}
 use Rattle.ct_grammar.proofs.joining.push_joined.Goals as goal
