@@ -2,8 +2,8 @@
 
 ghost use Rattle.std.specs.Prelude.{◌≡◌, IfOk, map};
 ghost use Rattle.ct_grammar.specs.Facts.{phase_of, short_fact, ended, lone_act, lone_pick, lone_whole, phase_first, reason_first};
-ghost use Rattle.ct_grammar.specs.Facts.{refusal_of};
-ghost use Rattle.ct_grammar.specs.Facts.{plain_fact, act_fact, number_fact, says_set, lone_set, some_words, quotes_words, quotable, text_fact};
+ghost use Rattle.ct_grammar.specs.Facts.{refusal_of, plain_fact};
+ghost use Rattle.ct_grammar.specs.Facts.{act_fact, number_fact, says_set, lone_set, some_words, quotes_words, quotable, text_fact};
 ghost use Rattle.ct_grammar.specs.Facts.{named_fact};
 
 use crate::act::Act;

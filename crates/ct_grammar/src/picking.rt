@@ -1,8 +1,8 @@
 //! Which envelope words name.
 
 ghost use Rattle.std.specs.Prelude.{◌≡◌, map};
-ghost use Rattle.ct_grammar.specs.Picks.{serial_of, message_first, place_first, carried_at, carried_first, sent_pick, pick_first, behind_sender};
-ghost use Rattle.ct_grammar.specs.Picks.{behind_pick};
+ghost use Rattle.ct_grammar.specs.Picks.{serial_of, message_first, place_first, carried_first, sent_pick, pick_first, behind_sender};
+ghost use Rattle.ct_grammar.specs.Picks.{behind_pick, carried_at};
 ghost use Rattle.ct_grammar.specs.Unfits.{map_ok};
 
 use crate::carried::Carried;

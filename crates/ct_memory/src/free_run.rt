@@ -5,6 +5,7 @@ ghost use Rattle.ct_names.specs.declared.limit.TheConstants.{MAX_STEPS};
 ghost use Rattle.ct_memory.specs.declared.free_run.TheConstants.{PARTS};
 
 use crate::fault::Fault;
+use crate::starting::started;
 use ct_board::Board;
 use ct_detect::{Detector, Never};
 use ct_model::Step;
@@ -38,8 +39,24 @@ pub fn free_run<L: Ledger + Send + Sync, R: Threads + Wait + Sync>(
     let (world, board) = submitted(alloc)?;
     let _ = world.record();
     let (hall, mut share) = Hall::<L>::new(blank, world, board);
-    let made = run_one(rt, alloc, &hall, &mut share)?;
-    settle(rt, alloc, &hall, &mut share)?;
+    let made = run_in(rt, alloc, &hall, &mut share);
+    drop(hall);
+    made
+}
+
+// Makes the turns in this hall, and looks at what they leave.
+fn run_in<L: Ledger + Send + Sync, R: Threads + Wait + Sync>(
+    rt: &R,
+    alloc: Global,
+    hall: &Hall<L>,
+    share: &mut Share<L>,
+) -> Result<Result<Made, RunFault>, Fault>
+    requires parts { share.old.parts ≡ PARTS }
+    requires steps { share.old.steps ≤ MAX_STEPS }
+    requires whole { L.parts ≡ PARTS }
+{
+    let made = run_one(rt, alloc, hall, share)?;
+    settle(rt, alloc, hall, share)?;
     Ok(made)
 }
 
@@ -56,13 +73,16 @@ fn run_one<L: Ledger + Send + Sync, R: Threads + Wait + Sync>(
     let mut detectors: Vec<Box<dyn Detector>> = Vec::new(alloc);
     detectors.push(Box::new(alloc, Never::new())?)?;
     if detectors.len() != usize::from(hall.group().n()) {
+        drop(detectors);
         return Err(Fault::Group);
     }
     let plan = Plan {
         turns: TURNS,
         scripts: Vec::new(alloc),
     };
-    Ok(hall.run_free(rt, alloc, &plan, detectors, &NoGate, share))
+    let made = hall.run_free(rt, alloc, &plan, detectors, &NoGate, share);
+    drop(plan);
+    Ok(made)
 }
 
 // Looks at the hall's world, unless a part of the share was lost with a thread.
@@ -78,7 +98,9 @@ fn settle<L: Ledger, R: Wait>(
         return Ok(());
     }
     let world = hall.settled(rt, alloc, share)?;
-    replay_again(alloc, &world, share.steps())
+    let replayed = replay_again(alloc, &world, share.steps());
+    drop(world);
+    replayed
 }
 
 // A world of one member that submitted a message, and its board.
@@ -86,10 +108,15 @@ fn submitted(alloc: Global) -> Result<(World, Board), Fault> {
     let Some(group) = Group::new(1) else {
         return Err(Fault::Group);
     };
-    let mut world = World::new(alloc, group, CELLS, MAX_BOUND)?;
-    let board = Board::new(alloc, usize::from(CELLS))?;
-    let _ = world.apply(&board, &Step::Submit(1, Command::Set(0, 7)))?;
-    Ok((world, board))
+    let (mut world, board) = started(alloc, group, CELLS, MAX_BOUND)?;
+    match world.apply(&board, &Step::Submit(1, Command::Set(0, 7))) {
+        Ok(_) => Ok((world, board)),
+        Err(refusal) => {
+            drop(world);
+            drop(board);
+            Err(Fault::from(refusal))
+        }
+    }
 }
 
 // The world has so many steps, and they lead to it.
@@ -97,16 +124,15 @@ fn replay_again(alloc: Global, world: &World, steps: u64) -> Result<(), Fault> {
     if world.record().len() as u64 != steps {
         return Err(Fault::Share);
     }
-    let (again, _board) = World::replay(
+    let (again, board) = World::replay(
         alloc,
         world.group(),
         world.cells(),
         world.bound(),
         world.record(),
     )?;
-    if again.record() == world.record() {
-        Ok(())
-    } else {
-        Err(Fault::Replay)
-    }
+    drop(board);
+    let is_same = again.record() == world.record();
+    drop(again);
+    if is_same { Ok(()) } else { Err(Fault::Replay) }
 }

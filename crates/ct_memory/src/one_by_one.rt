@@ -1,57 +1,57 @@
 //! The steps of a record, one by one.
 
 use crate::fault::Fault;
+use crate::starting::started;
 use ct_board::Board;
 use ct_model::Step;
 use ct_names::{Member, Refusal};
 use ct_records::{Script, read_record};
 use ct_world::World;
 use std::alloc::Global;
+use std::mem;
 
 /// Does the steps of the record, each at the second try where memory was refused at the first; the world must then be as
 /// it was before. The world after all steps, and the number of the last step that was refused; 0 where none was.
 pub fn do_one_by_one(alloc: Global, record: &[u8]) -> Result<(World, usize), Fault> {
     let script = read_record(alloc, record)?;
-    let (world, board) = started(alloc, &script)?;
-    do_all(alloc, world, &board, &script.steps)
+    let done = do_script(alloc, &script);
+    drop(script);
+    done
 }
 
-// The world of the record before its steps, and its board.
-fn started(alloc: Global, script: &Script) -> Result<(World, Board), Fault> {
-    let world = World::new(alloc, script.group, script.cells, script.batch)?;
-    let board = Board::new(alloc, usize::from(script.cells))?;
-    Ok((world, board))
+// The same of what the record says.
+fn do_script(alloc: Global, script: &Script) -> Result<(World, usize), Fault> {
+    let (mut world, board) = started(alloc, script.group, script.cells, script.batch)?;
+    let done = do_all(alloc, &mut world, &board, &script.steps);
+    drop(board);
+    match done {
+        Ok(refused) => Ok((world, refused)),
+        Err(fault) => {
+            drop(world);
+            Err(fault)
+        }
+    }
 }
 
-// Does the steps one by one. The world after them, and the number of the last step that was refused.
-fn do_all(
-    alloc: Global,
-    mut world: World,
-    board: &Board,
-    steps: &[Step],
-) -> Result<(World, usize), Fault> {
+// Does the steps one by one. The number of the last step that was refused.
+fn do_all(alloc: Global, world: &mut World, board: &Board, steps: &[Step]) -> Result<usize, Fault> {
     let mut refused = 0;
     for (i, step) in steps.iter().enumerate() {
-        let (next, is_first) = stepped(alloc, &world, board, step)?;
-        if !is_first {
+        if !do_one(alloc, world, board, step)? {
             refused = i + 1;
         }
-        world = next;
     }
-    Ok((world, refused))
+    Ok(refused)
 }
 
-// The world after the step, and whether it was done at the first try. It is done in a copy of the world before it, which
+// Does the step, and answers whether it was done at the first try. It is done in a copy of the world before it, which
 // has no room to spare, so that each step has to ask for memory.
-fn stepped(
-    alloc: Global,
-    before: &World,
-    board: &Board,
-    step: &Step,
-) -> Result<(World, bool), Fault> {
-    let mut world = before.copy(alloc)?;
-    let is_first = do_at_last(before, &mut world, board, step)?;
-    Ok((world, is_first))
+fn do_one(alloc: Global, world: &mut World, board: &Board, step: &Step) -> Result<bool, Fault> {
+    let mut next = world.copy(alloc)?;
+    let done = do_at_last(world, &mut next, board, step);
+    let before = mem::replace(world, next);
+    drop(before);
+    done
 }
 
 // Does the step in a copy of the world before it. Whether it was done at the first try.
