@@ -6,7 +6,7 @@ use Rattle.ct_model.specs.State.{at_serial}
 use Rattle.ct_model.specs.declared.step.Step.TheVariants.{Receive}
 use Rattle.ct_world.specs.declared.kept.Kept.{Kept}
 use Rattle.ct_world.specs.declared.seat.Seat.{Seat}
-use Rattle.ct_world.specs.Kept.{IsFoundAt, rehearsal_of, seat_of}
+use Rattle.ct_world.specs.Kept.{IsFoundAt, seat_of}
 use Rattle.ct_world.specs.Seats.{content, is_new}
 use Rattle.ct_world.proofs.Basics.Members.{seat-same}
 use Rattle.ct_world.proofs.Steps.Doing.{allowed_at, seat_in, within_in}
