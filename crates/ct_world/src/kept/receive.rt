@@ -71,7 +71,7 @@ impl Kept {
             Ok(()) => Ok(Arrival {
                 place,
                 to,
-            wire,
+                wire,
                 new,
             }),
             Err(_) => Err(Refusal::OutOfMemory),
@@ -127,11 +127,7 @@ impl Kept {
 
     // Does the step where it is allowed and memory is given: as `prepare_receive` and `receive`, but looks at the envelope once.
     #[inline(always)]
-    pub(super) fn receive_at_once(
-        &mut self,
-        member: Member,
-        serial: Serial,
-    ) -> Result<u32, Refusal>
+    pub(super) fn receive_at_once(&mut self, member: Member, serial: Serial) -> Result<u32, Refusal>
         requires { IsSound self.old }
         ensures { DoesAtOnce self.old (Step.Receive member serial) self.new result }
     {

@@ -12,7 +12,7 @@ moved : (xs : List ℕ) (start waiting end : ℕ) → end ≡ length xs → wait
 moved xs start waiting end whole rest =
     let count : end - start ≡ length (drop start xs) = omega (arith, whole, length-drop start xs) in
     let all : copy_within xs start end 0 ≡ drop start xs ++ drop (0 + (end - start)) xs =
-        paste_all xs 0 (drop start xs) (end - start) count in
+    paste_all xs 0 (drop start xs) (end - start) count in
     let first : waiting ≡ length (drop start xs) = omega (arith, rest, length-drop start xs) in
     rw (first, all) (take-append_seam (drop start xs) (drop (0 + (end - start)) xs))
 
