@@ -1,12 +1,12 @@
 use ct_model::Step;
 use ct_names::{Command, Refusal};
 use ct_program::{
-    Call, CommandFault, Counted, Failed, FreeOptions, LineFault, ProgramFault, ReadFault, Sink,
-    Source, answer_status, free, line, read_record, report, run_replay, seeded, submissions,
+    Call, CommandFault, Counted, Failed, FreeOptions, LineFault, ProgramFault, ReadFault, Script,
+    Sink, Source, answer_status, free, line, read_record, report, run_replay, seeded, submissions,
     write_record,
 };
 use ct_records::push_separator;
-use ct_world::World;
+use ct_world::{ReplayFault, World};
 use std::alloc::{AllocError, Global};
 use std::test::Fail;
 
@@ -68,7 +68,9 @@ fn replayed(alloc: Global, record: &[u8]) -> (Result<(), ProgramFault>, Vec<u8>)
 // Whether a replay of the record has this answer, and writes these bytes.
 fn answers(alloc: Global, record: &str, answer: Result<(), ProgramFault>, bytes: &[u8]) -> bool {
     let (found, written) = replayed(alloc, record.as_bytes());
-    found == answer && written.as_slice() == bytes
+    let is_written = written.as_slice() == bytes;
+    drop(written);
+    found == answer && is_written
 }
 
 // Whether the record is replayed, and this is its report.
@@ -78,7 +80,61 @@ fn is_report_of(alloc: Global, record: &str, report: &str) -> bool {
 
 // Whether it is this text.
 fn is_text(text: Result<String, AllocError>, wanted: &str) -> bool {
-    text.is_ok_and(|text| text.as_str() == wanted)
+    match text {
+        Ok(text) => {
+            let is_wanted = text.as_str() == wanted;
+            drop(text);
+            is_wanted
+        }
+        Err(_) => false,
+    }
+}
+
+// The report of the world that this world's record leads to.
+fn report_again(alloc: Global, world: &World) -> Option<Vec<u8>> {
+    let (again, board) = World::replay(
+        alloc,
+        world.group(),
+        world.cells(),
+        world.bound(),
+        world.record(),
+    )
+    .ok()?;
+    drop(board);
+    let text = report(alloc, &again).ok();
+    drop(again);
+    text
+}
+
+// Whether both reports are there, and are the same.
+fn are_alike(own: &Option<Vec<u8>>, other: &Option<Vec<u8>>) -> bool {
+    match (own, other) {
+        (Some(own), Some(other)) => own.as_slice() == other.as_slice(),
+        _ => false,
+    }
+}
+
+// Whether the world's record leads to the world's report.
+fn is_replayed(alloc: Global, world: &World) -> bool {
+    let own = report(alloc, world).ok();
+    let other = report_again(alloc, world);
+    let is_alike = are_alike(&own, &other);
+    drop(own);
+    drop(other);
+    is_alike
+}
+
+// The world that the steps of the record lead to.
+fn world_after(alloc: Global, script: &Script) -> Result<World, ReplayFault> {
+    let (world, board) = World::replay(
+        alloc,
+        script.group,
+        script.cells,
+        script.batch,
+        &script.steps,
+    )?;
+    drop(board);
+    Ok(world)
 }
 
 // A record of three members with these steps.

@@ -73,7 +73,10 @@ fn rehearsed<L: Ledger>(alloc: Global, blank: Blank, steps: &[Step]) -> Option<O
 {
     let (world, board) = started(alloc)?;
     let (mut desk, mut share) = Desk::<L>::new(blank, world);
-    outcome_of(alloc, &mut desk, &mut share, &board, steps)
+    let outcome = outcome_of(alloc, &mut desk, &mut share, &board, steps);
+    drop(desk);
+    drop(board);
+    outcome
 }
 
 // The steps with a crash of the member after so many of them.
@@ -86,7 +89,9 @@ fn with_crash(alloc: Global, after: usize, member: Member) -> Result<Vec<Step>, 
 
 fn crashed(alloc: Global, after: usize, member: Member) -> Option<Outcome> {
     let steps = with_crash(alloc, after, member).ok()?;
-    rehearsed::<Brand>(alloc, Blank::new(1000), &steps)
+    let outcome = rehearsed::<Brand>(alloc, Blank::new(1000), &steps);
+    drop(steps);
+    outcome
 }
 
 fn delivers(world: &World, member: Member) -> bool {
@@ -106,26 +111,6 @@ fn are_in_one_order(world: &World) -> bool {
     is_in_one_order(world, 1, 2) && is_in_one_order(world, 1, 3) && is_in_one_order(world, 2, 3)
 }
 
-// The report of the world that this world's record leads to.
-fn report_again(alloc: Global, world: &World) -> Option<Vec<u8>> {
-    let (again, _board) = World::replay(
-        alloc,
-        world.group(),
-        world.cells(),
-        world.bound(),
-        world.record(),
-    )
-    .ok()?;
-    report(alloc, &again).ok()
-}
-
-// Whether the world's record leads to the world's report.
-fn is_replayed(alloc: Global, world: &World) -> Option<bool> {
-    let own = report(alloc, world).ok()?;
-    let other = report_again(alloc, world)?;
-    Some(own.as_slice() == other.as_slice())
-}
-
 // How many steps of all lists were done, refused and short, and in how many lists each member delivers.
 #[derive(Clone, Copy, PartialEq, Eq)]
 struct Sums {
@@ -137,7 +122,7 @@ struct Sums {
 
 // Adds what came of a list, where it is replayed and leaves one order.
 fn add(alloc: Global, sums: &mut Sums, outcome: &Outcome) -> Option<()> {
-    if is_replayed(alloc, &outcome.world)? && are_in_one_order(&outcome.world) {
+    if is_replayed(alloc, &outcome.world) && are_in_one_order(&outcome.world) {
         sums.applied = sums.applied.saturating_add(outcome.played.applied);
         sums.refused = sums.refused.saturating_add(outcome.played.refused);
         sums.short = sums.short.saturating_add(outcome.played.short);
@@ -157,7 +142,9 @@ fn add_deliveries(sums: &mut Sums, world: &World) {
 // The same of a list with a crash of the member after so many steps.
 fn add_crashed(alloc: Global, sums: &mut Sums, after: usize, member: Member) -> Option<()> {
     let outcome = crashed(alloc, after, member)?;
-    add(alloc, sums, &outcome)
+    let added = add(alloc, sums, &outcome);
+    drop(outcome);
+    added
 }
 
 // The sums of all lists with one crash: of each member, before the first step and after each.
@@ -188,11 +175,18 @@ fn lists_with_a_crash_are_replayed_and_leave_one_order(rt: HostRuntime) {
     assert!(rt; crashed_everywhere(rt.alloc()) == Some(wanted));
 }
 
+// Which members delivered something.
+fn delivering(world: &World) -> [bool; 3] {
+    [1, 2, 3].map(|member| delivers(world, member))
+}
+
 // What came of the list with this crash, how many envelopes were sent, and which members delivered.
 fn came(alloc: Global, after: usize, member: Member) -> Option<(Played, u32, [bool; 3])> {
     let outcome = crashed(alloc, after, member)?;
-    let delivered = [1, 2, 3].map(|member| delivers(&outcome.world, member));
-    Some((outcome.played, outcome.world.sent(), delivered))
+    let (played, sent) = (outcome.played, outcome.world.sent());
+    let delivered = delivering(&outcome.world);
+    drop(outcome);
+    Some((played, sent, delivered))
 }
 
 // The coordinator crashes once it has sent its proposal.
@@ -219,8 +213,10 @@ fn the_first_delivers(world: &World, message: Message) -> bool {
 fn decided_and_crashed(alloc: Global) -> Option<(Played, u32, bool)> {
     let message = Message::new(1, 1, Command::Set(0, 7))?;
     let outcome = crashed(alloc, 18, 2)?;
+    let (played, sent) = (outcome.played, outcome.world.sent());
     let delivers = the_first_delivers(&outcome.world, message);
-    Some((outcome.played, outcome.world.sent(), delivers))
+    drop(outcome);
+    Some((played, sent, delivers))
 }
 
 // The coordinator crashes once it has sent its decision.

@@ -1,4 +1,5 @@
-ghost use Rattle.std.specs.Prelude.{◌≡◌, ◌<◌, IfSome};
+ghost use Rattle.std.specs.Prelude.{◌≡◌, ◌<◌, ◌+◌, Ok, OnOk, IfOk, IfSome, vec_len};
+ghost use Rattle.ct_program.specs.declared.call.Call.TheVariants.{Free};
 ghost use Rattle.ct_program.specs.FreeOptions.{InRange};
 
 use super::*;
@@ -10,14 +11,24 @@ use std::thread::Threads;
 const LINE: &str =
     "{\"batch\":1048560,\"cells\":64,\"n\":2,\"steps\":[[\"submit\",1,[\"add\",0,1]],[\"submit\",2,[\"add\",1,2]],[\"submit\",1,[\"add\",2,3]],[\"crash\",2]],\"version\":3}\n";
 
+// The options of a call of a free run.
+fn options_of(call: &Result<Call, LineFault>) -> Option<FreeOptions>
+    ensures { IfSome result (λ options. call.now ≡ Ok (Free options)) }
+{
+    match call {
+        Ok(Call::Free(options)) => Some(*options),
+        _ => None,
+    }
+}
+
 // The options of a free run in these words.
 fn options(alloc: Global, words: &'static [&'static str]) -> Option<FreeOptions>
     ensures { IfSome result InRange }
 {
-    match line(alloc, words) {
-        Ok(Call::Free(options)) => Some(options),
-        _ => None,
-    }
+    let call = line(alloc, words);
+    let options = options_of(&call);
+    drop(call);
+    options
 }
 
 // The seeded detectors of the options.
@@ -26,9 +37,22 @@ fn detectors(alloc: Global, options: &FreeOptions) -> Result<Vec<Box<dyn Detecto
 {
     let mut detectors: Vec<Box<dyn Detector>> = Vec::new(alloc);
     for one in seeded(alloc, options)? {
-        detectors.push(Box::new(alloc, one)?)?;
+        push_seeded(alloc, &mut detectors, one)?;
     }
     Ok(detectors)
+}
+
+// Puts one of them behind the others.
+fn push_seeded(
+    alloc: Global,
+    detectors: &mut Vec<Box<dyn Detector>>,
+    one: Seeded,
+) -> Result<(), AllocError>
+    ensures { OnOk result (vec_len detectors.new ≡ vec_len detectors.old + 1) }
+{
+    let boxed: Box<dyn Detector> = Box::new(alloc, one)?;
+    detectors.push(boxed)?;
+    Ok(())
 }
 
 // What a free run of these words writes.
@@ -39,28 +63,39 @@ fn written<R: Threads + Wait + Sync>(
 ) -> Option<Vec<u8>> {
     let options = options(alloc, words)?;
     let detectors = detectors(alloc, &options).ok()?;
+    text_of_run(rt, alloc, &options, detectors)
+}
+
+// What a free run with these detectors writes.
+fn text_of_run<R: Threads + Wait + Sync>(
+    rt: &R,
+    alloc: Global,
+    options: &FreeOptions,
+    detectors: Vec<Box<dyn Detector>>,
+) -> Option<Vec<u8>>
+    requires { InRange options.now }
+{
     if detectors.len() != usize::from(options.members) {
+        drop(detectors);
         return None;
     }
     let mut writer = Counted::new(Vec::new(alloc));
-    if free(rt, alloc, &options, detectors, &mut writer).is_err() {
-        return None;
+    let is_written = free(rt, alloc, options, detectors, &mut writer).is_ok();
+    let text = writer.into_inner();
+    if is_written {
+        Some(text)
+    } else {
+        drop(text);
+        None
     }
-    Some(writer.into_inner())
 }
 
 // The world that the record leads to.
 fn world_of(alloc: Global, record: &[u8]) -> Option<World> {
     let script = read_record(alloc, record).ok()?;
-    let (world, _board) = World::replay(
-        alloc,
-        script.group,
-        script.cells,
-        script.batch,
-        &script.steps,
-    )
-    .ok()?;
-    Some(world)
+    let world = world_after(alloc, &script).ok();
+    drop(script);
+    world
 }
 
 // The world that the record leads to which a free run of these words writes.
@@ -70,14 +105,27 @@ fn replayed<R: Threads + Wait + Sync>(
     words: &'static [&'static str],
 ) -> Option<World> {
     let text = written(rt, alloc, words)?;
-    world_of(alloc, &text)
+    let world = world_of(alloc, &text);
+    drop(text);
+    world
+}
+
+// Whether a free run of these words writes this text.
+fn writes<R: Threads + Wait + Sync>(
+    rt: &R,
+    alloc: Global,
+    words: &'static [&'static str],
+    wanted: &str,
+) -> Option<bool> {
+    let text = written(rt, alloc, words)?;
+    let is_wanted = text.as_slice() == wanted.as_bytes();
+    drop(text);
+    Some(is_wanted)
 }
 
 #[test]
 fn a_free_run_is_written(rt: HostRuntime) -> Result<(), Fail> {
-    let is_line = written(&rt, rt.alloc(), SHORT_WORDS).is_some_and(|text| text.as_slice()
-        == LINE.as_bytes());
-    assert!(rt; is_line);
+    assert!(rt; writes(&rt, rt.alloc(), SHORT_WORDS, LINE) == Some(true));
     Ok(())
 }
 
@@ -135,13 +183,25 @@ fn is_of(world: &World, members: u8, cells: u16) -> bool {
         && world.sent() > 0
 }
 
+// Whether the record that a free run of these words writes leads to a world of that.
+fn leads_to<R: Threads + Wait + Sync>(
+    rt: &R,
+    alloc: Global,
+    words: &'static [&'static str],
+    members: u8,
+    cells: u16,
+) -> Option<bool> {
+    let world = replayed(rt, alloc, words)?;
+    let is_of = is_of(&world, members, cells);
+    drop(world);
+    Some(is_of)
+}
+
 #[test]
 fn free_runs_are_replayed(rt: HostRuntime) {
     for (words, members, cells) in &RUNS {
-        let is_replayed = replayed(&rt, rt.alloc(), *words).is_some_and(|world| is_of(
-            &world, *members, *cells,
-        ));
-        assert!(rt; is_replayed, "{members} members");
+        let is_replayed = leads_to(&rt, rt.alloc(), *words, *members, *cells);
+        assert!(rt; is_replayed == Some(true), "{members} members");
     }
 }
 
@@ -156,9 +216,17 @@ fn written_to<R: Threads + Wait + Sync>(
     requires one { options.now.members ≡ 1 }
     requires failures { writer.old.failures < 1000 }
 {
-    let mut one: Vec<Box<dyn Detector>> = Vec::new(alloc);
-    one.push(Box::new(alloc, Seeded::new(1, 64))?)?;
+    let one = one_seeded(alloc)?;
     Ok(free(rt, alloc, options, one, writer))
+}
+
+// The seeded detector of one member.
+fn one_seeded(alloc: Global) -> Result<Vec<Box<dyn Detector>>, AllocError>
+    ensures { IfOk result (λ detectors. vec_len detectors ≡ 1) }
+{
+    let mut one: Vec<Box<dyn Detector>> = Vec::new(alloc);
+    push_seeded(alloc, &mut one, Seeded::new(1, 64))?;
+    Ok(one)
 }
 
 #[test]
@@ -195,12 +263,24 @@ fn shows<R: Threads + Wait + Sync>(
     name: &str,
 ) -> Option<bool> {
     for _ in 0..TRIES {
-        let text = written(rt, alloc, words)?;
-        if has_name(&text, name)? {
+        if writes_name(rt, alloc, words, name)? {
             return Some(true);
         }
     }
     Some(false)
+}
+
+// Whether a run of these words writes the name.
+fn writes_name<R: Threads + Wait + Sync>(
+    rt: &R,
+    alloc: Global,
+    words: &'static [&'static str],
+    name: &str,
+) -> Option<bool> {
+    let text = written(rt, alloc, words)?;
+    let has_name = has_name(&text, name);
+    drop(text);
+    has_name
 }
 
 // Whether the text has the name; None where it is no text.
@@ -278,7 +358,14 @@ fn posted_by_ones<R: Threads + Wait + Sync>(
     words: &'static [&'static str],
 ) -> Option<u16> {
     let world = replayed(rt, alloc, words)?;
-    if world.bound() == 1 && has_batches_of_one(&world) {
+    let posted = posted_in_ones(&world);
+    drop(world);
+    posted
+}
+
+// How many batches the world has, where each has one message, as its bound says.
+fn posted_in_ones(world: &World) -> Option<u16> {
+    if world.bound() == 1 && has_batches_of_one(world) {
         Some(world.posted())
     } else {
         None
@@ -320,10 +407,17 @@ fn enters_unsuspected<R: Threads + Wait + Sync>(
     words: &'static [&'static str],
 ) -> Option<bool> {
     let text = written(rt, alloc, words)?;
-    if has_name(&text, "suspect")? {
+    let enters = has_enter_alone(&text);
+    drop(text);
+    enters
+}
+
+// Whether the text has an entry; None where it has a suspicion, or is no text.
+fn has_enter_alone(text: &[u8]) -> Option<bool> {
+    if has_name(text, "suspect")? {
         return None;
     }
-    has_name(&text, "enter")
+    has_name(text, "enter")
 }
 
 // Runs are tried until somebody enters a round, so has a coordinator to ask about.
@@ -359,7 +453,14 @@ fn suspicions_of(detector: &mut Seeded) -> u64 {
 fn suspicions(alloc: Global, words: &'static [&'static str]) -> Option<u64> {
     let options = options(alloc, words)?;
     let mut all = seeded(alloc, &options).ok()?;
-    all.first_mut().map(suspicions_of)
+    let suspicions = first_suspicions(&mut all);
+    drop(all);
+    suspicions
+}
+
+// The same of the first of the detectors.
+fn first_suspicions(detectors: &mut [Seeded]) -> Option<u64> {
+    detectors.first_mut().map(suspicions_of)
 }
 
 #[test]
@@ -403,12 +504,23 @@ fn first_answer<R: Threads + Wait + Sync>(
     words: &'static [&'static str],
 ) -> Option<bool> {
     for _ in 0..TRIES {
-        let world = replayed(rt, alloc, words)?;
-        if let Some(step) = after_enter(&world) {
+        if let Some(step) = answered(rt, alloc, words)? {
             return Some(step == Step::Suspect(1));
         }
     }
     None
+}
+
+// The same of one such run.
+fn answered<R: Threads + Wait + Sync>(
+    rt: &R,
+    alloc: Global,
+    words: &'static [&'static str],
+) -> Option<Option<Step>> {
+    let world = replayed(rt, alloc, words)?;
+    let step = after_enter(&world);
+    drop(world);
+    Some(step)
 }
 
 // At seed 13 and rate 128 member 1's detector says yes at its first ask, and member 2's no. At seed 136828 and rate 8 member

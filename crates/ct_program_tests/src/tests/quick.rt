@@ -79,14 +79,19 @@ fn taken(alloc: Global, record: &[u8]) -> Result<Option<usize>, AllocError> {
     if record.len() > MAX_LEN {
         return Ok(None);
     }
-    Ok(read_plain(alloc, record)?.map(|script| script.steps.len()))
+    let Some(script) = read_plain(alloc, record)? else {
+        return Ok(None);
+    };
+    let count = script.steps.len();
+    drop(script);
+    Ok(Some(count))
 }
 
 // The first of the records of which the quick way takes another number.
 fn taken_otherwise(alloc: Global) -> Result<Option<&'static str>, AllocError> {
-    for (record, wanted) in TAKEN {
-        if taken(alloc, record.as_bytes())? != wanted {
-            return Ok(Some(record));
+    for (record, wanted) in &TAKEN {
+        if taken(alloc, record.as_bytes())? != *wanted {
+            return Ok(Some(*record));
         }
     }
     Ok(None)
@@ -99,12 +104,22 @@ fn records_are_read_quickly(rt: HostRuntime) -> Result<(), Fail> {
     Ok(())
 }
 
-// Whether a record of four cells and one step is not read quickly, but read.
+// Whether a record of four cells and one step is read.
+fn is_read(alloc: Global, record: &[u8]) -> bool {
+    match read_record(alloc, record) {
+        Ok(script) => {
+            let is_wanted = script.cells == 4 && script.steps.len() == 1;
+            drop(script);
+            is_wanted
+        }
+        Err(_) => false,
+    }
+}
+
+// Whether such a record is not read quickly, but read.
 fn is_read_the_long_way(alloc: Global, record: &str) -> Result<bool, AllocError> {
     let quickly = taken(alloc, record.as_bytes())?;
-    let read = read_record(alloc, record.as_bytes()).is_ok_and(|script| script.cells == 4
-        && script.steps.len() == 1);
-    Ok(quickly.is_none() && read)
+    Ok(quickly.is_none() && is_read(alloc, record.as_bytes()))
 }
 
 // An escape in a name or in a key, and more than five members, of which two have the same key.

@@ -162,12 +162,19 @@ static LISTS: [(ProgramFault, &[&str]); 9] = [
     ),
 ];
 
+// Whether a replay of these steps has this fault, and writes nothing.
+fn is_refused(alloc: Global, steps: &str, fault: ProgramFault) -> Result<bool, AllocError> {
+    let record = with_steps(alloc, steps)?;
+    let is_refused = answers(alloc, &record, Err(fault), &[]);
+    drop(record);
+    Ok(is_refused)
+}
+
 // The first of the lists to which a replay has another answer, or after which something is written.
 fn listed_otherwise(alloc: Global) -> Result<Option<&'static str>, AllocError> {
     for (fault, lists) in &LISTS {
         for list in *lists {
-            let record = with_steps(alloc, *list)?;
-            if !answers(alloc, &record, Err(*fault), &[]) {
+            if !is_refused(alloc, *list, *fault)? {
                 return Ok(Some(*list));
             }
         }
@@ -183,7 +190,10 @@ fn lists_of_steps_are_refused(rt: HostRuntime) -> Result<(), Fail> {
 
 fn fault_of(alloc: Global, record: &[u8]) -> Option<ReadFault> {
     match read_record(alloc, record) {
-        Ok(_) => None,
+        Ok(script) => {
+            drop(script);
+            None
+        }
         Err(fault) => Some(fault),
     }
 }
@@ -204,21 +214,26 @@ fn a_record_cut_short_is_no_json(rt: HostRuntime) {
     assert_eq!(rt; cut_short(rt.alloc(), ONE_ROUND), ONE_ROUND.len());
 }
 
+// Puts the byte behind the text so many times.
+fn push_all(text: &mut Vec<u8>, byte: u8, count: usize) -> Result<(), AllocError> {
+    for _ in 0..count {
+        text.push(byte)?;
+    }
+    Ok(())
+}
+
 // So many opening brackets, and then as many closing ones.
 fn brackets(alloc: Global, count: usize) -> Result<Vec<u8>, AllocError> {
-    let mut text = Vec::new(alloc);
-    for _ in 0..count {
-        text.push(b'[')?;
-    }
-    for _ in 0..count {
-        text.push(b']')?;
-    }
+    let mut text = vec![in alloc; b'['; count]?;
+    push_all(&mut text, b']', count)?;
     Ok(text)
 }
 
 fn fault_of_brackets(alloc: Global, count: usize) -> Result<Option<ReadFault>, AllocError> {
     let text = brackets(alloc, count)?;
-    Ok(fault_of(alloc, &text))
+    let fault = fault_of(alloc, &text);
+    drop(text);
+    Ok(fault)
 }
 
 #[test]
@@ -235,7 +250,9 @@ fn faults_of_spaces(alloc: Global, count: usize) -> Result<[Option<ReadFault>; 2
     let mut text = vec![in alloc; b' '; count]?;
     let long = fault_of(alloc, &text);
     text.pop();
-    Ok([long, fault_of(alloc, &text)])
+    let shorter = fault_of(alloc, &text);
+    drop(text);
+    Ok([long, shorter])
 }
 
 #[test]

@@ -40,9 +40,9 @@ static REPORTS: [(&str, &str); 10] = [
 
 // The first of the records that has another report.
 fn reported_otherwise(alloc: Global) -> Option<&'static str> {
-    for (record, report) in REPORTS {
-        if !is_report_of(alloc, record, report) {
-            return Some(record);
+    for (record, report) in &REPORTS {
+        if !is_report_of(alloc, *record, *report) {
+            return Some(*record);
         }
     }
     None
@@ -56,7 +56,9 @@ fn records_are_reported(rt: HostRuntime) {
 // Whether the record has the same report where the other estimate is chosen.
 fn chooses_the_other(alloc: Global) -> Result<bool, AllocError> {
     let record = ONE_ROUND.replace(alloc, "[\"choose\",2,1]", "[\"choose\",2,2]")?;
-    Ok(record.as_str() != ONE_ROUND && is_report_of(alloc, &record, ONE_ROUND_REPORT))
+    let is_same = record.as_str() != ONE_ROUND && is_report_of(alloc, &record, ONE_ROUND_REPORT);
+    drop(record);
+    Ok(is_same)
 }
 
 #[test]

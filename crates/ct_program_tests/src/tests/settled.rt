@@ -50,86 +50,101 @@ fn disturbed(alloc: Global) -> Result<Plan, AllocError>
     })
 }
 
-// The world after a run of three members with these detectors, of which member 1's comes first.
-fn settled<R: Threads + Wait + Sync>(
-    rt: &R,
-    alloc: Global,
-    detectors: Vec<Box<dyn Detector>>,
-) -> Option<World> {
-    let plan = disturbed(alloc).ok()?;
-    settled_by(rt, alloc, &plan, detectors)
+// Three members and 64 cells without steps, and their board.
+fn three(alloc: Global) -> Option<(World, Board)> {
+    let group = Group::new(3)?;
+    let board = Board::new(alloc, 64).ok()?;
+    let world = World::new(alloc, group, 64, MAX_BOUND).ok()?;
+    Some((world, board))
 }
 
-// The world after this run of three members.
-fn settled_by<R: Threads + Wait + Sync>(
+// Whether more than the script's steps were made, and the world's report is that of its record's replay.
+fn reports_alike(alloc: Global, world: &World) -> bool {
+    world.record().len() > 5 && is_replayed(alloc, world)
+}
+
+// The same of the world after this run of three members with these detectors, of which member 1's comes first.
+fn settles<R: Threads + Wait + Sync>(
     rt: &R,
     alloc: Global,
     plan: &Plan,
     detectors: Vec<Box<dyn Detector>>,
-) -> Option<World>
+) -> Option<bool>
     requires { IsWithin plan.now }
 {
-    let world = World::new(alloc, Group::new(3)?, 64, MAX_BOUND).ok()?;
-    let board = Board::new(alloc, 64).ok()?;
+    let Some((world, board)) = three(alloc) else {
+        drop(detectors);
+        return None;
+    };
     if detectors.len() != usize::from(world.group().n()) {
+        drop(world);
+        drop(board);
+        drop(detectors);
         return None;
     }
     let done = rehearse(rt, alloc, world, board, plan, detectors, &NoGate).ok()?;
-    Some(done.world)
+    let is_alike = reports_alike(alloc, &done.world);
+    drop(done);
+    Some(is_alike)
 }
 
-// Whether more than the script's steps were made, and the world's report is that of its record's replay.
-fn reports_alike(alloc: Global, world: &World) -> Option<bool> {
-    let (again, _board) = World::replay(
-        alloc,
-        world.group(),
-        world.cells(),
-        world.bound(),
-        world.record(),
-    )
-    .ok()?;
-    let is_alike = report(alloc, world).ok()?.as_slice() == report(alloc, &again).ok()?.as_slice();
-    Some(world.record().len() > 5 && is_alike)
+// The same where there are detectors.
+fn settles_alike<R: Threads + Wait + Sync>(
+    rt: &R,
+    alloc: Global,
+    detectors: Option<Vec<Box<dyn Detector>>>,
+) -> Option<bool> {
+    let detectors = detectors?;
+    let Ok(plan) = disturbed(alloc) else {
+        drop(detectors);
+        return None;
+    };
+    let is_alike = settles(rt, alloc, &plan, detectors);
+    drop(plan);
+    is_alike
+}
+
+fn push_simple(alloc: Global, detectors: &mut Vec<Box<dyn Detector>>) -> Result<(), AllocError> {
+    detectors.push(Box::new(alloc, Never::new())?)?;
+    detectors.push(Box::new(alloc, Always::new())?)?;
+    detectors.push(Box::new(alloc, Seeded::new(1, 64))?)?;
+    Ok(())
 }
 
 fn simple(alloc: Global) -> Result<Vec<Box<dyn Detector>>, AllocError> {
     let mut detectors: Vec<Box<dyn Detector>> = Vec::new(alloc);
-    detectors.push(Box::new(alloc, Never::new())?)?;
-    detectors.push(Box::new(alloc, Always::new())?)?;
-    detectors.push(Box::new(alloc, Seeded::new(1, 64))?)?;
+    push_simple(alloc, &mut detectors)?;
     Ok(detectors)
 }
 
 #[test]
-fn a_settled_world_has_the_report_of_its_replay(rt: HostRuntime) -> Result<(), Fail> {
+fn a_settled_world_has_the_report_of_its_replay(rt: HostRuntime) {
     let alloc = rt.alloc();
-    let world = settled(&rt, alloc, simple(alloc)?).ok_or("run")?;
-    assert_eq!(rt; reports_alike(alloc, &world), Some(true));
+    assert_eq!(rt; settles_alike(&rt, alloc, simple(alloc).ok()), Some(true));
+}
+
+fn push_others(
+    alloc: Global,
+    detectors: &mut Vec<Box<dyn Detector>>,
+    each_third: EveryNth,
+) -> Result<(), AllocError> {
+    let mut second = MemberSet::new();
+    second.insert(2);
+    detectors.push(Box::new(alloc, Listed::new(second))?)?;
+    detectors.push(Box::new(alloc, each_third)?)?;
+    detectors.push(Box::new(alloc, Alternating { last: None })?)?;
     Ok(())
 }
 
 fn others(alloc: Global) -> Option<Vec<Box<dyn Detector>>> {
-    let mut second = MemberSet::new();
-    second.insert(2);
     let each_third = EveryNth::new(3)?;
     let mut detectors: Vec<Box<dyn Detector>> = Vec::new(alloc);
-    detectors
-        .push(Box::new(alloc, Listed::new(second)).ok()?)
-        .ok()?;
-    detectors.push(Box::new(alloc, each_third).ok()?).ok()?;
-    detectors
-        .push(Box::new(alloc, Alternating { last: None }).ok()?)
-        .ok()?;
+    push_others(alloc, &mut detectors, each_third).ok()?;
     Some(detectors)
 }
 
 #[test]
-fn a_world_settled_by_other_detectors_has_the_report_of_its_replay(
-    rt: HostRuntime,
-) -> Result<(), Fail> {
+fn a_world_settled_by_other_detectors_has_the_report_of_its_replay(rt: HostRuntime) {
     let alloc = rt.alloc();
-    let detectors = others(alloc).ok_or("detectors")?;
-    let world = settled(&rt, alloc, detectors).ok_or("run")?;
-    assert_eq!(rt; reports_alike(alloc, &world), Some(true));
-    Ok(())
+    assert_eq!(rt; settles_alike(&rt, alloc, others(alloc)), Some(true));
 }

@@ -62,9 +62,10 @@ fn is_answered_byte_by_byte(
     };
     let mut writer = Counted::new(Vec::new(alloc));
     let found = run_replay(alloc, &mut reader, &mut writer);
-    found == answer
-        && writer.into_inner().as_slice() == bytes
-        && answers(alloc, record, answer, bytes)
+    let written = writer.into_inner();
+    let is_written = written.as_slice() == bytes;
+    drop(written);
+    found == answer && is_written && answers(alloc, record, answer, bytes)
 }
 
 #[test]
@@ -90,7 +91,10 @@ fn fails_after_ten_bytes(alloc: Global) -> bool {
     };
     let mut writer = Counted::new(Vec::new(alloc));
     let answer = run_replay(alloc, &mut reader, &mut writer);
-    answer == Err(ProgramFault::Reader) && reader.failures == 1 && writer.into_inner().is_empty()
+    let written = writer.into_inner();
+    let is_empty = written.is_empty();
+    drop(written);
+    answer == Err(ProgramFault::Reader) && reader.failures == 1 && is_empty
 }
 
 #[test]
@@ -132,6 +136,13 @@ struct Sevens {
     failures: u64,
 }
 
+impl Sevens {
+    // Whether it failed once, after the first bytes of the report.
+    fn has_stopped(&self) -> bool {
+        self.failures == 1 && self.taken.as_slice() == &ONE_ROUND_REPORT.as_bytes()[..14]
+    }
+}
+
 impl Sink for Sevens {
     ghost use Rattle.std.specs.Prelude.{None};
 
@@ -158,9 +169,9 @@ fn stops_at_the_failed_write(alloc: Global) -> bool {
         failures: 0,
     };
     let answer = run_replay(alloc, &mut reader, &mut writer);
-    answer == Err(ProgramFault::Write)
-        && writer.failures == 1
-        && writer.taken.as_slice() == &ONE_ROUND_REPORT.as_bytes()[..14]
+    let has_stopped = writer.has_stopped();
+    drop(writer);
+    answer == Err(ProgramFault::Write) && has_stopped
 }
 
 #[test]

@@ -69,9 +69,27 @@ static CALLS: [(&[&str], Call); 4] = [
     ),
 ];
 
+// Whether it is this call.
+fn is_call(found: &Result<Call, LineFault>, wanted: &Call) -> bool {
+    match found {
+        Ok(call) => call == wanted,
+        Err(_) => false,
+    }
+}
+
+// Whether the words are this call.
+fn calls(alloc: Global, words: &[&str], wanted: &Call) -> bool {
+    let found = line(alloc, words);
+    let is_wanted = is_call(&found, wanted);
+    drop(found);
+    is_wanted
+}
+
 // The place of the first of the words that are another call, or none.
 fn called_otherwise(alloc: Global) -> Option<usize> {
-    CALLS.iter().position(|(words, call)| !line(alloc, *words).is_ok_and(|found| found == *call))
+    CALLS
+        .iter()
+        .position(|(words, call)| !calls(alloc, *words, call))
 }
 
 #[test]
@@ -109,12 +127,20 @@ static REFUSED: [(&[&str], ErrorKind); 12] = [
     ),
 ];
 
-// Whether clap answers the words so.
-fn is_refused(alloc: Global, words: &[&str], kind: ErrorKind) -> bool {
-    match line(alloc, words) {
+// Whether that is clap's answer.
+fn is_of_kind(found: &Result<Call, LineFault>, kind: ErrorKind) -> bool {
+    match found {
         Err(LineFault::Clap(error)) => error.kind() == kind,
         _ => false,
     }
+}
+
+// Whether clap answers the words so.
+fn is_refused(alloc: Global, words: &[&str], kind: ErrorKind) -> bool {
+    let found = line(alloc, words);
+    let is_refused = is_of_kind(&found, kind);
+    drop(found);
+    is_refused
 }
 
 // The place of the first of the words that are answered otherwise.
@@ -162,9 +188,19 @@ static OUT_OF_RANGE: [&[&str]; 16] = [
     ],
 ];
 
+// Whether the words are refused for a value alone.
+fn is_out_of_range(alloc: Global, words: &[&str]) -> bool {
+    let found = line(alloc, words);
+    let is_out_of_range = matches!(&found, Err(LineFault::Range));
+    drop(found);
+    is_out_of_range
+}
+
 // The place of the first of these that are not refused for a value alone.
 fn within_range(alloc: Global) -> Option<usize> {
-    OUT_OF_RANGE.iter().position(|words| !matches!(&line(alloc, *words), Err(LineFault::Range)))
+    OUT_OF_RANGE
+        .iter()
+        .position(|words| !is_out_of_range(alloc, *words))
 }
 
 #[test]
@@ -198,21 +234,33 @@ static HELP: [(&[&str], &[&str]); 3] = [
     (&["ct", "--version"], &["ct 0.1.0\n"]),
 ];
 
-// Whether clap answers the words by a text with all these parts.
-fn shows_all(alloc: Global, words: &[&str], parts: &[&str]) -> bool {
-    match line(alloc, words) {
-        Err(LineFault::Clap(error)) => {
-            let text = format!(in alloc; "{error}");
-            text.is_ok_and(|text| parts.iter().all(|part| text.contains(*part)))
-        }
-        _ => false,
+// Whether the text has all these parts.
+fn has_all(text: &str, parts: &[&str]) -> bool {
+    parts.iter().all(|part| text.contains(*part))
+}
+
+// The text by which clap answers.
+fn text_of(alloc: Global, found: &Result<Call, LineFault>) -> Option<String> {
+    match found {
+        Err(LineFault::Clap(error)) => format!(in alloc; "{error}").ok(),
+        _ => None,
     }
+}
+
+// Whether clap answers the words by a text with all these parts.
+fn shows_all(alloc: Global, words: &[&str], parts: &[&str]) -> Option<bool> {
+    let found = line(alloc, words);
+    let text = text_of(alloc, &found);
+    drop(found);
+    let text = text?;
+    let has_all = has_all(&text, parts);
+    drop(text);
+    Some(has_all)
 }
 
 // The place of the first of these whose text lacks a part.
 fn shown_otherwise(alloc: Global) -> Option<usize> {
-    HELP.iter()
-        .position(|(words, parts)| !shows_all(alloc, *words, *parts))
+    HELP.iter().position(|(words, parts)| shows_all(alloc, *words, *parts) != Some(true))
 }
 
 #[test]

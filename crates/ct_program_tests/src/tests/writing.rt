@@ -3,19 +3,24 @@ use super::*;
 // What is written of the world that the record leads to.
 fn rewritten(alloc: Global, record: &[u8]) -> Result<Vec<u8>, ProgramFault> {
     let script = read_record(alloc, record)?;
-    let (world, _board) = World::replay(
-        alloc,
-        script.group,
-        script.cells,
-        script.batch,
-        &script.steps,
-    )?;
-    Ok(write_record(alloc, &world)?)
+    let world = world_after(alloc, &script);
+    drop(script);
+    let world = world?;
+    let text = write_record(alloc, &world);
+    drop(world);
+    Ok(text?)
 }
 
 // Whether this text is written of the world that the record leads to.
 fn is_rewritten(alloc: Global, record: &str, text: &str) -> bool {
-    rewritten(alloc, record.as_bytes()).is_ok_and(|bytes| bytes.as_slice() == text.as_bytes())
+    match rewritten(alloc, record.as_bytes()) {
+        Ok(bytes) => {
+            let is_text = bytes.as_slice() == text.as_bytes();
+            drop(bytes);
+            is_text
+        }
+        Err(_) => false,
+    }
 }
 
 // Records, and what is written of the worlds that they lead to.
@@ -58,9 +63,9 @@ static WRITTEN: [(&str, &str); 10] = [
 
 // The first of the records of which something else is written.
 fn written_otherwise(alloc: Global) -> Option<&'static str> {
-    for (record, text) in WRITTEN {
-        if !is_rewritten(alloc, record, text) {
-            return Some(record);
+    for (record, text) in &WRITTEN {
+        if !is_rewritten(alloc, *record, *text) {
+            return Some(*record);
         }
     }
     None
