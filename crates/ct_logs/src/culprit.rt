@@ -19,26 +19,28 @@ pub(crate) fn told_of(
     stopped: Option<&StoppedLines>,
 ) -> Result<String, AllocError> {
     let mut text = String::new(alloc);
+    push_told(alloc, &mut text, sources, culprit, stopped)?;
+    Ok(text)
+}
+
+fn push_told(
+    alloc: Global,
+    text: &mut String,
+    sources: Sources<'_>,
+    culprit: &Culprit,
+    stopped: Option<&StoppedLines>,
+) -> Result<(), AllocError> {
     let Culprit {
         member,
         place,
         why,
         run,
     } = culprit;
-    push_reason(
-        alloc,
-        &mut text,
-        sources,
-        *member,
-        *place,
-        why,
-        run.as_ref(),
-    )?;
+    push_reason(alloc, text, sources, *member, *place, why, run.as_ref())?;
     if let Some(stopped) = stopped {
-        push_others(alloc, &mut text, sources, culprit, stopped)?;
+        push_others(alloc, text, sources, culprit, stopped)?;
     }
-    push_torn(&mut text, sources.names, sources.texts)?;
-    Ok(text)
+    push_torn(text, sources.names, sources.texts)
 }
 
 // The line at this place of the member's log, and why it is not taken; what was sent instead is looked up in the run.
@@ -94,19 +96,41 @@ fn push_reply(text: &mut String, carried: Carried) -> Result<(), AllocError> {
 
 // The full name of the envelope that the line of the member's log receives.
 fn received(alloc: Global, member: Member, line: &[u8]) -> Result<Option<FullName>, AllocError> {
+    let text = with_feed(alloc, line)?;
+    let read = LogText::read(alloc, member, &text);
+    drop(text);
+    match read {
+        Ok(mut log) => {
+            let name = first_name(alloc, &mut log);
+            drop(log);
+            Ok(name)
+        }
+        Err(LogFault::Memory) => Err(AllocError),
+        Err(LogFault::Line(_, why)) => {
+            drop(why);
+            Ok(None)
+        }
+    }
+}
+
+// The line, and a line feed.
+fn with_feed(alloc: Global, line: &[u8]) -> Result<Vec<u8>, AllocError> {
     let mut text = Vec::new(alloc);
     text.extend_from_slice(line)?;
     text.push(b'\n')?;
-    let mut log = match LogText::read(alloc, member, &text) {
-        Ok(log) => log,
-        Err(LogFault::Memory) => return Err(AllocError),
-        Err(LogFault::Line(..)) => return Ok(None),
+    Ok(text)
+}
+
+// The full name of the envelope that the first line of the log receives.
+fn first_name(alloc: Global, log: &mut LogText) -> Option<FullName> {
+    let (_, _, lines, places) = log.take_parts(alloc);
+    drop(places);
+    let name = match lines.first() {
+        Some(line) => name_in(line.act),
+        None => None,
     };
-    let (_, _, lines, _) = log.take_parts(alloc);
-    match lines.first() {
-        Some(line) => Ok(name_in(line.act)),
-        None => Ok(None),
-    }
+    drop(lines);
+    name
 }
 
 // The full name of the envelope that the act receives.

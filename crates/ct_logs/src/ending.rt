@@ -17,7 +17,7 @@ use crate::told::Told;
 use crate::torn::push_torn;
 use crate::unmet::unmet_text;
 use crate::writing::written;
-use ct_merge::{Culprit, StoppedLines, Verdict};
+use ct_merge::Verdict;
 use ct_world::{Setup, World};
 use std::alloc::{AllocError, Global};
 
@@ -28,72 +28,115 @@ pub(crate) struct AcceptedRun {
     pub told: Told,
 }
 
-// What is written and told of logs that came to this, with such steps presumed; their texts are let go before that is made.
+// What is written and told of logs that came to this; their texts are let go before that is made.
 pub(crate) fn end_of(
     alloc: Global,
     names: &[&str],
     texts: Vec<Vec<u8>>,
     set: LogSet,
-    setup: Setup,
     judged: Judged,
     form: Form,
-    presumed: &str,
 ) -> Result<AcceptedRun, MergeFault>
     requires merged { IfAccepted judged.verdict IsSomeMerge }
-    requires setting { IfAccepted judged.verdict (λ w. w.setting ≡ setting_of setup) }
-    requires cells { IfAccepted judged.verdict (λ w. w.cells ≡ setup.cells) }
+    requires setting { IfAccepted judged.verdict (λ w. w.setting ≡ setting_of judged.setup) }
+    requires cells { IfAccepted judged.verdict (λ w. w.cells ≡ judged.setup.cells) }
     ensures run { IfOk result (λ run. IsSomeRun form run.text.items) }
     ensures err { IfErr result (λ fault. fault ≢ MergeFault.Write) }
 {
-    let Judged { verdict, stopped } = judged;
-    let same = setup;
-    let unmet = unmet_in(alloc, names, &texts, &set, same, &verdict, stopped.as_ref())?;
-    if let Some(text) = unmet {
-        return Err(MergeFault::Refused(text));
-    }
-    match verdict {
-        Verdict::Accepted(world) => {
-            let torn = torn_of(alloc, names, &texts)?;
-            drop(texts);
-            drop(set);
-            accept(alloc, setup, world, form, torn.as_str(), presumed)
+    let told = told_in(alloc, names, &texts, &set, &judged);
+    drop(texts);
+    drop(set);
+    match told {
+        Ok(told) => ended(alloc, judged, form, told),
+        Err(fault) => {
+            drop(judged);
+            Err(fault)
         }
-        Verdict::Refused(culprit) => Err(refused_in(
-            alloc,
-            names,
-            &texts,
-            &set,
-            &culprit,
-            stopped.as_ref(),
-        )),
-        Verdict::Cut(culprit) => Err(cut_in(
-            alloc,
-            names,
-            &texts,
-            &set,
-            &culprit,
-            stopped.as_ref(),
-        )),
     }
 }
 
-// What is told of an expectation that does not hold in the run, as far as the logs go.
+// What is written and told of a run behind which this is told of torn last lines; or this, why none is written.
+fn ended(alloc: Global, judged: Judged, form: Form, told: String) -> Result<AcceptedRun, MergeFault>
+    requires merged { IfAccepted judged.verdict IsSomeMerge }
+    requires setting { IfAccepted judged.verdict (λ w. w.setting ≡ setting_of judged.setup) }
+    requires cells { IfAccepted judged.verdict (λ w. w.cells ≡ judged.setup.cells) }
+    ensures run { IfOk result (λ run. IsSomeRun form run.text.items) }
+    ensures err { IfErr result (λ fault. fault ≢ MergeFault.Write) }
+{
+    let Judged {
+        setup,
+        verdict,
+        stopped,
+        presumed,
+    } = judged;
+    drop(stopped);
+    match verdict {
+        Verdict::Accepted(world) => accept(alloc, setup, world, form, told, presumed),
+        Verdict::Refused(culprit) => {
+            drop(culprit);
+            drop(presumed);
+            Err(MergeFault::Refused(told))
+        }
+        Verdict::Cut(culprit) => {
+            drop(culprit);
+            drop(presumed);
+            Err(MergeFault::Cut(told))
+        }
+    }
+}
+
+// What is told of logs that came to this: of torn last lines where they are accepted, else of the line at which a log stands. Where an
+// expectation does not hold in the run, as far as the logs go, they are refused.
+fn told_in(
+    alloc: Global,
+    names: &[&str],
+    texts: &[Vec<u8>],
+    set: &LogSet,
+    judged: &Judged,
+) -> Result<String, MergeFault>
+    ensures { IfErr result (λ fault. fault ≢ MergeFault.Write) }
+{
+    match unmet_in(alloc, names, texts, set, judged)? {
+        Some(text) => Err(MergeFault::Refused(text)),
+        None => Ok(verdict_in(alloc, names, texts, set, judged)?),
+    }
+}
+
+// What is told of an expectation that does not hold.
 fn unmet_in(
     alloc: Global,
     names: &[&str],
     texts: &[Vec<u8>],
     set: &LogSet,
-    setup: Setup,
-    verdict: &Verdict,
-    stopped: Option<&StoppedLines>,
+    judged: &Judged,
 ) -> Result<Option<String>, MergeFault>
     ensures { IfErr result (λ fault. fault ≢ MergeFault.Write) }
 {
     let files = sources(names, texts, set);
-    match (verdict, stopped) {
+    let setup = judged.setup;
+    match (&judged.verdict, &judged.stopped) {
         (Verdict::Accepted(world), _) => unmet_text(alloc, files, setup, world),
         (_, Some(stopped)) => unmet_text(alloc, files, setup, &stopped.run),
         (_, None) => Ok(None),
+    }
+}
+
+// What is told of the verdict.
+fn verdict_in(
+    alloc: Global,
+    names: &[&str],
+    texts: &[Vec<u8>],
+    set: &LogSet,
+    judged: &Judged,
+) -> Result<String, AllocError> {
+    match &judged.verdict {
+        Verdict::Accepted(_) => torn_of(alloc, names, texts),
+        Verdict::Refused(culprit) | Verdict::Cut(culprit) => told_of(
+            alloc,
+            sources(names, texts, set),
+            culprit,
+            judged.stopped.as_ref(),
+        ),
     }
 }
 
@@ -105,14 +148,13 @@ fn torn_of(alloc: Global, names: &[&str], texts: &[Vec<u8>]) -> Result<String, A
 }
 
 // What is written and told of the run.
-#[tactic(auto, using(crate::proofs::Merged::some_run))]
 fn accept(
     alloc: Global,
     setup: Setup,
     world: World,
     form: Form,
-    torn: &str,
-    presumed: &str,
+    torn: String,
+    presumed: String,
 ) -> Result<AcceptedRun, MergeFault>
     requires setting { world.rehearsal.setting ≡ setting_of setup }
     requires cells { world.rehearsal.cells ≡ setup.cells }
@@ -121,9 +163,40 @@ fn accept(
     ensures err { IfErr result (λ fault. fault ≡ MergeFault.Memory) }
 {
     let same = setup;
-    let told = told_of_run(alloc, setup, &world, torn, presumed)?;
-    let text = written(alloc, same, world, form)?;
-    Ok(AcceptedRun { text, told })
+    let told = told_of_run(alloc, setup, &world, torn.as_str(), presumed.as_str());
+    drop(torn);
+    drop(presumed);
+    match told {
+        Ok(told) => write_of(alloc, same, world, form, told),
+        Err(_) => {
+            drop(world);
+            Err(MergeFault::Memory)
+        }
+    }
+}
+
+// What is written of the run, of which this is told.
+#[tactic(auto, using(crate::proofs::Merged::some_run))]
+fn write_of(
+    alloc: Global,
+    setup: Setup,
+    world: World,
+    form: Form,
+    told: Told,
+) -> Result<AcceptedRun, MergeFault>
+    requires setting { world.rehearsal.setting ≡ setting_of setup }
+    requires cells { world.rehearsal.cells ≡ setup.cells }
+    requires merged { IsSomeMerge world.rehearsal }
+    ensures run { IfOk result (λ run. IsSomeRun form run.text.items) }
+    ensures err { IfErr result (λ fault. fault ≡ MergeFault.Memory) }
+{
+    match written(alloc, setup, world, form) {
+        Ok(text) => Ok(AcceptedRun { text, told }),
+        Err(fault) => {
+            drop(told);
+            Err(fault)
+        }
+    }
 }
 
 // What is told of the run.
@@ -159,48 +232,4 @@ pub(crate) fn sources<'a>(
     set: &'a LogSet,
 ) -> Sources<'a> {
     Sources { names, texts, set }
-}
-
-pub(crate) fn refused(
-    alloc: Global,
-    sources: Sources<'_>,
-    culprit: &Culprit,
-    stopped: Option<&StoppedLines>,
-) -> MergeFault
-    ensures { result ≢ MergeFault.Write }
-{
-    match told_of(alloc, sources, culprit, stopped) {
-        Ok(text) => MergeFault::Refused(text),
-        Err(_) => MergeFault::Memory,
-    }
-}
-
-// The same of logs with these names and texts.
-fn refused_in(
-    alloc: Global,
-    names: &[&str],
-    texts: &[Vec<u8>],
-    set: &LogSet,
-    culprit: &Culprit,
-    stopped: Option<&StoppedLines>,
-) -> MergeFault
-    ensures { result ≢ MergeFault.Write }
-{
-    refused(alloc, sources(names, texts, set), culprit, stopped)
-}
-
-fn cut_in(
-    alloc: Global,
-    names: &[&str],
-    texts: &[Vec<u8>],
-    set: &LogSet,
-    culprit: &Culprit,
-    stopped: Option<&StoppedLines>,
-) -> MergeFault
-    ensures { result ≢ MergeFault.Write }
-{
-    match told_of(alloc, sources(names, texts, set), culprit, stopped) {
-        Ok(text) => MergeFault::Cut(text),
-        Err(_) => MergeFault::Memory,
-    }
 }

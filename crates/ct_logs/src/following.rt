@@ -5,7 +5,8 @@ ghost use Rattle.ct_world.specs.Setup.{setting_of};
 ghost use Rattle.ct_merge.specs.Verdicts.{IfAccepted};
 ghost use Rattle.ct_logs.specs.Merged.{IsSomeMerge, IsSomeRun};
 
-use crate::ending::{AcceptedRun, end_of, no_logs, refused, sources};
+use crate::culprit::told_of;
+use crate::ending::{AcceptedRun, end_of, no_logs, sources};
 use crate::form::Form;
 use crate::growth::Growth;
 use crate::judged::Judged;
@@ -18,7 +19,6 @@ use crate::tail::{Parts, Tail};
 use ct_merge::{Culprit, LogLine};
 use ct_names::Member;
 use ct_streams::{FileFault, Files, Source};
-use ct_world::Setup;
 use std::alloc::{AllocError, Global};
 use std::mem;
 
@@ -39,7 +39,6 @@ struct Following<R: Source + Drop> {
 // What logs came to that ended, and their texts.
 #[derive(Drop)]
 struct Ended {
-    setup: Setup,
     judged: Judged,
     texts: Vec<Vec<u8>>,
 }
@@ -63,9 +62,12 @@ pub(crate) fn followed<F: Files, P: Pace>(
     ensures err { IfErr result (λ fault. fault ≢ MergeFault.Write) }
 {
     let mut following = opened(alloc, files, names)?;
-    match following.watch(alloc, names, pace)? {
-        None => following.end(alloc, names, form),
-        Some(culprit) => Err(following.refuse(alloc, names, culprit)),
+    match following.follow(alloc, names, pace) {
+        Ok(ended) => following.end(alloc, names, ended, form),
+        Err(fault) => {
+            drop(following);
+            Err(fault)
+        }
     }
 }
 
@@ -77,14 +79,21 @@ fn opened<F: Files>(
 ) -> Result<Following<F::Reader>, MergeFault>
     ensures { IfErr result (λ fault. fault ≢ MergeFault.Write) }
 {
-    let mut following = Following {
-        tails: Vec::new(alloc),
-        set: LogSet::new(alloc)?,
-        is_headed: false,
-        growth: None,
-    };
-    open_all(alloc, files, names, &mut following.tails)?;
-    Ok(following)
+    let set = LogSet::new(alloc)?;
+    let mut tails = Vec::new(alloc);
+    match open_all(alloc, files, names, &mut tails) {
+        Ok(()) => Ok(Following {
+            tails,
+            set,
+            is_headed: false,
+            growth: None,
+        }),
+        Err(fault) => {
+            drop(tails);
+            drop(set);
+            Err(fault)
+        }
+    }
 }
 
 fn open_all<F: Files>(
@@ -124,6 +133,28 @@ fn open<F: Files>(
 }
 
 impl<R: Source + Drop> Following<R> {
+    // What the logs come to that are followed to their ends; or why none is read on.
+    fn follow<P: Pace>(
+        &mut self,
+        alloc: Global,
+        names: &[&str],
+        pace: &mut P,
+    ) -> Result<Ended, MergeFault>
+        ensures merged { IfOk result (λ ended. IfAccepted ended.judged.verdict IsSomeMerge) }
+        ensures setting { IfOk result (λ ended. IfAccepted ended.judged.verdict (λ w. w.setting ≡ setting_of ended.judged.setup)) }
+        ensures cells { IfOk result (λ ended. IfAccepted ended.judged.verdict (λ w. w.cells ≡ ended.judged.setup.cells)) }
+        ensures err { IfErr result (λ fault. fault ≢ MergeFault.Write) }
+    {
+        match self.watch(alloc, names, pace)? {
+            None => self.ended(alloc, names),
+            Some(culprit) => {
+                let fault = self.refuse(alloc, names, &culprit);
+                drop(culprit);
+                Err(fault)
+            }
+        }
+    }
+
     // Looks at the logs for as long as the pace says, unless all end with a crash; a line that is refused before.
     fn watch<P: Pace>(
         &mut self,
@@ -218,8 +249,21 @@ impl<R: Source + Drop> Following<R> {
             return Ok(0);
         };
         let mut parts = tail.take(alloc, name)?;
-        match self.belongs(alloc, names, file, &parts)? {
-            Some(member) => self.add_parts(alloc, member, &mut parts),
+        let taken = self.take_parts(alloc, names, file, &mut parts);
+        drop(parts);
+        taken
+    }
+
+    // Takes what was read of the log in the file of this place.
+    fn take_parts(
+        &mut self,
+        alloc: Global,
+        names: &[&str],
+        file: usize,
+        parts: &mut Parts,
+    ) -> Result<usize, Misfit> {
+        match self.belongs(alloc, names, file, parts)? {
+            Some(member) => self.add_parts(alloc, member, parts),
             None => Ok(0),
         }
     }
@@ -277,7 +321,7 @@ impl<R: Source + Drop> Following<R> {
         };
         match growth.go_on()? {
             Ok(growth) => {
-                self.growth = Some(growth);
+                drop(mem::replace(&mut self.growth, Some(growth)));
                 Ok(None)
             }
             Err(culprit) => Ok(Some(culprit)),
@@ -296,8 +340,13 @@ impl<R: Source + Drop> Following<R> {
         self.set.settle(same);
         let n = setup.group.n();
         let mut growth = Growth::new(alloc, setup)?;
-        self.fill(alloc, &mut growth, n)?;
-        Ok(growth)
+        match self.fill(alloc, &mut growth, n) {
+            Ok(()) => Ok(growth),
+            Err(_) => {
+                drop(growth);
+                Err(MergeFault::Memory)
+            }
+        }
     }
 
     // The logs of the first n members go on with the lines that are read.
@@ -313,44 +362,49 @@ impl<R: Source + Drop> Following<R> {
         !self.tails.is_empty() && self.tails.iter().all(|tail| tail.is_crashed)
     }
 
-    // What the logs come to that end here.
-    fn end(self, alloc: Global, names: &[&str], form: Form) -> Result<AcceptedRun, MergeFault>
+    // What is written and told of logs that ended so.
+    fn end(
+        self,
+        alloc: Global,
+        names: &[&str],
+        ended: Ended,
+        form: Form,
+    ) -> Result<AcceptedRun, MergeFault>
+        requires merged { IfAccepted ended.judged.verdict IsSomeMerge }
+        requires setting { IfAccepted ended.judged.verdict (λ w. w.setting ≡ setting_of ended.judged.setup) }
+        requires cells { IfAccepted ended.judged.verdict (λ w. w.cells ≡ ended.judged.setup.cells) }
         ensures run { IfOk result (λ run. IsSomeRun form run.text.items) }
         ensures err { IfErr result (λ fault. fault ≢ MergeFault.Write) }
     {
-        let mut following = self;
-        let Ended {
-            setup,
-            judged,
-            texts,
-        } = following.ended(alloc, names)?;
+        let Ended { judged, texts } = ended;
         let Following {
             tails,
             set,
             is_headed: _,
-            growth: _,
-        } = following;
+            growth,
+        } = self;
         drop(tails);
-        end_of(alloc, names, texts, set, setup, judged, form, "")
+        drop(growth);
+        end_of(alloc, names, texts, set, judged, form)
     }
 
-    // The same, with the texts of the logs.
+    // What the logs come to that end here, and their texts.
     fn ended(&mut self, alloc: Global, names: &[&str]) -> Result<Ended, MergeFault>
         ensures merged { IfOk result (λ ended. IfAccepted ended.judged.verdict IsSomeMerge) }
-        ensures setting { IfOk result (λ ended. IfAccepted ended.judged.verdict (λ w. w.setting ≡ setting_of ended.setup)) }
-        ensures cells { IfOk result (λ ended. IfAccepted ended.judged.verdict (λ w. w.cells ≡ ended.setup.cells)) }
+        ensures setting { IfOk result (λ ended. IfAccepted ended.judged.verdict (λ w. w.setting ≡ setting_of ended.judged.setup)) }
+        ensures cells { IfOk result (λ ended. IfAccepted ended.judged.verdict (λ w. w.cells ≡ ended.judged.setup.cells)) }
         ensures err { IfErr result (λ fault. fault ≢ MergeFault.Write) }
     {
         let growth = self.last_growth(alloc, names)?;
         self.put_expected(alloc);
-        let setup = growth.setup;
         let judged = growth.end(alloc)?;
-        let texts = texts_of(alloc, &mut self.tails)?;
-        Ok(Ended {
-            setup,
-            judged,
-            texts,
-        })
+        match texts_of(alloc, &mut self.tails) {
+            Ok(texts) => Ok(Ended { judged, texts }),
+            Err(_) => {
+                drop(judged);
+                Err(MergeFault::Memory)
+            }
+        }
     }
 
     // The group; by the numbers that logs give, where they were not settled.
@@ -388,16 +442,26 @@ impl<R: Source + Drop> Following<R> {
     }
 
     // The logs are refused at this line.
-    fn refuse(&mut self, alloc: Global, names: &[&str], culprit: Culprit) -> MergeFault
+    fn refuse(&mut self, alloc: Global, names: &[&str], culprit: &Culprit) -> MergeFault
         ensures { result ≢ MergeFault.Write }
     {
-        match texts_of(alloc, &mut self.tails) {
-            Ok(texts) => {
-                let sources = sources(names, &texts, &self.set);
-                refused(alloc, sources, &culprit, None)
-            }
+        match self.told_of(alloc, names, culprit) {
+            Ok(text) => MergeFault::Refused(text),
             Err(_) => MergeFault::Memory,
         }
+    }
+
+    // What is told of this line.
+    fn told_of(
+        &mut self,
+        alloc: Global,
+        names: &[&str],
+        culprit: &Culprit,
+    ) -> Result<String, AllocError> {
+        let texts = texts_of(alloc, &mut self.tails)?;
+        let told = told_of(alloc, sources(names, &texts, &self.set), culprit, None);
+        drop(texts);
+        told
     }
 }
 
@@ -407,8 +471,13 @@ fn texts_of<R: Source + Drop>(
     tails: &mut Vec<Tail<R>>,
 ) -> Result<Vec<Vec<u8>>, AllocError> {
     let mut texts = Vec::new(alloc);
-    push_texts(alloc, tails, &mut texts)?;
-    Ok(texts)
+    match push_texts(alloc, tails, &mut texts) {
+        Ok(()) => Ok(texts),
+        Err(_) => {
+            drop(texts);
+            Err(AllocError)
+        }
+    }
 }
 
 fn push_texts<R: Source + Drop>(

@@ -5,7 +5,7 @@ ghost use Rattle.ct_world.specs.Setup.{setting_of};
 ghost use Rattle.ct_merge.specs.Verdicts.{IfAccepted};
 ghost use Rattle.ct_logs.specs.Merged.{IsSomeMerge};
 
-use crate::judged::{Judged, stopped_of};
+use crate::judged::{Judged, with_stopped};
 use crate::merge_fault::MergeFault;
 use ct_merge::{Culprit, LogLine, Merger};
 use ct_names::Member;
@@ -69,15 +69,16 @@ impl Growth {
     // What the logs come to that end here.
     pub(crate) fn end(self, alloc: Global) -> Result<Judged, MergeFault>
         ensures merged { IfOk result (λ judged. IfAccepted judged.verdict IsSomeMerge) }
-        ensures setting { IfOk result (λ judged. IfAccepted judged.verdict (λ w. w.setting ≡ setting_of self.setup)) }
-        ensures cells { IfOk result (λ judged. IfAccepted judged.verdict (λ w. w.cells ≡ self.setup.cells)) }
+        ensures setting { IfOk result (λ judged. IfAccepted judged.verdict (λ w. w.setting ≡ setting_of judged.setup)) }
+        ensures cells { IfOk result (λ judged. IfAccepted judged.verdict (λ w. w.cells ≡ judged.setup.cells)) }
         ensures err { IfErr result (λ fault. fault ≢ MergeFault.Write) }
     {
         let Growth { setup, merger } = self;
         match merger.end_with_logs() {
             Ok((verdict, logs)) => {
-                let stopped = stopped_of(alloc, setup, &verdict, &logs)?;
-                Ok(Judged { verdict, stopped })
+                let judged = with_stopped(alloc, setup, verdict, &logs, String::new(alloc));
+                drop(logs);
+                judged
             }
             Err(fault) => Err(short(fault)),
         }

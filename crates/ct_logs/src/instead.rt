@@ -33,12 +33,24 @@ pub(crate) fn sent_instead(
     let Ok(mut replay) = Replay::new(alloc, setup, world.record()) else {
         return Err(AllocError);
     };
+    let reply = reply_in(&mut replay, name.from, to, other);
+    drop(replay);
+    reply
+}
+
+// The reply of this kind to the member from the other, among the steps that are left.
+fn reply_in(
+    replay: &mut Replay<'_>,
+    from: Member,
+    to: Member,
+    other: Carried,
+) -> Result<Option<Reply>, AllocError> {
     let mut place: usize = 0;
     while !replay.is_over() {
         let Ok(done) = replay.step() else {
             return Err(AllocError);
         };
-        if is_own(name.from, done.step) {
+        if is_own(from, done.step) {
             if sends(replay.world(), done, to, other) {
                 return Ok(Some(Reply {
                     carried: other,

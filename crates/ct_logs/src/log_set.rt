@@ -31,10 +31,21 @@ impl LogSet {
     // The logs that the files of these names and texts have.
     pub(crate) fn read(alloc: Global, names: &[&str], texts: &[Vec<u8>]) -> Result<LogSet, Misfit> {
         let mut set = LogSet::new(alloc)?;
-        for (i, text) in texts.iter().enumerate() {
-            set.take(alloc, name_at(names, i), i, text)?;
+        match set.take_all(alloc, names, texts) {
+            Ok(()) => Ok(set),
+            Err(misfit) => {
+                drop(set);
+                Err(misfit)
+            }
         }
-        Ok(set)
+    }
+
+    // Takes each text as the log in the file of its place.
+    fn take_all(&mut self, alloc: Global, names: &[&str], texts: &[Vec<u8>]) -> Result<(), Misfit> {
+        for (i, text) in texts.iter().enumerate() {
+            self.take(alloc, name_at(names, i), i, text)?;
+        }
+        Ok(())
     }
 
     // No log.
@@ -47,10 +58,21 @@ impl LogSet {
             places: Vec::new(alloc),
             expected: Vec::new(alloc),
         };
-        for _ in 0..MAX_MEMBERS {
-            set.add(alloc)?;
+        match set.add_all(alloc) {
+            Ok(()) => Ok(set),
+            Err(_) => {
+                drop(set);
+                Err(AllocError)
+            }
         }
-        Ok(set)
+    }
+
+    // As many members without a log as a group can have.
+    fn add_all(&mut self, alloc: Global) -> Result<(), AllocError> {
+        for _ in 0..MAX_MEMBERS {
+            self.add(alloc)?;
+        }
+        Ok(())
     }
 
     // One more member without a log.
@@ -107,14 +129,47 @@ impl LogSet {
     fn take(&mut self, alloc: Global, name: &str, file: usize, text: &[u8]) -> Result<(), Misfit> {
         let position = position_of(alloc, name, file)?;
         let mut log = read_log(alloc, name, position, text)?;
-        let expected = log.take_expected(alloc);
+        let taken = self.take_log(alloc, name, file, position, &mut log);
+        drop(log);
+        taken
+    }
+
+    // Takes the log in the file of this name, at this place among the files; the member's where its acts don't say whose it is.
+    fn take_log(
+        &mut self,
+        alloc: Global,
+        name: &str,
+        file: usize,
+        position: Member,
+        log: &mut LogText,
+    ) -> Result<(), Misfit> {
         let (member, numbers, lines, places) = log.take_parts(alloc);
-        self.number_group(alloc, name, numbers)?;
         let member = member.unwrap_or(position);
-        self.claim(alloc, name, file, member)?;
-        self.put(member, lines, places);
-        self.put_expected(member, expected);
-        Ok(())
+        match self.claim_numbered(alloc, name, file, member, numbers) {
+            Ok(()) => {
+                self.put(member, lines, places);
+                self.put_expected(member, log.take_expected(alloc));
+                Ok(())
+            }
+            Err(misfit) => {
+                drop(lines);
+                drop(places);
+                Err(misfit)
+            }
+        }
+    }
+
+    // The log in the file of this name, at this place among the files, is the member's and gives these numbers of the group.
+    fn claim_numbered(
+        &mut self,
+        alloc: Global,
+        name: &str,
+        file: usize,
+        member: Member,
+        numbers: Numbers,
+    ) -> Result<(), Misfit> {
+        self.number_group(alloc, name, numbers)?;
+        self.claim(alloc, name, file, member)
     }
 
     // Takes the numbers of the group that the log in the file of this name gives.

@@ -3,92 +3,74 @@
 ghost use Rattle.std.specs.Prelude.{◌≡◌, ◌≢◌, IfErr, IfOk, length};
 ghost use Rattle.ct_world.specs.Setup.{setting_of};
 ghost use Rattle.ct_merge.specs.Verdicts.{IfAccepted};
-ghost use Rattle.ct_logs.specs.Merged.{IsSomeMerge, IsSomeRun};
+ghost use Rattle.ct_logs.specs.Merged.{IsSomeMerge};
 
-use crate::ending::{AcceptedRun, end_of, no_logs};
-use crate::form::Form;
 use crate::growth::short;
-use crate::judged::{Judged, stopped_of};
+use crate::judged::{Judged, with_stopped};
 use crate::log_set::LogSet;
 use crate::merge_fault::MergeFault;
-use ct_merge::{LogLine, Presumption, StoppedLines, Verdict, presume};
+use ct_merge::{LogLine, Presumption, Verdict, presume};
 use ct_world::Setup;
 use std::alloc::{AllocError, Global};
 
-// What the logs in the files of these names and texts come to, whose ends may be lost.
-pub(crate) fn presumed(
+// What the logs of the group come to whose ends may be lost; the set has no lines from here on.
+pub(crate) fn presumed_of(
     alloc: Global,
-    names: &[&str],
-    texts: Vec<Vec<u8>>,
-    form: Form,
-) -> Result<AcceptedRun, MergeFault>
-    ensures run { IfOk result (λ run. IsSomeRun form run.text.items) }
-    ensures err { IfErr result (λ fault. fault ≢ MergeFault.Write) }
-{
-    match LogSet::read(alloc, names, &texts) {
-        Ok(set) => judged(alloc, names, texts, set, form),
-        Err(misfit) => Err(no_logs(misfit)),
-    }
-}
-
-// What the logs come to.
-fn judged(
-    alloc: Global,
-    names: &[&str],
-    texts: Vec<Vec<u8>>,
-    set: LogSet,
-    form: Form,
-) -> Result<AcceptedRun, MergeFault>
-    ensures run { IfOk result (λ run. IsSomeRun form run.text.items) }
-    ensures err { IfErr result (λ fault. fault ≢ MergeFault.Write) }
-{
-    let setup = match set.setup(alloc, names) {
-        Ok(setup) => setup,
-        Err(misfit) => return Err(no_logs(misfit)),
-    };
-    let same = setup;
-    let mut set = set;
-    set.name_senders(setup.group);
-    let (judged, lines) = judged_of(alloc, setup, &mut set)?;
-    end_of(alloc, names, texts, set, same, judged, form, lines.as_str())
-}
-
-// What the logs of the group come to, of which the set has no lines from here on; and what is told of lines that are presumed.
-fn judged_of(alloc: Global, setup: Setup, set: &mut LogSet) -> Result<(Judged, String), MergeFault>
-    ensures merged { IfOk result (λ r. IfAccepted r.0.verdict IsSomeMerge) }
-    ensures setting { IfOk result (λ r. IfAccepted r.0.verdict (λ w. w.setting ≡ setting_of setup)) }
-    ensures cells { IfOk result (λ r. IfAccepted r.0.verdict (λ w. w.cells ≡ setup.cells)) }
+    setup: Setup,
+    set: &mut LogSet,
+) -> Result<Judged, MergeFault>
+    ensures merged { IfOk result (λ judged. IfAccepted judged.verdict IsSomeMerge) }
+    ensures setting { IfOk result (λ judged. IfAccepted judged.verdict (λ w. w.setting ≡ setting_of judged.setup)) }
+    ensures cells { IfOk result (λ judged. IfAccepted judged.verdict (λ w. w.cells ≡ judged.setup.cells)) }
     ensures err { IfErr result (λ fault. fault ≢ MergeFault.Write) }
 {
     let logs = logs_of(alloc, setup.group.n(), set)?;
     let same = setup;
     match presume(alloc, setup, logs) {
-        Ok(Presumption { verdict, logs }) => {
-            let lines = lines_beside(alloc, set, &logs)?;
-            let stopped = stopped_as_read(alloc, same, set, &verdict, logs)?;
-            Ok((Judged { verdict, stopped }, lines))
-        }
+        Ok(Presumption { verdict, logs }) => with_lines(alloc, same, set, verdict, logs),
         Err(fault) => Err(short(fault)),
     }
 }
 
-// The lines at which the logs stand as they were read, that come to this; None where they are accepted.
-fn stopped_as_read(
+// What logs come to that come to this verdict, with the lines at which they stand as they were read, and what is told of the others.
+fn with_lines(
     alloc: Global,
     setup: Setup,
     set: &LogSet,
-    verdict: &Verdict,
+    verdict: Verdict,
     logs: Vec<Vec<LogLine>>,
-) -> Result<Option<StoppedLines>, MergeFault>
-    ensures { IfErr result (λ fault. fault ≢ MergeFault.Write) }
+) -> Result<Judged, MergeFault>
+    requires merged { IfAccepted verdict IsSomeMerge }
+    requires setting { IfAccepted verdict (λ w. w.setting ≡ setting_of setup) }
+    requires cells { IfAccepted verdict (λ w. w.cells ≡ setup.cells) }
+    ensures merged { IfOk result (λ judged. IfAccepted judged.verdict IsSomeMerge) }
+    ensures setting { IfOk result (λ judged. IfAccepted judged.verdict (λ w. w.setting ≡ setting_of judged.setup)) }
+    ensures cells { IfOk result (λ judged. IfAccepted judged.verdict (λ w. w.cells ≡ judged.setup.cells)) }
+    ensures err { IfErr result (λ fault. fault ≢ MergeFault.Write) }
 {
     let mut logs = logs;
+    match lines_beside(alloc, set, &logs) {
+        Ok(lines) => {
+            cut_as_read(set, &mut logs);
+            let judged = with_stopped(alloc, setup, verdict, &logs, lines);
+            drop(logs);
+            judged
+        }
+        Err(_) => {
+            drop(verdict);
+            drop(logs);
+            Err(MergeFault::Memory)
+        }
+    }
+}
+
+// The logs have the lines that were read alone.
+fn cut_as_read(set: &LogSet, logs: &mut [Vec<LogLine>]) {
     for place in 0..logs.len() {
         if let Some(log) = logs.get_mut(place) {
             log.truncate(set.count(place));
         }
     }
-    stopped_of(alloc, setup, verdict, &logs)
 }
 
 // The logs of the first n members, of which the set has no lines from here on.

@@ -10,11 +10,11 @@ use crate::ending::{AcceptedRun, end_of, no_logs};
 use crate::following::followed;
 use crate::form::Form;
 use crate::growth::short;
-use crate::judged::{Judged, stopped_of};
+use crate::judged::{Judged, with_stopped};
 use crate::log_set::LogSet;
 use crate::merge_fault::MergeFault;
 use crate::pace::Pace;
-use crate::presumed::presumed;
+use crate::presumed::presumed_of;
 use crate::reading::read_texts;
 use crate::told::Told;
 use ct_merge::merge;
@@ -42,7 +42,7 @@ pub fn merge_logs<F: Files, W: Sink>(
         return Err(MergeFault::Twice);
     }
     let texts = read_texts(alloc, files, names)?;
-    let AcceptedRun { text, told } = merged(alloc, names, texts, form)?;
+    let AcceptedRun { text, told } = merged(alloc, names, texts, form, false)?;
     match write_all(writer, &text) {
         Ok(()) => Ok(told),
         Err(Failed) => Err(MergeFault::Write),
@@ -98,7 +98,7 @@ pub fn presume_logs<F: Files, W: Sink>(
         return Err(MergeFault::Twice);
     }
     let texts = read_texts(alloc, files, names)?;
-    let AcceptedRun { text: likely, told } = presumed(alloc, names, texts, form)?;
+    let AcceptedRun { text: likely, told } = merged(alloc, names, texts, form, true)?;
     match write_all(writer, &likely) {
         Ok(()) => Ok(told),
         Err(Failed) => Err(MergeFault::Write),
@@ -114,19 +114,23 @@ fn is_input(name: &str) -> bool {
     name == "-"
 }
 
-// What the logs in the files of these names and texts come to.
+// What the logs in the files of these names and texts come to; with their ends presumed, where that is asked for.
 fn merged(
     alloc: Global,
     names: &[&str],
     texts: Vec<Vec<u8>>,
     form: Form,
+    presumes: bool,
 ) -> Result<AcceptedRun, MergeFault>
     ensures run { IfOk result (λ run. IsSomeRun form run.text.items) }
     ensures err { IfErr result (λ fault. fault ≢ MergeFault.Write) }
 {
     match LogSet::read(alloc, names, &texts) {
-        Ok(set) => judged(alloc, names, texts, set, form),
-        Err(misfit) => Err(no_logs(misfit)),
+        Ok(set) => judged(alloc, names, texts, set, form, presumes),
+        Err(misfit) => {
+            drop(texts);
+            Err(no_logs(misfit))
+        }
     }
 }
 
@@ -137,35 +141,58 @@ fn judged(
     texts: Vec<Vec<u8>>,
     set: LogSet,
     form: Form,
+    presumes: bool,
 ) -> Result<AcceptedRun, MergeFault>
     ensures run { IfOk result (λ run. IsSomeRun form run.text.items) }
     ensures err { IfErr result (λ fault. fault ≢ MergeFault.Write) }
 {
-    let setup = match set.setup(alloc, names) {
-        Ok(setup) => setup,
-        Err(misfit) => return Err(no_logs(misfit)),
-    };
-    let same = setup;
     let mut set = set;
-    set.name_senders(setup.group);
-    let judged = judged_of(alloc, setup, &set)?;
-    end_of(alloc, names, texts, set, same, judged, form, "")
+    match judged_in(alloc, names, &mut set, presumes) {
+        Ok(judged) => end_of(alloc, names, texts, set, judged, form),
+        Err(fault) => {
+            drop(texts);
+            drop(set);
+            Err(fault)
+        }
+    }
+}
+
+// What the logs in the set come to.
+fn judged_in(
+    alloc: Global,
+    names: &[&str],
+    set: &mut LogSet,
+    presumes: bool,
+) -> Result<Judged, MergeFault>
+    ensures merged { IfOk result (λ judged. IfAccepted judged.verdict IsSomeMerge) }
+    ensures setting { IfOk result (λ judged. IfAccepted judged.verdict (λ w. w.setting ≡ setting_of judged.setup)) }
+    ensures cells { IfOk result (λ judged. IfAccepted judged.verdict (λ w. w.cells ≡ judged.setup.cells)) }
+    ensures err { IfErr result (λ fault. fault ≢ MergeFault.Write) }
+{
+    match set.setup(alloc, names) {
+        Ok(setup) => {
+            set.name_senders(setup.group);
+            if presumes {
+                presumed_of(alloc, setup, set)
+            } else {
+                judged_of(alloc, setup, set)
+            }
+        }
+        Err(misfit) => Err(no_logs(misfit)),
+    }
 }
 
 // What the logs of the group come to.
 fn judged_of(alloc: Global, setup: Setup, set: &LogSet) -> Result<Judged, MergeFault>
     ensures merged { IfOk result (λ judged. IfAccepted judged.verdict IsSomeMerge) }
-    ensures setting { IfOk result (λ judged. IfAccepted judged.verdict (λ w. w.setting ≡ setting_of setup)) }
-    ensures cells { IfOk result (λ judged. IfAccepted judged.verdict (λ w. w.cells ≡ setup.cells)) }
+    ensures setting { IfOk result (λ judged. IfAccepted judged.verdict (λ w. w.setting ≡ setting_of judged.setup)) }
+    ensures cells { IfOk result (λ judged. IfAccepted judged.verdict (λ w. w.cells ≡ judged.setup.cells)) }
     ensures err { IfErr result (λ fault. fault ≢ MergeFault.Write) }
 {
     let same = setup;
     let logs = set.logs(setup.group.n());
     match merge(alloc, setup, logs) {
-        Ok(verdict) => {
-            let stopped = stopped_of(alloc, same, &verdict, logs)?;
-            Ok(Judged { verdict, stopped })
-        }
+        Ok(verdict) => with_stopped(alloc, same, verdict, logs, String::new(alloc)),
         Err(fault) => Err(short(fault)),
     }
 }

@@ -8,6 +8,13 @@ use std::alloc::{AllocError, Global};
 // What the steps show, which are all allowed.
 fn seen(alloc: Global, setup: Setup, steps: &[Step]) -> Result<Seen, ReplayFault> {
     let mut replay = Replay::new(alloc, setup, steps)?;
+    let seen = seen_in(&mut replay);
+    drop(replay);
+    seen
+}
+
+// What the steps show that are left.
+fn seen_in(replay: &mut Replay<'_>) -> Result<Seen, ReplayFault> {
     let mut seen = Seen::new();
     while !replay.is_over() {
         let done = replay.step()?;

@@ -30,8 +30,22 @@ pub(crate) fn unmet_text(
     }
     match first_unmet(alloc, setup, world.record(), expected) {
         Ok(None) => Ok(None),
-        Ok(Some(unmet)) => Ok(Some(told_of(alloc, sources, expected, &unmet)?)),
+        Ok(Some(unmet)) => {
+            let told = told_of(alloc, sources, expected, &unmet);
+            drop(unmet);
+            some_text(told)
+        }
         Err(fault) => Err(short(fault)),
+    }
+}
+
+// The text, unless memory was refused.
+fn some_text(told: Result<String, AllocError>) -> Result<Option<String>, MergeFault>
+    ensures { IfErr result (λ fault. fault ≢ MergeFault.Write) }
+{
+    match told {
+        Ok(text) => Ok(Some(text)),
+        Err(_) => Err(MergeFault::Memory),
     }
 }
 
@@ -50,15 +64,25 @@ fn told_of(
     unmet: &Unmet,
 ) -> Result<String, AllocError> {
     let mut text = String::new(alloc);
+    push_told(alloc, &mut text, sources, expected, unmet)?;
+    Ok(text)
+}
+
+fn push_told(
+    alloc: Global,
+    text: &mut String,
+    sources: Sources<'_>,
+    expected: &[Expectations],
+    unmet: &Unmet,
+) -> Result<(), AllocError> {
     let at = usize::from(unmet.member).saturating_sub(1);
     if let Some(expectations) = expected.get(at) {
         if let Some(expectation) = expectations.list().get(unmet.index) {
-            sources.push_numbered(&mut text, unmet.member, expectation.number)?;
-            push_unmet(alloc, &mut text, &unmet.stage, &expectation.goal)?;
+            sources.push_numbered(text, unmet.member, expectation.number)?;
+            push_unmet(alloc, text, &unmet.stage, &expectation.goal)?;
         }
     }
-    push_torn(&mut text, sources.names, sources.texts)?;
-    Ok(text)
+    push_torn(text, sources.names, sources.texts)
 }
 
 // The first term of the goal that does not hold on the stage, and what is there.

@@ -27,12 +27,24 @@ pub(crate) fn written(
     ensures err { IfErr result (λ fault. fault ≡ MergeFault.Memory) }
 {
     match form {
-        Form::Record => Ok(record_line(alloc, &world)?),
+        Form::Record => recorded(alloc, world),
         Form::Schedule => scheduled(alloc, setup, world),
     }
 }
 
 // The record and a line feed.
+fn recorded(alloc: Global, world: World) -> Result<Vec<u8>, MergeFault>
+    ensures text { IfOk result (λ text. text.items ≡ record_text world.rehearsal ++ 10 ∷ []) }
+    ensures err { IfErr result (λ fault. fault ≡ MergeFault.Memory) }
+{
+    let line = record_line(alloc, &world);
+    drop(world);
+    match line {
+        Ok(text) => Ok(text),
+        Err(_) => Err(MergeFault::Memory),
+    }
+}
+
 fn record_line(alloc: Global, world: &World) -> Result<Vec<u8>, AllocError>
     ensures { IfOk result (λ text. text.items ≡ record_text world.now.rehearsal ++ 10 ∷ []) }
 {
@@ -50,9 +62,21 @@ fn scheduled(alloc: Global, setup: Setup, world: World) -> Result<Vec<u8>, Merge
     ensures text { IfOk result (λ text. IsScheduleOf world.rehearsal text.items) }
     ensures err { IfErr result (λ fault. fault ≡ MergeFault.Memory) }
 {
-    let script = script_of(alloc, setup, &world)?;
+    let script = script_of(alloc, setup, &world);
     drop(world);
-    match schedule_of(alloc, &script) {
+    match script {
+        Ok(script) => schedule_in(alloc, script),
+        Err(_) => Err(MergeFault::Memory),
+    }
+}
+
+fn schedule_in(alloc: Global, script: Script) -> Result<Vec<u8>, MergeFault>
+    ensures text { IfOk result (λ text. IsScheduleOf (rehearsal_of script) text.items) }
+    ensures err { IfErr result (λ fault. fault ≡ MergeFault.Memory) }
+{
+    let text = schedule_of(alloc, &script);
+    drop(script);
+    match text {
         Ok(text) => Ok(text),
         Err(_) => Err(MergeFault::Memory),
     }

@@ -1,6 +1,6 @@
 use Rattle.std.proofs.Common.{◌-◌, length}
 use Rattle.std.specs.Prelude.{⊤}
-use Rattle.ct_logs.proofs.showing.seen.Given as goal
+use Rattle.ct_logs.proofs.showing.seen_in.Given as goal
 
 abbrev pub invariant-loop-replay : goal.invariant-loop-replay
 invariant-loop-replay l = ⊤
