@@ -1,6 +1,6 @@
 -- What is said of the bytes that were read holds of the input.
 use Rattle.std.proofs.Common.{◌≡◌, ℕ, List, Option, Some, None, Result, Ok, Err, sym, subst, ◌∙◌}
-use Rattle.std.specs.Prelude.{IfSome, IfOk, IfErr, IsOkAnd}
+use Rattle.std.specs.Prelude.{IfSome, IfOk, IfErr, OnOk, IsOkAnd}
 use Rattle.ct_model.specs.Rehearsal.{Rehearsal}
 use Rattle.ct_records.specs.declared.program_fault.ProgramFault.{ProgramFault}
 use Rattle.ct_records.specs.declared.program_fault.ProgramFault.TheVariants.{Replay, Read, Start, Exchanged}
@@ -68,3 +68,7 @@ if_ok (Err e) P Q f h = tt
 pub if_err : {T E : Type 0} (r : Result T E) (P Q : E → Type 0) → ((e : E) → P e → Q e) → IfErr r P → IfErr r Q
 if_err (Ok x) P Q f h = tt
 if_err (Err e) P Q f h = f e h
+
+pub on_ok : {T E : Type 0} (r : Result T E) (P Q : Type 0) → (P → Q) → OnOk r P → OnOk r Q
+on_ok (Ok x) P Q f h = f h
+on_ok (Err e) P Q f h = tt

@@ -1,129 +1,145 @@
--- The text of a record with a line end behind it says that record.
-use Rattle.std.proofs.Common.{◌≡◌, ℕ, ◌+◌, ◌*◌, List, [], ◌∷◌, ◌++◌, length, codes, decimal, Some, None, Ok, refl, sym, ap, ◌∙◌}
-use Rattle.std.proofs.Common.{arith, append_assoc, inl, inr}
-use Rattle.std.proofs.lemmas.Fmt.{decimal_digit}
+-- A record whose steps stand between the numbers before and those behind them says what its members do.
+use Rattle.std.proofs.Common.{◌≡◌, ℕ, ◌+◌, ◌*◌, ◌^◌, ◌<◌, ◌≤◌, Bool, true, false, List, [], ◌∷◌, ◌++◌, length, codes, decimal, Some, None, Ok, refl}
+use Rattle.std.proofs.Common.{sym, ap, subst, ◌∙◌, arith, append_assoc}
+use Rattle.std.specs.Prelude.{All}
+use Rattle.std.proofs.lemmas.Bool.{lt-ltb}
+use Rattle.std.proofs.lemmas.List.Elements.{All-head, All-tail}
 use Rattle.json.specs.Lex.{token}
-use Rattle.json.specs.Word.{ends_word}
+use Rattle.json.specs.Word.{ends_word, is_space}
 use Rattle.json.specs.Token.{end_object}
 use Rattle.json.proofs.OnLiterals.{json_on_literals}
+use Rattle.json.proofs.Printed.Utf8.{are_ascii, IsUtf8-are_ascii}
 use Rattle.serde_json.specs.Data.{Members, no_members}
 use Rattle.ct_model.specs.Rehearsal.{Rehearsal}
 use Rattle.ct_records.specs.Fits.{IsStorable}
-use Rattle.ct_records.specs.Plain.{lexemes, Begins, Closes, members_from}
+use Rattle.ct_records.specs.Plain.{lexemes, Adds, Begins, IsPast, SoFar, Takes}
 use Rattle.ct_records.specs.Script.{script}
-use Rattle.ct_records.specs.Text.{steps_text, record_text}
-use Rattle.ct_records.proofs.Keys.{adds_batch, adds_cells, adds_n, adds_steps, adds_version}
+use Rattle.ct_records.specs.Values.{num}
+use Rattle.ct_records.proofs.Keys.{adds_steps}
 use Rattle.ct_records.proofs.Lengths as lengths
 use Rattle.ct_records.proofs.Lengths.{Text}
-use Rattle.ct_records.proofs.Members.{so_far_none, so_far_more, so_far_end, takes_number, takes_steps, plain_script, parts_say}
+use Rattle.ct_records.proofs.Members.{so_far_none, so_far_more, takes_number, takes_steps, plain_script}
 use Rattle.ct_records.proofs.Plain.{object_ends, space_skipped}
-use Rattle.ct_records.proofs.Stored.{steps_width}
-use Rattle.ct_records.proofs.Written.{is_known, round_trip}
-use Rattle.ct_replay.specs.Front.{IsWholeOf}
-use Rattle.ct_replay.proofs.Lexed.{comma_first, key_first, value_first, list_first}
+use Rattle.ct_replay.specs.declared.numbers.Numbers.{Numbers}
+use Rattle.ct_replay.specs.Front.{gap, steps_text, members_with, from_steps, AddsNumber, IsFound, IsListed, IsShort}
+use Rattle.ct_replay.specs.Front.{IsUpToSteps, IsWhite, IsWholeOf}
+use Rattle.ct_replay.proofs.Lexed.{comma_before, key_first, value_first, list_first}
+use Rattle.ct_replay.proofs.Widths.{steps_width}
 
--- ---- the text from each key on
+-- ---- one number
 
-abbrev from_version : List ℕ → List ℕ
-from_version r = codes "\"version\":" ++ (decimal 3 ++ 125 ∷ r)
+-- a number at its key
+pub taken : (spaced : Bool) (bytes key value after : List ℕ) (n : ℕ) (old new : Members) →
+    bytes ≡ 34 ∷ (key ++ 34 ∷ 58 ∷ (gap spaced ++ value)) → value ≡ decimal n ++ after → n < 2 ^ 64 → Adds key (num n) old new →
+    Takes bytes old new after
+taken spaced bytes key value after n old new at is few adds =
+    takes_number key n bytes value after old new (λ plain. ap lexemes at ∙ key_first spaced key value plain)
+    (λ ended. ap lexemes is ∙ value_first n after few ended) few adds
 
-abbrev from_steps : Rehearsal → List ℕ → List ℕ
-from_steps w r = codes "\"steps\":" ++ (91 ∷ (steps_text w.steps ++ 93 ∷ 44 ∷ from_version r))
+pub begins_comma : (spaced : Bool) (bytes next : List ℕ) → bytes ≡ 44 ∷ (gap spaced ++ next) → Begins bytes 44 next
+begins_comma spaced bytes next is = rw is (comma_before spaced next)
 
-abbrev from_n : Rehearsal → List ℕ → List ℕ
-from_n w r = codes "\"n\":" ++ (decimal w.setting.members ++ 44 ∷ from_steps w r)
+-- ---- the numbers before the steps
 
-abbrev from_cells : Rehearsal → List ℕ → List ℕ
-from_cells w r = codes "\"cells\":" ++ (decimal w.cells ++ 44 ∷ from_n w r)
+pub found_none : (spaced : Bool) (bytes : List ℕ) (numbers : Numbers) → members_with numbers None ≡ no_members →
+    IsFound spaced bytes numbers bytes
+found_none spaced bytes numbers none = record { text = []; split = refl; so_far = λ next. rw none (so_far_none next) }
 
-abbrev from_batch : Rehearsal → List ℕ → List ℕ
-from_batch w r = codes "\"batch\":" ++ (decimal w.setting.bound ++ 44 ∷ from_cells w r)
+member_split : (key d g next : List ℕ) →
+    (34 ∷ (key ++ 34 ∷ 58 ∷ (g ++ (d ++ 44 ∷ g)))) ++ next ≡ 34 ∷ (key ++ 34 ∷ 58 ∷ (g ++ (d ++ 44 ∷ (g ++ next))))
+member_split key d g next = simp append_assoc
 
--- ---- the members
+-- one more number, with a comma behind it
+pub found_more : (spaced : Bool) (bytes rest key value after next : List ℕ) (n : ℕ) (old new : Numbers) → IsFound spaced bytes old rest →
+    rest ≡ 34 ∷ (key ++ 34 ∷ 58 ∷ (gap spaced ++ value)) → value ≡ decimal n ++ after → after ≡ 44 ∷ (gap spaced ++ next) → n < 2 ^ 64 →
+    AddsNumber key n old new → IsFound spaced bytes new next
+found_more spaced bytes rest key value after next n old new h at is behind few adds =
+    let g = gap spaced in
+    let m = 34 ∷ (key ++ 34 ∷ 58 ∷ (g ++ (decimal n ++ 44 ∷ g))) in
+    let begins : rest ≡ m ++ next =
+    at ∙ ap (λ t. 34 ∷ (key ++ 34 ∷ 58 ∷ (g ++ t))) (is ∙ ap (λ t. decimal n ++ t) behind) ∙ sym (member_split key (decimal n) g next) in
+    record {
+      text = h.text ++ m;
+      split = h.split ∙ ap (λ t. h.text ++ t) begins ∙ sym (append_assoc h.text m next);
+      so_far = λ x.
+          let end = 44 ∷ (g ++ x) in
+          let takes : Takes (m ++ x) (members_with old None) (members_with new None) end =
+          taken spaced (m ++ x) key (decimal n ++ end) end n _ _ (member_split key (decimal n) g x) refl few (adds None) in
+          subst (λ t. SoFar t (members_with new None) x) (sym (append_assoc h.text m x))
+          (so_far_more (h.text ++ (m ++ x)) (m ++ x) end x _ _ (h.so_far (m ++ x)) takes (comma_before spaced x));
+    }
 
-closes_object : (r : List ℕ) → lexemes r ≡ lexemes [] → lexemes (125 ∷ r) ≡ token end_object ∷ []
-closes_object r none = object_ends (125 ∷ r) r [] (record { text = refl; ends = λ e. refl }) none refl
+list_split : (spaced : Bool) (next : List ℕ) → (codes "\"steps\":" ++ (gap spaced ++ 91 ∷ [])) ++ next ≡ from_steps spaced next
+list_split spaced next = ap (λ t. codes "\"steps\":" ++ t) (append_assoc (gap spaced) (91 ∷ []) next)
 
-abbrev found : Rehearsal → Members
-found w = members_from (Some w.setting.bound) (Some w.cells) (Some w.setting.members) (Some w.steps) (Some 3)
+-- the key of the steps and the bracket behind it
+pub listed : (spaced : Bool) (bytes rest key value next : List ℕ) (numbers : Numbers) → IsFound spaced bytes numbers rest →
+    rest ≡ 34 ∷ (key ++ 34 ∷ 58 ∷ (gap spaced ++ value)) → key ≡ codes "steps" → value ≡ 91 ∷ next → IsListed spaced bytes numbers next
+listed spaced bytes rest key value next numbers h at same opens =
+    let m = codes "\"steps\":" ++ (gap spaced ++ 91 ∷ []) in
+    let begins : rest ≡ m ++ next = at ∙ rw (same, opens) (sym (list_split spaced next)) in
+    record {
+      text = h.text ++ m;
+      split = h.split ∙ ap (λ t. h.text ++ t) begins ∙ sym (append_assoc h.text m next);
+      so_far = λ x.
+          subst (λ t. SoFar t (members_with numbers None) (from_steps spaced x))
+          (ap (λ t. h.text ++ t) (sym (list_split spaced x)) ∙ sym (append_assoc h.text m x)) (h.so_far (from_steps spaced x));
+    }
 
-all_members : (w : Rehearsal) (r : List ℕ) → IsStorable w → lexemes r ≡ lexemes [] → Closes (from_batch w r) (found w)
-unfolding json_on_literals
-all_members w r h none =
-    let b = w.setting.bound in
-    let c = w.cells in
-    let n = w.setting.members in
-    let start = from_batch w r in
-    let batch = so_far_more start start (44 ∷ from_cells w r) (from_cells w r) no_members _ (so_far_none start)
-    (takes_number (codes "batch") b start (decimal b ++ 44 ∷ from_cells w r) (44 ∷ from_cells w r) no_members _
-    (key_first (codes "batch") (decimal b ++ 44 ∷ from_cells w r)) (value_first b (44 ∷ from_cells w r) (omega (arith, h.few_bound)))
-    (omega (arith, h.few_bound)) (adds_batch (codes "batch") b None None None None None refl)) (comma_first (from_cells w r)) in
-    let cells = so_far_more start (from_cells w r) (44 ∷ from_n w r) (from_n w r) _ _ batch
-    (takes_number (codes "cells") c (from_cells w r) (decimal c ++ 44 ∷ from_n w r) (44 ∷ from_n w r) _ _
-    (key_first (codes "cells") (decimal c ++ 44 ∷ from_n w r)) (value_first c (44 ∷ from_n w r) (omega (arith, h.few_cells)))
-    (omega (arith, h.few_cells)) (adds_cells (codes "cells") c (Some b) None None None None refl)) (comma_first (from_n w r)) in
-    let members = so_far_more start (from_n w r) (44 ∷ from_steps w r) (from_steps w r) _ _ cells
-    (takes_number (codes "n") n (from_n w r) (decimal n ++ 44 ∷ from_steps w r) (44 ∷ from_steps w r) _ _
-    (key_first (codes "n") (decimal n ++ 44 ∷ from_steps w r)) (value_first n (44 ∷ from_steps w r) (omega (arith, h.few_members)))
-    (omega (arith, h.few_members)) (adds_n (codes "n") n (Some b) (Some c) None None None refl)) (comma_first (from_steps w r)) in
-    let list = 91 ∷ (steps_text w.steps ++ 93 ∷ 44 ∷ from_version r) in
-    let steps = so_far_more start (from_steps w r) (44 ∷ from_version r) (from_version r) _ _ members
-    (takes_steps (codes "steps") w.steps (from_steps w r) list (44 ∷ from_version r) _ _ (key_first (codes "steps") list)
-    (list_first w.steps (44 ∷ from_version r) h.fit) h.fit
-    (adds_steps (codes "steps") w.steps (Some b) (Some c) (Some n) None None refl)) (comma_first (from_version r)) in
-    so_far_end start (from_version r) (125 ∷ r) _ _ steps
-    (takes_number (codes "version") 3 (from_version r) (decimal 3 ++ 125 ∷ r) (125 ∷ r) _ _
-    (key_first (codes "version") (decimal 3 ++ 125 ∷ r)) (value_first 3 (125 ∷ r) (omega arith)) (omega arith)
-    (adds_version (codes "version") 3 (Some b) (Some c) (Some n) (Some w.steps) None refl)) (closes_object r none) refl
+pub up_to_steps : (spaced : Bool) (bytes rest next : List ℕ) (numbers : Numbers) → bytes ≡ 123 ∷ rest → IsListed spaced rest numbers next →
+    IsUpToSteps spaced bytes numbers next
+up_to_steps spaced bytes rest next numbers opens h = record {
+  text = 123 ∷ h.text;
+  split = opens ∙ ap (λ t. 123 ∷ t) h.split;
+  head = record { first = h.text; opens = refl; so_far = h.so_far };
+}
+
+-- ---- white space
+
+pub white_first : (space : List ℕ) → IsWhite space → lexemes space ≡ lexemes []
+white_first [] h = refl
+white_first (x ∷ xs) h =
+    (space_skipped (x ∷ xs) xs x (All-head (λ b. is_space b ≡ true) x xs h) refl).0
+    ∙ white_first xs (All-tail (λ b. is_space b ≡ true) x xs h)
+
+pub closes_object : (bytes rest : List ℕ) → bytes ≡ 125 ∷ rest → IsWhite rest → lexemes bytes ≡ token end_object ∷ []
+closes_object bytes rest is white =
+    object_ends bytes rest [] (rw is (record { text = refl; ends = λ e. refl })) (white_first rest white) refl
 
 -- ---- the whole
 
--- a record that is written, and what follows it
-split : (a b c d e f g h i r : List ℕ) → (a ++ (b ++ (c ++ (d ++ (e ++ (f ++ (g ++ (h ++ i)))))))) ++ r
-    ≡ a ++ (b ++ (c ++ (d ++ (e ++ (f ++ (g ++ (h ++ (i ++ r))))))))
-split a b c d e f g h i r = simp append_assoc
+all_ascii : (bytes : List ℕ) → All (λ b. b < 128) bytes → are_ascii bytes ≡ true
+all_ascii [] h = refl
+all_ascii (x ∷ xs) h =
+    rw (lt-ltb x 128 (All-head (λ b. b < 128) x xs h), all_ascii xs (All-tail (λ b. b < 128) x xs h)) refl
 
-text_split : (w : Rehearsal) (r : List ℕ) → record_text w ++ r ≡ 123 ∷ from_batch w r
-unfolding record_text
-text_split w r =
-    let three : decimal 3 ≡ codes "3" = decimal_digit 3 (omega arith) in
-    split (codes "{\"batch\":") (decimal w.setting.bound) (codes ",\"cells\":") (decimal w.cells) (codes ",\"n\":")
-    (decimal w.setting.members) (codes ",\"steps\":[") (steps_text w.steps) (codes "],\"version\":3}") r
-    ∙ ap (λ v. codes "{\"batch\":" ++ (decimal w.setting.bound ++ (codes ",\"cells\":" ++ (decimal w.cells ++ (codes ",\"n\":"
-    ++ (decimal w.setting.members ++ (codes ",\"steps\":[" ++ (steps_text w.steps ++ (codes "],\"version\":" ++ (v ++ 125 ∷ r))))))))))
-    (sym three)
-
-width : (w : Rehearsal) → IsStorable w → Text (record_text w) (9 + (20 + (9 + (20 + (5 + (3 + (10 + (55 * length w.steps + 14))))))))
-unfolding record_text
-width w h =
-    let literal = lengths.plain in
-    lengths.then (codes "{\"batch\":") _ 9 _ (literal (codes "{\"batch\":") refl)
-    (lengths.then (decimal w.setting.bound) _ 20 _ (lengths.value w.setting.bound (omega (arith, h.few_bound)))
-    (lengths.then (codes ",\"cells\":") _ 9 _ (literal (codes ",\"cells\":") refl)
-    (lengths.then (decimal w.cells) _ 20 _ (lengths.value w.cells (omega (arith, h.few_cells)))
-    (lengths.then (codes ",\"n\":") _ 5 _ (literal (codes ",\"n\":") refl)
-    (lengths.then (decimal w.setting.members) _ 3 _ (lengths.byte w.setting.members (omega (arith, h.few_members)))
-    (lengths.then (codes ",\"steps\":[") _ 10 _ (literal (codes ",\"steps\":[") refl)
-    (lengths.then _ _ (55 * length w.steps) 14 (steps_width w.steps h.fit) (literal (codes "],\"version\":3}") refl))))))))
-
-line_end : lexemes (10 ∷ []) ≡ lexemes []
-line_end = (space_skipped (10 ∷ []) [] 10 refl refl).0
-
-says_with_line_end : (w : Rehearsal) → IsStorable w → script (record_text w ++ 10 ∷ []) ≡ Ok w
-says_with_line_end w h =
-    let r : List ℕ = 10 ∷ [] in
-    let whole : Text (record_text w ++ r) (9 + (20 + (9 + (20 + (5 + (3 + (10 + (55 * length w.steps + 14))))))) + 1) =
-    lengths.then (record_text w) r _ 1 (width w h) (lengths.plain r refl) in
-    let begins : Begins (record_text w ++ r) 123 (from_batch w r) = record {
-      text = ap lexemes (text_split w r);
-      ends = λ e. ap ends_word (text_split w r);
-    } in
-    plain_script (record_text w ++ r) (from_batch w r) (found w) w (omega (arith, whole.short, h.few_steps)) whole.utf8 begins
-    (all_members w r h line_end)
-    (parts_say (Some w.setting.bound) (Some w.cells) (Some w.setting.members) (Some 3) (Some w.steps) 3 w refl refl refl refl
-    (record { first = omega arith; last = omega arith; some = h.some_bound; few = h.few_bound; is = inl (refl, refl) })
-    (λ k d lt. is_known _) h)
+pub ascii_valid : (bytes : List ℕ) → length bytes ≤ 256 → All (λ b. b < 128) bytes → IsShort bytes 256
+ascii_valid bytes few h = record { utf8 = IsUtf8-are_ascii bytes (all_ascii bytes h); short = few }
 
 pub whole_says : (w : Rehearsal) (bytes : List ℕ) → IsStorable w → IsWholeOf bytes w → script bytes ≡ Ok w
-whole_says w bytes h (inl alone) = ap script alone ∙ round_trip w h
-whole_says w bytes h (inr ended) = ap script ended ∙ says_with_line_end w h
+unfolding json_on_literals
+whole_says w bytes h whole =
+    let spaced = whole.spaced in
+    let head = whole.head in
+    let last = whole.last in
+    let numbers = whole.numbers in
+    let after = whole.end.after in
+    let steps = steps_text spaced false w.steps in
+    let x = steps ++ 93 ∷ after in
+    let start = whole.front.first ++ x in
+    let is : bytes ≡ 123 ∷ start = whole.text ∙ ap (λ t. head ++ (steps ++ t)) whole.end.text ∙ ap (λ t. t ++ x) whole.front.opens in
+    let begins : Begins bytes 123 start = record { text = ap lexemes is; ends = λ e. ap ends_word is } in
+    let past : IsPast start (members_with numbers (Some w.steps)) after = record {
+      last = from_steps spaced x;
+      earlier = members_with numbers None;
+      so_far = whole.front.so_far x;
+      takes =
+          takes_steps (codes "steps") w.steps (from_steps spaced x) (91 ∷ x) after _ _ (key_first spaced (codes "steps") (91 ∷ x))
+          (list_first spaced w.steps after h.fit) h.fit
+          (adds_steps (codes "steps") w.steps numbers.batch numbers.cells numbers.n None numbers.version refl);
+    } in
+    let all : Text bytes (256 + (60 * length w.steps + 256)) =
+    rw whole.text (lengths.then head (steps ++ last) 256 _ (record { utf8 = whole.valid.utf8; short = whole.valid.short })
+    (lengths.then steps last (60 * length w.steps) 256 (steps_width spaced false w.steps h.fit)
+    (record { utf8 = whole.end.valid.utf8; short = whole.end.valid.short }))) in
+    plain_script bytes start _ w (omega (arith, all.short, h.few_steps)) all.utf8 begins (whole.end.rest start w.steps past) whole.end.says

@@ -1,11 +1,12 @@
 -- What was read of a source, one read after the other.
-use Rattle.std.proofs.Common.{◌≡◌, ℕ, ◌<◌, List, [], ◌++◌, length, Option, Some, None, refl, sym, ap, ◌∙◌, append_assoc, append-nil}
-use Rattle.std.proofs.Common.{arith, inl, inr, subst, length-append}
+use Rattle.std.proofs.Common.{◌≡◌, ℕ, ◌<◌, Bool, false, List, [], ◌++◌, length, Option, Some, None, refl, sym, ap, ◌∙◌, append_assoc, append-nil}
+use Rattle.std.proofs.Common.{arith, inl, inr, subst, length-append, take}
 use Rattle.std.specs.Prelude.{IfSome, drop}
+use Rattle.std.proofs.lemmas.List.{take-append-drop}
 use Rattle.std.specs.Io.KnownBytes.{Consumes, IsAtEnd}
 use Rattle.ct_records.specs.Script.{script, max_len}
-use Rattle.ct_model.specs.Rehearsal.{Rehearsal}
-use Rattle.ct_replay.specs.Front.{Advances, IsRead, IsEnough, IsFrontOf, front_text}
+use Rattle.ct_model.specs.declared.step.Step.{Step}
+use Rattle.ct_replay.specs.Front.{Advances, IsRead, IsEnough, steps_text}
 use Rattle.std.proofs.lemmas.Bool.{lt-ltb}
 
 consumes_more : (a b c : Option (List ℕ)) (xs ys : List ℕ) → Consumes a b xs → Consumes b c ys → Consumes a c (xs ++ ys)
@@ -72,18 +73,23 @@ input_says (Some input) (Some left) x h enough =
     ]
 
 -- steps were done at the front of the bytes, and more was read behind them
-pub read_on : (a b d : Option (List ℕ)) (x f g y taken left z : List ℕ) (used : ℕ) → Advances a b x (f ++ y) → taken ≡ y →
-    f ++ taken ≡ g ++ drop used taken → left ≡ drop used y → Advances b d left z → Advances a d x (g ++ z)
-read_on a b d x f g y taken left z used h same done is more =
-    let now : f ++ y ≡ g ++ left = ap (λ t. f ++ t) (sym same) ∙ done ∙ ap (λ t. g ++ t) (ap (drop used) same ∙ sym is) in
-    advances_more a b d x (g ++ left) (g ++ z) (advances_as a b x (f ++ y) (g ++ left) h now) (advances_behind b d g left z more)
+pub read_on : (a b d : Option (List ℕ)) (x f g y left z : List ℕ) → Advances a b x (f ++ y) → f ++ y ≡ g ++ left → Advances b d left z →
+    Advances a d x (g ++ z)
+read_on a b d x f g y left z h done more =
+    advances_more a b d x (g ++ left) (g ++ z) (advances_as a b x (f ++ y) (g ++ left) h done) (advances_behind b d g left z more)
 
--- the head of a record was read, and then more behind it
-pub start_on : (a b d : Option (List ℕ)) (x bytes taken left z : List ℕ) (w : Rehearsal) (used : ℕ) → x ≡ [] → Advances a b x bytes →
-    taken ≡ bytes → IsFrontOf taken w (drop used taken) → left ≡ drop used bytes → Advances b d (front_text w ++ left) z →
-    Advances a d [] z
-start_on a b d x bytes taken left z w used empty h same front is more =
-    let now : bytes ≡ front_text w ++ left =
-    sym same ∙ front.text ∙ ap (λ t. front_text w ++ t) (ap (drop used) same ∙ sym is) in
+-- what stands before the steps was read, and then more behind it
+pub start_on : (a b d : Option (List ℕ)) (x bytes head left z : List ℕ) (used : ℕ) → x ≡ [] → Advances a b x bytes →
+    head ≡ take used bytes → left ≡ drop used bytes → Advances b d left z → Advances a d [] (head ++ z)
+start_on a b d x bytes head left z used empty h first is more =
+    let now : bytes ≡ head ++ left =
+    sym (take-append-drop used bytes) ∙ ap (λ t. t ++ drop used bytes) (sym first) ∙ ap (λ t. head ++ t) (sym is) in
     let read : Advances a b [] bytes = subst (λ t. Advances a b t bytes) empty h in
-    advances_more a b d [] (front_text w ++ left) z (advances_as a b [] bytes (front_text w ++ left) read now) more
+    advances_more a b d [] (head ++ left) (head ++ z) (advances_as a b [] bytes (head ++ left) read now)
+    (advances_behind b d head left z more)
+
+-- nothing was done before
+pub read_first : (a b : Option (List ℕ)) (spaced : Bool) (steps : List Step) (x y : List ℕ) → steps ≡ [] →
+    Advances a b (steps_text spaced false steps ++ x) y → Advances a b x y
+unfolding steps_text
+read_first a b spaced steps x y none h = subst (λ ss. Advances a b (steps_text spaced false ss ++ x) y) none h

@@ -5,11 +5,13 @@ mod answering;
 mod head;
 mod naming;
 mod number;
+mod numbers;
 mod piece;
 mod plain;
 mod replaying;
 mod running;
 mod so_far;
+mod spacing;
 mod taking;
 
 pub use replaying::replay_while_read;

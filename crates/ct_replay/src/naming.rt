@@ -1,7 +1,7 @@
 //! Commands and steps by their names.
 
-ghost use Rattle.std.specs.Prelude.{◌≡◌, [], ◌∷◌, codes, decimal, IfSome, IsTrue};
-ghost use Rattle.ct_model.specs.StepText.{entry_text, command_text, step_text};
+ghost use Rattle.std.specs.Prelude.{◌≡◌, [], ◌∷◌, codes, decimal, Bool, IfSome, IsTrue};
+ghost use Rattle.ct_replay.specs.Front.{entry_text, command_text, gap, step_text};
 
 use ct_model::Step;
 use ct_names::{Command, Member};
@@ -13,9 +13,10 @@ pub(crate) const BYTE: u64 = 255;
 pub(crate) const SERIAL: u64 = 4_294_967_295;
 
 /// The command of a name, a register and one more number.
-#[tactic(auto, unfolding(ct_model::specs::StepText::command_text))]
+#[tactic(auto, unfolding(crate::specs::Front::command_text))]
 pub(crate) fn named_command(name: &[u8], register: u8, n: u64) -> Option<Command>
-    ensures { IfSome result (λ c. command_text c ≡ entry_text name.now register (codes "," ∷ decimal n ∷ [])) }
+    ensures { IfSome result (λ c. (spaced : Bool) → command_text spaced c
+        ≡ entry_text spaced name.now register (codes "," ∷ gap spaced ∷ decimal n ∷ [])) }
 {
     if is(name, "set") {
         Some(Command::Set(register, n))
@@ -29,9 +30,9 @@ pub(crate) fn named_command(name: &[u8], register: u8, n: u64) -> Option<Command
 }
 
 /// The step of a name and a member.
-#[tactic(auto, unfolding(ct_model::specs::StepText::step_text))]
+#[tactic(auto, unfolding(crate::specs::Front::step_text))]
 pub(crate) fn short_step(name: &[u8], p: Member) -> Option<Step>
-    ensures { IfSome result (λ s. step_text s ≡ entry_text name.now p []) }
+    ensures { IfSome result (λ s. (spaced : Bool) → step_text spaced s ≡ entry_text spaced name.now p []) }
 {
     if is(name, "begin") {
         Some(Step::Begin(p))
@@ -55,9 +56,10 @@ pub(crate) fn short_step(name: &[u8], p: Member) -> Option<Step>
 }
 
 /// The step of a name, a member and a number.
-#[tactic(auto, unfolding(ct_model::specs::StepText::step_text))]
+#[tactic(auto, unfolding(crate::specs::Front::step_text))]
 pub(crate) fn numbered_step(name: &[u8], p: Member, n: u64) -> Option<Step>
-    ensures { IfSome result (λ s. step_text s ≡ entry_text name.now p (codes "," ∷ decimal n ∷ [])) }
+    ensures { IfSome result (λ s. (spaced : Bool) → step_text spaced s
+        ≡ entry_text spaced name.now p (codes "," ∷ gap spaced ∷ decimal n ∷ [])) }
 {
     if is(name, "choose") && n <= BYTE {
         Some(Step::Choose(p, n as u8))
@@ -71,9 +73,10 @@ pub(crate) fn numbered_step(name: &[u8], p: Member, n: u64) -> Option<Step>
 }
 
 /// The step of a name, a member and a command.
-#[tactic(auto, unfolding(ct_model::specs::StepText::step_text))]
+#[tactic(auto, unfolding(crate::specs::Front::step_text))]
 pub(crate) fn commanded_step(name: &[u8], p: Member, command: Command) -> Option<Step>
-    ensures { IfSome result (λ s. step_text s ≡ entry_text name.now p (codes "," ∷ command_text command ∷ [])) }
+    ensures { IfSome result (λ s. (spaced : Bool) → step_text spaced s
+        ≡ entry_text spaced name.now p (codes "," ∷ gap spaced ∷ command_text spaced command ∷ [])) }
 {
     is(name, "submit").then_some(Step::Submit(p, command))
 }

@@ -75,3 +75,11 @@ fn digit(byte: u8) -> u8
 {
     byte.wrapping_sub(b'0')
 }
+
+/// The letters up to the next quotation mark, and what follows the mark.
+pub(crate) fn letters(bytes: &[u8]) -> Option<(&[u8], &[u8])>
+    ensures { IfSome result (λ r. bytes.now ≡ r.0.now ++ 34 ∷ r.1.now) }
+{
+    let end = bytes.iter().position(|byte| *byte == b'"')?;
+    Some((&bytes[..end], &bytes[end + 1..]))
+}

@@ -2,57 +2,55 @@
 
 ghost use Rattle.std.specs.Prelude.{◌≡◌, [], ◌++◌, ◌∷◌, codes, decimal, IfSome};
 ghost use Rattle.std.specs.List.{concat};
-ghost use Rattle.ct_model.specs.StepText.{entry_text, command_text, step_text};
-ghost use Rattle.ct_replay.specs.Front.{Continues, comma_if};
+ghost use Rattle.ct_replay.specs.Front.{Continues, comma_if, command_text, gap, step_text};
 
 use crate::naming::{BYTE, SERIAL, commanded_step, named_command, numbered_step, short_step};
-use crate::number::{behind, number};
+use crate::number::{behind, letters, number};
+use crate::spacing::{behind_comma, behind_gap};
 use ct_model::Step;
 use ct_names::{Command, Member, Serial};
 
 /// The next step, behind a comma where others stand before it, and what follows it. None: no step that is written so
 /// stands there, or not all of it.
 #[inline(always)]
-pub(crate) fn next_step(bytes: &[u8], later: bool) -> Option<(Step, &[u8])>
-    ensures { IfSome result (λ r. bytes.now ≡ comma_if later (step_text r.0 ++ r.1.now)) }
+pub(crate) fn next_step(bytes: &[u8], later: bool, spaced: bool) -> Option<(Step, &[u8])>
+    ensures { IfSome result (λ r. bytes.now ≡ comma_if spaced later (step_text spaced r.0 ++ r.1.now)) }
 {
-    let start = behind_another(bytes, later)?;
+    let start = behind_another(bytes, later, spaced)?;
     if let Some(rest) = behind_receive(start) {
-        return receipt(rest);
+        return receipt(rest, spaced);
     }
     if let Some(rest) = behind_postpone(start) {
-        return postponement(rest);
+        return postponement(rest, spaced);
     }
-    named_step(start)
+    named_step(start, spaced)
 }
 
 // The Receive behind its name.
-#[tactic(auto, unfolding(ct_model::specs::StepText::step_text))]
 #[inline(always)]
-fn receipt(bytes: &[u8]) -> Option<(Step, &[u8])>
-    ensures { IfSome result (λ r. codes "[\"receive\"," ++ bytes.now ≡ step_text r.0 ++ r.1.now) }
+fn receipt(bytes: &[u8], spaced: bool) -> Option<(Step, &[u8])>
+    ensures { IfSome result (λ r. codes "[\"receive\"," ++ bytes.now ≡ step_text spaced r.0 ++ r.1.now) }
 {
-    let (p, serial, rest) = member_and_serial(bytes)?;
+    let (p, serial, rest) = member_and_serial(bytes, spaced)?;
     Some((Step::Receive(p, serial), rest))
 }
 
 // The Postpone behind its name.
-#[tactic(auto, unfolding(ct_model::specs::StepText::step_text))]
 #[inline(always)]
-fn postponement(bytes: &[u8]) -> Option<(Step, &[u8])>
-    ensures { IfSome result (λ r. codes "[\"postpone\"," ++ bytes.now ≡ step_text r.0 ++ r.1.now) }
+fn postponement(bytes: &[u8], spaced: bool) -> Option<(Step, &[u8])>
+    ensures { IfSome result (λ r. codes "[\"postpone\"," ++ bytes.now ≡ step_text spaced r.0 ++ r.1.now) }
 {
-    let (p, serial, rest) = member_and_serial(bytes)?;
+    let (p, serial, rest) = member_and_serial(bytes, spaced)?;
     Some((Step::Postpone(p, serial), rest))
 }
 
 // What follows the comma, where another step stands before this one.
 #[inline(always)]
-fn behind_another(bytes: &[u8], later: bool) -> Option<&[u8]>
-    ensures { IfSome result (λ rest. bytes.now ≡ comma_if later rest.now) }
+fn behind_another(bytes: &[u8], later: bool, spaced: bool) -> Option<&[u8]>
+    ensures { IfSome result (λ rest. bytes.now ≡ comma_if spaced later rest.now) }
 {
     if later {
-        behind(bytes, b',')
+        behind_comma(bytes, spaced)
     } else {
         Some(bytes)
     }
@@ -107,13 +105,14 @@ fn behind_postpone(bytes: &[u8]) -> Option<&[u8]>
     }
 }
 
-// A member, a comma and a serial, and what follows the bracket behind these.
+// Behind a name and its comma a member, a comma and a serial, and what follows the bracket behind these.
 #[inline(always)]
-fn member_and_serial(bytes: &[u8]) -> Option<(Member, Serial, &[u8])>
-    ensures { IfSome result (λ r. bytes.now ≡ decimal r.0 ++ 44 ∷ (decimal r.1 ++ 93 ∷ r.2.now)) }
+fn member_and_serial(bytes: &[u8], spaced: bool) -> Option<(Member, Serial, &[u8])>
+    ensures { IfSome result (λ r. bytes.now
+        ≡ gap spaced ++ (decimal r.0 ++ 44 ∷ (gap spaced ++ (decimal r.1 ++ 93 ∷ r.2.now)))) }
 {
-    let (p, rest) = number(bytes, BYTE)?;
-    let rest = behind(rest, b',')?;
+    let (p, rest) = number(behind_gap(bytes, spaced)?, BYTE)?;
+    let rest = behind_comma(rest, spaced)?;
     let (serial, rest) = number(rest, SERIAL)?;
     let rest = behind(rest, b']')?;
     Some((p as u8, serial as u32, rest))
@@ -121,24 +120,24 @@ fn member_and_serial(bytes: &[u8]) -> Option<(Member, Serial, &[u8])>
 
 // Any step but these two.
 #[inline(never)]
-fn named_step(bytes: &[u8]) -> Option<(Step, &[u8])>
-    ensures { IfSome result (λ r. bytes.now ≡ step_text r.0 ++ r.1.now) }
+fn named_step(bytes: &[u8], spaced: bool) -> Option<(Step, &[u8])>
+    ensures { IfSome result (λ r. bytes.now ≡ step_text spaced r.0 ++ r.1.now) }
 {
-    let (name, rest) = word(behind(bytes, b'[')?)?;
+    let (name, rest) = word(behind(bytes, b'[')?, spaced)?;
     let (p, rest) = number(rest, BYTE)?;
-    step_of(name, p as u8, rest)
+    step_of(name, p as u8, rest, spaced)
 }
 
 // The step of a name, a member and what follows these.
-fn step_of<'a>(name: &[u8], p: Member, bytes: &'a [u8]) -> Option<(Step, &'a [u8])>
-    ensures { IfSome result (λ r. Continues name.now p bytes.now (step_text r.0) r.1.now) }
+fn step_of<'a>(name: &[u8], p: Member, bytes: &'a [u8], spaced: bool) -> Option<(Step, &'a [u8])>
+    ensures { IfSome result (λ r. Continues spaced name.now p bytes.now (step_text spaced r.0) r.1.now) }
 {
     if let Some(rest) = behind(bytes, b']') {
         return Some((short_step(name, p)?, rest));
     }
-    let rest = behind(bytes, b',')?;
+    let rest = behind_comma(bytes, spaced)?;
     if let Some(rest) = behind(rest, b'[') {
-        let (command, rest) = command(rest)?;
+        let (command, rest) = command(rest, spaced)?;
         return Some((commanded_step(name, p, command)?, behind(rest, b']')?));
     }
     let (n, rest) = number(rest, u64::MAX)?;
@@ -146,29 +145,21 @@ fn step_of<'a>(name: &[u8], p: Member, bytes: &'a [u8]) -> Option<(Step, &'a [u8
 }
 
 // The command behind the bracket that opens it.
-fn command(bytes: &[u8]) -> Option<(Command, &[u8])>
-    ensures { IfSome result (λ r. 91 ∷ bytes.now ≡ command_text r.0 ++ r.1.now) }
+fn command(bytes: &[u8], spaced: bool) -> Option<(Command, &[u8])>
+    ensures { IfSome result (λ r. 91 ∷ bytes.now ≡ command_text spaced r.0 ++ r.1.now) }
 {
-    let (name, rest) = word(bytes)?;
+    let (name, rest) = word(bytes, spaced)?;
     let (register, rest) = number(rest, BYTE)?;
-    let rest = behind(rest, b',')?;
+    let rest = behind_comma(rest, spaced)?;
     let (n, rest) = number(rest, u64::MAX)?;
     let command = named_command(name, register as u8, n)?;
     Some((command, behind(rest, b']')?))
 }
 
 // The letters between two quotation marks, and what follows the comma behind the second.
-fn word(bytes: &[u8]) -> Option<(&[u8], &[u8])>
-    ensures { IfSome result (λ r. bytes.now ≡ 34 ∷ (r.0.now ++ 34 ∷ 44 ∷ r.1.now)) }
+fn word(bytes: &[u8], spaced: bool) -> Option<(&[u8], &[u8])>
+    ensures { IfSome result (λ r. bytes.now ≡ 34 ∷ (r.0.now ++ 34 ∷ 44 ∷ (gap spaced ++ r.1.now))) }
 {
     let (word, rest) = letters(behind(bytes, b'"')?)?;
-    Some((word, behind(rest, b',')?))
-}
-
-// The letters up to the next quotation mark, and what follows the mark.
-fn letters(bytes: &[u8]) -> Option<(&[u8], &[u8])>
-    ensures { IfSome result (λ r. bytes.now ≡ r.0.now ++ 34 ∷ r.1.now) }
-{
-    let end = bytes.iter().position(|byte| *byte == b'"')?;
-    Some((&bytes[..end], &bytes[end + 1..]))
+    Some((word, behind_comma(rest, spaced)?))
 }

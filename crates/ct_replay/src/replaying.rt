@@ -14,11 +14,12 @@ use ct_streams::{Failed, Sink, Source, write_all};
 use ct_world::Stage;
 use std::alloc::Global;
 
-/// Reads a record to its end, replays it and writes the report, as `ct_records::run_replay` does. The steps of a record that
-/// is written as `write_record` writes it, a line end behind it or not, are done as they are read. Where something else is
-/// met, or a step is refused, what was read is written once more from the steps that were done, and all is read before the
-/// first step. The whole report is made before the first write. What the contract says of the input holds where the reader
-/// tells its bytes, and what it says of the output where the writer does.
+/// Reads a record to its end, replays it and writes the report, as `ct_records::run_replay` does. The steps are done as they
+/// are read where the record has no white space, or a space behind each comma and colon, and its numbers of members and of
+/// cells stand before its steps. Where something else is met, or a step is refused, what was read is written once more from
+/// the steps that were done, and all is read before the first step. The whole report is made before the first write. What
+/// the contract says of the input holds where the reader tells its bytes, and what it says of the output where the writer
+/// does.
 pub fn replay_while_read<R: Source, W: Sink>(
     alloc: Global,
     reader: &mut R,

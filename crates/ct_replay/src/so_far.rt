@@ -1,33 +1,77 @@
 //! What was read of a record, again.
 
-ghost use Rattle.std.specs.Prelude.{◌≡◌, ◌≤◌, ◌++◌, length, drop, vec_len, IfOk, IsTrue};
+ghost use Rattle.std.specs.Prelude.{◌≡◌, ◌≤◌, ◌++◌, false, length, drop, vec_len, string_bytes, IfOk, OnOk};
+ghost use Rattle.ct_records.specs.Adds.{Adds};
 ghost use Rattle.ct_records.specs.Fits.{AllFit, IsStorable};
-ghost use Rattle.ct_replay.specs.Front.{front_text, IsLast};
+ghost use Rattle.ct_records.specs.Text as records;
+ghost use Rattle.ct_model.specs.StepText as model;
+ghost use Rattle.ct_replay.specs.Front.{steps_text};
 
-use crate::naming::is;
-use ct_records::write_record;
+use crate::spacing::push_spread;
+use ct_model::Step;
+use ct_records::push_separator;
 use ct_world::World;
 use std::alloc::{AllocError, Global};
 
-// How long the text behind the last step is.
-const LAST_LEN: usize = 14;
-
-/// The text of the record that was read, up to the last of its steps, and the bytes behind it.
-pub(crate) fn text_so_far(alloc: Global, world: &World, rest: &[u8]) -> Result<Vec<u8>, AllocError>
-    ensures { IfOk result (λ text. text.items ≡ front_text world.now.rehearsal ++ rest.now) }
+/// What was read: the text before the steps, these, and the bytes behind the last that was done.
+pub(crate) fn text_so_far(
+    alloc: Global,
+    head: &[u8],
+    steps: &[Step],
+    spaced: bool,
+    rest: &[u8],
+) -> Result<Vec<u8>, AllocError>
+    requires { AllFit steps.now }
+    ensures { IfOk result (λ text. text.items ≡ head.now ++ (steps_text spaced false steps.now ++ rest.now)) }
 {
-    let mut text = write_record(alloc, world)?;
-    let front = text.len().saturating_sub(LAST_LEN);
-    text.truncate(front);
+    let mut text = Vec::new(alloc);
+    text.extend_from_slice(head)?;
+    push_all(alloc, &mut text, steps, spaced)?;
     text.extend_from_slice(rest)?;
     Ok(text)
 }
 
-/// Whether the bytes are the text behind the last step, alone or with a line end.
-pub(crate) fn is_last(bytes: &[u8]) -> bool
-    ensures { IsTrue result → IsLast bytes.now }
+// Adds the text of the steps.
+fn push_all(
+    alloc: Global,
+    text: &mut Vec<u8>,
+    steps: &[Step],
+    spaced: bool,
+) -> Result<(), AllocError>
+    requires { AllFit steps.now }
+    ensures { OnOk result (text.new.items ≡ text.old.items ++ steps_text spaced false steps.now) }
 {
-    is(bytes, "],\"version\":3}") || is(bytes, "],\"version\":3}\n")
+    let close = close_text(alloc, steps)?;
+    if spaced {
+        return push_spread(text, close.as_bytes());
+    }
+    text.extend_from_slice(close.as_bytes())?;
+    Ok(())
+}
+
+// The text of the steps, without spaces.
+fn close_text(alloc: Global, steps: &[Step]) -> Result<String, AllocError>
+    ensures { IfOk result (λ text. string_bytes text ≡ records.steps_text steps.now) }
+{
+    let mut text = String::new(alloc);
+    push_steps(&mut text, steps)?;
+    Ok(text)
+}
+
+fn push_steps(text: &mut String, steps: &[Step]) -> Result<(), AllocError>
+    ensures { OnOk result (Adds text.old text.new (records.steps_text steps.now)) }
+{
+    for (i, step) in steps.iter().enumerate() {
+        push_separator(text, ',', i > 0)?;
+        push_step(text, *step)?;
+    }
+    Ok(())
+}
+
+fn push_step(text: &mut String, step: Step) -> Result<(), AllocError>
+    ensures { OnOk result (Adds text.old text.new (model.step_text step)) }
+{
+    write!(text, "{step}")
 }
 
 /// Drops the first bytes.

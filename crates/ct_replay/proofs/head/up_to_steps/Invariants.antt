@@ -1,0 +1,5 @@
+use Rattle.ct_replay.specs.Front.{IsFound}
+use Rattle.ct_replay.proofs.head.up_to_steps.Given as goal
+
+abbrev pub invariant-loop : goal.invariant-loop
+invariant-loop l = IsFound l.spaced l.bytes l.numbers l.rest
