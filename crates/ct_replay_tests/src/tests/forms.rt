@@ -10,6 +10,41 @@ fn white_space_may_stand_anywhere(rt: HostRuntime) {
     assert!(rt; answers(rt.alloc(), record, Ok(()), REPORT));
 }
 
+// A space behind each comma and colon, as most writers of JSON put it.
+#[test]
+fn a_space_may_stand_behind_each_comma_and_colon(rt: HostRuntime) {
+    let record =
+        "{\"batch\": 1048560, \"cells\": 4, \"n\": 3, \"steps\": [[\"submit\", 1, [\"set\", 0, 7]], [\"receive\", 1, 1], [\"receive\", 2, 2]], \"version\": 3}";
+    assert!(rt; answers(rt.alloc(), record, Ok(()), REPORT));
+    let record =
+        "{\"version\": 3, \"n\": 3, \"steps\": [[\"submit\", 1, [\"set\", 0, 7]], [\"receive\", 1, 1], [\"receive\", 2, 2]], \"cells\": 4, \"batch\": 1048560}";
+    assert!(rt; answers(rt.alloc(), record, Ok(()), REPORT));
+    let record =
+        "{\"cells\": 4, \"n\": 3, \"steps\": [[\"submit\", 1, [\"set\", 0, 7]], [\"receive\", 1, 1], [\"receive\", 2, 2]], \"version\": 2}";
+    assert!(rt; answers(rt.alloc(), record, Ok(()), REPORT));
+}
+
+// The spaces end in the midst, or begin there.
+#[test]
+fn some_commas_may_lack_their_space(rt: HostRuntime) {
+    let record =
+        "{\"batch\": 1048560, \"cells\": 4, \"n\": 3, \"steps\": [[\"submit\", 1, [\"set\", 0, 7]], [\"receive\", 1,1], [\"receive\", 2, 2]], \"version\": 3}";
+    assert!(rt; answers(rt.alloc(), record, Ok(()), REPORT));
+    let record =
+        "{\"batch\":1048560,\"cells\":4,\"n\":3,\"steps\":[[\"submit\",1,[\"set\",0,7]],[\"receive\", 1,1],[\"receive\",2,2]],\"version\":3}";
+    assert!(rt; answers(rt.alloc(), record, Ok(()), REPORT));
+}
+
+#[test]
+fn white_space_may_stand_behind_a_record(rt: HostRuntime) {
+    let record =
+        "{\"batch\":1048560,\"cells\":4,\"n\":3,\"steps\":[[\"submit\",1,[\"set\",0,7]],[\"receive\",1,1],[\"receive\",2,2]],\"version\":3} \t\r\n\n";
+    assert!(rt; answers(rt.alloc(), record, Ok(()), REPORT));
+    let record =
+        "{\"batch\":1048560,\"cells\":4,\"n\":3,\"steps\":[[\"submit\",1,[\"set\",0,7]],[\"receive\",1,1],[\"receive\",2,2]],\"version\":3}\n}";
+    assert!(rt; refuses(rt.alloc(), record, ProgramFault::Read(ReadFault::NotJson)));
+}
+
 #[test]
 fn keys_may_stand_in_any_order(rt: HostRuntime) {
     let record =
@@ -65,6 +100,15 @@ fn an_older_record_may_have_a_newer_step(rt: HostRuntime) {
             ProgramFault::Read(ReadFault::Shape { at: 2 })
         )
     );
+    let record =
+        "{\"cells\":4,\"n\":2,\"steps\":[[\"submit\",1,[\"set\",0,7]],[\"follow\",1]],\"version\":2}";
+    assert!(rt;
+        refuses(
+            rt.alloc(),
+            record,
+            ProgramFault::Read(ReadFault::Shape { at: 2 })
+        )
+    );
 }
 
 #[test]
@@ -92,6 +136,13 @@ fn a_name_may_have_an_escape(rt: HostRuntime) {
     let record =
         "{\"batch\":1048560,\"cells\":4,\"n\":3,\"steps\":[[\"submit\",1,[\"set\",0,7]],[\"receive\",1,1],[\"\\u0072eceive\",2,2]],\"version\":3}";
     assert!(rt; answers(rt.alloc(), record, Ok(()), REPORT));
+}
+
+#[test]
+fn a_record_may_lack_its_version(rt: HostRuntime) {
+    let fault = ProgramFault::Read(ReadFault::Shape { at: 0 });
+    let record = "{\"batch\":1,\"cells\":4,\"n\":3,\"steps\":[[\"submit\",1,[\"set\",0,7]]]}";
+    assert!(rt; refuses(rt.alloc(), record, fault));
 }
 
 // A number or a name that is none ends what is read in one pass.
