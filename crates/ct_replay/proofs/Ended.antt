@@ -123,11 +123,11 @@ whole_says w bytes h whole =
     let head = whole.head in
     let last = whole.last in
     let numbers = whole.numbers in
-    let after = whole.end.after in
+    let after = whole.end.are.after in
     let steps = steps_text spaced false w.steps in
     let x = steps ++ 93 ∷ after in
     let start = whole.front.first ++ x in
-    let is : bytes ≡ 123 ∷ start = whole.text ∙ ap (λ t. head ++ (steps ++ t)) whole.end.text ∙ ap (λ t. t ++ x) whole.front.opens in
+    let is : bytes ≡ 123 ∷ start = whole.text ∙ ap (λ t. head ++ (steps ++ t)) whole.end.are.text ∙ ap (λ t. t ++ x) whole.front.opens in
     let begins : Begins bytes 123 start = record { text = ap lexemes is; ends = λ e. ap ends_word is } in
     let past : IsPast start (members_with numbers (Some w.steps)) after = record {
       last = from_steps spaced x;
@@ -142,4 +142,4 @@ whole_says w bytes h whole =
     rw whole.text (lengths.then head (steps ++ last) 256 _ (record { utf8 = whole.valid.utf8; short = whole.valid.short })
     (lengths.then steps last (60 * length w.steps) 256 (steps_width spaced false w.steps h.fit)
     (record { utf8 = whole.end.valid.utf8; short = whole.end.valid.short }))) in
-    plain_script bytes start _ w (omega (arith, all.short, h.few_steps)) all.utf8 begins (whole.end.rest start w.steps past) whole.end.says
+    plain_script bytes start _ w (omega (arith, all.short, h.few_steps)) all.utf8 begins (whole.end.are.rest start w.steps past) whole.end.says

@@ -5,4 +5,6 @@ pub mod Widths
 pub mod Ended
 pub mod Allowed
 pub mod Sources
+pub mod Started
 pub mod Answered
+pub mod Kept

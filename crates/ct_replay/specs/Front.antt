@@ -115,12 +115,16 @@ abbrev pub IsRest : Numbers → List ℕ → Numbers → Type 0
 IsRest old after new = (start : List ℕ) (steps : List Step) → IsPast start (members_with old (Some steps)) after →
     Closes start (members_with new (Some steps))
 
--- what stands behind the last step, where these numbers stand before the first, makes this record
-pub record IsEnd (numbers : Numbers) (w : Rehearsal) (bytes : List ℕ) : Type 0 where
+-- what stands behind the last step, from the bracket on, makes these numbers of those before the first
+pub record AreAll (numbers : Numbers) (bytes : List ℕ) (all : Numbers) : Type 0 where
   pub after : List ℕ
-  pub all : Numbers
   pub text : bytes ≡ 93 ∷ after
   pub rest : IsRest numbers after all
+
+-- and this record
+pub record IsEnd (numbers : Numbers) (w : Rehearsal) (bytes : List ℕ) : Type 0 where
+  pub all : Numbers
+  pub are : AreAll numbers bytes all
   pub says : of_value (object (members_with all (Some w.steps))) ≡ Ok w
   pub valid : IsShort bytes 256
 

@@ -1,1 +1,3 @@
 pub mod Front
+pub mod Brief
+pub mod Start

@@ -6,7 +6,7 @@ ghost use Rattle.json.specs.Token.{end_object};
 ghost use Rattle.json.specs.Word.{ends_word};
 ghost use Rattle.ct_records.specs.Fits.{AllFit};
 ghost use Rattle.ct_records.specs.Plain.{lexemes};
-ghost use Rattle.ct_replay.specs.Front.{IsEnd, IsListed, IsRest, IsShort, IsUpToSteps, gap};
+ghost use Rattle.ct_replay.specs.Front.{AreAll, IsEnd, IsListed, IsRest, IsShort, IsUpToSteps, gap};
 
 use crate::naming::is;
 use crate::number::{behind, letters, number};
@@ -70,13 +70,18 @@ pub(crate) fn is_end(bytes: &[u8], spaced: bool, numbers: Numbers, world: &World
     requires { AllFit world.now.rehearsal.steps }
     ensures { IsTrue result → IsEnd numbers world.now.rehearsal bytes.now }
 {
-    let Some(after) = behind(bytes, b']') else {
-        return false;
-    };
-    let Some(all) = with_later(numbers, after, spaced) else {
-        return false;
-    };
-    is_short(bytes) && all.are_of(world)
+    match all_numbers(bytes, spaced, numbers) {
+        Some(all) => is_short(bytes) && all.are_of(world),
+        None => false,
+    }
+}
+
+/// The numbers before the steps and behind them, where the bytes end the record.
+pub(crate) fn all_numbers(bytes: &[u8], spaced: bool, earlier: Numbers) -> Option<Numbers>
+    ensures { IfSome result (AreAll earlier bytes.now) }
+{
+    let after = behind(bytes, b']')?;
+    with_later(earlier, after, spaced)
 }
 
 // With the numbers behind the steps, where these end the record.

@@ -2,7 +2,10 @@
 #![tactic(auto)]
 
 mod answering;
+mod brief;
+mod briefs;
 mod head;
+mod listing;
 mod naming;
 mod number;
 mod numbers;
@@ -12,6 +15,7 @@ mod replaying;
 mod running;
 mod so_far;
 mod spacing;
+mod start;
 mod taking;
 
 pub use replaying::replay_while_read;

@@ -1,24 +1,26 @@
 //! A record that is run while it is read.
 
-ghost use Rattle.std.specs.Prelude.{◌≡◌, ◌≤◌, ◌<◌, ◌^◌, ◌++◌, [], false, true, Ok, None, length, take, drop, vec_len};
-ghost use Rattle.std.specs.Prelude.{IfOk, OnOk, IfSome};
+ghost use Rattle.std.specs.Prelude.{◌≡◌, ◌<◌, ◌^◌, ◌++◌, [], false, true, Ok, None, length, IfOk, OnOk, IfSome};
 ghost use Rattle.std.specs.Io.KnownBytes.{IsAtEnd};
 ghost use Rattle.ct_streams.specs.Streams.{FailsOnce};
-ghost use Rattle.ct_replay.specs.Front.{Advances, IsBegun, IsHead, IsReadOf, IsShort, steps_text};
+ghost use Rattle.ct_replay.specs.Front.{Advances, IsBegun, IsReadOf, steps_text};
+ghost use Rattle.ct_replay.specs.Start.{IsStart, ReadAs, ReadOf};
 
-use crate::head::{MOST, head, is_end, is_short};
-use crate::numbers::Numbers;
+use crate::head::{MOST, is_end};
+use crate::listing::run_listed;
 use crate::piece::{read_more, read_up_to};
-use crate::so_far::{drop_first, text_so_far};
+use crate::so_far::text_so_far;
+use crate::start::Start;
 use crate::taking::take_steps;
 use ct_records::MAX_LEN;
 use ct_streams::{InputFault, Source};
 use ct_world::Stage;
-use std::alloc::{AllocError, Global};
+use std::alloc::Global;
 
-/// The world of the record that the source has, where each step is done: where all stands there without white space, or with
-/// a space behind each comma and colon, and with some white space behind it or none; the numbers of members and of cells
-/// before the steps, and so a bound that isn't the largest. If not, what was read of it stands in the bytes.
+/// The world of the record that the source has, where each step is allowed and all stands there without white space, or with
+/// a space behind each comma and colon, and with some white space behind it or none. The steps are done as they are read
+/// where the numbers of members and of cells stand before them, and a bound that isn't the largest; else they are kept. If
+/// it isn't so, what was read stands in the bytes.
 pub(crate) fn run<R: Source>(
     alloc: Global,
     reader: &mut R,
@@ -28,60 +30,71 @@ pub(crate) fn run<R: Source>(
     requires count { R.failures reader.old < 2 ^ 63 }
     requires room { 0 < length piece.old }
     requires empty { bytes.old.items ≡ [] }
-    ensures whole { IfOk result (λ o. IfSome o (λ stage.
-        IsReadOf (R.left reader.old) (R.left reader.new) stage.rehearsal × IsBegun stage.rehearsal)) }
+    ensures whole { IfOk result (λ o. IfSome o (λ stage. IsReadOf (R.left reader.old) (R.left reader.new) stage.rehearsal)) }
+    ensures begun { IfOk result (λ o. IfSome o (λ stage. IsBegun stage.rehearsal)) }
     ensures part { result ≡ Ok None → Advances (R.left reader.old) (R.left reader.new) [] bytes.new.items }
     ensures failures { FailsOnce result InputFault.Reader (R.failures reader.old) (R.failures reader.new) }
 {
     read_up_to(reader, piece, bytes, MOST)?;
-    let Some((mut stage, numbers, spaced, used)) = begun(alloc, bytes) else {
+    let Ok(found) = Start::take(alloc, bytes) else {
+        return Err(InputFault::Memory);
+    };
+    let Some(start) = found else {
         return Ok(None);
     };
-    let Ok(front) = take_first(alloc, bytes, used) else {
-        return Err(InputFault::Memory);
-    };
-    if run_steps(reader, piece, bytes, &mut stage, spaced)?
-        && is_end(bytes, spaced, numbers, stage.world())
-    {
-        return Ok(Some(stage));
+    match begun(alloc, &start) {
+        Some(stage) => run_staged(alloc, reader, piece, bytes, &start, stage),
+        None => run_listed(alloc, reader, piece, bytes, &start),
     }
-    let Ok(text) = text_so_far(alloc, &front, stage.world().record(), spaced, bytes) else {
-        return Err(InputFault::Memory);
-    };
-    *bytes = text;
-    Ok(None)
 }
 
-// The world that a record begins with, the numbers before its steps, whether it has spaces, and how many bytes stand before
-// its first step.
-fn begun(alloc: Global, bytes: &[u8]) -> Option<(Stage, Numbers, bool, usize)>
-    ensures head { IfSome result (λ r. IsHead r.2 (take r.3 bytes.now) r.1) }
-    ensures valid { IfSome result (λ r. IsShort (take r.3 bytes.now) 256) }
-    ensures within { IfSome result (λ r. r.3 ≤ length bytes.now) }
-    ensures begun { IfSome result (λ r. IsBegun r.0.rehearsal) }
-    ensures empty { IfSome result (λ r. r.0.rehearsal.steps ≡ []) }
+// The world that the record begins with, where its numbers stand before the steps.
+fn begun(alloc: Global, start: &Start) -> Option<Stage>
+    ensures begun { IfSome result (λ stage. IsBegun stage.rehearsal) }
+    ensures empty { IfSome result (λ stage. stage.rehearsal.steps ≡ []) }
 {
-    let (numbers, spaced, rest) = head(bytes)?;
-    let used = bytes.len() - rest.len();
-    if !is_short(&bytes[..used]) {
-        return None;
-    }
-    match Stage::new(alloc, numbers.setup()?) {
-        Ok(stage) => Some((stage, numbers, spaced, used)),
+    match Stage::new(alloc, start.numbers.setup()?) {
+        Ok(stage) => Some(stage),
         Err(_) => None,
     }
 }
 
-// Takes the first bytes out.
-fn take_first(alloc: Global, bytes: &mut Vec<u8>, count: usize) -> Result<Vec<u8>, AllocError>
-    requires { count ≤ vec_len bytes.old }
-    ensures first { IfOk result (λ first. first.items ≡ take count bytes.old.items) }
-    ensures rest { OnOk result (bytes.new.items ≡ drop count bytes.old.items) }
+// The world in which the steps are done as they are read.
+fn run_staged<R: Source>(
+    alloc: Global,
+    reader: &mut R,
+    piece: &mut [u8],
+    bytes: &mut Vec<u8>,
+    start: &Start,
+    mut stage: Stage,
+) -> Result<Option<Stage>, InputFault>
+    requires count { R.failures reader.old < 2 ^ 63 }
+    requires room { 0 < length piece.old }
+    requires start { IsStart start.now }
+    requires begun { IsBegun stage.rehearsal }
+    requires empty { stage.rehearsal.steps ≡ [] }
+    ensures whole { IfOk result (λ o. IfSome o (λ stage.
+        ReadOf start.now bytes.old.items (R.left reader.old) (R.left reader.new) stage.rehearsal)) }
+    ensures begun { IfOk result (λ o. IfSome o (λ stage. IsBegun stage.rehearsal)) }
+    ensures part { result ≡ Ok None → ReadAs start.now bytes.old.items (R.left reader.old) (R.left reader.new) bytes.new.items }
+    ensures failures { FailsOnce result InputFault.Reader (R.failures reader.old) (R.failures reader.new) }
 {
-    let mut first = Vec::new(alloc);
-    first.extend_from_slice(&bytes[..count])?;
-    drop_first(bytes, count);
-    Ok(first)
+    if run_steps(reader, piece, bytes, &mut stage, start.spaced)?
+        && is_end(bytes, start.spaced, start.numbers, stage.world())
+    {
+        return Ok(Some(stage));
+    }
+    let Ok(text) = text_so_far(
+        alloc,
+        &start.text,
+        stage.world().record(),
+        start.spaced,
+        bytes,
+    ) else {
+        return Err(InputFault::Memory);
+    };
+    *bytes = text;
+    Ok(None)
 }
 
 // Does the steps of the bytes and of what the source has, as far as they are written so and allowed; whether the source has

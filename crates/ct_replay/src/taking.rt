@@ -79,9 +79,9 @@ fn take_step<'a>(stage: &mut Stage, bytes: &'a [u8], later: bool, spaced: bool) 
     Some(rest)
 }
 
-// What each step's numbers are within.
+/// What each step's numbers are within.
 #[inline(always)]
-fn fits(step: Step)
+pub(crate) fn fits(step: Step)
     ensures { StepFits step }
 {
     let _ = step;

@@ -1,7 +1,7 @@
 use Rattle.std.proofs.Common.{◌≡◌, Ok, ap}
 use Rattle.std.specs.Prelude.{IfSome}
 use Rattle.ct_records.specs.Script.{script}
-use Rattle.ct_replay.specs.Front.{IsBegun, IsReadOf}
+use Rattle.ct_replay.specs.Front.{IsReadOf}
 use Rattle.ct_replay.proofs.Answered.{fault_in, if_err, if_ok, report_in, report_read}
 use Rattle.ct_replay.proofs.Sources.{advances_more, input_says}
 use Rattle.ct_replay.proofs.replaying.report_of.Goals as goal
@@ -30,6 +30,6 @@ pub returns-in-Some-clause-ok : goal.returns-in-Some-clause-ok
 returns-in-Some-clause-ok g c =
     let left = g.R.Source.left c.args.reader.now in
     let w = c.in-Some.stage.rehearsal in
-    let whole : IsReadOf left (g.R.Source.left c.run.new.reader) w × IsBegun w = rw c.in-Some.is at c.in_ok-stage.ensures.whole in
-    if_ok c.report_after.result _ _ (λ text says. report_read left (g.R.Source.left c.run.new.reader) w text.items whole.0 says)
+    let whole : IsReadOf left (g.R.Source.left c.run.new.reader) w = rw c.in-Some.is at c.in_ok-stage.ensures.whole in
+    if_ok c.report_after.result _ _ (λ text says. report_read left (g.R.Source.left c.run.new.reader) w text.items whole says)
     c.report_after.ensures.ok

@@ -1,0 +1,61 @@
+//! What stands before the steps of a record, taken out of the bytes.
+
+ghost use Rattle.std.specs.Prelude.{◌≡◌, ◌≤◌, ◌++◌, Ok, None, length, take, drop, vec_len, IfOk, OnOk, IfSome};
+ghost use Rattle.ct_replay.specs.Front.{IsHead, IsShort};
+ghost use Rattle.ct_replay.specs.Start.{IsStart};
+
+use crate::head::{head, is_short};
+use crate::numbers::Numbers;
+use crate::so_far::drop_first;
+use std::alloc::{AllocError, Global};
+
+/// The text up to the bracket that opens the list of steps, the numbers in it, and whether a space stands behind each comma
+/// and colon.
+#[derive(Drop)]
+pub(crate) struct Start {
+    pub text: Vec<u8>,
+    pub numbers: Numbers,
+    pub spaced: bool,
+}
+
+impl Start {
+    /// What the bytes begin with, taken out of them. None: no such text, and nothing is taken out.
+    pub(crate) fn take(alloc: Global, bytes: &mut Vec<u8>) -> Result<Option<Start>, AllocError>
+        ensures start { IfOk result (λ o. IfSome o IsStart) }
+        ensures taken { IfOk result (λ o. IfSome o (λ start. bytes.old.items ≡ start.text.items ++ bytes.new.items)) }
+        ensures none { result ≡ Ok None → bytes.new ≡ bytes.old }
+    {
+        let Some((numbers, spaced, used)) = measured(bytes) else {
+            return Ok(None);
+        };
+        let text = take_first(alloc, bytes, used)?;
+        Ok(Some(Start {
+            text,
+            numbers,
+            spaced,
+        }))
+    }
+}
+
+// The numbers, whether there are spaces, and how long the text is.
+fn measured(bytes: &[u8]) -> Option<(Numbers, bool, usize)>
+    ensures head { IfSome result (λ r. IsHead r.1 (take r.2 bytes.now) r.0) }
+    ensures valid { IfSome result (λ r. IsShort (take r.2 bytes.now) 256) }
+    ensures within { IfSome result (λ r. r.2 ≤ length bytes.now) }
+{
+    let (numbers, spaced, rest) = head(bytes)?;
+    let used = bytes.len() - rest.len();
+    is_short(&bytes[..used]).then_some((numbers, spaced, used))
+}
+
+// Takes the first bytes out.
+fn take_first(alloc: Global, bytes: &mut Vec<u8>, count: usize) -> Result<Vec<u8>, AllocError>
+    requires { count ≤ vec_len bytes.old }
+    ensures first { IfOk result (λ first. first.items ≡ take count bytes.old.items) }
+    ensures rest { OnOk result (bytes.new.items ≡ drop count bytes.old.items) }
+{
+    let mut first = Vec::new(alloc);
+    first.extend_from_slice(&bytes[..count])?;
+    drop_first(bytes, count);
+    Ok(first)
+}
