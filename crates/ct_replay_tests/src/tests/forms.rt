@@ -55,6 +55,53 @@ fn keys_may_stand_in_any_order(rt: HostRuntime) {
     assert!(rt; answers(rt.alloc(), record, Ok(()), REPORT));
 }
 
+// What the world is made with may stand behind the steps, which are kept until then.
+#[test]
+fn steps_may_stand_first(rt: HostRuntime) {
+    let record =
+        "{\"version\":3,\"steps\":[[\"submit\",1,[\"set\",0,7]],[\"receive\",1,1],[\"receive\",2,2]],\"n\":3,\"cells\":4,\"batch\":1048560}";
+    assert!(rt; answers(rt.alloc(), record, Ok(()), REPORT));
+    let record =
+        "{\"steps\": [[\"submit\", 1, [\"set\", 0, 7]], [\"receive\", 1, 1], [\"receive\", 2, 2]], \"n\": 3, \"cells\": 4, \"version\": 1}\n";
+    assert!(rt; answers(rt.alloc(), record, Ok(()), REPORT));
+}
+
+// Every kind of step, and several submissions, stand before the numbers.
+#[test]
+fn steps_of_a_whole_round_may_stand_first(rt: HostRuntime) {
+    let record =
+        "{\"steps\":[[\"submit\",1,[\"set\",0,7]],[\"receive\",1,1],[\"receive\",2,2],[\"crash\",3],[\"begin\",1],[\"begin\",2],[\"enter\",1],[\"enter\",2],[\"receive\",2,7],[\"receive\",2,8],[\"choose\",2,1],[\"receive\",1,9],[\"adopt\",1],[\"receive\",2,10],[\"adopt\",2],[\"receive\",2,12],[\"receive\",2,13],[\"conclude\",2],[\"receive\",2,15],[\"deliver\",2],[\"receive\",1,14],[\"deliver\",1]],\"version\":3,\"n\":3,\"cells\":4,\"batch\":1048560}";
+    assert!(rt; answers(rt.alloc(), record, Ok(()), ONE_ROUND_REPORT));
+    let record =
+        "{\"steps\":[[\"submit\",1,[\"set\",0,7]],[\"submit\",1,[\"add\",1,5]],[\"postpone\",1,1],[\"lose\",1,2],[\"repeat\",1,2],[\"submit\",1,[\"copy\",0,1]],[\"receive\",1,1]],\"version\":3,\"n\":1,\"cells\":4,\"batch\":9}";
+    let report =
+        "group 1 majority 1 cells 4\nsteps 7 sent 3 posted 0\nmember 1 up instance 0 idle\nreceived 1.1\ndecided -\ndelivered -\ntable -\n";
+    assert!(rt; answers(rt.alloc(), record, Ok(()), report));
+}
+
+#[test]
+fn a_step_that_stands_first_may_be_refused(rt: HostRuntime) {
+    let fault = ProgramFault::Replay {
+        at: 2,
+        refusal: Refusal::NotWaiting,
+    };
+    let record =
+        "{\"version\":3,\"steps\":[[\"submit\",1,[\"set\",0,7]],[\"receive\",1,2],[\"receive\",2,2]],\"n\":3,\"cells\":4,\"batch\":1}";
+    assert!(rt; refuses(rt.alloc(), record, fault));
+    let record =
+        "{\"version\": 3, \"steps\": [[\"submit\", 1, [\"set\", 0, 7]], [\"receive\", 1, 2], [\"receive\", 2, 2]], \"n\": 3, \"cells\": 4, \"batch\": 1}";
+    assert!(rt; refuses(rt.alloc(), record, fault));
+    let record =
+        "{\"version\":3,\"steps\":[[\"submit\",1,[\"set\",0,7]],[\"receive\",1,1],[\"receive\",2,2]],\"n\":3,\"batch\":1}";
+    assert!(rt;
+        refuses(
+            rt.alloc(),
+            record,
+            ProgramFault::Read(ReadFault::Shape { at: 0 })
+        )
+    );
+}
+
 #[test]
 fn a_record_may_be_older(rt: HostRuntime) {
     let record =
