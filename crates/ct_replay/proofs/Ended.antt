@@ -21,7 +21,7 @@ use Rattle.ct_records.proofs.Lengths.{Text}
 use Rattle.ct_records.proofs.Members.{so_far_none, so_far_more, takes_number, takes_steps, plain_script}
 use Rattle.ct_records.proofs.Plain.{object_ends, space_skipped}
 use Rattle.ct_replay.specs.declared.numbers.Numbers.{Numbers}
-use Rattle.ct_replay.specs.Front.{gap, steps_text, members_with, from_steps, AddsNumber, IsFound, IsListed, IsShort}
+use Rattle.ct_replay.specs.Front.{gap, steps_text, members_with, from_steps, AddsNumber, IsFound, IsUpToList, IsShort}
 use Rattle.ct_replay.specs.Front.{IsUpToSteps, IsWhite, IsWholeOf}
 use Rattle.ct_replay.proofs.Lexed.{comma_before, key_first, value_first, list_first}
 use Rattle.ct_replay.proofs.Widths.{steps_width}
@@ -74,7 +74,7 @@ list_split spaced next = ap (λ t. codes "\"steps\":" ++ t) (append_assoc (gap s
 
 -- the key of the steps and the bracket behind it
 pub listed : (spaced : Bool) (bytes rest key value next : List ℕ) (numbers : Numbers) → IsFound spaced bytes numbers rest →
-    rest ≡ 34 ∷ (key ++ 34 ∷ 58 ∷ (gap spaced ++ value)) → key ≡ codes "steps" → value ≡ 91 ∷ next → IsListed spaced bytes numbers next
+    rest ≡ 34 ∷ (key ++ 34 ∷ 58 ∷ (gap spaced ++ value)) → key ≡ codes "steps" → value ≡ 91 ∷ next → IsUpToList spaced bytes numbers next
 listed spaced bytes rest key value next numbers h at same opens =
     let m = codes "\"steps\":" ++ (gap spaced ++ 91 ∷ []) in
     let begins : rest ≡ m ++ next = at ∙ rw (same, opens) (sym (list_split spaced next)) in
@@ -86,7 +86,7 @@ listed spaced bytes rest key value next numbers h at same opens =
           (ap (λ t. h.text ++ t) (sym (list_split spaced x)) ∙ sym (append_assoc h.text m x)) (h.so_far (from_steps spaced x));
     }
 
-pub up_to_steps : (spaced : Bool) (bytes rest next : List ℕ) (numbers : Numbers) → bytes ≡ 123 ∷ rest → IsListed spaced rest numbers next →
+pub up_to_steps : (spaced : Bool) (bytes rest next : List ℕ) (numbers : Numbers) → bytes ≡ 123 ∷ rest → IsUpToList spaced rest numbers next →
     IsUpToSteps spaced bytes numbers next
 up_to_steps spaced bytes rest next numbers opens h = record {
   text = 123 ∷ h.text;

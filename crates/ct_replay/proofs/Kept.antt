@@ -162,7 +162,3 @@ listed_more spaced a b c x y z end l m r h k more = λ ss keeps fit.
       fit = second.fit;
       read = read_on l m r (steps_text spaced false ss ++ x) before all y z end first.read second.text more;
     }
-
-pub listed_last : (spaced : Bool) (a b c : Briefs) (x y z : List ℕ) (l m : Option (List ℕ)) → IsListed spaced a b x y l m →
-    IsTaken spaced b c y z → IsListed spaced a c x z l m
-listed_last spaced a b c x y z l m h k = listed_more spaced a b c x y z z l m m h k (advances_none m z z refl)

@@ -1,8 +1,7 @@
 -- What was read of a source, one read after the other.
 use Rattle.std.proofs.Common.{◌≡◌, ℕ, ◌<◌, Bool, false, List, [], ◌++◌, length, Option, Some, None, refl, sym, ap, ◌∙◌, append_assoc, append-nil}
-use Rattle.std.proofs.Common.{arith, inl, inr, subst, length-append, take}
-use Rattle.std.specs.Prelude.{IfSome, drop}
-use Rattle.std.proofs.lemmas.List.{take-append-drop}
+use Rattle.std.proofs.Common.{arith, inl, inr, subst, length-append}
+use Rattle.std.specs.Prelude.{IfSome}
 use Rattle.std.specs.Io.KnownBytes.{Consumes, IsAtEnd}
 use Rattle.ct_records.specs.Script.{script, max_len}
 use Rattle.ct_model.specs.declared.step.Step.{Step}
@@ -77,16 +76,6 @@ pub read_on : (a b d : Option (List ℕ)) (x f g y left z : List ℕ) → Advanc
     Advances a d x (g ++ z)
 read_on a b d x f g y left z h done more =
     advances_more a b d x (g ++ left) (g ++ z) (advances_as a b x (f ++ y) (g ++ left) h done) (advances_behind b d g left z more)
-
--- what stands before the steps was read, and then more behind it
-pub start_on : (a b d : Option (List ℕ)) (x bytes head left z : List ℕ) (used : ℕ) → x ≡ [] → Advances a b x bytes →
-    head ≡ take used bytes → left ≡ drop used bytes → Advances b d left z → Advances a d [] (head ++ z)
-start_on a b d x bytes head left z used empty h first is more =
-    let now : bytes ≡ head ++ left =
-    sym (take-append-drop used bytes) ∙ ap (λ t. t ++ drop used bytes) (sym first) ∙ ap (λ t. head ++ t) (sym is) in
-    let read : Advances a b [] bytes = subst (λ t. Advances a b t bytes) empty h in
-    advances_more a b d [] (head ++ left) (head ++ z) (advances_as a b [] bytes (head ++ left) read now)
-    (advances_behind b d head left z more)
 
 -- nothing was done before
 pub read_first : (a b : Option (List ℕ)) (spaced : Bool) (steps : List Step) (x y : List ℕ) → steps ≡ [] →

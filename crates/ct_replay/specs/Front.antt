@@ -94,7 +94,7 @@ pub record IsHead (spaced : Bool) (text : List ℕ) (numbers : Numbers) : Type 0
   pub so_far : (next : List ℕ) → SoFar (first ++ next) (members_with numbers None) (from_steps spaced next)
 
 -- the bytes begin with such a text but for its first bracket
-pub record IsListed (spaced : Bool) (bytes : List ℕ) (numbers : Numbers) (rest : List ℕ) : Type 0 where
+pub record IsUpToList (spaced : Bool) (bytes : List ℕ) (numbers : Numbers) (rest : List ℕ) : Type 0 where
   pub text : List ℕ
   pub split : bytes ≡ text ++ rest
   pub so_far : (next : List ℕ) → SoFar (text ++ next) (members_with numbers None) (from_steps spaced next)

@@ -6,7 +6,7 @@ ghost use Rattle.json.specs.Token.{end_object};
 ghost use Rattle.json.specs.Word.{ends_word};
 ghost use Rattle.ct_records.specs.Fits.{AllFit};
 ghost use Rattle.ct_records.specs.Plain.{lexemes};
-ghost use Rattle.ct_replay.specs.Front.{AreAll, IsEnd, IsListed, IsRest, IsShort, IsUpToSteps, gap};
+ghost use Rattle.ct_replay.specs.Front.{AreAll, IsEnd, IsRest, IsShort, IsUpToList, IsUpToSteps, gap};
 
 use crate::naming::is;
 use crate::number::{behind, letters, number};
@@ -41,7 +41,7 @@ fn is_spaced(bytes: &[u8]) -> bool {
 
 // The numbers, and what follows the bracket behind the key of the steps.
 fn up_to_steps(bytes: &[u8], spaced: bool) -> Option<(Numbers, &[u8])>
-    ensures { IfSome result (λ r. IsListed spaced bytes.now r.0 r.1.now) }
+    ensures { IfSome result (λ r. IsUpToList spaced bytes.now r.0 r.1.now) }
 {
     let mut numbers = Numbers::none();
     let mut rest = bytes;

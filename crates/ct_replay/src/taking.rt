@@ -1,6 +1,6 @@
 //! The steps at the front of some bytes, done one by one.
 
-ghost use Rattle.std.specs.Prelude.{◌≡◌, ◌≤◌, ◌<◌, ◌++◌, None, false, true, length, drop, nat_lt, IfSome, IsSome};
+ghost use Rattle.std.specs.Prelude.{◌≡◌, ◌≤◌, ◌<◌, ◌++◌, None, false, length, drop, nat_lt, IfSome, IsSome};
 ghost use Rattle.ct_records.specs.Fits.{StepFits};
 ghost use Rattle.ct_replay.specs.Front.{IsBegun, steps_text};
 
@@ -17,25 +17,13 @@ pub(crate) fn take_steps(stage: &mut Stage, bytes: &mut Vec<u8>, spaced: bool)
         ≡ steps_text spaced false stage.new.rehearsal.steps ++ bytes.new.items }
     ensures begun { IsBegun stage.new.rehearsal }
 {
+    // Each loop has its own reader: nothing in the second asks for spaces.
     let used = if spaced {
-        take_spaced(stage, bytes)
+        take_all(stage, bytes, true)
     } else {
         take_all(stage, bytes, false)
     };
     drop_first(bytes, used);
-}
-
-// Does these steps where they have spaces, and answers how many bytes they are. This loop stands apart, so that nothing asks
-// for spaces in the other, and that stays as it is without it.
-#[inline(never)]
-fn take_spaced(stage: &mut Stage, bytes: &[u8]) -> usize
-    requires { IsBegun stage.old.rehearsal }
-    ensures within { result ≤ length bytes.now }
-    ensures text { steps_text true false stage.old.rehearsal.steps ++ bytes.now
-        ≡ steps_text true false stage.new.rehearsal.steps ++ drop result bytes.now }
-    ensures begun { IsBegun stage.new.rehearsal }
-{
-    take_all(stage, bytes, true)
 }
 
 // Does these steps, and answers how many bytes they are.
