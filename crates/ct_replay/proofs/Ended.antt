@@ -1,6 +1,6 @@
 -- A record whose steps stand between the numbers before and those behind them says what its members do.
-use Rattle.std.proofs.Common.{◌≡◌, ℕ, ◌+◌, ◌*◌, ◌^◌, ◌<◌, ◌≤◌, Bool, true, false, List, [], ◌∷◌, ◌++◌, length, codes, decimal, Some, None, Ok, refl}
-use Rattle.std.proofs.Common.{sym, ap, subst, ◌∙◌, arith, append_assoc}
+use Rattle.std.proofs.Common.{◌≡◌, ℕ, ◌+◌, ◌*◌, ◌^◌, ◌<◌, ◌≤◌, Bool, true, false, List, [], ◌∷◌, ◌++◌, length, codes, decimal, Some, None}
+use Rattle.std.proofs.Common.{Ok, refl, sym, ap, subst, ◌∙◌, arith, append_assoc}
 use Rattle.std.specs.Prelude.{All}
 use Rattle.std.proofs.lemmas.Bool.{lt-ltb}
 use Rattle.std.proofs.lemmas.List.Elements.{All-head, All-tail}
@@ -86,7 +86,8 @@ listed spaced bytes rest key value next numbers h at same opens =
           (ap (λ t. h.text ++ t) (sym (list_split spaced x)) ∙ sym (append_assoc h.text m x)) (h.so_far (from_steps spaced x));
     }
 
-pub up_to_steps : (spaced : Bool) (bytes rest next : List ℕ) (numbers : Numbers) → bytes ≡ 123 ∷ rest → IsUpToList spaced rest numbers next →
+pub up_to_steps : (spaced : Bool) (bytes rest next : List ℕ) (numbers : Numbers) → bytes ≡ 123 ∷ rest →
+    IsUpToList spaced rest numbers next →
     IsUpToSteps spaced bytes numbers next
 up_to_steps spaced bytes rest next numbers opens h = record {
   text = 123 ∷ h.text;
@@ -142,4 +143,5 @@ whole_says w bytes h whole =
     rw whole.text (lengths.then head (steps ++ last) 256 _ (record { utf8 = whole.valid.utf8; short = whole.valid.short })
     (lengths.then steps last (60 * length w.steps) 256 (steps_width spaced false w.steps h.fit)
     (record { utf8 = whole.end.valid.utf8; short = whole.end.valid.short }))) in
-    plain_script bytes start _ w (omega (arith, all.short, h.few_steps)) all.utf8 begins (whole.end.are.rest start w.steps past) whole.end.says
+    plain_script bytes start _ w (omega (arith, all.short, h.few_steps)) all.utf8 begins (whole.end.are.rest start w.steps past)
+    whole.end.says

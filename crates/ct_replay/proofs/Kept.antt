@@ -21,7 +21,8 @@ use Rattle.ct_replay.proofs.Texts.{left_is, steps_read}
 
 commands_more : (ss : List Step) (s : Step) → commands_of (ss ++ s ∷ []) ≡ commands_of ss ++ command_of s
 commands_more [] s = append-nil (command_of s)
-commands_more (t ∷ ss) s = ap (λ cs. command_of t ++ cs) (commands_more ss s) ∙ sym (append_assoc (command_of t) (commands_of ss) (command_of s))
+commands_more (t ∷ ss) s =
+    ap (λ cs. command_of t ++ cs) (commands_more ss s) ∙ sym (append_assoc (command_of t) (commands_of ss) (command_of s))
 
 pub keeps_more : (old new : Briefs) (ss : List Step) (s : Step) → Keeps old ss → new.briefs.items ≡ old.briefs.items ++ brief s ∷ [] →
     new.commands.items ≡ old.commands.items ++ command_of s → Keeps new (ss ++ s ∷ [])

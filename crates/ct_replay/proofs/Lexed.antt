@@ -73,14 +73,16 @@ entry_split : (spaced : Bool) (name d r : List ℕ) (ts : List (List ℕ)) →
 entry_split spaced name d r ts =
     ap (λ t. 91 ∷ 34 ∷ t)
     (append_assoc name (34 ∷ 44 ∷ (gap spaced ++ (d ++ concat ts))) r
-    ∙ ap (λ t. name ++ 34 ∷ 44 ∷ t) (append_assoc (gap spaced) (d ++ concat ts) r ∙ ap (λ t. gap spaced ++ t) (append_assoc d (concat ts) r)))
+    ∙ ap (λ t. name ++ 34 ∷ 44 ∷ t)
+    (append_assoc (gap spaced) (d ++ concat ts) r ∙ ap (λ t. gap spaced ++ t) (append_assoc d (concat ts) r)))
 
 -- behind a comma a number and a bracket
 number_last : (spaced : Bool) (n : ℕ) (r : List ℕ) → n < 2 ^ 64 →
     lexemes (concat (codes "," ∷ gap spaced ∷ decimal n ∷ codes "]" ∷ []) ++ r) ≡ comma ∷ number_lexeme n ∷ token end_array ∷ lexemes r
 number_last spaced n r fits =
     let value = decimal n ++ 93 ∷ r in
-    ap (λ t. lexemes (44 ∷ t)) (append_assoc (gap spaced) (decimal n ++ 93 ∷ []) r ∙ ap (λ t. gap spaced ++ t) (append_assoc (decimal n) (93 ∷ []) r))
+    ap (λ t. lexemes (44 ∷ t))
+    (append_assoc (gap spaced) (decimal n ++ 93 ∷ []) r ∙ ap (λ t. gap spaced ++ t) (append_assoc (decimal n) (93 ∷ []) r))
     ∙ comma_gap spaced value
     ∙ ap (λ l. comma ∷ l) (value_first n (93 ∷ r) fits refl ∙ ap (λ l. number_lexeme n ∷ l) (closes (93 ∷ r) r (close_first r)))
 
