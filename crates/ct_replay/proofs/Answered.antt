@@ -1,35 +1,28 @@
 -- What is said of the bytes that were read holds of the input.
 use Rattle.std.proofs.Common.{◌≡◌, ℕ, List, Option, Some, None, Result, Ok, Err, sym, subst, ◌∙◌}
-use Rattle.std.specs.Prelude.{IfSome, IfOk, IfErr, OnOk, IsOkAnd}
+use Rattle.std.specs.Prelude.{IfSome, IfOk, IfErr, IsOkAnd}
 use Rattle.ct_model.specs.Rehearsal.{Rehearsal}
 use Rattle.ct_records.specs.declared.program_fault.ProgramFault.{ProgramFault}
-use Rattle.ct_records.specs.declared.program_fault.ProgramFault.TheVariants.{Replay, Read, Start, Exchanged}
-use Rattle.ct_records.specs.Fits.{IsStorable}
+use Rattle.ct_records.specs.declared.program_fault.ProgramFault.TheVariants.{Replay, Read, Memory, Start, Exchanged}
 use Rattle.ct_records.specs.Outcome.{IsOutcome}
 use Rattle.ct_records.specs.Script.{script}
 use Rattle.ct_records.specs.Report.{report_text}
-use Rattle.ct_records.specs.Replay.{IsAllowed, IsReplayed, IsReportOf, IsFaultIn}
+use Rattle.ct_records.specs.Replay.{IsReplayed, IsReportOf, IsFaultIn}
 use Rattle.ct_replay.specs.Front.{IsBegun, IsReadOf, IsWholeOf}
 use Rattle.ct_replay.proofs.Ended.{whole_says}
 use Rattle.ct_replay.proofs.Sources.{input_is}
 
 -- the report of a world whose record was read
-pub report_is : (w : Rehearsal) (text bytes : List ℕ) → IsBegun w → IsStorable w → IsOutcome w → text ≡ report_text w →
-    IsWholeOf bytes w → IsReportOf bytes text
-report_is w text bytes h storable outcome is whole =
-    rw (whole_says w bytes storable whole) (record { allowed = h.allowed; outcome = outcome }, is)
-
--- the report of a world whose steps are those that the bytes say
-pub report_done : (w : Rehearsal) (text bytes seen : List ℕ) → seen ≡ bytes → script seen ≡ Ok w → IsAllowed w → IsOutcome w →
-    text ≡ report_text w → IsReportOf bytes text
-report_done w text bytes seen same says allowed outcome is =
-    rw (← same, says) (record { allowed = allowed; outcome = outcome }, is)
+pub report_is : (w : Rehearsal) (text bytes : List ℕ) → IsBegun w → IsOutcome w → text ≡ report_text w → IsWholeOf bytes w →
+    IsReportOf bytes text
+report_is w text bytes h outcome is whole =
+    rw (whole_says w bytes h.fit whole) (record { allowed = h.allowed; outcome = outcome }, is)
 
 pub report_read : (left new : Option (List ℕ)) (w : Rehearsal) (text : List ℕ) → IsReadOf left new w →
     ((bytes : List ℕ) → IsWholeOf bytes w → IsReportOf bytes text) → IfSome left (λ input. IsReportOf input text)
 report_read None new w text h says = tt
 report_read (Some input) new w text h says =
-    subst (λ t. IsReportOf t text) (sym (input_is (Some input) new h.bytes h.read)) (says h.bytes h.whole)
+    subst (λ t. IsReportOf t text) (sym (input_is (Some input) new h.bytes h.consumed h.end)) (says h.bytes h.whole)
 
 fault_of : (fault : ProgramFault) (bytes input : List ℕ) → script bytes ≡ script input → IsFaultIn fault bytes → IsFaultIn fault input
 fault_of (Replay at refusal) bytes input e h = rw (← e) h
@@ -69,6 +62,7 @@ pub if_err : {T E : Type 0} (r : Result T E) (P Q : E → Type 0) → ((e : E) �
 if_err (Ok x) P Q f h = tt
 if_err (Err e) P Q f h = f e h
 
-pub on_ok : {T E : Type 0} (r : Result T E) (P Q : Type 0) → (P → Q) → OnOk r P → OnOk r Q
-on_ok (Ok x) P Q f h = f h
-on_ok (Err e) P Q f h = tt
+-- a fault of memory says nothing of the input
+pub memory_in : (left : Option (List ℕ)) (fault : ProgramFault) → fault ≡ Memory → IfSome left (IsFaultIn fault)
+memory_in None fault is = tt
+memory_in (Some input) fault is = rw is tt

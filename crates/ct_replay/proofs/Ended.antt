@@ -1,147 +1,161 @@
--- A record whose steps stand between the numbers before and those behind them says what its members do.
-use Rattle.std.proofs.Common.{◌≡◌, ℕ, ◌+◌, ◌*◌, ◌^◌, ◌<◌, ◌≤◌, Bool, true, false, List, [], ◌∷◌, ◌++◌, length, codes, decimal, Some, None}
-use Rattle.std.proofs.Common.{Ok, refl, sym, ap, subst, ◌∙◌, arith, append_assoc}
-use Rattle.std.specs.Prelude.{All}
-use Rattle.std.proofs.lemmas.Bool.{lt-ltb}
-use Rattle.std.proofs.lemmas.List.Elements.{All-head, All-tail}
-use Rattle.json.specs.Lex.{token}
-use Rattle.json.specs.Word.{ends_word, is_space}
-use Rattle.json.specs.Token.{end_object}
+-- A record whose steps stand between the numbers before them and those behind them says what its members do.
+use Rattle.std.proofs.Common.{◌≡◌, ℕ, ◌^◌, ◌<◌, true, false, List, [], ◌∷◌, ◌++◌, codes, Some, None}
+use Rattle.std.proofs.Common.{Ok, refl, sym, ap, subst, ◌∙◌, append_assoc, append-nil}
+use Rattle.std.specs.Str.{IsUtf8, is_utf8}
+use Rattle.std.proofs.lemmas.Str.{IsUtf8-from_is_utf8, IsUtf8-nil, is_utf8-from_IsUtf8}
+use Rattle.json.specs.Lex.{token, comma, colon}
+use Rattle.json.specs.Token.{begin_array, begin_object, end_array, end_object, string}
+use Rattle.json.specs.Word.{ends_word}
 use Rattle.json.proofs.OnLiterals.{json_on_literals}
-use Rattle.json.proofs.Printed.Utf8.{are_ascii, IsUtf8-are_ascii}
 use Rattle.serde_json.specs.Data.{Members, no_members}
 use Rattle.ct_model.specs.Rehearsal.{Rehearsal}
-use Rattle.ct_records.specs.Fits.{IsStorable}
-use Rattle.ct_records.specs.Plain.{lexemes, Adds, Begins, IsPast, SoFar, Takes}
+use Rattle.ct_records.specs.Fits.{AllFit}
+use Rattle.ct_records.specs.Plain.{lexemes, number_lexeme, steps_lexemes, Adds, Begins, IsPast, IsPlain, SoFar, Takes}
 use Rattle.ct_records.specs.Script.{script}
 use Rattle.ct_records.specs.Values.{num}
 use Rattle.ct_records.proofs.Keys.{adds_steps}
-use Rattle.ct_records.proofs.Lengths as lengths
-use Rattle.ct_records.proofs.Lengths.{Text}
 use Rattle.ct_records.proofs.Members.{so_far_none, so_far_more, takes_number, takes_steps, plain_script}
-use Rattle.ct_records.proofs.Plain.{object_ends, space_skipped}
+use Rattle.ct_records.proofs.Plain.{closes, commas, object_ends, opens, opens_object}
 use Rattle.ct_replay.specs.declared.numbers.Numbers.{Numbers}
-use Rattle.ct_replay.specs.Front.{gap, steps_text, members_with, from_steps, AddsNumber, IsFound, IsUpToList, IsShort}
-use Rattle.ct_replay.specs.Front.{IsUpToSteps, IsWhite, IsWholeOf}
-use Rattle.ct_replay.proofs.Lexed.{comma_before, key_first, value_first, list_first}
-use Rattle.ct_replay.proofs.Widths.{steps_width}
+use Rattle.ct_replay.specs.Front.{members_with, AddsNumber, IsFound, IsListKey, IsUpToList, IsUpToSteps, IsWholeOf}
+use Rattle.ct_replay.specs.Reading.{IsAscii, IsWhite, ReadsKey, ReadsMark, ReadsNumber}
+use Rattle.ct_replay.proofs.Reading.{lexed_then, mark_begins, split_then, white_first}
+use Rattle.ct_replay.proofs.Utf8.{ascii_valid}
 
 -- ---- one number
 
 -- a number at its key
-pub taken : (spaced : Bool) (bytes key value after : List ℕ) (n : ℕ) (old new : Members) →
-    bytes ≡ 34 ∷ (key ++ 34 ∷ 58 ∷ (gap spaced ++ value)) → value ≡ decimal n ++ after → n < 2 ^ 64 → Adds key (num n) old new →
-    Takes bytes old new after
-taken spaced bytes key value after n old new at is few adds =
-    takes_number key n bytes value after old new (λ plain. ap lexemes at ∙ key_first spaced key value plain)
-    (λ ended. ap lexemes is ∙ value_first n after few ended) few adds
-
-pub begins_comma : (spaced : Bool) (bytes next : List ℕ) → bytes ≡ 44 ∷ (gap spaced ++ next) → Begins bytes 44 next
-begins_comma spaced bytes next is = rw is (comma_before spaced next)
+pub taken : (bytes key value after : List ℕ) (n : ℕ) (old new : Members) → ReadsKey bytes key value → ReadsNumber value n after →
+    n < 2 ^ 64 → Adds key (num n) old new → Takes bytes old new after
+taken bytes key value after n old new h i few adds =
+    takes_number key n bytes value after old new (λ plain. ap lexemes h.split ∙ h.lexed plain value)
+    (λ ended. ap lexemes i.split ∙ i.lexed after ended) few adds
 
 -- ---- the numbers before the steps
 
-pub found_none : (spaced : Bool) (bytes : List ℕ) (numbers : Numbers) → members_with numbers None ≡ no_members →
-    IsFound spaced bytes numbers bytes
-found_none spaced bytes numbers none = record { text = []; split = refl; so_far = λ next. rw none (so_far_none next) }
-
-member_split : (key d g next : List ℕ) →
-    (34 ∷ (key ++ 34 ∷ 58 ∷ (g ++ (d ++ 44 ∷ g)))) ++ next ≡ 34 ∷ (key ++ 34 ∷ 58 ∷ (g ++ (d ++ 44 ∷ (g ++ next))))
-member_split key d g next = simp append_assoc
-
--- one more number, with a comma behind it
-pub found_more : (spaced : Bool) (bytes rest key value after next : List ℕ) (n : ℕ) (old new : Numbers) → IsFound spaced bytes old rest →
-    rest ≡ 34 ∷ (key ++ 34 ∷ 58 ∷ (gap spaced ++ value)) → value ≡ decimal n ++ after → after ≡ 44 ∷ (gap spaced ++ next) → n < 2 ^ 64 →
-    AddsNumber key n old new → IsFound spaced bytes new next
-found_more spaced bytes rest key value after next n old new h at is behind few adds =
-    let g = gap spaced in
-    let m = 34 ∷ (key ++ 34 ∷ 58 ∷ (g ++ (decimal n ++ 44 ∷ g))) in
-    let begins : rest ≡ m ++ next =
-    at ∙ ap (λ t. 34 ∷ (key ++ 34 ∷ 58 ∷ (g ++ t))) (is ∙ ap (λ t. decimal n ++ t) behind) ∙ sym (member_split key (decimal n) g next) in
-    record {
-      text = h.text ++ m;
-      split = h.split ∙ ap (λ t. h.text ++ t) begins ∙ sym (append_assoc h.text m next);
-      so_far = λ x.
-          let end = 44 ∷ (g ++ x) in
-          let takes : Takes (m ++ x) (members_with old None) (members_with new None) end =
-          taken spaced (m ++ x) key (decimal n ++ end) end n _ _ (member_split key (decimal n) g x) refl few (adds None) in
-          subst (λ t. SoFar t (members_with new None) x) (sym (append_assoc h.text m x))
-          (so_far_more (h.text ++ (m ++ x)) (m ++ x) end x _ _ (h.so_far (m ++ x)) takes (comma_before spaced x));
-    }
-
-list_split : (spaced : Bool) (next : List ℕ) → (codes "\"steps\":" ++ (gap spaced ++ 91 ∷ [])) ++ next ≡ from_steps spaced next
-list_split spaced next = ap (λ t. codes "\"steps\":" ++ t) (append_assoc (gap spaced) (91 ∷ []) next)
-
--- the key of the steps and the bracket behind it
-pub listed : (spaced : Bool) (bytes rest key value next : List ℕ) (numbers : Numbers) → IsFound spaced bytes numbers rest →
-    rest ≡ 34 ∷ (key ++ 34 ∷ 58 ∷ (gap spaced ++ value)) → key ≡ codes "steps" → value ≡ 91 ∷ next → IsUpToList spaced bytes numbers next
-listed spaced bytes rest key value next numbers h at same opens =
-    let m = codes "\"steps\":" ++ (gap spaced ++ 91 ∷ []) in
-    let begins : rest ≡ m ++ next = at ∙ rw (same, opens) (sym (list_split spaced next)) in
-    record {
-      text = h.text ++ m;
-      split = h.split ∙ ap (λ t. h.text ++ t) begins ∙ sym (append_assoc h.text m next);
-      so_far = λ x.
-          subst (λ t. SoFar t (members_with numbers None) (from_steps spaced x))
-          (ap (λ t. h.text ++ t) (sym (list_split spaced x)) ∙ sym (append_assoc h.text m x)) (h.so_far (from_steps spaced x));
-    }
-
-pub up_to_steps : (spaced : Bool) (bytes rest next : List ℕ) (numbers : Numbers) → bytes ≡ 123 ∷ rest →
-    IsUpToList spaced rest numbers next →
-    IsUpToSteps spaced bytes numbers next
-up_to_steps spaced bytes rest next numbers opens h = record {
-  text = 123 ∷ h.text;
-  split = opens ∙ ap (λ t. 123 ∷ t) h.split;
-  head = record { first = h.text; opens = refl; so_far = h.so_far };
+pub found_none : (bytes : List ℕ) (numbers : Numbers) → members_with numbers None ≡ no_members → IsFound bytes numbers bytes
+found_none bytes numbers none = record {
+  text = [];
+  split = refl;
+  so_far = λ next. rw none (so_far_none next);
+  before = λ after. after;
+  lexed = λ next. refl;
 }
 
--- ---- white space
+member_split : (key n mark next : List ℕ) → (key ++ (n ++ mark)) ++ next ≡ key ++ (n ++ (mark ++ next))
+member_split key n mark next = simp append_assoc
 
-pub white_first : (space : List ℕ) → IsWhite space → lexemes space ≡ lexemes []
-white_first [] h = refl
-white_first (x ∷ xs) h =
-    (space_skipped (x ∷ xs) xs x (All-head (λ b. is_space b ≡ true) x xs h) refl).0
-    ∙ white_first xs (All-tail (λ b. is_space b ≡ true) x xs h)
+-- one more number, with a comma behind it
+pub found_more : (bytes rest key value after next : List ℕ) (n : ℕ) (old new : Numbers) → IsFound bytes old rest → ReadsKey rest key value →
+    ReadsNumber value n after → ReadsMark after 44 next → n < 2 ^ 64 → AddsNumber key n old new → IsFound bytes new next
+found_more bytes rest key value after next n old new h i j k few adds =
+    let m = i.text ++ (j.text ++ k.text) in
+    let plain : IsPlain key = (adds None).0 in
+    let begins : rest ≡ m ++ next =
+    i.split ∙ ap (λ t. i.text ++ t) (j.split ∙ ap (λ t. j.text ++ t) k.split) ∙ sym (member_split i.text j.text k.text next) in
+    let value_lexed : (x : List ℕ) → lexemes (j.text ++ (k.text ++ x)) ≡ number_lexeme n ∷ lexemes (k.text ++ x) =
+    λ x. j.lexed (k.text ++ x) ((k.begins x).ends refl) in
+    record {
+      text = h.text ++ m;
+      split = split_then bytes h.text rest m next h.split begins;
+      so_far = λ x.
+          let end = k.text ++ x in
+          let takes : Takes (m ++ x) (members_with old None) (members_with new None) end =
+          takes_number key n (m ++ x) (j.text ++ end) end _ _
+          (λ plain. ap lexemes (member_split i.text j.text k.text x) ∙ i.lexed plain (j.text ++ end)) (λ ended. j.lexed end ended) few
+          (adds None) in
+          subst (λ t. SoFar t (members_with new None) x) (sym (append_assoc h.text m x))
+          (so_far_more (h.text ++ (m ++ x)) (m ++ x) end x _ _ (h.so_far (m ++ x)) takes (k.begins x));
+      before = λ l. h.before (token (string key) ∷ colon ∷ number_lexeme n ∷ comma ∷ l);
+      lexed = λ x.
+          lexed_then h.text m x _ (h.lexed (m ++ x)
+          ∙ ap h.before (ap lexemes (member_split i.text j.text k.text x) ∙ i.lexed plain (j.text ++ (k.text ++ x))
+          ∙ ap (λ l. token (string key) ∷ colon ∷ l) (value_lexed x
+          ∙ ap (λ l. number_lexeme n ∷ l) (commas (k.text ++ x) x (k.begins x)))));
+    }
 
-pub closes_object : (bytes rest : List ℕ) → bytes ≡ 125 ∷ rest → IsWhite rest → lexemes bytes ≡ token end_object ∷ []
-closes_object bytes rest is white =
-    object_ends bytes rest [] (rw is (record { text = refl; ends = λ e. refl })) (white_first rest white) refl
+-- ---- the key of the steps and the bracket behind it
+
+list_key : (bytes key value next : List ℕ) → (h : ReadsKey bytes key value) → (i : ReadsMark value 91 next) → key ≡ codes "steps" →
+    IsListKey (h.text ++ i.text)
+unfolding json_on_literals
+list_key bytes key value next h i same = λ x.
+    lexed_then h.text i.text x _ (h.lexed (rw same refl) (i.text ++ x)
+    ∙ ap (λ l. token (string key) ∷ colon ∷ l) (opens (i.text ++ x) x (i.begins x))
+    ∙ ap (λ k. token (string k) ∷ colon ∷ token begin_array ∷ lexemes x) same)
+
+pub listed : (bytes rest key value next : List ℕ) (numbers : Numbers) → IsFound bytes numbers rest → ReadsKey rest key value →
+    key ≡ codes "steps" → ReadsMark value 91 next → IsUpToList bytes numbers next
+listed bytes rest key value next numbers h i same j =
+    let m = i.text ++ j.text in
+    let key_is : IsListKey m = list_key rest key value next i j same in
+    record {
+      text = h.text ++ m;
+      split = split_then bytes h.text rest m next h.split (split_then rest i.text value j.text next i.split j.split);
+      list = m;
+      key = key_is;
+      so_far = λ x. subst (λ t. SoFar t (members_with numbers None) (m ++ x)) (sym (append_assoc h.text m x)) (h.so_far (m ++ x));
+      before = λ l. h.before (token (string (codes "steps")) ∷ colon ∷ token begin_array ∷ l);
+      lexed = λ x. lexed_then h.text m x _ (h.lexed (m ++ x) ∙ ap h.before (key_is x));
+    }
+
+pub up_to_steps : (bytes rest next : List ℕ) (numbers : Numbers) → ReadsMark bytes 123 rest → IsUpToList rest numbers next →
+    IsUpToSteps bytes numbers next
+up_to_steps bytes rest next numbers h i = record {
+  text = h.text ++ i.text;
+  split = split_then bytes h.text rest i.text next h.split i.split;
+  head = record {
+    first = i.text;
+    opens = λ x. subst (λ t. Begins t 123 (i.text ++ x)) (sym (append_assoc h.text i.text x)) (h.begins (i.text ++ x));
+    list = i.list;
+    key = i.key;
+    so_far = i.so_far;
+    before = λ l. token begin_object ∷ i.before l;
+    lexed = λ x. lexed_then h.text i.text x _ (opens_object (h.text ++ (i.text ++ x)) (i.text ++ x) (h.begins (i.text ++ x))
+        ∙ ap (λ l. token begin_object ∷ l) (i.lexed x));
+  };
+}
+
+-- ---- the end
+
+pub closes_object : (bytes rest : List ℕ) → ReadsMark bytes 125 rest → IsWhite rest → lexemes bytes ≡ token end_object ∷ []
+closes_object bytes rest h white =
+    object_ends bytes rest [] (mark_begins bytes rest 125 h)
+    (ap lexemes (sym (append-nil rest)) ∙ white_first rest [] white) refl
+
+pub closes_ends : (bytes rest : List ℕ) → ReadsMark bytes 125 rest → ends_word bytes ≡ true
+closes_ends bytes rest h = (mark_begins bytes rest 125 h).ends refl
+
+pub ascii_utf8 : (bytes : List ℕ) → IsAscii bytes → IsUtf8 bytes
+ascii_utf8 bytes h =
+    IsUtf8-from_is_utf8 bytes (ap is_utf8 (sym (append-nil bytes)) ∙ ascii_valid bytes h [] ∙ is_utf8-from_IsUtf8 [] IsUtf8-nil)
 
 -- ---- the whole
 
-all_ascii : (bytes : List ℕ) → All (λ b. b < 128) bytes → are_ascii bytes ≡ true
-all_ascii [] h = refl
-all_ascii (x ∷ xs) h =
-    rw (lt-ltb x 128 (All-head (λ b. b < 128) x xs h), all_ascii xs (All-tail (λ b. b < 128) x xs h)) refl
-
-pub ascii_valid : (bytes : List ℕ) → length bytes ≤ 256 → All (λ b. b < 128) bytes → IsShort bytes 256
-ascii_valid bytes few h = record { utf8 = IsUtf8-are_ascii bytes (all_ascii bytes h); short = few }
-
-pub whole_says : (w : Rehearsal) (bytes : List ℕ) → IsStorable w → IsWholeOf bytes w → script bytes ≡ Ok w
-unfolding json_on_literals
-whole_says w bytes h whole =
-    let spaced = whole.spaced in
+pub whole_says : (w : Rehearsal) (bytes : List ℕ) → AllFit w.steps → IsWholeOf bytes w → script bytes ≡ Ok w
+whole_says w bytes fit whole =
     let head = whole.head in
     let last = whole.last in
     let numbers = whole.numbers in
     let after = whole.end.are.after in
-    let steps = steps_text spaced false w.steps in
-    let x = steps ++ 93 ∷ after in
+    let x = whole.text ++ last in
     let start = whole.front.first ++ x in
-    let is : bytes ≡ 123 ∷ start = whole.text ∙ ap (λ t. head ++ (steps ++ t)) whole.end.are.text ∙ ap (λ t. t ++ x) whole.front.opens in
-    let begins : Begins bytes 123 start = record { text = ap lexemes is; ends = λ e. ap ends_word is } in
+    let begins : Begins bytes 123 start = subst (λ t. Begins t 123 start) (sym whole.split) (whole.front.opens x) in
+    let list = whole.front.list ++ x in
+    let ended : lexemes last ≡ token end_array ∷ lexemes after = closes last after whole.end.are.begins in
     let past : IsPast start (members_with numbers (Some w.steps)) after = record {
-      last = from_steps spaced x;
+      last = list;
       earlier = members_with numbers None;
       so_far = whole.front.so_far x;
       takes =
-          takes_steps (codes "steps") w.steps (from_steps spaced x) (91 ∷ x) after _ _ (key_first spaced (codes "steps") (91 ∷ x))
-          (list_first spaced w.steps after h.fit) h.fit
+          takes_steps (codes "steps") w.steps list (91 ∷ x) after _ _
+          (λ plain. whole.front.key x ∙ ap (λ l. token (string (codes "steps")) ∷ colon ∷ l) (sym (bracket x)))
+          (bracket x ∙ ap (λ l. token begin_array ∷ l) (whole.steps.lexed last ∙ ap (steps_lexemes false w.steps) ended)) fit
           (adds_steps (codes "steps") w.steps numbers.batch numbers.cells numbers.n None numbers.version refl);
     } in
-    let all : Text bytes (256 + (60 * length w.steps + 256)) =
-    rw whole.text (lengths.then head (steps ++ last) 256 _ (record { utf8 = whole.valid.utf8; short = whole.valid.short })
-    (lengths.then steps last (60 * length w.steps) 256 (steps_width spaced false w.steps h.fit)
-    (record { utf8 = whole.end.valid.utf8; short = whole.end.valid.short }))) in
-    plain_script bytes start _ w (omega (arith, all.short, h.few_steps)) all.utf8 begins (whole.end.are.rest start w.steps past)
-    whole.end.says
+    let valid : is_utf8 bytes ≡ true =
+    ap is_utf8 whole.split ∙ whole.valid x ∙ whole.steps.valid last ∙ is_utf8-from_IsUtf8 last whole.end.utf8 in
+    plain_script bytes start _ w whole.few (IsUtf8-from_is_utf8 bytes valid) begins (whole.end.are.rest start w.steps past) whole.end.says
+  where
+    bracket : (x : List ℕ) → lexemes (91 ∷ x) ≡ token begin_array ∷ lexemes x
+    bracket x = opens (91 ∷ x) x (record { text = refl; ends = λ e. refl })

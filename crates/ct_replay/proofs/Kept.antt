@@ -1,5 +1,5 @@
 -- Steps in few bytes, one after the other.
-use Rattle.std.proofs.Common.{◌≡◌, ℕ, suc, ◌+◌, ◌-◌, ◌<◌, ◌≤◌, zero, Bool, false, List, [], ◌∷◌, ◌++◌, length, take, get_or, Option, Some}
+use Rattle.std.proofs.Common.{◌≡◌, ℕ, suc, ◌+◌, ◌-◌, ◌<◌, ◌≤◌, zero, Bool, List, [], ◌∷◌, ◌++◌, length, take, get_or, Option, Some}
 use Rattle.std.proofs.Common.{None, refl, sym, ap, subst, ◌∙◌, arith, add-one, append_assoc, append-nil, lt-ltb}
 use Rattle.std.specs.Prelude.{drop, nat_eq, nat_lt, not, slice_get, option_map, option_and_then}
 use Rattle.std.proofs.Math.Seq.{drop-cons, drop-drop}
@@ -12,10 +12,13 @@ use Rattle.ct_model.specs.declared.step.Step.TheVariants.{Submit}
 use Rattle.ct_records.specs.Fits.{StepFits}
 use Rattle.ct_records.proofs.Fitting.{fit_push}
 use Rattle.ct_replay.specs.declared.briefs.Briefs.{Briefs}
-use Rattle.ct_replay.specs.Brief.{brief, command_of, commands_of, step_with, Keeps, IsTaken, IsListed}
-use Rattle.ct_replay.specs.Front.{Advances, comma_if, step_text, steps_text}
-use Rattle.ct_replay.proofs.Sources.{advances_none, read_on}
-use Rattle.ct_replay.proofs.Texts.{left_is, steps_read}
+use Rattle.ct_replay.specs.declared.input.Input.{Input}
+use Rattle.ct_replay.specs.Brief.{brief, command_of, commands_of, step_with, AreKept, AreListed, Keeps}
+use Rattle.ct_replay.specs.Front.{Goes}
+use Rattle.ct_replay.specs.Reading.{ReadsStep}
+use Rattle.ct_replay.proofs.Reading.{left_is}
+use Rattle.ct_replay.proofs.Sources.{done_joined, done_none}
+use Rattle.ct_replay.proofs.Steps.{taken_one}
 
 -- ---- one more
 
@@ -109,57 +112,63 @@ later_is kept (s ∷ ss) b h is =
 
 -- ---- bytes
 
-pub taken_none : (spaced : Bool) (kept : Briefs) (bytes : List ℕ) → IsTaken spaced kept kept bytes bytes
-taken_none spaced kept bytes = λ ss h fit. record { all = ss; keeps = h; fit = fit; text = refl }
+pub kept_none : (kept : Briefs) (bytes : List ℕ) → AreKept kept kept bytes bytes
+kept_none kept bytes = λ ss text h fit is.
+    record { steps = ss; keeps = h; fit = fit; joins = record { all = text; is = is; split = refl } }
 
-pub taken_more : (spaced : Bool) (a b c : Briefs) (x y z : List ℕ) → IsTaken spaced a b x y → IsTaken spaced b c y z →
-    IsTaken spaced a c x z
-taken_more spaced a b c x y z h k = λ ss keeps fit.
-    let first = h ss keeps fit in
-    let second = k first.all first.keeps first.fit in
-    record { all = second.all; keeps = second.keeps; fit = second.fit; text = first.text ∙ second.text }
+pub kept_then : (a b c : Briefs) (x y z : List ℕ) → AreKept a b x y → AreKept b c y z → AreKept a c x z
+kept_then a b c x y z h k = λ ss text keeps fit is.
+    let first = h ss text keeps fit is in
+    let second = k first.steps first.joins.all first.keeps first.fit first.joins.is in
+    record {
+      steps = second.steps;
+      keeps = second.keeps;
+      fit = second.fit;
+      joins = record { all = second.joins.all; is = second.joins.is; split = first.joins.split ∙ second.joins.split };
+    }
 
-pub taken_one : (spaced : Bool) (old new : Briefs) (s : Step) (empty : Bool) (bytes rest : List ℕ) →
-    empty ≡ nat_eq (length old.briefs.items) 0 → bytes ≡ comma_if spaced (not empty) (step_text spaced s ++ rest) → StepFits s →
-    ((ss : List Step) → Keeps old ss → Keeps new (ss ++ s ∷ [])) → IsTaken spaced old new bytes rest
-taken_one spaced old new s empty bytes rest none is fits pushed = λ ss h fit. record {
-  all = ss ++ s ∷ [];
+pub kept_one : (old new : Briefs) (s : Step) (empty : Bool) (bytes rest : List ℕ) → empty ≡ nat_eq (length old.briefs.items) 0 →
+    ReadsStep (not empty) bytes s rest → StepFits s → ((ss : List Step) → Keeps old ss → Keeps new (ss ++ s ∷ [])) →
+    AreKept old new bytes rest
+kept_one old new s empty bytes rest none reads fits pushed = λ ss text h fit is. record {
+  steps = ss ++ s ∷ [];
   keeps = pushed ss h;
   fit = fit_push ss s fit fits;
-  text = steps_read ss (ss ++ s ∷ []) s spaced (not empty) bytes rest (later_is old ss empty h none) is refl;
+  joins = taken_one ss (ss ++ s ∷ []) s (not empty) bytes rest (later_is old ss empty h none) reads refl text is;
 }
 
 -- what is left stands behind as many bytes
-pub taken_at : (spaced : Bool) (old new : Briefs) (bytes rest : List ℕ) (n : ℕ) → IsTaken spaced old new bytes rest →
-    length rest ≤ length bytes → n ≡ length bytes - length rest → IsTaken spaced old new bytes (drop n bytes)
-taken_at spaced old new bytes rest n h le e = λ ss keeps fit.
-    let j = h ss keeps fit in
-    let before = steps_text spaced false ss in
-    let all = steps_text spaced false j.all in
-    let at : rest ≡ drop n bytes = rw e (left_is before all bytes rest j.text le) in
-    record { all = j.all; keeps = j.keeps; fit = j.fit; text = j.text ∙ ap (λ t. all ++ t) at }
+pub kept_at : (old new : Briefs) (bytes rest : List ℕ) (n : ℕ) → AreKept old new bytes rest → length rest ≤ length bytes →
+    n ≡ length bytes - length rest → AreKept old new bytes (drop n bytes)
+kept_at old new bytes rest n h le e = λ ss text keeps fit is.
+    let k = h ss text keeps fit is in
+    let j = k.joins in
+    let at : rest ≡ drop n bytes = rw e (left_is text j.all bytes rest j.split le) in
+    record {
+      steps = k.steps;
+      keeps = k.keeps;
+      fit = k.fit;
+      joins = record { all = j.all; is = j.is; split = j.split ∙ ap (λ t. j.all ++ t) at };
+    }
 
 -- ---- sources
 
-pub listed_none : (spaced : Bool) (kept : Briefs) (bytes : List ℕ) (left : Option (List ℕ)) →
-    IsListed spaced kept kept bytes bytes left left
-listed_none spaced kept bytes left = λ ss h fit. record {
-  all = ss;
+pub listed_none : (kept : Briefs) (left : Option (List ℕ)) (input : Input) → AreListed kept kept left left input input
+listed_none kept left input = λ ss text h fit is. record {
+  steps = ss;
   keeps = h;
   fit = fit;
-  read = advances_none left (steps_text spaced false ss ++ bytes) (steps_text spaced false ss ++ bytes) refl;
+  done = done_none ss left input text is;
 }
 
-pub listed_more : (spaced : Bool) (a b c : Briefs) (x y z end : List ℕ) (l m r : Option (List ℕ)) → IsListed spaced a b x y l m →
-    IsTaken spaced b c y z → Advances m r z end → IsListed spaced a c x end l r
-listed_more spaced a b c x y z end l m r h k more = λ ss keeps fit.
-    let first = h ss keeps fit in
-    let second = k first.all first.keeps first.fit in
-    let before = steps_text spaced false first.all in
-    let all = steps_text spaced false second.all in
+pub listed_more : (a b c : Briefs) (l m r : Option (List ℕ)) (i j k : Input) (left : List ℕ) → AreListed a b l m i j →
+    AreKept b c j.bytes.items left → Goes m r left k.bytes.items j.count k.count → AreListed a c l r i k
+listed_more a b c l m r i j k left h taken more = λ ss text keeps fit is.
+    let first = h ss text keeps fit is in
+    let second = taken first.steps first.done.all first.keeps first.fit first.done.is in
     record {
-      all = second.all;
+      steps = second.steps;
       keeps = second.keeps;
       fit = second.fit;
-      read = read_on l m r (steps_text spaced false ss ++ x) before all y z end first.read second.text more;
+      done = done_joined second.steps l m r i j k text first.done.all left first.done.goes second.joins more;
     }

@@ -1,7 +1,6 @@
-pub mod Texts
-pub mod Spaces
-pub mod Lexed
-pub mod Widths
+pub mod Utf8
+pub mod Reading
+pub mod Steps
 pub mod Ended
 pub mod Allowed
 pub mod Sources

@@ -1,12 +1,19 @@
 -- What was read of a source, one read after the other.
-use Rattle.std.proofs.Common.{◌≡◌, ℕ, ◌<◌, Bool, false, List, [], ◌++◌, length, Option, Some, None, refl, sym, ap, ◌∙◌, append_assoc}
-use Rattle.std.proofs.Common.{append-nil, arith, inl, inr, subst, length-append}
-use Rattle.std.specs.Prelude.{IfSome}
+use Rattle.std.proofs.Common.{◌≡◌, ℕ, ◌+◌, ◌≤◌, ◌<◌, List, [], ◌++◌, length, Option, Some, None, Err, refl, sym, ap, ◌∙◌, append_assoc}
+use Rattle.std.proofs.Common.{append-nil, arith, inl, inr, subst, length-append, le-ltb, lt-ltb, ◌-◌}
+use Rattle.std.specs.Prelude.{IfSome, option_and_then}
+use Rattle.std.specs.Str.{is_utf8}
 use Rattle.std.specs.Io.KnownBytes.{Consumes, IsAtEnd}
-use Rattle.ct_records.specs.Script.{script, max_len}
+use Rattle.json.specs.Lex.{Lexeme, punctuate, fresh}
+use Rattle.json.specs.Json as tree
+use Rattle.serde_json.specs.Data.{Data}
+use Rattle.serde_json.specs.Read.{max_depth, of_json, read}
 use Rattle.ct_model.specs.declared.step.Step.{Step}
-use Rattle.ct_replay.specs.Front.{Advances, IsRead, IsEnough, steps_text}
-use Rattle.std.proofs.lemmas.Bool.{lt-ltb}
+use Rattle.ct_records.specs.Plain.{lexemes}
+use Rattle.ct_records.specs.declared.read_fault.ReadFault.TheVariants.{TooLong}
+use Rattle.ct_records.specs.Script.{script, max_len}
+use Rattle.ct_replay.specs.declared.input.Input.{Input}
+use Rattle.ct_replay.specs.Front.{Advances, AreDone, AreTaken, Goes, HasDone, IsEnough, IsReadAs, IsSeen, Joins, SaysSame}
 
 consumes_more : (a b c : Option (List ℕ)) (xs ys : List ℕ) → Consumes a b xs → Consumes b c ys → Consumes a c (xs ++ ys)
 consumes_more None b c xs ys h k = tt
@@ -18,67 +25,154 @@ consumes_none : (a : Option (List ℕ)) → Consumes a a []
 consumes_none None = tt
 consumes_none (Some x) = refl
 
-pub advances_none : (a : Option (List ℕ)) (x y : List ℕ) → x ≡ y → Advances a a x y
-advances_none a x y is = record { read = []; consumed = consumes_none a; text = sym is ∙ sym (append-nil x) }
+-- ---- what was read so far
 
-pub advances_once : (a b : Option (List ℕ)) (x y r : List ℕ) → Consumes a b r → y ≡ x ++ r → Advances a b x y
-advances_once a b x y r h is = record { read = r; consumed = h; text = is }
+pub seen_none : (a : Option (List ℕ)) (text : List ℕ) (count : ℕ) → text ≡ [] → count ≡ 0 → IsSeen a a text count
+seen_none a text count empty none = rw (empty, none) (record { consumed = consumes_none a; counted = refl })
 
-pub advances_more : (a b c : Option (List ℕ)) (x y z : List ℕ) → Advances a b x y → Advances b c y z → Advances a c x z
-advances_more a b c x y z h k = record {
-  read = h.read ++ k.read;
-  consumed = consumes_more a b c h.read k.read h.consumed k.consumed;
-  text = k.text ∙ ap (λ t. t ++ k.read) h.text ∙ append_assoc x h.read k.read;
-}
+pub goes_none : (a : Option (List ℕ)) (x : List ℕ) (n : ℕ) → Goes a a x x n n
+goes_none a x n first head h = h
 
--- the same behind another text
-pub advances_behind : (a b : Option (List ℕ)) (f x y : List ℕ) → Advances a b x y → Advances a b (f ++ x) (f ++ y)
-advances_behind a b f x y h = record {
-  read = h.read;
-  consumed = h.consumed;
-  text = ap (λ t. f ++ t) h.text ∙ sym (append_assoc f x h.read);
-}
+pub goes_then : (a b c : Option (List ℕ)) (x y z : List ℕ) (k m n : ℕ) → Goes a b x y k m → Goes b c y z m n → Goes a c x z k n
+goes_then a b c x y z k m n h i first head seen = i first head (h first head seen)
 
 -- the bytes are said in another way
-pub advances_as : (a b : Option (List ℕ)) (x y z : List ℕ) → Advances a b x y → y ≡ z → Advances a b x z
-advances_as a b x y z h is = rw (← is) h
+pub goes_as : (a : Option (List ℕ)) (x y : List ℕ) (n : ℕ) → x ≡ y → Goes a a x y n n
+goes_as a x y n is first head h = subst (λ t. IsSeen first a (head ++ t) n) is h
 
-pub all_read : (a b : Option (List ℕ)) (y : List ℕ) → Advances a b [] y → IsAtEnd b → IsRead a b y
-all_read a b y h end = record { consumed = subst (Consumes a b) (sym h.text) h.consumed; end = end }
+-- the same behind another text
+pub goes_behind : (a b : Option (List ℕ)) (f x y : List ℕ) (m n : ℕ) → Goes a b x y m n → Goes a b (f ++ x) (f ++ y) m n
+goes_behind a b f x y m n h first head seen =
+    subst (λ t. IsSeen first b t n) (append_assoc head f y)
+    (h first (head ++ f) (subst (λ t. IsSeen first a t m) (sym (append_assoc head f x)) seen))
 
--- what was read is the input
-pub input_is : (a b : Option (List ℕ)) (z : List ℕ) → IsRead a b z → IfSome a (λ input. input ≡ z)
-input_is None b z h = tt
-input_is (Some input) None z h = absurd h.consumed
-input_is (Some input) (Some left) z h = h.consumed ∙ ap (λ t. z ++ t) h.end ∙ append-nil z
+-- what was read stands behind the bytes
+pub goes_on : (a b : Option (List ℕ)) (x y : List ℕ) (m n : ℕ) → Advances a b x y m n → Goes a b x y m n
+goes_on a b x y m n h first head seen =
+    let all : (head ++ x) ++ h.read ≡ head ++ y = append_assoc head x h.read ∙ ap (λ t. head ++ t) (sym h.text) in
+    record {
+      consumed = subst (Consumes first b) all (consumes_more first a b (head ++ x) h.read seen.consumed h.consumed);
+      counted = omega (arith, seen.counted, h.counted, ap length all, length-append (head ++ x) h.read);
+    }
 
--- more bytes than a record may have say the same as more of them
-long_same : (x r : List ℕ) → max_len < length x → script x ≡ script (x ++ r)
+pub advances_none : (a : Option (List ℕ)) (x : List ℕ) (n : ℕ) → Advances a a x x n n
+advances_none a x n = record { read = []; consumed = consumes_none a; text = sym (append-nil x); counted = omega arith }
+
+pub advances_once : (a b : Option (List ℕ)) (x y r : List ℕ) (m n : ℕ) → Consumes a b r → y ≡ x ++ r → n ≡ m + (length y - length x) →
+    Advances a b x y m n
+advances_once a b x y r m n h is counted = record {
+  read = r;
+  consumed = h;
+  text = is;
+  counted = omega (arith, counted, ap length is, length-append x r);
+}
+
+pub advances_more : (a b c : Option (List ℕ)) (x y z : List ℕ) (k m n : ℕ) → Advances a b x y k m → Advances b c y z m n →
+    Advances a c x z k n
+advances_more a b c x y z k m n h i = record {
+  read = h.read ++ i.read;
+  consumed = consumes_more a b c h.read i.read h.consumed i.consumed;
+  text = i.text ∙ ap (λ t. t ++ i.read) h.text ∙ append_assoc x h.read i.read;
+  counted = omega (arith, h.counted, i.counted, length-append h.read i.read);
+}
+
+-- ---- steps
+
+pub done_none : (ss : List Step) (a : Option (List ℕ)) (input : Input) → AreDone ss ss a a input input
+done_none ss a input = λ text is.
+    record { all = text; is = is; goes = goes_none a (text ++ input.bytes.items) input.count }
+
+-- steps were taken from the front of the bytes, and more was read behind them
+pub done_joined : (new : List Step) (a b d : Option (List ℕ)) (i j k : Input) (text before left : List ℕ) →
+    Goes a b (text ++ i.bytes.items) (before ++ j.bytes.items) i.count j.count → Joins new before j.bytes.items left →
+    Goes b d left k.bytes.items j.count k.count → HasDone new text a d i k
+done_joined new a b d i j k text before left goes joins more =
+    let from = before ++ j.bytes.items in
+    let to = joins.all ++ left in
+    let end = joins.all ++ k.bytes.items in
+    record {
+      all = joins.all;
+      is = joins.is;
+      goes =
+          goes_then a b d (text ++ i.bytes.items) from end i.count j.count k.count goes
+          (goes_then b b d from to end j.count j.count k.count (goes_as b from to j.count joins.split)
+          (goes_behind b d joins.all left k.bytes.items j.count k.count more));
+    }
+
+pub done_more : (old mid new : List Step) (a b d : Option (List ℕ)) (i j k : Input) (left : List ℕ) → AreDone old mid a b i j →
+    AreTaken mid new j.bytes.items left → Goes b d left k.bytes.items j.count k.count → AreDone old new a d i k
+done_more old mid new a b d i j k left h taken more = λ text is.
+    let done = h text is in
+    done_joined new a b d i j k text done.all left done.goes (taken done.all done.is) more
+
+-- ---- what the input says
+
+abbrev value_of : List Lexeme → Option Data
+value_of all = option_and_then of_json (option_and_then (λ p. tree.if_last p.0 p.1) (tree.value max_depth (punctuate fresh all)))
+
+-- texts of the same lexemes say the same
+script_same : (x y : List ℕ) → lexemes x ≡ lexemes y → is_utf8 x ≡ is_utf8 y → length x ≤ max_len → length y ≤ max_len →
+    script x ≡ script y
 unfolding script
-long_same x r long =
-    let longer : max_len < length (x ++ r) = omega (arith, length-append x r) in
-    rw (lt-ltb _ _ long, lt-ltb _ _ longer) refl
+script_same x y lexed valid few short =
+    let same : read x ≡ read y = ap value_of lexed in
+    rw (le-ltb _ _ few, le-ltb _ _ short, valid, same) refl
 
--- enough was read to say what the input says
-pub input_says : (a b : Option (List ℕ)) (x : List ℕ) → Advances a b [] x → IsEnough 67108865 b x →
-    IfSome a (λ input. script x ≡ script input)
-input_says None b x h enough = tt
-input_says (Some input) None x h enough = absurd h.consumed
-input_says (Some input) (Some left) x h enough =
-    let all : input ≡ x ++ left = h.consumed ∙ ap (λ t. t ++ left) (sym h.text) in
+too_long : (x : List ℕ) → max_len < length x → script x ≡ Err TooLong
+unfolding script
+too_long x long = rw (lt-ltb _ _ long) refl
+
+-- what follows the text of what was read
+same_behind : (x y r : List ℕ) → SaysSame x y → length (x ++ r) ≤ max_len → script (x ++ r) ≡ script (y ++ r)
+same_behind x y r h few =
+    script_same (x ++ r) (y ++ r) (h.lexed r) (h.valid r) few
+    (omega (arith, few, h.shorter, length-append x r, length-append y r))
+
+-- the text that was read in all
+record IsAll (first now : Option (List ℕ)) (bytes : List ℕ) (count : ℕ) : Type 0 where
+  text : List ℕ
+  seen : IsSeen first now text count
+  same : length text ≤ max_len → script text ≡ script bytes
+
+all_read : (a b c : Option (List ℕ)) (input : Input) (bytes : List ℕ) (n : ℕ) → IsReadAs a b input →
+    Advances b c input.bytes.items bytes input.count n → IsAll a c bytes n
+all_read a b c input bytes n h more =
+    let text = h.text ++ more.read in
+    record {
+      text = text;
+      seen = record {
+        consumed = consumes_more a b c h.text more.read h.seen.consumed more.consumed;
+        counted = omega (arith, h.seen.counted, more.counted, length-append h.text more.read);
+      };
+      same = λ few. same_behind h.text input.bytes.items more.read h.same few ∙ ap script (sym more.text);
+    }
+
+-- all was read, and the bytes say the same
+pub input_says : (a b c : Option (List ℕ)) (input : Input) (bytes : List ℕ) (n : ℕ) → IsReadAs a b input →
+    Advances b c input.bytes.items bytes input.count n → IsEnough 67108865 c n → n ≤ max_len →
+    IfSome a (λ all. script bytes ≡ script all)
+input_says None b c input bytes n h more enough few = tt
+input_says (Some all) b None input bytes n h more enough few = absurd (all_read (Some all) b None input bytes n h more).seen.consumed
+input_says (Some all) b (Some left) input bytes n h more enough few =
+    let read = all_read (Some all) b (Some left) input bytes n h more in
     elim enough [
-      | inl long ↦ long_same x left (omega arith) ∙ ap script (sym all)
-      | inr none ↦ ap script (sym (append-nil x) ∙ ap (λ t. x ++ t) (sym none) ∙ sym all)
+      | inl long ↦ absurd (omega (arith, long, few))
+      | inr none ↦
+          let same : all ≡ read.text = read.seen.consumed ∙ ap (λ t. read.text ++ t) none ∙ append-nil read.text in
+          sym (ap script same ∙ read.same (omega (arith, read.seen.counted, few)))
     ]
 
--- steps were done at the front of the bytes, and more was read behind them
-pub read_on : (a b d : Option (List ℕ)) (x f g y left z : List ℕ) → Advances a b x (f ++ y) → f ++ y ≡ g ++ left → Advances b d left z →
-    Advances a d x (g ++ z)
-read_on a b d x f g y left z h done more =
-    advances_more a b d x (g ++ left) (g ++ z) (advances_as a b x (f ++ y) (g ++ left) h done) (advances_behind b d g left z more)
+-- more was read than a record may have
+pub input_too_long : (a b c : Option (List ℕ)) (input : Input) (bytes : List ℕ) (n : ℕ) → IsReadAs a b input →
+    Advances b c input.bytes.items bytes input.count n → max_len < n → IfSome a (λ all. script all ≡ Err TooLong)
+input_too_long None b c input bytes n h more long = tt
+input_too_long (Some all) b None input bytes n h more long = absurd (all_read (Some all) b None input bytes n h more).seen.consumed
+input_too_long (Some all) b (Some left) input bytes n h more long =
+    let read = all_read (Some all) b (Some left) input bytes n h more in
+    too_long all (omega (arith, ap length read.seen.consumed, length-append read.text left, read.seen.counted, long))
 
--- nothing was done before
-pub read_first : (a b : Option (List ℕ)) (spaced : Bool) (steps : List Step) (x y : List ℕ) → steps ≡ [] →
-    Advances a b (steps_text spaced false steps ++ x) y → Advances a b x y
-unfolding steps_text
-read_first a b spaced steps x y none h = subst (λ ss. Advances a b (steps_text spaced false ss ++ x) y) none h
+-- what was read is the input
+pub input_is : (a b : Option (List ℕ)) (z : List ℕ) → Consumes a b z → IsAtEnd b → IfSome a (λ input. input ≡ z)
+input_is None b z h end = tt
+input_is (Some input) None z h end = absurd h
+input_is (Some input) (Some left) z h end = h ∙ ap (λ t. z ++ t) end ∙ append-nil z

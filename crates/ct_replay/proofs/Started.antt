@@ -1,37 +1,60 @@
 -- What was read behind the start of a record makes the whole.
-use Rattle.std.proofs.Common.{◌≡◌, ℕ, Bool, false, List, [], ◌++◌, Option, refl}
+use Rattle.std.proofs.Common.{◌≡◌, ℕ, ◌≤◌, List, [], ◌++◌, Option, refl, sym, subst, arith, ◌∙◌}
 use Rattle.std.specs.Io.KnownBytes.{IsAtEnd}
 use Rattle.ct_model.specs.declared.step.Step.{Step}
 use Rattle.ct_model.specs.Rehearsal.{Rehearsal}
+use Rattle.ct_records.specs.Fits.{AllFit}
+use Rattle.ct_records.specs.Text.{steps_text}
+use Rattle.ct_replay.specs.declared.input.Input.{Input}
 use Rattle.ct_replay.specs.declared.start.Start.{Start}
-use Rattle.ct_replay.specs.Front.{Advances, IsEnd, IsReadOf, steps_text}
+use Rattle.ct_replay.specs.Front.{Advances, IsEnd, IsReadAs, IsReadOf, IsSeen, IsTextOf, SaysSame}
 use Rattle.ct_replay.specs.Start.{IsStart}
-use Rattle.ct_replay.proofs.Sources.{advances_behind, advances_more, all_read, read_first}
+use Rattle.ct_replay.proofs.Sources.{goes_on, seen_none}
+use Rattle.ct_replay.proofs.Steps.{steps_same}
 
--- the start was read with some bytes behind it, and then steps were done
-pub read_through : (a b d : Option (List ℕ)) (spaced : Bool) (old new : List Step) (start bytes last : List ℕ) → old ≡ [] →
-    Advances a b [] (start ++ bytes) →
-    Advances b d (steps_text spaced false old ++ bytes) (steps_text spaced false new ++ last) →
-    Advances a d [] (start ++ (steps_text spaced false new ++ last))
-read_through a b d spaced old new start bytes last none h more =
-    let behind = steps_text spaced false new ++ last in
-    advances_more a b d [] (start ++ bytes) (start ++ behind) h
-    (advances_behind b d start bytes behind (read_first b d spaced old bytes behind none more))
-
-pub read_whole : (start : Start) (w : Rehearsal) (a d : Option (List ℕ)) (last : List ℕ) → IsStart start →
-    Advances a d [] (start.text.items ++ (steps_text start.spaced false w.steps ++ last)) → IsAtEnd d → IsEnd start.numbers w last →
-    IsReadOf a d w
-read_whole start w a d last h read end is = record {
-  bytes = start.text.items ++ (steps_text start.spaced false w.steps ++ last);
-  read = all_read a d (start.text.items ++ (steps_text start.spaced false w.steps ++ last)) read end;
+pub read_whole : (start : Start) (w : Rehearsal) (a d : Option (List ℕ)) (text last : List ℕ) (count : ℕ) → IsStart start →
+    IsTextOf w.steps text → IsSeen a d (start.text.items ++ (text ++ last)) count → count ≤ 67108864 → IsAtEnd d →
+    IsEnd start.numbers w last → IsReadOf a d w
+read_whole start w a d text last count h steps seen few end is = record {
+  bytes = start.text.items ++ (text ++ last);
+  consumed = seen.consumed;
+  end = end;
   whole = record {
-    spaced = start.spaced;
     head = start.text.items;
     numbers = start.numbers;
+    text = text;
     last = last;
-    text = refl;
+    split = refl;
     front = h.head;
     valid = h.valid;
+    steps = steps;
     end = is;
+    few = omega (arith, seen.counted, few);
   };
 }
+
+-- the bytes are the same in fewer bytes
+pub read_part : (start : Start) (ss : List Step) (a d : Option (List ℕ)) (text last : List ℕ) (input : Input) (count : ℕ) → IsStart start →
+    IsTextOf ss text → AllFit ss → IsSeen a d (start.text.items ++ (text ++ last)) count → input.count ≡ count →
+    input.bytes.items ≡ start.text.items ++ (steps_text ss ++ last) → IsReadAs a d input
+read_part start ss a d text last input count h steps fit seen counted is = record {
+  text = start.text.items ++ (text ++ last);
+  seen = record { consumed = seen.consumed; counted = counted ∙ seen.counted };
+  same =
+      subst (SaysSame (start.text.items ++ (text ++ last))) (sym is)
+      (steps_same start.text.items text last h.head.before ss h.head.lexed h.valid steps fit);
+}
+
+-- nothing was done
+pub read_none : (a d : Option (List ℕ)) (input : Input) → IsSeen a d input.bytes.items input.count → IsReadAs a d input
+read_none a d input seen = record {
+  text = input.bytes.items;
+  seen = seen;
+  same = record { lexed = λ next. refl; valid = λ next. refl; shorter = omega arith };
+}
+
+-- what was read first, of which some bytes were taken out
+pub seen_first : (a b : Option (List ℕ)) (x y text rest : List ℕ) (m n : ℕ) → x ≡ [] → m ≡ 0 → Advances a b x y m n →
+    y ≡ text ++ rest → IsSeen a b (text ++ rest) n
+seen_first a b x y text rest m n none zero h is =
+    subst (λ t. IsSeen a b t n) is (goes_on a b x y m n h a [] (seen_none a x m none zero))

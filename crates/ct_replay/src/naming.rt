@@ -1,7 +1,10 @@
 //! Commands and steps by their names.
 
-ghost use Rattle.std.specs.Prelude.{◌≡◌, [], ◌∷◌, codes, decimal, Bool, IfSome, IsTrue};
-ghost use Rattle.ct_replay.specs.Front.{entry_text, command_text, gap, step_text};
+ghost use Rattle.std.specs.Prelude.{◌≡◌, [], ◌∷◌, codes, decimal, List, IfSome, IsTrue};
+ghost use Rattle.json.specs.Lex.{Lexeme, comma};
+ghost use Rattle.ct_model.specs.StepText as model;
+ghost use Rattle.ct_model.specs.StepText.{amount, nothing, command_entry, rest_texts, step_entry};
+ghost use Rattle.ct_records.specs.Plain.{number_lexeme, rest_lexemes};
 
 use ct_model::Step;
 use ct_names::{Command, Member};
@@ -13,10 +16,10 @@ pub(crate) const BYTE: u64 = 255;
 pub(crate) const SERIAL: u64 = 4_294_967_295;
 
 /// The command of a name, a register and one more number.
-#[tactic(auto, unfolding(crate::specs::Front::command_text))]
 pub(crate) fn named_command(name: &[u8], register: u8, n: u64) -> Option<Command>
-    ensures { IfSome result (λ c. (spaced : Bool) → command_text spaced c
-        ≡ entry_text spaced name.now register (codes "," ∷ gap spaced ∷ decimal n ∷ [])) }
+    ensures name { IfSome result (λ c. (command_entry c).name ≡ name.now) }
+    ensures first { IfSome result (λ c. (command_entry c).first ≡ register) }
+    ensures rest { IfSome result (λ c. amount (command_entry c).rest ≡ n) }
 {
     if is(name, "set") {
         Some(Command::Set(register, n))
@@ -30,9 +33,10 @@ pub(crate) fn named_command(name: &[u8], register: u8, n: u64) -> Option<Command
 }
 
 /// The step of a name and a member.
-#[tactic(auto, unfolding(crate::specs::Front::step_text))]
 pub(crate) fn short_step(name: &[u8], p: Member) -> Option<Step>
-    ensures { IfSome result (λ s. (spaced : Bool) → step_text spaced s ≡ entry_text spaced name.now p []) }
+    ensures name { IfSome result (λ s. (step_entry s).name ≡ name.now) }
+    ensures first { IfSome result (λ s. (step_entry s).first ≡ p) }
+    ensures rest { IfSome result (λ s. (step_entry s).rest ≡ nothing) }
 {
     if is(name, "begin") {
         Some(Step::Begin(p))
@@ -56,12 +60,18 @@ pub(crate) fn short_step(name: &[u8], p: Member) -> Option<Step>
 }
 
 /// The step of a name, a member and a number.
-#[tactic(auto, unfolding(crate::specs::Front::step_text))]
 pub(crate) fn numbered_step(name: &[u8], p: Member, n: u64) -> Option<Step>
-    ensures { IfSome result (λ s. (spaced : Bool) → step_text spaced s
-        ≡ entry_text spaced name.now p (codes "," ∷ gap spaced ∷ decimal n ∷ [])) }
+    ensures name { IfSome result (λ s. (step_entry s).name ≡ name.now) }
+    ensures first { IfSome result (λ s. (step_entry s).first ≡ p) }
+    ensures lexed { IfSome result (λ s. (after : List Lexeme) →
+        rest_lexemes (step_entry s).rest after ≡ comma ∷ number_lexeme n ∷ after) }
+    ensures texts { IfSome result (λ s. rest_texts (step_entry s).rest ≡ codes "," ∷ decimal n ∷ []) }
 {
-    if is(name, "choose") && n <= BYTE {
+    if is(name, "receive") && n <= SERIAL {
+        Some(Step::Receive(p, n as u32))
+    } else if is(name, "postpone") && n <= SERIAL {
+        Some(Step::Postpone(p, n as u32))
+    } else if is(name, "choose") && n <= BYTE {
         Some(Step::Choose(p, n as u8))
     } else if is(name, "lose") && n <= SERIAL {
         Some(Step::Lose(p, n as u32))
@@ -73,10 +83,10 @@ pub(crate) fn numbered_step(name: &[u8], p: Member, n: u64) -> Option<Step>
 }
 
 /// The step of a name, a member and a command.
-#[tactic(auto, unfolding(crate::specs::Front::step_text))]
 pub(crate) fn commanded_step(name: &[u8], p: Member, command: Command) -> Option<Step>
-    ensures { IfSome result (λ s. (spaced : Bool) → step_text spaced s
-        ≡ entry_text spaced name.now p (codes "," ∷ gap spaced ∷ command_text spaced command ∷ [])) }
+    ensures name { IfSome result (λ s. (step_entry s).name ≡ name.now) }
+    ensures first { IfSome result (λ s. (step_entry s).first ≡ p) }
+    ensures rest { IfSome result (λ s. (step_entry s).rest ≡ model.command command) }
 {
     is(name, "submit").then_some(Step::Submit(p, command))
 }

@@ -1,6 +1,9 @@
 //! From the first bytes of a text to what stands there.
 
 ghost use Rattle.std.specs.Prelude.{◌≡◌, ◌+◌, ◌*◌, ◌^◌, ◌<◌, ◌≤◌, ◌++◌, ◌∷◌, decimal, false, IfSome};
+ghost use Rattle.ct_replay.specs.Reading.{ReadsNumber};
+
+use crate::spacing::{after_space, after_white};
 
 // The last digit of the largest number.
 const LAST_DIGIT: u8 = 5;
@@ -16,10 +19,30 @@ pub(crate) fn behind(bytes: &[u8], byte: u8) -> Option<&[u8]>
     }
 }
 
-/// The number that the first digits write, without a zero before it, and what follows them, where something does: else
-/// the number might go on.
+/// The number behind white space or none, not above the limit, and what follows it, where something does: else the number
+/// might go on.
 #[inline(always)]
 pub(crate) fn number(bytes: &[u8], high: u64) -> Option<(u64, &[u8])>
+    ensures text { IfSome result (λ r. ReadsNumber bytes.now r.0 r.1.now) }
+    ensures within { IfSome result (λ r. r.0 ≤ high) }
+{
+    let (n, rest) = digits(after_white(bytes), high)?;
+    Some((n, rest))
+}
+
+/// The same behind one space or none.
+#[inline(always)]
+pub(crate) fn near_number(bytes: &[u8], high: u64) -> Option<(u64, &[u8])>
+    ensures text { IfSome result (λ r. ReadsNumber bytes.now r.0 r.1.now) }
+    ensures within { IfSome result (λ r. r.0 ≤ high) }
+{
+    let (n, rest) = digits(after_space(bytes), high)?;
+    Some((n, rest))
+}
+
+// The number that the first digits write, without a zero before it, and what follows them.
+#[inline(always)]
+fn digits(bytes: &[u8], high: u64) -> Option<(u64, &[u8])>
     ensures text { IfSome result (λ r. bytes.now ≡ decimal r.0 ++ r.1.now) }
     ensures within { IfSome result (λ r. r.0 ≤ high) }
 {

@@ -1,62 +1,108 @@
-//! From the first bytes of a list of steps, as a record is written, to its next step.
+//! From the first bytes of a list of steps to its next step.
 
-ghost use Rattle.std.specs.Prelude.{◌≡◌, [], ◌++◌, ◌∷◌, codes, decimal, IfSome};
-ghost use Rattle.std.specs.List.{concat};
-ghost use Rattle.ct_replay.specs.Front.{Continues, comma_if, command_text, gap, step_text};
+ghost use Rattle.std.specs.Prelude.{◌≡◌, ◌≤◌, ◌+◌, ◌++◌, codes, decimal, false, length, if◌then◌else◌, IfSome};
+ghost use Rattle.ct_model.specs.StepText.{command_text};
+ghost use Rattle.ct_records.specs.Plain.{command_lexemes, comma_if, pair_lexemes};
+ghost use Rattle.ct_replay.specs.Reading.{Reads, ReadsStep};
 
-use crate::naming::{BYTE, SERIAL, commanded_step, named_command, numbered_step, short_step};
-use crate::number::{behind, letters, number};
-use crate::spacing::{behind_comma, behind_gap};
+use crate::naming::{BYTE, SERIAL};
+use crate::number::{behind, near_number};
+use crate::spaced::spaced_step;
+use crate::spacing::{after_space, after_white};
 use ct_model::Step;
-use ct_names::{Command, Member, Serial};
+use ct_names::Command;
 
-/// The next step, behind a comma where others stand before it, and what follows it. None: no step that is written so
-/// stands there, or not all of it.
+/// The next step, behind a comma where others stand before it, and what follows it. None: no step stands there that is
+/// written without escapes, or not all of it.
 #[inline(always)]
-pub(crate) fn next_step(bytes: &[u8], later: bool, spaced: bool) -> Option<(Step, &[u8])>
-    ensures { IfSome result (λ r. bytes.now ≡ comma_if spaced later (step_text spaced r.0 ++ r.1.now)) }
+pub(crate) fn next_step(bytes: &[u8], later: bool) -> Option<(Step, &[u8])>
+    ensures { IfSome result (λ r. ReadsStep later bytes.now r.0 r.1.now) }
 {
-    let start = behind_another(bytes, later, spaced)?;
+    match quick_step(bytes, later) {
+        Some(found) => Some(found),
+        None => other_step(bytes, later),
+    }
+}
+
+// A Receive or a Postpone, as most steps are, with a space behind each comma in it or without, and with any white space
+// before it.
+#[inline(always)]
+fn quick_step(bytes: &[u8], later: bool) -> Option<(Step, &[u8])>
+    ensures { IfSome result (λ r. ReadsStep later bytes.now r.0 r.1.now) }
+{
+    let start = behind_another(bytes, later)?;
     if let Some(rest) = behind_receive(start) {
-        return receipt(rest, spaced);
+        return receipt(rest);
     }
-    if let Some(rest) = behind_postpone(start) {
-        return postponement(rest, spaced);
+    postponement(behind_postpone(start)?)
+}
+
+// Any other step, or one that is written in another way.
+#[inline(never)]
+fn other_step(bytes: &[u8], later: bool) -> Option<(Step, &[u8])>
+    ensures { IfSome result (λ r. ReadsStep later bytes.now r.0 r.1.now) }
+{
+    match submission(bytes, later) {
+        Some(found) => Some(found),
+        None => spaced_step(bytes, later),
     }
-    named_step(start, spaced)
 }
 
 // The Receive behind its name.
 #[inline(always)]
-fn receipt(bytes: &[u8], spaced: bool) -> Option<(Step, &[u8])>
-    ensures { IfSome result (λ r. codes "[\"receive\"," ++ bytes.now ≡ step_text spaced r.0 ++ r.1.now) }
+fn receipt(bytes: &[u8]) -> Option<(Step, &[u8])>
+    ensures { IfSome result (λ r. ReadsStep false (codes "[\"receive\"," ++ bytes.now) r.0 r.1.now) }
 {
-    let (p, serial, rest) = member_and_serial(bytes, spaced)?;
-    Some((Step::Receive(p, serial), rest))
+    let (p, serial, rest) = pair(bytes, SERIAL)?;
+    Some((Step::Receive(p, serial as u32), rest))
 }
 
 // The Postpone behind its name.
 #[inline(always)]
-fn postponement(bytes: &[u8], spaced: bool) -> Option<(Step, &[u8])>
-    ensures { IfSome result (λ r. codes "[\"postpone\"," ++ bytes.now ≡ step_text spaced r.0 ++ r.1.now) }
+fn postponement(bytes: &[u8]) -> Option<(Step, &[u8])>
+    ensures { IfSome result (λ r. ReadsStep false (codes "[\"postpone\"," ++ bytes.now) r.0 r.1.now) }
 {
-    let (p, serial, rest) = member_and_serial(bytes, spaced)?;
-    Some((Step::Postpone(p, serial), rest))
+    let (p, serial, rest) = pair(bytes, SERIAL)?;
+    Some((Step::Postpone(p, serial as u32), rest))
 }
 
-// What follows the comma, where another step stands before this one.
+// A Submit that sets or adds, as quick_step has others.
 #[inline(always)]
-fn behind_another(bytes: &[u8], later: bool, spaced: bool) -> Option<&[u8]>
-    ensures { IfSome result (λ rest. bytes.now ≡ comma_if spaced later rest.now) }
+fn submission(bytes: &[u8], later: bool) -> Option<(Step, &[u8])>
+    ensures { IfSome result (λ r. ReadsStep later bytes.now r.0 r.1.now) }
+{
+    let start = behind_another(bytes, later)?;
+    let (p, rest) = near_number(behind_submit(start)?, BYTE)?;
+    let (command, rest) = command(after_space(behind(rest, b',')?))?;
+    Some((Step::Submit(p as u8, command), behind(rest, b']')?))
+}
+
+// The command that sets or adds.
+#[inline(always)]
+fn command(bytes: &[u8]) -> Option<(Command, &[u8])>
+    ensures { IfSome result (λ r. Reads bytes.now (command_lexemes r.0) (length (command_text r.0)) r.1.now) }
+{
+    if let Some(rest) = behind_set(bytes) {
+        let (register, value, rest) = pair(rest, u64::MAX)?;
+        return Some((Command::Set(register, value), rest));
+    }
+    let (register, amount, rest) = pair(behind_add(bytes)?, u64::MAX)?;
+    Some((Command::Add(register, amount), rest))
+}
+
+// What follows the comma and white space, where another step stands before this one.
+#[inline(always)]
+fn behind_another(bytes: &[u8], later: bool) -> Option<&[u8]>
+    ensures { IfSome result (λ rest. Reads bytes.now (comma_if later) (if later then 1 else 0) rest.now) }
 {
     if later {
-        behind_comma(bytes, spaced)
+        Some(after_white(behind(bytes, b',')?))
     } else {
-        Some(bytes)
+        Some(after_white(bytes))
     }
 }
 
-// What follows the name of a Receive and the comma behind it.
+// What follows the bracket and the name of a Receive and the comma behind it.
 #[inline(always)]
 fn behind_receive(bytes: &[u8]) -> Option<&[u8]>
     ensures { IfSome result (λ rest. bytes.now ≡ codes "[\"receive\"," ++ rest.now) }
@@ -80,7 +126,7 @@ fn behind_receive(bytes: &[u8]) -> Option<&[u8]>
     }
 }
 
-// The same of a Postpone.
+// What follows the bracket and the name of a Postpone and the comma behind it.
 #[inline(always)]
 fn behind_postpone(bytes: &[u8]) -> Option<&[u8]>
     ensures { IfSome result (λ rest. bytes.now ≡ codes "[\"postpone\"," ++ rest.now) }
@@ -105,61 +151,61 @@ fn behind_postpone(bytes: &[u8]) -> Option<&[u8]>
     }
 }
 
-// Behind a name and its comma a member, a comma and a serial, and what follows the bracket behind these.
+// What follows the bracket and the name of a Submit and the comma behind it.
 #[inline(always)]
-fn member_and_serial(bytes: &[u8], spaced: bool) -> Option<(Member, Serial, &[u8])>
-    ensures { IfSome result (λ r. bytes.now
-        ≡ gap spaced ++ (decimal r.0 ++ 44 ∷ (gap spaced ++ (decimal r.1 ++ 93 ∷ r.2.now)))) }
+fn behind_submit(bytes: &[u8]) -> Option<&[u8]>
+    ensures { IfSome result (λ rest. bytes.now ≡ codes "[\"submit\"," ++ rest.now) }
 {
-    let (p, rest) = number(behind_gap(bytes, spaced)?, BYTE)?;
-    let rest = behind_comma(rest, spaced)?;
-    let (serial, rest) = number(rest, SERIAL)?;
+    match bytes {
+        [
+            b'[',
+            b'"',
+            b's',
+            b'u',
+            b'b',
+            b'm',
+            b'i',
+            b't',
+            b'"',
+            b',',
+            rest @ ..,
+        ] => Some(rest),
+        _ => None,
+    }
+}
+
+// What follows the bracket and the name of a Set and the comma behind it.
+#[inline(always)]
+fn behind_set(bytes: &[u8]) -> Option<&[u8]>
+    ensures { IfSome result (λ rest. bytes.now ≡ codes "[\"set\"," ++ rest.now) }
+{
+    match bytes {
+        [b'[', b'"', b's', b'e', b't', b'"', b',', rest @ ..] => Some(rest),
+        _ => None,
+    }
+}
+
+// What follows the bracket and the name of a Add and the comma behind it.
+#[inline(always)]
+fn behind_add(bytes: &[u8]) -> Option<&[u8]>
+    ensures { IfSome result (λ rest. bytes.now ≡ codes "[\"add\"," ++ rest.now) }
+{
+    match bytes {
+        [b'[', b'"', b'a', b'd', b'd', b'"', b',', rest @ ..] => Some(rest),
+        _ => None,
+    }
+}
+
+// Behind a name and its comma the number of a member or a register, a comma and one more number, and what follows the
+// bracket behind these.
+#[inline(always)]
+fn pair(bytes: &[u8], high: u64) -> Option<(u8, u64, &[u8])>
+    ensures text { IfSome result (λ r. Reads bytes.now (pair_lexemes r.0 r.1)
+        (length (decimal r.0) + 1 + (length (decimal r.1) + 1)) r.2.now) }
+    ensures within { IfSome result (λ r. r.1 ≤ high) }
+{
+    let (first, rest) = near_number(bytes, BYTE)?;
+    let (second, rest) = near_number(behind(rest, b',')?, high)?;
     let rest = behind(rest, b']')?;
-    Some((p as u8, serial as u32, rest))
-}
-
-// Any step but these two.
-#[inline(never)]
-fn named_step(bytes: &[u8], spaced: bool) -> Option<(Step, &[u8])>
-    ensures { IfSome result (λ r. bytes.now ≡ step_text spaced r.0 ++ r.1.now) }
-{
-    let (name, rest) = word(behind(bytes, b'[')?, spaced)?;
-    let (p, rest) = number(rest, BYTE)?;
-    step_of(name, p as u8, rest, spaced)
-}
-
-// The step of a name, a member and what follows these.
-fn step_of<'a>(name: &[u8], p: Member, bytes: &'a [u8], spaced: bool) -> Option<(Step, &'a [u8])>
-    ensures { IfSome result (λ r. Continues spaced name.now p bytes.now (step_text spaced r.0) r.1.now) }
-{
-    if let Some(rest) = behind(bytes, b']') {
-        return Some((short_step(name, p)?, rest));
-    }
-    let rest = behind_comma(bytes, spaced)?;
-    if let Some(rest) = behind(rest, b'[') {
-        let (command, rest) = command(rest, spaced)?;
-        return Some((commanded_step(name, p, command)?, behind(rest, b']')?));
-    }
-    let (n, rest) = number(rest, u64::MAX)?;
-    Some((numbered_step(name, p, n)?, behind(rest, b']')?))
-}
-
-// The command behind the bracket that opens it.
-fn command(bytes: &[u8], spaced: bool) -> Option<(Command, &[u8])>
-    ensures { IfSome result (λ r. 91 ∷ bytes.now ≡ command_text spaced r.0 ++ r.1.now) }
-{
-    let (name, rest) = word(bytes, spaced)?;
-    let (register, rest) = number(rest, BYTE)?;
-    let rest = behind_comma(rest, spaced)?;
-    let (n, rest) = number(rest, u64::MAX)?;
-    let command = named_command(name, register as u8, n)?;
-    Some((command, behind(rest, b']')?))
-}
-
-// The letters between two quotation marks, and what follows the comma behind the second.
-fn word(bytes: &[u8], spaced: bool) -> Option<(&[u8], &[u8])>
-    ensures { IfSome result (λ r. bytes.now ≡ 34 ∷ (r.0.now ++ 34 ∷ 44 ∷ (gap spaced ++ r.1.now))) }
-{
-    let (word, rest) = letters(behind(bytes, b'"')?)?;
-    Some((word, behind_comma(rest, spaced)?))
+    Some((first as u8, second, rest))
 }

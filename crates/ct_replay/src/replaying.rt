@@ -6,18 +6,17 @@ ghost use Rattle.ct_records.specs.Replay.{IsReportOf, WritesReport, WritesReport
 ghost use Rattle.ct_replay.specs.Front.{IsBegun, IsWholeOf};
 
 use crate::answering::answer;
-use crate::piece::{piece, read_up_to};
+use crate::input::{Input, piece};
 use crate::running::run;
-use crate::so_far::is_storable;
-use ct_records::{MAX_LEN, ProgramFault, report};
+use ct_records::{MAX_LEN, ProgramFault, ReadFault, report};
 use ct_streams::{Failed, Sink, Source, write_all};
 use ct_world::Stage;
 use std::alloc::Global;
 
 /// Reads a record to its end, replays it and writes the report, as `ct_records::run_replay` does. The steps are done as they
-/// are read where the record has no white space, or a space behind each comma and colon, and its numbers of members and of
-/// cells stand before its steps. Where something else is met, or a step is refused, what was read is written once more from
-/// the steps that were done, and all is read before the first step. The whole report is made before the first write. What
+/// are read, or kept in few bytes each until the numbers are read that its world is made with. Where something is escaped, or
+/// a step is refused, what was read is written once more from the steps that were done, and all is read before the first
+/// step. The whole report is made before the first write. What
 /// the contract says of the input holds where the reader tells its bytes, and what it says of the output where the writer
 /// does.
 pub fn replay_while_read<R: Source, W: Sink>(
@@ -55,12 +54,15 @@ fn report_of<R: Source>(alloc: Global, reader: &mut R) -> Result<Vec<u8>, Progra
     ensures reader { FailsOnce result ProgramFault.Reader (R.failures reader.old) (R.failures reader.new) }
 {
     let mut piece = piece(alloc)?;
-    let mut bytes = Vec::new(alloc);
-    if let Some(stage) = run(alloc, reader, &mut piece, &mut bytes)? {
+    let mut input = Input::new(alloc);
+    if let Some(stage) = run(alloc, reader, &mut piece, &mut input)? {
         return report_after(alloc, &stage);
     }
-    read_up_to(reader, &mut piece, &mut bytes, MAX_LEN + 1)?;
-    answer(alloc, bytes)
+    input.read_up_to(reader, &mut piece, MAX_LEN + 1)?;
+    if input.count > MAX_LEN {
+        return Err(ProgramFault::Read(ReadFault::TooLong));
+    }
+    answer(alloc, input.bytes)
 }
 
 // The report of the world.
@@ -69,6 +71,5 @@ fn report_after(alloc: Global, stage: &Stage) -> Result<Vec<u8>, ProgramFault>
     ensures ok { IfOk result (λ text. (bytes : List ℕ) → IsWholeOf bytes stage.now.rehearsal → IsReportOf bytes text.items) }
     ensures err { IfErr result (λ fault. fault ≡ ProgramFault.Memory) }
 {
-    is_storable(stage.world());
     Ok(report(alloc, stage.world())?)
 }

@@ -1,55 +1,111 @@
-//! The space that stands behind each comma and colon, where a record has these, and nothing where it has not.
+//! White space, and the marks behind it.
 
-ghost use Rattle.std.specs.Prelude.{◌≡◌, ◌==◌, ◌||◌, ◌++◌, ◌∷◌, OnOk, IfSome, IsTrue};
-ghost use Rattle.ct_replay.specs.Front.{IsWhite, gap, spread};
+ghost use Rattle.std.specs.Prelude.{◌≡◌, ◌++◌, codes, IfSome, IsTrue};
+ghost use Rattle.json.specs.Word.{is_space};
+ghost use Rattle.ct_replay.specs.Reading.{IsBehindWhite, IsWhite, ReadsMark};
 
 use crate::number::behind;
-use std::alloc::AllocError;
 
-/// What follows the space, where the record has these.
+/// What follows the byte, behind white space or none.
 #[inline(always)]
-pub(crate) fn behind_gap(bytes: &[u8], spaced: bool) -> Option<&[u8]>
-    ensures { IfSome result (λ rest. bytes.now ≡ gap spaced ++ rest.now) }
+pub(crate) fn mark(bytes: &[u8], byte: u8) -> Option<&[u8]>
+    ensures { IfSome result (λ rest. ReadsMark bytes.now byte rest.now) }
 {
-    if spaced {
-        behind(bytes, b' ')
-    } else {
-        Some(bytes)
-    }
+    let rest = behind(after_white(bytes), byte)?;
+    Some(rest)
 }
 
-/// What follows a comma and what stands behind it.
+/// What follows a comma, behind white space or none, and the white space behind it.
 #[inline(always)]
-pub(crate) fn behind_comma(bytes: &[u8], spaced: bool) -> Option<&[u8]>
-    ensures { IfSome result (λ rest. bytes.now ≡ 44 ∷ (gap spaced ++ rest.now)) }
+pub(crate) fn comma(bytes: &[u8]) -> Option<&[u8]>
+    ensures { IfSome result (λ rest. ReadsMark bytes.now 44 rest.now) }
 {
-    behind_gap(behind(bytes, b',')?, spaced)
+    Some(after_white(mark(bytes, b',')?))
 }
 
-/// Adds the bytes with a space behind each comma and colon.
-pub(crate) fn push_spread(text: &mut Vec<u8>, bytes: &[u8]) -> Result<(), AllocError>
-    ensures { OnOk result (text.new.items ≡ text.old.items ++ spread bytes.now) }
+/// What follows the space at the front, where one stands there.
+#[inline(always)]
+pub(crate) fn after_space(bytes: &[u8]) -> &[u8]
+    ensures { IsBehindWhite bytes.now result.now }
 {
-    for byte in bytes {
-        push_byte(text, *byte)?;
+    match behind(bytes, b' ') {
+        Some(rest) => rest,
+        None => bytes,
     }
-    Ok(())
 }
 
-// Adds the byte, and a space behind it where it is a comma or a colon.
-fn push_byte(text: &mut Vec<u8>, byte: u8) -> Result<(), AllocError>
-    ensures { OnOk result (text.new.items ≡ text.old.items ++ byte ∷ gap ((byte == 44) || (byte == 58))) }
+/// What follows the white space at the front. One space or line end is passed without a call.
+#[inline(always)]
+pub(crate) fn after_white(bytes: &[u8]) -> &[u8]
+    ensures { IsBehindWhite bytes.now result.now }
 {
-    text.push(byte)?;
-    if byte == b',' || byte == b':' {
-        text.push(b' ')?;
+    match bytes {
+        [first, ..] if *first > b' ' => bytes,
+        [b' ' | b'\n', second, ..] if *second > b' ' => &bytes[1..],
+        _ => skip_white(bytes),
     }
-    Ok(())
+}
+
+// The same, where more stands there.
+#[inline(never)]
+fn skip_white(bytes: &[u8]) -> &[u8]
+    ensures { IsBehindWhite bytes.now result.now }
+{
+    let mut rest = bytes;
+    for _ in 0..bytes.len() {
+        let Some(more) = behind_space(rest) else {
+            return rest;
+        };
+        rest = more;
+    }
+    rest
+}
+
+// What follows four spaces, a line end with four spaces, or one byte of white space.
+#[inline(always)]
+fn behind_space(bytes: &[u8]) -> Option<&[u8]>
+    ensures { IfSome result (λ rest. IsBehindWhite bytes.now rest.now) }
+{
+    if let Some(rest) = behind_line(bytes) {
+        return Some(rest);
+    }
+    if let Some(rest) = behind_four(bytes) {
+        return Some(rest);
+    }
+    let (first, rest) = bytes.split_first()?;
+    if is_space(*first) { Some(rest) } else { None }
+}
+
+#[inline(always)]
+fn behind_line(bytes: &[u8]) -> Option<&[u8]>
+    ensures { IfSome result (λ rest. bytes.now ≡ codes "\n    " ++ rest.now) }
+{
+    match bytes {
+        [b'\n', b' ', b' ', b' ', b' ', rest @ ..] => Some(rest),
+        _ => None,
+    }
+}
+
+#[inline(always)]
+fn behind_four(bytes: &[u8]) -> Option<&[u8]>
+    ensures { IfSome result (λ rest. bytes.now ≡ codes "    " ++ rest.now) }
+{
+    match bytes {
+        [b' ', b' ', b' ', b' ', rest @ ..] => Some(rest),
+        _ => None,
+    }
 }
 
 /// Whether the bytes are white space.
 pub(crate) fn is_white(bytes: &[u8]) -> bool
     ensures { IsTrue result → IsWhite bytes.now }
 {
-    bytes.iter().all(|byte| *byte == b' ' || *byte == b'\t' || *byte == b'\n' || *byte == b'\r')
+    bytes.iter().all(|byte| is_space(*byte))
+}
+
+#[inline(always)]
+fn is_space(byte: u8) -> bool
+    ensures { result ≡ is_space byte }
+{
+    byte == b' ' || byte == b'\t' || byte == b'\n' || byte == b'\r'
 }

@@ -1,21 +1,20 @@
 //! What stands before the steps of a record, taken out of the bytes.
 
 ghost use Rattle.std.specs.Prelude.{◌≡◌, ◌≤◌, ◌++◌, Ok, None, length, take, drop, vec_len, IfOk, OnOk, IfSome};
-ghost use Rattle.ct_replay.specs.Front.{IsHead, IsShort};
+ghost use Rattle.ct_replay.specs.Front.{IsHead};
+ghost use Rattle.ct_replay.specs.Reading.{IsAscii};
 ghost use Rattle.ct_replay.specs.Start.{IsStart};
 
-use crate::head::{head, is_short};
+use crate::head::{head, is_ascii};
 use crate::numbers::Numbers;
 use crate::so_far::drop_first;
 use std::alloc::{AllocError, Global};
 
-/// The text up to the bracket that opens the list of steps, the numbers in it, and whether a space stands behind each comma
-/// and colon.
+/// The text up to the bracket that opens the list of steps, and the numbers in it.
 #[derive(Drop)]
 pub(crate) struct Start {
     pub text: Vec<u8>,
     pub numbers: Numbers,
-    pub spaced: bool,
 }
 
 impl Start {
@@ -25,27 +24,27 @@ impl Start {
         ensures taken { IfOk result (λ o. IfSome o (λ start. bytes.old.items ≡ start.text.items ++ bytes.new.items)) }
         ensures none { result ≡ Ok None → bytes.new ≡ bytes.old }
     {
-        let Some((numbers, spaced, used)) = measured(bytes) else {
+        let Some((numbers, used)) = measured(bytes) else {
             return Ok(None);
         };
         let text = take_first(alloc, bytes, used)?;
-        Ok(Some(Start {
-            text,
-            numbers,
-            spaced,
-        }))
+        Ok(Some(Start { text, numbers }))
     }
 }
 
-// The numbers, whether there are spaces, and how long the text is.
-fn measured(bytes: &[u8]) -> Option<(Numbers, bool, usize)>
-    ensures head { IfSome result (λ r. IsHead r.1 (take r.2 bytes.now) r.0) }
-    ensures valid { IfSome result (λ r. IsShort (take r.2 bytes.now) 256) }
-    ensures within { IfSome result (λ r. r.2 ≤ length bytes.now) }
+// The numbers, and how long the text is.
+fn measured(bytes: &[u8]) -> Option<(Numbers, usize)>
+    ensures head { IfSome result (λ r. IsHead (take r.1 bytes.now) r.0) }
+    ensures ascii { IfSome result (λ r. IsAscii (take r.1 bytes.now)) }
+    ensures within { IfSome result (λ r. r.1 ≤ length bytes.now) }
 {
-    let (numbers, spaced, rest) = head(bytes)?;
+    let (numbers, rest) = head(bytes)?;
     let used = bytes.len() - rest.len();
-    is_short(&bytes[..used]).then_some((numbers, spaced, used))
+    if is_ascii(&bytes[..used]) {
+        Some((numbers, used))
+    } else {
+        None
+    }
 }
 
 // Takes the first bytes out.

@@ -1,13 +1,12 @@
-use Rattle.std.proofs.Common.{◌≡◌, ap, subst, ◌∙◌}
-use Rattle.ct_world.specs.World.{WorldView}
-use Rattle.ct_records.specs.Outcome.{IsOutcome}
-use Rattle.ct_records.specs.Report.{report_text}
-use Rattle.ct_replay.proofs.Answered.{report_done}
+use Rattle.ct_records.specs.ProgramFault.{IsOfReplayFault}
+use Rattle.ct_records.specs.Replay.{IsFaultIn}
+use Rattle.ct_records.specs.View.{rehearsal_of}
+use Rattle.ct_records.proofs.Refused.{err_seen, replay_refused}
 use Rattle.ct_replay.proofs.answering.answer.Goals as goal
 
-pub returns-clause-ok : goal.returns-clause-ok
-returns-clause-ok c =
-    let w = c.in-Some.stage.rehearsal in
-    let same : c.world.result.now.rehearsal ≡ w = ap (λ (v : WorldView). v.rehearsal) c.world.ensures in
-    report_done w c.in_ok-report.field-0.items c.args.bytes.items c.deref.result.now c.deref.ensures.value c.in-Some.ensures.says
-    c.in-Some.ensures.allowed (subst IsOutcome same c.report.ensures.outcome) (c.in_ok-report.ensures.text ∙ ap report_text same)
+pub returns-in_err-world-clause-fault : goal.returns-in_err-world-clause-fault
+returns-in_err-world-clause-fault c =
+    err_seen c.from_residual-in_err-world.result (IsOfReplayFault c.in_err-world.field-0.0) (λ fault. IsFaultIn fault c.args.bytes.items)
+    (λ fault. replay_refused c.args.bytes.items (rehearsal_of c.in_ok-script.script) c.deref-2.result.now c.in_err-world.field-0.0 fault
+    (rw c.deref.ensures.value at c.in_ok-script.ensures.exact) c.deref-2.ensures.value c.in_err-world.ensures.err)
+    c.from_residual-in_err-world.ensures.1

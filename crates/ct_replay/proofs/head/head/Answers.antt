@@ -1,7 +1,8 @@
+use Rattle.ct_records.proofs.Plain.{if_some}
 use Rattle.ct_replay.proofs.Ended.{up_to_steps}
 use Rattle.ct_replay.proofs.head.head.Goals as goal
 
 pub returns : goal.returns
 returns c =
-    up_to_steps c.is_spaced-spaced.result c.args.bytes.now c.in_ok-rest.rest.now c.in_ok-numbers.list.now c.in_ok-numbers.numbers
-    c.in_ok-rest.ensures c.in_ok-numbers.ensures
+    if_some _ _ c.up_to_steps.result
+    (λ r h. up_to_steps c.args.bytes.now c.in_ok-mark.field-0.now r.1.now r.0 c.in_ok-mark.ensures h) c.up_to_steps.ensures

@@ -1,33 +1,33 @@
-use Rattle.std.proofs.Common.{◌≡◌, ◌++◌, ◌∙◌, [], false, refl, ap, sym, subst}
-use Rattle.ct_replay.specs.Front.{Advances, IsEnd, steps_text}
-use Rattle.ct_replay.proofs.Sources.{advances_as}
-use Rattle.ct_replay.proofs.Started.{read_through, read_whole}
+use Rattle.std.proofs.Common.{◌≡◌, ◌++◌, ◌∙◌, [], refl, ap, subst, sym}
+use Rattle.ct_records.specs.Text.{steps_text}
+use Rattle.ct_replay.specs.Front.{IsEnd, IsTextOf}
+use Rattle.ct_replay.proofs.Started.{read_part, read_whole}
+use Rattle.ct_replay.proofs.Steps.{text_none}
 use Rattle.ct_replay.proofs.listing.run_listed.Goals as goal
 
 pub returns-in-Some-clause-whole : goal.returns-in-Some-clause-whole
 returns-in-Some-clause-whole g c = λ first h.
     let start = c.args.start.now in
     let w = c.in-Some.stage.rehearsal in
-    let last = c.list_steps.new.bytes.items in
+    let input = c.list_steps.new.input in
     let rest = g.R.Source.left c.list_steps.new.reader in
-    let listed = c.in_ok-is_all.ensures.listed [] c.new-list.ensures tt in
-    let read = read_through first (g.R.Source.left c.args.reader.now) rest start.spaced [] listed.all start.text.items
-    c.args.bytes.now.items last refl h listed.read in
-    let steps : w.steps ≡ listed.all = c.in-Some.ensures.steps listed.all listed.keeps in
-    read_whole start w first rest last c.requires.start
-    (subst (λ ss. Advances first rest [] (start.text.items ++ (steps_text start.spaced false ss ++ last))) (sym steps) read)
-    (c.in_ok-is_all.ensures.end c.if-is_all.true)
+    let listed = c.in_ok-list_steps.ensures.listed [] [] c.new-list.ensures tt text_none in
+    let done = listed.done in
+    let steps : w.steps ≡ listed.steps = c.in-Some.ensures.steps listed.steps listed.keeps in
+    read_whole start w first rest done.all input.bytes.items input.count c.requires.start
+    (subst (λ ss. IsTextOf ss done.all) (sym steps) done.is) (done.goes first start.text.items h)
+    (c.in_ok-list_steps.ensures.few c.if-branch.true) (c.in_ok-list_steps.ensures.end c.if-branch.true)
     (subst (IsEnd start.numbers w) c.deref.ensures.value c.in-Some.ensures.end)
 
 pub returns-clause-part : goal.returns-clause-part
 returns-clause-part g c = λ _ first h.
     let start = c.args.start.now in
-    let last = c.list_steps.new.bytes.items in
-    let listed = c.in_ok-is_all.ensures.listed [] c.new-list.ensures tt in
+    let input = c.list_steps.new.input in
+    let last = input.bytes.items in
     let text = start.text.items in
-    let again : c.in-Ok.text.items ≡ text ++ (steps_text start.spaced false listed.all ++ last) =
-    c.in-Ok.ensures listed.all listed.keeps
-    ∙ ap (λ t. text ++ (steps_text start.spaced false listed.all ++ t)) c.deref-2.ensures.value in
-    advances_as first _ _ (text ++ (steps_text start.spaced false listed.all ++ last)) c.in-Ok.text.items
-    (read_through first (g.R.Source.left c.args.reader.now) _ start.spaced [] listed.all text c.args.bytes.now.items last refl h
-    listed.read) (sym again)
+    let listed = c.in_ok-list_steps.ensures.listed [] [] c.new-list.ensures tt text_none in
+    let done = listed.done in
+    let again : c.in-Ok.text.items ≡ text ++ (steps_text listed.steps ++ last) =
+    c.in-Ok.ensures listed.steps listed.keeps ∙ ap (λ t. text ++ (steps_text listed.steps ++ t)) c.deref-2.ensures.value in
+    read_part start listed.steps first (g.R.Source.left c.list_steps.new.reader) done.all last _ input.count c.requires.start done.is
+    listed.fit (done.goes first text h) refl again

@@ -1,36 +1,45 @@
-use Rattle.std.proofs.Common.{◌≡◌, ◌++◌, false, ap, sym, subst, ◌∙◌}
+use Rattle.std.proofs.Common.{◌≡◌, ◌++◌, [], refl, ap, subst, ◌∙◌}
 use Rattle.ct_model.specs.Rehearsal.{Rehearsal}
+use Rattle.ct_records.specs.Text.{steps_text}
 use Rattle.ct_world.specs.World.{WorldView}
-use Rattle.ct_replay.specs.Front.{IsEnd, steps_text}
-use Rattle.ct_replay.proofs.Sources.{advances_as}
-use Rattle.ct_replay.proofs.Started.{read_through, read_whole}
+use Rattle.ct_replay.specs.Front.{AreDone, HasDone, IsEnd}
+use Rattle.ct_replay.proofs.Started.{read_part, read_whole}
+use Rattle.ct_replay.proofs.Steps.{text_none}
 use Rattle.ct_replay.proofs.running.run_staged.Goals as goal
 
 pub returns-then-is_end-clause-whole : goal.returns-then-is_end-clause-whole
 returns-then-is_end-clause-whole g c = λ first h.
     let start = c.args.start.now in
     let w = c.run_steps.new.stage.rehearsal in
+    let input = c.run_steps.new.input in
+    let left = g.R.Source.left c.args.reader.now in
+    let rest = g.R.Source.left c.run_steps.new.reader in
+    let done : HasDone w.steps [] left rest c.args.input.now input =
+    subst (λ ss. AreDone ss w.steps left rest c.args.input.now input) c.requires.empty c.in_ok-run_steps.ensures.done [] text_none in
     let same : c.world.result.now.rehearsal ≡ w = ap (λ (v : WorldView). v.rehearsal) c.world.ensures in
-    let end : IsEnd start.numbers c.world.result.now.rehearsal c.run_steps.new.bytes.items =
+    let end : IsEnd start.numbers c.world.result.now.rehearsal input.bytes.items =
     subst (IsEnd start.numbers c.world.result.now.rehearsal) c.deref.ensures.value (c.is_end.ensures c.if-is_end.true) in
-    read_whole start w first (g.R.Source.left c.run_steps.new.reader) c.run_steps.new.bytes.items c.requires.start
-    (read_through first (g.R.Source.left c.args.reader.now) _ start.spaced c.args.stage.rehearsal.steps w.steps start.text.items
-    c.args.bytes.now.items c.run_steps.new.bytes.items c.requires.empty h c.in_ok-run_steps.ensures.read)
-    (c.in_ok-run_steps.ensures.end c.if-branch.true)
-    (subst (λ (v : Rehearsal). IsEnd start.numbers v c.run_steps.new.bytes.items) same end)
+    read_whole start w first rest done.all input.bytes.items input.count c.requires.start done.is (done.goes first start.text.items h)
+    (c.in_ok-run_steps.ensures.few c.if-branch.true) (c.in_ok-run_steps.ensures.end c.if-branch.true)
+    (subst (λ (v : Rehearsal). IsEnd start.numbers v input.bytes.items) same end)
 
 pub returns-clause-part : goal.returns-clause-part
 returns-clause-part g c = λ _ first h.
     let start = c.args.start.now in
     let w = c.run_steps.new.stage.rehearsal in
-    let last = c.run_steps.new.bytes.items in
+    let input = c.run_steps.new.input in
+    let left = g.R.Source.left c.args.reader.now in
+    let rest = g.R.Source.left c.run_steps.new.reader in
+    let last = input.bytes.items in
     let text = start.text.items in
-    let steps : c.record.result.now ≡ w.steps = c.record.ensures.value ∙ ap (λ (v : WorldView). v.rehearsal.steps) c.world-2.ensures in
-    let again : c.in-Ok.text.items ≡ text ++ (steps_text start.spaced false w.steps ++ last) =
+    let done : HasDone w.steps [] left rest c.args.input.now input =
+    subst (λ ss. AreDone ss w.steps left rest c.args.input.now input) c.requires.empty c.in_ok-run_steps.ensures.done [] text_none in
+    let steps : c.record-record.result.now ≡ w.steps =
+    c.record-record.ensures.value ∙ ap (λ (v : WorldView). v.rehearsal.steps) c.world-2.ensures in
+    let again : c.in-Ok.text.items ≡ text ++ (steps_text w.steps ++ last) =
     c.in-Ok.ensures
-    ∙ ap (λ t. t ++ (steps_text start.spaced false c.record.result.now ++ c.deref-3.result.now)) c.deref-2.ensures.value
-    ∙ ap (λ ss. text ++ (steps_text start.spaced false ss ++ c.deref-3.result.now)) steps
-    ∙ ap (λ t. text ++ (steps_text start.spaced false w.steps ++ t)) c.deref-3.ensures.value in
-    advances_as first _ _ (text ++ (steps_text start.spaced false w.steps ++ last)) c.in-Ok.text.items
-    (read_through first (g.R.Source.left c.args.reader.now) _ start.spaced c.args.stage.rehearsal.steps w.steps text
-    c.args.bytes.now.items last c.requires.empty h c.in_ok-run_steps.ensures.read) (sym again)
+    ∙ ap (λ t. t ++ (steps_text c.record-record.result.now ++ c.deref-3.result.now)) c.deref-2.ensures.value
+    ∙ ap (λ ss. text ++ (steps_text ss ++ c.deref-3.result.now)) steps
+    ∙ ap (λ t. text ++ (steps_text w.steps ++ t)) c.deref-3.ensures.value in
+    read_part start w.steps first rest done.all last _ input.count c.requires.start done.is c.in_ok-run_steps.ensures.begun.fit
+    (done.goes first text h) refl again

@@ -1,12 +1,11 @@
-use Rattle.std.proofs.Common.{◌≡◌, ◌++◌, false}
-use Rattle.ct_replay.specs.Front.{Advances, IsBegun, steps_text}
+use Rattle.std.proofs.Common.{◌≡◌}
+use Rattle.ct_replay.specs.Front.{AreDone, IsBegun}
 use Rattle.ct_replay.proofs.running.run_steps.Given as goal
 
 abbrev pub invariant-loop : goal.invariant-loop
 invariant-loop g l = record {
-  read : Advances (g.R.Source.left l.fn.reader) (g.R.Source.left l.reader)
-      (steps_text l.spaced false l.fn.stage.rehearsal.steps ++ l.fn.bytes.items)
-      (steps_text l.spaced false l.stage.rehearsal.steps ++ l.bytes.items);
+  done : AreDone l.fn.stage.rehearsal.steps l.stage.rehearsal.steps (g.R.Source.left l.fn.reader) (g.R.Source.left l.reader) l.fn.input
+      l.input;
   begun : IsBegun l.stage.rehearsal;
   same : g.R.Source.failures l.reader ≡ g.R.Source.failures l.fn.reader;
 }

@@ -1,11 +1,11 @@
-use Rattle.std.proofs.Common.{◌≡◌, false, ◌≤◌, ◌++◌, length}
+use Rattle.std.proofs.Common.{◌≡◌, ◌≤◌, length}
 use Rattle.std.specs.Prelude.{nat_lt}
-use Rattle.ct_replay.specs.Front.{IsBegun, steps_text}
+use Rattle.ct_replay.specs.Front.{AreTaken, IsBegun}
 use Rattle.ct_replay.proofs.taking.take_all.Given as goal
 
 abbrev pub invariant-loop : goal.invariant-loop
 invariant-loop l = record {
-  text : steps_text l.spaced false l.fn.stage.rehearsal.steps ++ l.bytes ≡ steps_text l.spaced false l.stage.rehearsal.steps ++ l.rest;
+  taken : AreTaken l.fn.stage.rehearsal.steps l.stage.rehearsal.steps l.bytes l.rest;
   shorter : length l.rest ≤ length l.bytes;
   begun : IsBegun l.stage.rehearsal;
   later : l.later ≡ nat_lt 0 (length l.stage.rehearsal.steps);

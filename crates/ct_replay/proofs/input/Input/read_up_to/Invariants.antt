@@ -1,0 +1,13 @@
+use Rattle.std.proofs.Common.{◌≡◌, ◌-◌}
+use Rattle.ct_replay.specs.Front.{Advances}
+use Rattle.ct_replay.proofs.input.Input.read_up_to.Given as goal
+
+abbrev pub invariant-loop-self : goal.invariant-loop-self
+invariant-loop-self g l = record {
+  read : Advances (g.R.Source.left l.fn.reader) (g.R.Source.left l.reader) l.fn.self.bytes.items l.self.bytes.items l.fn.self.count
+      l.self.count;
+  same : g.R.Source.failures l.reader ≡ g.R.Source.failures l.fn.reader;
+}
+
+abbrev pub decreases-loop-self : goal.decreases-loop-self
+decreases-loop-self g l = l.wanted - l.self.count
