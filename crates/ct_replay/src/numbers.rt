@@ -28,6 +28,8 @@ pub(crate) struct Numbers {
     pub cells: Option<u64>,
     pub n: Option<u64>,
     pub version: Option<u64>,
+    /// The cells stand before the members, as a writer puts them that sorts keys: a bound would stand before both.
+    pub sorted: bool,
 }
 
 impl Numbers {
@@ -40,6 +42,7 @@ impl Numbers {
             cells: None,
             n: None,
             version: None,
+            sorted: false,
         }
     }
 
@@ -53,7 +56,8 @@ impl Numbers {
         } else if is(key, "cells") {
             Some(Numbers { cells: n, ..self })
         } else if is(key, "n") {
-            Some(Numbers { n, ..self })
+            let sorted = self.cells.is_some();
+            Some(Numbers { n, sorted, ..self })
         } else if is(key, "version") {
             Some(Numbers { version: n, ..self })
         } else {
@@ -61,15 +65,31 @@ impl Numbers {
         }
     }
 
-    /// What a world of these numbers is made with. Where no bound is named yet, it is the largest.
+    /// What a world of these numbers is made with, where the bound is known.
     pub(crate) fn setup(self) -> Option<Setup> {
         let cells = self.cells?;
         let n = self.n?;
-        let bound = self.batch.unwrap_or(MAX_BOUND as u64);
+        let bound = self.bound()?;
         if cells > MAX_CELLS as u64 || n > MAX_MEMBERS as u64 || bound > MAX_BOUND as u64 {
             return None;
         }
         Setup::new(Group::new(n as u8)?, cells as u16, bound as u32)
+    }
+
+    // The bound: named, or the largest where the version names none, or isn't read yet and sorted keys have no bound.
+    fn bound(self) -> Option<u64> {
+        if self.batch.is_some() {
+            return self.batch;
+        }
+        let is_older = match self.version {
+            Some(version) => version < LATEST,
+            None => self.sorted,
+        };
+        if is_older {
+            Some(MAX_BOUND as u64)
+        } else {
+            None
+        }
     }
 
     /// Whether they are those of the world's record, and records of their version have each of its steps.
