@@ -116,13 +116,62 @@ fn an_entry_may_stand_on_a_line_of_its_own(rt: HostRuntime) {
     assert!(rt; answers(rt.alloc(), record, Ok(()), REPORT));
 }
 
-// The bound is taken to be the largest where it isn't named before the steps.
+// Tabs and line ends of two bytes, around each mark.
+#[test]
+fn white_space_may_be_of_any_kind(rt: HostRuntime) {
+    let record =
+        "\r\n{\t\"n\"\t:\r\n3,\"cells\":\t4\r\n,\"batch\" : 1048560,\t\"steps\"\r\n:\t[\r\n\t[\t\"submit\"\t,\t1\t,\t[\t\"set\"\r\n,\r\n0\t,\t7\t]\t]\t,\r\n[\"receive\"\t,1,1\r\n],[\r\n\"receive\",\t2\r\n,2]\t],\r\n\"version\"\t:\t3\r\n}\r\n\t";
+    assert!(rt; answers(rt.alloc(), record, Ok(()), REPORT));
+}
+
+// What was read without the white space says the same: the first fault of the text, else the first refused step.
+#[test]
+fn a_step_on_a_line_of_its_own_may_be_refused(rt: HostRuntime) {
+    let fault = ProgramFault::Replay {
+        at: 2,
+        refusal: Refusal::NotWaiting,
+    };
+    let record =
+        "{\n \"batch\": 1,\n \"cells\": 4,\n \"n\": 3,\n \"steps\": [\n  [\"submit\", 1, [\"set\", 0, 7]],\n  [\"receive\", 1, 2],\n  [\"receive\", 2, 2]\n ],\n \"version\": 3\n}\n";
+    assert!(rt; refuses(rt.alloc(), record, fault));
+    let record =
+        "{\n \"steps\": [\n  [\"submit\", 1, [\"set\", 0, 7]],\n  [\"receive\", 1, 2]\n ],\n \"version\": 3,\n \"batch\": 1,\n \"cells\": 4,\n \"n\": 3\n}\n";
+    assert!(rt; refuses(rt.alloc(), record, fault));
+    let record =
+        "{\n \"batch\": 1,\n \"cells\": 4,\n \"n\": 3,\n \"steps\": [\n  [\"submit\", 1, [\"set\", 0, 7]],\n  [\"receive\", 1, 2],\n  [\"begin\"]\n ],\n \"version\": 3\n}\n";
+    assert!(rt;
+        refuses(
+            rt.alloc(),
+            record,
+            ProgramFault::Read(ReadFault::Shape { at: 3 })
+        )
+    );
+}
+
+// An escape, and something that is no JSON, behind steps on lines of their own.
+#[test]
+fn what_follows_steps_on_lines_of_their_own_is_read(rt: HostRuntime) {
+    let record =
+        "{\n \"batch\": 1048560,\n \"cells\": 4,\n \"n\": 3,\n \"steps\": [\n  [\"submit\", 1, [\"set\", 0, 7]],\n  [\"receive\", 1, 1],\n  [\"\\u0072eceive\", 2, 2]\n ],\n \"version\": 3\n}\n";
+    assert!(rt; answers(rt.alloc(), record, Ok(()), REPORT));
+    let record =
+        "{\n \"batch\": 1048560,\n \"cells\": 4,\n \"n\": 3,\n \"steps\": [\n  [\"submit\", 1, [\"set\", 0, 7]],\n  [\"receive\", 1, 1]\n  [\"receive\", 2, 2]\n ],\n \"version\": 3\n}\n";
+    assert!(rt; refuses(rt.alloc(), record, ProgramFault::Read(ReadFault::NotJson)));
+}
+
+// Steps are kept where the bound may still be named behind them, but for sorted keys: with these they are done twice.
 #[test]
 fn a_bound_may_stand_behind_the_steps(rt: HostRuntime) {
     let report =
         "group 1 majority 1 cells 4\nsteps 2 sent 1 posted 0\nmember 1 up instance 0 idle\nreceived 1.1\ndecided -\ndelivered -\ntable -\n";
     let record =
         "{\"cells\":4,\"n\":1,\"steps\":[[\"submit\",1,[\"set\",0,7]],[\"receive\",1,1]],\"version\":3,\"batch\":1}";
+    assert!(rt; answers(rt.alloc(), record, Ok(()), report));
+    let record =
+        "{\"version\":3,\"cells\":4,\"n\":1,\"steps\":[[\"submit\",1,[\"set\",0,7]],[\"receive\",1,1]],\"batch\":1}";
+    assert!(rt; answers(rt.alloc(), record, Ok(()), report));
+    let record =
+        "{\"version\":2,\"cells\":4,\"n\":1,\"steps\":[[\"submit\",1,[\"set\",0,7]],[\"receive\",1,1]]}";
     assert!(rt; answers(rt.alloc(), record, Ok(()), report));
     let record =
         "{\"cells\":4,\"n\":1,\"steps\":[[\"submit\",1,[\"set\",0,7]],[\"receive\",1,1]],\"version\":3}";
