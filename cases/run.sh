@@ -52,6 +52,9 @@ record() { printf '{"batch":1048560,"cells":4,"n":%d,"steps":[' "$1" && steps "$
 # old_record N S P: the same of version 1.
 old_record() { printf '{"cells":4,"n":%d,"steps":[' "$1" && steps "${@:2}" && printf '],"version":1}'; }
 
+# wide P: a record of one member, of a submission and P postponements, with 1,000 spaces behind each comma before an array.
+wide() { record 1 1 "$1" | sed "s/,\[/,$(printf '%1000s' '')[/g"; }
+
 # make_input FORM: the input of the form, on standard output.
 make_input() {
     local form=$1 word first second third rest
@@ -62,6 +65,7 @@ make_input() {
     @padded) printf '%s%*s' "$empty_record" $((first - ${#empty_record})) '' ;;
     @brackets) repeat "$first" '[' && repeat "$second" ']' ;;
     @record) record "$first" "$second" "$third" "$rest" ;;
+    @wide) wide "$first" ;;
     @old_record) old_record "$first" "$second" "$third" ;;
     @*) cat "${word#@}" ;;
     *) printf '%s' "$form" ;;
