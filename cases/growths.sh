@@ -188,11 +188,13 @@ for record in ../crates/ct/stdin /dev/null; do
 done
 replay_of ../crates/ct/stdin each
 
-# Two of them with a space behind each comma and colon, and with their steps before all else, so that these are kept.
+# Two of them with a space behind each comma and colon, with each name and number on a line of its own, and with their steps
+# before all else, so that these are kept.
 spaced='print(json.dumps(record))'
+lined='print(json.dumps(record, indent=2))'
 first='print(json.dumps({"steps": record.pop("steps"), **record}, separators=(",", ":")))'
 for name in five_members second_receipt_is_refused; do
-    for written in "$spaced" "$first"; do
+    for written in "$spaced" "$lined" "$first"; do
         python3 -c "import json, sys; record = json.load(sys.stdin); $written" <"../examples/$name.json" >"$folder/written.json"
         replay_of "$folder/written.json" ''
     done
