@@ -185,7 +185,7 @@ fn behind_set(bytes: &[u8]) -> Option<&[u8]>
     }
 }
 
-// What follows the bracket and the name of a Add and the comma behind it.
+// What follows the bracket and the name of an Add and the comma behind it.
 #[inline(always)]
 fn behind_add(bytes: &[u8]) -> Option<&[u8]>
     ensures { IfSome result (λ rest. bytes.now ≡ codes "[\"add\"," ++ rest.now) }
