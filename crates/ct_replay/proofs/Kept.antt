@@ -1,24 +1,15 @@
 -- Steps in few bytes, one after the other.
-use Rattle.std.proofs.Common.{◌≡◌, ℕ, suc, ◌+◌, ◌-◌, ◌<◌, ◌≤◌, zero, Bool, List, [], ◌∷◌, ◌++◌, length, take, get_or, Option, Some}
-use Rattle.std.proofs.Common.{None, refl, sym, ap, subst, ◌∙◌, arith, add-one, append_assoc, append-nil, lt-ltb}
-use Rattle.std.specs.Prelude.{drop, nat_eq, nat_lt, not, slice_get, option_map, option_and_then}
+use Rattle.std.proofs.Common.{◌≡◌, ℕ, suc, ◌+◌, ◌<◌, ◌≤◌, zero, List, [], ◌∷◌, ◌++◌, length, take, get_or, Option, Some}
+use Rattle.std.proofs.Common.{None, refl, sym, ap, subst, ◌∙◌, arith, add-one, append_assoc, append-nil}
+use Rattle.std.specs.Prelude.{drop, slice_get, option_map, option_and_then}
 use Rattle.std.proofs.Math.Seq.{drop-cons, drop-drop}
 use Rattle.std.proofs.lemmas.List.{map-append, length-map, take_more}
-use Rattle.std.proofs.lemmas.Bool.{ne_eqb}
 use Rattle.std.proofs.lemmas.Option.{none-some, same_Some, slice_get-map, slice_get-get_or}
 use Rattle.ct_names.specs.declared.command.Command.{Command}
 use Rattle.ct_model.specs.declared.step.Step.{Step}
 use Rattle.ct_model.specs.declared.step.Step.TheVariants.{Submit}
-use Rattle.ct_records.specs.Fits.{StepFits}
-use Rattle.ct_records.proofs.Fitting.{fit_push}
 use Rattle.ct_replay.specs.declared.briefs.Briefs.{Briefs}
-use Rattle.ct_replay.specs.declared.input.Input.{Input}
-use Rattle.ct_replay.specs.Brief.{brief, command_of, commands_of, step_with, AreKept, AreListed, Keeps}
-use Rattle.ct_replay.specs.Front.{Goes}
-use Rattle.ct_replay.specs.Reading.{ReadsStep}
-use Rattle.ct_replay.proofs.Reading.{left_is}
-use Rattle.ct_replay.proofs.Sources.{done_joined, done_none}
-use Rattle.ct_replay.proofs.Steps.{taken_one}
+use Rattle.ct_replay.specs.Brief.{brief, command_of, commands_of, step_with, Keeps}
 
 -- ---- one more
 
@@ -102,73 +93,3 @@ next_some kept (s ∷ ss) i j r h lt left is none =
 
 pub count_is : (kept : Briefs) (ss : List Step) → Keeps kept ss → length kept.briefs.items ≡ length ss
 count_is kept ss h = rw (h.briefs, length-map) refl
-
-pub later_is : (kept : Briefs) (ss : List Step) (b : Bool) → Keeps kept ss → b ≡ nat_eq (length kept.briefs.items) 0 →
-    not b ≡ nat_lt 0 (length ss)
-later_is kept [] b h is = ap not (is ∙ ap (λ n. nat_eq n 0) (count_is kept [] h))
-later_is kept (s ∷ ss) b h is =
-    ap not (is ∙ ap (λ n. nat_eq n 0) (count_is kept (s ∷ ss) h) ∙ ne_eqb (length (s ∷ ss)) 0 (λ e. omega (arith, e)))
-    ∙ sym (lt-ltb 0 (length (s ∷ ss)) (omega arith))
-
--- ---- bytes
-
-pub kept_none : (kept : Briefs) (bytes : List ℕ) → AreKept kept kept bytes bytes
-kept_none kept bytes = λ ss text h fit is.
-    record { steps = ss; keeps = h; fit = fit; joins = record { all = text; is = is; split = refl } }
-
-pub kept_then : (a b c : Briefs) (x y z : List ℕ) → AreKept a b x y → AreKept b c y z → AreKept a c x z
-kept_then a b c x y z h k = λ ss text keeps fit is.
-    let first = h ss text keeps fit is in
-    let second = k first.steps first.joins.all first.keeps first.fit first.joins.is in
-    record {
-      steps = second.steps;
-      keeps = second.keeps;
-      fit = second.fit;
-      joins = record { all = second.joins.all; is = second.joins.is; split = first.joins.split ∙ second.joins.split };
-    }
-
-pub kept_one : (old new : Briefs) (s : Step) (empty : Bool) (bytes rest : List ℕ) → empty ≡ nat_eq (length old.briefs.items) 0 →
-    ReadsStep (not empty) bytes s rest → StepFits s → ((ss : List Step) → Keeps old ss → Keeps new (ss ++ s ∷ [])) →
-    AreKept old new bytes rest
-kept_one old new s empty bytes rest none reads fits pushed = λ ss text h fit is. record {
-  steps = ss ++ s ∷ [];
-  keeps = pushed ss h;
-  fit = fit_push ss s fit fits;
-  joins = taken_one ss (ss ++ s ∷ []) s (not empty) bytes rest (later_is old ss empty h none) reads refl text is;
-}
-
--- what is left stands behind as many bytes
-pub kept_at : (old new : Briefs) (bytes rest : List ℕ) (n : ℕ) → AreKept old new bytes rest → length rest ≤ length bytes →
-    n ≡ length bytes - length rest → AreKept old new bytes (drop n bytes)
-kept_at old new bytes rest n h le e = λ ss text keeps fit is.
-    let k = h ss text keeps fit is in
-    let j = k.joins in
-    let at : rest ≡ drop n bytes = rw e (left_is text j.all bytes rest j.split le) in
-    record {
-      steps = k.steps;
-      keeps = k.keeps;
-      fit = k.fit;
-      joins = record { all = j.all; is = j.is; split = j.split ∙ ap (λ t. j.all ++ t) at };
-    }
-
--- ---- sources
-
-pub listed_none : (kept : Briefs) (left : Option (List ℕ)) (input : Input) → AreListed kept kept left left input input
-listed_none kept left input = λ ss text h fit is. record {
-  steps = ss;
-  keeps = h;
-  fit = fit;
-  done = done_none ss left input text is;
-}
-
-pub listed_more : (a b c : Briefs) (l m r : Option (List ℕ)) (i j k : Input) (left : List ℕ) → AreListed a b l m i j →
-    AreKept b c j.bytes.items left → Goes m r left k.bytes.items j.count k.count → AreListed a c l r i k
-listed_more a b c l m r i j k left h taken more = λ ss text keeps fit is.
-    let first = h ss text keeps fit is in
-    let second = taken first.steps first.done.all first.keeps first.fit first.done.is in
-    record {
-      steps = second.steps;
-      keeps = second.keeps;
-      fit = second.fit;
-      done = done_joined second.steps l m r i j k text first.done.all left first.done.goes second.joins more;
-    }

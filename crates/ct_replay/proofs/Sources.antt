@@ -1,7 +1,8 @@
 -- What was read of a source, one read after the other.
-use Rattle.std.proofs.Common.{◌≡◌, ℕ, ◌+◌, ◌≤◌, ◌<◌, List, [], ◌++◌, length, Option, Some, None, Err, refl, sym, ap, ◌∙◌, append_assoc}
-use Rattle.std.proofs.Common.{append-nil, arith, inl, inr, subst, length-append, le-ltb, lt-ltb, ◌-◌}
-use Rattle.std.specs.Prelude.{IfSome, option_and_then}
+use Rattle.std.proofs.Common.{◌≡◌, ℕ, suc, ◌+◌, ◌≤◌, ◌<◌, List, [], ◌∷◌, ◌++◌, length, Option, Some, None, Err, refl, sym, ap, ◌∙◌, append_assoc}
+use Rattle.std.proofs.Common.{append-nil, arith, inl, inr, subst, length-append, le-ltb, lt-ltb, ◌-◌, take}
+use Rattle.std.specs.Prelude.{drop, IfSome, option_and_then}
+use Rattle.std.proofs.Math.Seq.{take-append-le, take-append_seam}
 use Rattle.std.specs.Str.{is_utf8}
 use Rattle.std.specs.Io.KnownBytes.{Consumes, IsAtEnd}
 use Rattle.json.specs.Lex.{Lexeme, punctuate, fresh}
@@ -13,7 +14,7 @@ use Rattle.ct_records.specs.Plain.{lexemes}
 use Rattle.ct_records.specs.declared.read_fault.ReadFault.TheVariants.{TooLong}
 use Rattle.ct_records.specs.Script.{script, max_len}
 use Rattle.ct_replay.specs.declared.input.Input.{Input}
-use Rattle.ct_replay.specs.Front.{Advances, AreDone, AreTaken, Goes, HasDone, IsEnough, IsReadAs, IsSeen, Joins, SaysSame}
+use Rattle.ct_replay.specs.Front.{Advances, AreDone, AreTaken, Goes, IsEnough, IsReadAs, IsSeen, SaysSame}
 
 consumes_more : (a b c : Option (List ℕ)) (xs ys : List ℕ) → Consumes a b xs → Consumes b c ys → Consumes a c (xs ++ ys)
 consumes_more None b c xs ys h k = tt
@@ -67,6 +68,31 @@ advances_once a b x y r m n h is counted = record {
   counted = omega (arith, counted, ap length is, length-append x r);
 }
 
+take_on : (xs ys : List ℕ) (n : ℕ) → take (length xs + n) (xs ++ ys) ≡ xs ++ take n ys
+take_on [] ys n = let none : 0 + n ≡ n = omega arith in ap (λ k. take k ys) none
+take_on (x ∷ xs) ys n =
+    let on : length (x ∷ xs) + n ≡ suc (length xs + n) = omega arith in
+    ap (λ k. take k (x ∷ (xs ++ ys))) on ∙ ap (λ l. x ∷ l) (take_on xs ys n)
+
+-- a text that was read into a piece behind what stands at its front
+front_read : (front tail read post : List ℕ) (k n : ℕ) → length front ≡ k → n ≤ length read →
+    take (k + n) (take k (front ++ tail) ++ (read ++ post)) ≡ front ++ take n read
+front_read front tail read post k n long le =
+    let first : take k (front ++ tail) ≡ front = ap (λ j. take j (front ++ tail)) (sym long) ∙ take-append_seam front tail in
+    let all = read ++ post in
+    ap (λ t. take (k + n) (t ++ all)) first ∙ ap (λ j. take (j + n) (front ++ all)) (sym long) ∙ take_on front all n
+    ∙ ap (λ t. front ++ t) (take-append-le n read post le)
+
+pub advances_front : (a b : Option (List ℕ)) (before front tail read post : List ℕ) (k n count : ℕ) → front ≡ before → length before ≡ k →
+    n ≤ length read → n ≡ length (take n read) → Consumes a b (take n read) →
+    Advances a b before (take (k + n) (take k (front ++ tail) ++ (read ++ post))) count (count + n)
+advances_front a b before front tail read post k n count same long le few h = record {
+  read = take n read;
+  consumed = h;
+  text = front_read front tail read post k n (ap length same ∙ long) le ∙ ap (λ t. t ++ take n read) same;
+  counted = ap (λ i. count + i) few;
+}
+
 pub advances_more : (a b c : Option (List ℕ)) (x y z : List ℕ) (k m n : ℕ) → Advances a b x y k m → Advances b c y z m n →
     Advances a c x z k n
 advances_more a b c x y z k m n h i = record {
@@ -78,32 +104,42 @@ advances_more a b c x y z k m n h i = record {
 
 -- ---- steps
 
-pub done_none : (ss : List Step) (a : Option (List ℕ)) (input : Input) → AreDone ss ss a a input input
-done_none ss a input = λ text is.
-    record { all = text; is = is; goes = goes_none a (text ++ input.bytes.items) input.count }
+pub done_none : (has : List Step → Type 0) (a : Option (List ℕ)) (input : Input) → AreDone has has a a input input
+done_none has a input = λ ss text h is.
+    record { steps = ss; has = h; all = text; is = is; goes = goes_none a (text ++ input.bytes.items) input.count }
 
--- steps were taken from the front of the bytes, and more was read behind them
-pub done_joined : (new : List Step) (a b d : Option (List ℕ)) (i j k : Input) (text before left : List ℕ) →
-    Goes a b (text ++ i.bytes.items) (before ++ j.bytes.items) i.count j.count → Joins new before j.bytes.items left →
-    Goes b d left k.bytes.items j.count k.count → HasDone new text a d i k
-done_joined new a b d i j k text before left goes joins more =
-    let from = before ++ j.bytes.items in
-    let to = joins.all ++ left in
-    let end = joins.all ++ k.bytes.items in
+-- one after the other
+pub done_then : (x y z : List Step → Type 0) (a b d : Option (List ℕ)) (i j k : Input) → AreDone x y a b i j → AreDone y z b d j k →
+    AreDone x z a d i k
+done_then x y z a b d i j k h more = λ ss text has is.
+    let first = h ss text has is in
+    let second = more first.steps first.all first.has first.is in
     record {
-      all = joins.all;
-      is = joins.is;
-      goes =
-          goes_then a b d (text ++ i.bytes.items) from end i.count j.count k.count goes
-          (goes_then b b d from to end j.count j.count k.count (goes_as b from to j.count joins.split)
-          (goes_behind b d joins.all left k.bytes.items j.count k.count more));
+      steps = second.steps;
+      has = second.has;
+      all = second.all;
+      is = second.is;
+      goes = goes_then a b d (text ++ i.bytes.items) (first.all ++ j.bytes.items) (second.all ++ k.bytes.items) i.count j.count
+          k.count first.goes second.goes;
     }
 
-pub done_more : (old mid new : List Step) (a b d : Option (List ℕ)) (i j k : Input) (left : List ℕ) → AreDone old mid a b i j →
-    AreTaken mid new j.bytes.items left → Goes b d left k.bytes.items j.count k.count → AreDone old new a d i k
-done_more old mid new a b d i j k left h taken more = λ text is.
-    let done = h text is in
-    done_joined new a b d i j k text done.all left done.goes (taken done.all done.is) more
+-- more was read behind the bytes, and steps were taken from their front
+pub done_read : (old new : List Step → Type 0) (a b : Option (List ℕ)) (i k : Input) (all : List ℕ) (used : ℕ) →
+    Advances a b i.bytes.items all i.count k.count → AreTaken old new all (drop used all) → k.bytes.items ≡ drop used all →
+    AreDone old new a b i k
+done_read old new a b i k all used read taken left = λ ss text has is.
+    let t = taken ss text has is in
+    let to = t.joins.all ++ k.bytes.items in
+    record {
+      steps = t.steps;
+      has = t.has;
+      all = t.joins.all;
+      is = t.joins.is;
+      goes =
+          goes_then a b b (text ++ i.bytes.items) (text ++ all) to i.count k.count k.count
+          (goes_behind a b text i.bytes.items all i.count k.count (goes_on a b i.bytes.items all i.count k.count read))
+          (goes_as b (text ++ all) to k.count (t.joins.split ∙ ap (λ r. t.joins.all ++ r) (sym left)));
+    }
 
 -- ---- what the input says
 

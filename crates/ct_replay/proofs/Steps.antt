@@ -1,7 +1,8 @@
 -- One step at the front of some bytes, and the text of all steps.
 use Rattle.std.proofs.Common.{◌≡◌, ℕ, ◌+◌, ◌^◌, ◌<◌, ◌≤◌, Bool, true, false, List, [], ◌∷◌, ◌++◌, length, codes, decimal, refl, sym, ap}
 use Rattle.std.proofs.Common.{◌∙◌, ◌-◌, arith, append_assoc, append-nil, length-append, subst, lt-ltb}
-use Rattle.std.specs.Prelude.{drop, map, nat_lt, if◌then◌else◌}
+use Rattle.std.specs.Prelude.{drop, map, nat_eq, nat_lt, not, if◌then◌else◌}
+use Rattle.std.proofs.lemmas.Bool.{ne_eqb}
 use Rattle.std.specs.List.{concat}
 use Rattle.std.specs.Str.{is_utf8}
 use Rattle.json.specs.Lex.{Lexeme, token, comma}
@@ -24,8 +25,8 @@ use Rattle.ct_records.proofs.Plain.{commas, opens, steps_joined, word_first}
 use Rattle.ct_records.proofs.Stored.{amount_fits}
 use Rattle.ct_replay.specs.Reading.{IsValid, Says, Reads, ReadsMark, ReadsNumber, ReadsEntry, ReadsTail, ReadsStep, next_text}
 use Rattle.ct_replay.specs.Reading.{IsBehindWhite}
-use Rattle.ct_replay.specs.Front.{AreTaken, IsTextOf, SaysSame}
-use Rattle.ct_replay.proofs.Reading.{says_none, says_then, reads_then, reads_as, white_reads, mark_begins, mark_first}
+use Rattle.ct_replay.specs.Front.{AreTaken, IsAfter, IsTextOf, SaysSame}
+use Rattle.ct_replay.proofs.Reading.{says_none, says_then, reads_then, reads_as, white_none, white_reads, mark_begins, mark_first}
 use Rattle.ct_replay.proofs.Reading.{mark_opens, mark_comma, mark_closes}
 use Rattle.ct_replay.proofs.Reading.{left_is, number_plain, number_closes, name_behind, entry_reads}
 use Rattle.ct_replay.proofs.Utf8.{ascii_are, ascii_valid, valid_then}
@@ -161,15 +162,22 @@ name_reads name bytes rest is h =
       };
     }
 
+-- the bracket that opens an array, and white space behind it
+opened_white : (bytes mid rest : List ℕ) → bytes ≡ 91 ∷ mid → IsBehindWhite mid rest → Reads bytes (λ after. token begin_array ∷ after) 1 rest
+opened_white bytes mid rest is white =
+    reads_as bytes rest (λ after. token begin_array ∷ after) (λ after. token begin_array ∷ after) (1 + 0) 1
+    (reads_then bytes mid rest (λ after. token begin_array ∷ after) (λ after. after) 1 0 (mark_opens bytes mid (mark_first bytes mid 91 is))
+    (white_reads mid rest white)) (λ after. refl) (omega arith)
+
 -- the bracket, a name and its comma, and two numbers behind these
-pair_behind : (a b rest name : List ℕ) (p k : ℕ) → IsName name → a ≡ 34 ∷ (name ++ 34 ∷ 44 ∷ b) →
-    Reads b (pair_lexemes p k) (length (decimal p) + 1 + (length (decimal k) + 1)) rest →
-    Reads (91 ∷ a) (λ after. token begin_array ∷ token (string name) ∷ comma ∷ pair_lexemes p k after)
+pair_behind : (bytes a b rest name : List ℕ) (p k : ℕ) → Reads bytes (λ after. token begin_array ∷ after) 1 a → IsName name →
+    a ≡ 34 ∷ (name ++ 34 ∷ 44 ∷ b) → Reads b (pair_lexemes p k) (length (decimal p) + 1 + (length (decimal k) + 1)) rest →
+    Reads bytes (λ after. token begin_array ∷ token (string name) ∷ comma ∷ pair_lexemes p k after)
     (1 + (3 + length name + (length (decimal p) + 1 + (length (decimal k) + 1)))) rest
-pair_behind a b rest name p k named is h =
+pair_behind bytes a b rest name p k opened named is h =
     let pair = length (decimal p) + 1 + (length (decimal k) + 1) in
-    reads_then (91 ∷ a) a rest (λ after. token begin_array ∷ after) (λ after. token (string name) ∷ comma ∷ pair_lexemes p k after) 1
-    (3 + length name + pair) (mark_opens (91 ∷ a) a (mark_first (91 ∷ a) a 91 refl))
+    reads_then bytes a rest (λ after. token begin_array ∷ after) (λ after. token (string name) ∷ comma ∷ pair_lexemes p k after) 1
+    (3 + length name + pair) opened
     (reads_then a b rest (λ after. token (string name) ∷ comma ∷ after) (pair_lexemes p k) (3 + length name) pair
     (name_reads name a b named is) h)
 
@@ -184,16 +192,16 @@ another_reads false bytes mid rest s h i =
     reads_as bytes rest (step_lexemes s) (step_lexemes s) (0 + length (step_text s)) (length (step_text s))
     (reads_then bytes mid rest (λ after. after) (step_lexemes s) 0 (length (step_text s)) h i) (λ after. refl) (omega arith)
 
--- ---- a step without white space
+-- ---- a step without white space before its commas
 
-quick_plain : (a b rest : List ℕ) (p k : ℕ) (s : Step) → a ≡ 34 ∷ ((step_entry s).name ++ 34 ∷ 44 ∷ b) →
-    Reads b (pair_lexemes p k) (length (decimal p) + 1 + (length (decimal k) + 1)) rest → (step_entry s).first ≡ p →
-    (step_entry s).rest ≡ model.number (model.serial k) → ReadsStep false (91 ∷ a) s rest
+pair_step : (bytes a b rest : List ℕ) (p k : ℕ) (s : Step) → Reads bytes (λ after. token begin_array ∷ after) 1 a →
+    a ≡ 34 ∷ ((step_entry s).name ++ 34 ∷ 44 ∷ b) → Reads b (pair_lexemes p k) (length (decimal p) + 1 + (length (decimal k) + 1)) rest →
+    (step_entry s).first ≡ p → (step_entry s).rest ≡ model.number (model.serial k) → ReadsStep false bytes s rest
 unfolding step_text
-quick_plain a b rest p k s is h first rest_is =
+pair_step bytes a b rest p k s opened is h first rest_is =
     let name = (step_entry s).name in
-    reads_as (91 ∷ a) rest _ _ (1 + (3 + length name + (length (decimal p) + 1 + (length (decimal k) + 1)))) (length (step_text s))
-    (pair_behind a b rest name p k (step_name s) is h) (λ after. rw (first, rest_is) refl)
+    reads_as bytes rest _ _ (1 + (3 + length name + (length (decimal p) + 1 + (length (decimal k) + 1)))) (length (step_text s))
+    (pair_behind bytes a b rest name p k opened (step_name s) is h) (λ after. rw (first, rest_is) refl)
     (omega (
       arith,
       entry_length name (step_entry s).first (rest_texts (step_entry s).rest),
@@ -202,15 +210,29 @@ quick_plain a b rest p k s is h first rest_is =
       length-append (decimal k) (93 ∷ []),
     ))
 
+-- with white space behind the bracket
+pub receive_reads : (bytes mid a b rest : List ℕ) (p k : ℕ) → bytes ≡ 91 ∷ mid → IsBehindWhite mid a → a ≡ codes "\"receive\"," ++ b →
+    Reads b (pair_lexemes p k) (length (decimal p) + 1 + (length (decimal k) + 1)) rest → ReadsStep false bytes (Receive p k) rest
+receive_reads bytes mid a b rest p k is white named h =
+    pair_step bytes a b rest p k (Receive p k) (opened_white bytes mid a is white) named h refl refl
+
+pub postpone_reads : (bytes mid a b rest : List ℕ) (p k : ℕ) → bytes ≡ 91 ∷ mid → IsBehindWhite mid a → a ≡ codes "\"postpone\"," ++ b →
+    Reads b (pair_lexemes p k) (length (decimal p) + 1 + (length (decimal k) + 1)) rest → ReadsStep false bytes (Postpone p k) rest
+postpone_reads bytes mid a b rest p k is white named h =
+    pair_step bytes a b rest p k (Postpone p k) (opened_white bytes mid a is white) named h refl refl
+
+-- without
 pub receive_plain : (bytes rest : List ℕ) (p k : ℕ) →
     Reads bytes (pair_lexemes p k) (length (decimal p) + 1 + (length (decimal k) + 1)) rest →
     ReadsStep false (codes "[\"receive\"," ++ bytes) (Receive p k) rest
-receive_plain bytes rest p k is = quick_plain (codes "\"receive\"," ++ bytes) bytes rest p k (Receive p k) refl is refl refl
+receive_plain bytes rest p k h =
+    let a = codes "\"receive\"," ++ bytes in receive_reads (91 ∷ a) a a bytes rest p k refl (white_none a) refl h
 
 pub postpone_plain : (bytes rest : List ℕ) (p k : ℕ) →
     Reads bytes (pair_lexemes p k) (length (decimal p) + 1 + (length (decimal k) + 1)) rest →
     ReadsStep false (codes "[\"postpone\"," ++ bytes) (Postpone p k) rest
-postpone_plain bytes rest p k is = quick_plain (codes "\"postpone\"," ++ bytes) bytes rest p k (Postpone p k) refl is refl refl
+postpone_plain bytes rest p k h =
+    let a = codes "\"postpone\"," ++ bytes in postpone_reads (91 ∷ a) a a bytes rest p k refl (white_none a) refl h
 
 -- a command of a register and a value
 command_plain : (a b rest : List ℕ) (p k : ℕ) (c : Command) → a ≡ 34 ∷ ((command_entry c).name ++ 34 ∷ 44 ∷ b) →
@@ -221,7 +243,9 @@ command_plain a b rest p k c is h first amount_is =
     let name = (command_entry c).name in
     let n = amount (command_entry c).rest in
     reads_as (91 ∷ a) rest _ (command_lexemes c) (1 + (3 + length name + (length (decimal p) + 1 + (length (decimal k) + 1))))
-    (length (command_text c)) (pair_behind a b rest name p k (command_name c) is h) (λ after. rw (first, amount_is) refl)
+    (length (command_text c))
+    (pair_behind (91 ∷ a) a b rest name p k (mark_opens (91 ∷ a) a (mark_first (91 ∷ a) a 91 refl)) (command_name c) is h)
+    (λ after. rw (first, amount_is) refl)
     (omega (
       arith,
       entry_length name (command_entry c).first (codes "," ∷ decimal n ∷ []),
@@ -273,6 +297,11 @@ another_comma bytes mid rest is white =
 
 -- ---- all steps
 
+later_is : (ss : List Step) (empty : Bool) → empty ≡ nat_eq (length ss) 0 → not empty ≡ nat_lt 0 (length ss)
+later_is [] empty is = ap not is
+later_is (s ∷ ss) empty is =
+    ap not (is ∙ ne_eqb (length (s ∷ ss)) 0 (λ e. omega (arith, e))) ∙ sym (lt-ltb 0 (length (s ∷ ss)) (omega arith))
+
 pub text_none : IsTextOf [] []
 text_none = says_none
 
@@ -317,31 +346,53 @@ text_more ss s later text more e h i = record {
   long = omega (arith, length-append text more, length_more ss s later e, h.long, i.long);
 }
 
-pub taken_none : (ss : List Step) (bytes : List ℕ) → AreTaken ss ss bytes bytes
-taken_none ss bytes = λ text is. record { all = text; is = is; split = refl }
+pub taken_none : (has : List Step → Type 0) (bytes : List ℕ) → AreTaken has has bytes bytes
+taken_none has bytes = λ ss text h is. record { steps = ss; has = h; joins = record { all = text; is = is; split = refl } }
 
-pub taken_then : (old mid new : List Step) (x y z : List ℕ) → AreTaken old mid x y → AreTaken mid new y z → AreTaken old new x z
-taken_then old mid new x y z h i = λ text is.
-    let first = h text is in
-    let second = i first.all first.is in
-    record { all = second.all; is = second.is; split = first.split ∙ second.split }
+pub taken_then : (a b c : List Step → Type 0) (x y z : List ℕ) → AreTaken a b x y → AreTaken b c y z → AreTaken a c x z
+taken_then a b c x y z h k = λ ss text old is.
+    let first = h ss text old is in
+    let second = k first.steps first.joins.all first.has first.joins.is in
+    record {
+      steps = second.steps;
+      has = second.has;
+      joins = record { all = second.joins.all; is = second.joins.is; split = first.joins.split ∙ second.joins.split };
+    }
 
-pub taken_one : (ss new : List Step) (s : Step) (later : Bool) (bytes rest : List ℕ) → later ≡ nat_lt 0 (length ss) →
-    ReadsStep later bytes s rest → new ≡ ss ++ s ∷ [] → AreTaken ss new bytes rest
-taken_one ss new s later bytes rest e h joined = λ text is.
-    rw joined (record {
-      all = text ++ h.text;
-      is = text_more ss s later text h.text e is h.says;
-      split = ap (λ t. text ++ t) h.split ∙ sym (append_assoc text h.text rest);
-    })
+-- no step was taken yet, or some
+pub taken_first : (has : List Step → Type 0) (empty : Bool) (bytes : List ℕ) →
+    ((ss : List Step) → has ss → empty ≡ nat_eq (length ss) 0) → AreTaken has (IsAfter has (not empty)) bytes bytes
+taken_first has empty bytes is = λ ss text h text_is. record {
+  steps = ss;
+  has = (h, later_is ss empty (is ss h));
+  joins = record { all = text; is = text_is; split = refl };
+}
+
+pub taken_one : (old new : List Step → Type 0) (s : Step) (later : Bool) (bytes rest : List ℕ) → ReadsStep later bytes s rest →
+    ((ss : List Step) → old ss → new (ss ++ s ∷ [])) → AreTaken (IsAfter old later) (IsAfter new true) bytes rest
+taken_one old new s later bytes rest h more = λ ss text has is. record {
+  steps = ss ++ s ∷ [];
+  has = (more ss has.0, sym (lt-ltb 0 (length (ss ++ s ∷ [])) (omega (arith, length-append ss (s ∷ [])))));
+  joins = record {
+    all = text ++ h.text;
+    is = text_more ss s later text h.text has.1 is h.says;
+    split = ap (λ t. text ++ t) h.split ∙ sym (append_assoc text h.text rest);
+  };
+}
 
 -- what is left stands behind as many bytes
-pub taken_at : (old new : List Step) (bytes rest : List ℕ) (n : ℕ) → AreTaken old new bytes rest → length rest ≤ length bytes →
-    n ≡ length bytes - length rest → AreTaken old new bytes (drop n bytes)
-taken_at old new bytes rest n h le e = λ text is.
-    let j = h text is in
+pub taken_at : (old new : List Step → Type 0) (later : Bool) (bytes rest : List ℕ) (n : ℕ) →
+    AreTaken old (IsAfter new later) bytes rest → length rest ≤ length bytes → n ≡ length bytes - length rest →
+    AreTaken old new bytes (drop n bytes)
+taken_at old new later bytes rest n h le e = λ ss text has is.
+    let t = h ss text has is in
+    let j = t.joins in
     let at : rest ≡ drop n bytes = rw e (left_is text j.all bytes rest j.split le) in
-    record { all = j.all; is = j.is; split = j.split ∙ ap (λ t. j.all ++ t) at }
+    record {
+      steps = t.steps;
+      has = t.has.0;
+      joins = record { all = j.all; is = j.is; split = j.split ∙ ap (λ t. j.all ++ t) at };
+    }
 
 -- ---- the text without white space
 

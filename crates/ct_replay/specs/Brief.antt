@@ -1,5 +1,5 @@
 -- Steps in few bytes: their commands stand in a list of their own.
-use Rattle.std.specs.Prelude.{◌≡◌, ℕ, List, [], ◌∷◌, ◌++◌, Option, Some, map, option_map}
+use Rattle.std.specs.Prelude.{◌≡◌, List, [], ◌∷◌, ◌++◌, Option, Some, map, option_map}
 use Rattle.ct_names.specs.declared.command.Command.{Command}
 use Rattle.ct_model.specs.declared.step.Step.{Step}
 use Rattle.ct_model.specs.declared.step.Step.TheVariants.{Submit, Receive, Begin, Enter, Choose, Adopt, Suspect, Conclude, Deliver}
@@ -8,8 +8,6 @@ use Rattle.ct_records.specs.Fits.{AllFit}
 use Rattle.ct_replay.specs.declared.brief.Brief.{Brief}
 use Rattle.ct_replay.specs.declared.brief.Brief.TheVariants as brief_of
 use Rattle.ct_replay.specs.declared.briefs.Briefs.{Briefs}
-use Rattle.ct_replay.specs.declared.input.Input.{Input}
-use Rattle.ct_replay.specs.Front.{HasDone, IsTextOf, Joins}
 
 abbrev pub brief : Step → Brief
 brief (Submit p c) = brief_of.Submit p
@@ -58,24 +56,7 @@ pub record Keeps (kept : Briefs) (steps : List Step) : Type 0 where
   pub briefs : kept.briefs.items ≡ map brief steps
   pub commands : kept.commands.items ≡ commands_of steps
 
--- where steps are kept, others join them behind, whose texts stood before what is left of the bytes
-pub record Keeping (new : Briefs) (text before after : List ℕ) : Type 0 where
-  pub steps : List Step
-  pub keeps : Keeps new steps
+-- the same of steps that a text can hold
+pub record IsKept (kept : Briefs) (steps : List Step) : Type 0 where
+  pub keeps : Keeps kept steps
   pub fit : AllFit steps
-  pub joins : Joins steps text before after
-
-abbrev pub AreKept : Briefs → Briefs → List ℕ → List ℕ → Type 0
-AreKept old new before after =
-    (steps : List Step) (text : List ℕ) → Keeps old steps → AllFit steps → IsTextOf steps text → Keeping new text before after
-
--- the same of what was read of a source
-pub record HasKept (new : Briefs) (text : List ℕ) (left rest : Option (List ℕ)) (before after : Input) : Type 0 where
-  pub steps : List Step
-  pub keeps : Keeps new steps
-  pub fit : AllFit steps
-  pub done : HasDone steps text left rest before after
-
-abbrev pub AreListed : Briefs → Briefs → Option (List ℕ) → Option (List ℕ) → Input → Input → Type 0
-AreListed old new left rest before after =
-    (steps : List Step) (text : List ℕ) → Keeps old steps → AllFit steps → IsTextOf steps text → HasKept new text left rest before after

@@ -1,5 +1,5 @@
 -- What was read of a record, up to any place in it.
-use Rattle.std.specs.Prelude.{◌≡◌, ◌⊎◌, ℕ, ◌+◌, ◌≤◌, false, List, ◌∷◌, ◌++◌, codes, length, Option, Some, None, Ok}
+use Rattle.std.specs.Prelude.{◌≡◌, ◌⊎◌, ℕ, ◌+◌, ◌≤◌, Bool, false, nat_lt, List, ◌∷◌, ◌++◌, codes, length, Option, Some, None, Ok}
 use Rattle.std.specs.Str.{IsUtf8, is_utf8}
 use Rattle.std.specs.Io.KnownBytes.{Consumes, IsAtEnd}
 use Rattle.json.specs.Lex.{Lexeme, token, colon}
@@ -29,9 +29,19 @@ pub record Joins (new : List Step) (text before after : List ℕ) : Type 0 where
   pub is : IsTextOf new all
   pub split : text ++ before ≡ all ++ after
 
--- the steps that are new stood at the front of the bytes
-abbrev pub AreTaken : List Step → List Step → List ℕ → List ℕ → Type 0
-AreTaken old new before after = (text : List ℕ) → IsTextOf old text → Joins new text before after
+-- it took the steps of some text, which stood before what is left of the bytes
+pub record Taken (new : List Step → Type 0) (text before after : List ℕ) : Type 0 where
+  pub steps : List Step
+  pub has : new steps
+  pub joins : Joins steps text before after
+
+-- what it took since stood at the front of the bytes
+abbrev pub AreTaken : (List Step → Type 0) → (List Step → Type 0) → List ℕ → List ℕ → Type 0
+AreTaken old new before after = (steps : List Step) (text : List ℕ) → old steps → IsTextOf steps text → Taken new text before after
+
+-- it took these, which are some or none
+abbrev pub IsAfter : (List Step → Type 0) → Bool → List Step → Type 0
+IsAfter has later steps = has steps × (later ≡ nat_lt 0 (length steps))
 
 -- ---- the members of a record
 
@@ -118,6 +128,11 @@ pub record IsBegun (w : Rehearsal) : Type 0 where
   pub fit : AllFit w.steps
   pub allowed : IsAllowed w
 
+-- it has these steps
+pub record IsStaged (w : Rehearsal) (steps : List Step) : Type 0 where
+  pub are : w.steps ≡ steps
+  pub begun : IsBegun w
+
 -- ---- sources
 
 -- this text was read since the source had the first, and these are its bytes
@@ -137,14 +152,18 @@ abbrev pub Goes : Option (List ℕ) → Option (List ℕ) → List ℕ → List 
 Goes left rest before after old new =
     (first : Option (List ℕ)) (head : List ℕ) → IsSeen first left (head ++ before) old → IsSeen first rest (head ++ after) new
 
--- where some text stood before the bytes, that of these steps stands before those that are there now
-pub record HasDone (new : List Step) (text : List ℕ) (left rest : Option (List ℕ)) (before after : Input) : Type 0 where
+-- it took the steps of some text, which stood before the input's bytes
+pub record HasDone (new : List Step → Type 0) (text : List ℕ) (left rest : Option (List ℕ)) (before after : Input) : Type 0 where
+  pub steps : List Step
+  pub has : new steps
   pub all : List ℕ
-  pub is : IsTextOf new all
+  pub is : IsTextOf steps all
   pub goes : Goes left rest (text ++ before.bytes.items) (all ++ after.bytes.items) before.count after.count
 
-abbrev pub AreDone : List Step → List Step → Option (List ℕ) → Option (List ℕ) → Input → Input → Type 0
-AreDone old new left rest before after = (text : List ℕ) → IsTextOf old text → HasDone new text left rest before after
+-- what it took since stood at the front of the input's bytes and of what the source had
+abbrev pub AreDone : (List Step → Type 0) → (List Step → Type 0) → Option (List ℕ) → Option (List ℕ) → Input → Input → Type 0
+AreDone old new left rest before after =
+    (steps : List Step) (text : List ℕ) → old steps → IsTextOf steps text → HasDone new text left rest before after
 
 -- the text of the record is all that the source had
 pub record IsReadOf (old new : Option (List ℕ)) (w : Rehearsal) : Type 0 where

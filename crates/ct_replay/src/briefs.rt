@@ -1,12 +1,13 @@
 //! Steps that are kept until it is known what their world is made with.
 
-ghost use Rattle.std.specs.Prelude.{◌≡◌, ◌≤◌, ◌++◌, ◌∷◌, [], List, length, nat_eq, slice_get, option_and_then, IfOk, OnOk, IsTrue};
+ghost use Rattle.std.specs.Prelude.{◌≡◌, ◌≤◌, ◌++◌, ◌∷◌, [], List, length, slice_get, option_and_then, IfOk, OnOk, IsTrue};
 ghost use Rattle.ct_model.specs.declared.step.Step.{Step};
 ghost use Rattle.ct_records.specs.Fits.{AllFit};
-ghost use Rattle.ct_replay.specs.Brief.{Keeps, command_of, step_with};
+ghost use Rattle.ct_replay.specs.Brief.{IsKept, Keeps, command_of, step_with};
 ghost use Rattle.ct_replay.specs.Front.{IsBegun};
 
 use crate::brief::Brief;
+use crate::keeper::Keeper;
 use crate::taking::fits;
 use ct_model::Step;
 use ct_names::Command;
@@ -31,16 +32,9 @@ impl Briefs {
         }
     }
 
-    /// Whether none is kept.
-    pub(crate) fn is_empty(&self) -> bool
-        ensures { result ≡ nat_eq (length self.now.briefs.items) 0 }
-    {
-        self.briefs.is_empty()
-    }
-
-    /// Keeps one more.
+    // Keeps one more.
     #[inline(always)]
-    pub(crate) fn push(&mut self, step: Step) -> Result<(), AllocError>
+    fn push(&mut self, step: Step) -> Result<(), AllocError>
         ensures { OnOk result ((steps : List Step) → Keeps self.old steps → Keeps self.new (steps ++ step ∷ [])) }
     {
         self.briefs.push(Brief::of(step))?;
@@ -97,6 +91,22 @@ impl Briefs {
     {
         let brief = *self.briefs.get(at)?;
         brief.step(self.commands.get(commands).copied())
+    }
+}
+
+/// Keeps the steps.
+impl Keeper for Briefs {
+    ghost has = { λ briefs steps. IsKept briefs steps };
+
+    #[inline(always)]
+    fn is_empty(&self) -> bool {
+        self.briefs.is_empty()
+    }
+
+    #[inline(always)]
+    fn take(&mut self, step: Step) -> Result<bool, AllocError> {
+        self.push(step)?;
+        Ok(true)
     }
 }
 

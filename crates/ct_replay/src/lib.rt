@@ -6,6 +6,7 @@ mod brief;
 mod briefs;
 mod head;
 mod input;
+mod keeper;
 mod listing;
 mod naming;
 mod number;
@@ -18,5 +19,6 @@ mod spaced;
 mod spacing;
 mod start;
 mod taking;
+mod wide;
 
 pub use replaying::replay_while_read;

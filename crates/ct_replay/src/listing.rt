@@ -1,22 +1,19 @@
 //! A record whose steps stand before what its world is made with.
 
-ghost use Rattle.std.specs.Prelude.{◌≡◌, ◌≤◌, ◌<◌, ◌^◌, ◌++◌, [], List, true, Ok, None, length, drop, IfOk, OnOk, IfSome};
-ghost use Rattle.std.specs.Io.KnownBytes.{IsAtEnd};
+ghost use Rattle.std.specs.Prelude.{◌≡◌, ◌≤◌, ◌<◌, ◌^◌, ◌++◌, [], List, Ok, None, length, vec_len, IfOk, IfSome};
 ghost use Rattle.ct_model.specs.declared.step.Step.{Step};
 ghost use Rattle.ct_records.specs.Text.{steps_text};
 ghost use Rattle.ct_streams.specs.Streams.{FailsOnce};
-ghost use Rattle.ct_replay.specs.Brief.{AreKept, AreListed, Keeps};
+ghost use Rattle.ct_replay.specs.Brief.{Keeps};
 ghost use Rattle.ct_replay.specs.Front.{IsBegun, IsEnd};
 ghost use Rattle.ct_replay.specs.Start.{IsStart, ReadAs, ReadOf};
 
 use crate::briefs::Briefs;
-use crate::head::{MOST, all_numbers, is_end};
+use crate::head::{all_numbers, is_end};
 use crate::input::Input;
-use crate::plain::next_step;
-use crate::so_far::{drop_first, text_so_far};
+use crate::so_far::text_so_far;
 use crate::start::Start;
-use crate::taking::fits;
-use ct_records::MAX_LEN;
+use crate::taking::take_steps;
 use ct_streams::{InputFault, Source};
 use ct_world::Stage;
 use std::alloc::{AllocError, Global};
@@ -30,7 +27,9 @@ pub(crate) fn run_listed<R: Source>(
     start: &Start,
 ) -> Result<Option<Stage>, InputFault>
     requires count { R.failures reader.old < 2 ^ 63 }
-    requires room { 0 < length piece.old }
+    requires room { 1024 < length piece.old }
+    requires few { input.old.count ≤ 67108864 }
+    requires short { vec_len input.old.bytes ≤ 1024 }
     requires start { IsStart start.now }
     ensures whole { IfOk result (λ o. IfSome o (λ stage.
         ReadOf start.now input.old (R.left reader.old) (R.left reader.new) stage.rehearsal)) }
@@ -39,7 +38,7 @@ pub(crate) fn run_listed<R: Source>(
     ensures failures { FailsOnce result InputFault.Reader (R.failures reader.old) (R.failures reader.new) }
 {
     let mut list = Briefs::new(alloc);
-    if list_steps(reader, piece, input, &mut list)? {
+    if take_steps(reader, piece, input, &mut list)? {
         if let Some(stage) = listed(alloc, start, &list, &input.bytes) {
             return Ok(Some(stage));
         }
@@ -89,73 +88,4 @@ fn listed_text(
 {
     let steps = list.all(alloc)?;
     text_so_far(alloc, &start.text, &steps, rest)
-}
-
-// Keeps the steps of the input and of what the source has, as far as they are written so; whether the source has nothing
-// more, and had no more than a record may have.
-fn list_steps<R: Source>(
-    reader: &mut R,
-    piece: &mut [u8],
-    input: &mut Input,
-    list: &mut Briefs,
-) -> Result<bool, InputFault>
-    requires count { R.failures reader.old < 2 ^ 63 }
-    requires room { 0 < length piece.old }
-    ensures listed { OnOk result (AreListed list.old list.new (R.left reader.old) (R.left reader.new) input.old input.new) }
-    ensures end { IfOk result (λ all. all ≡ true → IsAtEnd (R.left reader.new)) }
-    ensures few { IfOk result (λ all. all ≡ true → input.new.count ≤ 67108864) }
-    ensures failures { FailsOnce result InputFault.Reader (R.failures reader.old) (R.failures reader.new) }
-{
-    for _ in 0..MAX_LEN {
-        let Ok(()) = list_some(list, &mut input.bytes) else {
-            return Err(InputFault::Memory);
-        };
-        if input.bytes.len() > MOST || input.count > MAX_LEN {
-            return Ok(false);
-        }
-        if !input.read_more(reader, piece)? {
-            return Ok(input.count <= MAX_LEN);
-        }
-    }
-    Ok(false)
-}
-
-// Takes the steps out that stand at the front of the bytes, and keeps them.
-fn list_some(list: &mut Briefs, bytes: &mut Vec<u8>) -> Result<(), AllocError>
-    ensures { OnOk result (AreKept list.old list.new bytes.old.items bytes.new.items) }
-{
-    let used = list_front(list, bytes)?;
-    drop_first(bytes, used);
-    Ok(())
-}
-
-// Keeps these steps, and answers how many bytes they are.
-#[inline(always)]
-fn list_front(list: &mut Briefs, bytes: &[u8]) -> Result<usize, AllocError>
-    ensures within { IfOk result (λ used. used ≤ length bytes.now) }
-    ensures kept { IfOk result (λ used. AreKept list.old list.new bytes.now (drop used bytes.now)) }
-{
-    let mut rest = bytes;
-    for _ in 0..bytes.len() {
-        let Some(end) = list_one(list, rest)? else {
-            return Ok(bytes.len() - rest.len());
-        };
-        rest = end;
-    }
-    Ok(bytes.len() - rest.len())
-}
-
-// Keeps the next step, and answers what follows it.
-#[inline(always)]
-fn list_one<'a>(list: &mut Briefs, bytes: &'a [u8]) -> Result<Option<&'a [u8]>, AllocError>
-    ensures kept { IfOk result (λ o. IfSome o (λ rest. AreKept list.old list.new bytes.now rest.now)) }
-    ensures shorter { IfOk result (λ o. IfSome o (λ rest. length rest.now ≤ length bytes.now)) }
-    ensures none { result ≡ Ok None → list.new ≡ list.old }
-{
-    let Some((step, rest)) = next_step(bytes, !list.is_empty()) else {
-        return Ok(None);
-    };
-    fits(step);
-    list.push(step)?;
-    Ok(Some(rest))
 }

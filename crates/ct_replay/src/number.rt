@@ -40,9 +40,9 @@ pub(crate) fn near_number(bytes: &[u8], high: u64) -> Option<(u64, &[u8])>
     Some((n, rest))
 }
 
-// The number that the first digits write, without a zero before it, and what follows them.
+/// The number that the first digits write, without a zero before it, and what follows them.
 #[inline(always)]
-fn digits(bytes: &[u8], high: u64) -> Option<(u64, &[u8])>
+pub(crate) fn digits(bytes: &[u8], high: u64) -> Option<(u64, &[u8])>
     ensures text { IfSome result (λ r. bytes.now ≡ decimal r.0 ++ r.1.now) }
     ensures within { IfSome result (λ r. r.0 ≤ high) }
 {

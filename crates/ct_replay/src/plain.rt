@@ -8,7 +8,8 @@ ghost use Rattle.ct_replay.specs.Reading.{Reads, ReadsStep};
 use crate::naming::{BYTE, SERIAL};
 use crate::number::{behind, near_number};
 use crate::spaced::spaced_step;
-use crate::spacing::{after_space, after_white};
+use crate::spacing::{after_four, after_space};
+use crate::wide::wide_step;
 use ct_model::Step;
 use ct_names::Command;
 
@@ -42,10 +43,21 @@ fn quick_step(bytes: &[u8], later: bool) -> Option<(Step, &[u8])>
 fn other_step(bytes: &[u8], later: bool) -> Option<(Step, &[u8])>
     ensures { IfSome result (λ r. ReadsStep later bytes.now r.0 r.1.now) }
 {
+    if let Some(found) = wide_one(bytes, later) {
+        return Some(found);
+    }
     match submission(bytes, later) {
         Some(found) => Some(found),
         None => spaced_step(bytes, later),
     }
+}
+
+// A Receive or a Postpone with white space in it, as quick_step has others.
+#[inline(always)]
+fn wide_one(bytes: &[u8], later: bool) -> Option<(Step, &[u8])>
+    ensures { IfSome result (λ r. ReadsStep later bytes.now r.0 r.1.now) }
+{
+    wide_step(behind_another(bytes, later)?)
 }
 
 // The Receive behind its name.
@@ -96,9 +108,9 @@ fn behind_another(bytes: &[u8], later: bool) -> Option<&[u8]>
     ensures { IfSome result (λ rest. Reads bytes.now (comma_if later) (if later then 1 else 0) rest.now) }
 {
     if later {
-        Some(after_white(behind(bytes, b',')?))
+        Some(after_four(behind(bytes, b',')?))
     } else {
-        Some(after_white(bytes))
+        Some(after_four(bytes))
     }
 }
 

@@ -1,9 +1,8 @@
 //! A record that is run while it is read.
 
-ghost use Rattle.std.specs.Prelude.{◌≡◌, ◌≤◌, ◌<◌, ◌^◌, [], true, Ok, None, length, IfOk, OnOk, IfSome};
-ghost use Rattle.std.specs.Io.KnownBytes.{IsAtEnd};
+ghost use Rattle.std.specs.Prelude.{◌≡◌, ◌≤◌, ◌<◌, ◌^◌, [], Ok, None, length, vec_len, IfOk, IfSome};
 ghost use Rattle.ct_streams.specs.Streams.{FailsOnce};
-ghost use Rattle.ct_replay.specs.Front.{AreDone, IsBegun, IsReadAs, IsReadOf};
+ghost use Rattle.ct_replay.specs.Front.{IsBegun, IsReadAs, IsReadOf};
 ghost use Rattle.ct_replay.specs.Start.{IsStart, ReadAs, ReadOf};
 
 use crate::head::{MOST, is_end};
@@ -12,7 +11,6 @@ use crate::listing::run_listed;
 use crate::so_far::text_so_far;
 use crate::start::Start;
 use crate::taking::take_steps;
-use ct_records::MAX_LEN;
 use ct_streams::{InputFault, Source};
 use ct_world::Stage;
 use std::alloc::Global;
@@ -27,7 +25,7 @@ pub(crate) fn run<R: Source>(
     input: &mut Input,
 ) -> Result<Option<Stage>, InputFault>
     requires count { R.failures reader.old < 2 ^ 63 }
-    requires room { 0 < length piece.old }
+    requires room { 1024 < length piece.old }
     requires empty { input.old.bytes.items ≡ [] }
     requires none { input.old.count ≡ 0 }
     ensures whole { IfOk result (λ o. IfSome o (λ stage. IsReadOf (R.left reader.old) (R.left reader.new) stage.rehearsal)) }
@@ -69,7 +67,9 @@ fn run_staged<R: Source>(
     mut stage: Stage,
 ) -> Result<Option<Stage>, InputFault>
     requires count { R.failures reader.old < 2 ^ 63 }
-    requires room { 0 < length piece.old }
+    requires room { 1024 < length piece.old }
+    requires few { input.old.count ≤ 67108864 }
+    requires short { vec_len input.old.bytes ≤ 1024 }
     requires start { IsStart start.now }
     requires begun { IsBegun stage.rehearsal }
     requires empty { stage.rehearsal.steps ≡ [] }
@@ -79,7 +79,7 @@ fn run_staged<R: Source>(
     ensures part { result ≡ Ok None → ReadAs start.now input.old (R.left reader.old) (R.left reader.new) input.new }
     ensures failures { FailsOnce result InputFault.Reader (R.failures reader.old) (R.failures reader.new) }
 {
-    if run_steps(reader, piece, input, &mut stage)?
+    if take_steps(reader, piece, input, &mut stage)?
         && is_end(&input.bytes, start.numbers, stage.world())
     {
         return Ok(Some(stage));
@@ -90,34 +90,4 @@ fn run_staged<R: Source>(
     };
     input.bytes = text;
     Ok(None)
-}
-
-// Does the steps of the input and of what the source has, as far as they are written so and allowed; whether the source has
-// nothing more, and had no more than a record may have.
-fn run_steps<R: Source>(
-    reader: &mut R,
-    piece: &mut [u8],
-    input: &mut Input,
-    stage: &mut Stage,
-) -> Result<bool, InputFault>
-    requires count { R.failures reader.old < 2 ^ 63 }
-    requires room { 0 < length piece.old }
-    requires begun { IsBegun stage.old.rehearsal }
-    ensures done { OnOk result (AreDone stage.old.rehearsal.steps stage.new.rehearsal.steps
-        (R.left reader.old) (R.left reader.new) input.old input.new) }
-    ensures begun { OnOk result (IsBegun stage.new.rehearsal) }
-    ensures end { IfOk result (λ all. all ≡ true → IsAtEnd (R.left reader.new)) }
-    ensures few { IfOk result (λ all. all ≡ true → input.new.count ≤ 67108864) }
-    ensures failures { FailsOnce result InputFault.Reader (R.failures reader.old) (R.failures reader.new) }
-{
-    for _ in 0..MAX_LEN {
-        take_steps(stage, &mut input.bytes);
-        if input.bytes.len() > MOST || input.count > MAX_LEN {
-            return Ok(false);
-        }
-        if !input.read_more(reader, piece)? {
-            return Ok(input.count <= MAX_LEN);
-        }
-    }
-    Ok(false)
 }

@@ -46,6 +46,28 @@ pub(crate) fn after_white(bytes: &[u8]) -> &[u8]
     }
 }
 
+/// The same, quickest behind a line end and four spaces.
+#[inline(always)]
+pub(crate) fn after_four(bytes: &[u8]) -> &[u8]
+    ensures { IsBehindWhite bytes.now result.now }
+{
+    match behind_line(bytes) {
+        Some(rest) => after_white(rest),
+        None => after_white(bytes),
+    }
+}
+
+/// The same, quickest behind a line end and six spaces.
+#[inline(always)]
+pub(crate) fn after_six(bytes: &[u8]) -> &[u8]
+    ensures { IsBehindWhite bytes.now result.now }
+{
+    match behind_part(bytes) {
+        Some(rest) => after_white(rest),
+        None => after_white(bytes),
+    }
+}
+
 // The same, where more stands there.
 #[inline(never)]
 fn skip_white(bytes: &[u8]) -> &[u8]
@@ -61,12 +83,15 @@ fn skip_white(bytes: &[u8]) -> &[u8]
     rest
 }
 
-// What follows four spaces, a line end with four spaces, or one byte of white space.
+// What follows a line end with four spaces, eight or four spaces, or one byte of white space.
 #[inline(always)]
 fn behind_space(bytes: &[u8]) -> Option<&[u8]>
     ensures { IfSome result (λ rest. IsBehindWhite bytes.now rest.now) }
 {
     if let Some(rest) = behind_line(bytes) {
+        return Some(rest);
+    }
+    if let Some(rest) = behind_eight(bytes) {
         return Some(rest);
     }
     if let Some(rest) = behind_four(bytes) {
@@ -82,6 +107,26 @@ fn behind_line(bytes: &[u8]) -> Option<&[u8]>
 {
     match bytes {
         [b'\n', b' ', b' ', b' ', b' ', rest @ ..] => Some(rest),
+        _ => None,
+    }
+}
+
+#[inline(always)]
+fn behind_part(bytes: &[u8]) -> Option<&[u8]>
+    ensures { IfSome result (λ rest. bytes.now ≡ codes "\n      " ++ rest.now) }
+{
+    match bytes {
+        [b'\n', b' ', b' ', b' ', b' ', b' ', b' ', rest @ ..] => Some(rest),
+        _ => None,
+    }
+}
+
+#[inline(always)]
+fn behind_eight(bytes: &[u8]) -> Option<&[u8]>
+    ensures { IfSome result (λ rest. bytes.now ≡ codes "        " ++ rest.now) }
+{
+    match bytes {
+        [b' ', b' ', b' ', b' ', b' ', b' ', b' ', b' ', rest @ ..] => Some(rest),
         _ => None,
     }
 }

@@ -1,62 +1,114 @@
-//! The steps at the front of some bytes, done one by one.
+//! The steps at the front of what a source has, taken one by one.
 
-ghost use Rattle.std.specs.Prelude.{◌≡◌, ◌≤◌, ◌<◌, ◌++◌, None, length, drop, nat_lt, IfSome, IsSome};
+ghost use Rattle.std.specs.Prelude.{◌≡◌, ◌≤◌, ◌<◌, ◌^◌, true, false, Ok, None, length, drop, vec_len, IfOk, OnOk, IfSome};
+ghost use Rattle.std.specs.Io.KnownBytes.{IsAtEnd};
 ghost use Rattle.ct_records.specs.Fits.{StepFits};
-ghost use Rattle.ct_replay.specs.Front.{AreTaken, IsBegun};
+ghost use Rattle.ct_streams.specs.Streams.{FailsOnce};
+ghost use Rattle.ct_replay.specs.Front.{AreDone, AreTaken, IsAfter};
 
+use crate::head::MOST;
+use crate::input::Input;
+use crate::keeper::Keeper;
 use crate::plain::next_step;
-use crate::so_far::drop_first;
 use ct_model::Step;
-use ct_world::Stage;
+use ct_records::MAX_LEN;
+use ct_streams::{InputFault, Source};
+use std::alloc::AllocError;
 
-/// Takes the steps out that stand at the front of the bytes, and does them, up to the first that is refused or isn't written
-/// so, or not all of which stands there.
-pub(crate) fn take_steps(stage: &mut Stage, bytes: &mut Vec<u8>)
-    requires { IsBegun stage.old.rehearsal }
-    ensures taken { AreTaken stage.old.rehearsal.steps stage.new.rehearsal.steps bytes.old.items bytes.new.items }
-    ensures begun { IsBegun stage.new.rehearsal }
+/// Takes the steps of the input and of what the source has, up to the first that isn't written so or isn't taken; whether the
+/// source has nothing more, and had no more than a record may have.
+pub(crate) fn take_steps<R: Source, K: Keeper>(
+    reader: &mut R,
+    piece: &mut [u8],
+    input: &mut Input,
+    keeper: &mut K,
+) -> Result<bool, InputFault>
+    requires count { R.failures reader.old < 2 ^ 63 }
+    requires room { 1024 < length piece.old }
+    requires few { input.old.count ≤ 67108864 }
+    requires short { vec_len input.old.bytes ≤ 1024 }
+    ensures done { OnOk result (AreDone (K.has keeper.old) (K.has keeper.new) (R.left reader.old) (R.left reader.new)
+        input.old input.new) }
+    ensures end { IfOk result (λ all. all ≡ true → IsAtEnd (R.left reader.new)) }
+    ensures few { IfOk result (λ all. all ≡ true → input.new.count ≤ 67108864) }
+    ensures failures { FailsOnce result InputFault.Reader (R.failures reader.old) (R.failures reader.new) }
 {
-    let used = take_all(stage, bytes);
-    drop_first(bytes, used);
+    for _ in 0..MAX_LEN {
+        let more = take_more(reader, piece, input, keeper)?;
+        if !more {
+            return Ok(input.count <= MAX_LEN);
+        }
+        if input.bytes.len() > MOST || input.count > MAX_LEN {
+            return Ok(false);
+        }
+    }
+    Ok(false)
 }
 
-// Does these steps, and answers how many bytes they are.
-#[inline(always)]
-fn take_all(stage: &mut Stage, bytes: &[u8]) -> usize
-    requires { IsBegun stage.old.rehearsal }
-    ensures within { result ≤ length bytes.now }
-    ensures taken { AreTaken stage.old.rehearsal.steps stage.new.rehearsal.steps bytes.now (drop result bytes.now) }
-    ensures begun { IsBegun stage.new.rehearsal }
+// Reads once, and takes the steps of the input and of what was read; whether that was any byte.
+fn take_more<R: Source, K: Keeper>(
+    reader: &mut R,
+    piece: &mut [u8],
+    input: &mut Input,
+    keeper: &mut K,
+) -> Result<bool, InputFault>
+    requires count { R.failures reader.old < 2 ^ 63 }
+    requires room { vec_len input.old.bytes < length piece.old }
+    requires few { input.old.count ≤ 67108864 }
+    ensures done { OnOk result (AreDone (K.has keeper.old) (K.has keeper.new) (R.left reader.old) (R.left reader.new)
+        input.old input.new) }
+    ensures end { IfOk result (λ more. more ≡ false → IsAtEnd (R.left reader.new)) }
+    ensures failures { FailsOnce result InputFault.Reader (R.failures reader.old) (R.failures reader.new) }
 {
-    let mut later = !stage.world().record().is_empty();
+    let end = input.read_behind(reader, piece)?;
+    let more = end > input.bytes.len();
+    let all = &piece[..end];
+    let Ok(used) = take_all(keeper, all) else {
+        return Err(InputFault::Memory);
+    };
+    input.keep(&all[used..])?;
+    Ok(more)
+}
+
+// Takes the steps at the front of the bytes, and answers how many bytes they are.
+#[inline(always)]
+fn take_all<K: Keeper>(keeper: &mut K, bytes: &[u8]) -> Result<usize, AllocError>
+    ensures within { IfOk result (λ used. used ≤ length bytes.now) }
+    ensures taken { IfOk result (λ used. AreTaken (K.has keeper.old) (K.has keeper.new) bytes.now (drop used bytes.now)) }
+{
+    let mut later = !keeper.is_empty();
     let mut rest = bytes;
     for _ in 0..bytes.len() {
-        let Some(end) = take_step(stage, rest, later) else {
-            return bytes.len() - rest.len();
+        let Some(end) = take_one(keeper, rest, later)? else {
+            return Ok(bytes.len() - rest.len());
         };
         rest = end;
         later = true;
     }
-    bytes.len() - rest.len()
+    Ok(bytes.len() - rest.len())
 }
 
-// Does the next step, and answers what follows it. None: nothing was done.
+// Takes the next step, and answers what follows it. None: nothing was taken.
 #[inline(always)]
-fn take_step<'a>(stage: &mut Stage, bytes: &'a [u8], later: bool) -> Option<&'a [u8]>
-    requires begun { IsBegun stage.old.rehearsal }
-    requires later { later ≡ nat_lt 0 (length stage.old.rehearsal.steps) }
-    ensures taken { IfSome result (λ rest. AreTaken stage.old.rehearsal.steps stage.new.rehearsal.steps bytes.now rest.now) }
-    ensures shorter { IfSome result (λ rest. length rest.now ≤ length bytes.now) }
-    ensures some { IsSome result → 0 < length stage.new.rehearsal.steps }
-    ensures begun { IsBegun stage.new.rehearsal }
-    ensures none { result ≡ None → stage.new.rehearsal ≡ stage.old.rehearsal }
+fn take_one<'a, K: Keeper>(
+    keeper: &mut K,
+    bytes: &'a [u8],
+    later: bool,
+) -> Result<Option<&'a [u8]>, AllocError>
+    ensures taken { IfOk result (λ o. IfSome o (λ rest.
+        AreTaken (IsAfter (K.has keeper.old) later) (IsAfter (K.has keeper.new) true) bytes.now rest.now)) }
+    ensures shorter { IfOk result (λ o. IfSome o (λ rest. length rest.now ≤ length bytes.now)) }
+    ensures none { result ≡ Ok None → keeper.new ≡ keeper.old }
 {
-    let (step, rest) = next_step(bytes, later)?;
-    fits(step);
-    let Ok(_) = stage.step(&step) else {
-        return None;
+    let Some((step, rest)) = next_step(bytes, later) else {
+        return Ok(None);
     };
-    Some(rest)
+    fits(step);
+    if keeper.take(step)? {
+        Ok(Some(rest))
+    } else {
+        Ok(None)
+    }
 }
 
 /// What each step's numbers are within.
