@@ -120,11 +120,6 @@ white_part bytes rest is =
     rw is (white_then (codes "\n    " ++ two) two rest (white_line (codes "\n    " ++ two) two refl)
     (white_then two (32 ∷ rest) rest (white_one two (32 ∷ rest) 32 refl refl) (white_one (32 ∷ rest) rest 32 refl refl)))
 
-pub white_eight : (bytes rest : List ℕ) → bytes ≡ codes "        " ++ rest → IsBehindWhite bytes rest
-white_eight bytes rest is =
-    let four = codes "    " ++ rest in
-    rw is (white_then (codes "    " ++ four) four rest (white_four (codes "    " ++ four) four refl) (white_four four rest refl))
-
 pub white_reads : (bytes rest : List ℕ) → IsBehindWhite bytes rest → Reads bytes (λ after. after) 0 rest
 white_reads bytes rest h = record {
   text = h.white;

@@ -25,8 +25,11 @@ use Rattle.ct_records.proofs.Plain.{commas, opens, steps_joined, word_first}
 use Rattle.ct_records.proofs.Stored.{amount_fits}
 use Rattle.ct_replay.specs.Reading.{IsValid, Says, Reads, ReadsMark, ReadsNumber, ReadsEntry, ReadsTail, ReadsStep, next_text}
 use Rattle.ct_replay.specs.Reading.{IsBehindWhite}
+use Rattle.ct_replay.specs.declared.kind.Kind.{Kind}
+use Rattle.ct_replay.specs.declared.kind.Kind.TheVariants as kind
+use Rattle.ct_replay.specs.Quick.{ReadsNamed, name_of, step_of}
 use Rattle.ct_replay.specs.Front.{AreTaken, IsAfter, IsTextOf, SaysSame}
-use Rattle.ct_replay.proofs.Reading.{says_none, says_then, reads_then, reads_as, white_none, white_reads, mark_begins, mark_first}
+use Rattle.ct_replay.proofs.Reading.{says_none, says_then, reads_then, reads_as, white_line, white_none, white_part, white_reads, mark_begins, mark_first}
 use Rattle.ct_replay.proofs.Reading.{mark_opens, mark_comma, mark_closes}
 use Rattle.ct_replay.proofs.Reading.{left_is, number_plain, number_closes, name_behind, entry_reads}
 use Rattle.ct_replay.proofs.Utf8.{ascii_are, ascii_valid, valid_then}
@@ -192,6 +195,13 @@ another_reads false bytes mid rest s h i =
     reads_as bytes rest (step_lexemes s) (step_lexemes s) (0 + length (step_text s)) (length (step_text s))
     (reads_then bytes mid rest (λ after. after) (step_lexemes s) 0 (length (step_text s)) h i) (λ after. refl) (omega arith)
 
+-- what stands before a step: white space, behind a comma where another step stands before that
+pub another_comma : (bytes mid rest : List ℕ) → bytes ≡ 44 ∷ mid → IsBehindWhite mid rest → Reads bytes (λ after. comma ∷ after) 1 rest
+another_comma bytes mid rest is white =
+    reads_as bytes rest (λ after. comma ∷ after) (λ after. comma ∷ after) (1 + 0) 1
+    (reads_then bytes mid rest (λ after. comma ∷ after) (λ after. after) 1 0 (mark_comma bytes mid (mark_first bytes mid 44 is))
+    (white_reads mid rest white)) (λ after. refl) (omega arith)
+
 -- ---- a step without white space before its commas
 
 pair_step : (bytes a b rest : List ℕ) (p k : ℕ) (s : Step) → Reads bytes (λ after. token begin_array ∷ after) 1 a →
@@ -221,18 +231,57 @@ pub postpone_reads : (bytes mid a b rest : List ℕ) (p k : ℕ) → bytes ≡ 9
 postpone_reads bytes mid a b rest p k is white named h =
     pair_step bytes a b rest p k (Postpone p k) (opened_white bytes mid a is white) named h refl refl
 
--- without
-pub receive_plain : (bytes rest : List ℕ) (p k : ℕ) →
-    Reads bytes (pair_lexemes p k) (length (decimal p) + 1 + (length (decimal k) + 1)) rest →
-    ReadsStep false (codes "[\"receive\"," ++ bytes) (Receive p k) rest
-receive_plain bytes rest p k h =
-    let a = codes "\"receive\"," ++ bytes in receive_reads (91 ∷ a) a a bytes rest p k refl (white_none a) refl h
+-- the same behind a comma, by its kind
+named_reads : (bytes mid start inner named rest : List ℕ) (k : Kind) → bytes ≡ 44 ∷ mid → IsBehindWhite mid start →
+    start ≡ 91 ∷ inner → IsBehindWhite inner named → named ≡ 34 ∷ (name_of k ++ 34 ∷ 44 ∷ rest) → ReadsNamed bytes k rest
+named_reads bytes mid start inner named rest k first white second more is =
+    let name = name_of k in
+    reads_as bytes rest _ _ (1 + (1 + (3 + length name))) (5 + length name)
+    (reads_then bytes start rest (λ after. comma ∷ after) (λ after. token begin_array ∷ token (string name) ∷ comma ∷ after) 1
+    (1 + (3 + length name)) (another_comma bytes mid start first white)
+    (reads_then start named rest (λ after. token begin_array ∷ after) (λ after. token (string name) ∷ comma ∷ after) 1 (3 + length name)
+    (opened_white start inner named second more) (name_reads name named rest (step_name (step_of k 0 0)) is)))
+    (λ after. refl) (omega arith)
 
-pub postpone_plain : (bytes rest : List ℕ) (p k : ℕ) →
-    Reads bytes (pair_lexemes p k) (length (decimal p) + 1 + (length (decimal k) + 1)) rest →
-    ReadsStep false (codes "[\"postpone\"," ++ bytes) (Postpone p k) rest
-postpone_plain bytes rest p k h =
-    let a = codes "\"postpone\"," ++ bytes in postpone_reads (91 ∷ a) a a bytes rest p k refl (white_none a) refl h
+-- with white space behind the comma
+pub spaced_named : (bytes mid rest : List ℕ) (k : Kind) → bytes ≡ 44 ∷ mid →
+    IsBehindWhite mid (91 ∷ 34 ∷ (name_of k ++ 34 ∷ 44 ∷ rest)) → ReadsNamed bytes k rest
+spaced_named bytes mid rest k is white =
+    let named = 34 ∷ (name_of k ++ 34 ∷ 44 ∷ rest) in
+    named_reads bytes mid (91 ∷ named) named named rest k is white refl (white_none named) refl
+
+named_white : (bytes mid rest : List ℕ) (k : Kind) → ReadsNamed bytes k mid → IsBehindWhite mid rest → ReadsNamed bytes k rest
+named_white bytes mid rest k h white =
+    reads_as bytes rest _ _ (5 + length (name_of k) + 0) (5 + length (name_of k))
+    (reads_then bytes mid rest _ (λ after. after) (5 + length (name_of k)) 0 h (white_reads mid rest white)) (λ after. refl) (omega arith)
+
+-- with the name on a line of its own, and what follows it on another
+pub wide_named : (bytes rest : List ℕ) (k : Kind) →
+    bytes ≡ codes ",\n    [\n      \"" ++ (name_of k ++ (codes "\",\n      " ++ rest)) → ReadsNamed bytes k rest
+wide_named bytes rest k is =
+    let more = codes "\n      " ++ rest in
+    let named = 34 ∷ (name_of k ++ 34 ∷ 44 ∷ more) in
+    let inner = codes "\n      " ++ named in
+    let mid = codes "\n    " ++ (91 ∷ inner) in
+    named_white bytes more rest k
+    (named_reads bytes mid (91 ∷ inner) inner named more k is (white_line mid (91 ∷ inner) refl) refl (white_part inner named refl) refl)
+    (white_part more rest refl)
+
+pub named_step : (bytes mid rest : List ℕ) (k : Kind) (p n : ℕ) → ReadsNamed bytes k mid →
+    Reads mid (pair_lexemes p n) (length (decimal p) + 1 + (length (decimal n) + 1)) rest → ReadsStep true bytes (step_of k p n) rest
+unfolding step_text
+named_step bytes mid rest kind.Receive p n h i =
+    let s = Receive p n in
+    let pair = length (decimal p) + 1 + (length (decimal n) + 1) in
+    reads_as bytes rest _ _ (12 + pair) (length (44 ∷ step_text s))
+    (reads_then bytes mid rest _ (pair_lexemes p n) 12 pair h i) (λ after. refl)
+    (omega (arith, entry_length (step_entry s).name p (rest_texts (step_entry s).rest), length-append (decimal n) (93 ∷ [])))
+named_step bytes mid rest kind.Postpone p n h i =
+    let s = Postpone p n in
+    let pair = length (decimal p) + 1 + (length (decimal n) + 1) in
+    reads_as bytes rest _ _ (13 + pair) (length (44 ∷ step_text s))
+    (reads_then bytes mid rest _ (pair_lexemes p n) 13 pair h i) (λ after. refl)
+    (omega (arith, entry_length (step_entry s).name p (rest_texts (step_entry s).rest), length-append (decimal n) (93 ∷ [])))
 
 -- a command of a register and a value
 command_plain : (a b rest : List ℕ) (p k : ℕ) (c : Command) → a ≡ 34 ∷ ((command_entry c).name ++ 34 ∷ 44 ∷ b) →
@@ -287,13 +336,6 @@ pub another_plain : (later : Bool) (bytes mid start rest : List ℕ) (s : Step) 
     Reads bytes (comma_if later) (if later then 1 else 0) mid → mid ≡ start → ReadsStep false start s rest → ReadsStep later bytes s rest
 another_plain later bytes mid start rest s h same i =
     another_reads later bytes mid rest s h (subst (λ t. ReadsStep false t s rest) (sym same) i)
-
--- what stands before a step: white space, behind a comma where another step stands before that
-pub another_comma : (bytes mid rest : List ℕ) → bytes ≡ 44 ∷ mid → IsBehindWhite mid rest → Reads bytes (λ after. comma ∷ after) 1 rest
-another_comma bytes mid rest is white =
-    reads_as bytes rest (λ after. comma ∷ after) (λ after. comma ∷ after) (1 + 0) 1
-    (reads_then bytes mid rest (λ after. comma ∷ after) (λ after. after) 1 0 (mark_comma bytes mid (mark_first bytes mid 44 is))
-    (white_reads mid rest white)) (λ after. refl) (omega arith)
 
 -- ---- all steps
 

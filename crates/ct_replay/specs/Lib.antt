@@ -1,3 +1,4 @@
+pub mod Quick
 pub mod Reading
 pub mod Front
 pub mod Brief

@@ -1,10 +1,11 @@
 //! White space, and the marks behind it.
 
-ghost use Rattle.std.specs.Prelude.{◌≡◌, ◌++◌, codes, IfSome, IsTrue};
+ghost use Rattle.std.specs.Prelude.{◌≡◌, IfSome, IsTrue};
 ghost use Rattle.json.specs.Word.{is_space};
 ghost use Rattle.ct_replay.specs.Reading.{IsBehindWhite, IsWhite, ReadsMark};
 
 use crate::number::behind;
+use crate::words::behind_four;
 
 /// What follows the byte, behind white space or none.
 #[inline(always)]
@@ -46,28 +47,6 @@ pub(crate) fn after_white(bytes: &[u8]) -> &[u8]
     }
 }
 
-/// The same, quickest behind a line end and four spaces.
-#[inline(always)]
-pub(crate) fn after_four(bytes: &[u8]) -> &[u8]
-    ensures { IsBehindWhite bytes.now result.now }
-{
-    match behind_line(bytes) {
-        Some(rest) => after_white(rest),
-        None => after_white(bytes),
-    }
-}
-
-/// The same, quickest behind a line end and six spaces.
-#[inline(always)]
-pub(crate) fn after_six(bytes: &[u8]) -> &[u8]
-    ensures { IsBehindWhite bytes.now result.now }
-{
-    match behind_part(bytes) {
-        Some(rest) => after_white(rest),
-        None => after_white(bytes),
-    }
-}
-
 // The same, where more stands there.
 #[inline(never)]
 fn skip_white(bytes: &[u8]) -> &[u8]
@@ -83,62 +62,16 @@ fn skip_white(bytes: &[u8]) -> &[u8]
     rest
 }
 
-// What follows a line end with four spaces, eight or four spaces, or one byte of white space.
+// What follows four spaces, or one byte of white space.
 #[inline(always)]
 fn behind_space(bytes: &[u8]) -> Option<&[u8]>
     ensures { IfSome result (λ rest. IsBehindWhite bytes.now rest.now) }
 {
-    if let Some(rest) = behind_line(bytes) {
-        return Some(rest);
-    }
-    if let Some(rest) = behind_eight(bytes) {
-        return Some(rest);
-    }
-    if let Some(rest) = behind_four(bytes) {
+    if let Some(rest) = behind_four(bytes, *b"    ") {
         return Some(rest);
     }
     let (first, rest) = bytes.split_first()?;
     if is_space(*first) { Some(rest) } else { None }
-}
-
-#[inline(always)]
-fn behind_line(bytes: &[u8]) -> Option<&[u8]>
-    ensures { IfSome result (λ rest. bytes.now ≡ codes "\n    " ++ rest.now) }
-{
-    match bytes {
-        [b'\n', b' ', b' ', b' ', b' ', rest @ ..] => Some(rest),
-        _ => None,
-    }
-}
-
-#[inline(always)]
-fn behind_part(bytes: &[u8]) -> Option<&[u8]>
-    ensures { IfSome result (λ rest. bytes.now ≡ codes "\n      " ++ rest.now) }
-{
-    match bytes {
-        [b'\n', b' ', b' ', b' ', b' ', b' ', b' ', rest @ ..] => Some(rest),
-        _ => None,
-    }
-}
-
-#[inline(always)]
-fn behind_eight(bytes: &[u8]) -> Option<&[u8]>
-    ensures { IfSome result (λ rest. bytes.now ≡ codes "        " ++ rest.now) }
-{
-    match bytes {
-        [b' ', b' ', b' ', b' ', b' ', b' ', b' ', b' ', rest @ ..] => Some(rest),
-        _ => None,
-    }
-}
-
-#[inline(always)]
-fn behind_four(bytes: &[u8]) -> Option<&[u8]>
-    ensures { IfSome result (λ rest. bytes.now ≡ codes "    " ++ rest.now) }
-{
-    match bytes {
-        [b' ', b' ', b' ', b' ', rest @ ..] => Some(rest),
-        _ => None,
-    }
 }
 
 /// Whether the bytes are white space.

@@ -1,12 +1,11 @@
-//! From the first bytes of a list of steps to its next step, where each name and number has a line of its own.
+//! From the first bytes of a list of steps to its next step, where white space stands in it.
 
-ghost use Rattle.std.specs.Prelude.{◌≡◌, ◌≤◌, ◌+◌, ◌++◌, codes, decimal, false, length, IfSome};
-ghost use Rattle.ct_records.specs.Plain.{pair_lexemes};
-ghost use Rattle.ct_replay.specs.Reading.{Reads, ReadsStep};
+ghost use Rattle.std.specs.Prelude.{◌≡◌, ◌++◌, codes, false, IfSome};
+ghost use Rattle.ct_replay.specs.Reading.{ReadsStep};
 
-use crate::naming::{BYTE, SERIAL};
-use crate::number::{behind, digits};
-use crate::spacing::{after_four, after_six};
+use crate::number::behind;
+use crate::pairs::spaced_pair;
+use crate::spacing::after_white;
 use ct_model::Step;
 
 /// A Receive or a Postpone with white space in it, but none before a comma, and what follows it.
@@ -14,25 +13,13 @@ use ct_model::Step;
 pub(crate) fn wide_step(bytes: &[u8]) -> Option<(Step, &[u8])>
     ensures { IfSome result (λ r. ReadsStep false bytes.now r.0 r.1.now) }
 {
-    let name = after_six(behind(bytes, b'[')?);
+    let name = after_white(behind(bytes, b'[')?);
     if let Some(rest) = behind_receive(name) {
-        let (p, serial, rest) = pair(rest)?;
+        let (p, serial, rest) = spaced_pair(rest)?;
         return Some((Step::Receive(p, serial), rest));
     }
-    let (p, serial, rest) = pair(behind_postpone(name)?)?;
+    let (p, serial, rest) = spaced_pair(behind_postpone(name)?)?;
     Some((Step::Postpone(p, serial), rest))
-}
-
-// Behind a name and its comma the number of a member, a comma and a serial, and what follows the bracket behind these.
-#[inline(always)]
-fn pair(bytes: &[u8]) -> Option<(u8, u32, &[u8])>
-    ensures { IfSome result (λ r. Reads bytes.now (pair_lexemes r.0 r.1)
-        (length (decimal r.0) + 1 + (length (decimal r.1) + 1)) r.2.now) }
-{
-    let (p, rest) = digits(after_six(bytes), BYTE)?;
-    let (serial, rest) = digits(after_six(behind(rest, b',')?), SERIAL)?;
-    let rest = behind(after_four(rest), b']')?;
-    Some((p as u8, serial as u32, rest))
 }
 
 // What follows the name of a Receive and the comma behind it.

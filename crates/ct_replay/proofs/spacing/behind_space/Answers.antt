@@ -1,5 +1,5 @@
 use Rattle.std.proofs.Common.{◌∙◌, sym}
-use Rattle.ct_replay.proofs.Reading.{white_eight, white_four, white_line, white_one}
+use Rattle.ct_replay.proofs.Reading.{white_four, white_one}
 use Rattle.ct_replay.proofs.spacing.behind_space.Goals as goal
 
 pub returns-then-is_space : goal.returns-then-is_space
@@ -8,10 +8,4 @@ returns-then-is_space c =
     (sym c.is_space.ensures ∙ c.if-is_space.true)
 
 pub returns-in-Some : goal.returns-in-Some
-returns-in-Some c = white_line c.args.bytes.now c.in-Some.rest.now c.in-Some.ensures
-
-pub returns-in-Some-behind_four : goal.returns-in-Some-behind_four
-returns-in-Some-behind_four c = white_four c.args.bytes.now c.in-Some-behind_four.rest.now c.in-Some-behind_four.ensures
-
-pub returns-in-Some-behind_eight : goal.returns-in-Some-behind_eight
-returns-in-Some-behind_eight c = white_eight c.args.bytes.now c.in-Some-behind_eight.rest.now c.in-Some-behind_eight.ensures
+returns-in-Some c = white_four c.args.bytes.now c.in-Some.rest.now c.in-Some.ensures

@@ -1,6 +1,6 @@
 use Rattle.std.proofs.Common.{arith}
 use Rattle.ct_replay.proofs.Reading.{mark_behind, mark_first, number_behind, pair_reads}
-use Rattle.ct_replay.proofs.wide.pair.Goals as goal
+use Rattle.ct_replay.proofs.pairs.spaced_pair.Goals as goal
 
 pub returns : goal.returns
 returns c =
@@ -9,8 +9,8 @@ returns c =
     let d = c.in_ok-behind.field-0.now in
     let e = c.in_ok-serial.rest.now in
     pair_reads a b d e c.in_ok-rest.rest.now c.in_ok-p.p c.in_ok-serial.serial
-    (number_behind a c.after_six.result.now b c.in_ok-p.p c.after_six.ensures c.in_ok-p.ensures.text (omega (arith, c.in_ok-p.ensures.within)))
+    (number_behind a c.after_white.result.now b c.in_ok-p.p c.after_white.ensures c.in_ok-p.ensures.text (omega (arith, c.in_ok-p.ensures.within)))
     (mark_first b d 44 c.in_ok-behind.ensures)
-    (number_behind d c.after_six-2.result.now e c.in_ok-serial.serial c.after_six-2.ensures c.in_ok-serial.ensures.text
+    (number_behind d c.after_white-2.result.now e c.in_ok-serial.serial c.after_white-2.ensures c.in_ok-serial.ensures.text
     (omega (arith, c.in_ok-serial.ensures.within)))
-    (mark_behind e c.after_four.result.now c.in_ok-rest.rest.now 93 c.after_four.ensures c.in_ok-rest.ensures)
+    (mark_behind e c.after_white-3.result.now c.in_ok-rest.rest.now 93 c.after_white-3.ensures c.in_ok-rest.ensures)

@@ -1,5 +1,5 @@
 use Rattle.ct_replay.proofs.Reading.{mark_first, pair_reads}
-use Rattle.ct_replay.proofs.plain.pair.Goals as goal
+use Rattle.ct_replay.proofs.pairs.near_pair.Goals as goal
 
 pub returns-clause-text : goal.returns-clause-text
 returns-clause-text c =

@@ -1,5 +1,0 @@
-use Rattle.ct_replay.proofs.Steps.{postpone_plain}
-use Rattle.ct_replay.proofs.plain.postponement.Goals as goal
-
-pub returns : goal.returns
-returns c = postpone_plain c.args.bytes.now c.in_ok-p.rest.now c.in_ok-p.p c.in_ok-p.serial c.in_ok-p.ensures.text

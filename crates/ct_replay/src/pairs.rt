@@ -1,0 +1,72 @@
+//! Two numbers and the bracket behind them.
+
+ghost use Rattle.std.specs.Prelude.{◌≤◌, ◌+◌, decimal, length, IfSome};
+ghost use Rattle.ct_records.specs.Plain.{pair_lexemes};
+ghost use Rattle.ct_replay.specs.Reading.{Reads, ReadsMark};
+
+use crate::naming::{BYTE, SERIAL};
+use crate::number::{behind, digits, near_number};
+use crate::spacing::{after_space, after_white};
+use crate::words::{behind_four, behind_two};
+
+/// The number of a member or a register, a comma and one more number, and what follows the bracket behind these. A space may
+/// stand before each number.
+#[inline(always)]
+pub(crate) fn near_pair(bytes: &[u8], high: u64) -> Option<(u8, u64, &[u8])>
+    ensures text { IfSome result (λ r. Reads bytes.now (pair_lexemes r.0 r.1)
+        (length (decimal r.0) + 1 + (length (decimal r.1) + 1)) r.2.now) }
+    ensures within { IfSome result (λ r. r.1 ≤ high) }
+{
+    let (first, rest) = near_number(bytes, BYTE)?;
+    let (second, rest) = near_number(behind(rest, b',')?, high)?;
+    let rest = behind(rest, b']')?;
+    Some((first as u8, second, rest))
+}
+
+/// The number of a member, a comma and a serial, and what follows the bracket behind these. A space may stand before each
+/// number, or the serial and the bracket have lines of their own.
+#[inline(always)]
+pub(crate) fn quick_pair(bytes: &[u8]) -> Option<(u8, u32, &[u8])>
+    ensures { IfSome result (λ r. Reads bytes.now (pair_lexemes r.0 r.1)
+        (length (decimal r.0) + 1 + (length (decimal r.1) + 1)) r.2.now) }
+{
+    let (p, rest) = near_number(bytes, BYTE)?;
+    let (serial, rest) = digits(quick_comma(rest)?, SERIAL)?;
+    let rest = quick_end(rest)?;
+    Some((p as u8, serial as u32, rest))
+}
+
+// What follows a comma, and a space or a line end and six spaces behind it.
+#[inline(always)]
+fn quick_comma(bytes: &[u8]) -> Option<&[u8]>
+    ensures { IfSome result (λ rest. ReadsMark bytes.now 44 rest.now) }
+{
+    let rest = behind(bytes, b',')?;
+    match behind(rest, b'\n') {
+        Some(line) => behind_two(behind_four(line, *b"    ")?, *b"  "),
+        None => Some(after_space(rest)),
+    }
+}
+
+// What follows a bracket, behind a line end and four spaces or not.
+#[inline(always)]
+fn quick_end(bytes: &[u8]) -> Option<&[u8]>
+    ensures { IfSome result (λ rest. ReadsMark bytes.now 93 rest.now) }
+{
+    match behind(bytes, b']') {
+        Some(rest) => Some(rest),
+        None => behind_two(behind_four(bytes, *b"\n   ")?, *b" ]"),
+    }
+}
+
+/// The same with any white space, but none before the comma.
+#[inline(always)]
+pub(crate) fn spaced_pair(bytes: &[u8]) -> Option<(u8, u32, &[u8])>
+    ensures { IfSome result (λ r. Reads bytes.now (pair_lexemes r.0 r.1)
+        (length (decimal r.0) + 1 + (length (decimal r.1) + 1)) r.2.now) }
+{
+    let (p, rest) = digits(after_white(bytes), BYTE)?;
+    let (serial, rest) = digits(after_white(behind(rest, b',')?), SERIAL)?;
+    let rest = behind(after_white(rest), b']')?;
+    Some((p as u8, serial as u32, rest))
+}
