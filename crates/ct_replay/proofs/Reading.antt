@@ -109,6 +109,16 @@ white_four bytes rest is =
     let two : (r : List ℕ) → IsBehindWhite (32 ∷ 32 ∷ r) r = λ r. white_then (32 ∷ 32 ∷ r) (32 ∷ r) r (one (32 ∷ r)) (one r) in
     rw is (white_then (codes "    " ++ rest) (32 ∷ 32 ∷ rest) rest (two (32 ∷ 32 ∷ rest)) (two rest))
 
+pub white_two : (bytes rest : List ℕ) (x : ℕ) → bytes ≡ x ∷ x ∷ rest → is_space x ≡ true → IsBehindWhite bytes rest
+white_two bytes rest x is space =
+    rw is (white_then (x ∷ x ∷ rest) (x ∷ rest) rest (white_one (x ∷ x ∷ rest) (x ∷ rest) x refl space)
+    (white_one (x ∷ rest) rest x refl space))
+
+pub white_eight : (bytes rest : List ℕ) → bytes ≡ codes "        " ++ rest → IsBehindWhite bytes rest
+white_eight bytes rest is =
+    let four = codes "    " ++ rest in
+    rw is (white_then (codes "    " ++ four) four rest (white_four (codes "    " ++ four) four refl) (white_four four rest refl))
+
 pub white_line : (bytes rest : List ℕ) → bytes ≡ codes "\n    " ++ rest → IsBehindWhite bytes rest
 white_line bytes rest is =
     let spaces = codes "    " ++ rest in

@@ -1,6 +1,6 @@
 -- What was read of a source, one read after the other.
-use Rattle.std.proofs.Common.{◌≡◌, ℕ, suc, ◌+◌, ◌≤◌, ◌<◌, List, [], ◌∷◌, ◌++◌, length, Option, Some, None, Err, refl, sym, ap, ◌∙◌, append_assoc}
-use Rattle.std.proofs.Common.{append-nil, arith, inl, inr, subst, length-append, le-ltb, lt-ltb, ◌-◌, take}
+use Rattle.std.proofs.Common.{◌≡◌, ℕ, suc, ◌+◌, ◌≤◌, ◌<◌, List, [], ◌∷◌, ◌++◌, length, Option, Some, None, Err, refl, sym, ap, ◌∙◌}
+use Rattle.std.proofs.Common.{append_assoc, append-nil, arith, inl, inr, subst, length-append, le-ltb, lt-ltb, ◌-◌, take}
 use Rattle.std.specs.Prelude.{drop, IfSome, option_and_then}
 use Rattle.std.proofs.Math.Seq.{take-append-le, take-append_seam}
 use Rattle.std.specs.Str.{is_utf8}

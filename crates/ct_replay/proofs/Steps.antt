@@ -10,7 +10,6 @@ use Rattle.json.specs.Token.{begin_array, end_array, string}
 use Rattle.json.specs.Word.{ends_word}
 use Rattle.ct_names.specs.declared.command.Command.{Command}
 use Rattle.ct_model.specs.declared.step.Step.{Step}
-use Rattle.ct_names.specs.declared.command.Command.TheVariants.{Set, Add}
 use Rattle.ct_model.specs.declared.step.Step.TheVariants.{Submit, Receive, Postpone}
 use Rattle.ct_model.specs.StepText as model
 use Rattle.ct_model.specs.StepText.{Rest, nothing, command, amount, command_entry, command_text, entry_text, rest_texts, step_entry}
@@ -29,7 +28,8 @@ use Rattle.ct_replay.specs.declared.kind.Kind.{Kind}
 use Rattle.ct_replay.specs.declared.kind.Kind.TheVariants as kind
 use Rattle.ct_replay.specs.Quick.{ReadsNamed, name_of, step_of}
 use Rattle.ct_replay.specs.Front.{AreTaken, IsAfter, IsTextOf, SaysSame}
-use Rattle.ct_replay.proofs.Reading.{says_none, says_then, reads_then, reads_as, white_line, white_none, white_part, white_reads, mark_begins, mark_first}
+use Rattle.ct_replay.proofs.Reading.{says_none, says_then, reads_then, reads_as, white_line, white_none, white_part, white_reads}
+use Rattle.ct_replay.proofs.Reading.{mark_begins, mark_behind, mark_first}
 use Rattle.ct_replay.proofs.Reading.{mark_opens, mark_comma, mark_closes}
 use Rattle.ct_replay.proofs.Reading.{left_is, number_plain, number_closes, name_behind, entry_reads}
 use Rattle.ct_replay.proofs.Utf8.{ascii_are, ascii_valid, valid_then}
@@ -166,10 +166,11 @@ name_reads name bytes rest is h =
     }
 
 -- the bracket that opens an array, and white space behind it
-opened_white : (bytes mid rest : List ℕ) → bytes ≡ 91 ∷ mid → IsBehindWhite mid rest → Reads bytes (λ after. token begin_array ∷ after) 1 rest
+opened_white : (bytes mid rest : List ℕ) → ReadsMark bytes 91 mid → IsBehindWhite mid rest →
+    Reads bytes (λ after. token begin_array ∷ after) 1 rest
 opened_white bytes mid rest is white =
     reads_as bytes rest (λ after. token begin_array ∷ after) (λ after. token begin_array ∷ after) (1 + 0) 1
-    (reads_then bytes mid rest (λ after. token begin_array ∷ after) (λ after. after) 1 0 (mark_opens bytes mid (mark_first bytes mid 91 is))
+    (reads_then bytes mid rest (λ after. token begin_array ∷ after) (λ after. after) 1 0 (mark_opens bytes mid is)
     (white_reads mid rest white)) (λ after. refl) (omega arith)
 
 -- the bracket, a name and its comma, and two numbers behind these
@@ -221,12 +222,13 @@ pair_step bytes a b rest p k s opened is h first rest_is =
     ))
 
 -- with white space behind the bracket
-pub receive_reads : (bytes mid a b rest : List ℕ) (p k : ℕ) → bytes ≡ 91 ∷ mid → IsBehindWhite mid a → a ≡ codes "\"receive\"," ++ b →
+pub receive_reads : (bytes mid a b rest : List ℕ) (p k : ℕ) → ReadsMark bytes 91 mid → IsBehindWhite mid a → a ≡ codes "\"receive\"," ++ b →
     Reads b (pair_lexemes p k) (length (decimal p) + 1 + (length (decimal k) + 1)) rest → ReadsStep false bytes (Receive p k) rest
 receive_reads bytes mid a b rest p k is white named h =
     pair_step bytes a b rest p k (Receive p k) (opened_white bytes mid a is white) named h refl refl
 
-pub postpone_reads : (bytes mid a b rest : List ℕ) (p k : ℕ) → bytes ≡ 91 ∷ mid → IsBehindWhite mid a → a ≡ codes "\"postpone\"," ++ b →
+pub postpone_reads : (bytes mid a b rest : List ℕ) (p k : ℕ) → ReadsMark bytes 91 mid → IsBehindWhite mid a →
+    a ≡ codes "\"postpone\"," ++ b →
     Reads b (pair_lexemes p k) (length (decimal p) + 1 + (length (decimal k) + 1)) rest → ReadsStep false bytes (Postpone p k) rest
 postpone_reads bytes mid a b rest p k is white named h =
     pair_step bytes a b rest p k (Postpone p k) (opened_white bytes mid a is white) named h refl refl
@@ -240,7 +242,7 @@ named_reads bytes mid start inner named rest k first white second more is =
     (reads_then bytes start rest (λ after. comma ∷ after) (λ after. token begin_array ∷ token (string name) ∷ comma ∷ after) 1
     (1 + (3 + length name)) (another_comma bytes mid start first white)
     (reads_then start named rest (λ after. token begin_array ∷ after) (λ after. token (string name) ∷ comma ∷ after) 1 (3 + length name)
-    (opened_white start inner named second more) (name_reads name named rest (step_name (step_of k 0 0)) is)))
+    (opened_white start inner named (mark_first start inner 91 second) more) (name_reads name named rest (step_name (step_of k 0 0)) is)))
     (λ after. refl) (omega arith)
 
 -- with white space behind the comma
@@ -283,59 +285,19 @@ named_step bytes mid rest kind.Postpone p n h i =
     (reads_then bytes mid rest _ (pair_lexemes p n) 13 pair h i) (λ after. refl)
     (omega (arith, entry_length (step_entry s).name p (rest_texts (step_entry s).rest), length-append (decimal n) (93 ∷ [])))
 
--- a command of a register and a value
-command_plain : (a b rest : List ℕ) (p k : ℕ) (c : Command) → a ≡ 34 ∷ ((command_entry c).name ++ 34 ∷ 44 ∷ b) →
-    Reads b (pair_lexemes p k) (length (decimal p) + 1 + (length (decimal k) + 1)) rest → (command_entry c).first ≡ p →
-    amount (command_entry c).rest ≡ k → Reads (91 ∷ a) (command_lexemes c) (length (command_text c)) rest
-unfolding command_text
-command_plain a b rest p k c is h first amount_is =
-    let name = (command_entry c).name in
-    let n = amount (command_entry c).rest in
-    reads_as (91 ∷ a) rest _ (command_lexemes c) (1 + (3 + length name + (length (decimal p) + 1 + (length (decimal k) + 1))))
-    (length (command_text c))
-    (pair_behind (91 ∷ a) a b rest name p k (mark_opens (91 ∷ a) a (mark_first (91 ∷ a) a 91 refl)) (command_name c) is h)
-    (λ after. rw (first, amount_is) refl)
-    (omega (
-      arith,
-      entry_length name (command_entry c).first (codes "," ∷ decimal n ∷ []),
-      ap (λ n. length (decimal n)) first,
-      ap (λ n. length (decimal n)) amount_is,
-      length-append (decimal n) (93 ∷ []),
-    ))
-
-pub set_plain : (bytes b rest : List ℕ) (p k : ℕ) → bytes ≡ codes "[\"set\"," ++ b →
-    Reads b (pair_lexemes p k) (length (decimal p) + 1 + (length (decimal k) + 1)) rest →
-    Reads bytes (command_lexemes (Set p k)) (length (command_text (Set p k))) rest
-set_plain bytes b rest p k is h = rw is (command_plain (codes "\"set\"," ++ b) b rest p k (Set p k) refl h refl refl)
-
-pub add_plain : (bytes b rest : List ℕ) (p k : ℕ) → bytes ≡ codes "[\"add\"," ++ b →
-    Reads b (pair_lexemes p k) (length (decimal p) + 1 + (length (decimal k) + 1)) rest →
-    Reads bytes (command_lexemes (Add p k)) (length (command_text (Add p k))) rest
-add_plain bytes b rest p k is h = rw is (command_plain (codes "\"add\"," ++ b) b rest p k (Add p k) refl h refl refl)
-
-pub submit_plain : (bytes a b d e rest : List ℕ) (p : ℕ) (c : Command) → ReadsNumber bytes p a → a ≡ 44 ∷ b → IsBehindWhite b d →
-    Reads d (command_lexemes c) (length (command_text c)) e → e ≡ 93 ∷ rest →
-    ReadsStep false (codes "[\"submit\"," ++ bytes) (Submit p c) rest
-submit_plain bytes a b d e rest p c h is white i closed =
+-- a Submit with white space behind its bracket
+pub submit_reads : (bytes inner named num a b e rest : List ℕ) (p : ℕ) (c : Command) → ReadsMark bytes 91 inner →
+    IsBehindWhite inner named → named ≡ codes "\"submit\"," ++ num → ReadsNumber num p a → a ≡ 44 ∷ b →
+    Reads b (command_lexemes c) (length (command_text c)) e → ReadsMark e 93 rest → ReadsStep false bytes (Submit p c) rest
+submit_reads bytes inner named num a b e rest p c opens white is number behind reads closes =
     let name = codes "submit" in
-    let mark = 44 ∷ bytes in
-    let word = name ++ 34 ∷ mark in
-    let quoted = 34 ∷ word in
-    let whole = 91 ∷ quoted in
-    let k = length (command_text c) in
-    step_reads whole a rest name p (Submit p c)
-    (entry_reads whole quoted mark bytes a name p (mark_first whole quoted 91 refl)
-    (name_behind quoted word name mark (mark_first quoted word 34 refl) refl) (mark_first mark bytes 44 refl) h)
-    (tail_commanded name a b e rest p c (Submit p c) (mark_first a b 44 is)
-    (reads_as b e (command_lexemes c) (command_lexemes c) (0 + k) k
-    (reads_then b d e (λ after. after) (command_lexemes c) 0 k (white_reads b d white) i) (λ after. refl) (omega arith))
-    (mark_first e rest 93 closed) refl refl refl)
-
--- the same behind a comma, where another step stands before it
-pub another_plain : (later : Bool) (bytes mid start rest : List ℕ) (s : Step) →
-    Reads bytes (comma_if later) (if later then 1 else 0) mid → mid ≡ start → ReadsStep false start s rest → ReadsStep later bytes s rest
-another_plain later bytes mid start rest s h same i =
-    another_reads later bytes mid rest s h (subst (λ t. ReadsStep false t s rest) (sym same) i)
+    let comma_on = 44 ∷ num in
+    let word = name ++ 34 ∷ comma_on in
+    step_reads bytes a rest name p (Submit p c)
+    (entry_reads bytes inner comma_on num a name p opens
+    (name_behind inner word name comma_on (mark_behind inner named word 34 white is) refl)
+    (mark_first comma_on num 44 refl) number)
+    (tail_commanded name a b e rest p c (Submit p c) (mark_first a b 44 behind) reads closes refl refl refl)
 
 -- ---- all steps
 

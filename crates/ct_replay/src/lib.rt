@@ -22,7 +22,6 @@ mod spaced;
 mod spacing;
 mod start;
 mod taking;
-mod wide;
 mod words;
 
 pub use replaying::replay_while_read;

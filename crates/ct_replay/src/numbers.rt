@@ -28,8 +28,6 @@ pub(crate) struct Numbers {
     pub cells: Option<u64>,
     pub n: Option<u64>,
     pub version: Option<u64>,
-    /// The cells stand before the members, as a writer puts them that sorts keys: a bound would stand before both.
-    pub sorted: bool,
 }
 
 impl Numbers {
@@ -42,7 +40,6 @@ impl Numbers {
             cells: None,
             n: None,
             version: None,
-            sorted: false,
         }
     }
 
@@ -56,8 +53,7 @@ impl Numbers {
         } else if is(key, "cells") {
             Some(Numbers { cells: n, ..self })
         } else if is(key, "n") {
-            let sorted = self.cells.is_some();
-            Some(Numbers { n, sorted, ..self })
+            Some(Numbers { n, ..self })
         } else if is(key, "version") {
             Some(Numbers { version: n, ..self })
         } else {
@@ -76,19 +72,12 @@ impl Numbers {
         Setup::new(Group::new(n as u8)?, cells as u16, bound as u32)
     }
 
-    // The bound: named, or the largest where the version names none, or isn't read yet and sorted keys have no bound.
+    // The bound: named, or the largest where the version names none.
     fn bound(self) -> Option<u64> {
-        if self.batch.is_some() {
-            return self.batch;
-        }
-        let is_older = match self.version {
-            Some(version) => version < LATEST,
-            None => self.sorted,
-        };
-        if is_older {
-            Some(MAX_BOUND as u64)
-        } else {
-            None
+        match self.batch {
+            Some(bound) => Some(bound),
+            None if self.version? < LATEST => Some(MAX_BOUND as u64),
+            None => None,
         }
     }
 

@@ -1,6 +1,6 @@
 //! Two numbers and the bracket behind them.
 
-ghost use Rattle.std.specs.Prelude.{◌≤◌, ◌+◌, decimal, length, IfSome};
+ghost use Rattle.std.specs.Prelude.{◌+◌, decimal, length, IfSome};
 ghost use Rattle.ct_records.specs.Plain.{pair_lexemes};
 ghost use Rattle.ct_replay.specs.Reading.{Reads, ReadsMark};
 
@@ -8,20 +8,6 @@ use crate::naming::{BYTE, SERIAL};
 use crate::number::{behind, digits, near_number};
 use crate::spacing::{after_space, after_white};
 use crate::words::{behind_four, behind_two};
-
-/// The number of a member or a register, a comma and one more number, and what follows the bracket behind these. A space may
-/// stand before each number.
-#[inline(always)]
-pub(crate) fn near_pair(bytes: &[u8], high: u64) -> Option<(u8, u64, &[u8])>
-    ensures text { IfSome result (λ r. Reads bytes.now (pair_lexemes r.0 r.1)
-        (length (decimal r.0) + 1 + (length (decimal r.1) + 1)) r.2.now) }
-    ensures within { IfSome result (λ r. r.1 ≤ high) }
-{
-    let (first, rest) = near_number(bytes, BYTE)?;
-    let (second, rest) = near_number(behind(rest, b',')?, high)?;
-    let rest = behind(rest, b']')?;
-    Some((first as u8, second, rest))
-}
 
 /// The number of a member, a comma and a serial, and what follows the bracket behind these. A space may stand before each
 /// number, or the serial and the bracket have lines of their own.

@@ -57,13 +57,19 @@ fn spaced_name(bytes: &[u8]) -> Option<(Kind, &[u8])>
         return Some((Kind::Receive, behind(behind_four(rest, *b"ive\"")?, b',')?));
     }
     if let Some(rest) = behind_eight(bytes, *b", [\"post") {
-        return Some((Kind::Postpone, behind_two(behind_four(rest, *b"pone")?, *b"\",")?));
+        return Some((
+            Kind::Postpone,
+            behind_two(behind_four(rest, *b"pone")?, *b"\",")?,
+        ));
     }
     if let Some(rest) = behind_eight(bytes, *b",\n[\"rece") {
         return Some((Kind::Receive, behind(behind_four(rest, *b"ive\"")?, b',')?));
     }
     if let Some(rest) = behind_eight(bytes, *b",\n[\"post") {
-        return Some((Kind::Postpone, behind_two(behind_four(rest, *b"pone")?, *b"\",")?));
+        return Some((
+            Kind::Postpone,
+            behind_two(behind_four(rest, *b"pone")?, *b"\",")?,
+        ));
     }
     let rest = behind_eight(bytes, *b",\n    [\"")?;
     if let Some(rest) = behind_eight(rest, *b"receive\"") {

@@ -14,9 +14,9 @@ use ct_world::Stage;
 use std::alloc::Global;
 
 /// Reads a record to its end, replays it and writes the report, as `ct_records::run_replay` does. The steps are done as they
-/// are read, or kept in few bytes each until the numbers are read that its world is made with. Where something is escaped, a
-/// step is refused or the bound isn't the one that was taken, what was read is written once more from those steps, without
-/// white space, and all is read before the first step. The whole report is made before the first write. What the contract
+/// are read, or kept in few bytes each until the numbers are read that its world is made with. Where something is escaped or a
+/// step is refused, what was read is written once more from those steps, without white space, and all is read before the first
+/// step. The whole report is made before the first write. What the contract
 /// says of the input holds where the reader tells its bytes, and what it says of the output where the writer does.
 pub fn replay_while_read<R: Source, W: Sink>(
     alloc: Global,

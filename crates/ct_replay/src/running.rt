@@ -16,8 +16,8 @@ use ct_world::Stage;
 use std::alloc::Global;
 
 /// The world of the record that the source has, where each step is allowed and nothing in it is escaped. The steps are done
-/// as they are read where the numbers of members and of cells stand before them, and the bound does, too, or the record looks
-/// like one that names none. Else they are kept. If it isn't so, the input's bytes say the same as what was read.
+/// as they are read where the numbers of members and of cells and the bound stand before them, or a version that names none.
+/// Else they are kept. If it isn't so, the input's bytes say the same as what was read.
 pub(crate) fn run<R: Source>(
     alloc: Global,
     reader: &mut R,

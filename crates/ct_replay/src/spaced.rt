@@ -1,6 +1,6 @@
 //! From the first bytes of a list of steps to its next step, where white space may stand anywhere.
 
-ghost use Rattle.std.specs.Prelude.{length, if◌then◌else◌, IfSome};
+ghost use Rattle.std.specs.Prelude.{false, length, if◌then◌else◌, IfSome};
 ghost use Rattle.ct_model.specs.StepText.{command_text};
 ghost use Rattle.ct_records.specs.Plain.{command_lexemes, comma_if};
 ghost use Rattle.ct_replay.specs.Reading.{Reads, ReadsEntry, ReadsName, ReadsStep, ReadsTail};
@@ -11,20 +11,19 @@ use crate::spacing::{comma, mark};
 use ct_model::Step;
 use ct_names::{Command, Member};
 
-/// The next step, behind a comma where others stand before it, and what follows it. None: no step stands there that is
-/// written without escapes, or not all of it.
+/// The step, with white space at any place, and what follows it. None: no step stands there that is written without escapes,
+/// or not all of it.
 #[inline(always)]
-pub(crate) fn spaced_step(bytes: &[u8], later: bool) -> Option<(Step, &[u8])>
-    ensures { IfSome result (λ r. ReadsStep later bytes.now r.0 r.1.now) }
+pub(crate) fn spaced_step(bytes: &[u8]) -> Option<(Step, &[u8])>
+    ensures { IfSome result (λ r. ReadsStep false bytes.now r.0 r.1.now) }
 {
-    let start = behind_another(bytes, later)?;
-    let (name, p, rest) = entry(start)?;
+    let (name, p, rest) = entry(bytes)?;
     step_of(name, p, rest)
 }
 
-// What follows the comma, where another step stands before this one.
+/// What follows the comma, where another step stands before this one.
 #[inline(always)]
-fn behind_another(bytes: &[u8], later: bool) -> Option<&[u8]>
+pub(crate) fn behind_another(bytes: &[u8], later: bool) -> Option<&[u8]>
     ensures { IfSome result (λ rest. Reads bytes.now (comma_if later) (if later then 1 else 0) rest.now) }
 {
     if later {
@@ -68,9 +67,9 @@ fn step_of<'a>(name: &[u8], p: Member, bytes: &'a [u8]) -> Option<(Step, &'a [u8
     Some((numbered_step(name, p, n)?, mark(rest, b']')?))
 }
 
-// The command that is an array.
+/// The command that is an array.
 #[inline(always)]
-fn command(bytes: &[u8]) -> Option<(Command, &[u8])>
+pub(crate) fn command(bytes: &[u8]) -> Option<(Command, &[u8])>
     ensures { IfSome result (λ r. Reads bytes.now (command_lexemes r.0) (length (command_text r.0)) r.1.now) }
 {
     let (name, register, rest) = entry(bytes)?;

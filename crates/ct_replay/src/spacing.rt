@@ -5,7 +5,7 @@ ghost use Rattle.json.specs.Word.{is_space};
 ghost use Rattle.ct_replay.specs.Reading.{IsBehindWhite, IsWhite, ReadsMark};
 
 use crate::number::behind;
-use crate::words::behind_four;
+use crate::words::{behind_eight, behind_four, behind_two};
 
 /// What follows the byte, behind white space or none.
 #[inline(always)]
@@ -57,21 +57,44 @@ fn skip_white(bytes: &[u8]) -> &[u8]
         let Some(more) = behind_space(rest) else {
             return rest;
         };
-        rest = more;
+        rest = after_run(more);
     }
     rest
 }
 
-// What follows four spaces, or one byte of white space.
+// What follows one byte of white space.
 #[inline(always)]
 fn behind_space(bytes: &[u8]) -> Option<&[u8]>
     ensures { IfSome result (λ rest. IsBehindWhite bytes.now rest.now) }
 {
-    if let Some(rest) = behind_four(bytes, *b"    ") {
-        return Some(rest);
-    }
     let (first, rest) = bytes.split_first()?;
     if is_space(*first) { Some(rest) } else { None }
+}
+
+// What follows up to fifteen spaces, or two tabs.
+#[inline(always)]
+fn after_run(bytes: &[u8]) -> &[u8]
+    ensures { IsBehindWhite bytes.now result.now }
+{
+    if let Some(rest) = behind_two(bytes, *b"\t\t") {
+        return rest;
+    }
+    let rest = or_none(behind_eight(bytes, *b"        "), bytes);
+    let rest = or_none(behind_four(rest, *b"    "), rest);
+    let rest = or_none(behind_two(rest, *b"  "), rest);
+    after_space(rest)
+}
+
+// What was found, or all of the bytes.
+#[inline(always)]
+fn or_none<'a>(found: Option<&'a [u8]>, bytes: &'a [u8]) -> &'a [u8]
+    requires { IfSome found (λ rest. IsBehindWhite bytes.now rest.now) }
+    ensures { IsBehindWhite bytes.now result.now }
+{
+    match found {
+        Some(rest) => rest,
+        None => bytes,
+    }
 }
 
 /// Whether the bytes are white space.

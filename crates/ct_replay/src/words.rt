@@ -10,7 +10,11 @@ pub(crate) fn behind_eight(bytes: &[u8], text: [u8; 8]) -> Option<&[u8]>
     match bytes {
         [a, b, c, d, e, f, g, h, rest @ ..] => {
             let first = u64::from_le_bytes([*a, *b, *c, *d, *e, *f, *g, *h]);
-            if first == u64::from_le_bytes(text) { Some(rest) } else { None }
+            if first == u64::from_le_bytes(text) {
+                Some(rest)
+            } else {
+                None
+            }
         }
         _ => None,
     }
@@ -24,7 +28,11 @@ pub(crate) fn behind_four(bytes: &[u8], text: [u8; 4]) -> Option<&[u8]>
     match bytes {
         [a, b, c, d, rest @ ..] => {
             let first = u32::from_le_bytes([*a, *b, *c, *d]);
-            if first == u32::from_le_bytes(text) { Some(rest) } else { None }
+            if first == u32::from_le_bytes(text) {
+                Some(rest)
+            } else {
+                None
+            }
         }
         _ => None,
     }
@@ -38,7 +46,11 @@ pub(crate) fn behind_two(bytes: &[u8], text: [u8; 2]) -> Option<&[u8]>
     match bytes {
         [a, b, rest @ ..] => {
             let first = u16::from_le_bytes([*a, *b]);
-            if first == u16::from_le_bytes(text) { Some(rest) } else { None }
+            if first == u16::from_le_bytes(text) {
+                Some(rest)
+            } else {
+                None
+            }
         }
         _ => None,
     }

@@ -116,6 +116,25 @@ fn an_entry_may_stand_on_a_line_of_its_own(rt: HostRuntime) {
     assert!(rt; answers(rt.alloc(), record, Ok(()), REPORT));
 }
 
+// As writers of JSON put them: indented by two, each on a line, each behind a space.
+#[test]
+fn steps_may_be_written_in_the_usual_ways(rt: HostRuntime) {
+    let report =
+        "group 1 majority 1 cells 4\nsteps 3 sent 1 posted 0\nmember 1 up instance 0 idle\nreceived 1.1\ndecided -\ndelivered -\ntable -\n";
+    let record =
+        "{\n  \"batch\": 9,\n  \"cells\": 4,\n  \"n\": 1,\n  \"steps\": [\n    [\n      \"submit\",\n      1,\n      [\n        \"set\",\n        0,\n        7\n      ]\n    ],\n    [\n      \"postpone\",\n      1,\n      1\n    ],\n    [\n      \"receive\",\n      1,\n      1\n    ]\n  ],\n  \"version\": 3\n}\n";
+    assert!(rt; answers(rt.alloc(), record, Ok(()), report));
+    let record =
+        "{\n  \"batch\": 9,\n  \"cells\": 4,\n  \"n\": 1,\n  \"steps\": [\n    [\"submit\", 1, [\"set\", 0, 7]],\n    [\"postpone\", 1, 1],\n    [\"receive\", 1, 1]\n  ],\n  \"version\": 3\n}\n";
+    assert!(rt; answers(rt.alloc(), record, Ok(()), report));
+    let record =
+        "{\"batch\": 9, \"cells\": 4, \"n\": 1, \"steps\": [[\"submit\", 1, [\"set\", 0, 7]], [\"postpone\", 1, 1], [\"receive\", 1, 1]], \"version\": 3}";
+    assert!(rt; answers(rt.alloc(), record, Ok(()), report));
+    let record =
+        "{\"batch\":9,\"cells\":4,\"n\":1,\"steps\":[\n[\"submit\",1,[\"set\",0,7]],\n[\"postpone\",1,1],\n[\"receive\",1,1]\n],\"version\":3}";
+    assert!(rt; answers(rt.alloc(), record, Ok(()), report));
+}
+
 // Tabs and line ends of two bytes, around each mark.
 #[test]
 fn white_space_may_be_of_any_kind(rt: HostRuntime) {
@@ -159,7 +178,7 @@ fn what_follows_steps_on_lines_of_their_own_is_read(rt: HostRuntime) {
     assert!(rt; refuses(rt.alloc(), record, ProgramFault::Read(ReadFault::NotJson)));
 }
 
-// Steps are kept where the bound may still be named behind them, but for sorted keys: with these they are done twice.
+// Steps are kept where the bound, or the version that names none, may still stand behind them.
 #[test]
 fn a_bound_may_stand_behind_the_steps(rt: HostRuntime) {
     let report =

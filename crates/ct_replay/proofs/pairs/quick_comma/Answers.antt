@@ -9,10 +9,12 @@ returns-in_ok-behind_four-in-Some c =
     if_some _ _ c.behind_two.result
     (λ rest h.
     comma_white c.args.bytes.now mid rest.now (mark_first c.args.bytes.now mid 44 c.in_ok-rest.ensures)
-    (white_part mid rest.now (c.in-Some.ensures ∙ ap (λ t. codes "\n" ++ t) (c.in_ok-behind_four-in-Some.ensures ∙ ap (λ t. codes "    " ++ t) h))))
+    (white_part mid rest.now
+    (c.in-Some.ensures ∙ ap (λ t. codes "\n" ++ t) (c.in_ok-behind_four-in-Some.ensures ∙ ap (λ t. codes "    " ++ t) h))))
     c.behind_two.ensures
 
 pub returns-in-None : goal.returns-in-None
 returns-in-None c =
     let mid = c.in_ok-rest.rest.now in
-    comma_white c.args.bytes.now mid c.after_space.result.now (mark_first c.args.bytes.now mid 44 c.in_ok-rest.ensures) c.after_space.ensures
+    comma_white c.args.bytes.now mid c.after_space.result.now (mark_first c.args.bytes.now mid 44 c.in_ok-rest.ensures)
+    c.after_space.ensures

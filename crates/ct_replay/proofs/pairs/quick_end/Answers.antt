@@ -11,4 +11,5 @@ returns-in_ok-behind_four-in-None c =
     if_some _ _ c.behind_two.result
     (λ rest h.
     mark_behind c.args.bytes.now (93 ∷ rest.now) rest.now 93
-    (white_line c.args.bytes.now (93 ∷ rest.now) (c.in_ok-behind_four-in-None.ensures ∙ ap (λ t. codes "\n   " ++ t) h)) refl) c.behind_two.ensures
+    (white_line c.args.bytes.now (93 ∷ rest.now) (c.in_ok-behind_four-in-None.ensures ∙ ap (λ t. codes "\n   " ++ t) h)) refl)
+    c.behind_two.ensures

@@ -9,7 +9,8 @@ returns c =
     let d = c.in_ok-behind.field-0.now in
     let e = c.in_ok-serial.rest.now in
     pair_reads a b d e c.in_ok-rest.rest.now c.in_ok-p.p c.in_ok-serial.serial
-    (number_behind a c.after_white.result.now b c.in_ok-p.p c.after_white.ensures c.in_ok-p.ensures.text (omega (arith, c.in_ok-p.ensures.within)))
+    (number_behind a c.after_white.result.now b c.in_ok-p.p c.after_white.ensures c.in_ok-p.ensures.text
+    (omega (arith, c.in_ok-p.ensures.within)))
     (mark_first b d 44 c.in_ok-behind.ensures)
     (number_behind d c.after_white-2.result.now e c.in_ok-serial.serial c.after_white-2.ensures c.in_ok-serial.ensures.text
     (omega (arith, c.in_ok-serial.ensures.within)))

@@ -5,7 +5,8 @@ use Rattle.ct_replay.proofs.quick.wide_name.Goals as goal
 
 pub returns-in-Some : goal.returns-in-Some
 returns-in-Some c =
-    let six = c.in_ok-rest-3.ensures ∙ ap (λ t. codes "\n   " ++ t) (c.in_ok-behind_two.ensures ∙ ap (λ t. codes "  " ++ t) c.in_ok-behind.ensures) in
+    let last = c.in_ok-behind_two.ensures ∙ ap (λ t. codes "  " ++ t) c.in_ok-behind.ensures in
+    let six = c.in_ok-rest-3.ensures ∙ ap (λ t. codes "\n   " ++ t) last in
     let name = c.in-Some.ensures ∙ ap (λ t. codes "      \"r" ++ t) (c.in_ok-rest-2.ensures ∙ ap (λ t. codes "eceive\"," ++ t) six) in
     wide_named c.args.bytes.now c.in_ok-behind.field-0.now Receive (c.in_ok-rest.ensures ∙ ap (λ t. codes ",\n    [\n" ++ t) name)
 
