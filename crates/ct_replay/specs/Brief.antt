@@ -1,5 +1,6 @@
 -- Steps in few bytes: their commands stand in a list of their own.
-use Rattle.std.specs.Prelude.{◌≡◌, List, [], ◌∷◌, ◌++◌, Option, Some, map, option_map}
+use Rattle.std.specs.Prelude.{◌≡◌, ℕ, ◌+◌, ◌-◌, ◌*◌, ◌/◌, ◌%◌, nat_lt, nat_le, List, [], ◌∷◌, ◌++◌, Option, Some, None, map}
+use Rattle.std.specs.Prelude.{drop, option_map, if◌then◌else◌}
 use Rattle.ct_names.specs.declared.command.Command.{Command}
 use Rattle.ct_model.specs.declared.step.Step.{Step}
 use Rattle.ct_model.specs.declared.step.Step.TheVariants.{Submit, Receive, Begin, Enter, Choose, Adopt, Suspect, Conclude, Deliver}
@@ -8,6 +9,8 @@ use Rattle.ct_records.specs.Fits.{AllFit}
 use Rattle.ct_replay.specs.declared.brief.Brief.{Brief}
 use Rattle.ct_replay.specs.declared.brief.Brief.TheVariants as brief_of
 use Rattle.ct_replay.specs.declared.briefs.Briefs.{Briefs}
+use Rattle.ct_replay.specs.declared.place.Place.{Place}
+use Rattle.ct_replay.specs.declared.short.Short.{Short}
 
 abbrev pub brief : Step → Brief
 brief (Submit p c) = brief_of.Submit p
@@ -51,10 +54,66 @@ step_with (brief_of.Postpone p k) command = Some (Postpone p k)
 step_with (brief_of.Lose p k) command = Some (Lose p k)
 step_with (brief_of.Repeat p k) command = Some (Repeat p k)
 
+-- ---- in four bytes
+
+-- any other step
+abbrev pub other : Short
+other = record { mark = 64; high = 0; low = 0 }
+
+-- that of the kind, the member and the serial
+abbrev pub short_with : ℕ → ℕ → ℕ → Option Short
+short_with kind p k =
+    if nat_le 32 p then None
+    else if nat_le 16777216 k then None
+    else Some (record { mark = kind + p; high = k / 65536; low = k % 65536 })
+
+-- that of the step, where it fits
+abbrev pub short_of : Step → Option Short
+short_of (Receive p k) = short_with 0 p k
+short_of (Postpone p k) = short_with 32 p k
+short_of _ = None
+
+-- the step that is written so
+abbrev pub step_in : Short → Option Step
+step_in s =
+    let serial = s.high * 65536 + s.low in
+    if nat_lt s.mark 32 then Some (Receive s.mark serial) else if nat_lt s.mark 64 then Some (Postpone (s.mark - 32) serial) else None
+
+-- what is kept of it
+abbrev pub short_or : Option Short → Short
+short_or (Some s) = s
+short_or None = other
+
+abbrev pub short : Step → Short
+short s = short_or (short_of s)
+
+-- those that are kept in brief
+abbrev pub long_by : Option Short → Step → List Step → List Step
+long_by (Some x) s ss = ss
+long_by None s ss = s ∷ ss
+
+abbrev pub long : List Step → List Step
+long [] = []
+long (s ∷ ss) = long_by (short_of s) s (long ss)
+
+-- ---- what is kept
+
+-- these steps stand behind the place
+pub record IsLeft (kept : Briefs) (place : Place) (rest : List Step) : Type 0 where
+  pub shorts : drop place.steps kept.shorts.items ≡ map short rest
+  pub briefs : drop place.briefs kept.briefs.items ≡ map brief (long rest)
+  pub commands : drop place.commands kept.commands.items ≡ commands_of (long rest)
+
+-- the first of them, and the others behind the next place
+abbrev pub IsNext : Briefs → List Step → Option Step → Place → Type 0
+IsNext kept [] next place = next ≡ None
+IsNext kept (s ∷ rest) next place = (next ≡ Some s) × IsLeft kept place rest
+
 -- these steps are kept
 pub record Keeps (kept : Briefs) (steps : List Step) : Type 0 where
-  pub briefs : kept.briefs.items ≡ map brief steps
-  pub commands : kept.commands.items ≡ commands_of steps
+  pub shorts : kept.shorts.items ≡ map short steps
+  pub briefs : kept.briefs.items ≡ map brief (long steps)
+  pub commands : kept.commands.items ≡ commands_of (long steps)
 
 -- the same of steps that a text can hold
 pub record IsKept (kept : Briefs) (steps : List Step) : Type 0 where

@@ -1,22 +1,26 @@
 //! Steps that are kept until it is known what their world is made with.
 
-ghost use Rattle.std.specs.Prelude.{◌≡◌, ◌≤◌, ◌++◌, ◌∷◌, [], List, length, slice_get, option_and_then, IfOk, OnOk, IsTrue};
+ghost use Rattle.std.specs.Prelude.{◌≡◌, ◌<◌, ◌+◌, ◌++◌, ◌∷◌, [], List, None, length, slice_get, option_and_then};
+ghost use Rattle.std.specs.Prelude.{IfOk, IfSome, OnOk, IsTrue};
 ghost use Rattle.ct_model.specs.declared.step.Step.{Step};
 ghost use Rattle.ct_records.specs.Fits.{AllFit};
-ghost use Rattle.ct_replay.specs.Brief.{IsKept, Keeps, command_of, step_with};
+ghost use Rattle.ct_replay.specs.Brief.{IsKept, IsLeft, IsNext, Keeps, command_of, short_of, step_with};
 ghost use Rattle.ct_replay.specs.Front.{IsBegun};
 
 use crate::brief::Brief;
 use crate::keeper::Keeper;
+use crate::place::Place;
+use crate::short::Short;
 use crate::taking::fits;
 use ct_model::Step;
 use ct_names::Command;
 use ct_world::Stage;
 use std::alloc::{AllocError, Global};
 
-/// Steps in few bytes each, and the commands of those that submit.
+/// Steps in four bytes each, what doesn't fit into these in brief, and the commands of those that submit.
 #[derive(Drop)]
 pub(crate) struct Briefs {
+    pub shorts: Vec<Short>,
     pub briefs: Vec<Brief>,
     pub commands: Vec<Command>,
 }
@@ -27,6 +31,7 @@ impl Briefs {
         ensures { Keeps result [] }
     {
         Briefs {
+            shorts: Vec::new(alloc),
             briefs: Vec::new(alloc),
             commands: Vec::new(alloc),
         }
@@ -37,6 +42,21 @@ impl Briefs {
     fn push(&mut self, step: Step) -> Result<(), AllocError>
         ensures { OnOk result ((steps : List Step) → Keeps self.old steps → Keeps self.new (steps ++ step ∷ [])) }
     {
+        match Short::of(step) {
+            Some(short) => {
+                self.shorts.push(short)?;
+                Ok(())
+            }
+            None => self.push_brief(step),
+        }
+    }
+
+    // Keeps one more in brief.
+    fn push_brief(&mut self, step: Step) -> Result<(), AllocError>
+        requires { short_of step ≡ None }
+        ensures { OnOk result ((steps : List Step) → Keeps self.old steps → Keeps self.new (steps ++ step ∷ [])) }
+    {
+        self.shorts.push(Short::other())?;
         self.briefs.push(Brief::of(step))?;
         if let Step::Submit(_, command) = step {
             self.commands.push(command)?;
@@ -51,18 +71,16 @@ impl Briefs {
         ensures all { IsTrue result → (steps : List Step) → Keeps self.now steps → stage.new.rehearsal.steps ≡ steps }
         ensures begun { IsBegun stage.new.rehearsal }
     {
-        let mut commands = 0;
-        for i in 0..self.briefs.len() {
-            let Some(step) = self.step(i, commands) else {
-                return false;
+        let mut place = Place::first();
+        loop {
+            let Some(step) = self.next(&mut place) else {
+                return true;
             };
-            commands += count(step);
             fits(step);
             let Ok(_) = stage.step(&step) else {
                 return false;
             };
         }
-        true
     }
 
     /// All of them.
@@ -71,26 +89,46 @@ impl Briefs {
         ensures fit { IfOk result (λ all. AllFit all.items) }
     {
         let mut all = Vec::new(alloc);
-        let mut commands = 0;
-        for i in 0..self.briefs.len() {
-            let Some(step) = self.step(i, commands) else {
+        let mut place = Place::first();
+        loop {
+            let Some(step) = self.next(&mut place) else {
                 return Ok(all);
             };
-            commands += count(step);
             fits(step);
             all.push(step)?;
         }
-        Ok(all)
     }
 
-    // The step at the place, behind so many submissions.
+    // The step behind the place, which goes behind that.
     #[inline(always)]
-    fn step(&self, at: usize, commands: usize) -> Option<Step>
-        ensures { result ≡ option_and_then (λ b. step_with b (slice_get self.now.commands.items commands))
-            (slice_get self.now.briefs.items at) }
+    fn next(&self, place: &mut Place) -> Option<Step>
+        ensures next { (rest : List Step) → IsLeft self.now place.old rest → IsNext self.now rest result place.new }
+        ensures on { IfSome result (λ _. place.new.steps ≡ place.old.steps + 1) }
+        ensures within { IfSome result (λ _. place.old.steps < length self.now.shorts.items) }
     {
-        let brief = *self.briefs.get(at)?;
-        brief.step(self.commands.get(commands).copied())
+        let short = *self.shorts.get(place.steps)?;
+        place.steps += 1;
+        match short.step() {
+            Some(step) => Some(step),
+            None => self.next_brief(place),
+        }
+    }
+
+    // The step in brief behind the place, which goes behind that.
+    fn next_brief(&self, place: &mut Place) -> Option<Step>
+        ensures step { result ≡ option_and_then (λ b. step_with b (slice_get self.now.commands.items place.old.commands))
+            (slice_get self.now.briefs.items place.old.briefs) }
+        ensures steps { place.new.steps ≡ place.old.steps }
+        ensures briefs { IfSome result (λ _. place.new.briefs ≡ place.old.briefs + 1) }
+        ensures commands { IfSome result (λ step. place.new.commands ≡ place.old.commands + length (command_of step)) }
+    {
+        let brief = *self.briefs.get(place.briefs)?;
+        let step = brief.step(self.commands.get(place.commands).copied())?;
+        place.briefs += 1;
+        if let Step::Submit(..) = step {
+            place.commands += 1;
+        }
+        Some(step)
     }
 }
 
@@ -100,24 +138,12 @@ impl Keeper for Briefs {
 
     #[inline(always)]
     fn is_empty(&self) -> bool {
-        self.briefs.is_empty()
+        self.shorts.is_empty()
     }
 
     #[inline(always)]
     fn take(&mut self, step: Step) -> Result<bool, AllocError> {
         self.push(step)?;
         Ok(true)
-    }
-}
-
-// How many commands the step has.
-#[inline(always)]
-fn count(step: Step) -> usize
-    ensures is { result ≡ length (command_of step) }
-    ensures few { result ≤ 1 }
-{
-    match step {
-        Step::Submit(..) => 1,
-        _ => 0,
     }
 }

@@ -7,7 +7,7 @@ ghost use Rattle.ct_replay.specs.Reading.{Reads, ReadsMark};
 use crate::naming::{BYTE, SERIAL};
 use crate::number::{behind, digits, near_number};
 use crate::spacing::{after_space, after_white};
-use crate::words::{behind_four, behind_two};
+use crate::words::{behind_eight, behind_four, behind_two};
 
 /// The number of a member, a comma and a serial, and what follows the bracket behind these. A space may stand before each
 /// number, or the serial and the bracket have lines of their own.
@@ -28,9 +28,19 @@ fn quick_comma(bytes: &[u8]) -> Option<&[u8]>
     ensures { IfSome result (λ rest. ReadsMark bytes.now 44 rest.now) }
 {
     let rest = behind(bytes, b',')?;
-    match behind(rest, b'\n') {
-        Some(line) => behind_two(behind_four(line, *b"    ")?, *b"  "),
-        None => Some(after_space(rest)),
+    if is_line(rest) {
+        behind_eight(bytes, *b",\n      ")
+    } else {
+        Some(after_space(rest))
+    }
+}
+
+// Whether a line ends here.
+#[inline(always)]
+fn is_line(bytes: &[u8]) -> bool {
+    match bytes {
+        [first, ..] => *first == b'\n',
+        [] => false,
     }
 }
 

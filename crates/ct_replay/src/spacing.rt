@@ -5,7 +5,7 @@ ghost use Rattle.json.specs.Word.{is_space};
 ghost use Rattle.ct_replay.specs.Reading.{IsBehindWhite, IsWhite, ReadsMark};
 
 use crate::number::behind;
-use crate::words::{behind_eight, behind_four, behind_two};
+use crate::words::{behind_four, behind_two};
 
 /// What follows the byte, behind white space or none.
 #[inline(always)]
@@ -71,18 +71,19 @@ fn behind_space(bytes: &[u8]) -> Option<&[u8]>
     if is_space(*first) { Some(rest) } else { None }
 }
 
-// What follows up to fifteen spaces, or two tabs.
+// What follows up to ten spaces, or three tabs.
 #[inline(always)]
 fn after_run(bytes: &[u8]) -> &[u8]
     ensures { IsBehindWhite bytes.now result.now }
 {
-    if let Some(rest) = behind_two(bytes, *b"\t\t") {
-        return rest;
+    if let Some(rest) = behind_four(bytes, *b"    ") {
+        let rest = or_none(behind_four(rest, *b"    "), rest);
+        return or_none(behind_two(rest, *b"  "), rest);
     }
-    let rest = or_none(behind_eight(bytes, *b"        "), bytes);
-    let rest = or_none(behind_four(rest, *b"    "), rest);
-    let rest = or_none(behind_two(rest, *b"  "), rest);
-    after_space(rest)
+    match behind_two(bytes, *b"\t\t") {
+        Some(rest) => or_none(behind(rest, b'\t'), rest),
+        None => bytes,
+    }
 }
 
 // What was found, or all of the bytes.

@@ -1,14 +1,15 @@
-use Rattle.std.proofs.Common.{◌≡◌, ◌≤◌, List, take}
-use Rattle.std.specs.Prelude.{drop}
+use Rattle.std.proofs.Common.{◌-◌, List, length}
 use Rattle.ct_model.specs.declared.step.Step.{Step}
-use Rattle.ct_replay.specs.Brief.{Keeps, commands_of}
+use Rattle.ct_replay.specs.Brief.{Keeps}
 use Rattle.ct_replay.specs.Front.{IsBegun}
+use Rattle.ct_replay.proofs.Kept.{Remains}
 use Rattle.ct_replay.proofs.briefs.Briefs.do_all.Given as goal
 
-abbrev pub invariant-loop-i : goal.invariant-loop-i
-invariant-loop-i l = record {
+abbrev pub invariant-loop-step : goal.invariant-loop-step
+invariant-loop-step l = record {
   begun : IsBegun l.stage.rehearsal;
-  few : l.commands ≤ l.i;
-  done : (steps : List Step) → Keeps l.self steps → l.stage.rehearsal.steps ≡ take l.i steps;
-  left : (steps : List Step) → Keeps l.self steps → drop l.commands l.self.commands.items ≡ commands_of (drop l.i steps);
+  left : (steps : List Step) → Keeps l.self steps → Remains l.self l.place l.stage.rehearsal.steps steps;
 }
+
+abbrev pub decreases-loop-step : goal.decreases-loop-step
+decreases-loop-step l = length l.self.shorts.items - l.place.steps
