@@ -114,6 +114,11 @@ white_two bytes rest x is space =
     rw is (white_then (x ∷ x ∷ rest) (x ∷ rest) rest (white_one (x ∷ x ∷ rest) (x ∷ rest) x refl space)
     (white_one (x ∷ rest) rest x refl space))
 
+pub white_eight : (bytes rest : List ℕ) → bytes ≡ codes "        " ++ rest → IsBehindWhite bytes rest
+white_eight bytes rest is =
+    let four = codes "    " ++ rest in
+    rw is (white_then (codes "    " ++ four) four rest (white_four (codes "    " ++ four) four refl) (white_four four rest refl))
+
 pub white_line : (bytes rest : List ℕ) → bytes ≡ codes "\n    " ++ rest → IsBehindWhite bytes rest
 white_line bytes rest is =
     let spaces = codes "    " ++ rest in

@@ -6,7 +6,7 @@ ghost use Rattle.ct_replay.specs.Reading.{Reads, ReadsMark};
 
 use crate::naming::{BYTE, SERIAL};
 use crate::number::{behind, digits, near_number};
-use crate::spacing::{after_space, after_white};
+use crate::spacing::{after_gap, after_space};
 use crate::words::{behind_eight, behind_four, behind_two};
 
 /// The number of a member, a comma and a serial, and what follows the bracket behind these. A space may stand before each
@@ -55,14 +55,14 @@ fn quick_end(bytes: &[u8]) -> Option<&[u8]>
     }
 }
 
-/// The same with any white space, but none before the comma.
+/// The same with white space before each number and the bracket.
 #[inline(always)]
 pub(crate) fn spaced_pair(bytes: &[u8]) -> Option<(u8, u32, &[u8])>
     ensures { IfSome result (λ r. Reads bytes.now (pair_lexemes r.0 r.1)
         (length (decimal r.0) + 1 + (length (decimal r.1) + 1)) r.2.now) }
 {
-    let (p, rest) = digits(after_white(bytes), BYTE)?;
-    let (serial, rest) = digits(after_white(behind(rest, b',')?), SERIAL)?;
-    let rest = behind(after_white(rest), b']')?;
+    let (p, rest) = digits(after_gap(bytes), BYTE)?;
+    let (serial, rest) = digits(after_gap(behind(rest, b',')?), SERIAL)?;
+    let rest = behind(after_gap(rest), b']')?;
     Some((p as u8, serial as u32, rest))
 }

@@ -8,7 +8,7 @@ use crate::number::{behind, number};
 use crate::pairs::spaced_pair;
 use crate::quick::quick_step;
 use crate::spaced::{behind_another, command, spaced_step};
-use crate::spacing::{after_white, mark};
+use crate::spacing::{after_gap, mark};
 use crate::words::{behind_eight, behind_two};
 use ct_model::Step;
 
@@ -43,7 +43,7 @@ fn other_step(bytes: &[u8], later: bool) -> Option<(Step, &[u8])>
 fn common_step(bytes: &[u8]) -> Option<(Step, &[u8])>
     ensures { IfSome result (λ r. ReadsStep false bytes.now r.0 r.1.now) }
 {
-    let name = after_white(mark(bytes, b'[')?);
+    let name = after_gap(mark(bytes, b'[')?);
     if let Some(rest) = behind_submit(name) {
         let (p, rest) = number(rest, BYTE)?;
         let (command, rest) = command(behind(rest, b',')?)?;

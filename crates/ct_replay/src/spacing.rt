@@ -5,7 +5,7 @@ ghost use Rattle.json.specs.Word.{is_space};
 ghost use Rattle.ct_replay.specs.Reading.{IsBehindWhite, IsWhite, ReadsMark};
 
 use crate::number::behind;
-use crate::words::{behind_four, behind_two};
+use crate::words::{behind_eight, behind_four, behind_two};
 
 /// What follows the byte, behind white space or none.
 #[inline(always)]
@@ -57,7 +57,7 @@ fn skip_white(bytes: &[u8]) -> &[u8]
         let Some(more) = behind_space(rest) else {
             return rest;
         };
-        rest = after_run(more);
+        rest = after_indent(more);
     }
     rest
 }
@@ -71,19 +71,29 @@ fn behind_space(bytes: &[u8]) -> Option<&[u8]>
     if is_space(*first) { Some(rest) } else { None }
 }
 
-// What follows up to ten spaces, or three tabs.
+/// What follows a line end and up to fourteen spaces, their number even, or three tabs; or a space; or nothing. Others than
+/// that, too, may follow.
 #[inline(always)]
-fn after_run(bytes: &[u8]) -> &[u8]
+pub(crate) fn after_gap(bytes: &[u8]) -> &[u8]
     ensures { IsBehindWhite bytes.now result.now }
 {
-    if let Some(rest) = behind_four(bytes, *b"    ") {
-        let rest = or_none(behind_four(rest, *b"    "), rest);
-        return or_none(behind_two(rest, *b"  "), rest);
+    match behind(bytes, b'\n') {
+        Some(rest) => after_indent(rest),
+        None => after_space(bytes),
     }
-    match behind_two(bytes, *b"\t\t") {
-        Some(rest) => or_none(behind(rest, b'\t'), rest),
-        None => bytes,
+}
+
+// What follows the spaces or tabs behind a line end.
+#[inline(always)]
+fn after_indent(bytes: &[u8]) -> &[u8]
+    ensures { IsBehindWhite bytes.now result.now }
+{
+    if let Some(rest) = behind_two(bytes, *b"\t\t") {
+        return or_none(behind(rest, b'\t'), rest);
     }
+    let rest = or_none(behind_eight(bytes, *b"        "), bytes);
+    let rest = or_none(behind_four(rest, *b"    "), rest);
+    or_none(behind_two(rest, *b"  "), rest)
 }
 
 // What was found, or all of the bytes.

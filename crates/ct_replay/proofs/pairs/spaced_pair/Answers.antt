@@ -9,9 +9,9 @@ returns c =
     let d = c.in_ok-behind.field-0.now in
     let e = c.in_ok-serial.rest.now in
     pair_reads a b d e c.in_ok-rest.rest.now c.in_ok-p.p c.in_ok-serial.serial
-    (number_behind a c.after_white.result.now b c.in_ok-p.p c.after_white.ensures c.in_ok-p.ensures.text
+    (number_behind a c.after_gap.result.now b c.in_ok-p.p c.after_gap.ensures c.in_ok-p.ensures.text
     (omega (arith, c.in_ok-p.ensures.within)))
     (mark_first b d 44 c.in_ok-behind.ensures)
-    (number_behind d c.after_white-2.result.now e c.in_ok-serial.serial c.after_white-2.ensures c.in_ok-serial.ensures.text
+    (number_behind d c.after_gap-2.result.now e c.in_ok-serial.serial c.after_gap-2.ensures c.in_ok-serial.ensures.text
     (omega (arith, c.in_ok-serial.ensures.within)))
-    (mark_behind e c.after_white-3.result.now c.in_ok-rest.rest.now 93 c.after_white-3.ensures c.in_ok-rest.ensures)
+    (mark_behind e c.after_gap-3.result.now c.in_ok-rest.rest.now 93 c.after_gap-3.ensures c.in_ok-rest.ensures)
