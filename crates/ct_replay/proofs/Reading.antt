@@ -114,6 +114,11 @@ white_two bytes rest x is space =
     rw is (white_then (x ∷ x ∷ rest) (x ∷ rest) rest (white_one (x ∷ x ∷ rest) (x ∷ rest) x refl space)
     (white_one (x ∷ rest) rest x refl space))
 
+pub white_tabs : (bytes rest : List ℕ) → bytes ≡ codes "\n\t\t" ++ rest → IsBehindWhite bytes rest
+white_tabs bytes rest is =
+    let tabs : List ℕ = 9 ∷ 9 ∷ rest in
+    white_then bytes tabs rest (white_one bytes tabs 10 is refl) (white_two tabs rest 9 refl refl)
+
 pub white_eight : (bytes rest : List ℕ) → bytes ≡ codes "        " ++ rest → IsBehindWhite bytes rest
 white_eight bytes rest is =
     let four = codes "    " ++ rest in

@@ -173,18 +173,6 @@ opened_white bytes mid rest is white =
     (reads_then bytes mid rest (λ after. token begin_array ∷ after) (λ after. after) 1 0 (mark_opens bytes mid is)
     (white_reads mid rest white)) (λ after. refl) (omega arith)
 
--- the bracket, a name and its comma, and two numbers behind these
-pair_behind : (bytes a b rest name : List ℕ) (p k : ℕ) → Reads bytes (λ after. token begin_array ∷ after) 1 a → IsName name →
-    a ≡ 34 ∷ (name ++ 34 ∷ 44 ∷ b) → Reads b (pair_lexemes p k) (length (decimal p) + 1 + (length (decimal k) + 1)) rest →
-    Reads bytes (λ after. token begin_array ∷ token (string name) ∷ comma ∷ pair_lexemes p k after)
-    (1 + (3 + length name + (length (decimal p) + 1 + (length (decimal k) + 1)))) rest
-pair_behind bytes a b rest name p k opened named is h =
-    let pair = length (decimal p) + 1 + (length (decimal k) + 1) in
-    reads_then bytes a rest (λ after. token begin_array ∷ after) (λ after. token (string name) ∷ comma ∷ pair_lexemes p k after) 1
-    (3 + length name + pair) opened
-    (reads_then a b rest (λ after. token (string name) ∷ comma ∷ after) (pair_lexemes p k) (3 + length name) pair
-    (name_reads name a b named is) h)
-
 -- a step behind a comma, where another stands before it
 pub another_reads : (later : Bool) (bytes mid rest : List ℕ) (s : Step) → Reads bytes (comma_if later) (if later then 1 else 0) mid →
     ReadsStep false mid s rest → ReadsStep later bytes s rest
@@ -205,35 +193,7 @@ another_comma bytes mid rest is white =
 
 -- ---- a step without white space before its commas
 
-pair_step : (bytes a b rest : List ℕ) (p k : ℕ) (s : Step) → Reads bytes (λ after. token begin_array ∷ after) 1 a →
-    a ≡ 34 ∷ ((step_entry s).name ++ 34 ∷ 44 ∷ b) → Reads b (pair_lexemes p k) (length (decimal p) + 1 + (length (decimal k) + 1)) rest →
-    (step_entry s).first ≡ p → (step_entry s).rest ≡ model.number (model.serial k) → ReadsStep false bytes s rest
-unfolding step_text
-pair_step bytes a b rest p k s opened is h first rest_is =
-    let name = (step_entry s).name in
-    reads_as bytes rest _ _ (1 + (3 + length name + (length (decimal p) + 1 + (length (decimal k) + 1)))) (length (step_text s))
-    (pair_behind bytes a b rest name p k opened (step_name s) is h) (λ after. rw (first, rest_is) refl)
-    (omega (
-      arith,
-      entry_length name (step_entry s).first (rest_texts (step_entry s).rest),
-      ap (λ n. length (decimal n)) first,
-      ap (λ r. length (concat (rest_texts r ++ codes "]" ∷ []))) rest_is,
-      length-append (decimal k) (93 ∷ []),
-    ))
-
--- with white space behind the bracket
-pub receive_reads : (bytes mid a b rest : List ℕ) (p k : ℕ) → ReadsMark bytes 91 mid → IsBehindWhite mid a → a ≡ codes "\"receive\"," ++ b →
-    Reads b (pair_lexemes p k) (length (decimal p) + 1 + (length (decimal k) + 1)) rest → ReadsStep false bytes (Receive p k) rest
-receive_reads bytes mid a b rest p k is white named h =
-    pair_step bytes a b rest p k (Receive p k) (opened_white bytes mid a is white) named h refl refl
-
-pub postpone_reads : (bytes mid a b rest : List ℕ) (p k : ℕ) → ReadsMark bytes 91 mid → IsBehindWhite mid a →
-    a ≡ codes "\"postpone\"," ++ b →
-    Reads b (pair_lexemes p k) (length (decimal p) + 1 + (length (decimal k) + 1)) rest → ReadsStep false bytes (Postpone p k) rest
-postpone_reads bytes mid a b rest p k is white named h =
-    pair_step bytes a b rest p k (Postpone p k) (opened_white bytes mid a is white) named h refl refl
-
--- the same behind a comma, by its kind
+-- a comma, a bracket, a name and one more comma
 named_reads : (bytes mid start inner named rest : List ℕ) (k : Kind) → bytes ≡ 44 ∷ mid → IsBehindWhite mid start →
     start ≡ 91 ∷ inner → IsBehindWhite inner named → named ≡ 34 ∷ (name_of k ++ 34 ∷ 44 ∷ rest) → ReadsNamed bytes k rest
 named_reads bytes mid start inner named rest k first white second more is =
@@ -245,17 +205,23 @@ named_reads bytes mid start inner named rest k first white second more is =
     (opened_white start inner named (mark_first start inner 91 second) more) (name_reads name named rest (step_name (step_of k 0 0)) is)))
     (λ after. refl) (omega arith)
 
--- with white space behind the comma
-pub spaced_named : (bytes mid rest : List ℕ) (k : Kind) → bytes ≡ 44 ∷ mid →
-    IsBehindWhite mid (91 ∷ 34 ∷ (name_of k ++ 34 ∷ 44 ∷ rest)) → ReadsNamed bytes k rest
-spaced_named bytes mid rest k is white =
+-- without white space
+pub close_named : (bytes rest : List ℕ) (k : Kind) → bytes ≡ 44 ∷ 91 ∷ 34 ∷ (name_of k ++ 34 ∷ 44 ∷ rest) → ReadsNamed bytes k rest
+close_named bytes rest k is =
     let named = 34 ∷ (name_of k ++ 34 ∷ 44 ∷ rest) in
-    named_reads bytes mid (91 ∷ named) named named rest k is white refl (white_none named) refl
+    named_reads bytes (91 ∷ named) (91 ∷ named) named named rest k is (white_none (91 ∷ named)) refl (white_none named) refl
 
 named_white : (bytes mid rest : List ℕ) (k : Kind) → ReadsNamed bytes k mid → IsBehindWhite mid rest → ReadsNamed bytes k rest
 named_white bytes mid rest k h white =
     reads_as bytes rest _ _ (5 + length (name_of k) + 0) (5 + length (name_of k))
     (reads_then bytes mid rest _ (λ after. after) (5 + length (name_of k)) 0 h (white_reads mid rest white)) (λ after. refl) (omega arith)
+
+-- with white space anywhere but before its commas
+pub spaced_named : (bytes mid start inner named more rest : List ℕ) (k : Kind) → bytes ≡ 44 ∷ mid → IsBehindWhite mid start →
+    start ≡ 91 ∷ inner → IsBehindWhite inner named → named ≡ 34 ∷ (name_of k ++ 34 ∷ 44 ∷ more) → IsBehindWhite more rest →
+    ReadsNamed bytes k rest
+spaced_named bytes mid start inner named more rest k first one second two is three =
+    named_white bytes more rest k (named_reads bytes mid start inner named more k first one second two is) three
 
 -- with the name on a line of its own, and what follows it on another
 pub wide_named : (bytes rest : List ℕ) (k : Kind) →
@@ -265,9 +231,8 @@ wide_named bytes rest k is =
     let named = 34 ∷ (name_of k ++ 34 ∷ 44 ∷ more) in
     let inner = codes "\n      " ++ named in
     let mid = codes "\n    " ++ (91 ∷ inner) in
-    named_white bytes more rest k
-    (named_reads bytes mid (91 ∷ inner) inner named more k is (white_line mid (91 ∷ inner) refl) refl (white_part inner named refl) refl)
-    (white_part more rest refl)
+    spaced_named bytes mid (91 ∷ inner) inner named more rest k is (white_line mid (91 ∷ inner) refl) refl
+    (white_part inner named refl) refl (white_part more rest refl)
 
 pub named_step : (bytes mid rest : List ℕ) (k : Kind) (p n : ℕ) → ReadsNamed bytes k mid →
     Reads mid (pair_lexemes p n) (length (decimal p) + 1 + (length (decimal n) + 1)) rest → ReadsStep true bytes (step_of k p n) rest

@@ -2,12 +2,12 @@
 
 ghost use Rattle.std.specs.Prelude.{◌+◌, decimal, length, IfSome};
 ghost use Rattle.ct_records.specs.Plain.{pair_lexemes};
-ghost use Rattle.ct_replay.specs.Reading.{Reads, ReadsMark};
+ghost use Rattle.ct_replay.specs.Reading.{IsBehindWhite, Reads, ReadsMark};
 
 use crate::naming::{BYTE, SERIAL};
 use crate::number::{behind, digits, near_number};
-use crate::spacing::{after_gap, after_space};
-use crate::words::{behind_eight, behind_four, behind_two};
+use crate::spacing::after_space;
+use crate::words::{behind_four, behind_two};
 
 /// The number of a member, a comma and a serial, and what follows the bracket behind these. A space may stand before each
 /// number, or the serial and the bracket have lines of their own.
@@ -22,14 +22,14 @@ pub(crate) fn quick_pair(bytes: &[u8]) -> Option<(u8, u32, &[u8])>
     Some((p as u8, serial as u32, rest))
 }
 
-// What follows a comma, and a space or a line end and six spaces behind it.
+// What follows a comma, and a space, or a line end and six or twelve spaces or three tabs behind it.
 #[inline(always)]
 fn quick_comma(bytes: &[u8]) -> Option<&[u8]>
     ensures { IfSome result (λ rest. ReadsMark bytes.now 44 rest.now) }
 {
     let rest = behind(bytes, b',')?;
     if is_line(rest) {
-        behind_eight(bytes, *b",\n      ")
+        Some(after_line(rest)?)
     } else {
         Some(after_space(rest))
     }
@@ -44,25 +44,41 @@ fn is_line(bytes: &[u8]) -> bool {
     }
 }
 
-// What follows a bracket, behind a line end and four spaces or not.
+// What follows a line end and six or twelve spaces or three tabs.
+#[inline(always)]
+fn after_line(bytes: &[u8]) -> Option<&[u8]>
+    ensures { IfSome result (λ rest. IsBehindWhite bytes.now rest.now) }
+{
+    let Some(three) = behind_four(bytes, *b"\n   ") else {
+        return behind_four(bytes, *b"\n\t\t\t");
+    };
+    let six = behind(behind_two(three, *b"  ")?, b' ')?;
+    match behind_four(six, *b"    ") {
+        Some(ten) => behind_two(ten, *b"  "),
+        None => Some(six),
+    }
+}
+
+// What follows a bracket, behind a line end and four or eight spaces or two tabs, or not.
 #[inline(always)]
 fn quick_end(bytes: &[u8]) -> Option<&[u8]>
     ensures { IfSome result (λ rest. ReadsMark bytes.now 93 rest.now) }
 {
     match behind(bytes, b']') {
         Some(rest) => Some(rest),
-        None => behind_two(behind_four(bytes, *b"\n   ")?, *b" ]"),
+        None => line_end(bytes),
     }
 }
 
-/// The same with white space before each number and the bracket.
 #[inline(always)]
-pub(crate) fn spaced_pair(bytes: &[u8]) -> Option<(u8, u32, &[u8])>
-    ensures { IfSome result (λ r. Reads bytes.now (pair_lexemes r.0 r.1)
-        (length (decimal r.0) + 1 + (length (decimal r.1) + 1)) r.2.now) }
+fn line_end(bytes: &[u8]) -> Option<&[u8]>
+    ensures { IfSome result (λ rest. ReadsMark bytes.now 93 rest.now) }
 {
-    let (p, rest) = digits(after_gap(bytes), BYTE)?;
-    let (serial, rest) = digits(after_gap(behind(rest, b',')?), SERIAL)?;
-    let rest = behind(after_gap(rest), b']')?;
-    Some((p as u8, serial as u32, rest))
+    let Some(three) = behind_four(bytes, *b"\n   ") else {
+        return behind_four(bytes, *b"\n\t\t]");
+    };
+    match behind_four(three, *b"    ") {
+        Some(seven) => behind_two(seven, *b" ]"),
+        None => behind_two(three, *b" ]"),
+    }
 }

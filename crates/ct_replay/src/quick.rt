@@ -7,11 +7,12 @@ ghost use Rattle.ct_replay.specs.Reading.{ReadsStep};
 use crate::kind::Kind;
 use crate::number::behind;
 use crate::pairs::quick_pair;
+use crate::spacing::after_gap;
 use crate::words::{behind_eight, behind_four, behind_two};
 use ct_model::Step;
 
 /// A Receive or a Postpone behind another step, and what follows it: without white space, with a space behind each comma, or
-/// on a line of its own, behind four spaces; then its name and each number may have one, too, behind six.
+/// on a line of its own, where its name and each number may have one, too: indented by two or four spaces or by tabs.
 #[inline(always)]
 pub(crate) fn quick_step(bytes: &[u8]) -> Option<(Step, &[u8])>
     ensures { IfSome result (λ r. ReadsStep true bytes.now r.0 r.1.now) }
@@ -48,35 +49,19 @@ fn close_name(bytes: &[u8]) -> Option<(Kind, &[u8])>
     Some((Kind::Postpone, behind(rest, b',')?))
 }
 
-// The name behind a space, a line end, or a line end and four spaces.
+// The name with white space before it, and what follows that behind its comma.
 #[inline(never)]
 fn spaced_name(bytes: &[u8]) -> Option<(Kind, &[u8])>
     ensures { IfSome result (λ r. ReadsNamed bytes.now r.0 r.1.now) }
 {
-    if let Some(rest) = behind_eight(bytes, *b", [\"rece") {
-        return Some((Kind::Receive, behind(behind_four(rest, *b"ive\"")?, b',')?));
+    let start = after_gap(behind(bytes, b',')?);
+    let name = after_gap(behind(start, b'[')?);
+    if let Some(rest) = behind_eight(name, *b"\"receive") {
+        return Some((Kind::Receive, after_gap(behind_two(rest, *b"\",")?)));
     }
-    if let Some(rest) = behind_eight(bytes, *b", [\"post") {
-        return Some((
-            Kind::Postpone,
-            behind_two(behind_four(rest, *b"pone")?, *b"\",")?,
-        ));
-    }
-    if let Some(rest) = behind_eight(bytes, *b",\n[\"rece") {
-        return Some((Kind::Receive, behind(behind_four(rest, *b"ive\"")?, b',')?));
-    }
-    if let Some(rest) = behind_eight(bytes, *b",\n[\"post") {
-        return Some((
-            Kind::Postpone,
-            behind_two(behind_four(rest, *b"pone")?, *b"\",")?,
-        ));
-    }
-    let rest = behind_eight(bytes, *b",\n    [\"")?;
-    if let Some(rest) = behind_eight(rest, *b"receive\"") {
-        return Some((Kind::Receive, behind(rest, b',')?));
-    }
-    let rest = behind_eight(rest, *b"postpone")?;
-    Some((Kind::Postpone, behind_two(rest, *b"\",")?))
+    let rest = behind_eight(name, *b"\"postpon")?;
+    let rest = behind_two(rest, *b"e\"")?;
+    Some((Kind::Postpone, after_gap(behind(rest, b',')?)))
 }
 
 // The name on a line of its own, and what follows its comma and the white space behind that.

@@ -1,18 +1,14 @@
 use Rattle.std.proofs.Common.{◌++◌, ◌∙◌, ap, codes}
 use Rattle.ct_replay.specs.declared.kind.Kind.TheVariants.{Receive, Postpone}
-use Rattle.ct_replay.proofs.Reading.{white_none}
-use Rattle.ct_replay.proofs.Steps.{spaced_named}
+use Rattle.ct_replay.proofs.Steps.{close_named}
 use Rattle.ct_replay.proofs.quick.close_name.Goals as goal
 
 pub returns-in-Some : goal.returns-in-Some
 returns-in-Some c =
-    let rest = c.in_ok-behind_four.field-0.now in
-    spaced_named c.args.bytes.now (codes "[\"receive\"," ++ rest) rest Receive
-    (c.in-Some.ensures ∙ ap (λ t. codes ",[\"recei" ++ t) c.in_ok-behind_four.ensures) (white_none _)
+    close_named c.args.bytes.now c.in_ok-behind_four.field-0.now Receive
+    (c.in-Some.ensures ∙ ap (λ t. codes ",[\"recei" ++ t) c.in_ok-behind_four.ensures)
 
 pub returns : goal.returns
 returns c =
-    let rest = c.in_ok-behind.field-0.now in
-    spaced_named c.args.bytes.now (codes "[\"postpone\"," ++ rest) rest Postpone
+    close_named c.args.bytes.now c.in_ok-behind.field-0.now Postpone
     (c.in_ok-rest.ensures ∙ ap (λ t. codes ",[\"postp" ++ t) (c.in_ok-rest-2.ensures ∙ ap (λ t. codes "one\"" ++ t) c.in_ok-behind.ensures))
-    (white_none _)
