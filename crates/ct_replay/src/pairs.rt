@@ -2,12 +2,12 @@
 
 ghost use Rattle.std.specs.Prelude.{◌+◌, decimal, length, IfSome};
 ghost use Rattle.ct_records.specs.Plain.{pair_lexemes};
-ghost use Rattle.ct_replay.specs.Reading.{IsBehindWhite, Reads, ReadsMark};
+ghost use Rattle.ct_replay.specs.Reading.{Reads, ReadsMark};
 
 use crate::naming::{BYTE, SERIAL};
 use crate::number::{behind, digits, near_number};
 use crate::spacing::after_space;
-use crate::words::{behind_four, behind_two};
+use crate::words::{behind_eight, behind_four, behind_two};
 
 /// The number of a member, a comma and a serial, and what follows the bracket behind these. A space may stand before each
 /// number, or the serial and the bracket have lines of their own.
@@ -29,7 +29,7 @@ fn quick_comma(bytes: &[u8]) -> Option<&[u8]>
 {
     let rest = behind(bytes, b',')?;
     if is_line(rest) {
-        Some(after_line(rest)?)
+        line_comma(bytes)
     } else {
         Some(after_space(rest))
     }
@@ -44,15 +44,15 @@ fn is_line(bytes: &[u8]) -> bool {
     }
 }
 
-// What follows a line end and six or twelve spaces or three tabs.
+// What follows a comma, a line end and six or twelve spaces or three tabs.
 #[inline(always)]
-fn after_line(bytes: &[u8]) -> Option<&[u8]>
-    ensures { IfSome result (λ rest. IsBehindWhite bytes.now rest.now) }
+fn line_comma(bytes: &[u8]) -> Option<&[u8]>
+    ensures { IfSome result (λ rest. ReadsMark bytes.now 44 rest.now) }
 {
-    let Some(three) = behind_four(bytes, *b"\n   ") else {
-        return behind_four(bytes, *b"\n\t\t\t");
+    let Some(six) = behind_eight(bytes, *b",\n      ") else {
+        let tab = behind_four(bytes, *b",\n\t\t")?;
+        return Some(behind(tab, b'\t')?);
     };
-    let six = behind(behind_two(three, *b"  ")?, b' ')?;
     match behind_four(six, *b"    ") {
         Some(ten) => behind_two(ten, *b"  "),
         None => Some(six),

@@ -1,12 +1,6 @@
 use Rattle.ct_replay.proofs.Reading.{comma_white, mark_first}
 use Rattle.ct_replay.proofs.pairs.quick_comma.Goals as goal
 
-pub returns-in_ok-after_line : goal.returns-in_ok-after_line
-returns-in_ok-after_line c =
-    let mid = c.in_ok-rest.rest.now in
-    comma_white c.args.bytes.now mid c.in_ok-after_line.field-0.now (mark_first c.args.bytes.now mid 44 c.in_ok-rest.ensures)
-    c.in_ok-after_line.ensures
-
 pub returns-else-is_line : goal.returns-else-is_line
 returns-else-is_line c =
     let mid = c.in_ok-rest.rest.now in
