@@ -13,7 +13,7 @@ use std::marker::Model;
 
 /// The batches that a member delivered. No message is delivered twice.
 #[derive(Drop)]
-pub struct Delivered {
+pub(crate) struct Delivered {
     // All that was delivered, in order.
     messages: IndexSet<Message>,
     // Where each batch ends in it.
@@ -45,7 +45,7 @@ impl Model for Delivered {
 
 impl Delivered {
     // Nothing was delivered.
-    pub fn new(alloc: Global) -> Delivered
+    pub(crate) fn new(alloc: Global) -> Delivered
         ensures { result.batches ≡ [] }
     {
         Delivered {
@@ -56,14 +56,14 @@ impl Delivered {
     }
 
     // The messages of all batches.
-    pub fn messages(&self) -> &[Message]
+    pub(crate) fn messages(&self) -> &[Message]
         ensures { result.now ≡ joined self.now.batches }
     {
         self.messages.as_slice()
     }
 
     // Whether the message was delivered. A number that is larger than all of the origin tells that it was not.
-    pub fn contains(&self, message: &Message) -> bool
+    pub(crate) fn contains(&self, message: &Message) -> bool
         ensures { result ≡ has (joined self.now.batches) message.now }
     {
         if self.last.is_past(message) {
@@ -73,14 +73,14 @@ impl Delivered {
     }
 
     // How many batches there are.
-    pub fn len(&self) -> usize
+    pub(crate) fn len(&self) -> usize
         ensures { result ≡ length self.now.batches }
     {
         self.ends.len()
     }
 
     // The batch at the place, from 0.
-    pub fn get(&self, place: usize) -> Option<&[Message]>
+    pub(crate) fn get(&self, place: usize) -> Option<&[Message]>
         ensures { option_map (λ list. list.now) result ≡ slice_get self.now.batches place }
     {
         let end = *self.ends.get(place)?;
@@ -89,7 +89,7 @@ impl Delivered {
     }
 
     // Whether a batch of so many messages can be delivered without memory.
-    pub fn has_room(&self, more: usize) -> bool
+    pub(crate) fn has_room(&self, more: usize) -> bool
         ensures { result ≡ (nat_le more self.now.room && self.now.fits_batch) }
     {
         more <= self.messages.capacity() - self.messages.len()
@@ -97,7 +97,7 @@ impl Delivered {
     }
 
     // Makes room for a batch of so many messages.
-    pub fn prepare(&mut self, more: usize) -> Result<(), AllocError>
+    pub(crate) fn prepare(&mut self, more: usize) -> Result<(), AllocError>
         ensures batches { self.new.batches ≡ self.old.batches }
         ensures room { self.old.room ≤ self.new.room }
         ensures fits { IsTrue self.old.fits_batch → IsTrue self.new.fits_batch }
@@ -110,7 +110,7 @@ impl Delivered {
     }
 
     // The messages of the set that were not delivered.
-    pub fn rest(&self, alloc: Global, set: &MsgSet) -> Result<Vec<Message>, AllocError>
+    pub(crate) fn rest(&self, alloc: Global, set: &MsgSet) -> Result<Vec<Message>, AllocError>
         ensures { IfOk result (λ list. list.items ≡ batch_after self.now.batches set.now) }
     {
         let mut rest = Vec::new(alloc);
@@ -123,7 +123,7 @@ impl Delivered {
     }
 
     // Delivers the messages of the set that were not delivered, as a batch.
-    pub fn deliver(&mut self, set: &MsgSet)
+    pub(crate) fn deliver(&mut self, set: &MsgSet)
         requires room { length set.now ≤ self.old.room }
         requires fits { IsTrue self.old.fits_batch }
         ensures batches { self.new.batches ≡ self.old.batches ++ batch_after self.old.batches set.now ∷ [] }
@@ -137,7 +137,7 @@ impl Delivered {
     }
 
     // The same batches once more.
-    pub fn copy(&self, alloc: Global) -> Result<Delivered, AllocError>
+    pub(crate) fn copy(&self, alloc: Global) -> Result<Delivered, AllocError>
         ensures { IfOk result (λ copy. copy.batches ≡ self.now.batches) }
     {
         Ok(Delivered {

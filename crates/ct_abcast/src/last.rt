@@ -7,11 +7,11 @@ use ct_names::{MAX_MEMBERS, Message};
 use std::marker::Model;
 
 /// Of how many origins a number is kept: of the members that a group can have, each at its own place, and of 0.
-pub const ORIGINS: usize = MAX_MEMBERS as usize + 1;
+pub(crate) const ORIGINS: usize = MAX_MEMBERS as usize + 1;
 
 /// Of each origin below [`ORIGINS`] the largest number of its messages, or 0 where there is none.
 #[derive(Clone, Copy)]
-pub struct Last {
+pub(crate) struct Last {
     numbers: [u32; ORIGINS],
 }
 
@@ -28,7 +28,7 @@ impl Model for Last {
 
 impl Last {
     // There is no message.
-    pub fn new() -> Last
+    pub(crate) fn new() -> Last
         ensures { (origin : ℕ) → slice_index result origin ≡ 0 }
     {
         Last {
@@ -37,7 +37,7 @@ impl Last {
     }
 
     // Whether the message's number is larger than all of its origin.
-    pub fn is_past(&self, message: &Message) -> bool
+    pub(crate) fn is_past(&self, message: &Message) -> bool
         ensures { result ≡ is_past self.now message.now }
     {
         let origin = usize::from(message.origin());
@@ -45,7 +45,7 @@ impl Last {
     }
 
     // Notes that there is the message.
-    pub fn see(&mut self, message: &Message)
+    pub(crate) fn see(&mut self, message: &Message)
         ensures here { message.now.origin < ORIGINS → message.now.number ≤ slice_index self.new message.now.origin }
         ensures grown { (origin : ℕ) → slice_index self.old origin ≤ slice_index self.new origin }
     {

@@ -14,7 +14,7 @@ use std::marker::Model;
 
 /// Of the first received messages those that were not delivered, in order. It is fed with the later ones when they are asked for.
 #[derive(Drop)]
-pub struct Ordered {
+pub(crate) struct Ordered {
     messages: BTreeSet<Message>,
     // How many of the received messages it was fed.
     fed: usize,
@@ -30,7 +30,7 @@ impl Model for Ordered {
 
 impl Ordered {
     // Nothing was fed.
-    pub fn new(alloc: Global) -> Ordered
+    pub(crate) fn new(alloc: Global) -> Ordered
         ensures messages { result.messages ≡ [] }
         ensures fed { result.fed ≡ 0 }
     {
@@ -41,7 +41,7 @@ impl Ordered {
     }
 
     // Feeds it with the rest of what was received. Where memory is refused, what was fed until then stays.
-    pub fn feed(&mut self, received: &[Message], delivered: &Delivered) -> Result<(), AllocError>
+    pub(crate) fn feed(&mut self, received: &[Message], delivered: &Delivered) -> Result<(), AllocError>
         requires { IsFed self.old received.now (joined delivered.now.batches) }
         ensures kept { IsFed self.new received.now (joined delivered.now.batches) }
         ensures all { OnOk result (self.new.fed ≡ length received.now) }
@@ -57,7 +57,7 @@ impl Ordered {
     }
 
     // Takes the messages out.
-    pub fn take_out(&mut self, messages: &[Message])
+    pub(crate) fn take_out(&mut self, messages: &[Message])
         ensures left { (m : Plain) → has self.new.messages m ≡ (has self.old.messages m && not (has messages.now m)) }
         ensures fed { self.new.fed ≡ self.old.fed }
     {
@@ -67,7 +67,7 @@ impl Ordered {
     }
 
     // The first messages, as many as the bound or all.
-    pub fn first(&self, alloc: Global, bound: u32) -> Result<MsgSet, AllocError>
+    pub(crate) fn first(&self, alloc: Global, bound: u32) -> Result<MsgSet, AllocError>
         ensures { IfOk result (λ set. set ≡ take bound (ordered self.now.messages)) }
     {
         let mut set = MsgSet::new(alloc);

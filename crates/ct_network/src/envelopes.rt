@@ -15,7 +15,7 @@ use std::marker::Model;
 
 /// The envelopes that were sent, in order, of 16 bytes each.
 #[derive(Drop)]
-pub struct Envelopes {
+pub(crate) struct Envelopes {
     packed: Vec<Packed>,
     // The wires that don't fit there, each once for all that it goes to.
     wires: Vec<Wire>,
@@ -39,7 +39,7 @@ impl Model for Envelopes {
 
 impl Envelopes {
     /// No envelopes.
-    pub fn new(alloc: Global) -> Envelopes
+    pub(crate) fn new(alloc: Global) -> Envelopes
         ensures { result.items ≡ [] }
     {
         Envelopes {
@@ -49,7 +49,7 @@ impl Envelopes {
     }
 
     /// A list of the same envelopes. Only memory can be refused.
-    pub fn copy(&self, alloc: Global) -> Result<Envelopes, AllocError>
+    pub(crate) fn copy(&self, alloc: Global) -> Result<Envelopes, AllocError>
         ensures { IfOk result (λ copy. copy.items ≡ self.now.items) }
     {
         Ok(Envelopes {
@@ -59,7 +59,7 @@ impl Envelopes {
     }
 
     /// How many envelopes there are.
-    pub fn len(&self) -> usize
+    pub(crate) fn len(&self) -> usize
         ensures { result ≡ length self.now.items }
     {
         self.packed.len()
@@ -67,7 +67,7 @@ impl Envelopes {
 
     /// The envelope at this place, counted from 0.
     #[inline(always)]
-    pub fn get(&self, at: usize) -> Option<Envelope>
+    pub(crate) fn get(&self, at: usize) -> Option<Envelope>
         ensures { result ≡ slice_get self.now.items at }
     {
         let packed = self.packed.get(at)?;
@@ -78,7 +78,7 @@ impl Envelopes {
     }
 
     /// How many more envelopes one mail can add without memory.
-    pub fn room(&self) -> usize
+    pub(crate) fn room(&self) -> usize
         ensures { result ≡ self.now.room }
     {
         if self.wires.len() < self.wires.capacity() {
@@ -89,7 +89,7 @@ impl Envelopes {
     }
 
     /// Makes room for a mail of so many more envelopes. Where memory is refused that room was missing.
-    pub fn make_room(&mut self, more: usize) -> Result<(), AllocError>
+    pub(crate) fn make_room(&mut self, more: usize) -> Result<(), AllocError>
         ensures same { self.new.items ≡ self.old.items }
         ensures room { self.old.room ≤ self.new.room }
         ensures ok { OnOk result (more ≤ self.new.room) }
@@ -103,7 +103,7 @@ impl Envelopes {
     }
 
     /// Adds the envelope of a mail to one member.
-    pub fn add_one(&mut self, to: Member, wire: Wire)
+    pub(crate) fn add_one(&mut self, to: Member, wire: Wire)
         requires room { 0 < self.old.room }
         requires few { length self.old.items < MAX_ENVELOPES }
         ensures { self.new.items ≡ self.old.items ++ record { to = to; wire = wire } ∷ [] }
@@ -113,7 +113,7 @@ impl Envelopes {
     }
 
     /// Adds the envelopes of a mail to all of so many members.
-    pub fn add_all(&mut self, members: u8, wire: Wire)
+    pub(crate) fn add_all(&mut self, members: u8, wire: Wire)
         requires room { members ≤ self.old.room }
         requires few { length self.old.items + members ≤ MAX_ENVELOPES }
         ensures { self.new.items ≡ self.old.items ++ envelopes members (All wire) }

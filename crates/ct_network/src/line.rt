@@ -10,7 +10,7 @@ use std::marker::Model;
 /// The serials that wait at a member, in order and in one piece. What leaves near the front costs little: a leave takes
 /// time by the place in the line.
 #[derive(Debug, Drop)]
-pub struct Line {
+pub(crate) struct Line {
     kept: Vec<Serial>,
     start: usize,
 }
@@ -29,7 +29,7 @@ impl Model for Line {
 
 impl Line {
     /// A line in which nothing waits.
-    pub fn new(alloc: Global) -> Line
+    pub(crate) fn new(alloc: Global) -> Line
         ensures { result.serials ≡ [] }
     {
         Line {
@@ -39,7 +39,7 @@ impl Line {
     }
 
     /// A line in which the same serials wait. Only memory can be refused.
-    pub fn copy(&self, alloc: Global) -> Result<Line, AllocError>
+    pub(crate) fn copy(&self, alloc: Global) -> Result<Line, AllocError>
         ensures { IfOk result (λ line. line.serials ≡ self.now.serials) }
     {
         let kept = Vec::from_slice(alloc, self.as_slice())?;
@@ -47,14 +47,14 @@ impl Line {
     }
 
     /// The serials that wait, in order.
-    pub fn as_slice(&self) -> &[Serial]
+    pub(crate) fn as_slice(&self) -> &[Serial]
         ensures { result.now ≡ self.now.serials }
     {
         &self.kept[self.start..]
     }
 
     /// The first place of the serial, counted from 0.
-    pub fn find(&self, serial: Serial) -> Option<usize>
+    pub(crate) fn find(&self, serial: Serial) -> Option<usize>
         ensures { result ≡ place_of serial self.now.serials }
     {
         self.as_slice().iter().position(|other| *other == serial)
@@ -62,7 +62,7 @@ impl Line {
 
     /// Makes room for so many more serials. Where that is missing the line first takes back the places of the serials
     /// that left, if those are more than half. Where memory is refused that room was missing.
-    pub fn make_room(&mut self, more: usize) -> Result<(), AllocError>
+    pub(crate) fn make_room(&mut self, more: usize) -> Result<(), AllocError>
         ensures same { self.new.serials ≡ self.old.serials }
         ensures room { self.old.room ≤ self.new.room }
         ensures ok { OnOk result (more ≤ self.new.room) }
@@ -75,7 +75,7 @@ impl Line {
     }
 
     /// The serial comes to the end.
-    pub fn join(&mut self, serial: Serial)
+    pub(crate) fn join(&mut self, serial: Serial)
         requires { 0 < self.old.room }
         ensures serials { self.new.serials ≡ self.old.serials ++ serial ∷ [] }
         ensures room { self.old.room ≤ self.new.room + 1 }
@@ -84,7 +84,7 @@ impl Line {
     }
 
     /// The serial at this place, counted from 0, leaves; the others stay in order.
-    pub fn leave(&mut self, at: usize)
+    pub(crate) fn leave(&mut self, at: usize)
         requires { at < length self.old.serials }
         ensures serials { self.new.serials ≡ remove self.old.serials at }
         ensures room { self.new.room ≡ self.old.room }

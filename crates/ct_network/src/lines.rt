@@ -7,7 +7,7 @@ use crate::line::Line;
 use std::alloc::{AllocError, Global};
 
 /// As many lines, in which nothing waits. Only memory can be refused.
-pub fn new_lines(alloc: Global, members: u8) -> Result<Vec<Line>, AllocError>
+pub(crate) fn new_lines(alloc: Global, members: u8) -> Result<Vec<Line>, AllocError>
     ensures { IfOk result (λ lines. serials_of lines.items ≡ replicate members []) }
 {
     let mut lines = Vec::new(alloc);
@@ -18,7 +18,7 @@ pub fn new_lines(alloc: Global, members: u8) -> Result<Vec<Line>, AllocError>
 }
 
 /// Lines in which the same serials wait. Only memory can be refused.
-pub fn copy_lines(alloc: Global, lines: &[Line]) -> Result<Vec<Line>, AllocError>
+pub(crate) fn copy_lines(alloc: Global, lines: &[Line]) -> Result<Vec<Line>, AllocError>
     ensures { IfOk result (λ copies. serials_of copies.items ≡ serials_of lines.now) }
 {
     let mut copies = Vec::new(alloc);
@@ -29,7 +29,7 @@ pub fn copy_lines(alloc: Global, lines: &[Line]) -> Result<Vec<Line>, AllocError
 }
 
 /// Makes room in each line for so many more serials. What waits stays, and so does room, also where memory is refused.
-pub fn make_room(lines: &mut Vec<Line>, more: usize) -> Result<(), AllocError>
+pub(crate) fn make_room(lines: &mut Vec<Line>, more: usize) -> Result<(), AllocError>
     ensures same { serials_of lines.new.items ≡ serials_of lines.old.items }
     ensures ok { OnOk result (HaveRoom lines.new.items more) }
     ensures room { (least : ℕ) → HaveRoom lines.old.items least → HaveRoom lines.new.items least }

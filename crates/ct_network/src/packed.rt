@@ -6,7 +6,7 @@ use std::mem::size_of;
 
 /// An envelope in 16 bytes.
 #[derive(Clone, Copy)]
-pub struct Packed {
+pub(crate) struct Packed {
     pub to: Member,
     pub wire: Short,
 }

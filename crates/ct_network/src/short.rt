@@ -12,7 +12,7 @@ use ct_names::{Command, Member, Message, ValueId};
 
 /// A wire in 14 bytes. Larger numbers stand as their bytes, the lowest first, so that no bytes are left out between fields.
 #[derive(Clone, Copy)]
-pub enum Short {
+pub(crate) enum Short {
     /// A message: its origin and number, the register that it sets, and to what value.
     Set(Member, u16, u8, [u8; 8]),
     /// A message: its origin and number, the register that it adds to, and the amount.
@@ -35,7 +35,7 @@ pub enum Short {
 
 impl Short {
     /// The wire with no list. None where a message's number, an instance, a round or a timestamp is above 65535.
-    pub fn of(wire: &Wire) -> Option<Short>
+    pub(crate) fn of(wire: &Wire) -> Option<Short>
         ensures small { is_some result ≡ is_small wire.now }
         ensures wire { IfSome result (λ short. (wires : List (AnyWire ℕ)) → wire_of wires short ≡ wire.now) }
         ensures readable { IfSome result (λ short. (n : ℕ) → is_readable n short ≡ true) }
@@ -99,7 +99,7 @@ impl Short {
 
     /// The wire that it stands for, where these are the listed ones. Callers look at parts of it, so it is inlined.
     #[inline(always)]
-    pub fn wire(self, wires: &[Wire]) -> Wire
+    pub(crate) fn wire(self, wires: &[Wire]) -> Wire
         requires { is_readable (length wires.now) self ≡ true }
         ensures { result ≡ wire_of wires.now self }
     {

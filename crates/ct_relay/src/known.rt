@@ -12,14 +12,14 @@ use std::alloc::{AllocError, Global};
 
 /// Marks of the messages, by number and origin, and of the decisions, by instance and round.
 #[derive(Drop)]
-pub struct Known {
+pub(crate) struct Known {
     messages: Marks,
     decisions: Marks,
 }
 
 impl Known {
     /// Marks that cover nothing.
-    pub fn new(alloc: Global) -> Known
+    pub(crate) fn new(alloc: Global) -> Known
         ensures messages { result.messages ≡ [] }
         ensures decisions { result.decisions ≡ [] }
     {
@@ -30,7 +30,7 @@ impl Known {
     }
 
     /// The same marks once more, or the error where memory is refused.
-    pub fn copy(&self, alloc: Global) -> Result<Known, AllocError>
+    pub(crate) fn copy(&self, alloc: Global) -> Result<Known, AllocError>
         ensures { IfOk result (λ copy. copy ≡ self.now) }
     {
         Ok(Known {
@@ -40,7 +40,7 @@ impl Known {
     }
 
     /// Whether it was taken, where the marks cover it.
-    pub fn told(&self, id: RelayId) -> Option<bool>
+    pub(crate) fn told(&self, id: RelayId) -> Option<bool>
         ensures { result ≡ told_of self.now id }
     {
         match id {
@@ -50,7 +50,7 @@ impl Known {
     }
 
     /// Notes that it was taken, where the marks cover it. Whether they do.
-    pub fn add(&mut self, id: RelayId) -> bool
+    pub(crate) fn add(&mut self, id: RelayId) -> bool
         ensures covered { result ≡ covers_id self.old id }
         ensures marks { self.new ≡ with_mark_of self.old id }
     {
@@ -62,7 +62,7 @@ impl Known {
 
     /// Lets the marks cover more numbers where larger ones are coming, and marks what the others have of them. Where
     /// memory is refused the marks stay as they were.
-    pub fn lengthen(&mut self, others: &[RelayId])
+    pub(crate) fn lengthen(&mut self, others: &[RelayId])
         ensures { (order : List Id) → IsKept order self.old others.now → IsKept order self.new others.now }
     {
         let messages = self.messages.grow();

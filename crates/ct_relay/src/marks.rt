@@ -16,7 +16,7 @@ const FIRST: usize = 64;
 /// Of each number, from 0 on, the origins that have a mark at that number. They cover the numbers below their length and the
 /// origins from 1 to [`MAX_MEMBERS`].
 #[derive(Drop)]
-pub struct Marks {
+pub(crate) struct Marks {
     sets: Vec<MemberSet>,
     // The largest number that came.
     top: u16,
@@ -33,7 +33,7 @@ impl Model for Marks {
 
 impl Marks {
     /// Marks that cover no number.
-    pub fn new(alloc: Global) -> Marks
+    pub(crate) fn new(alloc: Global) -> Marks
         ensures { result ≡ [] }
     {
         Marks {
@@ -43,7 +43,7 @@ impl Marks {
     }
 
     /// The same marks once more, or the error where memory is refused.
-    pub fn copy(&self, alloc: Global) -> Result<Marks, AllocError>
+    pub(crate) fn copy(&self, alloc: Global) -> Result<Marks, AllocError>
         ensures { IfOk result (λ copy. copy ≡ self.now) }
     {
         Ok(Marks {
@@ -53,7 +53,7 @@ impl Marks {
     }
 
     /// Whether it has a mark, where they cover it.
-    pub fn told(&self, origin: u32, number: u32) -> Option<bool>
+    pub(crate) fn told(&self, origin: u32, number: u32) -> Option<bool>
         ensures { result ≡ told self.now origin number }
     {
         if self.covers(origin, number) {
@@ -64,7 +64,7 @@ impl Marks {
     }
 
     /// Marks it, where they cover it. Whether they do.
-    pub fn add(&mut self, origin: u32, number: u32) -> bool
+    pub(crate) fn add(&mut self, origin: u32, number: u32) -> bool
         ensures covered { result ≡ covers self.old origin number }
         ensures marks { self.new ≡ with_mark self.old origin number }
     {
@@ -82,7 +82,7 @@ impl Marks {
 
     /// Covers more numbers, twice as many or more, where the largest number that came is past the middle of them and memory
     /// is given. Whether it does.
-    pub fn grow(&mut self) -> bool
+    pub(crate) fn grow(&mut self) -> bool
         ensures longer { result ≡ nat_lt (length self.old) (length self.new) }
         ensures marks { self.new ≡ self.old ++ replicate (length self.new - length self.old) [] }
     {

@@ -14,21 +14,21 @@ use std::marker::Model;
 
 /// An estimate that was heard: the number of its value, and the round in which its member took that over.
 #[derive(Clone, Copy)]
-pub struct Estimate {
+pub(crate) struct Estimate {
     pub value: u32,
     pub ts: Round,
 }
 
 /// Whose estimate is the best so far, and its ts.
 #[derive(Clone, Copy)]
-pub struct Best {
+pub(crate) struct Best {
     pub member: Member,
     pub ts: Round,
 }
 
 /// What was got for one round.
 #[derive(Drop)]
-pub struct Tally {
+pub(crate) struct Tally {
     heard: MemberSet,
     // By member, of those that were heard. The first entry is nobody's.
     estimates: [Estimate; 17],
@@ -55,7 +55,7 @@ impl Model for Tally {
 
 impl Tally {
     /// Nothing was got.
-    pub fn new() -> Tally
+    pub(crate) fn new() -> Tally
         ensures { result ≡ no_ballots }
     {
         Tally {
@@ -69,7 +69,7 @@ impl Tally {
     }
 
     /// A tally of the same notes.
-    pub fn copy(&self) -> Tally
+    pub(crate) fn copy(&self) -> Tally
         ensures { result ≡ self.now }
     {
         Tally {
@@ -83,14 +83,14 @@ impl Tally {
     }
 
     /// The members that were heard.
-    pub fn heard(&self) -> MemberSet
+    pub(crate) fn heard(&self) -> MemberSet
         ensures { result ≡ heard self.now }
     {
         self.heard
     }
 
     /// The least member among the heard with the largest ts.
-    pub fn best(&self) -> Option<Member>
+    pub(crate) fn best(&self) -> Option<Member>
         ensures { result ≡ best self.now }
     {
         match self.best {
@@ -100,7 +100,7 @@ impl Tally {
     }
 
     /// Whether the member was heard, and nobody with a larger ts.
-    pub fn largest(&self, from: Member) -> bool
+    pub(crate) fn largest(&self, from: Member) -> bool
         ensures { result ≡ has_largest self.now from }
     {
         match self.best {
@@ -112,7 +112,7 @@ impl Tally {
     }
 
     /// The value of the member's estimate.
-    pub fn estimate(&self, from: Member) -> Option<ValueId>
+    pub(crate) fn estimate(&self, from: Member) -> Option<ValueId>
         ensures { result ≡ option_map (λ e. e.value) (estimate_from self.now from) }
     {
         if self.heard.contains(from) {
@@ -123,7 +123,7 @@ impl Tally {
     }
 
     /// The ts of the member's estimate.
-    pub fn ts(&self, from: Member) -> Option<Round>
+    pub(crate) fn ts(&self, from: Member) -> Option<Round>
         ensures { result ≡ option_map (λ e. e.ts) (estimate_from self.now from) }
     {
         if self.heard.contains(from) {
@@ -134,28 +134,28 @@ impl Tally {
     }
 
     /// The value of the proposal.
-    pub fn proposal(&self) -> Option<ValueId>
+    pub(crate) fn proposal(&self) -> Option<ValueId>
         ensures { result ≡ self.now.proposal }
     {
         self.proposal
     }
 
     /// The members that replied.
-    pub fn replied(&self) -> MemberSet
+    pub(crate) fn replied(&self) -> MemberSet
         ensures { result ≡ self.now.replied }
     {
         self.replied
     }
 
     /// The members that acked.
-    pub fn acked(&self) -> MemberSet
+    pub(crate) fn acked(&self) -> MemberSet
         ensures { result ≡ self.now.acked }
     {
         self.acked
     }
 
     /// Counts a vote of this round in: the first estimate of each member, and the first proposal.
-    pub fn take(&mut self, wire: &Wire)
+    pub(crate) fn take(&mut self, wire: &Wire)
         requires { NamesSomebody wire.now }
         ensures { self.new ≡ count wire.now self.old }
     {

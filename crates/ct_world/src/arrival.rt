@@ -5,7 +5,7 @@ use ct_rounds::Wire;
 
 /// What a member can receive.
 #[derive(Clone, Copy)]
-pub struct Arrival {
+pub(crate) struct Arrival {
     /// The place of its serial in the member's line.
     pub place: usize,
     /// To whom its envelope goes.

@@ -8,7 +8,7 @@ use ct_names::{Instance, MAX_INSTANCES, Member};
 
 /// Which instance a member closes, as it delivers that instance's decision.
 #[derive(Clone, Copy)]
-pub enum Closing {
+pub(crate) enum Closing {
     /// The one that it has open, by a Deliver.
     Open,
     /// Its next one, by a Follow: none is open, and it begins and closes that one at once.
@@ -17,7 +17,7 @@ pub enum Closing {
 
 impl Closing {
     /// The step.
-    pub fn step(self, member: Member) -> Step
+    pub(crate) fn step(self, member: Member) -> Step
         ensures { result ≡ closing_step self member }
     {
         match self {
@@ -27,7 +27,7 @@ impl Closing {
     }
 
     /// The instance that is closed, where this is the last one begun.
-    pub fn instance(self, last: Instance) -> Instance
+    pub(crate) fn instance(self, last: Instance) -> Instance
         requires { last ≤ MAX_INSTANCES }
         ensures { result ≡ closed_instance self last }
     {

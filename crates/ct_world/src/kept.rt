@@ -26,7 +26,7 @@ mod submit;
 
 /// What a world keeps: what is fixed, the record of its steps, and what they led to.
 #[derive(Drop)]
-pub struct Kept {
+pub(crate) struct Kept {
     /// The group.
     pub group: Group,
     /// The number of cells for batches.
@@ -47,7 +47,7 @@ pub struct Kept {
 
 impl Kept {
     /// What is kept of a member.
-    pub fn seat(&self, member: Member) -> Option<&Seat>
+    pub(crate) fn seat(&self, member: Member) -> Option<&Seat>
         requires { IsSound self.now }
         ensures there { is_some result ≡ is_member self.now.group member }
         ensures seat { IfSome result (λ seat. IsSeatOf (rehearsal_of self.now) member seat.now) }
@@ -57,7 +57,7 @@ impl Kept {
     }
 
     /// The seat of the least of the members that delivered most batches.
-    pub fn foremost(&self) -> &Seat
+    pub(crate) fn foremost(&self) -> &Seat
         requires { IsSound self.now }
         ensures value { result.now.caster.batches ≡ map (λ b. b.messages) (order (state_of (rehearsal_of self.now))) }
         ensures few { length result.now.caster.batches ≤ MAX_CELLS }

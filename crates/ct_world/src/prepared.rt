@@ -10,7 +10,7 @@ use ct_names::{Command, Member, MsgSet, Serial, ValueId};
 
 /// A step that is allowed and that room was made for, with what was found and made for it.
 #[derive(Drop)]
-pub enum Prepared {
+pub(crate) enum Prepared {
     /// Submit.
     Submit(Member, Command),
     /// Receive, and the place of the serial in the member's line.
@@ -33,7 +33,7 @@ pub enum Prepared {
 
 impl Prepared {
     /// The step.
-    pub fn step(&self) -> Step
+    pub(crate) fn step(&self) -> Step
         ensures { result ≡ step_in self.now }
     {
         match self {

@@ -16,7 +16,7 @@ mod receiving;
 
 /// What is kept of one member, apart from its waiting line.
 #[derive(Drop)]
-pub struct Seat {
+pub(crate) struct Seat {
     /// How many messages it submitted.
     pub submitted: u32,
     /// Whether it crashed.
@@ -33,7 +33,7 @@ pub struct Seat {
 
 impl Seat {
     /// A member that has done nothing.
-    pub fn new(alloc: Global, group: Group, me: Member) -> Seat
+    pub(crate) fn new(alloc: Global, group: Group, me: Member) -> Seat
         ensures { content result ≡ content (new_seat group me) }
     {
         Seat {
@@ -47,7 +47,7 @@ impl Seat {
     }
 
     /// A seat that keeps the same. Only memory can be refused.
-    pub fn copy(&self, alloc: Global) -> Result<Seat, AllocError>
+    pub(crate) fn copy(&self, alloc: Global) -> Result<Seat, AllocError>
         ensures { IfOk result (λ seat. content seat ≡ content self.now) }
     {
         Ok(Seat {

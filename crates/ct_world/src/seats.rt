@@ -8,7 +8,7 @@ use ct_names::Group;
 use std::alloc::{AllocError, Global};
 
 /// The seats of the group's members, which have done nothing. Only memory can be refused.
-pub fn new_seats(alloc: Global, group: Group) -> Result<Vec<Seat>, AllocError>
+pub(crate) fn new_seats(alloc: Global, group: Group) -> Result<Vec<Seat>, AllocError>
     ensures { IfOk result (λ seats. AreNewSeats group group seats.items) }
 {
     let mut seats = Vec::new(alloc);
@@ -19,7 +19,7 @@ pub fn new_seats(alloc: Global, group: Group) -> Result<Vec<Seat>, AllocError>
 }
 
 /// Seats that keep the same. Only memory can be refused.
-pub fn copy_seats(alloc: Global, seats: &[Seat]) -> Result<Vec<Seat>, AllocError>
+pub(crate) fn copy_seats(alloc: Global, seats: &[Seat]) -> Result<Vec<Seat>, AllocError>
     ensures { IfOk result (λ copies. AreSameSeats seats.now copies.items) }
 {
     let mut copies = Vec::new(alloc);

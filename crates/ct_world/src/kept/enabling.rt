@@ -10,7 +10,7 @@ use ct_names::{Limit, MAX_ENVELOPES, MAX_MEMBERS, MAX_STEPS, Member, Refusal};
 
 impl Kept {
     /// What is kept of the member whose step it is.
-    pub fn actor(&self, member: Member) -> Result<&Seat, Refusal>
+    pub(crate) fn actor(&self, member: Member) -> Result<&Seat, Refusal>
         requires { IsSound self.now }
         ensures { MatchResult result (λ seat. IsActor (rehearsal_of self.now) member seat.now)
             (λ refusal. IsAbsent (rehearsal_of self.now) member refusal) }

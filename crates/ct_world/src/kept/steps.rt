@@ -17,7 +17,7 @@ use ct_names::Refusal;
 
 impl Kept {
     /// Whether the step is allowed, and why it is not.
-    pub fn cause(&self, step: &Step) -> Result<(), Refusal>
+    pub(crate) fn cause(&self, step: &Step) -> Result<(), Refusal>
         requires { IsSound self.now }
         ensures { IsVerdict (cause (rehearsal_of self.now) step.now) result }
     {
@@ -40,7 +40,7 @@ impl Kept {
     }
 
     /// Makes the room that the step needs, where it is allowed. What is kept stays the same.
-    pub fn make_room(&mut self, step: &Step) -> Result<Prepared, Refusal>
+    pub(crate) fn make_room(&mut self, step: &Step) -> Result<Prepared, Refusal>
         requires { IsSound self.old }
         ensures { MakesRoom self.old step.now self.new result }
     {
@@ -63,7 +63,7 @@ impl Kept {
     }
 
     /// Does the step, as `make_room` and then `take`. The most frequent ones look at what they need once.
-    pub fn take_at_once(&mut self, board: &Board, step: &Step) -> Result<Effect, Refusal>
+    pub(crate) fn take_at_once(&mut self, board: &Board, step: &Step) -> Result<Effect, Refusal>
         requires sound { IsSound self.old }
         ensures allowed { OnOk result (cause (rehearsal_of self.old) step.now ≡ None) }
         ensures done { IfOk result (λ effect. IsDone (rehearsal_of self.old) step.now (rehearsal_of self.new) effect.sent) }
@@ -87,7 +87,7 @@ impl Kept {
     }
 
     /// Does the step that the room was made for. The board is refused before anything is done, and nothing changes then.
-    pub fn take(&mut self, board: &Board, room: Prepared) -> Result<Effect, Refusal>
+    pub(crate) fn take(&mut self, board: &Board, room: Prepared) -> Result<Effect, Refusal>
         requires sound { IsSound self.old }
         requires ready { HasRoom self.old room }
         ensures done { IfOk result (λ effect. IsDone (rehearsal_of self.old) (step_in room) (rehearsal_of self.new) effect.sent) }

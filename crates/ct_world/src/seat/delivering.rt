@@ -19,7 +19,7 @@ impl Seat {
     /// Room to deliver the decision of the instance. It answers the decision's number in the book, and the batch that the
     /// member posts for it, where so many batches are posted: none, if it delivered fewer. What is kept stays, also where
     /// memory is refused.
-    pub fn prepare_delivery(
+    pub(crate) fn prepare_delivery(
         &mut self,
         alloc: Global,
         book: &Book,
@@ -57,7 +57,7 @@ impl Seat {
     }
 
     /// The member delivers the value, and closes the instance.
-    pub fn close(&mut self, closing: Closing, value: &MsgSet)
+    pub(crate) fn close(&mut self, closing: Closing, value: &MsgSet)
         requires there { CanClose closing self.old }
         requires fits { self.old.caster.fits_batch ≡ true }
         requires room { length value.now ≤ self.old.caster.room }

@@ -14,7 +14,7 @@ impl Seat {
     /// Room to receive the wire, which is new to the member or not. A message or a decision that came before needs none at
     /// the relay.
     #[inline(always)]
-    pub fn prepare_receive(&mut self, wire: &Wire, new: bool) -> Result<(), AllocError>
+    pub(crate) fn prepare_receive(&mut self, wire: &Wire, new: bool) -> Result<(), AllocError>
         requires { new ≡ is_new self.old.relay wire.now }
         ensures same { content self.new ≡ content self.old }
         ensures ok { OnOk result (CanReceive self.new wire.now) }
@@ -27,7 +27,7 @@ impl Seat {
     }
 
     /// Room to begin the next instance. It answers the set that the member proposes then, of so many messages at most.
-    pub fn prepare_begin(&mut self, alloc: Global, bound: u32) -> Result<MsgSet, AllocError>
+    pub(crate) fn prepare_begin(&mut self, alloc: Global, bound: u32) -> Result<MsgSet, AllocError>
         requires few { self.old.instances.last ≤ MAX_INSTANCES }
         ensures same { content self.new ≡ content self.old }
         ensures room { OnOk result (has_room_open self.new.instances (self.new.instances.last + 1) ≡ true) }

@@ -13,7 +13,7 @@ use ct_rounds::{Mail, Wire};
 
 impl Seat {
     /// Whether the wire is a message or a decision that comes for the first time.
-    pub fn is_new(&self, wire: &Wire) -> bool
+    pub(crate) fn is_new(&self, wire: &Wire) -> bool
         ensures { result ≡ is_new self.now.relay wire.now }
     {
         match *wire {
@@ -30,7 +30,7 @@ impl Seat {
     /// Whether the member passes the wire on, which is new to it or not: it gets it for the first time, and didn't send it
     /// to all before.
     #[inline(always)]
-    pub fn passes_on(&self, group: Group, wire: &Wire, new: bool) -> bool
+    pub(crate) fn passes_on(&self, group: Group, wire: &Wire, new: bool) -> bool
         requires { new ≡ is_new self.now.relay wire.now }
         ensures { result ≡ is_passed_on group self.now.relay wire.now }
     {
@@ -43,7 +43,7 @@ impl Seat {
 
     /// The member gets the wire, which is new to it or not, and answers what it sends.
     #[inline(always)]
-    pub fn receive(&mut self, group: Group, wire: Wire, new: bool) -> Mail
+    pub(crate) fn receive(&mut self, group: Group, wire: Wire, new: bool) -> Mail
         requires new { new ≡ is_new self.old.relay wire }
         requires room { CanReceive self.old wire }
         requires sender { NamesSomebody wire }
