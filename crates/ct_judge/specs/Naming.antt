@@ -7,7 +7,7 @@ use Rattle.ct_model.specs.Rehearsal.{Rehearsal}
 use Rattle.ct_model.specs.declared.envelope.Envelope.{Envelope}
 use Rattle.ct_model.specs.declared.wire.Wire.{Wire}
 use Rattle.ct_model.specs.declared.wire.Wire.TheVariants as wire
-use Rattle.ct_records.specs.Report.{messages_text}
+use Rattle.ct_text.specs.Lists.{messages_text}
 use Rattle.ct_show.specs.Wires.{letter_at, round_text, value_at}
 use Rattle.ct_grammar.specs.declared.carried.Carried.{Carried}
 use Rattle.ct_grammar.specs.declared.carried.Carried.TheVariants.{Data, Est, Prop, Ack, Nack, Dec}

@@ -1,7 +1,7 @@
 //! The texts of faults, in the world before the line.
 
 ghost use Rattle.std.specs.Prelude.{◌≡◌, OnOk, IsTrue};
-ghost use Rattle.ct_records.specs.Adds.{Adds};
+ghost use Rattle.ct_text.specs.Adds.{Adds};
 ghost use Rattle.ct_names.specs.Group.{is_member};
 ghost use Rattle.ct_play.specs.Expecting.{unmet};
 ghost use Rattle.ct_play.specs.Facts.{there, wanted};

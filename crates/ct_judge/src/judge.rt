@@ -2,7 +2,7 @@
 
 ghost use Rattle.std.specs.Prelude.{◌≡◌, ◌≤◌, None, Ok, Err, OnOk, OnErr, IfOk, IfErr, IfSome, IsOk, IsTrue, IsFalse, option_map};
 ghost use Rattle.std.specs.Prelude.{string_bytes};
-ghost use Rattle.ct_records.specs.Adds.{Adds};
+ghost use Rattle.ct_text.specs.Adds.{Adds};
 ghost use Rattle.ct_names.specs.declared.limit.TheConstants.{MAX_BOUND, MAX_CELLS};
 ghost use Rattle.ct_judge.specs.Answers.{sent_of};
 ghost use Rattle.ct_play.specs.Faults.{IsFaultOf, IsKept};

@@ -1,7 +1,7 @@
 //! Bytes that are no line.
 
 ghost use Rattle.std.specs.Prelude.{◌≡◌, OnOk, codes};
-ghost use Rattle.ct_records.specs.Adds.{Adds};
+ghost use Rattle.ct_text.specs.Adds.{Adds};
 ghost use Rattle.ct_grammar.specs.Misfits.{misfit_text};
 ghost use Rattle.ct_judge.specs.Reading.{misread_text};
 ghost use Rattle.ct_judge.specs.Wording.{behind};

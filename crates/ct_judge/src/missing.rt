@@ -1,7 +1,7 @@
 //! What is told of an envelope that is not there.
 
 ghost use Rattle.std.specs.Prelude.{OnOk};
-ghost use Rattle.ct_records.specs.Adds.{Adds};
+ghost use Rattle.ct_text.specs.Adds.{Adds};
 ghost use Rattle.ct_play.specs.Picking.{waiting_at};
 ghost use Rattle.ct_judge.specs.Missing.{across_text, gone_text, missing_text, none_from_text, taking_text, took_text};
 ghost use Rattle.ct_judge.specs.Naming.{envelope_name, pick_name, shortened};

@@ -2,7 +2,7 @@
 
 ghost use Rattle.std.specs.Prelude.{◌++◌, [], ◌∷◌, OnOk, codes, decimal, flat_map};
 ghost use Rattle.std.specs.List.{concat};
-ghost use Rattle.ct_records.specs.Adds.{Adds};
+ghost use Rattle.ct_text.specs.Adds.{Adds};
 ghost use Rattle.ct_print.specs.Acts.{command_text};
 ghost use Rattle.ct_judge.specs.Naming.{carried_name, envelope_name, from_name, letter_name, listed};
 ghost use Rattle.ct_judge.specs.Naming.{pick_name, round_name, set_name, shortened, value_in, value_name, wire_name};
@@ -11,7 +11,7 @@ use ct_grammar::{Carried, Pick};
 use ct_names::{Command, Instance, Member, Message, Round, Serial};
 use ct_play::{Stage, carried_of};
 use ct_print::push_command;
-use ct_records::push_messages;
+use ct_text::push_messages;
 use ct_show::push_round;
 use ct_world::{Letter, Wire};
 use std::alloc::AllocError;

@@ -1,7 +1,7 @@
 //! The lines that bytes are, and how they are shown.
 
 ghost use Rattle.std.specs.Prelude.{◌≡◌, OnOk, IfOk, option_map};
-ghost use Rattle.ct_records.specs.Adds.{Adds};
+ghost use Rattle.ct_text.specs.Adds.{Adds};
 ghost use Rattle.ct_grammar.specs.Lines.{line_of};
 ghost use Rattle.ct_judge.specs.Reading.{begins_record, line_in, line_in_text, line_or, shown, shown_text, trimmed};
 

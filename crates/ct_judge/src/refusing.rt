@@ -1,7 +1,7 @@
 //! What is told of refusals.
 
 ghost use Rattle.std.specs.Prelude.{◌≡◌, OnOk, position};
-ghost use Rattle.ct_records.specs.Adds.{Adds};
+ghost use Rattle.ct_text.specs.Adds.{Adds};
 ghost use Rattle.ct_judge.specs.Refusing.{crash_of, crash_text, is_crash_of, limit_of, limit_text, members_text, reason_text};
 ghost use Rattle.ct_judge.specs.Refusing.{refused_text};
 

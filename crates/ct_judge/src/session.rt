@@ -1,7 +1,7 @@
 //! The lines of a session and their answers.
 
 ghost use Rattle.std.specs.Prelude.{◌≡◌, ◌≤◌, ◌++◌, Ok, OnOk, IfOk, IfErr, codes, length, nat_lt, option_map};
-ghost use Rattle.ct_records.specs.Adds.{Adds};
+ghost use Rattle.ct_text.specs.Adds.{Adds};
 ghost use Rattle.ct_judge.specs.Answers.{answer, is_refused, question_text, standing_after, taken_text};
 ghost use Rattle.ct_judge.specs.SessionFaults.{IsShort};
 ghost use Rattle.ct_judge.specs.Sessions.{after_byte, answer_at, heard_in, kept, line_if, line_over, opening, said_at};

@@ -1,7 +1,7 @@
 //! Words, and what stands behind them.
 
 ghost use Rattle.std.specs.Prelude.{◌≡◌, OnOk};
-ghost use Rattle.ct_records.specs.Adds.{Adds};
+ghost use Rattle.ct_text.specs.Adds.{Adds};
 ghost use Rattle.ct_judge.specs.Wording.{numbered, numbered_twice};
 
 use ct_names::Member;
