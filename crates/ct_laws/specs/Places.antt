@@ -20,7 +20,7 @@ use Rattle.ct_play.specs.Acting.{step_of}
 use Rattle.ct_play.specs.Picking.{waiting_from}
 use Rattle.ct_play.specs.Stating.{outcome_text}
 use Rattle.ct_play.specs.Who.{named}
-use Rattle.ct_judge.specs.Reading.{line_in}
+use Rattle.ct_judging.specs.Reading.{line_in}
 use Rattle.ct_laws.specs.Showing.{AreMet}
 
 -- ---- steps behind a record

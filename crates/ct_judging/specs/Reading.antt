@@ -8,10 +8,10 @@ use Rattle.ct_grammar.specs.declared.misfit.Misfit.{Misfit}
 use Rattle.ct_grammar.specs.Lines.{line_of}
 use Rattle.ct_grammar.specs.Misfits.{misfit_text}
 use Rattle.ct_grammar.specs.Texts.{text_in}
-use Rattle.ct_judge.specs.Wording.{behind}
-use Rattle.ct_judge.specs.declared.misread.Misread.{Misread}
-use Rattle.ct_judge.specs.declared.misread.Misread.TheVariants.{NoText, Record, TooLong, NoLine}
-use Rattle.ct_judge.specs.declared.reading.TheConstants.{LONGEST_SHOWN}
+use Rattle.ct_judging.specs.Wording.{behind}
+use Rattle.ct_judging.specs.declared.misread.Misread.{Misread}
+use Rattle.ct_judging.specs.declared.misread.Misread.TheVariants.{NoText, Record, TooLong, NoLine}
+use Rattle.ct_judging.specs.declared.bounds.TheConstants.{LONGEST_SHOWN}
 
 -- ---- the line that bytes are
 

@@ -1,5 +1,5 @@
 -- The texts of faults.
-use Rattle.std.specs.Prelude.{◌≡◌, ⊤, string_bytes, ℕ, List, [], ◌∷◌, ◌++◌, codes, decimal, Option, Some, None, Result, Ok, Err}
+use Rattle.std.specs.Prelude.{ℕ, List, [], ◌∷◌, ◌++◌, codes, decimal, Option, Some, None, Result, Ok, Err}
 use Rattle.std.specs.Prelude.{if◌then◌else◌}
 use Rattle.std.specs.List.{concat}
 use Rattle.ct_names.specs.Group.{is_member}
@@ -25,15 +25,13 @@ use Rattle.ct_play.specs.Turning.{ended}
 use Rattle.ct_play.specs.declared.line_fault.LineFault.{LineFault}
 use Rattle.ct_play.specs.declared.line_fault.LineFault.TheVariants.{NotUnderstood, NoMembers, Settled, NoSuchMember, NotThere, NoneFrom}
 use Rattle.ct_play.specs.declared.line_fault.LineFault.TheVariants.{Across, Refused, NotMet, Restless, NotSo, OutOfMemory, Board}
-use Rattle.ct_judge.specs.Judging.{taken}
-use Rattle.ct_judge.specs.Missing.{across_text, missing_text, none_from_text}
-use Rattle.ct_judge.specs.Reading.{line_in, misread_text}
-use Rattle.ct_judge.specs.Refusing.{refused_text}
-use Rattle.ct_judge.specs.Standing.{Standing, played_of}
-use Rattle.ct_judge.specs.Wording.{behind, numbered}
-use Rattle.ct_judge.specs.declared.misread.Misread.{Misread}
-use Rattle.ct_judge.specs.declared.stop.Stop.{Stop}
-use Rattle.ct_judge.specs.declared.stop.Stop.TheVariants.{Told, Memory, BoardRefused}
+use Rattle.ct_judging.specs.Judging.{taken}
+use Rattle.ct_judging.specs.Missing.{across_text, missing_text, none_from_text}
+use Rattle.ct_judging.specs.Reading.{line_in, misread_text}
+use Rattle.ct_judging.specs.Refusing.{refused_text}
+use Rattle.ct_judging.specs.Standing.{Standing, played_of}
+use Rattle.ct_judging.specs.Wording.{behind, numbered}
+use Rattle.ct_judging.specs.declared.misread.Misread.{Misread}
 
 -- ---- faults in a world
 
@@ -137,17 +135,3 @@ told_if s (Err misread) = Err (record { fault = NotUnderstood; text = misread_te
 -- what a line of these bytes comes to, its fault explained
 unfoldable pub told : Standing → List ℕ → Result Standing Explained
 told s bytes = told_if s (line_in bytes)
-
--- ---- why telling stops
-
--- the fault is the line's, and this is its text; nothing is said where memory or the board refused
-abbrev pub IsStopOf : Result Standing Explained → Stop → Type 0
-IsStopOf r (Told fault text) = r ≡ Err (record { fault = fault; text = string_bytes text })
-IsStopOf r Memory = ⊤
-IsStopOf r BoardRefused = ⊤
-
--- a line that is refused changes nothing
-abbrev pub IsStopKept : Standing → Standing → Stop → Type 0
-IsStopKept old new (Told fault text) = new ≡ old
-IsStopKept old new Memory = ⊤
-IsStopKept old new BoardRefused = ⊤

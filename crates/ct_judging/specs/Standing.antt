@@ -6,8 +6,8 @@ use Rattle.ct_grammar.specs.declared.given.Given.{Given}
 use Rattle.ct_grammar.specs.declared.given.Given.TheVariants.{Members, Cells, Batch}
 use Rattle.ct_grammar.specs.Sides.{whole}
 use Rattle.ct_play.specs.Played.{Played}
-use Rattle.ct_judge.specs.declared.heading.Heading.{Heading}
-use Rattle.ct_judge.specs.declared.heading.TheConstants.{USUAL_CELLS}
+use Rattle.ct_judging.specs.declared.heading.Heading.{Heading}
+use Rattle.ct_judging.specs.declared.heading.TheConstants.{USUAL_CELLS}
 use Rattle.ct_play.specs.declared.line_fault.LineFault.{LineFault}
 use Rattle.ct_play.specs.declared.line_fault.LineFault.TheVariants.{NotUnderstood, NoMembers, Settled}
 

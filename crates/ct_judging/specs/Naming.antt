@@ -15,7 +15,7 @@ use Rattle.ct_grammar.specs.declared.pick.Pick.{Pick}
 use Rattle.ct_grammar.specs.declared.pick.Pick.TheVariants.{Serial, First}
 use Rattle.ct_print.specs.Acts.{command_text}
 use Rattle.ct_play.specs.Picking.{carried_of, sender_of}
-use Rattle.ct_judge.specs.declared.naming.TheConstants.{MOST_NAMED}
+use Rattle.ct_judging.specs.declared.bounds.TheConstants.{MOST_NAMED}
 
 -- ---- what is named
 

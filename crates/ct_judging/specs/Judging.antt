@@ -6,7 +6,7 @@ use Rattle.ct_grammar.specs.declared.play.Play.{Play}
 use Rattle.ct_play.specs.Played.{Played}
 use Rattle.ct_play.specs.Playing.{played}
 use Rattle.ct_play.specs.declared.line_fault.LineFault.{LineFault}
-use Rattle.ct_judge.specs.Standing.{Standing, given_in, headed, played_of}
+use Rattle.ct_judging.specs.Standing.{Standing, given_in, headed, played_of}
 
 -- the world is this one then
 abbrev pub in_world : Standing → Result Played LineFault → Result Standing LineFault

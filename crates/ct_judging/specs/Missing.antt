@@ -6,8 +6,8 @@ use Rattle.ct_model.specs.declared.step.Step.TheVariants.{Receive, Lose}
 use Rattle.ct_show.specs.Facts.{last_taking}
 use Rattle.ct_grammar.specs.declared.pick.Pick.{Pick}
 use Rattle.ct_play.specs.Picking.{repeated, waiting_at}
-use Rattle.ct_judge.specs.Naming.{envelope_name, pick_name, shortened}
-use Rattle.ct_judge.specs.Wording.{behind, numbered, numbered_twice}
+use Rattle.ct_judging.specs.Naming.{envelope_name, pick_name, shortened}
+use Rattle.ct_judging.specs.Wording.{behind, numbered, numbered_twice}
 
 -- ---- what took an envelope out of its line
 
