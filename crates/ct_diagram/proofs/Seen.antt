@@ -7,7 +7,7 @@ use Rattle.ct_records.specs.declared.program_fault.ProgramFault.TheVariants as o
 use Rattle.ct_records.specs.declared.read_fault.ReadFault.{ReadFault}
 use Rattle.ct_streams.specs.Streams.{read_part, WritesPart}
 use Rattle.ct_records.specs.Script.{script}
-use Rattle.ct_show.proofs.Seen.{input_seen}
+use Rattle.ct_told.proofs.Seen.{input_seen}
 use Rattle.ct_diagram.specs.declared.fault.DiagramFault.{DiagramFault}
 use Rattle.ct_diagram.specs.declared.fault.DiagramFault.TheVariants.{Program}
 use Rattle.ct_diagram.specs.declared.window.Window.{Window}

@@ -5,7 +5,7 @@ use Rattle.ct_world.specs.declared.replay_fault.ReplayFault.{ReplayFault}
 use Rattle.ct_streams.specs.declared.status.Status.TheVariants as status
 use Rattle.ct_streams.specs.Statuses.{code}
 use Rattle.ct_records.specs.ProgramFault as program
-use Rattle.ct_show.specs.Faults.{program_text}
+use Rattle.ct_told.specs.Faults.{program_text}
 use Rattle.ct_diagram.specs.declared.fault.DiagramFault.{DiagramFault}
 use Rattle.ct_diagram.specs.declared.fault.DiagramFault.TheVariants.{NoMember, TooManySteps, Unread, Program}
 

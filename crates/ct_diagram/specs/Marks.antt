@@ -8,7 +8,8 @@ use Rattle.ct_model.specs.declared.step.Step.{Step}
 use Rattle.ct_model.specs.declared.step.Step.TheVariants.{Receive, Begin, Enter, Choose, Adopt, Suspect, Conclude, Deliver}
 use Rattle.ct_model.specs.declared.step.Step.TheVariants.{Follow, Crash, Postpone, Lose, Repeat}
 use Rattle.ct_model.specs.Rehearsal.{Rehearsal, state_of}
-use Rattle.ct_show.specs.Details.{detail_text, estimate_of, instance_of, letter_of, round_of}
+use Rattle.ct_show.specs.Details.{detail_text, letter_of}
+use Rattle.ct_text.specs.Standing.{estimate_of, instance_of, round_of}
 use Rattle.ct_show.specs.Wires.{letter_at, round_text}
 use Rattle.ct_diagram.specs.Arrows.{kind_of}
 use Rattle.ct_diagram.specs.declared.drawn.Drawn.{Drawn}

@@ -7,7 +7,7 @@ use Rattle.ct_records.specs.declared.read_fault.ReadFault.{ReadFault}
 use Rattle.ct_records.specs.Replay.{IsAllowed}
 use Rattle.ct_records.specs.Script.{script}
 use Rattle.ct_streams.specs.Streams.{WritesPart}
-use Rattle.ct_show.specs.NoRecords.{IsToldOf}
+use Rattle.ct_told.specs.NoRecords.{IsToldOf}
 use Rattle.ct_diagram.specs.declared.fault.DiagramFault.{DiagramFault}
 use Rattle.ct_diagram.specs.declared.fault.DiagramFault.TheVariants.{NoMember, Unread, Program}
 use Rattle.ct_diagram.specs.declared.window.TheConstants.{MOST_STEPS}

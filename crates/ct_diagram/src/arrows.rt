@@ -1,7 +1,7 @@
 //! An arrow for each envelope that is received or lost, and the beginning of one for each other.
 
 ghost use Rattle.std.specs.Prelude.{◌≡◌, ◌<◌, ◌+◌, ◌-◌, ◌^◌, length, OnOk};
-ghost use Rattle.ct_records.specs.Adds.{Adds};
+ghost use Rattle.ct_text.specs.Adds.{Adds};
 ghost use Rattle.ct_show.specs.Wires.{letter_at};
 ghost use Rattle.ct_diagram.specs.Arrows.{kind_of, sender_at, grid_of, end_class, begun_at, begun_by, begun_word, begun_in, before_text};
 ghost use Rattle.ct_diagram.specs.Arrows.{begun_text, end_word, end_text, opening_text, way_text, who_text, arrow_text, arrow_at, asked};

@@ -5,8 +5,8 @@ ghost use Rattle.ct_diagram.specs.Faults.{fault_text, status_of};
 
 use ct_names::Member;
 use ct_records::ProgramFault;
-use ct_show::{FaultLine, NoRecord};
 use ct_streams::{InputFault, Status};
+use ct_told::{FaultLine, NoRecord};
 use ct_world::ReplayFault;
 use std::alloc::AllocError;
 use std::fmt;

@@ -1,7 +1,7 @@
 //! What stands around the steps: how things look, the members' lines, and what the signs mean.
 
 ghost use Rattle.std.specs.Prelude.{◌≡◌, ◌≤◌, ◌+◌, OnOk};
-ghost use Rattle.ct_records.specs.Adds.{Adds};
+ghost use Rattle.ct_text.specs.Adds.{Adds};
 ghost use Rattle.ct_diagram.specs.Grid.{row_of};
 ghost use Rattle.ct_diagram.specs.Frame.{row_end, low, width, sizes_text, head_text, name_text, line_text, lane_text};
 ghost use Rattle.ct_diagram.specs.Frame.{row_text, rows_text, below_text, legend_text, foot_text};

@@ -1,9 +1,10 @@
 //! A mark for each step.
 
 ghost use Rattle.std.specs.Prelude.{◌≡◌, ◌≤◌, ◌+◌, ◌++◌, OnOk};
-ghost use Rattle.ct_records.specs.Adds.{Adds};
+ghost use Rattle.ct_text.specs.Adds.{Adds};
 ghost use Rattle.ct_model.specs.Actor.{actor};
-ghost use Rattle.ct_show.specs.Details.{instance_of, letter_of, round_of};
+ghost use Rattle.ct_text.specs.Standing.{instance_of, round_of};
+ghost use Rattle.ct_show.specs.Details.{letter_of};
 ghost use Rattle.ct_show.specs.Wires.{round_text};
 ghost use Rattle.ct_diagram.specs.Grid.{spot_of};
 ghost use Rattle.ct_diagram.specs.Marks.{class_of, kind_at, received_kind, dot_text, circle_text, letter_text, sign_text};
@@ -16,7 +17,8 @@ use crate::grid::{Grid, Spot};
 use crate::sight::Sight;
 use ct_model::Step;
 use ct_names::{MAX_ENVELOPES, Member};
-use ct_show::{instance_of, letter_of, push_detail, push_estimate_of, push_round, round_of};
+use ct_show::{letter_of, push_detail, push_round};
+use ct_text::{instance_of, push_estimate_of, round_of};
 use ct_world::{Letter, World};
 use std::alloc::AllocError;
 

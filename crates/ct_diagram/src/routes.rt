@@ -1,7 +1,7 @@
 //! The lines of envelopes.
 
 ghost use Rattle.std.specs.Prelude.{◌≡◌, ◌≤◌, OnOk};
-ghost use Rattle.ct_records.specs.Adds.{Adds};
+ghost use Rattle.ct_text.specs.Adds.{Adds};
 ghost use Rattle.ct_diagram.specs.Grid.{spot_of};
 ghost use Rattle.ct_diagram.specs.Routes.{edge_height, straight_text, over_text, left_text, route_text, reach, stub_end, stub_text};
 

@@ -1,7 +1,7 @@
 //! What stands behind a step: which round each member is in, who has crashed, and the number of each fifth column's step.
 
 ghost use Rattle.std.specs.Prelude.{◌≡◌, ◌≤◌, ◌+◌, OnOk, option_map};
-ghost use Rattle.ct_records.specs.Adds.{Adds};
+ghost use Rattle.ct_text.specs.Adds.{Adds};
 ghost use Rattle.ct_diagram.specs.Grid.{spot_of};
 ghost use Rattle.ct_diagram.specs.Shades.{class_of, round_class, rect_text, shade_text, first_shades, rule_text, digits_text};
 ghost use Rattle.ct_diagram.specs.Shades.{this_number, number_text, shades};

@@ -7,7 +7,7 @@ use Rattle.ct_names.specs.Value.{Value}
 use Rattle.ct_model.specs.AtValue.{Wire}
 use Rattle.ct_model.specs.Received.{decided}
 use Rattle.ct_model.specs.Rehearsal.{Rehearsal}
-use Rattle.ct_records.proofs.Pieces.{HasWritten, written_more}
+use Rattle.ct_text.proofs.Pieces.{HasWritten, written_more}
 use Rattle.ct_json.specs.Json.{decision_json, decision_jsons, first_decisions, first_members, first_registers, member_json}
 use Rattle.ct_world.specs.Standing.{heard_by}
 use Rattle.ct_world.specs.World.{if_member, member_of}

@@ -7,11 +7,11 @@ use Rattle.ct_model.specs.declared.phase.Phase.{Phase}
 use Rattle.ct_model.specs.Rehearsal.{Rehearsal}
 use Rattle.ct_world.specs.Standing.{estimate_by, heard_by, acked_by, replied_by}
 use Rattle.ct_world.specs.World.{member_of, if_member}
-use Rattle.ct_show.specs.Details.{coordinator_of}
+use Rattle.ct_text.specs.Standing.{coordinator_of}
 use Rattle.ct_json.specs.Json.{array_at}
 use Rattle.ct_json.specs.JsonEnvelopes.{estimate_at, estimate_keys}
-use Rattle.ct_show.specs.Shapes.{phase_text}
-use Rattle.ct_show.specs.State.{first_in}
+use Rattle.ct_text.specs.Shapes.{phase_text}
+use Rattle.ct_text.specs.Lists.{first_in}
 
 -- the members of a set at a key; nothing where there is no set
 abbrev pub set_at : List ℕ → Option (List ℕ) → List ℕ

@@ -20,7 +20,7 @@ use Rattle.ct_model.specs.State.{at_serial}
 use Rattle.ct_model.specs.StepText.{amount, command_entry, step_entry, step_text}
 use Rattle.ct_world.specs.Standing.{estimate_by, heard_by}
 use Rattle.ct_world.specs.World.{member_of, if_member}
-use Rattle.ct_show.specs.Details.{coordinator_of, instance_of, round_of}
+use Rattle.ct_text.specs.Standing.{coordinator_of, instance_of, round_of}
 use Rattle.ct_show.specs.Facts.{last_taking}
 use Rattle.ct_json.specs.Json.{key_json, messages_json}
 use Rattle.ct_json.specs.JsonEnvelopes.{envelope_json, estimate_at, sent_at}

@@ -2,7 +2,7 @@
 
 ghost use Rattle.std.specs.Prelude.{◌≡◌, codes, map, OnOk, IfOk, IsTrue, slice_index};
 ghost use Rattle.std.specs.List.{join_with_byte};
-ghost use Rattle.ct_records.specs.Adds.{Adds};
+ghost use Rattle.ct_text.specs.Adds.{Adds};
 ghost use Rattle.ct_names.specs.Group.{is_member};
 ghost use Rattle.ct_records.specs.Outcome.{IsOutcome};
 ghost use Rattle.ct_json.specs.Json.{messages_json, message_json, decision_json};
@@ -12,8 +12,8 @@ ghost use Rattle.ct_json.specs.Json.{first_members, members_json, group_json, co
 ghost use Rattle.ct_world.specs.World.{member_of};
 
 use ct_names::{Instance, Member, Message};
-use ct_records::push_separator;
 use ct_table::Table;
+use ct_text::push_separator;
 use ct_world::World;
 use std::alloc::{AllocError, Global};
 

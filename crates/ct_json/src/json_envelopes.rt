@@ -3,14 +3,14 @@
 ghost use Rattle.std.specs.Prelude.{◌≡◌, ◌≤◌, ◌-◌, length, OnOk, option_map};
 ghost use Rattle.std.specs.List.{join_with_byte};
 ghost use Rattle.ct_model.specs.Rehearsal.{state_of};
-ghost use Rattle.ct_records.specs.Adds.{Adds};
+ghost use Rattle.ct_text.specs.Adds.{Adds};
 ghost use Rattle.ct_json.specs.Json.{array_at, key_json, messages_json};
 ghost use Rattle.ct_json.specs.JsonEnvelopes.{estimate_keys, estimate_at, kind_keys, wire_keys, letter_keys, carried_keys};
 ghost use Rattle.ct_json.specs.JsonEnvelopes.{sender_at, envelope_by, next_envelopes, sent_at};
 
 use crate::json::{push_messages, push_messages_at};
 use ct_names::{Instance, MAX_ENVELOPES, Member, Message, Round, Serial};
-use ct_records::push_separator;
+use ct_text::push_separator;
 use ct_world::{Letter, Wire, World};
 use std::alloc::AllocError;
 

@@ -3,17 +3,16 @@
 ghost use Rattle.std.specs.Prelude.{◌≡◌, codes, OnOk, option_map};
 ghost use Rattle.std.specs.List.{join_with_byte};
 ghost use Rattle.ct_names.specs.declared.limit.TheConstants.{MAX_MEMBERS};
-ghost use Rattle.ct_records.specs.Adds.{Adds};
+ghost use Rattle.ct_text.specs.Adds.{Adds};
 ghost use Rattle.ct_json.specs.Json.{array_at};
 ghost use Rattle.ct_json.specs.JsonParts.{set_at, replies_json, heard_json, first_heard, votes_json, phase_json, coordinator_json};
 ghost use Rattle.ct_json.specs.JsonParts.{led_json, place_json, part_json};
-ghost use Rattle.ct_show.specs.State.{first_in};
+ghost use Rattle.ct_text.specs.Lists.{first_in};
 
 use crate::json_envelopes::{push_estimate_at, push_estimate_keys};
 use ct_model::Phase;
 use ct_names::{MAX_MEMBERS, Member, MemberSet, Message, Round};
-use ct_records::push_separator;
-use ct_show::{coordinator_of, phase_name};
+use ct_text::{coordinator_of, phase_name, push_separator};
 use ct_world::World;
 use std::alloc::AllocError;
 

@@ -5,7 +5,7 @@ ghost use Rattle.std.specs.List.{join_with_byte};
 ghost use Rattle.ct_names.specs.Group.{is_member};
 ghost use Rattle.ct_model.specs.Cause.{cause};
 ghost use Rattle.ct_model.specs.Rehearsal.{line_of};
-ghost use Rattle.ct_records.specs.Adds.{Adds};
+ghost use Rattle.ct_text.specs.Adds.{Adds};
 ghost use Rattle.ct_json.specs.Json.{array_at};
 ghost use Rattle.ct_json.specs.JsonState.{waiting_json, enabled_jsons, refusal_json, refused_jsons, steps_json, next_json};
 ghost use Rattle.ct_json.specs.JsonState.{chances_json, member_json, first_members, whole_json, state_json};
@@ -16,8 +16,8 @@ use crate::json_envelopes::push_envelope;
 use crate::json_parts::push_part;
 use ct_model::Step;
 use ct_names::{Member, Refusal, Serial};
-use ct_records::push_separator;
 use ct_show::{Traced, first_receipt, own_steps, push_next_between, sender_at, told_refusal};
+use ct_text::push_separator;
 use ct_world::World;
 use std::alloc::{AllocError, Global};
 

@@ -1,9 +1,9 @@
 //! The line of a step as JSON: an object, and a line feed. The world is the one after the step, or before it where it is refused.
 
 ghost use Rattle.std.specs.Prelude.{◌≡◌, ◌≤◌, codes, decimal, OnOk, option_map};
-ghost use Rattle.ct_records.specs.Adds.{Adds};
+ghost use Rattle.ct_text.specs.Adds.{Adds};
 ghost use Rattle.ct_model.specs.StepText.{step_entry};
-ghost use Rattle.ct_show.specs.Details.{instance_of};
+ghost use Rattle.ct_text.specs.Standing.{instance_of};
 ghost use Rattle.ct_json.specs.Json.{key_json};
 ghost use Rattle.ct_json.specs.JsonEnvelopes.{envelope_json};
 ghost use Rattle.ct_json.specs.JsonSteps.{head_json, command_json, arguments_json, message_of, message_in, held, valued_json};
@@ -16,7 +16,8 @@ use crate::json_envelopes::{push_envelope, push_estimate_at, push_sent_at};
 use crate::json_parts::{push_part, push_replies};
 use ct_model::Step;
 use ct_names::{Command, Instance, MAX_ENVELOPES, Member, Message, Refusal, Round, Serial};
-use ct_show::{coordinator_of, instance_of, last_taking, round_of};
+use ct_show::last_taking;
+use ct_text::{coordinator_of, instance_of, round_of};
 use ct_world::{Letter, Wire, World};
 use std::alloc::AllocError;
 

@@ -3,8 +3,8 @@ use Rattle.std.proofs.Common.{◌≡◌, List, ℕ, Ok, Err, Result, Bool, true,
 use Rattle.ct_grammar.specs.declared.line.Line.{Line}
 use Rattle.ct_play.specs.declared.line_fault.LineFault.{LineFault}
 use Rattle.ct_play.specs.Faults.{IsFaultOf, IsKept, UnlessShort, is_short}
-use Rattle.ct_judge.specs.Standing.{Standing, played_of}
-use Rattle.ct_judge.specs.Telling.{explained, fault_text}
+use Rattle.ct_judging.specs.Standing.{Standing, played_of}
+use Rattle.ct_judging.specs.Telling.{explained, fault_text}
 
 -- what is said of a fault that doesn't tell of memory or of the board
 said : {P : Type 0} (b : Bool) → b ≡ false → UnlessShort b P → P

@@ -7,9 +7,11 @@ use Rattle.ct_streams.specs.Streams.{read_part}
 use Rattle.ct_grammar.specs.Texts.{is_feed, lines_of}
 use Rattle.ct_grammar.proofs.LineFeeds.{first_line, only_line}
 use Rattle.ct_play.specs.Acting.{go_on}
-use Rattle.ct_judge.specs.Schedule.{IsFaultIn, IsLeftAt, IsOfLine, Progress, Stopped, after_line, after_lines, before_fault}
-use Rattle.ct_judge.specs.Schedule.{finished, or_stay, world_at}
-use Rattle.ct_judge.specs.Standing.{world_of}
+use Rattle.ct_judge.specs.Schedule.{IsFaultIn, IsLeftAt, IsOfLine, before_fault}
+use Rattle.ct_judging.specs.Schedule.{Progress, Stopped, after_line, after_lines}
+use Rattle.ct_judging.specs.Schedule.{finished, world_at}
+use Rattle.ct_judge.specs.Schedule.{or_stay}
+use Rattle.ct_judging.specs.Standing.{world_of}
 use Rattle.ct_judge.specs.declared.recording.TheConstants.{MAX_LEN}
 use Rattle.ct_judge.specs.declared.record_fault.RecordFault.{RecordFault}
 use Rattle.ct_judge.specs.declared.record_fault.RecordFault.TheVariants.{Line, TooLong, Read, Write, Memory, Board}

@@ -4,7 +4,7 @@ use Rattle.ct_grammar.specs.declared.play.Play.{Play}
 use Rattle.ct_play.specs.Parts.{IsPartOf}
 use Rattle.ct_play.specs.Played.{Played}
 use Rattle.ct_judge.specs.Parts.{IsPartIn, IsPlayedPart}
-use Rattle.ct_judge.specs.Standing.{Standing}
+use Rattle.ct_judging.specs.Standing.{Standing}
 
 pub in_world : (s t : Standing) (w v : Played) (play : Play) → s.played ≡ Some w → t ≡ record s { played = Some v } →
     IsPartOf w play v → IsPlayedPart s play t

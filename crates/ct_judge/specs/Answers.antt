@@ -20,13 +20,13 @@ use Rattle.ct_grammar.specs.declared.question.Question.TheVariants.{Enabled, Nex
 use Rattle.ct_play.specs.Cuts.{first_near}
 use Rattle.ct_play.specs.Picking.{waiting_at}
 use Rattle.ct_play.specs.Played.{Played}
-use Rattle.ct_judge.specs.Judging.{taken}
-use Rattle.ct_judge.specs.Naming.{letter_name, listed}
-use Rattle.ct_judge.specs.Reading.{misread_text}
-use Rattle.ct_judge.specs.Standing.{Standing}
-use Rattle.ct_judge.specs.Telling.{Explained, explained}
-use Rattle.ct_judge.specs.Wording.{numbered}
-use Rattle.ct_judge.specs.declared.misread.Misread.{Misread}
+use Rattle.ct_judging.specs.Judging.{taken}
+use Rattle.ct_judging.specs.Naming.{letter_name, listed}
+use Rattle.ct_judging.specs.Reading.{misread_text}
+use Rattle.ct_judging.specs.Standing.{Standing}
+use Rattle.ct_judging.specs.Telling.{Explained, explained}
+use Rattle.ct_judging.specs.Wording.{numbered}
+use Rattle.ct_judging.specs.declared.misread.Misread.{Misread}
 
 -- ---- answers to questions
 

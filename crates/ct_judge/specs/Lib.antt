@@ -1,16 +1,9 @@
 pub mod Answers
-pub mod Judging
 pub mod Keeping
 pub mod Line
-pub mod Missing
-pub mod Naming
 pub mod Parts
-pub mod Reading
 pub mod Recording
-pub mod Refusing
 pub mod Schedule
 pub mod SessionFaults
 pub mod Sessions
-pub mod Standing
-pub mod Telling
-pub mod Wording
+pub mod Stops

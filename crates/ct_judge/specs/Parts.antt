@@ -5,7 +5,7 @@ use Rattle.ct_grammar.specs.declared.line.Line.TheVariants.{Play as Plays}
 use Rattle.ct_grammar.specs.declared.play.Play.{Play}
 use Rattle.ct_play.specs.Parts.{IsPartOf}
 use Rattle.ct_play.specs.Played.{Played}
-use Rattle.ct_judge.specs.Standing.{Standing}
+use Rattle.ct_judging.specs.Standing.{Standing}
 
 -- a world is there where one was
 abbrev pub IsPartIn : Option Played → Play → Option Played → Type 0

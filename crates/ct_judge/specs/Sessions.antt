@@ -5,11 +5,11 @@ use Rattle.std.specs.Io.KnownBytes.{Appends}
 use Rattle.ct_streams.specs.Streams.{WritesPart}
 use Rattle.ct_grammar.specs.declared.line.Line.{Line}
 use Rattle.ct_judge.specs.Answers.{answer, is_refused, standing_after}
-use Rattle.ct_judge.specs.Reading.{line_in}
-use Rattle.ct_judge.specs.Standing.{Standing, start}
+use Rattle.ct_judging.specs.Reading.{line_in}
+use Rattle.ct_judging.specs.Standing.{Standing, start}
 use Rattle.ct_judge.specs.declared.heard.Heard.{Heard}
-use Rattle.ct_judge.specs.declared.misread.Misread.{Misread}
-use Rattle.ct_judge.specs.declared.misread.Misread.TheVariants.{TooLong}
+use Rattle.ct_judging.specs.declared.misread.Misread.{Misread}
+use Rattle.ct_judging.specs.declared.misread.Misread.TheVariants.{TooLong}
 use Rattle.ct_judge.specs.declared.session.TheConstants.{LONGEST}
 
 -- where a session stands, the bytes of its line that is not over yet: one more than a line may have at most, and whether a line

@@ -1,7 +1,7 @@
 //! What a session answers to lines that are taken.
 
 ghost use Rattle.std.specs.Prelude.{◌≡◌, ◌≤◌, OnOk, IsTrue};
-ghost use Rattle.ct_records.specs.Adds.{Adds};
+ghost use Rattle.ct_text.specs.Adds.{Adds};
 ghost use Rattle.ct_names.specs.Group.{is_member};
 ghost use Rattle.ct_judge.specs.Answers.{asked_text, enabled_text, if_known, group_limits, limits_answer, member_limits, next_answer};
 ghost use Rattle.ct_judge.specs.Answers.{ok_text, receipt_of};

@@ -1,16 +1,16 @@
 //! The texts of faults, in the world before the line.
 
 ghost use Rattle.std.specs.Prelude.{◌≡◌, OnOk, IsTrue};
-ghost use Rattle.ct_records.specs.Adds.{Adds};
+ghost use Rattle.ct_text.specs.Adds.{Adds};
 ghost use Rattle.ct_names.specs.Group.{is_member};
 ghost use Rattle.ct_play.specs.Expecting.{unmet};
 ghost use Rattle.ct_play.specs.Facts.{there, wanted};
 ghost use Rattle.ct_play.specs.Stating.{came_to};
-ghost use Rattle.ct_judge.specs.Missing.{missing_text, none_from_text};
-ghost use Rattle.ct_judge.specs.Telling.{claim_unmet, fault_in, goal_unmet, if_member_text, not_met_text, not_reached_text};
-ghost use Rattle.ct_judge.specs.Telling.{not_so_text, other_text, seen_text, term_unmet, untrue_text};
-ghost use Rattle.ct_judge.specs.Telling.{plain_text, stranger_text, unmet_text};
-ghost use Rattle.ct_judge.specs.Wording.{behind};
+ghost use Rattle.ct_judging.specs.Missing.{missing_text, none_from_text};
+ghost use Rattle.ct_judging.specs.Telling.{claim_unmet, fault_in, goal_unmet, if_member_text, not_met_text, not_reached_text};
+ghost use Rattle.ct_judging.specs.Telling.{not_so_text, other_text, seen_text, term_unmet, untrue_text};
+ghost use Rattle.ct_judging.specs.Telling.{plain_text, stranger_text, unmet_text};
+ghost use Rattle.ct_judging.specs.Wording.{behind};
 
 use crate::missing::{push_across, push_missing, push_none_from};
 use crate::refusing::push_refused;
@@ -146,7 +146,7 @@ fn push_goal_unmet(
     }
 }
 
-#[tactic(auto, unfolding(crate::specs::Telling::term_unmet, crate::specs::Wording::behind))]
+#[tactic(auto, unfolding(ct_judging::specs::Telling::term_unmet, ct_judging::specs::Wording::behind))]
 fn push_term_unmet(text: &mut String, term: &Term) -> Result<(), AllocError>
     ensures { OnOk result (Adds text.old text.new (term_unmet term.now)) }
 {
@@ -201,7 +201,7 @@ fn push_claim_unmet(
     }
 }
 
-#[tactic(auto, unfolding(crate::specs::Telling::untrue_text, crate::specs::Wording::behind))]
+#[tactic(auto, unfolding(ct_judging::specs::Telling::untrue_text, ct_judging::specs::Wording::behind))]
 fn push_untrue(text: &mut String, member: Member, claim: &Claim) -> Result<(), AllocError>
     ensures { OnOk result (Adds text.old text.new (untrue_text member claim.now)) }
 {
@@ -210,7 +210,7 @@ fn push_untrue(text: &mut String, member: Member, claim: &Claim) -> Result<(), A
     push_claim(text, claim)
 }
 
-#[tactic(auto, unfolding(crate::specs::Telling::unmet_text))]
+#[tactic(auto, unfolding(ct_judging::specs::Telling::unmet_text))]
 fn push_unmet(
     text: &mut String,
     stage: &Stage,
@@ -225,7 +225,7 @@ fn push_unmet(
     push_there_behind(text, ", there is ", stage, member, fact)
 }
 
-#[tactic(auto, unfolding(crate::specs::Wording::behind))]
+#[tactic(auto, unfolding(ct_judging::specs::Wording::behind))]
 fn push_wanted_behind(text: &mut String, words: &str, fact: &Fact) -> Result<(), AllocError>
     ensures { OnOk result (Adds text.old text.new (behind words.now (wanted fact.now))) }
 {
@@ -233,7 +233,7 @@ fn push_wanted_behind(text: &mut String, words: &str, fact: &Fact) -> Result<(),
     push_wanted(text, fact)
 }
 
-#[tactic(auto, unfolding(crate::specs::Wording::behind))]
+#[tactic(auto, unfolding(ct_judging::specs::Wording::behind))]
 fn push_there_behind(
     text: &mut String,
     words: &str,
@@ -266,7 +266,7 @@ fn push_not_so(
     }
 }
 
-#[tactic(auto, unfolding(crate::specs::Telling::other_text))]
+#[tactic(auto, unfolding(ct_judging::specs::Telling::other_text))]
 fn push_other(
     alloc: Global,
     text: &mut String,
@@ -283,7 +283,7 @@ fn push_other(
     push_came_to_behind(alloc, text, ", there is ", stage, who, act, member)
 }
 
-#[tactic(auto, unfolding(crate::specs::Wording::behind))]
+#[tactic(auto, unfolding(ct_judging::specs::Wording::behind))]
 fn push_stated_behind(text: &mut String, words: &str, said: &Text) -> Result<(), AllocError>
     ensures { OnOk result (Adds text.old text.new (behind words.now said.now)) }
 {
@@ -291,7 +291,7 @@ fn push_stated_behind(text: &mut String, words: &str, said: &Text) -> Result<(),
     text.push_str(said.as_str())
 }
 
-#[tactic(auto, unfolding(crate::specs::Wording::behind))]
+#[tactic(auto, unfolding(ct_judging::specs::Wording::behind))]
 fn push_came_to_behind(
     alloc: Global,
     text: &mut String,

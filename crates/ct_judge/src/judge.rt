@@ -2,17 +2,17 @@
 
 ghost use Rattle.std.specs.Prelude.{◌≡◌, ◌≤◌, None, Ok, Err, OnOk, OnErr, IfOk, IfErr, IfSome, IsOk, IsTrue, IsFalse, option_map};
 ghost use Rattle.std.specs.Prelude.{string_bytes};
-ghost use Rattle.ct_records.specs.Adds.{Adds};
+ghost use Rattle.ct_text.specs.Adds.{Adds};
 ghost use Rattle.ct_names.specs.declared.limit.TheConstants.{MAX_BOUND, MAX_CELLS};
 ghost use Rattle.ct_judge.specs.Answers.{sent_of};
 ghost use Rattle.ct_play.specs.Faults.{IsFaultOf, IsKept};
-ghost use Rattle.ct_judge.specs.Judging.{after_play, taken};
+ghost use Rattle.ct_judging.specs.Judging.{after_play, taken};
 ghost use Rattle.ct_judge.specs.Parts.{IsPart, IsPlayedPart};
-ghost use Rattle.ct_judge.specs.Standing.{headed, made_of, played_of, start, world_of};
-ghost use Rattle.ct_judge.specs.Telling.{fault_text};
+ghost use Rattle.ct_judging.specs.Standing.{headed, made_of, played_of, start, world_of};
+ghost use Rattle.ct_judging.specs.Telling.{fault_text};
 
 use crate::fault_texts::{push_fault_in, push_plain};
-use crate::heading::{Heading, USUAL_CELLS};
+use crate::heading::given_in;
 use ct_grammar::{Line, Play};
 use ct_names::{MAX_BOUND, MAX_ENVELOPES};
 use ct_play::{LineFault, Stage, play};
@@ -33,7 +33,7 @@ pub struct Judge {
 impl Model for Judge {
     ghost use Rattle.std.specs.Prelude.{◌≤◌};
     ghost use Rattle.ct_names.specs.declared.limit.TheConstants.{MAX_BOUND, MAX_CELLS};
-    ghost use Rattle.ct_judge.specs.Standing.{Standing};
+    ghost use Rattle.ct_judging.specs.Standing.{Standing};
 
     ghost Value = { Standing };
 
@@ -44,7 +44,7 @@ impl Model for Judge {
 
 impl Judge {
     /// The judge of a schedule of which no line is told yet.
-    #[tactic(auto, unfolding(crate::specs::Standing::start))]
+    #[tactic(auto, unfolding(ct_judging::specs::Standing::start))]
     pub fn new(alloc: Global) -> Judge
         ensures { result ≡ start }
     {
@@ -69,7 +69,7 @@ impl Judge {
     {
         match line {
             Line::Blank => Ok(()),
-            Line::Given(given) => self.head(self.heading.given(*given)),
+            Line::Given(given) => self.head(given_in(self.heading, *given)),
             Line::Play(play) => self.play(play),
         }
     }
@@ -95,7 +95,7 @@ impl Judge {
     }
 
     // Plays it in the world, which it makes where there is none yet.
-    #[tactic(auto, using(crate::proofs::Parts::in_worlds), unfolding(crate::specs::Standing::played_of))]
+    #[tactic(auto, using(crate::proofs::Parts::in_worlds), unfolding(ct_judging::specs::Standing::played_of))]
     fn play(&mut self, line: &Play) -> Result<(), LineFault>
         ensures ok { OnOk result (after_play self.old line.now (played_of self.old) ≡ Ok self.new) }
         ensures err { IfErr result (IsFaultOf (after_play self.old line.now (played_of self.old))) }
@@ -152,7 +152,7 @@ impl Judge {
     }
 
     // Whether there is a world, or one can be made.
-    #[tactic(auto, unfolding(crate::specs::Standing::played_of))]
+    #[tactic(auto, unfolding(ct_judging::specs::Standing::played_of))]
     pub(crate) fn has_members(&self) -> bool
         ensures some { IsTrue result → IsOk (world_of self.now) }
         ensures none { IsFalse result → world_of self.now ≡ Err LineFault.NoMembers }
@@ -161,7 +161,7 @@ impl Judge {
     }
 
     /// The world, which is made here where no line made it.
-    #[tactic(auto, unfolding(crate::specs::Standing::played_of))]
+    #[tactic(auto, unfolding(ct_judging::specs::Standing::played_of))]
     pub fn into_world(self) -> Result<World, LineFault>
         ensures ok { IfOk result (λ world. world_of self ≡ Ok world.rehearsal) }
         ensures err { IfErr result (IsFaultOf (world_of self)) }
@@ -179,7 +179,7 @@ impl Judge {
     }
 
     // The text of the fault of a line, where it was not taken.
-    #[tactic(auto, unfolding(crate::specs::Standing::played_of))]
+    #[tactic(auto, unfolding(ct_judging::specs::Standing::played_of))]
     pub(crate) fn push_fault(
         &self,
         text: &mut String,

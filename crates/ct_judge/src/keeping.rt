@@ -4,7 +4,7 @@ ghost use Rattle.std.specs.Prelude.{◌≡◌, ◌≢◌, ◌<◌, ◌^◌, Ok, 
 ghost use Rattle.ct_streams.specs.Streams.{FailsOnce};
 ghost use Rattle.ct_judge.specs.Keeping.{IsKeepFaultOf, IsKeptIn, Keeps, KeepsPart, end_of, is_left};
 ghost use Rattle.ct_judge.specs.Schedule.{IsSafeRun};
-ghost use Rattle.ct_judge.specs.Standing.{world_of};
+ghost use Rattle.ct_judging.specs.Standing.{world_of};
 
 use crate::heard::Heard;
 use crate::judge::Judge;

@@ -1,11 +1,11 @@
 //! What is told of an envelope that is not there.
 
 ghost use Rattle.std.specs.Prelude.{OnOk};
-ghost use Rattle.ct_records.specs.Adds.{Adds};
+ghost use Rattle.ct_text.specs.Adds.{Adds};
 ghost use Rattle.ct_play.specs.Picking.{waiting_at};
-ghost use Rattle.ct_judge.specs.Missing.{across_text, gone_text, missing_text, none_from_text, taking_text, took_text};
-ghost use Rattle.ct_judge.specs.Naming.{envelope_name, pick_name, shortened};
-ghost use Rattle.ct_judge.specs.Wording.{behind};
+ghost use Rattle.ct_judging.specs.Missing.{across_text, gone_text, missing_text, none_from_text, taking_text, took_text};
+ghost use Rattle.ct_judging.specs.Naming.{envelope_name, pick_name, shortened};
+ghost use Rattle.ct_judging.specs.Wording.{behind};
 
 use crate::naming::{push_envelope, push_pick, push_shortened};
 use crate::wording::{push_member_number, push_number};
@@ -18,7 +18,7 @@ use ct_world::World;
 use std::alloc::AllocError;
 
 // Where the envelope went that the member's step names, and what waits at the member.
-#[tactic(auto, unfolding(crate::specs::Missing::missing_text))]
+#[tactic(auto, unfolding(ct_judging::specs::Missing::missing_text))]
 pub(crate) fn push_missing(
     text: &mut String,
     stage: &Stage,
@@ -33,7 +33,7 @@ pub(crate) fn push_missing(
 }
 
 // Nothing that certain members sent waits at the member.
-#[tactic(auto, unfolding(crate::specs::Missing::none_from_text))]
+#[tactic(auto, unfolding(ct_judging::specs::Missing::none_from_text))]
 pub(crate) fn push_none_from(
     text: &mut String,
     stage: &Stage,
@@ -50,7 +50,7 @@ pub(crate) fn push_none_from(
 }
 
 // The envelope was sent on another side.
-#[tactic(auto, unfolding(crate::specs::Missing::across_text))]
+#[tactic(auto, unfolding(ct_judging::specs::Missing::across_text))]
 pub(crate) fn push_across(
     text: &mut String,
     stage: &Stage,
@@ -61,7 +61,7 @@ pub(crate) fn push_across(
     push_envelope_behind(text, "across the cut: ", stage, serial)
 }
 
-#[tactic(auto, unfolding(crate::specs::Wording::behind))]
+#[tactic(auto, unfolding(ct_judging::specs::Wording::behind))]
 fn push_pick_behind(text: &mut String, words: &str, pick: Pick) -> Result<(), AllocError>
     ensures { OnOk result (Adds text.old text.new (behind words.now (pick_name pick))) }
 {
@@ -69,7 +69,7 @@ fn push_pick_behind(text: &mut String, words: &str, pick: Pick) -> Result<(), Al
     push_pick(text, pick)
 }
 
-#[tactic(auto, unfolding(crate::specs::Wording::behind))]
+#[tactic(auto, unfolding(ct_judging::specs::Wording::behind))]
 fn push_envelope_behind(
     text: &mut String,
     words: &str,
@@ -83,7 +83,7 @@ fn push_envelope_behind(
 }
 
 // What waits at the member.
-#[tactic(auto, unfolding(crate::specs::Wording::behind))]
+#[tactic(auto, unfolding(ct_judging::specs::Wording::behind))]
 fn push_waits(
     text: &mut String,
     words: &str,

@@ -2,25 +2,23 @@
 
 ghost use Rattle.std.specs.Prelude.{◌++◌, [], ◌∷◌, OnOk, codes, decimal, flat_map};
 ghost use Rattle.std.specs.List.{concat};
-ghost use Rattle.ct_records.specs.Adds.{Adds};
+ghost use Rattle.ct_text.specs.Adds.{Adds};
 ghost use Rattle.ct_print.specs.Acts.{command_text};
-ghost use Rattle.ct_judge.specs.Naming.{carried_name, envelope_name, from_name, letter_name, listed};
-ghost use Rattle.ct_judge.specs.Naming.{pick_name, round_name, set_name, shortened, value_in, value_name, wire_name};
+ghost use Rattle.ct_judging.specs.Naming.{carried_name, envelope_name, from_name, letter_name, listed};
+ghost use Rattle.ct_judging.specs.Naming.{pick_name, round_name, set_name, shortened, value_in, value_name, wire_name};
 
 use ct_grammar::{Carried, Pick};
+use ct_judging::MOST_NAMED;
 use ct_names::{Command, Instance, Member, Message, Round, Serial};
 use ct_play::{Stage, carried_of};
 use ct_print::push_command;
-use ct_records::push_messages;
 use ct_show::push_round;
+use ct_text::push_messages;
 use ct_world::{Letter, Wire};
 use std::alloc::AllocError;
 
-/// How many waiting envelopes a fault names at most.
-pub const MOST_NAMED: usize = 8;
-
 // An envelope, as a line names it.
-#[tactic(auto, unfolding(crate::specs::Naming::pick_name))]
+#[tactic(auto, unfolding(ct_judging::specs::Naming::pick_name))]
 pub(crate) fn push_pick(text: &mut String, pick: Pick) -> Result<(), AllocError>
     ensures { OnOk result (Adds text.old text.new (pick_name pick)) }
 {
@@ -34,7 +32,7 @@ pub(crate) fn push_pick(text: &mut String, pick: Pick) -> Result<(), AllocError>
 }
 
 // What an envelope carries.
-#[tactic(auto, unfolding(crate::specs::Naming::carried_name))]
+#[tactic(auto, unfolding(ct_judging::specs::Naming::carried_name))]
 fn push_carried(text: &mut String, carried: Carried) -> Result<(), AllocError>
     ensures { OnOk result (Adds text.old text.new (carried_name carried)) }
 {
@@ -72,7 +70,7 @@ fn push_from(text: &mut String, from: Option<Member>) -> Result<(), AllocError>
 }
 
 // The envelope of the serial.
-#[tactic(auto, unfolding(crate::specs::Naming::envelope_name))]
+#[tactic(auto, unfolding(ct_judging::specs::Naming::envelope_name))]
 pub(crate) fn push_envelope(
     text: &mut String,
     stage: &Stage,
@@ -95,7 +93,7 @@ fn push_wire_name(text: &mut String, letter: Option<Letter>) -> Result<(), Alloc
 }
 
 // The same with its value.
-#[tactic(auto, unfolding(crate::specs::Naming::letter_name))]
+#[tactic(auto, unfolding(ct_judging::specs::Naming::letter_name))]
 pub(crate) fn push_letter(
     text: &mut String,
     stage: &Stage,
@@ -123,7 +121,7 @@ fn push_value_in(
 }
 
 // The wire's value, and of an estimate the ts.
-#[tactic(auto, unfolding(crate::specs::Naming::value_name))]
+#[tactic(auto, unfolding(ct_judging::specs::Naming::value_name))]
 fn push_value(text: &mut String, wire: &Wire, value: &[Message]) -> Result<(), AllocError>
     ensures { OnOk result (Adds text.old text.new (value_name wire.now value.now)) }
 {
@@ -161,7 +159,7 @@ fn push_estimate(text: &mut String, value: &[Message], ts: Round) -> Result<(), 
 }
 
 // The envelopes of these serials; of many the first ones, and how many more there are.
-#[tactic(auto, unfolding(crate::specs::Naming::shortened))]
+#[tactic(auto, unfolding(ct_judging::specs::Naming::shortened))]
 pub(crate) fn push_shortened(
     text: &mut String,
     stage: &Stage,

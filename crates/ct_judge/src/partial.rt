@@ -4,9 +4,11 @@ ghost use Rattle.std.specs.Prelude.{◌≡◌, ◌≢◌, ◌≤◌, ◌<◌, �
 ghost use Rattle.std.specs.Io.KnownBytes.{Appends};
 ghost use Rattle.ct_streams.specs.Streams.{FailsOnce, WritesPart, read_part};
 ghost use Rattle.ct_grammar.specs.Texts.{lines_of};
-ghost use Rattle.ct_judge.specs.Schedule.{IsEndIn, IsFaultIn, IsFaultOrStream, IsOfLine, IsToldEnd, before_fault, beginning};
-ghost use Rattle.ct_judge.specs.Schedule.{part_of, part_text, schedule};
-ghost use Rattle.ct_judge.specs.Standing.{world_of};
+ghost use Rattle.ct_judge.specs.Schedule.{IsEndIn, IsFaultIn, IsFaultOrStream, IsOfLine, IsToldEnd, before_fault};
+ghost use Rattle.ct_judging.specs.Schedule.{beginning};
+ghost use Rattle.ct_judge.specs.Schedule.{part_of, part_text};
+ghost use Rattle.ct_judging.specs.Schedule.{schedule};
+ghost use Rattle.ct_judging.specs.Standing.{world_of};
 
 use crate::judge::Judge;
 use crate::keeping::record_line;
@@ -86,7 +88,7 @@ fn recorded_part(alloc: Global, text: &[u8]) -> Result<Part, RecordFault>
 }
 
 // Tells all the lines up to the first that is refused.
-#[tactic(auto, using(crate::proofs::Lines::to_end), unfolding(crate::specs::Schedule::schedule))]
+#[tactic(auto, using(crate::proofs::Lines::to_end), unfolding(ct_judging::specs::Schedule::schedule))]
 fn tell_all(recorder: &mut Recorder, text: &[u8]) -> Result<(), RecordFault>
     requires beginning { recorder.old ≡ beginning }
     requires short { length text.now ≤ MAX_LEN }

@@ -1,19 +1,16 @@
 //! The lines that bytes are, and how they are shown.
 
 ghost use Rattle.std.specs.Prelude.{◌≡◌, OnOk, IfOk, option_map};
-ghost use Rattle.ct_records.specs.Adds.{Adds};
+ghost use Rattle.ct_text.specs.Adds.{Adds};
 ghost use Rattle.ct_grammar.specs.Lines.{line_of};
-ghost use Rattle.ct_judge.specs.Reading.{begins_record, line_in, line_in_text, line_or, shown, shown_text, trimmed};
+ghost use Rattle.ct_judging.specs.Reading.{begins_record, line_in, line_in_text, line_or, shown, shown_text, trimmed};
 
-use crate::misread::Misread;
 use ct_grammar::{Line, line_of, text_in};
+use ct_judging::{LONGEST_SHOWN, Misread};
 use std::alloc::{AllocError, Global};
 
-/// How many bytes of a line a fault shows at most; a longer one is not shown.
-pub const LONGEST_SHOWN: usize = 200;
-
 // The line that these bytes are.
-#[tactic(auto, unfolding(crate::specs::Reading::line_in))]
+#[tactic(auto, unfolding(ct_judging::specs::Reading::line_in))]
 pub(crate) fn line_in(alloc: Global, bytes: &[u8]) -> Result<Result<Line, Misread>, AllocError>
     ensures { IfOk result (λ line. line ≡ line_in bytes.now) }
 {
@@ -52,7 +49,7 @@ fn line_of_text(alloc: Global, text: &str) -> Result<Result<Line, Misread>, Allo
 
 /// Puts the line before its fault: without blanks at its ends, a colon and a space behind it; nothing of one that is longer than
 /// [`LONGEST_SHOWN`] or no UTF-8.
-#[tactic(auto, unfolding(crate::specs::Reading::shown))]
+#[tactic(auto, unfolding(ct_judging::specs::Reading::shown))]
 pub fn push_shown(text: &mut String, line: &[u8]) -> Result<(), AllocError>
     ensures { OnOk result (Adds text.old text.new (shown line.now)) }
 {

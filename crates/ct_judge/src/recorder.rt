@@ -1,9 +1,10 @@
 //! The lines of a schedule, told one by one.
 
 ghost use Rattle.std.specs.Prelude.{◌≡◌, ◌≢◌, ◌≤◌, ◌+◌, ◌<◌, ◌^◌, ◌++◌, Ok, Err, OnOk, IfOk, IfErr, IsOk, string_bytes};
-ghost use Rattle.ct_judge.specs.Reading.{shown};
-ghost use Rattle.ct_judge.specs.Schedule.{IsFaultIn, IsLeftAt, after_line, beginning, world_at};
-ghost use Rattle.ct_judge.specs.Standing.{world_of};
+ghost use Rattle.ct_judging.specs.Reading.{shown};
+ghost use Rattle.ct_judge.specs.Schedule.{IsFaultIn, IsLeftAt};
+ghost use Rattle.ct_judging.specs.Schedule.{after_line, beginning, world_at};
+ghost use Rattle.ct_judging.specs.Standing.{world_of};
 
 use crate::judge::Judge;
 use crate::reading::push_shown;
@@ -25,7 +26,7 @@ pub(crate) struct Recorder {
 
 // Contracts see both.
 impl Model for Recorder {
-    ghost use Rattle.ct_judge.specs.Schedule.{Progress};
+    ghost use Rattle.ct_judging.specs.Schedule.{Progress};
 
     ghost Value = { Progress };
 
@@ -44,7 +45,7 @@ impl Recorder {
     }
 
     // Takes a line.
-    #[tactic(auto, unfolding(crate::specs::Schedule::after_line))]
+    #[tactic(auto, unfolding(ct_judging::specs::Schedule::after_line))]
     pub(crate) fn take(&mut self, line: &[u8]) -> Result<(), RecordFault>
         requires { self.old.number < 2 ^ 63 }
         ensures ok { OnOk result (after_line self.old line.now ≡ Ok self.new) }

@@ -3,8 +3,10 @@
 ghost use Rattle.std.specs.Prelude.{◌≡◌, ◌≢◌, ◌⊎◌, ◌+◌, ◌≤◌, ◌<◌, ◌^◌, length, Ok, Err, OnOk, IfOk, IfErr, IfSome, IsOkAnd};
 ghost use Rattle.ct_streams.specs.Streams.{FailsOnce, read_part};
 ghost use Rattle.ct_grammar.specs.Texts.{lines_of};
-ghost use Rattle.ct_judge.specs.Schedule.{IsFaultIn, IsFaultOrStream, IsLeftAt, IsRecordOf, IsSafeRun, Writes, WritesPartOf, after_lines};
-ghost use Rattle.ct_judge.specs.Schedule.{before_fault, schedule};
+ghost use Rattle.ct_judge.specs.Schedule.{IsFaultIn, IsFaultOrStream, IsLeftAt, IsRecordOf, IsSafeRun, Writes, WritesPartOf};
+ghost use Rattle.ct_judging.specs.Schedule.{after_lines};
+ghost use Rattle.ct_judge.specs.Schedule.{before_fault};
+ghost use Rattle.ct_judging.specs.Schedule.{schedule};
 
 use crate::record_fault::RecordFault;
 use crate::recorder::Recorder;
@@ -86,7 +88,7 @@ pub fn recorded(alloc: Global, text: &[u8]) -> Result<Vec<u8>, RecordFault>
 }
 
 // The world that the schedule leads to.
-#[tactic(auto, using(crate::proofs::Lines::finish_fault), unfolding(crate::specs::Schedule::schedule))]
+#[tactic(auto, using(crate::proofs::Lines::finish_fault), unfolding(ct_judging::specs::Schedule::schedule))]
 fn played(alloc: Global, text: &[u8]) -> Result<World, RecordFault>
     requires { length text.now ≤ MAX_LEN }
     ensures ok { IfOk result (λ world. schedule text.now ≡ Ok world.rehearsal) }

@@ -1,9 +1,9 @@
 //! What is told of refusals.
 
 ghost use Rattle.std.specs.Prelude.{◌≡◌, OnOk, position};
-ghost use Rattle.ct_records.specs.Adds.{Adds};
-ghost use Rattle.ct_judge.specs.Refusing.{crash_of, crash_text, is_crash_of, limit_of, limit_text, members_text, reason_text};
-ghost use Rattle.ct_judge.specs.Refusing.{refused_text};
+ghost use Rattle.ct_text.specs.Adds.{Adds};
+ghost use Rattle.ct_judging.specs.Refusing.{crash_of, crash_text, is_crash_of, limit_of, limit_text, members_text, reason_text};
+ghost use Rattle.ct_judging.specs.Refusing.{refused_text};
 
 use ct_model::Step;
 use ct_names::{
@@ -14,7 +14,7 @@ use ct_world::World;
 use std::alloc::AllocError;
 
 // The step that is refused: whose it is, the refusal, and what is told of it.
-#[tactic(auto, unfolding(crate::specs::Refusing::refused_text))]
+#[tactic(auto, unfolding(ct_judging::specs::Refusing::refused_text))]
 pub(crate) fn push_refused(
     text: &mut String,
     world: &World,
@@ -85,7 +85,7 @@ fn push_crash(text: &mut String, step: Option<usize>) -> Result<(), AllocError>
 }
 
 // The number of the step in which the member crashed.
-#[tactic(auto, unfolding(crate::specs::Refusing::crash_of))]
+#[tactic(auto, unfolding(ct_judging::specs::Refusing::crash_of))]
 fn crash_of(steps: &[Step], member: Member) -> Option<usize>
     ensures { result ≡ crash_of steps.now member }
 {

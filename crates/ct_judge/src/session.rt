@@ -1,7 +1,7 @@
 //! The lines of a session and their answers.
 
 ghost use Rattle.std.specs.Prelude.{◌≡◌, ◌≤◌, ◌++◌, Ok, OnOk, IfOk, IfErr, codes, length, nat_lt, option_map};
-ghost use Rattle.ct_records.specs.Adds.{Adds};
+ghost use Rattle.ct_text.specs.Adds.{Adds};
 ghost use Rattle.ct_judge.specs.Answers.{answer, is_refused, question_text, standing_after, taken_text};
 ghost use Rattle.ct_judge.specs.SessionFaults.{IsShort};
 ghost use Rattle.ct_judge.specs.Sessions.{after_byte, answer_at, heard_in, kept, line_if, line_over, opening, said_at};
@@ -9,7 +9,7 @@ ghost use Rattle.ct_judge.specs.Sessions.{after_byte, answer_at, heard_in, kept,
 use crate::answering::{push_answer, push_ok};
 use crate::heard::Heard;
 use crate::judge::Judge;
-use crate::misread::Misread;
+use crate::misread::push_misread;
 use crate::reading::line_in;
 use crate::session_fault::SessionFault;
 use crate::stop::Stop;
@@ -150,7 +150,7 @@ fn tell(
     match line {
         Ok(line) => tell_and_answer(alloc, text, judge, &line),
         Err(misread) => {
-            misread.push_onto(text)?;
+            push_misread(text, &misread)?;
             text.push_str("\n")?;
             Ok(true)
         }

@@ -1,21 +1,23 @@
 //! Lines that are told to a judge, with the texts of their faults.
 
 ghost use Rattle.std.specs.Prelude.{◌≡◌, Result, Ok, Err, OnOk, IfOk, IfErr, string_bytes};
-ghost use Rattle.ct_judge.specs.Judging.{taken};
-ghost use Rattle.ct_judge.specs.Reading.{misread_text};
-ghost use Rattle.ct_judge.specs.Standing.{Standing, played_of};
-ghost use Rattle.ct_judge.specs.Telling.{Explained, IsStopKept, IsStopOf, explained, fault_text, told};
+ghost use Rattle.ct_judging.specs.Judging.{taken};
+ghost use Rattle.ct_judging.specs.Reading.{misread_text};
+ghost use Rattle.ct_judging.specs.Standing.{Standing, played_of};
+ghost use Rattle.ct_judge.specs.Stops.{IsStopKept, IsStopOf};
+ghost use Rattle.ct_judging.specs.Telling.{Explained, explained, fault_text, told};
 
 use crate::judge::Judge;
-use crate::misread::Misread;
+use crate::misread::push_misread;
 use crate::reading::line_in;
 use crate::stop::Stop;
 use ct_grammar::Line;
+use ct_judging::Misread;
 use ct_play::LineFault;
 use std::alloc::{AllocError, Global};
 
 // Tells the judge a line of these bytes, which is taken or changes nothing.
-#[tactic(auto, unfolding(crate::specs::Telling::told))]
+#[tactic(auto, unfolding(ct_judging::specs::Telling::told))]
 pub(crate) fn tell(alloc: Global, judge: &mut Judge, bytes: &[u8]) -> Result<(), Stop>
     ensures ok { OnOk result (told judge.old bytes.now ≡ Ok judge.new) }
     ensures stop { IfErr result (IsStopOf (told judge.old bytes.now)) }
@@ -42,7 +44,7 @@ fn text_of_misread(alloc: Global, misread: &Misread) -> Result<String, AllocErro
     ensures { IfOk result (λ text. string_bytes text ≡ misread_text misread.now) }
 {
     let mut text = String::new(alloc);
-    misread.push_onto(&mut text)?;
+    push_misread(&mut text, misread)?;
     Ok(text)
 }
 

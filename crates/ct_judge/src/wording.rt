@@ -1,14 +1,14 @@
 //! Words, and what stands behind them.
 
 ghost use Rattle.std.specs.Prelude.{◌≡◌, OnOk};
-ghost use Rattle.ct_records.specs.Adds.{Adds};
-ghost use Rattle.ct_judge.specs.Wording.{numbered, numbered_twice};
+ghost use Rattle.ct_text.specs.Adds.{Adds};
+ghost use Rattle.ct_judging.specs.Wording.{numbered, numbered_twice};
 
 use ct_names::Member;
 use std::alloc::AllocError;
 
 // The words, and a number.
-#[tactic(auto, unfolding(crate::specs::Wording::numbered))]
+#[tactic(auto, unfolding(ct_judging::specs::Wording::numbered))]
 pub(crate) fn push_number(text: &mut String, words: &str, number: usize) -> Result<(), AllocError>
     ensures { OnOk result (Adds text.old text.new (numbered words.now number)) }
 {
@@ -16,7 +16,7 @@ pub(crate) fn push_number(text: &mut String, words: &str, number: usize) -> Resu
 }
 
 // The words, a member, other words, and a number.
-#[tactic(auto, unfolding(crate::specs::Wording::numbered_twice))]
+#[tactic(auto, unfolding(ct_judging::specs::Wording::numbered_twice))]
 pub(crate) fn push_member_number(
     text: &mut String,
     words: &str,

@@ -11,7 +11,8 @@ use Rattle.ct_model.specs.declared.step.Step.TheVariants as step
 use Rattle.ct_world.specs.Driving.{next_local}
 use Rattle.ct_detect.specs.Seeded.{SeededState, after_word, next_word}
 use Rattle.ct_detect.specs.declared.ask.Ask.{Ask}
-use Rattle.ct_rehearse.specs.Choices.{after_try, ask_of, chosen, entry_step, first_waiting, has_crashed, question, receives, tried}
+use Rattle.ct_choices.specs.Choices.{after_try, ask_of, chosen, first_waiting, has_crashed, question, receives, tried}
+use Rattle.ct_rehearse.specs.Entries.{entry_step}
 use Rattle.ct_rehearse.specs.declared.disturbance.Disturbance.{Disturbance}
 use Rattle.ct_rehearse.specs.declared.disturbance.Disturbance.TheVariants as entry
 use Rattle.ct_grammar.specs.declared.goal.Goal.{Goal}

@@ -16,7 +16,8 @@ use Rattle.ct_model.specs.declared.step.Step.TheVariants.{Receive, Begin, Enter,
 use Rattle.ct_model.specs.declared.step.Step.TheVariants.{Follow, Crash, Postpone, Lose, Repeat}
 use Rattle.ct_model.specs.declared.wire.Wire.{Wire}
 use Rattle.ct_model.specs.declared.wire.Wire.TheVariants.{Data, Est, Prop, Ack, Nack, Dec}
-use Rattle.ct_show.specs.Details.{detail_text, estimate_of, instance_of, letter_of, round_of}
+use Rattle.ct_show.specs.Details.{detail_text, letter_of}
+use Rattle.ct_text.specs.Standing.{estimate_of, instance_of, round_of}
 use Rattle.ct_show.specs.Wires.{letter_at, round_text, serial_text}
 use Rattle.ct_diagram.specs.Arrows
 use Rattle.ct_diagram.specs.Grid.{row_of, spot_of, within}

@@ -8,9 +8,9 @@ use Rattle.std.specs.Prelude.{◌==◌, ◌||◌, nat_lt, if◌then◌else◌}
 use Rattle.std.specs.List.{concat, onto_first, slice_split}
 use Rattle.ct_grammar.specs.Texts.{is_feed, lines_of}
 use Rattle.ct_judge.specs.Answers.{answer, is_refused, standing_after}
-use Rattle.ct_judge.specs.Reading.{line_in}
+use Rattle.ct_judging.specs.Reading.{line_in}
 use Rattle.ct_judge.specs.Sessions.{Hearing, Session, answer_at, at_end, kept, line_if, line_over, opening, said_first, session}
-use Rattle.ct_judge.specs.Standing.{Standing}
+use Rattle.ct_judging.specs.Standing.{Standing}
 use Rattle.ct_judge.specs.declared.session.TheConstants.{LONGEST}
 use Rattle.ct_laws.specs.Sessions.{answers, but_nothing, is_any_refused, last_line, lines_heard}
 

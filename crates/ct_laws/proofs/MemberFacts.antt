@@ -23,9 +23,10 @@ use Rattle.ct_model.specs.declared.wire.Wire.TheVariants.{Ack, Est, Nack}
 use Rattle.ct_model.proofs.Consensus.Readings.{acked-of, acker-got, estimates-got}
 use Rattle.ct_world.specs.Standing.{acked_by, estimate_by, heard_by, replied_by}
 use Rattle.ct_world.specs.World.{if_member, member_of}
-use Rattle.ct_show.specs.Details.{acks_text, coordinator_of, coordinator_text, estimate_of, instance_of, round_of, size_of}
+use Rattle.ct_show.specs.Details.{acks_text, coordinator_text, size_of}
+use Rattle.ct_text.specs.Standing.{coordinator_of, estimate_of, instance_of, round_of}
 use Rattle.ct_show.specs.Facts.{first_heard, heard_text, led_text, member_facts, part_text, phase_in, place_in, votes_text}
-use Rattle.ct_show.specs.Shapes.{estimate_text, phase_text}
+use Rattle.ct_text.specs.Shapes.{estimate_text, phase_text}
 use Rattle.ct_laws.specs.Facts.{AreMany, AreTrue, Fact, HasGot, NamesHeard, TellsMember, fact_text, texts_of}
 use Rattle.ct_laws.specs.Facts.Fact.{Acked, Began, Heard, Holds, Idle, InRound, LedBy}
 

@@ -5,7 +5,7 @@ use Rattle.ct_model.specs.Cause.{cause}
 use Rattle.ct_model.specs.Passed.{extended_by, passed}
 use Rattle.ct_model.specs.Rehearsal.{Rehearsal, extended}
 use Rattle.ct_model.specs.declared.step.Step.{Step}
-use Rattle.ct_rehearse.specs.Choices.{after_try}
+use Rattle.ct_choices.specs.Choices.{after_try}
 use Rattle.ct_laws.proofs.Deeds.{both_behind, nothing_behind}
 
 one_by : (b : Bool) (w : Rehearsal) (step : Step) → (if b then extended w step else w) ≡ extended_by w (if b then step ∷ [] else [])

@@ -23,12 +23,12 @@ use Rattle.ct_play.specs.Who.{known, named, stranger, unless_strange}
 use Rattle.ct_play.specs.declared.line_fault.LineFault.{LineFault}
 use Rattle.ct_play.specs.declared.line_fault.LineFault.TheVariants.{Restless}
 use Rattle.ct_play.specs.declared.turning.TheConstants.{MOST_ROUNDS}
-use Rattle.ct_judge.specs.Judging.{after_play, in_world, taken}
-use Rattle.ct_judge.specs.Reading.{line_in}
-use Rattle.ct_judge.specs.Schedule.{after_line, after_lines, finished, line_over, schedule}
-use Rattle.ct_judge.specs.Standing.{Standing, given_in, headed, made_of, made_with, played_of, played_or_made, record_in, start, world_of}
-use Rattle.ct_judge.specs.Telling.{Explained, told, told_if}
-use Rattle.ct_judge.specs.declared.heading.Heading.{Heading}
+use Rattle.ct_judging.specs.Judging.{after_play, in_world, taken}
+use Rattle.ct_judging.specs.Reading.{line_in}
+use Rattle.ct_judging.specs.Schedule.{after_line, after_lines, finished, line_over, schedule}
+use Rattle.ct_judging.specs.Standing.{Standing, given_in, headed, made_of, made_with, played_of, played_or_made, record_in, start, world_of}
+use Rattle.ct_judging.specs.Telling.{Explained, told, told_if}
+use Rattle.ct_judging.specs.declared.heading.Heading.{Heading}
 use Rattle.ct_laws.specs.Places.{AreAllowed, AreOf, ArePlaces, EachIsAllowed, HasPlaces, IsLine, IsPlay, IsShown, behind, joined}
 use Rattle.ct_laws.proofs.Deeds.{Grows, act_grows, allowed_both, both_behind, going_on, grows_more, nothing_behind, stated_grows, grows_not}
 use Rattle.ct_laws.proofs.Expecting.Showing.{shows_so}

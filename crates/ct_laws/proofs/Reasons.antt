@@ -19,7 +19,7 @@ use Rattle.ct_model.specs.Waiting.{has_serial}
 use Rattle.ct_model.specs.declared.step.Step.{Step}
 use Rattle.ct_model.specs.declared.step.Step.TheVariants as step
 use Rattle.ct_show.specs.Facts.{facts_text, serial_facts}
-use Rattle.ct_judge.specs.Refusing.{crash_of, crash_text, is_crash_of, limit_of, reason_text}
+use Rattle.ct_judging.specs.Refusing.{crash_of, crash_text, is_crash_of, limit_of, reason_text}
 use Rattle.ct_laws.specs.Facts.{AreTrue, TellsFacts, TellsMember, serial_in}
 use Rattle.ct_laws.specs.Facts.Fact.{AtMost, CrashedIn, Members, Registers}
 use Rattle.ct_laws.proofs.LetterFacts.{tells_letter}

@@ -16,7 +16,7 @@ use Rattle.ct_model.specs.State.{State, at_serial, first_state}
 use Rattle.ct_model.specs.Wire.{envelopes}
 use Rattle.ct_world.specs.Replay.{first_steps}
 use Rattle.ct_records.specs.Replay.{IsAllowed}
-use Rattle.ct_show.proofs.Tracing.{senders_more}
+use Rattle.ct_text.proofs.Tracing.{senders_more}
 use Rattle.ct_laws.specs.Diagrams.{sent_by}
 use Rattle.ct_model.proofs.Basics.Options.{some-none, some-same}
 use Rattle.ct_model.proofs.Record.Allowed.{allowed-lawful, cause-allowed, names-free}

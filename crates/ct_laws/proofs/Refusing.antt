@@ -7,11 +7,11 @@ use Rattle.ct_play.specs.Acting.{go_on}
 use Rattle.ct_play.specs.Played.{Played}
 use Rattle.ct_play.specs.declared.line_fault.LineFault.{LineFault}
 use Rattle.ct_play.specs.declared.line_fault.LineFault.TheVariants.{NoMembers}
-use Rattle.ct_judge.specs.Reading.{shown}
-use Rattle.ct_judge.specs.Schedule.{Progress, Stopped, after_line, after_lines, beginning, finished, line_over, schedule, world_at}
-use Rattle.ct_judge.specs.Standing.{Standing, made_of, played_of, played_or_made, record_in, world_of}
-use Rattle.ct_judge.specs.Telling.{Explained, told}
-use Rattle.ct_judge.specs.declared.heading.Heading.{Heading}
+use Rattle.ct_judging.specs.Reading.{shown}
+use Rattle.ct_judging.specs.Schedule.{Progress, Stopped, after_line, after_lines, beginning, finished, line_over, schedule, world_at}
+use Rattle.ct_judging.specs.Standing.{Standing, made_of, played_of, played_or_made, record_in, world_of}
+use Rattle.ct_judging.specs.Telling.{Explained, told}
+use Rattle.ct_judging.specs.declared.heading.Heading.{Heading}
 use Rattle.ct_laws.specs.Refusals.{HasNoMembers, IsRefused, IsRefusedAt}
 
 over_number : (t u : Progress) (line : List ℕ) (r : Result Standing Explained) → line_over t line r ≡ Ok u → u.number ≡ t.number + 1

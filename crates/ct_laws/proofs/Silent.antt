@@ -19,12 +19,12 @@ use Rattle.ct_play.specs.Played.{Played}
 use Rattle.ct_play.specs.Playing.{asked, played}
 use Rattle.ct_play.specs.declared.line_fault.LineFault.{LineFault}
 use Rattle.ct_play.specs.declared.line_fault.LineFault.TheVariants.{NoSuchMember, Settled}
-use Rattle.ct_judge.specs.Judging.{after_play, in_world, taken}
-use Rattle.ct_judge.specs.Reading.{line_in}
-use Rattle.ct_judge.specs.Schedule.{after_line, after_lines, beginning, finished, line_over, schedule, world_at}
-use Rattle.ct_judge.specs.Standing.{Standing, given_in, headed, made_of, played_of, played_or_made, record_in, start, world_of}
-use Rattle.ct_judge.specs.Telling.{Explained, explained, told, told_if}
-use Rattle.ct_judge.specs.declared.heading.Heading.{Heading}
+use Rattle.ct_judging.specs.Judging.{after_play, in_world, taken}
+use Rattle.ct_judging.specs.Reading.{line_in}
+use Rattle.ct_judging.specs.Schedule.{after_line, after_lines, beginning, finished, line_over, schedule, world_at}
+use Rattle.ct_judging.specs.Standing.{Standing, given_in, headed, made_of, played_of, played_or_made, record_in, start, world_of}
+use Rattle.ct_judging.specs.Telling.{Explained, explained, told, told_if}
+use Rattle.ct_judging.specs.declared.heading.Heading.{Heading}
 use Rattle.ct_laws.specs.Schedules.{asks, is_silent, plays_nothing, spoken}
 use Rattle.ct_laws.specs.Sessions.{text_of}
 use Rattle.ct_laws.proofs.Plain.{ArePlain, ended, lines_ended, plain_if, plain_lines}

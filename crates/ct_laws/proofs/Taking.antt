@@ -10,12 +10,12 @@ use Rattle.ct_grammar.specs.declared.line.Line.{Line}
 use Rattle.ct_play.specs.Acting.{go_on}
 use Rattle.ct_play.specs.declared.line_fault.LineFault.{LineFault}
 use Rattle.ct_judge.specs.Answers.{is_refused, or_before, standing_after}
-use Rattle.ct_judge.specs.Judging.{taken}
-use Rattle.ct_judge.specs.Reading.{line_in}
-use Rattle.ct_judge.specs.Schedule.{Progress, after_line, after_lines, beginning, finished, line_over, schedule, world_at}
+use Rattle.ct_judging.specs.Judging.{taken}
+use Rattle.ct_judging.specs.Reading.{line_in}
+use Rattle.ct_judging.specs.Schedule.{Progress, after_line, after_lines, beginning, finished, line_over, schedule, world_at}
 use Rattle.ct_judge.specs.Sessions.{line_if, opening, session}
-use Rattle.ct_judge.specs.Standing.{Standing, start, world_of}
-use Rattle.ct_judge.specs.Telling.{Explained, explained, told, told_if}
+use Rattle.ct_judging.specs.Standing.{Standing, start, world_of}
+use Rattle.ct_judging.specs.Telling.{Explained, explained, told, told_if}
 use Rattle.ct_judge.specs.declared.session.TheConstants.{LONGEST}
 use Rattle.ct_laws.specs.Sessions.{accepted, lines_heard, text_of}
 use Rattle.ct_laws.proofs.Hearing.{session_is, standing_behind}

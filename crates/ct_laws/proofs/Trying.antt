@@ -19,7 +19,7 @@ use Rattle.ct_world.specs.Driving.{candidates, next_local}
 use Rattle.ct_world.specs.World.{member_of}
 use Rattle.ct_detect.specs.Seeded.{SeededState, after_word, next_word}
 use Rattle.ct_detect.specs.declared.ask.Ask.{Ask}
-use Rattle.ct_rehearse.specs.Choices.{after_try, ask_of, asked_for, chosen, first_waiting, has_crashed, question, tried}
+use Rattle.ct_choices.specs.Choices.{after_try, ask_of, asked_for, chosen, first_waiting, has_crashed, question, tried}
 use Rattle.ct_rehearse.specs.declared.disturbance.Disturbance.{Disturbance}
 use Rattle.ct_grammar.specs.declared.goal.Goal.{Goal}
 use Rattle.ct_program.specs.Seeding.{detector_of}

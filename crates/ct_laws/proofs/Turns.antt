@@ -11,7 +11,7 @@ use Rattle.ct_model.specs.declared.step.Step.{Step}
 use Rattle.ct_model.specs.declared.step.Step.TheVariants as step
 use Rattle.ct_world.specs.Driving.{best_heard, candidates, next_local}
 use Rattle.ct_world.specs.World.{member_of}
-use Rattle.ct_rehearse.specs.Choices.{ask_of, chosen, first_waiting, has_crashed, question, receives, said, tried}
+use Rattle.ct_choices.specs.Choices.{ask_of, chosen, first_waiting, has_crashed, question, receives, said, tried}
 use Rattle.ct_grammar.specs.declared.play.Play.{Play}
 use Rattle.ct_play.specs.Cuts.{first_near, near}
 use Rattle.ct_play.specs.Played.{Played}

@@ -13,8 +13,8 @@ use Rattle.ct_model.specs.Rehearsal.{Rehearsal, line_of, state_of}
 use Rattle.ct_model.specs.State.{delivered, is_crashed}
 use Rattle.ct_table.specs.Table.{table}
 use Rattle.ct_world.specs.World.{member_of}
-use Rattle.ct_records.specs.Report.{decisions_text, messages_text, table_text}
-use Rattle.ct_show.specs.Shapes.{estimate_text}
+use Rattle.ct_text.specs.Lists.{decisions_text, messages_text, table_text}
+use Rattle.ct_text.specs.Shapes.{estimate_text}
 use Rattle.ct_grammar.specs.declared.act.Act.{Act}
 use Rattle.ct_grammar.specs.declared.act.Act.TheVariants.{Receive, Postpone, Lose, Repeat, LoseFrom}
 use Rattle.ct_grammar.specs.declared.fact.Fact.{Fact}

@@ -20,9 +20,9 @@ use Rattle.ct_model.specs.declared.step.Step.{Step}
 use Rattle.ct_model.specs.declared.step.Step.TheVariants.{Crash, Lose, Postpone, Receive, Repeat}
 use Rattle.ct_model.specs.declared.wire.Wire.TheVariants.{Ack, Est, Nack}
 use Rattle.ct_world.specs.World.{member_of}
-use Rattle.ct_show.specs.Shapes.{estimate_text, phase_text}
+use Rattle.ct_text.specs.Shapes.{estimate_text, phase_text}
 use Rattle.ct_show.specs.Wires.{wire_text}
-use Rattle.ct_judge.specs.Refusing.{limit_of}
+use Rattle.ct_judging.specs.Refusing.{limit_of}
 
 -- ---- the facts
 

@@ -18,7 +18,7 @@ use Rattle.ct_model.specs.State.{at_serial}
 use Rattle.ct_records.specs.Values.{num, step_data}
 use Rattle.ct_world.specs.Driving.{next_local}
 use Rattle.ct_world.specs.World.{if_member, member_of}
-use Rattle.ct_show.specs.Shapes.{phase_text}
+use Rattle.ct_text.specs.Shapes.{phase_text}
 use Rattle.ct_show.specs.State.{first_receipt, own_steps, told_refusal}
 use Rattle.ct_laws.specs.JsonEnvelopes.{envelope_by, estimate_fields, estimate_value}
 use Rattle.ct_laws.specs.JsonReport.{counts_fields, group_fields, history_fields, standing_fields}

@@ -23,7 +23,7 @@ use Rattle.ct_records.specs.Values.{command_data, num, step_data}
 use Rattle.ct_world.specs.Replay.{first_steps}
 use Rattle.ct_world.specs.Standing.{estimate_by, heard_by}
 use Rattle.ct_world.specs.World.{if_member, member_of}
-use Rattle.ct_show.specs.Details.{coordinator_of, instance_of, round_of}
+use Rattle.ct_text.specs.Standing.{coordinator_of, instance_of, round_of}
 use Rattle.ct_show.specs.Facts.{last_taking}
 use Rattle.ct_views.specs.declared.selection.Selection.{Selection}
 use Rattle.ct_views.specs.Selected.{is_selected}

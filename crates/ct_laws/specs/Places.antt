@@ -6,7 +6,7 @@ use Rattle.ct_model.specs.Cause.{cause}
 use Rattle.ct_model.specs.Rehearsal.{Rehearsal, empty, extended}
 use Rattle.ct_model.specs.declared.step.Step.{Step}
 use Rattle.ct_model.specs.declared.step.Step.TheVariants.{Lose}
-use Rattle.ct_rehearse.specs.Choices.{has_crashed}
+use Rattle.ct_choices.specs.Choices.{has_crashed}
 use Rattle.ct_grammar.specs.declared.act.Act.{Act}
 use Rattle.ct_grammar.specs.declared.act.Act.TheVariants.{LoseFrom}
 use Rattle.ct_grammar.specs.declared.goal.Goal.{Goal}
@@ -20,7 +20,7 @@ use Rattle.ct_play.specs.Acting.{step_of}
 use Rattle.ct_play.specs.Picking.{waiting_from}
 use Rattle.ct_play.specs.Stating.{outcome_text}
 use Rattle.ct_play.specs.Who.{named}
-use Rattle.ct_judge.specs.Reading.{line_in}
+use Rattle.ct_judging.specs.Reading.{line_in}
 use Rattle.ct_laws.specs.Showing.{AreMet}
 
 -- ---- steps behind a record

@@ -1,8 +1,8 @@
 -- Where a schedule is refused.
 use Rattle.std.specs.Prelude.{◌≡◌, ◌⊎◌, ℕ, ◌+◌, List, ◌∷◌, ◌++◌, length, Ok, Err}
 use Rattle.ct_play.specs.declared.line_fault.LineFault.TheVariants.{NoMembers}
-use Rattle.ct_judge.specs.Schedule.{Progress, Stopped, after_line, after_lines, beginning}
-use Rattle.ct_judge.specs.Standing.{world_of}
+use Rattle.ct_judging.specs.Schedule.{Progress, Stopped, after_line, after_lines, beginning}
+use Rattle.ct_judging.specs.Standing.{world_of}
 
 -- the lines before one are taken, and that one is not, with this fault
 pub record IsRefusedAt (start : Progress) (lines : List (List ℕ)) (stopped : Stopped) : Type 0 where

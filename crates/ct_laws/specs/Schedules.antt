@@ -4,7 +4,7 @@ use Rattle.ct_grammar.specs.declared.line.Line.{Line}
 use Rattle.ct_grammar.specs.declared.line.Line.TheVariants.{Blank, Given, Play as Plays}
 use Rattle.ct_grammar.specs.declared.play.Play.{Play}
 use Rattle.ct_grammar.specs.declared.play.Play.TheVariants.{Expect, Ask}
-use Rattle.ct_judge.specs.Reading.{line_in}
+use Rattle.ct_judging.specs.Reading.{line_in}
 
 -- it is an expectation or a question
 abbrev pub asks : Play → Bool

@@ -3,7 +3,7 @@ use Rattle.std.specs.Prelude.{ℕ, Bool, false, ◌||◌, List, [], ◌∷◌, �
 use Rattle.ct_grammar.specs.Texts.{lines_of}
 use Rattle.ct_judge.specs.Answers.{answer, is_refused, standing_after}
 use Rattle.ct_judge.specs.Sessions.{line_if}
-use Rattle.ct_judge.specs.Standing.{Standing}
+use Rattle.ct_judging.specs.Standing.{Standing}
 
 -- the last line of an input: none where nothing is behind the last line feed
 abbrev pub last_line : List ℕ → List (List ℕ)

@@ -8,7 +8,7 @@ ghost use Rattle.ct_model.specs.Cause.{cause};
 ghost use Rattle.ct_model.specs.Rehearsal.{Rehearsal};
 ghost use Rattle.ct_model.specs.declared.step.Step.{Step};
 ghost use Rattle.ct_show.specs.Facts.{facts_text, member_facts};
-ghost use Rattle.ct_judge.specs.Refusing.{reason_text};
+ghost use Rattle.ct_judging.specs.Refusing.{reason_text};
 ghost use Rattle.ct_laws.specs.Facts.{TellsFacts, TellsMember};
 
 /// The text that is told of a refused step, in the lines of steps and by the judge of schedules, is that of a list of facts which are true

@@ -3,7 +3,7 @@
 ghost use Rattle.std.specs.Prelude.{◌≡◌, ℕ, Err, List, Ok};
 ghost use Rattle.ct_model.specs.Rehearsal.{Rehearsal};
 ghost use Rattle.ct_grammar.specs.Texts.{lines_of};
-ghost use Rattle.ct_judge.specs.Schedule.{Stopped, schedule};
+ghost use Rattle.ct_judging.specs.Schedule.{Stopped, schedule};
 ghost use Rattle.ct_laws.specs.Places.{HasPlaces};
 ghost use Rattle.ct_laws.specs.Refusals.{IsRefused};
 ghost use Rattle.ct_laws.specs.Schedules.{spoken};

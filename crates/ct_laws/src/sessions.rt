@@ -4,9 +4,9 @@ ghost use Rattle.std.specs.Prelude.{◌≡◌, ℕ, List, Ok, true};
 ghost use Rattle.std.specs.List.{concat};
 ghost use Rattle.ct_model.specs.Rehearsal.{Rehearsal};
 ghost use Rattle.ct_judge.specs.Answers.{is_refused, standing_after};
-ghost use Rattle.ct_judge.specs.Schedule.{schedule};
+ghost use Rattle.ct_judging.specs.Schedule.{schedule};
 ghost use Rattle.ct_judge.specs.Sessions.{line_if, opening, session};
-ghost use Rattle.ct_judge.specs.Standing.{Standing, start, world_of};
+ghost use Rattle.ct_judging.specs.Standing.{Standing, start, world_of};
 ghost use Rattle.ct_laws.specs.Sessions.{accepted, answers, is_any_refused, lines_heard, text_of};
 
 /// Each line of a session's input is answered once, in order, and the session tells whether one was refused; a line that is refused

@@ -4,7 +4,7 @@ ghost use Rattle.std.specs.Prelude.{◌≡◌, [], ◌∷◌, List, None, Some, 
 ghost use Rattle.ct_model.specs.Passed.{extended_by, passed};
 ghost use Rattle.ct_model.specs.Rehearsal.{Rehearsal};
 ghost use Rattle.ct_model.specs.declared.step.Step.{Step};
-ghost use Rattle.ct_rehearse.specs.Choices.{after_try};
+ghost use Rattle.ct_choices.specs.Choices.{after_try};
 
 /// Of steps that are tried one after another, as turns and walks try them, exactly the allowed ones of that list join the record. Where
 /// nothing is tried it stays.

@@ -6,7 +6,7 @@ ghost use Rattle.ct_model.specs.declared.step.Step.{Step};
 ghost use Rattle.ct_model.specs.declared.step.Step.TheVariants.{Suspect};
 ghost use Rattle.ct_detect.specs.Seeded.{SeededState};
 ghost use Rattle.ct_detect.specs.declared.ask.Ask.{Ask};
-ghost use Rattle.ct_rehearse.specs.Choices.{after_try, ask_of, question, tried};
+ghost use Rattle.ct_choices.specs.Choices.{after_try, ask_of, question, tried};
 ghost use Rattle.ct_grammar.specs.declared.goal.Goal.{Goal};
 ghost use Rattle.ct_program.specs.FreeOptions.{setting_of};
 ghost use Rattle.ct_walk.specs.Finding.{first_of};

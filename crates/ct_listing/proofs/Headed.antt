@@ -8,9 +8,9 @@ use Rattle.ct_grammar.specs.declared.given.Given.TheVariants.{Members, Cells, Ba
 use Rattle.ct_grammar.specs.declared.line.Line.TheVariants.{Given as Gives}
 use Rattle.ct_grammar.specs.Sides.{whole}
 use Rattle.ct_play.specs.Played.{Played}
-use Rattle.ct_judge.specs.Judging.{taken}
-use Rattle.ct_judge.specs.Standing.{Standing, played_of, start}
-use Rattle.ct_judge.specs.declared.heading.TheConstants.{USUAL_CELLS}
+use Rattle.ct_judging.specs.Judging.{taken}
+use Rattle.ct_judging.specs.Standing.{Standing, played_of, start}
+use Rattle.ct_judging.specs.declared.heading.TheConstants.{USUAL_CELLS}
 use Rattle.ct_listing.specs.Heading.{given_all}
 use Rattle.ct_listing.specs.Leading.{AddsLine, Leads, LeadsTo}
 use Rattle.ct_print.specs.Lines.{line_text}

@@ -25,12 +25,12 @@ use Rattle.ct_play.specs.Goals.{uncut}
 use Rattle.ct_play.specs.Played.{Played}
 use Rattle.ct_play.specs.Playing.{played}
 use Rattle.ct_play.specs.declared.line_fault.LineFault.{LineFault}
-use Rattle.ct_judge.specs.Judging.{taken}
+use Rattle.ct_judging.specs.Judging.{taken}
 use Rattle.ct_grammar.specs.Texts.{is_feed, lines_of, text_in}
-use Rattle.ct_judge.specs.Reading.{begins_record, line_in}
-use Rattle.ct_judge.specs.Schedule.{Progress, Stopped, after_line, after_lines, beginning, finished, schedule}
-use Rattle.ct_judge.specs.Standing.{Standing, played_of, start}
-use Rattle.ct_judge.specs.Telling.{told}
+use Rattle.ct_judging.specs.Reading.{begins_record, line_in}
+use Rattle.ct_judging.specs.Schedule.{Progress, Stopped, after_line, after_lines, beginning, finished, schedule}
+use Rattle.ct_judging.specs.Standing.{Standing, played_of, start}
+use Rattle.ct_judging.specs.Telling.{told}
 use Rattle.ct_listing.specs.Goals.{IsExpecting, goal_line, if_taken, is_met_in, is_taken, line_if}
 use Rattle.ct_listing.specs.Leading.{AddsLine, Leads, LeadsTo, comment_text, one_line}
 use Rattle.ct_print.specs.Lines.{line_text}

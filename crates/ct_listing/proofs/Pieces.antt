@@ -9,7 +9,7 @@ use Rattle.std.proofs.lemmas.List.Folds.{list_all-append}
 use Rattle.std.proofs.lemmas.List.Sums.{take_while-cons, AllPass-from_list_all}
 use Rattle.std.proofs.lemmas.List.Splits.{slice_split_none}
 use Rattle.ct_grammar.specs.Words.{Word, is_blank, is_nothing, begins_comment, all_words, words_of, text_of}
-use Rattle.ct_judge.specs.Reading.{begins_record}
+use Rattle.ct_judging.specs.Reading.{begins_record}
 use Rattle.ct_grammar.specs.Texts.{is_feed}
 use Rattle.ct_listing.specs.Leading.{one_line}
 use Rattle.ct_listing.proofs.Comments.{words_apart}

@@ -8,7 +8,7 @@ use Rattle.ct_model.specs.Rehearsal.{state_of}
 use Rattle.ct_model.specs.State.{delivered, is_crashed}
 use Rattle.ct_table.specs.Table.{table}
 use Rattle.ct_world.specs.World.{member_of}
-use Rattle.ct_show.specs.Details.{instance_of}
+use Rattle.ct_text.specs.Standing.{instance_of}
 use Rattle.ct_grammar.specs.declared.fact.Fact.{Fact}
 use Rattle.ct_grammar.specs.declared.fact.Fact.TheVariants.{Up, Crashed, Idle, Instance, Round, Phase as InPhase, Delivered, Table}
 use Rattle.ct_grammar.specs.Numbers.{max_u32}

@@ -11,7 +11,7 @@ use Rattle.ct_model.specs.Rehearsal.{state_of}
 use Rattle.ct_model.specs.State.{delivered}
 use Rattle.ct_table.specs.Table.{table}
 use Rattle.ct_world.specs.World.{member_of}
-use Rattle.ct_records.specs.Report.{first_registers, list_text, messages_text, nonzero, register_text, register_texts, table_text}
+use Rattle.ct_text.specs.Lists.{first_registers, list_text, messages_text, nonzero, register_text, register_texts, table_text}
 use Rattle.ct_grammar.specs.Claims.{amount_claim, before, counted, delivered as claimed, event_claim, step_claim}
 use Rattle.ct_grammar.specs.Goals.{is_and}
 use Rattle.ct_grammar.specs.Words.{Word, text_of, words_of}

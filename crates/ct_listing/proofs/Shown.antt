@@ -9,7 +9,7 @@ use Rattle.ct_grammar.specs.declared.line.Line.TheVariants.{Given as Gives, Play
 use Rattle.ct_grammar.specs.declared.play.Play.TheVariants.{Act as Acts, Expect}
 use Rattle.ct_grammar.specs.declared.who.Who.TheVariants.{One}
 use Rattle.ct_grammar.specs.Words.{text_of}
-use Rattle.ct_judge.specs.Reading.{begins_record}
+use Rattle.ct_judging.specs.Reading.{begins_record}
 use Rattle.ct_print.specs.Acts.{act_text}
 use Rattle.ct_print.specs.Facts.{fact_text}
 use Rattle.ct_print.specs.Goals.{claim_text, goal_text, term_text, when_text, whom_text}

@@ -11,7 +11,7 @@ use Rattle.ct_print.specs.Goals.{goal_text}
 use Rattle.ct_play.specs.Expecting.{expected}
 use Rattle.ct_play.specs.Goals.{uncut}
 use Rattle.ct_play.specs.Played.{Played}
-use Rattle.ct_judge.specs.Schedule.{schedule}
+use Rattle.ct_judging.specs.Schedule.{schedule}
 use Rattle.ct_listing.specs.Leading.{one_line}
 use Rattle.ct_listing.specs.Listing.{IsScheduleOf}
 

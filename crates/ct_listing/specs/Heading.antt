@@ -1,6 +1,6 @@
 -- Where the heading of a schedule leads.
 use Rattle.std.specs.Prelude.{ℕ, Some, None}
-use Rattle.ct_judge.specs.Standing.{Standing}
+use Rattle.ct_judging.specs.Standing.{Standing}
 
 -- these three are given
 abbrev pub given_all : ℕ → ℕ → ℕ → Standing

@@ -5,8 +5,8 @@ use Rattle.std.specs.Str.{is_utf8}
 use Rattle.ct_grammar.specs.Sides.{whole}
 use Rattle.ct_play.specs.Played.{Played}
 use Rattle.ct_grammar.specs.Texts.{is_feed, lines_of}
-use Rattle.ct_judge.specs.Schedule.{after_lines, beginning}
-use Rattle.ct_judge.specs.Standing.{Standing, played_of}
+use Rattle.ct_judging.specs.Schedule.{after_lines, beginning}
+use Rattle.ct_judging.specs.Standing.{Standing, played_of}
 
 -- ---- lines
 

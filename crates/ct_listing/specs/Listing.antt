@@ -8,10 +8,10 @@ use Rattle.ct_records.specs.declared.program_fault.ProgramFault.TheVariants.{Rep
 use Rattle.ct_records.specs.declared.read_fault.ReadFault.{ReadFault}
 use Rattle.ct_records.specs.Replay.{IsAllowed, IsRefused}
 use Rattle.ct_records.specs.Script.{script}
-use Rattle.ct_show.specs.declared.show_fault.ShowFault.{ShowFault}
-use Rattle.ct_show.specs.declared.show_fault.ShowFault.TheVariants.{NoMember, Unread, Program}
-use Rattle.ct_show.specs.NoRecords.{IsToldOf}
-use Rattle.ct_judge.specs.Schedule.{schedule}
+use Rattle.ct_told.specs.declared.show_fault.ShowFault.{ShowFault}
+use Rattle.ct_told.specs.declared.show_fault.ShowFault.TheVariants.{NoMember, Unread, Program}
+use Rattle.ct_told.specs.NoRecords.{IsToldOf}
+use Rattle.ct_judging.specs.Schedule.{schedule}
 
 -- the steps of the record are allowed, and of this schedule the judge makes the same record
 pub record IsScheduleOf (w : Rehearsal) (text : List ℕ) : Type 0 where

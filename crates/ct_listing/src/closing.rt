@@ -11,7 +11,7 @@ use ct_grammar::{Fact, Text};
 use ct_model::Phase;
 use ct_names::{Member, Round};
 use ct_play::{Stage, push_there};
-use ct_show::instance_of;
+use ct_text::instance_of;
 use std::alloc::{AllocError, Global};
 
 // Writes what is there at each member.

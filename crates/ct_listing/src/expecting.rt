@@ -3,7 +3,7 @@
 ghost use Rattle.std.specs.Prelude.{◌≡◌, ◌++◌, OnOk, IfOk, IfErr, is_ok, string_bytes};
 ghost use Rattle.ct_play.specs.Expecting.{expected};
 ghost use Rattle.ct_play.specs.Faults.{IsShort};
-ghost use Rattle.ct_records.specs.Adds.{Adds};
+ghost use Rattle.ct_text.specs.Adds.{Adds};
 ghost use Rattle.ct_listing.specs.Goals.{goal_line, if_taken, is_taken, line_if};
 ghost use Rattle.ct_listing.specs.Leading.{Leads, one_line};
 

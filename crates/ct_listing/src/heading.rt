@@ -5,13 +5,13 @@ ghost use Rattle.ct_names.specs.declared.limit.TheConstants.{MAX_BOUND};
 ghost use Rattle.ct_grammar.specs.declared.line.Line.TheVariants.{Given as Gives};
 ghost use Rattle.ct_grammar.specs.Sides.{whole};
 ghost use Rattle.ct_print.specs.Lines.{line_text};
-ghost use Rattle.ct_judge.specs.declared.heading.TheConstants.{USUAL_CELLS};
+ghost use Rattle.ct_judging.specs.declared.heading.TheConstants.{USUAL_CELLS};
 ghost use Rattle.ct_listing.specs.Heading.{given_all};
 ghost use Rattle.ct_listing.specs.Leading.{AddsLine, Leads, LeadsTo};
 
 use crate::told::push_told;
 use ct_grammar::{Given, Line};
-use ct_judge::USUAL_CELLS;
+use ct_judging::USUAL_CELLS;
 use ct_names::MAX_BOUND;
 use ct_play::Stage;
 use ct_world::World;

@@ -5,7 +5,7 @@ ghost use Rattle.std.specs.Prelude.{◌≤◌};
 use ct_model::Step;
 use ct_names::{MAX_ENVELOPES, Member};
 use ct_play::push_outcome;
-use ct_show::{instance_of, round_of};
+use ct_text::{instance_of, round_of};
 use ct_world::{Wire, World};
 use std::alloc::{AllocError, Global};
 

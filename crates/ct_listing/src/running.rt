@@ -7,8 +7,8 @@ ghost use Rattle.ct_listing.specs.Listing.{FailsOn, IsOfListing, IsScheduleIn, W
 
 use crate::writing::schedule_of;
 use ct_records::ProgramFault;
-use ct_show::{ShowFault, read_told};
 use ct_streams::{Failed, Sink, Source, read_all, write_all};
+use ct_told::{ShowFault, read_told};
 use std::alloc::Global;
 
 /// Reads a record to its end and writes it as a schedule. The whole text is made before the first write. What the contract

@@ -1,7 +1,7 @@
 //! Lines, as they join the text of a schedule.
 
 ghost use Rattle.std.specs.Prelude.{◌≡◌, ◌++◌, ◌∷◌, [], true, OnOk, string_bytes};
-ghost use Rattle.ct_records.specs.Adds.{Adds};
+ghost use Rattle.ct_text.specs.Adds.{Adds};
 ghost use Rattle.ct_listing.specs.Leading.{AddsLine, comment_text, one_line};
 ghost use Rattle.ct_print.specs.Lines.{line_text};
 

@@ -7,7 +7,7 @@ ghost use Rattle.ct_records.specs.Replay.{IsAllowed};
 ghost use Rattle.ct_records.specs.View.{rehearsal_of};
 ghost use Rattle.ct_play.specs.Faults.{IsShort};
 ghost use Rattle.ct_grammar.specs.Sides.{whole};
-ghost use Rattle.ct_judge.specs.Schedule.{schedule};
+ghost use Rattle.ct_judging.specs.Schedule.{schedule};
 ghost use Rattle.ct_listing.specs.Goals.{IsExpecting, IsExpectingOf};
 ghost use Rattle.ct_listing.specs.Leading.{Leads};
 ghost use Rattle.ct_listing.specs.Listing.{IsRefusal, IsScheduleOf};

@@ -2,7 +2,7 @@
 
 use ct_model::Step;
 use ct_names::{Instance, Member, Round};
-use ct_show::{instance_of, round_of};
+use ct_text::{instance_of, round_of};
 use ct_world::World;
 
 // What the steps of a run show. A run has fewer steps than a number has room for.

@@ -22,8 +22,8 @@ use Rattle.ct_model.proofs.Relay.Messages.{IsStep, next-is}
 use Rattle.ct_model.proofs.Steps.Rows.{deliver_row-is, follow_row-is}
 use Rattle.ct_world.specs.Standing.{estimate_by, heard_by}
 use Rattle.ct_world.specs.World.{if_member, member_of}
-use Rattle.ct_show.specs.Details.{batch_text, estimate_alone, estimate_of, instance_of}
-use Rattle.ct_show.specs.Shapes.{estimate_text, set_text, value_text}
+use Rattle.ct_text.specs.Standing.{batch_text, estimate_alone, estimate_of, instance_of}
+use Rattle.ct_text.specs.Shapes.{estimate_text, set_text, value_text}
 use Rattle.ct_play.specs.Stating.{carried_text, envelope_text}
 use Rattle.ct_merge.specs.Deeds.{IsSame, deed_of, letter}
 use Rattle.ct_merge.specs.Local.{outcome_of}

@@ -5,7 +5,7 @@ use Rattle.std.specs.Str.{bytes_eq}
 use Rattle.ct_model.specs.Rehearsal.{Rehearsal}
 use Rattle.ct_model.specs.declared.step.Step.{Step}
 use Rattle.ct_model.specs.declared.step.Step.TheVariants.{Conclude}
-use Rattle.ct_show.specs.Details.{estimate_alone}
+use Rattle.ct_text.specs.Standing.{estimate_alone}
 use Rattle.ct_play.specs.Stating.{outcome_text}
 
 -- what a step came to, after which the record is this, as a log states it: as a schedule does; and of a conclusion, of which that

@@ -1,13 +1,12 @@
 //! What lines state of what their acts came to.
 
 ghost use Rattle.std.specs.Prelude.{◌≡◌, ◌++◌, OnOk, string_bytes};
-ghost use Rattle.ct_show.specs.Details.{estimate_alone};
 ghost use Rattle.ct_merge.specs.Stating.{is_estimate_in, is_stated, log_outcome};
 
 use ct_model::Step;
 use ct_names::Member;
 use ct_play::push_outcome;
-use ct_show::push_value;
+use ct_text::push_estimate_alone;
 use ct_world::World;
 use std::alloc::AllocError;
 
@@ -20,17 +19,9 @@ pub(crate) fn push_log_outcome(
     ensures { OnOk result (string_bytes text.new ≡ string_bytes text.old ++ log_outcome world.now.rehearsal step) }
 {
     match step {
-        Step::Conclude(member) => push_concluded(text, world, member),
+        Step::Conclude(member) => push_estimate_alone(text, world, member),
         _ => push_outcome(text, world, step),
     }
-}
-
-// The estimate with which the member concludes its round.
-#[tactic(auto, unfolding(ct_show::specs::Details::estimate_alone))]
-fn push_concluded(text: &mut String, world: &World, member: Member) -> Result<(), AllocError>
-    ensures { OnOk result (string_bytes text.new ≡ string_bytes text.old ++ estimate_alone world.now.rehearsal member) }
-{
-    push_value(text, world.estimate(member))
 }
 
 /// Whether the text states what came out: the whole of it, or of an estimate and its ts the estimate alone.

@@ -10,7 +10,7 @@ use Rattle.ct_names.specs.MemberSet.{has_member}
 use Rattle.ct_grammar.specs.declared.claim.Claim.{Claim}
 use Rattle.ct_grammar.specs.declared.term.Whom.{Whom}
 use Rattle.ct_grammar.specs.declared.term.Whom.TheVariants as whom
-use Rattle.ct_rehearse.specs.Choices.{has_crashed}
+use Rattle.ct_choices.specs.Choices.{has_crashed}
 use Rattle.ct_play.specs.Claims.{is_true_of}
 use Rattle.ct_play.specs.Goals.{holds_for, is_such, unshown}
 use Rattle.ct_play.specs.Played.{Played}

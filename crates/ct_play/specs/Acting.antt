@@ -5,7 +5,7 @@ use Rattle.ct_model.specs.Cause.{cause}
 use Rattle.ct_model.specs.declared.step.Step.{Step}
 use Rattle.ct_model.specs.declared.step.Step.TheVariants as step
 use Rattle.ct_model.specs.Rehearsal.{Rehearsal}
-use Rattle.ct_rehearse.specs.Choices.{has_crashed}
+use Rattle.ct_choices.specs.Choices.{has_crashed}
 use Rattle.ct_grammar.specs.declared.act.Act.{Act}
 use Rattle.ct_grammar.specs.declared.act.Act.TheVariants.{Submit, Receive, Begin, Enter, Choose, Adopt, Suspect, Conclude, Deliver, Follow}
 use Rattle.ct_grammar.specs.declared.act.Act.TheVariants.{Crash, Postpone, Lose, Repeat, LoseFrom}

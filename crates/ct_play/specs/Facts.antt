@@ -16,10 +16,9 @@ use Rattle.ct_model.specs.State.{delivered, is_crashed}
 use Rattle.ct_table.specs.Table.{table}
 use Rattle.ct_world.specs.Standing.{acked_by, all_heard_by}
 use Rattle.ct_world.specs.World.{member_of, if_member}
-use Rattle.ct_records.specs.Report.{decisions_text, list_text, messages_text, table_text}
-use Rattle.ct_show.specs.Details.{estimate_of}
-use Rattle.ct_show.specs.Shapes.{phase_text}
-use Rattle.ct_show.specs.State.{first_in}
+use Rattle.ct_text.specs.Lists.{decisions_text, list_text, messages_text, table_text, first_in}
+use Rattle.ct_text.specs.Standing.{estimate_of}
+use Rattle.ct_text.specs.Shapes.{phase_text}
 use Rattle.ct_grammar.specs.declared.fact.Fact.{Fact}
 use Rattle.ct_grammar.specs.declared.fact.Fact.TheVariants.{Up, Crashed, Idle, Instance, Round, Phase as InPhase}
 use Rattle.ct_grammar.specs.declared.fact.Fact.TheVariants.{Received, Decided, Delivered, Table, Refuses}

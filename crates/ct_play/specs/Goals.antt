@@ -5,7 +5,7 @@ use Rattle.std.specs.List.{list_all, list_any}
 use Rattle.ct_names.specs.Group.{members}
 use Rattle.ct_names.specs.MemberSet.{has_member}
 use Rattle.ct_model.specs.Rehearsal.{Rehearsal}
-use Rattle.ct_rehearse.specs.Choices.{has_crashed}
+use Rattle.ct_choices.specs.Choices.{has_crashed}
 use Rattle.ct_grammar.specs.Sides.{whole}
 use Rattle.ct_grammar.specs.declared.claim.Claim.{Claim}
 use Rattle.ct_grammar.specs.declared.goal.Goal.{Goal}

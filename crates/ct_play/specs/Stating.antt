@@ -13,11 +13,11 @@ use Rattle.ct_model.specs.declared.step.Step.{Step}
 use Rattle.ct_model.specs.declared.step.Step.TheVariants.{Receive, Begin, Enter, Choose, Adopt, Deliver, Follow}
 use Rattle.ct_model.specs.declared.wire.Wire.{Wire}
 use Rattle.ct_model.specs.declared.wire.Wire.TheVariants as wire
-use Rattle.ct_rehearse.specs.Choices.{has_crashed}
+use Rattle.ct_choices.specs.Choices.{has_crashed}
 use Rattle.ct_world.specs.Standing.{heard_by}
 use Rattle.ct_world.specs.World.{member_of, if_member}
-use Rattle.ct_show.specs.Details.{batch_text, estimate_alone, estimate_of, instance_of}
-use Rattle.ct_show.specs.Shapes.{set_text, value_text}
+use Rattle.ct_text.specs.Standing.{batch_text, estimate_alone, estimate_of, instance_of}
+use Rattle.ct_text.specs.Shapes.{set_text, value_text}
 use Rattle.ct_grammar.specs.declared.act.Act.{Act}
 use Rattle.ct_grammar.specs.declared.who.Who.{Who}
 use Rattle.ct_grammar.specs.declared.who.Who.TheVariants.{All}

@@ -4,7 +4,7 @@ use Rattle.std.specs.Prelude.{if◌then◌else◌}
 use Rattle.ct_names.specs.MemberSet.{has_member}
 use Rattle.ct_model.specs.declared.step.Step.{Step}
 use Rattle.ct_detect.specs.declared.ask.Ask.{Ask}
-use Rattle.ct_rehearse.specs.Choices.{after_try, ask_of, question, tried}
+use Rattle.ct_choices.specs.Choices.{after_try, ask_of, question, tried}
 use Rattle.ct_grammar.specs.declared.goal.Goal.{Goal}
 use Rattle.ct_grammar.specs.declared.play.Play.{Play}
 use Rattle.ct_grammar.specs.declared.play.Play.TheVariants.{Turns, Settle, Until}

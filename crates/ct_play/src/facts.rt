@@ -1,14 +1,14 @@
 //! What facts say of members, and what is there.
 
 ghost use Rattle.std.specs.Prelude.{◌≡◌, OnOk, IfOk, IsTrue, decimal, is_some};
-ghost use Rattle.ct_records.specs.Adds.{Adds};
+ghost use Rattle.ct_text.specs.Adds.{Adds};
 ghost use Rattle.ct_names.specs.Group.{is_member};
 ghost use Rattle.ct_model.specs.Received.{received_by};
 ghost use Rattle.ct_model.specs.Rehearsal.{state_of};
 ghost use Rattle.ct_model.specs.State.{delivered};
 ghost use Rattle.ct_table.specs.Table.{table};
 ghost use Rattle.ct_world.specs.World.{member_of};
-ghost use Rattle.ct_records.specs.Report.{decisions_text, messages_text, table_text};
+ghost use Rattle.ct_text.specs.Lists.{decisions_text, messages_text, table_text};
 ghost use Rattle.ct_play.specs.Facts.{act_cause, barred_text, cause_text, estimate_text, holds, open_text};
 ghost use Rattle.ct_play.specs.Facts.{place_text, round_text, set_text, step_cause, there, up_text, value, waits_text, wanted, word};
 
@@ -20,8 +20,9 @@ use crate::stage::Stage;
 use ct_grammar::Fact;
 use ct_model::{Phase, Step};
 use ct_names::{Member, MemberSet, Refusal, Round};
-use ct_records::{push_decisions, push_messages, push_table};
-use ct_show::{phase_name, push_estimate_of, push_members_of};
+use ct_text::{
+    phase_name, push_decisions, push_estimate_of, push_members_of, push_messages, push_table,
+};
 use ct_world::World;
 use std::alloc::{AllocError, Global};
 

@@ -27,5 +27,5 @@ pub use picking::{carried_of, picked, repeated, waiting_at};
 pub use playing::play;
 pub use stage::Stage;
 pub use stating::{push_came_to, push_outcome};
-pub use turning::{MOST_ROUNDS, ended};
+pub use turning::ended;
 pub use watch::Watch;

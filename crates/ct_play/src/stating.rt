@@ -1,8 +1,7 @@
 //! What acts do, as lines state it behind them.
 
 ghost use Rattle.std.specs.Prelude.{◌≡◌, Ok, OnOk, OnErr, IfOk, IfErr, string_bytes};
-ghost use Rattle.ct_records.specs.Adds.{Adds};
-ghost use Rattle.ct_show.specs.Details.{batch_text, estimate_alone};
+ghost use Rattle.ct_text.specs.Adds.{Adds};
 ghost use Rattle.ct_play.specs.Acting.{done_by_each};
 ghost use Rattle.ct_play.specs.Faults.{IsFaultOf};
 ghost use Rattle.ct_play.specs.Parts.{IsSaidByFirst, IsTaken};
@@ -17,9 +16,11 @@ use crate::naming::named;
 use crate::stage::Stage;
 use ct_grammar::{Act, Text, Who};
 use ct_model::Step;
-use ct_names::{Instance, Member, Message, Serial};
+use ct_names::{Member, Message, Serial};
 use ct_print::push_command;
-use ct_show::{instance_of, push_estimate_of, push_set, push_value};
+use ct_text::{
+    instance_of, push_batch, push_estimate_alone, push_estimate_of, push_set, push_value,
+};
 use ct_world::{Letter, Wire, World};
 use std::alloc::{AllocError, Global};
 
@@ -229,7 +230,7 @@ pub fn push_outcome(text: &mut String, world: &World, step: Step) -> Result<(), 
 {
     match step {
         Step::Receive(_, serial) => push_carried(text, world, serial),
-        Step::Begin(member) => push_proposal(text, world, member),
+        Step::Begin(member) => push_estimate_alone(text, world, member),
         Step::Enter(member) => push_estimate_of(text, world, member),
         Step::Choose(member, from) => push_value(text, world.heard_from(member, from)),
         Step::Adopt(member) => push_estimate_of(text, world, member),
@@ -237,21 +238,6 @@ pub fn push_outcome(text: &mut String, world: &World, step: Step) -> Result<(), 
         Step::Follow(member) => push_batch(text, world, instance_of(world, member)),
         _ => Ok(()),
     }
-}
-
-#[tactic(auto, unfolding(ct_show::specs::Details::estimate_alone))]
-fn push_proposal(text: &mut String, world: &World, member: Member) -> Result<(), AllocError>
-    ensures { OnOk result (Adds text.old text.new (estimate_alone world.now.rehearsal member)) }
-{
-    push_value(text, world.estimate(member))
-}
-
-// The batch of the instance.
-#[tactic(auto, unfolding(ct_show::specs::Details::batch_text))]
-fn push_batch(text: &mut String, world: &World, instance: Instance) -> Result<(), AllocError>
-    ensures { OnOk result (Adds text.old text.new (batch_text world.now.rehearsal instance)) }
-{
-    push_set(text, world.batch(instance).unwrap_or(&[]))
 }
 
 // What the envelope of the serial carries.

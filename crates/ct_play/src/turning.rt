@@ -1,7 +1,7 @@
 //! Turns as a driver makes them.
 
 ghost use Rattle.std.specs.Prelude.{◌≡◌, false, not, Ok, Some, OnOk, OnErr, IfOk, IfErr};
-ghost use Rattle.ct_rehearse.specs.Choices.{question};
+ghost use Rattle.ct_choices.specs.Choices.{question};
 ghost use Rattle.ct_play.specs.Expecting.{all_known, expected_of};
 ghost use Rattle.ct_play.specs.Faults.{IsFaultOf, IsShort};
 ghost use Rattle.ct_play.specs.Parts.{IsTurnedByFirst, IsTurnedPart};
@@ -20,7 +20,7 @@ use ct_detect::Ask;
 use ct_grammar::{Goal, Play, Who};
 use ct_model::Step;
 use ct_names::{Member, MemberSet};
-use ct_rehearse::{choice, question};
+use ct_choices::{choice, question};
 use std::alloc::{AllocError, Global};
 
 /// How many rounds of turns a line makes at most that says no number of them.

@@ -5,7 +5,7 @@ use ct_program::{
     Sink, Source, answer_status, free, line, read_record, report, run_replay, seeded, submissions,
     write_record,
 };
-use ct_records::push_separator;
+use ct_text::push_separator;
 use ct_world::{ReplayFault, World};
 use std::alloc::{AllocError, Global};
 use std::test::Fail;

@@ -1,7 +1,4 @@
 pub mod Entries
-pub mod Joins
-pub mod Pieces
-pub mod Found
 pub mod Loops
 pub mod Whole
 pub mod Refused

@@ -26,7 +26,7 @@ use Rattle.ct_model.specs.StepText.{entry_text, command_text, rest_texts, step_t
 use Rattle.ct_records.specs.Fits.{NumberFits, CommandFits, RestFits, StepFits, AllFit, IsStorable}
 use Rattle.ct_records.specs.Text.{steps_text}
 use Rattle.ct_records.specs.Values.{num, entry_data, command_data, rest_data, step_data, steps_data, record_data}
-use Rattle.ct_records.proofs.Joins.{rest_of, rest_of-join}
+use Rattle.ct_text.proofs.Joins.{rest_of, rest_of-join}
 use Rattle.ct_records.proofs.Lengths as lengths
 use Rattle.ct_records.proofs.Lengths.{Text}
 use Rattle.ct_records.proofs.Names.{IsName, command_name, step_name}

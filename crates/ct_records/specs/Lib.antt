@@ -1,4 +1,3 @@
-pub mod Adds
 pub mod Script
 pub mod Gives
 pub mod View

@@ -1,14 +1,14 @@
 //! From a world to the text of its record.
 
 ghost use Rattle.std.specs.Prelude.{◌≡◌, Ok, OnOk, IfOk};
-ghost use Rattle.ct_records.specs.Adds.{Adds};
+ghost use Rattle.ct_text.specs.Adds.{Adds};
 ghost use Rattle.ct_model.specs.StepText.{step_text};
 ghost use Rattle.ct_records.specs.Fits.{StepFits, AllFit, IsStorable};
 ghost use Rattle.ct_records.specs.Script.{script};
 ghost use Rattle.ct_records.specs.Text.{steps_text, record_text};
 
-use crate::separator::push_separator;
 use ct_model::Step;
+use ct_text::push_separator;
 use ct_world::World;
 use std::alloc::{AllocError, Global};
 

@@ -1,6 +1,6 @@
 pub mod Pace
 pub mod Shares
-pub mod Choices
+pub mod Entries
 pub mod Turns
 pub mod Plays
 pub mod Plans

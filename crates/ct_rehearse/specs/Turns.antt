@@ -8,7 +8,8 @@ use Rattle.ct_model.specs.Run.{run}
 use Rattle.ct_world.specs.Driving.{next_local}
 use Rattle.ct_world.specs.Posting.{HasPosted, IsRefusal}
 use Rattle.ct_world.specs.World.{WorldView, IsDone}
-use Rattle.ct_rehearse.specs.Choices.{HasAsked, ask_of, entry_step, tried}
+use Rattle.ct_choices.specs.Choices.{HasAsked, ask_of, tried}
+use Rattle.ct_rehearse.specs.Entries.{entry_step}
 use Rattle.ct_rehearse.specs.Shares.{Held, risen_by}
 use Rattle.ct_rehearse.specs.declared.disturbance.Disturbance.{Disturbance}
 use Rattle.ct_rehearse.specs.declared.outcome.Turn.{Turn}

@@ -1,10 +1,10 @@
 //! A world under a lock, and the turns that threads make on it.
 #![tactic(auto)]
 
-mod choosing;
 mod crew;
 mod desk;
 mod disturbance;
+mod entries;
 mod gate;
 mod hall;
 mod made;
@@ -27,9 +27,10 @@ mod turns;
 mod worked;
 mod working;
 
-pub use choosing::{choice, entry_step, question};
+pub use ct_choices::{choice, question};
 pub use desk::Desk;
 pub use disturbance::Disturbance;
+pub use entries::entry_step;
 pub use gate::{Gate, NoGate};
 pub use hall::Hall;
 pub use made::Made;

@@ -2,15 +2,17 @@
 
 ghost use Rattle.std.specs.Prelude.{◌≡◌, ◌+◌, ◌^◌, ◌<◌, MatchOption};
 ghost use Rattle.ct_world.specs.Driving.{next_local};
-ghost use Rattle.ct_rehearse.specs.Choices.{HasAsked, ask_of, entry_step, tried};
+ghost use Rattle.ct_choices.specs.Choices.{HasAsked, ask_of, tried};
+ghost use Rattle.ct_rehearse.specs.Entries.{entry_step};
 ghost use Rattle.ct_rehearse.specs.Turns.{Answers, share_after_turn, world_after_turn};
 
-use crate::choosing::{entry_step, tried};
 use crate::desk::Desk;
 use crate::disturbance::Disturbance;
+use crate::entries::entry_step;
 use crate::outcome::Turn;
 use crate::share::Share;
 use ct_board::Board;
+use ct_choices::tried;
 use ct_detect::Detector;
 use ct_model::Step;
 use ct_names::Member;

@@ -18,7 +18,7 @@ use Rattle.ct_records.specs.Fits.{AllFit, CommandFits, RestFits, StepFits}
 use Rattle.ct_records.specs.Plain.{lexemes, number_lexeme, entry_lexemes, command_lexemes, rest_lexemes, step_lexemes, steps_lexemes}
 use Rattle.ct_records.specs.Plain.{comma_if, pair_lexemes}
 use Rattle.ct_records.specs.Text.{steps_text}
-use Rattle.ct_records.proofs.Joins.{rest_of, rest_of-join}
+use Rattle.ct_text.proofs.Joins.{rest_of, rest_of-join}
 use Rattle.ct_records.proofs.Names.{IsName, command_name, step_name}
 use Rattle.ct_records.proofs.Plain.{commas, opens, steps_joined, word_first}
 use Rattle.ct_records.proofs.Stored.{amount_fits}

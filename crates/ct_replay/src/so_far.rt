@@ -1,12 +1,12 @@
 //! What was read of a record, in fewer bytes.
 
 ghost use Rattle.std.specs.Prelude.{◌≡◌, ◌≤◌, ◌++◌, length, drop, vec_len, string_bytes, IfOk, OnOk};
-ghost use Rattle.ct_records.specs.Adds.{Adds};
+ghost use Rattle.ct_text.specs.Adds.{Adds};
 ghost use Rattle.ct_records.specs.Text.{steps_text};
 ghost use Rattle.ct_model.specs.StepText as model;
 
 use ct_model::Step;
-use ct_records::push_separator;
+use ct_text::push_separator;
 use std::alloc::{AllocError, Global};
 
 /// The text before the steps, that of these without white space, and the bytes behind the last that was done.

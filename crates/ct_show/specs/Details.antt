@@ -1,48 +1,23 @@
 -- What a step read, and what it came to, as its line tells it. The record has the step as its last one.
 use Rattle.std.specs.Prelude.{ℕ, ◌+◌, ◌==◌, List, [], ◌∷◌, ◌++◌, length}
-use Rattle.std.specs.Prelude.{codes, decimal, Option, Some, None, option_map, unwrap_or, if◌then◌else◌}
-use Rattle.std.specs.Prelude.{Bool, false, is_some}
+use Rattle.std.specs.Prelude.{codes, decimal, Option, Some, None, if◌then◌else◌}
 use Rattle.std.specs.Option.{option_map_or}
 use Rattle.std.specs.List.{concat}
 use Rattle.ct_names.specs.declared.command.Command.{Command}
-use Rattle.ct_names.specs.Group.{coordinator}
 use Rattle.ct_names.specs.MessageText.{message_text}
-use Rattle.ct_model.specs.Cause.{order}
-use Rattle.ct_model.specs.declared.phase.Phase.{Phase}
 use Rattle.ct_model.specs.declared.step.Step.{Step}
 use Rattle.ct_model.specs.declared.step.Step.TheVariants.{Submit, Receive, Begin, Enter, Choose, Adopt, Suspect, Conclude, Deliver}
 use Rattle.ct_model.specs.declared.step.Step.TheVariants.{Follow, Crash, Postpone, Lose, Repeat}
 use Rattle.ct_model.specs.declared.wire.Wire.TheVariants.{Data}
 use Rattle.ct_model.specs.Rehearsal.{Rehearsal, state_of}
-use Rattle.ct_model.specs.State.{at_serial}
 use Rattle.ct_model.specs.declared.envelope.Envelope.{Envelope}
 use Rattle.ct_model.specs.declared.wire.Wire.{Wire}
-use Rattle.ct_world.specs.Standing.{estimate_by, heard_by, acked_by, replied_by}
-use Rattle.ct_world.specs.World.{member_of, of_member, if_member}
-use Rattle.ct_show.specs.Shapes.{call_text, estimate_text, set_text, value_text}
+use Rattle.ct_world.specs.Standing.{heard_by, acked_by, replied_by}
+use Rattle.ct_world.specs.World.{member_of, if_member}
+use Rattle.ct_show.specs.Shapes.{call_text}
+use Rattle.ct_text.specs.Shapes.{estimate_text}
+use Rattle.ct_text.specs.Standing.{batch_text, coordinator_of, estimate_alone, estimate_of, instance_of, round_of}
 use Rattle.ct_show.specs.Wires.{letter_at, round_text, serial_text}
-
--- ---- what is read of a member
-
--- the last instance that it began, 0 before the first
-unfoldable pub instance_of : Rehearsal → ℕ → ℕ
-instance_of w p = (unwrap_or {T = ℕ × Bool} (of_member w p ((member_of w p).last, is_some (member_of w p).current)) (0, false)).0
-
--- the round that it is in, 0 where it is in none
-unfoldable pub round_of : Rehearsal → ℕ → ℕ
-round_of w p = option_map_or (λ (r : ℕ × Phase). r.0) (if_member w p (option_map (λ c. (c.round, c.phase)) (member_of w p).current)) 0
-
--- the coordinator of that round
-unfoldable pub coordinator_of : Rehearsal → ℕ → ℕ
-coordinator_of w p = coordinator w.setting.members (round_of w p)
-
--- its estimate and ts
-unfoldable pub estimate_of : Rehearsal → ℕ → List ℕ
-estimate_of w p = estimate_text (if_member w p (estimate_by (member_of w p)))
-
--- its estimate alone
-unfoldable pub estimate_alone : Rehearsal → ℕ → List ℕ
-estimate_alone w p = value_text (if_member w p (estimate_by (member_of w p)))
 
 -- how many members a set has, none where there is no set
 unfoldable pub size_of : Option (List ℕ) → ℕ
@@ -96,10 +71,6 @@ acks_text word w p =
 
 unfoldable pub conclude_text : Rehearsal → ℕ → ℕ → List ℕ
 conclude_text w before p = acks_text (codes "conclude") w p ++ decision_text w before p
-
--- the batch of the instance
-unfoldable pub batch_text : Rehearsal → ℕ → List ℕ
-batch_text w k = set_text (unwrap_or (option_map (λ b. b.messages) (at_serial (order (state_of w)) k)) [])
 
 -- a step that delivers the batch of an instance
 unfoldable pub delivery_text : List ℕ → Rehearsal → ℕ → List ℕ

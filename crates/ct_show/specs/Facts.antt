@@ -15,9 +15,10 @@ use Rattle.ct_model.specs.Rehearsal.{Rehearsal, state_of}
 use Rattle.ct_model.specs.StepText.{step_text}
 use Rattle.ct_world.specs.Standing.{heard_by}
 use Rattle.ct_world.specs.World.{member_of, if_member}
-use Rattle.ct_show.specs.Details.{acks_text, coordinator_of, coordinator_text, estimate_of, instance_of}
+use Rattle.ct_show.specs.Details.{acks_text, coordinator_text}
+use Rattle.ct_text.specs.Standing.{coordinator_of, estimate_of, instance_of}
 use Rattle.ct_show.specs.Lines.{head_text}
-use Rattle.ct_show.specs.Shapes.{estimate_text, phase_text}
+use Rattle.ct_text.specs.Shapes.{estimate_text, phase_text}
 use Rattle.ct_show.specs.Wires.{letter_at, serial_text}
 
 -- an estimate that was heard of a member, between these texts

@@ -3,9 +3,4 @@ pub mod Wires
 pub mod Details
 pub mod Lines
 pub mod Facts
-pub mod GivenNames
-pub mod OddRecords
-pub mod OddSteps
-pub mod NoRecords
-pub mod Faults
 pub mod State

@@ -8,7 +8,6 @@ use Rattle.ct_names.specs.declared.limit.TheConstants.{MAX_MEMBERS}
 use Rattle.ct_names.specs.declared.refusal.Refusal.{Refusal}
 use Rattle.ct_names.specs.declared.refusal.Refusal.TheVariants.{Crashed, Busy, Idle, WrongPhase, NotLargest}
 use Rattle.ct_names.specs.Group.{majority}
-use Rattle.ct_names.specs.MemberSet.{has_member}
 use Rattle.ct_names.specs.RefusalText.{refusal_text}
 use Rattle.ct_names.specs.Value.{Value}
 use Rattle.ct_model.specs.Cause.{cause, order}
@@ -18,13 +17,13 @@ use Rattle.ct_model.specs.declared.step.Step.TheVariants.{Receive, Begin, Enter,
 use Rattle.ct_model.specs.Rehearsal.{Rehearsal, state_of, line_of}
 use Rattle.ct_model.specs.State.{at_serial, is_crashed}
 use Rattle.ct_model.specs.StepText.{step_text}
-use Rattle.ct_records.specs.Report.{list_text}
+use Rattle.ct_text.specs.Lists.{first_in, list_text}
 use Rattle.ct_world.specs.Driving.{next_local}
 use Rattle.ct_world.specs.Standing.{estimate_by, acked_by, replied_by}
 use Rattle.ct_world.specs.World.{member_of, if_member}
-use Rattle.ct_show.specs.Details.{instance_of}
+use Rattle.ct_text.specs.Standing.{instance_of}
 use Rattle.ct_show.specs.Facts.{first_heard, place_in}
-use Rattle.ct_show.specs.Shapes.{estimate_text}
+use Rattle.ct_text.specs.Shapes.{estimate_text}
 use Rattle.ct_show.specs.Wires.{serial_text}
 
 -- ---- where a member stands
@@ -46,11 +45,6 @@ standing_line w p =
 unfoldable pub estimate_line : Option (Value × ℕ) → List ℕ
 estimate_line None = []
 estimate_line (Some e) = concat (codes "  estimate " ∷ estimate_text (Some e) ∷ codes "\n" ∷ [])
-
--- those of the first members that are in the set
-abbrev pub first_in : List ℕ → ℕ → List (List ℕ)
-first_in set zero = []
-first_in set (suc k) = first_in set k ++ (if has_member set (suc k) then decimal (suc k) ∷ [] else [])
 
 -- a word, and the members of a set; a dash where it has none
 unfoldable pub set_line : List ℕ → Option (List ℕ) → List ℕ

@@ -12,7 +12,7 @@ use Rattle.ct_model.specs.Wire.{value_of}
 use Rattle.ct_model.specs.declared.envelope.Envelope.{Envelope}
 use Rattle.ct_model.specs.declared.wire.Wire.{Wire}
 use Rattle.ct_model.specs.declared.wire.Wire.TheVariants.{Data, Est, Prop, Ack, Nack, Dec}
-use Rattle.ct_show.specs.Shapes.{set_text}
+use Rattle.ct_text.specs.Shapes.{set_text}
 
 -- the envelope of a serial, without its value, and the value that it carries
 abbrev pub letter_at : Rehearsal → ℕ → Option (Envelope (Unit {0}))

@@ -1,16 +1,20 @@
 //! What a step read, and what it came to, shown. The world is the one after the step.
 
 ghost use Rattle.std.specs.Prelude.{◌≡◌, ◌≤◌, OnOk};
-ghost use Rattle.ct_records.specs.Adds.{Adds};
-ghost use Rattle.ct_show.specs.Details.{instance_of, round_of, coordinator_of, coordinator_text, estimate_of};
-ghost use Rattle.ct_show.specs.Details.{estimate_alone, size_of, message_of, message_in, submit_text, begin_text};
+ghost use Rattle.ct_text.specs.Adds.{Adds};
+ghost use Rattle.ct_show.specs.Details.{coordinator_text};
+ghost use Rattle.ct_show.specs.Details.{size_of, message_of, message_in, submit_text, begin_text};
 ghost use Rattle.ct_show.specs.Details.{enter_text, choose_text, adopt_text, suspect_text, decision_text};
-ghost use Rattle.ct_show.specs.Details.{acks_text, conclude_text, batch_text, delivery_text, letter_step, detail_text, letter_of};
+ghost use Rattle.ct_show.specs.Details.{acks_text, conclude_text, delivery_text, letter_step, detail_text, letter_of};
 
-use crate::shapes::{push_call, push_estimate, push_set, push_value};
+use crate::shapes::push_call;
 use crate::wires::{push_round, push_serial};
 use ct_model::Step;
-use ct_names::{Command, Instance, MAX_ENVELOPES, Member, MemberSet, Round, Serial};
+use ct_names::{Command, MAX_ENVELOPES, Member, MemberSet, Serial};
+use ct_text::{
+    coordinator_of, instance_of, push_batch, push_estimate, push_estimate_alone, push_estimate_of,
+    round_of,
+};
 use ct_world::{Letter, Wire, World};
 use std::alloc::AllocError;
 
@@ -85,33 +89,6 @@ fn push_letter_step(
     push_serial(text, world, serial)
 }
 
-/// The last instance that the member began, 0 before the first.
-#[tactic(auto, unfolding(crate::specs::Details::instance_of))]
-pub fn instance_of(world: &World, member: Member) -> Instance
-    ensures { result ≡ instance_of world.now.rehearsal member }
-{
-    world.instance(member).unwrap_or((0, false)).0
-}
-
-/// The round that the member is in, 0 where it is in none.
-#[tactic(auto, unfolding(crate::specs::Details::round_of))]
-pub fn round_of(world: &World, member: Member) -> Round
-    ensures { result ≡ round_of world.now.rehearsal member }
-{
-    match world.round(member) {
-        Some((round, _)) => round,
-        None => 0,
-    }
-}
-
-/// The coordinator of the round that the member is in.
-#[tactic(auto, unfolding(crate::specs::Details::coordinator_of))]
-pub fn coordinator_of(world: &World, member: Member) -> Member
-    ensures { result ≡ coordinator_of world.now.rehearsal member }
-{
-    world.group().coordinator(round_of(world, member))
-}
-
 // How many members the set has; none where there is no set.
 #[tactic(auto, unfolding(crate::specs::Details::size_of))]
 fn size_of(set: Option<MemberSet>) -> u8
@@ -121,22 +98,6 @@ fn size_of(set: Option<MemberSet>) -> u8
         Some(set) => set.len(),
         None => 0,
     }
-}
-
-/// A member's estimate and ts; nothing where it has none.
-#[tactic(auto, unfolding(crate::specs::Details::estimate_of))]
-pub fn push_estimate_of(text: &mut String, world: &World, member: Member) -> Result<(), AllocError>
-    ensures { OnOk result (Adds text.old text.new (estimate_of world.now.rehearsal member)) }
-{
-    push_estimate(text, world.estimate(member))
-}
-
-// The member's estimate alone.
-#[tactic(auto, unfolding(crate::specs::Details::estimate_alone))]
-fn push_estimate_alone(text: &mut String, world: &World, member: Member) -> Result<(), AllocError>
-    ensures { OnOk result (Adds text.old text.new (estimate_alone world.now.rehearsal member)) }
-{
-    push_value(text, world.estimate(member))
 }
 
 // A message and a sign, where the envelope carries a message.
@@ -274,13 +235,6 @@ fn push_conclude(
 {
     push_acks(text, "conclude", world, member)?;
     push_decision(text, world, before, member)
-}
-
-#[tactic(auto, unfolding(crate::specs::Details::batch_text))]
-fn push_batch(text: &mut String, world: &World, instance: Instance) -> Result<(), AllocError>
-    ensures { OnOk result (Adds text.old text.new (batch_text world.now.rehearsal instance)) }
-{
-    push_set(text, world.batch(instance).unwrap_or(&[]))
 }
 
 // A step that delivers the batch of an instance.

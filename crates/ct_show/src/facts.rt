@@ -1,18 +1,18 @@
 //! The line of a refused step, with the facts behind the refusal. The world is the one before the step.
 
 ghost use Rattle.std.specs.Prelude.{◌≡◌, length, Some, OnOk, option_map};
-ghost use Rattle.ct_records.specs.Adds.{Adds};
+ghost use Rattle.ct_text.specs.Adds.{Adds};
 ghost use Rattle.ct_show.specs.Facts.{heard_text, first_heard, phase_in};
 ghost use Rattle.ct_show.specs.Facts.{led_text, place_in, votes_text, part_text, member_facts};
 ghost use Rattle.ct_show.specs.Facts.{takes, returns, taking_or, last_taking, left_in, left_text, leaving_text};
 ghost use Rattle.ct_show.specs.Facts.{place_text, missing_text, letter_facts, serial_facts, facts_text, refused_text};
 
-use crate::details::{coordinator_of, instance_of, push_acks, push_coordinator, push_estimate_of};
+use crate::details::{push_acks, push_coordinator};
 use crate::lines::push_head;
-use crate::shapes::{phase_name, push_estimate};
 use crate::wires::push_serial;
 use ct_model::{Phase, Step};
 use ct_names::{Member, Message, Refusal, Round, Serial};
+use ct_text::{coordinator_of, instance_of, phase_name, push_estimate, push_estimate_of};
 use ct_world::{Letter, World};
 use std::alloc::AllocError;
 

@@ -1,7 +1,7 @@
 //! The lines of a run: one for each step.
 
 ghost use Rattle.std.specs.Prelude.{◌≤◌, OnOk};
-ghost use Rattle.ct_records.specs.Adds.{Adds};
+ghost use Rattle.ct_text.specs.Adds.{Adds};
 ghost use Rattle.ct_model.specs.Actor.{actor};
 ghost use Rattle.ct_show.specs.Lines.{head_text, line_text};
 

@@ -1,17 +1,11 @@
-//! Numbers, sets of messages, commands and phases, shown.
+//! Numbers in columns, and commands, shown.
 
-ghost use Rattle.std.specs.Prelude.{◌≡◌, OnOk, option_map};
-ghost use Rattle.ct_records.specs.Adds.{Adds};
-ghost use Rattle.ct_show.specs.Shapes.{spaces_before, right_text, names_text, shortened};
-ghost use Rattle.ct_show.specs.Shapes.{set_text, estimate_text, value_text, call_text, phase_text};
+ghost use Rattle.std.specs.Prelude.{◌≡◌, OnOk};
+ghost use Rattle.ct_text.specs.Adds.{Adds};
+ghost use Rattle.ct_show.specs.Shapes.{call_text, right_text, spaces_before};
 
-use ct_model::Phase;
-use ct_names::{Command, Message, Round};
-use ct_records::push_separator;
+use ct_names::Command;
 use std::alloc::AllocError;
-
-/// How many messages of a value are shown.
-pub const MOST_SHOWN: usize = 8;
 
 // A number at the right of a column of four places.
 #[tactic(auto, unfolding(crate::specs::Shapes::right_text))]
@@ -36,73 +30,6 @@ fn spaces_before(number: usize) -> &'static str
     }
 }
 
-/// Appends the messages of a value; of many the first ones, and how many more there are.
-#[tactic(auto, unfolding(crate::specs::Shapes::set_text))]
-pub fn push_set(text: &mut String, messages: &[Message]) -> Result<(), AllocError>
-    ensures { OnOk result (Adds text.old text.new (set_text messages.now)) }
-{
-    text.push('{')?;
-    push_shortened(text, messages)?;
-    text.push('}')
-}
-
-// The names of the messages; of many the first ones, and how many more there are.
-#[tactic(auto, unfolding(crate::specs::Shapes::shortened))]
-fn push_shortened(text: &mut String, messages: &[Message]) -> Result<(), AllocError>
-    ensures { OnOk result (Adds text.old text.new (shortened messages.now)) }
-{
-    if messages.len() <= MOST_SHOWN {
-        push_names(text, messages)
-    } else {
-        push_names(text, &messages[..MOST_SHOWN])?;
-        let more = messages.len() - MOST_SHOWN;
-        write!(text, " and {more} more")
-    }
-}
-
-// The names of the messages, in order.
-#[tactic(auto, unfolding(crate::specs::Shapes::names_text))]
-fn push_names(text: &mut String, messages: &[Message]) -> Result<(), AllocError>
-    ensures { OnOk result (Adds text.old text.new (names_text messages.now)) }
-{
-    for (i, message) in messages.iter().enumerate() {
-        push_separator(text, ',', i > 0)?;
-        write!(text, "{message}")?;
-    }
-    Ok(())
-}
-
-// An estimate and its ts; nothing where there is none.
-#[tactic(auto, unfolding(crate::specs::Shapes::estimate_text))]
-pub(crate) fn push_estimate(
-    text: &mut String,
-    estimate: Option<(&[Message], Round)>,
-) -> Result<(), AllocError>
-    ensures { OnOk result (Adds text.old text.new (estimate_text (option_map (λ e. (e.0.now, e.1)) estimate.entry))) }
-{
-    match estimate {
-        None => Ok(()),
-        Some((value, ts)) => {
-            push_set(text, value)?;
-            write!(text, " ts {ts}")
-        }
-    }
-}
-
-/// Appends the value of an estimate, without its ts; nothing where there is none.
-#[tactic(auto, unfolding(crate::specs::Shapes::value_text))]
-pub fn push_value(
-    text: &mut String,
-    estimate: Option<(&[Message], Round)>,
-) -> Result<(), AllocError>
-    ensures { OnOk result (Adds text.old text.new (value_text (option_map (λ e. (e.0.now, e.1)) estimate.entry))) }
-{
-    match estimate {
-        None => Ok(()),
-        Some((value, _)) => push_set(text, value),
-    }
-}
-
 // The command, as `set(0,7)`.
 #[tactic(auto, unfolding(crate::specs::Shapes::call_text))]
 pub(crate) fn push_call(text: &mut String, command: Command) -> Result<(), AllocError>
@@ -112,17 +39,5 @@ pub(crate) fn push_call(text: &mut String, command: Command) -> Result<(), Alloc
         Command::Set(register, value) => write!(text, "set({register},{value})"),
         Command::Add(register, amount) => write!(text, "add({register},{amount})"),
         Command::Copy(from, to) => write!(text, "copy({from},{to})"),
-    }
-}
-
-/// The phase's name.
-pub fn phase_name(phase: Phase) -> &'static str
-    ensures { result.now ≡ phase_text phase }
-{
-    match phase {
-        Phase::Rest => "Rest",
-        Phase::Gather => "Gather",
-        Phase::Wait => "Wait",
-        Phase::Tally => "Tally",
     }
 }

@@ -1,26 +1,23 @@
 //! The state that a record leads to, shown: two lines of the whole, and lines of each member.
 
-ghost use Rattle.std.specs.Prelude.{◌≡◌, ◌<◌, [], ◌∷◌, if◌then◌else◌, IfOk, OnOk, IsTrue, flat_map, option_map};
-ghost use Rattle.ct_records.specs.Adds.{Adds};
+ghost use Rattle.std.specs.Prelude.{◌≡◌, ◌<◌, [], ◌∷◌, IfOk, OnOk, IsTrue, flat_map, option_map};
+ghost use Rattle.ct_text.specs.Adds.{Adds};
 ghost use Rattle.ct_names.specs.Group.{is_member};
 ghost use Rattle.ct_model.specs.Rehearsal.{line_of};
 ghost use Rattle.ct_model.specs.State.{at_serial};
-ghost use Rattle.ct_records.specs.Report.{list_text};
-ghost use Rattle.ct_show.specs.State.{progress_text, standing_line, estimate_line, first_in, set_line, votes_lines};
+ghost use Rattle.ct_show.specs.State.{progress_text, standing_line, estimate_line, set_line, votes_lines};
 ghost use Rattle.ct_show.specs.State.{sender_text, waiting_line, is_apart, told_refusal, enabled_text, own_enabled, refusal_line};
 ghost use Rattle.ct_show.specs.State.{refused_line};
 ghost use Rattle.ct_show.specs.State.{first_choices, own_steps, steps_lines, first_receipt, step_or, behind, receipt_behind};
 ghost use Rattle.ct_show.specs.State.{next_between, next_text, next_line};
 ghost use Rattle.ct_show.specs.State.{member_lines, first_members, group_line, counts_line, state_lines};
 
-use crate::details::instance_of;
 use crate::facts::{push_all_heard, push_place_in};
-use crate::shapes::push_estimate;
 use crate::traced::Traced;
 use crate::wires::push_serial;
 use ct_model::{Phase, Step};
 use ct_names::{MAX_MEMBERS, Member, MemberSet, Message, Refusal, Round, Serial};
-use ct_records::push_separator;
+use ct_text::{instance_of, push_estimate, push_members_of};
 use ct_world::World;
 use std::alloc::{AllocError, Global};
 
@@ -160,30 +157,6 @@ fn push_set_line(text: &mut String, word: &str, set: Option<MemberSet>) -> Resul
             text.push_str("\n")
         }
     }
-}
-
-/// Appends the members of the set, with the separator, a character of ASCII, between each two; a dash where there are none.
-pub fn push_members_of(text: &mut String, separator: char, set: MemberSet) -> Result<(), AllocError>
-    requires { separator < 128 }
-    ensures { OnOk result (Adds text.old text.new (list_text separator (first_in set MAX_MEMBERS))) }
-{
-    let mut later = false;
-    for i in 0..MAX_MEMBERS {
-        let member = i + 1;
-        if set.contains(member) {
-            push_separator(text, separator, later)?;
-            write!(text, "{member}")?;
-            later = true;
-        }
-    }
-    push_dash(text, later)
-}
-
-// A dash where nothing stands before.
-fn push_dash(text: &mut String, later: bool) -> Result<(), AllocError>
-    ensures { OnOk result (Adds text.old text.new ((if later then [] else (45 ∷ [])))) }
-{
-    if later { Ok(()) } else { text.push('-') }
 }
 
 // The envelopes of these serials.

@@ -1,12 +1,12 @@
 //! Wires, and what a step sent, shown.
 
 ghost use Rattle.std.specs.Prelude.{◌≡◌, ◌≤◌, OnOk};
-ghost use Rattle.ct_records.specs.Adds.{Adds};
+ghost use Rattle.ct_text.specs.Adds.{Adds};
 ghost use Rattle.ct_show.specs.Wires.{round_text, wire_text, letter_text, carried_text, serial_text, to_text, one_sent_text, all_sent_text};
 ghost use Rattle.ct_show.specs.Wires.{sent_text};
 
-use crate::shapes::push_set;
 use ct_names::{Instance, MAX_ENVELOPES, Message, Round, Serial};
+use ct_text::push_set;
 use ct_world::{Letter, Wire, World};
 use std::alloc::AllocError;
 

@@ -10,8 +10,8 @@ use Rattle.ct_records.specs.declared.read_fault.ReadFault.{ReadFault}
 use Rattle.ct_records.specs.Replay.{IsAllowed}
 use Rattle.ct_records.specs.Script.{script}
 use Rattle.ct_streams.specs.Streams.{read_part, WritesPart}
-use Rattle.ct_show.proofs.Seen.{input_seen}
-use Rattle.ct_show.specs.declared.show_fault.ShowFault.TheVariants.{NoMember, Unread, Program}
+use Rattle.ct_told.proofs.Seen.{input_seen}
+use Rattle.ct_told.specs.declared.show_fault.ShowFault.TheVariants.{NoMember, Unread, Program}
 use Rattle.ct_world.specs.Setup.{record_of}
 use Rattle.ct_world.specs.declared.setup.Setup.{Setup}
 use Rattle.ct_play.specs.Played.{Played}

@@ -6,8 +6,8 @@ use Rattle.ct_world.specs.declared.setup.Setup.{Setup}
 use Rattle.ct_streams.specs.declared.status.Status.TheVariants as status
 use Rattle.ct_streams.specs.Statuses.{code}
 use Rattle.ct_records.specs.declared.program_fault.ProgramFault.TheVariants.{Memory}
-use Rattle.ct_show.specs.Faults as show
-use Rattle.ct_show.specs.declared.show_fault.ShowFault.TheVariants.{Program}
+use Rattle.ct_told.specs.Faults as show
+use Rattle.ct_told.specs.declared.show_fault.ShowFault.TheVariants.{Program}
 use Rattle.ct_play.specs.Played.{Played}
 use Rattle.ct_play.specs.declared.line_fault.LineFault.{LineFault}
 use Rattle.ct_play.specs.declared.line_fault.LineFault.TheVariants as line

@@ -12,7 +12,7 @@ use Rattle.ct_records.specs.Script.{script}
 use Rattle.ct_grammar.specs.declared.goal.Goal.{Goal}
 use Rattle.ct_listing.specs.Listing.{IsOfListing, IsRefusal}
 use Rattle.ct_play.specs.Played.{Played}
-use Rattle.ct_show.specs.declared.show_fault.ShowFault.TheVariants.{Program}
+use Rattle.ct_told.specs.declared.show_fault.ShowFault.TheVariants.{Program}
 use Rattle.ct_walk.specs.Strangers.{stranger}
 use Rattle.ct_shrink.specs.Runs.{IsNeverShown, IsNoLarger, IsRunOf}
 use Rattle.ct_shrink.specs.Texts.{IsTextOf}

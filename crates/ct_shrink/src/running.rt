@@ -18,8 +18,8 @@ use crate::writing::written;
 use ct_grammar::Goal;
 use ct_listing::replay;
 use ct_records::{ProgramFault, Script};
-use ct_show::{ShowFault, read_told};
 use ct_streams::{Failed, Sink, Source, read_all, write_all};
+use ct_told::{ShowFault, read_told};
 use ct_walk::stranger;
 use std::alloc::Global;
 

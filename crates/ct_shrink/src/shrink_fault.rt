@@ -6,8 +6,8 @@ ghost use Rattle.ct_shrink.specs.Faults.{fault_text, status_of};
 use ct_names::Member;
 use ct_play::LineFault;
 use ct_records::ProgramFault;
-use ct_show::ShowFault;
 use ct_streams::{InputFault, Status};
+use ct_told::ShowFault;
 use std::fmt;
 
 /// Why no smaller run is made, or written. Its text is the line for standard error.
@@ -85,7 +85,7 @@ impl From<ShowFault> for ShrinkFault {
 
 impl From<ProgramFault> for ShrinkFault {
     ghost use Rattle.std.specs.Prelude.{◌≡◌};
-    ghost use Rattle.ct_show.specs.declared.show_fault.ShowFault.TheVariants.{Program};
+    ghost use Rattle.ct_told.specs.declared.show_fault.ShowFault.TheVariants.{Program};
     ghost use Rattle.ct_shrink.specs.declared.shrink_fault.ShrinkFault.TheVariants.{Show};
 
     ghost from_gives = { λ program fault. fault ≡ Show (Program program) };
@@ -98,7 +98,7 @@ impl From<ProgramFault> for ShrinkFault {
 impl From<InputFault> for ShrinkFault {
     ghost use Rattle.std.specs.Prelude.{◌≡◌};
     ghost use Rattle.ct_records.specs.ProgramFault.{of_input_fault};
-    ghost use Rattle.ct_show.specs.declared.show_fault.ShowFault.TheVariants.{Program};
+    ghost use Rattle.ct_told.specs.declared.show_fault.ShowFault.TheVariants.{Program};
     ghost use Rattle.ct_shrink.specs.declared.shrink_fault.ShrinkFault.TheVariants.{Show};
 
     ghost from_gives = { λ input fault. fault ≡ Show (Program (of_input_fault input)) };

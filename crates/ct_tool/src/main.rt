@@ -28,9 +28,9 @@ use ct_logs::{
 };
 use ct_program::{CommandFault, answer_status};
 use ct_records::ProgramFault;
-use ct_show::{ShowFault, shown_end};
 use ct_shrink::{ShrinkFault, shrink_command, shrink_options, write_smaller};
 use ct_streams::{Counted, FileFault, Files, NamedFault, Status, WordFault};
+use ct_told::{ShowFault, shown_end};
 use ct_views::{
     CheckOptions, View, check, check_command, report_command, show, state_command, state_view,
     steps_command, steps_view,

@@ -11,10 +11,10 @@ use Rattle.ct_records.specs.Script.{script}
 use Rattle.ct_records.proofs.Answered.{script_read}
 use Rattle.ct_views.specs.declared.view.View.{View}
 use Rattle.ct_views.specs.Answer.{FailsOn, FailsWith, IsAnswer, IsAnswerOf, IsOfShowing, Lacks, Shows, ShowsPart}
-use Rattle.ct_show.specs.declared.show_fault.ShowFault.{ShowFault}
-use Rattle.ct_show.specs.declared.show_fault.ShowFault.TheVariants.{NoMember, Unread, Program}
-use Rattle.ct_show.specs.NoRecords.{IsToldOf}
-use Rattle.ct_show.proofs.Seen.{input_seen}
+use Rattle.ct_told.specs.declared.show_fault.ShowFault.{ShowFault}
+use Rattle.ct_told.specs.declared.show_fault.ShowFault.TheVariants.{NoMember, Unread, Program}
+use Rattle.ct_told.specs.NoRecords.{IsToldOf}
+use Rattle.ct_told.proofs.Seen.{input_seen}
 
 -- a fault of the bytes that were read is one of the input
 pub showing_seen : (left : Option (List ℕ)) (bytes : List ℕ) (view : View) (fault : ShowFault) (old new : Option (List ℕ)) →

@@ -12,12 +12,12 @@ use Rattle.ct_records.specs.Script.{script}
 use Rattle.ct_records.specs.View.{rehearsal_of}
 use Rattle.ct_records.proofs.Refused.{is_refused}
 use Rattle.ct_streams.specs.Streams.{read_part}
-use Rattle.ct_show.specs.declared.show_fault.ShowFault.{ShowFault}
-use Rattle.ct_show.specs.declared.show_fault.ShowFault.TheVariants.{NoMember, Unread, Program}
+use Rattle.ct_told.specs.declared.show_fault.ShowFault.{ShowFault}
+use Rattle.ct_told.specs.declared.show_fault.ShowFault.TheVariants.{NoMember, Unread, Program}
 use Rattle.ct_views.specs.Checking.{IsFaultOf}
-use Rattle.ct_show.specs.Faults.{IsOfReplayFault}
-use Rattle.ct_show.specs.NoRecords.{IsReadOf}
-use Rattle.ct_show.proofs.Seen.{input_seen}
+use Rattle.ct_told.specs.Faults.{IsOfReplayFault}
+use Rattle.ct_told.specs.NoRecords.{IsReadOf}
+use Rattle.ct_told.proofs.Seen.{input_seen}
 
 -- the record that was read
 pub found_is : (read : Result Script (List ℕ)) (found : Script) (seen bytes : List ℕ) → read ≡ Ok found → seen ≡ bytes →

@@ -17,8 +17,8 @@ use Rattle.ct_records.specs.Script.{script}
 use Rattle.ct_views.specs.declared.form.Form.{Form}
 use Rattle.ct_views.specs.declared.form.Form.TheVariants.{Text, Json}
 use Rattle.ct_views.specs.declared.selection.Selection.{Selection}
-use Rattle.ct_show.specs.declared.show_fault.ShowFault.{ShowFault}
-use Rattle.ct_show.specs.declared.show_fault.ShowFault.TheVariants.{NoMember, Unread, Program}
+use Rattle.ct_told.specs.declared.show_fault.ShowFault.{ShowFault}
+use Rattle.ct_told.specs.declared.show_fault.ShowFault.TheVariants.{NoMember, Unread, Program}
 use Rattle.ct_views.specs.declared.view.View.{View}
 use Rattle.ct_views.specs.declared.view.View.TheVariants.{Nothing, Report, Steps, State}
 use Rattle.ct_show.specs.Facts.{refused_text}
@@ -26,7 +26,7 @@ use Rattle.ct_json.specs.Json.{report_json}
 use Rattle.ct_json.specs.JsonState.{state_json}
 use Rattle.ct_json.specs.JsonSteps.{refused_json}
 use Rattle.ct_views.specs.Selected.{first_lines}
-use Rattle.ct_show.specs.NoRecords.{IsToldOf}
+use Rattle.ct_told.specs.NoRecords.{IsToldOf}
 use Rattle.ct_show.specs.State.{state_lines}
 
 -- the lines of the first steps of a record

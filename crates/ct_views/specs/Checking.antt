@@ -13,10 +13,10 @@ use Rattle.ct_records.specs.Replay.{IsFaultIn, IsReplayed}
 use Rattle.ct_streams.specs.Streams.{read_part, WritesPart}
 use Rattle.ct_records.specs.Report.{report_text}
 use Rattle.ct_records.specs.Script.{script}
-use Rattle.ct_show.specs.Faults as showing
-use Rattle.ct_show.specs.NoRecords.{IsToldOf}
-use Rattle.ct_show.specs.declared.show_fault.ShowFault.{ShowFault}
-use Rattle.ct_show.specs.declared.show_fault.ShowFault.TheVariants.{NoMember, Unread, Program}
+use Rattle.ct_told.specs.Faults as showing
+use Rattle.ct_told.specs.NoRecords.{IsToldOf}
+use Rattle.ct_told.specs.declared.show_fault.ShowFault.{ShowFault}
+use Rattle.ct_told.specs.declared.show_fault.ShowFault.TheVariants.{NoMember, Unread, Program}
 use Rattle.ct_views.specs.declared.check_options.CheckOptions.{CheckOptions}
 use Rattle.ct_views.specs.declared.checked.Checked.{Checked}
 use Rattle.ct_views.specs.declared.checked.Checked.TheVariants.{Good, OtherReport, NoReport, NoFile, Fault}

@@ -3,7 +3,7 @@
 ghost use Rattle.std.specs.Prelude.{◌≡◌, ◌≢◌, ◌<◌, ◌++◌, [], length, slice_get, Some, IfOk, IfErr, OnOk, string_bytes};
 ghost use Rattle.ct_world.specs.Stage.{so_far};
 ghost use Rattle.ct_records.specs.declared.program_fault.ProgramFault.TheVariants.{Memory};
-ghost use Rattle.ct_records.specs.Adds.{Adds};
+ghost use Rattle.ct_text.specs.Adds.{Adds};
 ghost use Rattle.ct_records.specs.View.{rehearsal_of};
 ghost use Rattle.ct_views.specs.Answer.{IsAnswer, refused_in, refused_line, state_in};
 

@@ -2,7 +2,7 @@
 
 ghost use Rattle.std.specs.Prelude.{◌≡◌, ◌⊎◌, ◌<◌, ◌^◌, map, OnOk, OnErr, IfOk, IfErr, IfSome, string_bytes};
 ghost use Rattle.std.specs.Str.{bytes_eq};
-ghost use Rattle.ct_records.specs.Adds.{Adds};
+ghost use Rattle.ct_text.specs.Adds.{Adds};
 ghost use Rattle.ct_records.specs.Replay.{IsReportOf};
 ghost use Rattle.ct_streams.specs.Streams.{FailsOnce, read_part};
 ghost use Rattle.ct_views.specs.Checking.{Checks, ChecksOne, ChecksOnePart, ChecksPart, IsBeside, IsChecked};
@@ -11,8 +11,8 @@ ghost use Rattle.ct_views.specs.Checking.{checked_text, line_of, report_name, to
 use crate::check_options::CheckOptions;
 use crate::checked::Checked;
 use ct_records::{ProgramFault, report};
-use ct_show::{ShowFault, read_told};
 use ct_streams::{Failed, FileFault, Files, InputFault, Sink, Source, read_all, write_all};
+use ct_told::{ShowFault, read_told};
 use ct_world::World;
 use std::alloc::{AllocError, Global};
 

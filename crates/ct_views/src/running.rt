@@ -10,8 +10,8 @@ use crate::answer::{Answer, shown};
 use crate::view::View;
 use ct_names::Member;
 use ct_records::{ProgramFault, Script};
-use ct_show::{ShowFault, read_told};
 use ct_streams::{Failed, Sink, Source, read_all, write_all};
+use ct_told::{ShowFault, read_told};
 use std::alloc::Global;
 
 /// Reads a record to its end and writes what the view shows of it. The whole text is made before the first write. At a

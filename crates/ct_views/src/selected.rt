@@ -1,7 +1,7 @@
 //! The lines of a run in a form: one for each step that is asked for.
 
 ghost use Rattle.std.specs.Prelude.{◌≤◌, [], if◌then◌else◌, OnOk};
-ghost use Rattle.ct_records.specs.Adds.{Adds};
+ghost use Rattle.ct_text.specs.Adds.{Adds};
 ghost use Rattle.ct_model.specs.Actor.{actor};
 ghost use Rattle.ct_views.specs.Selected.{line_in, is_selected};
 

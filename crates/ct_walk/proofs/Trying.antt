@@ -5,7 +5,7 @@ use Rattle.ct_model.specs.Rehearsal.{extended}
 use Rattle.ct_names.specs.declared.refusal.Refusal.{Refusal}
 use Rattle.ct_model.specs.Cause.{cause}
 use Rattle.ct_model.specs.declared.step.Step.{Step}
-use Rattle.ct_rehearse.specs.Choices.{after_try}
+use Rattle.ct_choices.specs.Choices.{after_try}
 use Rattle.ct_play.specs.Acting.{stepped, unless_refused}
 use Rattle.ct_play.specs.Faults.{is_short, IsFaultOf, IsKept, UnlessShort}
 use Rattle.ct_play.specs.Goals.{Watched}

@@ -2,7 +2,7 @@
 use Rattle.std.specs.Prelude.{◌≡◌, ◌≤◌, ◌<◌, ℕ, zero, suc, ◌+◌, max, Option, Some, None, unwrap_or, if◌then◌else◌}
 use Rattle.ct_grammar.specs.declared.goal.Goal.{Goal}
 use Rattle.ct_model.specs.Rehearsal.{Rehearsal}
-use Rattle.ct_rehearse.specs.Choices.{round_of}
+use Rattle.ct_choices.specs.Choices.{round_of}
 use Rattle.ct_world.specs.Decided.{last_decided}
 use Rattle.ct_world.specs.World.{member_of, if_member}
 use Rattle.ct_walk.specs.declared.options.WalkOptions.{WalkOptions}

@@ -8,7 +8,8 @@ use Rattle.ct_model.specs.Rehearsal.{Rehearsal, empty}
 use Rattle.ct_detect.specs.declared.ask.Ask.{Ask}
 use Rattle.ct_detect.specs.Seeded.{SeededState, words_of_seed, next_word, after_word}
 use Rattle.ct_rehearse.specs.declared.disturbance.Disturbance.{Disturbance}
-use Rattle.ct_rehearse.specs.Choices.{after_try, ask_of, entry_step, question, tried}
+use Rattle.ct_choices.specs.Choices.{after_try, ask_of, question, tried}
+use Rattle.ct_rehearse.specs.Entries.{entry_step}
 use Rattle.ct_program.specs.declared.free_options.FreeOptions.{FreeOptions}
 use Rattle.ct_program.specs.FreeOptions.{setting_of}
 use Rattle.ct_program.specs.Planning.{scripts_of}

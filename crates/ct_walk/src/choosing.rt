@@ -1,7 +1,7 @@
 //! What turns of members try: what comes next at the member is looked for once.
 
 ghost use Rattle.std.specs.Prelude.{◌≡◌, ◌-◌, ◌<◌, slice_get, Some};
-ghost use Rattle.ct_rehearse.specs.Choices.{ask_of, asked_for, chosen, first_waiting, instance_of, question, receives, tried};
+ghost use Rattle.ct_choices.specs.Choices.{ask_of, asked_for, chosen, first_waiting, instance_of, question, receives, tried};
 ghost use Rattle.ct_walk.specs.Walking.{after_answer, answer};
 
 use crate::answering::answer;
@@ -12,7 +12,7 @@ use ct_names::{Instance, Member, Serial};
 use ct_world::World;
 
 // What a turn of the member tries. Its detector is asked where a suspicion comes next.
-#[tactic(auto, unfolding(ct_rehearse::specs::Choices::question, ct_rehearse::specs::Choices::tried))]
+#[tactic(auto, unfolding(ct_choices::specs::Choices::question, ct_choices::specs::Choices::tried))]
 pub(crate) fn tried(world: &World, detectors: &mut Vec<Seeded>, member: Member) -> Option<Step>
     requires { 0 < member }
     ensures tried { result ≡ tried world.now.rehearsal member (Some (
@@ -40,7 +40,7 @@ fn asked_for(world: &World, member: Member, next: Option<Step>) -> Option<Ask>
     }
 }
 
-#[tactic(auto, unfolding(ct_rehearse::specs::Choices::ask_of))]
+#[tactic(auto, unfolding(ct_choices::specs::Choices::ask_of))]
 fn ask(world: &World, member: Member) -> Ask
     ensures { result ≡ ask_of world.now.rehearsal member }
 {
@@ -53,7 +53,7 @@ fn ask(world: &World, member: Member) -> Ask
     }
 }
 
-#[tactic(auto, unfolding(ct_rehearse::specs::Choices::instance_of))]
+#[tactic(auto, unfolding(ct_choices::specs::Choices::instance_of))]
 fn instance_of(world: &World, member: Member) -> Instance
     ensures { result ≡ instance_of world.now.rehearsal member }
 {
@@ -81,7 +81,7 @@ fn receipt(world: &World, member: Member) -> Option<Step>
     Some(Step::Receive(member, serial))
 }
 
-#[tactic(auto, unfolding(ct_rehearse::specs::Choices::first_waiting))]
+#[tactic(auto, unfolding(ct_choices::specs::Choices::first_waiting))]
 fn first_waiting(world: &World, member: Member) -> Option<Serial>
     ensures { result ≡ first_waiting world.now.rehearsal member }
 {

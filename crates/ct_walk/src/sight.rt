@@ -1,7 +1,7 @@
 //! Goals of one term that walks come near to.
 
 ghost use Rattle.std.specs.Prelude.{◌≡◌, Some, option_map};
-ghost use Rattle.ct_rehearse.specs.Choices.{round_of};
+ghost use Rattle.ct_choices.specs.Choices.{round_of};
 ghost use Rattle.ct_walk.specs.Missing.{sight_text};
 ghost use Rattle.ct_walk.specs.Sights.{sight_in, sight_in_claim, sight_in_term, sight_in_terms};
 
@@ -66,7 +66,7 @@ fn sight_in_claim(claim: &Claim) -> Option<Sight>
 }
 
 // The round that the member is in, 0 where it is in none.
-#[tactic(auto, unfolding(ct_rehearse::specs::Choices::round_of))]
+#[tactic(auto, unfolding(ct_choices::specs::Choices::round_of))]
 pub(crate) fn round_of(world: &World, member: Member) -> Round
     ensures { result ≡ round_of world.now.rehearsal member }
 {

@@ -7,7 +7,7 @@ ghost use Rattle.ct_program.specs.FreeOptions.{InRange};
 ghost use Rattle.ct_walk.specs.Faults.{IsShort};
 ghost use Rattle.ct_walk.specs.Nearness.{rounds_for};
 ghost use Rattle.ct_walk.specs.Shown.{is_shown_by};
-ghost use Rattle.ct_rehearse.specs.Choices.{after_try};
+ghost use Rattle.ct_choices.specs.Choices.{after_try};
 ghost use Rattle.ct_walk.specs.Walking.{drawn, drawn_scripts, driven, entered, entries_left, has_left, is_due};
 ghost use Rattle.ct_walk.specs.Walking.{is_drawn, made_by, start, turned, walked_for, workers};
 

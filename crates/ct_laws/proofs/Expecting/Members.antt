@@ -27,10 +27,9 @@ use Rattle.ct_model.proofs.Basics.Serials.{distinct-once, serials_to-within}
 use Rattle.ct_model.proofs.Consensus.Readings.{acked-of, acker-got, estimate_from-in, estimates-got, heard-in}
 use Rattle.ct_world.specs.Standing.{acked_by, all_heard_by, estimate_by}
 use Rattle.ct_world.specs.World.{if_member, member_of}
-use Rattle.ct_show.specs.Details.{estimate_of}
-use Rattle.ct_show.specs.Shapes.{estimate_text, phase_text}
-use Rattle.ct_show.specs.State.{first_in}
-use Rattle.ct_records.specs.Report.{list_text}
+use Rattle.ct_text.specs.Standing.{estimate_of}
+use Rattle.ct_text.specs.Shapes.{estimate_text, phase_text}
+use Rattle.ct_text.specs.Lists.{first_in, list_text}
 use Rattle.ct_grammar.specs.declared.fact.Fact.{Fact}
 use Rattle.ct_grammar.specs.declared.fact.Fact.TheVariants.{Up, Crashed, Idle, Instance, Round, Phase as InPhase}
 use Rattle.ct_grammar.specs.declared.fact.Fact.TheVariants.{Received, Decided, Delivered, Table, Refuses}

@@ -9,7 +9,7 @@ use Rattle.ct_names.specs.declared.refusal.Refusal.TheVariants.{TooFew, NotLarge
 use Rattle.ct_names.specs.declared.refusal.Refusal.TheVariants.{OutOfMemory, Board, NotSent, StillWaiting}
 use Rattle.ct_model.specs.declared.phase.Phase.{Phase}
 use Rattle.ct_model.specs.declared.phase.Phase.TheVariants.{Rest, Gather, Wait, Tally}
-use Rattle.ct_show.specs.Shapes.{phase_text}
+use Rattle.ct_text.specs.Shapes.{phase_text}
 use Rattle.ct_grammar.specs.Reasons.{full_of, reason_of, reason_text, step_reason}
 use Rattle.ct_grammar.specs.declared.reason.Reason.{Reason}
 use Rattle.ct_grammar.specs.declared.reason.Reason.TheVariants.{NotThere, Across, Rules}

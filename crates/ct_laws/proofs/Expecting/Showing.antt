@@ -28,7 +28,7 @@ use Rattle.ct_model.specs.declared.wire.Wire.TheVariants.{Est}
 use Rattle.ct_model.proofs.Consensus.Readings.{estimate_from-in, estimates-got}
 use Rattle.ct_model.proofs.Record.Allowed.{allowed-lawful, cause-allowed}
 use Rattle.ct_model.proofs.Record.Start.{lawful-first}
-use Rattle.ct_rehearse.specs.Choices.{has_crashed}
+use Rattle.ct_choices.specs.Choices.{has_crashed}
 use Rattle.ct_world.specs.Standing.{heard_by}
 use Rattle.ct_world.specs.World.{if_member, member_of}
 use Rattle.ct_grammar.specs.Reasons.{reason_text}

@@ -9,7 +9,7 @@ use Rattle.json.specs.Print.{quoted}
 use Rattle.serde_json.specs.Data.{Data}
 use Rattle.serde_json.specs.Written.{compact_text, items_text, members_text}
 use Rattle.ct_names.specs.Group.{counting}
-use Rattle.ct_records.proofs.Joins.{rest_of, rest_of-join}
+use Rattle.ct_text.proofs.Joins.{rest_of, rest_of-join}
 use Rattle.ct_json.specs.Json.{array_at, array_json, key_json}
 use Rattle.ct_laws.specs.JsonValues.{Field, array_of, items_of, members_of, object_of}
 

@@ -25,9 +25,9 @@ use Rattle.ct_model.specs.State.{Member}
 use Rattle.ct_records.specs.Values.{num}
 use Rattle.ct_world.specs.Standing.{acked_by, estimate_by, heard_by, replied_by}
 use Rattle.ct_world.specs.World.{if_member, member_of}
-use Rattle.ct_show.specs.Details.{coordinator_of, round_of}
-use Rattle.ct_show.specs.Shapes.{phase_text}
-use Rattle.ct_show.specs.State.{first_in}
+use Rattle.ct_text.specs.Standing.{coordinator_of, round_of}
+use Rattle.ct_text.specs.Shapes.{phase_text}
+use Rattle.ct_text.specs.Lists.{first_in}
 use Rattle.ct_json.specs.JsonEnvelopes.{estimate_keys}
 use Rattle.ct_json.specs.JsonParts as json
 use Rattle.ct_laws.specs.JsonEnvelopes.{estimate_fields}

@@ -23,7 +23,7 @@ use Rattle.ct_model.specs.State.{at_serial}
 use Rattle.ct_world.specs.Replay.{first_steps}
 use Rattle.ct_world.specs.Standing.{estimate_by, heard_by}
 use Rattle.ct_world.specs.World.{if_member, member_of}
-use Rattle.ct_show.specs.Details.{instance_of}
+use Rattle.ct_text.specs.Standing.{instance_of}
 use Rattle.ct_show.specs.Facts.{last_taking}
 use Rattle.ct_views.specs.Answer.{refused_shown, shown_text}
 use Rattle.ct_views.specs.declared.form.Form.TheVariants.{Json}

@@ -32,7 +32,7 @@ use Rattle.ct_records.specs.Values.{command_data, num, step_data}
 use Rattle.ct_world.specs.Replay.{first_steps}
 use Rattle.ct_world.specs.Standing.{estimate_by, heard_by}
 use Rattle.ct_world.specs.World.{if_member, member_of}
-use Rattle.ct_show.specs.Details.{instance_of}
+use Rattle.ct_text.specs.Standing.{instance_of}
 use Rattle.ct_show.specs.Facts.{last_taking}
 use Rattle.ct_json.specs.Json.{key_json, messages_json}
 use Rattle.ct_json.specs.JsonEnvelopes.{envelope_json, estimate_at, next_envelopes, sent_at}

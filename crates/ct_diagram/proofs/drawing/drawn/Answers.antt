@@ -6,7 +6,7 @@ use Rattle.ct_model.specs.declared.step.Step.TheVariants.{Submit}
 use Rattle.ct_model.specs.Rehearsal.{Rehearsal, extended, state_of}
 use Rattle.ct_model.specs.Run.{run}
 use Rattle.ct_model.specs.Senders.{senders, senders_from}
-use Rattle.ct_show.proofs.Tracing.{traced_more}
+use Rattle.ct_text.proofs.Tracing.{traced_more}
 use Rattle.ct_world.specs.Replay.{AllowsFirst, IsFaultOf, first_steps}
 use Rattle.ct_world.specs.Setup.{record_of, setting_of}
 use Rattle.ct_world.specs.Stage.{ReplayView, so_far}

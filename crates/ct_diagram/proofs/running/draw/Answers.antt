@@ -3,7 +3,7 @@ use Rattle.std.specs.Prelude.{IfErr, IfSome, IsErrAnd, IsOkAnd}
 use Rattle.ct_streams.specs.Streams.{read_part}
 use Rattle.ct_diagram.specs.declared.fault.DiagramFault.{DiagramFault}
 use Rattle.ct_diagram.specs.declared.window.Window.{Window}
-use Rattle.ct_show.proofs.Seen.{input_seen}
+use Rattle.ct_told.proofs.Seen.{input_seen}
 use Rattle.ct_diagram.specs.Running.{FailsOn}
 use Rattle.ct_diagram.specs.Window.{lacking}
 use Rattle.ct_diagram.proofs.Seen.{draws_seen, fault_seen, part_seen}

@@ -1,6 +1,6 @@
 use Rattle.std.specs.Prelude.{[], ◌∷◌, codes, decimal, string_bytes}
 use Rattle.ct_json.specs.Json.{decision_json, messages_json}
-use Rattle.ct_show.proofs.Pushed.{pushed_more, pushed_str}
+use Rattle.ct_text.proofs.Pushed.{pushed_more, pushed_str}
 use Rattle.ct_json.proofs.json.push_decision.Goals as goal
 
 pub returns : goal.returns

@@ -2,8 +2,8 @@ use Rattle.std.proofs.Common.{◌+◌}
 use Rattle.std.specs.Prelude.{string_bytes}
 use Rattle.ct_model.specs.Received.{decided}
 use Rattle.ct_world.specs.World.{member_of}
-use Rattle.ct_records.proofs.Pieces.{written_none}
-use Rattle.ct_records.proofs.Found.{told_of}
+use Rattle.ct_text.proofs.Pieces.{written_none}
+use Rattle.ct_text.proofs.Found.{told_of}
 use Rattle.ct_json.proofs.Listed.{decision_json_written, decision_json_passed}
 use Rattle.ct_json.proofs.json.push_decisions_to.Goals as goal
 use Rattle.ct_json.proofs.json.push_decisions_to.Goals.{in-Some+in_ok-push_separator+in_ok-push_decision, in_default}

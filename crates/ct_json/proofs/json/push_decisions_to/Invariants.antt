@@ -1,6 +1,6 @@
 use Rattle.std.specs.Prelude.{string_bytes}
 use Rattle.ct_world.specs.World.{member_of}
-use Rattle.ct_records.proofs.Pieces.{HasWritten}
+use Rattle.ct_text.proofs.Pieces.{HasWritten}
 use Rattle.ct_json.specs.Json.{first_decisions}
 use Rattle.ct_json.proofs.json.push_decisions_to.Given as goal
 

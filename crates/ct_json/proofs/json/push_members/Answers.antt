@@ -1,7 +1,7 @@
 use Rattle.std.specs.Prelude.{[], ◌∷◌, codes, string_bytes}
 use Rattle.std.specs.List.{join_with_byte}
 use Rattle.ct_json.specs.Json.{first_members, members_json}
-use Rattle.ct_show.proofs.Pushed.{pushed_more, pushed_str}
+use Rattle.ct_text.proofs.Pushed.{pushed_more, pushed_str}
 use Rattle.ct_json.proofs.json.push_members.Goals as goal
 
 pub returns : goal.returns

@@ -1,7 +1,7 @@
 use Rattle.std.specs.Prelude.{◌++◌, string_bytes, map}
 use Rattle.std.proofs.Common.{ap, ◌∙◌}
 use Rattle.ct_names.specs.Message.{Message}
-use Rattle.ct_records.proofs.Joins.{join_starts, join_goes}
+use Rattle.ct_text.proofs.Joins.{join_starts, join_goes}
 use Rattle.ct_json.specs.Json.{message_json}
 use Rattle.ct_json.proofs.json.push_names.Goals as goal
 

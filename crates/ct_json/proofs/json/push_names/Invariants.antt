@@ -1,7 +1,7 @@
 use Rattle.std.proofs.Common.{◌≡◌, ◌++◌}
 use Rattle.std.specs.Prelude.{drop, map, nat_lt, string_bytes}
 use Rattle.std.specs.List.{join_with_byte}
-use Rattle.ct_records.proofs.Joins.{rest_of}
+use Rattle.ct_text.proofs.Joins.{rest_of}
 use Rattle.ct_json.specs.Json.{message_json}
 use Rattle.ct_json.proofs.json.push_names.Given as goal
 

@@ -1,5 +1,5 @@
 use Rattle.std.specs.Prelude.{string_bytes}
-use Rattle.ct_records.proofs.Pieces.{written_none}
+use Rattle.ct_text.proofs.Pieces.{written_none}
 use Rattle.ct_json.proofs.Listed.{register_json_written}
 use Rattle.ct_json.proofs.json.push_registers.Goals as goal
 

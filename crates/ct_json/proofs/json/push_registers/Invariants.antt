@@ -1,5 +1,5 @@
 use Rattle.std.specs.Prelude.{string_bytes}
-use Rattle.ct_records.proofs.Pieces.{HasWritten}
+use Rattle.ct_text.proofs.Pieces.{HasWritten}
 use Rattle.ct_json.specs.Json.{first_registers}
 use Rattle.ct_json.proofs.json.push_registers.Given as goal
 

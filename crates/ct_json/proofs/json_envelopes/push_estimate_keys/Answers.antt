@@ -1,7 +1,7 @@
 use Rattle.std.specs.Prelude.{[], ◌∷◌, ◌++◌, codes, decimal, string_bytes}
 use Rattle.ct_json.specs.Json.{messages_json}
 use Rattle.ct_json.specs.JsonEnvelopes.{estimate_keys}
-use Rattle.ct_show.proofs.Pushed.{pushed_last, pushed_more}
+use Rattle.ct_text.proofs.Pushed.{pushed_last, pushed_more}
 use Rattle.ct_json.proofs.json_envelopes.push_estimate_keys.Goals as goal
 
 pub returns : goal.returns

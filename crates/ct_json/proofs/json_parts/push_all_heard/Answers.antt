@@ -1,5 +1,5 @@
 use Rattle.std.specs.Prelude.{string_bytes}
-use Rattle.ct_records.proofs.Pieces.{written_none}
+use Rattle.ct_text.proofs.Pieces.{written_none}
 use Rattle.ct_json.proofs.Listed.{heard_json_written, heard_json_passed}
 use Rattle.ct_json.proofs.json_parts.push_all_heard.Goals as goal
 use Rattle.ct_json.proofs.json_parts.push_all_heard.Goals.{in-Some+in_ok-push_separator+in_ok-push_heard, in_default}

@@ -1,7 +1,7 @@
 use Rattle.std.proofs.Common.{sym, ◌∙◌}
 use Rattle.std.specs.Prelude.{string_bytes}
-use Rattle.ct_records.proofs.Pieces.{written_none}
-use Rattle.ct_show.proofs.Listed.{in_set_passed, in_set_written}
+use Rattle.ct_text.proofs.Pieces.{written_none}
+use Rattle.ct_text.proofs.Listed.{in_set_passed, in_set_written}
 use Rattle.ct_json.proofs.json_parts.push_members_of.Goals as goal
 use Rattle.ct_json.proofs.json_parts.push_members_of.Goals.{then-contains+in_ok-push_separator+in_ok-write, else-contains}
 

@@ -1,6 +1,6 @@
 use Rattle.std.specs.Prelude.{string_bytes}
-use Rattle.ct_records.proofs.Pieces.{HasWritten}
-use Rattle.ct_show.specs.State.{first_in}
+use Rattle.ct_text.proofs.Pieces.{HasWritten}
+use Rattle.ct_text.specs.Lists.{first_in}
 use Rattle.ct_json.proofs.json_parts.push_members_of.Given as goal
 
 abbrev pub invariant-loop-i : goal.invariant-loop-i

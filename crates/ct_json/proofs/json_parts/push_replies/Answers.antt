@@ -1,6 +1,6 @@
 use Rattle.std.specs.Prelude.{[], ◌∷◌, string_bytes}
 use Rattle.ct_json.specs.JsonParts.{replies_json}
-use Rattle.ct_show.proofs.Pushed.{pushed_first, pushed_last}
+use Rattle.ct_text.proofs.Pushed.{pushed_first, pushed_last}
 use Rattle.ct_json.proofs.json_parts.push_replies.Goals as goal
 
 pub returns : goal.returns

@@ -1,7 +1,7 @@
 use Rattle.std.specs.Prelude.{[], ◌∷◌, codes, string_bytes}
 use Rattle.ct_json.specs.Json.{array_at}
 use Rattle.ct_json.specs.JsonParts.{first_heard, votes_json}
-use Rattle.ct_show.proofs.Pushed.{pushed_first, pushed_last, pushed_more}
+use Rattle.ct_text.proofs.Pushed.{pushed_first, pushed_last, pushed_more}
 use Rattle.ct_json.proofs.json_parts.push_votes.Goals as goal
 
 pub returns : goal.returns

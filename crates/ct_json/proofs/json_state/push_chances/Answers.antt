@@ -1,7 +1,7 @@
 use Rattle.std.specs.Prelude.{[], ◌∷◌, codes, map, string_bytes}
 use Rattle.ct_json.specs.Json.{array_at}
 use Rattle.ct_json.specs.JsonState.{chances_json, next_json, steps_json, waiting_json}
-use Rattle.ct_show.proofs.Pushed.{pushed_first, pushed_more, pushed_str}
+use Rattle.ct_text.proofs.Pushed.{pushed_first, pushed_more, pushed_str}
 use Rattle.ct_json.proofs.json_state.push_chances.Goals as goal
 
 pub returns : goal.returns

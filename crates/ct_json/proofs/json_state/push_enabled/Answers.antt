@@ -5,7 +5,7 @@ use Rattle.ct_names.specs.declared.command.Command.TheVariants.{Set}
 use Rattle.ct_model.specs.declared.step.Step.{Step}
 use Rattle.ct_model.specs.declared.step.Step.TheVariants.{Submit}
 use Rattle.ct_model.specs.StepText.{step_text}
-use Rattle.ct_records.proofs.Pieces.{written_none}
+use Rattle.ct_text.proofs.Pieces.{written_none}
 use Rattle.ct_json.specs.JsonState.{enabled_jsons}
 use Rattle.ct_json.proofs.Listed.{text_passed, text_written}
 use Rattle.ct_json.proofs.json_state.push_enabled.Goals as goal

@@ -2,7 +2,7 @@ use Rattle.std.specs.Prelude.{[], ◌∷◌, string_bytes}
 use Rattle.ct_json.specs.Json.{history_json, standing_json}
 use Rattle.ct_json.specs.JsonParts.{part_json}
 use Rattle.ct_json.specs.JsonState.{chances_json, member_json}
-use Rattle.ct_show.proofs.Pushed.{pushed_first, pushed_last, pushed_more}
+use Rattle.ct_text.proofs.Pushed.{pushed_first, pushed_last, pushed_more}
 use Rattle.ct_json.proofs.json_state.push_member.Goals as goal
 
 pub returns : goal.returns

@@ -4,7 +4,7 @@ use Rattle.std.proofs.lemmas.List.{take_more}
 use Rattle.ct_names.specs.declared.command.Command.TheVariants.{Set}
 use Rattle.ct_model.specs.declared.step.Step.{Step}
 use Rattle.ct_model.specs.declared.step.Step.TheVariants.{Submit}
-use Rattle.ct_records.proofs.Pieces.{written_none}
+use Rattle.ct_text.proofs.Pieces.{written_none}
 use Rattle.ct_json.specs.JsonState.{refusal_json, refused_jsons}
 use Rattle.ct_json.proofs.Listed.{text_passed, text_written}
 use Rattle.ct_json.proofs.json_state.push_refused.Goals as goal

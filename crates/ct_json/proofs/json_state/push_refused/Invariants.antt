@@ -1,6 +1,6 @@
 use Rattle.std.proofs.Common.{take}
 use Rattle.std.specs.Prelude.{flat_map, string_bytes}
-use Rattle.ct_records.proofs.Pieces.{HasWritten}
+use Rattle.ct_text.proofs.Pieces.{HasWritten}
 use Rattle.ct_json.specs.JsonState.{refused_jsons}
 use Rattle.ct_json.proofs.json_state.push_refused.Given as goal
 

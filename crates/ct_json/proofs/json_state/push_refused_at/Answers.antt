@@ -2,7 +2,7 @@ use Rattle.std.specs.Prelude.{[], ◌∷◌, codes, flat_map, string_bytes}
 use Rattle.std.specs.List.{join_with_byte}
 use Rattle.ct_json.specs.Json.{array_at}
 use Rattle.ct_json.specs.JsonState.{refused_jsons}
-use Rattle.ct_show.proofs.Pushed.{pushed_more, pushed_str}
+use Rattle.ct_text.proofs.Pushed.{pushed_more, pushed_str}
 use Rattle.ct_json.proofs.json_state.push_refused_at.Goals as goal
 
 pub returns : goal.returns

@@ -1,6 +1,6 @@
 use Rattle.std.proofs.Common.{◌++◌, ap, get_or, ◌∙◌}
 use Rattle.std.specs.Prelude.{map, string_bytes}
-use Rattle.ct_records.proofs.Joins.{join_goes, join_starts}
+use Rattle.ct_text.proofs.Joins.{join_goes, join_starts}
 use Rattle.ct_json.specs.JsonEnvelopes.{envelope_by}
 use Rattle.ct_json.specs.JsonState.{waiting_json}
 use Rattle.ct_json.proofs.json_state.push_waiting.Goals as goal

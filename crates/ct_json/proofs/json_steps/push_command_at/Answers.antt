@@ -1,7 +1,7 @@
 use Rattle.std.specs.Prelude.{[], ◌∷◌, codes, string_bytes}
 use Rattle.ct_json.specs.Json.{key_json}
 use Rattle.ct_json.specs.JsonSteps.{command_json}
-use Rattle.ct_show.proofs.Pushed.{pushed_last}
+use Rattle.ct_text.proofs.Pushed.{pushed_last}
 use Rattle.ct_json.proofs.json_steps.push_command_at.Goals as goal
 
 pub returns : goal.returns

@@ -1,7 +1,7 @@
 use Rattle.std.specs.Prelude.{[], ◌∷◌, codes, decimal, string_bytes}
 use Rattle.ct_json.specs.JsonParts.{part_json}
 use Rattle.ct_json.specs.JsonSteps.{member_facts}
-use Rattle.ct_show.proofs.Pushed.{pushed_last, pushed_value}
+use Rattle.ct_text.proofs.Pushed.{pushed_last, pushed_value}
 use Rattle.ct_json.proofs.json_steps.push_member_facts.Goals as goal
 
 pub returns : goal.returns

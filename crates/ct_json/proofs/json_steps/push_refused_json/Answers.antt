@@ -1,7 +1,7 @@
 use Rattle.std.specs.Prelude.{[], ◌∷◌, codes, string_bytes}
 use Rattle.ct_names.specs.RefusalText.{refusal_text}
 use Rattle.ct_json.specs.JsonSteps.{arguments_json, facts_json, head_json, refused_json}
-use Rattle.ct_show.proofs.Pushed.{pushed_first, pushed_more, pushed_pieces, pushed_str}
+use Rattle.ct_text.proofs.Pushed.{pushed_first, pushed_more, pushed_pieces, pushed_str}
 use Rattle.ct_json.proofs.json_steps.push_refused_json.Goals as goal
 
 pub returns : goal.returns

@@ -1,7 +1,7 @@
 use Rattle.std.specs.Prelude.{[], ◌∷◌, codes, decimal, string_bytes}
 use Rattle.ct_json.specs.Json.{messages_json}
 use Rattle.ct_json.specs.JsonSteps.{valued_json}
-use Rattle.ct_show.proofs.Pushed.{pushed_last}
+use Rattle.ct_text.proofs.Pushed.{pushed_last}
 use Rattle.ct_json.proofs.json_steps.push_valued.Goals as goal
 
 pub returns : goal.returns

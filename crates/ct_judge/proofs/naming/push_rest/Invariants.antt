@@ -1,6 +1,6 @@
 use Rattle.std.proofs.Common.{◌≡◌, ◌++◌, take}
 use Rattle.std.specs.Prelude.{codes, flat_map, string_bytes}
-use Rattle.ct_judge.specs.Naming.{envelope_name}
+use Rattle.ct_judging.specs.Naming.{envelope_name}
 use Rattle.ct_judge.proofs.naming.push_rest.Given as goal
 
 abbrev pub invariant-loop-serial : goal.invariant-loop-serial

@@ -2,7 +2,8 @@ use Rattle.std.proofs.Common.{rules, ◌≡◌, ◌+◌, ◌<◌, Some, Ok, leng
 use Rattle.std.specs.List.{position}
 use Rattle.ct_grammar.specs.Texts.{is_feed, lines_of}
 use Rattle.ct_grammar.proofs.LineFeeds.{within_text}
-use Rattle.ct_judge.specs.Schedule.{after_line, after_lines, before_fault}
+use Rattle.ct_judging.specs.Schedule.{after_line, after_lines}
+use Rattle.ct_judge.specs.Schedule.{before_fault}
 use Rattle.ct_judge.proofs.Lines.{before_on, line_on}
 use Rattle.ct_judge.proofs.recording.tell_lines.Goals as goal
 

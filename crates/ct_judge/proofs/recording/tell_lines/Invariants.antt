@@ -1,6 +1,7 @@
 use Rattle.std.proofs.Common.{◌≡◌, ◌≤◌, ◌+◌, length}
 use Rattle.ct_grammar.specs.Texts.{lines_of}
-use Rattle.ct_judge.specs.Schedule.{after_lines, before_fault}
+use Rattle.ct_judging.specs.Schedule.{after_lines}
+use Rattle.ct_judge.specs.Schedule.{before_fault}
 use Rattle.ct_judge.proofs.recording.tell_lines.Given as goal
 
 abbrev pub invariant-loop-end : goal.invariant-loop-end

@@ -1,5 +1,5 @@
-use Rattle.ct_judge.specs.Judging.{taken}
-use Rattle.ct_judge.specs.Telling.{explained}
+use Rattle.ct_judging.specs.Judging.{taken}
+use Rattle.ct_judging.specs.Telling.{explained}
 use Rattle.ct_judge.proofs.telling.tell_line.Goals as goal
 
 pub returns-then-is_short-clause-stop : goal.returns-then-is_short-clause-stop

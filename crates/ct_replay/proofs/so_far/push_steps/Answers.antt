@@ -1,6 +1,6 @@
 use Rattle.std.specs.Prelude.{string_bytes, map}
 use Rattle.ct_model.specs.StepText.{step_text}
-use Rattle.ct_records.proofs.Joins.{join_starts, join_goes}
+use Rattle.ct_text.proofs.Joins.{join_starts, join_goes}
 use Rattle.ct_replay.proofs.so_far.push_steps.Goals as goal
 
 pub loop-i-init : goal.loop-i-init

@@ -2,7 +2,7 @@ use Rattle.std.proofs.Common.{◌≡◌, ◌++◌}
 use Rattle.std.specs.Prelude.{drop, map, nat_lt, string_bytes}
 use Rattle.ct_model.specs.StepText.{step_text}
 use Rattle.ct_records.specs.Text.{steps_text}
-use Rattle.ct_records.proofs.Joins.{rest_of}
+use Rattle.ct_text.proofs.Joins.{rest_of}
 use Rattle.ct_replay.proofs.so_far.push_steps.Given as goal
 
 abbrev pub invariant-loop-i : goal.invariant-loop-i

@@ -1,6 +1,6 @@
 use Rattle.std.specs.Prelude.{[], ◌∷◌, codes, decimal, string_bytes}
 use Rattle.ct_show.specs.Details.{choose_text}
-use Rattle.ct_show.proofs.Pushed.{pushed_last}
+use Rattle.ct_text.proofs.Pushed.{pushed_last}
 use Rattle.ct_show.proofs.details.push_choose.Goals as goal
 
 pub returns : goal.returns

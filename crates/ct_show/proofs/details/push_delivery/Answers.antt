@@ -1,6 +1,7 @@
 use Rattle.std.specs.Prelude.{[], ◌∷◌, codes, decimal, string_bytes}
-use Rattle.ct_show.specs.Details.{batch_text, delivery_text}
-use Rattle.ct_show.proofs.Pushed.{pushed_last}
+use Rattle.ct_text.specs.Standing.{batch_text}
+use Rattle.ct_show.specs.Details.{delivery_text}
+use Rattle.ct_text.proofs.Pushed.{pushed_last}
 use Rattle.ct_show.proofs.details.push_delivery.Goals as goal
 
 pub returns : goal.returns

@@ -1,6 +1,6 @@
 use Rattle.std.specs.Prelude.{[], ◌∷◌, codes, string_bytes}
 use Rattle.ct_show.specs.Details.{coordinator_text, enter_text}
-use Rattle.ct_show.proofs.Pushed.{pushed_last, pushed_more}
+use Rattle.ct_text.proofs.Pushed.{pushed_last, pushed_more}
 use Rattle.ct_show.proofs.details.push_enter.Goals as goal
 use Rattle.ct_show.specs.Wires.{round_text}
 

@@ -1,6 +1,7 @@
 use Rattle.std.specs.Prelude.{[], ◌∷◌, codes, decimal, string_bytes}
-use Rattle.ct_show.specs.Details.{estimate_of, suspect_text}
-use Rattle.ct_show.proofs.Pushed.{pushed_last}
+use Rattle.ct_text.specs.Standing.{estimate_of}
+use Rattle.ct_show.specs.Details.{suspect_text}
+use Rattle.ct_text.proofs.Pushed.{pushed_last}
 use Rattle.ct_show.proofs.details.push_suspect.Goals as goal
 
 pub returns : goal.returns

@@ -1,7 +1,7 @@
 use Rattle.std.specs.Prelude.{[], ◌∷◌, codes, string_bytes}
 use Rattle.ct_show.specs.Facts.{first_heard}
 use Rattle.ct_show.specs.State.{votes_lines}
-use Rattle.ct_show.proofs.Pushed.{pushed_first, pushed_last, pushed_more}
+use Rattle.ct_text.proofs.Pushed.{pushed_first, pushed_last, pushed_more}
 use Rattle.ct_show.proofs.state.push_votes.Goals as goal
 
 pub returns : goal.returns

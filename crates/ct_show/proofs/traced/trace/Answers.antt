@@ -6,7 +6,7 @@ use Rattle.ct_world.specs.Replay.{AllowsFirst, first_steps}
 use Rattle.ct_world.specs.Setup.{setting_of}
 use Rattle.ct_world.specs.Stage.{ReplayView, so_far}
 use Rattle.ct_world.specs.World.{IsDone}
-use Rattle.ct_show.proofs.Tracing.{traced_more}
+use Rattle.ct_text.proofs.Tracing.{traced_more}
 use Rattle.ct_show.proofs.traced.trace.Goals as goal
 
 pub loop-replay-init : goal.loop-replay-init

@@ -1,7 +1,7 @@
 use Rattle.ct_records.specs.View.{rehearsal_of}
 use Rattle.ct_records.proofs.Refused.{err_seen}
 use Rattle.ct_views.specs.Checking.{IsFaultOf}
-use Rattle.ct_show.specs.Faults.{IsOfReplayFault}
+use Rattle.ct_told.specs.Faults.{IsOfReplayFault}
 use Rattle.ct_views.proofs.Told.{found_is, replay_refused}
 use Rattle.ct_views.proofs.checking.report_of.Goals as goal
 

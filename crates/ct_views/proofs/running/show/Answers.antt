@@ -1,9 +1,9 @@
 use Rattle.std.proofs.Common.{◌≡◌, ℕ, List, Option, None, Result, Ok, Err, refl}
 use Rattle.std.specs.Prelude.{IfErr, IfSome, IsErrAnd, IsOkAnd}
-use Rattle.ct_show.specs.declared.show_fault.ShowFault.{ShowFault}
+use Rattle.ct_told.specs.declared.show_fault.ShowFault.{ShowFault}
 use Rattle.ct_views.specs.declared.view.View.{View}
 use Rattle.ct_views.specs.Answer.{FailsOn, lacking}
-use Rattle.ct_show.proofs.Seen.{input_seen}
+use Rattle.ct_told.proofs.Seen.{input_seen}
 use Rattle.ct_views.proofs.Seen.{fails_seen, part_seen, showing_seen, shows_seen}
 use Rattle.ct_views.proofs.running.show.Goals as goal
 

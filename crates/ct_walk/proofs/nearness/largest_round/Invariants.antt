@@ -1,5 +1,5 @@
 use Rattle.std.proofs.Common.{◌≡◌}
-use Rattle.ct_rehearse.specs.Choices.{round_of}
+use Rattle.ct_choices.specs.Choices.{round_of}
 use Rattle.ct_walk.specs.Nearness.{largest_of}
 use Rattle.ct_walk.proofs.nearness.largest_round.Given as goal
 

@@ -4,7 +4,7 @@ use Rattle.ct_model.specs.Rehearsal.{Rehearsal, state_of}
 use Rattle.ct_model.specs.Run.{run}
 use Rattle.ct_model.specs.Senders.{senders}
 use Rattle.ct_world.specs.World.{WorldView}
-use Rattle.ct_show.proofs.Tracing.{senders_more}
+use Rattle.ct_text.proofs.Tracing.{senders_more}
 use Rattle.ct_play.proofs.stage.Stage.step.Goals as goal
 
 pub invariant_of-self-2 : goal.invariant_of-self-2

@@ -1,0 +1,6 @@
+//! What turns of members try.
+#![tactic(auto)]
+
+mod choosing;
+
+pub use choosing::{choice, first_waiting, question, tried};

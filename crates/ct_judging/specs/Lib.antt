@@ -1,0 +1,9 @@
+pub mod Judging
+pub mod Missing
+pub mod Naming
+pub mod Reading
+pub mod Refusing
+pub mod Schedule
+pub mod Standing
+pub mod Telling
+pub mod Wording

@@ -1,7 +1,0 @@
-use Rattle.std.specs.Prelude.{string_bytes}
-use Rattle.ct_records.proofs.Pieces.{HasWritten}
-use Rattle.ct_show.specs.State.{first_in}
-use Rattle.ct_show.proofs.state.push_members_of.Given as goal
-
-abbrev pub invariant-loop-i : goal.invariant-loop-i
-invariant-loop-i l = HasWritten l.separator (first_in l.set l.i) (string_bytes l.fn.text) (string_bytes l.text) l.later

@@ -1,0 +1,4 @@
+pub mod Adds
+pub mod Lists
+pub mod Shapes
+pub mod Standing

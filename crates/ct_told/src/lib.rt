@@ -1,0 +1,19 @@
+//! What is told of an input that is no record, and of what fails when a record is shown.
+#![tactic(auto)]
+
+mod ending;
+mod fault_line;
+mod given_name;
+mod key;
+mod no_record;
+mod odd_record;
+mod odd_step;
+mod place;
+mod reading;
+mod show_fault;
+
+pub use ending::shown_end;
+pub use fault_line::FaultLine;
+pub use no_record::NoRecord;
+pub use reading::read_told;
+pub use show_fault::ShowFault;

@@ -1,0 +1,101 @@
+//! Why nothing is shown of a record.
+
+ghost use Rattle.std.specs.Prelude.{◌≡◌, Some};
+ghost use Rattle.ct_told.specs.Faults.{fault_text, status_of};
+
+use crate::fault_line::FaultLine;
+use crate::no_record::NoRecord;
+use ct_names::Member;
+use ct_records::ProgramFault;
+use ct_streams::{InputFault, Status};
+use ct_world::ReplayFault;
+use std::alloc::AllocError;
+use std::fmt;
+
+/// Why a record is not shown, or not to its end. Its text is the line for standard error.
+#[derive(Debug, Drop)]
+pub enum ShowFault {
+    /// The steps of a member are asked for that the record's group doesn't have.
+    NoMember {
+        /// The member.
+        member: Member,
+        /// The number of members.
+        members: u8,
+    },
+    /// The input is no record.
+    Unread(NoRecord),
+    /// A step is refused, a stream failed, or memory was refused.
+    Program(ProgramFault),
+}
+
+impl ShowFault {
+    /// The status that a program ends with: 3 for a member that isn't there, 2 for the input, else the program's.
+    pub fn status(&self) -> u8
+        ensures { result ≡ status_of self.now }
+    {
+        match self {
+            ShowFault::NoMember { .. } => Status::Words.code(),
+            ShowFault::Unread(_) => Status::NoRecord.code(),
+            ShowFault::Program(fault) => fault.status(),
+        }
+    }
+}
+
+impl fmt::Display for ShowFault {
+    ghost output = { λ fault. Some (fault_text fault) };
+
+    fn fmt<W: fmt::Write>(&self, f: &mut fmt::Formatter<W>) -> fmt::Result {
+        match self {
+            ShowFault::NoMember { member, members } => {
+                write!(
+                    f,
+                    "--member {member}: the record has members 1 to {members}"
+                )
+            }
+            ShowFault::Unread(told) => write!(f, "{told}"),
+            ShowFault::Program(fault) => write!(f, "{}", FaultLine { fault: *fault }),
+        }
+    }
+}
+
+impl From<ProgramFault> for ShowFault {
+    ghost use Rattle.ct_told.specs.declared.show_fault.ShowFault.TheVariants.{Program};
+
+    ghost from_gives = { λ fault e. e ≡ Program fault };
+
+    fn from(fault: ProgramFault) -> ShowFault {
+        ShowFault::Program(fault)
+    }
+}
+
+impl From<InputFault> for ShowFault {
+    ghost use Rattle.ct_records.specs.ProgramFault.{of_input_fault};
+    ghost use Rattle.ct_told.specs.declared.show_fault.ShowFault.TheVariants.{Program};
+
+    ghost from_gives = { λ fault e. e ≡ Program (of_input_fault fault) };
+
+    fn from(fault: InputFault) -> ShowFault {
+        ShowFault::Program(ProgramFault::from(fault))
+    }
+}
+
+impl From<ReplayFault> for ShowFault {
+    ghost use Rattle.ct_told.specs.Faults.{IsOfReplayFault};
+
+    ghost from_gives = { λ replay e. IsOfReplayFault replay e };
+
+    fn from(replay: ReplayFault) -> ShowFault {
+        ShowFault::Program(ProgramFault::from(replay))
+    }
+}
+
+impl From<AllocError> for ShowFault {
+    ghost use Rattle.ct_records.specs.declared.program_fault.ProgramFault.TheVariants.{Memory};
+    ghost use Rattle.ct_told.specs.declared.show_fault.ShowFault.TheVariants.{Program};
+
+    ghost from_gives = { λ _ e. e ≡ Program Memory };
+
+    fn from(_error: AllocError) -> ShowFault {
+        ShowFault::Program(ProgramFault::Memory)
+    }
+}
