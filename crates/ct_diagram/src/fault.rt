@@ -6,7 +6,7 @@ ghost use Rattle.ct_diagram.specs.Faults.{fault_text, status_of};
 use ct_names::Member;
 use ct_records::ProgramFault;
 use ct_show::{FaultLine, NoRecord};
-use ct_streams::{InputFault, Status};
+use ct_streams::{Fault, InputFault, Status};
 use ct_world::ReplayFault;
 use std::alloc::AllocError;
 use std::fmt;
@@ -31,12 +31,11 @@ pub enum DiagramFault {
     Program(ProgramFault),
 }
 
-impl DiagramFault {
-    /// The status that a program ends with: 3 where a member that isn't there or too many steps are asked for, 2 for the input, else
-    /// the program's.
-    pub fn status(&self) -> u8
-        ensures { result ≡ status_of self.now }
-    {
+impl Fault for DiagramFault {
+    ghost ends_with = { λ fault. status_of fault };
+
+    // 3 where a member that isn't there or too many steps are asked for, 2 for the input, else the program's.
+    fn status(&self) -> u8 {
         match self {
             DiagramFault::NoMember { .. } => Status::Words.code(),
             DiagramFault::TooManySteps { .. } => Status::Words.code(),

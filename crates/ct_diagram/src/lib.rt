@@ -5,7 +5,6 @@ mod arrows;
 mod canvas;
 mod drawing;
 mod drawn;
-mod ending;
 mod fault;
 mod frame;
 mod grid;
@@ -19,7 +18,6 @@ mod window;
 mod words;
 
 pub use drawing::diagram;
-pub use ending::drawn_end;
 pub use fault::DiagramFault;
 pub use running::draw;
 pub use window::{MOST_STEPS, Window};

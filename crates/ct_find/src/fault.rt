@@ -5,7 +5,7 @@ ghost use Rattle.ct_find.specs.Texts.{fault_text, none_text, status_of};
 
 use ct_grammar::Text;
 use ct_shrink::ShrinkFault;
-use ct_streams::Status;
+use ct_streams::{Fault, Status};
 use ct_walk::{Seeds, WalkFault};
 use std::fmt;
 
@@ -29,12 +29,11 @@ pub struct NotFound {
     pub goal: Text,
 }
 
-impl FindFault {
-    /// The status that a program ends with: 1 where nothing is found, 4 for a stream, 5 for memory and the board, else that of what is
-    /// not made smaller.
-    pub fn status(&self) -> u8
-        ensures { result ≡ status_of self.now }
-    {
+impl Fault for FindFault {
+    ghost ends_with = { λ fault. status_of fault };
+
+    // 1 where nothing is found, 4 for a stream, 5 for memory and the board, else that of what is not made smaller.
+    fn status(&self) -> u8 {
         match self {
             FindFault::Walk(fault) => fault.status(),
             FindFault::Shrink(fault) => fault.status(),

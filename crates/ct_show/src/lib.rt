@@ -2,7 +2,6 @@
 #![tactic(auto)]
 
 mod details;
-mod ending;
 mod facts;
 mod fault_line;
 mod given_name;
@@ -23,7 +22,6 @@ pub use details::{
     LETTERS, OTHER_LETTERS, coordinator_of, instance_of, letter_of, push_detail, push_estimate_of,
     round_of,
 };
-pub use ending::shown_end;
 pub use facts::{last_taking, push_facts, push_member_facts, push_refused};
 pub use fault_line::FaultLine;
 pub use lines::push_line;

@@ -7,7 +7,7 @@ use crate::fault_line::FaultLine;
 use crate::no_record::NoRecord;
 use ct_names::Member;
 use ct_records::ProgramFault;
-use ct_streams::{InputFault, Status};
+use ct_streams::{Fault, InputFault, Status};
 use ct_world::ReplayFault;
 use std::alloc::AllocError;
 use std::fmt;
@@ -28,11 +28,11 @@ pub enum ShowFault {
     Program(ProgramFault),
 }
 
-impl ShowFault {
-    /// The status that a program ends with: 3 for a member that isn't there, 2 for the input, else the program's.
-    pub fn status(&self) -> u8
-        ensures { result ≡ status_of self.now }
-    {
+impl Fault for ShowFault {
+    ghost ends_with = { λ fault. status_of fault };
+
+    // 3 for a member that isn't there, 2 for the input, else the program's.
+    fn status(&self) -> u8 {
         match self {
             ShowFault::NoMember { .. } => Status::Words.code(),
             ShowFault::Unread(_) => Status::NoRecord.code(),

@@ -6,7 +6,7 @@ use ct_names::Command;
 use ct_records::{ProgramFault, read_record};
 use ct_show::ShowFault;
 use ct_shrink::*;
-use ct_streams::{Counted, Failed, Source};
+use ct_streams::{Counted, Failed, Fault, Source};
 use ct_world::{Setup, World};
 use std::alloc::Global;
 use std::test::Fail;

@@ -4,7 +4,7 @@ ghost use Rattle.std.specs.Prelude.{◌≡◌};
 ghost use Rattle.ct_views.specs.Checking.{status_of};
 
 use ct_show::ShowFault;
-use ct_streams::{FileFault, Status};
+use ct_streams::{Fault, FileFault, Status};
 
 /// What checking a file comes to.
 #[derive(Debug, Drop)]
