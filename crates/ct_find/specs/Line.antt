@@ -7,8 +7,6 @@ use Rattle.ct_streams.specs.Values.{◌>>=◌, is_set, number_for}
 use Rattle.ct_streams.specs.WordFaults.{fault_line}
 use Rattle.ct_walk.specs.Line.{group_goal, joined, search_options, seeds_in, with_search_rules, IsSeedsInRange}
 use Rattle.ct_walk.specs.Options.{IsInRange}
-use Rattle.ct_shrink.specs.Line.{options_of}
-use Rattle.ct_find.specs.declared.best.BestOptions.{BestOptions}
 use Rattle.ct_find.specs.declared.call.FindCall.{FindCall}
 use Rattle.ct_find.specs.declared.count_text.CountForm.{CountForm}
 use Rattle.ct_find.specs.declared.count_text.CountForm.TheVariants.{Table, Json}
@@ -91,18 +89,6 @@ form_of false json = None
 -- as what the options ask for a count
 abbrev pub count_form : List Row → Option CountForm
 count_form rows = form_of (is_set rows (codes "count")) (is_set rows (codes "json"))
-
--- the number of walks that are made smaller, where that is given, and how
-abbrev pub best_or_none : List Row → Option Text → Result (Option BestOptions) Text
-best_or_none rows None = Ok None
-best_or_none rows (Some text) = do
-  count ← number_for (codes "best") 1 4294967295 text
-  shrink ← options_of rows
-  Ok (Some (record { count = count; shrink = shrink }))
-
--- how the options ask for the smallest run, where they do
-abbrev pub best_options : List Row → Result (Option BestOptions) Text
-best_options rows = best_or_none rows (first_of (codes "best") rows)
 
 -- each option is in its range
 pub record IsFindInRange (call : FindCall) : Type 0 where

@@ -7,10 +7,8 @@ use crate::ending::{done, refuse, written};
 use crate::meter::Meter;
 use crate::trials::Trials;
 use clap::ArgMatches;
-use ct_find::{
-    BestOptions, CountForm, FindCall, FindFault, best_options, count_form, find_call, write_best,
-    write_count, write_found,
-};
+use ct_best::{BestOptions, best_options, write_best};
+use ct_find::{CountForm, FindCall, FindFault, count_form, find_call, write_count, write_found};
 use ct_streams::Counted;
 use ct_walk::{walk_call, write_call};
 use std::io;

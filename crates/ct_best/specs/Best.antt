@@ -1,5 +1,5 @@
 -- The smallest of the runs that are left of several walks.
-use Rattle.std.specs.Prelude.{◌≡◌, ◌≤◌, ⊤, ℕ, ◌&&◌, ◌||◌, ◌==◌, Bool, nat_lt, List, [], ◌∷◌, length, take, All, Contains}
+use Rattle.std.specs.Prelude.{◌≡◌, ◌≤◌, ⊤, ℕ, ◌&&◌, ◌||◌, ◌==◌, Bool, nat_lt, List, [], ◌∷◌, length, All, Contains}
 use Rattle.std.specs.Prelude.{Option, Some, None, if◌then◌else◌}
 use Rattle.std.specs.Io.KnownBytes.{Appends}
 use Rattle.ct_grammar.specs.declared.goal.Goal.{Goal}
@@ -12,21 +12,15 @@ use Rattle.ct_walk.specs.declared.options.WalkOptions.{WalkOptions}
 use Rattle.ct_walk.specs.Faults.{IsShort}
 use Rattle.ct_walk.specs.Options.{with_seed}
 use Rattle.ct_walk.specs.Walking.{walked}
-use Rattle.ct_find.specs.declared.best.Best.{Best}
-use Rattle.ct_find.specs.declared.best.BestOptions.{BestOptions}
+use Rattle.ct_best.specs.declared.best.Best.{Best}
+use Rattle.ct_best.specs.declared.best.BestOptions.{BestOptions}
 use Rattle.ct_find.specs.declared.call.FindCall.{FindCall}
-use Rattle.ct_find.specs.declared.fault.FindFault.{FindFault}
-use Rattle.ct_find.specs.declared.fault.FindFault.TheVariants.{Walk, Shrink, NotFound}
+use Rattle.ct_best.specs.declared.fault.BestFault.{BestFault}
+use Rattle.ct_best.specs.declared.fault.BestFault.TheVariants.{Walk, Shrink, NotFound}
 use Rattle.ct_find.specs.declared.hit.Hit.{Hit}
-use Rattle.ct_find.specs.declared.left.Left.{Left}
-use Rattle.ct_find.specs.Hits.{hits_of}
-use Rattle.ct_find.specs.Writing.{FindsNothing}
-
--- ---- the walks
-
--- the first so many seeds whose walks show the goal
-abbrev pub first_hits : FindCall → ℕ → List Hit
-first_hits call count = take count (hits_of call.options call.goal call.seeds)
+use Rattle.ct_best.specs.declared.left.Left.{Left}
+use Rattle.ct_find.specs.declared.fault.FindFault.TheVariants as find
+use Rattle.ct_find.specs.Writing.{first_hits, FindsNothing}
 
 -- ---- what is left of them
 
@@ -100,18 +94,18 @@ WritesBestPart call best old new =
 -- ---- faults
 
 -- the walk of this seed can't be made, or is not made smaller
-abbrev pub FailsOn : WalkOptions → Goal → Hit → FindFault → Type 0
+abbrev pub FailsOn : WalkOptions → Goal → Hit → BestFault → Type 0
 FailsOn o goal hit (Walk fault) = IsShort fault
 FailsOn o goal hit (Shrink fault) = IsFaultOn (shows goal) (walked (with_seed o hit.seed) (Some goal)) fault
 FailsOn o goal hit (NotFound none) = ⊥
 
 -- the walk of one of these seeds
-abbrev pub FailsOnOne : WalkOptions → Goal → List Hit → FindFault → Type 0
+abbrev pub FailsOnOne : WalkOptions → Goal → List Hit → BestFault → Type 0
 FailsOnOne o goal hits fault = (hit : Hit) × Contains hits hit × FailsOn o goal hit fault
 
 -- no seed's walk shows the goal, and the seeds and the words of the goal are told; or the walk of one of the first seeds is not made
 -- smaller. Of other faults nothing is said
-abbrev pub FindsNoBest : FindCall → BestOptions → FindFault → Type 0
+abbrev pub FindsNoBest : FindCall → BestOptions → BestFault → Type 0
 FindsNoBest call best (Walk fault) = ⊤
 FindsNoBest call best (Shrink fault) = FailsOnOne call.options call.goal (first_hits call best.count) (Shrink fault)
-FindsNoBest call best (NotFound none) = FindsNothing call (NotFound none)
+FindsNoBest call best (NotFound none) = FindsNothing call (find.NotFound none)

@@ -3,20 +3,15 @@
 ghost use Rattle.std.specs.Prelude.{◌≡◌, ◌≢◌, ◌<◌, ◌^◌, Err, IfOk, IfErr, length};
 ghost use Rattle.ct_streams.specs.Streams.{FailsOnce};
 ghost use Rattle.ct_walk.specs.declared.fault.WalkFault.TheVariants as walk;
-ghost use Rattle.ct_find.specs.Best.{first_hits, FindsNoBest, WritesBest, WritesBestPart};
+ghost use Rattle.ct_best.specs.Best.{FindsNoBest, WritesBest, WritesBestPart};
 ghost use Rattle.ct_find.specs.Line.{IsFindInRange};
-ghost use Rattle.ct_find.specs.Writing.{Repeats};
+ghost use Rattle.ct_find.specs.Writing.{first_hits, Repeats};
 
-use crate::again::Again;
 use crate::best::{Best, BestOptions};
-use crate::call::FindCall;
-use crate::fault::{FindFault, NotFound};
+use crate::fault::BestFault;
 use crate::left::Left;
-use crate::progress::Progress;
-use crate::quoting::quoted_goal;
-use crate::search::{Search, Which};
-use crate::searching::{hits_in_threads, jobs_or_all};
 use crate::shrinking::best_of;
+use ct_find::{Again, FindCall, NotFound, Progress, first_hits, quoted_goal};
 use ct_shrink::Progress as TrialProgress;
 use ct_streams::{Failed, Sink, write_all};
 use ct_walk::WalkFault;
@@ -33,7 +28,7 @@ pub fn write_best<R: Threads + Sync, W: Sink, P: Progress, T: TrialProgress>(
     writer: &mut W,
     progress: &mut P,
     trials: &mut T,
-) -> Result<Best, FindFault>
+) -> Result<Best, BestFault>
     requires range { IsFindInRange call }
     requires some { 0 < best.now.count }
     requires writes { W.failures writer.old < 2 ^ 63 }
@@ -44,27 +39,21 @@ pub fn write_best<R: Threads + Sync, W: Sink, P: Progress, T: TrialProgress>(
     // Nothing is found where no seed's walk shows the goal; the fault names the seeds and the goal.
     ensures none { IfErr result (FindsNoBest call best.now) }
     // Only a fault of the writer has written anything: some first bytes of such a run.
-    ensures quiet { IfErr result (λ fault. fault ≢ FindFault.Walk walk.Write → writer.new ≡ writer.old) }
-    ensures part { result ≡ Err (FindFault.Walk walk.Write) →
+    ensures quiet { IfErr result (λ fault. fault ≢ BestFault.Walk walk.Write → writer.new ≡ writer.old) }
+    ensures part { result ≡ Err (BestFault.Walk walk.Write) →
         WritesBestPart call best.now (W.written writer.old) (W.written writer.new) }
-    ensures writer { FailsOnce result (FindFault.Walk walk.Write) (W.failures writer.old) (W.failures writer.new) }
+    ensures writer { FailsOnce result (BestFault.Walk walk.Write) (W.failures writer.old) (W.failures writer.new) }
 {
+    let hits = first_hits(rt, alloc, &call, best.count, progress)?;
     let FindCall {
         options,
         goal,
         text,
         seeds,
-        jobs,
+        ..
     } = call;
-    let search = Search {
-        options: &options,
-        goal: &goal,
-        which: Which::First(best.count),
-    };
-    let jobs = jobs_or_all(rt, jobs);
-    let hits = hits_in_threads(rt, alloc, search, seeds, jobs, progress)?;
     let Some(left) = best_of(alloc, &options, &goal, &hits, &best.shrink, trials)? else {
-        return Err(FindFault::NotFound(NotFound { seeds, goal: text }));
+        return Err(BestFault::NotFound(NotFound { seeds, goal: text }));
     };
     let words = quoted_goal(alloc, &text)?;
     let Left { seed, smaller } = left;
@@ -79,6 +68,6 @@ pub fn write_best<R: Threads + Sync, W: Sink, P: Progress, T: TrialProgress>(
                 goal: words,
             },
         }),
-        Err(Failed) => Err(FindFault::Walk(WalkFault::Write)),
+        Err(Failed) => Err(BestFault::Walk(WalkFault::Write)),
     }
 }

@@ -1,6 +1,6 @@
 use Rattle.std.proofs.Common.{◌∙◌, refl}
-use Rattle.ct_find.proofs.Bests.{best_none, none_first}
-use Rattle.ct_find.proofs.best_writing.write_best.Goals as goal
+use Rattle.ct_best.proofs.Bests.{best_none, none_first}
+use Rattle.ct_best.proofs.writing.write_best.Goals as goal
 
 pub returns-in_default-clause-none : goal.returns-in_default-clause-none
 returns-in_default-clause-none g c =

@@ -2,10 +2,10 @@ use Rattle.std.proofs.Common.{refl, subst}
 use Rattle.ct_model.specs.Rehearsal.{Rehearsal}
 use Rattle.ct_play.specs.Goals.{shows}
 use Rattle.ct_shrink.specs.Writing.{IsFaultOn, IsSmallerText}
-use Rattle.ct_find.specs.declared.fault.FindFault.TheVariants.{Shrink}
-use Rattle.ct_find.specs.Best.{FailsOn}
-use Rattle.ct_find.proofs.Bests.{handed}
-use Rattle.ct_find.proofs.shrinking.left_of.Goals as goal
+use Rattle.ct_best.specs.declared.fault.BestFault.TheVariants.{Shrink}
+use Rattle.ct_best.specs.Best.{FailsOn}
+use Rattle.ct_best.proofs.Bests.{handed}
+use Rattle.ct_best.proofs.shrinking.left_of.Goals as goal
 
 pub returns-in_err-smaller-clause-err : goal.returns-in_err-smaller-clause-err
 returns-in_err-smaller-clause-err g c =

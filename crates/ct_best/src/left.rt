@@ -1,7 +1,7 @@
 //! Runs that are left of walks.
 
 ghost use Rattle.std.specs.Prelude.{◌≡◌, ◌&&◌, ◌||◌, ◌==◌, nat_lt, option_map};
-ghost use Rattle.ct_find.specs.Best.{is_less, run_of, smaller_of};
+ghost use Rattle.ct_best.specs.Best.{is_less, run_of, smaller_of};
 
 use ct_shrink::SmallerRun;
 

@@ -1,9 +1,9 @@
 //! The smallest of several runs.
 
 ghost use Rattle.std.specs.Prelude.{Some};
-ghost use Rattle.ct_find.specs.Texts.{best_text};
+ghost use Rattle.ct_best.specs.Faults.{best_text};
 
-use crate::again::Again;
+use ct_find::Again;
 use ct_shrink::{ShrinkOptions, Summary};
 use std::fmt;
 

@@ -10,8 +10,8 @@ use Rattle.ct_grammar.specs.declared.goal.Goal.{Goal}
 use Rattle.ct_shrink.specs.declared.options.ShrinkOptions.{ShrinkOptions}
 use Rattle.ct_walk.specs.declared.options.WalkOptions.{WalkOptions}
 use Rattle.ct_find.specs.declared.hit.Hit.{Hit}
-use Rattle.ct_find.specs.declared.left.Left.{Left}
-use Rattle.ct_find.specs.Best.{AreLeftOf, IsBest, IsBestOf, IsLeftOf, IsSmallest, LeftRun, is_less, run_of, smaller_of}
+use Rattle.ct_best.specs.declared.left.Left.{Left}
+use Rattle.ct_best.specs.Best.{AreLeftOf, IsBest, IsBestOf, IsLeftOf, IsSmallest, LeftRun, is_less, run_of, smaller_of}
 
 -- ---- one run more
 

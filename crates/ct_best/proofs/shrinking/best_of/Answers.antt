@@ -1,10 +1,10 @@
 use Rattle.std.proofs.Common.{Some, ap, option_map, refl, subst, List}
 use Rattle.std.proofs.lemmas.List.{take_all}
 use Rattle.ct_find.specs.declared.hit.Hit.{Hit}
-use Rattle.ct_find.specs.Best.{run_of, FailsOnOne, IsBest}
-use Rattle.ct_find.proofs.Bests.{handed, one_fails}
-use Rattle.ct_find.proofs.Smallest.{best_more}
-use Rattle.ct_find.proofs.shrinking.best_of.Goals as goal
+use Rattle.ct_best.specs.Best.{run_of, FailsOnOne, IsBest}
+use Rattle.ct_best.proofs.Bests.{handed, one_fails}
+use Rattle.ct_best.proofs.Smallest.{best_more}
+use Rattle.ct_best.proofs.shrinking.best_of.Goals as goal
 
 pub returns-in_err-left-clause-err : goal.returns-in_err-left-clause-err
 returns-in_err-left-clause-err g c =

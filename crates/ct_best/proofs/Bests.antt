@@ -8,15 +8,15 @@ use Rattle.ct_shrink.specs.declared.options.ShrinkOptions.{ShrinkOptions}
 use Rattle.ct_walk.specs.declared.call.Seeds.{Seeds}
 use Rattle.ct_walk.specs.declared.options.WalkOptions.{WalkOptions}
 use Rattle.ct_walk.specs.Finding.{first_of}
-use Rattle.ct_find.specs.declared.fault.FindFault.{FindFault}
+use Rattle.ct_best.specs.declared.fault.BestFault.{BestFault}
 use Rattle.ct_find.specs.declared.hit.Hit.{Hit}
-use Rattle.ct_find.specs.declared.left.Left.{Left}
-use Rattle.ct_find.specs.Best.{run_of, FailsOn, FailsOnOne, IsBest}
+use Rattle.ct_best.specs.declared.left.Left.{Left}
+use Rattle.ct_best.specs.Best.{run_of, FailsOn, FailsOnOne, IsBest}
 use Rattle.ct_find.specs.Hits.{hits_of}
 use Rattle.ct_find.proofs.Hits.{first_hit}
 
 -- a fault that is handed on
-pub handed : {T : Type 0} (P : FindFault → Type 0) (r : Result T FindFault) (fault : FindFault) → IsErrAnd r (λ e. e ≡ fault) → P fault →
+pub handed : {T : Type 0} (P : BestFault → Type 0) (r : Result T BestFault) (fault : BestFault) → IsErrAnd r (λ e. e ≡ fault) → P fault →
     IfErr r P
 handed P (Ok x) fault same h = tt
 handed P (Err e) fault same h = subst P (sym same) h
@@ -38,7 +38,7 @@ none_first o goal seeds count hits same none some =
     ∙ ap (λ found. option_map (λ (hit : Hit). hit.seed) (slice_get found 0)) (no_first (hits_of o goal seeds) count (sym same ∙ none) some)
 
 -- one of the hits fails
-pub one_fails : (o : WalkOptions) (goal : Goal) (hits : List Hit) (i : ℕ) (d : Hit) (fault : FindFault) → i < length hits →
+pub one_fails : (o : WalkOptions) (goal : Goal) (hits : List Hit) (i : ℕ) (d : Hit) (fault : BestFault) → i < length hits →
     FailsOn o goal (get_or hits i d) fault → FailsOnOne o goal hits fault
 one_fails o goal hits i d fault inside fails =
     let hit = get_or hits i d in

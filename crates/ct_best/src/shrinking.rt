@@ -6,11 +6,11 @@ ghost use Rattle.ct_walk.specs.declared.fault.WalkFault.TheVariants as walk;
 ghost use Rattle.ct_walk.specs.Faults.{IsShort};
 ghost use Rattle.ct_walk.specs.Options.{IsInRange, with_seed};
 ghost use Rattle.ct_walk.specs.Walking.{walked};
-ghost use Rattle.ct_find.specs.Best.{run_of, FailsOn, FailsOnOne, IsBest, IsLeftOf};
+ghost use Rattle.ct_best.specs.Best.{run_of, FailsOn, FailsOnOne, IsBest, IsLeftOf};
 
-use crate::fault::FindFault;
-use crate::hit::Hit;
+use crate::fault::BestFault;
 use crate::left::{Left, smaller_of};
+use ct_find::Hit;
 use ct_grammar::Goal;
 use ct_records::Script;
 use ct_shrink::{Progress, ShrinkOptions};
@@ -25,11 +25,11 @@ pub(crate) fn best_of<P: Progress>(
     hits: &[Hit],
     shrink: &ShrinkOptions,
     progress: &mut P,
-) -> Result<Option<Left>, FindFault>
+) -> Result<Option<Left>, BestFault>
     requires { IsInRange options.now }
     ensures ok { IfOk result (λ best. IsBest options.now goal.now shrink.now hits.now (option_map run_of best)) }
     ensures err { IfErr result (FailsOnOne options.now goal.now hits.now) }
-    ensures unwritten { IfErr result (λ fault. fault ≢ FindFault.Walk walk.Write) }
+    ensures unwritten { IfErr result (λ fault. fault ≢ BestFault.Walk walk.Write) }
 {
     let mut best = None;
     for hit in hits {
@@ -47,11 +47,11 @@ fn left_of<P: Progress>(
     hit: Hit,
     shrink: &ShrinkOptions,
     progress: &mut P,
-) -> Result<Left, FindFault>
+) -> Result<Left, BestFault>
     requires { IsInRange options.now }
     ensures ok { IfOk result (λ left. IsLeftOf options.now goal.now shrink.now hit (run_of left)) }
     ensures err { IfErr result (FailsOn options.now goal.now hit) }
-    ensures unwritten { IfErr result (λ fault. fault ≢ FindFault.Walk walk.Write) }
+    ensures unwritten { IfErr result (λ fault. fault ≢ BestFault.Walk walk.Write) }
 {
     let script = walked(alloc, options, goal, hit.seed)?;
     let smaller = ct_shrink::smaller_of(alloc, &script, goal, shrink, progress)?;
