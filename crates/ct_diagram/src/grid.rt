@@ -5,21 +5,21 @@ ghost use Rattle.ct_diagram.specs.Grid.{half_columns, row_of, within, lane, heig
 
 use ct_names::Member;
 
-/// The width of a step's column.
-pub const COLUMN: u32 = 26;
+// The width of a step's column.
+pub(crate) const COLUMN: u32 = 26;
 
-/// The left edge of a row.
-pub const LEFT: u32 = 70;
+// The left edge of a row.
+pub(crate) const LEFT: u32 = 70;
 
-/// From a member to the next one, and the same in a group of more members than `FEW`.
-pub const LANE: u32 = 76;
+// From a member to the next one, and the same in a group of more members than `FEW`.
+pub(crate) const LANE: u32 = 76;
 
-pub const LOW_LANE: u32 = 56;
+pub(crate) const LOW_LANE: u32 = 56;
 
-pub const FEW: u8 = 8;
+pub(crate) const FEW: u8 = 8;
 
-/// From a row to the next one, beside its members.
-pub const GAP: u32 = 56;
+// From a row to the next one, beside its members.
+pub(crate) const GAP: u32 = 56;
 
 // A group of so many members, in rows of so many columns, 0 as 1. A place is counted in half columns from the left edge of the first
 // row on, as if all rows were one.

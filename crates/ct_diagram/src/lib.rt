@@ -5,7 +5,6 @@ mod arrows;
 mod canvas;
 mod drawing;
 mod drawn;
-mod fault;
 mod frame;
 mod grid;
 mod marks;
@@ -18,7 +17,6 @@ mod window;
 mod words;
 
 pub use drawing::diagram;
-pub use fault::DiagramFault;
 pub use running::draw;
 pub use window::{MOST_STEPS, Window};
 pub use words::{diagram_command, diagram_window};

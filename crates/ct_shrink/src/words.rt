@@ -15,8 +15,8 @@ use std::alloc::{AllocError, Global};
 /// How many trials may be made at most.
 pub const MOST_TRIES: u32 = 1_000_000;
 
-/// How many trials are made at most where nothing else is said.
-pub const USUAL_TRIES: &str = "10000";
+// How many trials are made at most where nothing else is said.
+const USUAL_TRIES: &str = "10000";
 
 // What stands after the options.
 const AFTER: &str =
