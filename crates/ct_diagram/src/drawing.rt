@@ -61,12 +61,7 @@ fn framed(alloc: Global, canvas: &Canvas, grid: Grid) -> Result<Vec<u8>, AllocEr
 }
 
 // What is drawn of these steps, or the first of them that is refused.
-fn drawn(
-    alloc: Global,
-    setup: Setup,
-    steps: &[Step],
-    window: &Window,
-) -> Result<Canvas, ShowFault>
+fn drawn(alloc: Global, setup: Setup, steps: &[Step], window: &Window) -> Result<Canvas, ShowFault>
     requires narrow { steps_in window.now steps.now ≤ MOST_STEPS }
     ensures allowed { OnOk result (IsAllowed (record_of setup steps.now)) }
     ensures trail { IfOk result (λ canvas. canvas.trail.items ≡ whole_trail window.now (record_of setup steps.now)) }

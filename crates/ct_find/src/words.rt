@@ -13,8 +13,8 @@ use crate::searching::MAX_JOBS;
 use clap::{Arg, ArgMatches, Command};
 use ct_grammar::Text;
 use ct_streams::{
-    Given, Wanted, WordFault, default_option, flag, is_set, number_for, required_option, subcommand,
-    value_option,
+    Given, Wanted, WordFault, default_option, flag, is_set, number_for, required_option,
+    subcommand, value_option,
 };
 use ct_walk::{CallFault, group_goal, joined, search_options, seeds_in, with_search_options};
 use std::alloc::{AllocError, Global};

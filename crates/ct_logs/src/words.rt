@@ -7,9 +7,7 @@ ghost use Rattle.ct_logs.specs.Line.{presume_rule, seconds_rule};
 
 use crate::form::Form;
 use clap::{Arg, ArgMatches, Command};
-use ct_streams::{
-    WordFault, files_argument, flag, is_set, number_for, subcommand, value_option,
-};
+use ct_streams::{WordFault, files_argument, flag, is_set, number_for, subcommand, value_option};
 use std::alloc::{AllocError, Global};
 
 /// For how many seconds logs may be followed at most without a line.

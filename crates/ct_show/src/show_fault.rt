@@ -23,7 +23,9 @@ pub enum ShowFault {
         members: u8,
     },
     /// This many steps of the record are to be drawn, more than a diagram has.
-    TooManySteps { steps: usize },
+    TooManySteps {
+        steps: usize,
+    },
     /// The input is no record.
     Unread(NoRecord),
     /// A step is refused, a stream failed, or memory was refused.

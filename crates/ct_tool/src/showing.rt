@@ -75,7 +75,9 @@ pub(crate) fn shrink(rt: &HostRuntime, found: &ArgMatches<'_>) -> Result<(), Exi
     if let Err(ShrinkFault::NoMember { .. }) = &ended {
         let _ = eprint!(rt; "--goal {text}: ");
     }
-    if let Some(summary) = file.written(rt, ended, writer.is_broken())? && !quiet {
+    if let Some(summary) = file.written(rt, ended, writer.is_broken())?
+        && !quiet
+    {
         let _ = eprintln!(rt; "{summary}");
     }
     Ok(())

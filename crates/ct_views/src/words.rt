@@ -11,8 +11,8 @@ use crate::view::View;
 use clap::{ArgMatches, Command};
 use ct_names::{MAX_MEMBERS, Member};
 use ct_streams::{
-    WordFault, default_option, file_argument, files_argument, flag, is_set, number_for, option_in, subcommand,
-    value_option,
+    WordFault, default_option, file_argument, files_argument, flag, is_set, number_for, option_in,
+    subcommand, value_option,
 };
 use std::alloc::{AllocError, Global};
 
