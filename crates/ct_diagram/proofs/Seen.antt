@@ -8,17 +8,17 @@ use Rattle.ct_records.specs.declared.read_fault.ReadFault.{ReadFault}
 use Rattle.ct_streams.specs.Streams.{read_part, WritesPart}
 use Rattle.ct_records.specs.Script.{script}
 use Rattle.ct_told.proofs.Seen.{input_seen}
-use Rattle.ct_diagram.specs.declared.fault.DiagramFault.{DiagramFault}
-use Rattle.ct_diagram.specs.declared.fault.DiagramFault.TheVariants.{Program}
+use Rattle.ct_told.specs.declared.show_fault.ShowFault.{ShowFault}
+use Rattle.ct_told.specs.declared.show_fault.ShowFault.TheVariants.{Program}
 use Rattle.ct_diagram.specs.declared.window.Window.{Window}
 use Rattle.ct_diagram.specs.Running.{Draws, DrawsPart, FailsOn, IsDiagramOf, IsOfDrawing}
 
-drawing_fails : (window : Window) (fault : DiagramFault) (bytes : List ℕ) → IsOfDrawing window fault bytes → FailsOn window fault bytes
+drawing_fails : (window : Window) (fault : ShowFault) (bytes : List ℕ) → IsOfDrawing window fault bytes → FailsOn window fault bytes
 drawing_fails window (Program of.Reader) bytes h = absurd h
 drawing_fails window (Program of.Write) bytes h = absurd h
 drawing_fails window fault bytes h = h
 
-pub fault_seen : (left : Option (List ℕ)) (bytes : List ℕ) (window : Window) (fault : DiagramFault) →
+pub fault_seen : (left : Option (List ℕ)) (bytes : List ℕ) (window : Window) (fault : ShowFault) →
     IfSome left (λ input. bytes ≡ read_part input) → IsOfDrawing window fault bytes →
     IfSome left (λ input. FailsOn window fault (read_part input))
 fault_seen None bytes window fault read h = tt

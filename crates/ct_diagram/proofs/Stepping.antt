@@ -15,13 +15,13 @@ use Rattle.ct_world.specs.declared.replay.Replayed.{Replayed}
 use Rattle.ct_world.specs.declared.replay_fault.ReplayFault.{ReplayFault}
 use Rattle.ct_world.specs.Replay.{IsFaultOf, first_steps}
 use Rattle.ct_diagram.specs.declared.drawn.Drawn.{Drawn}
-use Rattle.ct_diagram.specs.declared.fault.DiagramFault.{DiagramFault}
-use Rattle.ct_diagram.specs.declared.fault.DiagramFault.TheVariants.{NoMember, Program, TooManySteps, Unread}
+use Rattle.ct_told.specs.declared.show_fault.ShowFault.{ShowFault}
+use Rattle.ct_told.specs.declared.show_fault.ShowFault.TheVariants.{NoMember, Program, TooManySteps, Unread}
 use Rattle.ct_diagram.specs.declared.sight.Glance.{Glance}
 use Rattle.ct_diagram.specs.declared.window.Window.{Window}
 use Rattle.ct_diagram.specs.Diagram.{Layer, drawn_next, first_layer, first_trail, layer_next, one_drawn, one_of, FailsWith, IsOfReplay}
 use Rattle.ct_diagram.specs.declared.window.TheConstants.{MOST_STEPS}
-use Rattle.ct_diagram.specs.Faults.{IsOfReplayFault}
+use Rattle.ct_told.specs.Faults.{IsOfReplayFault}
 use Rattle.ct_diagram.specs.Sight.{glance_of}
 use Rattle.ct_diagram.specs.Window.{is_drawn, part_of, steps_in}
 
@@ -110,7 +110,7 @@ trail_below window s cells steps k trail is within narrow =
     rw is (omega arith)
 
 -- a step that is refused is the fault of the record
-pub of_replay : (w : Rehearsal) (replay : ReplayFault) (fault : DiagramFault) →
+pub of_replay : (w : Rehearsal) (replay : ReplayFault) (fault : ShowFault) →
     IsFaultOf w.setting w.cells w.steps replay.at replay.refusal → IsOfReplayFault replay fault → IsOfReplay fault w
 of_replay w replay (NoMember member members) h none = absurd none
 of_replay w replay (TooManySteps steps) h none = absurd none
@@ -119,20 +119,20 @@ of_replay w replay (Program fault) h (inl memory) = rw memory.1 tt
 of_replay w replay (Program fault) h (inr other) = rw other.1 (is_refused w replay.at replay.refusal h other.0)
 
 -- the fault that is handed on
-pub handed_on : {T : Type 0} (r : Result T DiagramFault) (w : Rehearsal) (replay : ReplayFault) →
+pub handed_on : {T : Type 0} (r : Result T ShowFault) (w : Rehearsal) (replay : ReplayFault) →
     IsFaultOf w.setting w.cells w.steps replay.at replay.refusal → IsErrAnd r (IsOfReplayFault replay) → IfErr r (λ e. IsOfReplay e w)
 handed_on (Ok x) w replay h given = tt
 handed_on (Err fault) w replay h given = of_replay w replay fault h given
 
 -- the same where so many steps can be drawn
-pub fails_on : (window : Window) (fault : DiagramFault) (w : Rehearsal) → steps_in window (part_of window w).steps ≤ MOST_STEPS →
+pub fails_on : (window : Window) (fault : ShowFault) (w : Rehearsal) → steps_in window (part_of window w).steps ≤ MOST_STEPS →
     IsOfReplay fault (part_of window w) → FailsWith window fault w
 fails_on window (NoMember member members) w few h = absurd h
 fails_on window (TooManySteps steps) w few h = absurd h
 fails_on window (Unread told) w few h = absurd h
 fails_on window (Program fault) w few h = (few, h)
 
-pub handed_over : {T : Type 0} (r : Result T DiagramFault) (window : Window) (fault : DiagramFault) (w part : Rehearsal) →
+pub handed_over : {T : Type 0} (r : Result T ShowFault) (window : Window) (fault : ShowFault) (w part : Rehearsal) →
     IsOfReplay fault part → IsErrAnd r (λ e. e ≡ fault) → part ≡ part_of window w → steps_in window part.steps ≤ MOST_STEPS →
     IfErr r (λ e. FailsWith window e w)
 handed_over (Ok x) window fault w part h is same few = tt

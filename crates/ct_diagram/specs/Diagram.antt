@@ -10,8 +10,8 @@ use Rattle.ct_records.specs.declared.program_fault.ProgramFault.TheVariants.{Rep
 use Rattle.ct_records.specs.Replay.{IsAllowed, IsRefused}
 use Rattle.ct_world.specs.Replay.{first_steps}
 use Rattle.ct_diagram.specs.declared.drawn.Drawn.{Drawn}
-use Rattle.ct_diagram.specs.declared.fault.DiagramFault.{DiagramFault}
-use Rattle.ct_diagram.specs.declared.fault.DiagramFault.TheVariants.{TooManySteps, Program}
+use Rattle.ct_told.specs.declared.show_fault.ShowFault.{ShowFault}
+use Rattle.ct_told.specs.declared.show_fault.ShowFault.TheVariants.{TooManySteps, Program}
 use Rattle.ct_diagram.specs.declared.grid.Grid.{Grid}
 use Rattle.ct_diagram.specs.declared.sight.Glance.{Glance}
 use Rattle.ct_diagram.specs.declared.sight.Sight.TheVariants.{Hidden}
@@ -123,12 +123,12 @@ IsDiagram window w text =
     IsAllowed (part_of window w) × (steps_in window (part_of window w).steps ≤ MOST_STEPS) × (text ≡ diagram_text window (part_of window w))
 
 -- the fault is that a step of the record is refused, or want of memory
-abbrev pub IsOfReplay : DiagramFault → Rehearsal → Type 0
+abbrev pub IsOfReplay : ShowFault → Rehearsal → Type 0
 IsOfReplay (Program (Replay at refusal)) w = IsRefused w at refusal
 IsOfReplay (Program Memory) w = ⊤
 IsOfReplay _ w = ⊥
 
 -- the window has too many steps of the record; or it has not, and one of those up to its last one is refused, or memory
-abbrev pub FailsWith : Window → DiagramFault → Rehearsal → Type 0
+abbrev pub FailsWith : Window → ShowFault → Rehearsal → Type 0
 FailsWith window (TooManySteps steps) w = (steps ≡ steps_in window (part_of window w).steps) × (MOST_STEPS < steps)
 FailsWith window fault w = (steps_in window (part_of window w).steps ≤ MOST_STEPS) × IsOfReplay fault (part_of window w)

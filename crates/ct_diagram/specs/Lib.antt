@@ -9,5 +9,4 @@ pub mod Arrows
 pub mod Marks
 pub mod Frame
 pub mod Diagram
-pub mod Faults
 pub mod Running

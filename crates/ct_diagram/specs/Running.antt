@@ -8,8 +8,8 @@ use Rattle.ct_records.specs.Replay.{IsAllowed}
 use Rattle.ct_records.specs.Script.{script}
 use Rattle.ct_streams.specs.Streams.{WritesPart}
 use Rattle.ct_told.specs.NoRecords.{IsToldOf}
-use Rattle.ct_diagram.specs.declared.fault.DiagramFault.{DiagramFault}
-use Rattle.ct_diagram.specs.declared.fault.DiagramFault.TheVariants.{NoMember, Unread, Program}
+use Rattle.ct_told.specs.declared.show_fault.ShowFault.{ShowFault}
+use Rattle.ct_told.specs.declared.show_fault.ShowFault.TheVariants.{NoMember, Unread, Program}
 use Rattle.ct_diagram.specs.declared.window.TheConstants.{MOST_STEPS}
 use Rattle.ct_diagram.specs.declared.window.Window.{Window}
 use Rattle.ct_diagram.specs.Diagram.{diagram_text, IsDiagram, FailsWith}
@@ -34,7 +34,7 @@ Lacks window member members w = (lacking window w ≡ Some member) × (members �
 
 -- the bytes that were read are no record, or the record's group lacks a member that is asked for, or the fault is that of drawing the
 -- record. Of streams and of memory nothing is said
-abbrev pub FailsOn : Window → DiagramFault → List ℕ → Type 0
+abbrev pub FailsOn : Window → ShowFault → List ℕ → Type 0
 FailsOn window (NoMember member members) bytes = IsOkAnd (script bytes) (Lacks window member members)
 FailsOn window (Unread told) bytes = IsToldOf told bytes
 FailsOn window (Program Reader) bytes = ⊤
@@ -43,7 +43,7 @@ FailsOn window (Program Memory) bytes = ⊤
 FailsOn window fault bytes = IsOkAnd (script bytes) (λ w. FailsWith window fault w)
 
 -- the same of a fault that comes before anything is written: it is of no stream
-abbrev pub IsOfDrawing : Window → DiagramFault → List ℕ → Type 0
+abbrev pub IsOfDrawing : Window → ShowFault → List ℕ → Type 0
 IsOfDrawing window (Program Reader) bytes = ⊥
 IsOfDrawing window (Program Write) bytes = ⊥
 IsOfDrawing window fault bytes = FailsOn window fault bytes

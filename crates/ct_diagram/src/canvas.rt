@@ -30,7 +30,7 @@ pub(crate) struct Canvas {
 
 impl Canvas {
     // Nothing is drawn.
-    pub fn new(alloc: Global) -> Canvas
+    pub(crate) fn new(alloc: Global) -> Canvas
         ensures trail { result.trail.items ≡ [] }
         ensures shades { string_bytes result.shades ≡ [] }
         ensures arrows { string_bytes result.arrows ≡ [] }
@@ -45,7 +45,7 @@ impl Canvas {
     }
 
     // Draws the world's last step. The later ones are drawn after it.
-    pub fn draw(
+    pub(crate) fn draw(
         &mut self,
         world: &World,
         window: &Window,

@@ -12,7 +12,6 @@ ghost use Rattle.ct_diagram.specs.Window.{is_drawn, steps_in};
 
 use crate::canvas::Canvas;
 use crate::drawn::Drawn;
-use crate::fault::DiagramFault;
 use crate::frame::{push_foot, push_head, push_rows};
 use crate::grid::Grid;
 use crate::sight::{Glance, Sight, glance_of, sight_of};
@@ -21,18 +20,19 @@ use crate::window::{MOST_STEPS, Window};
 use ct_model::Step;
 use ct_names::{MAX_ENVELOPES, Member};
 use ct_records::Script;
+use ct_told::ShowFault;
 use ct_world::{Replay, Replayed, Setup, World};
 use std::alloc::{AllocError, Global};
 
 /// The diagram of the steps of the record that the window has. The steps after the window's last one are not looked at.
-pub fn diagram(alloc: Global, script: &Script, window: &Window) -> Result<Vec<u8>, DiagramFault>
+pub fn diagram(alloc: Global, script: &Script, window: &Window) -> Result<Vec<u8>, ShowFault>
     ensures ok { IfOk result (λ text. IsDiagram window.now (rehearsal_of script.now) text.items) }
     ensures err { IfErr result (λ fault. FailsWith window.now fault (rehearsal_of script.now)) }
 {
     let end = (window.to as usize).min(script.steps.len());
     let steps = window.steps(end);
     if steps > MOST_STEPS {
-        return Err(DiagramFault::TooManySteps { steps });
+        return Err(ShowFault::TooManySteps { steps });
     }
     let canvas = drawn(alloc, script.setup(), &script.steps[..end], window)?;
     let grid = Grid {
@@ -61,12 +61,7 @@ fn framed(alloc: Global, canvas: &Canvas, grid: Grid) -> Result<Vec<u8>, AllocEr
 }
 
 // What is drawn of these steps, or the first of them that is refused.
-fn drawn(
-    alloc: Global,
-    setup: Setup,
-    steps: &[Step],
-    window: &Window,
-) -> Result<Canvas, DiagramFault>
+fn drawn(alloc: Global, setup: Setup, steps: &[Step], window: &Window) -> Result<Canvas, ShowFault>
     requires narrow { steps_in window.now steps.now ≤ MOST_STEPS }
     ensures allowed { OnOk result (IsAllowed (record_of setup steps.now)) }
     ensures trail { IfOk result (λ canvas. canvas.trail.items ≡ whole_trail window.now (record_of setup steps.now)) }

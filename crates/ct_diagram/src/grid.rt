@@ -5,21 +5,21 @@ ghost use Rattle.ct_diagram.specs.Grid.{half_columns, row_of, within, lane, heig
 
 use ct_names::Member;
 
-/// The width of a step's column.
-pub const COLUMN: u32 = 26;
+// The width of a step's column.
+pub(crate) const COLUMN: u32 = 26;
 
-/// The left edge of a row.
-pub const LEFT: u32 = 70;
+// The left edge of a row.
+pub(crate) const LEFT: u32 = 70;
 
-/// From a member to the next one, and the same in a group of more members than `FEW`.
-pub const LANE: u32 = 76;
+// From a member to the next one, and the same in a group of more members than `FEW`.
+pub(crate) const LANE: u32 = 76;
 
-pub const LOW_LANE: u32 = 56;
+pub(crate) const LOW_LANE: u32 = 56;
 
-pub const FEW: u8 = 8;
+pub(crate) const FEW: u8 = 8;
 
-/// From a row to the next one, beside its members.
-pub const GAP: u32 = 56;
+// From a row to the next one, beside its members.
+pub(crate) const GAP: u32 = 56;
 
 // A group of so many members, in rows of so many columns, 0 as 1. A place is counted in half columns from the left edge of the first
 // row on, as if all rows were one.
@@ -38,7 +38,7 @@ pub(crate) struct Spot {
 
 impl Grid {
     // How many half columns a row has.
-    pub fn half_columns(self) -> u32
+    pub(crate) fn half_columns(self) -> u32
         ensures value { result ≡ half_columns self }
         ensures some { 2 ≤ result }
         ensures few { result ≤ 131070 }
@@ -51,7 +51,7 @@ impl Grid {
     }
 
     // The row of the place, counted from 0.
-    pub fn row(self, place: u16) -> u32
+    pub(crate) fn row(self, place: u16) -> u32
         ensures value { result ≡ row_of self place }
         ensures few { result ≤ 65535 }
     {
@@ -59,7 +59,7 @@ impl Grid {
     }
 
     // How many half columns of its row stand before the place.
-    pub fn within(self, place: u16) -> u32
+    pub(crate) fn within(self, place: u16) -> u32
         ensures value { result ≡ within self place }
         ensures few { result ≤ 65535 }
     {
@@ -68,7 +68,7 @@ impl Grid {
     }
 
     // How much higher than its first row a row stands.
-    pub fn top(self, row: u32) -> u32
+    pub(crate) fn top(self, row: u32) -> u32
         requires { row ≤ 65535 }
         ensures value { result ≡ top_of self row }
         ensures few { result ≤ 1500000000 }
@@ -77,7 +77,7 @@ impl Grid {
     }
 
     // From a member to the next one.
-    pub fn lane(self) -> u32
+    pub(crate) fn lane(self) -> u32
         ensures value { result ≡ lane self }
         ensures few { result ≤ 76 }
     {
@@ -85,7 +85,7 @@ impl Grid {
     }
 
     // The height of a row.
-    pub fn height(self) -> u32
+    pub(crate) fn height(self) -> u32
         ensures value { result ≡ height self }
         ensures few { result ≤ 22000 }
     {
@@ -93,14 +93,14 @@ impl Grid {
     }
 
     // The right edge of a row.
-    pub fn right(self) -> u32
+    pub(crate) fn right(self) -> u32
         ensures { result ≡ right_of self }
     {
         LEFT + COLUMN / 2 * self.half_columns()
     }
 
     // The point of the place on the member's line.
-    pub fn spot(self, place: u16, member: Member) -> Spot
+    pub(crate) fn spot(self, place: u16, member: Member) -> Spot
         ensures { result ≡ spot_of self place member }
     {
         Spot {

@@ -5,8 +5,6 @@ mod arrows;
 mod canvas;
 mod drawing;
 mod drawn;
-mod ending;
-mod fault;
 mod frame;
 mod grid;
 mod marks;
@@ -19,8 +17,6 @@ mod window;
 mod words;
 
 pub use drawing::diagram;
-pub use ending::drawn_end;
-pub use fault::DiagramFault;
 pub use running::draw;
 pub use window::{MOST_STEPS, Window};
 pub use words::{diagram_command, diagram_window};

@@ -8,9 +8,9 @@ ghost use Rattle.ct_diagram.specs.Running.{Draws, DrawsPart, FailsOn, IsDiagramO
 ghost use Rattle.ct_diagram.specs.Window.{lacking};
 
 use crate::drawing::diagram;
-use crate::fault::DiagramFault;
 use crate::window::Window;
 use ct_records::ProgramFault;
+use ct_told::{ShowFault, read_told};
 use ct_streams::{Failed, Sink, Source, read_all, write_all};
 use ct_told::read_told;
 use std::alloc::Global;
@@ -23,7 +23,7 @@ pub fn draw<R: Source, W: Sink>(
     reader: &mut R,
     writer: &mut W,
     window: &Window,
-) -> Result<(), DiagramFault>
+) -> Result<(), ShowFault>
     requires reads { R.failures reader.old < 2 ^ 63 }
     requires writes { W.failures writer.old < 2 ^ 63 }
     // The input is a record whose steps up to the window's last one are allowed, and what was written is their diagram.
@@ -33,35 +33,35 @@ pub fn draw<R: Source, W: Sink>(
     ensures members { OnOk result (IfSome (R.left reader.old) (λ input. IsOkAnd (script input) (λ w. lacking window.now w ≡ None))) }
     ensures fault { IfErr result (λ fault. IfSome (R.left reader.old) (λ input. FailsOn window.now fault (read_part input))) }
     // Where the writer failed, some first bytes of such a diagram were written.
-    ensures part { result ≡ Err (DiagramFault.Program ProgramFault.Write) → IfSome (R.left reader.old) (λ input.
+    ensures part { result ≡ Err (ShowFault.Program ProgramFault.Write) → IfSome (R.left reader.old) (λ input.
         DrawsPart window.now (script input) (W.written writer.old) (W.written writer.new)) }
-    ensures reader { FailsOnce result (DiagramFault.Program ProgramFault.Reader) (R.failures reader.old) (R.failures reader.new) }
-    ensures writer { FailsOnce result (DiagramFault.Program ProgramFault.Write) (W.failures writer.old) (W.failures writer.new) }
+    ensures reader { FailsOnce result (ShowFault.Program ProgramFault.Reader) (R.failures reader.old) (R.failures reader.new) }
+    ensures writer { FailsOnce result (ShowFault.Program ProgramFault.Write) (W.failures writer.old) (W.failures writer.new) }
     // Nothing was written but where the writer failed.
-    ensures quiet { IfErr result (λ fault. fault ≢ DiagramFault.Program ProgramFault.Write → writer.new ≡ writer.old) }
+    ensures quiet { IfErr result (λ fault. fault ≢ ShowFault.Program ProgramFault.Write → writer.new ≡ writer.old) }
 {
     let bytes = read_all(alloc, reader)?;
     let text = drawn(alloc, bytes, window)?;
     match write_all(writer, &text) {
         Ok(()) => Ok(()),
-        Err(Failed) => Err(DiagramFault::Program(ProgramFault::Write)),
+        Err(Failed) => Err(ShowFault::Program(ProgramFault::Write)),
     }
 }
 
 // The diagram of the record, whose bytes are freed before it is drawn.
-fn drawn(alloc: Global, bytes: Vec<u8>, window: &Window) -> Result<Vec<u8>, DiagramFault>
+fn drawn(alloc: Global, bytes: Vec<u8>, window: &Window) -> Result<Vec<u8>, ShowFault>
     ensures ok { IfOk result (λ text. IsDiagramOf window.now (script bytes.items) text.items) }
     ensures members { OnOk result (IsOkAnd (script bytes.items) (λ w. lacking window.now w ≡ None)) }
     ensures fault { IfErr result (λ fault. IsOfDrawing window.now fault bytes.items) }
 {
     let script = match read_told(alloc, &bytes)? {
         Ok(script) => script,
-        Err(told) => return Err(DiagramFault::Unread(told)),
+        Err(told) => return Err(ShowFault::Unread(told)),
     };
     drop(bytes);
     if let Some(member) = window.stranger(script.group) {
         let members = script.group.n();
-        return Err(DiagramFault::NoMember { member, members });
+        return Err(ShowFault::NoMember { member, members });
     }
     diagram(alloc, &script, window)
 }

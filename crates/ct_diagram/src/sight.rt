@@ -22,7 +22,7 @@ pub(crate) enum Sight {
 
 impl Sight {
     // Whether the step has a column of its own.
-    pub fn is_wide(self) -> bool
+    pub(crate) fn is_wide(self) -> bool
         ensures { result ≡ is_wide self }
     {
         match self {

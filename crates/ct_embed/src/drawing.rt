@@ -7,8 +7,9 @@ ghost use Rattle.ct_embed.specs.Opening.{IsNumber};
 ghost use Rattle.ct_embed.specs.Telling.{IsWhole, drawn_steps};
 
 use crate::numbers::{OUT_OF_MEMORY, TOO_LONG};
-use ct_diagram::{DiagramFault, Window, diagram};
+use ct_diagram::{Window, diagram};
 use ct_records::Script;
+use ct_told::ShowFault;
 use ct_world::World;
 use std::alloc::{AllocError, Global};
 
@@ -43,7 +44,7 @@ fn drawn_script(alloc: Global, script: &Script) -> Result<Vec<u8>, u32>
     };
     match diagram(alloc, script, &everything) {
         Ok(text) => Ok(text),
-        Err(DiagramFault::TooManySteps { .. }) => Err(TOO_LONG),
+        Err(ShowFault::TooManySteps { .. }) => Err(TOO_LONG),
         Err(_) => Err(OUT_OF_MEMORY),
     }
 }

@@ -1,9 +1,7 @@
 pub mod Alone
 pub mod Asked
-pub mod Bests
 pub mod Blocks
 pub mod Hits
 pub mod Orders
 pub mod Parts
 pub mod Quotes
-pub mod Smallest

@@ -7,5 +7,4 @@ pub mod Texts
 pub mod Tried
 pub mod Line
 pub mod Writing
-pub mod Best
 pub mod Counting

@@ -1,16 +1,12 @@
 -- What a command line may ask of a search. `clap` gives what its commands make of words.
 use Rattle.std.specs.Prelude.{◌<◌, ℕ, Bool, true, false, Option, Some, None, IfSome, Result, Ok, Err, List, [], ◌∷◌, fold, codes}
-use Rattle.std.specs.Str.{bytes_eq}
 use Rattle.clap.specs.Lexer.{usize_max}
-use Rattle.clap.specs.Words.{App, Row, Rule, Text, all_of, first_of, new_app, new_rule, with_rule}
-use Rattle.clap.specs.declared.builder.action.ArgAction.TheVariants.{SetTrue}
-use Rattle.ct_streams.specs.Arguments.{option_rule, required_rule, value_rule}
-use Rattle.ct_streams.specs.Values.{◌>>=◌, number_for}
+use Rattle.clap.specs.Words.{App, Row, Rule, Text, all_of, first_of, new_app, with_rule}
+use Rattle.ct_streams.specs.Arguments.{flag_rule, option_rule, required_rule, value_rule}
+use Rattle.ct_streams.specs.Values.{◌>>=◌, is_set, number_for}
 use Rattle.ct_streams.specs.WordFaults.{fault_line}
 use Rattle.ct_walk.specs.Line.{group_goal, joined, search_options, seeds_in, with_search_rules, IsSeedsInRange}
 use Rattle.ct_walk.specs.Options.{IsInRange}
-use Rattle.ct_shrink.specs.Line.{options_of}
-use Rattle.ct_find.specs.declared.best.BestOptions.{BestOptions}
 use Rattle.ct_find.specs.declared.call.FindCall.{FindCall}
 use Rattle.ct_find.specs.declared.count_text.CountForm.{CountForm}
 use Rattle.ct_find.specs.declared.count_text.CountForm.TheVariants.{Table, Json}
@@ -27,10 +23,6 @@ seeds_rule = record (required_rule (codes "seeds")) { value_names = 1 }
 
 abbrev pub jobs_rule : Rule
 jobs_rule = record (value_rule (codes "jobs")) { value_names = 1 }
-
--- an option with no value
-abbrev pub flag_rule : Text → Rule
-flag_rule name = record (new_rule name) { long = Some name; action = Some SetTrue }
 
 -- the same, which asks for another one beside it
 abbrev pub asking_rule : Text → Rule
@@ -88,11 +80,6 @@ find_call rows = do
   jobs ← jobs_in rows
   Ok (record { options = options; goal = goal; text = text; seeds = seeds; jobs = jobs })
 
--- the text of an option with no value says that it is given
-abbrev pub is_set : Option Text → Bool
-is_set None = false
-is_set (Some text) = bytes_eq text (codes "true")
-
 -- the form of a count, where one is asked for
 abbrev pub form_of : Bool → Bool → Option CountForm
 form_of true true = Some Json
@@ -101,19 +88,7 @@ form_of false json = None
 
 -- as what the options ask for a count
 abbrev pub count_form : List Row → Option CountForm
-count_form rows = form_of (is_set (first_of (codes "count") rows)) (is_set (first_of (codes "json") rows))
-
--- the number of walks that are made smaller, where that is given, and how
-abbrev pub best_or_none : List Row → Option Text → Result (Option BestOptions) Text
-best_or_none rows None = Ok None
-best_or_none rows (Some text) = do
-  count ← number_for (codes "best") 1 4294967295 text
-  shrink ← options_of rows
-  Ok (Some (record { count = count; shrink = shrink }))
-
--- how the options ask for the smallest run, where they do
-abbrev pub best_options : List Row → Result (Option BestOptions) Text
-best_options rows = best_or_none rows (first_of (codes "best") rows)
+count_form rows = form_of (is_set rows (codes "count")) (is_set rows (codes "json"))
 
 -- each option is in its range
 pub record IsFindInRange (call : FindCall) : Type 0 where

@@ -4,14 +4,11 @@ use Rattle.std.specs.List.{concat}
 use Rattle.ct_names.specs.declared.limit.TheConstants.{MAX_BOUND}
 use Rattle.ct_streams.specs.declared.status.Status.TheVariants as status
 use Rattle.ct_streams.specs.Statuses.{code}
-use Rattle.ct_shrink.specs.Faults as shrink
-use Rattle.ct_shrink.specs.Summaries.{summary_text}
 use Rattle.ct_walk.specs.Faults as walk
 use Rattle.ct_walk.specs.declared.options.WalkOptions.{WalkOptions}
 use Rattle.ct_find.specs.declared.again.Again.{Again}
-use Rattle.ct_find.specs.declared.best.Best.{Best}
 use Rattle.ct_find.specs.declared.fault.FindFault.{FindFault}
-use Rattle.ct_find.specs.declared.fault.FindFault.TheVariants.{Walk, Shrink, NotFound}
+use Rattle.ct_find.specs.declared.fault.FindFault.TheVariants.{Walk, NotFound}
 use Rattle.ct_find.specs.declared.fault.NotFound.{NotFound as Missing}
 use Rattle.ct_find.specs.declared.tried.Tried.{Tried}
 
@@ -53,11 +50,6 @@ again_text a =
     concat (codes "ct_tool walk --members " ∷ decimal a.options.run.members ∷ codes " --seed " ∷ decimal a.seed
     ∷ options_text a.options ∷ codes "--until '" ∷ a.goal ∷ codes "'" ∷ [])
 
--- the smallest run
-abbrev pub best_text : Best → List ℕ
-best_text best =
-    concat (codes "seed " ∷ decimal best.seed ∷ codes ", best of " ∷ decimal best.hits ∷ codes ": " ∷ summary_text best.summary ∷ [])
-
 -- ---- faults
 
 abbrev pub none_text : Missing → List ℕ
@@ -67,10 +59,8 @@ none_text none =
 -- the line for standard error
 abbrev pub fault_text : FindFault → List ℕ
 fault_text (Walk fault) = walk.fault_text fault
-fault_text (Shrink fault) = shrink.fault_text fault
 fault_text (NotFound none) = none_text none
 
 abbrev pub status_of : FindFault → ℕ
 status_of (Walk fault) = walk.status_of fault
-status_of (Shrink fault) = shrink.status_of fault
 status_of (NotFound none) = code status.Refused

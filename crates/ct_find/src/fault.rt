@@ -4,8 +4,7 @@ ghost use Rattle.std.specs.Prelude.{◌≡◌, Some};
 ghost use Rattle.ct_find.specs.Texts.{fault_text, none_text, status_of};
 
 use ct_grammar::Text;
-use ct_shrink::ShrinkFault;
-use ct_streams::Status;
+use ct_streams::{Fault, Status};
 use ct_walk::{Seeds, WalkFault};
 use std::fmt;
 
@@ -14,8 +13,6 @@ use std::fmt;
 pub enum FindFault {
     /// A walk is not made, or what is found is not written.
     Walk(WalkFault),
-    /// A walk that is found is not made smaller.
-    Shrink(ShrinkFault),
     /// The walk of none of the seeds shows the goal.
     NotFound(NotFound),
 }
@@ -29,15 +26,13 @@ pub struct NotFound {
     pub goal: Text,
 }
 
-impl FindFault {
-    /// The status that a program ends with: 1 where nothing is found, 4 for a stream, 5 for memory and the board, else that of what is
-    /// not made smaller.
-    pub fn status(&self) -> u8
-        ensures { result ≡ status_of self.now }
-    {
+impl Fault for FindFault {
+    ghost ends_with = { λ fault. status_of fault };
+
+    // 1 where nothing is found, 4 for a stream, 5 for memory and the board.
+    fn status(&self) -> u8 {
         match self {
             FindFault::Walk(fault) => fault.status(),
-            FindFault::Shrink(fault) => fault.status(),
             FindFault::NotFound(_) => Status::Refused.code(),
         }
     }
@@ -59,7 +54,6 @@ impl fmt::Display for FindFault {
     fn fmt<W: fmt::Write>(&self, f: &mut fmt::Formatter<W>) -> fmt::Result {
         match self {
             FindFault::Walk(fault) => write!(f, "{fault}"),
-            FindFault::Shrink(fault) => write!(f, "{fault}"),
             FindFault::NotFound(none) => write!(f, "{none}"),
         }
     }
@@ -73,16 +67,5 @@ impl From<WalkFault> for FindFault {
 
     fn from(fault: WalkFault) -> FindFault {
         FindFault::Walk(fault)
-    }
-}
-
-impl From<ShrinkFault> for FindFault {
-    ghost use Rattle.std.specs.Prelude.{◌≡◌};
-    ghost use Rattle.ct_find.specs.declared.fault.FindFault.TheVariants.{Shrink};
-
-    ghost from_gives = { λ fault found. found ≡ Shrink fault };
-
-    fn from(fault: ShrinkFault) -> FindFault {
-        FindFault::Shrink(fault)
     }
 }

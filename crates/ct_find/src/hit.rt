@@ -2,11 +2,11 @@
 
 use ct_walk::WalkSize;
 
-// A seed whose walk shows the goal.
+/// A seed whose walk shows the goal.
 #[derive(Clone, Copy, Debug, Drop, PartialEq, Eq)]
-pub(crate) struct Hit {
-    // The seed.
-    pub(crate) seed: u32,
-    // How far its walk goes.
-    pub(crate) size: WalkSize,
+pub struct Hit {
+    /// The seed.
+    pub seed: u32,
+    /// How far its walk goes.
+    pub size: WalkSize,
 }

@@ -2,20 +2,17 @@
 #![tactic(auto)]
 
 mod again;
-mod best;
-mod best_writing;
 mod call;
 mod count_text;
 mod count_writing;
 mod counting;
 mod fault;
 mod hit;
-mod left;
 mod progress;
 mod quoting;
 mod search;
 mod searching;
-mod shrinking;
+mod several;
 mod spread;
 mod tally;
 mod tried;
@@ -23,17 +20,18 @@ mod words;
 mod writing;
 
 pub use again::Again;
-pub use best::{Best, BestOptions};
-pub use best_writing::write_best;
 pub use call::FindCall;
 pub use count_text::CountForm;
 pub use count_writing::write_count;
 pub use counting::count_in_threads;
 pub use fault::{FindFault, NotFound};
+pub use hit::Hit;
 pub use progress::{Progress, Silent};
+pub use quoting::quoted_goal;
 pub use searching::find_in_threads;
+pub use several::first_hits;
 pub use spread::Spread;
 pub use tally::Tally;
 pub use tried::Tried;
-pub use words::{best_options, count_form, find_call, find_command};
+pub use words::{count_form, find_call, find_command};
 pub use writing::{Found, write_found};

@@ -10,8 +10,8 @@ use std::alloc::{AllocError, Global};
 // What stands for a quote where a text stands in quotes for a shell: their end, a quote by itself, and their beginning anew.
 const QUOTE: &str = "'\\''";
 
-// The words of a goal as they stand in single quotes for a shell.
-pub(crate) fn quoted_goal(alloc: Global, goal: &Text) -> Result<Text, WalkFault>
+/// The words of a goal as they stand in single quotes for a shell.
+pub fn quoted_goal(alloc: Global, goal: &Text) -> Result<Text, WalkFault>
     ensures ok { IfOk result (λ words. words ≡ quoted goal.now) }
     ensures err { IfErr result (λ fault. fault ≡ WalkFault.Memory) }
 {

@@ -3,19 +3,18 @@
 ghost use Rattle.std.specs.Prelude.{◌≡◌, ◌<◌, false, map, option_map, Ok, IfOk, IfErr, IfSome};
 ghost use Rattle.clap.specs.Words.{app_of, found_of, rows_of, rule_of};
 ghost use Rattle.ct_walk.specs.Line.{IsCallFault};
-ghost use Rattle.ct_find.specs.Line.{asking_rule, best_options, best_or_none, best_rule, count_form, find_app, find_call, flag_rule};
-ghost use Rattle.ct_find.specs.Line.{form_of, goal_rule, is_set, jobs_in, jobs_or_none, jobs_rule, seeds_rule, text_in, text_or_line};
+ghost use Rattle.ct_find.specs.Line.{asking_rule, best_rule, count_form, find_app, find_call};
+ghost use Rattle.ct_find.specs.Line.{form_of, goal_rule, jobs_in, jobs_or_none, jobs_rule, seeds_rule, text_in, text_or_line};
 ghost use Rattle.ct_find.specs.Line.{tries_rule, with_best_rules, IsFindInRange};
 
-use crate::best::BestOptions;
 use crate::call::FindCall;
 use crate::count_text::CountForm;
 use crate::searching::MAX_JOBS;
-use clap::{Arg, ArgAction, ArgMatches, Command};
+use clap::{Arg, ArgMatches, Command};
 use ct_grammar::Text;
-use ct_shrink::{USUAL_TRIES, shrink_options};
 use ct_streams::{
-    Given, Wanted, WordFault, default_option, number_for, required_option, subcommand, value_option,
+    Given, Wanted, WordFault, default_option, flag, is_set, number_for, required_option,
+    subcommand, value_option,
 };
 use ct_walk::{CallFault, group_goal, joined, search_options, seeds_in, with_search_options};
 use std::alloc::{AllocError, Global};
@@ -222,7 +221,7 @@ fn tries_arg<'a>(alloc: Global) -> Result<Arg<'a>, AllocError>
     default_option(
         alloc,
         "tries",
-        USUAL_TRIES,
+        "10000",
         "How many trials are made at most for each of them,\n1 to 1000000",
     )
     .value_name("N")
@@ -242,48 +241,11 @@ fn asking_flag<'a>(
     flag(alloc, name, help).requires_arg(needed)
 }
 
-// An option with no value.
-fn flag<'a>(alloc: Global, name: &'a str, help: &'a str) -> Arg<'a>
-    ensures rule { rule_of result ≡ flag_rule name.entry.now }
-    ensures local { result.global ≡ false }
-{
-    let option = Arg::new(alloc, name).long(name).help(help);
-    option.action(ArgAction::SetTrue)
-}
-
-/// How the smallest run is asked for; None where it is not. Else the fault of the first option that asks for nothing.
-pub fn best_options<'a>(found: &'a ArgMatches<'_>) -> Result<Option<BestOptions>, WordFault<'a>>
-    ensures exact { result ≡ best_options (rows_of (found_of found.now)) }
-    ensures some { IfOk result (λ best. IfSome best (λ best. 0 < best.count)) }
-{
-    best_or_none(found, found.get_str("best"))
-}
-
-fn best_or_none<'a>(
-    found: &'a ArgMatches<'_>,
-    text: Option<&'a str>,
-) -> Result<Option<BestOptions>, WordFault<'a>>
-    ensures exact { result ≡ best_or_none (rows_of (found_of found.now)) (option_map (λ text. text.now) text.entry) }
-    ensures some { IfOk result (λ best. IfSome best (λ best. 0 < best.count)) }
-{
-    match text {
-        None => Ok(None),
-        Some(text) => {
-            let count = number_for("best", text, 1, u32::MAX)?;
-            let shrink = shrink_options(found)?;
-            Ok(Some(BestOptions { count, shrink }))
-        }
-    }
-}
-
 /// As what a count of the seeds is asked for; None where the record of a walk is.
 pub fn count_form(found: &ArgMatches<'_>) -> Option<CountForm>
     ensures { result ≡ count_form (rows_of (found_of found.now)) }
 {
-    form_of(
-        is_set(found.get_str("count")),
-        is_set(found.get_str("json")),
-    )
+    form_of(is_set(found, "count"), is_set(found, "json"))
 }
 
 fn form_of(count: bool, json: bool) -> Option<CountForm>
@@ -293,15 +255,5 @@ fn form_of(count: bool, json: bool) -> Option<CountForm>
         (true, true) => Some(CountForm::Json),
         (true, false) => Some(CountForm::Table),
         (false, _) => None,
-    }
-}
-
-// Whether the text of an option with no value says that it is given.
-fn is_set(text: Option<&str>) -> bool
-    ensures { result ≡ is_set (option_map (λ t. t.now) text.entry) }
-{
-    match text {
-        Some(text) => text == "true",
-        None => false,
     }
 }

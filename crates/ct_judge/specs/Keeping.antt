@@ -1,33 +1,19 @@
--- How sessions end, and what is kept of them.
-use Rattle.std.specs.Prelude.{◌≡◌, ℕ, Bool, false, List, [], ◌∷◌, ◌++◌, Option, Some, None, Result, Ok, Err, IsOk, IsOkAnd, ⊤}
-use Rattle.std.specs.Prelude.{if◌then◌else◌}
+-- What is kept of sessions.
+use Rattle.std.specs.Prelude.{◌≡◌, ℕ, List, [], ◌∷◌, ◌++◌, Option, Result, Ok, Err, IsOk, IsOkAnd, ⊤}
 use Rattle.ct_model.specs.Rehearsal.{Rehearsal}
 use Rattle.ct_streams.specs.declared.status.Status.TheVariants as status
 use Rattle.ct_streams.specs.Statuses.{code}
 use Rattle.ct_streams.specs.NewFiles.{Makes, MakesPart}
 use Rattle.ct_records.specs.Text.{record_text}
-use Rattle.ct_judge.specs.declared.heard.Heard.{Heard}
 use Rattle.ct_judge.specs.declared.keep_fault.KeepFault.{KeepFault}
 use Rattle.ct_judge.specs.declared.keep_fault.KeepFault.TheVariants.{NoMembers, Write, Memory}
 use Rattle.ct_play.specs.declared.line_fault.LineFault.{LineFault}
 use Rattle.ct_play.specs.declared.line_fault.LineFault.TheVariants as line
-use Rattle.ct_judge.specs.declared.session_fault.SessionFault.{SessionFault}
-use Rattle.ct_judge.specs.declared.session_fault.SessionFault.TheVariants as session
 
 abbrev pub keep_status : KeepFault → ℕ
 keep_status NoMembers = code status.Refused
 keep_status Write = code status.Stream
 keep_status Memory = code status.Memory
-
--- nobody reads the answers any more: a write failed as the writer broke
-abbrev pub is_left : SessionFault → Bool → Bool
-is_left session.Write broken = broken
-is_left _ broken = false
-
--- how a session ended for a program
-abbrev pub end_of : Result Heard SessionFault → Bool → Result (Option Heard) SessionFault
-end_of (Ok heard) broken = Ok (Some heard)
-end_of (Err fault) broken = if is_left fault broken then Ok None else Err fault
 
 -- the text is the record of the session's world and a line feed
 abbrev pub IsKeptIn : List ℕ → Result Rehearsal LineFault → Type 0

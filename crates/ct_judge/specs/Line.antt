@@ -1,12 +1,7 @@
 -- The words that `interact` and `record` take. `clap` gives what its commands make of words.
-use Rattle.std.specs.Prelude.{[], ◌∷◌, codes, fold, Some}
-use Rattle.clap.specs.Words.{App, Rule, Text, new_app, new_rule, with_rule}
-use Rattle.clap.specs.declared.builder.action.ArgAction.TheVariants.{SetTrue}
-use Rattle.ct_streams.specs.Arguments.{file_rule, value_rule}
-
--- an option with no value
-abbrev pub flag_rule : Text → Rule
-flag_rule name = record (new_rule name) { long = Some name; action = Some SetTrue }
+use Rattle.std.specs.Prelude.{[], ◌∷◌, codes, fold}
+use Rattle.clap.specs.Words.{App, new_app, with_rule}
+use Rattle.ct_streams.specs.Arguments.{file_rule, flag_rule, value_rule}
 
 -- `interact` may have the name of a file to write, and end with another status where a line was refused
 abbrev pub interact_app : App

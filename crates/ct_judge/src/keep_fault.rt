@@ -1,9 +1,8 @@
 //! Why sessions are not kept.
 
-ghost use Rattle.std.specs.Prelude.{◌≡◌};
 ghost use Rattle.ct_judge.specs.Keeping.{keep_status};
 
-use ct_streams::Status;
+use ct_streams::{Fault, Status};
 use std::alloc::AllocError;
 use thiserror::Error;
 
@@ -21,11 +20,11 @@ pub enum KeepFault {
     Memory,
 }
 
-impl KeepFault {
-    /// The status that a program ends with: 1 where there is no record, 4 for a stream, 5 for memory.
-    pub fn status(&self) -> u8
-        ensures { result ≡ keep_status self.now }
-    {
+impl Fault for KeepFault {
+    ghost ends_with = { λ fault. keep_status fault };
+
+    // 1 where there is no record, 4 for a stream, 5 for memory.
+    fn status(&self) -> u8 {
         match self {
             KeepFault::NoMembers => Status::Refused.code(),
             KeepFault::Write => Status::Stream.code(),

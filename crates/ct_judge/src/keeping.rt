@@ -1,47 +1,18 @@
-//! How sessions end, and what is kept of them.
+//! What is kept of sessions.
 
 ghost use Rattle.std.specs.Prelude.{◌≡◌, ◌≢◌, ◌<◌, ◌^◌, Ok, Err, OnOk, IfOk, IfErr, IsOkAnd};
 ghost use Rattle.ct_streams.specs.Streams.{FailsOnce};
-ghost use Rattle.ct_judge.specs.Keeping.{IsKeepFaultOf, IsKeptIn, Keeps, KeepsPart, end_of, is_left};
+ghost use Rattle.ct_judge.specs.Keeping.{IsKeepFaultOf, IsKeptIn, Keeps, KeepsPart};
 ghost use Rattle.ct_judge.specs.Schedule.{IsSafeRun};
 ghost use Rattle.ct_judging.specs.Standing.{world_of};
 
-use crate::heard::Heard;
 use crate::judge::Judge;
 use crate::keep_fault::KeepFault;
-use crate::session_fault::SessionFault;
 use ct_play::LineFault;
 use ct_records::write_record;
 use ct_streams::{Failed, NewFiles};
 use ct_world::World;
 use std::alloc::{AllocError, Global};
-
-/// How a session ended for a program: with what is left of it at the end of the input, or with None where the writer broke, as nobody reads
-/// the answers any more; else with its fault.
-pub fn session_end(
-    ended: Result<Heard, SessionFault>,
-    broken: bool,
-) -> Result<Option<Heard>, SessionFault>
-    ensures { result ≡ end_of ended broken }
-{
-    match ended {
-        Ok(heard) => Ok(Some(heard)),
-        Err(fault) if is_left(fault, broken) => Ok(None),
-        Err(fault) => Err(fault),
-    }
-}
-
-// Whether nobody reads the answers any more.
-fn is_left(fault: SessionFault, broken: bool) -> bool
-    ensures { result ≡ is_left fault broken }
-{
-    match fault {
-        SessionFault::Write => broken,
-        SessionFault::Read => false,
-        SessionFault::Memory => false,
-        SessionFault::Board => false,
-    }
-}
 
 /// Makes the file of this name with the record of a session and a line feed. What the contract says of the files holds where they
 /// tell what was made.

@@ -32,7 +32,7 @@ pub use heard::Heard;
 pub use interacting::interact;
 pub use judge::Judge;
 pub use keep_fault::KeepFault;
-pub use keeping::{keep, session_end};
+pub use keeping::keep;
 pub use line_refused::LineRefused;
 pub use partial::record_partial;
 pub use reading::push_shown;

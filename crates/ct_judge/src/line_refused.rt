@@ -1,9 +1,8 @@
 //! Lines that were refused.
 
-ghost use Rattle.std.specs.Prelude.{◌≡◌};
 ghost use Rattle.ct_streams.specs.Statuses.{code};
 
-use ct_streams::Status;
+use ct_streams::{Fault, Status};
 use thiserror::Error;
 
 /// A line of a session was refused where each has to be taken. Its text is the line for standard error.
@@ -11,11 +10,12 @@ use thiserror::Error;
 #[error("a line was refused")]
 pub struct LineRefused;
 
-impl LineRefused {
-    /// The status that a program ends with: 1.
-    pub fn status(&self) -> u8
-        ensures { result ≡ code Status.Refused }
-    {
+impl Fault for LineRefused {
+    ghost use Rattle.ct_streams.specs.declared.status.Status.TheVariants.{Refused};
+
+    ghost ends_with = { λ _. code Refused };
+
+    fn status(&self) -> u8 {
         Status::Refused.code()
     }
 }

@@ -1,10 +1,9 @@
 //! Why no record is written.
 
-ghost use Rattle.std.specs.Prelude.{◌≡◌};
 ghost use Rattle.ct_judge.specs.Recording.{status_of};
 
 use ct_play::LineFault;
-use ct_streams::Status;
+use ct_streams::{Fault, Status};
 use std::alloc::AllocError;
 use thiserror::Error;
 
@@ -35,12 +34,11 @@ pub enum RecordFault {
     Board,
 }
 
-impl RecordFault {
-    /// The status that a program ends with: 1 for a line, 2 for an input that is too long, 4 for a stream, 5 for memory and the
-    /// board.
-    pub fn status(&self) -> u8
-        ensures { result ≡ status_of self.now }
-    {
+impl Fault for RecordFault {
+    ghost ends_with = { λ fault. status_of fault };
+
+    // 1 for a line, 2 for an input that is too long, 4 for a stream, 5 for memory and the board.
+    fn status(&self) -> u8 {
         match self {
             RecordFault::Line { .. } => Status::Refused.code(),
             RecordFault::TooLong => Status::NoRecord.code(),

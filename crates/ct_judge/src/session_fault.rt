@@ -1,9 +1,8 @@
 //! Why sessions end early.
 
-ghost use Rattle.std.specs.Prelude.{◌≡◌};
 ghost use Rattle.ct_judge.specs.SessionFaults.{session_status};
 
-use ct_streams::Status;
+use ct_streams::{Fault, Status};
 use std::alloc::AllocError;
 use thiserror::Error;
 
@@ -24,11 +23,11 @@ pub enum SessionFault {
     Board,
 }
 
-impl SessionFault {
-    /// The status that a program ends with: 4 for a stream, 5 for memory and the board.
-    pub fn status(&self) -> u8
-        ensures { result ≡ session_status self.now }
-    {
+impl Fault for SessionFault {
+    ghost ends_with = { λ fault. session_status fault };
+
+    // 4 for a stream, 5 for memory and the board.
+    fn status(&self) -> u8 {
         match self {
             SessionFault::Read | SessionFault::Write => Status::Stream.code(),
             SessionFault::Memory | SessionFault::Board => Status::Memory.code(),

@@ -1,11 +1,11 @@
 //! The words after `interact` and `record` on a command line.
 
-ghost use Rattle.std.specs.Prelude.{◌≡◌, false, IfOk};
-ghost use Rattle.clap.specs.Words.{app_of, rule_of};
-ghost use Rattle.ct_judge.specs.Line.{flag_rule, interact_app, record_app};
+ghost use Rattle.std.specs.Prelude.{◌≡◌, IfOk};
+ghost use Rattle.clap.specs.Words.{app_of};
+ghost use Rattle.ct_judge.specs.Line.{interact_app, record_app};
 
-use clap::{Arg, ArgAction, Command};
-use ct_streams::{file_argument, subcommand, value_option};
+use clap::Command;
+use ct_streams::{file_argument, flag, subcommand, value_option};
 use std::alloc::{AllocError, Global};
 
 // What stands after the options of `interact`.
@@ -79,15 +79,6 @@ pub fn interact_command<'a>(alloc: Global) -> Result<Command<'a>, AllocError>
         "strict",
         "Ends with status 1 where a line was refused",
     ))
-}
-
-// An option with no value.
-fn flag<'a>(alloc: Global, name: &'a str, help: &'a str) -> Arg<'a>
-    ensures rule { rule_of result ≡ flag_rule name.entry.now }
-    ensures local { result.global ≡ false }
-{
-    let option = Arg::new(alloc, name).long(name).help(help);
-    option.action(ArgAction::SetTrue)
 }
 
 /// The subcommand `record`.

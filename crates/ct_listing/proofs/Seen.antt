@@ -15,7 +15,7 @@ use Rattle.ct_world.specs.Replay.{IsFaultOf}
 use Rattle.ct_world.specs.declared.replay_fault.ReplayFault.{ReplayFault}
 use Rattle.ct_told.proofs.Seen.{input_seen}
 use Rattle.ct_told.specs.declared.show_fault.ShowFault.{ShowFault}
-use Rattle.ct_told.specs.declared.show_fault.ShowFault.TheVariants.{NoMember, Unread, Program}
+use Rattle.ct_told.specs.declared.show_fault.ShowFault.TheVariants.{NoMember, TooManySteps, Unread, Program}
 use Rattle.ct_listing.specs.Listing.{FailsOn, IsOfListing, IsRefusal, IsScheduleIn, WritesSchedule, WritesScheduleInPart}
 
 writes : (read : Result Rehearsal ReadFault) (text out : List ℕ) (old new : Option (List ℕ)) → IsScheduleIn read text → out ≡ text →
@@ -42,6 +42,7 @@ part_seen left bytes text out old new read h same a =
 
 fails : (fault : ShowFault) (bytes : List ℕ) → IsOfListing fault (read_part bytes) → FailsOn fault bytes
 fails (NoMember member members) bytes h = h
+fails (TooManySteps steps) bytes h = h
 fails (Unread told) bytes h = h
 fails (Program of.Reader) bytes h = tt
 fails (Program of.Write) bytes h = tt

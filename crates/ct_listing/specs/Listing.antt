@@ -9,7 +9,7 @@ use Rattle.ct_records.specs.declared.read_fault.ReadFault.{ReadFault}
 use Rattle.ct_records.specs.Replay.{IsAllowed, IsRefused}
 use Rattle.ct_records.specs.Script.{script}
 use Rattle.ct_told.specs.declared.show_fault.ShowFault.{ShowFault}
-use Rattle.ct_told.specs.declared.show_fault.ShowFault.TheVariants.{NoMember, Unread, Program}
+use Rattle.ct_told.specs.declared.show_fault.ShowFault.TheVariants.{NoMember, TooManySteps, Unread, Program}
 use Rattle.ct_told.specs.NoRecords.{IsToldOf}
 use Rattle.ct_judging.specs.Schedule.{schedule}
 
@@ -39,6 +39,7 @@ IsScheduleIn read text = IsOkAnd read (λ w. IsScheduleOf w text)
 -- the fault is that of reading, or of the record's steps
 abbrev pub IsOfListing : ShowFault → List ℕ → Type 0
 IsOfListing (NoMember member members) bytes = ⊥
+IsOfListing (TooManySteps steps) bytes = ⊥
 IsOfListing (Unread told) bytes = IsToldOf told bytes
 IsOfListing (Program Memory) bytes = ⊤
 IsOfListing (Program fault) bytes = IsOkAnd (script bytes) (IsRefusal fault)

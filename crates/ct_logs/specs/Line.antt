@@ -1,24 +1,11 @@
 -- The words that `merge` takes. `clap` gives what its commands make of words.
-use Rattle.std.specs.Prelude.{ℕ, true, false, List, [], ◌∷◌, codes, fold, Option, Some, None, Result, Ok, if◌then◌else◌}
-use Rattle.std.specs.Str.{bytes_eq}
-use Rattle.clap.specs.Words.{App, Row, Rule, Text, first_of, new_app, new_rule, with_rule}
-use Rattle.clap.specs.declared.builder.action.ArgAction.TheVariants.{Append}
-use Rattle.clap.specs.Lexer.{usize_max}
-use Rattle.ct_judge.specs.Line.{flag_rule}
-use Rattle.ct_streams.specs.Arguments.{value_rule}
-use Rattle.ct_streams.specs.Values.{◌>>=◌, number_for}
+use Rattle.std.specs.Prelude.{ℕ, false, List, [], ◌∷◌, codes, fold, Option, Some, None, Result, Ok, if◌then◌else◌}
+use Rattle.clap.specs.Words.{App, Row, Rule, Text, first_of, new_app, with_rule}
+use Rattle.ct_streams.specs.Arguments.{files_rule, flag_rule, value_rule}
+use Rattle.ct_streams.specs.Values.{◌>>=◌, is_set, number_for}
 use Rattle.ct_logs.specs.declared.form.Form.{Form}
 use Rattle.ct_logs.specs.declared.form.Form.TheVariants.{Schedule, Record}
 use Rattle.ct_logs.specs.declared.words.TheConstants.{MAX_IDLE}
-
--- the names of one log or several
-abbrev pub logs_rule : Rule
-logs_rule = record (new_rule (codes "files")) {
-  value_names = 1;
-  action = Some Append;
-  required = true;
-  range = Some (record { start_inclusive = 1; end_inclusive = usize_max });
-}
 
 -- an option with no value that may not stand beside another
 abbrev pub presume_rule : Rule
@@ -37,7 +24,7 @@ idle_rule = record seconds_rule { is_free = false }
 abbrev pub merge_app : App
 merge_app =
     fold with_rule (new_app (codes "merge"))
-    (logs_rule ∷ flag_rule (codes "record") ∷ presume_rule ∷ flag_rule (codes "follow") ∷ idle_rule ∷ [])
+    (files_rule ∷ flag_rule (codes "record") ∷ presume_rule ∷ flag_rule (codes "follow") ∷ idle_rule ∷ [])
 
 abbrev pub idle_or_none : Option Text → Result (Option ℕ) Text
 idle_or_none None = Ok None
@@ -49,11 +36,6 @@ idle_or_none (Some text) = do
 abbrev pub idle_in : List Row → Result (Option ℕ) Text
 idle_in rows = idle_or_none (first_of (codes "idle") rows)
 
--- the form that the text of an option with no value asks for
-abbrev pub form_of : Option Text → Form
-form_of None = Schedule
-form_of (Some text) = if bytes_eq text (codes "true") then Record else Schedule
-
 -- the form that the options ask for
 abbrev pub form_in : List Row → Form
-form_in rows = form_of (first_of (codes "record") rows)
+form_in rows = if is_set rows (codes "record") then Record else Schedule

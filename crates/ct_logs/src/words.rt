@@ -2,13 +2,12 @@
 
 ghost use Rattle.std.specs.Prelude.{◌≡◌, false, IfOk, option_map};
 ghost use Rattle.clap.specs.Words.{app_of, found_of, rows_of, rule_of};
-ghost use Rattle.ct_judge.specs.Line.{flag_rule};
-ghost use Rattle.ct_logs.specs.Line.{form_in, form_of, idle_in, idle_or_none, idle_rule, logs_rule, merge_app};
+ghost use Rattle.ct_logs.specs.Line.{form_in, idle_in, idle_or_none, idle_rule, merge_app};
 ghost use Rattle.ct_logs.specs.Line.{presume_rule, seconds_rule};
 
 use crate::form::Form;
-use clap::{Arg, ArgAction, ArgMatches, Command};
-use ct_streams::{WordFault, number_for, subcommand, value_option};
+use clap::{Arg, ArgMatches, Command};
+use ct_streams::{WordFault, files_argument, flag, is_set, number_for, subcommand, value_option};
 use std::alloc::{AllocError, Global};
 
 /// For how many seconds logs may be followed at most without a line.
@@ -61,7 +60,11 @@ pub fn merge_command<'a>(alloc: Global) -> Result<Command<'a>, AllocError>
         ),
         AFTER,
     )
-    .arg(logs(alloc))?
+    .arg(files_argument(
+        alloc,
+        "LOG",
+        "The files that the members' logs stand in; - for standard input",
+    ))?
     .arg(flag(
         alloc,
         "record",
@@ -74,19 +77,6 @@ pub fn merge_command<'a>(alloc: Global) -> Result<Command<'a>, AllocError>
         "Reads the logs as they grow, and refuses at once",
     ))?
     .arg(idle(alloc)?)
-}
-
-// One log or several.
-fn logs<'a>(alloc: Global) -> Arg<'a>
-    ensures rule { rule_of result ≡ logs_rule }
-    ensures local { result.global ≡ false }
-{
-    Arg::new(alloc, "files")
-        .value_name("LOG")
-        .action(ArgAction::Append)
-        .required(true)
-        .num_args(1..)
-        .help("The files that the members' logs stand in; - for standard input")
 }
 
 // Whether ends of logs may be lost, which is not asked of logs that grow.
@@ -125,15 +115,6 @@ fn seconds<'a>(alloc: Global) -> Arg<'a>
     .value_name("S")
 }
 
-// An option with no value.
-fn flag<'a>(alloc: Global, name: &'a str, help: &'a str) -> Arg<'a>
-    ensures rule { rule_of result ≡ flag_rule name.entry.now }
-    ensures local { result.global ≡ false }
-{
-    let option = Arg::new(alloc, name).long(name).help(help);
-    option.action(ArgAction::SetTrue)
-}
-
 /// After how many seconds without a line logs that are followed are over, where that is given.
 pub fn merge_idle<'a>(found: &'a ArgMatches<'_>) -> Result<Option<u32>, WordFault<'a>>
     ensures { result ≡ idle_in (rows_of (found_of found.now)) }
@@ -154,15 +135,9 @@ fn idle_or_none<'a>(text: Option<&'a str>) -> Result<Option<u32>, WordFault<'a>>
 pub fn merge_form(found: &ArgMatches<'_>) -> Form
     ensures { result ≡ form_in (rows_of (found_of found.now)) }
 {
-    form_of(found.get_str("record"))
-}
-
-// The form that the text of an option with no value asks for.
-fn form_of(text: Option<&str>) -> Form
-    ensures { result ≡ form_of (option_map (λ t. t.now) text.entry) }
-{
-    match text {
-        Some(text) if text == "true" => Form::Record,
-        _ => Form::Schedule,
+    if is_set(found, "record") {
+        Form::Record
+    } else {
+        Form::Schedule
     }
 }

@@ -11,7 +11,7 @@ use Rattle.ct_records.specs.Replay.{IsAllowed}
 use Rattle.ct_records.specs.Script.{script}
 use Rattle.ct_streams.specs.Streams.{read_part, WritesPart}
 use Rattle.ct_told.proofs.Seen.{input_seen}
-use Rattle.ct_told.specs.declared.show_fault.ShowFault.TheVariants.{NoMember, Unread, Program}
+use Rattle.ct_told.specs.declared.show_fault.ShowFault.TheVariants.{NoMember, TooManySteps, Unread, Program}
 use Rattle.ct_world.specs.Setup.{record_of}
 use Rattle.ct_world.specs.declared.setup.Setup.{Setup}
 use Rattle.ct_play.specs.Played.{Played}
@@ -44,6 +44,7 @@ fault_in test goal (Stranger member members) bytes w e known h = absurd h
 fault_in test goal NotShown bytes w e known h = ok_and (script bytes) w (λ v. KnowsMembers goal v × IsHidden test v) e (known, h)
 fault_in test goal Board bytes w e known h = tt
 fault_in test goal (Show (NoMember member members)) bytes w e known h = absurd h
+fault_in test goal (Show (TooManySteps steps)) bytes w e known h = absurd h
 fault_in test goal (Show (Unread told)) bytes w e known h = absurd h
 fault_in test goal (Show (Program (of.Replay at refusal))) bytes w e known h = rw e h
 fault_in test goal (Show (Program (of.Read fault))) bytes w e known h = absurd h
@@ -82,6 +83,7 @@ fault_on test setup steps w (Stranger member members) e same h = absurd h
 fault_on test setup steps w NotShown e same h = (setup, e, subst (λ (l : List Step). IsNeverShown test setup l) same h)
 fault_on test setup steps w Board e same h = tt
 fault_on test setup steps w (Show (NoMember member members)) e same h = absurd h
+fault_on test setup steps w (Show (TooManySteps count)) e same h = absurd h
 fault_on test setup steps w (Show (Unread told)) e same h = absurd h
 fault_on test setup steps w (Show (Program (of.Replay at refusal))) e same h = absurd h
 fault_on test setup steps w (Show (Program (of.Read fault))) e same h = absurd h
@@ -121,6 +123,7 @@ fails test goal (Stranger member members) bytes h = h
 fails test goal NotShown bytes h = h
 fails test goal Board bytes h = h
 fails test goal (Show (NoMember member members)) bytes h = h
+fails test goal (Show (TooManySteps steps)) bytes h = h
 fails test goal (Show (Unread told)) bytes h = h
 fails test goal (Show (Program of.Reader)) bytes h = tt
 fails test goal (Show (Program of.Write)) bytes h = tt

@@ -1,20 +1,14 @@
 -- The words that `shrink` takes. `clap` gives what its commands make of words.
-use Rattle.std.specs.Prelude.{List, [], ◌∷◌, codes, fold, Option, Some, None, Result, Ok, if◌then◌else◌}
-use Rattle.std.specs.Str.{bytes_eq}
-use Rattle.clap.specs.Words.{App, Row, Rule, Text, first_of, new_app, new_rule, with_rule}
-use Rattle.clap.specs.declared.builder.action.ArgAction.TheVariants.{SetTrue}
-use Rattle.ct_streams.specs.Arguments.{file_rule, option_rule, required_rule}
-use Rattle.ct_streams.specs.Values.{◌>>=◌, option_in}
+use Rattle.std.specs.Prelude.{List, [], ◌∷◌, codes, fold, Result, Ok, if◌then◌else◌}
+use Rattle.clap.specs.Words.{App, Row, Rule, Text, new_app, with_rule}
+use Rattle.ct_streams.specs.Arguments.{file_rule, flag_rule, option_rule, required_rule}
+use Rattle.ct_streams.specs.Values.{◌>>=◌, is_set, option_in}
 use Rattle.ct_shrink.specs.declared.form.Form.{Form}
 use Rattle.ct_shrink.specs.declared.form.Form.TheVariants.{Schedule, Record}
 use Rattle.ct_shrink.specs.declared.options.ShrinkOptions.{ShrinkOptions}
 use Rattle.ct_shrink.specs.declared.words.TheConstants.{MOST_TRIES}
 
 -- ---- what clap reads
-
--- an option with no value
-abbrev pub flag_rule : Text → Rule
-flag_rule name = record (new_rule name) { long = Some name; action = Some SetTrue }
 
 abbrev pub goal_rule : Rule
 goal_rule = record (required_rule (codes "goal")) { value_names = 1 }
@@ -30,14 +24,9 @@ shrink_app =
 
 -- ---- what the options ask for
 
--- the form that the text of an option with no value asks for
-abbrev pub form_of : Option Text → Form
-form_of None = Schedule
-form_of (Some text) = if bytes_eq text (codes "true") then Record else Schedule
-
 -- the form that the options ask for
 abbrev pub form_in : List Row → Form
-form_in rows = form_of (first_of (codes "record") rows)
+form_in rows = if is_set rows (codes "record") then Record else Schedule
 
 -- the trials and the form; else the line of the fault
 unfoldable pub options_of : List Row → Result ShrinkOptions Text

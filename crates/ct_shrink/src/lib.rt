@@ -35,5 +35,5 @@ pub use shrink_fault::ShrinkFault;
 pub use shrunk::Shrunk;
 pub use smaller_run::SmallerRun;
 pub use summary::Summary;
-pub use words::{MOST_TRIES, USUAL_TRIES, shrink_command, shrink_options};
+pub use words::{MOST_TRIES, shrink_command, shrink_options};
 pub use writing::script_of;

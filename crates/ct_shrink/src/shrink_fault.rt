@@ -6,8 +6,8 @@ ghost use Rattle.ct_shrink.specs.Faults.{fault_text, status_of};
 use ct_names::Member;
 use ct_play::LineFault;
 use ct_records::ProgramFault;
-use ct_streams::{InputFault, Status};
 use ct_told::ShowFault;
+use ct_streams::{Fault, InputFault, Status};
 use std::fmt;
 
 /// Why no smaller run is made, or written. Its text is the line for standard error.
@@ -28,12 +28,11 @@ pub enum ShrinkFault {
     Show(ShowFault),
 }
 
-impl ShrinkFault {
-    /// The status that a program ends with: 3 for a member that isn't there, 1 where the goal is not shown, 5 for the board, else that of
-    /// what is shown of a record.
-    pub fn status(&self) -> u8
-        ensures { result ≡ status_of self.now }
-    {
+impl Fault for ShrinkFault {
+    ghost ends_with = { λ fault. status_of fault };
+
+    // 3 for a member that isn't there, 1 where the goal is not shown, 5 for the board, else that of what is shown of a record.
+    fn status(&self) -> u8 {
         match self {
             ShrinkFault::NoMember { .. } => Status::Words.code(),
             ShrinkFault::NotShown => Status::Refused.code(),

@@ -1,22 +1,22 @@
 //! The words after `shrink` on a command line.
 
-ghost use Rattle.std.specs.Prelude.{◌≡◌, false, IfOk, option_map};
+ghost use Rattle.std.specs.Prelude.{◌≡◌, false, IfOk};
 ghost use Rattle.clap.specs.Words.{app_of, found_of, rows_of, rule_of};
-ghost use Rattle.ct_shrink.specs.Line.{flag_rule, form_in, form_of, goal_rule, options_of, shrink_app, tries_rule};
+ghost use Rattle.ct_shrink.specs.Line.{form_in, goal_rule, options_of, shrink_app, tries_rule};
 
 use crate::form::Form;
 use crate::options::ShrinkOptions;
-use clap::{Arg, ArgAction, ArgMatches, Command};
+use clap::{Arg, ArgMatches, Command};
 use ct_streams::{
-    WordFault, default_option, file_argument, option_in, required_option, subcommand,
+    WordFault, default_option, file_argument, flag, is_set, option_in, required_option, subcommand,
 };
 use std::alloc::{AllocError, Global};
 
 /// How many trials may be made at most.
 pub const MOST_TRIES: u32 = 1_000_000;
 
-/// How many trials are made at most where nothing else is said.
-pub const USUAL_TRIES: &str = "10000";
+// How many trials are made at most where nothing else is said.
+const USUAL_TRIES: &str = "10000";
 
 // What stands after the options.
 const AFTER: &str =
@@ -58,16 +58,10 @@ pub fn shrink_options<'a>(found: &'a ArgMatches<'_>) -> Result<ShrinkOptions, Wo
 fn form_in(found: &ArgMatches<'_>) -> Form
     ensures { result ≡ form_in (rows_of (found_of found.now)) }
 {
-    form_of(found.get_str("record"))
-}
-
-// The form that the text of an option with no value asks for.
-fn form_of(text: Option<&str>) -> Form
-    ensures { result ≡ form_of (option_map (λ t. t.now) text.entry) }
-{
-    match text {
-        Some(text) if text == "true" => Form::Record,
-        _ => Form::Schedule,
+    if is_set(found, "record") {
+        Form::Record
+    } else {
+        Form::Schedule
     }
 }
 
@@ -118,13 +112,4 @@ fn tries<'a>(alloc: Global) -> Arg<'a>
         "How many trials are made at most,\n1 to 1000000",
     )
     .value_name("N")
-}
-
-// An option with no value.
-fn flag<'a>(alloc: Global, name: &'a str, help: &'a str) -> Arg<'a>
-    ensures rule { rule_of result ≡ flag_rule name.entry.now }
-    ensures local { result.global ≡ false }
-{
-    let option = Arg::new(alloc, name).long(name).help(help);
-    option.action(ArgAction::SetTrue)
 }

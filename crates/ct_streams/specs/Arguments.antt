@@ -3,13 +3,27 @@ use Rattle.std.specs.Prelude.{◌&&◌, ℕ, true, List, [], ◌∷◌, codes, O
 use Rattle.std.specs.Str.Parse.{digits_value, without_leading_plus}
 use Rattle.clap.specs.Words.{Rule, Text, new_rule}
 use Rattle.clap.specs.ValueTests.{is_numeral}
-use Rattle.clap.specs.declared.builder.action.ArgAction.TheVariants.{Set}
+use Rattle.clap.specs.declared.builder.action.ArgAction.TheVariants.{Append, Set, SetTrue}
+use Rattle.clap.specs.Lexer.{usize_max}
 
 -- ---- what clap reads
 
 -- the argument `file`, which is `-` where none is given
 abbrev pub file_rule : Rule
 file_rule = record (new_rule (codes "file")) { action = Some Set; value_names = 1; defaults = codes "-" ∷ [] }
+
+-- the argument `files`: one file or several
+abbrev pub files_rule : Rule
+files_rule = record (new_rule (codes "files")) {
+  value_names = 1;
+  action = Some Append;
+  required = true;
+  range = Some (record { start_inclusive = 1; end_inclusive = usize_max });
+}
+
+-- an option with no value
+abbrev pub flag_rule : Text → Rule
+flag_rule name = record (new_rule name) { long = Some name; action = Some SetTrue }
 
 -- an option with one value, which need not be given
 abbrev pub value_rule : Text → Rule

@@ -1,5 +1,5 @@
 -- The statuses that programs end with. Each fault's is one of these.
-use Rattle.std.specs.Prelude.{ℕ}
+use Rattle.std.specs.Prelude.{ℕ, Bool, Option, Some, None, Result, Ok, Err, if◌then◌else◌}
 use Rattle.ct_streams.specs.declared.status.Status.{Status}
 use Rattle.ct_streams.specs.declared.status.Status.TheVariants.{Done, Refused, NoRecord, Words, Stream, Memory}
 
@@ -10,3 +10,8 @@ code NoRecord = 2
 code Words = 3
 code Stream = 4
 code Memory = 5
+
+-- how a program ends after this: no fault counts where nobody reads any more what it writes
+abbrev pub unless_broken : {A E : Type 0} → Result A E → Bool → Result (Option A) E
+unless_broken (Ok done) broken = Ok (Some done)
+unless_broken (Err fault) broken = if broken then Ok None else Err fault

@@ -1,5 +1,6 @@
 -- The values of options: what is given for each, or the line of the fault. `clap` gives what its commands make of words.
-use Rattle.std.specs.Prelude.{◌&&◌, ℕ, List, [], ◌∷◌, Option, Some, None, nat_le, Result, Ok, Err, if◌then◌else◌}
+use Rattle.std.specs.Prelude.{◌&&◌, ℕ, Bool, false, List, [], ◌∷◌, codes, Option, Some, None, nat_le, Result, Ok, Err, if◌then◌else◌}
+use Rattle.std.specs.Str.{bytes_eq}
 use Rattle.clap.specs.Words.{Row, Text, first_of}
 use Rattle.ct_streams.specs.Arguments.{whole_in}
 use Rattle.ct_streams.specs.WordFaults.{fault_line, number_text, range_text}
@@ -27,3 +28,12 @@ given_number option low high None = Err (fault_line option [] (number_text low h
 -- the value of the option, a whole number from low to high
 abbrev pub option_in : List Row → Text → ℕ → ℕ → Result ℕ Text
 option_in rows name low high = given_number name low high (first_of name rows)
+
+-- the text of an option with no value says that it is given
+abbrev pub is_true : Option Text → Bool
+is_true None = false
+is_true (Some text) = bytes_eq text (codes "true")
+
+-- the option with no value is given
+abbrev pub is_set : List Row → Text → Bool
+is_set rows name = is_true (first_of name rows)

@@ -1,9 +1,9 @@
 //! The arguments of command lines.
 
-ghost use Rattle.std.specs.Prelude.{◌≡◌, ◌≤◌, false, IfOk, IfSome};
+ghost use Rattle.std.specs.Prelude.{◌≡◌, ◌≤◌, false, IfOk, IfSome, option_map};
 ghost use Rattle.clap.specs.Words.{app_of, found_of, new_app, rows_of, rule_of};
-ghost use Rattle.ct_streams.specs.Arguments.{file_rule, option_rule, required_rule, value_rule, whole_in};
-ghost use Rattle.ct_streams.specs.Values.{number_for, option_in};
+ghost use Rattle.ct_streams.specs.Arguments.{file_rule, files_rule, flag_rule, option_rule, required_rule, value_rule, whole_in};
+ghost use Rattle.ct_streams.specs.Values.{is_set, is_true, number_for, option_in};
 
 use crate::given::Given;
 use crate::wanted::Wanted;
@@ -30,6 +30,28 @@ pub fn file_argument<'a>(alloc: Global, help: &'a str) -> Arg<'a>
         .help(help)
 }
 
+/// The argument `files` of a subcommand: one file or several, of this kind.
+pub fn files_argument<'a>(alloc: Global, kind: &'a str, help: &'a str) -> Arg<'a>
+    ensures rule { rule_of result ≡ files_rule }
+    ensures local { result.global ≡ false }
+{
+    Arg::new(alloc, "files")
+        .value_name(kind)
+        .action(ArgAction::Append)
+        .required(true)
+        .num_args(1..)
+        .help(help)
+}
+
+/// An option with no value.
+pub fn flag<'a>(alloc: Global, name: &'a str, help: &'a str) -> Arg<'a>
+    ensures rule { rule_of result ≡ flag_rule name.entry.now }
+    ensures local { result.global ≡ false }
+{
+    let option = Arg::new(alloc, name).long(name).help(help);
+    option.action(ArgAction::SetTrue)
+}
+
 /// An option with a value, which need not be given.
 pub fn value_option<'a>(alloc: Global, name: &'a str, help: &'a str) -> Arg<'a>
     ensures rule { rule_of result ≡ value_rule name.entry.now }
@@ -53,6 +75,23 @@ pub fn required_option<'a>(alloc: Global, name: &'a str, help: &'a str) -> Arg<'
     ensures local { result.global ≡ false }
 {
     value_option(alloc, name, help).required(true)
+}
+
+/// Whether the option with no value is given.
+pub fn is_set(found: &ArgMatches<'_>, name: &str) -> bool
+    ensures { result ≡ is_set (rows_of (found_of found.now)) name.now }
+{
+    is_true(found.get_str(name))
+}
+
+// Whether the text of an option with no value says that it is given.
+fn is_true(text: Option<&str>) -> bool
+    ensures { result ≡ is_true (option_map (λ t. t.now) text.entry) }
+{
+    match text {
+        Some(text) => text == "true",
+        None => false,
+    }
 }
 
 /// The option's value, a whole number from `low` to `high`.

@@ -15,7 +15,7 @@ pub struct Counted<T> {
 }
 
 impl<T> Counted<T> {
-    ghost use Rattle.std.specs.Prelude.{◌≡◌, false};
+    ghost use Rattle.std.specs.Prelude.{◌≡◌, false, nat_lt};
     ghost use Rattle.ct_streams.specs.Counted.{stream_of, failures_of, broken_of};
 
     /// The stream, which has not failed yet.
@@ -29,6 +29,13 @@ impl<T> Counted<T> {
             failures: 0,
             broken: false,
         }
+    }
+
+    /// Whether it failed.
+    pub fn has_failed(&self) -> bool
+        ensures { result ≡ nat_lt 0 (failures_of self.now) }
+    {
+        self.failures > 0
     }
 
     /// Whether the last failure was a write into a pipe that nobody reads.

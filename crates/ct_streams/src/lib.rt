@@ -5,6 +5,7 @@
 mod arguments;
 mod counted;
 mod failed;
+mod fault;
 mod file_fault;
 mod files;
 mod given;
@@ -20,11 +21,12 @@ mod word_fault;
 mod writing;
 
 pub use arguments::{
-    default_option, file_argument, number_for, number_in, option_in, required_option, subcommand,
-    value_option,
+    default_option, file_argument, files_argument, flag, is_set, number_for, number_in, option_in,
+    required_option, subcommand, value_option,
 };
 pub use counted::Counted;
 pub use failed::Failed;
+pub use fault::{Fault, unless_broken};
 pub use file_fault::FileFault;
 pub use files::Files;
 pub use given::Given;

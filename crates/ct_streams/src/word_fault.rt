@@ -1,6 +1,8 @@
 //! Options whose values are refused.
 
+use crate::fault::Fault;
 use crate::given::Given;
+use crate::status::Status;
 use crate::wanted::Wanted;
 use std::fmt;
 use std::marker::Model;
@@ -37,6 +39,17 @@ impl<'a> WordFault<'a> {
             given,
             wanted,
         }
+    }
+}
+
+impl Fault for WordFault<'_> {
+    ghost use Rattle.ct_streams.specs.Statuses.{code};
+    ghost use Rattle.ct_streams.specs.declared.status.Status.TheVariants.{Words};
+
+    ghost ends_with = { λ _. code Words };
+
+    fn status(&self) -> u8 {
+        Status::Words.code()
     }
 }
 

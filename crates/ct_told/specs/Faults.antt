@@ -11,16 +11,18 @@ use Rattle.ct_streams.specs.declared.status.Status.TheVariants as status
 use Rattle.ct_streams.specs.Statuses.{code}
 use Rattle.ct_records.specs.ProgramFault as program
 use Rattle.ct_told.specs.declared.show_fault.ShowFault.{ShowFault}
-use Rattle.ct_told.specs.declared.show_fault.ShowFault.TheVariants.{NoMember, Unread, Program}
+use Rattle.ct_told.specs.declared.show_fault.ShowFault.TheVariants.{NoMember, TooManySteps, Unread, Program}
 
 abbrev pub status_of : ShowFault → ℕ
 status_of (NoMember member members) = code status.Words
+status_of (TooManySteps steps) = code status.Words
 status_of (Unread told) = code status.NoRecord
 status_of (Program fault) = program.status_of fault
 
 -- what a fault of a replay is
 abbrev pub IsOfReplayFault : ReplayFault → ShowFault → Type 0
 IsOfReplayFault replay (NoMember member members) = ⊥
+IsOfReplayFault replay (TooManySteps steps) = ⊥
 IsOfReplayFault replay (Unread told) = ⊥
 IsOfReplayFault replay (Program fault) = program.IsOfReplayFault replay fault
 
@@ -47,5 +49,7 @@ program_text Exchanged = codes "world exchanged"
 abbrev pub fault_text : ShowFault → List ℕ
 fault_text (NoMember member members) =
     concat (codes "--member " ∷ decimal member ∷ codes ": the record has members 1 to " ∷ decimal members ∷ [])
+fault_text (TooManySteps steps) =
+    decimal steps ++ codes " steps are too many to draw: name at most 400 of them by --from and --to"
 fault_text (Unread told) = told
 fault_text (Program fault) = program_text fault

@@ -1,7 +1,6 @@
 //! What is told of an input that is no record, and of what fails when a record is shown.
 #![tactic(auto)]
 
-mod ending;
 mod fault_line;
 mod given_name;
 mod key;
@@ -12,7 +11,6 @@ mod place;
 mod reading;
 mod show_fault;
 
-pub use ending::shown_end;
 pub use fault_line::FaultLine;
 pub use no_record::NoRecord;
 pub use reading::read_told;

@@ -7,12 +7,12 @@ use crate::fault_line::FaultLine;
 use crate::no_record::NoRecord;
 use ct_names::Member;
 use ct_records::ProgramFault;
-use ct_streams::{InputFault, Status};
+use ct_streams::{Fault, InputFault, Status};
 use ct_world::ReplayFault;
 use std::alloc::AllocError;
 use std::fmt;
 
-/// Why a record is not shown, or not to its end. Its text is the line for standard error.
+/// Why a record is not shown or drawn, or not to its end. Its text is the line for standard error.
 #[derive(Debug, Drop)]
 pub enum ShowFault {
     /// The steps of a member are asked for that the record's group doesn't have.
@@ -22,19 +22,24 @@ pub enum ShowFault {
         /// The number of members.
         members: u8,
     },
+    /// This many steps of the record are to be drawn, more than a diagram has.
+    TooManySteps {
+        steps: usize,
+    },
     /// The input is no record.
     Unread(NoRecord),
     /// A step is refused, a stream failed, or memory was refused.
     Program(ProgramFault),
 }
 
-impl ShowFault {
-    /// The status that a program ends with: 3 for a member that isn't there, 2 for the input, else the program's.
-    pub fn status(&self) -> u8
-        ensures { result ≡ status_of self.now }
-    {
+impl Fault for ShowFault {
+    ghost ends_with = { λ fault. status_of fault };
+
+    // 3 for a member that isn't there or for too many steps, 2 for the input, else the program's.
+    fn status(&self) -> u8 {
         match self {
             ShowFault::NoMember { .. } => Status::Words.code(),
+            ShowFault::TooManySteps { .. } => Status::Words.code(),
             ShowFault::Unread(_) => Status::NoRecord.code(),
             ShowFault::Program(fault) => fault.status(),
         }
@@ -50,6 +55,12 @@ impl fmt::Display for ShowFault {
                 write!(
                     f,
                     "--member {member}: the record has members 1 to {members}"
+                )
+            }
+            ShowFault::TooManySteps { steps } => {
+                write!(
+                    f,
+                    "{steps} steps are too many to draw: name at most 400 of them by --from and --to"
                 )
             }
             ShowFault::Unread(told) => write!(f, "{told}"),

@@ -1,5 +1,6 @@
 use ct_diagram::*;
 use ct_names::MemberSet;
+use ct_told::ShowFault;
 use ct_streams::Counted;
 use std::alloc::Global;
 use std::test::Fail;
@@ -97,13 +98,13 @@ fn messages_alone_are_left_out(rt: HostRuntime) -> Result<(), Fail> {
 }
 
 // Whether this is the fault's line.
-fn is_line(alloc: Global, fault: DiagramFault, line: &str) -> Result<bool, Fail> {
+fn is_line(alloc: Global, fault: ShowFault, line: &str) -> Result<bool, Fail> {
     Ok(format!(in alloc; "{fault}")?.as_str() == line)
 }
 
 #[test]
 fn the_line_names_the_options(rt: HostRuntime) -> Result<(), Fail> {
-    let fault = DiagramFault::TooManySteps { steps: 401 };
+    let fault = ShowFault::TooManySteps { steps: 401 };
     let line = "401 steps are too many to draw: name at most 400 of them by --from and --to";
     assert!(rt; is_line(rt.alloc(), fault, line)?);
     Ok(())

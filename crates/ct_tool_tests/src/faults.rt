@@ -1,9 +1,8 @@
-use ct_diagram::DiagramFault;
 use ct_judge::*;
 use ct_names::{Limit, Refusal};
 use ct_records::{ProgramFault, ReadFault};
-use ct_streams::{FileFault, NamedFault};
 use ct_told::{ShowFault, read_told};
+use ct_streams::{Fault, FileFault, NamedFault};
 use ct_walk::{FoundSeed, Missed, Seeds, Sight, WalkFault};
 use std::alloc::{AllocError, Global};
 use std::fmt::Display;
@@ -112,14 +111,10 @@ fn walks_have_lines(alloc: Global) -> bool {
     true
 }
 
-// Whether these are the line and the status of the fault, where a diagram is drawn and where a record is shown.
+// Whether these are the line and the status of the fault, where a record is shown or drawn.
 fn is_told(alloc: Global, fault: ProgramFault, line: &str, status: u8) -> bool {
-    let drawn = DiagramFault::Program(fault);
     let shown = ShowFault::Program(fault);
-    is_line(alloc, &drawn, line)
-        && drawn.status() == status
-        && is_line(alloc, &shown, line)
-        && shown.status() == status
+    is_line(alloc, &shown, line) && shown.status() == status
 }
 
 // The faults of reading, replaying and writing.

@@ -147,8 +147,7 @@ impl NewFiles for OneFile {
 fn is_kept(alloc: Global, lines: &str, record: &str) -> Result<bool, KeepFault> {
     let mut reader = Counted::new(lines.as_bytes());
     let mut writer = Counted::new(Vec::new(alloc));
-    let ended = interact(alloc, &mut reader, &mut writer);
-    let Ok(Some(heard)) = session_end(ended, writer.is_broken()) else {
+    let Ok(heard) = interact(alloc, &mut reader, &mut writer) else {
         return Ok(false);
     };
     let mut files = OneFile {

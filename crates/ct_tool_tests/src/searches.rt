@@ -2,9 +2,10 @@ ghost use Rattle.std.specs.Prelude.{◌<◌, ◌≤◌, ◌^◌, IfOk};
 ghost use Rattle.ct_find.specs.Line.{IsFindInRange};
 
 use crate::walks::{goal, options};
+use ct_best::*;
 use ct_find::*;
 use ct_records::read_record;
-use ct_streams::{Counted, Sink};
+use ct_streams::{Counted, Fault, Sink};
 use ct_walk::{Seeds, WalkFault};
 use std::alloc::Global;
 use std::test::Fail;

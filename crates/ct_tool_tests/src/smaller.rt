@@ -5,7 +5,7 @@ use ct_model::Step;
 use ct_names::Command;
 use ct_records::{ProgramFault, read_record};
 use ct_shrink::*;
-use ct_streams::{Counted, Failed, Source};
+use ct_streams::{Counted, Failed, Fault, Source};
 use ct_told::ShowFault;
 use ct_world::{Setup, World};
 use std::alloc::Global;

@@ -12,7 +12,7 @@ use Rattle.ct_records.proofs.Answered.{script_read}
 use Rattle.ct_views.specs.declared.view.View.{View}
 use Rattle.ct_views.specs.Answer.{FailsOn, FailsWith, IsAnswer, IsAnswerOf, IsOfShowing, Lacks, Shows, ShowsPart}
 use Rattle.ct_told.specs.declared.show_fault.ShowFault.{ShowFault}
-use Rattle.ct_told.specs.declared.show_fault.ShowFault.TheVariants.{NoMember, Unread, Program}
+use Rattle.ct_told.specs.declared.show_fault.ShowFault.TheVariants.{NoMember, TooManySteps, Unread, Program}
 use Rattle.ct_told.specs.NoRecords.{IsToldOf}
 use Rattle.ct_told.proofs.Seen.{input_seen}
 
@@ -22,6 +22,7 @@ pub showing_seen : (left : Option (List ℕ)) (bytes : List ℕ) (view : View) (
 showing_seen None bytes view fault old new read h = tt
 showing_seen (Some input) bytes view (NoMember member members) old new read h =
     subst (λ r. IsOkAnd r (Lacks view member members)) (script_read bytes input read) h
+showing_seen (Some input) bytes view (TooManySteps steps) old new read h = absurd h
 showing_seen (Some input) bytes view (Unread told) old new read h = subst (IsToldOf told) read h
 showing_seen (Some input) bytes view (Program fault) old new read h =
     subst (λ f. FailsWith view f (script input) old new) (sym h) tt

@@ -13,7 +13,7 @@ use Rattle.ct_records.specs.View.{rehearsal_of}
 use Rattle.ct_records.proofs.Refused.{is_refused}
 use Rattle.ct_streams.specs.Streams.{read_part}
 use Rattle.ct_told.specs.declared.show_fault.ShowFault.{ShowFault}
-use Rattle.ct_told.specs.declared.show_fault.ShowFault.TheVariants.{NoMember, Unread, Program}
+use Rattle.ct_told.specs.declared.show_fault.ShowFault.TheVariants.{NoMember, TooManySteps, Unread, Program}
 use Rattle.ct_views.specs.Checking.{IsFaultOf}
 use Rattle.ct_told.specs.Faults.{IsOfReplayFault}
 use Rattle.ct_told.specs.NoRecords.{IsReadOf}
@@ -30,6 +30,7 @@ pub replay_refused : (bytes : List ℕ) (w : Rehearsal) (steps : List Step) (rep
     script bytes ≡ Ok w → steps ≡ w.steps → world.IsFaultOf w.setting w.cells steps replay.at replay.refusal →
     IsOfReplayFault replay fault → IsFaultOf fault bytes
 replay_refused bytes w steps replay (NoMember member members) e same h of = absurd of
+replay_refused bytes w steps replay (TooManySteps count) e same h of = absurd of
 replay_refused bytes w steps replay (Unread told) e same h of = absurd of
 replay_refused bytes w steps replay (Program fault) e same h (inl memory) = rw memory.1 tt
 replay_refused bytes w steps replay (Program fault) e same h (inr refused) =

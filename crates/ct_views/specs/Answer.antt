@@ -18,7 +18,7 @@ use Rattle.ct_views.specs.declared.form.Form.{Form}
 use Rattle.ct_views.specs.declared.form.Form.TheVariants.{Text, Json}
 use Rattle.ct_views.specs.declared.selection.Selection.{Selection}
 use Rattle.ct_told.specs.declared.show_fault.ShowFault.{ShowFault}
-use Rattle.ct_told.specs.declared.show_fault.ShowFault.TheVariants.{NoMember, Unread, Program}
+use Rattle.ct_told.specs.declared.show_fault.ShowFault.TheVariants.{NoMember, TooManySteps, Unread, Program}
 use Rattle.ct_views.specs.declared.view.View.{View}
 use Rattle.ct_views.specs.declared.view.View.TheVariants.{Nothing, Report, Steps, State}
 use Rattle.ct_show.specs.Facts.{refused_text}
@@ -117,12 +117,14 @@ Lacks view member members w = (lacking view w ≡ Some member) × (members ≡ w
 -- the input is no record, or its group lacks the member that is asked for; else the fault is of its steps, of a stream or of memory
 abbrev pub FailsOn : View → ShowFault → List ℕ → Option (List ℕ) → Option (List ℕ) → Type 0
 FailsOn view (NoMember member members) input old new = IsOkAnd (script input) (Lacks view member members)
+FailsOn view (TooManySteps steps) input old new = ⊥
 FailsOn view (Unread told) input old new = IsToldOf told (read_part input)
 FailsOn view (Program fault) input old new = FailsWith view fault (script input) old new
 
 -- the same of the bytes that were read, before anything is written
 abbrev pub IsOfShowing : View → ShowFault → List ℕ → Type 0
 IsOfShowing view (NoMember member members) bytes = IsOkAnd (script bytes) (Lacks view member members)
+IsOfShowing view (TooManySteps steps) bytes = ⊥
 IsOfShowing view (Unread told) bytes = IsToldOf told bytes
 IsOfShowing view (Program fault) bytes = fault ≡ Memory
 
@@ -139,6 +141,7 @@ IsOfReading _ read = ⊥
 -- a fault that comes before anything is written
 abbrev pub IsQuiet : ShowFault → Type 0
 IsQuiet (NoMember member members) = ⊤
+IsQuiet (TooManySteps steps) = ⊤
 IsQuiet (Unread told) = ⊤
 IsQuiet (Program (Replay at refusal)) = ⊥
 IsQuiet (Program Write) = ⊥

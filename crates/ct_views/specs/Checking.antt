@@ -16,7 +16,7 @@ use Rattle.ct_records.specs.Script.{script}
 use Rattle.ct_told.specs.Faults as showing
 use Rattle.ct_told.specs.NoRecords.{IsToldOf}
 use Rattle.ct_told.specs.declared.show_fault.ShowFault.{ShowFault}
-use Rattle.ct_told.specs.declared.show_fault.ShowFault.TheVariants.{NoMember, Unread, Program}
+use Rattle.ct_told.specs.declared.show_fault.ShowFault.TheVariants.{NoMember, TooManySteps, Unread, Program}
 use Rattle.ct_views.specs.declared.check_options.CheckOptions.{CheckOptions}
 use Rattle.ct_views.specs.declared.checked.Checked.{Checked}
 use Rattle.ct_views.specs.declared.checked.Checked.TheVariants.{Good, OtherReport, NoReport, NoFile, Fault}
@@ -52,6 +52,7 @@ Meets true known w = HasReport known w
 -- nothing is said
 abbrev pub IsFaultOf : ShowFault → List ℕ → Type 0
 IsFaultOf (NoMember member members) bytes = ⊥
+IsFaultOf (TooManySteps steps) bytes = ⊥
 IsFaultOf (Unread told) bytes = IsToldOf told bytes
 IsFaultOf (Program (Read fault)) bytes = ⊥
 IsFaultOf (Program Write) bytes = ⊥

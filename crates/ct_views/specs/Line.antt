@@ -1,31 +1,15 @@
 -- What a command line asks to be shown. `clap` gives what its commands make of words.
-use Rattle.std.specs.Prelude.{ℕ, true, List, [], ◌∷◌, fold, codes, Option, Some, None, Result, Ok, if◌then◌else◌}
-use Rattle.std.specs.Str.{bytes_eq}
-use Rattle.clap.specs.Lexer.{usize_max}
-use Rattle.clap.specs.Words.{App, Row, Rule, Text, first_of, new_app, new_rule, with_rule}
-use Rattle.clap.specs.declared.builder.action.ArgAction.TheVariants.{Append, SetTrue}
+use Rattle.std.specs.Prelude.{ℕ, List, [], ◌∷◌, fold, codes, Option, Some, None, Result, Ok, if◌then◌else◌}
+use Rattle.clap.specs.Words.{App, Row, Text, first_of, new_app, with_rule}
 use Rattle.ct_names.specs.declared.limit.TheConstants.{MAX_MEMBERS}
-use Rattle.ct_streams.specs.Arguments.{file_rule, option_rule, value_rule}
-use Rattle.ct_streams.specs.Values.{◌>>=◌, number_for, option_in}
+use Rattle.ct_streams.specs.Arguments.{file_rule, files_rule, flag_rule, option_rule, value_rule}
+use Rattle.ct_streams.specs.Values.{◌>>=◌, is_set, number_for, option_in}
 use Rattle.ct_views.specs.declared.form.Form.{Form}
 use Rattle.ct_views.specs.declared.form.Form.TheVariants as form
 use Rattle.ct_views.specs.declared.view.View.{View}
 use Rattle.ct_views.specs.declared.view.View.TheVariants.{Steps, State}
 
 -- ---- what clap reads
-
--- an option with no value
-abbrev pub flag_rule : Text → Rule
-flag_rule name = record (new_rule name) { long = Some name; action = Some SetTrue }
-
--- one file or several
-abbrev pub files_rule : Rule
-files_rule = record (new_rule (codes "files")) {
-  value_names = 1;
-  action = Some Append;
-  required = true;
-  range = Some (record { start_inclusive = 1; end_inclusive = usize_max });
-}
 
 -- the subcommand `check`
 abbrev pub check_app : App
@@ -61,14 +45,9 @@ member_of (Some text) = do
 abbrev pub member_in : List Row → Result (Option ℕ) Text
 member_in rows = member_of (first_of (codes "member") rows)
 
--- the form that the text of an option with no value asks for
-abbrev pub form_of : Option Text → Form
-form_of None = form.Text
-form_of (Some text) = if bytes_eq text (codes "true") then form.Json else form.Text
-
 -- JSON where the option is given
 abbrev pub form_in : List Row → Form
-form_in rows = form_of (first_of (codes "json") rows)
+form_in rows = if is_set rows (codes "json") then form.Json else form.Text
 
 -- the steps that the options of `steps` ask for
 unfoldable pub steps_of : List Row → Result View Text

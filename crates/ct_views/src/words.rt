@@ -1,17 +1,18 @@
 //! The words after `check`, `report`, `state` and `steps` on a command line.
 
-ghost use Rattle.std.specs.Prelude.{◌≡◌, false, IfOk, option_map};
-ghost use Rattle.clap.specs.Words.{app_of, found_of, rows_of, rule_of};
-ghost use Rattle.ct_views.specs.Line.{form_in, form_of, member_in, member_of, state_of, steps_of};
-ghost use Rattle.ct_views.specs.Line.{check_app, files_rule, flag_rule, report_app, state_app, steps_app};
+ghost use Rattle.std.specs.Prelude.{◌≡◌, IfOk, option_map};
+ghost use Rattle.clap.specs.Words.{app_of, found_of, rows_of};
+ghost use Rattle.ct_views.specs.Line.{form_in, member_in, member_of, state_of, steps_of};
+ghost use Rattle.ct_views.specs.Line.{check_app, report_app, state_app, steps_app};
 
 use crate::form::Form;
 use crate::selection::Selection;
 use crate::view::View;
-use clap::{Arg, ArgAction, ArgMatches, Command};
+use clap::{ArgMatches, Command};
 use ct_names::{MAX_MEMBERS, Member};
 use ct_streams::{
-    WordFault, default_option, file_argument, number_for, option_in, subcommand, value_option,
+    WordFault, default_option, file_argument, files_argument, flag, is_set, number_for, option_in,
+    subcommand, value_option,
 };
 use std::alloc::{AllocError, Global};
 
@@ -93,16 +94,10 @@ pub fn steps_view<'a>(found: &'a ArgMatches<'_>) -> Result<View, WordFault<'a>>
 fn form_in(found: &ArgMatches<'_>) -> Form
     ensures { result ≡ form_in (rows_of (found_of found.now)) }
 {
-    form_of(found.get_str("json"))
-}
-
-// The form that the text of an option with no value asks for.
-fn form_of(text: Option<&str>) -> Form
-    ensures { result ≡ form_of (option_map (λ t. t.now) text.entry) }
-{
-    match text {
-        Some(text) if text == "true" => Form::Json,
-        _ => Form::Text,
+    if is_set(found, "json") {
+        Form::Json
+    } else {
+        Form::Text
     }
 }
 
@@ -142,35 +137,17 @@ pub fn check_command<'a>(alloc: Global) -> Result<Command<'a>, AllocError>
         "Replays records, and writes a line for each that is refused: the\nfile and the fault",
         AFTER_CHECK,
     )
-    .arg(files(alloc))?
+    .arg(files_argument(
+        alloc,
+        "FILE",
+        "The files that the records stand in; - for standard input",
+    ))?
     .arg(flag(
         alloc,
         "expect-reports",
         "Compares each report with the one beside the record:\nNAME.report beside NAME.json",
     ))?
     .arg(flag(alloc, "quiet", "Writes no line"))
-}
-
-// One file or several.
-fn files<'a>(alloc: Global) -> Arg<'a>
-    ensures rule { rule_of result ≡ files_rule }
-    ensures local { result.global ≡ false }
-{
-    Arg::new(alloc, "files")
-        .value_name("FILE")
-        .action(ArgAction::Append)
-        .required(true)
-        .num_args(1..)
-        .help("The files that the records stand in; - for standard input")
-}
-
-// An option with no value.
-fn flag<'a>(alloc: Global, name: &'a str, help: &'a str) -> Arg<'a>
-    ensures rule { rule_of result ≡ flag_rule name.entry.now }
-    ensures local { result.global ≡ false }
-{
-    let option = Arg::new(alloc, name).long(name).help(help);
-    option.action(ArgAction::SetTrue)
 }
 
 /// The subcommand `report`.

@@ -3,7 +3,7 @@
 ghost use Rattle.std.specs.Prelude.{◌≡◌, Some};
 ghost use Rattle.ct_walk.specs.Line.{call_fault_text, call_status_of};
 
-use ct_streams::{Status, WordFault};
+use ct_streams::{Fault, Status, WordFault};
 use std::alloc::AllocError;
 use std::fmt;
 
@@ -18,11 +18,11 @@ pub enum CallFault<'a> {
     NoGoal(String),
 }
 
-impl<'a> CallFault<'a> {
-    /// The status that a program ends with: 3 for the words, 5 for memory.
-    pub fn status(&self) -> u8
-        ensures { result ≡ call_status_of self.now }
-    {
+impl Fault for CallFault<'_> {
+    ghost ends_with = { λ fault. call_status_of fault };
+
+    // 3 for the words, 5 for memory.
+    fn status(&self) -> u8 {
         match self {
             CallFault::Memory => Status::Memory.code(),
             CallFault::Word(_) | CallFault::NoGoal(_) => Status::Words.code(),

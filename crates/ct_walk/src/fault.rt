@@ -5,7 +5,7 @@ ghost use Rattle.ct_walk.specs.Faults.{fault_text, status_of, IsShort};
 
 use crate::missed::Missed;
 use ct_play::LineFault;
-use ct_streams::Status;
+use ct_streams::{Fault, Status};
 use std::alloc::AllocError;
 use std::fmt;
 
@@ -32,11 +32,13 @@ impl WalkFault {
             _ => WalkFault::Memory,
         }
     }
+}
 
-    /// The status that a program ends with: 1 where nothing is found, 4 for a stream, 5 for memory and the board.
-    pub fn status(&self) -> u8
-        ensures { result ≡ status_of self.now }
-    {
+impl Fault for WalkFault {
+    ghost ends_with = { λ fault. status_of fault };
+
+    // 1 where nothing is found, 4 for a stream, 5 for memory and the board.
+    fn status(&self) -> u8 {
         match self {
             WalkFault::NotFound(_) => Status::Refused.code(),
             WalkFault::Write => Status::Stream.code(),

@@ -14,9 +14,9 @@ use ct_names::Member;
 use ct_streams::number_in;
 use std::alloc::{AllocError, Global};
 
-/// The goal of a group of n members that is given for the option, in one word or several, where it is given. `decided N` and
-/// `round N` are short for `any decided N` and `any round >= N`.
-pub fn goal_in<'a>(
+// The goal of a group of n members that is given for the option, in one word or several, where it is given. `decided N` and
+// `round N` are short for `any decided N` and `any round >= N`.
+pub(crate) fn goal_in<'a>(
     alloc: Global,
     found: &'a ArgMatches<'_>,
     n: u8,

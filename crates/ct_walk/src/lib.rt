@@ -33,7 +33,7 @@ pub use fault::WalkFault;
 pub use finding::find;
 pub use found_seed::FoundSeed;
 pub use found_walk::FoundWalk;
-pub use goals::{given_goal, goal_in, group_goal, joined};
+pub use goals::{given_goal, group_goal, joined};
 pub use missed::Missed;
 pub use options::WalkOptions;
 pub use sight::Sight;
@@ -41,7 +41,5 @@ pub use sizing::size_if_shown;
 pub use strangers::stranger;
 pub use walk_size::WalkSize;
 pub use walking::walk;
-pub use words::{
-    search_options, seeds_in, walk_call, walk_command, walk_options, with_search_options,
-};
+pub use words::{search_options, seeds_in, walk_call, walk_command, with_search_options};
 pub use writing::write_call;

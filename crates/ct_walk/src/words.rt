@@ -66,8 +66,8 @@ pub fn walk_call<'a>(alloc: Global, found: &'a ArgMatches<'_>) -> Result<Call, C
     }
 }
 
-/// The options of a walk.
-pub fn walk_options<'a>(found: &'a ArgMatches<'_>) -> Result<WalkOptions, WordFault<'a>>
+// The options of a walk.
+fn walk_options<'a>(found: &'a ArgMatches<'_>) -> Result<WalkOptions, WordFault<'a>>
     ensures exact { result ≡ walk_options (rows_of (found_of found.now)) }
     ensures range { IfOk result IsInRange }
 {

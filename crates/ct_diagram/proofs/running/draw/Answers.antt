@@ -1,7 +1,7 @@
 use Rattle.std.proofs.Common.{◌≡◌, List, ℕ, Option, None, Result, Ok, Err, refl}
 use Rattle.std.specs.Prelude.{IfErr, IfSome, IsErrAnd, IsOkAnd}
 use Rattle.ct_streams.specs.Streams.{read_part}
-use Rattle.ct_diagram.specs.declared.fault.DiagramFault.{DiagramFault}
+use Rattle.ct_told.specs.declared.show_fault.ShowFault.{ShowFault}
 use Rattle.ct_diagram.specs.declared.window.Window.{Window}
 use Rattle.ct_told.proofs.Seen.{input_seen}
 use Rattle.ct_diagram.specs.Running.{FailsOn}
@@ -10,7 +10,7 @@ use Rattle.ct_diagram.proofs.Seen.{draws_seen, fault_seen, part_seen}
 use Rattle.ct_diagram.proofs.running.draw.Goals as goal
 
 -- the fault that is handed on
-handed : {T : Type 0} (r : Result T DiagramFault) (fault : DiagramFault) (left : Option (List ℕ)) (window : Window) →
+handed : {T : Type 0} (r : Result T ShowFault) (fault : ShowFault) (left : Option (List ℕ)) (window : Window) →
     IsErrAnd r (λ e. e ≡ fault) → IfSome left (λ input. FailsOn window fault (read_part input)) →
     IfErr r (λ e. IfSome left (λ input. FailsOn window e (read_part input)))
 handed (Ok x) fault left window same h = tt

@@ -1,0 +1,3 @@
+pub mod Best
+pub mod Faults
+pub mod Line

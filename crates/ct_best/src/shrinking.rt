@@ -1,0 +1,76 @@
+//! Walks that show what is looked for, made smaller.
+
+ghost use Rattle.std.specs.Prelude.{◌≡◌, ◌≢◌, IfOk, IfErr, Some, option_map};
+ghost use Rattle.ct_records.specs.View.{rehearsal_of};
+ghost use Rattle.ct_walk.specs.declared.fault.WalkFault.TheVariants as walk;
+ghost use Rattle.ct_walk.specs.Faults.{IsShort};
+ghost use Rattle.ct_walk.specs.Options.{IsInRange, with_seed};
+ghost use Rattle.ct_walk.specs.Walking.{walked};
+ghost use Rattle.ct_best.specs.Best.{run_of, FailsOn, FailsOnOne, IsBest, IsLeftOf};
+
+use crate::fault::BestFault;
+use crate::left::{Left, smaller_of};
+use ct_find::Hit;
+use ct_grammar::Goal;
+use ct_records::Script;
+use ct_shrink::{Progress, ShrinkOptions};
+use ct_walk::{WalkFault, WalkOptions};
+use std::alloc::Global;
+
+// The smallest of the runs that are left of the walks of these seeds; None where there are none. Somebody is told after each trial.
+pub(crate) fn best_of<P: Progress>(
+    alloc: Global,
+    options: &WalkOptions,
+    goal: &Goal,
+    hits: &[Hit],
+    shrink: &ShrinkOptions,
+    progress: &mut P,
+) -> Result<Option<Left>, BestFault>
+    requires { IsInRange options.now }
+    ensures ok { IfOk result (λ best. IsBest options.now goal.now shrink.now hits.now (option_map run_of best)) }
+    ensures err { IfErr result (FailsOnOne options.now goal.now hits.now) }
+    ensures unwritten { IfErr result (λ fault. fault ≢ BestFault.Walk walk.Write) }
+{
+    let mut best = None;
+    for hit in hits {
+        let left = left_of(alloc, options, goal, *hit, shrink, progress)?;
+        best = Some(smaller_of(best, left));
+    }
+    Ok(best)
+}
+
+// What is left of the walk of this seed.
+fn left_of<P: Progress>(
+    alloc: Global,
+    options: &WalkOptions,
+    goal: &Goal,
+    hit: Hit,
+    shrink: &ShrinkOptions,
+    progress: &mut P,
+) -> Result<Left, BestFault>
+    requires { IsInRange options.now }
+    ensures ok { IfOk result (λ left. IsLeftOf options.now goal.now shrink.now hit (run_of left)) }
+    ensures err { IfErr result (FailsOn options.now goal.now hit) }
+    ensures unwritten { IfErr result (λ fault. fault ≢ BestFault.Walk walk.Write) }
+{
+    let script = walked(alloc, options, goal, hit.seed)?;
+    let smaller = ct_shrink::smaller_of(alloc, &script, goal, shrink, progress)?;
+    Ok(Left {
+        seed: hit.seed,
+        smaller,
+    })
+}
+
+// The record of the walk of this seed, in place of the options' one, made until it shows the goal.
+fn walked(alloc: Global, options: &WalkOptions, goal: &Goal, seed: u32) -> Result<Script, WalkFault>
+    requires { IsInRange options.now }
+    ensures ok { IfOk result (λ script. rehearsal_of script ≡ walked (with_seed options.now seed) (Some goal.now)) }
+    ensures err { IfErr result IsShort }
+{
+    let mut options = *options;
+    options.run.seed = seed;
+    let world = ct_walk::walk(alloc, &options, Some(goal))?;
+    let script = ct_shrink::script_of(alloc, &world);
+    drop(world);
+    Ok(script?)
+}

@@ -1,0 +1,93 @@
+//! The commands that answer lines and merge logs.
+
+use crate::clockwork::Clockwork;
+use crate::ending::{close, done, refuse, written};
+use crate::host::{Host, can_write};
+use clap::ArgMatches;
+use ct_judge::{Heard, KeepFault, LineRefused, interact, keep};
+use ct_logs::{MergeFault, Told, follow_logs, merge_form, merge_idle, merge_logs, presume_logs};
+use ct_streams::{Counted, FileFault, NamedFault, unless_broken};
+use std::io;
+use std::process::ExitCode;
+
+// Answers the lines on standard input, and keeps the record in the end, where a file is named for it. One that can't be written
+// is told of before the first answer.
+pub(crate) fn hold_session(rt: &HostRuntime, found: &ArgMatches<'_>) -> Result<(), ExitCode> {
+    let file = found.get_str("record");
+    if let Some(name) = file
+        && !can_write(rt, name)
+    {
+        return Err(refuse_to_write(rt, name));
+    }
+    let mut reader = Counted::new(rt.reader());
+    let mut writer = Counted::new(io::writer(rt));
+    let ended = interact(rt.alloc(), &mut reader, &mut writer);
+    match written(rt, ended, writer.is_broken())? {
+        Some(heard) => end_session(rt, heard, file, found.get_flag("strict")),
+        None => Ok(()),
+    }
+}
+
+// Keeps the record, where a file is named for it, and tells of a line that was refused, where each has to be taken.
+fn end_session(
+    rt: &HostRuntime,
+    heard: Heard,
+    file: Option<&str>,
+    strict: bool,
+) -> Result<(), ExitCode> {
+    let Heard { judge, refused } = heard;
+    if let Some(name) = file {
+        match keep(rt.alloc(), judge, &mut Host::new(rt), name) {
+            Err(KeepFault::Write) => return Err(refuse_to_write(rt, name)),
+            ended => done(rt, ended)?,
+        }
+    }
+    if strict && refused {
+        return Err(refuse(rt, LineRefused));
+    }
+    Ok(())
+}
+
+// Tells of a file that can't be written.
+fn refuse_to_write(rt: &HostRuntime, name: &str) -> ExitCode {
+    let fault = FileFault::Write;
+    refuse(rt, NamedFault { name, fault })
+}
+
+// Writes the run of the logs that the words name, and tells what it shows.
+pub(crate) fn merge(rt: &HostRuntime, found: &ArgMatches<'_>) -> Result<(), ExitCode> {
+    let idle = done(rt, merge_idle(found))?;
+    let names = found.get_strs("files").unwrap_or(&[]);
+    let form = merge_form(found);
+    let (alloc, host) = (rt.alloc(), Host::new(rt));
+    let mut writer = Counted::new(io::writer(rt));
+    let ended = if found.get_flag("follow") {
+        let mut pace = Clockwork::new(rt, idle);
+        follow_logs(alloc, &host, names, form, &mut pace, &mut writer)
+    } else if found.get_flag("presume") {
+        presume_logs(alloc, &host, names, form, &mut writer)
+    } else {
+        merge_logs(alloc, &host, names, form, &mut writer)
+    };
+    end_merge(rt, ended, writer.is_broken())
+}
+
+// Tells what a merged run shows, or why none is written.
+fn end_merge(
+    rt: &HostRuntime,
+    ended: Result<Told, MergeFault>,
+    is_broken: bool,
+) -> Result<(), ExitCode> {
+    match unless_broken(ended, is_broken) {
+        Ok(None) => Ok(()),
+        Ok(Some(told)) => {
+            let status = told.status();
+            let Told { text, .. } = told;
+            Err(close(rt, text, status))
+        }
+        Err(fault) => {
+            let status = fault.status();
+            Err(close(rt, fault, status))
+        }
+    }
+}
