@@ -8,8 +8,7 @@ ghost use Rattle.ct_program.specs.FreeRun.{IsFreeFault, WritesRun, WritesRunPart
 
 use ct_detect::Detector;
 use ct_program::{Call, CommandFault, FreeOptions, LineFault, answer_status, free, line, seeded};
-use ct_records::ProgramFault;
-use ct_replay::replay_while_read;
+use ct_records::{ProgramFault, run_replay};
 use ct_streams::{Counted, Sink};
 use std::alloc::Global;
 use std::fmt::Display;
@@ -62,7 +61,7 @@ fn texts<'a>(alloc: Global, words: &'a [String]) -> Result<Vec<&'a str>, Command
 fn replay(rt: &HostRuntime) -> ExitCode {
     let mut reader = Counted::new(rt.reader());
     let mut writer = Counted::new(io::writer(rt));
-    match replay_while_read(rt.alloc(), &mut reader, &mut writer) {
+    match run_replay(rt.alloc(), &mut reader, &mut writer) {
         Ok(()) => ExitCode::SUCCESS,
         Err(fault) => fail(rt, fault, fault.status()),
     }

@@ -8,15 +8,18 @@ use Rattle.std.proofs.Math.ListN.{get_or-append}
 use Rattle.std.proofs.Math.Seq.{get_or-append_seam, take-append_seam}
 use Rattle.ct_model.specs.declared.step.Step.{Step}
 use Rattle.ct_model.specs.Cause.{cause}
-use Rattle.ct_model.specs.Rehearsal.{Rehearsal}
+use Rattle.ct_model.specs.Rehearsal.{Rehearsal, extended}
 use Rattle.ct_model.specs.Setting.{Setting}
 use Rattle.ct_model.proofs.Basics.Options.{some-same}
 use Rattle.ct_world.specs.Replay.{AllowsFirst, first_steps}
+use Rattle.ct_records.specs.Fits.{StepFits}
+use Rattle.ct_records.specs.Front.{IsBegun}
+use Rattle.ct_records.proofs.Fitting.{fit_push}
 
 abbrev after : Setting → ℕ → List Step → Rehearsal
 after s cells steps = record { setting = s; cells = cells; steps = steps }
 
-pub allowed_more : (s : Setting) (cells : ℕ) (ss : List Step) (here : Step) → AllowsFirst s cells ss (length ss) →
+allowed_more : (s : Setting) (cells : ℕ) (ss : List Step) (here : Step) → AllowsFirst s cells ss (length ss) →
     cause (after s cells ss) here ≡ None → AllowsFirst s cells (ss ++ here ∷ []) (length (ss ++ here ∷ []))
 allowed_more s cells ss here before now k step below at =
     let all = ss ++ here ∷ [] in
@@ -39,3 +42,7 @@ allowed_more s cells ss here before now k step below at =
           (subst (λ l. cause (after s cells l) step ≡ None) (sym (take-append_seam ss (here ∷ [])))
           (subst (λ t. cause (after s cells ss) t ≡ None) one now))
     ]
+
+pub begun_more : (w new : Rehearsal) (s : Step) → IsBegun w → StepFits s → cause w s ≡ None → new ≡ extended w s → IsBegun new
+begun_more w new s h fits allowed joined =
+    rw joined (record { fit = fit_push w.steps s h.fit fits; allowed = allowed_more w.setting w.cells w.steps s h.allowed allowed })

@@ -1,14 +1,12 @@
 -- Where a key is put into the members of a record.
-use Rattle.std.proofs.Common.{◌≡◌, ℕ, Bool, true, List, codes, Option, Some, None, Less, Equal, Greater, refl, sym, ap, ◌∙◌}
+use Rattle.std.proofs.Common.{◌≡◌, ℕ, List, codes, Option, Some, None, Less, Equal, Greater, refl, ap, ◌∙◌}
 use Rattle.std.specs.Ordering.{nat_cmp}
 use Rattle.std.specs.Cmp.Lexicographic.{slice_cmp}
 use Rattle.std.specs.Prelude.{option_map}
-use Rattle.std.specs.Str.{bytes_eq}
-use Rattle.std.proofs.lemmas.Slice.Eq.{bytes_eq-Decides}
 use Rattle.json.proofs.OnLiterals.{json_on_literals}
 use Rattle.serde_json.specs.Data.{Data, array, Members, no_members, member, put}
 use Rattle.ct_model.specs.declared.step.Step.{Step}
-use Rattle.ct_records.specs.Plain.{member_if, members_from, Adds}
+use Rattle.ct_records.specs.Members.{member_if, members_from, Adds}
 use Rattle.ct_records.specs.Values.{num, steps_data}
 
 -- behind what comes before it
@@ -36,10 +34,6 @@ nums o = option_map num o
 
 abbrev lists : Option (List Step) → Option Data
 lists o = option_map (λ ss. array (steps_data ss)) o
-
--- the test of a key, where it holds
-pub is_key : (key text : List ℕ) (b : Bool) → b ≡ bytes_eq key text → b ≡ true → key ≡ text
-is_key key text b tested holds = (bytes_eq-Decides key text).0 (sym tested ∙ holds)
 
 pub adds_batch : (key : List ℕ) (x : ℕ) (batch cells n : Option ℕ) (steps : Option (List Step)) (version : Option ℕ) →
     key ≡ codes "batch" → Adds key (num x) (members_from batch cells n steps version)

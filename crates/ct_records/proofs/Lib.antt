@@ -8,7 +8,10 @@ pub mod Lengths
 pub mod Names
 pub mod Stored
 pub mod Written
-pub mod Plain
 pub mod Keys
 pub mod Members
 pub mod Allowed
+pub mod Texts
+pub mod Ended
+pub mod Sources
+pub mod Started

@@ -1,7 +1,7 @@
 -- From the lexemes of an object's members to what the object says.
-use Rattle.std.proofs.Common.{◌≡◌, ℕ, ◌<◌, ◌≤◌, ◌^◌, true, List, [], ◌∷◌, ◌++◌, length, codes, decimal, Option, Some, None, Ok, refl}
+use Rattle.std.proofs.Common.{◌≡◌, ℕ, ◌<◌, ◌≤◌, ◌^◌, true, List, [], ◌∷◌, ◌++◌, length, decimal, Option, Some, None, Ok, refl}
 use Rattle.std.proofs.Common.{sym, ap, ◌∙◌}
-use Rattle.std.proofs.Common.{arith, append_assoc, append-nil, inl, inr, ne_eqb, false, subst}
+use Rattle.std.proofs.Common.{arith, append_assoc, append-nil, inl, inr, ne_eqb, false}
 use Rattle.std.specs.Prelude.{◌⊎◌, All, option_map, option_and_then}
 use Rattle.std.specs.Str.{IsUtf8}
 use Rattle.json.specs.Token as json
@@ -22,13 +22,11 @@ use Rattle.ct_model.specs.Rehearsal.{Rehearsal}
 use Rattle.ct_model.specs.StepText as steps
 use Rattle.ct_model.specs.StepText.{Rest, nothing, command, step_entry}
 use Rattle.ct_records.specs.Fits.{AllFit, IsStorable}
-use Rattle.ct_records.specs.Plain.{lexemes, number_lexeme, entry_lexemes, rest_lexemes, steps_lexemes, Begins, IsPlain, members_from}
-use Rattle.ct_records.specs.Plain.{members_with, Adds, Takes, Closes, SoFar, IsPast, IsUpToSteps, IsBound}
-use Rattle.ct_records.specs.declared.parts.Numbers.{Numbers}
+use Rattle.ct_scan.specs.Lexemes.{lexemes, number_lexeme, entry_lexemes, rest_lexemes, steps_lexemes, Begins, IsPlain}
+use Rattle.ct_scan.proofs.Lexemes.{commas, opens_object}
+use Rattle.ct_records.specs.Members.{Adds, Takes, Closes, SoFar, IsPast, IsBound, members_from}
 use Rattle.ct_records.specs.Script.{since, of_value, max_len, script}
 use Rattle.ct_records.specs.Values.{num, entry_data, rest_data, step_data, steps_data}
-use Rattle.ct_records.proofs.Keys.{adds_steps}
-use Rattle.ct_records.proofs.Plain.{commas, opens_object}
 use Rattle.ct_records.proofs.Stored.{steps_stored}
 use Rattle.ct_records.proofs.Whole.{script_read}
 use Rattle.ct_records.proofs.Written.{record_is}
@@ -164,24 +162,6 @@ past_more start after next end found more past begins takes = record {
 pub past_end : (start after : List ℕ) (found : Members) → IsPast start found after → lexemes after ≡ token end_object ∷ [] →
     ends_word after ≡ true → Closes start found
 past_end start after found past last ended = so_far_end start past.last after past.earlier found past.so_far past.takes last ended
-
--- a key is this text
-pub key_is : (key text bytes value : List ℕ) → key ≡ text → IsPlain text →
-    (IsPlain key → lexemes bytes ≡ token (string key) ∷ colon ∷ lexemes value) →
-    lexemes bytes ≡ token (string text) ∷ colon ∷ lexemes value
-key_is key text bytes value same plain h = subst (λ k. IsPlain k → lexemes bytes ≡ token (string k) ∷ colon ∷ lexemes value) same h plain
-
--- the numbers that stand before the steps, and the steps
-pub past_steps : (start list after : List ℕ) (numbers : Numbers) (ss : List Step) → IsUpToSteps start numbers list →
-    lexemes list ≡ token begin_array ∷ steps_lexemes false ss (token end_array ∷ lexemes after) → AllFit ss →
-    IsPast start (members_with numbers (Some ss)) after
-past_steps start list after numbers ss front text fit = record {
-  last = front.at;
-  earlier = members_with numbers None;
-  so_far = front.so_far;
-  takes = takes_steps (codes "steps") ss front.at list after _ _ (λ _. front.key) text fit
-      (adds_steps (codes "steps") ss numbers.batch numbers.cells numbers.n None numbers.version refl);
-}
 
 -- ---- the whole
 

@@ -8,4 +8,6 @@ pub mod ProgramFault
 pub mod Text
 pub mod Fits
 pub mod Values
-pub mod Plain
+pub mod Members
+pub mod Front
+pub mod Start

@@ -1,6 +1,5 @@
 -- What a replay answers to its input.
-use Rattle.std.specs.Prelude.{◌≡◌, ◌≢◌, ◌≤◌, ◌-◌, ℕ, List, Option, length, Err, ⊤, IsOkAnd, Bool}
-use Rattle.std.specs.Str.{bytes_eq}
+use Rattle.std.specs.Prelude.{◌≡◌, ◌≢◌, ◌≤◌, ◌-◌, ℕ, List, Option, length, Err, ⊤, IsOkAnd}
 use Rattle.std.specs.Io.KnownBytes.{Appends}
 use Rattle.ct_names.specs.declared.refusal.Refusal.{Refusal}
 use Rattle.ct_names.specs.declared.refusal.Refusal.TheVariants.{OutOfMemory}
@@ -31,10 +30,6 @@ pub record IsReplayed (w : Rehearsal) : Type 0 where
 -- the input is a record that is replayed, and this is its report
 abbrev pub IsReportOf : List ℕ → List ℕ → Type 0
 IsReportOf input text = IsOkAnd (script input) (λ w. IsReplayed w × (text ≡ report_text w))
-
--- the input is a record that is replayed, and this is whether its report is the one that is expected
-abbrev pub TellsReport : List ℕ → List ℕ → Bool → Type 0
-TellsReport expected input same = IsOkAnd (script input) (λ w. IsReplayed w × (same ≡ bytes_eq (report_text w) expected))
 
 -- the input is a record that is replayed, and its report, nothing else, was written
 abbrev pub WritesReport : List ℕ → Option (List ℕ) → Option (List ℕ) → Type 0

@@ -1,20 +1,19 @@
 -- What a record says, or its first fault.
-use Rattle.std.specs.Prelude.{ℕ, suc, Bool, true, ◌+◌, ◌==◌, ◌&&◌, List, [], ◌∷◌, length, codes, nat_le, nat_lt, Option, Some, None, Result}
+use Rattle.std.specs.Prelude.{ℕ, suc, ◌+◌, ◌==◌, ◌&&◌, List, [], ◌∷◌, length, codes, nat_le, nat_lt, Option, Some, None, Result}
 use Rattle.std.specs.Prelude.{Ok, Err, option_map, option_and_then, ok_or, if◌then◌else◌}
 use Rattle.std.specs.Option.{option_map_or}
-use Rattle.std.specs.Str.{bytes_eq, is_utf8}
+use Rattle.std.specs.Str.{is_utf8}
 use Rattle.ct_names.specs.declared.limit.TheConstants.{MAX_BOUND, MAX_CELLS, MAX_MEMBERS}
 use Rattle.serde_json.specs.Data.{Data, Items, no_items, item, Members, no_members, member}
 use Rattle.serde_json.specs.Read.{read}
 use Rattle.serde_json.specs.Find.{get, as_number, as_u64, as_str, as_array, as_object}
 use Rattle.ct_names.specs.declared.command.Command.{Command}
-use Rattle.ct_names.specs.declared.command.Command.TheVariants.{Set, Add, Copy}
 use Rattle.ct_model.specs.declared.step.Step.{Step}
-use Rattle.ct_model.specs.declared.step.Step.TheVariants.{Submit, Receive, Begin, Enter, Choose, Adopt, Suspect, Conclude, Deliver}
-use Rattle.ct_model.specs.declared.step.Step.TheVariants.{Follow, Crash, Postpone, Lose, Repeat}
+use Rattle.ct_model.specs.declared.step.Step.TheVariants.{Follow, Lose, Repeat}
 use Rattle.ct_model.specs.Rehearsal.{Rehearsal}
 use Rattle.ct_model.specs.When.{when}
-use Rattle.ct_model.specs.StepText.{Number, amount, largest, Rest, nothing, number, command, Entry, command_entry, step_entry}
+pub use Rattle.ct_scan.specs.Names.{named, fits, commands, alone, with_number, with_command, rest_fits}
+unfoldable pub use Rattle.ct_scan.specs.Names.{named_command, short_step, numbered_step, commanded_step}
 use Rattle.ct_records.specs.declared.read_fault.ReadFault.{ReadFault}
 use Rattle.ct_records.specs.declared.read_fault.ReadFault.TheVariants.{TooLong, NotJson, Shape, Version}
 
@@ -52,23 +51,6 @@ value_of d = whole_of 0 18446744073709551615 d
 
 -- ---- commands and steps
 
--- the one that has the name
-abbrev pub named : {A B : Type 0} → (A → Entry B) → List ℕ → List A → Option A
-named shown name [] = None
-named shown name (x ∷ xs) = if bytes_eq name (shown x).name then Some x else named shown name xs
-
-abbrev pub fits : Number → Bool
-fits x = nat_le (amount x) (largest x)
-
--- the commands of a register and one more number
-abbrev pub commands : ℕ → ℕ → List Command
-commands register n = Set register n ∷ Add register n ∷ Copy register n ∷ []
-
--- the command of a name, a register and one more number
-unfoldable pub named_command : List ℕ → ℕ → ℕ → Option Command
-named_command name register n =
-    option_and_then (λ c. if fits (command_entry c).rest then Some c else None) (named command_entry name (commands register n))
-
 abbrev pub command_parts : List Data → Option Command
 command_parts [] = None
 command_parts (name ∷ []) = None
@@ -79,34 +61,6 @@ command_parts (name ∷ register ∷ d ∷ e ∷ rest) = None
 
 unfoldable pub command_of : Data → Option Command
 command_of d = option_and_then command_parts (list_in d)
-
--- the steps that have a member alone, and those that have one more number, or a command
-abbrev pub alone : ℕ → List Step
-alone p = Begin p ∷ Enter p ∷ Adopt p ∷ Suspect p ∷ Conclude p ∷ Deliver p ∷ Follow p ∷ Crash p ∷ []
-
-abbrev pub with_number : ℕ → ℕ → List Step
-with_number p n = Receive p n ∷ Choose p n ∷ Postpone p n ∷ Lose p n ∷ Repeat p n ∷ []
-
-abbrev pub with_command : ℕ → Command → List Step
-with_command p c = Submit p c ∷ []
-
-abbrev pub rest_fits : Rest → Bool
-rest_fits nothing = true
-rest_fits (number x) = fits x
-rest_fits (command c) = true
-
--- the step of a name and a member
-unfoldable pub short_step : List ℕ → ℕ → Option Step
-short_step name p = named step_entry name (alone p)
-
--- the step of a name, a member and a number
-unfoldable pub numbered_step : List ℕ → ℕ → ℕ → Option Step
-numbered_step name p n = option_and_then (λ s. if rest_fits (step_entry s).rest then Some s else None)
-    (named step_entry name (with_number p n))
-
--- the step of a name, a member and a command
-unfoldable pub commanded_step : List ℕ → ℕ → Command → Option Step
-commanded_step name p c = named step_entry name (with_command p c)
 
 -- the step of a name, a member and one more entry: where that is no number, a command
 unfoldable pub long_step : List ℕ → ℕ → Data → Option Step

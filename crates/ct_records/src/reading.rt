@@ -8,13 +8,13 @@ ghost use Rattle.ct_records.specs.View.{rehearsal_of};
 ghost use Rattle.ct_records.specs.Script.{list_in, count_of, whole_of, byte_of, value_of, command_of, long_step, step_of, step_in};
 ghost use Rattle.ct_records.specs.Script.{keys, bound_in, steps_of, rehearsal_in, of_value, max_len, script};
 
-use crate::naming::{commanded_step, named_command, numbered_step, short_step};
-use crate::quick::read_plain;
 use crate::read_fault::ReadFault;
+use crate::scanning::scanned;
 use crate::script::Script;
 use crate::version::{BOUNDED, FIRST, LATEST, since};
 use ct_model::Step;
 use ct_names::{Command, Group, MAX_BOUND, MAX_CELLS, MAX_MEMBERS, Member};
+use ct_scan::{commanded_step, named_command, numbered_step, short_step};
 use serde_json::{Map, Value};
 use std::alloc::Global;
 
@@ -34,7 +34,7 @@ pub fn read_record(alloc: Global, bytes: &[u8]) -> Result<Script, ReadFault>
     if bytes.len() > MAX_LEN {
         return Err(ReadFault::TooLong);
     }
-    if let Some(script) = read_plain(alloc, bytes)? {
+    if let Some(script) = scanned(alloc, bytes)? {
         return Ok(script);
     }
     match Value::from_slice(alloc, bytes) {

@@ -1,20 +1,25 @@
 //! A record in, its report out.
 
-ghost use Rattle.std.specs.Prelude.{◌≡◌, ◌≢◌, ◌<◌, ◌^◌, Err, OnOk, IfOk, IfErr, IfSome};
-ghost use Rattle.std.specs.Str.{bytes_eq};
+ghost use Rattle.std.specs.Prelude.{◌≡◌, ◌≢◌, ◌<◌, ◌^◌, ℕ, List, Err, OnOk, IfOk, IfErr, IfSome};
 ghost use Rattle.ct_streams.specs.Streams.{FailsOnce};
-ghost use Rattle.ct_records.specs.Replay.{IsReportOf, TellsReport, WritesReport, WritesReportPart, IsFaultIn};
+ghost use Rattle.ct_records.specs.Replay.{IsReportOf, WritesReport, WritesReportPart, IsFaultIn};
+ghost use Rattle.ct_records.specs.Front.{IsBegun, IsWholeOf};
 
+use crate::input::{Input, piece};
 use crate::program_fault::ProgramFault;
-use crate::reading::read_record;
+use crate::read_fault::ReadFault;
+use crate::reading::{MAX_LEN, read_record};
 use crate::reporting::report;
-use ct_streams::{Failed, Sink, Source, read_all, write_all};
-use ct_world::World;
+use crate::running::run;
+use ct_streams::{Failed, Sink, Source, write_all};
+use ct_world::{Stage, World};
 use std::alloc::Global;
 
-/// Reads a record to its end, replays it and writes the report. The whole report is made before the first write. What
-/// the contract says of the input holds where the reader tells its bytes, and what it says of the output where the
-/// writer does.
+/// Reads a record to its end, replays it and writes the report. The steps are done as they are read, so that neither the text
+/// nor a list of the steps is kept beside the world. Where something is escaped, a step is refused or a number that the world
+/// is made with stands behind the steps, what was read is made again from the steps that were done, and all is read before the
+/// first step. The whole report is made before the first write. What the contract says of the input holds where the reader
+/// tells its bytes, and what it says of the output where the writer does.
 pub fn run_replay<R: Source, W: Sink>(
     alloc: Global,
     reader: &mut R,
@@ -34,39 +39,43 @@ pub fn run_replay<R: Source, W: Sink>(
     ensures reader { FailsOnce result ProgramFault.Reader (R.failures reader.old) (R.failures reader.new) }
     ensures writer { FailsOnce result ProgramFault.Write (W.failures writer.old) (W.failures writer.new) }
 {
-    let bytes = read_all(alloc, reader)?;
-    let text = answer(alloc, bytes)?;
+    let text = report_of(alloc, reader)?;
     match write_all(writer, &text) {
         Ok(()) => Ok(()),
         Err(Failed) => Err(ProgramFault::Write),
     }
 }
 
-/// Reads a record to its end, replays it, and tells whether its report is the expected one. The clauses hold where the
-/// reader tells its bytes.
-pub fn gives_report<R: Source>(
-    alloc: Global,
-    reader: &mut R,
-    expected: &[u8],
-) -> Result<bool, ProgramFault>
+// The report of the record that the source has.
+fn report_of<R: Source>(alloc: Global, reader: &mut R) -> Result<Vec<u8>, ProgramFault>
     requires { R.failures reader.old < 2 ^ 63 }
-    ensures ok { IfOk result (λ same. IfSome (R.left reader.old) (λ input. TellsReport expected.now input same)) }
+    ensures ok { IfOk result (λ text. IfSome (R.left reader.old) (λ input. IsReportOf input text.items)) }
     ensures fault { IfErr result (λ fault. IfSome (R.left reader.old) (IsFaultIn fault)) }
     ensures no_write { result ≢ Err ProgramFault.Write }
     ensures reader { FailsOnce result ProgramFault.Reader (R.failures reader.old) (R.failures reader.new) }
 {
-    let bytes = read_all(alloc, reader)?;
-    let report = answer(alloc, bytes)?;
-    Ok(is_same(&report, expected))
+    let mut piece = piece(alloc)?;
+    let mut input = Input::new(alloc);
+    if let Some(stage) = run(alloc, reader, &mut piece, &mut input)? {
+        return report_after(alloc, &stage);
+    }
+    input.read_up_to(reader, &mut piece, MAX_LEN + 1)?;
+    if input.count > MAX_LEN {
+        return Err(ProgramFault::Read(ReadFault::TooLong));
+    }
+    answer(alloc, input.bytes)
 }
 
-fn is_same(bytes: &[u8], expected: &[u8]) -> bool
-    ensures { result ≡ bytes_eq bytes.now expected.now }
+// The report of the world.
+fn report_after(alloc: Global, stage: &Stage) -> Result<Vec<u8>, ProgramFault>
+    requires { IsBegun stage.now.rehearsal }
+    ensures ok { IfOk result (λ text. (bytes : List ℕ) → IsWholeOf bytes stage.now.rehearsal → IsReportOf bytes text.items) }
+    ensures err { IfErr result (λ fault. fault ≡ ProgramFault.Memory) }
 {
-    bytes == expected
+    Ok(report(alloc, stage.world())?)
 }
 
-// The report of the record, whose bytes are freed before it is replayed.
+// The report of the record, whose bytes are freed before the first step is done.
 fn answer(alloc: Global, bytes: Vec<u8>) -> Result<Vec<u8>, ProgramFault>
     ensures ok { IfOk result (λ text. IsReportOf bytes.items text.items) }
     ensures fault { IfErr result (λ fault. IsFaultIn fault bytes.items) }

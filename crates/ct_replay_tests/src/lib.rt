@@ -1,4 +1,4 @@
-//! The tests of `ct_replay`, which use its public calls alone.
+//! The tests of `run_replay`.
 #![tactic(auto)]
 
 #[cfg(test)]

@@ -1,6 +1,5 @@
 use ct_names::Refusal;
-use ct_records::{ProgramFault, ReadFault};
-use ct_replay::replay_while_read;
+use ct_records::{ProgramFault, ReadFault, run_replay};
 use ct_streams::{Counted, Failed, Sink, Source};
 use std::alloc::Global;
 
@@ -62,7 +61,7 @@ fn replayed(
         next: 0,
     };
     let mut writer = Counted::new(Vec::new(alloc));
-    let answer = replay_while_read(alloc, &mut reader, &mut writer);
+    let answer = run_replay(alloc, &mut reader, &mut writer);
     (answer, writer.into_inner())
 }
 

@@ -22,7 +22,7 @@ use Rattle.ct_records.specs.Script.{◌>>=◌, alone, bound_in, byte_of, command
 use Rattle.ct_records.specs.Script.{list_in, long_step, max_len, named, named_command, numbered_step, of_value, rehearsal_in, rest_fits}
 use Rattle.ct_records.specs.Script.{script, short_step, since, step_in, step_of, step_parts, steps_of, value_of, whole_of, with_command}
 use Rattle.ct_records.specs.Script.{with_number}
-use Rattle.ct_records.proofs.Plain.{command_is}
+use Rattle.ct_records.proofs.Names.{command_is}
 use Rattle.ct_laws.specs.Fitting.{IsFitting}
 use Rattle.ct_laws.proofs.Values.Depths.{Each, each_one}
 

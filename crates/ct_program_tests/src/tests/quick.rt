@@ -1,11 +1,10 @@
 use super::*;
-use ct_records::{MAX_LEN, read_plain};
 
 // A run with steps of each kind, but none that is refused.
 const RUN: &str =
     "{\"batch\":1048560,\"cells\":4,\"n\":3,\"steps\":[[\"submit\",1,[\"set\",0,7]],[\"submit\",2,[\"add\",15,18446744073709551615]],[\"submit\",2,[\"copy\",3,4]],[\"postpone\",1,1],[\"receive\",1,1],[\"receive\",2,2],[\"crash\",3],[\"begin\",1],[\"begin\",2],[\"enter\",1],[\"enter\",2],[\"suspect\",1],[\"receive\",2,13],[\"receive\",2,14],[\"choose\",2,1],[\"receive\",2,17],[\"adopt\",2]],\"version\":3}";
 
-// Records, and how many steps the quick way takes from them, where it takes them all.
+// Texts, and how many steps are read of those that are records.
 static TAKEN: [(&str, Option<usize>); 17] = [
     (RUN, Some(17)),
     (
@@ -74,34 +73,32 @@ static TAKEN: [(&str, Option<usize>); 17] = [
     ),
 ];
 
-// How many steps the quick way takes from the record, where it takes them all.
-fn taken(alloc: Global, record: &[u8]) -> Result<Option<usize>, AllocError> {
-    if record.len() > MAX_LEN {
-        return Ok(None);
+// How many steps are read of the record, where it is one.
+fn taken(alloc: Global, record: &[u8]) -> Option<usize> {
+    match read_record(alloc, record) {
+        Ok(script) => {
+            let count = script.steps.len();
+            drop(script);
+            Some(count)
+        }
+        Err(_) => None,
     }
-    let Some(script) = read_plain(alloc, record)? else {
-        return Ok(None);
-    };
-    let count = script.steps.len();
-    drop(script);
-    Ok(Some(count))
 }
 
-// The first of the records of which the quick way takes another number.
-fn taken_otherwise(alloc: Global) -> Result<Option<&'static str>, AllocError> {
+// The first of the records of which another number is read.
+fn taken_otherwise(alloc: Global) -> Option<&'static str> {
     for (record, wanted) in &TAKEN {
-        if taken(alloc, record.as_bytes())? != *wanted {
-            return Ok(Some(*record));
+        if taken(alloc, record.as_bytes()) != *wanted {
+            return Some(*record);
         }
     }
-    Ok(None)
+    None
 }
 
 // White space and another order of keys are taken; what is no record, or has a step that its version doesn't have, is not.
 #[test]
-fn records_are_read_quickly(rt: HostRuntime) -> Result<(), Fail> {
-    assert_eq!(rt; taken_otherwise(rt.alloc())?, None);
-    Ok(())
+fn records_are_read_in_other_forms(rt: HostRuntime) {
+    assert_eq!(rt; taken_otherwise(rt.alloc()), None);
 }
 
 // Whether a record of four cells and one step is read.
@@ -116,21 +113,14 @@ fn is_read(alloc: Global, record: &[u8]) -> bool {
     }
 }
 
-// Whether such a record is not read quickly, but read.
-fn is_read_the_long_way(alloc: Global, record: &str) -> Result<bool, AllocError> {
-    let quickly = taken(alloc, record.as_bytes())?;
-    Ok(quickly.is_none() && is_read(alloc, record.as_bytes()))
-}
-
 // An escape in a name or in a key, and more than five members, of which two have the same key.
 #[test]
-fn another_text_is_read_the_long_way(rt: HostRuntime) -> Result<(), Fail> {
+fn escapes_and_repeated_keys_are_read(rt: HostRuntime) {
     for record in [
         "{\"n\":3,\"cells\":4,\"steps\":[[\"cr\\u0061sh\",2]],\"version\":1}",
         "{\"n\":3,\"cell\\u0073\":4,\"steps\":[[\"crash\",2]],\"version\":1}",
         "{\"n\":4,\"n\":3,\"batch\":9,\"cells\":4,\"steps\":[[\"crash\",2]],\"version\":3}",
     ] {
-        assert!(rt; is_read_the_long_way(rt.alloc(), record)?, "{record}");
+        assert!(rt; is_read(rt.alloc(), record.as_bytes()), "{record}");
     }
-    Ok(())
 }

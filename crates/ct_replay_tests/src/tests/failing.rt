@@ -36,7 +36,7 @@ fn fails_after(alloc: Global, end: usize) -> bool {
         failures: 0,
     };
     let mut writer = Counted::new(Vec::new(alloc));
-    let answer = replay_while_read(alloc, &mut reader, &mut writer);
+    let answer = run_replay(alloc, &mut reader, &mut writer);
     answer == Err(ProgramFault::Reader) && reader.failures == 1 && writer.into_inner().is_empty()
 }
 
@@ -78,7 +78,7 @@ impl Sink for Closed {
 fn fails_to_write(alloc: Global) -> bool {
     let mut reader = Counted::new(RECORD.as_bytes());
     let mut writer = Closed { failures: 0 };
-    let answer = replay_while_read(alloc, &mut reader, &mut writer);
+    let answer = run_replay(alloc, &mut reader, &mut writer);
     answer == Err(ProgramFault::Write) && writer.failures == 1
 }
 

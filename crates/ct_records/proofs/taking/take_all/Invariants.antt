@@ -1,0 +1,9 @@
+use Rattle.std.proofs.Common.{◌≤◌, length}
+use Rattle.ct_records.specs.Front.{AreTaken, IsAfter}
+use Rattle.ct_records.proofs.taking.take_all.Given as goal
+
+abbrev pub invariant-loop : goal.invariant-loop
+invariant-loop g l = record {
+  taken : AreTaken (g.K.Keeper.has l.fn.keeper) (IsAfter (g.K.Keeper.has l.keeper) l.later) l.bytes l.rest;
+  shorter : length l.rest ≤ length l.bytes;
+}

@@ -1,9 +1,0 @@
-pub mod Utf8
-pub mod Reading
-pub mod Steps
-pub mod Ended
-pub mod Allowed
-pub mod Sources
-pub mod Started
-pub mod Answered
-pub mod Kept

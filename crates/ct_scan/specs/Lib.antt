@@ -1,0 +1,4 @@
+pub mod Names
+pub mod Lexemes
+pub mod Reading
+pub mod Quick
