@@ -1,4 +1,4 @@
-use Rattle.ct_memory.proofs.main.Given as goal
+use Rattle.ct_growths.proofs.main.Given as goal
 
 -- the shares of the hall are those of the blank's ledger
 abbrev pub ghosts-tried : goal.ghosts-tried

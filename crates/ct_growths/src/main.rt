@@ -1,9 +1,9 @@
-//! What is left where memory is refused: the steps of a record one by one, and a free run. cases/growths.sh runs this
-//! program with each of its calls for memory refused in turn.
+//! The program of cases/growths.sh, which refuses each of its calls for memory in turn: it does the steps of a record one by one,
+//! trying one again that was refused, makes a free run, and tells what is left.
 #![tactic(auto)]
 
 ghost use Rattle.std.specs.Prelude.{◌≡◌};
-ghost use Rattle.ct_memory.specs.declared.free_run.TheConstants.{PARTS};
+ghost use Rattle.ct_growths.specs.declared.free_run.TheConstants.{PARTS};
 
 mod fault;
 mod free_run;

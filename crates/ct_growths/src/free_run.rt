@@ -2,7 +2,7 @@
 
 ghost use Rattle.std.specs.Prelude.{◌≡◌, ◌≤◌};
 ghost use Rattle.ct_names.specs.declared.limit.TheConstants.{MAX_STEPS};
-ghost use Rattle.ct_memory.specs.declared.free_run.TheConstants.{PARTS};
+ghost use Rattle.ct_growths.specs.declared.free_run.TheConstants.{PARTS};
 
 use crate::fault::Fault;
 use crate::starting::started;
