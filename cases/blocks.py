@@ -57,7 +57,7 @@ NOT_RUN = {
                      "repetitions 31"): "what is told of other logs; cases/logs.py has such lines",
     ("docs/LOGS.md", "presumed: 12 steps of member 2, 1 step of member 4; 5 members, 825 lines; instances 3, largest round 4, suspicions 7, "
      "choices .."): "what is told of a run with presumed steps",
-    ("docs/ARCHITECTURE.md", "programs               ct             ct_tool             ct_memory"): "a drawing",
+    ("docs/ARCHITECTURE.md", "programs               ct             ct_tool             ct_growths"): "a drawing",
 }
 # So many of each kind are there at least.
 LEAST = {"schedule": 1, "record": 1, "python": 3, "transcript": 7, "contract": 1, "program": 1, "command": 25, "output": 9, "example": 22}

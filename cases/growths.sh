@@ -1,5 +1,5 @@
 #!/usr/bin/env bash
-# Runs the built programs `ct`, `ct_memory` and `ct_tool` while calls for memory are refused: the first alone, the second
+# Runs the built programs `ct`, `ct_growths` and `ct_tool` while calls for memory are refused: the first alone, the second
 # alone, and so on until a run makes fewer calls than that; with `ct` also each N-th.
 #
 #     cases/growths.sh [CT [CT_MEMORY [CT_TOOL]]]     the built programs; those of ../crates/*/out if left out
@@ -15,7 +15,7 @@ most=20000
 
 here=$(cd "$(dirname "$0")" && pwd)
 ct=$(realpath "${1:-$here/../crates/ct/out/ct}")
-memory=$(realpath "${2:-$here/../crates/ct_memory/out/ct_memory}")
+memory=$(realpath "${2:-$here/../crates/ct_growths/out/ct_growths}")
 tool=$(realpath "${3:-$here/../crates/ct_tool/out/ct_tool}")
 for program in "$ct" "$memory" "$tool"; do
     if [[ ! -x $program || -d $program ]]; then
@@ -208,24 +208,24 @@ tell 'ct free'
 
 # The steps of a round are each refused at least once, and the free run ends in each of its ways.
 wanted=decided.report
-cp ../crates/ct_memory/stdin "$folder/input"
-each_call 'ct_memory' is_tried '' "$memory"
-tell 'ct_memory'
+cp ../crates/ct_growths/stdin "$folder/input"
+each_call 'ct_growths' is_tried '' "$memory"
+tell 'ct_growths'
 for n in {0..22}; do
-    [[ -n ${seen["refused at step $n"]:-} ]] || fail "ct_memory: step $n was never refused"
+    [[ -n ${seen["refused at step $n"]:-} ]] || fail "ct_growths: step $n was never refused"
 done
 for text in '13 steps, 0 refused' '13 steps, 1 refused' Memory Start; do
-    [[ -n ${seen["free run: $text"]:-} ]] || fail "ct_memory: no free run ended so: $text"
+    [[ -n ${seen["free run: $text"]:-} ]] || fail "ct_growths: no free run ended so: $text"
 done
 
 # So are two that follow, the second of which posts its batch.
 seen=()
 wanted=../examples/followers.report
 cp ../examples/followers.json "$folder/input"
-each_call 'ct_memory with followers' is_tried '' "$memory"
-tell 'ct_memory with followers'
+each_call 'ct_growths with followers' is_tried '' "$memory"
+tell 'ct_growths with followers'
 for n in 47 70; do
-    [[ -n ${seen["refused at step $n"]:-} ]] || fail "ct_memory: step $n, which follows, was never refused"
+    [[ -n ${seen["refused at step $n"]:-} ]] || fail "ct_growths: step $n, which follows, was never refused"
 done
 
 # Each subcommand of the tool. A session gives its answers one by one, and a check tells a record's fault behind its name.

@@ -1,11 +1,8 @@
 use ct_model::Step;
 use ct_names::{Command, Refusal};
-use ct_program::{
-    Call, CommandFault, Counted, Failed, FreeOptions, LineFault, ProgramFault, ReadFault, Script,
-    Sink, Source, answer_status, free, line, read_record, report, run_replay, seeded, submissions,
-    write_record,
-};
-use ct_text::push_separator;
+use ct_program::{Call, FreeOptions, LineFault, free, line, seeded};
+use ct_records::{ProgramFault, ReadFault, Script, read_record, report, run_replay, write_record};
+use ct_streams::{Counted, Failed, Sink, Source};
 use ct_world::{ReplayFault, World};
 use std::alloc::{AllocError, Global};
 use std::test::Fail;
@@ -13,12 +10,12 @@ use std::test::Fail;
 mod crashes;
 mod faults;
 mod free;
-mod quick;
+mod pieces;
 mod reading;
 mod reports;
 mod settled;
-mod streams;
 mod words;
+mod writers;
 mod writing;
 
 const RECORD: &str =
@@ -33,10 +30,6 @@ const ONE_ROUND: &str =
 
 const ONE_ROUND_REPORT: &str =
     "group 3 majority 2 cells 4\nsteps 22 sent 19 posted 1\nmember 1 up instance 1 idle\nreceived 1.1\ndecided 1:1.1\ndelivered 1.1\ntable 0=7\nmember 2 up instance 1 idle\nreceived 1.1\ndecided 1:1.1\ndelivered 1.1\ntable 0=7\nmember 3 crashed instance 0 idle\nreceived -\ndecided -\ndelivered -\ntable -\n";
-
-// One step of each kind, as a record has them.
-const EACH_STEP: &str =
-    "[\"submit\",1,[\"set\",0,7]],[\"receive\",2,3],[\"begin\",4],[\"enter\",5],[\"choose\",6,7],[\"adopt\",8],[\"suspect\",9],[\"conclude\",10],[\"deliver\",11],[\"crash\",12],[\"postpone\",13,14],[\"lose\",15,16],[\"repeat\",17,18],[\"follow\",19]";
 
 // Takes nothing.
 #[derive(Drop)]

@@ -41,12 +41,9 @@ struct Outcome {
     world: World,
 }
 
-// A world of three members and four cells without steps, and its board.
-fn started(alloc: Global) -> Option<(World, Board)> {
-    let group = Group::new(3)?;
-    let board = Board::new(alloc, 4).ok()?;
-    let world = World::new(alloc, group, 4, MAX_BOUND).ok()?;
-    Some((world, board))
+// A world of three members and four cells without steps.
+fn started(alloc: Global) -> Option<World> {
+    World::new(alloc, Group::new(3)?, 4, MAX_BOUND).ok()
 }
 
 // Plays the list on this desk, and takes a copy of its world.
@@ -65,18 +62,25 @@ fn outcome_of<L: Ledger>(
     Some(Outcome { played, world })
 }
 
-// Plays the list in such a world.
-fn rehearsed<L: Ledger>(alloc: Global, blank: Blank, steps: &[Step]) -> Option<Outcome>
+// Plays the list in such a world, with this board.
+fn rehearsed<L: Ledger>(
+    alloc: Global,
+    blank: Blank,
+    board: &Board,
+    steps: &[Step],
+) -> Option<Outcome>
     requires name { blank.name ≡ L.name }
     requires parts { blank.parts ≡ L.parts }
     requires whole { L.parts ≡ 1000 }
 {
-    let (world, board) = started(alloc)?;
-    let (mut desk, mut share) = Desk::<L>::new(blank, world);
-    let outcome = outcome_of(alloc, &mut desk, &mut share, &board, steps);
+    let (mut desk, mut share) = Desk::<L>::new(blank, started(alloc)?);
+    let outcome = outcome_of(alloc, &mut desk, &mut share, board, steps);
     drop(desk);
-    drop(board);
     outcome
+}
+
+fn played(alloc: Global, board: &Board, steps: &[Step]) -> Option<Outcome> {
+    rehearsed::<Brand>(alloc, Blank::new(1000), board, steps)
 }
 
 // The steps with a crash of the member after so many of them.
@@ -87,10 +91,18 @@ fn with_crash(alloc: Global, after: usize, member: Member) -> Result<Vec<Step>, 
     Ok(steps)
 }
 
-fn crashed(alloc: Global, after: usize, member: Member) -> Option<Outcome> {
+// The outcome of the steps with a crash, on this board.
+fn crashed_on(alloc: Global, board: &Board, after: usize, member: Member) -> Option<Outcome> {
     let steps = with_crash(alloc, after, member).ok()?;
-    let outcome = rehearsed::<Brand>(alloc, Blank::new(1000), &steps);
+    let outcome = played(alloc, board, &steps);
     drop(steps);
+    outcome
+}
+
+fn crashed(alloc: Global, after: usize, member: Member) -> Option<Outcome> {
+    let board = Board::new(alloc, 4).ok()?;
+    let outcome = crashed_on(alloc, &board, after, member);
+    drop(board);
     outcome
 }
 
@@ -228,5 +240,32 @@ fn a_decision_that_was_sent_is_delivered(rt: HostRuntime) -> Result<(), Fail> {
         short: 0,
     };
     assert!(rt; decided_and_crashed(rt.alloc()) == Some((played, 19, true)));
+    Ok(())
+}
+
+// What the steps come to on this board.
+fn played_on(alloc: Global, board: &Board) -> Option<Played> {
+    let outcome = played(alloc, board, &STEPS)?;
+    let played = outcome.played;
+    drop(outcome);
+    Some(played)
+}
+
+// A board that has a batch refuses both deliveries of another world, which takes the other steps.
+#[test]
+fn a_batch_that_a_board_refuses_is_short(rt: HostRuntime) -> Result<(), Fail> {
+    let board = Board::new(rt.alloc(), 4)?;
+    let first = Played {
+        applied: 22,
+        refused: 0,
+        short: 0,
+    };
+    let second = Played {
+        applied: 20,
+        refused: 0,
+        short: 2,
+    };
+    assert!(rt; played_on(rt.alloc(), &board) == Some(first));
+    assert!(rt; played_on(rt.alloc(), &board) == Some(second));
     Ok(())
 }

@@ -52,37 +52,3 @@ fn told_otherwise(alloc: Global) -> Option<&'static str> {
 fn faults_have_lines_and_statuses(rt: HostRuntime) {
     assert_eq!(rt; told_otherwise(rt.alloc()), None);
 }
-
-// The same of faults of command lines.
-static OF_WORDS: [(CommandFault, &str, u8); 6] = [
-    (CommandFault::Arguments, "arguments", 3),
-    (CommandFault::Range, "out of range", 3),
-    (CommandFault::NoFile, "no file", 3),
-    (CommandFault::NoSubcommand, "no subcommand", 3),
-    (CommandFault::Write, "write failed", 4),
-    (CommandFault::Memory, "out of memory", 5),
-];
-
-fn answered_otherwise(alloc: Global) -> Option<&'static str> {
-    for (fault, line, status) in &OF_WORDS {
-        if !is_text(format!(in alloc; "{fault}"), *line) || fault.status() != *status {
-            return Some(*line);
-        }
-    }
-    None
-}
-
-#[test]
-fn faults_of_command_lines_have_lines(rt: HostRuntime) {
-    assert_eq!(rt; answered_otherwise(rt.alloc()), None);
-}
-
-#[test]
-fn help_and_refused_words_have_statuses(rt: HostRuntime) {
-    let statuses = [(true, true), (true, false), (false, true), (false, false)].map(|(
-        is_refused,
-        is_written,
-    )| answer_status(is_refused, is_written));
-    let wanted = [Ok(3), Ok(3), Ok(0), Err(CommandFault::Write)];
-    assert!(rt; statuses == wanted);
-}

@@ -1,71 +1,42 @@
 use super::*;
 
-// Texts that lead to no world, by what a replay answers.
-static RECORDS: [(ProgramFault, &[&str]); 7] = [
+// Texts that are no records, and what a replay answers.
+static RECORDS: [(ProgramFault, &str); 7] = [
     (
-        ProgramFault::Read(ReadFault::Shape { at: 0 }),
-        &[
-            "7",
-            "{\"cells\":4,\"n\":3,\"steps\":[]}",
-            "{\"cells\":4,\"n\":3,\"steps\":[],\"version\":1.0}",
-            "{\"cells\":4,\"n\":17,\"steps\":[],\"version\":1}",
-            "{\"cells\":4,\"n\":0,\"steps\":[],\"version\":1}",
-            "{\"cells\":1025,\"n\":3,\"steps\":[],\"version\":1}",
-            "{\"cells\":4,\"n\":3,\"steps\":{},\"version\":1}",
-            "{\"cells\":4,\"m\":1,\"n\":3,\"steps\":[],\"version\":1}",
-            "{\"batch\":1,\"cells\":4,\"n\":3,\"steps\":[],\"version\":2}",
-            "{\"cells\":4,\"n\":3,\"steps\":[],\"version\":3}",
-            "{\"batch\":0,\"cells\":4,\"n\":3,\"steps\":[],\"version\":3}",
-            "{\"batch\":1048561,\"cells\":4,\"n\":3,\"steps\":[],\"version\":3}",
-            "{\"batch\":\"1\",\"cells\":4,\"n\":3,\"steps\":[],\"version\":3}",
-        ],
+        ProgramFault::Read(ReadFault::Version),
+        "{\"cells\":4,\"n\":17,\"steps\":[],\"version\":9}",
     ),
     (
         ProgramFault::Read(ReadFault::Version),
-        &[
-            "{\"cells\":4,\"n\":17,\"steps\":[],\"version\":9}",
-            "{\"cells\":4,\"n\":3,\"steps\":[],\"version\":4}",
-        ],
+        "{\"cells\":4,\"n\":3,\"steps\":[],\"version\":4}",
     ),
     (
         ProgramFault::Read(ReadFault::NotJson),
-        &["{\"cells\":4,\"n\":3,\"steps\":[[\"submit\",1,[\"set\",0,7]]"],
+        "{\"cells\":4,\"n\":3,\"steps\":[[\"submit\",1,[\"set\",0,7]]",
+    ),
+    (
+        ProgramFault::Read(ReadFault::Shape { at: 0 }),
+        "{\"cells\":4,\"n\":17,\"steps\":[],\"version\":1}",
+    ),
+    (
+        ProgramFault::Read(ReadFault::Shape { at: 0 }),
+        "{\"cells\":4,\"m\":1,\"n\":3,\"steps\":[],\"version\":1}",
+    ),
+    (
+        ProgramFault::Read(ReadFault::Shape { at: 0 }),
+        "{\"cells\":1025,\"n\":3,\"steps\":[],\"version\":1}",
     ),
     (
         ProgramFault::Read(ReadFault::Shape { at: 1 }),
-        &[
-            "{\"cells\":4,\"n\":3,\"steps\":[[\"lose\",1,1]],\"version\":1}",
-            "{\"cells\":4,\"n\":3,\"steps\":[[\"repeat\",1,1]],\"version\":1}",
-            "{\"cells\":4,\"n\":3,\"steps\":[[\"follow\",1]],\"version\":1}",
-        ],
-    ),
-    (
-        ProgramFault::Read(ReadFault::Shape { at: 2 }),
-        &["{\"cells\":4,\"n\":3,\"steps\":[[\"begin\",1],[\"follow\",1]],\"version\":2}"],
-    ),
-    (
-        ProgramFault::Replay {
-            at: 1,
-            refusal: Refusal::NotWaiting,
-        },
-        &["{\"cells\":4,\"n\":3,\"steps\":[[\"lose\",1,1]],\"version\":2}"],
-    ),
-    (
-        ProgramFault::Replay {
-            at: 1,
-            refusal: Refusal::NotSent,
-        },
-        &["{\"cells\":4,\"n\":3,\"steps\":[[\"repeat\",1,1]],\"version\":2}"],
+        "{\"cells\":4,\"n\":3,\"steps\":[[\"lose\",1,1]],\"version\":1}",
     ),
 ];
 
 // The first of the texts to which a replay has another answer, or after which something is written.
 fn answered_otherwise(alloc: Global) -> Option<&'static str> {
-    for (fault, texts) in &RECORDS {
-        for text in *texts {
-            if !answers(alloc, *text, Err(*fault), &[]) {
-                return Some(*text);
-            }
+    for (fault, text) in &RECORDS {
+        if !answers(alloc, *text, Err(*fault), &[]) {
+            return Some(*text);
         }
     }
     None
@@ -76,91 +47,33 @@ fn records_are_refused(rt: HostRuntime) {
     assert_eq!(rt; answered_otherwise(rt.alloc()), None);
 }
 
-// Lists of steps that lead to no world, by what a replay answers.
-static LISTS: [(ProgramFault, &[&str]); 9] = [
+// Lists of steps that lead to no world: the number of the first that is none, or of the one that is refused, and why.
+static LISTS: [(usize, Option<Refusal>, &str); 9] = [
+    (2, None, "[[\"enter\",2],[\"jump\",1]]"),
+    (1, None, "[[\"submit\",1,[\"set\",256,1]]]"),
+    (1, None, "[[\"enter\",-1]]"),
+    (1, None, "[[\"enter\",1,1]]"),
     (
-        ProgramFault::Read(ReadFault::Shape { at: 1 }),
-        &[
-            "[[\"submit\",1,[\"set\",256,1]]]",
-            "[[\"submit\",1,[\"set\",0,18446744073709551616]]]",
-            "[[\"submit\",1,[\"swap\",0,1]]]",
-            "[[\"postpone\",-1,1]]",
-            "[[\"receive\",1,4294967296]]",
-            "[[\"receive\",1]]",
-            "[[\"crash\",1,1]]",
-            "[[]]",
-            "[[\"enter\",-1]]",
-            "[[\"enter\",1,1]]",
-        ],
+        1,
+        Some(Refusal::BadCommand),
+        "[[\"submit\",1,[\"set\",255,1]]]",
     ),
+    (1, Some(Refusal::NotWaiting), "[[\"receive\",1,0]]"),
+    (1, Some(Refusal::NoSuchMember), "[[\"enter\",0]]"),
+    (1, Some(Refusal::Idle), "[[\"choose\",1,1]]"),
     (
-        ProgramFault::Read(ReadFault::Shape { at: 2 }),
-        &[
-            "[[\"enter\",2],[\"jump\",1]]",
-            "[[\"receive\",1,1],[\"jump\",1],[]]",
-        ],
-    ),
-    (
-        ProgramFault::Read(ReadFault::Shape { at: 3 }),
-        &[
-            "[[\"begin\",1],[\"choose\",1,2],[\"choose\",1]]",
-            "[[\"begin\",1],[\"choose\",1,2],[\"choose\",1,256]]",
-            "[[\"begin\",1],[\"choose\",1,2],[\"deliver\",256]]",
-            "[[\"begin\",1],[\"choose\",1,2],[\"follow\",256]]",
-            "[[\"begin\",1],[\"choose\",1,2],[\"follow\",1,1]]",
-            "[[\"begin\",1],[\"choose\",1,2],[\"follow\"]]",
-            "[[\"begin\",1],[\"choose\",1,2],[\"Begin\",1]]",
-            "[[\"begin\",1],[\"choose\",1,2],[\"begin\"]]",
-        ],
-    ),
-    (
-        ProgramFault::Replay {
-            at: 1,
-            refusal: Refusal::NoSuchMember,
-        },
-        &[
-            "[[\"submit\",255,[\"add\",255,18446744073709551615]],[\"submit\",0,[\"copy\",255,255]],[\"postpone\",255,4294967295],[\"choose\",255,255],[\"choose\",0,0],[\"conclude\",255],[\"adopt\",0]]",
-            "[[\"enter\",0]]",
-        ],
-    ),
-    (
-        ProgramFault::Replay {
-            at: 1,
-            refusal: Refusal::BadCommand,
-        },
-        &["[[\"submit\",1,[\"set\",255,1]]]"],
-    ),
-    (
-        ProgramFault::Replay {
-            at: 1,
-            refusal: Refusal::NotWaiting,
-        },
-        &["[[\"receive\",1,0]]"],
-    ),
-    (
-        ProgramFault::Replay {
-            at: 1,
-            refusal: Refusal::Idle,
-        },
-        &["[[\"choose\",1,1]]"],
-    ),
-    (
-        ProgramFault::Replay {
-            at: 1,
-            refusal: Refusal::Undecided,
-        },
-        &["[[\"follow\",1]]"],
-    ),
-    (
-        ProgramFault::Replay {
-            at: 5,
-            refusal: Refusal::NotWaiting,
-        },
-        &[
-            "[[\"submit\",1,[\"set\",0,7]],[\"receive\",1,1],[\"receive\",2,2],[\"crash\",3],[\"receive\",2,2]]",
-        ],
+        5,
+        Some(Refusal::NotWaiting),
+        "[[\"submit\",1,[\"set\",0,7]],[\"receive\",1,1],[\"receive\",2,2],[\"crash\",3],[\"receive\",2,2]]",
     ),
 ];
+
+fn fault(at: usize, refusal: Option<Refusal>) -> ProgramFault {
+    match refusal {
+        Some(refusal) => ProgramFault::Replay { at, refusal },
+        None => ProgramFault::Read(ReadFault::Shape { at }),
+    }
+}
 
 // Whether a replay of these steps has this fault, and writes nothing.
 fn is_refused(alloc: Global, steps: &str, fault: ProgramFault) -> Result<bool, AllocError> {
@@ -172,11 +85,9 @@ fn is_refused(alloc: Global, steps: &str, fault: ProgramFault) -> Result<bool, A
 
 // The first of the lists to which a replay has another answer, or after which something is written.
 fn listed_otherwise(alloc: Global) -> Result<Option<&'static str>, AllocError> {
-    for (fault, lists) in &LISTS {
-        for list in *lists {
-            if !is_refused(alloc, *list, *fault)? {
-                return Ok(Some(*list));
-            }
+    for (at, refusal, list) in &LISTS {
+        if !is_refused(alloc, *list, fault(*at, *refusal))? {
+            return Ok(Some(*list));
         }
     }
     Ok(None)

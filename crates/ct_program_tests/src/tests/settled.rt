@@ -5,8 +5,8 @@ use super::*;
 use ct_board::Board;
 use ct_detect::{Always, Ask, Detector, EveryNth, Listed, Never, Seeded};
 use ct_names::{Group, MAX_BOUND, MemberSet};
-use ct_rehearse::{Disturbance, NoGate, Plan, rehearse};
-use std::sync::Wait;
+use ct_rehearse::{Disturbance, Gate, Plan, Rehearsed, rehearse};
+use std::sync::{Mutex, Wait};
 use std::thread::Threads;
 
 // A detector that says yes and no by turns.
@@ -51,11 +51,90 @@ fn disturbed(alloc: Global) -> Result<Plan, AllocError>
 }
 
 // Three members and 64 cells without steps, and their board.
-fn three(alloc: Global) -> Option<(World, Board)> {
+fn started(alloc: Global) -> Option<(World, Board)> {
     let group = Group::new(3)?;
     let board = Board::new(alloc, 64).ok()?;
     let world = World::new(alloc, group, 64, MAX_BOUND).ok()?;
     Some((world, board))
+}
+
+// A gate that counts how often it is called before turns and after them.
+#[derive(Drop)]
+struct Counting {
+    calls: Mutex<(u32, u32)>,
+}
+
+impl Counting {
+    fn new() -> Counting {
+        Counting {
+            calls: Mutex::new((0, 0)),
+        }
+    }
+
+    fn into_calls(self) -> (u32, u32) {
+        let Counting { calls } = self;
+        calls.into_inner()
+    }
+}
+
+impl Gate for Counting {
+    fn before<R: Wait>(&self, rt: &R, _worker: u32, _turn: u32) {
+        let mut calls = self.calls.lock(rt);
+        calls.0 = calls.0.saturating_add(1);
+    }
+
+    fn after<R: Wait>(&self, rt: &R, _worker: u32, _turn: u32) {
+        let mut calls = self.calls.lock(rt);
+        calls.1 = calls.1.saturating_add(1);
+    }
+}
+
+// The kinds of detectors: one that suspects nobody, always, the second member, at each third ask, at random, and by turns.
+const KINDS: u8 = 6;
+
+// A detector of this kind.
+fn of_kind(alloc: Global, kind: u8) -> Option<Box<dyn Detector>> {
+    Some(match kind {
+        0 => Box::new(alloc, Never::new()).ok()?,
+        1 => Box::new(alloc, Always::new()).ok()?,
+        2 => Box::new(alloc, Listed::new(second())).ok()?,
+        3 => Box::new(alloc, EveryNth::new(3)?).ok()?,
+        4 => Box::new(alloc, Seeded::new(1, 64)).ok()?,
+        _ => Box::new(alloc, Alternating { last: None }).ok()?,
+    })
+}
+
+fn second() -> MemberSet {
+    let mut set = MemberSet::new();
+    set.insert(2);
+    set
+}
+
+// Three detectors of this kind.
+fn three(alloc: Global, kind: u8) -> Option<Vec<Box<dyn Detector>>> {
+    let mut detectors: Vec<Box<dyn Detector>> = Vec::new(alloc);
+    for _ in 0..3u8 {
+        detectors.push(of_kind(alloc, kind)?).ok()?;
+    }
+    Some(detectors)
+}
+
+// What a rehearsal of such detectors comes to.
+fn ran<R: Threads + Wait + Sync>(
+    rt: &R,
+    alloc: Global,
+    plan: &Plan,
+    detectors: Option<Vec<Box<dyn Detector>>>,
+    gate: &Counting,
+) -> Option<Rehearsed>
+    requires { IsWithin plan.now }
+{
+    let detectors = detectors?;
+    let (world, board) = started(alloc)?;
+    if usize::from(world.group().n()) != detectors.len() {
+        return None;
+    }
+    rehearse(rt, alloc, world, board, plan, detectors, gate).ok()
 }
 
 // Whether more than the script's steps were made, and the world's report is that of its record's replay.
@@ -63,88 +142,19 @@ fn reports_alike(alloc: Global, world: &World) -> bool {
     world.record().len() > 5 && is_replayed(alloc, world)
 }
 
-// The same of the world after this run of three members with these detectors, of which member 1's comes first.
-fn settles<R: Threads + Wait + Sync>(
-    rt: &R,
-    alloc: Global,
-    plan: &Plan,
-    detectors: Vec<Box<dyn Detector>>,
-) -> Option<bool>
-    requires { IsWithin plan.now }
-{
-    let Some((world, board)) = three(alloc) else {
-        drop(detectors);
-        return None;
-    };
-    if detectors.len() != usize::from(world.group().n()) {
-        drop(world);
-        drop(board);
-        drop(detectors);
-        return None;
-    }
-    let done = rehearse(rt, alloc, world, board, plan, detectors, &NoGate).ok()?;
+// Runs three members with such detectors: whether all 605 turns pass the gate, members take steps, and the record replays.
+fn settles<R: Threads + Wait + Sync>(rt: &R, alloc: Global, kind: u8) -> Option<bool> {
+    let plan = disturbed(alloc).ok()?;
+    let gate = Counting::new();
+    let done = ran(rt, alloc, &plan, three(alloc, kind), &gate)?;
     let is_alike = reports_alike(alloc, &done.world);
     drop(done);
-    Some(is_alike)
-}
-
-// The same where there are detectors.
-fn settles_alike<R: Threads + Wait + Sync>(
-    rt: &R,
-    alloc: Global,
-    detectors: Option<Vec<Box<dyn Detector>>>,
-) -> Option<bool> {
-    let detectors = detectors?;
-    let Ok(plan) = disturbed(alloc) else {
-        drop(detectors);
-        return None;
-    };
-    let is_alike = settles(rt, alloc, &plan, detectors);
-    drop(plan);
-    is_alike
-}
-
-fn push_simple(alloc: Global, detectors: &mut Vec<Box<dyn Detector>>) -> Result<(), AllocError> {
-    detectors.push(Box::new(alloc, Never::new())?)?;
-    detectors.push(Box::new(alloc, Always::new())?)?;
-    detectors.push(Box::new(alloc, Seeded::new(1, 64))?)?;
-    Ok(())
-}
-
-fn simple(alloc: Global) -> Result<Vec<Box<dyn Detector>>, AllocError> {
-    let mut detectors: Vec<Box<dyn Detector>> = Vec::new(alloc);
-    push_simple(alloc, &mut detectors)?;
-    Ok(detectors)
+    Some(is_alike && gate.into_calls() == (605, 605))
 }
 
 #[test]
 fn a_settled_world_has_the_report_of_its_replay(rt: HostRuntime) {
-    let alloc = rt.alloc();
-    assert_eq!(rt; settles_alike(&rt, alloc, simple(alloc).ok()), Some(true));
-}
-
-fn push_others(
-    alloc: Global,
-    detectors: &mut Vec<Box<dyn Detector>>,
-    each_third: EveryNth,
-) -> Result<(), AllocError> {
-    let mut second = MemberSet::new();
-    second.insert(2);
-    detectors.push(Box::new(alloc, Listed::new(second))?)?;
-    detectors.push(Box::new(alloc, each_third)?)?;
-    detectors.push(Box::new(alloc, Alternating { last: None })?)?;
-    Ok(())
-}
-
-fn others(alloc: Global) -> Option<Vec<Box<dyn Detector>>> {
-    let each_third = EveryNth::new(3)?;
-    let mut detectors: Vec<Box<dyn Detector>> = Vec::new(alloc);
-    push_others(alloc, &mut detectors, each_third).ok()?;
-    Some(detectors)
-}
-
-#[test]
-fn a_world_settled_by_other_detectors_has_the_report_of_its_replay(rt: HostRuntime) {
-    let alloc = rt.alloc();
-    assert_eq!(rt; settles_alike(&rt, alloc, others(alloc)), Some(true));
+    for kind in 0..KINDS {
+        assert_eq!(rt; settles(&rt, rt.alloc(), kind), Some(true), "kind {kind}");
+    }
 }

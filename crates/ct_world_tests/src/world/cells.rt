@@ -40,26 +40,6 @@ fn a_step_that_is_not_allowed_sets_no_cell(rt: HostRuntime) {
     after_round(&rt, 22, FACTS);
 }
 
-#[test]
-fn an_undecided_delivery_sets_no_cell(rt: HostRuntime) {
-    static FACTS: &[Fact<'static>] = &[
-        Fact::Cells(0),
-        Fact::Keeps(Step::Deliver(1), Refusal::Undecided, 0),
-        Fact::Keeps(Step::Follow(1), Refusal::Busy, 0),
-        Fact::Keeps(Step::Begin(1), Refusal::Busy, 0),
-        Fact::Keeps(Step::Enter(1), Refusal::WrongPhase, 0),
-        Fact::Keeps(Step::Choose(2, 1), Refusal::TooFew, 0),
-        Fact::Keeps(Step::Adopt(1), Refusal::NoProposal, 0),
-        Fact::OneRound(8, 10),
-        Fact::Keeps(Step::Choose(2, 3), Refusal::NotLargest, 0),
-        Fact::OneRound(10, 12),
-        Fact::Keeps(Step::Suspect(1), Refusal::HasProposal, 0),
-        Fact::OneRound(12, 19),
-        Fact::Keeps(Step::Enter(2), Refusal::Decided, 0),
-    ];
-    after_round(&rt, 8, FACTS);
-}
-
 // A member alone: the cells of its world and board, and how many steps of `TWO_INSTANCES` it did.
 type Alone = (u16, usize);
 

@@ -40,8 +40,6 @@ pub(super) enum Fact<'a> {
     Cells(usize),
     // What a new watcher of the board is answered when it meets the world, and the batches that it is then told of and reads.
     Met(Result<(), Refusal>, &'a [(Instance, Plain)]),
-    // A new watcher of the board reads `SEVEN` alone in each of the first instances, so many, and no more: told of them or not.
-    ReadFirst(u16, bool),
     Waiting(Member, &'a [Serial]),
 }
 
@@ -81,7 +79,6 @@ impl Fact<'_> {
             Fact::Counts(steps, sent, posted) => trial.counts() == (*steps, *sent, *posted),
             Fact::Record(count) => trial.has_done(&ONE_ROUND, *count),
             Fact::Cells(set) => trial.has_set(*set),
-            Fact::ReadFirst(instances, told) => watching::read_first(trial, *instances, *told),
             Fact::Met(wanted, batches) => watching::watch(trial, *wanted, batches),
             Fact::Waiting(p, serials) => trial.world.waiting(*p) == Some(*serials),
             _ => false,

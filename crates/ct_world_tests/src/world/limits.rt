@@ -15,6 +15,28 @@ fn envelopes_are_limited(rt: HostRuntime) {
     Trial::new(&rt, rt.alloc(), 16, 4).shows(&rt, FACTS);
 }
 
+#[test]
+fn submissions_are_limited(rt: HostRuntime) {
+    static FACTS: &[Fact<'static>] = &[
+        Fact::Repeated(65_535, SUBMIT),
+        Fact::Counts(65_535, 65_535, 0),
+        Fact::Refused(SUBMIT, Refusal::Full(Limit::Submissions)),
+    ];
+    Trial::new(&rt, rt.alloc(), 1, 4).shows(&rt, FACTS);
+}
+
+#[test]
+fn steps_are_limited(rt: HostRuntime) {
+    const POSTPONE: Step = Step::Postpone(1, 1);
+    static FACTS: &[Fact<'static>] = &[
+        Fact::Done(SUBMIT),
+        Fact::Repeated(999_999, POSTPONE),
+        Fact::Counts(1_000_000, 1, 0),
+        Fact::Refused(POSTPONE, Refusal::Full(Limit::Steps)),
+    ];
+    Trial::new(&rt, rt.alloc(), 1, 4).shows(&rt, FACTS);
+}
+
 // A round that one member alone ends without a decision, after so many envelopes. The proposal is never received.
 fn undecided_round(sent: Serial) -> [Step; 6]
     requires { sent < 1000000 }

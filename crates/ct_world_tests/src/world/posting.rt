@@ -64,17 +64,3 @@ fn who_follows_later_posts_nothing(rt: HostRuntime) {
     ];
     after_round(&rt, BEFORE_CRASH, FACTS);
 }
-
-#[test]
-fn a_board_refuses_a_follower(rt: HostRuntime) {
-    static BEFORE: &[Fact<'static>] = &[DECIDED_BY_OTHERS, Fact::Done(Step::Receive(3, 16))];
-    static THERE: &[Fact<'static>] = &[
-        Fact::Fails(Step::Follow(3), Refusal::Board),
-        Fact::Counts(18, 19, 0),
-    ];
-    static BACK: &[Fact<'static>] = &[Fact::Done(Step::Follow(3)), Fact::Counts(19, 19, 1)];
-    let mut trial = Trial::after(&rt, 3, 4, &ONE_ROUND, BEFORE_CRASH);
-    trial.finds(&rt, BEFORE);
-    let other = Trial::after(&rt, 3, 4, &ONE_ROUND, 22);
-    trial.exchanged(&rt, other, THERE, BACK);
-}

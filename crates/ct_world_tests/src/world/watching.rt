@@ -60,24 +60,6 @@ impl<'b> Viewer<'b> {
             && (wanted.is_err() || self.reads(None))
     }
 
-    // Whether it reads the only message of each of the first instances, and no more.
-    fn reads_first(&mut self, instances: u16) -> bool {
-        for before in 0..instances {
-            let instance = u32::from(before) + 1;
-            if !self.reads(Some((instance, (1, instance, SEVEN)))) {
-                return false;
-            }
-        }
-        self.reads(None)
-    }
-
-    // The same, told of them or not.
-    fn reads_told(&mut self, trial: &Trial, instances: u16, told: bool) -> bool {
-        (!told || self.meets(trial, Ok(()), usize::from(instances)))
-            && self.reads_first(instances)
-            && self.is_told(0) != told
-    }
-
     // Whether it finds a batch in the cell at the place.
     fn finds(&mut self, place: usize) -> bool {
         self.watcher.look(self.board, place).is_some()
@@ -236,24 +218,4 @@ fn who_read_more_than_was_posted_is_refused(rt: HostRuntime) {
 fn the_batches_of_a_replay_are_met_and_read(rt: HostRuntime) {
     static FACTS: &[Fact<'static>] = &[Fact::Met(Ok(()), &[(1, FIVE), (2, COPY)])];
     after_instances(&rt, FACTS);
-}
-
-// Whether a new watcher reads the only message of each of the first instances, told of them or not.
-pub(super) fn read_first(trial: &Trial, instances: u16, told: bool) -> bool {
-    match Viewer::new(trial.alloc(), &trial.board) {
-        Some(mut viewer) => viewer.reads_told(trial, instances, told),
-        None => false,
-    }
-}
-
-#[test]
-fn many_batches_are_met_and_read(rt: HostRuntime) {
-    static FACTS: &[Fact<'static>] = &[
-        Fact::Alone(20),
-        Fact::Counts(240, 100, 20),
-        Fact::ReadFirst(20, true),
-        Fact::ReadFirst(20, false),
-        Fact::Cells(20),
-    ];
-    Trial::new(&rt, rt.alloc(), 1, 40).shows(&rt, FACTS);
 }

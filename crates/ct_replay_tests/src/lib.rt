@@ -1,5 +1,0 @@
-//! The tests of `run_replay`.
-#![tactic(auto)]
-
-#[cfg(test)]
-mod tests;
