@@ -41,7 +41,11 @@ impl Ordered {
     }
 
     // Feeds it with the rest of what was received. Where memory is refused, what was fed until then stays.
-    pub(crate) fn feed(&mut self, received: &[Message], delivered: &Delivered) -> Result<(), AllocError>
+    pub(crate) fn feed(
+        &mut self,
+        received: &[Message],
+        delivered: &Delivered,
+    ) -> Result<(), AllocError>
         requires { IsFed self.old received.now (joined delivered.now.batches) }
         ensures kept { IsFed self.new received.now (joined delivered.now.batches) }
         ensures all { OnOk result (self.new.fed ≡ length received.now) }

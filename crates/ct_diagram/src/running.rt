@@ -10,9 +10,8 @@ ghost use Rattle.ct_diagram.specs.Window.{lacking};
 use crate::drawing::diagram;
 use crate::window::Window;
 use ct_records::ProgramFault;
-use ct_told::{ShowFault, read_told};
 use ct_streams::{Failed, Sink, Source, read_all, write_all};
-use ct_told::read_told;
+use ct_told::{ShowFault, read_told, read_told};
 use std::alloc::Global;
 
 /// Reads a record to its end and writes the diagram of the steps that the window has. The whole text is made before the first

@@ -16,11 +16,11 @@ use crate::goals::shows;
 use crate::line_fault::LineFault;
 use crate::naming::{known, named};
 use crate::stage::Stage;
+use ct_choices::{choice, question};
 use ct_detect::Ask;
 use ct_grammar::{Goal, Play, Who};
 use ct_model::Step;
 use ct_names::{Member, MemberSet};
-use ct_choices::{choice, question};
 use std::alloc::{AllocError, Global};
 
 /// How many rounds of turns a line makes at most that says no number of them.

@@ -6,8 +6,8 @@ ghost use Rattle.ct_shrink.specs.Faults.{fault_text, status_of};
 use ct_names::Member;
 use ct_play::LineFault;
 use ct_records::ProgramFault;
-use ct_told::ShowFault;
 use ct_streams::{Fault, InputFault, Status};
+use ct_told::ShowFault;
 use std::fmt;
 
 /// Why no smaller run is made, or written. Its text is the line for standard error.

@@ -46,7 +46,11 @@ pub fn push_estimate_of(text: &mut String, world: &World, member: Member) -> Res
 
 /// Appends the value of a member's estimate, without its ts; nothing where it has none.
 #[tactic(auto, unfolding(crate::specs::Standing::estimate_alone))]
-pub fn push_estimate_alone(text: &mut String, world: &World, member: Member) -> Result<(), AllocError>
+pub fn push_estimate_alone(
+    text: &mut String,
+    world: &World,
+    member: Member,
+) -> Result<(), AllocError>
     ensures { OnOk result (Adds text.old text.new (estimate_alone world.now.rehearsal member)) }
 {
     push_value(text, world.estimate(member))

@@ -1,7 +1,7 @@
 use ct_diagram::*;
 use ct_names::MemberSet;
-use ct_told::ShowFault;
 use ct_streams::Counted;
+use ct_told::ShowFault;
 use std::alloc::Global;
 use std::test::Fail;
 

@@ -1,8 +1,8 @@
 use ct_judge::*;
 use ct_names::{Limit, Refusal};
 use ct_records::{ProgramFault, ReadFault};
-use ct_told::{ShowFault, read_told};
 use ct_streams::{Fault, FileFault, NamedFault};
+use ct_told::{ShowFault, read_told};
 use ct_walk::{FoundSeed, Missed, Seeds, Sight, WalkFault};
 use std::alloc::{AllocError, Global};
 use std::fmt::Display;

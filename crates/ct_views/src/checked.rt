@@ -3,8 +3,8 @@
 ghost use Rattle.std.specs.Prelude.{◌≡◌};
 ghost use Rattle.ct_views.specs.Checking.{status_of};
 
-use ct_told::ShowFault;
 use ct_streams::{Fault, FileFault, Status};
+use ct_told::ShowFault;
 
 /// What checking a file comes to.
 #[derive(Debug, Drop)]
