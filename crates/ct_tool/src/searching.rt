@@ -3,7 +3,7 @@
 ghost use Rattle.std.specs.Prelude.{◌<◌};
 ghost use Rattle.ct_find.specs.Line.{IsFindInRange};
 
-use crate::ending::{done, refuse, written};
+use crate::ending::{refuse, written};
 use crate::meter::Meter;
 use crate::trials::Trials;
 use clap::ArgMatches;
@@ -17,7 +17,10 @@ use std::thread::Threads;
 
 // Writes the record of one walk.
 pub(crate) fn walk(rt: &HostRuntime, found: &ArgMatches<'_>) -> Result<(), ExitCode> {
-    let call = done(rt, walk_call(rt.alloc(), found))?;
+    let call = match walk_call(rt.alloc(), found) {
+        Ok(call) => call,
+        Err(fault) => return Err(refuse(rt, fault)),
+    };
     let mut writer = Counted::new(io::writer(rt));
     let ended = write_call(rt.alloc(), &call, &mut writer);
     if let Some(Some(seed)) = written(rt, ended, writer.is_broken())? {
@@ -33,8 +36,14 @@ pub(crate) fn find<R: Threads + Sync>(
     threads: &R,
     found: &ArgMatches<'_>,
 ) -> Result<(), ExitCode> {
-    let call = done(rt, find_call(rt.alloc(), found))?;
-    let best = done(rt, best_options(found))?;
+    let call = match find_call(rt.alloc(), found) {
+        Ok(call) => call,
+        Err(fault) => return Err(refuse(rt, fault)),
+    };
+    let best = match best_options(found) {
+        Ok(best) => best,
+        Err(fault) => return Err(refuse(rt, fault)),
+    };
     let quiet = found.get_flag("quiet");
     let mut meter = Meter::new(rt, call.seeds, quiet);
     match (count_form(found), best) {
