@@ -14,6 +14,7 @@ ghost use Rattle.ct_judging.specs.Telling.{fault_text};
 use crate::fault_texts::{push_fault_in, push_plain};
 use crate::heading::given_in;
 use ct_grammar::{Line, Play};
+use ct_judging::{Heading, USUAL_CELLS};
 use ct_names::{MAX_BOUND, MAX_ENVELOPES};
 use ct_play::{LineFault, Stage, play};
 use ct_world::{Setup, World};

@@ -15,6 +15,7 @@ use crate::session_fault::SessionFault;
 use crate::stop::Stop;
 use crate::telling::tell_line;
 use ct_grammar::{Line, Play, Question};
+use ct_judging::Misread;
 use ct_world::World;
 use std::alloc::{AllocError, Global};
 use std::marker::Model;
