@@ -2,7 +2,7 @@
 # Runs the built programs `ct`, `ct_growths` and `ct_tool` while calls for memory are refused: the first alone, the second
 # alone, and so on until a run makes fewer calls than that; with `ct` also each N-th.
 #
-#     cases/growths.sh [CT [CT_MEMORY [CT_TOOL]]]     the built programs; those of ../crates/*/out if left out
+#     cases/growths.sh [CT [CT_GROWTHS [CT_TOOL]]]     the built programs; those of ../crates/*/out if left out
 #
 # A run must end as it does with ample memory, or say what was refused and write nothing. Prints a line for each run that
 # doesn't, what all runs came to, and last `N passed, M failed`; its status is 0 only where none failed. The calls are

@@ -102,6 +102,19 @@ CASES = [
          "1.log line 1: members 17: not understood: 17 is no number from 1 to 16"),
     Case("a receipt after a crash", {"1.log": "members 2\ncrash\nreceive data 2.1 from 2\n", "2.log": "members 2\n"}, 1,
          "refused: 1.log line 3: receive data 2.1 from 2: member 1 is refused Crashed"),
+    Case("a message that is passed on, and repeated",
+         {"1.log": "members 3\n1 submit set 0 7\nreceive data 1.1 from 1 set 0 7\nreceive data 1.1 from 2\nreceive data 1.1 from 2\n"
+          "begin {1.1}\n", "2.log": "receive data 1.1 from 1 # the first line of its log\n2 begin\nenter {1.1} ts 0\n"}, 0,
+         "accepted: 3 members, 8 lines; instances 1, largest round 1, suspicions 0, choices between different ts 0, repetitions 1"),
+    Case("a value that was not sent",
+         {"1.log": ONE, "2.log": "receive data 1.1 from 1\nbegin\nenter\nreceive est 1/1 from 1 {1.2} ts 0\n"}, 1,
+         "refused: 2.log line 4: receive est 1/1 from 1 {1.2} ts 0: member 2 came to {1.1} ts 0"),
+    Case("a proposal before its choice",
+         {"1.log": ONE + "receive prop 1/1 from 2\nadopt\n",
+          "2.log": TWO.replace("choose 1\n", "receive ack 1/1 from 1\nchoose 1\n")}, 1,
+         "refused: 1.log line 6: receive prop 1/1 from 2: it waits for a line that waits for it\n"
+         "circle: 1.log line 6: receive prop 1/1 from 2: it waits for 2.log line 7: choose 1\n"
+         "circle: 2.log line 6: receive ack 1/1 from 1: it waits for 1.log line 7: adopt"),
     Case("a torn last line", {**GOSSIP, "2.log": GOSSIP["2.log"] + "2 begin {1."}, 0,
          "accepted: 2 members, 3 lines; instances 0, largest round 0, suspicions 0, choices between different ts 0, repetitions 0\n"
          "note: 2.log line 2: 2 begin {1.: no line feed ends it, so it is left out"),

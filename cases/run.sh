@@ -1,7 +1,7 @@
 #!/usr/bin/env bash
 # Runs the built program `ct` on the cases of table.txt, on the records of ../examples, freely, and with little memory; and
 # the built program `ct_tool` on the cases of tool_table.txt, on the schedules of ../examples, on the implementation in Python
-# and the cluster there, over many goals, by a search over workers, and on a terminal.
+# and the cluster there, in sessions, over many goals, by a search over workers, and on a terminal.
 # Compares the man pages and the completions of both with their help, and runs what the documents show.
 #
 #     cases/run.sh [CT [CT_TOOL]]        the built programs; those of ../crates/*/out if left out
@@ -423,6 +423,34 @@ check_long_texts() {
     check_long 'a long report' "$folder/wanted" "$tool" report
 }
 
+# has_lines FILE WORDS..: whether the diagram of the input has the lines of FILE, in their order.
+has_lines() { "$tool" diagram "${@:2}" <"$folder/input" | grep -Fxf "$1" | cmp -s - "$1"; }
+
+# check_drawn: diagrams have these lines, and of members or kinds of steps that are not asked for nothing.
+check_drawn() {
+    local wrong='' drawn
+    record 1 1 0 '["receive",1,1]' >"$folder/input"
+    has_lines drawn.svg --columns 4 || wrong+=" two steps are drawn otherwise;"
+    record 2 1 0 '["receive",2,2],["lose",1,1],["receive",2,4]' >"$folder/input"
+    has_lines drawn_in_rows.svg --from 2 --to 9 --columns 1 || wrong+=" rows are drawn otherwise;"
+    drawn=$("$tool" diagram --member 1 <"$folder/input")
+    [[ $drawn == *'step 3, member 1'* && $drawn == *'sent by 1 to 2'* ]] || wrong+=" a member's steps are missing;"
+    [[ $drawn != *'step 4, member 2'* && $drawn != *'sent by 2 to 2'* ]] || wrong+=" another member's steps are there;"
+    drawn=$("$tool" diagram --only consensus <"$folder/input")
+    [[ $drawn == *'member 2'* && $drawn != *'<title>'* ]] || wrong+=" steps of messages are there;"
+    tally 'drawn lines' "$wrong"
+}
+
+# check_stopped: no more trials are made than asked for, and it is told that some lines may be left over.
+check_stopped() {
+    local wrong='' told steps='["postpone",1,1],["receive",1,1],["begin",1],["enter",1],["receive",1,3],["choose",1,1],'
+    steps+='["receive",1,4],["adopt",1],["receive",1,5],["conclude",1],["receive",1,6],["deliver",1]'
+    record 1 2 0 "$steps" >"$folder/input"
+    told=$("$tool" shrink --goal 'any decided 1' --tries 3 <"$folder/input" 2>&1 >"$folder/output")
+    [[ $told =~ ^of\ 14\ steps\ 1[234]\ are\ left\;\ stopped\ after\ 3\ trials$ ]] || wrong=" '$told'"
+    tally 'trials that stop' "$wrong"
+}
+
 # check_json: what is shown as JSON fits its schema and tells what the lines tell, of the examples, of some walks and of refused
 # steps of each kind.
 check_json() {
@@ -491,6 +519,8 @@ check_table tool_table.txt
 check_walks
 check_kept
 check_long_texts
+check_drawn
+check_stopped
 check_json
 program=$ct
 check_table table.txt
@@ -519,6 +549,7 @@ check_rehearsal --runs 5
 check_rehearsal --runs 5 --members 5 --crash 2 --turns 1500
 check_rehearsal --members 1
 
+check_by sessions.py sessions 60 "$tool"
 check_by logs.py logs 600 "$tool"
 check_by goals.py goals 600 "$tool"
 check_by search.py search 600 "$tool"

@@ -1,24 +1,5 @@
-//! The tests of the libraries of `ct_tool`, which use their public calls alone: here none of these crates is proved once more.
-//! Worked runs of the algorithm stand here too, as texts (`runs`).
+//! Whole runs of the algorithm as texts, which a session of `ct_judge` judges. What `ct_tool` writes is looked at in cases/.
 #![tactic(auto)]
 
 #[cfg(test)]
-mod checks;
-#[cfg(test)]
-mod diagrams;
-#[cfg(test)]
-mod faults;
-#[cfg(test)]
-mod printed;
-#[cfg(test)]
 mod runs;
-#[cfg(test)]
-mod schedules;
-#[cfg(test)]
-mod searches;
-#[cfg(test)]
-mod shown;
-#[cfg(test)]
-mod smaller;
-#[cfg(test)]
-mod walks;

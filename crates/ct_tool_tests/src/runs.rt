@@ -1,12 +1,10 @@
 //! Worked runs: texts in one table, each of which a session judges.
 
 use ct_judge::{Judge, SessionFault, interact};
-use ct_program::Counted;
+use ct_streams::Counted;
 use std::alloc::{AllocError, Global};
 use std::test::Fail;
 
-mod language;
-mod lines;
 mod table;
 
 // How many steps were done, envelopes sent, and batches posted.
@@ -115,17 +113,5 @@ fn decisions_are_kept_and_followed(rt: HostRuntime) -> Result<(), Fail> {
 #[test]
 fn one_member_delivers_in_its_order(rt: HostRuntime) -> Result<(), Fail> {
     assert_eq!(rt; first_wrong(rt.alloc(), &table::ALONE)?, None);
-    Ok(())
-}
-
-#[test]
-fn lines_are_understood_or_not(rt: HostRuntime) -> Result<(), Fail> {
-    assert_eq!(rt; first_wrong(rt.alloc(), &lines::LINES)?, None);
-    Ok(())
-}
-
-#[test]
-fn lines_are_about_several_members(rt: HostRuntime) -> Result<(), Fail> {
-    assert_eq!(rt; first_wrong(rt.alloc(), &language::LANGUAGE)?, None);
     Ok(())
 }

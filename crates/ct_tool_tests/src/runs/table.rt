@@ -82,20 +82,7 @@ const TWO_RECEIVED: &str = "1 submit set 0 5 => ok 1
 1 deliver";
 
 // Envelopes that are sent, received, postponed, lost and repeated.
-pub(super) static SENT: [Run; 5] = [
-    Run {
-        name: "nothing is done",
-        counts: (0, 0, 0),
-        parts: &[
-            "members 3
-cells 4
-expect 1 up
-expect 3 received -
-enabled 1 => enabled
-next 1 => next -
-1 repeat #1 => refused 1 NotSent: #1 was not sent: 0 envelopes were",
-        ],
-    },
+pub(super) static SENT: [Run; 3] = [
     Run {
         name: "what is received first from another is relayed",
         counts: (5, 6, 0),
@@ -111,24 +98,6 @@ cells 4",
 expect 1 received 1.1
 expect 2 received 1.1
 expect 3 received -",
-        ],
-    },
-    Run {
-        name: "what does not wait is not taken from a line",
-        counts: (4, 6, 0),
-        parts: &[
-            "members 3
-cells 4",
-            RELAYED,
-            "3 postpone #3
-3 receive #0 => refused 3 NotWaiting: #0 was not sent: 6 envelopes were
-2 receive #2 => refused 2 NotWaiting: #2 Data 1.1 to 2, left in step 3 [\"receive\",2,2]
-2 receive #3 => refused 2 NotWaiting: #3 Data 1.1 to 3
-2 postpone #2 => refused 2 NotWaiting: #2 Data 1.1 to 2, left in step 3 [\"receive\",2,2]
-2 postpone #7 => refused 2 NotWaiting: #7 was not sent: 6 envelopes were
-2 lose #3 => refused 2 NotWaiting: #3 Data 1.1 to 3
-2 submit copy 0 16 => refused 2 BadCommand: a register is 0 to 15
-next 3 => next [\"receive\",3,6]",
         ],
     },
     Run {
@@ -173,7 +142,7 @@ next 2 => next [\"receive\",2,2]
 ];
 
 // What a driver does next.
-pub(super) static LED: [Run; 5] = [
+pub(super) static LED: [Run; 2] = [
     Run {
         name: "one member decides alone, as a driver leads it",
         counts: (12, 5, 1),
@@ -223,68 +192,10 @@ next 1 => next [\"adopt\",1]
 1 adopt => ok 12",
         ],
     },
-    Run {
-        name: "a driver chooses the largest ts",
-        counts: (26, 21, 0),
-        parts: &[
-            TWO_PROPOSALS,
-            "2 choose 1 => ok 9-11
-2 receive #10
-2 adopt => ok 12
-1 suspect => ok 13
-2 receive #12
-2 receive #13
-2 conclude
-2 enter => ok 14
-1 enter => ok 15
-3 receive #6 => ok 16-18
-3 begin
-3 enter => ok 19
-3 suspect => ok 20
-3 enter => ok 21
-3 receive #15
-3 receive #14
-next 3 => next [\"choose\",3,2]",
-        ],
-    },
-    Run {
-        name: "a decision comes before a suspicion",
-        counts: (20, 20, 0),
-        parts: &[
-            "members 3
-cells 4",
-            RELAYED,
-            "crash 3",
-            CHOSEN,
-            DECIDED,
-            "1 enter => ok 17
-next 1 => next [\"suspect\",1] or [\"receive\",1,4]
-1 receive #14 => ok 18-20
-enabled 1 => enabled [\"deliver\",1] [\"suspect\",1]
-next 1 => next [\"deliver\",1]",
-        ],
-    },
-    Run {
-        name: "a driver follows before it begins",
-        counts: (20, 22, 1),
-        parts: &[
-            "members 3
-cells 4",
-            RELAYED,
-            CHOSEN,
-            DECIDED,
-            "3 receive #3 => ok 17-19
-3 receive #16 => ok 20-22
-enabled 3 => enabled [\"follow\",3] [\"begin\",3]
-next 3 => next [\"follow\",3]
-3 follow
-expect 3 delivered 1.1",
-        ],
-    },
 ];
 
 // Rounds that decide, and steps that others refuse.
-pub(super) static DECIDED_IN_A_ROUND: [Run; 4] = [
+pub(super) static DECIDED_IN_A_ROUND: [Run; 3] = [
     Run {
         name: "two members decide in a round, and the third has crashed",
         counts: (22, 19, 1),
@@ -394,58 +305,6 @@ next 3 => next -
 4 repeat #99 => refused 4 NoSuchMember: members are 1 to 3
 0 begin => refused 0 NoSuchMember: members are 1 to 3
 255 deliver => refused 255 NoSuchMember: members are 1 to 3",
-        ],
-    },
-    Run {
-        name: "phases follow one another, and other steps of a round are refused",
-        counts: (19, 16, 0),
-        parts: &[
-            "members 3
-cells 4",
-            RELAYED,
-            "crash 3
-expect 2 refuses enter Idle
-expect 2 refuses choose 1 Idle
-expect 2 refuses adopt Idle
-expect 2 refuses suspect Idle
-expect 2 refuses conclude Idle
-1 begin
-2 begin
-1 begin => refused 1 Busy: instance 1 round 0 Rest, estimate {1.1} ts 0, acks 0 of 0
-1 follow => refused 1 Busy: instance 1 round 0 Rest, estimate {1.1} ts 0, acks 0 of 0
-expect 2 phase Rest
-expect 2 round 0
-2 enter => ok 7
-expect 2 phase Gather
-expect 2 round 1
-1 enter => ok 8
-expect 1 phase Wait
-expect 1 refuses enter WrongPhase
-expect 1 refuses choose 1 WrongPhase
-expect 1 refuses adopt NoProposal
-expect 1 refuses conclude WrongPhase
-expect 1 refuses deliver Undecided
-expect 2 refuses adopt WrongPhase
-expect 2 refuses suspect WrongPhase
-2 receive #8
-expect 2 refuses choose 1 TooFew
-2 receive #7
-2 choose 1 => ok 9-11
-expect 2 phase Wait
-2 receive #10
-1 receive #9
-2 adopt => ok 12
-expect 2 phase Tally
-1 adopt => ok 13
-expect 1 phase Rest
-2 receive #13
-expect 2 refuses conclude TooFew
-2 receive #12
-2 conclude => ok 14-16
-expect 2 phase Rest
-2 receive #15
-expect 2 refuses enter Decided
-expect 2 refuses follow Busy",
         ],
     },
 ];
@@ -566,7 +425,7 @@ next 3 => next [\"receive\",3,3]
 ];
 
 // Decisions that are kept, followed, and not proposed again.
-pub(super) static LATER: [Run; 4] = [
+pub(super) static LATER: [Run; 2] = [
     Run {
         name: "a decision is kept for an instance to come",
         counts: (21, 22, 1),
@@ -606,44 +465,6 @@ expect 3 idle
 3 receive #3 => ok 20-22
 3 begin => refused 3 Nothing: instance 1 idle
 3 follow => refused 3 Undecided: instance 1 idle",
-        ],
-    },
-    Run {
-        name: "a follower needs a cell",
-        counts: (18, 19, 0),
-        parts: &[
-            "members 3
-cells 0",
-            RELAYED,
-            CHOSEN,
-            DECIDED,
-            "3 follow => refused 3 Undecided: instance 0 idle
-3 receive #16 => ok 17-19
-3 follow => refused 3 Full(Cells): 0 at most",
-        ],
-    },
-    Run {
-        name: "what was delivered is not proposed again",
-        counts: (26, 26, 1),
-        parts: &[
-            "members 3
-cells 4",
-            RELAYED,
-            "crash 3",
-            CHOSEN,
-            DECIDED,
-            "2 receive #15
-2 deliver
-1 receive #14 => ok 17-19
-1 deliver
-2 submit add 1 2 => ok 20-22
-1 receive #20 => ok 23-25
-1 begin
-1 begin => refused 1 Busy: instance 2 round 0 Rest, estimate {2.1} ts 0, acks 0 of 0
-expect 1 instance 2
-1 deliver => refused 1 Undecided: instance 2 round 0 Rest, estimate {2.1} ts 0, acks 0 of 0
-1 enter => ok 26
-1 repeat #26 => refused 1 NotSent: #26 Est 2/1 from 1 {2.1} ts 0 went to member 2",
         ],
     },
 ];
