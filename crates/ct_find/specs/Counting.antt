@@ -7,7 +7,7 @@ use Rattle.ct_walk.specs.Faults.{IsShort}
 use Rattle.ct_find.specs.declared.call.FindCall.{FindCall}
 use Rattle.ct_find.specs.declared.count_text.CountForm.{CountForm}
 use Rattle.ct_find.specs.declared.fault.FindFault.{FindFault}
-use Rattle.ct_find.specs.declared.fault.FindFault.TheVariants.{Walk, Shrink, NotFound}
+use Rattle.ct_find.specs.declared.fault.FindFault.TheVariants.{Walk, NotFound}
 use Rattle.ct_find.specs.declared.fault.NotFound.{NotFound as None_shown}
 use Rattle.ct_find.specs.declared.tally.Tally.{Tally}
 use Rattle.ct_find.specs.Counts.{count_text}
@@ -37,5 +37,4 @@ none_shown call =
 -- memory or the board was short, or a write failed
 abbrev pub IsCountFault : FindFault → Type 0
 IsCountFault (Walk fault) = IsShort fault ⊎ (fault ≡ walk.Write)
-IsCountFault (Shrink fault) = ⊥
 IsCountFault (NotFound none) = ⊥
