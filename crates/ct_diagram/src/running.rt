@@ -11,7 +11,7 @@ use crate::drawing::diagram;
 use crate::window::Window;
 use ct_records::ProgramFault;
 use ct_streams::{Failed, Sink, Source, read_all, write_all};
-use ct_told::{ShowFault, read_told, read_told};
+use ct_told::{ShowFault, read_told};
 use std::alloc::Global;
 
 /// Reads a record to its end and writes the diagram of the steps that the window has. The whole text is made before the first
