@@ -1,5 +1,5 @@
 -- The statuses that programs end with. Each fault's is one of these.
-use Rattle.std.specs.Prelude.{ℕ, Bool, Option, Some, None, Result, Ok, Err, if◌then◌else◌}
+use Rattle.std.specs.Prelude.{ℕ, Bool, Option, Some, None, Result, Ok, Err, ◌&&◌, nat_eq, if◌then◌else◌}
 use Rattle.ct_streams.specs.declared.status.Status.{Status}
 use Rattle.ct_streams.specs.declared.status.Status.TheVariants.{Done, Refused, NoRecord, Words, Stream, Memory}
 
@@ -11,7 +11,7 @@ code Words = 3
 code Stream = 4
 code Memory = 5
 
--- how a program ends after this: no fault counts where nobody reads any more what it writes
-abbrev pub unless_broken : {A E : Type 0} → Result A E → Bool → Result (Option A) E
-unless_broken (Ok done) broken = Ok (Some done)
-unless_broken (Err fault) broken = if broken then Ok None else Err fault
+-- how a program ends after this, where a fault has that status: no failed stream counts where nobody reads any more what it writes
+abbrev pub unless_broken : {A E : Type 0} → (E → ℕ) → Result A E → Bool → Result (Option A) E
+unless_broken status (Ok done) broken = Ok (Some done)
+unless_broken status (Err fault) broken = if broken && nat_eq (status fault) (code Stream) then Ok None else Err fault

@@ -3,6 +3,8 @@
 ghost use Rattle.std.specs.Prelude.{◌≡◌, ℕ};
 ghost use Rattle.ct_streams.specs.Statuses.{unless_broken};
 
+use crate::status::Status;
+
 /// Why a program ends without what it was asked for. Its text is the line for standard error.
 pub trait Fault {
     // The status of the fault.
@@ -13,13 +15,22 @@ pub trait Fault {
         ensures { result ≡ ends_with self.now };
 }
 
-/// What a program makes of how a command ended that writes: nothing is wrong where the writer broke, as nobody reads any more what it writes.
-pub fn unless_broken<T, F: Drop>(ended: Result<T, F>, is_broken: bool) -> Result<Option<T>, F>
-    ensures { result ≡ unless_broken ended is_broken }
+/// What a program makes of how a command ended that writes: a stream that failed is nothing wrong where the writer broke, as nobody
+/// reads any more what it writes.
+pub fn unless_broken<T, F: Fault + Drop>(
+    ended: Result<T, F>,
+    is_broken: bool,
+) -> Result<Option<T>, F>
+    ensures { result ≡ unless_broken F.ends_with ended is_broken }
 {
     match ended {
         Ok(done) => Ok(Some(done)),
-        Err(_) if is_broken => Ok(None),
-        Err(fault) => Err(fault),
+        Err(fault) => {
+            if is_broken && fault.status() == Status::Stream.code() {
+                Ok(None)
+            } else {
+                Err(fault)
+            }
+        }
     }
 }
