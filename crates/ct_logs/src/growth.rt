@@ -61,7 +61,10 @@ impl Growth {
         let Growth { setup, merger } = self;
         match merger.go_on() {
             Ok(Ok(merger)) => Ok(Ok(Growth { setup, merger })),
-            Ok(Err(culprit)) => Ok(Err(culprit)),
+            Ok(Err((culprit, logs))) => {
+                drop(logs);
+                Ok(Err(culprit))
+            }
             Err(fault) => Err(short(fault)),
         }
     }
@@ -74,7 +77,7 @@ impl Growth {
         ensures err { IfErr result (λ fault. fault ≢ MergeFault.Write) }
     {
         let Growth { setup, merger } = self;
-        match merger.end_with_logs() {
+        match merger.end() {
             Ok((verdict, logs)) => {
                 let judged = with_stopped(alloc, setup, verdict, &logs, String::new(alloc));
                 drop(logs);

@@ -9,7 +9,8 @@ use crate::growth::short;
 use crate::judged::{Judged, with_stopped};
 use crate::log_set::LogSet;
 use crate::merge_fault::MergeFault;
-use ct_merge::{LogLine, Presumption, Verdict, presume};
+use ct_merge::{LogLine, Verdict};
+use ct_presume::{Presumption, presume};
 use ct_world::Setup;
 use std::alloc::{AllocError, Global};
 

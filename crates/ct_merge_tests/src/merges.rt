@@ -270,7 +270,7 @@ fn with(grown: Grown, member: Member, line: LogLine) -> Option<Result<Grown, Cul
     }
     match merger.go_on() {
         Ok(Ok(merger)) => Some(Ok(Grown { setup, merger })),
-        Ok(Err(culprit)) => Some(Err(culprit)),
+        Ok(Err((culprit, _))) => Some(Err(culprit)),
         Err(_) => None,
     }
 }
@@ -314,7 +314,7 @@ fn grown_with(alloc: Global, logs: Vec<Vec<LogLine>>) -> Option<Result<Verdict, 
         }
     }
     match grown.merger.end() {
-        Ok(verdict) => Some(Ok(verdict)),
+        Ok((verdict, _)) => Some(Ok(verdict)),
         Err(_) => None,
     }
 }

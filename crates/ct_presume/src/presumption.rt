@@ -1,7 +1,6 @@
 //! What logs come to whose ends may be lost.
 
-use crate::log_line::LogLine;
-use crate::verdict::Verdict;
+use ct_merge::{LogLine, Verdict};
 
 /// What logs come to whose ends may be lost.
 #[derive(Drop)]

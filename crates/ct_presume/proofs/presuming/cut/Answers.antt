@@ -1,7 +1,7 @@
 use Rattle.std.proofs.Common.{rules, ◌≡◌, true}
 use Rattle.ct_merge.specs.Waits.{is_wait}
-use Rattle.ct_merge.proofs.GoingOn.{none_needed}
-use Rattle.ct_merge.proofs.presuming.cut.Goals as goal
+use Rattle.ct_presume.proofs.GoingOn.{none_needed}
+use Rattle.ct_presume.proofs.presuming.cut.Goals as goal
 
 pub returns-in-Some-clause-needed : goal.returns-in-Some-clause-needed
 returns-in-Some-clause-needed c =

@@ -1,21 +1,23 @@
 -- Logs whose ends may be lost.
-use Rattle.std.proofs.Common.{◌≡◌, ◌≢◌, ℕ, zero, suc, ◌≤◌, ◌++◌, List, [], ◌∷◌, inl, inr, sym, ap, subst, ◌∙◌, refl}
+use Rattle.std.proofs.Common.{◌≡◌, ◌≢◌, ℕ, zero, suc, ◌≤◌, ◌++◌, List, [], ◌∷◌, inl, inr, sym, ap, subst, ◌∙◌}
 use Rattle.std.proofs.Common.{arith, length, take, append-nil, append_assoc}
 use Rattle.std.specs.Global.{Vec}
 use Rattle.std.specs.List.{AllZip}
-use Rattle.std.specs.Prelude.{None}
+use Rattle.std.specs.Prelude.{None, IfOk, Result, Ok, Err}
 use Rattle.std.proofs.lemmas.Bool.{cases_eq}
 use Rattle.ct_names.specs.Prefix.{IsPrefix}
 use Rattle.ct_model.specs.Rehearsal.{Rehearsal}
 use Rattle.ct_model.specs.Setting.{Setting}
 use Rattle.ct_merge.specs.Logs.{IsMerge, IsTold, log_of, own}
-use Rattle.ct_merge.specs.Merging.{IsSameGroup}
-use Rattle.ct_merge.specs.Presuming.{AllOpenWith}
 use Rattle.ct_merge.specs.Stops.{IsCulprit}
+use Rattle.ct_merge.specs.Verdicts.{IfAccepted}
 use Rattle.ct_merge.specs.Waits.{AllBegin, HasNoMerge}
 use Rattle.ct_merge.specs.declared.log_line.LogLine.{LogLine}
 use Rattle.ct_merge.specs.declared.verdict.Culprit.{Culprit}
-use Rattle.ct_merge.proofs.Growing.{grown_on}
+use Rattle.ct_merge.specs.declared.verdict.Verdict.{Verdict}
+use Rattle.ct_merge.specs.declared.verdict.Verdict.TheVariants.{Accepted, Refused, Cut}
+use Rattle.ct_presume.specs.Presuming.{AllOpenWith}
+use Rattle.ct_presume.specs.declared.presumption.Presumption.{Presumption}
 
 -- ---- logs that begin others
 
@@ -43,15 +45,7 @@ begun_more old new p line here others = all
     all zero = at 1 (omega arith)
     all (suc q) = at (suc q) (omega arith)
 
--- ---- groups
-
-pub same_on : (old mid new : Rehearsal) → IsSameGroup old mid → IsSameGroup mid new → IsSameGroup old new
-same_on old mid new a b = record { setting = b.setting ∙ a.setting; cells = b.cells ∙ a.cells }
-
-pub same_self : (w : Rehearsal) → IsSameGroup w w
-same_self w = record { setting = refl; cells = refl }
-
-pub ruleset going = (begun_self, begun_on, begun_more, grown_on, same_on, same_self)
+pub ruleset going = (begun_self, begun_on, begun_more)
 
 -- ---- what is accepted
 
@@ -67,6 +61,19 @@ pub opens : (w : Rehearsal) (logs more : List (Vec LogLine)) → AllBegin logs m
 opens w logs more begun merged p member =
     front IsTold (own w p) (log_of logs p) (begun p).0
     (subst (λ l. AllZip IsTold (own w p) l) (sym (begun p).1) (merged p member))
+
+-- so does what is accepted
+opened : (v : Verdict) (logs more : List (Vec LogLine)) → AllBegin logs more → IfAccepted v (λ w. IsMerge w more) →
+    IfAccepted v (λ w. AllOpenWith w logs)
+opened (Accepted world) logs more begun merged = opens world.rehearsal logs more begun merged
+opened (Refused culprit) logs more begun merged = tt
+opened (Cut culprit) logs more begun merged = tt
+
+pub opens_all : {E : Type 0} (r : Result Presumption E) (logs : List (Vec LogLine)) → IfOk r (λ p. AllBegin logs p.logs.items) →
+    IfOk r (λ p. IfAccepted p.verdict (λ w. IsMerge w p.logs.items)) →
+    IfOk r (λ p. IfAccepted p.verdict (λ w. AllOpenWith w logs))
+opens_all (Ok p) logs begun merged = opened p.verdict logs p.logs.items begun merged
+opens_all (Err e) logs begun merged = tt
 
 -- ---- what is not
 

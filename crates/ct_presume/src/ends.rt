@@ -1,14 +1,9 @@
 //! What members did behind the ends of their logs.
 
-use crate::full_name::FullName;
-use crate::log_act::LogAct;
-use crate::log_line::LogLine;
-use crate::naming::full_name;
-use crate::progress::{Progress, log_of};
 use crate::receipts::Receipts;
-use crate::sending::{may_come, submitted};
 use crate::stated::{MessageName, command_in, first_beside, has, names, ts_in};
 use ct_grammar::Carried;
+use ct_merge::{FullName, LogAct, Merger, may_come, name_of, submitted};
 use ct_model::Step;
 use ct_names::{Instance, Member, Round, Serial};
 use ct_world::{Wire, World};
@@ -43,15 +38,14 @@ pub(crate) enum Next {
 #[derive(Clone, Copy)]
 pub(crate) struct Ends<'a> {
     pub alloc: Global,
-    pub progress: &'a Progress,
-    pub logs: &'a [Vec<LogLine>],
+    pub merger: &'a Merger,
     pub receipts: &'a Receipts,
 }
 
 impl<'a> Ends<'a> {
     /// The world behind which logs stand.
     pub(crate) fn world(&self) -> &World {
-        self.progress.stage().world()
+        self.merger.progress().stage().world()
     }
 
     /// The coordinator of the round.
@@ -73,7 +67,10 @@ impl<'a> Ends<'a> {
 
     // What the next line of the member's log receives.
     fn awaited_by(&self, member: Member) -> Option<Awaited> {
-        let line = log_of(self.logs, member).get(self.progress.count(member))?;
+        let line = self
+            .merger
+            .log(member)
+            .get(self.merger.progress().count(member))?;
         match line.act {
             LogAct::Receive(name) => Some(Awaited {
                 from: name.from,
@@ -103,7 +100,7 @@ impl<'a> Ends<'a> {
     /// Whether the log of the sender has ended, and the envelope may still come.
     pub(crate) fn is_lost(&self, awaited: Awaited) -> bool {
         let Awaited { from, to, carried } = awaited;
-        log_of(self.logs, from).len() <= self.progress.count(from)
+        self.merger.log(from).len() <= self.merger.progress().count(from)
             && may_come(self.world(), to, FullName { carried, from })
     }
 
@@ -154,7 +151,7 @@ impl<'a> Ends<'a> {
                     carried,
                     from: j + 1,
                 };
-                if let Some(text) = self.receipts.said(self.logs, i + 1, name) {
+                if let Some(text) = self.receipts.said(self.merger, i + 1, name) {
                     if let Some(command) = command_in(self.alloc, text)? {
                         return Ok(Next::Did(LogAct::Submit(command)));
                     }
@@ -171,14 +168,8 @@ impl<'a> Ends<'a> {
         carried: Carried,
         origin: Member,
     ) -> Result<Next, AllocError> {
-        for i in 0..self.world().group().n() {
-            let name = FullName {
-                carried,
-                from: i + 1,
-            };
-            if self.waits(to, name).is_some() {
-                return Ok(Next::Did(LogAct::Receive(name)));
-            }
+        if let Some(name) = self.waiting(to, carried) {
+            return Ok(Next::Did(LogAct::Receive(name)));
         }
         match carried {
             Carried::Data(from, _) if from == to => self.submission(to),
@@ -193,7 +184,7 @@ impl<'a> Ends<'a> {
 
     /// The serial of the envelope of this name, where that waits at the member.
     pub(crate) fn waits(&self, member: Member, name: FullName) -> Option<Serial> {
-        let serial = self.progress.serial(member, name)?;
+        let serial = self.merger.progress().serial(member, name)?;
         match self.world().enabled(&Step::Receive(member, serial)) {
             Ok(()) => Some(serial),
             Err(_) => None,
@@ -288,7 +279,7 @@ impl<'a> Ends<'a> {
     fn waiting_decision(&self, member: Member, instance: Instance) -> Option<FullName> {
         for serial in self.world().waiting(member)? {
             if self.brings_decision(*serial, instance) {
-                return full_name(self.progress.stage(), *serial);
+                return name_of(self.merger.progress().stage(), *serial);
             }
         }
         None
@@ -325,7 +316,7 @@ impl<'a> Ends<'a> {
     fn any_message(&self, member: Member) -> Next {
         let received = self.world().received(member).unwrap_or(&[]);
         for serial in self.world().waiting(member).unwrap_or(&[]) {
-            if let Some(name) = full_name(self.progress.stage(), *serial) {
+            if let Some(name) = name_of(self.merger.progress().stage(), *serial) {
                 if let Carried::Data(origin, number) = name.carried {
                     if !has(received, MessageName { origin, number }) {
                         return Next::Did(LogAct::Receive(name));
@@ -345,7 +336,10 @@ impl<'a> Ends<'a> {
                 carried: Carried::Est(instance, round),
                 from,
             };
-            if let Some(text) = self.receipts.said(self.logs, self.coordinator(round), name) {
+            if let Some(text) = self
+                .receipts
+                .said(self.merger, self.coordinator(round), name)
+            {
                 return if ts_in(text) == Some(0) {
                     Some(text)
                 } else {

@@ -1,11 +1,10 @@
 //! The rounds of members behind the ends of their logs.
 
 use crate::ends::{Awaited, Ends, Next, ROUNDS};
-use crate::full_name::FullName;
-use crate::log_act::LogAct;
 use crate::receipts::{ENDED, ENTERED, PROPOSED, REPLIED, stage_of};
 use crate::stated::ts_in;
 use ct_grammar::Carried;
+use ct_merge::{FullName, LogAct};
 use ct_model::{Phase, Step};
 use ct_names::{Instance, Member, Round, Serial};
 use ct_play::push_outcome;
@@ -68,7 +67,7 @@ impl<'a> Ends<'a> {
             from,
         };
         for i in 0..self.world().group().n() {
-            if let Some(text) = self.receipts.said(self.logs, i + 1, name) {
+            if let Some(text) = self.receipts.said(self.merger, i + 1, name) {
                 return Some(text);
             }
         }
@@ -187,7 +186,10 @@ impl<'a> Ends<'a> {
                 carried: Carried::Est(instance, later),
                 from,
             };
-            if let Some(text) = self.receipts.said(self.logs, self.coordinator(later), name) {
+            if let Some(text) = self
+                .receipts
+                .said(self.merger, self.coordinator(later), name)
+            {
                 let ts = ts_in(text)?;
                 return if ts > round { None } else { Some(ts == round) };
             }
@@ -252,8 +254,8 @@ impl<'a> Ends<'a> {
         false
     }
 
-    // What carries this and waits at the member.
-    fn waiting(&self, member: Member, carried: Carried) -> Option<FullName> {
+    /// What carries this and waits at the member.
+    pub(crate) fn waiting(&self, member: Member, carried: Carried) -> Option<FullName> {
         for i in 0..self.world().group().n() {
             let name = FullName {
                 carried,

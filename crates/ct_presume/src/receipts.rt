@@ -1,11 +1,7 @@
 //! What logs say that members received.
 
-use crate::address::{Address, address_of};
-use crate::full_name::FullName;
-use crate::log_act::LogAct;
-use crate::log_line::LogLine;
-use crate::progress::log_of;
 use ct_grammar::Carried;
+use ct_merge::{Address, FullName, LogAct, LogLine, Merger, address_of};
 use ct_names::{Group, Instance, MAX_MEMBERS, Member, Round};
 use indexmap::IndexMap;
 use std::alloc::{AllocError, Global};
@@ -51,7 +47,7 @@ impl Receipts {
     pub(crate) fn new(
         alloc: Global,
         group: Group,
-        logs: &[Vec<LogLine>],
+        merger: &Merger,
     ) -> Result<Receipts, AllocError> {
         let mut receipts = Receipts {
             group,
@@ -60,7 +56,7 @@ impl Receipts {
             rounds: IndexMap::new(alloc),
         };
         for i in 0..MAX_MEMBERS {
-            receipts.take_log(i + 1, log_of(logs, i + 1))?;
+            receipts.take_log(i + 1, merger.log(i + 1))?;
         }
         Ok(receipts)
     }
@@ -133,12 +129,12 @@ impl Receipts {
     /// What is stated of the envelope of this name that the member received.
     pub(crate) fn said<'l>(
         &self,
-        logs: &'l [Vec<LogLine>],
+        merger: &'l Merger,
         member: Member,
         name: FullName,
     ) -> Option<&'l str> {
         let place = self.places.get(&address_of(member, name)).copied()?;
-        said_at(log_of(logs, member), place)
+        said_at(merger.log(member), place)
     }
 }
 
