@@ -3,6 +3,7 @@
 ghost use Rattle.std.specs.Prelude.{◌≡◌};
 ghost use Rattle.ct_logs.specs.Faults.{status_of};
 
+use ct_play::LineFault;
 use ct_streams::{FileFault, Status};
 use std::alloc::AllocError;
 use thiserror::Error;
@@ -64,5 +65,15 @@ impl From<AllocError> for MergeFault {
 
     fn from(_error: AllocError) -> MergeFault {
         MergeFault::Memory
+    }
+}
+
+// Memory or the board was refused.
+impl From<LineFault> for MergeFault {
+    fn from(fault: LineFault) -> MergeFault {
+        match fault {
+            LineFault::Board => MergeFault::Board,
+            _ => MergeFault::Memory,
+        }
     }
 }

@@ -23,9 +23,7 @@ use ct_judge::{
     record_command, record_partial, session_end,
 };
 use ct_listing::{schedule_command, write_schedule};
-use ct_logs::{
-    MergeFault, Told, follow_logs, merge_command, merge_form, merge_idle, merge_logs, presume_logs,
-};
+use ct_logs::{MergeFault, Told, Way, merge_command, merge_form, merge_idle, merge_logs};
 use ct_program::{CommandFault, answer_status};
 use ct_records::ProgramFault;
 use ct_show::{ShowFault, shown_end};
@@ -377,16 +375,14 @@ fn merge(rt: &HostRuntime, found: &ArgMatches<'_>) -> ExitCode {
     let form = merge_form(found);
     let (alloc, host) = (rt.alloc(), Host::new(rt));
     let mut writer = Counted::new(io::writer(rt));
-    if found.get_flag("follow") {
-        let mut pace = Clockwork::new(rt, idle);
-        let ended = follow_logs(alloc, &host, names, form, &mut pace, &mut writer);
-        return end_merge(rt, ended, writer.is_broken());
-    }
-    let ended = if found.get_flag("presume") {
-        presume_logs(alloc, &host, names, form, &mut writer)
+    let way = if found.get_flag("follow") {
+        Way::Follow(Clockwork::new(rt, idle))
+    } else if found.get_flag("presume") {
+        Way::Presume
     } else {
-        merge_logs(alloc, &host, names, form, &mut writer)
+        Way::Once
     };
+    let ended = merge_logs(alloc, &host, names, form, way, &mut writer);
     end_merge(rt, ended, writer.is_broken())
 }
 
