@@ -5,7 +5,7 @@ use crate::others::push_others;
 use crate::sources::Sources;
 use crate::torn::push_torn;
 use ct_grammar::Carried;
-use ct_merge::{Culprit, FullName, LogAct, LogFault, LogText, StoppedLines, Why, push_why};
+use ct_merge::{Culprit, LogAct, StoppedLines, Why, push_why};
 use ct_names::Member;
 use ct_world::World;
 use std::alloc::{AllocError, Global};
@@ -73,7 +73,7 @@ fn push_instead(
     from: Member,
     world: &World,
 ) -> Result<(), AllocError> {
-    let Some(name) = received(alloc, member, sources.line(member, place))? else {
+    let Some(LogAct::Receive(name)) = sources.set.act(member, place) else {
         return Ok(());
     };
     let Some(reply) = sent_instead(alloc, world, member, name)? else {
@@ -91,52 +91,5 @@ fn push_reply(text: &mut String, carried: Carried) -> Result<(), AllocError> {
         Carried::Ack(instance, round) => write!(text, "ack {instance}/{round}"),
         Carried::Nack(instance, round) => write!(text, "nack {instance}/{round}"),
         _ => Ok(()),
-    }
-}
-
-// The full name of the envelope that the line of the member's log receives.
-fn received(alloc: Global, member: Member, line: &[u8]) -> Result<Option<FullName>, AllocError> {
-    let text = with_feed(alloc, line)?;
-    let read = LogText::read(alloc, member, &text);
-    drop(text);
-    match read {
-        Ok(mut log) => {
-            let name = first_name(alloc, &mut log);
-            drop(log);
-            Ok(name)
-        }
-        Err(LogFault::Memory) => Err(AllocError),
-        Err(LogFault::Line(_, why)) => {
-            drop(why);
-            Ok(None)
-        }
-    }
-}
-
-// The line, and a line feed.
-fn with_feed(alloc: Global, line: &[u8]) -> Result<Vec<u8>, AllocError> {
-    let mut text = Vec::new(alloc);
-    text.extend_from_slice(line)?;
-    text.push(b'\n')?;
-    Ok(text)
-}
-
-// The full name of the envelope that the first line of the log receives.
-fn first_name(alloc: Global, log: &mut LogText) -> Option<FullName> {
-    let (_, _, lines, places) = log.take_parts(alloc);
-    drop(places);
-    let name = match lines.first() {
-        Some(line) => name_in(line.act),
-        None => None,
-    };
-    drop(lines);
-    name
-}
-
-// The full name of the envelope that the act receives.
-fn name_in(act: LogAct) -> Option<FullName> {
-    match act {
-        LogAct::Receive(name) => Some(name),
-        _ => None,
     }
 }

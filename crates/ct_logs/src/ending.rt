@@ -1,7 +1,6 @@
 //! What logs came to.
 
-ghost use Rattle.std.specs.Prelude.{◌≡◌, ◌≢◌, IfErr, IfOk};
-ghost use Rattle.ct_world.specs.Setup.{setting_of};
+ghost use Rattle.std.specs.Prelude.{IfOk};
 ghost use Rattle.ct_merge.specs.Verdicts.{IfAccepted};
 ghost use Rattle.ct_logs.specs.Merged.{IsSomeMerge, IsSomeRun};
 
@@ -10,7 +9,6 @@ use crate::form::Form;
 use crate::judged::Judged;
 use crate::log_set::LogSet;
 use crate::merge_fault::MergeFault;
-use crate::misfit::Misfit;
 use crate::showing::accepted;
 use crate::sources::Sources;
 use crate::told::Told;
@@ -18,7 +16,7 @@ use crate::torn::push_torn;
 use crate::unmet::unmet_text;
 use crate::writing::written;
 use ct_merge::Verdict;
-use ct_world::{Setup, World};
+use ct_world::World;
 use std::alloc::{AllocError, Global};
 
 // What is written of logs that are accepted, and what is told of them.
@@ -37,13 +35,15 @@ pub(crate) fn end_of(
     judged: Judged,
     form: Form,
 ) -> Result<AcceptedRun, MergeFault>
-    requires merged { IfAccepted judged.verdict IsSomeMerge }
-    requires setting { IfAccepted judged.verdict (λ w. w.setting ≡ setting_of judged.setup) }
-    requires cells { IfAccepted judged.verdict (λ w. w.cells ≡ judged.setup.cells) }
-    ensures run { IfOk result (λ run. IsSomeRun form run.text.items) }
-    ensures err { IfErr result (λ fault. fault ≢ MergeFault.Write) }
+    requires { IfAccepted judged.verdict IsSomeMerge }
+    ensures { IfOk result (λ run. IsSomeRun form run.text.items) }
 {
-    let told = told_in(alloc, names, &texts, &set, &judged);
+    let sources = Sources {
+        names,
+        texts: &texts,
+        set: &set,
+    };
+    let told = told_in(alloc, sources, &judged);
     drop(texts);
     drop(set);
     match told {
@@ -57,21 +57,17 @@ pub(crate) fn end_of(
 
 // What is written and told of a run behind which this is told of torn last lines; or this, why none is written.
 fn ended(alloc: Global, judged: Judged, form: Form, told: String) -> Result<AcceptedRun, MergeFault>
-    requires merged { IfAccepted judged.verdict IsSomeMerge }
-    requires setting { IfAccepted judged.verdict (λ w. w.setting ≡ setting_of judged.setup) }
-    requires cells { IfAccepted judged.verdict (λ w. w.cells ≡ judged.setup.cells) }
-    ensures run { IfOk result (λ run. IsSomeRun form run.text.items) }
-    ensures err { IfErr result (λ fault. fault ≢ MergeFault.Write) }
+    requires { IfAccepted judged.verdict IsSomeMerge }
+    ensures { IfOk result (λ run. IsSomeRun form run.text.items) }
 {
     let Judged {
-        setup,
         verdict,
         stopped,
         presumed,
     } = judged;
     drop(stopped);
     match verdict {
-        Verdict::Accepted(world) => accept(alloc, setup, world, form, told, presumed),
+        Verdict::Accepted(world) => accept(alloc, world, form, told, presumed),
         Verdict::Refused(culprit) => {
             drop(culprit);
             drop(presumed);
@@ -87,87 +83,59 @@ fn ended(alloc: Global, judged: Judged, form: Form, told: String) -> Result<Acce
 
 // What is told of logs that came to this: of torn last lines where they are accepted, else of the line at which a log stands. Where an
 // expectation does not hold in the run, as far as the logs go, they are refused.
-fn told_in(
-    alloc: Global,
-    names: &[&str],
-    texts: &[Vec<u8>],
-    set: &LogSet,
-    judged: &Judged,
-) -> Result<String, MergeFault>
-    ensures { IfErr result (λ fault. fault ≢ MergeFault.Write) }
-{
-    match unmet_in(alloc, names, texts, set, judged)? {
+fn told_in(alloc: Global, sources: Sources<'_>, judged: &Judged) -> Result<String, MergeFault> {
+    match unmet_in(alloc, sources, judged)? {
         Some(text) => Err(MergeFault::Refused(text)),
-        None => Ok(verdict_in(alloc, names, texts, set, judged)?),
+        None => Ok(verdict_in(alloc, sources, judged)?),
     }
 }
 
 // What is told of an expectation that does not hold.
 fn unmet_in(
     alloc: Global,
-    names: &[&str],
-    texts: &[Vec<u8>],
-    set: &LogSet,
+    sources: Sources<'_>,
     judged: &Judged,
-) -> Result<Option<String>, MergeFault>
-    ensures { IfErr result (λ fault. fault ≢ MergeFault.Write) }
-{
-    let files = sources(names, texts, set);
-    let setup = judged.setup;
+) -> Result<Option<String>, MergeFault> {
     match (&judged.verdict, &judged.stopped) {
-        (Verdict::Accepted(world), _) => unmet_text(alloc, files, setup, world),
-        (_, Some(stopped)) => unmet_text(alloc, files, setup, &stopped.run),
+        (Verdict::Accepted(world), _) => unmet_text(alloc, sources, world),
+        (_, Some(stopped)) => unmet_text(alloc, sources, &stopped.run),
         (_, None) => Ok(None),
     }
 }
 
 // What is told of the verdict.
-fn verdict_in(
-    alloc: Global,
-    names: &[&str],
-    texts: &[Vec<u8>],
-    set: &LogSet,
-    judged: &Judged,
-) -> Result<String, AllocError> {
+fn verdict_in(alloc: Global, sources: Sources<'_>, judged: &Judged) -> Result<String, AllocError> {
     match &judged.verdict {
-        Verdict::Accepted(_) => torn_of(alloc, names, texts),
-        Verdict::Refused(culprit) | Verdict::Cut(culprit) => told_of(
-            alloc,
-            sources(names, texts, set),
-            culprit,
-            judged.stopped.as_ref(),
-        ),
+        Verdict::Accepted(_) => torn_of(alloc, sources),
+        Verdict::Refused(culprit) | Verdict::Cut(culprit) => {
+            told_of(alloc, sources, culprit, judged.stopped.as_ref())
+        }
     }
 }
 
 // What is told of last lines that are torn.
-fn torn_of(alloc: Global, names: &[&str], texts: &[Vec<u8>]) -> Result<String, AllocError> {
+fn torn_of(alloc: Global, sources: Sources<'_>) -> Result<String, AllocError> {
     let mut text = String::new(alloc);
-    push_torn(&mut text, names, texts)?;
+    push_torn(&mut text, sources.names, sources.texts)?;
     Ok(text)
 }
 
 // What is written and told of the run.
 fn accept(
     alloc: Global,
-    setup: Setup,
     world: World,
     form: Form,
     torn: String,
     presumed: String,
 ) -> Result<AcceptedRun, MergeFault>
-    requires setting { world.rehearsal.setting ≡ setting_of setup }
-    requires cells { world.rehearsal.cells ≡ setup.cells }
-    requires merged { IsSomeMerge world.rehearsal }
-    ensures run { IfOk result (λ run. IsSomeRun form run.text.items) }
-    ensures err { IfErr result (λ fault. fault ≡ MergeFault.Memory) }
+    requires { IsSomeMerge world.rehearsal }
+    ensures { IfOk result (λ run. IsSomeRun form run.text.items) }
 {
-    let same = setup;
-    let told = told_of_run(alloc, setup, &world, torn.as_str(), presumed.as_str());
+    let told = told_of_run(alloc, &world, torn.as_str(), presumed.as_str());
     drop(torn);
     drop(presumed);
     match told {
-        Ok(told) => write_of(alloc, same, world, form, told),
+        Ok(told) => write_of(alloc, world, form, told),
         Err(_) => {
             drop(world);
             Err(MergeFault::Memory)
@@ -177,24 +145,15 @@ fn accept(
 
 // What is written of the run, of which this is told.
 #[tactic(auto, using(crate::proofs::Merged::some_run))]
-fn write_of(
-    alloc: Global,
-    setup: Setup,
-    world: World,
-    form: Form,
-    told: Told,
-) -> Result<AcceptedRun, MergeFault>
-    requires setting { world.rehearsal.setting ≡ setting_of setup }
-    requires cells { world.rehearsal.cells ≡ setup.cells }
-    requires merged { IsSomeMerge world.rehearsal }
-    ensures run { IfOk result (λ run. IsSomeRun form run.text.items) }
-    ensures err { IfErr result (λ fault. fault ≡ MergeFault.Memory) }
+fn write_of(alloc: Global, world: World, form: Form, told: Told) -> Result<AcceptedRun, MergeFault>
+    requires { IsSomeMerge world.rehearsal }
+    ensures { IfOk result (λ run. IsSomeRun form run.text.items) }
 {
-    match written(alloc, setup, world, form) {
+    match written(alloc, world, form) {
         Ok(text) => Ok(AcceptedRun { text, told }),
-        Err(fault) => {
+        Err(_) => {
             drop(told);
-            Err(fault)
+            Err(MergeFault::Memory)
         }
     }
 }
@@ -202,34 +161,14 @@ fn write_of(
 // What is told of the run.
 fn told_of_run(
     alloc: Global,
-    setup: Setup,
     world: &World,
     torn: &str,
     presumed: &str,
 ) -> Result<Told, AllocError> {
-    let mut text = accepted(alloc, setup, world, presumed)?;
+    let mut text = accepted(alloc, world, presumed)?;
     text.push_str(torn)?;
     Ok(Told {
         text,
         is_presumed: !presumed.is_empty(),
     })
-}
-
-// Files that are no logs of a group.
-pub(crate) fn no_logs(misfit: Misfit) -> MergeFault
-    ensures { result ≢ MergeFault.Write }
-{
-    match misfit {
-        Misfit::Told(text) => MergeFault::NoLogs(text),
-        Misfit::Memory => MergeFault::Memory,
-    }
-}
-
-// The files of these names and texts.
-pub(crate) fn sources<'a>(
-    names: &'a [&'a str],
-    texts: &'a [Vec<u8>],
-    set: &'a LogSet,
-) -> Sources<'a> {
-    Sources { names, texts, set }
 }

@@ -1,22 +1,21 @@
 //! Logs that are followed.
 
-ghost use Rattle.std.specs.Prelude.{◌≡◌, ◌≢◌, IfErr, IfOk};
-ghost use Rattle.ct_world.specs.Setup.{setting_of};
+ghost use Rattle.std.specs.Prelude.{IfOk};
 ghost use Rattle.ct_merge.specs.Verdicts.{IfAccepted};
 ghost use Rattle.ct_logs.specs.Merged.{IsSomeMerge, IsSomeRun};
 
 use crate::culprit::told_of;
-use crate::ending::{AcceptedRun, end_of, no_logs, sources};
+use crate::ending::{AcceptedRun, end_of};
 use crate::form::Form;
-use crate::growth::Growth;
+use crate::growth::{add, end};
 use crate::judged::Judged;
 use crate::log_set::{LogSet, name_at, position_of};
 use crate::merge_fault::MergeFault;
-use crate::misfit::Misfit;
 use crate::pace::Pace;
 use crate::reading::{too_long, unread};
+use crate::sources::Sources;
 use crate::tail::{Parts, Tail};
-use ct_merge::{Culprit, LogLine};
+use ct_merge::{Culprit, LogLine, Merger};
 use ct_names::Member;
 use ct_streams::{FileFault, Files, Source};
 use std::alloc::{AllocError, Global};
@@ -33,7 +32,7 @@ struct Following<R: Source + Drop> {
     // A log gives the number of members, and has an act behind that.
     is_headed: bool,
     // None before the numbers of the group are settled.
-    growth: Option<Growth>,
+    merger: Option<Merger>,
 }
 
 // What logs came to that ended, and their texts.
@@ -51,18 +50,18 @@ enum Look {
 }
 
 // What the logs in the files of these names come to that are followed.
-pub(crate) fn followed<F: Files, P: Pace>(
+pub(crate) fn followed<F: Files, P: Pace + Drop>(
     alloc: Global,
     files: &F,
     names: &[&str],
     form: Form,
-    pace: &mut P,
+    pace: P,
 ) -> Result<AcceptedRun, MergeFault>
-    ensures run { IfOk result (λ run. IsSomeRun form run.text.items) }
-    ensures err { IfErr result (λ fault. fault ≢ MergeFault.Write) }
+    ensures { IfOk result (λ run. IsSomeRun form run.text.items) }
 {
+    let mut pace = pace;
     let mut following = opened(alloc, files, names)?;
-    match following.follow(alloc, names, pace) {
+    match following.follow(alloc, names, &mut pace) {
         Ok(ended) => following.end(alloc, names, ended, form),
         Err(fault) => {
             drop(following);
@@ -76,9 +75,7 @@ fn opened<F: Files>(
     alloc: Global,
     files: &F,
     names: &[&str],
-) -> Result<Following<F::Reader>, MergeFault>
-    ensures { IfErr result (λ fault. fault ≢ MergeFault.Write) }
-{
+) -> Result<Following<F::Reader>, MergeFault> {
     let set = LogSet::new(alloc)?;
     let mut tails = Vec::new(alloc);
     match open_all(alloc, files, names, &mut tails) {
@@ -86,7 +83,7 @@ fn opened<F: Files>(
             tails,
             set,
             is_headed: false,
-            growth: None,
+            merger: None,
         }),
         Err(fault) => {
             drop(tails);
@@ -101,9 +98,7 @@ fn open_all<F: Files>(
     files: &F,
     names: &[&str],
     tails: &mut Vec<Tail<F::Reader>>,
-) -> Result<(), MergeFault>
-    ensures { IfErr result (λ fault. fault ≢ MergeFault.Write) }
-{
+) -> Result<(), MergeFault> {
     for (file, name) in names.iter().enumerate() {
         let tail = open(alloc, files, name, file)?;
         if tails.push(tail).is_err() {
@@ -119,13 +114,8 @@ fn open<F: Files>(
     files: &F,
     name: &str,
     file: usize,
-) -> Result<Tail<F::Reader>, MergeFault>
-    ensures { IfErr result (λ fault. fault ≢ MergeFault.Write) }
-{
-    let position = match position_of(alloc, name, file) {
-        Ok(position) => position,
-        Err(misfit) => return Err(no_logs(misfit)),
-    };
+) -> Result<Tail<F::Reader>, MergeFault> {
+    let position = position_of(alloc, name, file)?;
     match files.open(name) {
         Ok(reader) => Ok(Tail::new(alloc, position, reader)),
         Err(fault) => Err(unread(alloc, name, fault)),
@@ -140,10 +130,7 @@ impl<R: Source + Drop> Following<R> {
         names: &[&str],
         pace: &mut P,
     ) -> Result<Ended, MergeFault>
-        ensures merged { IfOk result (λ ended. IfAccepted ended.judged.verdict IsSomeMerge) }
-        ensures setting { IfOk result (λ ended. IfAccepted ended.judged.verdict (λ w. w.setting ≡ setting_of ended.judged.setup)) }
-        ensures cells { IfOk result (λ ended. IfAccepted ended.judged.verdict (λ w. w.cells ≡ ended.judged.setup.cells)) }
-        ensures err { IfErr result (λ fault. fault ≢ MergeFault.Write) }
+        ensures { IfOk result (λ ended. IfAccepted ended.judged.verdict IsSomeMerge) }
     {
         match self.watch(alloc, names, pace)? {
             None => self.ended(alloc, names),
@@ -161,9 +148,7 @@ impl<R: Source + Drop> Following<R> {
         alloc: Global,
         names: &[&str],
         pace: &mut P,
-    ) -> Result<Option<Culprit>, MergeFault>
-        ensures { IfErr result (λ fault. fault ≢ MergeFault.Write) }
-    {
+    ) -> Result<Option<Culprit>, MergeFault> {
         let mut piece = vec![in alloc; 0u8; PIECE]?;
         self.watch_by(alloc, names, pace, &mut piece)
     }
@@ -175,9 +160,7 @@ impl<R: Source + Drop> Following<R> {
         names: &[&str],
         pace: &mut P,
         piece: &mut [u8],
-    ) -> Result<Option<Culprit>, MergeFault>
-        ensures { IfErr result (λ fault. fault ≢ MergeFault.Write) }
-    {
+    ) -> Result<Option<Culprit>, MergeFault> {
         for _ in 0..u64::MAX {
             match self.look(alloc, names, piece)? {
                 Look::Refused(culprit) => return Ok(Some(culprit)),
@@ -192,16 +175,19 @@ impl<R: Source + Drop> Following<R> {
     }
 
     // Reads what came of each log, and takes lines that can be taken.
-    fn look(&mut self, alloc: Global, names: &[&str], piece: &mut [u8]) -> Result<Look, MergeFault>
-        ensures { IfErr result (λ fault. fault ≢ MergeFault.Write) }
-    {
+    fn look(
+        &mut self,
+        alloc: Global,
+        names: &[&str],
+        piece: &mut [u8],
+    ) -> Result<Look, MergeFault> {
         let mut bytes: usize = 0;
         let mut lines: usize = 0;
         for file in 0..self.tails.len() {
             let count = self.read(alloc, name_at(names, file), file, piece)?;
             if count > 0 {
                 bytes = bytes.saturating_add(count);
-                lines = lines.saturating_add(self.taken(alloc, names, file)?);
+                lines = lines.saturating_add(self.take(alloc, names, file)?);
             }
         }
         match self.judge(alloc, names)? {
@@ -217,9 +203,7 @@ impl<R: Source + Drop> Following<R> {
         name: &str,
         file: usize,
         piece: &mut [u8],
-    ) -> Result<usize, MergeFault>
-        ensures { IfErr result (λ fault. fault ≢ MergeFault.Write) }
-    {
+    ) -> Result<usize, MergeFault> {
         let Some(tail) = self.tails.get_mut(file) else {
             return Ok(0);
         };
@@ -234,16 +218,7 @@ impl<R: Source + Drop> Following<R> {
     }
 
     // Takes the lines that came in the file of this place. How many.
-    fn taken(&mut self, alloc: Global, names: &[&str], file: usize) -> Result<usize, MergeFault>
-        ensures { IfErr result (λ fault. fault ≢ MergeFault.Write) }
-    {
-        match self.take(alloc, names, file) {
-            Ok(count) => Ok(count),
-            Err(misfit) => Err(no_logs(misfit)),
-        }
-    }
-
-    fn take(&mut self, alloc: Global, names: &[&str], file: usize) -> Result<usize, Misfit> {
+    fn take(&mut self, alloc: Global, names: &[&str], file: usize) -> Result<usize, MergeFault> {
         let name = name_at(names, file);
         let Some(tail) = self.tails.get_mut(file) else {
             return Ok(0);
@@ -261,7 +236,7 @@ impl<R: Source + Drop> Following<R> {
         names: &[&str],
         file: usize,
         parts: &mut Parts,
-    ) -> Result<usize, Misfit> {
+    ) -> Result<usize, MergeFault> {
         match self.belongs(alloc, names, file, parts)? {
             Some(member) => self.add_parts(alloc, member, parts),
             None => Ok(0),
@@ -275,7 +250,7 @@ impl<R: Source + Drop> Following<R> {
         names: &[&str],
         file: usize,
         parts: &Parts,
-    ) -> Result<Option<Member>, Misfit> {
+    ) -> Result<Option<Member>, MergeFault> {
         let name = name_at(names, file);
         self.set.number_group(alloc, name, parts.numbers)?;
         let Some(member) = parts.member else {
@@ -283,7 +258,7 @@ impl<R: Source + Drop> Following<R> {
         };
         self.is_headed = self.is_headed || parts.numbers.members.is_some();
         self.set.claim(alloc, name, file, member)?;
-        if self.growth.is_some() {
+        if self.merger.is_some() {
             self.set.setup(alloc, names)?;
         }
         Ok(Some(member))
@@ -295,7 +270,7 @@ impl<R: Source + Drop> Following<R> {
         alloc: Global,
         member: Member,
         parts: &mut Parts,
-    ) -> Result<usize, Misfit> {
+    ) -> Result<usize, MergeFault> {
         self.set.add_places(member, &parts.places)?;
         let lines = mem::replace(&mut parts.lines, Vec::new(alloc));
         self.add(member, lines)?;
@@ -304,57 +279,39 @@ impl<R: Source + Drop> Following<R> {
 
     // The member's log goes on with these lines.
     fn add(&mut self, member: Member, lines: Vec<LogLine>) -> Result<(), AllocError> {
-        match &mut self.growth {
-            Some(growth) => growth.add(member, lines),
+        match &mut self.merger {
+            Some(merger) => add(merger, member, lines),
             None => self.set.add_lines(member, lines),
         }
     }
 
     // Takes lines that can be taken, once the numbers of the group are settled; a line that is refused.
-    fn judge(&mut self, alloc: Global, names: &[&str]) -> Result<Option<Culprit>, MergeFault>
-        ensures { IfErr result (λ fault. fault ≢ MergeFault.Write) }
-    {
-        let growth = match self.growth.take() {
-            Some(growth) => growth,
+    fn judge(&mut self, alloc: Global, names: &[&str]) -> Result<Option<Culprit>, MergeFault> {
+        let merger = match self.merger.take() {
+            Some(merger) => merger,
             None if self.is_headed => self.settle(alloc, names)?,
             None => return Ok(None),
         };
-        match growth.go_on()? {
-            Ok(growth) => {
-                drop(mem::replace(&mut self.growth, Some(growth)));
+        match merger.go_on()? {
+            Ok(merger) => {
+                drop(mem::replace(&mut self.merger, Some(merger)));
                 Ok(None)
             }
-            Err(culprit) => Ok(Some(culprit)),
+            Err((culprit, logs)) => {
+                drop(logs);
+                Ok(Some(culprit))
+            }
         }
     }
 
     // The group, by the numbers that logs give so far, with the lines that are read.
-    fn settle(&mut self, alloc: Global, names: &[&str]) -> Result<Growth, MergeFault>
-        ensures { IfErr result (λ fault. fault ≢ MergeFault.Write) }
-    {
-        let setup = match self.set.setup(alloc, names) {
-            Ok(setup) => setup,
-            Err(misfit) => return Err(no_logs(misfit)),
-        };
+    fn settle(&mut self, alloc: Global, names: &[&str]) -> Result<Merger, MergeFault> {
+        let setup = self.set.setup(alloc, names)?;
         let same = setup;
         self.set.settle(same);
-        let n = setup.group.n();
-        let mut growth = Growth::new(alloc, setup)?;
-        match self.fill(alloc, &mut growth, n) {
-            Ok(()) => Ok(growth),
-            Err(_) => {
-                drop(growth);
-                Err(MergeFault::Memory)
-            }
-        }
-    }
-
-    // The logs of the first n members go on with the lines that are read.
-    fn fill(&mut self, alloc: Global, growth: &mut Growth, n: u8) -> Result<(), AllocError> {
-        for i in 0..n {
-            growth.add(i + 1, self.set.take_lines(alloc, i + 1))?;
-        }
-        Ok(())
+        self.set.name_senders(same.group);
+        let logs = self.set.take_logs(alloc, same.group.n())?;
+        Ok(Merger::with_logs(alloc, setup, logs)?)
     }
 
     // Whether each log ends with a crash.
@@ -370,34 +327,28 @@ impl<R: Source + Drop> Following<R> {
         ended: Ended,
         form: Form,
     ) -> Result<AcceptedRun, MergeFault>
-        requires merged { IfAccepted ended.judged.verdict IsSomeMerge }
-        requires setting { IfAccepted ended.judged.verdict (λ w. w.setting ≡ setting_of ended.judged.setup) }
-        requires cells { IfAccepted ended.judged.verdict (λ w. w.cells ≡ ended.judged.setup.cells) }
-        ensures run { IfOk result (λ run. IsSomeRun form run.text.items) }
-        ensures err { IfErr result (λ fault. fault ≢ MergeFault.Write) }
+        requires { IfAccepted ended.judged.verdict IsSomeMerge }
+        ensures { IfOk result (λ run. IsSomeRun form run.text.items) }
     {
         let Ended { judged, texts } = ended;
         let Following {
             tails,
             set,
             is_headed: _,
-            growth,
+            merger,
         } = self;
         drop(tails);
-        drop(growth);
+        drop(merger);
         end_of(alloc, names, texts, set, judged, form)
     }
 
     // What the logs come to that end here, and their texts.
     fn ended(&mut self, alloc: Global, names: &[&str]) -> Result<Ended, MergeFault>
-        ensures merged { IfOk result (λ ended. IfAccepted ended.judged.verdict IsSomeMerge) }
-        ensures setting { IfOk result (λ ended. IfAccepted ended.judged.verdict (λ w. w.setting ≡ setting_of ended.judged.setup)) }
-        ensures cells { IfOk result (λ ended. IfAccepted ended.judged.verdict (λ w. w.cells ≡ ended.judged.setup.cells)) }
-        ensures err { IfErr result (λ fault. fault ≢ MergeFault.Write) }
+        ensures { IfOk result (λ ended. IfAccepted ended.judged.verdict IsSomeMerge) }
     {
-        let growth = self.last_growth(alloc, names)?;
+        let merger = self.last_merger(alloc, names)?;
         self.put_expected(alloc);
-        let judged = growth.end(alloc)?;
+        let judged = end(alloc, merger, &mut self.set)?;
         match texts_of(alloc, &mut self.tails) {
             Ok(texts) => Ok(Ended { judged, texts }),
             Err(_) => {
@@ -408,15 +359,11 @@ impl<R: Source + Drop> Following<R> {
     }
 
     // The group; by the numbers that logs give, where they were not settled.
-    fn last_growth(&mut self, alloc: Global, names: &[&str]) -> Result<Growth, MergeFault>
-        ensures { IfErr result (λ fault. fault ≢ MergeFault.Write) }
-    {
-        match self.growth.take() {
-            Some(growth) => Ok(growth),
+    fn last_merger(&mut self, alloc: Global, names: &[&str]) -> Result<Merger, MergeFault> {
+        match self.merger.take() {
+            Some(merger) => Ok(merger),
             None => {
-                if let Err(misfit) = self.claim_rest(alloc, names) {
-                    return Err(no_logs(misfit));
-                }
+                self.claim_rest(alloc, names)?;
                 self.settle(alloc, names)
             }
         }
@@ -433,7 +380,7 @@ impl<R: Source + Drop> Following<R> {
     }
 
     // Logs that name no member are those of the members at whose places they stand.
-    fn claim_rest(&mut self, alloc: Global, names: &[&str]) -> Result<(), Misfit> {
+    fn claim_rest(&mut self, alloc: Global, names: &[&str]) -> Result<(), MergeFault> {
         for (file, tail) in self.tails.iter().enumerate() {
             let member = tail.member.unwrap_or(tail.position);
             self.set.claim(alloc, name_at(names, file), file, member)?;
@@ -442,9 +389,7 @@ impl<R: Source + Drop> Following<R> {
     }
 
     // The logs are refused at this line.
-    fn refuse(&mut self, alloc: Global, names: &[&str], culprit: &Culprit) -> MergeFault
-        ensures { result ≢ MergeFault.Write }
-    {
+    fn refuse(&mut self, alloc: Global, names: &[&str], culprit: &Culprit) -> MergeFault {
         match self.told_of(alloc, names, culprit) {
             Ok(text) => MergeFault::Refused(text),
             Err(_) => MergeFault::Memory,
@@ -459,7 +404,12 @@ impl<R: Source + Drop> Following<R> {
         culprit: &Culprit,
     ) -> Result<String, AllocError> {
         let texts = texts_of(alloc, &mut self.tails)?;
-        let told = told_of(alloc, sources(names, &texts, &self.set), culprit, None);
+        let sources = Sources {
+            names,
+            texts: &texts,
+            set: &self.set,
+        };
+        let told = told_of(alloc, sources, culprit, None);
         drop(texts);
         told
     }

@@ -1,6 +1,6 @@
 //! The numbers of a group, as its logs give them.
 
-use crate::misfit::Misfit;
+use crate::merge_fault::MergeFault;
 use ct_judge::USUAL_CELLS;
 use ct_merge::Numbers;
 use ct_names::{Group, MAX_BOUND, MAX_CELLS, MAX_MEMBERS, Member};
@@ -66,7 +66,7 @@ impl GroupNumbers {
         alloc: Global,
         name: &str,
         numbers: Numbers,
-    ) -> Result<GroupNumbers, Misfit> {
+    ) -> Result<GroupNumbers, MergeFault> {
         let members = numbers.members.map(|n| u32::from(n));
         let cells = numbers.cells.map(|n| u32::from(n));
         Ok(GroupNumbers {
@@ -92,16 +92,16 @@ fn joined(
     kind: Kind,
     old: Option<u32>,
     new: Option<u32>,
-) -> Result<Option<u32>, Misfit> {
+) -> Result<Option<u32>, MergeFault> {
     let Some(number) = new else {
         return Ok(old);
     };
     if number < kind.low || kind.high < number {
-        return Err(Misfit::Told(out_of_range(alloc, name, kind, number)?));
+        return Err(MergeFault::NoLogs(out_of_range(alloc, name, kind, number)?));
     }
     match old {
         Some(given) if given != number => {
-            Err(Misfit::Told(disagreeing(alloc, name, kind, given, number)?))
+            Err(MergeFault::NoLogs(disagreeing(alloc, name, kind, given, number)?))
         }
         _ => Ok(Some(number)),
     }

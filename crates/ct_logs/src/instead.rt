@@ -1,11 +1,12 @@
 //! What was sent in place of what a line receives.
 
+use crate::setup::setup_of;
 use ct_grammar::Carried;
 use ct_merge::FullName;
 use ct_model::Step;
 use ct_names::Member;
 use ct_play::carried_of;
-use ct_world::{Replay, Replayed, Setup, World};
+use ct_world::{Replay, Replayed, World};
 use std::alloc::{AllocError, Global};
 
 // A reply, and the place in its sender's log of the line that sent it.
@@ -25,12 +26,7 @@ pub(crate) fn sent_instead(
     let Some(other) = other_reply(name.carried) else {
         return Ok(None);
     };
-    let setup = Setup {
-        group: world.group(),
-        cells: world.cells(),
-        bound: world.bound(),
-    };
-    let Ok(mut replay) = Replay::new(alloc, setup, world.record()) else {
+    let Ok(mut replay) = Replay::new(alloc, setup_of(world), world.record()) else {
         return Err(AllocError);
     };
     let reply = reply_in(&mut replay, name.from, to, other);

@@ -1,20 +1,19 @@
 //! What logs come to, and where they stand.
 
-ghost use Rattle.std.specs.Prelude.{◌≡◌, ◌≢◌, IfErr, IfOk};
-ghost use Rattle.ct_world.specs.Setup.{setting_of};
+ghost use Rattle.std.specs.Prelude.{IfOk};
 ghost use Rattle.ct_merge.specs.Verdicts.{IfAccepted};
 ghost use Rattle.ct_logs.specs.Merged.{IsSomeMerge};
 
-use crate::growth::short;
+use crate::log_set::LogSet;
 use crate::merge_fault::MergeFault;
 use ct_merge::{LogLine, StoppedLines, Verdict, stopped};
+use ct_play::LineFault;
 use ct_world::Setup;
 use std::alloc::Global;
 
-// What logs come to in a world made with this.
+// What logs come to.
 #[derive(Drop)]
 pub(crate) struct Judged {
-    pub setup: Setup,
     pub verdict: Verdict,
     // The lines at which they stand; None where they are accepted.
     pub stopped: Option<StoppedLines>,
@@ -22,26 +21,20 @@ pub(crate) struct Judged {
     pub presumed: String,
 }
 
-// What logs come to that come to this verdict, with the lines at which these stand, and this told of lines that are presumed.
+// What the logs in the set come to that come to this verdict, with the lines at which they stand, and this told of lines that are
+// presumed.
 pub(crate) fn with_stopped(
     alloc: Global,
     setup: Setup,
     verdict: Verdict,
-    logs: &[Vec<LogLine>],
+    set: &LogSet,
     presumed: String,
 ) -> Result<Judged, MergeFault>
-    requires merged { IfAccepted verdict IsSomeMerge }
-    requires setting { IfAccepted verdict (λ w. w.setting ≡ setting_of setup) }
-    requires cells { IfAccepted verdict (λ w. w.cells ≡ setup.cells) }
-    ensures merged { IfOk result (λ judged. IfAccepted judged.verdict IsSomeMerge) }
-    ensures setting { IfOk result (λ judged. IfAccepted judged.verdict (λ w. w.setting ≡ setting_of judged.setup)) }
-    ensures cells { IfOk result (λ judged. IfAccepted judged.verdict (λ w. w.cells ≡ judged.setup.cells)) }
-    ensures err { IfErr result (λ fault. fault ≢ MergeFault.Write) }
+    requires { IfAccepted verdict IsSomeMerge }
+    ensures { IfOk result (λ judged. IfAccepted judged.verdict IsSomeMerge) }
 {
-    let same = setup;
-    match stopped_of(alloc, setup, &verdict, logs) {
+    match stopped_of(alloc, setup, &verdict, set.logs(setup.group.n())) {
         Ok(stopped) => Ok(Judged {
-            setup: same,
             verdict,
             stopped,
             presumed,
@@ -49,7 +42,7 @@ pub(crate) fn with_stopped(
         Err(fault) => {
             drop(verdict);
             drop(presumed);
-            Err(fault)
+            Err(MergeFault::from(fault))
         }
     }
 }
@@ -60,14 +53,9 @@ fn stopped_of(
     setup: Setup,
     verdict: &Verdict,
     logs: &[Vec<LogLine>],
-) -> Result<Option<StoppedLines>, MergeFault>
-    ensures { IfErr result (λ fault. fault ≢ MergeFault.Write) }
-{
-    if let Verdict::Accepted(_) = verdict {
-        return Ok(None);
-    }
-    match stopped(alloc, setup, logs) {
-        Ok(lines) => Ok(Some(lines)),
-        Err(fault) => Err(short(fault)),
+) -> Result<Option<StoppedLines>, LineFault> {
+    match verdict {
+        Verdict::Accepted(_) => Ok(None),
+        _ => Ok(Some(stopped(alloc, setup, logs)?)),
     }
 }

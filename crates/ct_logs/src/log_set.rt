@@ -1,12 +1,12 @@
 //! The logs of a group.
 
-ghost use Rattle.std.specs.Prelude.{◌≤◌, length};
+ghost use Rattle.std.specs.Prelude.{◌≡◌, ◌≤◌, IfOk, length};
 
 use crate::group_numbers::GroupNumbers;
-use crate::misfit::Misfit;
+use crate::merge_fault::MergeFault;
 use crate::naming::{line_at, push_line};
 use crate::no_entry::push_no_entry;
-use ct_merge::{Expectations, LogFault, LogLine, LogText, NoEntry, Numbers};
+use ct_merge::{Expectations, LogAct, LogFault, LogLine, LogText, NoEntry, Numbers};
 use ct_names::{Group, MAX_MEMBERS, Member};
 use ct_world::Setup;
 use std::alloc::{AllocError, Global};
@@ -29,19 +29,28 @@ pub(crate) struct LogSet {
 
 impl LogSet {
     // The logs that the files of these names and texts have.
-    pub(crate) fn read(alloc: Global, names: &[&str], texts: &[Vec<u8>]) -> Result<LogSet, Misfit> {
+    pub(crate) fn read(
+        alloc: Global,
+        names: &[&str],
+        texts: &[Vec<u8>],
+    ) -> Result<LogSet, MergeFault> {
         let mut set = LogSet::new(alloc)?;
         match set.take_all(alloc, names, texts) {
             Ok(()) => Ok(set),
-            Err(misfit) => {
+            Err(fault) => {
                 drop(set);
-                Err(misfit)
+                Err(fault)
             }
         }
     }
 
     // Takes each text as the log in the file of its place.
-    fn take_all(&mut self, alloc: Global, names: &[&str], texts: &[Vec<u8>]) -> Result<(), Misfit> {
+    fn take_all(
+        &mut self,
+        alloc: Global,
+        names: &[&str],
+        texts: &[Vec<u8>],
+    ) -> Result<(), MergeFault> {
         for (i, text) in texts.iter().enumerate() {
             self.take(alloc, name_at(names, i), i, text)?;
         }
@@ -105,6 +114,12 @@ impl LogSet {
         }
     }
 
+    // What the member did by the line at this place of its log.
+    pub(crate) fn act(&self, member: Member, place: usize) -> Option<LogAct> {
+        let at = usize::from(member).checked_sub(1)?;
+        Some(self.logs.get(at)?.get(place)?.act)
+    }
+
     // The place of the file of the member's log.
     pub(crate) fn file(&self, member: Member) -> Option<usize> {
         let place = usize::from(member).checked_sub(1)?;
@@ -126,7 +141,13 @@ impl LogSet {
     }
 
     // Takes the text as the log in the file of this name, at this place among the files.
-    fn take(&mut self, alloc: Global, name: &str, file: usize, text: &[u8]) -> Result<(), Misfit> {
+    fn take(
+        &mut self,
+        alloc: Global,
+        name: &str,
+        file: usize,
+        text: &[u8],
+    ) -> Result<(), MergeFault> {
         let position = position_of(alloc, name, file)?;
         let mut log = read_log(alloc, name, position, text)?;
         let taken = self.take_log(alloc, name, file, position, &mut log);
@@ -142,7 +163,7 @@ impl LogSet {
         file: usize,
         position: Member,
         log: &mut LogText,
-    ) -> Result<(), Misfit> {
+    ) -> Result<(), MergeFault> {
         let (member, numbers, lines, places) = log.take_parts(alloc);
         let member = member.unwrap_or(position);
         match self.claim_numbered(alloc, name, file, member, numbers) {
@@ -151,10 +172,10 @@ impl LogSet {
                 self.put_expected(member, log.take_expected(alloc));
                 Ok(())
             }
-            Err(misfit) => {
+            Err(fault) => {
                 drop(lines);
                 drop(places);
-                Err(misfit)
+                Err(fault)
             }
         }
     }
@@ -167,7 +188,7 @@ impl LogSet {
         file: usize,
         member: Member,
         numbers: Numbers,
-    ) -> Result<(), Misfit> {
+    ) -> Result<(), MergeFault> {
         self.number_group(alloc, name, numbers)?;
         self.claim(alloc, name, file, member)
     }
@@ -178,7 +199,7 @@ impl LogSet {
         alloc: Global,
         name: &str,
         numbers: Numbers,
-    ) -> Result<(), Misfit> {
+    ) -> Result<(), MergeFault> {
         self.numbers = self.numbers.with(alloc, name, numbers)?;
         Ok(())
     }
@@ -190,10 +211,10 @@ impl LogSet {
         name: &str,
         file: usize,
         member: Member,
-    ) -> Result<(), Misfit> {
+    ) -> Result<(), MergeFault> {
         if self.file(member).is_some_and(|other| other != file) {
             let told = format!(in alloc; "{name}: member {member}'s log, as a file before it")?;
-            return Err(Misfit::Told(told));
+            return Err(MergeFault::NoLogs(told));
         }
         self.last = self.last.max(member);
         if let Some(kept) = self.files.get_mut(usize::from(member).saturating_sub(1)) {
@@ -210,6 +231,17 @@ impl LogSet {
         }
         if let Some(kept) = self.places.get_mut(at) {
             *kept = places;
+        }
+    }
+
+    // Puts the logs in their places, member 1's first.
+    pub(crate) fn put_logs(&mut self, logs: Vec<Vec<LogLine>>) {
+        let mut at: usize = 0;
+        for log in logs {
+            if let Some(kept) = self.logs.get_mut(at) {
+                *kept = log;
+            }
+            at = at.saturating_add(1);
         }
     }
 
@@ -252,8 +284,23 @@ impl LogSet {
         Ok(())
     }
 
+    // The logs of the first n members, which have no lines from here on.
+    pub(crate) fn take_logs(
+        &mut self,
+        alloc: Global,
+        n: u8,
+    ) -> Result<Vec<Vec<LogLine>>, AllocError>
+        ensures { IfOk result (λ logs. length logs.items ≡ n) }
+    {
+        let mut logs = Vec::new(alloc);
+        for i in 0..n {
+            logs.push(self.take_lines(alloc, i + 1))?;
+        }
+        Ok(logs)
+    }
+
     // The lines of the member's log, which has none from here on.
-    pub(crate) fn take_lines(&mut self, alloc: Global, member: Member) -> Vec<LogLine> {
+    fn take_lines(&mut self, alloc: Global, member: Member) -> Vec<LogLine> {
         match self.logs.get_mut(usize::from(member).saturating_sub(1)) {
             Some(kept) => mem::replace(kept, Vec::new(alloc)),
             None => Vec::new(alloc),
@@ -275,27 +322,27 @@ impl LogSet {
     }
 
     // What a world of the group is made with, where the logs are of its members.
-    pub(crate) fn setup(&self, alloc: Global, names: &[&str]) -> Result<Setup, Misfit> {
+    pub(crate) fn setup(&self, alloc: Global, names: &[&str]) -> Result<Setup, MergeFault> {
         let Some(setup) = self.numbers.setup(self.last) else {
-            return Err(Misfit::Told(String::from_str(alloc, "no logs")?));
+            return Err(MergeFault::NoLogs(String::from_str(alloc, "no logs")?));
         };
         let (last, n) = (self.last, setup.group.n());
         if last > n {
             let name = name_at(names, self.file(last).unwrap_or(0));
             let told = format!(in alloc; "{name}: member {last}'s log, and members are 1 to {n}")?;
-            return Err(Misfit::Told(told));
+            return Err(MergeFault::NoLogs(told));
         }
         Ok(setup)
     }
 }
 
 // The member whose log the file at this place is, where its acts don't say whose it is.
-pub(crate) fn position_of(alloc: Global, name: &str, file: usize) -> Result<Member, Misfit> {
+pub(crate) fn position_of(alloc: Global, name: &str, file: usize) -> Result<Member, MergeFault> {
     match member_at(file) {
         Some(member) => Ok(member),
         None => {
             let told = format!(in alloc; "{name}: a group has no more than {MAX_MEMBERS} members")?;
-            Err(Misfit::Told(told))
+            Err(MergeFault::NoLogs(told))
         }
     }
 }
@@ -318,33 +365,33 @@ pub(crate) fn name_at<'a>(names: &[&'a str], place: usize) -> &'a str {
 }
 
 // The log of the text; the member's where its acts don't say whose it is.
-fn read_log(alloc: Global, name: &str, member: Member, text: &[u8]) -> Result<LogText, Misfit> {
+fn read_log(alloc: Global, name: &str, member: Member, text: &[u8]) -> Result<LogText, MergeFault> {
     refuse_record(alloc, name, text)?;
     match LogText::read(alloc, member, text) {
         Ok(log) => Ok(log),
-        Err(fault) => Err(misfit_of(alloc, name, text, fault)),
+        Err(fault) => Err(fault_of(alloc, name, text, fault)),
     }
 }
 
 // A record is no log.
-pub(crate) fn refuse_record(alloc: Global, name: &str, text: &[u8]) -> Result<(), Misfit> {
+pub(crate) fn refuse_record(alloc: Global, name: &str, text: &[u8]) -> Result<(), MergeFault> {
     match text {
         [b'{', ..] => {
             let told = format!(in alloc; "{name}: this is a record, not the log of a member")?;
-            Err(Misfit::Told(told))
+            Err(MergeFault::NoLogs(told))
         }
         _ => Ok(()),
     }
 }
 
 // What is told of a text that is no log.
-pub(crate) fn misfit_of(alloc: Global, name: &str, text: &[u8], fault: LogFault) -> Misfit {
+pub(crate) fn fault_of(alloc: Global, name: &str, text: &[u8], fault: LogFault) -> MergeFault {
     match fault {
         LogFault::Line(at, why) => match unread(alloc, name, at, line_at(text, at), &why) {
-            Ok(told) => Misfit::Told(told),
-            Err(_) => Misfit::Memory,
+            Ok(told) => MergeFault::NoLogs(told),
+            Err(_) => MergeFault::Memory,
         },
-        LogFault::Memory => Misfit::Memory,
+        LogFault::Memory => MergeFault::Memory,
     }
 }
 

@@ -1,9 +1,9 @@
 //! Why no merged run is written.
 
-ghost use Rattle.std.specs.Prelude.{◌≡◌};
 ghost use Rattle.ct_logs.specs.Faults.{status_of};
 
-use ct_streams::{FileFault, Status};
+use ct_play::LineFault;
+use ct_streams::{Fault, FileFault, Status};
 use std::alloc::AllocError;
 use thiserror::Error;
 
@@ -39,12 +39,12 @@ pub enum MergeFault {
     Board,
 }
 
-impl MergeFault {
-    /// The status that a program ends with: 1 for logs that are refused, 2 for files that are no logs, 3 for words, 4 for a stream,
-    /// 5 for memory and the board, 6 for logs that are cut.
-    pub fn status(&self) -> u8
-        ensures { result ≡ status_of self.now }
-    {
+impl Fault for MergeFault {
+    ghost ends_with = { λ fault. status_of fault };
+
+    // 1 for logs that are refused, 2 for files that are no logs, 3 for words, 4 for a stream, 5 for memory and the board, 6 for
+    // logs that are cut.
+    fn status(&self) -> u8 {
         match self {
             MergeFault::Refused(_) => Status::Refused.code(),
             MergeFault::Cut(_) => CUT,
@@ -64,5 +64,15 @@ impl From<AllocError> for MergeFault {
 
     fn from(_error: AllocError) -> MergeFault {
         MergeFault::Memory
+    }
+}
+
+// Memory or the board was refused.
+impl From<LineFault> for MergeFault {
+    fn from(fault: LineFault) -> MergeFault {
+        match fault {
+            LineFault::Board => MergeFault::Board,
+            _ => MergeFault::Memory,
+        }
     }
 }

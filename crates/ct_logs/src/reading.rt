@@ -1,6 +1,6 @@
 //! From files to their bytes.
 
-ghost use Rattle.std.specs.Prelude.{◌≢◌, ◌<◌, ◌^◌, IfErr};
+ghost use Rattle.std.specs.Prelude.{◌<◌, ◌^◌};
 
 use crate::merge_fault::MergeFault;
 use ct_judge::MAX_LEN;
@@ -12,9 +12,7 @@ pub(crate) fn read_texts<F: Files>(
     alloc: Global,
     files: &F,
     names: &[&str],
-) -> Result<Vec<Vec<u8>>, MergeFault>
-    ensures err { IfErr result (λ fault. fault ≢ MergeFault.Write) }
-{
+) -> Result<Vec<Vec<u8>>, MergeFault> {
     let mut texts = Vec::new(alloc);
     for name in names {
         let text = read_text(alloc, files, name)?;
@@ -26,9 +24,7 @@ pub(crate) fn read_texts<F: Files>(
 }
 
 // The bytes of the file of this name.
-fn read_text<F: Files>(alloc: Global, files: &F, name: &str) -> Result<Vec<u8>, MergeFault>
-    ensures err { IfErr result (λ fault. fault ≢ MergeFault.Write) }
-{
+fn read_text<F: Files>(alloc: Global, files: &F, name: &str) -> Result<Vec<u8>, MergeFault> {
     let reader = match files.open(name) {
         Ok(reader) => reader,
         Err(fault) => return Err(unread(alloc, name, fault)),
@@ -50,9 +46,7 @@ fn bytes_of<R: Source + Drop>(alloc: Global, reader: R) -> Result<Vec<u8>, Input
 }
 
 // A file that has more bytes than a log.
-pub(crate) fn too_long(alloc: Global, name: &str) -> MergeFault
-    ensures { result ≢ MergeFault.Write }
-{
+pub(crate) fn too_long(alloc: Global, name: &str) -> MergeFault {
     match format!(in alloc; "{name}: too long") {
         Ok(text) => MergeFault::NoLogs(text),
         Err(_) => MergeFault::Memory,
@@ -60,9 +54,7 @@ pub(crate) fn too_long(alloc: Global, name: &str) -> MergeFault
 }
 
 // A file that is not read.
-pub(crate) fn unread(alloc: Global, name: &str, fault: FileFault) -> MergeFault
-    ensures { result ≢ MergeFault.Write }
-{
+pub(crate) fn unread(alloc: Global, name: &str, fault: FileFault) -> MergeFault {
     match told(alloc, name, fault) {
         Ok(text) => MergeFault::File { fault, text },
         Err(_) => MergeFault::Memory,

@@ -1,15 +1,13 @@
 //! Logs in, their run out.
 
 ghost use Rattle.std.specs.Prelude.{◌≡◌, ◌≢◌, ◌<◌, ◌^◌, Err, IfOk, IfErr, OnOk};
-ghost use Rattle.ct_world.specs.Setup.{setting_of};
 ghost use Rattle.ct_streams.specs.Streams.{FailsOnce};
 ghost use Rattle.ct_merge.specs.Verdicts.{IfAccepted};
 ghost use Rattle.ct_logs.specs.Merged.{IsSomeMerge, IsSomeRun, WritesRun, WritesRunInPart};
 
-use crate::ending::{AcceptedRun, end_of, no_logs};
+use crate::ending::{AcceptedRun, end_of};
 use crate::following::followed;
 use crate::form::Form;
-use crate::growth::short;
 use crate::judged::{Judged, with_stopped};
 use crate::log_set::LogSet;
 use crate::merge_fault::MergeFault;
@@ -17,73 +15,19 @@ use crate::pace::Pace;
 use crate::presumed::presumed_of;
 use crate::reading::read_texts;
 use crate::told::Told;
+use crate::way::Way;
 use ct_merge::merge;
 use ct_streams::{Failed, Files, Sink, write_all};
 use ct_world::Setup;
 use std::alloc::Global;
 
-/// Reads the logs in the files of these names, merges them and writes their run; answers what is told of it.
-pub fn merge_logs<F: Files, W: Sink>(
+/// Reads the logs in the files of these names, merges them in this way and writes their run; answers what is told of it.
+pub fn merge_logs<F: Files, P: Pace + Drop, W: Sink>(
     alloc: Global,
     files: &F,
     names: &[&str],
     form: Form,
-    writer: &mut W,
-) -> Result<Told, MergeFault>
-    requires { W.failures writer.old < 2 ^ 63 }
-    // What was written is a run in which each member takes the steps of its log.
-    ensures ok { OnOk result (WritesRun form (W.written writer.old) (W.written writer.new)) }
-    // Where the writer failed, some first bytes of such a text were written; else nothing was.
-    ensures part { result ≡ Err MergeFault.Write → WritesRunInPart form (W.written writer.old) (W.written writer.new) }
-    ensures quiet { IfErr result (λ fault. fault ≢ MergeFault.Write → writer.new ≡ writer.old) }
-    ensures writer { FailsOnce result MergeFault.Write (W.failures writer.old) (W.failures writer.new) }
-{
-    if has_input_twice(names) {
-        return Err(MergeFault::Twice);
-    }
-    let texts = read_texts(alloc, files, names)?;
-    let AcceptedRun { text, told } = merged(alloc, names, texts, form, false)?;
-    match write_all(writer, &text) {
-        Ok(()) => Ok(told),
-        Err(Failed) => Err(MergeFault::Write),
-    }
-}
-
-/// The same of logs that grow: they are read on for as long as the pace says, unless all end with a crash. Where a line is refused by
-/// itself they are refused at once.
-pub fn follow_logs<F: Files, W: Sink, P: Pace>(
-    alloc: Global,
-    files: &F,
-    names: &[&str],
-    form: Form,
-    pace: &mut P,
-    writer: &mut W,
-) -> Result<Told, MergeFault>
-    requires { W.failures writer.old < 2 ^ 63 }
-    // What was written is a run in which each member takes the steps of its log.
-    ensures ok { OnOk result (WritesRun form (W.written writer.old) (W.written writer.new)) }
-    // Where the writer failed, some first bytes of such a text were written; else nothing was.
-    ensures part { result ≡ Err MergeFault.Write → WritesRunInPart form (W.written writer.old) (W.written writer.new) }
-    ensures quiet { IfErr result (λ fault. fault ≢ MergeFault.Write → writer.new ≡ writer.old) }
-    ensures writer { FailsOnce result MergeFault.Write (W.failures writer.old) (W.failures writer.new) }
-{
-    if has_input_twice(names) {
-        return Err(MergeFault::Twice);
-    }
-    let AcceptedRun { text: run, told } = followed(alloc, files, names, form, pace)?;
-    match write_all(writer, &run) {
-        Ok(()) => Ok(told),
-        Err(Failed) => Err(MergeFault::Write),
-    }
-}
-
-/// The same of logs whose ends may be lost: where they are cut, members are taken to have gone on behind their logs, so that they sent
-/// what others received, as it is stated there.
-pub fn presume_logs<F: Files, W: Sink>(
-    alloc: Global,
-    files: &F,
-    names: &[&str],
-    form: Form,
+    way: Way<P>,
     writer: &mut W,
 ) -> Result<Told, MergeFault>
     requires { W.failures writer.old < 2 ^ 63 }
@@ -94,14 +38,43 @@ pub fn presume_logs<F: Files, W: Sink>(
     ensures quiet { IfErr result (λ fault. fault ≢ MergeFault.Write → writer.new ≡ writer.old) }
     ensures writer { FailsOnce result MergeFault.Write (W.failures writer.old) (W.failures writer.new) }
 {
+    let AcceptedRun { text, told } = match run_of(alloc, files, names, form, way) {
+        Ok(run) => run,
+        Err(fault) => return Err(before_writing(fault)),
+    };
+    match write_all(writer, &text) {
+        Ok(()) => Ok(told),
+        Err(Failed) => Err(MergeFault::Write),
+    }
+}
+
+// The fault, where nothing was written yet.
+fn before_writing(fault: MergeFault) -> MergeFault
+    ensures { result ≢ MergeFault.Write }
+{
+    match fault {
+        MergeFault::Write => MergeFault::Memory,
+        fault => fault,
+    }
+}
+
+// What is written and told of the logs.
+fn run_of<F: Files, P: Pace + Drop>(
+    alloc: Global,
+    files: &F,
+    names: &[&str],
+    form: Form,
+    way: Way<P>,
+) -> Result<AcceptedRun, MergeFault>
+    ensures { IfOk result (λ run. IsSomeRun form run.text.items) }
+{
     if has_input_twice(names) {
         return Err(MergeFault::Twice);
     }
-    let texts = read_texts(alloc, files, names)?;
-    let AcceptedRun { text: likely, told } = merged(alloc, names, texts, form, true)?;
-    match write_all(writer, &likely) {
-        Ok(()) => Ok(told),
-        Err(Failed) => Err(MergeFault::Write),
+    match way {
+        Way::Once => merged(alloc, files, names, form, false),
+        Way::Follow(pace) => followed(alloc, files, names, form, pace),
+        Way::Presume => merged(alloc, files, names, form, true),
     }
 }
 
@@ -114,28 +87,28 @@ fn is_input(name: &str) -> bool {
     name == "-"
 }
 
-// What the logs in the files of these names and texts come to; with their ends presumed, where that is asked for.
-fn merged(
+// The same of logs that are read as they are; with their ends presumed, where that is asked for.
+fn merged<F: Files>(
     alloc: Global,
+    files: &F,
     names: &[&str],
-    texts: Vec<Vec<u8>>,
     form: Form,
     presumes: bool,
 ) -> Result<AcceptedRun, MergeFault>
-    ensures run { IfOk result (λ run. IsSomeRun form run.text.items) }
-    ensures err { IfErr result (λ fault. fault ≢ MergeFault.Write) }
+    ensures { IfOk result (λ run. IsSomeRun form run.text.items) }
 {
+    let texts = read_texts(alloc, files, names)?;
     match LogSet::read(alloc, names, &texts) {
-        Ok(set) => judged(alloc, names, texts, set, form, presumes),
-        Err(misfit) => {
+        Ok(set) => merged_in(alloc, names, texts, set, form, presumes),
+        Err(fault) => {
             drop(texts);
-            Err(no_logs(misfit))
+            Err(fault)
         }
     }
 }
 
-// What the logs come to.
-fn judged(
+// The same of the logs in the set.
+fn merged_in(
     alloc: Global,
     names: &[&str],
     texts: Vec<Vec<u8>>,
@@ -143,8 +116,7 @@ fn judged(
     form: Form,
     presumes: bool,
 ) -> Result<AcceptedRun, MergeFault>
-    ensures run { IfOk result (λ run. IsSomeRun form run.text.items) }
-    ensures err { IfErr result (λ fault. fault ≢ MergeFault.Write) }
+    ensures { IfOk result (λ run. IsSomeRun form run.text.items) }
 {
     let mut set = set;
     match judged_in(alloc, names, &mut set, presumes) {
@@ -164,35 +136,23 @@ fn judged_in(
     set: &mut LogSet,
     presumes: bool,
 ) -> Result<Judged, MergeFault>
-    ensures merged { IfOk result (λ judged. IfAccepted judged.verdict IsSomeMerge) }
-    ensures setting { IfOk result (λ judged. IfAccepted judged.verdict (λ w. w.setting ≡ setting_of judged.setup)) }
-    ensures cells { IfOk result (λ judged. IfAccepted judged.verdict (λ w. w.cells ≡ judged.setup.cells)) }
-    ensures err { IfErr result (λ fault. fault ≢ MergeFault.Write) }
+    ensures { IfOk result (λ judged. IfAccepted judged.verdict IsSomeMerge) }
 {
-    match set.setup(alloc, names) {
-        Ok(setup) => {
-            set.name_senders(setup.group);
-            if presumes {
-                presumed_of(alloc, setup, set)
-            } else {
-                judged_of(alloc, setup, set)
-            }
-        }
-        Err(misfit) => Err(no_logs(misfit)),
+    let setup = set.setup(alloc, names)?;
+    set.name_senders(setup.group);
+    if presumes {
+        presumed_of(alloc, setup, set)
+    } else {
+        judged_of(alloc, setup, set)
     }
 }
 
 // What the logs of the group come to.
+#[tactic(auto, using(crate::proofs::Merged::some_merge))]
 fn judged_of(alloc: Global, setup: Setup, set: &LogSet) -> Result<Judged, MergeFault>
-    ensures merged { IfOk result (λ judged. IfAccepted judged.verdict IsSomeMerge) }
-    ensures setting { IfOk result (λ judged. IfAccepted judged.verdict (λ w. w.setting ≡ setting_of judged.setup)) }
-    ensures cells { IfOk result (λ judged. IfAccepted judged.verdict (λ w. w.cells ≡ judged.setup.cells)) }
-    ensures err { IfErr result (λ fault. fault ≢ MergeFault.Write) }
+    ensures { IfOk result (λ judged. IfAccepted judged.verdict IsSomeMerge) }
 {
     let same = setup;
-    let logs = set.logs(setup.group.n());
-    match merge(alloc, setup, logs) {
-        Ok(verdict) => with_stopped(alloc, same, verdict, logs, String::new(alloc)),
-        Err(fault) => Err(short(fault)),
-    }
+    let verdict = merge(alloc, setup, set.logs(same.group.n()))?;
+    with_stopped(alloc, same, verdict, set, String::new(alloc))
 }

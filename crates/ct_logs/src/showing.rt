@@ -1,6 +1,7 @@
 //! From a run to what it shows.
 
 use crate::seen::Seen;
+use crate::setup::setup_of;
 use ct_model::Step;
 use ct_world::{Replay, ReplayFault, Setup, World};
 use std::alloc::{AllocError, Global};
@@ -24,14 +25,9 @@ fn seen_in(replay: &mut Replay<'_>) -> Result<Seen, ReplayFault> {
 }
 
 // The line that tells of it, and of steps of it that are presumed.
-pub(crate) fn accepted(
-    alloc: Global,
-    setup: Setup,
-    world: &World,
-    presumed: &str,
-) -> Result<String, AllocError> {
-    let members = setup.group.n();
-    let seen = match seen(alloc, setup, world.record()) {
+pub(crate) fn accepted(alloc: Global, world: &World, presumed: &str) -> Result<String, AllocError> {
+    let members = world.group().n();
+    let seen = match seen(alloc, setup_of(world), world.record()) {
         Ok(seen) => seen,
         Err(_) => return Err(AllocError),
     };

@@ -27,11 +27,6 @@ impl<'a> Sources<'a> {
         self.set.number(member, place).unwrap_or(0)
     }
 
-    // The line at this place of the member's log.
-    pub(crate) fn line(self, member: Member, place: usize) -> &'a [u8] {
-        line_at(self.text(member), self.number(member, place))
-    }
-
     // The text of the member's log.
     fn text(self, member: Member) -> &'a [u8] {
         match self.texts.get(self.set.file(member).unwrap_or(0)) {

@@ -4,8 +4,8 @@ ghost use Rattle.std.specs.Prelude.{◌≡◌, IfOk, IfSome};
 ghost use Rattle.std.proofs.Props.{props};
 ghost use Rattle.std.specs.Io.{ReadsAtMost};
 
-use crate::log_set::{misfit_of, refuse_record};
-use crate::misfit::Misfit;
+use crate::log_set::{fault_of, refuse_record};
+use crate::merge_fault::MergeFault;
 use ct_judge::MAX_LEN;
 use ct_merge::{Expectations, LogAct, LogFault, LogLine, LogText, Numbers};
 use ct_names::Member;
@@ -73,11 +73,11 @@ impl<R: Source + Drop> Tail<R> {
     }
 
     // Takes the lines that are over now, of the file of this name.
-    pub(crate) fn take(&mut self, alloc: Global, name: &str) -> Result<Parts, Misfit> {
+    pub(crate) fn take(&mut self, alloc: Global, name: &str) -> Result<Parts, MergeFault> {
         refuse_record(alloc, name, &self.text)?;
         match read_lines(alloc, &mut self.log, self.position, &self.text, self.over) {
             Ok(over) => self.over = over,
-            Err(fault) => return Err(misfit_of(alloc, name, &self.text, fault)),
+            Err(fault) => return Err(fault_of(alloc, name, &self.text, fault)),
         }
         let (member, numbers, lines, places) = self.log.take_parts(alloc);
         self.member = member;

@@ -1,10 +1,10 @@
 //! Expectations that do not hold.
 
-ghost use Rattle.std.specs.Prelude.{◌≢◌, IfErr, IsTrue};
+ghost use Rattle.std.specs.Prelude.{IsTrue};
 ghost use Rattle.ct_names.specs.Group.{is_member};
 
-use crate::growth::short;
 use crate::merge_fault::MergeFault;
+use crate::setup::setup_of;
 use crate::sources::Sources;
 use crate::torn::push_torn;
 use ct_grammar::{Claim, Goal, Whom};
@@ -12,41 +12,25 @@ use ct_merge::{Expectations, Unmet, first_unmet};
 use ct_names::Member;
 use ct_play::{Stage, amount_of, push_there, push_wanted, unmet};
 use ct_print::push_claim;
-use ct_world::{Setup, World};
+use ct_world::World;
 use std::alloc::{AllocError, Global};
 
 // What is told of the first expectation of the logs that does not hold in the run, and of last lines that are torn.
 pub(crate) fn unmet_text(
     alloc: Global,
     sources: Sources<'_>,
-    setup: Setup,
     world: &World,
-) -> Result<Option<String>, MergeFault>
-    ensures { IfErr result (λ fault. fault ≢ MergeFault.Write) }
-{
-    let expected = sources.set.expected(setup.group.n());
+) -> Result<Option<String>, MergeFault> {
+    let expected = sources.set.expected(world.group().n());
     if !expects_some(expected) {
         return Ok(None);
     }
-    match first_unmet(alloc, setup, world.record(), expected) {
-        Ok(None) => Ok(None),
-        Ok(Some(unmet)) => {
-            let told = told_of(alloc, sources, expected, &unmet);
-            drop(unmet);
-            some_text(told)
-        }
-        Err(fault) => Err(short(fault)),
-    }
-}
-
-// The text, unless memory was refused.
-fn some_text(told: Result<String, AllocError>) -> Result<Option<String>, MergeFault>
-    ensures { IfErr result (λ fault. fault ≢ MergeFault.Write) }
-{
-    match told {
-        Ok(text) => Ok(Some(text)),
-        Err(_) => Err(MergeFault::Memory),
-    }
+    let Some(unmet) = first_unmet(alloc, setup_of(world), world.record(), expected)? else {
+        return Ok(None);
+    };
+    let told = told_of(alloc, sources, expected, &unmet);
+    drop(unmet);
+    Ok(Some(told?))
 }
 
 // Whether one of the logs expects something.

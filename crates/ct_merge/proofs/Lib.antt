@@ -3,7 +3,6 @@ pub mod Barring
 pub mod Begun
 pub mod Beyond
 pub mod Failing
-pub mod GoingOn
 pub mod Growing
 pub mod Halting
 pub mod InOrder

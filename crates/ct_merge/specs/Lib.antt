@@ -10,7 +10,6 @@ pub mod Merging
 pub mod Names
 pub mod Numbers
 pub mod Past
-pub mod Presuming
 pub mod Proposers
 pub mod Runs
 pub mod Senders

@@ -1,5 +1,7 @@
 //! Where an envelope is looked for.
 
+ghost use Rattle.std.specs.Prelude.{◌≡◌};
+
 use crate::full_name::FullName;
 use ct_grammar::Carried;
 use ct_names::Member;
@@ -17,7 +19,7 @@ enum Kind {
 
 /// The receiver of an envelope and its full name, as a key.
 #[derive(Clone, Copy, Drop, PartialEq, Eq, Hash)]
-pub(crate) struct Address {
+pub struct Address {
     to: Member,
     from: Member,
     kind: Kind,
@@ -27,7 +29,10 @@ pub(crate) struct Address {
 }
 
 /// The address of the envelope of this name that goes to the member.
-pub(crate) fn address_of(to: Member, name: FullName) -> Address {
+pub fn address_of(to: Member, name: FullName) -> Address
+    ensures to { result.to ≡ to }
+    ensures from { result.from ≡ name.from }
+{
     let (kind, first, second) = match name.carried {
         Carried::Data(origin, number) => (Kind::Data, u32::from(origin), number),
         Carried::Est(instance, round) => (Kind::Est, instance, round),

@@ -5,14 +5,14 @@ ghost use Rattle.ct_names.specs.Group.{is_member};
 ghost use Rattle.ct_world.specs.Setup.{setting_of};
 ghost use Rattle.ct_play.specs.Faults.{IsShort};
 ghost use Rattle.ct_merge.specs.Logs.{IsMerge, log_of};
-ghost use Rattle.ct_merge.specs.Merging.{IsBare};
+ghost use Rattle.ct_merge.specs.Merging.{IsBare, IsTakenFrom};
 ghost use Rattle.ct_merge.specs.Stops.{IsCulprit};
 ghost use Rattle.ct_merge.specs.Verdicts.{IfAccepted, IfStopped};
 ghost use Rattle.ct_merge.specs.Waits.{HasNoMerge, is_wait};
 
 use crate::log_line::LogLine;
 use crate::merging::judge;
-use crate::progress::Progress;
+use crate::progress::{Progress, log_of};
 use crate::verdict::{Culprit, Verdict};
 use ct_names::Member;
 use ct_play::LineFault;
@@ -58,6 +58,39 @@ impl Merger {
         Ok(Merger { progress, logs })
     }
 
+    /// The logs have these lines, of which none was taken. Only memory can be refused.
+    #[tactic(auto, using(crate::proofs::Advancing::nothing_taken))]
+    pub fn with_logs(
+        alloc: Global,
+        setup: Setup,
+        logs: Vec<Vec<LogLine>>,
+    ) -> Result<Merger, LineFault>
+        requires { length logs.items ≡ setup.group }
+        ensures setting { IfOk result (λ m. m.setting ≡ setting_of setup) }
+        ensures cells { IfOk result (λ m. m.cells ≡ setup.cells) }
+        ensures logs { IfOk result (λ m. m.logs ≡ logs.items) }
+        ensures err { IfErr result (λ fault. fault ≡ LineFault.OutOfMemory) }
+    {
+        let progress = Progress::new(alloc, setup)?;
+        Ok(Merger { progress, logs })
+    }
+
+    /// What was taken of the logs so far.
+    pub fn progress(&self) -> &Progress
+        ensures taken { IsTakenFrom self.now.logs result.now }
+        ensures setting { result.now.rehearsal.setting ≡ self.now.setting }
+        ensures cells { result.now.rehearsal.cells ≡ self.now.cells }
+    {
+        &self.progress
+    }
+
+    /// The log of the member.
+    pub fn log(&self, member: Member) -> &[LogLine]
+        ensures { result.now ≡ log_of self.now.logs member }
+    {
+        log_of(&self.logs, member)
+    }
+
     /// The member's log goes on with this line.
     pub fn push(&mut self, member: Member, line: LogLine) -> Result<(), AllocError>
         requires { is_member self.old.setting.members member ≡ true }
@@ -71,41 +104,25 @@ impl Merger {
     }
 
     /// Takes lines that can be taken: an envelope is received once it was sent. Else a line is told that is refused by itself, whatever
-    /// lines these logs go on with. How far the lines go is open; [`end`](Merger::end) takes the others.
+    /// lines these logs go on with, and the logs. How far the lines go is open; [`end`](Merger::end) takes the others.
     #[tactic(auto, using(crate::proofs::Growing::same_group, crate::proofs::Halting::is_culprit))]
-    pub fn go_on(self) -> Result<Result<Merger, Culprit>, LineFault>
+    pub fn go_on(self) -> Result<Result<Merger, (Culprit, Vec<Vec<LogLine>>)>, LineFault>
         ensures same { IfOk result (λ gone. IfOk gone (λ m. m ≡ self)) }
-        ensures culprit { IfOk result (λ gone. IfErr gone (IsCulprit self.logs)) }
-        ensures fault { IfOk result (λ gone. IfErr gone (λ culprit. is_wait culprit.why ≡ false)) }
+        ensures culprit { IfOk result (λ gone. IfErr gone (λ halt. IsCulprit self.logs halt.0)) }
+        ensures fault { IfOk result (λ gone. IfErr gone (λ halt. is_wait halt.0.why ≡ false)) }
+        ensures logs { IfOk result (λ gone. IfErr gone (λ halt. halt.1.items ≡ self.logs)) }
         ensures err { IfErr result IsShort }
     {
         let Merger { mut progress, logs } = self;
         match progress.run(&logs) {
             Ok(()) => Ok(Ok(Merger { progress, logs })),
             Err(fault) if fault.line_fault().is_short() => Err(fault.line_fault()),
-            Err(fault) => Ok(Err(progress.halted(fault))),
+            Err(fault) => Ok(Err((progress.halted(fault), logs))),
         }
     }
 
-    /// What the logs come to that end here: as [`merge`](crate::merge) says it.
-    pub fn end(self) -> Result<Verdict, LineFault>
-        // What is accepted is a merge of the logs.
-        ensures merged { IfOk result (λ verdict. IfAccepted verdict (λ w. IsMerge w self.logs)) }
-        ensures setting { IfOk result (λ verdict. IfAccepted verdict (λ w. w.setting ≡ self.setting)) }
-        ensures cells { IfOk result (λ verdict. IfAccepted verdict (λ w. w.cells ≡ self.cells)) }
-        // A line that is told of is the next one of its log behind a run, and is not taken there.
-        ensures culprit { IfOk result (λ verdict. IfStopped verdict (IsCulprit self.logs)) }
-        // Where it is told of as one that waits, no run of the group is a merge of the logs.
-        ensures none { IfOk result (λ verdict. IfStopped verdict (λ culprit. is_wait culprit.why ≡ true →
-            HasNoMerge self.setting self.logs)) }
-        ensures err { IfErr result IsShort }
-    {
-        let Merger { progress, logs } = self;
-        judge(progress, &logs)
-    }
-
-    /// The same, and the logs, member 1's first.
-    pub fn end_with_logs(self) -> Result<(Verdict, Vec<Vec<LogLine>>), LineFault>
+    /// What the logs come to that end here, as [`merge`](crate::merge) says it; and the logs, member 1's first.
+    pub fn end(self) -> Result<(Verdict, Vec<Vec<LogLine>>), LineFault>
         // What is accepted is a merge of the logs.
         ensures merged { IfOk result (λ ended. IfAccepted ended.0 (λ w. IsMerge w self.logs)) }
         ensures setting { IfOk result (λ ended. IfAccepted ended.0 (λ w. w.setting ≡ self.setting)) }
@@ -138,12 +155,8 @@ fn no_lines(alloc: Global, count: u8) -> Result<Vec<Vec<LogLine>>, AllocError>
     Ok(logs)
 }
 
-/// The member's log goes on with the line.
-pub(crate) fn push_line(
-    logs: &mut Vec<Vec<LogLine>>,
-    member: Member,
-    line: LogLine,
-) -> Result<(), AllocError>
+// The member's log goes on with the line.
+fn push_line(logs: &mut Vec<Vec<LogLine>>, member: Member, line: LogLine) -> Result<(), AllocError>
     requires { is_member (length logs.old.items) member ≡ true }
     ensures here { OnOk result (log_of logs.new.items member ≡ log_of logs.old.items member ++ line ∷ []) }
     ensures others { (q : ℕ) → 1 ≤ q → q ≢ member → log_of logs.new.items q ≡ log_of logs.old.items q }

@@ -1,9 +1,10 @@
 //! How far logs were taken.
 
-ghost use Rattle.std.specs.Prelude.{◌≡◌, ◌≢◌, ◌≤◌, ℕ, [], true, IfErr, IfOk, OnOk, slice_index};
+ghost use Rattle.std.specs.Prelude.{◌≡◌, ◌≢◌, ◌≤◌, ℕ, [], Some, true, IfErr, IfOk, IfSome, OnOk, slice_index};
 ghost use Rattle.ct_names.specs.Group.{is_member};
 ghost use Rattle.ct_merge.specs.Logs.{log_of};
 ghost use Rattle.ct_merge.specs.Merging.{count_of, IsSameGroup, IsTakenFrom};
+ghost use Rattle.ct_merge.specs.Names.{full_name};
 ghost use Rattle.ct_merge.specs.Stops.{halted_at, IsHalt};
 ghost use Rattle.ct_world.specs.Setup.{record_of};
 
@@ -23,7 +24,7 @@ pub(crate) const MEMBERS: usize = MAX_MEMBERS as usize;
 
 /// A world into which the lines of logs are taken, and how many lines of each member's log were taken.
 #[derive(Drop)]
-pub(crate) struct Progress {
+pub struct Progress {
     taker: Taker,
     counts: [usize; MEMBERS],
     // Whose log was tried last.
@@ -40,7 +41,7 @@ impl Model for Progress {
 }
 
 impl Progress {
-    /// Nothing was taken. Only memory can be refused.
+    // Nothing was taken. Only memory can be refused.
     pub(crate) fn new(alloc: Global, setup: Setup) -> Result<Progress, LineFault>
         ensures record { IfOk result (λ progress. progress.rehearsal ≡ record_of setup []) }
         ensures err { IfErr result (λ fault. fault ≡ LineFault.OutOfMemory) }
@@ -54,25 +55,27 @@ impl Progress {
     }
 
     /// What the lines led to.
-    pub(crate) fn stage(&self) -> &Stage
+    pub fn stage(&self) -> &Stage
         ensures { result.now.rehearsal ≡ self.now.rehearsal }
     {
         self.taker.stage()
     }
 
-    /// The serial of the envelope of this name that was sent to the member.
-    pub(crate) fn serial(&self, member: Member, name: FullName) -> Option<Serial> {
+    /// The serial of an envelope of this name that was sent to the member.
+    pub fn serial(&self, member: Member, name: FullName) -> Option<Serial>
+        ensures { IfSome result (λ serial. full_name self.now.rehearsal serial ≡ Some name) }
+    {
         self.taker.serial(member, name)
     }
 
-    /// The world alone.
+    // The world alone.
     pub(crate) fn into_world(self) -> World
         ensures { result.rehearsal ≡ self.rehearsal }
     {
         self.taker.into_world()
     }
 
-    /// Takes lines of the logs as far as they go. A fault is that of the next line of the log that was tried last.
+    // Takes lines of the logs as far as they go. A fault is that of the next line of the log that was tried last.
     pub(crate) fn run(&mut self, logs: &[Vec<LogLine>]) -> Result<(), OwnFault>
         requires { IsTakenFrom logs.now self.old }
         ensures taken { OnOk result (IsTakenFrom logs.now self.new) }
@@ -82,7 +85,7 @@ impl Progress {
         self.run_to(logs, &[])
     }
 
-    /// The same, of each member's log up to its end of these.
+    // The same, of each member's log up to its end of these.
     pub(crate) fn run_to(&mut self, logs: &[Vec<LogLine>], ends: &[usize]) -> Result<(), OwnFault>
         requires { IsTakenFrom logs.now self.old }
         ensures taken { OnOk result (IsTakenFrom logs.now self.new) }
@@ -153,7 +156,7 @@ impl Progress {
         self.counts[usize::from(member) - 1] = count;
     }
 
-    /// The line of the log that was tried last, which has this fault.
+    // The line of the log that was tried last, which has this fault.
     pub(crate) fn halted(&self, fault: OwnFault) -> Culprit
         ensures { result ≡ halted_at self.now fault }
     {
@@ -166,7 +169,7 @@ impl Progress {
     }
 
     /// How many lines of the member's log were taken.
-    pub(crate) fn count(&self, member: Member) -> usize
+    pub fn count(&self, member: Member) -> usize
         ensures { result ≡ count_of self.now.counts member }
     {
         match self.counts.get(usize::from(member).saturating_sub(1)) {

@@ -72,7 +72,7 @@ fn passes(wire: &Wire, carried: Carried) -> bool
 
 /// How many messages the member submitted.
 #[tactic(auto, unfolding(crate::specs::Sending::submitted))]
-pub(crate) fn submitted(world: &World, member: Member) -> usize
+pub fn submitted(world: &World, member: Member) -> usize
     ensures { result ≡ submitted world.now.rehearsal member }
 {
     world
@@ -211,7 +211,7 @@ fn may_send(world: &World, from: Member, to: Member, carried: Carried) -> bool
 
 /// Whether the envelope of this name may still be sent to the member.
 #[tactic(auto, unfolding(crate::specs::Sending::may_come))]
-pub(crate) fn may_come(world: &World, to: Member, name: FullName) -> bool
+pub fn may_come(world: &World, to: Member, name: FullName) -> bool
     ensures { result ≡ may_come world.now.rehearsal to name }
 {
     world.group().has(name.from)

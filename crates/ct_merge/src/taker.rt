@@ -68,9 +68,16 @@ impl Taker {
         &self.stage
     }
 
-    /// The serial of the envelope of this name that was sent to the member.
-    pub(crate) fn serial(&self, member: Member, name: FullName) -> Option<Serial> {
-        self.serials.get(&address_of(member, name)).copied()
+    /// The serial of an envelope of this name that was sent to the member.
+    pub(crate) fn serial(&self, member: Member, name: FullName) -> Option<Serial>
+        ensures { IfSome result (λ serial. full_name self.now serial ≡ Some name) }
+    {
+        let serial = self.serials.get(&address_of(member, name)).copied()?;
+        if full_name(&self.stage, serial) == Some(name) {
+            Some(serial)
+        } else {
+            None
+        }
     }
 
     /// The world alone.
@@ -156,11 +163,7 @@ impl Taker {
             return Ok(None);
         };
         self.repeat(member, serial)?;
-        if full_name(&self.stage, serial) == Some(name) {
-            Ok(Some(serial))
-        } else {
-            Ok(None)
-        }
+        Ok(self.serial(member, name))
     }
 
     // The network repeats the envelope of the serial, if the member took it before.

@@ -45,7 +45,7 @@ pub enum Why {
 
 impl Why {
     /// Whether the line stands for an envelope that was not sent.
-    pub(crate) fn is_wait(&self) -> bool
+    pub fn is_wait(&self) -> bool
         ensures { result ≡ is_wait self.now }
     {
         !matches!(self, Why::Fault(_))

@@ -5,8 +5,8 @@ use crate::ending::{close, done, refuse, written};
 use crate::host::{Host, can_write};
 use clap::ArgMatches;
 use ct_judge::{Heard, KeepFault, LineRefused, interact, keep};
-use ct_logs::{MergeFault, Told, follow_logs, merge_form, merge_idle, merge_logs, presume_logs};
-use ct_streams::{Counted, FileFault, NamedFault, unless_broken};
+use ct_logs::{MergeFault, Told, Way, merge_form, merge_idle, merge_logs};
+use ct_streams::{Counted, FileFault, NamedFault};
 use std::io;
 use std::process::ExitCode;
 
@@ -61,14 +61,14 @@ pub(crate) fn merge(rt: &HostRuntime, found: &ArgMatches<'_>) -> Result<(), Exit
     let form = merge_form(found);
     let (alloc, host) = (rt.alloc(), Host::new(rt));
     let mut writer = Counted::new(io::writer(rt));
-    let ended = if found.get_flag("follow") {
-        let mut pace = Clockwork::new(rt, idle);
-        follow_logs(alloc, &host, names, form, &mut pace, &mut writer)
+    let way = if found.get_flag("follow") {
+        Way::Follow(Clockwork::new(rt, idle))
     } else if found.get_flag("presume") {
-        presume_logs(alloc, &host, names, form, &mut writer)
+        Way::Presume
     } else {
-        merge_logs(alloc, &host, names, form, &mut writer)
+        Way::Once
     };
+    let ended = merge_logs(alloc, &host, names, form, way, &mut writer);
     end_merge(rt, ended, writer.is_broken())
 }
 
@@ -78,16 +78,10 @@ fn end_merge(
     ended: Result<Told, MergeFault>,
     is_broken: bool,
 ) -> Result<(), ExitCode> {
-    match unless_broken(ended, is_broken) {
-        Ok(None) => Ok(()),
-        Ok(Some(told)) => {
-            let status = told.status();
-            let Told { text, .. } = told;
-            Err(close(rt, text, status))
-        }
-        Err(fault) => {
-            let status = fault.status();
-            Err(close(rt, fault, status))
-        }
-    }
+    let Some(told) = written(rt, ended, is_broken)? else {
+        return Ok(());
+    };
+    let status = told.status();
+    let Told { text, .. } = told;
+    Err(close(rt, text, status))
 }

@@ -1,0 +1,95 @@
+-- Logs whose ends may be lost.
+use Rattle.std.proofs.Common.{◌≡◌, ◌≢◌, ℕ, zero, suc, ◌≤◌, ◌++◌, List, [], ◌∷◌, inl, inr, sym, ap, subst, ◌∙◌}
+use Rattle.std.proofs.Common.{arith, length, take, append-nil, append_assoc}
+use Rattle.std.specs.Global.{Vec}
+use Rattle.std.specs.List.{AllZip}
+use Rattle.std.specs.Prelude.{None, IfOk, Result, Ok, Err}
+use Rattle.std.proofs.lemmas.Bool.{cases_eq}
+use Rattle.ct_names.specs.Prefix.{IsPrefix}
+use Rattle.ct_model.specs.Rehearsal.{Rehearsal}
+use Rattle.ct_model.specs.Setting.{Setting}
+use Rattle.ct_merge.specs.Logs.{IsMerge, IsTold, log_of, own}
+use Rattle.ct_merge.specs.Stops.{IsCulprit}
+use Rattle.ct_merge.specs.Verdicts.{IfAccepted}
+use Rattle.ct_merge.specs.Waits.{AllBegin, HasNoMerge}
+use Rattle.ct_merge.specs.declared.log_line.LogLine.{LogLine}
+use Rattle.ct_merge.specs.declared.verdict.Culprit.{Culprit}
+use Rattle.ct_merge.specs.declared.verdict.Verdict.{Verdict}
+use Rattle.ct_merge.specs.declared.verdict.Verdict.TheVariants.{Accepted, Refused, Cut}
+use Rattle.ct_presume.specs.Presuming.{AllOpenWith}
+use Rattle.ct_presume.specs.declared.presumption.Presumption.{Presumption}
+
+-- ---- logs that begin others
+
+-- logs begin themselves
+pub begun_self : (logs : List (Vec LogLine)) → AllBegin logs logs
+begun_self logs p = ([], append-nil (log_of logs p))
+
+-- logs that begin others begin those that begin with these
+pub begun_on : (logs more most : List (Vec LogLine)) → AllBegin logs more → AllBegin more most → AllBegin logs most
+begun_on logs more most a b p =
+    ((a p).0 ++ (b p).0, sym (append_assoc (log_of logs p) (a p).0 (b p).0) ∙ ap (λ l. l ++ (b p).0) (a p).1 ∙ (b p).1)
+
+-- p's log goes on with a line
+pub begun_more : (old new : List (Vec LogLine)) (p : ℕ) (line : LogLine) → log_of new p ≡ log_of old p ++ line ∷ [] →
+    ((q : ℕ) → 1 ≤ q → q ≢ p → log_of new q ≡ log_of old q) → AllBegin old new
+begun_more old new p line here others = all
+  where
+    at : (q : ℕ) → 1 ≤ q → IsPrefix (log_of old q) (log_of new q)
+    at q some = elim (cases_eq q p) [
+      | inl same ↦ (line ∷ [], ap (λ x. log_of old x ++ line ∷ []) same ∙ sym here ∙ sym (ap (log_of new) same))
+      | inr other ↦ ([], append-nil (log_of old q) ∙ sym (others q some other))
+    ]
+
+    all : (q : ℕ) → IsPrefix (log_of old q) (log_of new q)
+    all zero = at 1 (omega arith)
+    all (suc q) = at (suc q) (omega arith)
+
+pub ruleset going = (begun_self, begun_on, begun_more)
+
+-- ---- what is accepted
+
+-- what is so of lists place by place is so of their fronts
+front : {A B : Type 0} (R : A → B → Type 0) (xs : List A) (ys zs : List B) → AllZip R xs (ys ++ zs) → AllZip R (take (length ys) xs) ys
+front R [] [] zs h = tt
+front R (x ∷ xs) [] zs h = tt
+front R [] (y ∷ ys) zs h = absurd h
+front R (x ∷ xs) (y ∷ ys) zs h = (h.0, front R xs ys zs h.1)
+
+-- a merge of logs opens with those that they begin with
+pub opens : (w : Rehearsal) (logs more : List (Vec LogLine)) → AllBegin logs more → IsMerge w more → AllOpenWith w logs
+opens w logs more begun merged p member =
+    front IsTold (own w p) (log_of logs p) (begun p).0
+    (subst (λ l. AllZip IsTold (own w p) l) (sym (begun p).1) (merged p member))
+
+-- so does what is accepted
+opened : (v : Verdict) (logs more : List (Vec LogLine)) → AllBegin logs more → IfAccepted v (λ w. IsMerge w more) →
+    IfAccepted v (λ w. AllOpenWith w logs)
+opened (Accepted world) logs more begun merged = opens world.rehearsal logs more begun merged
+opened (Refused culprit) logs more begun merged = tt
+opened (Cut culprit) logs more begun merged = tt
+
+pub opens_all : {E : Type 0} (r : Result Presumption E) (logs : List (Vec LogLine)) → IfOk r (λ p. AllBegin logs p.logs.items) →
+    IfOk r (λ p. IfAccepted p.verdict (λ w. IsMerge w p.logs.items)) →
+    IfOk r (λ p. IfAccepted p.verdict (λ w. AllOpenWith w logs))
+opens_all (Ok p) logs begun merged = opened p.verdict logs p.logs.items begun merged
+opens_all (Err e) logs begun merged = tt
+
+-- ---- what is not
+
+-- the same line, whatever is told of the run behind which it stands
+pub culprit_alone : (logs : List (Vec LogLine)) (culprit : Culprit) → IsCulprit logs culprit →
+    IsCulprit logs (record culprit { run = None })
+culprit_alone logs culprit h = record {
+  so_far = h.so_far;
+  lawful = h.lawful;
+  taken = h.taken;
+  is = record { place = h.is.place; stand = h.is.stand };
+  run = tt;
+}
+
+-- where there is no merge, nothing is owed of those that have one
+pub none_needed : (s : Setting) (logs : List (Vec LogLine)) (fact : Type 0) → HasNoMerge s logs → (HasNoMerge s logs → ⊥) → fact
+none_needed s logs fact none some = absurd (some none)
+
+pub ruleset presumed = (begun_self, culprit_alone)

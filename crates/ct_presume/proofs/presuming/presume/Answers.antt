@@ -1,0 +1,12 @@
+use Rattle.std.proofs.Common.{rules}
+use Rattle.ct_merge.specs.Logs.{IsMerge}
+use Rattle.ct_presume.proofs.GoingOn.{begun_self, opens, opens_all}
+use Rattle.ct_presume.proofs.presuming.presume.Goals as goal
+
+pub returns-in-Accepted-clause-first : goal.returns-in-Accepted-clause-first
+returns-in-Accepted-clause-first c =
+    let merged : IsMerge c.in-Accepted.world.rehearsal c.args.logs.items = search rules in
+    opens c.in-Accepted.world.rehearsal c.args.logs.items c.args.logs.items (begun_self c.args.logs.items) merged
+
+pub returns-in-Cut-clause-first : goal.returns-in-Cut-clause-first
+returns-in-Cut-clause-first c = opens_all c.cut.result c.args.logs.items c.cut.ensures.begun c.cut.ensures.merged

@@ -1,0 +1,270 @@
+//! The rounds of members behind the ends of their logs.
+
+use crate::ends::{Awaited, Ends, Next, ROUNDS};
+use crate::receipts::{ENDED, ENTERED, PROPOSED, REPLIED, stage_of};
+use crate::stated::ts_in;
+use ct_grammar::Carried;
+use ct_merge::{FullName, LogAct};
+use ct_model::{Phase, Step};
+use ct_names::{Instance, Member, Round, Serial};
+use ct_play::push_outcome;
+use ct_world::Wire;
+use std::alloc::AllocError;
+
+impl<'a> Ends<'a> {
+    /// Whether others received something of the member in its open instance that it has yet to send.
+    pub(crate) fn is_behind(&self, from: Member, instance: Instance) -> bool {
+        let Some((round, phase)) = self.world().round(from) else {
+            return false;
+        };
+        let done = match phase {
+            Phase::Gather => ENTERED,
+            Phase::Wait => PROPOSED,
+            Phase::Tally => REPLIED,
+            Phase::Rest => ENDED,
+        };
+        stage_of(round, done) < self.receipts.stage(from, instance).unwrap_or(0)
+    }
+
+    /// What the member did next in its open instance.
+    pub(crate) fn next_in_round(
+        &self,
+        from: Member,
+        instance: Instance,
+    ) -> Result<Next, AllocError> {
+        match self.world().round(from) {
+            None => Ok(Next::Unknown),
+            Some((_, Phase::Rest)) => Ok(self.allowed(Step::Enter(from), LogAct::Enter)),
+            Some((round, Phase::Gather)) => self.choice(from, instance, round),
+            Some((round, Phase::Wait)) => self.reply(from, instance, round),
+            Some((round, Phase::Tally)) => self.conclusion(from, instance, round),
+        }
+    }
+
+    // ---- choices
+
+    // It chose an estimate of the value that others received as its proposal, or heard one more.
+    fn choice(&self, from: Member, instance: Instance, round: Round) -> Result<Next, AllocError> {
+        let said = self.proposed(from, instance, round);
+        for i in 0..self.world().group().n() {
+            let step = Step::Choose(from, i + 1);
+            if self.world().enabled(&step).is_ok() && self.fits(step, said)? {
+                return Ok(Next::Did(LogAct::Choose(i + 1)));
+            }
+        }
+        self.estimate(from, instance, round, said)
+    }
+
+    /// What is stated of its proposal.
+    pub(crate) fn proposed(
+        &self,
+        from: Member,
+        instance: Instance,
+        round: Round,
+    ) -> Option<&'a str> {
+        let name = FullName {
+            carried: Carried::Prop(instance, round),
+            from,
+        };
+        for i in 0..self.world().group().n() {
+            if let Some(text) = self.receipts.said(self.merger, i + 1, name) {
+                return Some(text);
+            }
+        }
+        None
+    }
+
+    // Whether the step comes to a text that begins so.
+    fn fits(&self, step: Step, said: Option<&str>) -> Result<bool, AllocError> {
+        let Some(said) = said else {
+            return Ok(true);
+        };
+        let mut text = String::new(self.alloc);
+        push_outcome(&mut text, self.world(), step)?;
+        Ok(text.as_str().as_bytes().starts_with(said.as_bytes()))
+    }
+
+    // It heard an estimate that waits at it: of the value, if there is one, else with the least ts; or one that was not sent yet.
+    fn estimate(
+        &self,
+        from: Member,
+        instance: Instance,
+        round: Round,
+        said: Option<&str>,
+    ) -> Result<Next, AllocError> {
+        let carried = Carried::Est(instance, round);
+        let mut least: Option<(Round, FullName)> = None;
+        for i in 0..self.world().group().n() {
+            let name = FullName {
+                carried,
+                from: i + 1,
+            };
+            if let Some(serial) = self.waits(from, name) {
+                if said.is_some() && self.fits(Step::Receive(from, serial), said)? {
+                    return Ok(Next::Did(LogAct::Receive(name)));
+                }
+                let ts = self.ts(serial);
+                if least.is_none_or(|(other, _)| ts < other) {
+                    least = Some((ts, name));
+                }
+            }
+        }
+        Ok(match least {
+            Some((_, name)) => Next::Did(LogAct::Receive(name)),
+            None => self.lost(from, carried),
+        })
+    }
+
+    // The ts of the estimate of the serial.
+    fn ts(&self, serial: Serial) -> Round {
+        match self.world().letter(serial) {
+            Some(letter) => match letter.wire {
+                Wire::Est { ts, .. } => ts,
+                _ => 0,
+            },
+            None => 0,
+        }
+    }
+
+    // A member whose log has ended sent it this.
+    fn lost(&self, to: Member, carried: Carried) -> Next {
+        for i in 0..self.world().group().n() {
+            let awaited = Awaited {
+                from: i + 1,
+                to,
+                carried,
+            };
+            if i + 1 != to && self.is_lost(awaited) {
+                return Next::Awaited(awaited);
+            }
+        }
+        Next::Unknown
+    }
+
+    // ---- replies
+
+    // It took the proposal over, or suspected the coordinator, as others received it.
+    fn reply(&self, from: Member, instance: Instance, round: Round) -> Result<Next, AllocError> {
+        if self.world().enabled(&Step::Adopt(from)).is_ok() {
+            return Ok(Next::Did(LogAct::Adopt));
+        }
+        let coordinator = self.coordinator(round);
+        let proposal = Carried::Prop(instance, round);
+        match self.took_over(from, instance, round) {
+            Some(true) => self.brought(from, proposal, coordinator),
+            Some(false) => Ok(self.allowed(Step::Suspect(from), LogAct::Suspect)),
+            None => match self.brought(from, proposal, coordinator)? {
+                Next::Did(act) => Ok(Next::Did(act)),
+                _ => Ok(self.allowed(Step::Suspect(from), LogAct::Suspect)),
+            },
+        }
+    }
+
+    // Whether it took the proposal over, by its reply or its next estimate; None where that isn't known.
+    fn took_over(&self, from: Member, instance: Instance, round: Round) -> Option<bool> {
+        let coordinator = self.coordinator(round);
+        let ack = Carried::Ack(instance, round);
+        let nack = Carried::Nack(instance, round);
+        if self
+            .receipts
+            .has(coordinator, FullName { carried: ack, from })
+        {
+            return Some(true);
+        }
+        if self.receipts.has(
+            coordinator,
+            FullName {
+                carried: nack,
+                from,
+            },
+        ) {
+            return Some(false);
+        }
+        for more in 1..ROUNDS {
+            let later = round.saturating_add(more);
+            let name = FullName {
+                carried: Carried::Est(instance, later),
+                from,
+            };
+            if let Some(text) = self
+                .receipts
+                .said(self.merger, self.coordinator(later), name)
+            {
+                let ts = ts_in(text)?;
+                return if ts > round { None } else { Some(ts == round) };
+            }
+        }
+        None
+    }
+
+    // ---- conclusions
+
+    // It concluded, or got one more reply; where others received the round's decision, acks until a majority took the proposal over.
+    fn conclusion(
+        &self,
+        from: Member,
+        instance: Instance,
+        round: Round,
+    ) -> Result<Next, AllocError> {
+        let decides = self.is_decided(instance, round);
+        if self.world().enabled(&Step::Conclude(from)).is_ok()
+            && (!decides || self.is_acked(from))
+        {
+            return Ok(Next::Did(LogAct::Conclude));
+        }
+        let ack = Carried::Ack(instance, round);
+        let nack = Carried::Nack(instance, round);
+        if let Some(name) = self.waiting(from, ack) {
+            return Ok(Next::Did(LogAct::Receive(name)));
+        }
+        if decides {
+            return Ok(self.lost(from, ack));
+        }
+        if let Some(name) = self.waiting(from, nack) {
+            return Ok(Next::Did(LogAct::Receive(name)));
+        }
+        Ok(match self.lost(from, nack) {
+            Next::Unknown => self.lost(from, ack),
+            next => next,
+        })
+    }
+
+    // Whether a majority took its proposal over.
+    fn is_acked(&self, from: Member) -> bool {
+        match self.world().acked(from) {
+            Some(members) => members.len() >= self.world().group().majority(),
+            None => false,
+        }
+    }
+
+    // Whether somebody received a decision of the round.
+    fn is_decided(&self, instance: Instance, round: Round) -> bool {
+        let n = self.world().group().n();
+        for i in 0..n {
+            for j in 0..n {
+                let name = FullName {
+                    carried: Carried::Dec(instance, round),
+                    from: j + 1,
+                };
+                if self.receipts.has(i + 1, name) {
+                    return true;
+                }
+            }
+        }
+        false
+    }
+
+    /// What carries this and waits at the member.
+    pub(crate) fn waiting(&self, member: Member, carried: Carried) -> Option<FullName> {
+        for i in 0..self.world().group().n() {
+            let name = FullName {
+                carried,
+                from: i + 1,
+            };
+            if self.waits(member, name).is_some() {
+                return Some(name);
+            }
+        }
+        None
+    }
+}
