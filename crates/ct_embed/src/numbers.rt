@@ -1,25 +1,25 @@
 //! The numbers of what calls answer beside the refusals of steps, as `bindings/ct.h` has them.
 
 /// Memory was refused.
-pub const OUT_OF_MEMORY: u32 = 23;
+pub(crate) const OUT_OF_MEMORY: u32 = 23;
 
 /// The board refused a batch.
-pub const BOARD: u32 = 24;
+pub(crate) const BOARD: u32 = 24;
 
 /// The world or the session is closed.
-pub const NOT_OPEN: u32 = 25;
+pub(crate) const NOT_OPEN: u32 = 25;
 
 /// It is open.
-pub const ALREADY_OPEN: u32 = 26;
+pub(crate) const ALREADY_OPEN: u32 = 26;
 
 /// No step has these numbers.
-pub const BAD_STEP: u32 = 27;
+pub(crate) const BAD_STEP: u32 = 27;
 
 /// There is no such group, or there are too many cells, or the bound is not one.
-pub const BAD_SETUP: u32 = 28;
+pub(crate) const BAD_SETUP: u32 = 28;
 
 /// No line made a world yet.
-pub const NO_WORLD: u32 = 29;
+pub(crate) const NO_WORLD: u32 = 29;
 
 /// The run has more steps than a diagram shows.
-pub const TOO_LONG: u32 = 30;
+pub(crate) const TOO_LONG: u32 = 30;

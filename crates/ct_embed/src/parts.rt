@@ -7,7 +7,7 @@ use std::alloc::Allocator;
 use std::marker::Model;
 
 /// A box that is taken apart. It owns what the box owned.
-pub struct Parts<T, A: Allocator> {
+pub(crate) struct Parts<T, A: Allocator> {
     pub(crate) ptr: *mut T,
     pub(crate) alloc: A,
     pub ghost value: { T },

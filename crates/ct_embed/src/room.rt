@@ -12,7 +12,7 @@ use ct_names::{Message, REGISTERS, Serial};
 use ct_table::Table;
 
 /// What is told in place of a number of items where there is no list.
-pub const NONE: usize = usize::MAX;
+pub(crate) const NONE: usize = usize::MAX;
 
 // Copies bytes.
 pub(crate) fn copy_bytes(list: &[u8], room: &mut [u8]) -> usize

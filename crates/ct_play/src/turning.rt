@@ -24,7 +24,7 @@ use ct_names::{Member, MemberSet};
 use std::alloc::{AllocError, Global};
 
 /// How many rounds of turns a line makes at most that says no number of them.
-pub const MOST_ROUNDS: u32 = 10_000;
+pub(crate) const MOST_ROUNDS: u32 = 10_000;
 
 // ---- a turn
 
