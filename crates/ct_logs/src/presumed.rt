@@ -13,7 +13,6 @@ use ct_world::Setup;
 use std::alloc::{AllocError, Global};
 
 // What the logs of the group come to whose ends may be lost.
-#[tactic(auto, using(crate::proofs::Merged::some_merge))]
 pub(crate) fn presumed_of(
     alloc: Global,
     setup: Setup,

@@ -148,7 +148,6 @@ fn judged_in(
 }
 
 // What the logs of the group come to.
-#[tactic(auto, using(crate::proofs::Merged::some_merge))]
 fn judged_of(alloc: Global, setup: Setup, set: &LogSet) -> Result<Judged, MergeFault>
     ensures { IfOk result (λ judged. IfAccepted judged.verdict IsSomeMerge) }
 {
