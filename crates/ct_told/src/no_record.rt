@@ -33,7 +33,7 @@ impl Model for NoRecord {
 
 impl NoRecord {
     /// What is told of the input with this first fault.
-    pub fn of(alloc: Global, fault: ReadFault, bytes: &[u8]) -> Result<NoRecord, AllocError>
+    pub(crate) fn of(alloc: Global, fault: ReadFault, bytes: &[u8]) -> Result<NoRecord, AllocError>
         ensures { IfOk result (λ told. IsToldAs told fault bytes.now) }
     {
         let place = place_of(alloc, fault, bytes)?;
