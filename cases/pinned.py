@@ -113,7 +113,7 @@ def names_exported(crate, root):
     found = set()
     for line in re.findall(r"pub use ([^;]+);", code):
         for name in re.sub(r"^.*\{|\}", "", " ".join(line.split())).split(",") if "{" in line else [line.split("::")[-1]]:
-            found.add(name.split(" as ")[-1].strip())
+            found.add(name.split(" as ")[0].strip())
     return found
 
 

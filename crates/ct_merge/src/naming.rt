@@ -9,7 +9,7 @@ use ct_play::{Stage, carried_of};
 
 /// The full name of the envelope of a serial; None where that was not sent.
 #[tactic(auto, unfolding(crate::specs::Names::full_name))]
-pub(crate) fn full_name(stage: &Stage, serial: Serial) -> Option<FullName>
+pub fn full_name(stage: &Stage, serial: Serial) -> Option<FullName>
     ensures { result ≡ full_name stage.now.rehearsal serial }
 {
     let letter = stage.world().letter(serial)?;
