@@ -23,6 +23,8 @@ use Rattle.ct_world.specs.World.{if_member, member_of}
 use Rattle.ct_show.specs.Details
 use Rattle.ct_show.specs.Shapes
 use Rattle.ct_show.specs.Wires
+use Rattle.ct_text.specs.Shapes as pieces
+use Rattle.ct_text.specs.Standing as standing
 use Rattle.ct_laws.proofs.Reading.{IsMild, mild, mild_both}
 use Rattle.ct_laws.proofs.Reading.Piece.{Fixed, Number, Mild}
 
@@ -37,8 +39,8 @@ joined_mild (m ∷ []) = message_mild m
 joined_mild (m ∷ (n ∷ list)) =
     mild_both (message_text m) (44 ∷ join_with_byte 44 (map message_text (n ∷ list))) (message_mild m) (joined_mild (n ∷ list))
 
-names_mild : (list : List Message) → IsMild (Shapes.names_text list)
-unfolding Shapes.names_text
+names_mild : (list : List Message) → IsMild (pieces.names_text list)
+unfolding pieces.names_text
 names_mild list = joined_mild list
 
 pub if_mild : (b : Bool) (one other : List ℕ) → IsMild one → IsMild other → IsMild (if b then one else other)
@@ -46,31 +48,31 @@ if_mild true one other h k = h
 if_mild false one other h k = k
 
 first_mild : (list : List Message) (n : ℕ) →
-    IsMild (concat (Shapes.names_text (take n list) ∷ codes " and " ∷ decimal (length list - n) ∷ codes " more" ∷ []))
+    IsMild (concat (pieces.names_text (take n list) ∷ codes " and " ∷ decimal (length list - n) ∷ codes " more" ∷ []))
 first_mild list n =
-    mild (Mild (Shapes.names_text (take n list)) ∷ Fixed (codes " and ") ∷ Number (length list - n) ∷ Fixed (codes " more") ∷ [])
+    mild (Mild (pieces.names_text (take n list)) ∷ Fixed (codes " and ") ∷ Number (length list - n) ∷ Fixed (codes " more") ∷ [])
     (names_mild (take n list), (refl, (refl, tt)))
 
-shortened_mild : (messages : List Message) → IsMild (Shapes.shortened messages)
-unfolding Shapes.shortened
+shortened_mild : (messages : List Message) → IsMild (pieces.shortened messages)
+unfolding pieces.shortened
 shortened_mild messages =
-    if_mild (nat_le (length messages) 8) (Shapes.names_text messages)
-    (concat (Shapes.names_text (take 8 messages) ∷ codes " and " ∷ decimal (length messages - 8) ∷ codes " more" ∷ []))
+    if_mild (nat_le (length messages) 8) (pieces.names_text messages)
+    (concat (pieces.names_text (take 8 messages) ∷ codes " and " ∷ decimal (length messages - 8) ∷ codes " more" ∷ []))
     (names_mild messages) (first_mild messages 8)
 
-set_mild : (list : List Message) → IsMild (Shapes.set_text list)
-unfolding Shapes.set_text
+set_mild : (list : List Message) → IsMild (pieces.set_text list)
+unfolding pieces.set_text
 set_mild list =
-    mild (Fixed (codes "{") ∷ Mild (Shapes.shortened list) ∷ Fixed (codes "}") ∷ []) (refl, (shortened_mild list, (refl, tt)))
+    mild (Fixed (codes "{") ∷ Mild (pieces.shortened list) ∷ Fixed (codes "}") ∷ []) (refl, (shortened_mild list, (refl, tt)))
 
-estimate_mild : (o : Option (Value × ℕ)) → IsMild (Shapes.estimate_text o)
-unfolding Shapes.estimate_text
+estimate_mild : (o : Option (Value × ℕ)) → IsMild (pieces.estimate_text o)
+unfolding pieces.estimate_text
 estimate_mild None = refl
 estimate_mild (Some e) =
-    mild (Mild (Shapes.set_text e.0) ∷ Fixed (codes " ts ") ∷ Number e.1 ∷ []) (set_mild e.0, (refl, tt))
+    mild (Mild (pieces.set_text e.0) ∷ Fixed (codes " ts ") ∷ Number e.1 ∷ []) (set_mild e.0, (refl, tt))
 
-value_mild : (o : Option (Value × ℕ)) → IsMild (Shapes.value_text o)
-unfolding Shapes.value_text
+value_mild : (o : Option (Value × ℕ)) → IsMild (pieces.value_text o)
+unfolding pieces.value_text
 value_mild None = refl
 value_mild (Some e) = set_mild e.0
 
@@ -96,10 +98,10 @@ unfolding Wires.wire_text
 wire_mild (Data m) v = mild (Fixed (codes "Data ") ∷ Mild (message_text m) ∷ []) (refl, (message_mild m, tt))
 wire_mild (Est k r p x t) v =
     mild (Fixed (codes "Est ") ∷ Mild (Wires.round_text k r) ∷ Fixed (codes " from ") ∷ Number p ∷ Fixed (codes " ")
-    ∷ Mild (Shapes.set_text v) ∷ Fixed (codes " ts ") ∷ Number t ∷ [])
+    ∷ Mild (pieces.set_text v) ∷ Fixed (codes " ts ") ∷ Number t ∷ [])
     (refl, (round_mild k r, (refl, (refl, (set_mild v, (refl, tt))))))
 wire_mild (Prop k r x) v =
-    mild (Fixed (codes "Prop ") ∷ Mild (Wires.round_text k r) ∷ Fixed (codes " ") ∷ Mild (Shapes.set_text v) ∷ [])
+    mild (Fixed (codes "Prop ") ∷ Mild (Wires.round_text k r) ∷ Fixed (codes " ") ∷ Mild (pieces.set_text v) ∷ [])
     (refl, (round_mild k r, (refl, (set_mild v, tt))))
 wire_mild (Ack k r p) v =
     mild (Fixed (codes "Ack ") ∷ Mild (Wires.round_text k r) ∷ Fixed (codes " from ") ∷ Number p ∷ [])
@@ -108,7 +110,7 @@ wire_mild (Nack k r p) v =
     mild (Fixed (codes "Nack ") ∷ Mild (Wires.round_text k r) ∷ Fixed (codes " from ") ∷ Number p ∷ [])
     (refl, (round_mild k r, (refl, tt)))
 wire_mild (Dec k r x) v =
-    mild (Fixed (codes "Dec ") ∷ Mild (Wires.round_text k r) ∷ Fixed (codes " ") ∷ Mild (Shapes.set_text v) ∷ [])
+    mild (Fixed (codes "Dec ") ∷ Mild (Wires.round_text k r) ∷ Fixed (codes " ") ∷ Mild (pieces.set_text v) ∷ [])
     (refl, (round_mild k r, (refl, (set_mild v, tt))))
 
 letter_mild : (o : Option (Envelope (Unit {0}))) (v : Value) → IsMild (Wires.letter_text o v)
@@ -126,12 +128,12 @@ serial_mild w k =
 
 -- ---- steps
 
-pub estimate_of_mild : (w : Rehearsal) (p : ℕ) → IsMild (Details.estimate_of w p)
-unfolding Details.estimate_of
+pub estimate_of_mild : (w : Rehearsal) (p : ℕ) → IsMild (standing.estimate_of w p)
+unfolding standing.estimate_of
 estimate_of_mild w p = estimate_mild (if_member w p (estimate_by (member_of w p)))
 
-alone_mild : (w : Rehearsal) (p : ℕ) → IsMild (Details.estimate_alone w p)
-unfolding Details.estimate_alone
+alone_mild : (w : Rehearsal) (p : ℕ) → IsMild (standing.estimate_alone w p)
+unfolding standing.estimate_alone
 alone_mild w p = value_mild (if_member w p (estimate_by (member_of w p)))
 
 message_of_mild : (e : Wire (Unit {0})) → IsMild (Details.message_of e)
@@ -151,8 +153,8 @@ submit_mild w before c =
 begin_mild : (w : Rehearsal) (p : ℕ) → IsMild (Details.begin_text w p)
 unfolding Details.begin_text
 begin_mild w p =
-    mild (Fixed (codes "begin    instance ") ∷ Number (Details.instance_of w p) ∷ Fixed (codes " proposes ")
-    ∷ Mild (Details.estimate_alone w p) ∷ []) (refl, (refl, (alone_mild w p, tt)))
+    mild (Fixed (codes "begin    instance ") ∷ Number (standing.instance_of w p) ∷ Fixed (codes " proposes ")
+    ∷ Mild (standing.estimate_alone w p) ∷ []) (refl, (refl, (alone_mild w p, tt)))
 
 coordinator_mild : (p : ℕ) → IsMild (Details.coordinator_text p)
 unfolding Details.coordinator_text
@@ -161,32 +163,32 @@ coordinator_mild p = mild (Fixed (codes ", coordinator ") ∷ Number p ∷ []) (
 enter_mild : (w : Rehearsal) (p : ℕ) → IsMild (Details.enter_text w p)
 unfolding Details.enter_text
 enter_mild w p =
-    mild (Fixed (codes "enter    round ") ∷ Mild (Wires.round_text (Details.instance_of w p) (Details.round_of w p))
-    ∷ Mild (Details.coordinator_text (Details.coordinator_of w p)) ∷ [])
-    (refl, (round_mild (Details.instance_of w p) (Details.round_of w p), (coordinator_mild (Details.coordinator_of w p), tt)))
+    mild (Fixed (codes "enter    round ") ∷ Mild (Wires.round_text (standing.instance_of w p) (standing.round_of w p))
+    ∷ Mild (Details.coordinator_text (standing.coordinator_of w p)) ∷ [])
+    (refl, (round_mild (standing.instance_of w p) (standing.round_of w p), (coordinator_mild (standing.coordinator_of w p), tt)))
 
 choose_mild : (w : Rehearsal) (p from : ℕ) → IsMild (Details.choose_text w p from)
 unfolding Details.choose_text
 choose_mild w p from =
     mild (Fixed (codes "choose   estimate of ") ∷ Number from ∷ Fixed (codes ": ")
-    ∷ Mild (Shapes.estimate_text (if_member w p (heard_by (member_of w p) from))) ∷ [])
+    ∷ Mild (pieces.estimate_text (if_member w p (heard_by (member_of w p) from))) ∷ [])
     (refl, (refl, (estimate_mild (if_member w p (heard_by (member_of w p) from)), tt)))
 
 adopt_mild : (w : Rehearsal) (p : ℕ) → IsMild (Details.adopt_text w p)
 unfolding Details.adopt_text
-adopt_mild w p = mild (Fixed (codes "adopt    ") ∷ Mild (Details.estimate_of w p) ∷ []) (refl, (estimate_of_mild w p, tt))
+adopt_mild w p = mild (Fixed (codes "adopt    ") ∷ Mild (standing.estimate_of w p) ∷ []) (refl, (estimate_of_mild w p, tt))
 
 suspect_mild : (w : Rehearsal) (p : ℕ) → IsMild (Details.suspect_text w p)
 unfolding Details.suspect_text
 suspect_mild w p =
-    mild (Fixed (codes "suspect  member ") ∷ Number (Details.coordinator_of w p) ∷ Fixed (codes "; keeps ")
-    ∷ Mild (Details.estimate_of w p) ∷ []) (refl, (refl, (estimate_of_mild w p, tt)))
+    mild (Fixed (codes "suspect  member ") ∷ Number (standing.coordinator_of w p) ∷ Fixed (codes "; keeps ")
+    ∷ Mild (standing.estimate_of w p) ∷ []) (refl, (refl, (estimate_of_mild w p, tt)))
 
 decision_mild : (w : Rehearsal) (before p : ℕ) → IsMild (Details.decision_text w before p)
 unfolding Details.decision_text
 decision_mild w before p =
     if_mild (length (state_of w).sent == before) (codes ": no decision") _ refl
-    (mild (Fixed (codes ": decides ") ∷ Mild (Details.estimate_alone w p) ∷ []) (refl, (alone_mild w p, tt)))
+    (mild (Fixed (codes ": decides ") ∷ Mild (standing.estimate_alone w p) ∷ []) (refl, (alone_mild w p, tt)))
 
 acks_mild : (word : List ℕ) (w : Rehearsal) (p : ℕ) → IsMild word → IsMild (Details.acks_text word w p)
 unfolding Details.acks_text
@@ -200,15 +202,15 @@ conclude_mild w before p =
     mild_both (Details.acks_text (codes "conclude") w p) (Details.decision_text w before p) (acks_mild (codes "conclude") w p refl)
     (decision_mild w before p)
 
-batch_mild : (w : Rehearsal) (k : ℕ) → IsMild (Details.batch_text w k)
-unfolding Details.batch_text
+batch_mild : (w : Rehearsal) (k : ℕ) → IsMild (standing.batch_text w k)
+unfolding standing.batch_text
 batch_mild w k = set_mild (unwrap_or (option_map (λ b. b.messages) (at_serial (order (state_of w)) k)) [])
 
 delivery_mild : (name : List ℕ) (w : Rehearsal) (p : ℕ) → IsMild name → IsMild (Details.delivery_text name w p)
 unfolding Details.delivery_text
 delivery_mild name w p h =
-    mild (Mild name ∷ Fixed (codes "instance ") ∷ Number (Details.instance_of w p) ∷ Fixed (codes ": ")
-    ∷ Mild (Details.batch_text w (Details.instance_of w p)) ∷ []) (h, (refl, (refl, (batch_mild w (Details.instance_of w p), tt))))
+    mild (Mild name ∷ Fixed (codes "instance ") ∷ Number (standing.instance_of w p) ∷ Fixed (codes ": ")
+    ∷ Mild (standing.batch_text w (standing.instance_of w p)) ∷ []) (h, (refl, (refl, (batch_mild w (standing.instance_of w p), tt))))
 
 letter_step_mild : (name : List ℕ) (w : Rehearsal) (k : ℕ) → IsMild name → IsMild (Details.letter_step name w k)
 unfolding Details.letter_step

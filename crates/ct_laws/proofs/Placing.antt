@@ -22,7 +22,6 @@ use Rattle.ct_play.specs.Turning.{after_round, after_rounds, is_still, reached, 
 use Rattle.ct_play.specs.Who.{known, named, stranger, unless_strange}
 use Rattle.ct_play.specs.declared.line_fault.LineFault.{LineFault}
 use Rattle.ct_play.specs.declared.line_fault.LineFault.TheVariants.{Restless}
-use Rattle.ct_play.specs.declared.turning.TheConstants.{MOST_ROUNDS}
 use Rattle.ct_judging.specs.Judging.{after_play, in_world, taken}
 use Rattle.ct_judging.specs.Reading.{line_in}
 use Rattle.ct_judging.specs.Schedule.{after_line, after_lines, finished, line_over, schedule}
@@ -65,10 +64,10 @@ still_same false t u h = absurd (cc h)
 rested_grows : (s t : Played) (play : Play) (ps : List ℕ) → rested play ps s ≡ Ok t → Grows (AreOf ps) s t
 unfolding rested
 rested_grows s t play ps h =
-    let before = after_rounds play ps s (MOST_ROUNDS - 1) in
+    let before = after_rounds play ps s 9999 in
     let is : after_round play ps before ≡ t =
     still_same (is_still before (after_round play ps before)) (after_round play ps before) t h in
-    subst (λ u. Grows (AreOf ps) s u) is (last_grows play ps s (MOST_ROUNDS - 1))
+    subst (λ u. Grows (AreOf ps) s u) is (last_grows play ps s 9999)
 
 settled_grows : (s t : Played) (play : Play) (by : Who) → settled s play by ≡ Ok t →
     Grows (AreOf (named s.rehearsal.setting.members by)) s t
@@ -120,7 +119,7 @@ reached_grows : (s t : Played) (play : Play) (by : Who) (goal : Goal) → reache
     AreOf (named s.rehearsal.setting.members by) steps × IsShown (behind s.rehearsal steps) goal) s t
 unfolding reached
 reached_grows s t play by goal h =
-    let rounds : List ℕ → Played = λ ps. after_rounds play ps s MOST_ROUNDS in
+    let rounds : List ℕ → Played = λ ps. after_rounds play ps s 10000 in
     let on = going_on (known s.rehearsal.setting.members by)
     (λ ps. go_on (all_known s.rehearsal.setting.members goal) (λ _. expected_of (rounds ps) goal)) t h in
     let more = going_on (all_known s.rehearsal.setting.members goal) (λ _. expected_of (rounds on.0) goal) t on.2 in
@@ -128,7 +127,7 @@ reached_grows s t play by goal h =
     until_shown s t by goal (named s.rehearsal.setting.members by)
     (subst (λ (u : Played). EachIsAllowed u.rehearsal → IsShown u.rehearsal goal) (sym is) (expected_shows (rounds on.0) t goal more.2))
     (of_named s.rehearsal.setting.members by on.0 s t on.1
-    (subst (λ u. Grows (AreOf on.0) s u) (sym is) (rounds_grow play on.0 s MOST_ROUNDS)))
+    (subst (λ u. Grows (AreOf on.0) s u) (sym is) (rounds_grow play on.0 s 10000)))
 
 expects_grows : (s t : Played) (goal : Goal) → expected s goal ≡ Ok t →
     Grows (λ steps. EachIsAllowed s.rehearsal → (steps ≡ []) × IsShown s.rehearsal goal) s t
