@@ -89,7 +89,7 @@ impl Stage {
     }
 
     /// The sides of the members.
-    pub fn sides(&self) -> Sides
+    pub(crate) fn sides(&self) -> Sides
         ensures { result ≡ self.now.sides }
     {
         self.sides
@@ -121,9 +121,9 @@ impl Stage {
         }
     }
 
-    // Takes the step, unless the rules refuse it.
+    /// Takes the step, unless the rules refuse it; one that is not taken changes nothing. A cut forbids nothing here.
     #[tactic(auto, unfolding(crate::specs::Acting::stepped))]
-    pub(crate) fn step(&mut self, step: Step) -> Result<(), LineFault>
+    pub fn step(&mut self, step: Step) -> Result<(), LineFault>
         ensures ok { OnOk result (stepped self.old step ≡ Ok self.new) }
         ensures err { IfErr result (IsFaultOf (stepped self.old step)) }
         ensures same { OnErr result (self.new ≡ self.old) }

@@ -11,7 +11,7 @@ use std::alloc::AllocError;
 /// Puts the act behind the text, as `submit set 0 7` or `receive est 1/2 from 3`. Where memory is refused, a beginning of it may stand
 /// there.
 #[tactic(auto, unfolding(crate::specs::Acts::act_text))]
-pub fn push_act(text: &mut String, act: &Act) -> Result<(), AllocError>
+pub(crate) fn push_act(text: &mut String, act: &Act) -> Result<(), AllocError>
     ensures { OnOk result (string_bytes text.new ≡ string_bytes text.old ++ act_text act.now) }
 {
     match *act {

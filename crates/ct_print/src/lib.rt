@@ -11,7 +11,7 @@ mod law;
 mod lines;
 mod members;
 
-pub use acts::{push_act, push_command};
+pub use acts::push_command;
 pub use goals::{push_claim, push_goal, push_term};
 pub use law::{law_read_back, law_writable};
 pub use lines::push_line;

@@ -16,21 +16,6 @@ pub enum Given<'a> {
     Two(&'a str, &'a str),
 }
 
-impl<'a> Given<'a> {
-    ghost use Rattle.std.specs.Prelude.{◌≡◌, map, take};
-
-    /// The first two of the words.
-    pub fn of(words: &[&'a str]) -> Given<'a>
-        ensures { words_of result ≡ take 2 (map (λ word. word.now) words.now) }
-    {
-        match words {
-            [] => Given::Nothing,
-            [word] => Given::One(word),
-            [first, second, ..] => Given::Two(first, second),
-        }
-    }
-}
-
 impl fmt::Display for Given<'_> {
     ghost output = { λ given. Some (given_text (words_of given)) };
 

@@ -70,14 +70,6 @@ impl Stage {
         &self.world
     }
 
-    /// The board, of as many cells as the world has.
-    pub fn board(&self) -> &Board
-        ensures value { result.now ≡ self.now.board }
-        ensures cells { length result.now ≡ self.now.rehearsal.cells }
-    {
-        &self.board
-    }
-
     /// The world and the board.
     pub fn into_parts(self) -> (World, Board)
         ensures world { result.0 ≡ record { rehearsal = self.rehearsal; prepared = None } }
