@@ -4,17 +4,25 @@
     assemble.py MODULE TOOL OUT     MODULE, TOOL: the WebAssembly modules of the library and of ct_tool; OUT: the page
     assemble.py --again PAGE        makes the page anew, with the modules that it has
     assemble.py --check PAGE        status 1 where that would change it
+    assemble.py --differ PAGE OTHER tells in what the modules of the first page are others than those of the second
 """
 import base64
 import gzip
+import hashlib
 import json
 import os
 import re
+import shutil
+import subprocess
 import sys
+from typing import List
 
 HERE = os.path.dirname(os.path.abspath(__file__))
 SOURCES = os.path.join(HERE, "src")
 EXAMPLES = [os.path.join(HERE, "..", "examples"), os.path.join(HERE, "..", "examples", "python")]
+MODULE_SOURCES = ["crates", *(f"page/{it}" for it in ("module.sh", "module.c", "heap.c", "wide.c", "system.c", "bytes_of.ll"))]
+MODULES = {"module": "LIBRARY", "tool": "PROGRAM"}
+MADE = re.compile(r'<p id="made">.*?</p>', re.S)
 FIRST = "boot.js"
 IMPORT = re.compile(r'^import \{ ([^}]*) \} from "\./([a-z_]+\.js)";\n', re.M)
 EXPORT = re.compile(r"^export ((?:async )?(?:class|function|const|let) )(\w+)", re.M)
@@ -56,8 +64,36 @@ def packed(path: str) -> str:
         return base64.b64encode(gzip.compress(file.read(), 9, mtime=0)).decode()
 
 
-def page(module: str, tool: str) -> str:
-    """The page with these modules."""
+def git(*words: str) -> str:
+    ran = subprocess.run(["git", "-C", HERE, *words], stdout=subprocess.PIPE, stderr=subprocess.DEVNULL, check=False, text=True)
+    return ran.stdout.strip()
+
+
+def commit() -> str:
+    """The last commit that changed what modules are made of."""
+    sources = [f":/{it}" for it in MODULE_SOURCES]
+    changed = git("status", "--porcelain", "--", *sources)
+    return (git("log", "-1", "--format=%h", "--abbrev=12", "--", *sources) or "unknown") + (" and changes" if changed else "")
+
+
+def kit() -> str:
+    """The name of the toolchain."""
+    path = os.path.join(os.path.dirname(os.path.realpath(shutil.which("rt") or "")), "..", "KIT-ID")
+    return read(path).split()[0] if os.path.exists(path) else "unknown"
+
+
+def sum_of(module: str) -> str:
+    return hashlib.sha256(gzip.decompress(base64.b64decode(module))).hexdigest()
+
+
+def hashes(text: str, element: str) -> str:
+    """By what a policy lets these elements be: the sums of their texts."""
+    found = re.findall(rf"^<{element}(?: id=\"[a-z-]*\"| type=\"module\")?>(.*?)</{element}>", text, re.S | re.M)
+    return " ".join(f"'sha256-{base64.b64encode(hashlib.sha256(it.encode()).digest()).decode()}'" for it in found)
+
+
+def page(module: str, tool: str, made: List[str]) -> str:
+    """The page with these modules, which were made of this commit with this kit."""
     text = read(SOURCES, "page.html")
     parts = {
         "/*STYLE*/": read(SOURCES, "style.css"),
@@ -65,30 +101,59 @@ def page(module: str, tool: str) -> str:
         "/*DIAGRAM*/": read(SOURCES, "diagram.css"),
         "<!--TRUST-->": read(SOURCES, "trust.html"),
         "<!--SEARCH-->": read(SOURCES, "search.html"),
+        "<code>COMMIT<": f"<code>{made[0]}<",
+        "<code>KIT<": f"<code>{made[1]}<",
+        "<code>LIBRARY<": f"<code>{sum_of(module)}<",
+        "<code>PROGRAM<": f"<code>{sum_of(tool)}<",
+        "/*SCRIPT*/": "const modules = {};\n" + "".join(scope(it) for it in order(FIRST, [])),
+        "HASHES-OF-SCRIPTS": None,
+        "HASHES-OF-STYLES": None,
         "/*MODULE*/": module,
         "/*TOOL*/": tool,
         "/*SCENARIOS*/": examples(),
-        "/*SCRIPT*/": "const modules = {};\n" + "".join(scope(it) for it in order(FIRST, [])),
     }
     for mark, part in parts.items():
         if text.count(mark) != 1:
             sys.exit(f"assemble.py: {mark} stands {text.count(mark)} times in page.html")
+        if part is None:
+            part = hashes(text, "script" if mark.endswith("SCRIPTS") else "style")
         text = text.replace(mark, part.strip("\n"))
     return text
 
 
+def modules(path: str) -> List[str]:
+    """The modules of the page that is there."""
+    found = [re.search(rf'id="{name}">([^<]*)<', read(path)) for name in MODULES]
+    return [it[1] for it in found] if all(found) else sys.exit(f"assemble.py: {path}: a module is missing")
+
+
+def made_of(path: str) -> List[str]:
+    """The commit, the kit and the sums that a page tells."""
+    found = MADE.search(read(path))
+    return re.findall(r"<code>([^<]*)</code>", found[0]) if found else ["unknown", "unknown"]
+
+
 def again(path: str) -> str:
     """The page of these parts with the modules of the one that is there."""
-    text = read(path)
-    found = [re.search(rf'id="{name}">([^<]*)<', text) for name in ("module", "tool")]
-    return page(*(it[1] for it in found)) if all(found) else sys.exit(f"assemble.py: {path}: a module is missing")
+    return page(*modules(path), made_of(path)[:2])
+
+
+def differ(path: str, other: str) -> None:
+    """Tells which modules of a page are others than those of the other page."""
+    there, here = made_of(path), made_of(other)
+    for name, *sums in zip(("library", "ct_tool"), map(sum_of, modules(path)), map(sum_of, modules(other))):
+        if sums[0] != sums[1]:
+            print(f"{path} has another {name} than {other}: {sums[0][:12]}, of commit {there[0]} with {there[1]}, and not {sums[1][:12]}, "
+                  f"of commit {here[0]} with {here[1]}")
 
 
 def main() -> int:
     *words, path = sys.argv[1:]
     if words == ["--check"]:
         return 0 if again(path) == read(path) else 1
-    text = again(path) if words == ["--again"] else page(*(packed(it) for it in words))
+    if words[:1] == ["--differ"]:
+        return differ(words[1], path) or 0
+    text = again(path) if words == ["--again"] else page(*(packed(it) for it in words), [commit(), kit()])
     with open(path, "w", encoding="utf-8") as file:
         file.write(text)
     return 0

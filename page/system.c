@@ -1,23 +1,30 @@
-/* What the program ct_tool asks of an operating system, in its module: words, standard input, output and error, and a clock, which the page
-   has for it; of all else there is none, and each call answers so, with the number that Linux would give. No proof covers it. Each function
-   is declared as the program declares it, since WebAssembly calls none of another type. */
+/* What the program ct_tool asks of an operating system, in its module: words, standard input, output and error, files to be read, and a
+   clock, which the page has for it; of all else there is none, and each call answers so, with the number that Linux would give. No proof
+   covers it. Each function is declared as the program declares it, since WebAssembly calls none of another type. */
 #include "heap.h"
 
 #define NO_CALL 38 /* ENOSYS */
 #define NO_FILE 2 /* ENOENT */
+#define NOT_OPEN 9 /* EBADF */
+#define TOO_MANY 24 /* EMFILE */
 #define NO_SEEK 29 /* ESPIPE */
 #define NO_THREAD 11 /* EAGAIN */
 #define STANDARD_ERROR 2
+#define WRITING 3 /* O_WRONLY, O_RDWR */
+#define FIRST_FILE 3 /* behind the standard streams */
+#define MOST_OPEN 32
 #define NANOS 1000000000.0
 
 typedef long long i64;
 
 #define FROM_PAGE(name) __attribute__((import_module("page"), import_name(name)))
 
-/* The page's part: a word's bytes, or -1 without such a word, or -2 without room; how many bytes were read; bytes that are written;
-   nanoseconds since some moment; and the end, which it does not return from. */
+/* The page's part: a word's bytes, or -1 without such a word, or -2 without room; the number of the file of a name, from 1 on, or -1; how
+   many bytes were read of a file, from a place on, where file 0 is standard input; bytes that are written; nanoseconds since some moment;
+   and the end, which it does not return from. */
 FROM_PAGE("word") i64 page_word(u64 number, char *place, u64 room);
-FROM_PAGE("read") i64 page_read(char *place, u64 room);
+FROM_PAGE("file") i64 page_file(const char *name, u64 length);
+FROM_PAGE("read") i64 page_read(i64 file, u64 from, char *place, u64 room);
 FROM_PAGE("write") void page_write(int file, const char *place, u64 size);
 FROM_PAGE("clock") double page_clock(void);
 FROM_PAGE("end") _Noreturn void page_end(int status);
@@ -26,6 +33,13 @@ struct time {
     i64 seconds;
     i64 nanos;
 };
+
+/* A stream that is read: which file of the page's, and how much of it was. */
+static struct {
+    int is_open;
+    i64 file;
+    u64 at;
+} streams[MOST_OPEN] = {{1, 0, 0}};
 
 static int fault;
 
@@ -51,7 +65,15 @@ i64 rattle_env_at(u64 number, char *place, u64 room) {
     return -1;
 }
 
-i64 read(int file, char *place, u64 room) { return file == 0 ? page_read(place, room) : refused(NO_CALL); }
+static int is_read(int file) { return file >= 0 && file < MOST_OPEN && streams[file].is_open; }
+
+i64 read(int file, char *place, u64 room) {
+    if (!is_read(file))
+        return refused(NOT_OPEN);
+    i64 taken = page_read(streams[file].file, streams[file].at, place, room);
+    streams[file].at += (u64)taken;
+    return taken;
+}
 
 i64 write(int file, const char *place, u64 size) {
     page_write(file, place, size);
@@ -81,14 +103,26 @@ void free(void *place) {
         heap_give(place);
 }
 
-/* Files there are none, nor is there anything to know of those that are open. */
+/* Files are read from their beginnings on; there is nothing else to know of them, and none can be made. */
 int open(const char *path, int flags, ...) {
-    (void)path, (void)flags;
-    return refused(NO_FILE);
+    u64 length = 0;
+    while (path[length])
+        length++;
+    i64 found = flags & WRITING ? -1 : page_file(path, length);
+    if (found < 0)
+        return refused(NO_FILE);
+    for (int file = FIRST_FILE; file < MOST_OPEN; file++)
+        if (!streams[file].is_open) {
+            streams[file].is_open = 1, streams[file].file = found, streams[file].at = 0;
+            return file;
+        }
+    return refused(TOO_MANY);
 }
 
 int close(int file) {
-    (void)file;
+    if (!is_read(file))
+        return refused(NOT_OPEN);
+    streams[file].is_open = 0;
     return 0;
 }
 

@@ -1,125 +1,187 @@
 // What the page shows and does: a run, where one looks at it, and the lines of its schedule.
 
 import { Columns } from "./columns.js";
+import { Fault, Left } from "./fault.js";
 import { Past } from "./past.js";
+import { Run, isAnswer, isFault } from "./run.js";
 import { detail, heading } from "./detail.js";
-import { namedLines } from "./envelopes.js";
-import { isAnswer, isFault } from "./run.js";
-import { isRecord, linesOfRecord, readRecord } from "./record.js";
-import { count } from "./wording.js";
+import { count, faultText, headingOf } from "./wording.js";
 
 const NO_FILTER = { members: null, kinds: null, instance: null };
-const PAUSE = 200;
-const MOST_NAMED = 5000;
 
 export class App {
-  constructor(run, parts) {
-    Object.assign(this, { run, parts, lines: [], at: 0, isPast: false, filter: NO_FILTER, history: new Past() });
-    this.columns = new Columns(run, this.filter);
+  constructor(library, parts) {
+    Object.assign(this, { library, parts, run: new Run(library), lines: [], at: 0, isPast: false, filter: NO_FILTER, history: new Past() });
+    this.columns = new Columns(this.run, this.filter);
+    this.last = Promise.resolve();
+    this.held = { lines: this.lines, length: 0, example: "" };
   }
 
   get isEnd() {
     return this.at === this.run.steps.length;
   }
 
-  // Judges these lines in place of those that there were. Where that takes long the page waits, and tells how far it is.
-  async judge(lines, at = null) {
-    let last = performance.now();
-    const told = async (share) => {
-      if (performance.now() - last < PAUSE) return;
-      this.wait(true);
-      this.status(`${Math.round(100 * share)} %`);
-      await new Promise((done) => setTimeout(done));
-      last = performance.now();
-    };
-    this.lines = lines;
-    await this.run.judge(lines, told);
-    this.wait(false);
+  // Does one thing behind the other, and what was typed before it. One that fails or is left changes nothing; `name` is what it is told of.
+  do(work, name = "") {
+    this.parts.editor.now();
+    this.last = this.last.then(() => this.done(work, name));
+    return this.last;
+  }
+
+  async done(work, name) {
+    const { waiting } = this.parts;
+    waiting.begin();
+    try {
+      await work();
+    } catch (error) {
+      const told = error instanceof Fault ? error.message : `the page failed: ${error.message}`;
+      if (error instanceof Left) this.status("Cancelled.");
+      else this.alert(`${name && `${name}: `}${told}`);
+    } finally {
+      waiting.end();
+    }
+  }
+
+  // A run of these lines, which is judged apart: the one that is shown stays meanwhile.
+  async judged(lines) {
+    const run = new Run(this.library);
+    try {
+      await run.judge(lines, (share) => this.parts.waiting.told(share));
+      return run;
+    } catch (error) {
+      run.close();
+      throw error;
+    }
+  }
+
+  // Puts a run that was judged of these lines in the place of the one that is shown.
+  put(run, lines, at = null) {
+    this.run.close();
+    Object.assign(this, { run, lines });
     this.parts.began(this);
-    this.columns = new Columns(this.run, this.filter);
+    this.columns = new Columns(run, this.filter);
+    this.alert("");
     this.status("");
-    this.go(at === null ? this.run.steps.length : Math.min(at, this.run.steps.length), false);
-  }
-
-  // While the page waits nothing in it can be done.
-  wait(isWaiting) {
-    const { page } = this.parts;
-    if (isWaiting && !page.inert) this.focused = document.activeElement;
-    const wasWaiting = page.inert;
-    page.inert = isWaiting;
-    if (wasWaiting && !isWaiting) this.focused?.focus({ preventScroll: true });
-  }
-
-  get isWaiting() {
-    return this.parts.page.inert;
+    this.go(at ?? run.steps.length, false);
   }
 
   // Changes the lines to these; undo goes back.
-  async change(lines, at = null) {
-    this.history.keep(this.lines);
-    this.alert("");
-    await this.judge(lines, at);
+  change(lines, at = null) {
+    return this.do(() => this.renew(lines, at));
   }
 
-  // Opens a text: a record or a schedule.
-  async open(text, at = null, name = "") {
-    if (this.isWaiting) return;
-    let lines;
-    try {
-      lines = isRecord(text) ? linesOfRecord(readRecord(text)) : text.replace(/\n$/, "").split("\n");
-    } catch (error) {
-      this.alert(`${name ? `${name}: ` : ""}${error.message}`);
-      return;
-    }
+  async renew(lines, at = null) {
+    const run = await this.judged(lines);
+    if (this.lines.length > 0) this.history.keep(this.lines);
+    this.put(run, lines, at);
+  }
+
+  // Begins a group, unless it is none.
+  begin(members) {
+    return this.do(async () => {
+      await this.renew([`members ${members}`]);
+      this.kept();
+    });
+  }
+
+  // Opens a text, a record or a schedule.
+  open(text, at = null, name = "") {
+    return this.do(() => this.opened(this.parts.opening.ofText(text), at, name), name);
+  }
+
+  // Opens a file, or the logs of all members.
+  openFiles(files) {
+    const name = files.map((it) => it.name).join(", ");
+    return this.do(async () => {
+      await this.opened(this.parts.opening.ofFiles(files), null, name);
+      this.kept();
+    }, name);
+  }
+
+  // Opens the lines that come, and tells of what is refused first.
+  async opened(coming, at, name) {
     const start = performance.now();
-    await this.change(lines, at);
-    if (isRecord(text)) await this.rename(lines, at);
-    const took = ((performance.now() - start) / 1000).toFixed(2);
-    this.status(`${name ? `${name}: ` : ""}${count(this.run.steps.length, "step")} in ${took} s`);
+    this.alert("");
+    await this.renew(await coming, at);
+    const { fault, steps } = this.run;
+    const took = `${count(steps.length, "step")} in ${((performance.now() - start) / 1000).toFixed(2)} s`;
+    if (fault) this.alert(`${name && `${name}: `}${faultText(fault)}`);
+    this.status(`${name && `${name}: `}${fault ? `refused at line ${fault.line + 1}; before it ` : ""}${took}. ${headingOf(this.lines)}`.trim());
   }
 
-  // Has the lines of a record name envelopes by what they carry, where it is not too long, and where they then come to the same steps.
-  async rename(lines, at) {
-    if (this.run.fault || this.run.steps.length === 0 || lines.length > MOST_NAMED) return;
-    const steps = JSON.stringify(this.run.steps);
-    await this.judge(namedLines(this.run), at);
-    if (JSON.stringify(this.run.steps) !== steps) await this.judge(lines, at);
+  // What is shown can be had again, as it is now: from a file, a link or by an example's name.
+  kept(example = this.isKept ? this.held.example : "") {
+    this.held = { lines: this.lines, length: this.lines.length, example };
+  }
+
+  // Whether it is as it was when it could be had again.
+  get isKept() {
+    const { lines, length } = this.held;
+    return length === this.lines.length && (lines === this.lines || this.lines.every((line, i) => line === lines[i]));
   }
 
   // Tells a line behind those that were taken, or null: then all is shown anew.
-  async tell(line) {
+  tell(line) {
+    return this.do(() => this.say(line));
+  }
+
+  async say(line) {
     if (line === null) return this.go(this.at, this.isPast);
-    const answer = this.run.say(line);
+    const answer = await this.answer(line);
     if (isFault(answer)) return this.alert(`${line}: ${answer}`);
     this.alert("");
     this.status(isAnswer(answer) ? answer : "");
-    if (isAnswer(answer)) return;
+    if (isAnswer(answer)) return undefined;
     this.parts.step.open = false;
+    return this.grown(line);
+  }
+
+  // What the run answers to a line; where that fails it is judged anew, without the line.
+  async answer(line) {
+    try {
+      return this.run.say(line);
+    } catch (error) {
+      this.put(await this.judged(this.lines), this.lines);
+      throw error;
+    }
+  }
+
+  // Has the lines be those that were taken, the last of which was told, and those behind it that weren't.
+  async grown(line) {
     const taken = this.run.lines.length;
-    this.history.keep(this.lines);
     const rest = this.lines.slice(taken - 1);
-    if (rest.some((it) => it.trim() !== "")) return this.judge([...this.run.lines, ...rest]);
-    this.lines = [...this.run.lines];
-    this.go(this.run.steps.length, false);
+    this.history.keep(this.lines);
+    if (rest.some((it) => it.trim() !== "")) {
+      const lines = [...this.run.lines, ...rest];
+      return this.put(await this.judged(lines), lines);
+    }
+    if (rest.length > 0) this.lines = this.lines.slice(0, taken - 1);
+    this.lines.push(line);
+    return this.go(this.run.steps.length, false);
   }
 
   // Leaves what comes behind the step that one looks at.
   fork() {
-    return this.change(this.run.linesUpTo(this.at));
+    return this.do(() => this.renew(this.run.linesUpTo(this.at)));
   }
 
-  async undo() {
-    if (this.isWaiting) return;
-    const lines = this.history.undo(this.lines);
-    if (lines) await this.judge(lines);
-    this.alert("");
+  undo() {
+    return this.do(() => this.restore("undo", "redo"));
   }
 
-  async redo() {
-    if (this.isWaiting) return;
-    const lines = this.history.redo(this.lines);
-    if (lines) await this.judge(lines);
-    this.alert("");
+  redo() {
+    return this.do(() => this.restore("redo", "undo"));
+  }
+
+  async restore(there, back) {
+    const lines = this.history[there](this.lines);
+    if (!lines) return;
+    try {
+      this.put(await this.judged(lines), lines);
+    } catch (error) {
+      this.history[back](lines);
+      throw error;
+    }
   }
 
   // Looks at the run behind so many steps; with `isPast` what didn't come before the last of them is dim.

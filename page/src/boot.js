@@ -5,10 +5,10 @@ import { Diagram } from "./diagram.js";
 import { Editor } from "./editor.js";
 import { Library } from "./library.js";
 import { Members } from "./members.js";
-import { Run } from "./run.js";
+import { Opening } from "./opening.js";
 import { Search } from "./search.js";
-import { Session } from "./session.js";
 import { Tool } from "./tool.js";
+import { Waiting } from "./waiting.js";
 import { begin, refresh, theme, wire } from "./controls.js";
 import { asked, bytesOf, through } from "./link.js";
 import { legend } from "./legend.js";
@@ -25,27 +25,31 @@ async function library() {
   return Library.load(bytes);
 }
 
-function made(run) {
-  const parts = { page: at("page"), step: at("step"), alert: at("alert"), status: at("status"), controls: refresh, began: begin };
-  const app = new App(run, parts);
+function made(held, tool) {
+  const waiting = new Waiting({ page: at("page"), bar: at("waiting"), text: at("progress-of-page"), button: at("leave") });
+  const parts = { waiting, step: at("step"), alert: at("alert"), status: at("status"), controls: refresh, began: begin };
+  parts.opening = new Opening(tool, waiting);
+  const app = new App(held, parts);
   parts.diagram = new Diagram(at("diagram"), at("sheet"), (step) => app.look(step));
   parts.members = new Members(at("members-now"), (line) => app.tell(line));
   parts.editor = new Editor({ text: at("text"), gutter: at("gutter"), fault: at("fault") }, (lines) => app.change(lines));
   return app;
 }
 
-// Opens what the link asks for; else a group that has taken no step.
-async function follow(app, scenarios) {
-  try {
-    const found = await asked(location.hash, scenarios);
-    if (found) return await app.open(found.text, found.at, found.name ?? "");
-  } catch (error) {
-    app.alert(`the link: ${error.message}`);
+// Opens what the link asks for; else a group that has taken no step. A link that is none leaves what there is.
+const follow = (app, scenarios) => app.do(async () => {
+  const found = await asked(location.hash, scenarios).catch((fault) => ({ fault }));
+  if (found?.text !== undefined) {
+    await app.opened(app.parts.opening.ofText(found.text), found.at, found.name);
+    return app.kept(found.name);
   }
-  if (app.lines.length > 0) return;
-  await app.judge(FIRST);
-  app.status(HINT);
-}
+  if (app.lines.length === 0 || !found) {
+    await app.renew(FIRST);
+    app.kept();
+    app.status(HINT);
+  }
+  if (found) throw found.fault;
+});
 
 async function start() {
   const began = performance.now();
@@ -56,10 +60,10 @@ async function start() {
   });
   if (!held) return;
   const scenarios = JSON.parse(at("scenarios").textContent);
-  const run = new Run(held, { live: new Session(held), past: new Session(held) });
-  const app = made(run);
+  const tool = new Tool(at("tool").textContent);
+  const app = made(held, tool);
   wire(app, scenarios);
-  const search = new Search(app, new Tool(at("tool").textContent));
+  const search = new Search(app, tool);
   const failed = (error) => app.alert(`the page failed: ${error?.message ?? error}`);
   addEventListener("error", (event) => failed(event.error ?? event.message));
   addEventListener("unhandledrejection", (event) => failed(event.reason));

@@ -36,11 +36,13 @@ export function refresh(app) {
   at("past").setAttribute("aria-pressed", String(app.isPast));
   at("past").disabled = app.at === 0;
   for (const it of document.querySelectorAll("#group button, #further button, #cut button")) it.disabled = !app.isEnd;
+  at("examples").value = app.isKept ? app.held.example : "";
 }
 
 // Makes the boxes for members anew, where the group is another.
 export function begin(app) {
   const members = app.run.group?.members ?? 0;
+  if (members > 0) at("members").value = members;
   if (at("only-members").dataset.members === String(members)) return;
   at("only-members").dataset.members = members;
   app.filter = { ...app.filter, members: null };
@@ -57,25 +59,33 @@ export function begin(app) {
 const ticked = (name) => [...document.querySelectorAll(`input[name=${name}]:checked`)].map((it) => Number(it.value));
 
 function runs(app, scenarios) {
-  at("new").onclick = () => app.change([`members ${at("members").value}`]);
+  at("new").onclick = () => { if (at("members").reportValidity()) app.begin(at("members").value); };
   at("open").onchange = async (event) => {
-    const [file] = event.target.files;
-    if (file) await app.open(await file.text(), null, file.name);
+    const files = [...event.target.files];
+    if (files.length > 0) await app.openFiles(files);
     event.target.value = "";
   };
   for (const name of Object.keys(scenarios)) at("examples").add(new Option(name.replaceAll("_", " "), name));
-  at("examples").onchange = async (event) => {
-    if (event.target.value) await app.open(scenarios[event.target.value], null, event.target.value);
+  at("examples").onchange = (event) => {
+    const hash = `#example=${event.target.value}`;
+    if (event.target.value === "") return;
+    if (location.hash === hash) dispatchEvent(new Event("hashchange"));
+    else location.hash = hash;
   };
+  addEventListener("beforeunload", (event) => { if (!app.isKept) event.preventDefault(); });
   at("undo").onclick = () => app.undo();
   at("redo").onclick = () => app.redo();
 }
 
 function taking(app) {
-  at("save-schedule").onclick = () => download("run.schedule", `${app.lines.join("\n")}\n`, "text/plain");
+  at("save-schedule").onclick = () => {
+    download("run.schedule", `${app.lines.join("\n")}\n`, "text/plain");
+    app.kept();
+  };
   at("save-record").onclick = () => {
-    if (app.run.group) download("run.json", `${app.run.live.record()}\n`, "application/json");
-    else app.alert("no record: no line says how many members there are");
+    if (!app.run.group) return app.alert("no record: no line says how many members there are");
+    download("run.json", `${app.run.live.record()}\n`, "application/json");
+    if (!app.run.fault) app.kept();
   };
   at("save-svg").onclick = () => {
     const style = at("diagram-style").textContent;
@@ -84,6 +94,7 @@ function taking(app) {
   at("link").onclick = async () => {
     const hash = `#s=${await packed(`${app.lines.join("\n")}\n`)}${app.isEnd ? "" : `&at=${app.at}`}`;
     history.replaceState(null, "", hash);
+    app.kept();
     const isCopied = await navigator.clipboard?.writeText(location.href).then(() => true, () => false);
     app.status(`The link is in the address line${isCopied ? ", and copied" : ""}: ${location.href.length.toLocaleString("en")} letters.`);
   };
@@ -177,7 +188,7 @@ function dropping(app) {
   addEventListener("drop", async (event) => {
     event.preventDefault();
     over(false);
-    const [file] = event.dataTransfer.files;
-    if (file) await app.open(await file.text(), null, file.name);
+    const files = [...event.dataTransfer.files];
+    if (files.length > 0) await app.openFiles(files);
   });
 }

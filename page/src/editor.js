@@ -1,5 +1,7 @@
 // The schedule beside the run: lines that can be changed, with the refused one and the one that one looks at marked.
 
+import { faultText } from "./wording.js";
+
 const LINE = 18;
 const MOST_LINES = 5000;
 const AROUND = 500;
@@ -20,13 +22,13 @@ export class Editor {
   show(lines, { here, fault, taken }) {
     Object.assign(this, { here, fault, taken, count: lines.length });
     const isLong = lines.length > MOST_LINES;
-    if (isLong || lines !== this.lines) this.fill(lines, isLong);
+    if (isLong || lines !== this.lines || lines.length !== this.length) this.fill(lines, isLong);
     if (document.activeElement !== this.text) this.reveal();
     this.marks();
   }
 
   fill(lines, isLong) {
-    this.lines = lines;
+    Object.assign(this, { lines, length: lines.length });
     this.offset = isLong ? Math.max(0, this.here - AROUND) : 0;
     const shown = isLong ? lines.slice(this.offset, this.here + AROUND) : lines;
     const text = shown.join("\n");
@@ -36,7 +38,7 @@ export class Editor {
   }
 
   tell(isLong, shown) {
-    const told = this.fault ? `line ${this.fault.line + 1}: ${this.fault.text.trim()}: ${this.fault.answer}` : "";
+    const told = this.fault ? faultText(this.fault) : "";
     this.note.classList.toggle("hint", !told);
     const part = `Lines ${this.offset + 1} to ${this.offset + shown} of ${this.count.toLocaleString("en")}.`;
     this.note.textContent = told || (isLong ? `${part} So long a schedule is changed by saving and opening it.` : "");
@@ -56,10 +58,11 @@ export class Editor {
     for (let i = first; i * LINE < scrollTop + clientHeight && this.offset + i < this.count; i++) {
       const line = this.offset + i;
       const look = this.fault?.line === line ? "refused" : line === this.here ? "here" : line >= this.taken ? "left" : "";
-      all.push(`<div class="${look}" style="top:${i * LINE - scrollTop}px">${this.fault?.line === line ? "✕ " : ""}${line + 1}</div>`);
+      all.push(`<div class="${look}">${this.fault?.line === line ? "✕ " : ""}${line + 1}</div>`);
     }
     this.gutter.style.width = `${String(this.count).length + 3}ch`;
     this.gutter.innerHTML = all.join("");
+    if (all.length > 0) this.gutter.firstChild.style.marginTop = `${first * LINE - scrollTop}px`;
   }
 
   later() {
@@ -73,7 +76,7 @@ export class Editor {
   now() {
     clearTimeout(this.timer);
     if (!this.isBusy) return;
-    this.changed(this.text.value.split("\n"));
     this.isBusy = false;
+    this.changed(this.text.value.split("\n"));
   }
 }

@@ -1,9 +1,5 @@
 // What waits at a member, of an answer as: waiting #4 data 3.1 from 3 add 0 5, #7 prop 1/1 from 2 {1.1}
 
-import { lineOf } from "./record.js";
-
-const NAMING = new Set(["receive", "postpone", "lose", "repeat"]);
-
 // The envelopes, each with its serial, kind, text and the name by which a line takes it.
 export function waitingIn(answer) {
   const list = answer.replace(/^waiting /, "");
@@ -15,18 +11,6 @@ export function waitingIn(answer) {
   const names = new Map();
   for (const it of all) names.set(it.name, (names.get(it.name) ?? 0) + 1);
   return all.map((it) => ({ ...it, name: names.get(it.name) === 1 ? it.name : `#${it.serial}` }));
-}
-
-// The run's steps as lines in which envelopes go by what they carry and who sent them. Whether these lines come to the same steps is to be
-// seen.
-export function namedLines(run) {
-  const heading = run.lines.slice(0, run.ends.findIndex((end) => end > 0));
-  return [...heading, ...run.steps.map((step) => (NAMING.has(step[0]) ? `${step[1]} ${step[0]} ${nameOf(run, step[2])}` : lineOf(step)))];
-}
-
-function nameOf({ world, trips, steps }, serial) {
-  const { kind, message, instance, round } = world.envelope(serial);
-  return `${kind} ${message ? message.name : `${instance}/${round}`} from ${steps[trips.sender.at(serial)][1]}`;
 }
 
 // The serials of envelopes to a member that were received or lost, the last ones first.

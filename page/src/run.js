@@ -1,11 +1,14 @@
 // A run: the lines of a schedule that the library took, the first one that it refused, and the steps that they came to.
 
-import { World } from "./world.js";
-import { Trips } from "./trips.js";
 import { Places } from "./places.js";
+import { Session } from "./session.js";
+import { Trips } from "./trips.js";
+import { World } from "./world.js";
 import { lineOf, withLongNumbers } from "./record.js";
 
 const BLOCK = 2000;
+const FIRST_BLOCK = 64;
+const QUICK = 50;
 const HEADING = /^\s*((members|cells|batch)([ \t\r].*)?|#(?![0-9]).*)?$/;
 const QUESTION = /^(enabled|next|state|waiting|report|record|limits)( |$)/;
 const ONE_STEP = /^ *(\d+) +(receive|begin|enter|choose|adopt|suspect|conclude|deliver|follow|postpone|repeat|crash|submit|lose +#)/;
@@ -17,14 +20,11 @@ export const isAnswer = (answer) => QUESTION.test(answer);
 export const isFault = (answer) => !isOk(answer) && !isAnswer(answer);
 
 export class Run {
-  constructor(library, { live, past }) {
-    this.live = live; // stands behind the last line, cuts and all
-    this.past = past; // stands behind `pastAt` steps of the record
+  // The run of no lines.
+  constructor(library) {
+    this.live = new Session(library); // stands behind the last line, cuts and all
+    this.past = new Session(library); // stands behind `pastAt` steps of the record
     this.world = new World(library);
-    this.clear();
-  }
-
-  clear() {
     this.lines = []; // those that were taken
     this.ends = []; // by line: how many steps there are behind it
     this.fault = null; // of the first line that was refused: { line, text, answer }
@@ -35,16 +35,23 @@ export class Run {
     this.trips = null;
     this.pastAt = 0;
     this.told = []; // by step: where its member stands behind it, if that was told with its line
-    this.live.begin();
-    this.past.begin();
+    this.read = 0; // how much of the record's text was read
   }
 
-  // Judges these lines from the first one on; lines behind one that is refused are left. `told` hears of the share that is done.
+  close() {
+    for (const it of [this.live, this.past, this.world]) it.close();
+  }
+
+  // Judges these lines, the first ones of a run; lines behind one that is refused are left. `told` hears of the share that is done, each time
+  // a block of lines is, which are as many as don't take long.
   async judge(lines, told = async () => {}) {
-    this.clear();
-    for (let at = 0; at < lines.length && !this.fault; at += BLOCK) {
-      this.take(lines.slice(at, at + BLOCK), at);
-      await told(at / lines.length / 2);
+    let size = FIRST_BLOCK;
+    for (let at = 0; at < lines.length && !this.fault;) {
+      const start = performance.now();
+      this.take(lines.slice(at, at + size), at);
+      at += size;
+      size = performance.now() - start < QUICK ? Math.min(2 * size, BLOCK) : Math.max(1, size >> 1);
+      await told(Math.min(at, lines.length) / lines.length / 2);
     }
     const news = this.news();
     for (let at = 0; at < news.length; at += BLOCK) {
@@ -104,17 +111,25 @@ export class Run {
     for (let at = 0; at < this.lines.length; at += BLOCK) this.live.tell(this.lines.slice(at, at + BLOCK));
   }
 
-  // The steps that lines came to since, by the library's record.
+  // The steps that lines came to since: what the library's record has behind the steps that were read.
   news() {
     if (isFault(this.live.ask("limits"))) return [];
-    const record = JSON.parse(withLongNumbers(this.live.record()));
-    if (!this.group) {
-      this.group = { members: record.n, cells: record.cells, batch: record.batch };
-      this.trips = new Trips(record.n);
-      this.world.begin(this.group);
-      this.beginPast();
-    }
-    return record.steps.slice(this.steps.length);
+    if (!this.group) this.settle();
+    const text = this.live.recordFrom(this.read);
+    const steps = text.slice(0, text.lastIndexOf("]"));
+    this.read += steps.length;
+    return steps === "" ? [] : JSON.parse(withLongNumbers(`[${steps.replace(/^,/, "")}]`));
+  }
+
+  // Reads the record's beginning, before its steps.
+  settle() {
+    const text = this.live.recordFrom(0);
+    this.read = text.indexOf("[") + 1;
+    const { n, cells, batch } = JSON.parse(`${text.slice(0, this.read)}]}`);
+    this.group = { members: n, cells, batch };
+    this.trips = new Trips(n);
+    this.world.begin(this.group);
+    this.beginPast();
   }
 
   beginPast() {

@@ -4,7 +4,6 @@ import { count } from "./wording.js";
 
 const SHOWN_ALONE = ["--count", "--help", "-h"];
 const STATUS = { 1: "it is not shown", 4: "a read or a write failed", 5: "out of memory" };
-const PAUSE = 100;
 const at = (id) => document.getElementById(id);
 
 // A text of standard error without the lines that were written over.
@@ -18,15 +17,15 @@ const wordsOf = (text) => [...text.matchAll(/'([^']*)'|"([^"]*)"|[^\s'"]+/g)].ma
 
 export class Search {
   constructor(app, tool) {
-    Object.assign(this, { app, tool, last: null });
+    Object.assign(this, { app, tool, last: null, job: null });
     at("find").onsubmit = (event) => {
       event.preventDefault();
       this.find();
     };
     at("shrink").onclick = () => this.shrink();
-    at("cancel").onclick = () => this.tool.cancel();
+    at("cancel").onclick = () => this.job?.cancel();
     at("search").addEventListener("keydown", (event) => {
-      if (event.key === "Escape") this.tool.cancel();
+      if (event.key === "Escape") this.job?.cancel();
     });
   }
 
@@ -51,17 +50,20 @@ export class Search {
 
   // Runs the program, and opens what it wrote, or shows it alone.
   async run(button, words, input, isAlone) {
-    if (this.tool.isRunning) return;
+    if (this.job) return;
     this.app.alert("");
     this.show(`${button.textContent} ..`);
     this.busy(true, button);
     try {
-      const ended = await this.tool.run(words, input, (text) => this.show(line(text) || at("progress").textContent));
+      this.job = this.tool.run(words, { input }, (text) => this.job && this.show(line(text) || at("progress").textContent));
+      const ended = await this.job.ended;
+      this.job = null;
       this.last = ended && { words, ...ended };
       this.busy(false, button);
       if (ended) await this.end(ended, isAlone);
       else this.show("Cancelled.");
     } catch (error) {
+      this.job = null;
       this.busy(false, button);
       this.show("");
       this.app.alert(`ct_tool ${words[0]}: ${error.message}`);
@@ -75,7 +77,6 @@ export class Search {
     if (status > 1) return this.app.alert(told || STATUS[status] || `status ${status}`);
     if (isAlone) return this.show(told, out);
     if (status === 1) return this.show(told || STATUS[status]);
-    while (this.app.isWaiting) await new Promise((done) => setTimeout(done, PAUSE));
     await this.app.open(out);
     this.show(`Opened: ${count(this.app.run.steps.length, "step")}.`, told);
   }

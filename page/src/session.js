@@ -35,15 +35,20 @@ export class Session {
 
   // The record so far, as JSON.
   record() {
-    this.must(this.calls.ct_record(this.at));
-    return this.answers();
+    return this.recordFrom(0);
   }
 
-  answers() {
+  // The same without so many bytes at its beginning.
+  recordFrom(from) {
+    this.must(this.calls.ct_record(this.at));
+    return this.answers(from);
+  }
+
+  answers(from = 0) {
     const length = this.calls.ct_answers_length(this.at);
     const place = this.library.wide("out", Number(length));
     this.calls.ct_answers(this.at, place, length);
-    return this.library.text(place, Number(length));
+    return this.library.text(place + BigInt(from), Number(length) - from);
   }
 
   must(status) {

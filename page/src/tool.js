@@ -2,11 +2,12 @@
 
 import { bytesOf, through } from "./link.js";
 
-// The worker. It is given the program's module, its words and its standard input; it posts each text that comes on standard error, and in
-// the end the status and all that was written. Its functions are those that page/system.c asks of the page.
+// The worker. It is given the program's module, its words, its standard input and the files that there are; it posts each text that comes
+// on standard error, and in the end the status and all that was written. Its functions are those that page/system.c asks of the page.
 function work() {
   const NO_WORD = -1n;
   const NO_ROOM = -2n;
+  const NO_FILE = -1n;
   const NANOS = 1e6;
 
   class End {
@@ -15,9 +16,10 @@ function work() {
     }
   }
 
-  function system(words, input, bytes) {
+  function system({ words, input, files }, bytes) {
     const written = { 1: [], 2: [] };
-    let taken = 0;
+    const name = (place, size) => new TextDecoder().decode(bytes(place, size));
+    const contents = [input, ...files.map((it) => it.bytes)];
     const page = {
       word(number, place, room) {
         const word = words[Number(number)];
@@ -25,10 +27,13 @@ function work() {
         bytes(place, room).set(word.subarray(0, Number(room)));
         return BigInt(word.length) <= room ? BigInt(word.length) : NO_ROOM;
       },
-      read(place, room) {
-        const part = input.subarray(taken, taken + Number(room));
+      file(place, size) {
+        const found = files.findIndex((it) => it.name === name(place, size));
+        return found < 0 ? NO_FILE : BigInt(found + 1);
+      },
+      read(file, from, place, room) {
+        const part = contents[Number(file)].subarray(Number(from), Number(from + room));
         bytes(place, room).set(part);
-        taken += part.length;
         return BigInt(part.length);
       },
       write(file, place, size) {
@@ -53,10 +58,10 @@ function work() {
     }
   }
 
-  onmessage = async ({ data: { module, words, input } }) => {
+  onmessage = async ({ data: { module, ...given } }) => {
     try {
       let calls = null;
-      const held = system(words, input, (place, size) => new Uint8Array(calls.memory.buffer, Number(place), Number(size)));
+      const held = system(given, (place, size) => new Uint8Array(calls.memory.buffer, Number(place), Number(size)));
       calls = (await WebAssembly.instantiate(module, { page: held.page })).exports;
       const ended = status(calls.main);
       postMessage({ ended: { status: ended, out: await held.written(1), err: await held.written(2) } });
@@ -70,11 +75,6 @@ export class Tool {
   // The program of the module that is held so: compressed, in base 64.
   constructor(packed) {
     this.packed = packed;
-    this.stop = null;
-  }
-
-  get isRunning() {
-    return this.stop !== null;
   }
 
   // The module, which is made when it is first asked for.
@@ -83,32 +83,29 @@ export class Tool {
     return this.compiled;
   }
 
-  // Runs the program with these words and this text as standard input: its status and what it wrote, or null where it was cancelled.
-  // `told` is given what comes on standard error, as it comes.
-  run(words, input, told) {
+  // Runs the program with these words, with this text as standard input, over these files, each a name and bytes: `ended` is its status and
+  // what it wrote, or null where it was cancelled. `told` is given what comes on standard error, as it comes.
+  run(words, { input = "", files = [] }, told = () => {}) {
     const encoder = new TextEncoder();
+    const given = { words: ["ct_tool", ...words].map((it) => encoder.encode(it)), input: encoder.encode(input), files };
     const address = URL.createObjectURL(new Blob([`(${work})()`], { type: "text/javascript" }));
-    return new Promise((done, failed) => {
-      const worker = new Worker(address);
-      const over = (settle, value) => {
-        worker.terminate();
-        URL.revokeObjectURL(address);
-        this.stop = null;
-        settle(value);
-      };
-      this.stop = () => over(done, null);
-      worker.onerror = (event) => over(failed, new Error(event.message ?? "no worker"));
+    const worker = new Worker(address);
+    let cancel = null;
+    const ended = new Promise((done, failed) => {
+      cancel = () => done(null);
+      worker.onerror = (event) => failed(new Error(event.message ?? "no worker"));
       worker.onmessage = ({ data }) => {
         if (data.told !== undefined) told(data.told);
-        else if (data.ended) over(done, data.ended);
-        else over(failed, new Error(data.failed));
+        else if (data.ended) done(data.ended);
+        else failed(new Error(data.failed));
       };
-      const given = { words: ["ct_tool", ...words].map((it) => encoder.encode(it)), input: encoder.encode(input) };
-      this.module().then((module) => { if (this.isRunning) worker.postMessage({ module, ...given }); }, (error) => over(failed, error));
+      this.module().then((module) => worker.postMessage({ module, ...given }), failed);
     });
-  }
-
-  cancel() {
-    this.stop?.();
+    const over = () => {
+      worker.terminate();
+      URL.revokeObjectURL(address);
+    };
+    ended.then(over, over);
+    return { ended, cancel };
   }
 }

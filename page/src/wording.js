@@ -1,6 +1,7 @@
 // What steps and envelopes are called, in the words of schedules.
 
 const MOST_NAMES = 8;
+const MOST_LETTERS = 200;
 
 function valueText(names) {
   if (names.length <= MOST_NAMES) return `{${names.join(",")}}`;
@@ -34,3 +35,12 @@ export function fateText(trips, trip) {
 }
 
 export const count = (number, word) => `${number.toLocaleString("en")} ${word}${number === 1 ? "" : "s"}`;
+
+// A line that was refused, as `ct_tool record` tells it: of a long one its number alone.
+export function faultText({ line, text, answer }) {
+  const words = text.trim();
+  return `line ${line + 1}: ${words.length > MOST_LETTERS ? "" : `${words}: `}${answer}`;
+}
+
+// The comment with which a schedule begins.
+export const headingOf = ([first = ""]) => (/^\s*#(?![0-9])(.*)/.exec(first)?.[1] ?? "").trim().slice(0, MOST_LETTERS);

@@ -20,6 +20,11 @@ export class World {
     this.known = new Map(); // envelopes that were asked for, by serial
   }
 
+  close() {
+    this.calls.ct_world_close(this.at);
+    for (const it of [this.at, this.told]) this.calls.page_room_back(it);
+  }
+
   // Begins anew with the world of a group that has taken no step.
   begin({ members, cells, batch }) {
     this.known.clear();

@@ -1,0 +1,62 @@
+// What is opened, as the lines of a schedule: a schedule itself, a record, or the logs of all members. What is no schedule ct_tool reads.
+
+import { Fault } from "./fault.js";
+
+export const MOST_BYTES = 67108864; // as much as `ct_tool record` reads
+const MOST_LINES = 2000000;
+const MOST_LETTERS = 65536;
+
+const number = (it) => it.toLocaleString("en");
+const isRecord = (text) => /^\s*\{/.test(text);
+
+// The text of bytes.
+export function textOf(bytes) {
+  try {
+    return new TextDecoder("utf-8", { fatal: true, ignoreBOM: true }).decode(bytes);
+  } catch {
+    throw new Fault("no UTF-8: a schedule, a record or a log is a text");
+  }
+}
+
+export class Opening {
+  constructor(tool, waiting) {
+    Object.assign(this, { tool, waiting });
+  }
+
+  // The lines of a file, or of the logs of all members.
+  async ofFiles(files) {
+    const size = files.reduce((sum, file) => sum + file.size, 0);
+    if (size > MOST_BYTES) throw new Fault(`${number(size)} bytes; at most ${number(MOST_BYTES)} are opened`);
+    const held = await Promise.all(files.map(async (it) => ({ name: it.name, bytes: new Uint8Array(await it.arrayBuffer()) })));
+    if (held.length === 1) return this.ofText(textOf(held[0].bytes));
+    const names = held.map((it) => it.name).sort((one, other) => one.localeCompare(other, "en", { numeric: true }));
+    const twice = names.find((name, i) => name === names[i + 1]);
+    if (twice !== undefined) throw new Fault(`two files of the name ${twice}; the logs of members have names of their own`);
+    return this.ofText(await this.written(["merge", "--", ...names], { files: held }));
+  }
+
+  async ofText(text) {
+    return linesOf(isRecord(text) ? await this.written(["schedule"], { input: text }) : text);
+  }
+
+  // What ct_tool writes.
+  async written(words, given) {
+    const { status, out, err } = await this.waiting.job(this.tool.run(words, given), `ct_tool ${words[0]} ..`);
+    if (status !== 0) throw new Fault(err.trim() || `ct_tool ${words[0]} ended with status ${status}`);
+    return out;
+  }
+}
+
+function linesOf(text) {
+  let [lines, from] = [0, 0];
+  while (from >= 0 && lines <= MOST_LINES) {
+    const end = text.indexOf("\n", from);
+    if ((end < 0 ? text.length : end) - from > MOST_LETTERS) {
+      throw new Fault(`line ${lines + 1} has more than ${number(MOST_LETTERS)} letters, so this is no schedule`);
+    }
+    from = end < 0 ? end : end + 1;
+    lines += 1;
+  }
+  if (lines > MOST_LINES) throw new Fault(`more than ${number(MOST_LINES)} lines; a run has at most 1,000,000 steps`);
+  return text.replace(/\n$/, "").split("\n");
+}
