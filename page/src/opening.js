@@ -6,6 +6,8 @@ export const MOST_BYTES = 67108864; // as much as `ct_tool record` reads
 const MOST_LINES = 2000000;
 const MOST_LETTERS = 65536;
 
+const EXPECTED = /\n\nexpect /; // what ct_tool writes behind the steps: it is longer than lines that a session is told may be
+
 const number = (it) => it.toLocaleString("en");
 const isRecord = (text) => /^\s*\{/.test(text);
 
@@ -36,7 +38,9 @@ export class Opening {
   }
 
   async ofText(text) {
-    return linesOf(isRecord(text) ? await this.written(["schedule"], { input: text }) : text);
+    if (!isRecord(text)) return linesOf(text);
+    const schedule = await this.written(["schedule"], { input: text });
+    return linesOf(schedule.slice(0, schedule.search(EXPECTED) + 1 || undefined));
   }
 
   // What ct_tool writes.

@@ -61,6 +61,7 @@ function misfit() {
   for (let i = 0; i < times && found.length === 0; i++) {
     const [, name, act] = drawnAct();
     await act();
+    await app.last;
     if (misfit()) found.push(`${i}: ${name}: ${misfit()}`);
   }
   return found;

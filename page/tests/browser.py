@@ -4,7 +4,8 @@
     browser.py PAGE KEPT CT CT_TOOL FOLDER [SHOTS]
 
 PAGE: the page; KEPT: the one that is kept in the repository; CT, CT_TOOL: the programs, which say what is right; FOLDER: what
-bindings/tests/inputs.py wrote; SHOTS: a folder for screenshots. Ends with a line `N passed, M failed`.
+bindings/tests/inputs.py wrote; SHOTS: a folder for screenshots. ONLY names tests, parted by spaces, that alone are run. Ends with a line
+`N passed, M failed`.
 """
 import http.server
 import json
@@ -227,27 +228,40 @@ def saved_and_opened(page: Page) -> None:
 
 
 def named_by_content(page: Page) -> None:
-    """A record opens as a schedule in which envelopes go by what they carry; also of a network that loses and repeats."""
+    """A record opens as the schedule that ct_tool makes of it, in which envelopes go by what they carry."""
     page.open()
     page.give("run.json", read("examples", "lost_and_repeated.json"))
     page.until(lambda: page.steps() == 34)
-    assert "2 lose est 1/1 from 1" in page.lines() and "#" not in "".join(page.lines()), page.lines()
+    written = page.of_tool("schedule", given=read("examples", "lost_and_repeated.json"))[0]
+    assert page.lines() == written[:written.index("\n\nexpect ")].split("\n"), page.lines()
+    assert "2 lose est 1/1 from 1" in page.lines(), page.lines()
     made = page.made(4, 2000, "--lose", "5", "--repeat", "5", "--crash", "1")
     page.give("lossy.json", made)
     page.until(lambda: page.steps() == 2000 and page.record() == made.strip())
-    assert "#" not in "".join(page.lines())
 
 
 def no_record(page: Page) -> None:
-    """What is no record is told, and leaves the run."""
+    """What is no record is told in the words of ct_tool, and leaves the run."""
     page.open("#example=locked_value")
-    page.give("bad.json", '{"n":3,"cells":4,"steps":[],"version":9}')
-    page.until(lambda: page.alert() == "bad.json: no record: version 1, 2 or 3 is wanted")
-    assert page.steps() == 153
-    page.give("bad.json", '{"n":3,"cells":4,"steps":[["fly",1]],"version":1}')
-    page.until(lambda: page.fault().startswith("line 3: 1 fly: not understood: fly is no act"))
-    page.open("#s=nothing")
-    assert page.alert().startswith("the link: "), page.alert()
+    for text in NO_RECORDS:
+        page.run("ct.app.alert('')")
+        page.give("bad.json", text)
+        page.until(lambda: page.alert() != "")
+        assert page.alert() == f"bad.json: {page.of_tool('schedule', given=text)[1].strip()}", (text, page.alert())
+        assert page.steps() == 153
+
+
+NO_RECORDS = [
+    '{"n":3,"cells":4,"steps":[],"version":9}',
+    '{"n":3,"cells":4,"steps":[["fly",1]],"version":1}',
+    '{"version":3,"n":3,"cells":4,"batch":9,"steps":[["submit","all",["set",0,7]]]}',
+    '{"version":3,"n":"3\\n1 submit set 0 7","cells":4,"steps":[]}',
+    '{"version":3,"n":3,"cells":4,"batch":9,"steps":[["submit",1,["set",0,7]],["settle","all"]]}',
+    '{"version":1,"n":3,"cells":4,"batch":9,"steps":[]}',
+    '{"version":3,"n":3,"cells":4,"batch":9,"steps":[["submit",1,["set",0,7.0]]]}',
+    '\ufeff{"version":1,"n":3,"cells":4,"steps":[]}',
+    '{"steps":' + 9000 * "[",
+]
 
 
 def long_numbers(page: Page) -> None:
@@ -476,9 +490,11 @@ TESTS = [worked_example, refused_step, undo_and_redo, network, edited, arrows, l
 
 def main() -> int:
     failed = 0
+    only = os.environ.get("ONLY", "").split()
+    tests = [it for it in TESTS if not only or it.__name__ in only]
     with tempfile.TemporaryDirectory() as folder:
         page = Page([os.path.abspath(it) for it in sys.argv[1:6]], ROOT, folder, sys.argv[6] if len(sys.argv) > 6 else None)
-        for test in TESTS:
+        for test in tests:
             start = time.time()
             try:
                 test(page)
@@ -491,7 +507,7 @@ def main() -> int:
                 traceback.print_exc(file=sys.stdout)
                 page.console()
         page.close()
-    print(f"{len(TESTS) - failed} passed, {failed} failed")
+    print(f"{len(tests) - failed} passed, {failed} failed")
     return 1 if failed else 0
 
 

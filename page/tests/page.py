@@ -4,7 +4,7 @@ import re
 import subprocess
 import sys
 import time
-from typing import Callable, List, Optional
+from typing import Callable, List, Optional, Tuple
 
 from selenium import webdriver
 from selenium.webdriver.chrome.options import Options
@@ -46,6 +46,7 @@ class Page:
         self.visit(f"file://{path or self.path}{hash_}")
 
     def visit(self, address: str) -> None:
+        self.run("window.ct?.app.kept()")  # so that no browser asks whether to leave it
         self.driver.get("about:blank")
         self.driver.get(address)
         self.until(lambda: self.run("return !!window.ct"))
@@ -234,6 +235,11 @@ class Page:
         ran = subprocess.run([sys.executable, os.path.join(self.root, "bench", "generate.py"), *words], stdout=subprocess.PIPE,
                              stderr=subprocess.DEVNULL, check=True, text=True)
         return ran.stdout
+
+    def of_tool(self, *words: str, given: str = "") -> Tuple[str, str, int]:
+        """What the built program writes, what it tells, and its status."""
+        ran = subprocess.run([self.tool, *words], input=given.encode(), stdout=subprocess.PIPE, stderr=subprocess.PIPE, check=False)
+        return ran.stdout.decode(), ran.stderr.decode(), ran.returncode
 
     def links(self, names: List[str]) -> List[str]:
         """The examples that documents link to."""

@@ -2,9 +2,8 @@
 import json
 import os
 import re
-import subprocess
 import time
-from typing import List, Tuple
+from typing import List
 
 from page import Page
 
@@ -15,12 +14,6 @@ SEEDS = 3000
 MANY_SEEDS = 4000000
 SECONDS = 60.0
 LONGER_THAN_A_LINE = 2.2
-
-
-def of_tool(page: Page, *words: str, given: str = "") -> Tuple[str, str, int]:
-    """What the built program writes, what it tells, and its status."""
-    ran = subprocess.run([page.tool, *words], input=given.encode(), stdout=subprocess.PIPE, stderr=subprocess.PIPE, check=False)
-    return ran.stdout.decode(), ran.stderr.decode(), ran.returncode
 
 
 def find_words(goal: str, last: int, options: str = OPTIONS) -> List[str]:
@@ -34,15 +27,15 @@ def fill(page: Page, **fields) -> None:
 
 
 def is_over(page: Page) -> bool:
-    return page.run("return !ct.search.tool.isRunning && !document.getElementById('do-find').disabled && !ct.app.isWaiting")
+    return page.run("return !ct.search.job && !document.getElementById('do-find').disabled && document.getElementById('waiting').hidden")
 
 
 def look(page: Page, goal: str, last: int = 1000, options: str = OPTIONS, button: str = "#do-find") -> dict:
     """Has the page look for the goal, and waits until it is done: what its ct_tool wrote."""
     fill(page, goal=goal, seed_last=str(last), options=options)
-    page.run("ct.search.last = null")
+    page.run("window.before = ct.search.last")
     page.click(button)
-    page.until(lambda: is_over(page), SECONDS)
+    page.until(lambda: is_over(page) and page.run("return ct.search.last !== window.before"), SECONDS)
     page.until(lambda: page.text("#progress") != "" or page.alert() != "" or page.text("#found") != "")
     return page.run("return ct.search.last")
 
@@ -54,17 +47,32 @@ def seed_of(goal: str, root: str) -> int:
 
 
 def finds(page: Page) -> None:
-    """The same seed and the same record as the built program's."""
+    """The same seed and the same record as the built program's, and meanwhile no text of what it writes."""
     page.open()
+    page.run("""window.shown = [];
+      const show = ct.search.show;
+      ct.search.show = function (...texts) { shown.push(texts[0]); return show.apply(this, texts); };""")
     for goal in GOALS:
         ended = look(page, goal)
-        out, err, status = of_tool(page, *find_words(goal, 1000))
+        out, err, status = page.of_tool(*find_words(goal, 1000))
         assert ended["words"] == find_words(goal, 1000), ended["words"]
         assert (ended["out"], ended["status"]) == (out, status), goal
         assert err.startswith(f"seed {seed_of(goal, page.root)}: ") and page.text("#found") == err.strip(), (err, page.text("#found"))
         assert json.loads(page.record())["steps"] == json.loads(out)["steps"], goal
         assert page.text("#progress") == f"Opened: {page.steps()} steps.", page.text("#progress")
+    assert page.run("return shown.some((text) => text.includes('{'))") is False
     page.shot("found")
+
+
+def finds_elsewhere(page: Page) -> None:
+    """Another range of seeds, and another group."""
+    page.open()
+    fill(page, seed_first="500", find_members="5")
+    ended = look(page, GOALS[0], 900)
+    words = ["find", "--jobs", "1", "--members", "5", "--goal", GOALS[0], "--seeds", "500..900", *OPTIONS.split()]
+    out, err, status = page.of_tool(*words)
+    assert (ended["words"], ended["out"], ended["status"]) == (words, out, status), ended["words"]
+    assert page.text("#found") == err.strip() and page.run("return ct.app.run.group.members") == 5
 
 
 def makes_smaller(page: Page) -> None:
@@ -74,7 +82,7 @@ def makes_smaller(page: Page) -> None:
         record = look(page, goal)["out"]
         page.click("#back")
         ended = look(page, goal, button="#shrink")
-        out, err, _ = of_tool(page, "shrink", "--goal", goal, given=record)
+        out, err, _ = page.of_tool("shrink", "--goal", goal, given=record)
         assert (ended["out"], ended["status"]) == (out, 0), goal
         assert page.lines() == out.rstrip("\n").split("\n") and page.fault() == "", page.fault()
         assert page.text("#found") == err.strip() and re.search(r"\d+ steps \d+ are left", err), page.text("#found")
@@ -93,9 +101,9 @@ def no_goal(page: Page) -> None:
     before = page.lines()
     for words in (("any rounds >= 4", OPTIONS), ("4 crashed", OPTIONS), ("any round >= 5", "--loose 4")):
         look(page, words[0], options=words[1])
-        told = of_tool(page, *find_words(words[0], 1000, words[1]))[1]
+        told = page.of_tool(*find_words(words[0], 1000, words[1]))[1]
         assert page.alert() == told.strip(), (page.alert(), told)
-    assert "not understood" in of_tool(page, *find_words("any rounds >= 4", 9))[1]
+    assert "not understood" in page.of_tool(*find_words("any rounds >= 4", 9))[1]
     page.shot("no_goal")
     look(page, NOWHERE, 20)
     assert page.alert() == "" and page.text("#progress") == f"no seed of 1..20 shows {NOWHERE}", page.text("#progress")
@@ -107,18 +115,23 @@ def other_options(page: Page) -> None:
     page.open()
     before = page.lines()
     look(page, "any decided 2", 200, "--turns 100 --count")
-    assert page.text("#found") == of_tool(page, *find_words("any decided 2", 200, "--turns 100 --count"))[0].strip()
+    assert page.text("#found") == page.of_tool(*find_words("any decided 2", 200, "--turns 100 --count"))[0].strip()
     look(page, NOWHERE, 20, "--turns 100 --count")
-    out, err, _ = of_tool(page, *find_words(NOWHERE, 20, "--turns 100 --count"))
+    out, err, _ = page.of_tool(*find_words(NOWHERE, 20, "--turns 100 --count"))
     assert (page.text("#found"), page.text("#progress")) == (out.strip(), err.strip()), page.text("#progress")
     assert page.lines() == before
     look(page, "any chooses unseen", 60, f"{OPTIONS} --best 3")
-    assert "\n".join(page.lines()) + "\n" == of_tool(page, *find_words("any chooses unseen", 60, f"{OPTIONS} --best 3"))[0]
+    assert "\n".join(page.lines()) + "\n" == page.of_tool(*find_words("any chooses unseen", 60, f"{OPTIONS} --best 3"))[0]
 
 
 def cancelled(page: Page) -> None:
     """A long search tells how far it is, lets the page go on meanwhile, and is ended by the button and by a key."""
     page.open()
+    page.run("""window.under = 0;
+      window.Worker = class extends Worker {
+        constructor(...words) { super(...words); window.under += 1; }
+        terminate() { super.terminate(); window.under -= 1; }
+      };""")
     for end in (lambda: page.click("#cancel"), lambda: escape(page)):
         fill(page, goal=NOWHERE, seed_last=str(MANY_SEEDS), options=OPTIONS)
         page.click("#do-find")
@@ -132,6 +145,7 @@ def cancelled(page: Page) -> None:
         end()
         page.until(lambda: is_over(page))
         assert page.text("#progress") == "Cancelled.", page.text("#progress")
+        assert page.run("return window.under") == 0, "a worker goes on"
     time.sleep(LONGER_THAN_A_LINE)
     assert page.text("#progress") == "Cancelled.", page.text("#progress")
     assert look(page, GOALS[0])["status"] == 0
@@ -174,9 +188,9 @@ def speed(page: Page) -> None:
     assert look(page, NOWHERE, SEEDS)["status"] == 1
     here = time.time() - start
     start = time.time()
-    of_tool(page, *find_words(NOWHERE, SEEDS))
+    page.of_tool(*find_words(NOWHERE, SEEDS))
     built = time.time() - start
     print(f"  {SEEDS:,} seeds: {SEEDS / here:,.0f} a second, the built program {SEEDS / built:,.0f}")
 
 
-SEEKING = [finds, makes_smaller, no_goal, other_options, cancelled, found_by_keys, on_narrow_screens, speed]
+SEEKING = [finds, finds_elsewhere, makes_smaller, no_goal, other_options, cancelled, found_by_keys, on_narrow_screens, speed]
