@@ -112,6 +112,7 @@ export class App {
   // What is shown can be had again, as it is now: from a file, a link or by an example's name.
   kept(example = this.isKept ? this.held.example : "") {
     this.held = { lines: this.lines, length: this.lines.length, example };
+    this.parts.controls(this);
   }
 
   // Whether it is as it was when it could be had again.

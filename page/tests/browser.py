@@ -18,8 +18,10 @@ import threading
 import time
 import traceback
 
+from opened import OPENED
 from page import Page
 from seeking import SEEKING
+from table import TABLE
 
 HERE = os.path.dirname(os.path.abspath(__file__))
 ROOT = os.path.normpath(os.path.join(HERE, "..", ".."))
@@ -485,7 +487,7 @@ def without_sender(text: str) -> str:
 
 TESTS = [worked_example, refused_step, undo_and_redo, network, edited, arrows, looked_at, filtered, saved_and_opened,
          named_by_content, no_record, long_numbers, by_keys, named, smooth, steady, big, dark_and_narrow, scenarios, at_random, served,
-         same_answers, same_steps, same_envelopes, *SEEKING]
+         same_answers, same_steps, same_envelopes, *OPENED, *TABLE, *SEEKING]
 
 
 def main() -> int:
