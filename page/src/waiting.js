@@ -2,7 +2,7 @@
 
 import { Left } from "./fault.js";
 
-const PAUSE = 200;
+const PAUSE = 100;
 
 export class Waiting {
   // The part of the page that waits, and what is shown meanwhile: a bar with a text and a button.

@@ -358,6 +358,30 @@ def big(page: Page) -> None:
     page.shot("big")
 
 
+def blocks(page: Page) -> None:
+    """What lies behind the first block of lines, of steps, and of what a byte holds is as what lies in it."""
+    page.open()
+    lines = ["members 3", *("1 submit set 0 7" for _ in range(300)), *(f"{i % 3 + 1} receive data 1.{i // 3 + 1} from 1" for i in range(900))]
+    page.give("long.schedule", "\n".join([*lines, *("expect 1 up" for _ in range(3800)), "1 enter", "1 begin"]))
+    page.until(lambda: page.fault().startswith("line 5002: 1 enter: refused 1 Idle"), 60)
+    assert page.steps() == len(json.loads(page.record())["steps"]) == 1200
+    assert page.run("return ct.app.run.world.envelope(900).message.name") == "1.300"
+    assert page.run("return document.getElementById('text').readOnly")
+    found = page.run("""const { steps, trips } = ct.app.run;
+      const last = [-1, -1, -1];
+      const others = [];
+      steps.forEach(([, member], at) => {
+        if (trips.lastBefore(at, steps).join() !== last.join()) others.push(at);
+        last[member - 1] = at;
+      });
+      return others""")
+    assert found == [], found
+    told = page.run("""const { live, library } = ct.app.run;
+      const session = new live.constructor(ct.app.library);
+      try { return session.record(); } catch (error) { return error.message; } finally { session.close(); }""")
+    assert told == "no members", told
+
+
 def dark_and_narrow(page: Page) -> None:
     page.open("#example=locked_value&at=60")
     page.click("#theme")
@@ -486,7 +510,7 @@ def without_sender(text: str) -> str:
 
 
 TESTS = [worked_example, refused_step, undo_and_redo, network, edited, arrows, looked_at, filtered, saved_and_opened,
-         named_by_content, no_record, long_numbers, by_keys, named, smooth, steady, big, dark_and_narrow, scenarios, at_random, served,
+         named_by_content, no_record, long_numbers, by_keys, named, smooth, steady, big, blocks, dark_and_narrow, scenarios, at_random, served,
          same_answers, same_steps, same_envelopes, *OPENED, *TABLE, *SEEKING]
 
 

@@ -168,12 +168,12 @@ def left(page: Page) -> None:
     """What takes long is ended by the button and by a key, and leaves the run."""
     page.open("#example=coordinator_crashes")
     before = state(page)
-    for end in (lambda: page.click("#leave"), lambda: page.type("escape")):
+    for end in ("click()", "dispatchEvent(new KeyboardEvent('keydown', { key: 'Escape', bubbles: true }))"):
         give(page, f"['members 16\\n', 'all turns 20\\n'.repeat({MANY})]")
         page.until(lambda: page.run("return !document.getElementById('waiting').hidden"))
         assert page.run("return document.getElementById('page').inert && document.activeElement.id") == "leave"
         page.shot("waiting")
-        end()
+        page.run(f"document.activeElement.{end}")
         page.until(lambda: page.text("#status") == "Cancelled.")
         assert state(page) == before and page.run("return document.getElementById('waiting').hidden") and page.alert() == ""
         page.run("ct.app.status('')")

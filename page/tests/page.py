@@ -46,7 +46,7 @@ class Page:
         self.visit(f"file://{path or self.path}{hash_}")
 
     def visit(self, address: str) -> None:
-        self.run("window.ct?.app.kept()")  # so that no browser asks whether to leave it
+        self.run("window.ct?.app.kept?.()")  # so that no browser asks whether to leave it
         self.driver.get("about:blank")
         self.driver.get(address)
         self.until(lambda: self.run("return !!window.ct"))
