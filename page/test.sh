@@ -1,11 +1,12 @@
 #!/usr/bin/env bash
-# Tests the page that page/build.sh made in page/out, and that the one that is kept, page/ct.html, is made of the same sources and answers
-# the same: in Chromium, from the disk.
+# Tests the page that page/build.sh made in page/out, and that the one that is kept, page/ct.html, is made of the same scripts and answers
+# the same: in Chromium, from the disk. It tells where the one that is kept has other modules, of which commit, and made with which kit.
 #
 #     page/test.sh [CT CT_TOOL]
 #
 # CT, CT_TOOL: the built programs; those of crates/ if left out. Needs cc with ASan, python3, and Debian's chromium, chromium-driver and
-# python3-selenium. SHOTS names a folder for screenshots, LINES_TOLD another number of lines than 200,000. Ends with a line
+# python3-selenium. SHOTS names a folder for screenshots, LINES_TOLD another number of lines than 200,000, ONLY tests of tests/browser.py
+# that alone are run. Ends with a line
 # `N passed, M failed`, and status 1 where something failed.
 set -u
 
@@ -44,7 +45,8 @@ wide() {
 
 check 'the heap under ASan' heap
 check 'numbers of 128 bits' wide
-check 'the page that is kept is made of these sources' python3 "$here/assemble.py" --check "$here/ct.html"
+check 'the page that is kept is made of these scripts and examples' python3 "$here/assemble.py" --check "$here/ct.html"
+(cd "$here/.." && python3 page/assemble.py --differ page/ct.html page/out/ct.html)
 check 'lines' python3 "$here/../bindings/tests/inputs.py" "$tool" "$folder" --steps "${LINES_TOLD:-200000}" --lossy
 # Debian's packages are of Debian's Python.
 python=python3

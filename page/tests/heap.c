@@ -68,11 +68,15 @@ static void check(int i, u64 size) {
         must(blocks[i].place[k] == blocks[i].fill, "a block has the bytes that were written");
 }
 
+static void has_room(unsigned char *place, u64 size) {
+    must(heap_size(*(u64 *)(place - HEAD)) >= size + HEAD, "a block has room");
+}
+
 static int take(int i, u64 size) {
     unsigned char *place = heap_take(size);
     if (!place)
         return 0;
-    must(heap_size(*(u64 *)(place - HEAD)) >= size + HEAD, "a block has room");
+    has_room(place, size);
     own(place, size, 1);
     blocks[i].place = place;
     blocks[i].size = size;
@@ -95,6 +99,7 @@ static int change(int i, u64 size) {
         check(i, old);
         return 0;
     }
+    has_room(place, size);
     own(blocks[i].place, old, 0);
     own(place, size, 1);
     blocks[i].place = place;
@@ -139,8 +144,25 @@ static void steady(void) {
     must(pages == few, "the same work takes no more memory");
 }
 
+/* On a heap that nobody used: a block that would end 16 bytes behind memory has more asked for, and the last block grows in its place. */
+static void at_the_end(void) {
+    int i = 0;
+    u64 left;
+    do {
+        must(take(i, 128 - HEAD), "there is memory");
+        left = (u64)memory + PAGE - (u64)(blocks[i++].place + 128 - HEAD);
+    } while (left >= 128);
+    must(pages == 1 && take(i, left) && pages > 1, "memory is asked for before a block ends behind it");
+    must(take(i + 1, 24), "there is memory");
+    unsigned char *last = blocks[i + 1].place;
+    must(change(i + 1, 1000) && blocks[i + 1].place == last, "the last block grows in its place");
+    for (i++; i >= 0; i--)
+        give(i);
+}
+
 int main(void) {
     u64 refused = 0, changed = 0;
+    at_the_end();
     steady();
     turns(&refused, &changed);
     must(refused > 0 && changed > 0, "memory was refused, and blocks changed");
