@@ -19,12 +19,13 @@ typedef long long i64;
 
 #define FROM_PAGE(name) __attribute__((import_module("page"), import_name(name)))
 
-/* The page's part: a word's bytes, or -1 without such a word, or -2 without room; the number of the file of a name, from 1 on, or -1; how
-   many bytes were read of a file, from a place on, where file 0 is standard input; bytes that are written; nanoseconds since some moment;
+/* The page's part: a word's bytes, or -1 without such a word, or -2 without room; how many bytes were read of standard input; the number of
+   the file of a name, or -1; how many bytes were read of a file, from a place on; bytes that are written; nanoseconds since some moment;
    and the end, which it does not return from. */
 FROM_PAGE("word") i64 page_word(u64 number, char *place, u64 room);
+FROM_PAGE("read") i64 page_read(char *place, u64 room);
 FROM_PAGE("file") i64 page_file(const char *name, u64 length);
-FROM_PAGE("read") i64 page_read(i64 file, u64 from, char *place, u64 room);
+FROM_PAGE("part") i64 page_part(i64 file, u64 from, char *place, u64 room);
 FROM_PAGE("write") void page_write(int file, const char *place, u64 size);
 FROM_PAGE("clock") double page_clock(void);
 FROM_PAGE("end") _Noreturn void page_end(int status);
@@ -34,12 +35,12 @@ struct time {
     i64 nanos;
 };
 
-/* A stream that is read: which file of the page's, and how much of it was. */
+/* The files that are read, behind the standard streams: which of the page's, and how much of it was. */
 static struct {
     int is_open;
     i64 file;
     u64 at;
-} streams[MOST_OPEN] = {{1, 0, 0}};
+} files[MOST_OPEN];
 
 static int fault;
 
@@ -65,13 +66,15 @@ i64 rattle_env_at(u64 number, char *place, u64 room) {
     return -1;
 }
 
-static int is_read(int file) { return file >= 0 && file < MOST_OPEN && streams[file].is_open; }
+static int is_open(int file) { return file >= FIRST_FILE && file < MOST_OPEN && files[file].is_open; }
 
 i64 read(int file, char *place, u64 room) {
-    if (!is_read(file))
+    if (file == 0)
+        return page_read(place, room);
+    if (!is_open(file))
         return refused(NOT_OPEN);
-    i64 taken = page_read(streams[file].file, streams[file].at, place, room);
-    streams[file].at += (u64)taken;
+    i64 taken = page_part(files[file].file, files[file].at, place, room);
+    files[file].at += (u64)taken;
     return taken;
 }
 
@@ -112,17 +115,17 @@ int open(const char *path, int flags, ...) {
     if (found < 0)
         return refused(NO_FILE);
     for (int file = FIRST_FILE; file < MOST_OPEN; file++)
-        if (!streams[file].is_open) {
-            streams[file].is_open = 1, streams[file].file = found, streams[file].at = 0;
+        if (!files[file].is_open) {
+            files[file].is_open = 1, files[file].file = found, files[file].at = 0;
             return file;
         }
     return refused(TOO_MANY);
 }
 
 int close(int file) {
-    if (!is_read(file))
+    if (!is_open(file))
         return refused(NOT_OPEN);
-    streams[file].is_open = 0;
+    files[file].is_open = 0;
     return 0;
 }
 

@@ -7,7 +7,6 @@ import { bytesOf, through } from "./link.js";
 function work() {
   const NO_WORD = -1n;
   const NO_ROOM = -2n;
-  const NO_FILE = -1n;
   const NANOS = 1e6;
 
   class End {
@@ -19,7 +18,11 @@ function work() {
   function system({ words, input, files }, bytes) {
     const written = { 1: [], 2: [] };
     const name = (place, size) => new TextDecoder().decode(bytes(place, size));
-    const contents = [input, ...files.map((it) => it.bytes)];
+    let taken = 0;
+    const put = (part, place, room) => {
+      bytes(place, room).set(part);
+      return BigInt(part.length);
+    };
     const page = {
       word(number, place, room) {
         const word = words[Number(number)];
@@ -27,15 +30,13 @@ function work() {
         bytes(place, room).set(word.subarray(0, Number(room)));
         return BigInt(word.length) <= room ? BigInt(word.length) : NO_ROOM;
       },
-      file(place, size) {
-        const found = files.findIndex((it) => it.name === name(place, size));
-        return found < 0 ? NO_FILE : BigInt(found + 1);
+      read(place, room) {
+        const part = input.subarray(taken, taken + Number(room));
+        taken += part.length;
+        return put(part, place, room);
       },
-      read(file, from, place, room) {
-        const part = contents[Number(file)].subarray(Number(from), Number(from + room));
-        bytes(place, room).set(part);
-        return BigInt(part.length);
-      },
+      file: (place, size) => BigInt(files.findIndex((it) => it.name === name(place, size))), // -1: there is none
+      part: (file, from, place, room) => put(files[Number(file)].bytes.subarray(Number(from), Number(from + room)), place, room),
       write(file, place, size) {
         const part = bytes(place, size).slice();
         written[file].push(part);

@@ -274,6 +274,10 @@ def long_numbers(page: Page) -> None:
     assert "table 3=18446744073709551615" in page.member(2), page.member(2)
     page.run("ct.app.look(1)")
     assert "#1 data 1.1 set 3 18446744073709551615, to 1" in page.text("#step ul"), page.text("#step ul")
+    page.click("#last")
+    page.say("1 submit set 4 9007199254740993")
+    page.run("ct.app.look(ct.app.run.steps.length)")
+    assert " data 1.2 set 4 9007199254740993, to 1" in page.text("#step ul"), page.text("#step ul")
 
 
 def by_keys(page: Page) -> None:
@@ -361,8 +365,8 @@ def big(page: Page) -> None:
 def blocks(page: Page) -> None:
     """What lies behind the first block of lines, of steps, and of what a byte holds is as what lies in it."""
     page.open()
-    lines = ["members 3", *("1 submit set 0 7" for _ in range(300)), *(f"{i % 3 + 1} receive data 1.{i // 3 + 1} from 1" for i in range(900))]
-    page.give("long.schedule", "\n".join([*lines, *("expect 1 up" for _ in range(3800)), "1 enter", "1 begin"]))
+    receipts = [f"{i % 3 + 1} receive data 1.{i // 3 + 1} from 1" for i in range(900)]
+    page.give("long.schedule", "\n".join(["members 3", *300 * ["1 submit set 0 7"], *3800 * ["expect 1 up"], *receipts, "1 enter", "1 begin"]))
     page.until(lambda: page.fault().startswith("line 5002: 1 enter: refused 1 Idle"), 60)
     assert page.steps() == len(json.loads(page.record())["steps"]) == 1200
     assert page.run("return ct.app.run.world.envelope(900).message.name") == "1.300"

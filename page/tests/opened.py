@@ -74,6 +74,8 @@ def failed(page: Page) -> None:
         page.run(f"{break_it} return {act}.then(() => {{ {mend_it} }})")
         assert page.alert() == "the page failed: no memory", page.alert()
         assert state(page) == before
+    assert page.run("return ct.app.undo().then(() => ct.app.lines)") == before[1][:-1]
+    before = state(page)
     page.run(f"""{break_it}
       world.apply = function (...words) {{ {mend_it} throw new Error('no memory'); }};
       return ct.app.tell('1 submit set 0 7')""")
