@@ -106,7 +106,8 @@ export class App {
     const { fault, steps } = this.run;
     const took = `${count(steps.length, "step")} in ${((performance.now() - start) / 1000).toFixed(2)} s`;
     if (fault) this.alert(`${name && `${name}: `}${faultText(fault)}`);
-    this.status(`${name && `${name}: `}${fault ? `refused at line ${fault.line + 1}; before it ` : ""}${took}. ${headingOf(this.lines)}`.trim());
+    const head = `${name && `${name}: `}${fault ? `refused at line ${fault.line + 1}; before it ` : ""}`;
+    this.status(`${head}${took}. ${headingOf(this.lines)}`.trim());
   }
 
   // What is shown can be had again, as it is now: from a file, a link or by an example's name.

@@ -42,8 +42,8 @@ export class Run {
     for (const it of [this.live, this.past, this.world]) it.close();
   }
 
-  // Judges these lines, the first ones of a run; lines behind one that is refused are left. `told` hears of the share that is done, each time
-  // a block of lines is, which are as many as don't take long.
+  // Judges these lines, the first ones of a run; lines behind one that is refused are left. `told` hears of the share that is done, behind
+  // each block of as many lines as don't take long.
   async judge(lines, told = async () => {}) {
     let size = FIRST_BLOCK;
     for (let at = 0; at < lines.length && !this.fault;) {

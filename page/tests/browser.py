@@ -366,7 +366,8 @@ def blocks(page: Page) -> None:
     """What lies behind the first block of lines, of steps, and of what a byte holds is as what lies in it."""
     page.open()
     receipts = [f"{i % 3 + 1} receive data 1.{i // 3 + 1} from 1" for i in range(900)]
-    page.give("long.schedule", "\n".join(["members 3", *300 * ["1 submit set 0 7"], *3800 * ["expect 1 up"], *receipts, "1 enter", "1 begin"]))
+    before = ["members 3", *300 * ["1 submit set 0 7"], *3800 * ["expect 1 up"]]
+    page.give("long.schedule", "\n".join([*before, *receipts, "1 enter", "1 begin"]))
     page.until(lambda: page.fault().startswith("line 5002: 1 enter: refused 1 Idle"), 60)
     assert page.steps() == len(json.loads(page.record())["steps"]) == 1200
     assert page.run("return ct.app.run.world.envelope(900).message.name") == "1.300"
@@ -514,8 +515,8 @@ def without_sender(text: str) -> str:
 
 
 TESTS = [worked_example, refused_step, undo_and_redo, network, edited, arrows, looked_at, filtered, saved_and_opened,
-         named_by_content, no_record, long_numbers, by_keys, named, smooth, steady, big, blocks, dark_and_narrow, scenarios, at_random, served,
-         same_answers, same_steps, same_envelopes, *OPENED, *TABLE, *SEEKING]
+         named_by_content, no_record, long_numbers, by_keys, named, smooth, steady, big, blocks, dark_and_narrow, scenarios, at_random,
+         served, same_answers, same_steps, same_envelopes, *OPENED, *TABLE, *SEEKING]
 
 
 def main() -> int:

@@ -42,7 +42,7 @@ def policy(page: Page) -> None:
 
 
 def one_behind_the_other(page: Page) -> None:
-    """What is typed while a file is opened, or is opened behind it, is judged for itself: what is shown is the run of the lines beside it."""
+    """What is typed before a file is opened, and what is asked for meanwhile, is judged for itself: the run is that of the lines beside it."""
     page.open()
     page.run("""const text = document.getElementById('text');
       text.focus();
@@ -66,7 +66,8 @@ def failed(page: Page) -> None:
     """Where the library fails, this is told, the run is as it was, and the page goes on."""
     page.open("#example=coordinator_crashes")
     before = state(page)
-    break_it = "const world = Object.getPrototypeOf(ct.app.run.world), whole = world.apply; world.apply = () => { throw new Error('no memory'); };"
+    break_it = """const world = Object.getPrototypeOf(ct.app.run.world), whole = world.apply;
+      world.apply = () => { throw new Error('no memory'); };"""
     mend_it = "world.apply = whole;"
     for act in ("ct.app.open('members 2\\n1 submit set 0 7')", "ct.app.change(['members 2', '1 submit set 0 7'])", "ct.app.undo()"):
         page.run("return ct.app.change([...ct.app.lines, ''])")
@@ -121,7 +122,8 @@ def told_what_it_is(page: Page) -> None:
 def damaged_links(page: Page) -> None:
     """A link that is damaged says so, and opens nothing."""
     large = base64.urlsafe_b64encode(zlib.compress(b"\n" * (80 * MEGABYTE), 9)[2:-4]).decode().rstrip("=")
-    for link, wanted in (("#example=constructor", "the link: no example constructor; "), ("#example=__proto__", "the link: no example __proto__; "),
+    for link, wanted in (("#example=constructor", "the link: no example constructor; "),
+                         ("#example=__proto__", "the link: no example __proto__; "),
                          ("#example=locked_value&at=abc", "the link is damaged: at=abc is no step; "),
                          ("#example=locked_value&at=1.5", "the link is damaged: at=1.5 is no step; "),
                          ("#s=", "the link is damaged: "), ("#s=nothing", "the link is damaged: "), ("#s=%%%", "the link is damaged: "),
@@ -229,21 +231,22 @@ def kept(page: Page) -> None:
 
 
 def logs(page: Page) -> None:
-    """Several files are the logs of all members, which ct_tool merges: their run is opened, or what it refuses is told."""
-    right = {"10.log": "members 2\n1 submit set 0 7\n1 receive data 1.1 from 1\n", "9.log": "2 receive data 1.1 from 1\n2 receive data 1.1 from 2\n"}
-    wrong = {**right, "9.log": "2 receive data 1.1 from 1 set 0 8\n"}
-    page.open()
-    paths = written(page, right)
-    page.driver.find_element("id", "open").send_keys("\n".join(paths))
-    page.until(lambda: page.text("#status").startswith(("9.log, 10.log: ", "10.log, 9.log: ")))
-    assert page.alert() == "" and "\n".join(page.lines()) + "\n" == page.of_tool("merge", *sorted(paths, reverse=True))[0], page.lines()
-    assert page.steps() == 4
-    page.run("ct.app.alert('')")
+    """Several files are the logs of all members, in the order of their names: the run that ct_tool merges of them is opened, or what it
+    refuses is told."""
+    texts = {"9.log": "members 2\nsubmit set 0 7\nreceive data 1.1 from 1\n", "10.log": "receive data 1.1 from 1\nreceive data 1.1 from 2\n"}
+    wrong = {**texts, "10.log": "receive data 1.1 from 1 set 0 8\n"}
+    for names in (["9.log", "10.log"], ["10.log", "9.log"]):
+        page.open()
+        paths = written(page, {name: texts[name] for name in names})
+        page.driver.find_element("id", "open").send_keys("\n".join(paths))
+        page.until(lambda: page.steps() == 4)
+        assert "\n".join(page.lines()) + "\n" == page.of_tool("merge", *sorted(paths, key=len))[0], page.lines()
+        assert page.alert() == "" and page.text("#status").startswith(", ".join(names)), page.text("#status")
     paths = written(page, wrong)
     page.driver.find_element("id", "open").send_keys("\n".join(paths))
     page.until(lambda: page.alert() != "")
-    told = re.sub(r"\S*/", "", page.of_tool("merge", *sorted(paths, reverse=True))[1].strip())
-    assert page.alert().split(": ", 1)[1] == told and told.startswith("refused: "), (page.alert(), told)
+    told = re.sub(r"\S*/", "", page.of_tool("merge", *paths)[1].strip())
+    assert page.alert() == f"9.log, 10.log: {told}" and told.startswith("refused: "), (page.alert(), told)
     assert page.steps() == 4
 
 

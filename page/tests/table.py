@@ -107,7 +107,8 @@ ROWS = [
     Row("#narrower", CRASH, WIDE.format(4)),
     Row("#wider", CRASH, WIDE.format(6)),
     Row("#filter summary", CRASH, "document.getElementById('filter').open"),
-    Row("[name=only]", CRASH, "String(ct.app.columns.members) === '1,3'", done("document.querySelector('[name=only][value=\"2\"]').click()")),
+    Row("[name=only]", CRASH, "String(ct.app.columns.members) === '1,3'",
+        done("document.querySelector('[name=only][value=\"2\"]').click()")),
     Row("[name=kind]", CRASH, "ct.app.columns.length === 59", done("document.querySelector('[name=kind][value=submit]').click()")),
     Row("#only-instance", CRASH, "ct.app.columns.shown[0] === 37", done("const it = document.getElementById('only-instance');"
         "it.value = 2; it.dispatchEvent(new Event('input'))")),
@@ -123,7 +124,8 @@ ROWS = [
     Row("#diagram .mark", CRASH, AT.format(60), done("document.querySelector('[data-step=\"59\"] circle')"
                                                       ".dispatchEvent(new MouseEvent('click', { bubbles: true }))")),
     Row("#text", "", STEPS.format(2) + " && ct.app.lines.length === 3", typed(TWO)),
-    Row("#text control+Enter", "", STEPS.format(1), done("text.value = 'members 2\\n1 submit set 0 1'; text.dispatchEvent(new Event('input'));"
+    Row("#text control+Enter", "", STEPS.format(1), done("text.value = 'members 2\\n1 submit set 0 1';"
+        "text.dispatchEvent(new Event('input'));"
         "text.dispatchEvent(new KeyboardEvent('keydown', { key: 'Enter', ctrlKey: true }))")),
     Row("#line", TWO, told("1 receive data 1.1"), lambda page: page.say("1 receive data 1.1")),
     Row("#further button", TWO, told("crash 3"), filled("#line", " crash 3 ", "#further button")),
@@ -132,12 +134,13 @@ ROWS = [
     Row("#settle", TWO, told("all settle")),
     Row("[name=suspect]", TWO, told("all turns 1 suspecting 2,3"), done("document.querySelectorAll('[name=suspect]')[1].click();"
         "document.querySelectorAll('[name=suspect]')[2].click(); turn.click()")),
-    Row("#do-cut", TWO, told("cut 3"), done("document.querySelectorAll('[name=side]')[2].click(); document.getElementById('do-cut').click()")),
+    Row("#do-cut", TWO, told("cut 3"), done("document.querySelectorAll('[name=side]')[2].click();"
+        "document.getElementById('do-cut').click()")),
     Row("#heal", TWO + "\ncut 1", told("heal")),
     Row("[data-line].turn", TWO, told("2 turns 1"), pressed("2 turns 1")),
     Row("[data-line].stop", TWO, told("crash 2"), pressed("crash 2")),
     Row("[data-line].may", TWO + "\n1 receive data 1.1\n1 begin", told("1 enter"), pressed("1 enter")),
-    Row("[data-line].not", TWO, "ct.app.run.steps.length === 2 && document.getElementById('alert').textContent.startsWith('2 begin: refused 2 ')",
+    Row("[data-line].not", TWO, STEPS.format(2) + " && document.getElementById('alert').textContent.startsWith('2 begin: refused 2 ')",
         done("document.querySelector('[data-line=\"2 begin\"]').click()")),
     Row(".envelope receive", TWO, told("3 receive data 2.1 from 2"), pressed("3 receive data 2.1 from 2")),
     Row(".envelope postpone", TWO, told("3 postpone data 1.1 from 1"), pressed("3 postpone data 1.1 from 1")),
@@ -160,9 +163,9 @@ ROWS = [
     Row("#diagram Enter", CRASH + "&at=30", "ct.app.isPast"),
 ]
 # What other tests go over: the search (seeking.py), and leaving what takes long (opened.py).
-ELSEWHERE = ["#goal", "#find-members", "#seed-first", "#seed-last", "#options", "#do-find", "#shrink", "#cancel", "#leave", "#trust summary",
-             "#turns", ".submit select", ".submit input", "[data-repeats] select", "[data-repeats] summary", "[data-key=others] summary",
-             "[name=side]"]
+ELSEWHERE = ["#goal", "#find-members", "#seed-first", "#seed-last", "#options", "#do-find", "#shrink", "#cancel", "#leave",
+             "#trust summary", "#turns", ".submit select", ".submit input", "[data-repeats] select", "[data-repeats] summary",
+             "[data-key=others] summary", "[name=side]"]
 
 
 def begin(page: Page, how: str) -> None:
@@ -177,8 +180,7 @@ def do(page: Page, row: Row) -> None:
     if callable(row.act):
         row.act(page)
     elif key and key[2] != ".mark":
-        page.run("document.querySelector(arguments[0]).dispatchEvent(new KeyboardEvent('keydown', { key: arguments[1], cancelable: true }))",
-                 key[1], key[2])
+        page.run("diagram.dispatchEvent(new KeyboardEvent('keydown', { key: arguments[0], cancelable: true }))", key[2])
     else:
         page.click(row.control)
 
