@@ -98,16 +98,17 @@ export class App {
     }, name);
   }
 
-  // Opens the lines that come, and tells of what is refused first.
+  // Opens the lines that come with a note, and tells of what is refused first.
   async opened(coming, at, name) {
     const start = performance.now();
     this.alert("");
-    await this.renew(await coming, at);
+    const { lines, note } = await coming;
+    await this.renew(lines, at);
     const { fault, steps } = this.run;
     const took = `${count(steps.length, "step")} in ${((performance.now() - start) / 1000).toFixed(2)} s`;
     if (fault) this.alert(`${name && `${name}: `}${faultText(fault)}`);
     const head = `${name && `${name}: `}${fault ? `refused at line ${fault.line + 1}; before it ` : ""}`;
-    this.status(`${head}${took}. ${headingOf(this.lines)}`.trim());
+    this.status(`${head}${took}. ${note || headingOf(this.lines)}`.trim());
   }
 
   // What is shown can be had again, as it is now: from a file, a link or by an example's name.
@@ -129,13 +130,32 @@ export class App {
 
   async say(line) {
     if (line === null) return this.go(this.at, this.isPast);
+    const taken = this.run.lines.length;
+    const rest = this.lines.slice(taken);
+    if (!isAnswer(line) && rest.some((it) => it.trim() !== "")) return this.insert(line, rest);
     const answer = await this.answer(line);
     if (isFault(answer)) return this.alert(`${line}: ${answer}`);
     this.alert("");
     this.status(isAnswer(answer) ? answer : "");
     if (isAnswer(answer)) return undefined;
     this.parts.step.open = false;
-    return this.grown(line);
+    this.history.keep(this.lines);
+    if (rest.length > 0) this.lines = this.lines.slice(0, taken);
+    this.lines.push(line);
+    return this.go(this.run.steps.length, false);
+  }
+
+  // Has a line stand before those that weren't taken.
+  async insert(line, rest) {
+    const lines = [...this.run.lines, line, ...rest];
+    const run = await this.judged(lines);
+    if (run.fault?.line === this.run.lines.length) {
+      run.close();
+      return this.alert(`${line}: ${run.fault.answer}`);
+    }
+    this.parts.step.open = false;
+    this.history.keep(this.lines);
+    return this.put(run, lines);
   }
 
   // What the run answers to a line; where that fails it is judged anew, without the line.
@@ -146,20 +166,6 @@ export class App {
       this.put(await this.judged(this.lines), this.lines);
       throw error;
     }
-  }
-
-  // Has the lines be those that were taken, the last of which was told, and those behind it that weren't.
-  async grown(line) {
-    const taken = this.run.lines.length;
-    const rest = this.lines.slice(taken - 1);
-    this.history.keep(this.lines);
-    if (rest.some((it) => it.trim() !== "")) {
-      const lines = [...this.run.lines, ...rest];
-      return this.put(await this.judged(lines), lines);
-    }
-    if (rest.length > 0) this.lines = this.lines.slice(0, taken - 1);
-    this.lines.push(line);
-    return this.go(this.run.steps.length, false);
   }
 
   // Leaves what comes behind the step that one looks at.

@@ -1,4 +1,5 @@
-// What is opened, as the lines of a schedule: a schedule itself, a record, or the logs of all members. What is no schedule ct_tool reads.
+// What is opened, as the lines of a schedule: a schedule itself, a record, or the logs of all members. What is no schedule ct_tool reads;
+// what it tells of it besides is a note.
 
 import { Fault } from "./fault.js";
 
@@ -25,7 +26,7 @@ export class Opening {
     Object.assign(this, { tool, waiting });
   }
 
-  // The lines of a file, or of the logs of all members.
+  // The lines of a file, or of the logs of all members, and a note.
   async ofFiles(files) {
     const size = files.reduce((sum, file) => sum + file.size, 0);
     if (size > MOST_BYTES) throw new Fault(`${number(size)} bytes; at most ${number(MOST_BYTES)} are opened`);
@@ -34,20 +35,18 @@ export class Opening {
     const names = held.map((it) => it.name).sort((one, other) => one.localeCompare(other, "en", { numeric: true }));
     const twice = names.find((name, i) => name === names[i + 1]);
     if (twice !== undefined) throw new Fault(`two files of the name ${twice}; the logs of members have names of their own`);
-    return this.ofText(await this.written(["merge", "--", ...names], { files: held }));
+    return this.written(["merge", "--", ...names], { files: held });
   }
 
   async ofText(text) {
-    if (!isRecord(text)) return linesOf(text);
-    const schedule = await this.written(["schedule"], { input: text });
-    return linesOf(schedule.slice(0, schedule.search(EXPECTED) + 1 || undefined));
+    return isRecord(text) ? this.written(["schedule"], { input: text }) : { lines: linesOf(text), note: "" };
   }
 
-  // What ct_tool writes.
+  // The lines that ct_tool writes, up to the last step.
   async written(words, given) {
     const { status, out, err } = await this.waiting.job(this.tool.run(words, given), `ct_tool ${words[0]} ..`);
     if (status !== 0) throw new Fault(err.trim() || `ct_tool ${words[0]} ended with status ${status}`);
-    return out;
+    return { lines: linesOf(out.slice(0, out.search(EXPECTED) + 1 || undefined)), note: err.trim() };
   }
 }
 

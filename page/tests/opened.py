@@ -83,6 +83,12 @@ def failed(page: Page) -> None:
     assert page.alert() == "the page failed: no memory" and state(page) == before, page.alert()
     page.say("1 submit set 0 7")
     assert page.steps() == 63 and page.alert() == ""
+    page.run("return ct.app.open('members 3\\n1 submit set 0 7\\n1 enter\\n1 receive data 1.1')")
+    before = state(page)
+    page.run(f"{break_it} return ct.app.tell('1 receive data 1.1').then(() => {{ {mend_it} }})")
+    assert page.alert() == "the page failed: no memory" and state(page) == before, page.alert()
+    page.say("1 begin")
+    assert page.alert().startswith("1 begin: refused 1 Nothing: ") and state(page) == before, page.alert()
 
 
 def refused_first(page: Page) -> None:
@@ -240,8 +246,10 @@ def logs(page: Page) -> None:
         paths = written(page, {name: texts[name] for name in names})
         page.driver.find_element("id", "open").send_keys("\n".join(paths))
         page.until(lambda: page.steps() == 4)
-        assert "\n".join(page.lines()) + "\n" == page.of_tool("merge", *sorted(paths, key=len))[0], page.lines()
+        schedule, told, _ = page.of_tool("merge", *sorted(paths, key=len))
+        assert page.lines() == schedule[:schedule.index("\n\nexpect ")].split("\n"), page.lines()
         assert page.alert() == "" and page.text("#status").startswith(", ".join(names)), page.text("#status")
+        assert page.text("#status").endswith(re.sub(r"\S*/", "", told.strip())) and "accepted: " in told, page.text("#status")
     paths = written(page, wrong)
     page.driver.find_element("id", "open").send_keys("\n".join(paths))
     page.until(lambda: page.alert() != "")

@@ -90,6 +90,7 @@ ONE_BACK = "ct.app.undo()"
 ROWS = [
     Row("#new", "", "ct.app.run.group.members === 5 && ct.app.lines.join() === 'members 5'", filled("#members", "5", "#new")),
     Row("#members", CRASH, STEPS.format(62), filled("#members", "17", "#new")),
+    Row("#members", "#example=five_members", "members.value === '5'", done("")),
     Row("#examples", "", "location.hash === '#example=followers' && examples.value === 'followers' && ct.app.isKept",
         done("examples.value = 'followers'; examples.dispatchEvent(new Event('change'))")),
     Row("#open", "", STEPS.format(2), lambda page: page.give("two.schedule", TWO)),
