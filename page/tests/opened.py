@@ -187,6 +187,13 @@ def left(page: Page) -> None:
         page.until(lambda: page.text("#status") == "Cancelled.")
         assert state(page) == before and page.run("return document.getElementById('waiting').hidden") and page.alert() == ""
         page.run("ct.app.status('')")
+    page.run("""const { tool } = ct.app.parts.opening;
+      tool.run = () => { let cancel; const ended = new Promise((done) => { cancel = () => done(null); }); return { ended, cancel }; };""")
+    page.drop("endless.json", "{}")
+    page.until(lambda: page.text("#waiting") == "ct_tool schedule ..Cancel")
+    page.click("#leave")
+    page.until(lambda: page.text("#status") == "Cancelled.")
+    assert state(page) == before
     page.say("1 submit set 0 7")
     assert page.steps() == 63
 
