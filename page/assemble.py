@@ -65,6 +65,9 @@ def packed(path: str) -> str:
 
 
 def git(*words: str) -> str:
+    """What git answers, or nothing."""
+    if not shutil.which("git"):
+        return ""
     ran = subprocess.run(["git", "-C", HERE, *words], stdout=subprocess.PIPE, stderr=subprocess.DEVNULL, check=False, text=True)
     return ran.stdout.strip()
 
