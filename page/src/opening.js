@@ -2,10 +2,12 @@
 // what it tells of it besides is a note.
 
 import { Fault } from "./fault.js";
+import { linesOfRecord } from "./record.js";
 
 export const MOST_BYTES = 67108864; // as much as `ct_tool record` reads
 const MOST_LINES = 2000000;
 const MOST_LETTERS = 65536;
+const MOST_NAMED = 200000; // of a longer record, some 10,000 steps, envelopes go by serials: to name one costs its place in the waiting line
 
 const EXPECTED = /\n\nexpect /; // what ct_tool writes behind the steps: it is longer than lines that a session is told may be
 
@@ -39,14 +41,20 @@ export class Opening {
   }
 
   async ofText(text) {
-    return isRecord(text) ? this.written(["schedule"], { input: text }) : { lines: linesOf(text), note: "" };
+    if (!isRecord(text)) return { lines: linesOf(text), note: "" };
+    const isLong = text.length > MOST_NAMED && (await this.run(["check", "-"], { input: text })).status === 0;
+    return isLong ? { lines: linesOfRecord(text), note: "" } : this.written(["schedule"], { input: text });
   }
 
   // The lines that ct_tool writes, up to the last step.
   async written(words, given) {
-    const { status, out, err } = await this.waiting.job(this.tool.run(words, given), `ct_tool ${words[0]} ..`);
+    const { status, out, err } = await this.run(words, given);
     if (status !== 0) throw new Fault(err.trim() || `ct_tool ${words[0]} ended with status ${status}`);
     return { lines: linesOf(out.slice(0, out.search(EXPECTED) + 1 || undefined)), note: err.trim() };
+  }
+
+  run(words, given) {
+    return this.waiting.job(this.tool.run(words, given), `ct_tool ${words[0]} ..`);
   }
 }
 

@@ -1,6 +1,6 @@
 // Steps of records (docs/FORMATS.md), as the library writes them, and the lines of schedules that they are.
 
-// A text of the library's with long numbers, which a double can't hold, as strings.
+// A text with long numbers, which a double can't hold, as strings.
 export const withLongNumbers = (text) => text.replace(/\b[0-9]{16,}\b/g, '"$&"');
 
 // A step of a record as a line of a schedule, its envelope by its serial.
@@ -8,6 +8,12 @@ export function lineOf([name, member, what]) {
   if (name === "receive" || name === "postpone" || name === "lose" || name === "repeat") return `${member} ${name} #${what}`;
   if (name === "submit") return `${member} submit ${what.join(" ")}`;
   return what === undefined ? `${member} ${name}` : `${member} ${name} ${what}`;
+}
+
+// The lines of a schedule that say what a record's text says, which has to be one.
+export function linesOfRecord(text) {
+  const { n, cells, batch, steps } = JSON.parse(withLongNumbers(text));
+  return [`members ${n}`, `cells ${cells}`, ...(batch === undefined ? [] : [`batch ${batch}`]), ...steps.map(lineOf)];
 }
 
 // The steps in an answer such as: enabled ["enter",1] ["choose",2,1]

@@ -237,6 +237,9 @@ def named_by_content(page: Page) -> None:
     written = page.of_tool("schedule", given=read("examples", "lost_and_repeated.json"))[0]
     assert page.lines() == written[:written.index("\n\nexpect ")].split("\n"), page.lines()
     assert "2 lose est 1/1 from 1" in page.lines(), page.lines()
+    many = page.of_tool("record", given="members 1\n" + 900 * "1 submit set 0 7\n" + "all settle\n")[0]
+    page.give("many.json", many)
+    page.until(lambda: page.record() + "\n" == many)
     made = page.made(4, 2000, "--lose", "5", "--repeat", "5", "--crash", "1")
     page.give("lossy.json", made)
     page.until(lambda: page.steps() == 2000 and page.record() == made.strip())
@@ -344,7 +347,8 @@ def steady(page: Page) -> None:
 
 
 def big(page: Page) -> None:
-    """A record of 100,000 steps opens within five seconds, the best of a few times on a machine that does other things."""
+    """A record of 100,000 steps opens within five seconds, the best of a few times on a machine that does other things. Its envelopes go by
+    serials; what is no record of this size is refused as any other."""
     text = page.made(5, BIG_STEPS)
     took = BIG_SECONDS
     for _ in range(TRIES):
@@ -360,6 +364,10 @@ def big(page: Page) -> None:
     assert page.text("#place") == "50000 of 100000"
     assert 0 < page.run("return document.querySelectorAll('.mark').length") < 500
     page.shot("big")
+    assert page.run("return ct.app.lines.filter((it) => / #[0-9]+$/.test(it)).length") > BIG_STEPS / 2
+    page.give("bad.json", text + "x")
+    page.until(lambda: page.alert() != "")
+    assert page.alert() == f"bad.json: {page.of_tool('schedule', given=text + 'x')[1].strip()}" and page.steps() == BIG_STEPS
 
 
 def blocks(page: Page) -> None:
