@@ -146,10 +146,11 @@ def damaged_links(page: Page) -> None:
 def addresses(page: Page) -> None:
     """Back and forth go to what was opened, also to the page without a link."""
     page.open()
-    for name, steps in (("locked_value", 153), ("coordinator_crashes", 62)):
-        page.run("examples.value = arguments[0]; examples.dispatchEvent(new Event('change'))", name)
-        page.until(lambda: page.steps() == steps)
-    for steps in (153, 0):
+    page.click("#what a[href='#example=coordinator_crashes']")
+    page.until(lambda: page.steps() == 62)
+    page.run("examples.value = 'locked_value'; examples.dispatchEvent(new Event('change'))")
+    page.until(lambda: page.steps() == 153)
+    for steps in (62, 0):
         page.run("history.back()")
         page.until(lambda: page.steps() == steps)
     assert page.lines() == ["members 3"]
