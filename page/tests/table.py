@@ -169,11 +169,25 @@ ELSEWHERE = ["#goal", "#find-members", "#seed-first", "#seed-last", "#options", 
              "[data-key=others] summary", "[name=side]"]
 
 
+# The page as it is at first, with a link or a schedule: quicker than to load it anew.
+AT_FIRST = """const [link, schedule] = arguments;
+  const { app } = ct;
+  document.getElementById('all').click();
+  app.parts.diagram.zoom = 5;
+  for (const it of document.querySelectorAll('#suspected input, #cut input')) it.checked = false;
+  for (const it of document.querySelectorAll('details')) it.open = false;
+  history.replaceState(null, '', location.href.split('#')[0] + link);
+  dispatchEvent(new Event('hashchange'));
+  return app.last.then(() => {
+    Object.assign(app.history, { before: [], behind: [] });
+    return schedule ? app.open(schedule) : app.show();
+  });"""
+
+
 def begin(page: Page, how: str) -> None:
     """The page with this link, or this schedule."""
-    page.open(how if how.startswith("#") else "")
-    if how and not how.startswith("#"):
-        page.run("return ct.app.open(arguments[0])", how)
+    link = how if how.startswith("#") else ""
+    page.run(AT_FIRST, link, "" if link else how)
 
 
 def do(page: Page, row: Row) -> None:
@@ -201,12 +215,14 @@ def fault_of(page: Page, row: Row) -> str:
 
 def each_control(page: Page) -> None:
     """What each row says."""
+    page.open()
     faults = [fault_of(page, row) for row in ROWS]
     assert not any(faults), [it for it in faults if it]
 
 
 def no_other_control(page: Page) -> None:
     """Each control of the page has a row, or a test elsewhere."""
+    page.open()
     begin(page, TWO + "\n3 lose #3\n1 receive data 1.1\n1 begin")
     known = {row.control for row in ROWS} | set(ELSEWHERE)
     selectors = [it for it in known if not it.startswith((".envelope ", "&", "#diagram ", "#text "))]
