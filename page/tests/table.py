@@ -120,7 +120,7 @@ ROWS = [
     Row("#forth", CRASH + "&at=30", AT.format(31)),
     Row("#last", CRASH + "&at=30", AT.format(62)),
     Row("#past", CRASH + "&at=30", "ct.app.isPast && past.getAttribute('aria-pressed') === 'true'"),
-    Row("#fork", CRASH + "&at=30", STEPS.format(30)),
+    Row("#fork", CRASH + "&at=30", STEPS.format(30) + " && !/ #[0-9]/.test(ct.app.lines.join())"),
     Row("#step summary", CRASH + "&at=25", "step.querySelector('table').rows.length === 4"),
     Row("#diagram .mark", CRASH, AT.format(60), done("document.querySelector('[data-step=\"59\"] circle')"
                                                       ".dispatchEvent(new MouseEvent('click', { bubbles: true }))")),
