@@ -9,8 +9,10 @@
    locks, or uses a signal or a static variable. Don't call the library in a signal handler, or in the child of a fork of a process with
    threads.
 
-   Pointers: none may be null, also where the length beside it is 0; gcc and clang warn of a null that they see. Two pointers that are
-   passed to one call must not overlap.
+   Pointers: none may be null, but that to a room or to bytes whose length is 0; gcc and clang warn of a null that they see. Two pointers
+   that are passed to one call must not overlap; `ct_copy` refuses a world that is copied into itself.
+
+   const: such a call leaves the struct as it was, and writes to one that is open while it is under way. So it is one call at a time, too.
 
    Room: a call with a `room` and a length, counted in elements, writes the first elements of its answer, as many as there is room
    for, and nothing behind them; it answers how many elements there are in all, or CT_NONE, and then writes nothing. With length 0 it
@@ -25,10 +27,13 @@
 #include <stdint.h>
 
 #if defined(__GNUC__)
-#define CT_NONNULL __attribute__((nonnull))
+#define CT_NONNULL(...) __attribute__((nonnull(__VA_ARGS__)))
 #else
-#define CT_NONNULL
+#define CT_NONNULL(...)
 #endif
+
+/* The version of this header and of the packages beside it. */
+#define CT_VERSION "0.1.0"
 
 #ifdef __cplusplus
 extern "C" {
@@ -69,6 +74,18 @@ enum {
     CT_NO_WORLD = 29,         /* the session was told no step yet, so there is no group to speak of */
     CT_TOO_LONG = 30          /* the run has more steps than a diagram shows */
 };
+
+/* The name of what a call answers, as records and schedules have it: "TooFew", "Full(Cells)"; "?" of another number. */
+static inline const char *
+ct_refusal_name(uint32_t refusal) {
+    static const char *const names[] = {
+        "Done", "NoSuchMember", "Crashed", "NotWaiting", "Busy", "Nothing", "Idle", "WrongPhase", "Decided", "TooFew", "NotLargest",
+        "NoProposal", "HasProposal", "Undecided", "BadCommand", "NotSent", "StillWaiting", "Full(Submissions)", "Full(Instances)",
+        "Full(Rounds)", "Full(Envelopes)", "Full(Cells)", "Full(Steps)", "OutOfMemory", "Board", "NotOpen", "AlreadyOpen", "BadStep",
+        "BadSetup", "NoWorld", "TooLong",
+    };
+    return refusal < sizeof names / sizeof *names ? names[refusal] : "?";
+}
 
 /* In place of a count: the world or session is closed, the member is none of the group's, or there is no such list. */
 #define CT_NONE SIZE_MAX
@@ -158,48 +175,49 @@ typedef struct {
 /* Opens a world without steps, for the members 1 to `members` (at most 16), with `cells` cells for posted batches (at most 1,024), in
    which a member proposes at most `bound` messages for an instance (1 to 1,048,560). CT_DONE, CT_BAD_SETUP, CT_ALREADY_OPEN or
    CT_OUT_OF_MEMORY. */
-uint32_t ct_world_open(ct_world *world, uint8_t members, uint16_t cells, uint32_t bound) CT_NONNULL;
+uint32_t ct_world_open(ct_world *world, uint8_t members, uint16_t cells, uint32_t bound) CT_NONNULL(1);
 
 /* Closes it, if it is open. */
-void ct_world_close(ct_world *world) CT_NONNULL;
+void ct_world_close(ct_world *world) CT_NONNULL(1);
 
 /* Makes `into`, which is closed, a world of its own with the same setup and record as `from`. CT_DONE, CT_NOT_OPEN where `from` is
-   closed, CT_ALREADY_OPEN where `into` is open, CT_OUT_OF_MEMORY or CT_BOARD. Takes as long as replaying the record. */
-uint32_t ct_copy(ct_world *from, ct_world *into) CT_NONNULL;
+   closed, CT_ALREADY_OPEN where `into` is open, as where both are one world, CT_OUT_OF_MEMORY or CT_BOARD. Takes as long as replaying the
+   record. */
+uint32_t ct_copy(const ct_world *from, ct_world *into) CT_NONNULL(1, 2);
 
 /* Does the step, or refuses it: refusal is CT_DONE, CT_NOT_OPEN, CT_BAD_STEP, or 1 to 24. Takes time by what the step touches. */
-ct_effect ct_apply(ct_world *world, uint8_t kind, uint8_t member, uint32_t a, uint8_t b, uint64_t c) CT_NONNULL;
+ct_effect ct_apply(ct_world *world, uint8_t kind, uint8_t member, uint32_t a, uint8_t b, uint64_t c) CT_NONNULL(1);
 
 /* Why the step would be refused now, want of memory apart: CT_DONE where it is allowed, CT_NOT_OPEN, CT_BAD_STEP, or 1 to 22. */
-uint32_t ct_enabled(ct_world *world, uint8_t kind, uint8_t member, uint32_t a, uint8_t b, uint64_t c) CT_NONNULL;
+uint32_t ct_enabled(const ct_world *world, uint8_t kind, uint8_t member, uint32_t a, uint8_t b, uint64_t c) CT_NONNULL(1);
 
 /* What a driver does next at the member: the first allowed step of CT_DELIVER, CT_FOLLOW, CT_BEGIN, CT_CHOOSE (of the least member
    that was heard with the largest ts), CT_ADOPT, CT_CONCLUDE, CT_ENTER and CT_SUSPECT. Its kind is 0 where there is none. */
-ct_step ct_next(ct_world *world, uint8_t member) CT_NONNULL;
+ct_step ct_next(const ct_world *world, uint8_t member) CT_NONNULL(1);
 
 /* The steps of the record from the place `from` on, counted from 0; answers how many there are from there on. */
-size_t ct_steps(ct_world *world, size_t from, ct_step *room, size_t length) CT_NONNULL;
+size_t ct_steps(const ct_world *world, size_t from, ct_step *room, size_t length) CT_NONNULL(1);
 
 /* The serials that wait at the member, in the order of its line. */
-size_t ct_waiting(ct_world *world, uint8_t member, uint32_t *room, size_t length) CT_NONNULL;
+size_t ct_waiting(const ct_world *world, uint8_t member, uint32_t *room, size_t length) CT_NONNULL(1);
 
 /* The envelope of a serial; its kind is 0 where that was not sent, or the world is closed. */
-ct_letter ct_envelope(ct_world *world, uint32_t serial) CT_NONNULL;
+ct_letter ct_envelope(const ct_world *world, uint32_t serial) CT_NONNULL(1);
 
 /* The value that the envelope of a serial carries, in the order of messages; CT_NONE where that was not sent, or carries none. */
-size_t ct_value(ct_world *world, uint32_t serial, ct_message *room, size_t length) CT_NONNULL;
+size_t ct_value(const ct_world *world, uint32_t serial, ct_message *room, size_t length) CT_NONNULL(1);
 
 /* The messages that the member received, in order of first receipt. */
-size_t ct_received(ct_world *world, uint8_t member, ct_message *room, size_t length) CT_NONNULL;
+size_t ct_received(const ct_world *world, uint8_t member, ct_message *room, size_t length) CT_NONNULL(1);
 
 /* The decision that the member got for an instance, counted from 1, in the order of messages; CT_NONE where it got none. */
-size_t ct_decided(ct_world *world, uint8_t member, uint32_t instance, ct_message *room, size_t length) CT_NONNULL;
+size_t ct_decided(const ct_world *world, uint8_t member, uint32_t instance, ct_message *room, size_t length) CT_NONNULL(1);
 
 /* The messages that the member delivered, in order. */
-size_t ct_delivered(ct_world *world, uint8_t member, ct_message *room, size_t length) CT_NONNULL;
+size_t ct_delivered(const ct_world *world, uint8_t member, ct_message *room, size_t length) CT_NONNULL(1);
 
 /* The values of the member's 16 registers, after the commands of what it delivered. */
-size_t ct_table(ct_world *world, uint8_t member, uint64_t *room, size_t length) CT_NONNULL;
+size_t ct_table(const ct_world *world, uint8_t member, uint64_t *room, size_t length) CT_NONNULL(1);
 
 /* ---- sessions */
 
@@ -210,28 +228,28 @@ typedef struct {
 } ct_session;
 
 /* Opens a session that was told nothing. CT_DONE, CT_ALREADY_OPEN or CT_OUT_OF_MEMORY. */
-uint32_t ct_session_open(ct_session *session) CT_NONNULL;
+uint32_t ct_session_open(ct_session *session) CT_NONNULL(1);
 
 /* Closes it, if it is open. */
-void ct_session_close(ct_session *session) CT_NONNULL;
+void ct_session_close(ct_session *session) CT_NONNULL(1);
 
 /* Tells it bytes: lines, or parts of lines, each ended by a line feed. The answers to the lines that these bytes end wait to be
    copied, in place of what waited before. CT_DONE, CT_NOT_OPEN, or CT_OUT_OF_MEMORY or CT_BOARD: then the session is closed. */
-uint32_t ct_tell(ct_session *session, const uint8_t *bytes, size_t length) CT_NONNULL;
+uint32_t ct_tell(ct_session *session, const uint8_t *bytes, size_t length) CT_NONNULL(1);
 
 /* How many bytes wait to be copied, or CT_NONE. */
-size_t ct_answers_length(ct_session *session) CT_NONNULL;
+size_t ct_answers_length(const ct_session *session) CT_NONNULL(1);
 
 /* Copies the bytes that wait, and leaves them. */
-size_t ct_answers(ct_session *session, uint8_t *room, size_t length) CT_NONNULL;
+size_t ct_answers(const ct_session *session, uint8_t *room, size_t length) CT_NONNULL(1);
 
 /* The record of the steps so far, as JSON, waits to be copied in place of what waited before. CT_DONE, CT_NOT_OPEN, CT_NO_WORLD, or
    CT_OUT_OF_MEMORY: then nothing waits. What the session was told stays. */
-uint32_t ct_record(ct_session *session) CT_NONNULL;
+uint32_t ct_record(ct_session *session) CT_NONNULL(1);
 
 /* The diagram of the steps so far, as SVG, waits to be copied in place of what waited before. CT_DONE, CT_NOT_OPEN, CT_NO_WORLD,
    CT_TOO_LONG or CT_OUT_OF_MEMORY: but for CT_NOT_OPEN nothing waits then. What the session was told stays. */
-uint32_t ct_diagram(ct_session *session) CT_NONNULL;
+uint32_t ct_diagram(ct_session *session) CT_NONNULL(1);
 
 #ifdef __cplusplus
 }

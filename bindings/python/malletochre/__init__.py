@@ -28,6 +28,8 @@ from .steps import (Add, Adopt, Begin, Choose, Command, Conclude, Copy, Crash, D
                     Set, Step, Submit, Suspect)
 from .world import MAX_BOUND, MAX_CELLS, MAX_MEMBERS, World
 
+__version__ = "0.1.0"
+
 __all__ = ["Ack", "Add", "Adopt", "Begin", "Choose", "Command", "Conclude", "Content", "Copy", "Crash", "Data", "Decision", "Deliver",
            "Enter", "Envelope", "Estimate", "Follow", "IN_PROCESS", "LineRefused", "Lose", "MAX_BOUND", "MAX_CELLS", "MAX_MEMBERS",
            "Message", "Nack", "NoWorld", "Postpone", "Proposal", "Receive", "Refusal", "Refused", "Repeat", "Session", "Set", "Step",

@@ -61,13 +61,18 @@ _CALLS = {
 
 
 def _load() -> Optional[ctypes.PyDLL]:
-    """The library, or None where there is none. Its calls hold the interpreter's lock, so there is one at a time."""
+    """The library, or None where there is none that can be loaded. Its calls hold the interpreter's lock, so there is one at a time."""
     here = os.path.dirname(os.path.abspath(__file__))
     named = os.environ.get("CT_LIB")
     paths = [named] if named else [os.path.join(here, "libct.so"), os.path.join(here, "..", "..", "out", "libct.so")]
     for path in paths:
         if named or os.path.exists(path):
-            library = ctypes.PyDLL(path)
+            try:
+                library = ctypes.PyDLL(path)
+            except OSError:
+                if named:
+                    raise
+                continue   # that of another machine, or of a part of a file
             for name, (gives, takes) in _CALLS.items():
                 call = getattr(library, name)
                 call.restype, call.argtypes = gives, takes

@@ -1,15 +1,13 @@
 """A world over libct.so."""
 from __future__ import annotations
 
-from ctypes import byref, c_uint32, c_uint64
+from ctypes import ArgumentError, byref, c_uint32, c_uint64
 from typing import Any, List, Optional, Tuple
 
 from . import library
 from .envelopes import Ack, Content, Data, Decision, Envelope, Estimate, Message, Nack, Proposal
 from .refusal import Refusal, StepRefused
 from .steps import COMMANDS, WORD, Crash, Step, step_of_numbers, within
-
-REGISTERS = 16
 
 
 def _message(it: library.MessageNumbers) -> Message:
@@ -45,32 +43,53 @@ class LibraryWorld:
         self._apply, self._close = library.call("ct_apply"), library.call("ct_world_close")
 
     def apply(self, step: Step) -> range:
-        effect = self._apply(self._at, *step.numbers())
+        try:
+            effect = self._apply(self._at, *step.numbers())
+        except ArgumentError as error:
+            raise TypeError(f"{step}: {error}") from None
         first = effect.first
         if effect.refusal:
+            self._look()
             raise StepRefused(step, Refusal(effect.refusal))
         return range(first, first + effect.count)
 
     def refusal(self, step: Step) -> Optional[Refusal]:
-        status = library.call("ct_enabled")(self._at, *step.numbers())
+        self._look()
+        try:
+            status = library.call("ct_enabled")(self._at, *step.numbers())
+        except ArgumentError as error:
+            raise TypeError(f"{step}: {error}") from None
         return Refusal(status) if status else None
+
+    def _look(self) -> None:
+        """It isn't closed."""
+        if not self._handle.is_open:
+            raise ValueError("the world is closed")
 
     def has_crashed(self, member: int) -> bool:
         return self.refusal(Crash(member)) is Refusal.CRASHED
 
     def next(self, member: int) -> Optional[Step]:
+        self._look()
         it = library.call("ct_next")(self._at, member)
         return step_of_numbers(it.kind, it.member, it.a, it.b, it.c) if it.kind else None
 
     def steps(self) -> List[Step]:
-        steps = self._list("ct_steps", library.StepNumbers, 0) or []
+        steps = self._list("ct_steps", library.StepNumbers, 0)
         return [step_of_numbers(it.kind, it.member, it.a, it.b, it.c) for it in steps]
 
     def serials(self, member: int) -> List[int]:
-        return self._list("ct_waiting", c_uint32, member) or []
+        return self._list("ct_waiting", c_uint32, member)
 
-    def _list(self, name: str, kind: Any, *which: int) -> Optional[List[Any]]:
-        """The elements that the call of this name writes."""
+    def _list(self, name: str, kind: Any, *which: int) -> List[Any]:
+        """The elements that the call of this name writes, where there is such a list."""
+        elements = self._elements(name, kind, *which)
+        assert elements is not None
+        return elements
+
+    def _elements(self, name: str, kind: Any, *which: int) -> Optional[List[Any]]:
+        """The elements that the call of this name writes, or None."""
+        self._look()
         at, call = self._at, library.call(name)
 
         def fill(room: Any, length: int) -> int:
@@ -79,35 +98,35 @@ class LibraryWorld:
 
         return library.elements(kind, fill)
 
-    def _messages(self, name: str, *which: int) -> Optional[List[Message]]:
-        messages = self._list(name, library.MessageNumbers, *which)
-        return None if messages is None else [_message(it) for it in messages]
+    def _value(self, name: str, *which: int) -> Optional[Tuple[Message, ...]]:
+        messages = self._elements(name, library.MessageNumbers, *which)
+        return None if messages is None else tuple(map(_message, messages))
 
     def envelope(self, serial: int) -> Optional[Envelope]:
         within(WORD, serial=serial)
+        self._look()
         it = library.call("ct_envelope")(self._at, serial)
         return Envelope(serial, it.to, _content(it)) if it.kind else None
 
     def value(self, serial: int) -> Optional[Tuple[Message, ...]]:
         within(WORD, serial=serial)
-        value = self._messages("ct_value", serial)
-        return None if value is None else tuple(value)
+        return self._value("ct_value", serial)
 
     def received(self, member: int) -> List[Message]:
-        return self._messages("ct_received", member) or []
+        return list(map(_message, self._list("ct_received", library.MessageNumbers, member)))
 
     def decided(self, member: int, instance: int) -> Optional[Tuple[Message, ...]]:
         within(WORD, instance=instance)
-        decision = self._messages("ct_decided", member, instance)
-        return None if decision is None else tuple(decision)
+        return self._value("ct_decided", member, instance)
 
     def delivered(self, member: int) -> List[Message]:
-        return self._messages("ct_delivered", member) or []
+        return list(map(_message, self._list("ct_delivered", library.MessageNumbers, member)))
 
     def table(self, member: int) -> List[int]:
-        return self._list("ct_table", c_uint64, member) or [0] * REGISTERS
+        return self._list("ct_table", c_uint64, member)
 
     def copy(self) -> LibraryWorld:
+        self._look()
         other = object.__new__(LibraryWorld)
         other._hold()
         if library.call("ct_copy")(self._at, other._at):

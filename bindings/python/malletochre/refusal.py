@@ -2,7 +2,8 @@
 from __future__ import annotations
 
 import enum
-from typing import TYPE_CHECKING
+import re
+from typing import TYPE_CHECKING, Optional
 
 if TYPE_CHECKING:
     from .steps import Step
@@ -55,15 +56,31 @@ class Refused(Exception):
 
 
 class StepRefused(Refused):
-    """A step that a world refused."""
+    """A step that a world refused, its member and why."""
 
     def __init__(self, step: Step, refusal: Refusal) -> None:
-        super().__init__(f"{step.text()}: {refusal}")
-        self.step, self.refusal = step, refusal
+        super().__init__(step, refusal)
+        self.step, self.member, self.refusal = step, step.member, refusal
+
+    def __str__(self) -> str:
+        return f"{self.step.text()}: {self.refusal}"
 
 
 class LineRefused(Refused):
-    """A line that a session refused; its text is as `ct_tool record` writes it: the line's number, the line, its fault."""
+    """A line that a session refused: its number, from 1, the line and its fault, in the words of docs/SCHEDULES.md. Of a step that the
+    rules refuse `member`, `refusal` and `facts` say whose it is, why, and what the fault tells besides; else they are None."""
+
+    def __init__(self, number: int, line: str, fault: str) -> None:
+        super().__init__(number, line, fault)
+        self.number, self.line, self.fault = number, line, fault
+        told = re.match(r"refused (\d+) ([A-Za-z]+(?:\([A-Za-z]+\))?)(?:: (.*))?$", fault)
+        self.member: Optional[int] = int(told[1]) if told else None
+        self.refusal: Optional[Refusal] = BY_NAME[told[2]] if told else None
+        self.facts: Optional[str] = told[3] if told else None
+
+    def __str__(self) -> str:
+        """As `ct_tool record` writes it."""
+        return f"line {self.number}: {self.line}: {self.fault}"
 
 
 class NoWorld(Exception):

@@ -8,6 +8,8 @@ from . import library
 from .refusal import LineRefused, NoWorld
 from .tool import Pipe, found, output, serials
 
+TOO_LONG = "the run is too long for a diagram"
+NO_LINE = "that is not one line, or a question was told"
 TAKEN = ("ok", "enabled", "next", "state", "waiting", "report", "record", "limits")   # how an answer to a line that was taken begins
 SETTING = ("members", "cells", "batch")   # the lines that say what the world is made of
 
@@ -59,7 +61,7 @@ class LibrarySession:
         if status == library.NO_WORLD:
             raise NoWorld("no step was told yet")
         if status == library.TOO_LONG:
-            raise ValueError("the run is too long for a diagram")
+            raise ValueError(TOO_LONG)
         if status:
             raise MemoryError() if status == library.OUT_OF_MEMORY else OSError("board refused")
 
@@ -103,7 +105,12 @@ class ToolSession:
         return self._pipe.ask("record").partition(" ")[2]
 
     def diagram(self) -> str:
-        return output(self._pipe.tool, ["diagram"], self.record())
+        try:
+            return output(self._pipe.tool, ["diagram"], self.record())
+        except OSError as error:
+            if "too many to draw" in str(error):
+                raise ValueError(TOO_LONG) from None
+            raise
 
     def close(self) -> int:
         return self._pipe.close()
@@ -127,25 +134,28 @@ class Session:
         else:
             self._engine = ToolSession(found(tool))
 
-    def tell(self, line: str) -> range:
-        """The serials of the envelopes that the line's steps sent, or LineRefused."""
-        sent = serials(self.ask(line))
-        if sent is None:
-            raise AssertionError(f"a question is to be asked: {line}")
-        return sent
+    def tell(self, line: str, *, sent: Optional[int] = None) -> range:
+        """The serials of the envelopes that the line's steps sent, or LineRefused. sent: how many the program under test sent; where that
+        is another number the line was taken, and LineRefused is raised all the same."""
+        told = serials(self.ask(line))
+        if told is None:
+            raise ValueError(NO_LINE)
+        if sent is not None and sent != len(told):
+            raise LineRefused(self.lines, line.strip(), f"sent {sent}, the algorithm sends {len(told)}")
+        return told
 
     def ask(self, line: str) -> str:
         """The answer to the line, without its line feed, or LineRefused."""
         line = line.rstrip("\n")
         if "\n" in line:
-            raise ValueError(f"more than one line: {line!r}")
+            raise ValueError(NO_LINE)
         self.lines += 1
         try:
             answer = self._engine.ask(line)
         except EOFError:
             raise EOFError(f"line {self.lines}: {line}: no answer") from None
         if answer.split(" ")[0] not in TAKEN:
-            raise LineRefused(f"line {self.lines}: {line.strip()}: {answer}")
+            raise LineRefused(self.lines, line.strip(), answer)
         return answer
 
     def record(self) -> str:
@@ -153,7 +163,7 @@ class Session:
         return self._engine.record()
 
     def diagram(self) -> str:
-        """The diagram of the steps so far, as SVG; NoWorld where no step was told yet, ValueError or OSError where they are too many."""
+        """The diagram of the steps so far, as SVG; NoWorld where no step was told yet, ValueError where they are too many."""
         return self._engine.diagram()
 
     def close(self) -> int:

@@ -217,7 +217,8 @@ class Repeat(_OfSerial):
 Step = Union[Submit, Receive, Begin, Enter, Choose, Adopt, Suspect, Conclude, Deliver, Follow, Crash, Postpone, Lose, Repeat]
 STEPS: Tuple[Type[Any], ...] = (Submit, Receive, Begin, Enter, Choose, Adopt, Suspect, Conclude, Deliver, Follow, Crash, Postpone, Lose,
                                 Repeat)   # by the numbers of ct.h, from 1
-BY_NAME = {it.__name__.lower(): it for it in STEPS + COMMANDS}
+STEPS_BY_NAME = {it.__name__.lower(): it for it in STEPS}
+COMMANDS_BY_NAME = {it.__name__.lower(): it for it in COMMANDS}
 
 
 def step_of_numbers(kind: int, member: int, a: int, b: int, c: int) -> Step:
@@ -234,6 +235,18 @@ def step_of_entry(entry: List[Any]) -> Step:
     name, member, *rest = entry
     if name == "submit":
         command, *fields = rest[0]
-        rest = [BY_NAME[command](*fields)]
-    step: Step = BY_NAME[name](member, *rest)
+        rest = [COMMANDS_BY_NAME[command](*fields)]
+    step: Step = STEPS_BY_NAME[name](member, *rest)
+    return step
+
+
+def step_of_record(entry: Any) -> Step:
+    """The step of what a record has in a step's place; ValueError where it is none."""
+    try:
+        step = step_of_entry(entry)
+        is_step = step.entry() == entry and all(type(number) is int for number in step.numbers())
+    except (KeyError, TypeError, ValueError):
+        is_step = False
+    if not is_step:
+        raise ValueError(f"not a step: {json.dumps(entry)}")
     return step

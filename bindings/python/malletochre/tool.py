@@ -39,17 +39,23 @@ class Pipe:
             raise OSError(f"{tool}: {error.strerror}; {what}") from None
 
     def ask(self, line: str) -> str:
-        """The answer to the line, without its line feed; EOFError where the program has ended."""
+        """The answer to the line, without its line feed; EOFError where the program has ended, ValueError where it was closed."""
         answer = ""
-        if self._process.stdin and self._process.stdout and not self._process.stdin.closed:
-            try:
-                self._process.stdin.write(line + "\n")
-                answer = self._process.stdout.readline()
-            except BrokenPipeError:
-                pass
+        self.look()
+        assert self._process.stdin and self._process.stdout
+        try:
+            self._process.stdin.write(line + "\n")
+            answer = self._process.stdout.readline()
+        except BrokenPipeError:
+            pass
         if not answer.endswith("\n"):
             raise EOFError(f"{line}: no answer")
         return answer[:-1]
+
+    def look(self) -> None:
+        """It wasn't closed."""
+        if self._process.stdin and self._process.stdin.closed:
+            raise ValueError("the world or the session is closed")
 
     def close(self) -> int:
         """Ends it, and gives its status."""

@@ -21,6 +21,26 @@ def act(step: Step) -> str:
     return " ".join(map(str, [name, *rest]))
 
 
+def letter(told: str, member: int) -> Dict[str, Any]:
+    """What is told of an envelope that waits at the member, as `#9 est 1/1 from 2 {1.1} ts 0`, by the names of `ct_tool steps --json`."""
+    serial, kind, name, _, source, *rest = told.split(" ")
+    fields: Dict[str, Any] = {"serial": int(serial[1:]), "to": member, "kind": kind.capitalize(), "from": int(source), "message": name}
+    if kind != "data":
+        fields["instance"], fields["round"] = map(int, name.split("/"))
+        if rest:
+            fields["value"] = rest[0].strip("{}").split(",")
+        if kind == "est":
+            fields["timestamp"] = int(rest[2])
+    return fields
+
+
+def _refusal(step: Step, answer: str, name: str) -> Refusal:
+    """The refusal of this name that the answer tells."""
+    if name not in BY_NAME:
+        raise TypeError(f"{step}: {answer}")
+    return BY_NAME[name]
+
+
 class ToolWorld:
     """What a `World` asks of `ct_tool`."""
 
@@ -30,6 +50,8 @@ class ToolWorld:
         self._steps: List[Step] = []
         self._commands: Dict[Tuple[int, int], Command] = {}    # of the messages, by their names
         self._submitted = [0] * (members + 1)
+        self._sent = 0                                         # the last serial
+        self._lines: Dict[int, str] = {}                       # what waited at members when they were asked last
         self._letters: Dict[int, Dict[str, Any]] = {}          # what `ct_tool steps` told of the envelopes, by serial
         self._told = 0                                         # steps whose envelopes it told
         self._report: Optional[Dict[str, Any]] = None          # the report of these steps, where it was asked for
@@ -41,7 +63,9 @@ class ToolWorld:
         answer = self._pipe.ask(f"{step.member} {act(step)}")
         sent = tool.serials(answer)
         if sent is None:
-            raise StepRefused(step, BY_NAME[re.split(r"[ :]", answer)[2]])
+            raise StepRefused(step, _refusal(step, answer, re.split(r"[ :]", answer + "  ")[2]))
+        if sent:
+            self._sent = sent[-1]
         if isinstance(step, Submit):
             self._submitted[step.member] += 1
             self._commands[step.member, self._submitted[step.member]] = step.command
@@ -54,7 +78,7 @@ class ToolWorld:
         answer = self._pipe.ask(f"expect {step.member} may {act(step)}")
         if answer == "ok":
             return None
-        return Refusal.NO_SUCH_MEMBER if answer.startswith("no member") else BY_NAME[answer.rpartition(" ")[2]]
+        return Refusal.NO_SUCH_MEMBER if answer.startswith("no member") else _refusal(step, answer, answer.rpartition(" ")[2])
 
     def has_crashed(self, member: int) -> bool:
         return self.refusal(Crash(member)) is Refusal.CRASHED
@@ -64,18 +88,36 @@ class ToolWorld:
         return None if entry == "-" or entry.startswith('["receive"') else step_of_entry(json.loads(entry))
 
     def steps(self) -> List[Step]:
-        self._pipe.ask("")   # there is an answer, so it wasn't closed
+        self._pipe.look()
         return list(self._steps)
 
     def serials(self, member: int) -> List[int]:
-        return [int(serial) for serial in re.findall(r"#(\d+)", self._pipe.ask(f"waiting {member}"))]
+        self._lines[member] = self._pipe.ask(f"waiting {member}")
+        return [int(serial) for serial in re.findall(r"#(\d+)", self._lines[member])]
 
     def _record(self) -> str:
         return self._pipe.ask("record").partition(" ")[2]
 
+    def _waits(self, serial: int) -> Optional[Dict[str, Any]]:
+        """What the members' lines tell of an envelope."""
+        for member, line in self._lines.items():
+            told = re.search(rf"#{serial} [^#]*[^#, ]", line)
+            if told:
+                return letter(told[0], member)
+        return None
+
     def _letter(self, serial: int) -> Optional[Dict[str, Any]]:
-        """What is told of an envelope. Only the steps since the last time are looked at."""
+        """What is told of an envelope. One that waits costs a question to each member, others a run of `ct_tool steps`, which looks at the
+        steps since the last time alone."""
         within(WORD, serial=serial)
+        self._pipe.look()
+        if serial not in self._letters and 0 < serial <= self._sent:
+            told = self._waits(serial)
+            for member in () if told else range(1, self._setup[0] + 1):
+                self.serials(member)
+            told = told or self._waits(serial)
+            if told:
+                self._letters[serial] = told
         if serial not in self._letters and self._told < len(self._steps):
             words = ["steps", "--json", "--from", str(self._told + 1)]
             for line in tool.output(self._pipe.tool, words, self._record()).splitlines():
@@ -109,6 +151,7 @@ class ToolWorld:
 
     def _of(self, member: int) -> Dict[str, Any]:
         """The member's part of the report."""
+        self._pipe.look()
         if self._report is None:
             self._report = json.loads(self._pipe.ask("report").partition(" ")[2])
         told: Dict[str, Any] = self._report["members"][member - 1]

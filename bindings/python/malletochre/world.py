@@ -2,29 +2,20 @@
 from __future__ import annotations
 
 import json
-from typing import Any, Callable, List, Optional, Tuple, Union
+from operator import index
+from typing import List, Optional, Tuple, Union
 
 from . import library
 from .envelopes import Envelope, Message
 from .library_world import LibraryWorld
-from .refusal import Refusal
-from .steps import Step
+from .refusal import Refusal, Refused
+from .steps import Step, step_of_record
 from .tool_world import ToolWorld
 
 MAX_MEMBERS = 16
 MAX_CELLS = 1_024
 MAX_BOUND = 1_048_560   # more messages than that can't be pending, so it bounds nothing
 USUAL_CELLS = 64
-
-
-class _Closed:
-    """What a world that was closed is asked."""
-
-    def close(self) -> None:
-        pass
-
-    def __getattr__(self, _: str) -> Any:
-        raise ValueError("the world is closed")
 
 
 class World:
@@ -34,22 +25,44 @@ class World:
     instance are equal, and of the sequences that two members delivered one begins the other.
 
     members: 1 to MAX_MEMBERS. cells: how many instances can be delivered, 0 to MAX_CELLS. bound: how many messages a member proposes for
-    an instance at most, 1 to MAX_BOUND. tool: the program `ct_tool`, to be used in place of the library. Use it in `with`, or `close` it.
+    an instance at most, 1 to MAX_BOUND. tool: the program `ct_tool`, to be used in place of the library. Use it in `with`, or `close` it;
+    a world that is closed raises ValueError whatever it is asked. `copy.copy` makes what `copy` makes.
     """
 
     def __init__(self, members: int, cells: int = USUAL_CELLS, bound: int = MAX_BOUND, *, tool: Optional[str] = None) -> None:
+        members, cells, bound = index(members), index(cells), index(bound)
         ranges = ("members", members, 1, MAX_MEMBERS), ("cells", cells, 0, MAX_CELLS), ("bound", bound, 1, MAX_BOUND)
         for name, number, least, most in ranges:
             if not least <= number <= most:
                 raise ValueError(f"{name} {number}: {least} to {most}")
         self.members, self.cells, self.bound = members, cells, bound
-        self._engine: Union[LibraryWorld, ToolWorld, _Closed]
+        self._engine: Union[LibraryWorld, ToolWorld]
         if library.IN_PROCESS and tool is None:
             self._engine = LibraryWorld(members, cells, bound)
         else:
             self._engine = ToolWorld(members, cells, bound, tool)
-        self.apply: Callable[[Step], range] = self._engine.apply
+
+    @classmethod
+    def of_record(cls, record: Union[str, bytes], *, tool: Optional[str] = None) -> World:
+        """A world with the setup and the steps of a record of version 3, as `record` gives it. ValueError where it is no such record, or
+        one of its steps is refused, which is the error's cause then."""
+        told = json.loads(record)
+        if not isinstance(told, dict) or sorted(told) != ["batch", "cells", "n", "steps", "version"] or told["version"] != 3:
+            raise ValueError("no record of version 3")
+        numbers = told["n"], told["cells"], told["batch"]
+        if not isinstance(told["steps"], list) or any(type(it) is not int for it in numbers):
+            raise ValueError("no record: of its five keys `steps` has a list, the others whole numbers")
+        world = cls(*numbers, tool=tool)
+        for at, entry in enumerate(told["steps"], 1):
+            try:
+                world.apply(step_of_record(entry))
+            except (ValueError, Refused) as fault:
+                raise ValueError(f"step {at}: {fault}") from fault
+        return world
+
+    def apply(self, step: Step) -> range:
         """Does the step, and gives the serials of the envelopes that it sent; or raises StepRefused, and nothing has changed."""
+        return self._engine.apply(step)
 
     def refusal(self, step: Step) -> Optional[Refusal]:
         """Why the step would be refused now, want of memory apart; None where it is allowed."""
@@ -115,18 +128,15 @@ class World:
     def copy(self) -> World:
         """A world of its own with the same setup and record. It takes as long as replaying the record."""
         other = object.__new__(type(self))
-        other.members, other.cells, other.bound, other._engine = self.members, self.cells, self.bound, self._engine.copy()
-        other.apply = other._engine.apply
+        other.__dict__.update(self.__dict__, _engine=self._engine.copy())
         return other
+
+    def __copy__(self) -> World:
+        return self.copy()
 
     def close(self) -> None:
         """Lets go what it keeps. Afterwards it may only be closed again."""
         self._engine.close()
-        self._engine = _Closed()
-        self.apply = self._apply_closed
-
-    def _apply_closed(self, _: Step) -> range:
-        raise ValueError("the world is closed")
 
     def _own(self, member: int) -> int:
         if not 1 <= member <= self.members:

@@ -23,16 +23,15 @@ impl HeldSession {
         ensures was { option_map (λ own. own.value) result ≡ seen self.old.is_open self.old.handle.value }
         ensures is { self.new.is_open ≡ false }
     {
+        if !self.is_open {
+            return None;
+        }
         let none = HeldSession {
             handle: SessionHandle::none(alloc),
             is_open: false,
         };
-        let HeldSession { handle, is_open } = std::mem::replace(self, none);
-        if is_open {
-            Some(handle.into_parts().into_box())
-        } else {
-            None
-        }
+        let HeldSession { handle, .. } = std::mem::replace(self, none);
+        Some(handle.into_parts().into_box())
     }
 
     // Puts one in.

@@ -23,16 +23,15 @@ impl HeldWorld {
         ensures was { option_map (λ own. own.value) result ≡ seen self.old.is_open self.old.handle.value }
         ensures is { self.new.is_open ≡ false }
     {
+        if !self.is_open {
+            return None;
+        }
         let none = HeldWorld {
             handle: WorldHandle::none(alloc),
             is_open: false,
         };
-        let HeldWorld { handle, is_open } = std::mem::replace(self, none);
-        if is_open {
-            Some(handle.into_parts().into_box())
-        } else {
-            None
-        }
+        let HeldWorld { handle, .. } = std::mem::replace(self, none);
+        Some(handle.into_parts().into_box())
     }
 
     // Puts one in.

@@ -84,6 +84,13 @@ pub extern "C" fn ct_copy(from: &mut HeldWorld, into: &mut HeldWorld, alloc: Glo
     ensures err { result ≢ 0 → world_in into.new ≡ world_in into.old }
     ensures same { world_in from.new ≡ world_in from.old }
 {
+    // Both are looked at before one is written to, so that a world isn't copied into itself.
+    if !from.is_open {
+        return NOT_OPEN;
+    }
+    if into.is_open {
+        return ALREADY_OPEN;
+    }
     let Some(own) = from.take(alloc) else {
         return NOT_OPEN;
     };
@@ -93,15 +100,10 @@ pub extern "C" fn ct_copy(from: &mut HeldWorld, into: &mut HeldWorld, alloc: Glo
 }
 
 fn copy_into(own: &OwnWorld, into: &mut HeldWorld, alloc: Global) -> u32
-    ensures open { IfSome (world_in into.old) (λ w. result ≡ ALREADY_OPEN) }
     ensures ok { result ≡ 0 → world_in into.new ≡ Some own.now }
-    ensures refusal { IsNumber result (0 ∷ ALREADY_OPEN ∷ OUT_OF_MEMORY ∷ BOARD ∷ []) }
+    ensures refusal { IsNumber result (0 ∷ OUT_OF_MEMORY ∷ BOARD ∷ []) }
     ensures err { result ≢ 0 → world_in into.new ≡ world_in into.old }
 {
-    if let Some(other) = into.take(alloc) {
-        into.put(other);
-        return ALREADY_OPEN;
-    }
     let copy = match own.copy(alloc) {
         Ok(copy) => copy,
         Err(refusal) => return refusal_number(refusal),
