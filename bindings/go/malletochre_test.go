@@ -7,6 +7,7 @@ import (
 	"io"
 	"math/rand"
 	"os"
+	"strings"
 	"testing"
 	"time"
 )
@@ -42,9 +43,12 @@ func turn(t *testing.T, world *World, chance *rand.Rand, member uint8) {
 		command := Command{CommandKind(chance.Intn(3) + 1), uint8(chance.Intn(16)), uint64(chance.Intn(16))}
 		do(t, world, Step{Kind: Submit, Member: member, Command: command})
 	}
-	step, is := world.Next(member)
+	step, err := world.Next(member)
+	if err != nil {
+		t.Fatal(err)
+	}
 	waiting, _ := world.Waiting(member)
-	if is && step.Kind != Suspect && (len(waiting) == 0 || chance.Intn(2) == 0) {
+	if step.Kind != 0 && step.Kind != Suspect && (len(waiting) == 0 || chance.Intn(2) == 0) {
 		do(t, world, step)
 	} else if len(waiting) > 0 {
 		do(t, world, Step{Kind: Receive, Member: member, Serial: waiting[chance.Intn(len(waiting))]})
@@ -83,27 +87,62 @@ func TestReplicasOnRandomSchedules(t *testing.T) {
 	}
 }
 
-func TestRefusals(t *testing.T) {
+func TestWrongUses(t *testing.T) {
+	if _, err := Open(17, 4, MaxBound); err != BadSetup {
+		t.Fatal(err)
+	}
 	world, err := Open(3, 4, MaxBound)
 	if err != nil {
 		t.Fatal(err)
 	}
-	defer world.Close()
-	if _, _, err := world.Apply(Step{Kind: Begin, Member: 1}); err == nil || err.Error() != "Nothing" {
+	if _, _, err := world.Apply(Step{Kind: Begin, Member: 1}); !errors.Is(err, Nothing) || err.Error() != "Nothing" {
 		t.Fatal(err)
 	}
-	if _, err := Open(17, 4, MaxBound); !errors.Is(err, BadSetup) {
+	if _, _, err := world.Apply(Step{Kind: 99, Member: 1}); err != BadStep {
 		t.Fatal(err)
 	}
-	if _, is := world.Waiting(4); is {
-		t.Fatal("there is no member 4")
+	copied := *world
+	world.Close()
+	world.Close()
+	for _, it := range []*World{world, &copied, {}, nil} {
+		if err := asked(it); err != nil {
+			t.Fatal(err)
+		}
 	}
-	if first, count, err := world.Apply(Step{Kind: Submit, Member: 2, Command: Command{Set, 0, 7}}); first != 1 || count != 3 || err != nil {
-		t.Fatal(first, count, err)
+	for _, record := range []string{"", "{}", "[]", `{"batch":1,"cells":0,"n":1,"steps":[],"version":2}`,
+		`{"batch":1,"cells":0,"n":1.0,"steps":[],"version":3}`, `{"batch":1,"cells":0,"n":1,"steps":[["begin",null]],"version":3}`,
+		`{"batch":1,"cells":0,"n":1,"steps":[["settle",1]],"version":3}`, `{"batch":1,"cells":0,"n":1,"steps":[["crash",1,2]],"version":3}`,
+		`{"batch":1,"cells":0,"n":1,"steps":[["crash",1],["begin",1]],"version":3}`, `{"batch":1,"cells":0,"n":1,"version":3,"x":[]}`} {
+		if _, err := OpenRecord([]byte(record)); err == nil {
+			t.Fatal(record)
+		} else if strings.Contains(record, "begin\",1") && !errors.Is(err, Crashed) {
+			t.Fatal(err)
+		}
 	}
-	if steps := world.Steps(); len(steps) != 1 || steps[0].Command.Value != 7 {
-		t.Fatal(steps)
+}
+
+// Each call on a world that isn't open is refused.
+func asked(world *World) error {
+	_, _, apply := world.Apply(Step{Kind: Crash, Member: 1})
+	_, crashed := world.HasCrashed(1)
+	_, next := world.Next(1)
+	_, envelope := world.Envelope(1)
+	_, steps := world.Steps()
+	_, value := world.Value(1)
+	_, waiting := world.Waiting(1)
+	_, received := world.Received(1)
+	_, decided := world.Decided(1, 1)
+	_, delivered := world.Delivered(1)
+	_, table := world.Table(1)
+	_, record := world.Record()
+	_, other := world.Copy()
+	for i, err := range []error{apply, world.Enabled(Step{Kind: Crash, Member: 1}), crashed, next, envelope, steps, value, waiting, received,
+		decided, delivered, table, record, other} {
+		if err != NotOpen {
+			return fmt.Errorf("call %d: %v", i, err)
+		}
 	}
+	return nil
 }
 
 func TestSession(t *testing.T) {
@@ -111,14 +150,29 @@ func TestSession(t *testing.T) {
 	if err != nil {
 		t.Fatal(err)
 	}
-	defer session.Close()
 	for _, it := range [][2]string{{"", ""}, {"members 3\n1 sub", "ok\n"}, {"mit set 0 7\nnext 2\n", "ok 1-3\nnext [\"receive\",2,2]\n"}} {
-		if answers, err := session.Tell([]byte(it[0])); string(answers) != it[1] || err != nil {
+		if answers, err := session.TellBytes([]byte(it[0])); string(answers) != it[1] || err != nil {
 			t.Fatal(string(answers), err)
 		}
 	}
-	if record, err := session.Record(); len(record) != 81 || err != nil {
-		t.Fatal(string(record), err)
+	var refused LineRefused
+	if _, _, err := session.Tell("2 begin "); !errors.As(err, &refused) || refused.Number != 4 || refused.Line != "2 begin" {
+		t.Fatal(err)
+	}
+	copied := *session
+	session.Close()
+	session.Close()
+	for _, it := range []*Session{session, &copied, {}, nil} {
+		_, _, tell := it.Tell("")
+		_, ask := it.Ask("")
+		_, bytes := it.TellBytes(nil)
+		_, record := it.Record()
+		_, diagram := it.Diagram()
+		for i, err := range []error{tell, ask, bytes, record, diagram} {
+			if err != NotOpen {
+				t.Fatal(i, err)
+			}
+		}
 	}
 }
 
@@ -166,7 +220,7 @@ func TestSteps(t *testing.T) {
 	}
 	took := time.Since(start).Seconds()
 	fmt.Fprintf(os.Stderr, "Go: %d steps, %.3f s, %.0f steps/s\n", len(steps), took, float64(len(steps))/took)
-	if told := world.Steps(); len(told) != len(steps) || told[len(told)-1] != steps[len(steps)-1] {
+	if told, _ := world.Steps(); len(told) != len(steps) || told[len(told)-1] != steps[len(steps)-1] {
 		t.Fatal("another record")
 	}
 }

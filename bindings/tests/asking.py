@@ -111,6 +111,7 @@ def far() -> Iterator[str]:
     """Long lists, numbers above one byte, and limits."""
     yield "world 1 1024 1"
     yield f"step 300 {SUBMIT} 1 2 15 {2**63}"
+    yield f"step 1 {REPEAT} 1 1 0 0"
     yield "take 2 1"
     yield "ask"
     yield "take 3700 1"

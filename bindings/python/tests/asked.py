@@ -14,6 +14,7 @@ sys.path.insert(0, os.path.join(os.path.dirname(os.path.abspath(__file__)), ".."
 
 from malletochre import (Ack, Data, Estimate, LineRefused, Message, Nack, NoWorld, Receive, Refusal, Session, Set, StepRefused,   # noqa: E402
                          Submit, World)
+from malletochre.session import TOO_LONG   # noqa: E402
 from malletochre.steps import step_of_numbers   # noqa: E402
 
 INSTANCES = 0, 1, 2, 3, 4, 5, 256, 257
@@ -132,8 +133,10 @@ def sessions(path: str) -> None:
             word, _, rest = line[:-1].partition(" ")
             try:
                 print(calls[word](rest.replace("\\n", "\n")))
-            except (LineRefused, NoWorld, ValueError) as fault:
-                print(fault)
+            except NoWorld:
+                print("NoWorld")
+            except (LineRefused, ValueError) as fault:
+                print("TooLong" if str(fault) == TOO_LONG else fault)
 
 
 def many(count: int) -> None:
