@@ -5,6 +5,14 @@ use std::ffi::c_void;
 /// In place of a count: there is no such list.
 pub const NONE: usize = usize::MAX;
 
+// What calls answer beside the refusals of steps.
+pub const OUT_OF_MEMORY: u32 = 23;
+pub const BOARD: u32 = 24;
+pub const NOT_OPEN: u32 = 25;
+pub const BAD_SETUP: u32 = 28;
+pub const NO_WORLD: u32 = 29;
+pub const TOO_LONG: u32 = 30;
+
 /// A world or a session, as C holds it: zeros at first.
 #[repr(C)]
 pub struct Handle {

@@ -1,11 +1,11 @@
 //! Why a step is refused.
 
-use std::error::Error;
 use std::fmt;
 
 /// Why a step is refused: the first cause that applies, in the order in which they are tested (docs/ALGORITHM.md). A step that is refused
 /// changes nothing.
 #[derive(Clone, Copy, Debug, PartialEq, Eq, Hash)]
+#[non_exhaustive]
 pub enum Refusal {
     /// The member is none of the group's.
     NoSuchMember,
@@ -49,6 +49,7 @@ pub enum Refusal {
 
 /// A limit of a run.
 #[derive(Clone, Copy, Debug, PartialEq, Eq, Hash)]
+#[non_exhaustive]
 pub enum Limit {
     /// 65,535 messages of a member.
     Submissions,
@@ -64,7 +65,7 @@ pub enum Limit {
     Steps,
 }
 
-/// The refusals by number, from 1.
+/// The refusals by the numbers of ct.h, from 1.
 const NUMBERED: [Refusal; 24] = [
     Refusal::NoSuchMember,
     Refusal::Crashed,
@@ -98,8 +99,24 @@ impl Refusal {
     pub(crate) fn of(number: u32) -> Result<(), Refusal> {
         match number {
             0 => Ok(()),
-            number => Err(*NUMBERED.get(number as usize - 1).unwrap_or_else(|| unreachable!("the library answers {number}"))),
+            number => Err(Refusal::try_from(number).unwrap_or_else(|_| unreachable!("the library answers {number}"))),
         }
+    }
+}
+
+/// The refusal of a number of ct.h, 1 to 24; the number where there is none.
+impl TryFrom<u32> for Refusal {
+    type Error = u32;
+
+    fn try_from(number: u32) -> Result<Refusal, u32> {
+        NUMBERED.get((number as usize).wrapping_sub(1)).copied().ok_or(number)
+    }
+}
+
+/// Its number of ct.h.
+impl From<Refusal> for u32 {
+    fn from(refusal: Refusal) -> u32 {
+        (1..).zip(NUMBERED).find(|(_, it)| *it == refusal).map_or(0, |(number, _)| number)
     }
 }
 
@@ -110,4 +127,4 @@ impl fmt::Display for Refusal {
     }
 }
 
-impl Error for Refusal {}
+impl std::error::Error for Refusal {}

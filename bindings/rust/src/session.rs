@@ -31,6 +31,7 @@ pub struct Session {
 
 /// What a session couldn't do.
 #[derive(Clone, Debug, PartialEq, Eq)]
+#[non_exhaustive]
 pub enum SessionError {
     /// A line was refused: its number, from 1, the line without blanks around it, and the fault. It changed nothing.
     Refused {
@@ -60,11 +61,11 @@ impl SessionError {
     fn of(number: u32) -> Result<(), SessionError> {
         Err(match number {
             0 => return Ok(()),
-            23 => SessionError::OutOfMemory,
-            24 => SessionError::Board,
-            25 => SessionError::Closed,
-            29 => SessionError::NoWorld,
-            30 => SessionError::TooLong,
+            raw::OUT_OF_MEMORY => SessionError::OutOfMemory,
+            raw::BOARD => SessionError::Board,
+            raw::NOT_OPEN => SessionError::Closed,
+            raw::NO_WORLD => SessionError::NoWorld,
+            raw::TOO_LONG => SessionError::TooLong,
             number => unreachable!("the library answers {number}"),
         })
     }

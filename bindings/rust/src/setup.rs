@@ -1,5 +1,6 @@
 //! What a world is made of.
 
+use crate::raw;
 use std::error::Error;
 use std::fmt;
 
@@ -38,6 +39,7 @@ impl Setup {
 
 /// Why a world can't be opened.
 #[derive(Clone, Copy, Debug, PartialEq, Eq)]
+#[non_exhaustive]
 pub enum OpenError {
     /// A number of the setup is out of its range.
     BadSetup,
@@ -50,8 +52,8 @@ impl OpenError {
     pub(crate) fn of(number: u32) -> Result<(), OpenError> {
         match number {
             0 => Ok(()),
-            23 => Err(OpenError::OutOfMemory),
-            28 => Err(OpenError::BadSetup),
+            raw::OUT_OF_MEMORY => Err(OpenError::OutOfMemory),
+            raw::BAD_SETUP => Err(OpenError::BadSetup),
             number => unreachable!("the library answers {number}"),
         }
     }
