@@ -1,13 +1,14 @@
 #!/usr/bin/env bash
-# Tests of the bindings: that every language gives the bytes and records of `ct_tool`, and what the library does with wrong calls, with
-# memory that is refused, and with 20,000 handles.
+# Tests of the bindings: that worlds and sessions answer the same in every language, which is what `ct_tool` answers over a pipe, that
+# numbers and names are those of the crate, and what the library and the wrappers do with wrong calls, with memory that is refused, and
+# with thousands of handles.
 #
 #     bindings/test.sh [CT_TOOL]
 #
 # CT_TOOL: the built program; crates/ct_tool/out/ct_tool if left out. bindings/build.sh has made the libraries before. Needs cc, cargo and
-# python3, and installs nothing: what needs go, pip, C++ or mypy is left out, and told, where they aren't there; where pytest isn't,
-# unittest runs those tests. The variable LINES_TOLD gives another number of lines than 200,000. Ends with a line `N passed, M failed`,
-# and status 1 where something failed.
+# python3, and installs nothing: what needs go, pip, C++, mypy or pytest is left out, and told, where they aren't there; with the variable
+# NOTHING_LEFT_OUT it counts as failed. The variable LINES_TOLD gives another number of lines than 200,000. Ends with a line `N passed, M
+# failed`, and status 1 where something failed.
 set -u
 
 here=$(cd "$(dirname "$0")" && pwd)
@@ -35,10 +36,16 @@ check() {
     fi
 }
 
-# has NAME: whether there is such a program; told where not.
-has() {
-    command -v "$1" >/dev/null || { echo "left out, as there is no $1: $2"; return 1; }
+# left_out NAME WHAT: it is told that something can't run.
+left_out() {
+    echo "left out, as there is no $1: $2"
+    [[ -z ${NOTHING_LEFT_OUT-} ]] || failed=$((failed + 1))
+    return 1
 }
+
+# has NAME WHAT: whether there is such a program. imports NAME WHAT: whether Python has such a module.
+has() { command -v "$1" >/dev/null || left_out "$@"; }
+imports() { python3 -c "import $1" 2>/dev/null || left_out "$@"; }
 
 # build NAME SOURCE FLAG..: the program of a file in C.
 build() {
@@ -54,9 +61,34 @@ gives() {
     "$@" >"$folder/given" && cmp "$wanted" "$folder/given"
 }
 
+# bounded COMMAND..: the command has no more than 32 MB at any time. Half of 10,000 worlds, or sessions, take as much.
+bounded() {
+    python3 -c 'import resource, subprocess, sys
+done = subprocess.run(sys.argv[1:])
+most = resource.getrusage(resource.RUSAGE_CHILDREN).ru_maxrss
+print(f"{most} KB at most")
+sys.exit(done.returncode or most > 32_000)' "$@"
+}
+
+# same LANGUAGE COMMAND..: it answers as over a pipe, and gives back what it kept.
+names=()
+same() {
+    local language=$1
+    shift
+    names+=("$* names")
+    check "worlds, in $language" gives "$folder/worlds_answered" "$@" worlds "$folder/worlds_asked"
+    if [[ $language != C ]]; then
+        check "sessions, in $language" gives "$folder/sessions_answered" "$@" sessions "$folder/sessions_asked"
+        check "10,000 worlds and sessions, in $language" bounded "$@" many 10000
+    fi
+}
+
+# over_pipe WHAT: what is answered there.
+over_pipe() { CT_LIB='' python3 python/tests/asked.py "$1" "$folder/$1_asked" >"$folder/$1_answered"; }
+
 # The libraries define what the header declares, and nothing else; they need the heap and three functions for bytes.
 exports() {
-    grep -o '\bct_[a-z_]*(' ct.h | tr -d '(' | sort -u >"$folder/declared"
+    sed -n 's/^[a-z].*[ *]\(ct_[a-z_]*\)(.*/\1/p' ct.h | sort -u >"$folder/declared"
     nm -D --defined-only out/libct.so | awk '{ print $3 }' | sort | cmp - "$folder/declared" &&
         nm -g --defined-only out/libct.a | awk 'NF == 3 { print $3 }' | sort | cmp - "$folder/declared" &&
         [[ -s $folder/declared ]] &&
@@ -97,6 +129,12 @@ check '20,000 handles under ASan' "$folder/handles_asan"
 check 'building refused' build refused tests/refused.c -Wl,--wrap=malloc,--wrap=realloc,--wrap=free
 check 'each allocation refused in turn' "$folder/refused"
 
+check 'what is asked' python3 tests/asking.py "$folder"
+check 'worlds, over a pipe' over_pipe worlds
+check 'sessions, over a pipe' over_pipe sessions
+check 'building asked' build asked tests/asked.c "${asan[@]}"
+same C "$folder/asked"
+
 check 'inputs' python3 tests/inputs.py "$tool" "$folder" --steps "$lines" --lossy
 "$tool" interact <"$folder/lines_told" >"$folder/answers"
 check 'as many answers as lines' cmp <(wc -l <"$folder/lines_told") <(wc -l <"$folder/answers")
@@ -113,16 +151,18 @@ if has cargo 'Rust'; then
     check 'lines at once, in Rust' gives "$folder/answers" target/release/examples/lines "$folder/lines_told" once
     check 'steps, in Rust' gives "$folder/record.json" target/release/examples/steps "$folder/steps_taken"
     cd ..
+    same Rust rust/target/release/examples/asked
 else
     failed=$((failed + 1))
 fi
 
 python=(python3 -m unittest discover -s python/tests)
-python3 -c 'import pytest' 2>/dev/null && python=(python3 -m pytest -q -p no:cacheprovider python/tests)
+imports pytest 'tests in Python by pytest' && python=(python3 -m pytest -q -p no:cacheprovider python/tests)
+same Python python3 python/tests/asked.py
 check 'lines, in Python' gives "$folder/answers" python3 python/tests/lines.py "$folder/lines_told"
 check 'lines at once, in Python' gives "$folder/answers" python3 python/tests/lines.py "$folder/lines_told" once
 check 'steps, in Python' gives "$folder/record.json" python3 python/tests/steps.py "$folder/steps_taken"
-has mypy "types in Python" && check 'types in Python' mypy --strict --cache-dir "$folder/types" python/malletochre python/tests
+has mypy 'types in Python' && check 'types in Python' mypy --strict --cache-dir "$folder/types" python/malletochre python/tests
 check 'tests in Python' "${python[@]}"
 check 'tests in Python over ct_tool' env CT_LIB= "${python[@]}"
 
@@ -134,15 +174,17 @@ assert it.IN_PROCESS and "site" in it.__file__
 with it.World(1) as world:
     assert world.apply(it.Submit(1, it.Set(0, 7))) == range(1, 2)')
 }
-if python3 -c 'import pip' 2>/dev/null; then
-    check 'the package, installed' installed
-else
-    echo 'left out, as there is no pip: the package, installed'
-fi
+imports pip 'the package, installed' && check 'the package, installed' installed
 
 if has go 'Go'; then
     check 'tests in Go' env -C go CT_STEPS="$folder/steps_taken" GOFLAGS=-count=1 go test ./...
+    check 'faults in Go' env -C go go vet ./...
+    check 'building asked in Go' env -C go go build -o "$folder/asked_in_go" ./asked
+    same Go "$folder/asked_in_go"
+    check 'lines, in Go' gives "$folder/answers" "$folder/asked_in_go" lines "$folder/lines_told"
 fi
+
+check 'numbers and names' python3 tests/names.py "${names[@]}"
 
 echo "$passed passed, $failed failed"
 [[ $failed -eq 0 ]]

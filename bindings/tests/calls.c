@@ -17,10 +17,7 @@ static void check(const char *what, bool holds) {
     }
 }
 
-static size_t steps_of(ct_world *world) {
-    ct_step none;
-    return ct_steps(world, 0, &none, 0);
-}
+static size_t steps_of(const ct_world *world) { return ct_steps(world, 0, NULL, 0); }
 
 /* Each call on a closed world. */
 static void closed_world(ct_world *world, const char *what) {
@@ -92,7 +89,9 @@ static void order(void) {
     check("copy", ct_copy(&world, &other) == CT_DONE && steps_of(&other) == 1);
     check("copy into an open one", ct_copy(&world, &other) == CT_ALREADY_OPEN && steps_of(&other) == 1);
     check("a copy is another world", ct_apply(&other, CT_CRASH, 2, 0, 0, 0).refusal == CT_DONE && steps_of(&world) == 1);
+    check("a copy of itself", ct_copy(&world, &world) == CT_ALREADY_OPEN && steps_of(&world) == 1);
     ct_world_close(&world);
+    check("a copy of itself, closed", ct_copy(&world, &world) == CT_NOT_OPEN && !world.is_open);
     check("a copy outlives", steps_of(&other) == 2 && ct_apply(&other, CT_RECEIVE, 1, 1, 0, 0).refusal == CT_DONE);
     ct_world_close(&other);
     check("opened once more", ct_world_open(&world, 1, 1, 1) == CT_DONE && steps_of(&world) == 0);
@@ -131,6 +130,29 @@ static void lengths(void) {
     check("no envelope", ct_envelope(&world, 0).kind == 0 && ct_envelope(&world, 4).kind == 0 && ct_envelope(&world, 3).kind == CT_DATA);
     check("nothing delivered", ct_delivered(&world, 1, messages, 0) == 0);
     ct_world_close(&world);
+}
+
+/* Null where the length is 0, and what is constant: a world that was never opened isn't written to. */
+static void nothing(void) {
+    static const ct_world never = {0};
+    static const ct_session silent = {0};
+    ct_world world = {0};
+    ct_session session = {0};
+    check("a constant", ct_enabled(&never, CT_CRASH, 1, 0, 0, 0) == CT_NOT_OPEN && ct_next(&never, 1).kind == 0);
+    check("a constant", steps_of(&never) == CT_NONE && ct_waiting(&never, 1, NULL, 0) == CT_NONE && ct_envelope(&never, 1).kind == 0);
+    check("a constant", ct_value(&never, 1, NULL, 0) == CT_NONE && ct_received(&never, 1, NULL, 0) == CT_NONE);
+    check("a constant", ct_decided(&never, 1, 1, NULL, 0) == CT_NONE && ct_delivered(&never, 1, NULL, 0) == CT_NONE);
+    check("a constant", ct_table(&never, 1, NULL, 0) == CT_NONE && ct_copy(&never, &world) == CT_NOT_OPEN);
+    check("a constant", ct_answers_length(&silent) == CT_NONE && ct_answers(&silent, NULL, 0) == CT_NONE);
+    check("open", ct_world_open(&world, 1, 1, BOUND) == CT_DONE && ct_apply(&world, CT_SUBMIT, 1, CT_SET, 0, 7).first == 1);
+    check("no room", steps_of(&world) == 1 && ct_waiting(&world, 1, NULL, 0) == 1 && ct_table(&world, 1, NULL, 0) == 16);
+    check("no room", ct_apply(&world, CT_RECEIVE, 1, 1, 0, 0).refusal == CT_DONE && ct_received(&world, 1, NULL, 0) == 1);
+    check("no room", ct_delivered(&world, 1, NULL, 0) == 0 && ct_decided(&world, 1, 1, NULL, 0) == CT_NONE);
+    ct_world_close(&world);
+    check("no bytes", ct_session_open(&session) == CT_DONE && ct_tell(&session, NULL, 0) == CT_DONE);
+    check("no bytes", ct_answers(&session, NULL, 0) == 0 && ct_tell(&session, (const uint8_t *)"\n", 1) == CT_DONE);
+    check("no room", ct_answers(&session, NULL, 0) == 3 && ct_answers_length(&session) == 3);
+    ct_session_close(&session);
 }
 
 static const uint8_t *bytes(const char *text) { return (const uint8_t *)text; }
@@ -203,6 +225,7 @@ int main(void) {
     setups();
     order();
     lengths();
+    nothing();
     sessions();
     threads();
     printf("%d passed, %d failed\n", passed, failed);

@@ -52,10 +52,7 @@ static bool is_told(uint32_t status, bool refused_before) {
     return refused_here || status != CT_OUT_OF_MEMORY;
 }
 
-static size_t steps_of(ct_world *world) {
-    ct_step none;
-    return ct_steps(world, 0, &none, 0);
-}
+static size_t steps_of(const ct_world *world) { return ct_steps(world, 0, NULL, 0); }
 
 /* The step; where memory is refused nothing has changed, and the second try does it. */
 static bool step(ct_world *world, uint8_t kind, uint8_t member, uint32_t a, uint8_t b, uint64_t c) {

@@ -240,7 +240,7 @@ func many(count int) {
 		world, session := must(it.Open(3, 64, it.MaxBound)), must(it.OpenSession())
 		_, _, err := world.Apply(it.Step{Kind: it.Submit, Member: 1, Command: it.Command{Kind: it.Set, Value: 7}})
 		must(0, err)
-		_, _, err = session.Tell("members 3")
+		_, err = session.TellBytes([]byte("members 3\n1 submit set 0 7\n"))
 		must(0, err)
 		if i%2 == 1 {
 			world.Close()

@@ -168,16 +168,17 @@ class Session:
 
     def close(self) -> int:
         """Ends the session, with its record where it has steps, and gives its status, 0 where all is well."""
-        if self._record:
-            path, self._record = self._record, None
-            try:
+        try:
+            if self._record:
+                path, self._record = self._record, None
                 record = self.record()
-            except (NoWorld, ValueError, EOFError):
-                pass   # there is none, as where the session has ended
-            else:
                 with open(path, "w", encoding="utf-8") as file:
                     file.write(record + "\n")
-        return self._engine.close()
+        except (NoWorld, ValueError, EOFError):
+            pass   # there is none, as where the session has ended
+        finally:
+            status = self._engine.close()
+        return status
 
     def __enter__(self) -> Session:
         return self

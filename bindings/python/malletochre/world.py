@@ -3,7 +3,7 @@ from __future__ import annotations
 
 import json
 from operator import index
-from typing import List, Optional, Tuple, Union
+from typing import List, Optional, Tuple, Type, TypeVar, Union
 
 from . import library
 from .envelopes import Envelope, Message
@@ -16,6 +16,7 @@ MAX_MEMBERS = 16
 MAX_CELLS = 1_024
 MAX_BOUND = 1_048_560   # more messages than that can't be pending, so it bounds nothing
 USUAL_CELLS = 64
+W = TypeVar("W", bound="World")
 
 
 class World:
@@ -43,7 +44,7 @@ class World:
             self._engine = ToolWorld(members, cells, bound, tool)
 
     @classmethod
-    def of_record(cls, record: Union[str, bytes], *, tool: Optional[str] = None) -> World:
+    def of_record(cls: Type[W], record: Union[str, bytes], *, tool: Optional[str] = None) -> W:
         """A world with the setup and the steps of a record of version 3, as `record` gives it. ValueError where it is no such record, or
         one of its steps is refused, which is the error's cause then."""
         told = json.loads(record)
@@ -125,13 +126,13 @@ class World:
         """Whether the member has crashed."""
         return self._engine.has_crashed(self._own(member))
 
-    def copy(self) -> World:
+    def copy(self: W) -> W:
         """A world of its own with the same setup and record. It takes as long as replaying the record."""
         other = object.__new__(type(self))
         other.__dict__.update(self.__dict__, _engine=self._engine.copy())
         return other
 
-    def __copy__(self) -> World:
+    def __copy__(self: W) -> W:
         return self.copy()
 
     def close(self) -> None:
@@ -143,7 +144,7 @@ class World:
             raise ValueError(f"no member {member}: 1 to {self.members}")
         return member
 
-    def __enter__(self) -> World:
+    def __enter__(self: W) -> W:
         return self
 
     def __exit__(self, *_: object) -> None:

@@ -12,8 +12,8 @@ from typing import Callable, Dict, Iterable, List, Optional
 
 sys.path.insert(0, os.path.join(os.path.dirname(os.path.abspath(__file__)), ".."))
 
-from malletochre import (Ack, Data, Estimate, LineRefused, Message, Nack, NoWorld, Receive, Refusal, Session, Set, StepRefused,   # noqa: E402
-                         Submit, World)
+from malletochre import (Ack, Data, Estimate, LineRefused, Message, Nack, NoWorld, Receive, Refusal, Session, Set,   # noqa: E402
+                         StepRefused, Submit, World)
 from malletochre.session import TOO_LONG   # noqa: E402
 from malletochre.steps import step_of_numbers   # noqa: E402
 
@@ -54,10 +54,10 @@ class Asked:
         it = self.world.envelope(serial)
         content = it.content if it else None
         told = f"#{serial} {KINDS[type(content).__name__] if it else '-'}"
-        if it and isinstance(content, Data):
-            told += f" to {it.to}{text([content.message])}"
-        elif it and content:
-            told += f" to {it.to} {content.instance}/{content.round}"
+        if it and isinstance(it.content, Data):
+            told += f" to {it.to}{text([it.content.message])}"
+        elif it and not isinstance(it.content, Data):
+            told += f" to {it.to} {it.content.instance}/{it.content.round}"
         if isinstance(content, (Estimate, Ack, Nack)):
             told += f" from {content.source}"
         if isinstance(content, Estimate):
@@ -114,10 +114,14 @@ def worlds(path: str) -> None:
             if word == "world":
                 asked.world.close()
                 asked = Asked(*numbers)
-            elif word in ("next", "take"):
-                asked.turns(*numbers, word == "take")
+            elif word == "step":
+                asked.step(*numbers)
+            elif word == "ask":
+                asked.ask()
+            elif word == "record":
+                asked.record()
             else:
-                {"step": asked.step, "ask": asked.ask, "record": asked.record}[word](*numbers)
+                asked.turns(numbers[0], numbers[1], word == "take")
 
 
 def told(session: Session, line: str) -> str:
@@ -144,6 +148,7 @@ def many(count: int) -> None:
         world, session = World(3), Session()
         world.apply(Submit(1, Set(0, 7)))
         session.tell("members 3")
+        session.tell("1 submit set 0 7")
         if at % 2:
             world.close()
             session.close()

@@ -158,6 +158,7 @@ fn many(count: usize) -> Result<(), Box<dyn Error>> {
         let (mut world, mut session) = (World::open(Setup { members: 3, cells: 64, bound: MAX_BOUND })?, Session::open()?);
         world.apply(Step::Submit(1, Command::Set(0, 7)))?;
         session.tell("members 3")?;
+        session.tell("1 submit set 0 7")?;
     }
     Ok(())
 }

@@ -1,0 +1,84 @@
+#!/usr/bin/env python3
+"""The numbers and names of what calls answer are the same everywhere: in ct.h, in the crate whose calls are proved, in the packages.
+
+    names.py COMMAND..
+
+Each COMMAND prints lines `NUMBER NAME` of at least all the causes of a step. Status 1 where something differs, which is told.
+"""
+import os
+import re
+import subprocess
+import sys
+from typing import Dict
+
+HERE = os.path.dirname(os.path.abspath(__file__))
+sys.path.insert(0, os.path.join(HERE, "..", "python"))
+os.environ.setdefault("CT_LIB", "")
+
+import malletochre   # noqa: E402
+from malletochre import library   # noqa: E402
+
+CAUSES = set(range(1, 25))
+STATUSES = "DONE", "OUT_OF_MEMORY", "BOARD", "NOT_OPEN", "BAD_SETUP", "NO_WORLD", "TOO_LONG"
+CRATE = "../../crates/ct_embed/src"
+
+
+def text(path: str) -> str:
+    with open(os.path.join(HERE, path), encoding="utf-8") as file:
+        return file.read()
+
+
+def name(constant: str) -> str:
+    """TOO_FEW is TooFew, FULL_CELLS is Full(Cells)."""
+    words = "".join(word.capitalize() for word in constant.split("_"))
+    return re.sub("^Full(.+)", r"Full(\1)", words)
+
+
+def of_header() -> Dict[int, str]:
+    enum = re.search(r"\nenum \{\n(.*?)\n\};", text("../ct.h"), re.DOTALL)
+    return {int(number): name(constant) for constant, number in re.findall(r"CT_([A-Z_]+) = (\d+)", enum[1] if enum else "")}
+
+
+def of_crate() -> Dict[int, str]:
+    refusals = text(f"{CRATE}/refusal_number.rt")
+    found = {int(number): name for name, number in re.findall(r"Refusal::(\w+) => (\d+)", refusals)}
+    found.update({int(number): f"Full({name})" for name, number in re.findall(r"Limit::(\w+) => (\d+)", refusals)})
+    numbers = re.findall(r"const ([A-Z_]+): u32 = (\d+)", text(f"{CRATE}/numbers.rt"))
+    return {0: "Done", **found, **{int(number): name(constant) for constant, number in numbers}}
+
+
+def of_rust() -> Dict[int, str]:
+    return {int(number): name(constant) for constant, number in re.findall(r"const ([A-Z_]+): u32 = (\d+)", text("../rust/src/raw.rs"))}
+
+
+def of_python() -> Dict[int, str]:
+    return {number: name(constant) for constant, number in vars(library).items() if constant in STATUSES}
+
+
+def versions() -> Dict[str, str]:
+    """Those of the header and of the packages."""
+    sources = {"ct.h": r'#define CT_VERSION "(.*)"', "python/pyproject.toml": r'\nversion = "(.*)"',
+               "python/backend.py": r'VERSION = .*, "(.*)"', "rust/Cargo.toml": r'\nversion = "(.*)"'}
+    found = {path: "".join(re.findall(pattern, text(f"../{path}"))) for path, pattern in sources.items()}
+    return {"malletochre.__version__": malletochre.__version__, **found}
+
+
+def main() -> int:
+    header = of_header()
+    told = {"the crate": of_crate(), "library.py": of_python(), "raw.rs": of_rust()}
+    for command in sys.argv[1:]:
+        lines = subprocess.run(command.split(), stdout=subprocess.PIPE, check=True, encoding="utf-8").stdout.splitlines()
+        told[command] = {int(line.split()[0]): line.split()[1] for line in lines}
+    faults = [f"{where}: {number} is {it}, in ct.h {header.get(number)}" for where, names in told.items() for number, it in names.items()
+              if header.get(number) != it]
+    faults += [f"{command}: not all causes of a step are named" for command in sys.argv[1:] if not CAUSES <= set(told[command])]
+    if told["the crate"] != header:
+        faults.append("ct.h and the crate name different numbers")
+    if len(set(versions().values())) != 1:
+        faults.append(f"versions differ: {versions()}")
+    print("\n".join(faults) or "the same names everywhere")
+    return int(bool(faults))
+
+
+if __name__ == "__main__":
+    sys.exit(main())
