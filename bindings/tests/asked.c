@@ -153,13 +153,16 @@ static void steps(uint32_t times, uint8_t kind, uint8_t member, uint32_t a, uint
     printf(" %" PRIu32 " %" PRIu32 "\n", effect.first, effect.count);
 }
 
-/* Turns of the member: what comes next there, and receipts, one of them first; how many steps were done. */
+/* Turns of the member: its next step, else a receipt, or the other way round, and then it suspects nobody; how many steps were done. */
 static void turns(uint32_t times, uint8_t member, bool receives_first) {
     uint32_t done = 0;
     for (uint32_t i = 0; i < times; i++) {
         ct_step next = ct_next(&now.world, member);
         uint32_t serial;
         bool waits = ct_waiting(&now.world, member, &serial, 1) > 0;
+        if (next.kind == CT_SUSPECT && receives_first) {
+            next = (ct_step){0};
+        }
         if (waits && (receives_first || next.kind == 0)) {
             next = (ct_step){.kind = CT_RECEIVE, .member = member, .a = serial};
         }

@@ -7,7 +7,8 @@
 
     world MEMBERS CELLS BOUND                   closes the world, and opens another one
     step TIMES KIND MEMBER A B C                does the step so many times; whether the last one was allowed, and what it came to
-    next TIMES MEMBER, take TIMES MEMBER        turns of a member: its next step, else a receipt, or the other way round; how many it took
+    next TIMES MEMBER, take TIMES MEMBER        turns of a member: its next step, else a receipt, or the other way round, and
+                                                then it suspects nobody; how many it took
     ask                                         all that may be asked
     record                                      the record; goes on with a world that was opened from it
 
@@ -107,6 +108,16 @@ def at_random(seed: int, steps: int) -> Iterator[str]:
     yield "ask"
 
 
+def in_order(members: int) -> Iterator[str]:
+    """Nobody is suspected, and members are asked while some have delivered more than others."""
+    yield f"world {members} 64 3"
+    for turn in range(12):
+        for member in range(1, members + 1):
+            yield f"step 1 {SUBMIT} {member} {turn % 3 + 1} {member - 1} {[2**64 - member, 300, 15][turn % 3]}"
+            yield f"take {20 * member} {member}"
+        yield "ask"
+
+
 def far() -> Iterator[str]:
     """Long lists, numbers above one byte, and limits."""
     yield "world 1 1024 1"
@@ -136,6 +147,7 @@ def far() -> Iterator[str]:
 
 def main() -> None:
     worlds = [line for seed in range(10) for line in at_random(seed, 400)]
+    worlds += [line for members in (2, 3, 5) for line in in_order(members)]
     for name, text in ("worlds_asked", "\n".join([*worlds, *far()]) + "\n"), ("sessions_asked", SESSION):
         with open(os.path.join(sys.argv[1], name), "w", encoding="utf-8") as file:
             file.write(text)

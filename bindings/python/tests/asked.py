@@ -13,7 +13,7 @@ from typing import Callable, Dict, Iterable, List, Optional
 sys.path.insert(0, os.path.join(os.path.dirname(os.path.abspath(__file__)), ".."))
 
 from malletochre import (Ack, Data, Estimate, LineRefused, Message, Nack, NoWorld, Receive, Refusal, Session, Set,   # noqa: E402
-                         StepRefused, Submit, World)
+                         StepRefused, Submit, Suspect, World)
 from malletochre.session import TOO_LONG   # noqa: E402
 from malletochre.steps import step_of_numbers   # noqa: E402
 
@@ -90,6 +90,8 @@ class Asked:
         done = 0
         for _ in range(times):
             step, serials = self.world.next(member), self.world.serials(member)
+            if receives_first and isinstance(step, Suspect):
+                step = None
             if serials and (receives_first or step is None):
                 step = Receive(member, serials[0])
             done += step is not None and self.apply(list(step.numbers())).startswith("ok")

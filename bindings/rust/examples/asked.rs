@@ -97,7 +97,8 @@ impl Asked {
         let mut done = 0;
         for _ in 0..times {
             let member = self.world.member(number).expect("a member");
-            let (next, serials) = (member.next(), member.serials());
+            let serials = member.serials();
+            let next = member.next().filter(|step| !(receives_first && matches!(step, Step::Suspect(_))));
             let receipt = serials.first().map(|serial| Step::Receive(number, *serial));
             let step = if receives_first { receipt.or(next) } else { next.or(receipt) };
             done += usize::from(step.map_or(false, |step| self.apply(step).is_ok()));
