@@ -5,8 +5,8 @@ import "C"
 
 import "fmt"
 
-// Refusal is why a step or a call is refused, by its number in ct.h. 1 to 24 are the causes of a step, the first that applies, in the order
-// of testing (docs/ALGORITHM.md).
+// Refusal is why a step or a call is refused, by its number in ct.h. 1 to 24 are the causes of a step, the first that applies, in the
+// order of testing (docs/ALGORITHM.md).
 type Refusal uint32
 
 // What calls answer; ct.h says when.

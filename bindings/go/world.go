@@ -131,8 +131,8 @@ func (w *World) HasCrashed(member uint8) (bool, error) {
 	return w.Enabled(Step{Kind: Crash, Member: member}) == Crashed, nil
 }
 
-// Next is what a driver does next at the member: the first step that is allowed of Deliver, Follow, Begin, Choose (of the least member that
-// was heard with the largest ts), Adopt, Conclude, Enter and Suspect. Its kind is 0 where there is none.
+// Next is what a driver does next at the member: the first step that is allowed of Deliver, Follow, Begin, Choose (of the least member
+// that was heard with the largest ts), Adopt, Conclude, Enter and Suspect. Its kind is 0 where there is none.
 func (w *World) Next(member uint8) (Step, error) {
 	at, err := w.of(member)
 	if err != nil {

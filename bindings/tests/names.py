@@ -9,7 +9,7 @@ import os
 import re
 import subprocess
 import sys
-from typing import Dict
+from typing import Dict, List
 
 HERE = os.path.dirname(os.path.abspath(__file__))
 sys.path.insert(0, os.path.join(HERE, "..", "python"))
@@ -20,7 +20,9 @@ from malletochre import library   # noqa: E402
 
 CAUSES = set(range(1, 25))
 STATUSES = "DONE", "OUT_OF_MEMORY", "BOARD", "NOT_OPEN", "BAD_SETUP", "NO_WORLD", "TOO_LONG"
-CRATE = "../../crates/ct_embed/src"
+CRATE = "../../crates/ct_embed"
+KINDS = {"StepCodes": r"step_code \((\w+) .*\) = \w*code (\d+) ", "MessageCodes": r"told_code .* \((\w+) .*command = (\d+)",
+         "LetterCodes": r"wire_code to \((\w+) .*vote_code (\d+) "}   # how definitions have the numbers of steps, commands and envelopes
 
 
 def text(path: str) -> str:
@@ -35,15 +37,27 @@ def name(constant: str) -> str:
 
 
 def of_header() -> Dict[int, str]:
-    enum = re.search(r"\nenum \{\n(.*?)\n\};", text("../ct.h"), re.DOTALL)
-    return {int(number): name(constant) for constant, number in re.findall(r"CT_([A-Z_]+) = (\d+)", enum[1] if enum else "")}
+    return {int(number): name(constant) for constant, number in re.findall(r"CT_([A-Z_]+) = (\d+)", enums()[0])}
+
+
+def enums() -> List[str]:
+    """Those of the header: what calls answer, and the kinds of steps, commands and envelopes."""
+    return re.findall(r"\nenum \{\n(.*?)\n\};", text("../ct.h"), re.DOTALL)
+
+
+def same_kinds() -> bool:
+    """The numbers of kinds are those of the definitions."""
+    header = [dict(re.findall(r"CT_([A-Z]+) = (\d+)", enum)) for enum in enums()[1:]]
+    crate = [{name.upper(): number for name, number in re.findall(pattern, text(f"{CRATE}/specs/{file}.antt"))}
+             for file, pattern in KINDS.items()]
+    return header == crate
 
 
 def of_crate() -> Dict[int, str]:
-    refusals = text(f"{CRATE}/refusal_number.rt")
+    refusals = text(f"{CRATE}/src/refusal_number.rt")
     found = {int(number): name for name, number in re.findall(r"Refusal::(\w+) => (\d+)", refusals)}
     found.update({int(number): f"Full({name})" for name, number in re.findall(r"Limit::(\w+) => (\d+)", refusals)})
-    numbers = re.findall(r"const ([A-Z_]+): u32 = (\d+)", text(f"{CRATE}/numbers.rt"))
+    numbers = re.findall(r"const ([A-Z_]+): u32 = (\d+)", text(f"{CRATE}/src/numbers.rt"))
     return {0: "Done", **found, **{int(number): name(constant) for constant, number in numbers}}
 
 
@@ -74,6 +88,8 @@ def main() -> int:
     faults += [f"{command}: not all causes of a step are named" for command in sys.argv[1:] if not CAUSES <= set(told[command])]
     if told["the crate"] != header:
         faults.append("ct.h and the crate name different numbers")
+    if not same_kinds():
+        faults.append("ct.h and the definitions of the crate have different kinds")
     if len(set(versions().values())) != 1:
         faults.append(f"versions differ: {versions()}")
     print("\n".join(faults) or "the same names everywhere")

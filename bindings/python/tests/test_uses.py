@@ -1,5 +1,5 @@
-"""What is told of wrong uses, what exceptions carry, and what sessions and worlds keep, in process and over `ct_tool`. That they answer the
-same is tested by asked.py.
+"""What is told of wrong uses, what exceptions carry, and what sessions and worlds keep, in process and over `ct_tool`. asked.py has that
+they answer the same.
 
     PYTHONPATH=bindings/python CT_TOOL=crates/ct_tool/out/ct_tool python3 -m unittest bindings/python/tests/test_uses.py
 """
@@ -101,8 +101,8 @@ class Worlds(unittest.TestCase):
         text = '{"batch":9,"cells":4,"n":2,"steps":[["submit",1,["set",0,7]],["receive",2,2]],"version":3}'
         with World.of_record(text) as world:
             self.assertEqual(world.record(), text)
-        for old, new in (("3}", "2}"), ("3}", "3"), ('"n"', '"m"'), ("2,2", "2"), ("2,2", "2,2.0"), ("2,2", "true,2"), ("receive", "begin"),
-                         ("receive", "settle"), ('"set"', '"begin"'), ("0,7", "0,7,7"), ("9,", "9.5,"), ("[[", "[7,["), ("2,2", "2,1")):
+        for old, new in (("3}", "2}"), ("3}", "3"), ('"n"', '"m"'), ("2,2", "2"), ("2,2", "2,2.0"), ("2,2", "true,2"),
+                         ("receive", "begin"), ("receive", "settle"), ('"set"', '"begin"'), ("0,7", "0,7,7"), ("9,", "9.5,"), ("[[", "[7,["), ("2,2", "2,1")):
             with self.assertRaises(ValueError, msg=new) as caught:
                 World.of_record(text.replace(old, new))
         self.assertEqual(str(caught.exception), 'step 2: ["receive",2,1]: NotWaiting')
@@ -145,7 +145,8 @@ class Refusals(unittest.TestCase):
         self.assertIs(LineRefused(1, "1 deliver", "refused 1 Full(Cells): 1 at most").refusal, Refusal.FULL_CELLS)
 
     def test_they_cross_processes(self) -> None:
-        for error in (StepRefused(Submit(1, Set(0, 7)), Refusal.BUSY), LineRefused(3, "2 begin", "refused 2 Busy: instance 1"), NoWorld("no")):
+        step, line = StepRefused(Submit(1, Set(0, 7)), Refusal.BUSY), LineRefused(3, "2 begin", "refused 2 Busy: instance 1")
+        for error in (step, line, NoWorld("no")):
             other = pickle.loads(pickle.dumps(error))
             self.assertEqual((type(other), str(other), vars(other)), (type(error), str(error), vars(error)))
 
