@@ -75,7 +75,7 @@ class LineRefused(Refused):
         self.number, self.line, self.fault = number, line, fault
         told = re.match(r"refused (\d+) ([A-Za-z]+(?:\([A-Za-z]+\))?)(?:: (.*))?$", fault)
         self.member: Optional[int] = int(told[1]) if told else None
-        self.refusal: Optional[Refusal] = BY_NAME[told[2]] if told else None
+        self.refusal: Optional[Refusal] = BY_NAME.get(told[2]) if told else None
         self.facts: Optional[str] = told[3] if told else None
 
     def __str__(self) -> str:

@@ -16,6 +16,7 @@ MAX_MEMBERS = 16
 MAX_CELLS = 1_024
 MAX_BOUND = 1_048_560   # more messages than that can't be pending, so it bounds nothing
 USUAL_CELLS = 64
+RECORD = {"batch": int, "cells": int, "n": int, "steps": list, "version": int}
 W = TypeVar("W", bound="World")
 
 
@@ -48,12 +49,10 @@ class World:
         """A world with the setup and the steps of a record of version 3, as `record` gives it. ValueError where it is no such record, or
         one of its steps is refused, which is the error's cause then."""
         told = json.loads(record)
-        if not isinstance(told, dict) or sorted(told) != ["batch", "cells", "n", "steps", "version"] or told["version"] != 3:
+        kinds = {key: type(value) for key, value in told.items()} if isinstance(told, dict) else {}
+        if kinds != RECORD or told["version"] != 3:
             raise ValueError("no record of version 3")
-        numbers = told["n"], told["cells"], told["batch"]
-        if not isinstance(told["steps"], list) or any(type(it) is not int for it in numbers):
-            raise ValueError("no record: of its five keys `steps` has a list, the others whole numbers")
-        world = cls(*numbers, tool=tool)
+        world = cls(told["n"], told["cells"], told["batch"], tool=tool)
         for at, entry in enumerate(told["steps"], 1):
             try:
                 world.apply(step_of_record(entry))
