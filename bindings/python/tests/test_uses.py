@@ -101,9 +101,9 @@ class Worlds(unittest.TestCase):
         text = '{"batch":9,"cells":4,"n":2,"steps":[["submit",1,["set",0,7]],["receive",2,2]],"version":3}'
         with World.of_record(text) as world:
             self.assertEqual(world.record(), text)
-        for old, new in (("3}", "2}"), ("3}", "3.0}"), ("3}", "3"), ('"n"', '"m"'), ("2,2", "2"), ("2,2", "2,2.0"),
-                         ("2,2", "true,2"), ("receive", "begin"), ("receive", "settle"), ('"set"', '"begin"'), ("0,7", "0,7,7"), ("9,", "9.5,"), ("[[", "[7,["),
-                         ("2,2", "2,1")):
+        for old, new in (("3}", "2}"), ("3}", "3.0}"), ("3}", "3"), ('"n"', '"m"'), ("2,2", "2"), ("2,2", "2,2.0"), ("2,2", "true,2"),
+                         ("receive", "begin"), ("receive", "settle"), ('"set"', '"begin"'), ("0,7", "0,7,7"), ("9,", "9.5,"),
+                         ("[[", "[7,["), ("2,2", "2,1")):
             with self.assertRaises(ValueError, msg=new) as caught:
                 World.of_record(text.replace(old, new))
         self.assertEqual(str(caught.exception), 'step 2: ["receive",2,1]: NotWaiting')
