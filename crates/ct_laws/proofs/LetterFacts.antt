@@ -8,6 +8,7 @@ use Rattle.std.specs.List.{concat}
 use Rattle.std.specs.Prelude.{if◌then◌else◌, Option, Some, None, option_and_then, option_map, slice_get, unwrap_or}
 use Rattle.ct_names.specs.declared.refusal.Refusal.{Refusal}
 use Rattle.ct_names.specs.declared.refusal.Refusal.TheVariants as refusal
+use Rattle.ct_names.specs.Membership.{IsIn}
 use Rattle.ct_model.specs.AtValue.{Envelope}
 use Rattle.ct_model.specs.Mapped.{without_value}
 use Rattle.ct_model.specs.Rehearsal.{Rehearsal, line_of, state_of}
@@ -19,6 +20,7 @@ use Rattle.ct_model.specs.declared.step.Step.TheVariants as step
 use Rattle.ct_show.specs.Facts.{last_taking, leaving_text, left_in, left_text, letter_facts, missing_text, place_text, returns}
 use Rattle.ct_show.specs.Facts.{serial_facts, takes, taking_or}
 use Rattle.ct_show.specs.Wires.{carried_text, letter_text, serial_text}
+use Rattle.ct_laws.specs.Behind.{NameEnvelope, NameLeaving, NameLetter, NameReceiver}
 use Rattle.ct_laws.specs.Facts.{AreTrue, Fact, IsLeaving, IsReturning, IsTaking, IsTrue, fact_text, texts_of}
 use Rattle.ct_laws.specs.Facts.Fact.{Carries, GoesTo, LeftIn, Unsent, Waits, WentTo}
 
@@ -117,6 +119,66 @@ is_leaving w k number s l = record {
   gone = λ later other low there so. returns_not other k (l.after later other low (at_within w.steps later other there) there).1 so;
 }
 
+-- ---- and such a one is the last
+
+so_takes : (s : Step) (k : ℕ) → IsTaking k s → takes s k ≡ true
+so_takes s k (q, inl same) = ap (λ t. takes t k) same ∙ same_serial k
+so_takes s k (q, inr same) = ap (λ t. takes t k) same ∙ same_serial k
+
+not_taking : (b : Bool) (s : Step) (k : ℕ) → takes s k ≡ b → (IsTaking k s → ⊥) → takes s k ≡ false
+not_taking true s k is none = absurd (none (takes_so s k is))
+not_taking false s k is none = is
+
+returns_so : (s : Step) (k : ℕ) → returns s k ≡ true → IsReturning k s
+returns_so (step.Repeat p i) k h = (p, grind (arith, nat_tests))
+returns_so _ k h = absurd (cc h)
+
+not_returning : (b : Bool) (s : Step) (k : ℕ) → returns s k ≡ b → (IsReturning k s → ⊥) → returns s k ≡ false
+not_returning true s k is none = absurd (none (returns_so s k is))
+not_returning false s k is none = is
+
+takes_here : (steps : List Step) (k i : ℕ) (s : Step) (before : Option (ℕ × Step)) → slice_get steps i ≡ Some s → takes s k ≡ true →
+    taking_or before k (suc i) (slice_get steps i) ≡ Some (suc i, s)
+takes_here steps k i s before is so =
+    ap (taking_or before k (suc i)) is ∙ ap (λ b. if b then Some (suc i, s) else (if returns s k then None else before)) so
+
+passed_by : (before : Option (ℕ × Step)) (k n : ℕ) (o : Option Step) →
+    ((t : Step) → o ≡ Some t → (takes t k ≡ false) × (returns t k ≡ false)) → taking_or before k n o ≡ before
+passed_by before k n None none = refl
+passed_by before k n (Some t) none =
+    let fails = none t refl in
+    ap (λ b. if b then Some (n, t) else (if returns t k then None else before)) fails.0 ∙ ap (λ b. if b then None else before) fails.1
+
+module _ (steps : List Step) (k number : ℕ) (s : Step) (there : at_serial steps number ≡ Some s) (so : takes s k ≡ true)
+    (after : (later : ℕ) (other : Step) → number < later → at_serial steps later ≡ Some other →
+    (takes other k ≡ false) × (returns other k ≡ false)) where
+  last_first : (i : ℕ) → (number ≡ suc i) ⊎ (number < suc i) →
+      (number ≤ i → last_taking steps k i ≡ Some (number, s)) → last_taking steps k (suc i) ≡ Some (number, s)
+  last_first i (inl same) more =
+      let here : slice_get steps i ≡ Some s = subst (λ n. at_serial steps n ≡ Some s) same there in
+      takes_here steps k i s (last_taking steps k i) here so ∙ ap (λ n. Some (n, s)) (sym same)
+  last_first i (inr less) more =
+      passed_by (last_taking steps k i) k (suc i) (slice_get steps i) (λ t is. after (suc i) t less is)
+      ∙ more (omega (arith, less))
+
+  last_all : (i : ℕ) → number ≤ i → last_taking steps k i ≡ Some (number, s)
+  last_all zero low = absurd (nothing number low there)
+    where
+      nothing : (n : ℕ) → n ≤ 0 → at_serial steps n ≡ Some s → ⊥
+      nothing zero low is = cc is
+      nothing (suc n) low is = omega (arith, low)
+  last_all (suc i) low = last_first i (eq-or-lt_of_le low) (last_all i)
+
+taking_is : (w : Rehearsal) (k number : ℕ) (s : Step) → IsLeaving w k number s →
+    last_taking w.steps k (length w.steps) ≡ Some (number, s)
+taking_is w k number s l =
+    last_all w.steps k number s l.there (so_takes s k l.takes)
+    (λ later other low is. (
+      not_taking (takes other k) other k refl (l.last later other low is),
+      not_returning (returns other k) other k refl (l.gone later other low is),
+    ))
+    (length w.steps) (at_within w.steps number s l.there)
+
 -- ---- the facts of the envelope
 
 left_facts : Option (ℕ × Step) → List Fact
@@ -143,6 +205,16 @@ unfolding leaving_facts
 leaving_is w k refusal.NotWaiting = left_is (last_taking w.steps k (length w.steps))
 leaving_is w k _ = refl
 
+left_named : (number : ℕ) (step : Step) (o : Option (ℕ × Step)) → o ≡ Some (number, step) → IsIn (LeftIn number step) (left_facts o)
+unfolding left_facts
+left_named number step o is = subst (λ x. IsIn (LeftIn number step) (left_facts x)) (sym is) (inl refl)
+
+leaving_named : (w : Rehearsal) (k : ℕ) (r : Refusal) (first second : Fact) → NameLeaving w k r (first ∷ second ∷ leaving_facts w k r)
+unfolding leaving_facts
+leaving_named w k refusal.NotWaiting first second =
+    λ number step leaves. inr (inr (left_named number step (last_taking w.steps k (length w.steps)) (taking_is w k number step leaves)))
+leaving_named w k _ first second = tt
+
 leaving_true : (w : Rehearsal) (p k : ℕ) (r : Refusal) → AreTrue w p k r (leaving_facts w k r)
 unfolding leaving_facts
 leaving_true w p k refusal.NotWaiting =
@@ -159,6 +231,12 @@ unfolding place_fact
 place_is q refusal.NotSent = refl
 place_is q refusal.StillWaiting = refl
 place_is q _ = refl
+
+place_named : (q : ℕ) (r : Refusal) (before : Fact) (behind : List Fact) → NameReceiver q r (before ∷ place_fact q r ∷ behind)
+unfolding place_fact
+place_named q refusal.NotSent before behind = inr (inl refl)
+place_named q refusal.StillWaiting before behind = inr (inl refl)
+place_named q _ before behind = inr (inl refl)
 
 place_true : (w : Rehearsal) (p k : ℕ) (r : Refusal) (e : Envelope) → at_serial (state_of w).sent k ≡ Some e →
     (r ≡ refusal.StillWaiting → has_serial k (line_of w p) ≡ true) → IsTrue w p k r (place_fact e.to r)
@@ -179,6 +257,7 @@ pub record TellsLetter (w : Rehearsal) (p k : ℕ) (r : Refusal) (text : List �
   pub facts : List Fact
   pub is : text ≡ texts_of facts
   pub are : AreTrue w p k r facts
+  pub these : NameEnvelope w k r facts
 
 letter_shape : (a b c : List ℕ) → a ++ (b ++ (c ++ [])) ≡ a ++ (b ++ c)
 letter_shape a b c = ap (λ l. a ++ (b ++ l)) (append-nil c)
@@ -192,6 +271,11 @@ tells_sent w p k r e is waits = record {
       ∙ ap (λ l. fact_text (Carries k e.wire) ++ (l ++ leaving_text w k r)) (place_is e.to r)
       ∙ ap (λ l. fact_text (Carries k e.wire) ++ (fact_text (place_fact e.to r) ++ l)) (leaving_is w k r);
   are = ((refl, (e, is, refl)), (place_true w p k r e is waits, leaving_true w p k r));
+  these = subst (λ o. NameLetter w k r o (Carries k e.wire ∷ place_fact e.to r ∷ leaving_facts w k r)) (sym is) (
+    inl refl,
+    place_named e.to r (Carries k e.wire) (leaving_facts w k r),
+    leaving_named w k r (Carries k e.wire) (place_fact e.to r),
+  );
 }
 
 tells_unsent : (w : Rehearsal) (p k : ℕ) (r : Refusal) → at_serial (state_of w).sent k ≡ None →
@@ -201,6 +285,7 @@ tells_unsent w p k r is = record {
   facts = Unsent k (length (state_of w).sent) ∷ [];
   is = sym (append-nil _);
   are = ((refl, is, refl), tt);
+  these = subst (λ o. NameLetter w k r o (Unsent k (length (state_of w).sent) ∷ [])) (sym is) (inl refl);
 }
 
 tells_by : (w : Rehearsal) (p k : ℕ) (r : Refusal) (o : Option Envelope) → at_serial (state_of w).sent k ≡ o →

@@ -27,7 +27,8 @@ use Rattle.ct_show.specs.Details.{acks_text, coordinator_text, size_of}
 use Rattle.ct_text.specs.Standing.{coordinator_of, estimate_of, instance_of, round_of}
 use Rattle.ct_show.specs.Facts.{first_heard, heard_text, led_text, member_facts, part_text, phase_in, place_in, votes_text}
 use Rattle.ct_text.specs.Shapes.{estimate_text, phase_text}
-use Rattle.ct_laws.specs.Facts.{AreMany, AreTrue, Fact, HasGot, NamesHeard, TellsMember, fact_text, texts_of}
+use Rattle.ct_laws.specs.Behind.{NamePlace, NameStanding, NamesHeard, TellsMember}
+use Rattle.ct_laws.specs.Facts.{AreMany, AreTrue, Fact, HasGot, fact_text, texts_of}
 use Rattle.ct_laws.specs.Facts.Fact.{Acked, Began, Heard, Holds, Idle, InRound, LedBy}
 
 -- ---- lists of facts
@@ -377,8 +378,41 @@ named_later w p c q named =
 
 -- ---- where it stands
 
-same_standing : (w : Rehearsal) (p : ℕ) (c d : Standing) → (member_of w p).current ≡ Some c → (member_of w p).current ≡ Some d → c ≡ d
-same_standing w p c d is so = let same : Some c ≡ Some d = sym is ∙ so in cc same
+led_if_some : (b : Bool) (q : ℕ) → b ≡ false → IsIn (LedBy q) (if b then [] else LedBy q ∷ [])
+led_if_some true q fails = absurd (cc fails)
+led_if_some false q fails = inl refl
+
+led_in : (r q : ℕ) → 1 ≤ r → IsIn (LedBy q) (led_facts r q)
+unfolding led_facts
+led_in r q some = led_if_some (r == 0) q (grind (arith, nat_tests))
+
+open_named : (w : Rehearsal) (p : ℕ) (c : Standing) → IsMember w.setting.members p → (member_of w p).current ≡ Some c →
+    NameStanding w p c (open_facts w p c)
+unfolding open_facts
+open_named w p c there is =
+    let m = member_of w p in
+    let led = led_facts c.round (coordinator w.setting.members c.round) in
+    let heard = heard_facts w p w.setting.members in
+    let acks = length (own_ballots m c).acked in
+    let replies = length (own_ballots m c).replied in
+    let behind = Holds c.estimate c.ts ∷ (heard ++ Acked acks replies ∷ []) in
+    record {
+      round = inr (inl refl);
+      led = λ some. inr (inr (IsIn-append_left (LedBy (coordinator w.setting.members c.round)) led behind
+          (led_in c.round (coordinator w.setting.members c.round) some)));
+      holds = inr (inr (IsIn-append_right (Holds c.estimate c.ts) led behind (inl refl)));
+      heard = λ q v ts member one h. named_later w p c q (each_named w p q c v ts there is member one h);
+      acked = (
+        acks,
+        replies,
+        inr (inr (IsIn-append_right (Acked acks replies) led behind
+            (inr (IsIn-append_right (Acked acks replies) heard (Acked acks replies ∷ []) (inl refl))))),
+      );
+    }
+
+began_in : (w : Rehearsal) (p : ℕ) (c : Standing) → IsIn (Began (member_of w p).last) (open_facts w p c)
+unfolding open_facts
+began_in w p c = inl refl
 
 tells_open : (w : Rehearsal) (p : ℕ) (c : Standing) → IsMember w.setting.members p → (member_of w p).current ≡ Some c →
     TellsMember w p (member_facts w p)
@@ -386,8 +420,7 @@ tells_open w p c there is = record {
   facts = open_facts w p c;
   is = told_is w p c there is ∙ facts_shape w p c;
   are = λ k refusal. open_true w p c k refusal there is;
-  heard = λ d q v ts so member one h.
-      named_later w p c q (each_named w p q d v ts there so member one h);
+  these = (began_in w p c, subst (λ o. NamePlace w p o (open_facts w p c)) (sym is) (open_named w p c there is));
 }
 
 tells_idle : (w : Rehearsal) (p : ℕ) → IsMember w.setting.members p → (member_of w p).current ≡ None → TellsMember w p (member_facts w p)
@@ -400,7 +433,7 @@ tells_idle w p there is =
           ∙ ap (λ i. concat (codes "instance " ∷ decimal i ∷ codes " idle" ∷ [])) (instance_is w p there)
           ∙ idle_shape (codes "instance ") (decimal m.last) (codes " idle");
       are = λ k refusal. (refl, (is, tt));
-      heard = λ c q v ts so member one h. absurd (cc (sym is ∙ so));
+      these = (inl refl, subst (λ o. NamePlace w p o (Began m.last ∷ Idle ∷ [])) (sym is) (inr (inl refl)));
     }
 
 tells_by : (w : Rehearsal) (p : ℕ) (o : Option Standing) → IsMember w.setting.members p → (member_of w p).current ≡ o →

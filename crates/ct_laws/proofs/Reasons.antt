@@ -1,5 +1,5 @@
 -- What is told of a refused step is true.
-use Rattle.std.proofs.Common.{◌≡◌, ◌<◌, ◌+◌, ℕ, suc, Bool, true, false, List, [], ◌∷◌, refl, ap, sym, ◌∙◌}
+use Rattle.std.proofs.Common.{◌≡◌, inl, ◌<◌, ◌+◌, ℕ, zero, suc, Bool, true, false, List, [], ◌∷◌, refl, ap, sym, ◌∙◌}
 use Rattle.std.proofs.Common.{subst, append-nil, arith, cond, length, not, position}
 use Rattle.std.proofs.lemmas.Bool.Decides.{nat_tests}
 use Rattle.std.specs.List.{prefix_len}
@@ -20,7 +20,8 @@ use Rattle.ct_model.specs.declared.step.Step.{Step}
 use Rattle.ct_model.specs.declared.step.Step.TheVariants as step
 use Rattle.ct_show.specs.Facts.{facts_text, serial_facts}
 use Rattle.ct_judging.specs.Refusing.{crash_of, crash_text, is_crash_of, limit_of, reason_text}
-use Rattle.ct_laws.specs.Facts.{AreTrue, TellsFacts, TellsMember, serial_in}
+use Rattle.ct_laws.specs.Behind.{NameActor, NameEnvelope, NameMember, NameReason, TellsFacts, TellsMember, serial_in}
+use Rattle.ct_laws.specs.Facts.{AreTrue, Fact}
 use Rattle.ct_laws.specs.Facts.Fact.{AtMost, CrashedIn, Members, Registers}
 use Rattle.ct_laws.proofs.LetterFacts.{tells_letter}
 use Rattle.ct_laws.proofs.MemberFacts.{tells_member}
@@ -120,44 +121,50 @@ repeat_waits w p k h =
 -- ---- the line of a step
 
 of_letter : (w : Rehearsal) (s : Step) (p k : ℕ) (r : Refusal) → actor s ≡ p → serial_in s ≡ k →
-    (r ≡ refusal.StillWaiting → has_serial k (line_of w p) ≡ true) → TellsFacts w s r (serial_facts w k r)
-of_letter w s p k r who names waits =
+    ((facts : List Fact) → NameEnvelope w k r facts → NameActor w s r facts) →
+    (r ≡ refusal.StillWaiting → has_serial k (line_of w p) ≡ true) → TellsFacts w s r (NameActor w s r) (serial_facts w k r)
+of_letter w s p k r who names these waits =
     let t = tells_letter w p k r waits in
     record {
       facts = t.facts;
       is = t.is;
       are = subst (λ q. AreTrue w q (serial_in s) r t.facts) (sym who) (subst (λ i. AreTrue w p i r t.facts) (sym names) t.are);
+      these = these t.facts t.these;
     }
 
-of_member : (w : Rehearsal) (s : Step) (r : Refusal) (text : List ℕ) → TellsMember w (actor s) text → TellsFacts w s r text
-of_member w s r text t = record { facts = t.facts; is = t.is; are = t.are (serial_in s) r }
+of_member : (w : Rehearsal) (s : Step) (r : Refusal) (text : List ℕ) →
+    ((facts : List Fact) → NameMember w (actor s) facts → NameActor w s r facts) → TellsMember w (actor s) text →
+    TellsFacts w s r (NameActor w s r) text
+of_member w s r text these t =
+    record { facts = t.facts; is = t.is; are = t.are (serial_in s) r; these = these t.facts t.these }
 
 same_refusal : (w : Rehearsal) (s : Step) (r other : Refusal) → cause w s ≡ Some r → r ≡ other → cause w s ≡ Some other
 same_refusal w s r other h same = h ∙ ap Some same
 
 pub tells_step : (w : Rehearsal) (s : Step) (r : Refusal) → cause w s ≡ Some r → IsMember w.setting.members (actor s) →
-    TellsFacts w s r (facts_text w s r)
+    TellsFacts w s r (NameActor w s r) (facts_text w s r)
 tells_step w (step.Receive p k) r h there =
-    of_letter w (step.Receive p k) p k r refl refl
+    of_letter w (step.Receive p k) p k r refl refl (λ facts h. h)
     (λ same. receive_waits w p k (same_refusal w (step.Receive p k) r refusal.StillWaiting h same))
 tells_step w (step.Postpone p k) r h there =
-    of_letter w (step.Postpone p k) p k r refl refl
+    of_letter w (step.Postpone p k) p k r refl refl (λ facts h. h)
     (λ same. postpone_waits w p k (same_refusal w (step.Postpone p k) r refusal.StillWaiting h same))
 tells_step w (step.Lose p k) r h there =
-    of_letter w (step.Lose p k) p k r refl refl (λ same. lose_waits w p k (same_refusal w (step.Lose p k) r refusal.StillWaiting h same))
+    of_letter w (step.Lose p k) p k r refl refl (λ facts h. h)
+    (λ same. lose_waits w p k (same_refusal w (step.Lose p k) r refusal.StillWaiting h same))
 tells_step w (step.Repeat p k) r h there =
-    of_letter w (step.Repeat p k) p k r refl refl
+    of_letter w (step.Repeat p k) p k r refl refl (λ facts h. h)
     (λ same. repeat_waits w p k (same_refusal w (step.Repeat p k) r refusal.StillWaiting h same))
-tells_step w (step.Submit p c) r h there = of_member w (step.Submit p c) r _ (tells_member w p there)
-tells_step w (step.Begin p) r h there = of_member w (step.Begin p) r _ (tells_member w p there)
-tells_step w (step.Enter p) r h there = of_member w (step.Enter p) r _ (tells_member w p there)
-tells_step w (step.Choose p from) r h there = of_member w (step.Choose p from) r _ (tells_member w p there)
-tells_step w (step.Adopt p) r h there = of_member w (step.Adopt p) r _ (tells_member w p there)
-tells_step w (step.Suspect p) r h there = of_member w (step.Suspect p) r _ (tells_member w p there)
-tells_step w (step.Conclude p) r h there = of_member w (step.Conclude p) r _ (tells_member w p there)
-tells_step w (step.Deliver p) r h there = of_member w (step.Deliver p) r _ (tells_member w p there)
-tells_step w (step.Follow p) r h there = of_member w (step.Follow p) r _ (tells_member w p there)
-tells_step w (step.Crash p) r h there = of_member w (step.Crash p) r _ (tells_member w p there)
+tells_step w (step.Submit p c) r h there = of_member w (step.Submit p c) r _ (λ facts h. h) (tells_member w p there)
+tells_step w (step.Begin p) r h there = of_member w (step.Begin p) r _ (λ facts h. h) (tells_member w p there)
+tells_step w (step.Enter p) r h there = of_member w (step.Enter p) r _ (λ facts h. h) (tells_member w p there)
+tells_step w (step.Choose p from) r h there = of_member w (step.Choose p from) r _ (λ facts h. h) (tells_member w p there)
+tells_step w (step.Adopt p) r h there = of_member w (step.Adopt p) r _ (λ facts h. h) (tells_member w p there)
+tells_step w (step.Suspect p) r h there = of_member w (step.Suspect p) r _ (λ facts h. h) (tells_member w p there)
+tells_step w (step.Conclude p) r h there = of_member w (step.Conclude p) r _ (λ facts h. h) (tells_member w p there)
+tells_step w (step.Deliver p) r h there = of_member w (step.Deliver p) r _ (λ facts h. h) (tells_member w p there)
+tells_step w (step.Follow p) r h there = of_member w (step.Follow p) r _ (λ facts h. h) (tells_member w p there)
+tells_step w (step.Crash p) r h there = of_member w (step.Crash p) r _ (λ facts h. h) (tells_member w p there)
 
 -- ---- the step in which a member crashed
 
@@ -202,13 +209,49 @@ crash_at w p i h =
     let next : suc i ≡ i + 1 = omega arith in
     subst (λ n. at_serial w.steps n ≡ Some (step.Crash p)) next (f.1 ∙ ap Some (crash_is p f.0 f.2))
 
-tells_crash_by : (w : Rehearsal) (s : Step) (o : Option ℕ) → position (is_crash_of (actor s)) w.steps ≡ o →
-    TellsFacts w s refusal.Crashed (crash_text (option_map (λ i. i + 1) o))
-tells_crash_by w s None is = record { facts = []; is = refl; are = tt }
-tells_crash_by w s (Some i) is =
-    record { facts = CrashedIn (i + 1) ∷ []; is = sym (append-nil _); are = (crash_at w (actor s) i is, tt) }
+prefix_by : {A : Type 0} (test : A → Bool) (x : A) (xs : List A) (b : Bool) → test x ≡ b →
+    (test x ≡ false → prefix_len (λ y. not (test y)) xs < length xs) →
+    cond (not b) (1 + prefix_len (λ y. not (test y)) xs) 0 < length (x ∷ xs)
+prefix_by test x xs true is more = omega arith
+prefix_by test x xs false is more = let less : prefix_len (λ y. not (test y)) xs < length xs = more is in omega (arith, less)
 
-tells_crash : (w : Rehearsal) (s : Step) → TellsFacts w s refusal.Crashed (crash_text (crash_of w.steps (actor s)))
+prefix_below : {A : Type 0} (test : A → Bool) (xs : List A) (i : ℕ) (x : A) → slice_get xs i ≡ Some x → test x ≡ true →
+    prefix_len (λ y. not (test y)) xs < length xs
+prefix_below test [] i x at so = absurd (cc at)
+prefix_below test (y ∷ xs) zero x at so =
+    let same : y ≡ x = cc at in
+    prefix_by test y xs (test y) refl (λ fails. absurd (cc (sym fails ∙ ap test same ∙ so)))
+prefix_below test (y ∷ xs) (suc i) x at so = prefix_by test y xs (test y) refl (λ _. prefix_below test xs i x at so)
+
+position_some : {A : Type 0} (test : A → Bool) (xs : List A) (i : ℕ) (x : A) → slice_get xs i ≡ Some x → test x ≡ true →
+    position test xs ≡ None → ⊥
+position_some test xs i x at so none =
+    let less : prefix_len (λ y. not (test y)) xs < length xs = prefix_below test xs i x at so in
+    let is : nat_lt (prefix_len (λ y. not (test y)) xs) (length xs) ≡ true = grind (arith, nat_tests) in
+    let some : position test xs ≡ Some (prefix_len (λ y. not (test y)) xs) =
+    ap (λ b. cond b (Some (prefix_len (λ y. not (test y)) xs)) None) is in
+    cc (sym some ∙ none)
+
+same_member : (p : ℕ) → is_crash_of p (step.Crash p) ≡ true
+same_member p = grind (arith, nat_tests)
+
+no_crash : (w : Rehearsal) (p number : ℕ) → position (is_crash_of p) w.steps ≡ None → at_serial w.steps number ≡ Some (step.Crash p) → ⊥
+no_crash w p zero none at = cc at
+no_crash w p (suc i) none at = position_some (is_crash_of p) w.steps i (step.Crash p) at (same_member p) none
+
+tells_crash_by : (w : Rehearsal) (s : Step) (o : Option ℕ) → position (is_crash_of (actor s)) w.steps ≡ o →
+    TellsFacts w s refusal.Crashed (NameReason w s refusal.Crashed) (crash_text (option_map (λ i. i + 1) o))
+tells_crash_by w s None is =
+    record { facts = []; is = refl; are = tt; these = λ number at. absurd (no_crash w (actor s) number is at) }
+tells_crash_by w s (Some i) is = record {
+  facts = CrashedIn (i + 1) ∷ [];
+  is = sym (append-nil _);
+  are = (crash_at w (actor s) i is, tt);
+  these = λ number at. (i + 1, inl refl);
+}
+
+tells_crash : (w : Rehearsal) (s : Step) →
+    TellsFacts w s refusal.Crashed (NameReason w s refusal.Crashed) (crash_text (crash_of w.steps (actor s)))
 unfolding crash_of
 tells_crash w s = tells_crash_by w s (position (is_crash_of (actor s)) w.steps) refl
 
@@ -230,11 +273,12 @@ member_there w s r h other =
     in_group w.setting.members (actor s)
     (member_by (is_member w.setting.members (actor s)) _ (is_crashed (state_of w) (actor s)) r h other)
 
-pub tells_line : (w : Rehearsal) (s : Step) (r : Refusal) → cause w s ≡ Some r → TellsFacts w s r (reason_text w s r)
+pub tells_line : (w : Rehearsal) (s : Step) (r : Refusal) → cause w s ≡ Some r →
+    TellsFacts w s r (NameReason w s r) (reason_text w s r)
 tells_line w s refusal.NoSuchMember h =
-    record { facts = Members w.setting.members ∷ []; is = sym (append-nil _); are = (refl, tt) }
+    record { facts = Members w.setting.members ∷ []; is = sym (append-nil _); are = (refl, tt); these = inl refl }
 tells_line w s refusal.Crashed h = tells_crash w s
-tells_line w s refusal.BadCommand h = record { facts = Registers ∷ []; is = sym (append-nil _); are = (tt, tt) }
+tells_line w s refusal.BadCommand h = record { facts = Registers ∷ []; is = sym (append-nil _); are = (tt, tt); these = inl refl }
 tells_line w s (refusal.Full l) h =
-    record { facts = AtMost (limit_of w l) ∷ []; is = sym (append-nil _); are = ((l, refl, refl), tt) }
+    record { facts = AtMost (limit_of w l) ∷ []; is = sym (append-nil _); are = ((l, refl, refl), tt); these = inl refl }
 tells_line w s r h = tells_step w s r h (member_there w s r h (λ same. cc same))

@@ -1,13 +1,12 @@
 -- The facts that are told of a refused step, and when each is true.
 use Rattle.std.specs.Prelude.{◌≡◌, ◌⊎◌, ◌<◌, ℕ, true, List, [], ◌∷◌, ◌++◌, length, codes, decimal, Some, None, unwrap_or, ⊤}
 use Rattle.std.specs.List.{concat}
-use Rattle.ct_names.specs.Group.{IsMember, coordinator, everyone}
+use Rattle.ct_names.specs.Group.{coordinator, everyone}
 use Rattle.ct_names.specs.Membership.{IsIn, IsWithoutRepeats}
 use Rattle.ct_names.specs.Value.{Value}
 use Rattle.ct_names.specs.declared.limit.Limit.{Limit}
 use Rattle.ct_names.specs.declared.refusal.Refusal.{Refusal}
 use Rattle.ct_names.specs.declared.refusal.Refusal.TheVariants.{Full}
-use Rattle.ct_model.specs.Actor.{actor}
 use Rattle.ct_model.specs.AtValue.{Envelope, Standing, Wire}
 use Rattle.ct_model.specs.Mapped.{wire_map}
 use Rattle.ct_model.specs.Rehearsal.{Rehearsal, line_of, state_of}
@@ -17,7 +16,7 @@ use Rattle.ct_model.specs.Waiting.{has_serial}
 use Rattle.ct_model.specs.Wire.{value_of}
 use Rattle.ct_model.specs.declared.phase.Phase.{Phase}
 use Rattle.ct_model.specs.declared.step.Step.{Step}
-use Rattle.ct_model.specs.declared.step.Step.TheVariants.{Crash, Lose, Postpone, Receive, Repeat}
+use Rattle.ct_model.specs.declared.step.Step.TheVariants.{Crash, Lose, Receive, Repeat}
 use Rattle.ct_model.specs.declared.wire.Wire.TheVariants.{Ack, Est, Nack}
 use Rattle.ct_world.specs.World.{member_of}
 use Rattle.ct_text.specs.Shapes.{estimate_text, phase_text}
@@ -142,31 +141,3 @@ IsTrue w p k refusal (AtMost most) = (limit : Limit) × (refusal ≡ Full limit)
 abbrev pub AreTrue : Rehearsal → (p k : ℕ) → Refusal → List Fact → Type 0
 AreTrue w p k refusal [] = ⊤
 AreTrue w p k refusal (fact ∷ facts) = IsTrue w p k refusal fact × AreTrue w p k refusal facts
-
--- ---- what is told
-
--- the serial that a step names, 0 where it names none
-abbrev pub serial_in : Step → ℕ
-serial_in (Receive p k) = k
-serial_in (Postpone p k) = k
-serial_in (Lose p k) = k
-serial_in (Repeat p k) = k
-serial_in step = 0
-
--- the text is that of facts, each of which is true
-pub record TellsFacts (w : Rehearsal) (step : Step) (refusal : Refusal) (text : List ℕ) : Type 0 where
-  pub facts : List Fact
-  pub is : text ≡ texts_of facts
-  pub are : AreTrue w (actor step) (serial_in step) refusal facts
-
--- one of them tells of an estimate of q
-abbrev pub NamesHeard : ℕ → List Fact → Type 0
-NamesHeard q facts = (v : Value) × (ts : ℕ) × IsIn (Heard q v ts) facts
-
--- the same of member p, whatever is refused; each member of which it has an estimate of its round is named
-pub record TellsMember (w : Rehearsal) (p : ℕ) (text : List ℕ) : Type 0 where
-  pub facts : List Fact
-  pub is : text ≡ texts_of facts
-  pub are : (k : ℕ) (refusal : Refusal) → AreTrue w p k refusal facts
-  pub heard : (c : Standing) (q : ℕ) (v : Value) (ts : ℕ) → (member_of w p).current ≡ Some c → IsMember w.setting.members q →
-      IsIn q everyone → HasGot w p (Est (member_of w p).last c.round q v ts) → NamesHeard q facts

@@ -1,5 +1,6 @@
 pub mod Diagrams
 pub mod Expectations
+pub mod Behind
 pub mod Facts
 pub mod Fitting
 pub mod JsonEnvelopes

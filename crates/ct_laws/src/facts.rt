@@ -9,16 +9,17 @@ ghost use Rattle.ct_model.specs.Rehearsal.{Rehearsal};
 ghost use Rattle.ct_model.specs.declared.step.Step.{Step};
 ghost use Rattle.ct_show.specs.Facts.{facts_text, member_facts};
 ghost use Rattle.ct_judging.specs.Refusing.{reason_text};
-ghost use Rattle.ct_laws.specs.Facts.{TellsFacts, TellsMember};
+ghost use Rattle.ct_laws.specs.Behind.{NameActor, NameReason, TellsFacts, TellsMember};
 
 /// The text that is told of a refused step, in the lines of steps and by the judge of schedules, is that of a list of facts which are true
 /// of the state before it: where its member stands, in words of its state and of the wires that it got; the envelope that it names, in
-/// words of those that were sent and of the steps; or when its member crashed, and what would be right. A member's facts name each member
-/// of which it has an estimate of its round.
+/// words of those that were sent and of the steps; or when its member crashed, and what would be right. These facts are there for each
+/// refusal (`NameReason`): so a member's tell its round, its estimate, each member of which it has an estimate of that round, and how many
+/// replied.
 pub fn law_facts()
     ensures member { (w : Rehearsal) (p : ℕ) → IsMember w.setting.members p → TellsMember w p (member_facts w p) }
     ensures steps { (w : Rehearsal) (step : Step) (refusal : Refusal) → cause w step ≡ Some refusal →
-        IsMember w.setting.members (actor step) → TellsFacts w step refusal (facts_text w step refusal) }
+        IsMember w.setting.members (actor step) → TellsFacts w step refusal (NameActor w step refusal) (facts_text w step refusal) }
     ensures lines { (w : Rehearsal) (step : Step) (refusal : Refusal) → cause w step ≡ Some refusal →
-        TellsFacts w step refusal (reason_text w step refusal) }
+        TellsFacts w step refusal (NameReason w step refusal) (reason_text w step refusal) }
 {}

@@ -1,0 +1,108 @@
+-- Which facts are told of a refused step.
+use Rattle.std.specs.Prelude.{◌≡◌, ◌≤◌, ℕ, List, length, Option, Some, None, ⊤}
+use Rattle.ct_names.specs.Group.{IsMember, coordinator, everyone}
+use Rattle.ct_names.specs.Membership.{IsIn}
+use Rattle.ct_names.specs.Value.{Value}
+use Rattle.ct_names.specs.declared.refusal.Refusal.{Refusal}
+use Rattle.ct_names.specs.declared.refusal.Refusal.TheVariants as refusals
+use Rattle.ct_model.specs.Actor.{actor}
+use Rattle.ct_model.specs.AtValue.{Envelope, Standing}
+use Rattle.ct_model.specs.Rehearsal.{Rehearsal, state_of}
+use Rattle.ct_model.specs.State.{at_serial}
+use Rattle.ct_model.specs.declared.step.Step.{Step}
+use Rattle.ct_model.specs.declared.step.Step.TheVariants.{Crash, Lose, Postpone, Receive, Repeat}
+use Rattle.ct_model.specs.declared.wire.Wire.TheVariants.{Est}
+use Rattle.ct_world.specs.World.{member_of}
+use Rattle.ct_judging.specs.Refusing.{limit_of}
+use Rattle.ct_laws.specs.Facts.{AreTrue, Fact, HasGot, IsLeaving, texts_of}
+use Rattle.ct_laws.specs.Facts.Fact.{Acked, AtMost, Began, Carries, CrashedIn, GoesTo, Heard, Holds, Idle, InRound, LedBy, LeftIn, Members}
+use Rattle.ct_laws.specs.Facts.Fact.{Registers, Unsent, Waits, WentTo}
+
+-- ---- of a member
+
+-- an estimate of q
+abbrev pub NamesHeard : ℕ → List Fact → Type 0
+NamesHeard q facts = (v : Value) × (ts : ℕ) × IsIn (Heard q v ts) facts
+
+-- where p stands in its open instance: its round and phase; the coordinator, from round 1 on; its estimate; an estimate of each member of
+-- which it has one of its round; how many acked, and how many replied
+pub record NameStanding (w : Rehearsal) (p : ℕ) (c : Standing) (facts : List Fact) : Type 0 where
+  pub round : IsIn (InRound c.round c.phase) facts
+  pub led : 1 ≤ c.round → IsIn (LedBy (coordinator w.setting.members c.round)) facts
+  pub holds : IsIn (Holds c.estimate c.ts) facts
+  pub heard : (q : ℕ) (v : Value) (ts : ℕ) → IsMember w.setting.members q → IsIn q everyone →
+      HasGot w p (Est (member_of w p).last c.round q v ts) → NamesHeard q facts
+  pub acked : (acks : ℕ) × (replies : ℕ) × IsIn (Acked acks replies) facts
+
+-- that; or that no instance is open
+abbrev pub NamePlace : Rehearsal → ℕ → Option Standing → List Fact → Type 0
+NamePlace w p None facts = IsIn Idle facts
+NamePlace w p (Some c) facts = NameStanding w p c facts
+
+-- the last instance that p began, and where it stands
+abbrev pub NameMember : Rehearsal → ℕ → List Fact → Type 0
+NameMember w p facts = IsIn (Began (member_of w p).last) facts × NamePlace w p (member_of w p).current facts
+
+-- ---- of an envelope
+
+-- that it went to another; that it waits; or whose it is
+abbrev pub NameReceiver : ℕ → Refusal → List Fact → Type 0
+NameReceiver q refusals.NotSent facts = IsIn (WentTo q) facts
+NameReceiver q refusals.StillWaiting facts = IsIn Waits facts
+NameReceiver q refusal facts = IsIn (GoesTo q) facts
+
+-- where it doesn't wait, the step in which it left its line, if one did
+abbrev pub NameLeaving : Rehearsal → ℕ → Refusal → List Fact → Type 0
+NameLeaving w k refusals.NotWaiting facts = (number : ℕ) (step : Step) → IsLeaving w k number step → IsIn (LeftIn number step) facts
+NameLeaving w k refusal facts = ⊤
+
+-- that none was sent with the serial; or what it carries, and these
+abbrev pub NameLetter : Rehearsal → ℕ → Refusal → Option Envelope → List Fact → Type 0
+NameLetter w k refusal None facts = IsIn (Unsent k (length (state_of w).sent)) facts
+NameLetter w k refusal (Some e) facts = IsIn (Carries k e.wire) facts × NameReceiver e.to refusal facts × NameLeaving w k refusal facts
+
+abbrev pub NameEnvelope : Rehearsal → ℕ → Refusal → List Fact → Type 0
+NameEnvelope w k refusal facts = NameLetter w k refusal (at_serial (state_of w).sent k) facts
+
+-- ---- of a step
+
+-- of the envelope that it names; of another step, of its member
+abbrev pub NameActor : Rehearsal → Step → Refusal → List Fact → Type 0
+NameActor w (Receive p k) refusal facts = NameEnvelope w k refusal facts
+NameActor w (Postpone p k) refusal facts = NameEnvelope w k refusal facts
+NameActor w (Lose p k) refusal facts = NameEnvelope w k refusal facts
+NameActor w (Repeat p k) refusal facts = NameEnvelope w k refusal facts
+NameActor w step refusal facts = NameMember w (actor step) facts
+
+-- the members that there are; a step in which the member crashed, if the record has one; which registers there are; the limit; or those
+abbrev pub NameReason : Rehearsal → Step → Refusal → List Fact → Type 0
+NameReason w step refusals.NoSuchMember facts = IsIn (Members w.setting.members) facts
+NameReason w step refusals.Crashed facts =
+    (number : ℕ) → at_serial w.steps number ≡ Some (Crash (actor step)) → (first : ℕ) × IsIn (CrashedIn first) facts
+NameReason w step refusals.BadCommand facts = IsIn Registers facts
+NameReason w step (refusals.Full limit) facts = IsIn (AtMost (limit_of w limit)) facts
+NameReason w step refusal facts = NameActor w step refusal facts
+
+-- ---- what is told
+
+-- the serial that a step names, 0 where it names none
+abbrev pub serial_in : Step → ℕ
+serial_in (Receive p k) = k
+serial_in (Postpone p k) = k
+serial_in (Lose p k) = k
+serial_in (Repeat p k) = k
+serial_in step = 0
+
+-- the text is that of facts, each of which is true, and these are among them
+pub record TellsFacts (w : Rehearsal) (step : Step) (refusal : Refusal) (These : List Fact → Type 0) (text : List ℕ) : Type 0 where
+  pub facts : List Fact
+  pub is : text ≡ texts_of facts
+  pub are : AreTrue w (actor step) (serial_in step) refusal facts
+  pub these : These facts
+
+-- the same of member p, whatever is refused
+pub record TellsMember (w : Rehearsal) (p : ℕ) (text : List ℕ) : Type 0 where
+  pub facts : List Fact
+  pub is : text ≡ texts_of facts
+  pub are : (k : ℕ) (refusal : Refusal) → AreTrue w p k refusal facts
+  pub these : NameMember w p facts
