@@ -260,9 +260,11 @@ def faults_of_best(tool: str, most: int, case: Case) -> List[str]:
             record = find(tool, case._replace(first=seed, last=seed))[1]
             left[seed] = shrink.ran([tool, "shrink", "--goal", case.goal, *words], record)
         sizes = {seed: int(done.stderr.split()[3]) for seed, done in left.items()}
+        ends = {seed: ", stopped" if b"stopped" in done.stderr else "" for seed, done in left.items()}
+        each = "".join(f"seed {seed}: {sizes[seed]} steps{ends[seed]}\n" for seed in hits)
         seed = min(hits, key=lambda seed: (sizes[seed], seed))
         again = find(tool, case._replace(first=seed, last=seed))[2].splitlines()[1]
-        wanted = f"seed {seed}, best of {len(hits)}: {left[seed].stderr.decode()}{again}\n"
+        wanted = f"{each}seed {seed}, best of {len(hits)}: {left[seed].stderr.decode()}{again}\n"
         wrong += [] if (status, told) == (0, wanted) else [f"{words}: it tells {told!r}, not {wanted!r}"]
         wrong += [] if text == left[seed].stdout else [f"{words}: it writes another run than `shrink` of seed {seed}"]
     return wrong

@@ -1,4 +1,5 @@
 -- A search for the smallest run that fails.
+use Rattle.std.specs.List.{AllZip}
 use Rattle.std.specs.Prelude.{option_map, slice_get, IfErr, IsErrAnd}
 use Rattle.std.proofs.Common.{◌≡◌, ◌∙◌, ◌<◌, ℕ, zero, suc, List, [], ◌∷◌, Option, None, Result, Ok, Err, get_or, length, take}
 use Rattle.std.proofs.Common.{ap, arith, refl, subst, sym}
@@ -6,12 +7,16 @@ use Rattle.std.proofs.lemmas.Option.{get_or_from_slice_get, slice_get-get_or}
 use Rattle.ct_grammar.specs.declared.goal.Goal.{Goal}
 use Rattle.ct_shrink.specs.declared.options.ShrinkOptions.{ShrinkOptions}
 use Rattle.ct_walk.specs.declared.call.Seeds.{Seeds}
+use Rattle.ct_walk.specs.declared.fault.WalkFault.{WalkFault}
 use Rattle.ct_walk.specs.declared.options.WalkOptions.{WalkOptions}
+use Rattle.ct_walk.specs.Faults.{IsShort}
 use Rattle.ct_walk.specs.Finding.{first_of}
 use Rattle.ct_best.specs.declared.fault.BestFault.{BestFault}
+use Rattle.ct_best.specs.declared.fault.BestFault.TheVariants.{Walk}
 use Rattle.ct_find.specs.declared.hit.Hit.{Hit}
 use Rattle.ct_best.specs.declared.left.Left.{Left}
-use Rattle.ct_best.specs.Best.{run_of, FailsOn, FailsOnOne, IsBest}
+use Rattle.ct_best.specs.declared.smaller_walk.SmallerWalk.{SmallerWalk}
+use Rattle.ct_best.specs.Best.{run_of, FailsOn, FailsOnOne, IsBest, IsToldOf}
 use Rattle.ct_find.specs.Hits.{hits_of}
 use Rattle.ct_find.proofs.Hits.{first_hit}
 
@@ -22,9 +27,16 @@ handed P (Ok x) fault same h = tt
 handed P (Err e) fault same h = subst P (sym same) h
 
 -- there is none where there are no hits
-pub best_none : (o : WalkOptions) (goal : Goal) (shrink : ShrinkOptions) (hits : List Hit) (found : Option Left) → found ≡ None →
-    IsBest o goal shrink hits (option_map run_of found) → hits ≡ []
-best_none o goal shrink hits found is best = subst (λ (b : Option Left). IsBest o goal shrink hits (option_map run_of b)) is best
+pub no_hits : {A B : Type 0} (R : A → B → Type 0) (xs : List A) (ys : List B) → ys ≡ [] → AllZip R xs ys → xs ≡ []
+no_hits R [] ys none all = refl
+no_hits R (x ∷ xs) [] none all = absurd all
+no_hits R (x ∷ xs) (y ∷ ys) none all = absurd (cc none)
+
+pub best_none : (o : WalkOptions) (goal : Goal) (shrink : ShrinkOptions) (hits : List Hit) (walks : List SmallerWalk) (best : Option Left) →
+    best ≡ None → AllZip (IsToldOf o goal shrink) hits walks → IsBest o goal shrink walks (option_map run_of best) → hits ≡ []
+best_none o goal shrink hits walks best is all none =
+    no_hits (IsToldOf o goal shrink) hits walks
+    (subst (λ (b : Option Left). IsBest o goal shrink walks (option_map run_of b)) is none) all
 
 no_first : (hits : List Hit) (count : ℕ) → take count hits ≡ [] → 0 < count → take 1 hits ≡ []
 no_first [] count none some = refl
@@ -43,3 +55,9 @@ pub one_fails : (o : WalkOptions) (goal : Goal) (hits : List Hit) (i : ℕ) (d :
 one_fails o goal hits i d fault inside fails =
     let hit = get_or hits i d in
     (hit, (i, inside, get_or_from_slice_get hits i hit hit (slice_get-get_or hits i d inside)), fails)
+
+-- memory or the board is short beside one of the hits
+pub short_fails : (o : WalkOptions) (goal : Goal) (hits : List Hit) (i : ℕ) (fault : WalkFault) → i < length hits → IsShort fault →
+    FailsOnOne o goal hits (Walk fault)
+short_fails o goal [] i fault inside short = absurd (omega (arith, inside))
+short_fails o goal (hit ∷ hits) i fault inside short = (hit, (0, omega arith, refl), short)

@@ -1,4 +1,5 @@
 -- The smallest of the runs that are left of several walks.
+use Rattle.std.specs.List.{AllZip}
 use Rattle.std.specs.Prelude.{All, Contains, nat_lt, option_map}
 use Rattle.std.proofs.Common.{◌≡◌, ◌∙◌, ◌≤◌, ◌<◌, ◌+◌, ◌&&◌, ◌||◌, ◌==◌, ℕ, zero, suc, Bool, true, false, Option, Some, None}
 use Rattle.std.proofs.Common.{arith, ap, refl, subst, sym}
@@ -11,9 +12,10 @@ use Rattle.ct_shrink.specs.declared.options.ShrinkOptions.{ShrinkOptions}
 use Rattle.ct_walk.specs.declared.options.WalkOptions.{WalkOptions}
 use Rattle.ct_find.specs.declared.hit.Hit.{Hit}
 use Rattle.ct_best.specs.declared.left.Left.{Left}
-use Rattle.ct_best.specs.Best.{AreLeftOf, IsBest, IsBestOf, IsLeftOf, IsSmallest, LeftRun, is_less, run_of, smaller_of}
+use Rattle.ct_best.specs.declared.smaller_walk.SmallerWalk.{SmallerWalk}
+use Rattle.ct_best.specs.Best.{IsBest, IsLeftOf, IsRunLeft, IsSmallest, IsToldOf, LeftRun, is_less, run_of, smaller_of}
 
--- ---- one run more
+-- ---- one more
 
 one_all : {X : Type 0} (P : X → Type 0) (x : X) → P x → All P (x ∷ [])
 one_all P x holds zero d inside = holds
@@ -21,6 +23,13 @@ one_all P x holds (suc k) d inside = absurd (omega (arith, inside))
 
 one_there : {X : Type 0} (x : X) → Contains (x ∷ []) x
 one_there x = (0, omega arith, refl)
+
+zip_push : {A B : Type 0} (R : A → B → Type 0) (xs : List A) (ys : List B) (x : A) (y : B) → AllZip R xs ys → R x y →
+    AllZip R (xs ++ x ∷ []) (ys ++ y ∷ [])
+zip_push R [] [] x y all is = (is, tt)
+zip_push R [] (b ∷ ys) x y all is = absurd all
+zip_push R (a ∷ xs) [] x y all is = absurd all
+zip_push R (a ∷ xs) (b ∷ ys) x y all is = (all.0, zip_push R xs ys x y all.1 is)
 
 -- a run of a steps and of the seed s is less than one of b steps and the seed t
 abbrev less : ℕ → ℕ → ℕ → ℕ → Bool
@@ -51,71 +60,72 @@ no_sooner a b s t is same = grind (arith, nat_tests)
 
 -- ---- the smallest of one more
 
-module _ (best run : LeftRun) (runs : List LeftRun) (so_far : IsSmallest runs best) where
+module _ (best walk : SmallerWalk) (walks : List SmallerWalk) (so_far : IsSmallest walks best) where
   -- the new one is
-  new_smallest : is_less run best ≡ true → IsSmallest (runs ++ run ∷ []) run
+  new_smallest : is_less walk best ≡ true → IsSmallest (walks ++ walk ∷ []) walk
   new_smallest is = record {
-    one = Contains-append_right runs (run ∷ []) run (one_there run);
-    fewest = All-append (λ (r : LeftRun). run.told.left ≤ r.told.left) runs (run ∷ [])
+    one = Contains-append_right walks (walk ∷ []) walk (one_there walk);
+    fewest = All-append (λ (w : SmallerWalk). walk.summary.left ≤ w.summary.left) walks (walk ∷ [])
         (λ k d inside. let few = so_far.fewest k d inside in
-        omega (arith, few, fewer run.told.left best.told.left run.seed best.seed is))
-        (one_all (λ (r : LeftRun). run.told.left ≤ r.told.left) run (omega arith));
-    first = All-append (λ (r : LeftRun). r.told.left ≡ run.told.left → run.seed ≤ r.seed) runs (run ∷ [])
-        (λ k d inside. sooner run.told.left best.told.left run.seed best.seed _ _ is (so_far.fewest k d inside) (so_far.first k d inside))
-        (one_all (λ (r : LeftRun). r.told.left ≡ run.told.left → run.seed ≤ r.seed) run (λ _. omega arith));
+        omega (arith, few, fewer walk.summary.left best.summary.left walk.seed best.seed is))
+        (one_all (λ (w : SmallerWalk). walk.summary.left ≤ w.summary.left) walk (omega arith));
+    first = All-append (λ (w : SmallerWalk). w.summary.left ≡ walk.summary.left → walk.seed ≤ w.seed) walks (walk ∷ [])
+        (λ k d inside. sooner walk.summary.left best.summary.left walk.seed best.seed _ _ is (so_far.fewest k d inside)
+        (so_far.first k d inside))
+        (one_all (λ (w : SmallerWalk). w.summary.left ≡ walk.summary.left → walk.seed ≤ w.seed) walk (λ _. omega arith));
   }
 
   -- the one before is
-  old_smallest : is_less run best ≡ false → IsSmallest (runs ++ run ∷ []) best
+  old_smallest : is_less walk best ≡ false → IsSmallest (walks ++ walk ∷ []) best
   old_smallest is = record {
-    one = Contains-append_left runs (run ∷ []) best so_far.one;
-    fewest = All-append (λ (r : LeftRun). best.told.left ≤ r.told.left) runs (run ∷ []) so_far.fewest
-        (one_all (λ (r : LeftRun). best.told.left ≤ r.told.left) run (no_fewer run.told.left best.told.left run.seed best.seed is));
-    first = All-append (λ (r : LeftRun). r.told.left ≡ best.told.left → best.seed ≤ r.seed) runs (run ∷ []) so_far.first
-        (one_all (λ (r : LeftRun). r.told.left ≡ best.told.left → best.seed ≤ r.seed) run
-        (no_sooner run.told.left best.told.left run.seed best.seed is));
+    one = Contains-append_left walks (walk ∷ []) best so_far.one;
+    fewest = All-append (λ (w : SmallerWalk). best.summary.left ≤ w.summary.left) walks (walk ∷ []) so_far.fewest
+        (one_all (λ (w : SmallerWalk). best.summary.left ≤ w.summary.left) walk
+        (no_fewer walk.summary.left best.summary.left walk.seed best.seed is));
+    first = All-append (λ (w : SmallerWalk). w.summary.left ≡ best.summary.left → best.seed ≤ w.seed) walks (walk ∷ []) so_far.first
+        (one_all (λ (w : SmallerWalk). w.summary.left ≡ best.summary.left → best.seed ≤ w.seed) walk
+        (no_sooner walk.summary.left best.summary.left walk.seed best.seed is));
   }
-
-  one_smallest : IsSmallest (runs ++ run ∷ []) (smaller_of (Some best) run)
-  one_smallest = go (is_less run best) refl
-    where
-      go : (h : Bool) → is_less run best ≡ h → IsSmallest (runs ++ run ∷ []) (smaller_of (Some best) run)
-      go true is = rw is (new_smallest is)
-      go false is = rw is (old_smallest is)
 
 module _ (o : WalkOptions) (goal : Goal) (shrink : ShrinkOptions) where
-  one_left : (hits : List Hit) (runs : List LeftRun) (hit : Hit) (run : LeftRun) → AreLeftOf o goal shrink hits runs →
-      IsLeftOf o goal shrink hit run → AreLeftOf o goal shrink (hits ++ hit ∷ []) (runs ++ run ∷ [])
-  one_left [] [] hit run left is = (is, tt)
-  one_left [] (other ∷ runs) hit run left is = absurd left
-  one_left (first ∷ hits) [] hit run left is = absurd left
-  one_left (first ∷ hits) (other ∷ runs) hit run left is = (left.0, one_left hits runs hit run left.1 is)
+  one_best : (walks : List SmallerWalk) (best run : LeftRun) → IsSmallest walks best.walk → IsRunLeft o goal shrink best →
+      IsRunLeft o goal shrink run → IsBest o goal shrink (walks ++ run.walk ∷ []) (Some (smaller_of (Some best) run))
+  one_best walks best run so_far before is = go (is_less run.walk best.walk) refl
+    where
+      go : (h : Bool) → is_less run.walk best.walk ≡ h →
+          IsBest o goal shrink (walks ++ run.walk ∷ []) (Some (smaller_of (Some best) run))
+      go true less = rw less (new_smallest best.walk run.walk walks so_far less, is)
+      go false less = rw less (old_smallest best.walk run.walk walks so_far less, before)
 
-  one_more : (hits : List Hit) (best : Option LeftRun) (hit : Hit) (run : LeftRun) → IsBest o goal shrink hits best →
-      IsLeftOf o goal shrink hit run → IsBest o goal shrink (hits ++ hit ∷ []) (Some (smaller_of best run))
-  one_more hits None hit run none is = record {
-    runs = run ∷ [];
-    left = subst (λ (before : List Hit). AreLeftOf o goal shrink (before ++ hit ∷ []) (run ∷ [])) (sym none) (is, tt);
-    smallest = record {
-      one = one_there run;
-      fewest = one_all (λ (r : LeftRun). run.told.left ≤ r.told.left) run (omega arith);
-      first = one_all (λ (r : LeftRun). r.told.left ≡ run.told.left → run.seed ≤ r.seed) run (λ _. omega arith);
-    };
-  }
-  one_more hits (Some best) hit run so_far is = record {
-    runs = so_far.runs ++ run ∷ [];
-    left = one_left hits so_far.runs hit run so_far.left is;
-    smallest = one_smallest best run so_far.runs so_far.smallest;
-  }
+  one_more : (walks : List SmallerWalk) (best : Option LeftRun) (run : LeftRun) → IsBest o goal shrink walks best →
+      IsRunLeft o goal shrink run → IsBest o goal shrink (walks ++ run.walk ∷ []) (Some (smaller_of best run))
+  one_more walks None run none is =
+      subst (λ (before : List SmallerWalk). IsBest o goal shrink (before ++ run.walk ∷ []) (Some run)) (sym none) (
+        record {
+          one = one_there run.walk;
+          fewest = one_all (λ (w : SmallerWalk). run.walk.summary.left ≤ w.summary.left) run.walk (omega arith);
+          first = one_all (λ (w : SmallerWalk). w.summary.left ≡ run.walk.summary.left → run.walk.seed ≤ w.seed) run.walk
+              (λ _. omega arith);
+        },
+        is,
+      )
+  one_more walks (Some best) run so_far is = one_best walks best run so_far.0 so_far.1 is
 
   -- after one more of the hits
-  pub best_more : (hits : List Hit) (i : ℕ) (d hit : Hit) (best new : Option Left) (run : LeftRun) → i < length hits →
-      hit ≡ get_or hits i d → IsBest o goal shrink (take i hits) (option_map run_of best) →
-      IsLeftOf o goal shrink hit run → option_map run_of new ≡ Some (smaller_of (option_map run_of best) run) →
-      IsBest o goal shrink (take (i + 1) hits) (option_map run_of new)
-  best_more hits i d hit best new run inside here so_far is next =
-      let grown : take (i + 1) hits ≡ take i hits ++ hit ∷ [] =
+  pub best_more : (walks new : List SmallerWalk) (best next : Option Left) (run : LeftRun) → new ≡ walks ++ run.walk ∷ [] →
+      IsBest o goal shrink walks (option_map run_of best) → IsRunLeft o goal shrink run →
+      option_map run_of next ≡ Some (smaller_of (option_map run_of best) run) → IsBest o goal shrink new (option_map run_of next)
+  best_more walks new best next run grown so_far is same =
+      subst (λ (l : List SmallerWalk). IsBest o goal shrink l (option_map run_of next)) (sym grown)
+      (subst (λ (b : Option LeftRun). IsBest o goal shrink (walks ++ run.walk ∷ []) b) (sym same)
+      (one_more walks (option_map run_of best) run so_far is))
+
+  pub walks_more : (hits : List Hit) (i : ℕ) (d hit : Hit) (walks new : List SmallerWalk) (run : LeftRun) → i < length hits →
+      hit ≡ get_or hits i d → AllZip (IsToldOf o goal shrink) (take i hits) walks → IsLeftOf o goal shrink hit run →
+      new ≡ walks ++ run.walk ∷ [] → AllZip (IsToldOf o goal shrink) (take (i + 1) hits) new
+  walks_more hits i d hit walks new run inside here so_far is grown =
+      let grows : take (i + 1) hits ≡ take i hits ++ hit ∷ [] =
       take_more hits i d inside ∙ ap (λ h. take i hits ++ h ∷ []) (sym here) in
-      subst (λ (l : List Hit). IsBest o goal shrink l (option_map run_of new)) (sym grown)
-      (subst (λ (b : Option LeftRun). IsBest o goal shrink (take i hits ++ hit ∷ []) b) (sym next)
-      (one_more (take i hits) (option_map run_of best) hit run so_far is))
+      subst (λ (l : List Hit). AllZip (IsToldOf o goal shrink) l new) (sym grows)
+      (subst (λ (l : List SmallerWalk). AllZip (IsToldOf o goal shrink) (take i hits ++ hit ∷ []) l) (sym grown)
+      (zip_push (IsToldOf o goal shrink) (take i hits) walks hit run.walk so_far (run.text, is)))

@@ -3,8 +3,9 @@
 ghost use Rattle.std.specs.Prelude.{Some};
 ghost use Rattle.ct_best.specs.Faults.{best_text};
 
+use crate::smaller_walk::SmallerWalk;
 use ct_find::Again;
-use ct_shrink::{ShrinkOptions, Summary};
+use ct_shrink::ShrinkOptions;
 use std::fmt;
 
 /// How the smallest run is looked for.
@@ -19,12 +20,10 @@ pub struct BestOptions {
 /// What is told of the smallest run. Its text is the line for standard error.
 #[derive(Drop)]
 pub struct Best {
-    /// How many walks were made smaller.
-    pub hits: usize,
-    /// The seed of the walk that it is left of.
-    pub seed: u32,
-    /// How many steps that walk and the run have, and how many trials were made for it.
-    pub summary: Summary,
+    /// The walks that were made smaller, by their seeds.
+    pub walks: Vec<SmallerWalk>,
+    /// The one that the smallest run is left of.
+    pub smallest: SmallerWalk,
     /// The words that make the walk again.
     pub again: Again,
 }
@@ -36,7 +35,9 @@ impl fmt::Display for Best {
         write!(
             f,
             "seed {}, best of {}: {}",
-            self.seed, self.hits, self.summary
+            self.smallest.seed,
+            self.walks.len(),
+            self.smallest.summary
         )
     }
 }

@@ -5,10 +5,12 @@ mod best;
 mod fault;
 mod left;
 mod shrinking;
+mod smaller_walk;
 mod words;
 mod writing;
 
 pub use best::{Best, BestOptions};
 pub use fault::BestFault;
+pub use smaller_walk::SmallerWalk;
 pub use words::best_options;
 pub use writing::write_best;

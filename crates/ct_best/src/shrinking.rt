@@ -1,23 +1,26 @@
 //! Walks that show what is looked for, made smaller.
 
-ghost use Rattle.std.specs.Prelude.{◌≡◌, ◌≢◌, IfOk, IfErr, Some, option_map};
+ghost use Rattle.std.specs.Prelude.{◌≡◌, ◌≢◌, ◌++◌, ◌∷◌, [], OnOk, IfOk, IfErr, Some, option_map};
+ghost use Rattle.std.specs.List.{AllZip};
 ghost use Rattle.ct_records.specs.View.{rehearsal_of};
 ghost use Rattle.ct_walk.specs.declared.fault.WalkFault.TheVariants as walk;
 ghost use Rattle.ct_walk.specs.Faults.{IsShort};
 ghost use Rattle.ct_walk.specs.Options.{IsInRange, with_seed};
 ghost use Rattle.ct_walk.specs.Walking.{walked};
-ghost use Rattle.ct_best.specs.Best.{run_of, FailsOn, FailsOnOne, IsBest, IsLeftOf};
+ghost use Rattle.ct_best.specs.Best.{run_of, FailsOn, FailsOnOne, IsBest, IsLeftOf, IsToldOf};
 
 use crate::fault::BestFault;
 use crate::left::{Left, smaller_of};
+use crate::smaller_walk::SmallerWalk;
 use ct_find::Hit;
 use ct_grammar::Goal;
 use ct_records::Script;
-use ct_shrink::{Progress, ShrinkOptions};
+use ct_shrink::{Progress, ShrinkOptions, SmallerRun};
 use ct_walk::{WalkFault, WalkOptions};
 use std::alloc::Global;
 
-// The smallest of the runs that are left of the walks of these seeds; None where there are none. Somebody is told after each trial.
+// What is left of the walks of these seeds: what is told of each, and the smallest run; None where there are none. Somebody is told after
+// each trial.
 pub(crate) fn best_of<P: Progress>(
     alloc: Global,
     options: &WalkOptions,
@@ -25,18 +28,32 @@ pub(crate) fn best_of<P: Progress>(
     hits: &[Hit],
     shrink: &ShrinkOptions,
     progress: &mut P,
-) -> Result<Option<Left>, BestFault>
+) -> Result<(Vec<SmallerWalk>, Option<Left>), BestFault>
     requires { IsInRange options.now }
-    ensures ok { IfOk result (λ best. IsBest options.now goal.now shrink.now hits.now (option_map run_of best)) }
+    ensures walks { IfOk result (λ made. AllZip (IsToldOf options.now goal.now shrink.now) hits.now made.0.items) }
+    ensures best { IfOk result (λ made. IsBest options.now goal.now shrink.now made.0.items (option_map run_of made.1)) }
     ensures err { IfErr result (FailsOnOne options.now goal.now hits.now) }
     ensures unwritten { IfErr result (λ fault. fault ≢ BestFault.Walk walk.Write) }
 {
+    let mut walks = Vec::new(alloc);
     let mut best = None;
     for hit in hits {
         let left = left_of(alloc, options, goal, *hit, shrink, progress)?;
+        push_walk(&mut walks, left.walk)?;
         best = Some(smaller_of(best, left));
     }
-    Ok(best)
+    Ok((walks, best))
+}
+
+// Puts the walk behind the others.
+fn push_walk(walks: &mut Vec<SmallerWalk>, walk: SmallerWalk) -> Result<(), WalkFault>
+    ensures ok { OnOk result (walks.new.items ≡ walks.old.items ++ walk ∷ []) }
+    ensures err { IfErr result IsShort }
+{
+    match walks.push(walk) {
+        Ok(()) => Ok(()),
+        Err(_) => Err(WalkFault::Memory),
+    }
 }
 
 // What is left of the walk of this seed.
@@ -55,9 +72,13 @@ fn left_of<P: Progress>(
 {
     let script = walked(alloc, options, goal, hit.seed)?;
     let smaller = ct_shrink::smaller_of(alloc, &script, goal, shrink, progress)?;
+    let SmallerRun { text, summary } = smaller;
     Ok(Left {
-        seed: hit.seed,
-        smaller,
+        walk: SmallerWalk {
+            seed: hit.seed,
+            summary,
+        },
+        text,
     })
 }
 

@@ -1,11 +1,11 @@
 //! The smallest of the runs that are left of several walks, written.
 
-ghost use Rattle.std.specs.Prelude.{◌≡◌, ◌≢◌, ◌<◌, ◌^◌, Err, IfOk, IfErr, length};
+ghost use Rattle.std.specs.Prelude.{◌≡◌, ◌≢◌, ◌<◌, ◌^◌, Err, IfOk, IfErr};
 ghost use Rattle.ct_streams.specs.Streams.{FailsOnce};
 ghost use Rattle.ct_walk.specs.declared.fault.WalkFault.TheVariants as walk;
-ghost use Rattle.ct_best.specs.Best.{FindsNoBest, WritesBest, WritesBestPart};
+ghost use Rattle.ct_best.specs.Best.{AreTold, FindsNoBest, IsSmallest, WritesRun, WritesRunPart};
 ghost use Rattle.ct_find.specs.Line.{IsFindInRange};
-ghost use Rattle.ct_find.specs.Writing.{first_hits, Repeats};
+ghost use Rattle.ct_find.specs.Writing.{Repeats};
 
 use crate::best::{Best, BestOptions};
 use crate::fault::BestFault;
@@ -32,16 +32,19 @@ pub fn write_best<R: Threads + Sync, W: Sink, P: Progress, T: TrialProgress>(
     requires range { IsFindInRange call }
     requires some { 0 < best.now.count }
     requires writes { W.failures writer.old < 2 ^ 63 }
-    // What was written is a smaller run of one of these walks, as `ct_shrink` makes it, and none of the others came to fewer steps.
-    ensures ok { IfOk result (λ told. WritesBest call best.now told (W.written writer.old) (W.written writer.new)) }
-    ensures hits { IfOk result (λ told. told.hits ≡ length (first_hits call best.now.count)) }
-    ensures again { IfOk result (λ told. Repeats call told.seed told.again) }
+    // Of the walk of each of these seeds a smaller run is left, as `ct_shrink` makes it, of which this is told.
+    ensures walks { IfOk result (λ told. AreTold call best.now told.walks.items) }
+    // None that is told has fewer steps than the smallest, and none before it as many.
+    ensures smallest { IfOk result (λ told. IsSmallest told.walks.items told.smallest) }
+    // That one was written.
+    ensures ok { IfOk result (λ told. WritesRun call best.now told.smallest (W.written writer.old) (W.written writer.new)) }
+    ensures again { IfOk result (λ told. Repeats call told.smallest.seed told.again) }
     // Nothing is found where no seed's walk shows the goal; the fault names the seeds and the goal.
     ensures none { IfErr result (FindsNoBest call best.now) }
     // Only a fault of the writer has written anything: some first bytes of such a run.
     ensures quiet { IfErr result (λ fault. fault ≢ BestFault.Walk walk.Write → writer.new ≡ writer.old) }
     ensures part { result ≡ Err (BestFault.Walk walk.Write) →
-        WritesBestPart call best.now (W.written writer.old) (W.written writer.new) }
+        WritesRunPart call best.now (W.written writer.old) (W.written writer.new) }
     ensures writer { FailsOnce result (BestFault.Walk walk.Write) (W.failures writer.old) (W.failures writer.new) }
 {
     let hits = first_hits(rt, alloc, &call, best.count, progress)?;
@@ -52,19 +55,20 @@ pub fn write_best<R: Threads + Sync, W: Sink, P: Progress, T: TrialProgress>(
         seeds,
         ..
     } = call;
-    let Some(left) = best_of(alloc, &options, &goal, &hits, &best.shrink, trials)? else {
+    let made = best_of(alloc, &options, &goal, &hits, &best.shrink, trials)?;
+    let (walks, smallest) = made;
+    let Some(left) = smallest else {
         return Err(BestFault::NotFound(NotFound { seeds, goal: text }));
     };
     let words = quoted_goal(alloc, &text)?;
-    let Left { seed, smaller } = left;
-    match write_all(writer, &smaller.text) {
+    let Left { walk, text } = left;
+    match write_all(writer, &text) {
         Ok(()) => Ok(Best {
-            hits: hits.len(),
-            seed,
-            summary: smaller.summary,
+            walks,
+            smallest: walk,
             again: Again {
                 options,
-                seed,
+                seed: walk.seed,
                 goal: words,
             },
         }),

@@ -1,5 +1,7 @@
 pub mod Beginning
+pub mod Contents
 pub mod Leading
+pub mod Named
 pub mod Reading
 pub mod Smaller
 pub mod Trials

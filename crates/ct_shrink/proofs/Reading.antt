@@ -1,6 +1,6 @@
 -- What is written of the bytes that were read, as what the input says.
 use Rattle.std.proofs.Common.{◌≡◌, ℕ, Bool, List, Option, Some, None, Result, Ok, Err, true, false, length, ◌≤◌, refl, sym, subst, ◌∙◌}
-use Rattle.std.specs.Prelude.{IfErr, IfSome, IsErrAnd, IsOkAnd}
+use Rattle.std.specs.Prelude.{All, IfErr, IfSome, IsErrAnd, IsOkAnd}
 use Rattle.std.specs.Io.KnownBytes.{Appends}
 use Rattle.ct_model.specs.Rehearsal.{Rehearsal}
 use Rattle.ct_model.specs.declared.step.Step.{Step}
@@ -17,6 +17,7 @@ use Rattle.ct_world.specs.declared.setup.Setup.{Setup}
 use Rattle.ct_play.specs.Played.{Played}
 use Rattle.ct_walk.specs.Strangers.{stranger}
 use Rattle.ct_shrink.specs.Faults.{IsFaultOf}
+use Rattle.ct_shrink.specs.Naming.{IsByContent}
 use Rattle.ct_shrink.specs.Runs.{IsNeverShown, IsNoLarger, IsRunOf}
 use Rattle.ct_shrink.specs.Trials.{IsLeast}
 use Rattle.ct_shrink.specs.declared.line.Line.{Line}
@@ -60,15 +61,17 @@ stranger_in test goal bytes w member members e same strange =
     ok_and (script bytes) w (IsStranger goal member members) e (same, subst (λ n. stranger n goal ≡ Some member) same strange)
 
 pub is_left : (test : Played → Bool) (tries : ℕ) (w : Rehearsal) (told : Summary) (left : Rehearsal) (setup : Setup) (lines : List Line) →
-    record_of setup w.steps ≡ w → IsAllowed w → IsRunOf test setup lines left → IsNoLarger test setup w.steps (length left.steps) →
+    record_of setup w.steps ≡ w → IsAllowed w → IsRunOf test setup lines left → All IsByContent lines →
+    IsNoLarger test setup w.steps (length left.steps) →
     (told.is_stopped ≡ false → IsLeast test setup lines) → (told.is_stopped ≡ true → told.trials ≡ tries) → told.trials ≤ tries →
     told.steps ≡ length w.steps → told.left ≡ length lines → IsLeft test tries w told left
-is_left test tries w told left setup lines same allowed run no_larger least stopped few steps count = record {
+is_left test tries w told left setup lines same allowed run named no_larger least stopped few steps count = record {
   setup = setup;
   same = same;
   allowed = allowed;
   lines = lines;
   run = run;
+  named = named;
   no_larger = no_larger;
   least = least;
   stopped = stopped;

@@ -1,4 +1,5 @@
 pub mod Lines
+pub mod Naming
 pub mod Runs
 pub mod Trials
 pub mod Shrinking

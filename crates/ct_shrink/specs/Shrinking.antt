@@ -1,6 +1,7 @@
 -- How a run gets smaller.
-use Rattle.std.specs.Prelude.{◌≡◌, ◌≤◌, ⊤, ℕ, List, Option, Some, None, IfSome, length, option_map}
+use Rattle.std.specs.Prelude.{◌≡◌, ◌≤◌, ⊤, ℕ, All, List, Option, Some, None, IfSome, length, option_map}
 use Rattle.ct_play.specs.Goals.{shows}
+use Rattle.ct_shrink.specs.Naming.{IsByContent}
 use Rattle.ct_shrink.specs.Runs.{IsRunOf}
 use Rattle.ct_shrink.specs.Trials.{IsLeast, trial}
 use Rattle.ct_shrink.specs.declared.job.Job.{Job}
@@ -8,9 +9,10 @@ use Rattle.ct_shrink.specs.declared.kept_run.KeptRun.{KeptRun}
 use Rattle.ct_shrink.specs.declared.line.Line.{Line}
 use Rattle.ct_shrink.specs.declared.shrinking.Shrinking.{Shrinking}
 
--- the run shows the goal, and no more trials were made than may be
+-- the run shows the goal, its lines name envelopes by what they carry, and no more trials were made than may be
 pub record Shows (job : Job) (s : Shrinking) : Type 0 where
   pub run : IsRunOf (shows job.goal.now) job.setup s.run.lines.items s.run.world.rehearsal
+  pub named : All IsByContent s.run.lines.items
   pub few : s.trials ≤ job.most
 
 -- the new run shows it too, and has no more lines

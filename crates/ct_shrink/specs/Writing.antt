@@ -1,5 +1,5 @@
 -- What is written of runs that were made smaller.
-use Rattle.std.specs.Prelude.{◌≡◌, ◌≤◌, ⊤, ℕ, Bool, true, false, List, Option, Some, None, length, Result, IsOkAnd}
+use Rattle.std.specs.Prelude.{◌≡◌, ◌≤◌, ⊤, ℕ, All, Bool, true, false, List, Option, Some, None, length, Result, IsOkAnd}
 use Rattle.std.specs.Io.KnownBytes.{Appends}
 use Rattle.ct_model.specs.Rehearsal.{Rehearsal}
 use Rattle.ct_world.specs.Setup.{record_of}
@@ -14,6 +14,7 @@ use Rattle.ct_listing.specs.Listing.{IsOfListing, IsRefusal}
 use Rattle.ct_play.specs.Played.{Played}
 use Rattle.ct_told.specs.declared.show_fault.ShowFault.TheVariants.{Program}
 use Rattle.ct_walk.specs.Strangers.{stranger}
+use Rattle.ct_shrink.specs.Naming.{IsByContent}
 use Rattle.ct_shrink.specs.Runs.{IsNeverShown, IsNoLarger, IsRunOf}
 use Rattle.ct_shrink.specs.Texts.{IsTextOf}
 use Rattle.ct_shrink.specs.Trials.{IsLeast}
@@ -24,13 +25,14 @@ use Rattle.ct_shrink.specs.declared.shrink_fault.ShrinkFault.TheVariants.{NoMemb
 use Rattle.ct_shrink.specs.declared.summary.Summary.{Summary}
 
 -- of the record this run is left: it shows the goal, with no more steps than the first beginning of the record that does, and, unless no
--- more trials might be made, the trial without any one of its lines fails
+-- more trials might be made, the trial without any one of its lines fails, which name envelopes by what they carry
 pub record IsLeft (test : Played → Bool) (tries : ℕ) (w : Rehearsal) (told : Summary) (left : Rehearsal) : Type 0 where
   pub setup : Setup
   pub same : record_of setup w.steps ≡ w
   pub allowed : IsAllowed w
   pub lines : List Line
   pub run : IsRunOf test setup lines left
+  pub named : All IsByContent lines
   pub no_larger : IsNoLarger test setup w.steps (length left.steps)
   pub least : told.is_stopped ≡ false → IsLeast test setup lines
   pub stopped : told.is_stopped ≡ true → told.trials ≡ tries

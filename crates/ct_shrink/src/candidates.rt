@@ -1,6 +1,7 @@
 //! Which moves are tried.
 
-ghost use Rattle.std.specs.Prelude.{◌<◌};
+ghost use Rattle.std.specs.Prelude.{◌<◌, All, IfOk};
+ghost use Rattle.ct_shrink.specs.Naming.{IsByContent};
 
 use crate::line::Line;
 use crate::moves::Move;
@@ -16,7 +17,10 @@ pub(crate) fn moved(
     n: u8,
     lines: &[Line],
     step: Move,
-) -> Result<Vec<Line>, AllocError> {
+) -> Result<Vec<Line>, AllocError>
+    requires { All IsByContent lines.now }
+    ensures { IfOk result (λ moved. All IsByContent moved.items) }
+{
     let mut standings = Standings::new();
     let mut moved = Vec::new(alloc);
     for line in lines {

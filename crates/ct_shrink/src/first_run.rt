@@ -1,6 +1,6 @@
 //! The beginning of a record that shows a goal.
 
-ghost use Rattle.std.specs.Prelude.{◌≡◌, ◌≤◌, [], Ok, None, Some, IfOk, IfErr, OnOk, MatchOption, length};
+ghost use Rattle.std.specs.Prelude.{◌≡◌, ◌≤◌, [], Ok, None, Some, IfOk, IfErr, IfSome, OnOk, MatchOption, length, All};
 ghost use Rattle.ct_model.specs.Cause.{cause};
 ghost use Rattle.ct_world.specs.Replay.{AllowsFirst};
 ghost use Rattle.ct_world.specs.Setup.{record_of, setting_of};
@@ -8,6 +8,7 @@ ghost use Rattle.ct_play.specs.Faults.{IsShort};
 ghost use Rattle.ct_play.specs.Played.{with_step};
 ghost use Rattle.ct_play.specs.Goals.{shows, uncut};
 ghost use Rattle.ct_shrink.specs.Lines.{after_line};
+ghost use Rattle.ct_shrink.specs.Naming.{IsByContent};
 ghost use Rattle.ct_shrink.specs.Runs.{IsFirstOf, IsNeverShown};
 
 use crate::kept_run::{KeptRun, push_line};
@@ -29,6 +30,7 @@ pub(crate) fn first_run(
     requires { AllowsFirst (setting_of setup.now) setup.now.cells steps.now (length steps.now) }
     ensures first { IfOk result (λ first. MatchOption first (IsNeverShown (shows goal.now) setup.now steps.now)
         (λ run. IsFirstOf (shows goal.now) setup.now steps.now run.lines.items run.world.rehearsal)) }
+    ensures named { IfOk result (λ first. IfSome first (λ run. All IsByContent run.lines.items)) }
     ensures err { IfErr result IsShort }
 {
     let mut watch = Watch::new(alloc, *setup, Some(goal))?;
@@ -61,6 +63,7 @@ fn first_lines(
     requires goal { watch.old.goal ≡ Some goal.now }
     ensures first { IfOk result (λ first. MatchOption first (IsNeverShown (shows goal.now) setup.now steps.now)
         (λ lines. IsFirstOf (shows goal.now) setup.now steps.now lines.items watch.new.played.rehearsal)) }
+    ensures named { IfOk result (λ first. IfSome first (λ lines. All IsByContent lines.items)) }
     ensures err { IfErr result IsShort }
 {
     // The contract names them.
@@ -88,6 +91,7 @@ fn first_lines(
 fn step_by(watch: &mut Watch<'_>, step: Step) -> Result<Line, LineFault>
     requires { cause watch.old.played.rehearsal step ≡ None }
     ensures line { IfOk result (λ line. after_line watch.old.played line ≡ Ok watch.new.played) }
+    ensures named { IfOk result IsByContent }
     ensures step { OnOk result (watch.new.played ≡ with_step watch.old.played step) }
     ensures goal { watch.new.goal ≡ watch.old.goal }
     ensures err { IfErr result IsShort }

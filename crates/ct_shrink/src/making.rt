@@ -1,10 +1,11 @@
 //! Smaller runs.
 
-ghost use Rattle.std.specs.Prelude.{◌≡◌, ◌≤◌, true, false, IfOk, IfErr, length};
+ghost use Rattle.std.specs.Prelude.{◌≡◌, ◌≤◌, true, false, IfOk, IfErr, length, All};
 ghost use Rattle.ct_world.specs.Replay.{AllowsFirst};
 ghost use Rattle.ct_world.specs.Setup.{setting_of};
 ghost use Rattle.ct_play.specs.Goals.{shows};
 ghost use Rattle.ct_shrink.specs.Faults.{IsFaultOf};
+ghost use Rattle.ct_shrink.specs.Naming.{IsByContent};
 ghost use Rattle.ct_shrink.specs.Runs.{IsNoLarger, IsRunOf};
 ghost use Rattle.ct_shrink.specs.Trials.{IsLeast};
 
@@ -29,8 +30,9 @@ pub fn shrink<P: Progress>(
     progress: &mut P,
 ) -> Result<Shrunk, ShrinkFault>
     requires { AllowsFirst (setting_of setup) setup.cells steps.now (length steps.now) }
-    // It is a run of the same group that shows the goal. Its lines are its steps.
+    // It is a run of the same group that shows the goal. Its lines are its steps, and name envelopes by what they carry.
     ensures run { IfOk result (λ shrunk. IsRunOf (shows goal.now) setup shrunk.lines.items shrunk.world.rehearsal) }
+    ensures named { IfOk result (λ shrunk. All IsByContent shrunk.lines.items) }
     // It has no more steps than the first beginning of the given ones that shows the goal.
     ensures no_larger { IfOk result (λ shrunk. IsNoLarger (shows goal.now) setup steps.now (length shrunk.world.rehearsal.steps)) }
     // The trial without any one of its lines fails, unless no more trials might be made.

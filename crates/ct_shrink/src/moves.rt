@@ -1,5 +1,8 @@
 //! Moves: ways to make a run smaller by many lines at once. They only make lines to be tried.
 
+ghost use Rattle.std.specs.Prelude.{IfSome};
+ghost use Rattle.ct_shrink.specs.Naming.{IsByContent, IsContent, NamesContent};
+
 use crate::line::Line;
 use crate::place::Place;
 use ct_grammar::{Act, Carried, Pick};
@@ -22,7 +25,10 @@ pub(crate) enum Move {
 
 impl Move {
     // What the line of this place becomes in a group of n members; None where it is taken out.
-    pub(crate) fn line(self, n: u8, line: Line, place: Option<Place>) -> Option<Line> {
+    pub(crate) fn line(self, n: u8, line: Line, place: Option<Place>) -> Option<Line>
+        requires { IsByContent line }
+        ensures { IfSome result IsByContent }
+    {
         if let Some(place) = place {
             self.place(place)?;
         }
@@ -62,7 +68,10 @@ impl Move {
         }
     }
 
-    fn act(self, n: u8, act: Act) -> Option<Act> {
+    fn act(self, n: u8, act: Act) -> Option<Act>
+        requires { NamesContent act }
+        ensures { IfSome result NamesContent }
+    {
         let act = match act {
             Act::Receive(pick) => Act::Receive(self.pick(n, pick)?),
             Act::Postpone(pick) => Act::Postpone(self.pick(n, pick)?),
@@ -74,7 +83,10 @@ impl Move {
         Some(act)
     }
 
-    fn pick(self, n: u8, pick: Pick) -> Option<Pick> {
+    fn pick(self, n: u8, pick: Pick) -> Option<Pick>
+        requires { IsContent pick }
+        ensures { IfSome result IsContent }
+    {
         match pick {
             Pick::Serial(serial) => Some(Pick::Serial(serial)),
             Pick::First(carried, from) => {

@@ -1,22 +1,30 @@
 //! The lines of steps, and other lines in their place.
 
-ghost use Rattle.std.specs.Prelude.{◌≡◌, Ok};
+ghost use Rattle.std.specs.Prelude.{◌≡◌, Ok, None};
+ghost use Rattle.ct_model.specs.Cause.{cause};
 ghost use Rattle.ct_play.specs.Acting.{step_of};
 ghost use Rattle.ct_shrink.specs.Lines.{best_choice, other_act, other_line, other_pick, other_repeat};
+ghost use Rattle.ct_shrink.specs.Naming.{IsByContent};
 
 use crate::line::Line;
 use ct_grammar::{Act, Pick};
 use ct_listing::{Naming, act_of};
+use ct_merge::law_names;
 use ct_model::Step;
 use ct_names::Member;
 use ct_play::{Stage, picked, repeated};
 
 // ---- the lines of steps
 
-// The line of a step that is taken next.
+// The line of an allowed step that is taken next.
 pub(crate) fn line_of(stage: &Stage, step: Step) -> Line
-    ensures { step_of stage.now.rehearsal result.member result.act ≡ Ok step }
+    requires { cause stage.now.rehearsal step ≡ None }
+    ensures step { step_of stage.now.rehearsal result.member result.act ≡ Ok step }
+    ensures named { IsByContent result }
 {
+    // In a run each name is that of one envelope.
+    let _ = stage.world().record();
+    law_names();
     Line {
         member: step.member(),
         act: act_of(stage, step, Naming::Full),

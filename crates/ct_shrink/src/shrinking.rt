@@ -1,8 +1,9 @@
 //! Runs that get smaller trial by trial.
 
-ghost use Rattle.std.specs.Prelude.{◌≡◌, ◌≢◌, ◌<◌, true, false, Ok, None, OnOk, IfOk, IfErr, remove, length};
+ghost use Rattle.std.specs.Prelude.{◌≡◌, ◌≢◌, ◌<◌, true, false, Ok, None, OnOk, IfOk, IfErr, All, remove, length};
 ghost use Rattle.ct_play.specs.Faults.{IsShort};
 ghost use Rattle.ct_play.specs.Goals.{shows};
+ghost use Rattle.ct_shrink.specs.Naming.{IsByContent};
 ghost use Rattle.ct_shrink.specs.Shrinking.{IsSmallest, IsNoSmaller, IsTrialOf, Shows, Shrinks};
 ghost use Rattle.ct_shrink.specs.Trials.{trial};
 
@@ -148,7 +149,7 @@ impl Shrinking {
     }
 
     // Tries the run without the line at this place.
-    #[tactic(auto, using(crate::proofs::Smaller::none_without))]
+    #[tactic(auto, using(crate::proofs::Smaller::none_without, crate::proofs::Named::without_content))]
     fn attempt_without<P: Progress>(
         &mut self,
         job: &Job<'_>,
@@ -177,6 +178,7 @@ impl Shrinking {
         progress: &mut P,
     ) -> Result<Tried, LineFault>
         requires shows { Shows job.now self.old }
+        requires named { All IsByContent lines.now }
         ensures shrinks { OnOk result (Shrinks job.now self.old self.new) }
         ensures smaller { result ≡ Ok Tried.Smaller → length self.new.run.lines.items < length self.old.run.lines.items }
         ensures same { result ≡ Ok Tried.Same → self.new.run.lines.items ≡ self.old.run.lines.items }
@@ -196,8 +198,10 @@ impl Shrinking {
     }
 
     // The run is the one that the trial of these lines left, if that is smaller.
+    #[tactic(auto, using(crate::proofs::Named::trial_content))]
     fn take(&mut self, job: &Job<'_>, lines: &[Line], kept: Option<KeptRun>) -> Tried
         requires shows { Shows job.now self.old }
+        requires named { All IsByContent lines.now }
         requires trial { IsTrialOf job.now lines.now kept }
         ensures shrinks { Shrinks job.now self.old self.new }
         ensures smaller { result ≡ Tried.Smaller → length self.new.run.lines.items < length self.old.run.lines.items }

@@ -7,7 +7,8 @@ returns-in_default-clause-none g c =
     let o = c.args.call.options in
     let target = c.args.call.goal in
     let hits = c.deref.result.now in
-    let none = best_none o target c.args.best.now.shrink hits c.in_ok-left.field-0 c.in_default.is c.in_ok-left.ensures.ok in (
+    let none = best_none o target c.args.best.now.shrink hits c.in_ok-made.made.0.items c.in_ok-made.made.1 c.in_default.is
+    c.in_ok-made.ensures.walks c.in_ok-made.ensures.best in (
       none_first o target c.args.call.seeds c.args.best.now.count hits (c.deref.ensures.value ∙ c.in_ok-hits.ensures.hits) none
           c.requires.some,
       refl,

@@ -1,4 +1,5 @@
 use Rattle.std.proofs.Common.{ap, ◌∙◌, arith, true, false, get_or, refl}
+use Rattle.std.proofs.lemmas.List.Elements.{All-nil, All-push, All-same}
 use Rattle.std.proofs.lemmas.Option.{slice_get-get_or}
 use Rattle.ct_names.specs.declared.command.Command.TheVariants.{Set}
 use Rattle.ct_model.specs.Cause.{cause}
@@ -6,6 +7,7 @@ use Rattle.ct_model.specs.declared.step.Step.{Step}
 use Rattle.ct_model.specs.declared.step.Step.TheVariants.{Submit}
 use Rattle.ct_play.specs.Goals.{shows}
 use Rattle.ct_play.specs.Played.{Played}
+use Rattle.ct_shrink.specs.Naming.{IsByContent}
 use Rattle.ct_shrink.proofs.Beginning.{never_begun, none_begun, one_begun, shown_begun}
 use Rattle.ct_shrink.proofs.Leading.{looked_for}
 use Rattle.ct_shrink.proofs.first_run.first_lines.Goals as goal
@@ -15,6 +17,7 @@ loop-i-init c = record {
   goal = c.requires.goal;
   begun = none_begun (shows c.args.goal.now) c.args.setup.now c.args.steps.now c.new-lines.result.items c.args.watch.now.played
       c.requires.played c.new-lines.ensures.items;
+  named = All-same IsByContent _ _ c.new-lines.ensures.items (All-nil IsByContent);
 }
 
 pub returns-then-shows-clause-first : goal.returns-then-shows-clause-first
@@ -42,6 +45,8 @@ loop-i-preserved c =
           (Submit 0 (Set 0 0)) step c.in_ok-line.line s c.step_by.new.watch.played c.loop-i-test.true refl
           (looked_for c.loop-i.watch.goal c.args.goal.now s false c.if-shows.ensures c.loop-i.invariant.goal) c.loop-i.invariant.begun
           c.in_ok-push_line.ensures c.in_ok-line.ensures.line c.in_ok-line.ensures.step;
+      named = All-same IsByContent _ _ c.in_ok-push_line.ensures
+          (All-push IsByContent c.loop-i.lines.items c.in_ok-line.line c.loop-i.invariant.named c.in_ok-line.ensures.named);
     }
 
 pub returns-then-shows-2-clause-first : goal.returns-then-shows-2-clause-first
