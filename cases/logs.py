@@ -12,7 +12,7 @@ import subprocess
 import sys
 import tempfile
 import time
-from typing import Dict, List, NamedTuple, Sequence, Tuple
+from typing import Callable, Dict, List, NamedTuple, Sequence, Tuple, Union
 
 HERE = os.path.dirname(os.path.abspath(__file__))
 SECONDS = 20
@@ -37,9 +37,14 @@ GOSSIP = {"1.log": "members 2\nsubmit set 0 7\nreceive data 1.1 from 1\n", "2.lo
 ONE = "members 2\nsubmit set 0 7\nreceive data 1.1 from 1\nbegin\nenter\n"
 TWO = "receive data 1.1 from 1\nbegin\nenter\nreceive est 1/1 from 1\nreceive est 1/1 from 2\nchoose 1\n"
 
-# One member that comes to a decision.
-ALONE = ("submit set 0 7\nreceive data 1.1 from 1\nbegin\nenter\nreceive est 1/1 from 1\nchoose 1\nreceive prop 1/1 from 1\nadopt\n"
-         "receive ack 1/1 from 1\nconclude\nreceive dec 1/1 from 1\ndeliver\n")
+
+def instance(k: int) -> str:
+    """What one member does in the instance, with its message k."""
+    return (f"submit set 0 7\nreceive data 1.{k} from 1\nbegin\nenter\nreceive est {k}/1 from 1\nchoose 1\nreceive prop {k}/1 from 1\n"
+            f"adopt\nreceive ack {k}/1 from 1\nconclude\nreceive dec {k}/1 from 1\ndeliver\n")
+
+
+ALONE = instance(1)
 
 TEN = "members 1\n" + "submit set 0 7\n" * 10 + "".join(f"receive data 1.{number} from 1\n" for number in range(1, 11))
 
@@ -51,11 +56,18 @@ CASES = [
     Case("one that begins with nothing", {"1.log": "members 2\n# nothing waits\nbegin\n"}, 1,
          "refused: 1.log line 3: begin: member 1 is refused Nothing"),
     Case("another command", {**GOSSIP, "2.log": "receive data 1.1 from 1 set 0 8\n"}, 1,
-         "refused: 2.log line 1: receive data 1.1 from 1 set 0 8: member 2 came to set 0 7"),
+         "refused: 1.log line 2: submit set 0 7: member 2 received set 0 8 (2.log line 1), and by this line it is set 0 7"),
+    Case("another command than was passed on",
+         {"1.log": "members 3\nsubmit set 0 7\n", "2.log": "receive data 1.1 from 1 set 0 7\n",
+          "3.log": "receive data 1.1 from 2 set 0 8\n"}, 1,
+         "refused: 2.log line 1: receive data 1.1 from 1 set 0 7: member 3 received set 0 8 (3.log line 1), "
+         "and by this line it is set 0 7"),
     Case("a crashed sender", {"1.log": "submit set 0 7\ncrash\n", "2.log": "receive est 1/1 from 1\n"}, 1,
          "refused: 2.log line 1: receive est 1/1 from 1: it was not sent before, and member 1 can't send it any more"),
     Case("a log that ends too early", {"1.log": "members 2\n", "2.log": "receive data 1.1 from 1\n"}, 6,
          "cut: 2.log line 1: receive data 1.1 from 1: the log of member 1 ends before it is sent"),
+    Case("a log that isn't there", {"1.log": "members 3\n", "2.log": "receive data 3.1 from 3\n"}, 6,
+         "cut: 2.log line 1: receive data 3.1 from 3: there is no log of member 3"),
     Case("each waits for the other",
          {"1.log": "receive data 2.1 from 2\nsubmit set 0 1\n", "2.log": "receive data 1.1 from 1\nsubmit set 0 2\n"}, 1,
          "refused: 1.log line 1: receive data 2.1 from 2: it waits for a line that waits for it\n"
@@ -63,6 +75,9 @@ CASES = [
          "circle: 2.log line 1: receive data 1.1 from 1: it waits for 1.log line 2: submit set 0 1"),
     Case("a word that is no act", {"1.log": "members 1\nrecieve data 1.1 from 1\n"}, 2,
          "1.log line 2: recieve data 1.1 from 1: not understood: recieve is no act; receive?"),
+    Case("a word that is near to no act", {"1.log": "members 1\n1 broadcast 1.1\n"}, 2,
+         "1.log line 2: 1 broadcast 1.1: not understood: broadcast is no act: "
+         "submit, receive, begin, enter, choose, adopt, suspect, conclude, deliver, follow, crash"),
     Case("a record", {"1.log": '{"batch":1048560,"cells":64,"n":1,"steps":[]}\n'}, 2, "1.log: this is a record, not the log of a member"),
     Case("turns", {"1.log": "members 1\n1 turns 4\n"}, 2, "1.log line 2: 1 turns 4: no act of one member, as a log has"),
     Case("a receipt without its sender", {"1.log": "members 1\nreceive data 1.1\n"}, 2,
@@ -84,15 +99,18 @@ CASES = [
     Case("half of an estimate", {"1.log": ONE + "receive prop 1/1\nadopt {1.1\n", "2.log": TWO}, 1,
          "refused: 1.log line 7: adopt {1.1: member 1 came to {1.1} ts 1"),
     Case("a conclusion with its value", {"1.log": "members 1\n" + ALONE.replace("conclude", "conclude {1.1} # decided")}, 0,
-         "accepted: 1 members, 12 lines; instances 1, largest round 1, suspicions 0, choices between different ts 0, repetitions 0"),
+         "accepted: 1 member, 12 lines; instances 1, largest round 1, suspicions 0, choices between different ts 0, repetitions 0"),
     Case("a conclusion with another value", {"1.log": "members 1\n" + ALONE.replace("conclude", "1 conclude {1.2}")}, 1,
          "refused: 1.log line 11: 1 conclude {1.2}: member 1 came to {1.1}"),
     Case("two logs of one member", {"1.log": "1 submit set 0 7\n", "2.log": "1 submit set 0 7\n"}, 2,
-         "2.log: member 1's log, as a file before it"),
+         "2.log: member 1's log, as a file before it; one that names no member is read as that of its place"),
+    Case("a log that names no member, behind one that names that of its place",
+         {"2.log": "members 3\n2 submit set 0 7\n", "3.log": "3 submit set 0 7\n", "4.log": "members 3\n"}, 2,
+         "4.log: member 3's log, as a file before it; one that names no member is read as that of its place"),
     Case("heads that disagree", {"1.log": "members 3\n", "2.log": "members 2\n"}, 2,
          "2.log: members 2, and a log before it has members 3"),
     Case("a value of more than eight messages, in short", {"1.log": TEN + "begin {1.1,1.2,1.3,1.4,1.5,1.6,1.7,1.8 and 2 more}\n"}, 0,
-         "accepted: 1 members, 21 lines; instances 1, largest round 0, suspicions 0, choices between different ts 0, repetitions 0"),
+         "accepted: 1 member, 21 lines; instances 1, largest round 0, suspicions 0, choices between different ts 0, repetitions 0"),
     Case("another count of messages", {"1.log": TEN + "begin {1.1,1.2,1.3,1.4,1.5,1.6,1.7,1.8 and 3 more}\n"}, 1,
          "refused: 1.log line 22: begin {1.1,1.2,1.3,1.4,1.5,1.6,1.7,1.8 and 3 more}: member 1 came to "
          "{1.1,1.2,1.3,1.4,1.5,1.6,1.7,1.8 and 2 more}"),
@@ -108,7 +126,7 @@ CASES = [
          "accepted: 3 members, 8 lines; instances 1, largest round 1, suspicions 0, choices between different ts 0, repetitions 1"),
     Case("a value that was not sent",
          {"1.log": ONE, "2.log": "receive data 1.1 from 1\nbegin\nenter\nreceive est 1/1 from 1 {1.2} ts 0\n"}, 1,
-         "refused: 2.log line 4: receive est 1/1 from 1 {1.2} ts 0: member 2 came to {1.1} ts 0"),
+         "refused: 1.log line 5: enter: member 2 received {1.2} ts 0 (2.log line 4), and by this line it is {1.1} ts 0"),
     Case("a proposal before its choice",
          {"1.log": ONE + "receive prop 1/1 from 2\nadopt\n",
           "2.log": TWO.replace("choose 1\n", "receive ack 1/1 from 1\nchoose 1\n")}, 1,
@@ -133,10 +151,13 @@ CASES = [
          "it sent nack 1/1 instead (1.log line 6)"),
     Case("an ack that may still come", {"1.log": ONE + "receive prop 1/1 from 2\n", "2.log": TWO + "receive ack 1/1 from 1\n"}, 6,
          "cut: 2.log line 7: receive ack 1/1 from 1: the log of member 1 ends before it is sent"),
-    Case("a decision without a cell", {"1.log": "members 1\ncells 0\n" + ALONE}, 1,
-         "refused: 1.log line 14: deliver: member 1 is refused Full(Cells), a limit of all the logs together: it accuses nobody"),
+    Case("a decision without a cell", {"1.log": "members 1\ncells 0\n" + ALONE}, 8,
+         "limit: 1.log line 14: deliver: member 1 is refused Full(Cells): no cell is left; cells 1024 at the top of a log gives room for "
+         "more; it accuses nobody"),
+    Case("more instances than a member has", {"1.log": "members 1\ncells 1024\n" + "".join(instance(k) for k in range(1, 1026))}, 8,
+         "limit: 1.log line 12293: begin: member 1 is refused Full(Instances): a member has at most 1024 instances; it accuses nobody"),
     Case("a decision with a cell", {"1.log": "members 1\ncells 1\n" + ALONE}, 0,
-         "accepted: 1 members, 12 lines; instances 1, largest round 1, suspicions 0, choices between different ts 0, repetitions 0"),
+         "accepted: 1 member, 12 lines; instances 1, largest round 1, suspicions 0, choices between different ts 0, repetitions 0"),
     Case("a member that is not of the group", {"1.log": "members 2\n", "2.log": "3 begin\n"}, 2,
          "2.log: member 3's log, and members are 1 to 2"),
 ]
@@ -147,7 +168,20 @@ BESIDES = [
          {"1.log": "members 3\nsubmit set 0 7\nbegin\n", "2.log": "receive data 1.1 from 1 set 0 8\n",
           "3.log": "receive data 1.1 from 1 set 0 7\n"}, 1,
          "refused: 1.log line 3: begin: member 1 is refused Nothing\n"
-         "also refused: 2.log line 1: receive data 1.1 from 1 set 0 8: member 2 came to set 0 7"),
+         "also refused: 1.log line 2: submit set 0 7: member 2 received set 0 8 (2.log line 1), and by this line it is set 0 7"),
+    Case("an ack where a nack was sent, besides a refusal",
+         {"1.log": ONE + "suspect\nbegin\n", "2.log": TWO + "receive ack 1/1 from 1\n"}, 1,
+         "refused: 1.log line 7: begin: member 1 is refused Busy\n"
+         "also refused: 2.log line 7: receive ack 1/1 from 1: it was not sent before, and member 1 can't send it any more: "
+         "it sent nack 1/1 instead (1.log line 6)"),
+    Case("a limit besides a refusal",
+         {"1.log": "members 3\ncells 0\nbegin\n",
+          "2.log": "submit set 0 7\nreceive data 2.1 from 2\nbegin\nenter\nreceive est 1/1 from 2\nreceive est 1/1 from 3\nchoose 2\n"
+                   "receive prop 1/1\nadopt\nreceive ack 1/1 from 2\nreceive ack 1/1 from 3\nconclude\nreceive dec 1/1 from 2\ndeliver\n",
+          "3.log": "receive data 2.1 from 2\nbegin\nenter\nreceive prop 1/1\nadopt\n"}, 1,
+         "refused: 1.log line 3: begin: member 1 is refused Nothing\n"
+         "also limit: 2.log line 14: deliver: member 2 is refused Full(Cells): no cell is left; cells 1024 at the top of a log gives room "
+         "for more; it accuses nobody"),
     Case("a circle of three",
          {"1.log": "members 3\nsubmit set 0 1\nreceive data 3.1 from 3\nsubmit set 0 2\n",
           "2.log": "receive data 1.2 from 1\nsubmit set 1 1\n", "3.log": "receive data 2.1 from 2\nsubmit set 2 1\n"}, 1,
@@ -163,14 +197,14 @@ BESIDES = [
     Case("a line that a log ends before, and one that no line sends",
          {"1.log": "members 4\nbegin\n", "2.log": "receive data 3.1 from 3\n", "4.log": "4 receive data 1.1 from 1\n"}, 1,
          "refused: 1.log line 2: begin: member 1 is refused Nothing\n"
-         "also cut: 2.log line 1: receive data 3.1 from 3: the log of member 3 ends before it is sent\n"
+         "also cut: 2.log line 1: receive data 3.1 from 3: there is no log of member 3\n"
          "waits: 4.log line 1: 4 receive data 1.1 from 1: no line of 1.log sends it"),
     Case("three lines that are refused, each as another is stated",
          {"1.log": "members 3\nsubmit set 0 7\nreceive data 1.1 from 1 set 0 1\n", "2.log": "receive data 1.1 from 1 set 0 2\n",
           "3.log": "receive data 1.1 from 1 set 0 3\n"}, 1,
-         "refused: 1.log line 3: receive data 1.1 from 1 set 0 1: member 1 came to set 0 7\n"
-         "also refused: 2.log line 1: receive data 1.1 from 1 set 0 2: member 2 came to set 0 7\n"
-         "also refused: 3.log line 1: receive data 1.1 from 1 set 0 3: member 3 came to set 0 7"),
+         "refused: 1.log line 2: submit set 0 7: member 1 received set 0 1 (1.log line 3), and by this line it is set 0 7\n"
+         "also refused: 1.log line 2: submit set 0 7: member 2 received set 0 2 (2.log line 1), and by this line it is set 0 7\n"
+         "also refused: 1.log line 2: submit set 0 7: member 3 received set 0 3 (3.log line 1), and by this line it is set 0 7"),
 ]
 
 SEEN = "instances 1, largest round 1, suspicions 0, choices between different ts 0, repetitions 0"
@@ -182,7 +216,7 @@ EXPECTED = [
          {"1.log": "members 1\nexpect 1 delivered -\n"
           + ALONE.replace("conclude\n", "conclude\nexpect phase Rest\nexpect 1 instance >= 1\n")
           + "expect 1 delivered 1.1\nexpect table 0=7\nexpect 1 refuses begin Nothing\nexpect up\nexpect may crash\n"}, 0,
-         f"accepted: 1 members, 12 lines; {SEEN}"),
+         f"accepted: 1 member, 12 lines; {SEEN}"),
     Case("an expectation that does not hold", {"1.log": "members 1\n" + ALONE + "expect 1 delivered 1.1\nexpect 1 table 0=8\n"}, 1,
          "refused: 1.log line 15: expect 1 table 0=8: expected table 0=8, there is 0=7"),
     Case("one that holds a line later", {"1.log": "members 1\n" + ALONE.replace("deliver\n", "expect delivered 1.1\ndeliver\n")}, 1,
@@ -251,6 +285,10 @@ PRESUMED = [
          "repetitions 0", PRESUME),
     Case("a submission of which the command is stated nowhere", {"1.log": "members 2\n", "2.log": "receive data 1.1 from 1\n"}, 6,
          "cut: 2.log line 1: receive data 1.1 from 1: the log of member 1 ends before it is sent", PRESUME),
+    Case("a message that nobody received, and of which no command is stated",
+         {"1.log": "members 3\nsubmit copy 12 1\n", "2.log": "receive data 1.1 from 1\nreceive data 3.2 from 3 set 0 7\n"}, 7,
+         "presumed: 2 steps of member 3; 3 members, 5 lines; instances 0, largest round 0, suspicions 0, choices between different ts 0, "
+         "repetitions 0", PRESUME),
     Case("a message of which two commands are stated",
          {"1.log": "members 3\n", "2.log": "receive data 1.1 from 1 set 0 7\n", "3.log": "receive data 1.1 from 1 set 0 8\n"}, 6,
          "cut: 3.log line 1: receive data 1.1 from 1 set 0 8: the log of member 1 ends before it is sent\n"
@@ -291,13 +329,24 @@ PRESUMED = [
 
 
 class Growing(NamedTuple):
-    """Logs that grow while they are followed: what stands there first, and what is appended later, to which log."""
+    """Logs that grow while they are followed: what stands there first, and what is appended later, to which log, or is done to its file."""
     name: str
     logs: Dict[str, str]
-    later: Sequence[Tuple[str, str]]
+    later: Sequence[Tuple[str, Union[str, Callable[[str], None]]]]
     options: Sequence[str]
     status: int
     told: str
+
+
+def replaced(path: str) -> None:
+    """Another file has the name."""
+    os.rename(path, path + ".old")
+    with open(path, "w", encoding="utf-8") as file:
+        file.write("2 begin\n" * 20)
+
+
+def shortened(path: str) -> None:
+    os.truncate(path, len("members "))
 
 
 CRASHED = {"1.log": GOSSIP["1.log"] + "crash\n", "2.log": GOSSIP["2.log"]}
@@ -309,7 +358,7 @@ GROWING = [
     Growing("a line that is refused at once", GOSSIP, [("2.log", "2 begin\n2 begin\n")], (), 1,
             "refused: 2.log line 3: 2 begin: member 2 is refused Busy"),
     Growing("a line that is refused once its log has come to it", {**GOSSIP, "1.log": "members 2\nsubmit set 0 8\n"}, [], (), 1,
-            "refused: 2.log line 1: 2 receive data 1.1 from 1 set 0 7: member 2 came to set 0 8"),
+            "refused: 1.log line 2: submit set 0 8: member 2 received set 0 7 (2.log line 1), and by this line it is set 0 8"),
     Growing("a line that waits, and is refused in the end", {**GOSSIP, "2.log": "2 receive data 1.2 from 1\n"}, [("1.log", "crash\n")],
             ("--idle", "1"), 1,
             "refused: 2.log line 1: 2 receive data 1.2 from 1: it was not sent before, and member 1 can't send it any more"),
@@ -337,6 +386,10 @@ GROWING = [
             ("--idle", "1"), 1, "refused: 2.log line 2: expect received -: expected received -, there is 1.1"),
     Growing("a word that is no act", GOSSIP, [("2.log", "2 bgin\n")], (), 2,
             "2.log line 2: 2 bgin: not understood: bgin is no act; begin?"),
+    Growing("a file that is replaced", GOSSIP, [("2.log", replaced)], (), 4, "2.log: replaced"),
+    Growing("a file that is removed", GOSSIP, [("2.log", os.remove)], (), 4, "2.log: removed"),
+    Growing("a file that gets shorter", GOSSIP, [("1.log", shortened)], (), 4,
+            "1.log: shorter than what was read of it"),
 ]
 
 
@@ -380,7 +433,11 @@ def faults_of_growing(tool: str, case: Growing) -> List[str]:
         with subprocess.Popen(words, cwd=folder, stdin=subprocess.DEVNULL, stdout=subprocess.PIPE, stderr=subprocess.PIPE) as running:
             for name, text in case.later:
                 time.sleep(MOMENT)
-                with open(os.path.join(folder, name), "a", encoding="utf-8") as file:
+                path = os.path.join(folder, name)
+                if callable(text):
+                    text(path)
+                    continue
+                with open(path, "a", encoding="utf-8") as file:
                     file.write(text)
             try:
                 output, told = running.communicate(timeout=SECONDS)

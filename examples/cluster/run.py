@@ -3,8 +3,8 @@
 
     run.py [--members N] [--kill K] [--runs R] [--break NAME] [--keep DIR] [options]
 
-Tells a line a run. Ends with status 0 where all logs are accepted, 1 where some are refused, 6 where some are cut and none refused,
-2 where a member or the judge fails.
+Tells a line a run. Ends with status 0 where all logs are accepted, 1 where some are refused, else 6 where some are cut, 8 where some
+meet a limit of the judge, 2 where a member or the judge fails.
 """
 from __future__ import annotations
 
@@ -23,7 +23,7 @@ HERE = os.path.dirname(os.path.abspath(__file__))
 TOOL = os.path.join(HERE, "..", "..", "crates", "ct_tool", "out", "ct_tool")
 SECONDS_MORE = 10         # that a member may take longer than it is to run
 SECONDS_OF_JUDGE = 60
-VERDICTS = {0: "accepted", 1: "refused", 6: "cut"}
+VERDICTS = {0: "accepted", 1: "refused", 6: "cut", 8: "limit"}
 PASSED_ON = ("seconds", "submit", "batch", "delay", "loss", "timeout", "growth", "written", "stated", "broken")
 
 
@@ -150,7 +150,7 @@ def main() -> int:
         except (Failed, OSError) as fault:
             print(fault, file=sys.stderr)
             return 2
-    return next((status for status in (1, 6) if status in statuses), 0)
+    return next((status for status in (1, 6, 8) if status in statuses), 0)
 
 
 if __name__ == "__main__":

@@ -1,11 +1,10 @@
 //! Lines at which logs stand.
 
-use crate::instead::sent_instead;
 use crate::others::push_others;
+use crate::receipt::{Receipt, push_receipt};
 use crate::sources::Sources;
 use crate::torn::push_torn;
-use ct_grammar::Carried;
-use ct_merge::{Culprit, LogAct, StoppedLines, Why, push_why};
+use ct_merge::{Culprit, StoppedLines, Why, push_why};
 use ct_names::Member;
 use ct_world::World;
 use std::alloc::{AllocError, Global};
@@ -34,16 +33,50 @@ fn push_told(
         member,
         place,
         why,
-        run,
+        ..
     } = culprit;
-    push_reason(alloc, text, sources, *member, *place, why, run.as_ref())?;
-    if let Some(stopped) = stopped {
-        push_others(alloc, text, sources, culprit, stopped)?;
+    match stopped {
+        Some(stopped) => {
+            let run = &stopped.run;
+            push_reason(alloc, text, sources, *member, *place, why, run)?;
+            push_others(alloc, text, sources, culprit, stopped)?;
+        }
+        None => push_line_why(text, sources, *member, *place, why)?,
     }
     push_torn(text, sources.names, sources.texts)
 }
 
-// The line at this place of the member's log, and why it is not taken; what was sent instead is looked up in the run.
+// The same without the others; what was sent is looked up in the run.
+pub(crate) fn told_alone(
+    alloc: Global,
+    sources: Sources<'_>,
+    culprit: &Culprit,
+    run: &World,
+) -> Result<String, AllocError> {
+    let mut text = String::new(alloc);
+    push_alone(alloc, &mut text, sources, culprit, run)?;
+    Ok(text)
+}
+
+fn push_alone(
+    alloc: Global,
+    text: &mut String,
+    sources: Sources<'_>,
+    culprit: &Culprit,
+    run: &World,
+) -> Result<(), AllocError> {
+    let Culprit {
+        member,
+        place,
+        why,
+        ..
+    } = culprit;
+    push_reason(alloc, text, sources, *member, *place, why, run)?;
+    push_torn(text, sources.names, sources.texts)
+}
+
+// The line at this place of the member's log, and why it is not taken. Of one that receives an envelope it is looked up in the run what
+// its sender sent.
 pub(crate) fn push_reason(
     alloc: Global,
     text: &mut String,
@@ -51,45 +84,27 @@ pub(crate) fn push_reason(
     member: Member,
     place: usize,
     why: &Why,
-    run: Option<&World>,
+    run: &World,
 ) -> Result<(), AllocError> {
-    sources.push(text, member, place)?;
-    push_why(text, why)?;
-    match (why, run) {
-        (Why::Never(from), Some(world)) => {
-            push_instead(alloc, text, sources, member, place, *from, world)
-        }
-        _ => Ok(()),
+    match Receipt::at(sources, member, place) {
+        Some(receipt) => push_receipt(alloc, text, sources, receipt, why, run),
+        None => push_line_why(text, sources, member, place, why),
     }
 }
 
-// What the sender sent in place of what the line receives, and at which line, where it sent another reply to the round.
-fn push_instead(
-    alloc: Global,
+// The line, and why it is not taken as far as that needs no run.
+pub(crate) fn push_line_why(
     text: &mut String,
     sources: Sources<'_>,
     member: Member,
     place: usize,
-    from: Member,
-    world: &World,
+    why: &Why,
 ) -> Result<(), AllocError> {
-    let Some(LogAct::Receive(name)) = sources.set.act(member, place) else {
-        return Ok(());
-    };
-    let Some(reply) = sent_instead(alloc, world, member, name)? else {
-        return Ok(());
-    };
-    let file = sources.name(from);
-    let number = sources.number(from, reply.place);
-    text.push_str(": it sent ")?;
-    push_reply(text, reply.carried)?;
-    write!(text, " instead ({file} line {number})")
-}
-
-fn push_reply(text: &mut String, carried: Carried) -> Result<(), AllocError> {
-    match carried {
-        Carried::Ack(instance, round) => write!(text, "ack {instance}/{round}"),
-        Carried::Nack(instance, round) => write!(text, "nack {instance}/{round}"),
-        _ => Ok(()),
+    sources.push(text, member, place)?;
+    match why {
+        Why::Ended(from) if sources.set.file(*from).is_none() => {
+            write!(text, "there is no log of member {from}")
+        }
+        _ => push_why(text, why),
     }
 }

@@ -78,6 +78,11 @@ fn ended(alloc: Global, judged: Judged, form: Form, told: String) -> Result<Acce
             drop(presumed);
             Err(MergeFault::Cut(told))
         }
+        Verdict::Limited(culprit) => {
+            drop(culprit);
+            drop(presumed);
+            Err(MergeFault::Limit(told))
+        }
     }
 }
 
@@ -107,7 +112,7 @@ fn unmet_in(
 fn verdict_in(alloc: Global, sources: Sources<'_>, judged: &Judged) -> Result<String, AllocError> {
     match &judged.verdict {
         Verdict::Accepted(_) => torn_of(alloc, sources),
-        Verdict::Refused(culprit) | Verdict::Cut(culprit) => {
+        Verdict::Refused(culprit) | Verdict::Cut(culprit) | Verdict::Limited(culprit) => {
             told_of(alloc, sources, culprit, judged.stopped.as_ref())
         }
     }

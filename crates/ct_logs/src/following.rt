@@ -4,8 +4,9 @@ ghost use Rattle.std.specs.Prelude.{IfOk};
 ghost use Rattle.ct_merge.specs.Verdicts.{IfAccepted};
 ghost use Rattle.ct_logs.specs.Merged.{IsSomeMerge, IsSomeRun};
 
-use crate::culprit::told_of;
+use crate::culprit::told_alone;
 use crate::ending::{AcceptedRun, end_of};
+use crate::file_watch::FileChange;
 use crate::form::Form;
 use crate::growth::{add, end};
 use crate::judged::Judged;
@@ -15,9 +16,10 @@ use crate::pace::Pace;
 use crate::reading::{too_long, unread};
 use crate::sources::Sources;
 use crate::tail::{Parts, Tail};
-use ct_merge::{Culprit, LogLine, Merger};
+use ct_merge::{Culprit, LogLine, Merger, StoppedLines, stopped};
 use ct_names::Member;
 use ct_streams::{FileFault, Files, Source};
+use ct_world::World;
 use std::alloc::{AllocError, Global};
 use std::mem;
 
@@ -108,6 +110,15 @@ fn open_all<F: Files>(
     Ok(())
 }
 
+// The file of this name is another now.
+fn changed(alloc: Global, name: &str, change: FileChange) -> MergeFault {
+    let told = change.told();
+    match format!(in alloc; "{name}: {told}") {
+        Ok(text) => MergeFault::Changed(text),
+        Err(_) => MergeFault::Memory,
+    }
+}
+
 // The log in the file of this name, at this place among the files.
 fn open<F: Files>(
     alloc: Global,
@@ -165,13 +176,33 @@ impl<R: Source + Drop> Following<R> {
             match self.look(alloc, names, piece)? {
                 Look::Refused(culprit) => return Ok(Some(culprit)),
                 Look::Came(bytes, lines) => {
-                    if self.is_over() || !pace.goes_on(bytes, lines) {
+                    if self.is_over() || !self.goes_on(alloc, names, pace, bytes, lines)? {
                         return Ok(None);
                     }
                 }
             }
         }
         Ok(None)
+    }
+
+    // Whether to look again, as so many bytes and lines came: by the pace, unless a file is another now.
+    fn goes_on<P: Pace>(
+        &self,
+        alloc: Global,
+        names: &[&str],
+        pace: &mut P,
+        bytes: usize,
+        lines: usize,
+    ) -> Result<bool, MergeFault> {
+        if bytes == 0 {
+            for (file, tail) in self.tails.iter().enumerate() {
+                let name = name_at(names, file);
+                if let Some(change) = pace.change(file, name, tail.count()) {
+                    return Err(changed(alloc, name, change));
+                }
+            }
+        }
+        Ok(pace.goes_on(bytes, lines))
     }
 
     // Reads what came of each log, and takes lines that can be taken.
@@ -298,7 +329,7 @@ impl<R: Source + Drop> Following<R> {
                 Ok(None)
             }
             Err((culprit, logs)) => {
-                drop(logs);
+                self.set.put_logs(logs);
                 Ok(Some(culprit))
             }
         }
@@ -390,18 +421,34 @@ impl<R: Source + Drop> Following<R> {
 
     // The logs are refused at this line.
     fn refuse(&mut self, alloc: Global, names: &[&str], culprit: &Culprit) -> MergeFault {
-        match self.told_of(alloc, names, culprit) {
-            Ok(text) => MergeFault::Refused(text),
-            Err(_) => MergeFault::Memory,
+        match self.stopped(alloc, names) {
+            Ok(stopped) => {
+                let told = self.told_of(alloc, names, culprit, &stopped.run);
+                drop(stopped);
+                match told {
+                    Ok(text) if culprit.why.is_limit() => MergeFault::Limit(text),
+                    Ok(text) => MergeFault::Refused(text),
+                    Err(_) => MergeFault::Memory,
+                }
+            }
+            Err(fault) => fault,
         }
     }
 
-    // What is told of this line.
+    // Where the logs stand that the set has.
+    fn stopped(&self, alloc: Global, names: &[&str]) -> Result<StoppedLines, MergeFault> {
+        let setup = self.set.setup(alloc, names)?;
+        let same = setup;
+        Ok(stopped(alloc, setup, self.set.logs(same.group.n()))?)
+    }
+
+    // What is told of this line; what others sent is looked up in the run.
     fn told_of(
         &mut self,
         alloc: Global,
         names: &[&str],
         culprit: &Culprit,
+        run: &World,
     ) -> Result<String, AllocError> {
         let texts = texts_of(alloc, &mut self.tails)?;
         let sources = Sources {
@@ -409,7 +456,7 @@ impl<R: Source + Drop> Following<R> {
             texts: &texts,
             set: &self.set,
         };
-        let told = told_of(alloc, sources, culprit, None);
+        let told = told_alone(alloc, sources, culprit, run);
         drop(texts);
         told
     }

@@ -3,11 +3,11 @@
 
 mod culprit;
 mod ending;
+mod file_watch;
 mod following;
 mod form;
 mod group_numbers;
 mod growth;
-mod instead;
 mod judged;
 mod log_set;
 mod merge_fault;
@@ -17,8 +17,10 @@ mod others;
 mod pace;
 mod presumed;
 mod reading;
+mod receipt;
 mod running;
 mod seen;
+mod sent;
 mod setup;
 mod showing;
 mod sources;
@@ -30,6 +32,7 @@ mod way;
 mod words;
 mod writing;
 
+pub use file_watch::{FileChange, FileWatch};
 pub use form::Form;
 pub use merge_fault::MergeFault;
 pub use pace::Pace;

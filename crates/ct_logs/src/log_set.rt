@@ -6,7 +6,7 @@ use crate::group_numbers::GroupNumbers;
 use crate::merge_fault::MergeFault;
 use crate::naming::{line_at, push_line};
 use crate::no_entry::push_no_entry;
-use ct_merge::{Expectations, LogAct, LogFault, LogLine, LogText, NoEntry, Numbers};
+use ct_merge::{Expectations, LogFault, LogLine, LogText, NoEntry, Numbers};
 use ct_names::{Group, MAX_MEMBERS, Member};
 use ct_world::Setup;
 use std::alloc::{AllocError, Global};
@@ -114,10 +114,10 @@ impl LogSet {
         }
     }
 
-    // What the member did by the line at this place of its log.
-    pub(crate) fn act(&self, member: Member, place: usize) -> Option<LogAct> {
+    // The line at this place of the member's log.
+    pub(crate) fn line(&self, member: Member, place: usize) -> Option<&LogLine> {
         let at = usize::from(member).checked_sub(1)?;
-        Some(self.logs.get(at)?.get(place)?.act)
+        self.logs.get(at)?.get(place)
     }
 
     // The place of the file of the member's log.
@@ -213,7 +213,9 @@ impl LogSet {
         member: Member,
     ) -> Result<(), MergeFault> {
         if self.file(member).is_some_and(|other| other != file) {
-            let told = format!(in alloc; "{name}: member {member}'s log, as a file before it")?;
+            let told = format!(in alloc;
+                "{name}: member {member}'s log, as a file before it; one that names no member is read as that of its place"
+            )?;
             return Err(MergeFault::NoLogs(told));
         }
         self.last = self.last.max(member);

@@ -10,6 +10,9 @@ use thiserror::Error;
 // The status where a log would have to go on. No other command ends with it.
 const CUT: u8 = 6;
 
+// The status where a limit is in the way. No other command ends with it.
+const LIMIT: u8 = 8;
+
 /// Why no merged run is written. Its text is the line for standard error.
 #[derive(Debug, Drop, Error)]
 pub enum MergeFault {
@@ -19,6 +22,9 @@ pub enum MergeFault {
     /// A log would have to go on.
     #[error("cut: {0}")]
     Cut(String),
+    /// A limit is in the way, which accuses nobody.
+    #[error("limit: {0}")]
+    Limit(String),
     /// The files are no logs of a group.
     #[error("{0}")]
     NoLogs(String),
@@ -28,6 +34,9 @@ pub enum MergeFault {
     /// A file is not read.
     #[error("{text}")]
     File { fault: FileFault, text: String },
+    /// A file that is followed is another now, or shorter than what was read of it.
+    #[error("{0}")]
+    Changed(String),
     /// The writer failed.
     #[error("write failed")]
     Write,
@@ -43,14 +52,17 @@ impl Fault for MergeFault {
     ghost ends_with = { λ fault. status_of fault };
 
     // 1 for logs that are refused, 2 for files that are no logs, 3 for words, 4 for a stream, 5 for memory and the board, 6 for
-    // logs that are cut.
+    // logs that are cut, 8 for a limit.
     fn status(&self) -> u8 {
         match self {
             MergeFault::Refused(_) => Status::Refused.code(),
             MergeFault::Cut(_) => CUT,
+            MergeFault::Limit(_) => LIMIT,
             MergeFault::NoLogs(_) => Status::NoRecord.code(),
             MergeFault::Twice => Status::Words.code(),
-            MergeFault::File { .. } | MergeFault::Write => Status::Stream.code(),
+            MergeFault::File { .. } | MergeFault::Changed(_) | MergeFault::Write => {
+                Status::Stream.code()
+            }
             MergeFault::Memory | MergeFault::Board => Status::Memory.code(),
         }
     }

@@ -4,13 +4,18 @@ use ct_grammar::Given;
 use ct_merge::NoEntry;
 use std::alloc::AllocError;
 
+// The acts that no log has, as they stand behind the others where acts are listed.
+const NO_LOG_HAS: &str = ", postpone, lose, repeat, turns, settle";
+
 // Why the line does not stand in a log.
 pub(crate) fn push_no_entry(text: &mut String, why: &NoEntry) -> Result<(), AllocError> {
     match why {
         NoEntry::NoText => text.push_str("no UTF-8"),
         NoEntry::NoLine(misfit) => {
             text.push_str("not understood: ")?;
-            misfit.push_onto(text)
+            misfit.push_onto(text)?;
+            leave_out(text);
+            Ok(())
         }
         NoEntry::NoFact => text.push_str(
             "not understood: a log expects one FACT a line, of its own member as it is there: expect FACT",
@@ -33,6 +38,15 @@ pub(crate) fn push_no_entry(text: &mut String, why: &NoEntry) -> Result<(), Allo
         NoEntry::NoSender => text.push_str("the sender is missing: from and a member"),
         NoEntry::Other(member) => write!(text, "member {member}'s, in the log of another"),
         NoEntry::Given(given) => push_given(text, *given),
+    }
+}
+
+// Leaves out acts that no log has at the end of the text.
+fn leave_out(text: &mut String) {
+    if text.as_str().ends_with(NO_LOG_HAS) {
+        for _ in NO_LOG_HAS.chars() {
+            let _ = text.pop();
+        }
     }
 }
 

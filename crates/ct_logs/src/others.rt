@@ -17,17 +17,17 @@ pub(crate) fn push_others(
     culprit: &Culprit,
     stopped: &StoppedLines,
 ) -> Result<(), AllocError> {
-    if is_limit(&culprit.why) {
+    if is_of_all(&culprit.why) {
         return Ok(());
     }
-    push_refused(alloc, text, sources, culprit.member, &stopped.refused)?;
-    push_own(alloc, text, sources, culprit, &stopped.waiting)?;
+    push_refused(alloc, text, sources, culprit.member, stopped)?;
+    push_own(alloc, text, sources, culprit.member, stopped)?;
     push_circles(text, sources, culprit, &stopped.waiting)?;
     push_waits(text, sources, &stopped.waiting)
 }
 
-// A refusal by a limit of all the logs together.
-fn is_limit(why: &Why) -> bool {
+// Whether a limit of all the logs together is in the way of the line.
+fn is_of_all(why: &Why) -> bool {
     match why {
         Why::Fault(OwnFault::Line(LineFault::Refused(_, Refusal::Full(limit)))) => {
             matches!(limit, Limit::Envelopes | Limit::Cells | Limit::Steps)
@@ -42,37 +42,42 @@ fn push_refused(
     text: &mut String,
     sources: Sources<'_>,
     told: Member,
-    refused: &[Culprit],
+    stopped: &StoppedLines,
 ) -> Result<(), AllocError> {
-    for culprit in refused {
-        if culprit.member != told {
-            push_also(
-                alloc,
-                text,
-                sources,
-                culprit.member,
-                culprit.place,
-                &culprit.why,
-                None,
-            )?;
+    for culprit in &stopped.refused {
+        let Culprit {
+            member,
+            place,
+            why,
+            ..
+        } = culprit;
+        if *member != told {
+            push_also(alloc, text, sources, *member, *place, why, &stopped.run)?;
         }
     }
     Ok(())
 }
 
-// The other lines that stand for a reason of their own.
+// The other lines that stand for a reason of their own, but that of this member.
 fn push_own(
     alloc: Global,
     text: &mut String,
     sources: Sources<'_>,
-    culprit: &Culprit,
-    waiting: &[StoppedLine],
+    told: Member,
+    stopped: &StoppedLines,
 ) -> Result<(), AllocError> {
-    for line in waiting {
+    for line in &stopped.waiting {
         if let Stand::Own(why) = &line.stand {
-            if line.member != culprit.member {
-                let run = culprit.run.as_ref();
-                push_also(alloc, text, sources, line.member, line.place, why, run)?;
+            if line.member != told {
+                push_also(
+                    alloc,
+                    text,
+                    sources,
+                    line.member,
+                    line.place,
+                    why,
+                    &stopped.run,
+                )?;
             }
         }
     }
@@ -86,7 +91,7 @@ fn push_also(
     member: Member,
     place: usize,
     why: &Why,
-    run: Option<&World>,
+    run: &World,
 ) -> Result<(), AllocError> {
     text.push_str(word_of(why))?;
     push_reason(alloc, text, sources, member, place, why, run)
@@ -96,6 +101,7 @@ fn push_also(
 fn word_of(why: &Why) -> &'static str {
     match why {
         Why::Ended(_) => "\nalso cut: ",
+        _ if why.is_limit() => "\nalso limit: ",
         _ => "\nalso refused: ",
     }
 }

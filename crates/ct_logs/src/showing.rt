@@ -54,13 +54,21 @@ fn push_seen(text: &mut String, members: u8, seen: Seen) -> Result<(), AllocErro
         choices,
         repetitions,
     } = seen;
+    push_count(text, usize::from(members), "member")?;
+    text.push_str(", ")?;
+    push_count(text, lines, "line")?;
     write!(
         text,
-        "{members} members, {lines} lines; instances {instances}"
+        "; instances {instances}, largest round {round}, suspicions {suspicions}"
     )?;
-    write!(text, ", largest round {round}, suspicions {suspicions}")?;
     write!(
         text,
         ", choices between different ts {choices}, repetitions {repetitions}"
     )
+}
+
+// How many there are of what the word names.
+fn push_count(text: &mut String, count: usize, word: &str) -> Result<(), AllocError> {
+    let ending = if count == 1 { "" } else { "s" };
+    write!(text, "{count} {word}{ending}")
 }

@@ -72,6 +72,11 @@ impl<R: Source + Drop> Tail<R> {
         Ok(self.text.len() <= MAX_LEN)
     }
 
+    // How many bytes were read.
+    pub(crate) fn count(&self) -> usize {
+        self.text.len()
+    }
+
     // Takes the lines that are over now, of the file of this name.
     pub(crate) fn take(&mut self, alloc: Global, name: &str) -> Result<Parts, MergeFault> {
         refuse_record(alloc, name, &self.text)?;

@@ -26,7 +26,8 @@ The first log is member 1's, unless its lines name another member, and so on.
 With --follow logs are read as they grow, and judged once the log that gives
 members has an act. A line that is refused whatever comes is told at once, all
 else in the end: once each log ends with a crash, or after S seconds without a
-line. ^C ends it, with nothing told.
+line. A file that is replaced, removed or truncated ends it, with status 4. ^C
+ends it, with nothing told.
 
 With --presume members go on behind logs that are cut, so that they send what
 others received. How many steps of whom are presumed is told; it isn't known
@@ -45,7 +46,8 @@ Status:
   4  a read or a write failed
   5  memory was refused
   6  the logs are cut: one of them would have to go on
-  7  the logs are cut, and a run was written in which they go on (--presume)";
+  7  the logs are cut, and a run was written in which they go on (--presume)
+  8  a limit of what is judged is met, which accuses nobody";
 
 /// The subcommand `merge`.
 pub fn merge_command<'a>(alloc: Global) -> Result<Command<'a>, AllocError>

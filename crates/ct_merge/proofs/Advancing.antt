@@ -9,7 +9,7 @@ use Rattle.std.proofs.lemmas.List.{take_all}
 use Rattle.ct_names.specs.Group.{is_member}
 use Rattle.ct_model.specs.Rehearsal.{Rehearsal, empty}
 use Rattle.ct_merge.specs.Logs.{IsLog, IsMerge, IsTold, is_own, log_of, moments, own}
-use Rattle.ct_merge.specs.Merging.{IsSameGroup, IsTakenFrom, IsTakenTo, IsWholeTo, LeavesOthers, Taken, count_of}
+use Rattle.ct_merge.specs.Merging.{IsLater, IsTakenFrom, IsTakenTo, IsWholeTo, LeavesOthers, Taken, count_of}
 use Rattle.ct_merge.specs.declared.log_line.LogLine.{LogLine}
 
 first_of : (a b : Bool) → (a && b) ≡ true → a ≡ true
@@ -29,7 +29,7 @@ taken_as old new p log a b same e h =
 -- more lines of p's log
 pub advanced : (logs : List (Vec LogLine)) (old mid new : Taken) (p count : ℕ) → IsTakenFrom logs old →
     IsTakenTo mid.rehearsal p (log_of logs p) count → LeavesOthers p old.rehearsal mid.rehearsal →
-    IsSameGroup old.rehearsal mid.rehearsal → mid.counts ≡ old.counts → new.rehearsal ≡ mid.rehearsal → count_of new.counts p ≡ count →
+    IsLater old.rehearsal mid.rehearsal → mid.counts ≡ old.counts → new.rehearsal ≡ mid.rehearsal → count_of new.counts p ≡ count →
     ((q : ℕ) → 1 ≤ q → q ≢ p → count_of new.counts q ≡ count_of mid.counts q) → IsTakenFrom logs new
 advanced logs old mid new p count before here others group counts same at elsewhere q in_group =
     let n : new.rehearsal.setting.members ≡ old.rehearsal.setting.members =

@@ -12,89 +12,32 @@ use Rattle.ct_model.specs.Senders.{senders}
 use Rattle.ct_model.specs.Setting.{Setting}
 use Rattle.ct_model.specs.State.{State, Member, member, is_crashed, submissions, at_serial}
 use Rattle.ct_model.specs.declared.step.Step.{Step}
-use Rattle.ct_model.proofs.Basics.Options.{some-same, some-none}
 use Rattle.ct_model.proofs.Basics.Tests.{number_same}
-use Rattle.ct_model.proofs.Consensus.Sent.{Carries}
 use Rattle.ct_model.proofs.Relay.Messages.{next-is}
 use Rattle.ct_merge.specs.Barred.{IsDone, IsThere}
-use Rattle.ct_merge.specs.Barred.IsDone.{nobody, stopped, past}
+use Rattle.ct_merge.specs.Barred.IsDone.{nobody, stopped, unable, unknown}
 use Rattle.ct_merge.specs.Deeds.{letter, Sends, IsFrom, IsPosted}
 use Rattle.ct_merge.specs.Local.{outcome_of, IsLike, gets}
 use Rattle.ct_merge.specs.Logs.{Moment, act_of, is_own, own}
 use Rattle.ct_merge.specs.Merging.{step_of}
 use Rattle.ct_play.specs.Picking.{carried_of, sender_of}
 use Rattle.ct_merge.specs.Names.{full_name, named}
-use Rattle.ct_merge.specs.Past.{IsPast}
 use Rattle.ct_merge.specs.Runs.{IsRun}
+use Rattle.ct_merge.specs.Unable.{IsOfGroup, SendsNoMore}
 use Rattle.ct_grammar.specs.declared.carried.Carried.{Carried}
 use Rattle.ct_merge.specs.declared.full_name.FullName.{FullName}
 use Rattle.ct_merge.specs.declared.log_act.LogAct.{LogAct}
 use Rattle.ct_merge.specs.declared.log_act.LogAct.TheVariants.{Submit, Receive, Begin, Enter, Choose, Adopt, Suspect, Conclude, Deliver}
 use Rattle.ct_merge.specs.declared.log_act.LogAct.TheVariants.{Follow, Crash}
-use Rattle.ct_merge.proofs.Local.{next_outcome, outcome_is, outcome_local}
-use Rattle.ct_merge.proofs.Moments.{IsPlaced, get_below, get_last, get_there, no_own, own_cases, placed}
-use Rattle.ct_merge.proofs.SentOnce.{PastIn, named_past, past_kept, past_not, stepping}
+use Rattle.ct_merge.proofs.Local.{next_outcome, outcome_local}
+use Rattle.ct_merge.proofs.Moments.{get_below, get_last, get_there, placed}
+use Rattle.ct_merge.proofs.NoMore.{NoMoreIn, no_more_sends}
+use Rattle.ct_merge.proofs.OfGroup.{sent_group}
+use Rattle.ct_merge.proofs.SentOnce.{named_past}
 use Rattle.ct_merge.proofs.Owning.{at, only, own_more}
-use Rattle.ct_merge.proofs.Posting.{is_named, posted, sends_carries, sent_serial}
-use Rattle.ct_merge.proofs.Running.{known, by_steps, state_next}
+use Rattle.ct_merge.proofs.Posting.{is_named, posted, sent_serial}
 use Rattle.ct_merge.proofs.Sameness.{Acts, AreSame, below_or_not, both_get, like_there, same_deeds, same_wire, sends_same}
 use Rattle.ct_merge.proofs.Telling.{IsReceipt, IsToldStep, carried_same, received_wire, wire_named}
-
--- ---- what is behind a member at an own step is so later
-
-PastOn : Rehearsal → Type 0
-PastOn w = (q i : ℕ) (m : Moment) (c : Carried) → IsMember w.setting.members q → slice_get (own w q) i ≡ Some m →
-    PastIn w.setting (state_of m.before) q c → PastIn w.setting (state_of w) q c
-
-past_more : (w : Rehearsal) (step : Step) (h : State) → IsRun w → next w.setting (state_of w) step ≡ Some h → PastOn w →
-    PastOn (extended w step)
-unfolding PastOn
-past_more w step h r e old q i m c isq there before =
-    let facts = known w r in
-    let now : PastIn w.setting (state_of w) q c = elim (own_cases w step q i m there) [
-      | inl a ↦ old q i m c isq a before
-      | inr b ↦ subst (λ (x : Moment). PastIn w.setting (state_of x.before) q c) b.is before
-    ] in
-    subst (λ x. PastIn w.setting x q c) (sym (state_next w step h e))
-    (past_kept w.setting (state_of w) step h (stepping w step h r e) facts.holds facts.knows q isq c now)
-
-past_on_run : (w : Rehearsal) → IsRun w → PastOn w
-unfolding PastOn
-past_on_run = by_steps PastOn
-    (λ s cells q i m c isq there before. some-none m (sym (ap (λ l. slice_get l i) (no_own s cells q)) ∙ there)) past_more
-
--- an own step sends nothing that was behind its member at one that is no later
-past_sends : (w : Rehearsal) → IsRun w → (q i j : ℕ) (m n : Moment) (p : ℕ) (x : Wire) → IsMember w.setting.members q →
-    slice_get (own w q) i ≡ Some m → slice_get (own w q) j ≡ Some n → i ≤ j → PastIn w.setting (state_of m.before) q (carried_of x) →
-    Sends n p x → ⊥
-unfolding PastOn
-past_sends w r q i j m n p x isq there also low before sends =
-    let f = placed w r q j n also in
-    let s : Setting = n.before.setting in
-    let t = next-is s (state_of n.before) n.step f.state f.enabled in
-    let facts = known n.before f.run in
-    let same : (sends.outcome) ≡ t.outcome =
-    some-same sends.outcome t.outcome (sym sends.is ∙ outcome_is s (state_of n.before) n.step f.state t) in
-    let carried : Carries (t.outcome).mail x = subst (λ (o : Outcome). Carries o.mail x) same (sends_carries n p x sends) in
-    past_not s (state_of n.before) n.step f.state t facts.holds facts.knows x carried
-    (subst (λ z. PastIn s (state_of n.before) z (carried_of x)) (sym f.actor)
-    (subst (λ (z : Setting). PastIn z (state_of n.before) q (carried_of x)) (sym f.setting) (now f)))
-  where
-    now : IsPlaced w q j n → PastIn w.setting (state_of n.before) q (carried_of x)
-    now f = elim (below_or_not i j) [
-      | inl less ↦
-          let z = get_there (own n.before q) i (let count : length (own n.before q) ≡ j = f.count in omega arith) in
-          let same : z.0 ≡ m = some-same z.0 m (sym (f.earlier q i z.0 z.1) ∙ there) in
-          let before : PastIn n.before.setting (state_of (z.0).before) q (carried_of x) =
-          subst (λ (s : Setting). PastIn s (state_of (z.0).before) q (carried_of x)) (sym f.setting)
-          (subst (λ (y : Moment). PastIn w.setting (state_of y.before) q (carried_of x)) (sym same) before) in
-          subst (λ (s : Setting). PastIn s (state_of n.before) q (carried_of x)) f.setting
-          (past_on_run n.before f.run q i z.0 (carried_of x) (subst (λ (s : Setting). IsMember s.members q) (sym f.setting) isq) z.1 before)
-      | inr more ↦
-          let at_once : i ≡ j = omega arith in
-          let same : m ≡ n = some-same m n (sym there ∙ (ap (λ i. slice_get (own w q) i) at_once ∙ also)) in
-          subst (λ (y : Moment). PastIn w.setting (state_of y.before) q (carried_of x)) same before
-    ]
 
 -- ---- what is there
 
@@ -124,10 +67,10 @@ sent_there w r q i m p x name from carried there sends =
     let k = sent_serial w r q i m p x there sends in
     record { serial = k.0; wire = x; from = subst (λ z. IsFrom w z p x k.0) (sym from) k.1; carried = carried }
 
--- who is done with it sends nothing of that name at an own step
+-- who never sends it sends nothing of that name at an own step
 done_apart : (w t : Rehearsal) → IsRun w → t.setting ≡ w.setting → (q i j : ℕ) (m n : Moment) (p : ℕ) (x : Wire) (c : Carried) →
     IsMember w.setting.members q → slice_get (own w q) i ≡ Some m → slice_get (own w q) j ≡ Some n → i ≤ j →
-    IsLike q (state_of m.before) (state_of t) → Sends n p x → carried_of x ≡ c → IsDone t q c → ⊥
+    IsLike q (state_of m.before) (state_of t) → Sends n p x → carried_of x ≡ c → IsDone t q p c → ⊥
 done_apart w t r group q i j m n p x c isq there also low alike sends carried (nobody out) =
     out (subst (λ (z : Setting). IsMember z.members q) (sym group) isq)
 done_apart w t r group q i j m n p x c isq there also low alike sends carried (stopped crashed) =
@@ -136,12 +79,16 @@ done_apart w t r group q i j m n p x c isq there also low alike sends carried (s
     let up : is_crashed (state_of m.before) q ≡ false = subst (λ z. is_crashed (state_of m.before) z ≡ false) b.actor s.up in
     let down : is_crashed (state_of m.before) q ≡ true = ap (λ (z : Member). z.crashed) alike.member ∙ crashed in
     cc
-done_apart w t r group q i j m n p x c isq there also low alike sends carried (past behind) =
-    let here : PastIn w.setting (state_of m.before) q c =
-    subst (λ (z : Setting). PastIn z (state_of m.before) q c) group
-    (subst (λ z. IsPast t.setting.members q z (submissions (state_of m.before).submitted q) c) (sym alike.member)
-    (subst (λ z. IsPast t.setting.members q (member (state_of t) q) z c) (sym alike.submitted) behind)) in
-    past_sends w r q i j m n p x isq there also low (subst (λ z. PastIn w.setting (state_of m.before) q z) (sym carried) here) sends
+done_apart w t r group q i j m n p x c isq there also low alike sends carried (unknown never) =
+    let k = sent_serial w r q j n p x also sends in
+    never (subst (λ (z : Setting). IsOfGroup z.members c) (sym group)
+    (subst (λ z. IsOfGroup w.setting.members z) carried (sent_group w r q p x k.0 k.1)))
+done_apart w t r group q i j m n p x c isq there also low alike sends carried (unable more) =
+    let here : NoMoreIn w.setting (state_of m.before) q p c =
+    subst (λ (z : Setting). NoMoreIn z (state_of m.before) q p c) group
+    (subst (λ z. SendsNoMore t.setting.members q p z (submissions (state_of m.before).submitted q) c) (sym alike.member)
+    (subst (λ z. SendsNoMore t.setting.members q p (member (state_of t) q) z c) (sym alike.submitted) more)) in
+    no_more_sends w r q i j m n p x isq there also low (subst (λ z. NoMoreIn w.setting (state_of m.before) q p z) (sym carried) here) sends
 
 -- ---- a member whose line is barred
 
@@ -192,7 +139,7 @@ module _ (a : ℕ → ℕ → Option LogAct) (t : Rehearsal) (u : IsRun t) (acts
 
     -- it is no step of a member that is done with it
     pub not_done : (name : FullName) (is : act ≡ Receive name) → length (own t name.from) ≤ (post name is).place →
-        IsDone t name.from name.carried → ⊥
+        IsDone t name.from p name.carried → ⊥
     unfolding AreSame
     not_done name is later done =
         let f = post name is in

@@ -34,7 +34,7 @@ sent_wire : (w : Rehearsal) (p k : ℕ) → is_sent w p k ≡ true → (o : Opti
 sent_wire w p k sent None e = absurd (cc)
 sent_wire w p k sent (Some x) e = (x, refl)
 
-receipt_of : (w : Rehearsal) (p k : ℕ) (name : FullName) → is_sent w p k ≡ true → full_name w k ≡ Some name → IsReceipt w p k name
+pub receipt_of : (w : Rehearsal) (p k : ℕ) (name : FullName) → is_sent w p k ≡ true → full_name w k ≡ Some name → IsReceipt w p k name
 receipt_of w p k name sent full =
     let x = sent_wire w p k sent (wire_to (state_of w) p k) refl in
     wire_named w p k name x.0 full x.1

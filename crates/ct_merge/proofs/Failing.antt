@@ -1,16 +1,15 @@
 -- Logs with a line that is refused by itself have no merge.
-use Rattle.std.proofs.Common.{◌≡◌, ℕ, ◌+◌, ◌<◌, ◌≤◌, ◌⊎◌, Bool, true, false, List, [], ◌∷◌, Option, Some, None, IfSome, length}
-use Rattle.std.proofs.Common.{inl, inr, refl, sym, ap, ◌∙◌, subst, arith, length-append, take}
-use Rattle.std.specs.Prelude.{slice_get, ◌==◌}
+use Rattle.std.proofs.Common.{◌≡◌, ℕ, ◌+◌, Bool, true, false, List, [], ◌∷◌, Option, Some, None, IfSome, length}
+use Rattle.std.proofs.Common.{inl, inr, refl, sym, ap, ◌∙◌, subst, arith}
+use Rattle.std.specs.Prelude.{◌==◌}
 use Rattle.std.specs.Global.{Vec}
-use Rattle.std.proofs.lemmas.List.{take-append-le}
-use Rattle.ct_names.specs.Group.{IsMember, is_member}
+use Rattle.ct_names.specs.Group.{is_member}
 use Rattle.ct_names.specs.declared.limit.Limit.TheVariants.{Submissions, Instances, Rounds, Envelopes, Cells, Steps}
 use Rattle.ct_names.specs.declared.refusal.Refusal.{Refusal}
-use Rattle.ct_names.specs.declared.refusal.Refusal.TheVariants.{Full, NoSuchMember}
+use Rattle.ct_names.specs.declared.refusal.Refusal.TheVariants.{Full}
 use Rattle.ct_model.specs.Actor.{actor}
-use Rattle.ct_model.specs.Cause.{at as test, cause, first_fault, limit, limits, or_else, presence, tests}
-use Rattle.ct_model.specs.Lawful.{IsLawful, IsPresent}
+use Rattle.ct_model.specs.Cause.{at as test, cause, first_fault, limit, limits, or_else, tests}
+use Rattle.ct_model.specs.Lawful.{IsAway, IsLawful, IsPresent, NamesWaiting, is_waiting}
 use Rattle.ct_model.specs.Next.{Outcome, next, row}
 use Rattle.ct_model.specs.Phases.{adopt, choose, conclude, enter, suspect}
 use Rattle.ct_model.specs.Rehearsal.{Rehearsal, extended, line_of, state_of}
@@ -18,23 +17,20 @@ use Rattle.ct_model.specs.Setting.{Setting}
 use Rattle.ct_model.specs.State.{State, is_crashed, member}
 use Rattle.ct_model.specs.declared.step.Step.{Step}
 use Rattle.ct_model.specs.declared.step.Step.TheVariants as step
-use Rattle.ct_model.proofs.Basics.Groups.{member_is}
-use Rattle.ct_model.proofs.Basics.Options.{made-then, some-none, some-same}
-use Rattle.ct_model.proofs.Basics.Tests.{number_same, same_number}
+use Rattle.ct_model.proofs.Basics.Options.{made-then, some-none}
 use Rattle.ct_model.proofs.Record.Allowed.{cause-allowed}
-use Rattle.ct_model.proofs.Record.Causes.{cause-absent, cause-present, own_tests}
+use Rattle.ct_model.proofs.Record.Causes.{cause-present, own_tests}
 use Rattle.ct_model.proofs.Record.Limits.{own_tests-is}
-use Rattle.ct_model.proofs.Record.Senders.{get-front}
 use Rattle.ct_model.proofs.Relay.Messages.{next-is}
 use Rattle.ct_merge.specs.Stating.{is_stated, log_outcome}
 use Rattle.ct_play.specs.declared.line_fault.LineFault.TheVariants as fault
 use Rattle.ct_merge.specs.Barred.{IsBarred, IsThere}
 use Rattle.ct_merge.specs.Barred.IsBarred.{down, refused}
-use Rattle.ct_merge.specs.Logs.{IsLog, log_of, own}
-use Rattle.ct_merge.specs.Merging.{IsTakenFrom, IsTakenTo, Taken, count_of, step_of}
+use Rattle.ct_merge.specs.Logs.{own}
+use Rattle.ct_merge.specs.Merging.{step_of}
 use Rattle.ct_merge.specs.Runs.{IsNamed, IsRun}
-use Rattle.ct_merge.specs.Stops.{Differs, IsCulprit, IsFaultAt, IsRepetition, IsWhy, Tells}
-use Rattle.ct_merge.specs.Waits.{AllBegin, HasNoMerge, is_own_cause, is_own_fault}
+use Rattle.ct_merge.specs.Stops.{Differs, IsAsked, IsCulprit, IsFaultAt, IsRepetition, IsWhy, Tells}
+use Rattle.ct_merge.specs.Waits.{NeverMerges, is_full, is_limit, is_wait}
 use Rattle.ct_merge.specs.declared.full_name.FullName.{FullName}
 use Rattle.ct_merge.specs.declared.log_act.LogAct.{LogAct}
 use Rattle.ct_merge.specs.declared.log_act.LogAct.TheVariants.{Submit, Receive, Begin, Enter, Choose, Adopt, Suspect, Conclude, Deliver}
@@ -43,14 +39,13 @@ use Rattle.ct_merge.specs.declared.log_line.LogLine.{LogLine}
 use Rattle.ct_merge.specs.declared.own_fault.OwnFault.{OwnFault}
 use Rattle.ct_merge.specs.declared.own_fault.OwnFault.TheVariants as own_fault
 use Rattle.ct_merge.specs.declared.verdict.Culprit.{Culprit}
+use Rattle.ct_merge.specs.declared.verdict.Why.{Why}
 use Rattle.ct_merge.specs.declared.verdict.Why.TheVariants.{Fault}
-use Rattle.ct_merge.proofs.Beyond.{no_merge}
+use Rattle.ct_merge.proofs.Held.{one_held}
 use Rattle.ct_merge.proofs.Local.{acts_of}
-use Rattle.ct_merge.proofs.Moments.{get_below}
 use Rattle.ct_merge.proofs.Posting.{is_named}
 use Rattle.ct_merge.proofs.SentOnce.{named_once}
 use Rattle.ct_merge.proofs.Telling.{IsReceipt, IsToldStep, received_wire, told_step}
-use Rattle.ct_merge.proofs.Waiting.{as_many, taken_begun}
 
 -- ---- the step of a line
 
@@ -91,47 +86,27 @@ one_step w r p a b act g h x y e f =
 -- ---- refusals
 
 first_full : (a b c d e f : Bool) (r : Refusal) → first_fault (test (Full Submissions) a ∷ test (Full Instances) b ∷ test (Full Rounds) c
-    ∷ test (Full Envelopes) d ∷ test (Full Cells) e ∷ test (Full Steps) f ∷ []) ≡ Some r → is_own_cause r ≡ false
+    ∷ test (Full Envelopes) d ∷ test (Full Cells) e ∷ test (Full Steps) f ∷ []) ≡ Some r → is_full r ≡ true
 first_full a b c d e f r h = grind arith
 
-limit_full : (w : Rehearsal) (step : Step) (r : Refusal) → limit w step ≡ Some r → is_own_cause r ≡ false
+pub limit_full : (w : Rehearsal) (step : Step) (r : Refusal) → limit w step ≡ Some r → is_full r ≡ true
 unfolding limit
 limit_full w step r e =
     let made = made-then (λ h. first_fault (limits w.cells (length w.steps + 1) h (actor step))) (next w.setting (state_of w) step) r e in
     first_full _ _ _ _ _ _ r made.gives
 
--- its member is there, and has crashed or is up, and then a test of the step's own fires
-own_cause : (w : Rehearsal) (step : Step) (r : Refusal) → cause w step ≡ Some r → is_own_cause r ≡ true →
-    (is_member w.setting.members (actor step) ≡ true) × ((is_crashed (state_of w) (actor step) ≡ true)
-    ⊎ (first_fault (own_tests w step) ≡ Some r))
-own_cause w step r e own = go (is_member w.setting.members (actor step)) refl (is_crashed (state_of w) (actor step)) refl
+-- a test of the own ones of a step of a member fires that is there and up, where no limit is the cause
+own_cause : (w : Rehearsal) (step : Step) (r : Refusal) → cause w step ≡ Some r → is_full r ≡ false → IsPresent w (actor step) →
+    first_fault (own_tests w step) ≡ Some r
+own_cause w step r e own present = by_tests (first_fault (own_tests w step)) refl
   where
-    p : ℕ
-    p = actor step
-
-    absent : is_member w.setting.members (actor step) ≡ false → ⊥
-    absent out =
-        let fires : first_fault (presence w.setting (state_of w) (actor step)) ≡ Some NoSuchMember = rw out refl in
-        let same : NoSuchMember ≡ r = some-same NoSuchMember r (sym (cause-absent w step NoSuchMember fires) ∙ e) in
-        let never : is_own_cause NoSuchMember ≡ true = ap is_own_cause same ∙ own in
-        cc
-
-    by_tests : IsPresent w (actor step) → (o : Option Refusal) → first_fault (own_tests w step) ≡ o →
-        first_fault (own_tests w step) ≡ Some r
-    by_tests present None is =
+    by_tests : (o : Option Refusal) → first_fault (own_tests w step) ≡ o → first_fault (own_tests w step) ≡ Some r
+    by_tests None is =
         let limited : limit w step ≡ Some r = sym (cause-present w step present ∙ ap (λ o. or_else o (limit w step)) is) ∙ e in
-        let never : is_own_cause r ≡ false = limit_full w step r limited in
+        let full : is_full r ≡ true = limit_full w step r limited in
         absurd (cc)
-    by_tests present (Some x) is =
+    by_tests (Some x) is =
         is ∙ (sym (cause-present w step present ∙ ap (λ o. or_else o (limit w step)) is) ∙ e)
-
-    go : (b : Bool) → is_member w.setting.members (actor step) ≡ b → (c : Bool) → is_crashed (state_of w) (actor step) ≡ c →
-        (is_member w.setting.members (actor step) ≡ true) × ((is_crashed (state_of w) (actor step) ≡ true)
-        ⊎ (first_fault (own_tests w step) ≡ Some r))
-    go false out c crashed = absurd (absent out)
-    go true here true crashed = (here, inl crashed)
-    go true here false up =
-        (here, inr (by_tests (record { in_group = here; up = up }) (first_fault (own_tests w step)) refl))
 
 -- where a row gives an outcome, no test of a told step fires, but that of a receipt
 row_free : (w : Rehearsal) (p k : ℕ) (act : LogAct) (o : Outcome) → ((name : FullName) → act ≡ Receive name → ⊥) →
@@ -150,12 +125,12 @@ row_free w p k Deliver o other e = grind arith
 row_free w p k Follow o other e = grind arith
 row_free w p k Crash o other e = refl
 
--- the test of a receipt, or of what the network does, is for the place of an envelope
-receipt_placed : (w : Rehearsal) (p k : ℕ) (r : Refusal) → first_fault (own_tests w (step.Receive p k)) ≡ Some r → is_own_cause r ≡ false
-receipt_placed w p k r e = let e = sym (ap first_fault (own_tests-is w (step.Receive p k))) ∙ e in grind arith
+-- no test of a receipt fires where the envelope waits, nor one of a repetition where it was sent and doesn't
+receipt_free : (w : Rehearsal) (p k : ℕ) → is_waiting w p k ≡ true → first_fault (own_tests w (step.Receive p k)) ≡ None
+receipt_free w p k waits = ap first_fault (own_tests-is w (step.Receive p k)) ∙ grind arith
 
-repeat_placed : (w : Rehearsal) (p k : ℕ) (r : Refusal) → first_fault (own_tests w (step.Repeat p k)) ≡ Some r → is_own_cause r ≡ false
-repeat_placed w p k r e = let e = sym (ap first_fault (own_tests-is w (step.Repeat p k))) ∙ e in grind arith
+repeat_free : (w : Rehearsal) (p k : ℕ) → IsAway w p k → first_fault (own_tests w (step.Repeat p k)) ≡ None
+repeat_free w p k h = let sent = h.sent in let away = h.away in ap first_fault (own_tests-is w (step.Repeat p k)) ∙ grind arith
 
 -- ---- a line that is refused by itself
 
@@ -183,17 +158,17 @@ module _ (w : Rehearsal) (law : IsLawful w) (p : ℕ) (line : LogLine) (stays : 
       )
 
   -- a step that its rules refuse
-  refused_barred : (step : Step) (r : Refusal) → is_own_cause r ≡ true → first_fault (own_tests w step) ≡ Some r → Tells w p line step →
+  refused_barred : (tried : Step) (r : Refusal) → first_fault (own_tests w tried) ≡ Some r → NamesWaiting w tried → Tells w p line tried →
       IsBarred w stays p line
-  refused_barred step r own fires tells =
-      let x = told_step w p step line.act tells.act tells.actor in
+  refused_barred tried r fires waits tells =
+      let x = told_step w p tried line.act tells.act tells.actor in
       let other : (name : FullName) → line.act ≡ Receive name → ⊥ = λ name is.
-      let at = subst (λ z. first_fault (own_tests w z) ≡ Some r) (x.is ∙ ap (λ a. step_of p x.serial a) is) fires in
-      let never : is_own_cause r ≡ false = receipt_placed w p x.serial r at in
-      cc
+      let same : tried ≡ step.Receive p x.serial = x.is ∙ ap (λ a. step_of p x.serial a) is in
+      some-none r (sym (receipt_free w p x.serial (subst (λ z. NamesWaiting w z) same waits))
+      ∙ subst (λ z. first_fault (own_tests w z) ≡ Some r) same fires)
       in
       refused (λ name is. absurd (other name is)) (λ k h e told.
-      let same : step_of p k line.act ≡ step = same_act p k x.serial line.act (λ name is. absurd (other name is)) ∙ sym x.is in
+      let same : step_of p k line.act ≡ tried = same_act p k x.serial line.act (λ name is. absurd (other name is)) ∙ sym x.is in
       let t = next-is w.setting (state_of w) (step_of p k line.act) h e in
       let row_is = subst (λ q. row w.setting (state_of w) q (member (state_of w) q) (step_of p k line.act) ≡ Some t.outcome)
       (acts_of p k line.act) t.row in
@@ -205,66 +180,55 @@ module _ (w : Rehearsal) (law : IsLawful w) (p : ℕ) (line : LogLine) (stays : 
       subst (λ z. first_fault (own_tests w z) ≡ Some r) (sym same) fires in
       some-none r (sym none ∙ some))
 
-  -- whichever it is
-  fault_barred : (f : OwnFault) → is_own_fault f ≡ true → IsFaultAt w p line f →
-      IsBarred w stays p line × (is_member w.setting.members p ≡ true)
-  fault_barred (own_fault.Line (fault.Refused tried r)) final h = by_step h.1
+  -- the network is refused no repetition that is asked for, but by a limit
+  not_repeated : (step : Step) (r : Refusal) → first_fault (own_tests w step) ≡ Some r → NamesWaiting w step →
+      IsRepetition w p line step → ⊥
+  not_repeated step r fires waits again =
+      let away : IsAway w p again.serial = subst (λ z. NamesWaiting w z) again.is waits in
+      some-none r (sym (repeat_free w p again.serial away) ∙ subst (λ z. first_fault (own_tests w z) ≡ Some r) again.is fires)
+
+  -- whichever it is, where no limit is in the way
+  fault_barred : is_member w.setting.members p ≡ true → (f : OwnFault) → is_limit (Fault f) ≡ false → IsFaultAt w p line f →
+      IsBarred w stays p line
+  fault_barred here (own_fault.Line (fault.Refused tried r)) own h = by_presence (is_crashed (state_of w) p) refl
     where
-      by_step : Tells w p line tried ⊎ IsRepetition p tried → IsBarred w stays p line × (is_member w.setting.members p ≡ true)
-      by_step (inl tells) =
-          let f = own_cause w tried r h.0 final in
-          let here = subst (λ q. is_member w.setting.members q ≡ true) tells.actor f.0 in
-          elim f.1 [
-            | inl crashed ↦ (down (subst (λ q. is_crashed (state_of w) q ≡ true) tells.actor crashed), here)
-            | inr fires ↦ (refused_barred tried r final fires tells, here)
+      asked : IsPresent w p → IsAsked w p line tried → IsBarred w stays p line
+      asked present a = elim a.is [
+        | inl tells ↦
+            let at : IsPresent w (actor tried) = subst (λ q. IsPresent w q) (sym tells.actor) present in
+            refused_barred tried r (own_cause w tried r h.0 own at) a.waits tells
+        | inr again ↦
+            let at : IsPresent w (actor tried) = subst (λ z. IsPresent w (actor z)) (sym again.is) present in
+            absurd (not_repeated tried r (own_cause w tried r h.0 own at) a.waits again)
+      ]
+
+      by_presence : (b : Bool) → is_crashed (state_of w) p ≡ b → IsBarred w stays p line
+      by_presence true crashed = down crashed
+      by_presence false up =
+          let present : IsPresent w p = record { in_group = here; up = up } in
+          elim h.1 [
+            | inl out ↦ absurd (out.absent present)
+            | inr a ↦ asked present a
           ]
-      by_step (inr again) =
-          let at : cause w (step.Repeat p again.serial) ≡ Some r = subst (λ z. cause w z ≡ Some r) again.is h.0 in
-          let f = own_cause w (step.Repeat p again.serial) r at final in
-          elim f.1 [
-            | inl crashed ↦ (down crashed, f.0)
-            | inr fires ↦ absurd (let never : is_own_cause r ≡ false = repeat_placed w p again.serial r fires in cc)
-          ]
-  fault_barred (own_fault.CameTo q came) final h = differs_barred came h.1
-  fault_barred (own_fault.Line f) final h = absurd (cc)
+  fault_barred here (own_fault.CameTo q came) own h = (differs_barred came h.1).0
+  fault_barred here (own_fault.Line f) own h = absurd h
 
 -- ---- logs with such a line
 
--- what was taken of logs was taken of those that begin with them
-taken_more : (logs more : List (Vec LogLine)) (t : Taken) → AllBegin logs more → IsTakenFrom logs t → IsTakenFrom more t
-taken_more logs more t begins taken p isp =
-    let f : IsTakenTo t.rehearsal p (log_of logs p) (count_of t.counts p) = taken p isp in
-    let on = begins p in
-    let low : count_of t.counts p ≤ length (log_of logs p) = f.within in
-    let long : length (log_of more p) ≡ length (log_of logs p) + length on.0 =
-    sym (ap length on.1) ∙ length-append (log_of logs p) on.0 in
-    record {
-      within = omega arith;
-      is = subst (λ l. IsLog t.rehearsal p l)
-          (sym (take-append-le (count_of t.counts p) (log_of logs p) on.0 low) ∙ ap (take (count_of t.counts p)) on.1) f.is;
-    }
-
-pub fault_none : (logs more : List (Vec LogLine)) (culprit : Culprit) (f : OwnFault) (c : IsCulprit logs culprit) →
-    culprit.why ≡ Fault f → is_own_fault f ≡ true → AllBegin logs more → HasNoMerge (c.so_far).rehearsal.setting more
-fault_none logs more culprit f c why final begins w r group merge =
-    let t : Taken = c.so_far in
-    let p : ℕ = culprit.member in
-    let stand = c.is.stand in
-    let reason : IsFaultAt t.rehearsal p stand.line f = subst (λ y. IsWhy logs t p stand.line y) why stand.reason in
-    let b = fault_barred t.rehearsal c.lawful p stand.line (λ q. q == culprit.member) f final reason in
-    let taken = taken_more logs more t begins c.taken in
-    let count = as_many more t p taken b.1 in
-    let there : slice_get (log_of more p) (count_of t.counts p) ≡ Some stand.line =
-    subst (λ l. slice_get l (count_of t.counts p) ≡ Some stand.line) (begins p).1
-    (get-front (log_of logs p) (begins p).0 (count_of t.counts p) stand.line stand.next) in
-    let low : count_of t.counts p < length (log_of more p) = get_below (log_of more p) (count_of t.counts p) stand.line there in
-    no_merge more t.rehearsal w (λ q. q == culprit.member) c.lawful.runs r (sym group) (taken_begun more t taken)
-    (λ q is_p isq line next.
-    let is : q ≡ culprit.member = same_number q culprit.member is_p in
-    let at : slice_get (log_of more p) (length (own t.rehearsal p)) ≡ Some line =
-    subst (λ z. slice_get (log_of more z) (length (own t.rehearsal z)) ≡ Some line) is next in
-    let same : stand.line ≡ line = some-same stand.line line
-    (sym there ∙ (ap (λ i. slice_get (log_of more p) i) (sym count) ∙ at)) in
-    subst (λ z. IsBarred t.rehearsal (λ q. q == culprit.member) z line) (sym is)
-    (subst (λ l. IsBarred t.rehearsal (λ q. q == culprit.member) p l) same b.0)) p (number_same p p refl)
-    (subst (λ (s : Setting). IsMember s.members p) (sym group) (member_is t.rehearsal.setting.members p b.1)) (omega arith) merge
+pub fault_none : (s : Setting) (cells : ℕ) (logs : List (Vec LogLine)) (culprit : Culprit) → IsCulprit s cells logs culprit →
+    is_wait culprit.why ≡ false → is_limit culprit.why ≡ false → NeverMerges s logs
+fault_none s cells logs culprit c calm free =
+    subst (λ z. NeverMerges z logs) c.group
+    (one_held logs c.so_far c.lawful.runs c.taken culprit.member c.is.in_group (record {
+      line = (c.is.stand).line;
+      next = (c.is.stand).next;
+      barred = why_barred culprit.why calm free (c.is.stand).reason;
+    }))
+  where
+    why_barred : (why : Why) → is_wait why ≡ false → is_limit why ≡ false →
+        IsWhy logs (c.so_far) culprit.member (c.is.stand).line why →
+        IsBarred (c.so_far).rehearsal (λ q. q == culprit.member) culprit.member (c.is.stand).line
+    why_barred (Fault f) calm free reason =
+        fault_barred (c.so_far).rehearsal c.lawful culprit.member (c.is.stand).line (λ q. q == culprit.member) (c.is).in_group f free
+        reason
+    why_barred _ calm free reason = absurd (cc)

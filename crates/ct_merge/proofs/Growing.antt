@@ -10,7 +10,7 @@ use Rattle.std.proofs.lemmas.List.Elements.{All-get_or}
 use Rattle.std.proofs.lemmas.Option.{slice_get_cases}
 use Rattle.ct_model.specs.Rehearsal.{Rehearsal}
 use Rattle.ct_merge.specs.Logs.{IsLog, log_of}
-use Rattle.ct_merge.specs.Merging.{Growing, IsBare, IsSameGroup, IsTakenFrom, IsTakenTo, Taken, count_of}
+use Rattle.ct_merge.specs.Merging.{Growing, IsBare, IsLater, IsTakenFrom, IsTakenTo, Taken, count_of}
 use Rattle.ct_merge.specs.declared.log_line.LogLine.{LogLine}
 use Rattle.ct_merge.proofs.Advancing.{positive}
 
@@ -66,7 +66,7 @@ none_in logs bare p = elim (slice_get_cases logs (p - 1)).1 as (λ _. log_of log
 ]
 
 -- the same group and the same logs
-pub same_group : (self m : Growing) (old new : Taken) (logs : List (Vec LogLine)) → IsSameGroup old.rehearsal new.rehearsal →
+pub same_group : (self m : Growing) (old new : Taken) (logs : List (Vec LogLine)) → IsLater old.rehearsal new.rehearsal →
     record { setting = old.rehearsal.setting; cells = old.rehearsal.cells; logs = logs } ≡ self →
     m ≡ record { setting = new.rehearsal.setting; cells = new.rehearsal.cells; logs = logs } → m ≡ self
 same_group self m old new logs group before after =

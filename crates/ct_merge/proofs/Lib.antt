@@ -2,12 +2,18 @@ pub mod Advancing
 pub mod Barring
 pub mod Begun
 pub mod Beyond
+pub mod Bringing
+pub mod Circles
+pub mod Coming
 pub mod Failing
 pub mod Growing
 pub mod Halting
+pub mod Held
 pub mod InOrder
 pub mod Local
 pub mod Moments
+pub mod NoMore
+pub mod OfGroup
 pub mod Outcomes
 pub mod Owning
 pub mod Past
@@ -22,6 +28,7 @@ pub mod Standstills
 pub mod Stopping
 pub mod Taking
 pub mod Telling
+pub mod Unable
 pub mod Unnamed
 pub mod Verdicts
 pub mod Waiting

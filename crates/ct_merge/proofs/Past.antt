@@ -89,7 +89,7 @@ message_on : (m o : Member) → IsOn m o → (x n : ℕ) → HasMessage m x n �
 message_on m o on x n h =
     record { message = h.message; is_in = on.got (wire.Data h.message) h.is_in; origin = h.origin; number = h.number }
 
-decision_on : (m o : Member) → IsOn m o → (k r : ℕ) → HasDecision m k r → HasDecision o k r
+pub decision_on : (m o : Member) → IsOn m o → (k r : ℕ) → HasDecision m k r → HasDecision o k r
 decision_on m o on k r h = record { value = h.value; is_in = on.got (wire.Dec k r h.value) h.is_in }
 
 pub past_on : (n p : ℕ) (m o : Member) (a b : ℕ) → IsOn m o → a ≤ b → (c : Carried) → IsPast n p m a c → IsPast n p o b c
@@ -238,7 +238,7 @@ relayed_message : (s : Setting) (p : ℕ) (got : List Wire) (m : Message) → is
 unfolding is_relayed
 relayed_message s p got m h = (grind (arith, nat_tests), grind (arith, nat_tests))
 
-relayed_decision : (s : Setting) (p : ℕ) (got : List Wire) (k r : ℕ) (v : Value) → is_relayed s p got (wire.Dec k r v) ≡ true →
+pub relayed_decision : (s : Setting) (p : ℕ) (got : List Wire) (k r : ℕ) (v : Value) → is_relayed s p got (wire.Dec k r v) ≡ true →
     (has_decision got k r ≡ false) × (coordinator s.members r ≢ p)
 unfolding is_relayed
 relayed_decision s p got k r v h = (grind (arith, nat_tests), grind (arith, nat_tests))

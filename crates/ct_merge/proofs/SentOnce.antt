@@ -61,7 +61,7 @@ module _ (s : Setting) (g : State) (step : Step) (h : State) (t : IsStep s g ste
   is : IsMember s.members (actor step)
   is = member_is s.members (actor step) t.in_group
 
-  counted : (q : ℕ) → submissions h.submitted q
+  pub counted : (q : ℕ) → submissions h.submitted q
       ≡ submissions g.submitted q + (if actor step == q then length (t.outcome).submitted else 0)
   counted q =
       ap (λ (x : State). submissions x.submitted q) (sym t.gives)

@@ -10,26 +10,23 @@ use Rattle.std.proofs.lemmas.List.Folds.{list_any-append}
 use Rattle.ct_names.specs.Group.{is_member}
 use Rattle.ct_model.specs.Lawful.{IsLawful}
 use Rattle.ct_model.specs.Setting.{Setting}
-use Rattle.ct_play.specs.declared.line_fault.LineFault.TheVariants.{Restless}
 use Rattle.ct_merge.specs.Logs.{log_of}
 use Rattle.ct_merge.specs.Merging.{IsTakenFrom, Taken, count_of}
-use Rattle.ct_merge.specs.Standstills.{AreStopped, AreToldTo, IsRefusedLine, IsStoppedAt, IsTold, is_refused, is_waiting}
-use Rattle.ct_merge.specs.Stops.{IsCulprit, IsStand}
-use Rattle.ct_merge.specs.Waits.{is_wait}
+use Rattle.ct_merge.specs.Standstills.{AllWaitBut, AreStopped, AreToldTo, IsRefusedLine, IsStoppedAt, IsTold, is_refused, is_waiting}
+use Rattle.ct_merge.specs.Stops.{IsCulprit}
+use Rattle.ct_merge.specs.Waits.{AllWait, is_wait}
 use Rattle.ct_merge.specs.declared.log_line.LogLine.{LogLine}
-use Rattle.ct_merge.specs.declared.own_fault.OwnFault.TheVariants.{Line}
 use Rattle.ct_merge.specs.declared.stopped_line.StoppedLine.{StoppedLine}
 use Rattle.ct_merge.specs.declared.stopped_lines.StoppedLines.{StoppedLines}
 use Rattle.ct_merge.specs.declared.verdict.Culprit.{Culprit}
-use Rattle.ct_merge.specs.declared.verdict.Why.TheVariants.{Fault}
-use Rattle.ct_merge.proofs.Moments.{get_there}
 
 -- one more that is refused by itself
-pub refused_more : (logs : List (Vec LogLine)) (refused more : List Culprit) (c : Culprit) → All (IsRefusedLine logs) refused →
-    IsCulprit logs c → is_wait c.why ≡ false → more ≡ refused ++ c ∷ [] → All (IsRefusedLine logs) more
-refused_more logs refused more c all is fault e =
-    subst (λ l. All (IsRefusedLine logs) l) (sym e)
-    (All-push (IsRefusedLine logs) refused c all (record { is = is; fault = fault }))
+pub refused_more : (s : Setting) (cells : ℕ) (logs : List (Vec LogLine)) (refused more : List Culprit) (c : Culprit) →
+    All (IsRefusedLine s cells logs) refused → IsCulprit s cells logs c → is_wait c.why ≡ false → more ≡ refused ++ c ∷ [] →
+    All (IsRefusedLine s cells logs) more
+refused_more s cells logs refused more c all is fault e =
+    subst (λ l. All (IsRefusedLine s cells logs) l) (sym e)
+    (All-push (IsRefusedLine s cells logs) refused c all (record { is = is; fault = fault }))
 
 -- one more that stands
 pub stopped_more : (logs : List (Vec LogLine)) (t : Taken) (lines more : List StoppedLine) (s : StoppedLine) →
@@ -100,23 +97,18 @@ pub ruleset all_told = (stopped_more, told_none, told_before, told_pushed)
 
 -- ---- all of them
 
--- a line that waits for nothing is told of as no refusal
-pub restless_stand : (logs : List (Vec LogLine)) (t : Taken) (p : ℕ) → count_of t.counts p < length (log_of logs p) →
-    IsStand logs t p (Fault (Line Restless))
-restless_stand logs t p more =
-    let at = get_there (log_of logs p) (count_of t.counts p) more in
-    record { line = at.0; next = at.1; reason = tt }
-
 -- a line is told of each log that is not over
-pub stopped_all : (s : Setting) (logs : List (Vec LogLine)) (lines : StoppedLines) (t : Taken) (seen : List Culprit) →
-    IsLawful t.rehearsal → t.rehearsal.setting ≡ s → IsTakenFrom logs t → All (IsRefusedLine logs) lines.refused.items →
-    All (IsStoppedAt logs t) lines.waiting.items → seen ≡ lines.refused.items →
-    AreToldTo logs t seen lines.waiting.items t.rehearsal.setting.members → lines.run.rehearsal ≡ t.rehearsal → AreStopped s logs lines
-stopped_all s logs lines t seen law group taken refused waiting same each run = record {
+pub stopped_all : (s : Setting) (cells : ℕ) (logs : List (Vec LogLine)) (lines : StoppedLines) (t : Taken) (seen : List Culprit) →
+    IsLawful t.rehearsal → t.rehearsal.setting ≡ s → t.rehearsal.cells ≡ cells → IsTakenFrom logs t →
+    All (IsRefusedLine s cells logs) lines.refused.items → All (IsStoppedAt logs t) lines.waiting.items → seen ≡ lines.refused.items →
+    AreToldTo logs t seen lines.waiting.items t.rehearsal.setting.members → lines.run.rehearsal ≡ t.rehearsal →
+    AreStopped s cells logs lines
+stopped_all s cells logs lines t seen law group room taken refused waiting same each run = record {
   so_far = t;
   run = run;
   lawful = law;
   group = group;
+  room = room;
   taken = taken;
   refused = refused;
   waiting = waiting;
@@ -124,3 +116,7 @@ stopped_all s logs lines t seen law group taken refused waiting same each run = 
       subst (λ (z : Setting). AreToldTo logs t lines.refused.items lines.waiting.items z.members) group
       (subst (λ l. AreToldTo logs t l lines.waiting.items t.rehearsal.setting.members) same each);
 }
+
+-- where none is refused, each waits
+pub all_wait : (logs : List (Vec LogLine)) (t : Taken) → AllWaitBut logs t [] → AllWait logs t
+all_wait logs t h p member = h p member refl

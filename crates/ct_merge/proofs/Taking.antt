@@ -1,6 +1,7 @@
 -- Lines that are taken.
-use Rattle.std.proofs.Common.{◌≡◌, ◌≢◌, ℕ, ◌+◌, ◌<◌, ◌==◌, Bool, true, false, ◌&&◌, List, [], ◌∷◌, ◌++◌, Some, IfSome}
-use Rattle.std.proofs.Common.{ap, sym, ◌∙◌, refl, length, take, get_or, arith, subst}
+use Rattle.std.proofs.Common.{◌≡◌, ◌≢◌, ℕ, ◌+◌, ◌<◌, ◌==◌, Bool, true, false, ◌&&◌, List, [], ◌∷◌, ◌++◌, Some, None, IfSome}
+use Rattle.std.proofs.Common.{ap, sym, ◌∙◌, refl, length, take, get_or, arith, subst, length-append, zero, suc}
+use Rattle.std.specs.Prelude.{option_map, slice_get}
 use Rattle.std.specs.List.{AllZip}
 use Rattle.std.proofs.lemmas.Bool.{eq-eqb, ne_eqb}
 use Rattle.std.proofs.lemmas.List.{take_more}
@@ -8,12 +9,14 @@ use Rattle.std.proofs.lemmas.Slice.Zip.{all_zipped_more}
 use Rattle.ct_model.specs.Rehearsal.{Rehearsal, extended}
 use Rattle.ct_model.specs.declared.step.Step.{Step}
 use Rattle.ct_model.specs.declared.step.Step.TheVariants.{Repeat}
+use Rattle.ct_model.proofs.Basics.Options.{some-none, some-same}
 use Rattle.ct_merge.specs.Stating.{is_stated, log_outcome}
 use Rattle.ct_merge.specs.Logs.{IsTold, act_of, is_own, own}
-use Rattle.ct_merge.specs.Merging.{IsSameGroup, IsTakenTo, LeavesAll, LeavesOthers, Takes, step_of}
+use Rattle.ct_merge.specs.Merging.{IsLater, IsReady, IsSerialOf, IsTakenTo, LeavesAll, LeavesOthers, Takes, step_of}
 use Rattle.ct_merge.specs.declared.log_act.LogAct.{LogAct}
 use Rattle.ct_merge.specs.declared.log_act.LogAct.TheVariants as told
 use Rattle.ct_merge.specs.declared.log_line.LogLine.{LogLine}
+use Rattle.ct_merge.proofs.Moments.{get_below}
 use Rattle.ct_merge.proofs.Owning.{at, own_joins, own_stays}
 
 -- ---- one step
@@ -64,34 +67,78 @@ repeats old new p k e q =
 pub leaves_same : (old new : Rehearsal) → new ≡ old → LeavesAll old new
 leaves_same old new e q = ap (λ (w : Rehearsal). own w q) e
 
-pub group_same : (old new : Rehearsal) → new ≡ old → IsSameGroup old new
-group_same old new e = record { setting = ap (λ (w : Rehearsal). w.setting) e; cells = ap (λ (w : Rehearsal). w.cells) e }
+abbrev pub same_later : (w : Rehearsal) → IsLater w w
+same_later w = record { setting = refl; cells = refl; steps = omega arith }
 
-pub group_step : (old new : Rehearsal) (step : Step) → new ≡ extended old step → IsSameGroup old new
-group_step old new step e =
-    record { setting = ap (λ (w : Rehearsal). w.setting) e; cells = ap (λ (w : Rehearsal). w.cells) e }
+pub later_same : (old new : Rehearsal) → new ≡ old → IsLater old new
+later_same old new e = subst (λ w. IsLater old w) (sym e) (same_later old)
 
-pub group_on : (old mid new : Rehearsal) → IsSameGroup old mid → IsSameGroup mid new → IsSameGroup old new
-group_on old mid new a b = record { setting = b.setting ∙ a.setting; cells = b.cells ∙ a.cells }
+pub later_step : (old new : Rehearsal) (step : Step) → new ≡ extended old step → IsLater old new
+later_step old new step e =
+    subst (λ w. IsLater old w) (sym e)
+    (record { setting = refl; cells = refl; steps = omega (arith, length-append old.steps (step ∷ [])) })
+
+pub later_on : (old mid new : Rehearsal) → IsLater old mid → IsLater mid new → IsLater old new
+later_on old mid new a b = record {
+  setting = b.setting ∙ a.setting;
+  cells = b.cells ∙ a.cells;
+  steps = omega (arith, a.steps, b.steps);
+}
 
 -- the step behind what was the same group
-pub group_more : (old mid new : Rehearsal) (step : Step) → IsSameGroup old mid → new ≡ extended mid step → IsSameGroup old new
-group_more old mid new step a e = group_on old mid new a (group_step mid new step e)
+pub later_more : (old mid new : Rehearsal) (step : Step) → IsLater old mid → new ≡ extended mid step → IsLater old new
+later_more old mid new step a e = later_on old mid new a (later_step mid new step e)
+
+-- has a step more
+pub steps_more : (old mid new : Rehearsal) (step : Step) → IsLater old mid → new ≡ extended mid step →
+    length old.steps < length new.steps
+steps_more old mid new step a e =
+    let more : length new.steps ≡ length mid.steps + 1 =
+    ap (λ (w : Rehearsal). length w.steps) e ∙ length-append mid.steps (step ∷ []) in
+    omega (arith, a.steps, more)
 
 pub ruleset left = (repeats, leaves_same)
 
-pub ruleset grouped = (group_same, group_step)
+pub ruleset later = (later_same, later_step, later_more, steps_more)
+
+-- ---- what an act receives
+
+pub act_is : (w : Rehearsal) (p k : ℕ) (act : LogAct) → IsSerialOf w p act k → act_of w (step_of p k act) ≡ Some act
+act_is w p k (told.Receive name) serial = ap (option_map told.Receive) serial.named
+act_is w p k (told.Submit c) serial = refl
+act_is w p k told.Begin serial = refl
+act_is w p k told.Enter serial = refl
+act_is w p k (told.Choose from) serial = refl
+act_is w p k told.Adopt serial = refl
+act_is w p k told.Suspect serial = refl
+act_is w p k told.Conclude serial = refl
+act_is w p k told.Deliver serial = refl
+act_is w p k told.Follow serial = refl
+act_is w p k told.Crash serial = refl
+
+-- a line waits for nothing whose act has a serial
+pub ready : (w : Rehearsal) (p : ℕ) (log : List LogLine) (count k : ℕ) (line : LogLine) → slice_get log count ≡ Some line →
+    IsSerialOf w p line.act k → IsReady w p log count k
+ready w p log count k line there serial = record { line = line; there = there; serial = serial }
+
+pub ready_serial : (w : Rehearsal) (p : ℕ) (log : List LogLine) (count k : ℕ) (line : LogLine) → IsReady w p log count k →
+    slice_get log count ≡ Some line → IsSerialOf w p line.act k
+ready_serial w p log count k line r there =
+    subst (λ (l : LogLine). IsSerialOf w p l.act k) (some-same r.line line (sym r.there ∙ there)) r.serial
+
+pub ready_there : (w : Rehearsal) (p : ℕ) (log : List LogLine) (count k : ℕ) → IsReady w p log count k → slice_get log count ≡ None → ⊥
+ready_there w p log count k r none = some-none r.line (sym none ∙ r.there)
 
 -- the line is taken by its step, which came to what it states
-pub takes : (old mid new : Rehearsal) (p k : ℕ) (line : LogLine) → LeavesAll old mid →
-    act_of mid (step_of p k line.act) ≡ Some line.act → new ≡ extended mid (step_of p k line.act) →
+pub takes : (old mid new : Rehearsal) (p k : ℕ) (line : LogLine) → LeavesAll old mid → IsSerialOf mid p line.act k →
+    new ≡ extended mid (step_of p k line.act) →
     IfSome line.said (λ text. is_stated (log_outcome new (step_of p k line.act)) text ≡ true) → Takes old p line new
-takes old mid new p k line same act e said =
+takes old mid new p k line same serial e said =
     let step : Step = step_of p k line.act in
     record {
       moment = at mid step;
       told = record {
-        act = act;
+        act = act_is mid p k line.act serial;
         said = subst (λ (w : Rehearsal). IfSome line.said (λ text. is_stated (log_outcome w step) text ≡ true)) e said;
       };
       own =
@@ -109,21 +156,33 @@ pub taken_still : (old new : Rehearsal) (p : ℕ) (log : List LogLine) (count : 
 taken_still old new p log count same h =
     record { within = h.within; is = subst (λ l. AllZip IsTold l (take count log)) (sym (same p)) h.is }
 
-pub taken_more : (old new : Rehearsal) (p : ℕ) (log : List LogLine) (count : ℕ) (line : LogLine) → count < length log →
-    get_or log count line ≡ line → Takes old p line new → IsTakenTo old p log count → IsTakenTo new p log (count + 1)
-taken_more old new p log count line lt there t h =
+get_or_is : {A : Type 0} (xs : List A) (i : ℕ) (x : A) → slice_get xs i ≡ Some x → get_or xs i x ≡ x
+get_or_is [] i x e = refl
+get_or_is (y ∷ xs) zero x e = some-same y x e
+get_or_is (y ∷ xs) (suc i) x e = get_or_is xs i x e
+
+pub taken_more : (old new : Rehearsal) (p : ℕ) (log : List LogLine) (count more : ℕ) (line : LogLine) → slice_get log count ≡ Some line →
+    Takes old p line new → IsTakenTo old p log count → more ≡ count + 1 → IsTakenTo new p log more
+taken_more old new p log count more line there t h next =
+    let lt : count < length log = get_below log count line there in
     let lines : take (count + 1) log ≡ take count log ++ line ∷ [] =
-    take_more log count line lt ∙ ap (λ x. take count log ++ x ∷ []) there in
+    take_more log count line lt ∙ ap (λ x. take count log ++ x ∷ []) (get_or_is log count line there) in
     let both : AllZip IsTold (own old p ++ t.moment ∷ []) (take count log ++ line ∷ []) =
     all_zipped_more IsTold (own old p) (take count log) t.moment line h.is t.told in
+    let whole : IsTakenTo new p log (count + 1) =
     record {
       within = omega (arith, lt);
       is = subst (λ l. AllZip IsTold (own new p) l) (sym lines)
           (subst (λ l. AllZip IsTold l (take count log ++ line ∷ [])) (sym t.own) both);
-    }
+    } in
+    subst (λ n. IsTakenTo new p log n) (sym next) whole
+
+pub others_taken : (old new : Rehearsal) (p : ℕ) (line : LogLine) → Takes old p line new → LeavesOthers p old new
+others_taken old new p line t = t.others
+
+pub ruleset taken_next = (ready_serial, ready_there, taken_more, others_taken)
 
 pub others_on : (p : ℕ) (old mid new : Rehearsal) → LeavesOthers p old mid → LeavesOthers p mid new → LeavesOthers p old new
 others_on p old mid new a b q ne = b q ne ∙ a q ne
 
-pub others_all : (p : ℕ) (old new : Rehearsal) → LeavesAll old new → LeavesOthers p old new
-others_all p old new same q ne = same q
+pub ruleset on = (others_on, later_on)

@@ -1,38 +1,26 @@
--- Serials of no envelope of a name, and logs that stand.
+-- Serials of envelopes, by their names.
 use Rattle.std.proofs.Common.{◌≡◌, ◌≢◌, ℕ, zero, suc, ◌+◌, ◌<◌, ◌≤◌, true, false, List, [], ◌∷◌, Option, Some, None, length, inl, inr}
 use Rattle.std.proofs.Common.{refl, sym, ap, ◌∙◌, subst, arith}
 use Rattle.std.specs.Prelude.{IfSome, is_some, option_and_then, option_map}
-use Rattle.std.specs.Global.{Vec}
 use Rattle.std.proofs.lemmas.Bool.{cases_eq}
 use Rattle.ct_model.specs.AtValue.{Envelope}
-use Rattle.ct_model.specs.Lawful.{IsLawful}
 use Rattle.ct_model.specs.Mapped.{without_value}
 use Rattle.ct_model.specs.Next.{addressed, wire_to}
 use Rattle.ct_model.specs.Rehearsal.{Rehearsal, state_of}
-use Rattle.ct_model.specs.Setting.{Setting}
 use Rattle.ct_model.specs.Stamps.{is_sent}
 use Rattle.ct_model.specs.State.{at_serial}
 use Rattle.ct_model.specs.When.{when}
 use Rattle.ct_model.specs.declared.envelope.Envelope.{Envelope as AnyEnvelope}
-use Rattle.ct_model.proofs.Basics.Options.{some-same}
-use Rattle.ct_model.proofs.Basics.Tests.{number_other}
-use Rattle.ct_play.specs.declared.line_fault.LineFault.TheVariants.{Restless}
-use Rattle.ct_merge.specs.Logs.{log_of}
-use Rattle.ct_merge.specs.Merging.{IsTakenFrom, Taken, count_of}
-use Rattle.ct_merge.specs.Names.{full_name}
-use Rattle.ct_merge.specs.Stops.{IsCulprit, IsStand}
-use Rattle.ct_merge.specs.Verdicts.{IfStopped}
-use Rattle.ct_merge.specs.Waits.{HasNoMerge, IsUnsent, IsUnsentTo, UnlessNamed, is_wait}
+use Rattle.ct_model.proofs.Basics.Options.{some-none, some-same}
+use Rattle.ct_model.proofs.Basics.Tests.{number_other, number_same}
+use Rattle.ct_merge.specs.Merging.{IsSerialOf, received}
+use Rattle.ct_merge.specs.Names.{IsSentAs, full_name}
+use Rattle.ct_merge.specs.Waits.{IsUnsent, IsUnsentTo, IsWaiting, UnlessNamed}
 use Rattle.ct_merge.specs.declared.full_name.FullName.{FullName}
+use Rattle.ct_merge.specs.declared.log_act.LogAct.{LogAct}
+use Rattle.ct_merge.specs.declared.log_act.LogAct.TheVariants.{Receive}
 use Rattle.ct_merge.specs.declared.log_line.LogLine.{LogLine}
-use Rattle.ct_merge.specs.declared.own_fault.OwnFault.TheVariants.{Line}
-use Rattle.ct_merge.specs.declared.verdict.Culprit.{Culprit}
-use Rattle.ct_merge.specs.declared.verdict.Verdict.{Verdict}
-use Rattle.ct_merge.specs.declared.verdict.Verdict.TheVariants.{Accepted, Refused, Cut}
-use Rattle.ct_merge.specs.declared.verdict.Why.TheVariants.{Fault}
-use Rattle.ct_merge.proofs.Moments.{get_there}
 use Rattle.ct_merge.proofs.Sameness.{below_or_not}
-use Rattle.ct_merge.proofs.Waiting.{waiting_none}
 
 -- ---- what was not sent
 
@@ -72,7 +60,43 @@ unsent_other w p k name letter some other sent named = by_place (at_serial (stat
 pub unsent_named : (w : Rehearsal) (p k : ℕ) (name : FullName) → full_name w k ≢ Some name → UnlessNamed w p name k
 unsent_named w p k name other sent named = other named
 
-pub ruleset unnamed = (unsent_nobody, unsent_other, unsent_named)
+-- it went to p, and has the name
+pub sent_it : (w : Rehearsal) (p k : ℕ) (name : FullName) (letter : AnyEnvelope (Unit {0})) →
+    option_map without_value (at_serial (state_of w).sent k) ≡ Some letter → letter.to ≡ p → full_name w k ≡ Some name →
+    IsSentAs w p name k
+unfolding wire_to
+sent_it w p k name letter some to named = record { sent = by_place (at_serial (state_of w).sent k) refl; named = named }
+  where
+    by_place : (o : Option Envelope) → at_serial (state_of w).sent k ≡ o → is_sent w p k ≡ true
+    by_place None is =
+        let none : option_map without_value (at_serial (state_of w).sent k) ≡ None = ap (option_map without_value) is in
+        absurd (some-none letter (sym none ∙ some))
+    by_place (Some e) is =
+        let same : without_value e ≡ letter = some-same (without_value e) letter (sym (ap (option_map without_value) is) ∙ some) in
+        let here : e.to ≡ p = ap (λ (x : AnyEnvelope (Unit {0})). x.to) same ∙ to in
+        ap (λ o. is_some (option_and_then (addressed p) o)) is ∙ ap (λ b. is_some (when b e.wire)) (number_same e.to p here)
+
+pub ruleset named = (sent_it, unsent_nobody, unsent_other, unsent_named)
+
+-- a line waits for what was not sent
+pub waits_on : (w : Rehearsal) (p : ℕ) (line : LogLine) (name : FullName) → received line.act ≡ Some name → IsUnsent w p name →
+    IsWaiting w p line
+waits_on w p line name e unsent = by_act line.act refl e
+  where
+    by_act : (act : LogAct) → line.act ≡ act → received act ≡ Some name → IsWaiting w p line
+    by_act (Receive other) is e =
+        let same : other ≡ name = some-same other name e in
+        record { name = name; act = is ∙ ap Receive same; unsent = unsent }
+    by_act _ is e = absurd (cc)
+
+pub serial_is : (w : Rehearsal) (p k : ℕ) (act : LogAct) (name : FullName) → received act ≡ Some name → IsSentAs w p name k →
+    IsSerialOf w p act k
+serial_is w p k act name e sent = subst (λ o. IfSome o (λ name. IsSentAs w p name k)) (sym e) sent
+
+pub serial_none : (w : Rehearsal) (p k : ℕ) (act : LogAct) → received act ≡ None → IsSerialOf w p act k
+serial_none w p k act e = subst (λ o. IfSome o (λ name. IsSentAs w p name k)) (sym e) tt
+
+pub ruleset waits_for = (waits_on, serial_is, serial_none)
 
 pub unsent_none : (w : Rehearsal) (p : ℕ) (name : FullName) → IsUnsentTo w p name 0
 unfolding wire_to
@@ -99,28 +123,3 @@ unsent_all w p n name all before k = elim (below_or_not n k) [
 ]
 
 pub ruleset unsent = (unsent_none, unsent_more, unsent_all)
-
--- ---- verdicts
-
-pub stopped_none : (s : Setting) (logs : List (Vec LogLine)) (v : Verdict) → HasNoMerge s logs →
-    IfStopped v (λ culprit. is_wait culprit.why ≡ true → HasNoMerge s logs)
-stopped_none s logs (Accepted world) h = tt
-stopped_none s logs (Refused culprit) h = λ e. h
-stopped_none s logs (Cut culprit) h = λ e. h
-
--- a line that waits for nothing is told of as no refusal
-pub restless : (logs : List (Vec LogLine)) (t : Taken) (culprit : Culprit) → IsLawful t.rehearsal → IsTakenFrom logs t →
-    count_of t.counts culprit.member < length (log_of logs culprit.member) → culprit.place ≡ count_of t.counts culprit.member →
-    culprit.why ≡ Fault (Line Restless) → culprit.run ≡ None → IsCulprit logs culprit
-restless logs t culprit law taken more place why run =
-    let at = get_there (log_of logs culprit.member) (count_of t.counts culprit.member) more in
-    let stand : IsStand logs t culprit.member (Fault (Line Restless)) = record { line = at.0; next = at.1; reason = tt } in
-    record {
-      so_far = t;
-      lawful = law;
-      taken = taken;
-      is = record { place = sym place; stand = subst (λ y. IsStand logs t culprit.member y) (sym why) stand };
-      run = subst (λ o. IfSome o (λ world. world.rehearsal ≡ t.rehearsal)) (sym run) tt;
-    }
-
-pub ruleset standing = (stopped_none, restless, waiting_none)

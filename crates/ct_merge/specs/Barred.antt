@@ -11,7 +11,7 @@ use Rattle.ct_grammar.specs.declared.carried.Carried.{Carried}
 use Rattle.ct_merge.specs.Deeds.{IsFrom}
 use Rattle.ct_merge.specs.Logs.{IsTold, log_of, own}
 use Rattle.ct_merge.specs.Merging.{step_of}
-use Rattle.ct_merge.specs.Past.{IsPast}
+use Rattle.ct_merge.specs.Unable.{IsOfGroup, SendsNoMore}
 use Rattle.ct_merge.specs.declared.full_name.FullName.{FullName}
 use Rattle.ct_merge.specs.declared.log_act.LogAct.TheVariants.{Receive}
 use Rattle.ct_merge.specs.declared.log_line.LogLine.{LogLine}
@@ -23,17 +23,19 @@ pub record IsThere (w : Rehearsal) (p : ℕ) (name : FullName) : Type 0 where
   pub from : IsFrom w name.from p wire serial
   pub carried : carried_of wire ≡ name.carried
 
--- q is no member, has crashed, or has sent this or can't send it any more
-pub data IsDone (w : Rehearsal) (q : ℕ) (c : Carried) : Type 0 where
-  nobody : (IsMember w.setting.members q → ⊥) → IsDone w q c
-  stopped : is_crashed (state_of w) q ≡ true → IsDone w q c
-  past : IsPast w.setting.members q (member (state_of w) q) (submissions (state_of w).submitted q) c → IsDone w q c
+-- q never sends this to p behind the record: q is no member, or has crashed; no group of this size has it; or q, as it stands, sends it
+-- to p no more
+pub data IsDone (w : Rehearsal) (q p : ℕ) (c : Carried) : Type 0 where
+  nobody : (IsMember w.setting.members q → ⊥) → IsDone w q p c
+  stopped : is_crashed (state_of w) q ≡ true → IsDone w q p c
+  unknown : (IsOfGroup w.setting.members c → ⊥) → IsDone w q p c
+  unable : SendsNoMore w.setting.members q p (member (state_of w) q) (submissions (state_of w).submitted q) c → IsDone w q p c
 
 -- why p's line is not taken behind this record, nor behind one that goes on, if these members don't: what it receives was not sent,
 -- and its sender can't send it any more, or is one of these; p has crashed; or what it receives, if it is a receipt, was sent,
 -- and no step of which it tells is enabled
 pub data IsBarred (w : Rehearsal) (stays : ℕ → Bool) (p : ℕ) (line : LogLine) : Type 0 where
-  never : (name : FullName) → line.act ≡ Receive name → (IsThere w p name → ⊥) → IsDone w name.from name.carried →
+  never : (name : FullName) → line.act ≡ Receive name → (IsThere w p name → ⊥) → IsDone w name.from p name.carried →
       IsBarred w stays p line
   waits : (name : FullName) → line.act ≡ Receive name → (IsThere w p name → ⊥) → stays name.from ≡ true → IsBarred w stays p line
   down : is_crashed (state_of w) p ≡ true → IsBarred w stays p line

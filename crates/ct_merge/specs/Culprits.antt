@@ -5,6 +5,7 @@ use Rattle.ct_model.specs.Actor.{actor}
 use Rattle.ct_names.specs.RefusalText.{refusal_text}
 use Rattle.ct_names.specs.declared.limit.Limit.{Limit}
 use Rattle.ct_names.specs.declared.limit.Limit.TheVariants.{Submissions, Instances, Rounds, Envelopes, Cells, Steps}
+use Rattle.ct_names.specs.declared.limit.TheConstants.{MAX_CELLS, MAX_ENVELOPES, MAX_INSTANCES, MAX_ROUNDS, MAX_STEPS, MAX_SUBMISSIONS}
 use Rattle.ct_names.specs.declared.refusal.Refusal.{Refusal}
 use Rattle.ct_names.specs.declared.refusal.Refusal.TheVariants.{Full}
 use Rattle.ct_play.specs.declared.line_fault.LineFault.{LineFault}
@@ -13,18 +14,19 @@ use Rattle.ct_merge.specs.declared.own_fault.OwnFault.TheVariants.{Line, CameTo}
 use Rattle.ct_merge.specs.declared.verdict.Why.{Why}
 use Rattle.ct_merge.specs.declared.verdict.Why.TheVariants.{Fault, Never, Ended, Circle}
 
--- a limit of the whole record is met by all the logs
-abbrev pub limit_note : Limit → List ℕ
-limit_note Submissions = []
-limit_note Instances = []
-limit_note Rounds = []
-limit_note Envelopes = codes ", a limit of all the logs together: it accuses nobody"
-limit_note Cells = codes ", a limit of all the logs together: it accuses nobody"
-limit_note Steps = codes ", a limit of all the logs together: it accuses nobody"
+-- how large the limit is, or what gives room for more
+unfoldable pub size_text : Limit → List ℕ
+size_text Submissions = concat (codes ": a member submits at most " ∷ decimal MAX_SUBMISSIONS ∷ codes " messages" ∷ [])
+size_text Instances = concat (codes ": a member has at most " ∷ decimal MAX_INSTANCES ∷ codes " instances" ∷ [])
+size_text Rounds = concat (codes ": an instance has at most " ∷ decimal MAX_ROUNDS ∷ codes " rounds" ∷ [])
+size_text Envelopes = concat (codes ": a run has at most " ∷ decimal MAX_ENVELOPES ∷ codes " envelopes" ∷ [])
+size_text Cells =
+    concat (codes ": no cell is left; cells " ∷ decimal MAX_CELLS ∷ codes " at the top of a log gives room for more" ∷ [])
+size_text Steps = concat (codes ": a run has at most " ∷ decimal MAX_STEPS ∷ codes " steps" ∷ [])
 
 -- what is said behind a refusal
 unfoldable pub note_text : Refusal → List ℕ
-note_text (Full limit) = limit_note limit
+note_text (Full limit) = size_text limit ++ codes "; it accuses nobody"
 note_text _ = []
 
 -- p is refused a step

@@ -19,5 +19,6 @@ pub mod Stating
 pub mod Stops
 pub mod Testing
 pub mod Texts
+pub mod Unable
 pub mod Verdicts
 pub mod Waits

@@ -1,36 +1,19 @@
 -- How logs are merged: line by line.
-use Rattle.std.specs.Prelude.{◌≡◌, ◌≢◌, ℕ, ◌-◌, ◌≤◌, true, List, [], ◌∷◌, ◌++◌, length, slice_index, take}
+use Rattle.std.specs.Prelude.{◌≡◌, ◌≢◌, ℕ, ◌-◌, ◌≤◌, true, List, [], ◌∷◌, ◌++◌, Option, Some, None, IfSome, length}
+use Rattle.std.specs.Prelude.{slice_get, slice_index, take}
 use Rattle.std.specs.Global.{Vec}
 use Rattle.ct_names.specs.Group.{is_member}
+use Rattle.ct_model.specs.Lawful.{IsPresent, NamesWaiting}
 use Rattle.ct_model.specs.Rehearsal.{Rehearsal}
 use Rattle.ct_model.specs.Setting.{Setting}
 use Rattle.ct_model.specs.declared.step.Step.{Step}
 use Rattle.ct_model.specs.declared.step.Step.TheVariants as step
-use Rattle.ct_grammar.specs.declared.act.Act.{Act}
-use Rattle.ct_grammar.specs.declared.act.Act.TheVariants.{Submit, Receive, Begin, Enter, Choose, Adopt, Suspect, Conclude, Deliver}
-use Rattle.ct_grammar.specs.declared.act.Act.TheVariants.{Follow, Crash, Postpone, Lose, Repeat}
-use Rattle.ct_grammar.specs.declared.pick.Pick.TheVariants.{Serial}
 use Rattle.ct_merge.specs.Logs.{Moment, IsLog, IsTold, log_of, own}
+use Rattle.ct_merge.specs.Names.{IsSentAs}
+use Rattle.ct_merge.specs.declared.full_name.FullName.{FullName}
 use Rattle.ct_merge.specs.declared.log_act.LogAct.{LogAct}
 use Rattle.ct_merge.specs.declared.log_act.LogAct.TheVariants as told
 use Rattle.ct_merge.specs.declared.log_line.LogLine.{LogLine}
-
--- what a schedule calls the step, its envelope by the serial
-abbrev pub act_in : Step → Act
-act_in (step.Submit p c) = Submit c
-act_in (step.Receive p k) = Receive (Serial k)
-act_in (step.Begin p) = Begin
-act_in (step.Enter p) = Enter
-act_in (step.Choose p from) = Choose from
-act_in (step.Adopt p) = Adopt
-act_in (step.Suspect p) = Suspect
-act_in (step.Conclude p) = Conclude
-act_in (step.Deliver p) = Deliver
-act_in (step.Follow p) = Follow
-act_in (step.Crash p) = Crash
-act_in (step.Postpone p k) = Postpone (Serial k)
-act_in (step.Lose p k) = Lose (Serial k)
-act_in (step.Repeat p k) = Repeat (Serial k)
 
 -- the step of p that a log tells so, where it receives the envelope of this serial
 abbrev pub step_of : ℕ → ℕ → LogAct → Step
@@ -46,10 +29,30 @@ step_of p k told.Deliver = step.Deliver p
 step_of p k told.Follow = step.Follow p
 step_of p k told.Crash = step.Crash p
 
--- what is fixed is the same
-pub record IsSameGroup (old new : Rehearsal) : Type 0 where
+-- the name of what the act receives, if it is a receipt
+abbrev pub received : LogAct → Option FullName
+received (told.Receive name) = Some name
+received _ = None
+
+-- the serial is that of the envelope that p's act receives; of another act it is any
+abbrev pub IsSerialOf : Rehearsal → ℕ → LogAct → ℕ → Type 0
+IsSerialOf w p act k = IfSome (received act) (λ name. IsSentAs w p name k)
+
+-- what p's act receives by this serial waits at p, if p is there and up
+abbrev pub IsThereFor : Rehearsal → ℕ → LogAct → ℕ → Type 0
+IsThereFor w p act k = IsPresent w p → NamesWaiting w (step_of p k act)
+
+-- behind so many lines of p's log one stands that waits for nothing: its act has this serial
+pub record IsReady (w : Rehearsal) (p : ℕ) (log : List LogLine) (count k : ℕ) : Type 0 where
+  pub line : LogLine
+  pub there : slice_get log count ≡ Some line
+  pub serial : IsSerialOf w p line.act k
+
+-- what is fixed is the same, and no steps are fewer
+pub record IsLater (old new : Rehearsal) : Type 0 where
   pub setting : new.setting ≡ old.setting
   pub cells : new.cells ≡ old.cells
+  pub steps : length old.steps ≤ length new.steps
 
 -- the other members' own steps are the same
 abbrev pub LeavesOthers : ℕ → Rehearsal → Rehearsal → Type 0

@@ -1,5 +1,6 @@
 -- What a member may still send.
-use Rattle.std.specs.Prelude.{ℕ, Bool, true, false, not, ◌&&◌, ◌||◌, ◌==◌, Option, Some, None, option_map, is_some, nat_lt, count_by}
+use Rattle.std.specs.Prelude.{ℕ, Bool, true, false, not, ◌&&◌, ◌||◌, ◌==◌, Option, Some, None, option_map, is_some, nat_le, nat_lt}
+use Rattle.std.specs.Prelude.{count_by}
 use Rattle.std.specs.Prelude.{if◌then◌else◌}
 use Rattle.std.specs.List.{list_any}
 use Rattle.ct_names.specs.Group.{coordinator, is_member}
@@ -122,8 +123,24 @@ may_send w p q (Dec k r) =
     then concluding (phase_in w p k r) (has_before w p k r)
     else not (received w p (Dec k r))
 
+-- ---- what may come
+
+-- a round of an instance, both counted from 1 on
+abbrev pub is_round : ℕ → ℕ → Bool
+is_round k r = nat_le 1 k && nat_le 1 r
+
+-- a group of n has such: messages of its members, counted from 1 on, and what is sent in rounds
+abbrev pub is_of_group : ℕ → Carried → Bool
+is_of_group n (Data o i) = is_member n o && nat_le 1 i
+is_of_group n (Est k r) = is_round k r
+is_of_group n (Prop k r) = is_round k r
+is_of_group n (Ack k r) = is_round k r
+is_of_group n (Nack k r) = is_round k r
+is_of_group n (Dec k r) = is_round k r
+
 -- the envelope of this name may still be sent to q
 unfoldable pub may_come : Rehearsal → ℕ → FullName → Bool
 may_come w q name =
     is_member w.setting.members name.from
-    && (not (is_member w.setting.members name.from && is_crashed (state_of w) name.from) && may_send w name.from q name.carried)
+    && (is_of_group w.setting.members name.carried
+    && (not (is_member w.setting.members name.from && is_crashed (state_of w) name.from) && may_send w name.from q name.carried))

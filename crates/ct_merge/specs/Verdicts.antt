@@ -1,9 +1,10 @@
 -- What logs come to.
-use Rattle.std.specs.Prelude.{⊤}
+use Rattle.std.specs.Prelude.{if◌then◌else◌, ⊤}
 use Rattle.ct_model.specs.Rehearsal.{Rehearsal}
+use Rattle.ct_merge.specs.Waits.{is_ended, is_limit}
 use Rattle.ct_merge.specs.declared.verdict.Culprit.{Culprit}
 use Rattle.ct_merge.specs.declared.verdict.Verdict.{Verdict}
-use Rattle.ct_merge.specs.declared.verdict.Verdict.TheVariants.{Accepted, Refused, Cut}
+use Rattle.ct_merge.specs.declared.verdict.Verdict.TheVariants.{Accepted, Refused, Cut, Limited}
 
 -- of the record, where the logs were merged into one
 abbrev pub IfAccepted : Verdict → (Rehearsal → Type 0) → Type 0
@@ -15,3 +16,14 @@ abbrev pub IfStopped : Verdict → (Culprit → Type 0) → Type 0
 IfStopped (Accepted world) fact = ⊤
 IfStopped (Refused culprit) fact = fact culprit
 IfStopped (Cut culprit) fact = fact culprit
+IfStopped (Limited culprit) fact = fact culprit
+
+-- of that line, where they are refused
+abbrev pub IfRefused : Verdict → (Culprit → Type 0) → Type 0
+IfRefused (Refused culprit) fact = fact culprit
+IfRefused _ fact = ⊤
+
+-- which verdict it is where logs stand at this line: its reason says it
+abbrev pub verdict_at : Culprit → Verdict
+verdict_at culprit =
+    if is_ended culprit.why then Cut culprit else if is_limit culprit.why then Limited culprit else Refused culprit

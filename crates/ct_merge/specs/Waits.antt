@@ -4,7 +4,7 @@ use Rattle.std.specs.Global.{Vec}
 use Rattle.ct_names.specs.Group.{is_member}
 use Rattle.ct_names.specs.Prefix.{IsPrefix}
 use Rattle.ct_names.specs.declared.refusal.Refusal.{Refusal}
-use Rattle.ct_names.specs.declared.refusal.Refusal.TheVariants.{Full, NoSuchMember, NotSent, NotWaiting, StillWaiting}
+use Rattle.ct_names.specs.declared.refusal.Refusal.TheVariants.{Full}
 use Rattle.ct_model.specs.Rehearsal.{Rehearsal}
 use Rattle.ct_model.specs.Setting.{Setting}
 use Rattle.ct_model.specs.Stamps.{is_sent}
@@ -16,10 +16,9 @@ use Rattle.ct_merge.specs.Runs.{IsRun}
 use Rattle.ct_merge.specs.declared.full_name.FullName.{FullName}
 use Rattle.ct_merge.specs.declared.log_act.LogAct.TheVariants.{Receive}
 use Rattle.ct_merge.specs.declared.log_line.LogLine.{LogLine}
-use Rattle.ct_merge.specs.declared.own_fault.OwnFault.{OwnFault}
-use Rattle.ct_merge.specs.declared.own_fault.OwnFault.TheVariants.{Line, CameTo}
+use Rattle.ct_merge.specs.declared.own_fault.OwnFault.TheVariants.{Line}
 use Rattle.ct_merge.specs.declared.verdict.Why.{Why}
-use Rattle.ct_merge.specs.declared.verdict.Why.TheVariants.{Fault}
+use Rattle.ct_merge.specs.declared.verdict.Why.TheVariants.{Ended, Fault}
 
 -- the serial is that of no envelope to p of this name
 abbrev pub UnlessNamed : Rehearsal → ℕ → FullName → ℕ → Type 0
@@ -57,26 +56,31 @@ pub record SomeWaits (logs : List (Vec LogLine)) (t : Taken) : Type 0 where
 abbrev pub HasNoMerge : Setting → List (Vec LogLine) → Type 0
 HasNoMerge s logs = (w : Rehearsal) → IsRun w → w.setting ≡ s → IsMerge w logs → ⊥
 
--- a refusal for what the step is and how its member stands: for no limit, and for no place of an envelope
-abbrev pub is_own_cause : Refusal → Bool
-is_own_cause NoSuchMember = false
-is_own_cause NotWaiting = false
-is_own_cause NotSent = false
-is_own_cause StillWaiting = false
-is_own_cause (Full l) = false
-is_own_cause _ = true
-
--- the line is refused so, or comes to something else than it states
-abbrev pub is_own_fault : OwnFault → Bool
-is_own_fault (Line (Refused step refusal)) = is_own_cause refusal
-is_own_fault (Line fault) = false
-is_own_fault (CameTo p came) = true
-
 -- the other logs begin with these
 abbrev pub AllBegin : List (Vec LogLine) → List (Vec LogLine) → Type 0
 AllBegin logs more = (p : ℕ) → IsPrefix (log_of logs p) (log_of more p)
+
+-- no run of this group is a merge of logs that begin with these
+abbrev pub NeverMerges : Setting → List (Vec LogLine) → Type 0
+NeverMerges s logs = (more : List (Vec LogLine)) → AllBegin logs more → HasNoMerge s more
+
+-- ---- why a line is not taken
 
 -- a log stands for an envelope that was not sent
 abbrev pub is_wait : Why → Bool
 is_wait (Fault fault) = false
 is_wait _ = true
+
+-- for one whose sender's log has ended
+abbrev pub is_ended : Why → Bool
+is_ended (Ended p) = true
+is_ended _ = false
+
+abbrev pub is_full : Refusal → Bool
+is_full (Full limit) = true
+is_full _ = false
+
+-- a limit is in the way, which no run has
+abbrev pub is_limit : Why → Bool
+is_limit (Fault (Line (Refused step refusal))) = is_full refusal
+is_limit _ = false

@@ -1,11 +1,14 @@
 //! Why lines of logs are not taken, as text.
 
 ghost use Rattle.std.specs.Prelude.{◌≡◌, ◌++◌, OnOk, string_bytes};
-ghost use Rattle.ct_merge.specs.Culprits.{came_to_text, fault_text, head_text, note_text, refused_text, why_text};
+ghost use Rattle.ct_merge.specs.Culprits.{came_to_text, fault_text, head_text, note_text, refused_text, size_text, why_text};
 
 use crate::own_fault::OwnFault;
 use crate::verdict::Why;
-use ct_names::{Limit, Member, Refusal};
+use ct_names::{
+    Limit, MAX_CELLS, MAX_ENVELOPES, MAX_INSTANCES, MAX_ROUNDS, MAX_STEPS, MAX_SUBMISSIONS, Member,
+    Refusal,
+};
 use ct_play::LineFault;
 use std::alloc::AllocError;
 
@@ -63,15 +66,39 @@ fn push_head(text: &mut String, member: Member, refusal: Refusal) -> Result<(), 
     write!(text, "member {member} is refused {refusal}")
 }
 
-// A limit of the whole record is met by all the logs.
+// Of a limit how large it is, and that it accuses nobody.
 #[tactic(auto, unfolding(crate::specs::Culprits::note_text))]
 fn push_note(text: &mut String, refusal: Refusal) -> Result<(), AllocError>
     ensures { OnOk result (string_bytes text.new ≡ string_bytes text.old ++ note_text refusal) }
 {
     match refusal {
-        Refusal::Full(Limit::Envelopes | Limit::Cells | Limit::Steps) => {
-            text.push_str(", a limit of all the logs together: it accuses nobody")
+        Refusal::Full(limit) => {
+            push_size(text, limit)?;
+            text.push_str("; it accuses nobody")
         }
         _ => Ok(()),
+    }
+}
+
+// How large the limit is, or what gives room for more.
+#[tactic(auto, unfolding(crate::specs::Culprits::size_text))]
+fn push_size(text: &mut String, limit: Limit) -> Result<(), AllocError>
+    ensures { OnOk result (string_bytes text.new ≡ string_bytes text.old ++ size_text limit) }
+{
+    match limit {
+        Limit::Submissions => {
+            write!(
+                text,
+                ": a member submits at most {MAX_SUBMISSIONS} messages"
+            )
+        }
+        Limit::Instances => write!(text, ": a member has at most {MAX_INSTANCES} instances"),
+        Limit::Rounds => write!(text, ": an instance has at most {MAX_ROUNDS} rounds"),
+        Limit::Envelopes => write!(text, ": a run has at most {MAX_ENVELOPES} envelopes"),
+        Limit::Cells => write!(
+            text,
+            ": no cell is left; cells {MAX_CELLS} at the top of a log gives room for more"
+        ),
+        Limit::Steps => write!(text, ": a run has at most {MAX_STEPS} steps"),
     }
 }

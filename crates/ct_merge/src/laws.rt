@@ -1,6 +1,6 @@
 //! Laws of the definitions: of runs, whatever limits they pass, and of the logs that tell of them.
 
-ghost use Rattle.std.specs.Prelude.{◌≡◌, ℕ, ◌<◌, ◌≤◌, Bool, List, Some, length, option_map, slice_get, true};
+ghost use Rattle.std.specs.Prelude.{◌≡◌, ℕ, ◌<◌, ◌≤◌, Bool, List, Some, false, length, option_map, slice_get, true};
 ghost use Rattle.std.specs.Global.{Vec};
 ghost use Rattle.ct_names.specs.Group.{IsMember};
 ghost use Rattle.ct_model.specs.Actor.{actor};
@@ -18,13 +18,11 @@ ghost use Rattle.ct_merge.specs.Merging.{IsTakenFrom, Taken, step_of};
 ghost use Rattle.ct_merge.specs.Names.{full_name};
 ghost use Rattle.ct_merge.specs.Runs.{IsBegun, IsRun};
 ghost use Rattle.ct_merge.specs.Stops.{IsCulprit};
-ghost use Rattle.ct_merge.specs.Waits.{AllBegin, AllWait, HasNoMerge, SomeWaits, is_own_fault};
+ghost use Rattle.ct_merge.specs.Waits.{AllWait, HasNoMerge, NeverMerges, SomeWaits, is_ended, is_limit};
 ghost use Rattle.ct_merge.specs.declared.full_name.FullName.{FullName};
 ghost use Rattle.ct_merge.specs.declared.log_act.LogAct.{LogAct};
 ghost use Rattle.ct_merge.specs.declared.log_line.LogLine.{LogLine};
-ghost use Rattle.ct_merge.specs.declared.own_fault.OwnFault.{OwnFault};
 ghost use Rattle.ct_merge.specs.declared.verdict.Culprit.{Culprit};
-ghost use Rattle.ct_merge.specs.declared.verdict.Why.TheVariants.{Fault};
 
 /// Names: of the envelopes that were sent to a member in a run no two have the same full name. What the network repeats is the
 /// same envelope.
@@ -64,12 +62,12 @@ pub fn law_merge()
         length (own t p) < length (log_of logs p) → IsMerge w logs → ⊥ }
 {}
 
-/// What stands in the way of every run: where a line is refused by itself, or comes to something else than it states, no run of that
-/// group is a merge of logs that begin with these; and where the next line of each log that is not over waits for an envelope that
+/// What stands in the way of every run: where a line is not taken, for no limit and not as the log of its sender ends before, no run of
+/// the group is a merge of logs that begin with these; and where the next line of each log that is not over waits for an envelope that
 /// was not sent, none is a merge of the logs.
 pub fn law_stopped()
-    ensures fault { (logs more : List (Vec LogLine)) (culprit : Culprit) (f : OwnFault) (c : IsCulprit logs culprit) →
-        culprit.why ≡ Fault f → is_own_fault f ≡ true → AllBegin logs more → HasNoMerge c.so_far.rehearsal.setting more }
+    ensures refused { (s : Setting) (cells : ℕ) (logs : List (Vec LogLine)) (culprit : Culprit) → IsCulprit s cells logs culprit →
+        is_ended culprit.why ≡ false → is_limit culprit.why ≡ false → NeverMerges s logs }
     ensures wait { (logs : List (Vec LogLine)) (t : Taken) → IsRun t.rehearsal → IsTakenFrom logs t → AllWait logs t → SomeWaits logs t →
         HasNoMerge t.rehearsal.setting logs }
 {}

@@ -1,5 +1,8 @@
 //! What logs tell of.
 
+ghost use Rattle.std.specs.Prelude.{◌≡◌};
+ghost use Rattle.ct_merge.specs.Merging.{received};
+
 use crate::full_name::FullName;
 use ct_names::{Command, Member};
 
@@ -28,4 +31,16 @@ pub enum LogAct {
     Follow,
     /// `crash`
     Crash,
+}
+
+impl LogAct {
+    // The name of what it receives, if it is a receipt.
+    pub(crate) fn received(self) -> Option<FullName>
+        ensures { result ≡ received self }
+    {
+        match self {
+            LogAct::Receive(name) => Some(name),
+            _ => None,
+        }
+    }
 }

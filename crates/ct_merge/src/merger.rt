@@ -7,8 +7,8 @@ ghost use Rattle.ct_play.specs.Faults.{IsShort};
 ghost use Rattle.ct_merge.specs.Logs.{IsMerge, log_of};
 ghost use Rattle.ct_merge.specs.Merging.{IsBare, IsTakenFrom};
 ghost use Rattle.ct_merge.specs.Stops.{IsCulprit};
-ghost use Rattle.ct_merge.specs.Verdicts.{IfAccepted, IfStopped};
-ghost use Rattle.ct_merge.specs.Waits.{HasNoMerge, is_wait};
+ghost use Rattle.ct_merge.specs.Verdicts.{IfAccepted, IfRefused, IfStopped, verdict_at};
+ghost use Rattle.ct_merge.specs.Waits.{HasNoMerge, NeverMerges, is_limit, is_wait};
 
 use crate::log_line::LogLine;
 use crate::merging::judge;
@@ -104,17 +104,20 @@ impl Merger {
     }
 
     /// Takes lines that can be taken: an envelope is received once it was sent. Else a line is told that is refused by itself, whatever
-    /// lines these logs go on with, and the logs. How far the lines go is open; [`end`](Merger::end) takes the others.
-    #[tactic(auto, using(crate::proofs::Growing::same_group, crate::proofs::Halting::is_culprit))]
+    /// lines these logs go on with, or at which a limit is in the way ([`Why::is_limit`](crate::Why::is_limit)), and the logs. How far the
+    /// lines go is open; [`end`](Merger::end) takes the others.
+    #[tactic(auto, using(crate::proofs::Growing::same_group, crate::proofs::Halting::is_culprit, crate::proofs::Failing::fault_none))]
     pub fn go_on(self) -> Result<Result<Merger, (Culprit, Vec<Vec<LogLine>>)>, LineFault>
         ensures same { IfOk result (λ gone. IfOk gone (λ m. m ≡ self)) }
-        ensures culprit { IfOk result (λ gone. IfErr gone (λ halt. IsCulprit self.logs halt.0)) }
+        ensures culprit { IfOk result (λ gone. IfErr gone (λ halt. IsCulprit self.setting self.cells self.logs halt.0)) }
+        // Where no limit is in the way, no run of the group is a merge of logs that begin with these.
+        ensures own { IfOk result (λ gone. IfErr gone (λ halt. is_limit halt.0.why ≡ false → NeverMerges self.setting self.logs)) }
         ensures fault { IfOk result (λ gone. IfErr gone (λ halt. is_wait halt.0.why ≡ false)) }
         ensures logs { IfOk result (λ gone. IfErr gone (λ halt. halt.1.items ≡ self.logs)) }
         ensures err { IfErr result IsShort }
     {
         let Merger { mut progress, logs } = self;
-        match progress.run(&logs) {
+        match progress.run(&logs, &[]) {
             Ok(()) => Ok(Ok(Merger { progress, logs })),
             Err(fault) if fault.line_fault().is_short() => Err(fault.line_fault()),
             Err(fault) => Ok(Err((progress.halted(fault), logs))),
@@ -127,9 +130,13 @@ impl Merger {
         ensures merged { IfOk result (λ ended. IfAccepted ended.0 (λ w. IsMerge w self.logs)) }
         ensures setting { IfOk result (λ ended. IfAccepted ended.0 (λ w. w.setting ≡ self.setting)) }
         ensures cells { IfOk result (λ ended. IfAccepted ended.0 (λ w. w.cells ≡ self.cells)) }
-        // A line that is told of is the next one of its log behind a run, and is not taken there.
-        ensures culprit { IfOk result (λ ended. IfStopped ended.0 (IsCulprit self.logs)) }
-        // Where it is told of as one that waits, no run of the group is a merge of the logs.
+        // A line that is told of is the next one of its log behind a run of the group, and is not taken there.
+        ensures culprit { IfOk result (λ ended. IfStopped ended.0 (IsCulprit self.setting self.cells self.logs)) }
+        // Its reason says which verdict it is.
+        ensures told { IfOk result (λ ended. IfStopped ended.0 (λ culprit. ended.0 ≡ verdict_at culprit)) }
+        // Where they are refused, no run of the group is a merge of logs that begin with these.
+        ensures refused { IfOk result (λ ended. IfRefused ended.0 (λ culprit. NeverMerges self.setting self.logs)) }
+        // Where a line waits, none is a merge of the logs as they are.
         ensures none { IfOk result (λ ended. IfStopped ended.0 (λ culprit. is_wait culprit.why ≡ true →
             HasNoMerge self.setting self.logs)) }
         ensures logs { IfOk result (λ ended. ended.1.items ≡ self.logs) }

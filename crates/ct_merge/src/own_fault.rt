@@ -2,9 +2,11 @@
 
 ghost use Rattle.std.specs.Prelude.{◌≡◌};
 ghost use Rattle.ct_merge.specs.Stops.{line_fault_of};
+ghost use Rattle.ct_merge.specs.Waits.{is_limit};
+ghost use Rattle.ct_merge.specs.declared.verdict.Why.TheVariants.{Fault};
 
 use ct_grammar::Text;
-use ct_names::Member;
+use ct_names::{Member, Refusal};
 use ct_play::LineFault;
 use std::alloc::AllocError;
 
@@ -25,6 +27,16 @@ impl OwnFault {
         match self {
             OwnFault::Line(fault) => *fault,
             OwnFault::CameTo(member, _) => LineFault::NotSo(*member),
+        }
+    }
+
+    // Whether a limit is in the way of the line.
+    pub(crate) fn is_limit(&self) -> bool
+        ensures { result ≡ is_limit (Fault self.now) }
+    {
+        match self {
+            OwnFault::Line(fault) => matches!(*fault, LineFault::Refused(_, Refusal::Full(_))),
+            OwnFault::CameTo(..) => false,
         }
     }
 }

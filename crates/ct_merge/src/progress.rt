@@ -1,16 +1,17 @@
 //! How far logs were taken.
 
-ghost use Rattle.std.specs.Prelude.{◌≡◌, ◌≢◌, ◌≤◌, ℕ, [], Some, true, IfErr, IfOk, IfSome, OnOk, slice_index};
+ghost use Rattle.std.specs.Prelude.{◌≡◌, ◌≢◌, ◌<◌, ◌≤◌, ℕ, [], true, IfErr, IfOk, IfSome, OnOk, length, slice_index};
 ghost use Rattle.ct_names.specs.Group.{is_member};
 ghost use Rattle.ct_merge.specs.Logs.{log_of};
-ghost use Rattle.ct_merge.specs.Merging.{count_of, IsSameGroup, IsTakenFrom};
-ghost use Rattle.ct_merge.specs.Names.{full_name};
+ghost use Rattle.ct_merge.specs.Merging.{count_of, IsLater, IsReady, IsTakenFrom};
+ghost use Rattle.ct_merge.specs.Names.{IsSentAs};
 ghost use Rattle.ct_merge.specs.Stops.{halted_at, IsHalt};
 ghost use Rattle.ct_world.specs.Setup.{record_of};
 
 use crate::full_name::FullName;
 use crate::log_line::LogLine;
 use crate::own_fault::OwnFault;
+use crate::refusals::end_of;
 use crate::taker::Taker;
 use crate::verdict::{Culprit, Why};
 use ct_names::{MAX_MEMBERS, Member, Serial};
@@ -63,7 +64,7 @@ impl Progress {
 
     /// The serial of an envelope of this name that was sent to the member.
     pub fn serial(&self, member: Member, name: FullName) -> Option<Serial>
-        ensures { IfSome result (λ serial. full_name self.now.rehearsal serial ≡ Some name) }
+        ensures { IfSome result (IsSentAs self.now.rehearsal member name) }
     {
         self.taker.serial(member, name)
     }
@@ -75,27 +76,19 @@ impl Progress {
         self.taker.into_world()
     }
 
-    // Takes lines of the logs as far as they go. A fault is that of the next line of the log that was tried last.
-    pub(crate) fn run(&mut self, logs: &[Vec<LogLine>]) -> Result<(), OwnFault>
+    // Takes lines of the logs as far as they go, of each up to the one of these lines that is its own. A fault is that of the next line of
+    // the log that was tried last.
+    #[tactic(auto, using(crate::proofs::Halting::halted_on))]
+    pub(crate) fn run(&mut self, logs: &[Vec<LogLine>], refused: &[Culprit]) -> Result<(), OwnFault>
         requires { IsTakenFrom logs.now self.old }
         ensures taken { OnOk result (IsTakenFrom logs.now self.new) }
-        ensures group { OnOk result (IsSameGroup self.old.rehearsal self.new.rehearsal) }
-        ensures halt { IfErr result (IsHalt logs.now self.new) }
-    {
-        self.run_to(logs, &[])
-    }
-
-    // The same, of each member's log up to its end of these.
-    pub(crate) fn run_to(&mut self, logs: &[Vec<LogLine>], ends: &[usize]) -> Result<(), OwnFault>
-        requires { IsTakenFrom logs.now self.old }
-        ensures taken { OnOk result (IsTakenFrom logs.now self.new) }
-        ensures group { OnOk result (IsSameGroup self.old.rehearsal self.new.rehearsal) }
-        ensures halt { IfErr result (IsHalt logs.now self.new) }
+        ensures later { OnOk result (IsLater self.old.rehearsal self.new.rehearsal) }
+        ensures halt { IfErr result (IsHalt self.old.rehearsal logs.now self.new) }
     {
         // Each round but the last takes a line.
         for round in 0..=lines_of(logs) {
             let _ = round;
-            if !self.round(logs, ends)? {
+            if !self.round(logs, refused)? {
                 return Ok(());
             }
         }
@@ -103,15 +96,16 @@ impl Progress {
     }
 
     // Takes lines of each log in its turn. Whether there were some.
-    fn round(&mut self, logs: &[Vec<LogLine>], ends: &[usize]) -> Result<bool, OwnFault>
+    #[tactic(auto, using(crate::proofs::Halting::halted_on))]
+    fn round(&mut self, logs: &[Vec<LogLine>], refused: &[Culprit]) -> Result<bool, OwnFault>
         requires { IsTakenFrom logs.now self.old }
         ensures taken { OnOk result (IsTakenFrom logs.now self.new) }
-        ensures group { OnOk result (IsSameGroup self.old.rehearsal self.new.rehearsal) }
-        ensures halt { IfErr result (IsHalt logs.now self.new) }
+        ensures later { OnOk result (IsLater self.old.rehearsal self.new.rehearsal) }
+        ensures halt { IfErr result (IsHalt self.old.rehearsal logs.now self.new) }
     {
         let mut some = false;
         for i in 0..self.stage().world().group().n() {
-            if self.advance(i + 1, logs, end_of(ends, i + 1))? {
+            if self.advance(i + 1, logs, end_of(refused, i + 1))? {
                 some = true;
             }
         }
@@ -130,8 +124,8 @@ impl Progress {
         requires few { member ≤ MAX_MEMBERS }
         requires taken { IsTakenFrom logs.now self.old }
         ensures taken { OnOk result (IsTakenFrom logs.now self.new) }
-        ensures group { OnOk result (IsSameGroup self.old.rehearsal self.new.rehearsal) }
-        ensures halt { IfErr result (IsHalt logs.now self.new) }
+        ensures later { OnOk result (IsLater self.old.rehearsal self.new.rehearsal) }
+        ensures halt { IfErr result (IsHalt self.old.rehearsal logs.now self.new) }
     {
         let start = self.count(member);
         let mut count = start;
@@ -142,6 +136,33 @@ impl Progress {
         self.note(member, count);
         ended?;
         Ok(count > start)
+    }
+
+    // Takes the next line of the member's log, by the serial of what it receives.
+    #[tactic(auto, using(crate::proofs::Advancing::advanced, crate::proofs::Halting::halted))]
+    pub(crate) fn take_next(
+        &mut self,
+        logs: &[Vec<LogLine>],
+        member: Member,
+        serial: Serial,
+    ) -> Result<(), OwnFault>
+        requires member { is_member self.old.rehearsal.setting.members member ≡ true }
+        requires taken { IsTakenFrom logs.now self.old }
+        requires ready { IsReady self.old.rehearsal member (log_of logs.now member) (count_of self.old.counts member) serial }
+        ensures taken { OnOk result (IsTakenFrom logs.now self.new) }
+        ensures later { OnOk result (IsLater self.old.rehearsal self.new.rehearsal) }
+        ensures more { OnOk result (length self.old.rehearsal.steps < length self.new.rehearsal.steps) }
+        ensures halt { IfErr result (IsHalt self.old.rehearsal logs.now self.new) }
+    {
+        // For its clause: a group has no more members than there are numbers.
+        let _ = self.stage().world().group().n();
+        let mut count = self.count(member);
+        self.last = member;
+        let ended = self
+            .taker
+            .take(member, log_of(logs, member), serial, &mut count);
+        self.note(member, count);
+        ended
     }
 
     // Notes that so many lines of the member's log were taken.
@@ -186,14 +207,6 @@ pub(crate) fn log_of(logs: &[Vec<LogLine>], member: Member) -> &[LogLine]
     match logs.get(usize::from(member).saturating_sub(1)) {
         Some(log) => log,
         None => &[],
-    }
-}
-
-// The end of the member's log; of one that has none the largest.
-fn end_of(ends: &[usize], member: Member) -> usize {
-    match ends.get(usize::from(member).saturating_sub(1)) {
-        Some(end) => *end,
-        None => usize::MAX,
     }
 }
 

@@ -1,13 +1,13 @@
 //! What a member may still send.
 
 ghost use Rattle.std.specs.Prelude.{◌≡◌};
-ghost use Rattle.ct_merge.specs.Sending.{choosing, concluding, has_before, has_decided, is_later, is_passed, is_receipt, is_submission};
-ghost use Rattle.ct_merge.specs.Sending.{may_come, may_send, passes, phase_in, received, replying, submitted};
+ghost use Rattle.ct_merge.specs.Sending.{choosing, concluding, has_before, has_decided, is_later, is_of_group, is_passed, is_receipt};
+ghost use Rattle.ct_merge.specs.Sending.{is_submission, may_come, may_send, passes, phase_in, received, replying, submitted};
 
 use crate::full_name::FullName;
 use ct_grammar::Carried;
 use ct_model::{Phase, Step};
-use ct_names::{Instance, Member, Round};
+use ct_names::{Group, Instance, Member, Round};
 use ct_world::{Letter, Wire, World};
 
 // ---- what it did
@@ -209,12 +209,29 @@ fn may_send(world: &World, from: Member, to: Member, carried: Carried) -> bool
     }
 }
 
+// ---- what may come
+
+// Whether the group has such: messages of its members, counted from 1 on, and what is sent in rounds of instances.
+fn is_of_group(group: Group, carried: Carried) -> bool
+    ensures { result ≡ is_of_group group carried }
+{
+    match carried {
+        Carried::Data(origin, number) => group.has(origin) && number >= 1,
+        Carried::Est(k, r)
+        | Carried::Prop(k, r)
+        | Carried::Ack(k, r)
+        | Carried::Nack(k, r)
+        | Carried::Dec(k, r) => k >= 1 && r >= 1,
+    }
+}
+
 /// Whether the envelope of this name may still be sent to the member.
 #[tactic(auto, unfolding(crate::specs::Sending::may_come))]
 pub fn may_come(world: &World, to: Member, name: FullName) -> bool
     ensures { result ≡ may_come world.now.rehearsal to name }
 {
     world.group().has(name.from)
+        && is_of_group(world.group(), name.carried)
         && !world.crashed(name.from)
         && may_send(world, name.from, to, name.carried)
 }

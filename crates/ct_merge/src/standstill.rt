@@ -1,12 +1,14 @@
 //! Logs that all stand still.
 
-ghost use Rattle.std.specs.Prelude.{◌≡◌, ◌<◌, IfSome, None, Some, length, slice_get};
+ghost use Rattle.std.specs.Prelude.{◌≡◌, ◌<◌, ◌≤◌, IfSome, None, Some, length, slice_get, true};
+ghost use Rattle.ct_names.specs.Group.{is_member};
 ghost use Rattle.ct_merge.specs.Logs.{log_of};
 ghost use Rattle.ct_merge.specs.Merging.{IsWholeTo, count_of};
 ghost use Rattle.ct_merge.specs.Stops.{IsCulpritAt, IsStandOf};
+ghost use Rattle.ct_merge.specs.Waits.{AllWait, IsUnsent, WaitsAt};
+ghost use Rattle.ct_merge.specs.declared.log_act.LogAct.{LogAct};
 
 use crate::full_name::FullName;
-use crate::log_act::LogAct;
 use crate::log_line::LogLine;
 use crate::own_fault::OwnFault;
 use crate::progress::{Progress, log_of};
@@ -20,17 +22,19 @@ use ct_play::LineFault;
 // The serial of no envelope.
 const NO_SERIAL: Serial = 0;
 
-/// Where the log of the member stands.
+/// Where the log of the member stands, whose next line waits.
+#[tactic(auto, using(crate::proofs::Standing::receipts))]
 pub(crate) fn stand_of(progress: &Progress, logs: &[Vec<LogLine>], member: Member) -> Stand
-    requires { count_of progress.now.counts member < length (log_of logs.now member) }
+    requires more { count_of progress.now.counts member < length (log_of logs.now member) }
+    requires waits { WaitsAt logs.now progress.now member }
     ensures { IsStandOf logs.now progress.now member result }
 {
-    match log_of(logs, member).get(progress.count(member)) {
-        Some(line) => match line.act {
-            LogAct::Receive(name) => awaited(progress, logs, member, line, name),
-            _ => Stand::Own(Why::Fault(OwnFault::Line(LineFault::Restless))),
-        },
-        None => Stand::Own(Why::Fault(OwnFault::Line(LineFault::Restless))),
+    let Some(line) = log_of(logs, member).get(progress.count(member)) else {
+        unreachable!()
+    };
+    match line.act.received() {
+        Some(name) => awaited(progress, logs, member, line, name),
+        None => unreachable!(),
     }
 }
 
@@ -45,6 +49,7 @@ fn awaited(
 ) -> Stand
     requires next { slice_get (log_of logs.now member) (count_of progress.now.counts member) ≡ Some line.now }
     requires act { line.now.act ≡ LogAct.Receive name }
+    requires unsent { IsUnsent progress.now.rehearsal member name }
     ensures { IsStandOf logs.now progress.now member result }
 {
     let _ = line;
@@ -66,10 +71,14 @@ fn awaited(
 }
 
 // Where the waits of the member's log lead.
+#[tactic(auto, using(crate::proofs::Standing::sender_in))]
 fn root(progress: &Progress, logs: &[Vec<LogLine>], member: Member) -> Culprit
-    requires { count_of progress.now.counts member < length (log_of logs.now member) }
+    requires member { is_member progress.now.rehearsal.setting.members member ≡ true }
+    requires more { count_of progress.now.counts member < length (log_of logs.now member) }
+    requires waits { AllWait logs.now progress.now }
     ensures { IsCulpritAt logs.now progress.now result }
 {
+    few(progress);
     let mut at = member;
     for step in 0..MAX_MEMBERS {
         let _ = step;
@@ -79,6 +88,13 @@ fn root(progress: &Progress, logs: &[Vec<LogLine>], member: Member) -> Culprit
         }
     }
     culprit(progress, at, Why::Circle)
+}
+
+// A group has no more members.
+fn few(progress: &Progress)
+    ensures { progress.now.rehearsal.setting.members ≤ MAX_MEMBERS }
+{
+    let _ = progress.stage().world().group().n();
 }
 
 // The line at which the member's log stands.
@@ -95,9 +111,10 @@ fn culprit(progress: &Progress, member: Member, why: Why) -> Culprit
     }
 }
 
-/// The line at which logs stand of which none goes on: of those at which waits end, one that waits for a log that has ended only where
+/// The line at which logs stand of which each waits: of those at which waits end, one that waits for a log that has ended only where
 /// all do; None where each log has ended.
 pub(crate) fn standstill(progress: &Progress, logs: &[Vec<LogLine>]) -> Option<Culprit>
+    requires { AllWait logs.now progress.now }
     ensures whole { result ≡ None → IsWholeTo logs.now progress.now.counts progress.now.rehearsal.setting.members }
     ensures culprit { IfSome result (IsCulpritAt logs.now progress.now) }
 {

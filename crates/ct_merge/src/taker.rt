@@ -1,28 +1,27 @@
 //! Lines of logs, taken one by one.
 
-ghost use Rattle.std.specs.Prelude.{◌≡◌, ◌≤◌, [], length, true, false, Ok, None, Some, IfErr, IfOk, IfSome, OnOk};
+ghost use Rattle.std.specs.Prelude.{◌≡◌, ◌≤◌, ◌<◌, [], length, false, true, None, Some, IfErr, IfOk, IfSome, OnOk};
 ghost use Rattle.ct_model.specs.Cause.{cause};
-ghost use Rattle.ct_model.specs.Lawful.{IsLawful};
+ghost use Rattle.ct_model.specs.Lawful.{IsLawful, IsPresent, is_waiting};
 ghost use Rattle.ct_model.specs.Rehearsal.{extended};
 ghost use Rattle.ct_world.specs.Setup.{record_of};
 ghost use Rattle.ct_play.specs.Faults.{IsShort, UnlessShort, is_short};
-ghost use Rattle.ct_merge.specs.Logs.{act_of};
-ghost use Rattle.ct_merge.specs.Merging.{act_in, step_of, IsSameGroup, IsTakenTo, LeavesAll, LeavesOthers, Takes};
-ghost use Rattle.ct_merge.specs.Names.{full_name};
+ghost use Rattle.ct_merge.specs.Merging.{step_of, IsLater, IsReady, IsSerialOf, IsTakenTo, IsThereFor, LeavesAll, LeavesOthers, Takes};
+ghost use Rattle.ct_merge.specs.Names.{IsSentAs};
 ghost use Rattle.ct_merge.specs.Stating.{is_stated, log_outcome};
-ghost use Rattle.ct_merge.specs.Stops.{IsOutcome, IsRefusedBy, IsStuck, IsStuckIn, IsUnbrought, line_fault_of};
+ghost use Rattle.ct_merge.specs.Stops.{IsFaultAt, IsOutcome, IsRefusedBy, IsStuck, IsStuckIn, line_fault_of};
 
 use crate::address::{Address, address_of};
 use crate::full_name::FullName;
 use crate::log_act::LogAct;
 use crate::log_line::LogLine;
-use crate::naming::full_name;
+use crate::naming::{full_name, is_it};
 use crate::own_fault::OwnFault;
 use crate::stating::{is_stated, push_log_outcome};
-use ct_grammar::{Act, Pick, Play, Text, Who};
+use ct_grammar::Text;
 use ct_model::Step;
 use ct_names::{Member, Refusal, Serial};
-use ct_play::{LineFault, Stage, play};
+use ct_play::{LineFault, Stage};
 use ct_world::{Setup, World};
 use indexmap::IndexMap;
 use std::alloc::Global;
@@ -68,12 +67,12 @@ impl Taker {
         &self.stage
     }
 
-    /// The serial of an envelope of this name that was sent to the member.
+    /// The serial of an envelope of this name that was sent to the member, where the index has it.
     pub(crate) fn serial(&self, member: Member, name: FullName) -> Option<Serial>
-        ensures { IfSome result (λ serial. full_name self.now serial ≡ Some name) }
+        ensures { IfSome result (IsSentAs self.now member name) }
     {
         let serial = self.serials.get(&address_of(member, name)).copied()?;
-        if full_name(&self.stage, serial) == Some(name) {
+        if is_it(&self.stage, member, name, serial) {
             Some(serial)
         } else {
             None
@@ -93,8 +92,8 @@ impl Taker {
     }
 
     /// Takes some next lines of the member's log, of which so many were taken, up to this end: none only where the first of the others
-    /// waits for an envelope that was not sent, or is refused, or there is none.
-    #[tactic(auto, using(crate::proofs::Stopping::stuck_in))]
+    /// waits for an envelope that the index doesn't have, or is refused, or there is none.
+    #[tactic(auto, using(crate::proofs::Stopping::stuck_on, crate::proofs::Taking::on))]
     pub(crate) fn take_on(
         &mut self,
         member: Member,
@@ -105,77 +104,107 @@ impl Taker {
         requires { IsTakenTo self.old member log.now count.old }
         ensures taken { OnOk result (IsTakenTo self.new member log.now count.new) }
         ensures others { OnOk result (LeavesOthers member self.old self.new) }
-        ensures group { OnOk result (IsSameGroup self.old self.new) }
+        ensures later { OnOk result (IsLater self.old self.new) }
         ensures stuck { IfErr result (λ fault. UnlessShort (is_short (line_fault_of fault))
             (IsStuckIn self.old member log.now count.new fault)) }
     {
         for place in *count..end_of(log, end, *count) {
-            if !self.take(member, &log[place])? {
+            // The invariant names it.
+            let _ = place;
+            let Some(serial) = self.find(member, log, *count) else {
                 return Ok(());
-            }
-            *count = place + 1;
+            };
+            self.take(member, log, serial, count)?;
         }
         Ok(())
     }
 
-    // Takes the line, unless it waits for an envelope that was not sent.
-    #[tactic(auto, using(crate::proofs::Taking::takes, crate::proofs::Taking::group_more, crate::proofs::Stopping::stuck))]
-    fn take(&mut self, member: Member, line: &LogLine) -> Result<bool, OwnFault>
-        ensures takes { result ≡ Ok true → Takes self.old member line.now self.new }
-        ensures waits { result ≡ Ok false → LeavesAll self.old self.new }
-        ensures group { OnOk result (IsSameGroup self.old self.new) }
-        ensures stuck { IfErr result (λ fault. UnlessShort (is_short (line_fault_of fault)) (IsStuck self.old member line.now fault)) }
+    /// Takes the next line of the member's log, of which so many were taken, by the serial of what it receives.
+    #[tactic(auto, using(crate::proofs::Taking::taken_next, crate::proofs::Stopping::stuck_next))]
+    pub(crate) fn take(
+        &mut self,
+        member: Member,
+        log: &[LogLine],
+        serial: Serial,
+        count: &mut usize,
+    ) -> Result<(), OwnFault>
+        requires taken { IsTakenTo self.old member log.now count.old }
+        requires ready { IsReady self.old member log.now count.old serial }
+        ensures taken { OnOk result (IsTakenTo self.new member log.now count.new) }
+        ensures others { OnOk result (LeavesOthers member self.old self.new) }
+        ensures later { OnOk result (IsLater self.old self.new) }
+        ensures more { OnOk result (length self.old.steps < length self.new.steps) }
+        ensures stuck { IfErr result (λ fault. UnlessShort (is_short (line_fault_of fault))
+            (IsStuckIn self.old member log.now count.new fault)) }
     {
-        lawful(self.stage.world());
-        let Some(serial) = self.find(member, line.act)? else {
-            return Ok(false);
-        };
-        lawful(self.stage.world());
-        let step = step_of(member, serial, line.act);
-        self.step(step)?;
-        self.compare(step, &line.said)?;
-        Ok(true)
-    }
-
-    // The serial of the envelope that the act receives, which waits at the member; of another act any number. None: it was not sent.
-    #[tactic(auto, using(crate::proofs::Taking::left, crate::proofs::Taking::grouped))]
-    fn find(&mut self, member: Member, act: LogAct) -> Result<Option<Serial>, LineFault>
-        ensures told { IfOk result (λ found. IfSome found (λ serial. act_of self.new (step_of member serial act) ≡ Some act)) }
-        ensures all { OnOk result (LeavesAll self.old self.new) }
-        ensures group { OnOk result (IsSameGroup self.old self.new) }
-        ensures fault { IfErr result (λ fault. UnlessShort (is_short fault) (IsUnbrought self.old member fault)) }
-    {
-        match act {
-            LogAct::Receive(name) => self.bring(member, name),
-            _ => Ok(Some(0)),
+        match log.get(*count) {
+            Some(line) => {
+                self.take_line(member, line, serial)?;
+                *count += 1;
+                Ok(())
+            }
+            None => unreachable!(),
         }
     }
 
-    // The serial of the envelope of this name, which waits at the member. None: it was not sent.
-    #[tactic(auto, using(crate::proofs::Taking::left, crate::proofs::Taking::grouped))]
-    fn bring(&mut self, member: Member, name: FullName) -> Result<Option<Serial>, LineFault>
-        ensures named { IfOk result (λ found. IfSome found (λ serial. full_name self.new serial ≡ Some name)) }
-        ensures all { OnOk result (LeavesAll self.old self.new) }
-        ensures group { OnOk result (IsSameGroup self.old self.new) }
-        ensures fault { IfErr result (λ fault. UnlessShort (is_short fault) (IsUnbrought self.old member fault)) }
+    // The serial of what the line at this place receives, where the index has it; of another line any number.
+    #[tactic(auto, using(crate::proofs::Taking::ready))]
+    fn find(&self, member: Member, log: &[LogLine], place: usize) -> Option<Serial>
+        ensures { IfSome result (IsReady self.now member log.now place) }
     {
-        let Some(serial) = self.serials.get(&address_of(member, name)).copied() else {
-            return Ok(None);
-        };
-        self.repeat(member, serial)?;
-        Ok(self.serial(member, name))
+        let line = log.get(place)?;
+        match line.act.received() {
+            Some(name) => self.serial(member, name),
+            None => Some(0),
+        }
     }
 
-    // The network repeats the envelope of the serial, if the member took it before.
-    #[tactic(auto, using(crate::proofs::Taking::left, crate::proofs::Taking::grouped))]
-    fn repeat(&mut self, member: Member, serial: Serial) -> Result<(), LineFault>
+    // Takes the line by the serial of what it receives.
+    #[tactic(auto, using(crate::proofs::Taking::takes, crate::proofs::Taking::later_more, crate::proofs::Stopping::stuck))]
+    fn take_line(&mut self, member: Member, line: &LogLine, serial: Serial) -> Result<(), OwnFault>
+        requires { IsSerialOf self.old member line.now.act serial }
+        ensures takes { OnOk result (Takes self.old member line.now self.new) }
+        ensures later { OnOk result (IsLater self.old self.new) }
+        ensures more { OnOk result (length self.old.steps < length self.new.steps) }
+        ensures stuck { IfErr result (λ fault. UnlessShort (is_short (line_fault_of fault)) (IsStuck self.old member line.now fault)) }
+    {
+        lawful(self.stage.world());
+        self.bring(member, line, serial)?;
+        lawful(self.stage.world());
+        let step = step_of(member, serial, line.act);
+        self.step(step)?;
+        self.compare(step, &line.said)
+    }
+
+    // What the line receives waits at the member then: the network repeats it, if the member took it before.
+    #[tactic(auto, using(crate::proofs::Bringing::brought, crate::proofs::Taking::left, crate::proofs::Taking::later))]
+    fn bring(&mut self, member: Member, line: &LogLine, serial: Serial) -> Result<(), LineFault>
+        requires lawful { IsLawful self.old }
+        requires serial { IsSerialOf self.old member line.now.act serial }
+        ensures serial { OnOk result (IsSerialOf self.new member line.now.act serial) }
+        ensures waits { OnOk result (IsThereFor self.new member line.now.act serial) }
         ensures all { OnOk result (LeavesAll self.old self.new) }
-        ensures group { OnOk result (IsSameGroup self.old self.new) }
-        ensures fault { IfErr result (λ fault. UnlessShort (is_short fault) (IsUnbrought self.old member fault)) }
+        ensures later { OnOk result (IsLater self.old self.new) }
+        ensures fault { IfErr result (λ fault. UnlessShort (is_short fault) (IsFaultAt self.old member line.now (OwnFault.Line fault))) }
+    {
+        let Some(_) = line.act.received() else {
+            return Ok(());
+        };
+        if !self.is_away(member, serial) {
+            return Ok(());
+        }
+        self.step(Step::Repeat(member, serial))
+    }
+
+    // Whether the envelope of the serial doesn't wait at the member.
+    #[tactic(auto, using(crate::proofs::Bringing::tested))]
+    fn is_away(&self, member: Member, serial: Serial) -> bool
+        ensures away { result ≡ true → is_waiting self.now member serial ≡ false }
+        ensures there { result ≡ false → IsPresent self.now member → is_waiting self.now member serial ≡ true }
     {
         match self.stage.world().enabled(&Step::Receive(member, serial)) {
-            Err(Refusal::NotWaiting) => self.step(Step::Repeat(member, serial)),
-            _ => Ok(()),
+            Err(refusal) => refusal == Refusal::NotWaiting,
+            Ok(()) => false,
         }
     }
 
@@ -198,15 +227,14 @@ impl Taker {
     }
 
     // Takes the step.
-    #[tactic(auto, using(crate::proofs::Playing::joined, crate::proofs::Playing::allowed, crate::proofs::Playing::refused))]
+    #[tactic(auto, using(crate::proofs::Playing::allowed, crate::proofs::Playing::refused))]
     fn step(&mut self, step: Step) -> Result<(), LineFault>
         ensures joined { OnOk result (self.new ≡ extended self.old step) }
         ensures allowed { OnOk result (cause self.old step ≡ None) }
         ensures refused { IfErr result (λ fault. UnlessShort (is_short fault) (IsRefusedBy self.old step fault)) }
     {
         let sent = self.stage.world().sent();
-        let line = Play::Act(Who::One(step.member()), act_in(step));
-        play(self.alloc, &mut self.stage, &line)?;
+        self.stage.step(step)?;
         self.note(sent)
     }
 
@@ -268,27 +296,5 @@ fn step_of(member: Member, serial: Serial, act: LogAct) -> Step
         LogAct::Deliver => Step::Deliver(member),
         LogAct::Follow => Step::Follow(member),
         LogAct::Crash => Step::Crash(member),
-    }
-}
-
-/// What a schedule calls the step, its envelope by the serial.
-pub(crate) fn act_in(step: Step) -> Act
-    ensures { result ≡ act_in step }
-{
-    match step {
-        Step::Submit(_, command) => Act::Submit(command),
-        Step::Receive(_, serial) => Act::Receive(Pick::Serial(serial)),
-        Step::Begin(_) => Act::Begin,
-        Step::Enter(_) => Act::Enter,
-        Step::Choose(_, from) => Act::Choose(from),
-        Step::Adopt(_) => Act::Adopt,
-        Step::Suspect(_) => Act::Suspect,
-        Step::Conclude(_) => Act::Conclude,
-        Step::Deliver(_) => Act::Deliver,
-        Step::Follow(_) => Act::Follow,
-        Step::Crash(_) => Act::Crash,
-        Step::Postpone(_, serial) => Act::Postpone(Pick::Serial(serial)),
-        Step::Lose(_, serial) => Act::Lose(Pick::Serial(serial)),
-        Step::Repeat(_, serial) => Act::Repeat(Pick::Serial(serial)),
     }
 }

@@ -15,12 +15,10 @@ ghost use Rattle.ct_merge.specs.Merging.{count_of};
 ghost use Rattle.ct_merge.specs.Testing.{AreFrom, AreMet, AreTested, FailsBefore, IsFailing, StaysTested};
 
 use crate::expectation::{Expectation, Expectations};
-use crate::taker::act_in;
 use crate::tally::Tally;
-use ct_grammar::{Play, Who};
 use ct_model::Step;
 use ct_names::Member;
-use ct_play::{LineFault, Stage, play, unmet};
+use ct_play::{LineFault, Stage, unmet};
 use ct_world::Setup;
 use std::alloc::{AllocError, Global};
 use std::marker::Model;
@@ -146,13 +144,11 @@ impl Walk {
     }
 
     // Takes the step.
-    #[tactic(auto, using(crate::proofs::Playing::played_step))]
     fn take(&mut self, step: Step) -> Result<(), LineFault>
         ensures ok { OnOk result (self.new ≡ record self.old { stage = with_step self.old.stage step }) }
         ensures err { IfErr result IsShort }
     {
-        let line = Play::Act(Who::One(step.member()), act_in(step));
-        match play(self.alloc, &mut self.stage, &line) {
+        match self.stage.step(step) {
             Ok(()) => Ok(()),
             Err(fault) if fault.is_short() => Err(fault),
             // The steps of a run are allowed.

@@ -1,7 +1,8 @@
 //! What logs come to.
 
 ghost use Rattle.std.specs.Prelude.{◌≡◌};
-ghost use Rattle.ct_merge.specs.Waits.{is_wait};
+ghost use Rattle.ct_merge.specs.Verdicts.{verdict_at};
+ghost use Rattle.ct_merge.specs.Waits.{is_limit, is_wait};
 
 use crate::own_fault::OwnFault;
 use ct_names::Member;
@@ -16,6 +17,21 @@ pub enum Verdict {
     Refused(Culprit),
     /// None was found as they stand: the log of the sender would have to go on.
     Cut(Culprit),
+    /// A limit is in the way of this line, which accuses nobody.
+    Limited(Culprit),
+}
+
+impl Verdict {
+    // What logs come to that stand at this line.
+    pub(crate) fn at(culprit: Culprit) -> Verdict
+        ensures { result ≡ verdict_at culprit }
+    {
+        match &culprit.why {
+            Why::Ended(_) => Verdict::Cut(culprit),
+            why if why.is_limit() => Verdict::Limited(culprit),
+            _ => Verdict::Refused(culprit),
+        }
+    }
 }
 
 /// A line at which a log stands, and why.
@@ -33,7 +49,7 @@ pub struct Culprit {
 /// Why a line is not taken.
 #[derive(Drop)]
 pub enum Why {
-    /// It is refused by itself.
+    /// It is refused by itself, or by a limit.
     Fault(OwnFault),
     /// It receives what was not sent, and what this member can't send any more.
     Never(Member),
@@ -49,5 +65,15 @@ impl Why {
         ensures { result ≡ is_wait self.now }
     {
         !matches!(self, Why::Fault(_))
+    }
+
+    /// Whether a limit is in the way of the line.
+    pub fn is_limit(&self) -> bool
+        ensures { result ≡ is_limit self.now }
+    {
+        match self {
+            Why::Fault(fault) => fault.is_limit(),
+            _ => false,
+        }
     }
 }

@@ -5,12 +5,15 @@ use crate::stated::{MessageName, command_in, first_beside, has, names, ts_in};
 use ct_grammar::Carried;
 use ct_merge::{FullName, LogAct, Merger, may_come, name_of, submitted};
 use ct_model::Step;
-use ct_names::{Instance, Member, Round, Serial};
+use ct_names::{Command, Instance, Member, Round, Serial};
 use ct_world::{Wire, World};
 use std::alloc::{AllocError, Global};
 
 // Over how many members, one for the other, what is awaited is followed at most.
 const MAX_LINKS: u32 = 64;
+
+// The command of a message that nobody received: any would do.
+const ANY: Command = Command::Add(0, 0);
 
 /// How many rounds an estimate is looked for in.
 pub(crate) const ROUNDS: Round = 16;
@@ -140,10 +143,11 @@ impl<'a> Ends<'a> {
         self.brought(from, Carried::Data(origin, number), origin)
     }
 
-    // Its next message is submitted, with the command that is stated where it is received.
+    // Its next message is submitted, with the command that is stated where it is received; with any one where nobody received it.
     fn submission(&self, from: Member) -> Result<Next, AllocError> {
         let before = u32::try_from(submitted(self.world(), from)).unwrap_or(u32::MAX);
         let carried = Carried::Data(from, before.saturating_add(1));
+        let mut is_received = false;
         let n = self.world().group().n();
         for i in 0..n {
             for j in 0..n {
@@ -151,6 +155,7 @@ impl<'a> Ends<'a> {
                     carried,
                     from: j + 1,
                 };
+                is_received = is_received || self.receipts.has(i + 1, name);
                 if let Some(text) = self.receipts.said(self.merger, i + 1, name) {
                     if let Some(command) = command_in(self.alloc, text)? {
                         return Ok(Next::Did(LogAct::Submit(command)));
@@ -158,7 +163,11 @@ impl<'a> Ends<'a> {
                 }
             }
         }
-        Ok(Next::Unknown)
+        Ok(if is_received {
+            Next::Unknown
+        } else {
+            Next::Did(LogAct::Submit(ANY))
+        })
     }
 
     /// It received this; where that was not sent to it, the origin sent it.

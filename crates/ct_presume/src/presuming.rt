@@ -5,8 +5,8 @@ ghost use Rattle.ct_world.specs.Setup.{setting_of};
 ghost use Rattle.ct_play.specs.Faults.{IsShort};
 ghost use Rattle.ct_merge.specs.Logs.{IsMerge};
 ghost use Rattle.ct_merge.specs.Stops.{IsCulprit};
-ghost use Rattle.ct_merge.specs.Verdicts.{IfAccepted, IfStopped};
-ghost use Rattle.ct_merge.specs.Waits.{AllBegin, HasNoMerge, is_wait};
+ghost use Rattle.ct_merge.specs.Verdicts.{IfAccepted, IfRefused, IfStopped, verdict_at};
+ghost use Rattle.ct_merge.specs.Waits.{AllBegin, HasNoMerge, NeverMerges, is_ended, is_wait};
 ghost use Rattle.ct_presume.specs.Presuming.{AllOpenWith};
 
 use crate::ends::Ends;
@@ -48,9 +48,13 @@ pub fn presume(
     ensures cells { IfOk result (λ p. IfAccepted p.verdict (λ w. w.cells ≡ setup.cells)) }
     // Lines are presumed only where no run of the group is a merge of the logs as they were given.
     ensures needed { IfOk result (λ p. (HasNoMerge (setting_of setup) logs.items → ⊥) → p.logs.items ≡ logs.items) }
-    // A line that is told of is the next one of its log, as that was given, behind a run, and is not taken there.
-    ensures culprit { IfOk result (λ p. IfStopped p.verdict (IsCulprit logs.items)) }
-    // Where it is told of as one that waits, no run of the group is a merge of the logs as they were given.
+    // A line that is told of is the next one of its log, as that was given, behind a run of the group, and is not taken there.
+    ensures culprit { IfOk result (λ p. IfStopped p.verdict (IsCulprit (setting_of setup) setup.cells logs.items)) }
+    // Its reason says which verdict it is.
+    ensures told { IfOk result (λ p. IfStopped p.verdict (λ culprit. p.verdict ≡ verdict_at culprit)) }
+    // Where they are refused, no run of the group is a merge of logs that begin with these.
+    ensures refused { IfOk result (λ p. IfRefused p.verdict (λ culprit. NeverMerges (setting_of setup) logs.items)) }
+    // Where a line waits, none is a merge of the logs as they were given.
     ensures none { IfOk result (λ p. IfStopped p.verdict (λ culprit. is_wait culprit.why ≡ true →
         HasNoMerge (setting_of setup) logs.items)) }
     ensures err { IfErr result IsShort }
@@ -63,6 +67,10 @@ pub fn presume(
         }),
         Verdict::Refused(culprit) => Ok(Presumption {
             verdict: Verdict::Refused(culprit),
+            logs,
+        }),
+        Verdict::Limited(culprit) => Ok(Presumption {
+            verdict: Verdict::Limited(culprit),
             logs,
         }),
         Verdict::Cut(culprit) => cut(alloc, same, logs, culprit),
@@ -78,25 +86,22 @@ fn cut(
     culprit: Culprit,
 ) -> Result<Presumption, LineFault>
     requires count { length logs.items ≡ setup.group }
-    requires culprit { IsCulprit logs.items culprit }
-    requires none { is_wait culprit.why ≡ true → HasNoMerge (setting_of setup) logs.items }
+    requires culprit { IsCulprit (setting_of setup) setup.cells logs.items culprit }
+    requires ended { is_ended culprit.why ≡ true }
+    requires none { HasNoMerge (setting_of setup) logs.items }
     ensures begun { IfOk result (λ p. AllBegin logs.items p.logs.items) }
     ensures merged { IfOk result (λ p. IfAccepted p.verdict (λ w. IsMerge w p.logs.items)) }
     ensures setting { IfOk result (λ p. IfAccepted p.verdict (λ w. w.setting ≡ setting_of setup)) }
     ensures cells { IfOk result (λ p. IfAccepted p.verdict (λ w. w.cells ≡ setup.cells)) }
     ensures needed { IfOk result (λ p. (HasNoMerge (setting_of setup) logs.items → ⊥) → p.logs.items ≡ logs.items) }
-    ensures culprit { IfOk result (λ p. IfStopped p.verdict (IsCulprit logs.items)) }
+    ensures culprit { IfOk result (λ p. IfStopped p.verdict (IsCulprit (setting_of setup) setup.cells logs.items)) }
+    ensures told { IfOk result (λ p. IfStopped p.verdict (λ culprit. p.verdict ≡ verdict_at culprit)) }
+    ensures refused { IfOk result (λ p. IfRefused p.verdict (λ culprit. NeverMerges (setting_of setup) logs.items)) }
     ensures none { IfOk result (λ p. IfStopped p.verdict (λ culprit. is_wait culprit.why ≡ true →
         HasNoMerge (setting_of setup) logs.items)) }
     ensures err { IfErr result IsShort }
 {
     let culprit = alone(culprit);
-    if !culprit.why.is_wait() {
-        return Ok(Presumption {
-            verdict: Verdict::Cut(culprit),
-            logs,
-        });
-    }
     let Continued { run, logs } = beyond(alloc, setup, logs)?;
     match run {
         Some(world) => Ok(Presumption {
@@ -222,7 +227,7 @@ fn ended(merger: Merger) -> Result<Continued, LineFault>
             run: Some(world),
             logs,
         }),
-        Verdict::Refused(culprit) | Verdict::Cut(culprit) => {
+        Verdict::Refused(culprit) | Verdict::Cut(culprit) | Verdict::Limited(culprit) => {
             drop(culprit);
             Ok(Continued { run: None, logs })
         }

@@ -1,8 +1,11 @@
 //! How long logs are followed.
 
-use ct_logs::Pace;
-use std::thread;
+use crate::file_identity::FileIdentity;
+use ct_logs::{FileChange, FileWatch, Pace};
+use std::alloc::AllocError;
+use std::io::ErrorKind;
 use std::time::{Duration, Instant};
+use std::{fs, thread};
 
 // How long a look at logs waits that found nothing new.
 const WAIT_MILLIS: u64 = 50;
@@ -15,15 +18,27 @@ pub(crate) struct Clockwork<'a> {
     idle: Option<u32>,
     // When the last line came, or it was first asked.
     since: Option<Instant>,
+    // Which files had the names of logs before these were opened.
+    files: Vec<Option<FileIdentity>>,
 }
 
 impl<'a> Clockwork<'a> {
-    pub(crate) fn new(rt: &'a HostRuntime, idle: Option<u32>) -> Clockwork<'a> {
-        Clockwork {
+    // For logs in the files of these names, which are opened later.
+    pub(crate) fn new(
+        rt: &'a HostRuntime,
+        idle: Option<u32>,
+        names: &[&str],
+    ) -> Result<Clockwork<'a>, AllocError> {
+        let mut files = Vec::new(rt.alloc());
+        for name in names {
+            files.push(FileIdentity::named(rt, name))?;
+        }
+        Ok(Clockwork {
             rt,
             idle,
             since: Instant::now(rt).ok(),
-        }
+            files,
+        })
     }
 
     // Whether no line came for as long as there may be none. Without a clock it is over at once.
@@ -37,6 +52,20 @@ impl<'a> Clockwork<'a> {
                 Err(_) => true,
             },
             None => true,
+        }
+    }
+}
+
+impl FileWatch for Clockwork<'_> {
+    fn change(&self, place: usize, name: &str, bytes: usize) -> Option<FileChange> {
+        let first = self.files.get(place).copied()??;
+        match fs::metadata(self.rt, name) {
+            Ok(metadata) if FileIdentity::of(&metadata) != first => Some(FileChange::Replaced),
+            Ok(metadata) if metadata.is_file() && metadata.len() < bytes as u64 => {
+                Some(FileChange::Shorter)
+            }
+            Err(error) if error.kind() == ErrorKind::NotFound => Some(FileChange::Removed),
+            _ => None,
         }
     }
 }

@@ -3,6 +3,7 @@
 
 mod clockwork;
 mod ending;
+mod file_identity;
 mod host;
 mod meter;
 mod named_file;

@@ -71,7 +71,7 @@ fn find_first<R: Threads + Sync>(
     Ok(())
 }
 
-// Writes the smallest run that is left of several walks, and tells of it and the words that make its walk again.
+// Writes the smallest run that is left of several walks, and tells of each, of the smallest, and the words that make its walk again.
 fn find_best<R: Threads + Sync>(
     rt: &HostRuntime,
     threads: &R,
@@ -90,6 +90,9 @@ fn find_best<R: Threads + Sync>(
     meter.clear();
     trials.clear();
     if let Some(told) = written(rt, ended, writer.is_broken())? {
+        for walk in &told.walks {
+            let _ = eprintln!(rt; "{walk}");
+        }
         let _ = eprintln!(rt; "{told}\n{}", told.again);
     }
     Ok(())

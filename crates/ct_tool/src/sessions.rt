@@ -62,7 +62,7 @@ pub(crate) fn merge(rt: &HostRuntime, found: &ArgMatches<'_>) -> Result<(), Exit
     let (alloc, host) = (rt.alloc(), Host::new(rt));
     let mut writer = Counted::new(io::writer(rt));
     let way = if found.get_flag("follow") {
-        Way::Follow(Clockwork::new(rt, idle))
+        Way::Follow(done(rt, clockwork(rt, idle, names))?)
     } else if found.get_flag("presume") {
         Way::Presume
     } else {
@@ -70,6 +70,15 @@ pub(crate) fn merge(rt: &HostRuntime, found: &ArgMatches<'_>) -> Result<(), Exit
     };
     let ended = merge_logs(alloc, &host, names, form, way, &mut writer);
     end_merge(rt, ended, writer.is_broken())
+}
+
+// What follows the logs in the files of these names.
+fn clockwork<'a>(
+    rt: &'a HostRuntime,
+    idle: Option<u32>,
+    names: &[&str],
+) -> Result<Clockwork<'a>, MergeFault> {
+    Ok(Clockwork::new(rt, idle, names)?)
 }
 
 // Tells what a merged run shows, or why none is written.

@@ -1,6 +1,6 @@
 use Rattle.std.proofs.Common.{rules}
 use Rattle.ct_merge.specs.Logs.{IsMerge}
-use Rattle.ct_presume.proofs.GoingOn.{begun_self, opens, opens_all}
+use Rattle.ct_presume.proofs.GoingOn.{begun_self, never_at, opens, opens_all}
 use Rattle.ct_presume.proofs.presuming.presume.Goals as goal
 
 pub returns-in-Accepted-clause-first : goal.returns-in-Accepted-clause-first
@@ -10,3 +10,7 @@ returns-in-Accepted-clause-first c =
 
 pub returns-in-Cut-clause-first : goal.returns-in-Cut-clause-first
 returns-in-Cut-clause-first c = opens_all c.cut.result c.args.logs.items c.cut.ensures.begun c.cut.ensures.merged
+
+pub returns-in-Refused-clause-refused : goal.returns-in-Refused-clause-refused
+returns-in-Refused-clause-refused c =
+    never_at _ _ _ _ c.in-Refused.culprit c.deref.ensures.value c.in-Refused.is c.in_ok-world.ensures.refused

@@ -1,0 +1,173 @@
+-- Envelopes that the network brings once more.
+use Rattle.std.proofs.Common.{◌≡◌, ◌≢◌, ℕ, Bool, true, false, not, ◌&&◌, ◌||◌, ◌==◌, List, [], ◌∷◌, ◌++◌, Option, Some, None, Ok, Err}
+use Rattle.std.proofs.Common.{inl, inr, ap, sym, ◌∙◌, refl, subst, length}
+use Rattle.std.specs.Prelude.{IfSome, is_some}
+use Rattle.ct_names.specs.Group.{is_member}
+use Rattle.ct_names.specs.declared.refusal.Refusal.{Refusal}
+use Rattle.ct_names.specs.declared.refusal.Refusal.TheVariants.{Crashed, NoSuchMember, NotWaiting}
+use Rattle.ct_model.specs.Cause.{at, cause, first_fault, limit, presence}
+use Rattle.ct_model.specs.Lawful.{IsLawful, IsPresent, is_waiting}
+use Rattle.ct_model.specs.Next.{wire_to}
+use Rattle.ct_model.specs.Rehearsal.{Rehearsal, extended, line_of, state_of}
+use Rattle.ct_model.specs.State.{is_crashed}
+use Rattle.ct_model.specs.Waiting.{LineChange, changed, has_serial, serials_to}
+use Rattle.ct_model.specs.Waiting.LineChange.{Restores}
+use Rattle.ct_model.specs.Wire.{envelopes}
+use Rattle.ct_model.specs.declared.step.Step.TheVariants.{Receive, Repeat}
+use Rattle.ct_model.proofs.Basics.Options.{some-none, some-same}
+use Rattle.ct_model.proofs.Basics.Serials.{has_serial-append}
+use Rattle.ct_model.proofs.Basics.Tests.{or_left, or_right, self_number}
+use Rattle.ct_model.proofs.Record.Allowed.{cause-allowed}
+use Rattle.ct_model.proofs.Record.Causes.{cause-absent, none-present}
+use Rattle.ct_model.proofs.Record.Limits.{cause-passed}
+use Rattle.ct_model.proofs.Record.Taken.{line-step}
+use Rattle.ct_model.proofs.Steps.LineSteps.{line_outcome, repeat_taken}
+use Rattle.ct_model.proofs.Steps.Receive.{cause-receive-away, receive_waits}
+use Rattle.ct_play.specs.Faults.{UnlessShort, is_short}
+use Rattle.ct_play.specs.declared.line_fault.LineFault.{LineFault}
+use Rattle.ct_world.specs.World.{verdict}
+use Rattle.ct_merge.specs.Merging.{IsSerialOf, IsThereFor, received, step_of}
+use Rattle.ct_merge.specs.Names.{IsSentAs}
+use Rattle.ct_merge.specs.Stops.{IsAsked, IsFaultAt, IsRefusedBy}
+use Rattle.ct_merge.specs.Waits.{is_full}
+use Rattle.ct_merge.specs.declared.full_name.FullName.{FullName}
+use Rattle.ct_merge.specs.declared.log_act.LogAct.{LogAct}
+use Rattle.ct_merge.specs.declared.log_act.LogAct.TheVariants as told
+use Rattle.ct_merge.specs.declared.log_line.LogLine.{LogLine}
+use Rattle.ct_merge.specs.declared.own_fault.OwnFault.TheVariants.{Line}
+use Rattle.ct_merge.proofs.Barring.{there_named, there_wire}
+use Rattle.ct_merge.proofs.Begun.{receipt_of}
+use Rattle.ct_merge.proofs.Failing.{limit_full}
+use Rattle.ct_merge.proofs.Posting.{from_kept}
+use Rattle.ct_merge.proofs.Stopping.{refused, unless_more}
+
+-- ---- whether it waits
+
+of_cause : (c : Option Refusal) (r : Refusal) → verdict c ≡ Err r → c ≡ Some r
+of_cause None r e = absurd (cc)
+of_cause (Some other) r e =
+    let same : other ≡ r = cc in
+    ap Some same
+
+free_cause : (c : Option Refusal) → verdict c ≡ Ok tt → c ≡ None
+free_cause None e = refl
+free_cause (Some r) e = absurd (cc)
+
+not_absent : (a b : Bool) → first_fault (at NoSuchMember a ∷ at Crashed b ∷ []) ≡ Some NotWaiting → ⊥
+not_absent true b e = absurd (cc)
+not_absent false true e = absurd (cc)
+not_absent false false e = absurd (cc)
+
+-- what waits is not refused for that
+waits_free : (w : Rehearsal) (p k : ℕ) → is_waiting w p k ≡ true → cause w (Receive p k) ≡ Some NotWaiting → ⊥
+waits_free w p k waits e = by_presence (first_fault (presence w.setting (state_of w) p)) refl
+  where
+    by_presence : (o : Option Refusal) → first_fault (presence w.setting (state_of w) p) ≡ o → ⊥
+    by_presence (Some r) is =
+        let same : r ≡ NotWaiting = some-same r NotWaiting (sym (cause-absent w (Receive p k) r is) ∙ e) in
+        not_absent (not (is_member w.setting.members p)) (is_crashed (state_of w) p) (is ∙ ap Some same)
+    by_presence None is =
+        let limited : limit w (Receive p k) ≡ Some NotWaiting =
+        sym (cause-passed w (Receive p k) NotWaiting (is_waiting w p k) refl (none-present w p is) waits) ∙ e in
+        let full : is_full NotWaiting ≡ true = limit_full w (Receive p k) NotWaiting limited in
+        cc
+
+pub tested_away : (w : Rehearsal) (p k : ℕ) (r : Refusal) → verdict (cause w (Receive p k)) ≡ Err r → r ≡ NotWaiting →
+    is_waiting w p k ≡ false
+tested_away w p k r e is = by_test (is_waiting w p k) refl
+  where
+    by_test : (b : Bool) → is_waiting w p k ≡ b → is_waiting w p k ≡ false
+    by_test false waits = waits
+    by_test true waits = absurd (waits_free w p k waits (of_cause (cause w (Receive p k)) r e ∙ ap Some is))
+
+pub tested_other : (w : Rehearsal) (p k : ℕ) (r : Refusal) → verdict (cause w (Receive p k)) ≡ Err r → r ≢ NotWaiting → IsPresent w p →
+    is_waiting w p k ≡ true
+tested_other w p k r e other present = by_test (is_waiting w p k) refl
+  where
+    by_test : (b : Bool) → is_waiting w p k ≡ b → is_waiting w p k ≡ true
+    by_test true waits = waits
+    by_test false waits =
+        let same : r ≡ NotWaiting = some-same r NotWaiting
+        (sym (of_cause (cause w (Receive p k)) r e) ∙ cause-receive-away w p k present waits) in
+        absurd (other same)
+
+pub tested_free : (w : Rehearsal) (p k : ℕ) → verdict (cause w (Receive p k)) ≡ Ok tt → is_waiting w p k ≡ true
+tested_free w p k e = receive_waits w p k (free_cause (cause w (Receive p k)) e)
+
+pub ruleset tested = (tested_away, tested_other, tested_free)
+
+-- ---- once more
+
+module _ (w : Rehearsal) (p k : ℕ) (law : IsLawful w) (free : cause w (Repeat p k) ≡ None) where
+  sent_kept : (name : FullName) → IsSentAs w p name k → IsSentAs (extended w (Repeat p k)) p name k
+  sent_kept name s =
+      let ok = cause-allowed w (Repeat p k) law free in
+      let f = receipt_of w p k name s.sent s.named in
+      let g = from_kept w (Repeat p k) ok.after law.runs ok.enabled name.from p f.wire k f.from in
+      record {
+        sent = ap is_some (there_wire (extended w (Repeat p k)) p name.from k f.wire g);
+        named = there_named (extended w (Repeat p k)) p name.from k f.wire name g f.carried refl;
+      }
+
+  restored : (line : List ℕ) → has_serial k (changed p (Restores p k) line) ≡ true
+  restored line =
+      let self : changed p (Restores p k) line ≡ line ++ k ∷ [] = rw (self_number p) refl in
+      ap (has_serial k) self ∙ has_serial-append k line (k ∷ [])
+      ∙ or_right (has_serial k line) (has_serial k (k ∷ [])) (or_left (k == k) false (self_number k))
+
+  waits_now : is_waiting (extended w (Repeat p k)) p k ≡ true
+  waits_now =
+      let o = line_outcome w p in
+      let coming = serials_to p (length (state_of w).sent) (envelopes w.setting.members o.mail) in
+      ap (has_serial k) (line-step w (Repeat p k) o law (repeat_taken w p k law free) p)
+      ∙ has_serial-append k (changed p (Restores p k) (line_of w p)) coming
+      ∙ or_left (has_serial k (changed p (Restores p k) (line_of w p))) (has_serial k coming) (restored (line_of w p))
+
+-- it has its name still
+pub brought_named : (old new : Rehearsal) (p k : ℕ) (act : LogAct) → IsLawful old → IsSerialOf old p act k → cause old (Repeat p k) ≡ None →
+    new ≡ extended old (Repeat p k) → IsSerialOf new p act k
+brought_named old new p k act law serial free e =
+    subst (λ w. IsSerialOf w p act k) (sym e) (by_name (received act) serial)
+  where
+    by_name : (o : Option FullName) → IfSome o (λ name. IsSentAs old p name k) →
+        IfSome o (λ name. IsSentAs (extended old (Repeat p k)) p name k)
+    by_name None s = tt
+    by_name (Some name) s = sent_kept old p k law free name s
+
+act_there : (w : Rehearsal) (p k : ℕ) (act : LogAct) → is_waiting w p k ≡ true → IsThereFor w p act k
+act_there w p k (told.Receive name) waits present = waits
+act_there w p k _ waits present = tt
+
+-- and waits
+pub brought_there : (old new : Rehearsal) (p k : ℕ) (act : LogAct) → IsLawful old → cause old (Repeat p k) ≡ None →
+    new ≡ extended old (Repeat p k) → IsThereFor new p act k
+brought_there old new p k act law free e =
+    subst (λ w. IsThereFor w p act k) (sym e)
+    (act_there (extended old (Repeat p k)) p k act (waits_now old p k law free))
+
+-- where it waits, or nothing is received, nothing is brought
+pub there_still : (w : Rehearsal) (p k : ℕ) (act : LogAct) → (IsPresent w p → is_waiting w p k ≡ true) → IsThereFor w p act k
+there_still w p k (told.Receive name) waits present = waits present
+there_still w p k _ waits present = tt
+
+pub there_none : (w : Rehearsal) (p k : ℕ) (act : LogAct) → received act ≡ None → IsThereFor w p act k
+there_none w p k (told.Receive name) none present = absurd (cc)
+there_none w p k _ none present = tt
+
+asked_again : (w : Rehearsal) (p k : ℕ) (line : LogLine) (act : LogAct) (some : FullName) → line.act ≡ act → received act ≡ Some some →
+    IsSerialOf w p act k → is_waiting w p k ≡ false → IsAsked w p line (Repeat p k)
+asked_again w p k line (told.Receive name) some is e serial away = record {
+  waits = record { sent = serial.sent; away = away };
+  is = inr (record { name = name; act = is; serial = k; sent = serial; is = refl });
+}
+asked_again w p k line _ some is e serial away = some-none some e
+
+-- it may be refused
+pub unbrought : (w : Rehearsal) (p k : ℕ) (line : LogLine) (name : FullName) (f : LineFault) → received line.act ≡ Some name →
+    IsSerialOf w p line.act k → is_waiting w p k ≡ false → UnlessShort (is_short f) (IsRefusedBy w (Repeat p k) f) →
+    UnlessShort (is_short f) (IsFaultAt w p line (Line f))
+unbrought w p k line name f some serial away h =
+    unless_more (is_short f) (IsRefusedBy w (Repeat p k) f) (IsFaultAt w p line (Line f))
+    (refused w p line (Repeat p k) f (inr (asked_again w p k line line.act name refl some serial away))) h
+
+pub ruleset brought = (brought_named, brought_there, there_still, there_none, unbrought)

@@ -1,0 +1,264 @@
+-- What a member sends no more it sends in no step, nor later.
+use Rattle.std.proofs.Common.{◌≡◌, ℕ, zero, suc, ◌<◌, ◌≤◌, ◌⊎◌, Bool, true, false, List, [], ◌∷◌, Some}
+use Rattle.std.proofs.Common.{inl, inr, refl, sym, ap, subst, arith, is_some, filter_map}
+use Rattle.std.specs.Prelude.{if◌then◌else◌, slice_get}
+use Rattle.std.proofs.lemmas.Bool.Decides.{nat_tests}
+use Rattle.ct_names.specs.Group.{coordinator, IsMember}
+use Rattle.ct_names.specs.Membership.{IsIn}
+use Rattle.ct_names.specs.Value.{Value}
+use Rattle.ct_names.proofs.Lists
+use Rattle.ct_model.specs.AtValue.{Envelope, Mail, Standing, Turn, Wire}
+use Rattle.ct_model.specs.Next.{Outcome, is_relayed, own_ballots, row, turn_at, turned}
+use Rattle.ct_model.specs.Phases.{is_gather}
+use Rattle.ct_model.specs.Received.{ballots, decided, head, proposal, proposal_of}
+use Rattle.ct_model.specs.Setting.{Setting}
+use Rattle.ct_model.specs.State.{Member, State, member}
+use Rattle.ct_model.specs.Wire.{envelopes}
+use Rattle.ct_model.specs.declared.mail.Mail.TheVariants.{All, Nobody, One}
+use Rattle.ct_model.specs.declared.moves.Move.{Move}
+use Rattle.ct_model.specs.declared.moves.Move.TheVariants.{Adopt, Choose, Conclude, Enter, Suspect}
+use Rattle.ct_model.specs.declared.step.Step.{Step}
+use Rattle.ct_model.specs.declared.wire.Wire.TheVariants as wire
+use Rattle.ct_model.proofs.Basics.Options.{some-none, some-same}
+use Rattle.ct_model.proofs.Consensus.Facts.{Holds}
+use Rattle.ct_model.proofs.Consensus.Readings
+use Rattle.ct_model.proofs.Consensus.Sent.{Carries, carries-mail, get-wire}
+use Rattle.ct_model.proofs.Steps.Rows.{adopt-is, choose-is, conclude-is, enter-is, suspect-is}
+use Rattle.ct_model.proofs.Steps.Shapes.{by_shape}
+use Rattle.ct_play.specs.Picking.{carried_of}
+use Rattle.ct_grammar.specs.declared.carried.Carried.{Carried}
+use Rattle.ct_grammar.specs.declared.carried.Carried.TheVariants.{Data, Est, Prop, Ack, Nack, Dec}
+use Rattle.ct_merge.specs.Deeds.{letter}
+use Rattle.ct_merge.specs.Past.{IsPast}
+use Rattle.ct_merge.specs.Unable.{GoesElsewhere, IsSkipped, IsWithoutNack, SendsNoMore, SkipsRound}
+use Rattle.ct_merge.specs.Unable.SendsNoMore.{elsewhere, past, proposed, skipped}
+use Rattle.ct_merge.proofs.Past.{IsOn, decision_on, past_on, relayed_decision}
+
+-- ---- to whom a mail goes
+
+-- the mail brings p the wire
+abbrev pub GoesTo : Mail → ℕ → Wire → Type 0
+GoesTo Nobody p x = ⊥
+GoesTo (One to w) p x = (to ≡ p) × (x ≡ w)
+GoesTo (All w) p x = x ≡ w
+
+pub goes_to : (n : ℕ) (mail : Mail) (i p : ℕ) (x : Wire) → slice_get (envelopes n mail) i ≡ Some (letter p x) → GoesTo mail p x
+goes_to n Nobody i p x e = some-none (letter p x) e
+goes_to n (One to w) zero p x e =
+    let same = some-same _ (letter p x) e in (ap (λ (y : Envelope). y.to) same, sym (ap (λ (y : Envelope). y.wire) same))
+goes_to n (One to w) (suc i) p x e = some-none (letter p x) e
+goes_to n (All w) i p x e = carries-mail n (All w) x (get-wire (envelopes n (All w)) i (letter p x) e)
+
+pub goes_carries : (mail : Mail) (p : ℕ) (x : Wire) → GoesTo mail p x → Carries mail x
+goes_carries Nobody p x g = g
+goes_carries (One to w) p x g = g.1
+goes_carries (All w) p x g = g
+
+-- ---- why a step sends what it sends
+
+-- it is of the round in which the member is
+pub record IsOfRound (m : Member) (k r : ℕ) : Type 0 where
+  pub standing : Standing
+  pub is_open : m.current ≡ Some standing
+  pub instance : k ≡ m.last
+  pub round : r ≡ standing.round
+
+-- why q, this member of a group of n, sends it to p
+abbrev pub IsSentFor : ℕ → ℕ → ℕ → Member → Carried → Type 0
+IsSentFor n q p m (Data o i) = Unit {0}
+IsSentFor n q p m (Est k r) = (coordinator n r ≡ p) × (k ≡ m.last) × (is_some (decided m.got m.last) ≡ false)
+IsSentFor n q p m (Prop k r) = (coordinator n r ≡ q) × IsOfRound m k r
+IsSentFor n q p m (Ack k r) = (coordinator n r ≡ p) × IsOfRound m k r
+IsSentFor n q p m (Nack k r) = (coordinator n r ≡ p) × IsOfRound m k r × (is_some (ballots m.got k r).proposal ≡ false)
+IsSentFor n q p m (Dec k r) = coordinator n r ≡ q → IsOfRound m k r
+
+abbrev SentFor : ℕ → ℕ → Member → Mail → Type 0
+SentFor n q m mail = (p : ℕ) (x : Wire) → GoesTo mail p x → IsSentFor n q p m (carried_of x)
+
+module _ (n q : ℕ) (m : Member) (c : Standing) (open_at : m.current ≡ Some c) where
+  of_round : IsOfRound m m.last c.round
+  of_round = record { standing = c; is_open = open_at; instance = refl; round = refl }
+
+  concludes : (majority : Bool) → SentFor n q m (if majority then All (wire.Dec m.last c.round c.estimate) else Nobody)
+  concludes true p x g = subst (λ z. IsSentFor n q p m (carried_of z)) (sym g) (λ e. of_round)
+  concludes false p x g = absurd g
+
+  turn_for : (is_gather c.phase ≡ true → coordinator n c.round ≡ q) → (a : Move) (t : Turn) → turn_at n q m a c ≡ Some t →
+      SentFor n q m t.mail
+  turn_for own Enter t h =
+      let f = enter-is n q m.last (decided m.got m.last) c t h in
+      subst (λ (y : Turn). SentFor n q m y.mail) f.gives (λ p x g.
+      subst (λ z. IsSentFor n q p m (carried_of z)) (sym g.1) (g.0, refl, f.undecided))
+  turn_for own (Choose from) t h =
+      let f = choose-is n m.last (own_ballots m c) c from t h in
+      subst (λ (y : Turn). SentFor n q m y.mail) f.gives (λ p x g.
+      subst (λ z. IsSentFor n q p m (carried_of z)) (sym g) (own f.gathers, of_round))
+  turn_for own Adopt t h =
+      let f = adopt-is n q m.last (own_ballots m c) c t h in
+      subst (λ (y : Turn). SentFor n q m y.mail) f.gives (λ p x g.
+      subst (λ z. IsSentFor n q p m (carried_of z)) (sym g.1) (g.0, of_round))
+  turn_for own Suspect t h =
+      let f = suspect-is n q m.last (own_ballots m c) c t h in
+      subst (λ (y : Turn). SentFor n q m y.mail) f.gives (λ p x g.
+      subst (λ z. IsSentFor n q p m (carried_of z)) (sym g.1) (g.0, of_round, f.no_proposal))
+  turn_for own Conclude t h =
+      let f = conclude-is n m.last (own_ballots m c) c t h in
+      subst (λ (y : Turn). SentFor n q m y.mail) f.gives (concludes _)
+
+  -- the round after a turn is the same, unless the instance has no decision
+  turn_round : (a : Move) (t : Turn) → turn_at n q m a c ≡ Some t →
+      ((t.after).round ≡ c.round) ⊎ (is_some (decided m.got m.last) ≡ false)
+  turn_round Enter t h = inr (enter-is n q m.last (decided m.got m.last) c t h).undecided
+  turn_round (Choose from) t h =
+      inl (ap (λ (y : Turn). (y.after).round) (sym (choose-is n m.last (own_ballots m c) c from t h).gives))
+  turn_round Adopt t h = inl (ap (λ (y : Turn). (y.after).round) (sym (adopt-is n q m.last (own_ballots m c) c t h).gives))
+  turn_round Suspect t h = inl (ap (λ (y : Turn). (y.after).round) (sym (suspect-is n q m.last (own_ballots m c) c t h).gives))
+  turn_round Conclude t h = inl (ap (λ (y : Turn). (y.after).round) (sym (conclude-is n m.last (own_ballots m c) c t h).gives))
+
+relayed_for : (s : Setting) (q p : ℕ) (m : Member) (w : Wire) → is_relayed s q m.got w ≡ true → IsSentFor s.members q p m (carried_of w)
+unfolding is_relayed
+relayed_for s q p m (wire.Data x) h = tt
+relayed_for s q p m (wire.Dec k r v) h = λ e. absurd ((relayed_decision s q m.got k r v h).1 e)
+relayed_for s q p m (wire.Est k r a v ts) h = absurd (cc)
+relayed_for s q p m (wire.Prop k r v) h = absurd (cc)
+relayed_for s q p m (wire.Ack k r a) h = absurd (cc)
+relayed_for s q p m (wire.Nack k r a) h = absurd (cc)
+
+gets_for : (s : Setting) (q : ℕ) (m : Member) (w : Wire) (b : Bool) → is_relayed s q m.got w ≡ b →
+    SentFor s.members q m (if b then All w else Nobody)
+gets_for s q m w true relayed p x g = subst (λ z. IsSentFor s.members q p m (carried_of z)) (sym g) (relayed_for s q p m w relayed)
+gets_for s q m w false relayed p x g = absurd g
+
+pub sent_for : (s : Setting) (g : State) (q : ℕ) → Holds s g → IsMember s.members q → (step : Step) (o : Outcome) →
+    row s g q (member g q) step ≡ Some o → SentFor s.members q (member g q) o.mail
+sent_for s g q holds is step o =
+    by_shape s g q (member g q) (λ (o : Outcome). SentFor s.members q (member g q) o.mail) step o (record {
+      submits = λ c good p x e. subst (λ z. IsSentFor s.members q p (member g q) (carried_of z)) (sym e) tt;
+      gets = λ k w at. gets_for s q (member g q) w (is_relayed s q (member g q).got w) refl;
+      opens = λ idle some p x e. absurd e;
+      turns = λ a c t open_at taken.
+          turn_for s.members q (member g q) c open_at (holds.sound q is c open_at).gathers a t taken;
+      closes = λ c v open_at has delivers p x e. absurd e;
+      follows = λ v idle has delivers p x e. absurd e;
+      marks = λ crashed p x e. absurd e;
+    })
+
+-- ---- what is sent no more
+
+head_of : {A : Type 0} (xs : List A) (x : A) → IsIn x xs → is_some (head xs) ≡ true
+head_of [] x h = absurd h
+head_of (y ∷ xs) x h = refl
+
+proposal_there : (got : List Wire) (k r : ℕ) (v : Value) → IsIn (wire.Prop k r v) got → is_some (ballots got k r).proposal ≡ true
+unfolding ballots proposal
+proposal_there got k r v h =
+    head_of (filter_map (proposal_of k r) got) v
+    (Lists.IsIn-filter_map (proposal_of k r) (wire.Prop k r v) v got (grind (arith, nat_tests)) h)
+
+decided_there : (m : Member) (k r : ℕ) → SkipsRound m k r → is_some (decided m.got k) ≡ true
+decided_there m k r h =
+    let d = Readings.got-decided m.got k h.round (h.decision).value (h.decision).is_in in
+    ap is_some d.1
+
+not_of_round : (m : Member) (k r : ℕ) → SkipsRound m k r → IsOfRound m k r → ⊥
+not_of_round m k r h f =
+    let low : (f.standing).round < r = h.before f.instance f.standing f.is_open in
+    let same : r ≡ (f.standing).round = f.round in
+    omega (arith, low, same)
+
+no_skipped : (n q p : ℕ) (m : Member) (c : Carried) → IsSkipped n q m c → IsSentFor n q p m c → ⊥
+no_skipped n q p m (Data o i) h f = h
+no_skipped n q p m (Est k r) h f =
+    let has : is_some (decided m.got m.last) ≡ true = subst (λ k. is_some (decided m.got k) ≡ true) f.1 (decided_there m k r h) in
+    let none : is_some (decided m.got m.last) ≡ false = f.2 in
+    cc
+no_skipped n q p m (Prop k r) h f = not_of_round m k r h f.1
+no_skipped n q p m (Ack k r) h f = not_of_round m k r h f.1
+no_skipped n q p m (Nack k r) h f = not_of_round m k r h f.1
+no_skipped n q p m (Dec k r) h f = not_of_round m k r h.1 (f h.0)
+
+no_elsewhere : (n q p : ℕ) (m : Member) (c : Carried) → GoesElsewhere n q p c → IsSentFor n q p m c → ⊥
+no_elsewhere n q p m (Data o i) h f = h
+no_elsewhere n q p m (Est k r) h f = h f.0
+no_elsewhere n q p m (Prop k r) h f = h f.0
+no_elsewhere n q p m (Ack k r) h f = h f.0
+no_elsewhere n q p m (Nack k r) h f = h f.0
+no_elsewhere n q p m (Dec k r) h f = h
+
+no_nack : (n q p : ℕ) (m : Member) (c : Carried) → IsWithoutNack m c → IsSentFor n q p m c → ⊥
+no_nack n q p m (Nack k r) h f =
+    let has : is_some (ballots m.got k r).proposal ≡ true = proposal_there m.got k r h.value h.is_in in
+    let none : is_some (ballots m.got k r).proposal ≡ false = f.2 in
+    cc
+no_nack n q p m (Data o i) h f = h
+no_nack n q p m (Est k r) h f = h
+no_nack n q p m (Prop k r) h f = h
+no_nack n q p m (Ack k r) h f = h
+no_nack n q p m (Dec k r) h f = h
+
+pub no_more : (n q p : ℕ) (m : Member) (count : ℕ) (c : Carried) → SendsNoMore n q p m count c → IsSentFor n q p m c →
+    (IsPast n q m count c → ⊥) → ⊥
+no_more n q p m count c (past h) f fresh = fresh h
+no_more n q p m count c (elsewhere h) f fresh = no_elsewhere n q p m c h f
+no_more n q p m count c (skipped h) f fresh = no_skipped n q p m c h f
+no_more n q p m count c (proposed h) f fresh = no_nack n q p m c h f
+
+-- ---- it stays so
+
+abbrev Skipping : Member → Member → Type 0
+Skipping m o = (k r : ℕ) → SkipsRound m k r → k ≡ o.last → (c : Standing) → o.current ≡ Some c → c.round < r
+
+turn_skips : (n q : ℕ) (m : Member) (c : Standing) → m.current ≡ Some c → (a : Move) (t : Turn) → turn_at n q m a c ≡ Some t →
+    Skipping m (turned m t).member
+turn_skips n q m c open_at a t taken k r h e x at = elim (turn_round n q m c open_at a t taken) [
+  | inl same ↦
+      let low : c.round < r = h.before e c open_at in
+      let is : (t.after).round ≡ x.round = ap (λ (y : Standing). y.round) (some-same t.after x at) in
+      omega (arith, low, same, is)
+  | inr none ↦
+      let has : is_some (decided m.got m.last) ≡ true = subst (λ k. is_some (decided m.got k) ≡ true) e (decided_there m k r h) in
+      absurd (cc)
+]
+
+pub skips_on : (s : Setting) (g : State) (q : ℕ) (step : Step) (o : Outcome) → row s g q (member g q) step ≡ Some o →
+    Skipping (member g q) o.member
+skips_on s g q step o =
+    by_shape s g q (member g q) (λ (o : Outcome). Skipping (member g q) o.member) step o (record {
+      submits = λ c good k r h. h.before;
+      gets = λ i w at k r h. h.before;
+      opens = λ idle some k r h e c at.
+          let first : 1 ≤ r = h.first in
+          let round : 0 ≡ c.round = ap (λ (y : Standing). y.round) (some-same _ c at) in
+          omega (arith, first, round);
+      turns = λ a c t open_at taken. turn_skips s.members q (member g q) c open_at a t taken;
+      closes = λ c v open_at has delivers k r h e x at. some-none x at;
+      follows = λ v idle has delivers k r h e x at. some-none x at;
+      marks = λ crashed k r h. h.before;
+    })
+
+module _ (n q p : ℕ) (m o : Member) (a b : ℕ) (on : IsOn m o) (more : a ≤ b) (skips : Skipping m o) where
+  round_on : (k r : ℕ) → SkipsRound m k r → SkipsRound o k r
+  round_on k r h =
+      record { first = h.first; round = h.round; decision = decision_on m o on k h.round h.decision; before = skips k r h }
+
+  skipped_on : (c : Carried) → IsSkipped n q m c → IsSkipped n q o c
+  skipped_on (Data x i) h = h
+  skipped_on (Est k r) h = round_on k r h
+  skipped_on (Prop k r) h = round_on k r h
+  skipped_on (Ack k r) h = round_on k r h
+  skipped_on (Nack k r) h = round_on k r h
+  skipped_on (Dec k r) h = (h.0, round_on k r h.1)
+
+  proposed_on : (c : Carried) → IsWithoutNack m c → IsWithoutNack o c
+  proposed_on (Nack k r) h = record { value = h.value; is_in = on.got (wire.Prop k r h.value) h.is_in }
+  proposed_on (Data x i) h = h
+  proposed_on (Est k r) h = h
+  proposed_on (Prop k r) h = h
+  proposed_on (Ack k r) h = h
+  proposed_on (Dec k r) h = h
+
+  pub no_more_on : (c : Carried) → SendsNoMore n q p m a c → SendsNoMore n q p o b c
+  no_more_on c (past h) = past (past_on n q m o a b on more c h)
+  no_more_on c (elsewhere h) = elsewhere h
+  no_more_on c (skipped h) = skipped (skipped_on c h)
+  no_more_on c (proposed h) = proposed (proposed_on c h)
