@@ -69,6 +69,7 @@ def told(words: List[str], is_enough: Callable[[str, float], bool]) -> Told:
     terminal, its_side = pty.openpty()
 
     def take_terminal() -> None:
+        signal.signal(signal.SIGINT, signal.SIG_DFL)   # what a shell starts in the background ignores it
         os.setsid()
         fcntl.ioctl(its_side, termios.TIOCSCTTY, 0)
 
