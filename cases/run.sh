@@ -548,6 +548,8 @@ done
 check_rehearsal --runs 5
 check_rehearsal --runs 5 --members 5 --crash 2 --turns 1500
 check_rehearsal --members 1
+with_output @unread python3 ../examples/python/broadcast.py 2>"$folder/error"
+tally 'a log that nobody reads' "$(start_of "$folder/error")"
 
 check_by sessions.py sessions 60 "$tool"
 check_by logs.py logs 600 "$tool"

@@ -10,6 +10,7 @@ from __future__ import annotations
 
 import argparse
 import random
+import signal
 from typing import Any, Callable, Dict, Iterator, List, Optional, Set, Sized, Tuple, Type
 
 Message = Tuple[int, int]              # its origin and its number there
@@ -248,6 +249,7 @@ def parsed(made: argparse.ArgumentParser) -> argparse.Namespace:
 
 
 def main() -> None:
+    signal.signal(signal.SIGPIPE, signal.SIG_DFL)   # a reader that has enough ends it
     run = Run(parsed(parser(__doc__)), print)
     run.play()
     for line in run.expectations():
