@@ -12,6 +12,7 @@ import argparse
 import os
 import random
 import re
+import signal
 import socket
 import subprocess
 import sys
@@ -65,8 +66,8 @@ def end(running: Dict[int, "subprocess.Popen[str]"]) -> None:
         process.wait()
 
 
-def play(options: argparse.Namespace, folder: str) -> List[str]:
-    """One run; the logs that it left."""
+def play(options: argparse.Namespace, folder: str) -> Tuple[int, List[str]]:
+    """One run: how many members were killed, and the logs that it left."""
     running = started(options, folder)
     try:
         start = time.monotonic()
@@ -83,7 +84,7 @@ def play(options: argparse.Namespace, folder: str) -> List[str]:
     finally:
         end(running)
     logs = [os.path.join(folder, f"{p}.log") for p in running]
-    return [path for path in logs if os.path.exists(path)]
+    return sum(process.returncode == -signal.SIGKILL for process in running.values()), [path for path in logs if os.path.exists(path)]
 
 
 def text(path: str) -> str:
@@ -116,10 +117,10 @@ def counts(logs: List[str]) -> str:
 def run(options: argparse.Namespace, number: int, folder: str) -> int:
     """A run of this number, whose logs go to the folder; its status."""
     os.makedirs(folder)
-    logs = play(options, folder)
+    killed, logs = play(options, folder)
     status, said = judged(options.tool, logs)
     verdict = said if status else VERDICTS[status]
-    print(f"run {number}: {options.kill} of {options.members} killed, {counts(logs)}: {verdict}", flush=True)
+    print(f"run {number}: {killed} of {options.members} killed, {counts(logs)}: {verdict}", flush=True)
     return status
 
 
