@@ -7,6 +7,7 @@ cluster of examples/ with members killed and with each of its mistakes, and a co
 from __future__ import annotations
 
 import os
+import pathlib
 import re
 import subprocess
 import sys
@@ -15,9 +16,13 @@ import time
 from typing import Callable, Dict, List, NamedTuple, Sequence, Tuple, Union
 
 HERE = os.path.dirname(os.path.abspath(__file__))
+CLUSTER = os.path.join(HERE, "..", "examples", "cluster")
+sys.dont_write_bytecode = True
+sys.path.insert(0, CLUSTER)
+from detector import Detector  # noqa: E402
+
 SECONDS = 20
 SECONDS_OF_RUNS = 120
-RUNS_OF_A_MISTAKE = 3
 SETS = 40
 MOMENT = 0.3    # between what a writer appends
 WRITTEN = (0, 7)    # the statuses with which a run is written
@@ -453,29 +458,71 @@ def faults_of_growing(tool: str, case: Growing) -> List[str]:
         return wrong + (["something is written"] if case.status and output else [])
 
 
-def runs_of(tool: str, *options: str) -> List[str]:
-    """What is told of runs of the cluster, a line a run."""
-    program = os.path.join(HERE, "..", "examples", "cluster", "run.py")
-    done = ran([sys.executable, program, "--tool", tool, "--members", "3", *options], HERE, SECONDS_OF_RUNS)
-    lines = done.stdout.decode().splitlines()
-    return lines if lines else [f"nothing is told: {done.stderr.decode()}"]
+class Run(NamedTuple):
+    """A run of the cluster: its options, the status that it ends with, what a line that it tells has, and what its logs have. One of so
+    many runs has to be so. blocks: how large a file may be."""
+    name: str
+    options: str
+    status: int
+    told: str
+    shown: Sequence[str] = ()
+    runs: int = 1
+    blocks: str = "unlimited"
 
 
-def faults_of_killed(tool: str) -> List[str]:
-    lines = runs_of(tool, "--kill", "1", "--runs", "1")
-    good = re.fullmatch(r"run 1: 1 of 3 killed, [1-9]\d* lines, [1-9]\d* deliveries, .*: accepted", lines[0])
-    return [] if good else [lines[0]]
+def mistake(name: str, act: str) -> Run:
+    """The mistake is found at the act that is wrong. Members suspect each other often: with one round an instance all estimates have the
+    same ts."""
+    return Run(f"the mistake {name}", f"--break {name} --timeout 0.005 --growth 0.0002", 1, rf": refused: .* line \d+: \d {act} ", runs=3)
 
 
-def faults_of_mistake(tool: str, mistake: str, act: str) -> List[str]:
-    """The mistake is found in one of its runs, at the act that is wrong. Members suspect each other often: with one round an instance
-    all estimates have the same ts."""
-    lines = runs_of(tool, "--break", mistake, "--runs", str(RUNS_OF_A_MISTAKE), "--timeout", "0.005", "--growth", "0.0002")
-    return [] if any(re.search(rf": refused: .* line \d+: \d {act} ", line) for line in lines) else lines
+RUNS = [
+    Run("a member killed", "--kill 1 --submit 40 --batch 64", 0,
+        r"run 1: 1 of 3 killed, [1-9]\d* lines, [1-9]\d* deliveries, .*: accepted", [r" and [1-9]\d* more}"]),
+    Run("datagrams lost", "--members 4 --submit 2 --seconds 5 --loss 0.2 --delay 0.02 --timeout 0.5", 0,
+        r"run 1: 0 of 4 killed, \d+ lines, 32 deliveries, .*: accepted", [r"receive data (\d)\.\d from (?!\1)"], 3),
+    Run("no room for logs", "--seconds 0.5", 2, r"member \d ended with status 1: ", blocks="1"),
+    mistake("least-ts", "choose"), mistake("half", "choose"), mistake("arrival", "deliver"),
+]
 
 
-def faults_of_program(tool: str, folder_of_source: str, compiler: List[str], last: str) -> List[str]:
-    """The log that the program in another language writes is accepted, and delivers messages up to the last; it writes no log anew."""
+def faults_of_run(tool: str, case: Run) -> List[str]:
+    words = ["sh", "-c", f'ulimit -f {case.blocks}; exec "$@"', "sh", sys.executable, os.path.join(CLUSTER, "run.py"), "--tool", tool,
+             *case.options.split(), "--keep", "kept"]
+    for _ in range(case.runs):
+        with tempfile.TemporaryDirectory() as folder:
+            done = ran(words, folder, SECONDS_OF_RUNS)
+            told = (done.stdout + done.stderr).decode()
+            logs = "".join(path.read_text(encoding="utf-8") for path in pathlib.Path(folder).glob("kept/*/*.log"))
+        wrong = [f"status {done.returncode}, not {case.status}"] if done.returncode != case.status else []
+        wrong += [] if re.search(case.told, told) else [f"it tells '{told}'"]
+        wrong += [f"no log has {pattern}" for pattern in case.shown if not re.search(pattern, logs)]
+        if not wrong:
+            break
+    return wrong
+
+
+def faults_of_detector() -> List[str]:
+    """Who isn't heard is suspected; who then is heard is given more time."""
+    judge = Detector([2], 0.0, SECONDS)
+    time.sleep(MOMENT)
+    is_suspected = judge.suspects(2)
+    judge.heard(2)
+    time.sleep(MOMENT)
+    seen = [is_suspected, judge.suspects(2)]
+    return [] if seen == [True, False] else [f"suspected before it is heard and behind it: {seen}"]
+
+
+def faults_of_restart() -> List[str]:
+    """A member of the cluster writes no log anew."""
+    words = [sys.executable, os.path.join(CLUSTER, "node.py"), "--member", "1", "--ports", "0", "--log", "1.log", "--seconds", "0"]
+    with tempfile.TemporaryDirectory() as folder:
+        statuses = [ran(words, folder).returncode for _ in range(2)]
+    return [] if statuses == [0, 1] else [f"it ends with status {statuses[0]}, and started again with status {statuses[1]}"]
+
+
+def faults_of_program(tool: str, folder_of_source: str, compiler: List[str]) -> List[str]:
+    """The log that the program in another language writes is accepted, and delivers ten messages; it writes no log anew."""
     with tempfile.TemporaryDirectory() as folder:
         source = os.path.join(HERE, "..", "examples", folder_of_source)
         for words in ([*compiler, "-o", "log_demo", source], ["./log_demo", "1.log"]):
@@ -485,7 +532,7 @@ def faults_of_program(tool: str, folder_of_source: str, compiler: List[str], las
         if ran(["./log_demo", "1.log"], folder).returncode != 1:
             return ["a log that is there is opened again"]
         done = ran([tool, "merge", "1.log"], folder)
-        is_right = done.returncode == 0 and re.search(rf"^expect 1 delivered .*{last}$", done.stdout.decode(), re.MULTILINE)
+        is_right = done.returncode == 0 and re.search(r"^expect 1 delivered 1\.1 .*1\.10$", done.stdout.decode(), re.MULTILINE)
         return [] if is_right else [f"status {done.returncode}: {done.stderr.decode()}"]
 
 
@@ -503,11 +550,11 @@ def main() -> int:
     checks += [(f"followed: {case.name}", faults_of_growing(tool, case)) for case in GROWING]
     in_c = ["cc", "-std=c11", "-Wall", "-Wextra", "-Werror"]
     in_rust = ["rustc", "--edition", "2021", "-D", "warnings", "-A", "dead_code"]
-    checks.append(("the log of a program in C", faults_of_program(tool, "c/log_demo.c", in_c, "1.1")))
-    checks.append(("the log of a program in Rust", faults_of_program(tool, "rust/log_demo.rs", in_rust, "1.10")))
-    checks.append(("a cluster with a member killed", faults_of_killed(tool)))
-    for mistake, act in (("least-ts", "choose"), ("half", "choose"), ("arrival", "deliver")):
-        checks.append((f"a cluster with the mistake {mistake}", faults_of_mistake(tool, mistake, act)))
+    checks.append(("the log of a program in C", faults_of_program(tool, "c/log_demo.c", in_c)))
+    checks.append(("the log of a program in Rust", faults_of_program(tool, "rust/log_demo.rs", in_rust)))
+    checks += [(f"a cluster: {case.name}", faults_of_run(tool, case)) for case in RUNS]
+    checks.append(("a cluster: a member that starts again", faults_of_restart()))
+    checks.append(("a cluster: a suspicion by mistake", faults_of_detector()))
     checks.append(("a search through all orders", faults_of_search(tool)))
     for name, wrong in checks:
         if wrong:
