@@ -109,8 +109,8 @@ def local_cluster(workers: int, folder: str) -> Any:
     from distributed import LocalCluster
     heard = signal.signal(signal.SIGINT, signal.SIG_IGN)   # what is started meanwhile keeps to it
     try:
-        return LocalCluster(n_workers=workers, threads_per_worker=1, host="127.0.0.1", dashboard_address=None,
-                            silence_logs=logging.CRITICAL, local_directory=folder)
+        return LocalCluster(n_workers=workers, threads_per_worker=1, host="127.0.0.1", dashboard_address="127.0.0.1:0",
+                            worker_dashboard_address="127.0.0.1:0", silence_logs=logging.CRITICAL, local_directory=folder)
     finally:
         signal.signal(signal.SIGINT, heard)
 
