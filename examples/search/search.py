@@ -157,13 +157,13 @@ def first_done(running: Dict[Any, Seeds]) -> List[Any]:
     from distributed import CancelledError, TimeoutError as Late, wait
     with contextlib.suppress(Late, CancelledError):
         wait(list(running), timeout=SECONDS_OF_A_LINE, return_when="FIRST_COMPLETED")
-    return [future for future in running if future.status != "pending"]
+    return [future for future in running if future.done()]
 
 
 def answer_of(future: Any, seeds: Seeds) -> Answer:
     """What came back of the range; an OSError where the scheduler was lost."""
     from distributed import KilledWorker
-    if future.status in ("cancelled", "lost"):
+    if future.status == "cancelled":
         raise ConnectionError("the scheduler was lost")
     if future.status == "error":
         error = future.exception()
