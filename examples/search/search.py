@@ -274,9 +274,9 @@ def parsed() -> argparse.Namespace:
     made.add_argument("--block", type=count_of, default=SEEDS_A_RANGE, metavar="N", help=f"seeds of a range (default {SEEDS_A_RANGE})")
     made.add_argument("--quiet", action="store_true", help="tell no progress on a terminal")
     options, given = made.parse_known_args()
-    for name in ("--jobs", "--count", "--seed"):
+    for name in ("--jobs", "--count", "--best", "--seed"):
         if any(word.partition("=")[0] == name for word in given):
-            made.error(f"{name}: not here: each range is tried by one ct_tool find with --jobs 1, for its record")
+            made.error(f"{name}: not here: each range is tried by one ct_tool find with --jobs 1, for the record of its least seed")
     options.given = given
     options.tool = options.tool or (os.path.normpath(TOOL) if os.access(TOOL, os.X_OK) else "ct_tool")
     return options
