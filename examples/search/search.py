@@ -302,7 +302,7 @@ def main() -> int:
     ranges = Ranges(options.seeds, options.block)
     try:
         if not has_distributed():
-            raise Failed("no package distributed for this python3 (Debian's python3-distributed)")
+            raise Failed(f"no package distributed for {sys.executable} (Debian's python3-distributed is for /usr/bin/python3)")
         if not options.scheduler and shutil.which(options.tool) is None:
             raise Failed(f"no program at {options.tool}; --tool names the built ct_tool")
         with connected(options) as client:
