@@ -8,7 +8,6 @@ use Rattle.std.specs.List.{concat}
 use Rattle.std.specs.Prelude.{if◌then◌else◌, Option, Some, None, option_and_then, option_map, slice_get, unwrap_or}
 use Rattle.ct_names.specs.declared.refusal.Refusal.{Refusal}
 use Rattle.ct_names.specs.declared.refusal.Refusal.TheVariants as refusal
-use Rattle.ct_names.specs.Membership.{IsIn}
 use Rattle.ct_model.specs.AtValue.{Envelope}
 use Rattle.ct_model.specs.Mapped.{without_value}
 use Rattle.ct_model.specs.Rehearsal.{Rehearsal, line_of, state_of}
@@ -20,9 +19,9 @@ use Rattle.ct_model.specs.declared.step.Step.TheVariants as step
 use Rattle.ct_show.specs.Facts.{last_taking, leaving_text, left_in, left_text, letter_facts, missing_text, place_text, returns}
 use Rattle.ct_show.specs.Facts.{serial_facts, takes, taking_or}
 use Rattle.ct_show.specs.Wires.{carried_text, letter_text, serial_text}
-use Rattle.ct_laws.specs.Behind.{NameEnvelope, NameLeaving, NameLetter, NameReceiver}
+use Rattle.ct_laws.specs.Behind.{NameEnvelope, NameLeaving, NameLeft, NameLetter, receiver}
 use Rattle.ct_laws.specs.Facts.{AreTrue, Fact, IsLeaving, IsReturning, IsTaking, IsTrue, fact_text, texts_of}
-use Rattle.ct_laws.specs.Facts.Fact.{Carries, GoesTo, LeftIn, Unsent, Waits, WentTo}
+use Rattle.ct_laws.specs.Facts.Fact.{Carries, LeftIn, Unsent}
 
 -- ---- the last step that takes a serial
 
@@ -205,15 +204,15 @@ unfolding leaving_facts
 leaving_is w k refusal.NotWaiting = left_is (last_taking w.steps k (length w.steps))
 leaving_is w k _ = refl
 
-left_named : (number : ℕ) (step : Step) (o : Option (ℕ × Step)) → o ≡ Some (number, step) → IsIn (LeftIn number step) (left_facts o)
+left_named : (w : Rehearsal) (k : ℕ) (o : Option (ℕ × Step)) → last_taking w.steps k (length w.steps) ≡ o → NameLeft w k (left_facts o)
 unfolding left_facts
-left_named number step o is = subst (λ x. IsIn (LeftIn number step) (left_facts x)) (sym is) (inl refl)
+left_named w k None none = λ number step leaves. cc (sym none ∙ taking_is w k number step leaves)
+left_named w k (Some t) is = (t.0, t.1, refl, refl)
 
-leaving_named : (w : Rehearsal) (k : ℕ) (r : Refusal) (first second : Fact) → NameLeaving w k r (first ∷ second ∷ leaving_facts w k r)
+leaving_named : (w : Rehearsal) (k : ℕ) (r : Refusal) → NameLeaving w k r (leaving_facts w k r)
 unfolding leaving_facts
-leaving_named w k refusal.NotWaiting first second =
-    λ number step leaves. inr (inr (left_named number step (last_taking w.steps k (length w.steps)) (taking_is w k number step leaves)))
-leaving_named w k _ first second = tt
+leaving_named w k refusal.NotWaiting = left_named w k (last_taking w.steps k (length w.steps)) refl
+leaving_named w k _ = refl
 
 leaving_true : (w : Rehearsal) (p k : ℕ) (r : Refusal) → AreTrue w p k r (leaving_facts w k r)
 unfolding leaving_facts
@@ -221,26 +220,13 @@ leaving_true w p k refusal.NotWaiting =
     left_true w p k refusal.NotWaiting (last_taking w.steps k (length w.steps)) refl
 leaving_true w p k _ = tt
 
-place_fact : ℕ → Refusal → Fact
-place_fact q refusal.NotSent = WentTo q
-place_fact q refusal.StillWaiting = Waits
-place_fact q _ = GoesTo q
-
-place_is : (q : ℕ) (r : Refusal) → place_text q r ≡ fact_text (place_fact q r)
-unfolding place_fact
+place_is : (q : ℕ) (r : Refusal) → place_text q r ≡ fact_text (receiver q r)
 place_is q refusal.NotSent = refl
 place_is q refusal.StillWaiting = refl
 place_is q _ = refl
 
-place_named : (q : ℕ) (r : Refusal) (before : Fact) (behind : List Fact) → NameReceiver q r (before ∷ place_fact q r ∷ behind)
-unfolding place_fact
-place_named q refusal.NotSent before behind = inr (inl refl)
-place_named q refusal.StillWaiting before behind = inr (inl refl)
-place_named q _ before behind = inr (inl refl)
-
 place_true : (w : Rehearsal) (p k : ℕ) (r : Refusal) (e : Envelope) → at_serial (state_of w).sent k ≡ Some e →
-    (r ≡ refusal.StillWaiting → has_serial k (line_of w p) ≡ true) → IsTrue w p k r (place_fact e.to r)
-unfolding place_fact
+    (r ≡ refusal.StillWaiting → has_serial k (line_of w p) ≡ true) → IsTrue w p k r (receiver e.to r)
 place_true w p k refusal.NotSent e is waits = (e, is, refl)
 place_true w p k refusal.StillWaiting e is waits = waits refl
 place_true w p k _ e is waits = (e, is, refl)
@@ -265,17 +251,14 @@ letter_shape a b c = ap (λ l. a ++ (b ++ l)) (append-nil c)
 tells_sent : (w : Rehearsal) (p k : ℕ) (r : Refusal) (e : Envelope) → at_serial (state_of w).sent k ≡ Some e →
     (r ≡ refusal.StillWaiting → has_serial k (line_of w p) ≡ true) → TellsLetter w p k r (letter_facts w k (Some (without_value e)) r)
 tells_sent w p k r e is waits = record {
-  facts = Carries k e.wire ∷ place_fact e.to r ∷ leaving_facts w k r;
+  facts = Carries k e.wire ∷ receiver e.to r ∷ leaving_facts w k r;
   is = letter_shape (serial_text w k) (place_text e.to r) (leaving_text w k r)
       ∙ ap (λ l. l ++ (place_text e.to r ++ leaving_text w k r)) (carried_is w k e is)
       ∙ ap (λ l. fact_text (Carries k e.wire) ++ (l ++ leaving_text w k r)) (place_is e.to r)
-      ∙ ap (λ l. fact_text (Carries k e.wire) ++ (fact_text (place_fact e.to r) ++ l)) (leaving_is w k r);
+      ∙ ap (λ l. fact_text (Carries k e.wire) ++ (fact_text (receiver e.to r) ++ l)) (leaving_is w k r);
   are = ((refl, (e, is, refl)), (place_true w p k r e is waits, leaving_true w p k r));
-  these = subst (λ o. NameLetter w k r o (Carries k e.wire ∷ place_fact e.to r ∷ leaving_facts w k r)) (sym is) (
-    inl refl,
-    place_named e.to r (Carries k e.wire) (leaving_facts w k r),
-    leaving_named w k r (Carries k e.wire) (place_fact e.to r),
-  );
+  these = subst (λ o. NameLetter w k r o (Carries k e.wire ∷ receiver e.to r ∷ leaving_facts w k r)) (sym is)
+      (leaving_facts w k r, refl, leaving_named w k r);
 }
 
 tells_unsent : (w : Rehearsal) (p k : ℕ) (r : Refusal) → at_serial (state_of w).sent k ≡ None →
@@ -285,7 +268,7 @@ tells_unsent w p k r is = record {
   facts = Unsent k (length (state_of w).sent) ∷ [];
   is = sym (append-nil _);
   are = ((refl, is, refl), tt);
-  these = subst (λ o. NameLetter w k r o (Unsent k (length (state_of w).sent) ∷ [])) (sym is) (inl refl);
+  these = subst (λ o. NameLetter w k r o (Unsent k (length (state_of w).sent) ∷ [])) (sym is) refl;
 }
 
 tells_by : (w : Rehearsal) (p k : ℕ) (r : Refusal) (o : Option Envelope) → at_serial (state_of w).sent k ≡ o →

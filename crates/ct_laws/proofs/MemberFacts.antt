@@ -2,10 +2,11 @@
 use Rattle.std.proofs.Common.{◌≡◌, ◌⊎◌, inl, inr, ◌<◌, ◌≤◌, ◌==◌, ℕ, zero, suc, Bool, true, false, List, [], ◌∷◌, ◌++◌, refl, ap, ap₂}
 use Rattle.std.proofs.Common.{sym, ◌∙◌, subst, append_assoc, append-nil, arith, codes, decimal, length, find, filter_map, eqb-true}
 use Rattle.std.proofs.lemmas.Bool.Decides.{nat_tests}
+use Rattle.std.proofs.lemmas.List.Elements.{All-append, All-cons, All-nil}
 use Rattle.std.proofs.Math.Nat.{eq-or-lt_of_le}
 use Rattle.std.specs.List.{concat}
 use Rattle.std.specs.Option.{option_map_or}
-use Rattle.std.specs.Prelude.{if◌then◌else◌, Option, Some, None, is_some, option_and_then, option_map, unwrap_or}
+use Rattle.std.specs.Prelude.{All, if◌then◌else◌, Option, Some, None, is_some, option_and_then, option_map, unwrap_or}
 use Rattle.ct_names.specs.Group.{IsMember, coordinator, everyone, is_member}
 use Rattle.ct_names.specs.Membership.{IsIn}
 use Rattle.ct_names.specs.Value.{Value}
@@ -27,7 +28,7 @@ use Rattle.ct_show.specs.Details.{acks_text, coordinator_text, size_of}
 use Rattle.ct_text.specs.Standing.{coordinator_of, estimate_of, instance_of, round_of}
 use Rattle.ct_show.specs.Facts.{first_heard, heard_text, led_text, member_facts, part_text, phase_in, place_in, votes_text}
 use Rattle.ct_text.specs.Shapes.{estimate_text, phase_text}
-use Rattle.ct_laws.specs.Behind.{NamePlace, NameStanding, NamesHeard, TellsMember}
+use Rattle.ct_laws.specs.Behind.{IsHeard, NamePlace, NameStanding, NamesHeard, TellsMember}
 use Rattle.ct_laws.specs.Facts.{AreMany, AreTrue, Fact, HasGot, fact_text, texts_of}
 use Rattle.ct_laws.specs.Facts.Fact.{Acked, Began, Heard, Holds, Idle, InRound, LedBy}
 
@@ -361,58 +362,31 @@ open_true w p c k refusal there is =
       ),
     )
 
-named_later : (w : Rehearsal) (p : ℕ) (c : Standing) (q : ℕ) → NamesHeard q (heard_facts w p w.setting.members) →
-    NamesHeard q (open_facts w p c)
-unfolding open_facts
-named_later w p c q named =
-    let m = member_of w p in
-    let led = led_facts c.round (coordinator w.setting.members c.round) in
-    let heard = heard_facts w p w.setting.members in
-    let acks = Acked (length (own_ballots m c).acked) (length (own_ballots m c).replied) ∷ [] in
-    let one = Heard q named.0 named.1 in (
-      named.0,
-      named.1,
-      inr (inr (IsIn-append_right one led (Holds c.estimate c.ts ∷ (heard ++ acks))
-          (inr (IsIn-append_left one heard acks named.2)))),
-    )
-
 -- ---- where it stands
 
-led_if_some : (b : Bool) (q : ℕ) → b ≡ false → IsIn (LedBy q) (if b then [] else LedBy q ∷ [])
-led_if_some true q fails = absurd (cc fails)
-led_if_some false q fails = inl refl
+one_only : (q : ℕ) (o : Option (Value × ℕ)) → All IsHeard (heard_fact q o)
+unfolding heard_fact
+one_only q None = All-nil IsHeard
+one_only q (Some e) = All-cons IsHeard (Heard q e.0 e.1) [] tt (All-nil IsHeard)
 
-led_in : (r q : ℕ) → 1 ≤ r → IsIn (LedBy q) (led_facts r q)
-unfolding led_facts
-led_in r q some = led_if_some (r == 0) q (grind (arith, nat_tests))
+all_only : (w : Rehearsal) (p n : ℕ) → All IsHeard (heard_facts w p n)
+unfolding heard_facts
+all_only w p zero = All-nil IsHeard
+all_only w p (suc q) =
+    let last = heard_fact (suc q) (if_member w p (heard_by (member_of w p) (suc q))) in
+    All-append IsHeard (heard_facts w p q) last (all_only w p q) (one_only (suc q) (if_member w p (heard_by (member_of w p) (suc q))))
 
 open_named : (w : Rehearsal) (p : ℕ) (c : Standing) → IsMember w.setting.members p → (member_of w p).current ≡ Some c →
     NameStanding w p c (open_facts w p c)
-unfolding open_facts
-open_named w p c there is =
-    let m = member_of w p in
-    let led = led_facts c.round (coordinator w.setting.members c.round) in
-    let heard = heard_facts w p w.setting.members in
-    let acks = length (own_ballots m c).acked in
-    let replies = length (own_ballots m c).replied in
-    let behind = Holds c.estimate c.ts ∷ (heard ++ Acked acks replies ∷ []) in
-    record {
-      round = inr (inl refl);
-      led = λ some. inr (inr (IsIn-append_left (LedBy (coordinator w.setting.members c.round)) led behind
-          (led_in c.round (coordinator w.setting.members c.round) some)));
-      holds = inr (inr (IsIn-append_right (Holds c.estimate c.ts) led behind (inl refl)));
-      heard = λ q v ts member one h. named_later w p c q (each_named w p q c v ts there is member one h);
-      acked = (
-        acks,
-        replies,
-        inr (inr (IsIn-append_right (Acked acks replies) led behind
-            (inr (IsIn-append_right (Acked acks replies) heard (Acked acks replies ∷ []) (inl refl))))),
-      );
-    }
-
-began_in : (w : Rehearsal) (p : ℕ) (c : Standing) → IsIn (Began (member_of w p).last) (open_facts w p c)
-unfolding open_facts
-began_in w p c = inl refl
+unfolding open_facts led_facts
+open_named w p c there is = record {
+  heard = heard_facts w p w.setting.members;
+  acks = length (own_ballots (member_of w p) c).acked;
+  replies = length (own_ballots (member_of w p) c).replied;
+  these = refl;
+  only = all_only w p w.setting.members;
+  each = λ q v ts member one h. each_named w p q c v ts there is member one h;
+}
 
 tells_open : (w : Rehearsal) (p : ℕ) (c : Standing) → IsMember w.setting.members p → (member_of w p).current ≡ Some c →
     TellsMember w p (member_facts w p)
@@ -420,7 +394,7 @@ tells_open w p c there is = record {
   facts = open_facts w p c;
   is = told_is w p c there is ∙ facts_shape w p c;
   are = λ k refusal. open_true w p c k refusal there is;
-  these = (began_in w p c, subst (λ o. NamePlace w p o (open_facts w p c)) (sym is) (open_named w p c there is));
+  these = subst (λ o. NamePlace w p o (open_facts w p c)) (sym is) (open_named w p c there is);
 }
 
 tells_idle : (w : Rehearsal) (p : ℕ) → IsMember w.setting.members p → (member_of w p).current ≡ None → TellsMember w p (member_facts w p)
@@ -433,7 +407,7 @@ tells_idle w p there is =
           ∙ ap (λ i. concat (codes "instance " ∷ decimal i ∷ codes " idle" ∷ [])) (instance_is w p there)
           ∙ idle_shape (codes "instance ") (decimal m.last) (codes " idle");
       are = λ k refusal. (refl, (is, tt));
-      these = (inl refl, subst (λ o. NamePlace w p o (Began m.last ∷ Idle ∷ [])) (sym is) (inr (inl refl)));
+      these = subst (λ o. NamePlace w p o (Began m.last ∷ Idle ∷ [])) (sym is) refl;
     }
 
 tells_by : (w : Rehearsal) (p : ℕ) (o : Option Standing) → IsMember w.setting.members p → (member_of w p).current ≡ o →

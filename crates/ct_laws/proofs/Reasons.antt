@@ -1,5 +1,5 @@
 -- What is told of a refused step is true.
-use Rattle.std.proofs.Common.{◌≡◌, inl, ◌<◌, ◌+◌, ℕ, zero, suc, Bool, true, false, List, [], ◌∷◌, refl, ap, sym, ◌∙◌}
+use Rattle.std.proofs.Common.{◌≡◌, ◌<◌, ◌+◌, ℕ, zero, suc, Bool, true, false, List, [], ◌∷◌, refl, ap, sym, ◌∙◌}
 use Rattle.std.proofs.Common.{subst, append-nil, arith, cond, length, not, position}
 use Rattle.std.proofs.lemmas.Bool.Decides.{nat_tests}
 use Rattle.std.specs.List.{prefix_len}
@@ -242,12 +242,12 @@ no_crash w p (suc i) none at = position_some (is_crash_of p) w.steps i (step.Cra
 tells_crash_by : (w : Rehearsal) (s : Step) (o : Option ℕ) → position (is_crash_of (actor s)) w.steps ≡ o →
     TellsFacts w s refusal.Crashed (NameReason w s refusal.Crashed) (crash_text (option_map (λ i. i + 1) o))
 tells_crash_by w s None is =
-    record { facts = []; is = refl; are = tt; these = λ number at. absurd (no_crash w (actor s) number is at) }
+    record { facts = []; is = refl; are = tt; these = λ number at. no_crash w (actor s) number is at }
 tells_crash_by w s (Some i) is = record {
   facts = CrashedIn (i + 1) ∷ [];
   is = sym (append-nil _);
   are = (crash_at w (actor s) i is, tt);
-  these = λ number at. (i + 1, inl refl);
+  these = (i + 1, refl, refl);
 }
 
 tells_crash : (w : Rehearsal) (s : Step) →
@@ -276,9 +276,9 @@ member_there w s r h other =
 pub tells_line : (w : Rehearsal) (s : Step) (r : Refusal) → cause w s ≡ Some r →
     TellsFacts w s r (NameReason w s r) (reason_text w s r)
 tells_line w s refusal.NoSuchMember h =
-    record { facts = Members w.setting.members ∷ []; is = sym (append-nil _); are = (refl, tt); these = inl refl }
+    record { facts = Members w.setting.members ∷ []; is = sym (append-nil _); are = (refl, tt); these = refl }
 tells_line w s refusal.Crashed h = tells_crash w s
-tells_line w s refusal.BadCommand h = record { facts = Registers ∷ []; is = sym (append-nil _); are = (tt, tt); these = inl refl }
+tells_line w s refusal.BadCommand h = record { facts = Registers ∷ []; is = sym (append-nil _); are = (tt, tt); these = refl }
 tells_line w s (refusal.Full l) h =
-    record { facts = AtMost (limit_of w l) ∷ []; is = sym (append-nil _); are = ((l, refl, refl), tt); these = inl refl }
+    record { facts = AtMost (limit_of w l) ∷ []; is = sym (append-nil _); are = ((l, refl, refl), tt); these = refl }
 tells_line w s r h = tells_step w s r h (member_there w s r h (λ same. cc same))

@@ -1,5 +1,5 @@
 -- Which facts are told of a refused step.
-use Rattle.std.specs.Prelude.{◌≡◌, ◌≤◌, ℕ, List, length, Option, Some, None, ⊤}
+use Rattle.std.specs.Prelude.{◌≡◌, ◌==◌, ◌++◌, ℕ, All, List, [], ◌∷◌, length, Option, Some, None, if◌then◌else◌, ⊤}
 use Rattle.ct_names.specs.Group.{IsMember, coordinator, everyone}
 use Rattle.ct_names.specs.Membership.{IsIn}
 use Rattle.ct_names.specs.Value.{Value}
@@ -20,46 +20,62 @@ use Rattle.ct_laws.specs.Facts.Fact.{Registers, Unsent, Waits, WentTo}
 
 -- ---- of a member
 
--- an estimate of q
+-- the coordinator, from round 1 on
+abbrev pub leader : ℕ → ℕ → List Fact
+leader members r = if r == 0 then [] else LedBy (coordinator members r) ∷ []
+
+-- an estimate of some member
+abbrev pub IsHeard : Fact → Type 0
+IsHeard (Heard q v ts) = ⊤
+IsHeard fact = ⊥
+
+-- one of q
 abbrev pub NamesHeard : ℕ → List Fact → Type 0
 NamesHeard q facts = (v : Value) × (ts : ℕ) × IsIn (Heard q v ts) facts
 
--- where p stands in its open instance: its round and phase; the coordinator, from round 1 on; its estimate; an estimate of each member of
--- which it has one of its round; how many acked, and how many replied
+-- the last instance that p began, its round and phase there, who leads that, and its estimate; an estimate of each member of which it has
+-- one of its round; how many acked, and how many replied
 pub record NameStanding (w : Rehearsal) (p : ℕ) (c : Standing) (facts : List Fact) : Type 0 where
-  pub round : IsIn (InRound c.round c.phase) facts
-  pub led : 1 ≤ c.round → IsIn (LedBy (coordinator w.setting.members c.round)) facts
-  pub holds : IsIn (Holds c.estimate c.ts) facts
-  pub heard : (q : ℕ) (v : Value) (ts : ℕ) → IsMember w.setting.members q → IsIn q everyone →
-      HasGot w p (Est (member_of w p).last c.round q v ts) → NamesHeard q facts
-  pub acked : (acks : ℕ) × (replies : ℕ) × IsIn (Acked acks replies) facts
+  pub heard : List Fact
+  pub acks : ℕ
+  pub replies : ℕ
+  pub these : facts ≡ Began (member_of w p).last ∷ InRound c.round c.phase ∷ (leader w.setting.members c.round
+      ++ (Holds c.estimate c.ts ∷ (heard ++ Acked acks replies ∷ [])))
+  pub only : All IsHeard heard
+  pub each : (q : ℕ) (v : Value) (ts : ℕ) → IsMember w.setting.members q → IsIn q everyone →
+      HasGot w p (Est (member_of w p).last c.round q v ts) → NamesHeard q heard
 
--- that; or that no instance is open
+-- that; or which it began last, and that none is open
 abbrev pub NamePlace : Rehearsal → ℕ → Option Standing → List Fact → Type 0
-NamePlace w p None facts = IsIn Idle facts
+NamePlace w p None facts = facts ≡ Began (member_of w p).last ∷ Idle ∷ []
 NamePlace w p (Some c) facts = NameStanding w p c facts
 
--- the last instance that p began, and where it stands
 abbrev pub NameMember : Rehearsal → ℕ → List Fact → Type 0
-NameMember w p facts = IsIn (Began (member_of w p).last) facts × NamePlace w p (member_of w p).current facts
+NameMember w p facts = NamePlace w p (member_of w p).current facts
 
 -- ---- of an envelope
 
 -- that it went to another; that it waits; or whose it is
-abbrev pub NameReceiver : ℕ → Refusal → List Fact → Type 0
-NameReceiver q refusals.NotSent facts = IsIn (WentTo q) facts
-NameReceiver q refusals.StillWaiting facts = IsIn Waits facts
-NameReceiver q refusal facts = IsIn (GoesTo q) facts
+abbrev pub receiver : ℕ → Refusal → Fact
+receiver q refusals.NotSent = WentTo q
+receiver q refusals.StillWaiting = Waits
+receiver q refusal = GoesTo q
 
--- where it doesn't wait, the step in which it left its line, if one did
+-- the step in which it left its line; nothing where it never did
+abbrev pub NameLeft : Rehearsal → ℕ → List Fact → Type 0
+NameLeft w k [] = (number : ℕ) (step : Step) → IsLeaving w k number step → ⊥
+NameLeft w k (fact ∷ facts) = (number : ℕ) × (step : Step) × (fact ≡ LeftIn number step) × (facts ≡ [])
+
+-- that, where it doesn't wait
 abbrev pub NameLeaving : Rehearsal → ℕ → Refusal → List Fact → Type 0
-NameLeaving w k refusals.NotWaiting facts = (number : ℕ) (step : Step) → IsLeaving w k number step → IsIn (LeftIn number step) facts
-NameLeaving w k refusal facts = ⊤
+NameLeaving w k refusals.NotWaiting facts = NameLeft w k facts
+NameLeaving w k refusal facts = facts ≡ []
 
 -- that none was sent with the serial; or what it carries, and these
 abbrev pub NameLetter : Rehearsal → ℕ → Refusal → Option Envelope → List Fact → Type 0
-NameLetter w k refusal None facts = IsIn (Unsent k (length (state_of w).sent)) facts
-NameLetter w k refusal (Some e) facts = IsIn (Carries k e.wire) facts × NameReceiver e.to refusal facts × NameLeaving w k refusal facts
+NameLetter w k refusal None facts = facts ≡ Unsent k (length (state_of w).sent) ∷ []
+NameLetter w k refusal (Some e) facts =
+    (left : List Fact) × (facts ≡ Carries k e.wire ∷ receiver e.to refusal ∷ left) × NameLeaving w k refusal left
 
 abbrev pub NameEnvelope : Rehearsal → ℕ → Refusal → List Fact → Type 0
 NameEnvelope w k refusal facts = NameLetter w k refusal (at_serial (state_of w).sent k) facts
@@ -74,13 +90,17 @@ NameActor w (Lose p k) refusal facts = NameEnvelope w k refusal facts
 NameActor w (Repeat p k) refusal facts = NameEnvelope w k refusal facts
 NameActor w step refusal facts = NameMember w (actor step) facts
 
--- the members that there are; a step in which the member crashed, if the record has one; which registers there are; the limit; or those
+-- a step in which p crashed; nothing where it never did
+abbrev pub NameCrash : Rehearsal → ℕ → List Fact → Type 0
+NameCrash w p [] = (number : ℕ) → at_serial w.steps number ≡ Some (Crash p) → ⊥
+NameCrash w p (fact ∷ facts) = (number : ℕ) × (fact ≡ CrashedIn number) × (facts ≡ [])
+
+-- the members that there are; that of its member; which registers there are; the limit; or those
 abbrev pub NameReason : Rehearsal → Step → Refusal → List Fact → Type 0
-NameReason w step refusals.NoSuchMember facts = IsIn (Members w.setting.members) facts
-NameReason w step refusals.Crashed facts =
-    (number : ℕ) → at_serial w.steps number ≡ Some (Crash (actor step)) → (first : ℕ) × IsIn (CrashedIn first) facts
-NameReason w step refusals.BadCommand facts = IsIn Registers facts
-NameReason w step (refusals.Full limit) facts = IsIn (AtMost (limit_of w limit)) facts
+NameReason w step refusals.NoSuchMember facts = facts ≡ Members w.setting.members ∷ []
+NameReason w step refusals.Crashed facts = NameCrash w (actor step) facts
+NameReason w step refusals.BadCommand facts = facts ≡ Registers ∷ []
+NameReason w step (refusals.Full limit) facts = facts ≡ AtMost (limit_of w limit) ∷ []
 NameReason w step refusal facts = NameActor w step refusal facts
 
 -- ---- what is told
@@ -93,7 +113,7 @@ serial_in (Lose p k) = k
 serial_in (Repeat p k) = k
 serial_in step = 0
 
--- the text is that of facts, each of which is true, and these are among them
+-- the text is that of facts, each of which is true, and they are these
 pub record TellsFacts (w : Rehearsal) (step : Step) (refusal : Refusal) (These : List Fact → Type 0) (text : List ℕ) : Type 0 where
   pub facts : List Fact
   pub is : text ≡ texts_of facts

@@ -13,8 +13,8 @@ ghost use Rattle.ct_laws.specs.Behind.{NameActor, NameReason, TellsFacts, TellsM
 
 /// The text that is told of a refused step, in the lines of steps and by the judge of schedules, is that of a list of facts which are true
 /// of the state before it: where its member stands, in words of its state and of the wires that it got; the envelope that it names, in
-/// words of those that were sent and of the steps; or when its member crashed, and what would be right. These facts are there for each
-/// refusal (`NameReason`): so a member's tell its round, its estimate, each member of which it has an estimate of that round, and how many
+/// words of those that were sent and of the steps; or when its member crashed, and what would be right. Which facts these are `NameReason`
+/// says by the refusal: of a member its round, its estimate, one of each member of which it has an estimate of that round, and how many
 /// replied.
 pub fn law_facts()
     ensures member { (w : Rehearsal) (p : ℕ) → IsMember w.setting.members p → TellsMember w p (member_facts w p) }
