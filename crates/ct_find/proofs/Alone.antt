@@ -1,20 +1,22 @@
 -- A search of the seed that was found, alone, comes to the same.
 use Rattle.std.specs.Prelude.{option_map, length, Result}
-use Rattle.std.proofs.Common.{◌≡◌, ◌∙◌, ℕ, List, Option, Some, Err, ap, arith, sym}
+use Rattle.std.proofs.Common.{◌≡◌, ◌∙◌, ℕ, List, Option, Some, Err, ap, arith, inl, inr, refl, sym}
 use Rattle.ct_grammar.specs.declared.goal.Goal.{Goal}
 use Rattle.ct_model.specs.Rehearsal.{Rehearsal}
 use Rattle.ct_walk.specs.declared.call.Call.TheVariants.{Find}
 use Rattle.ct_walk.specs.declared.call.Seeds.{Seeds}
 use Rattle.ct_walk.specs.declared.fault.WalkFault.{WalkFault}
+use Rattle.ct_walk.specs.declared.fault.WalkFault.TheVariants as walk
 use Rattle.ct_walk.specs.declared.found_seed.FoundSeed.{FoundSeed}
 use Rattle.ct_walk.specs.declared.options.WalkOptions.{WalkOptions}
 use Rattle.ct_walk.specs.Finding.{first_of}
 use Rattle.ct_walk.specs.Options.{with_seed}
 use Rattle.ct_walk.specs.Walking.{walked}
-use Rattle.ct_walk.specs.Writing.{seed_for, IsWalkOf, WritesWalk, WritesWalkPart}
+use Rattle.ct_walk.specs.Writing.{seed_for, IsWalkOf, Misses, WritesWalk, WritesWalkPart}
 use Rattle.ct_find.specs.declared.fault.FindFault.{FindFault}
 use Rattle.ct_find.specs.declared.fault.FindFault.TheVariants.{Walk}
 use Rattle.ct_find.specs.declared.writing.Found.{Found}
+use Rattle.ct_find.specs.Writing.{IsOfRun}
 use Rattle.ct_find.proofs.Parts.{alone_found}
 
 module _ (o : WalkOptions) (goal : Goal) (seeds : Seeds) (s : ℕ) (found : Some s ≡ first_of o goal seeds) where
@@ -38,6 +40,13 @@ module _ (o : WalkOptions) (goal : Goal) (seeds : Seeds) (s : ℕ) (found : Some
     where
       seed_with : Option ℕ → Option FoundSeed
       seed_with x = option_map (λ seed. record { seed = seed; steps = length (walked (with_seed o seed) (Some goal)).steps }) x
+
+  -- which shows the goal
+  pub misses_none : (fault : WalkFault) → Misses (Find o goal one) fault → IsOfRun fault
+  misses_none walk.Memory h = inl (inl refl)
+  misses_none walk.Board h = inl (inr refl)
+  misses_none walk.Write h = inr refl
+  misses_none (walk.NotFound missed) h = absurd (cc (found ∙ (same ∙ h.0)))
 
 -- the same fault
 abbrev result_of : WalkFault → Result Found FindFault

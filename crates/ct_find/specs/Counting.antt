@@ -1,9 +1,7 @@
 -- What is written of a count.
-use Rattle.std.specs.Prelude.{◌≡◌, ◌⊎◌, ℕ, nat_lt, List, length, Option, Some, None, if◌then◌else◌}
+use Rattle.std.specs.Prelude.{ℕ, nat_lt, List, length, Option, Some, None, if◌then◌else◌}
 use Rattle.std.specs.Io.KnownBytes.{Appends}
 use Rattle.ct_streams.specs.Streams.{WritesPart}
-use Rattle.ct_walk.specs.declared.fault.WalkFault.TheVariants as walk
-use Rattle.ct_walk.specs.Faults.{IsShort}
 use Rattle.ct_find.specs.declared.call.FindCall.{FindCall}
 use Rattle.ct_find.specs.declared.count_text.CountForm.{CountForm}
 use Rattle.ct_find.specs.declared.fault.FindFault.{FindFault}
@@ -13,6 +11,7 @@ use Rattle.ct_find.specs.declared.tally.Tally.{Tally}
 use Rattle.ct_find.specs.Counts.{count_text}
 use Rattle.ct_find.specs.Hits.{hits_of}
 use Rattle.ct_find.specs.Tallies.{IsTallyOf}
+use Rattle.ct_find.specs.Writing.{IsOfRun}
 
 -- the text of the tally, nothing else, was written
 abbrev pub WritesCount : CountForm → FindCall → Option (List ℕ) → Option (List ℕ) → Type 0
@@ -36,5 +35,5 @@ none_shown call =
 
 -- memory or the board was short, or a write failed
 abbrev pub IsCountFault : FindFault → Type 0
-IsCountFault (Walk fault) = IsShort fault ⊎ (fault ≡ walk.Write)
+IsCountFault (Walk fault) = IsOfRun fault
 IsCountFault (NotFound none) = ⊥

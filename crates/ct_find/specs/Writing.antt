@@ -1,7 +1,10 @@
 -- What is written of a search.
-use Rattle.std.specs.Prelude.{◌≡◌, ⊤, ℕ, List, take, None}
+use Rattle.std.specs.Prelude.{◌≡◌, ◌⊎◌, ℕ, List, take, None}
 use Rattle.ct_walk.specs.declared.call.Call.{Call}
 use Rattle.ct_walk.specs.declared.call.Call.TheVariants.{Find}
+use Rattle.ct_walk.specs.declared.fault.WalkFault.{WalkFault}
+use Rattle.ct_walk.specs.declared.fault.WalkFault.TheVariants.{Write}
+use Rattle.ct_walk.specs.Faults.{IsShort}
 use Rattle.ct_walk.specs.Finding.{first_of}
 use Rattle.ct_find.specs.declared.again.Again.{Again}
 use Rattle.ct_find.specs.declared.call.FindCall.{FindCall}
@@ -19,11 +22,15 @@ search_of call = Find call.options call.goal call.seeds
 abbrev pub first_hits : FindCall → ℕ → List Hit
 first_hits call count = take count (hits_of call.options call.goal call.seeds)
 
--- no seed's walk shows the goal, and the seeds and the words of the goal are told. Of other faults nothing is said
+-- memory or the board was short, or a write failed
+abbrev pub IsOfRun : WalkFault → Type 0
+IsOfRun fault = IsShort fault ⊎ (fault ≡ Write)
+
+-- no seed's walk shows the goal, and the seeds and the words of the goal are told; or one of those
 abbrev pub FindsNothing : FindCall → FindFault → Type 0
 FindsNothing call (NotFound none) =
     (first_of call.options call.goal call.seeds ≡ None) × (none.seeds ≡ call.seeds) × (none.goal ≡ call.text)
-FindsNothing call (Walk fault) = ⊤
+FindsNothing call (Walk fault) = IsOfRun fault
 
 -- the words are those of the walk of this seed
 abbrev pub Repeats : FindCall → ℕ → Again → Type 0

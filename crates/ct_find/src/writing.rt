@@ -41,7 +41,8 @@ pub fn write_found<R: Threads + Sync, W: Sink, P: Progress>(
     ensures ok { OnOk result (WritesWalk (search_of call) (W.written writer.old) (W.written writer.new)) }
     ensures seed { IfOk result (λ found. Some found.seed ≡ seed_for (search_of call)) }
     ensures again { IfOk result (λ found. Repeats call found.seed.seed found.again) }
-    // Nothing is found where no seed's walk shows the goal; the fault names the seeds and the goal.
+    // Nothing is found where no seed's walk shows the goal; the fault names the seeds and the goal. Other faults are those of memory, of
+    // the board and of the writer.
     ensures none { IfErr result (FindsNothing call) }
     // Only a fault of the writer has written anything: some first bytes of such a line.
     ensures quiet { IfErr result (λ fault. fault ≢ FindFault.Walk walk.Write → writer.new ≡ writer.old) }
