@@ -1,5 +1,5 @@
 -- The smallest of the runs that are left of several walks.
-use Rattle.std.specs.Prelude.{◌≡◌, ◌≤◌, ⊤, ℕ, ◌&&◌, ◌||◌, ◌==◌, Bool, nat_lt, List, [], All, Contains}
+use Rattle.std.specs.Prelude.{◌≡◌, ◌≤◌, ℕ, ◌&&◌, ◌||◌, ◌==◌, Bool, nat_lt, List, [], All, Contains}
 use Rattle.std.specs.Prelude.{Option, Some, None, if◌then◌else◌}
 use Rattle.std.specs.Io.KnownBytes.{Appends}
 use Rattle.std.specs.List.{AllZip}
@@ -20,7 +20,7 @@ use Rattle.ct_find.specs.declared.hit.Hit.{Hit}
 use Rattle.ct_best.specs.declared.left.Left.{Left}
 use Rattle.ct_best.specs.declared.smaller_walk.SmallerWalk.{SmallerWalk}
 use Rattle.ct_find.specs.declared.fault.FindFault.TheVariants as find
-use Rattle.ct_find.specs.Writing.{first_hits, FindsNothing}
+use Rattle.ct_find.specs.Writing.{first_hits, FindsNothing, IsOfRun}
 
 -- ---- what is left of them
 
@@ -106,9 +106,9 @@ FailsOn o goal hit (NotFound none) = ⊥
 abbrev pub FailsOnOne : WalkOptions → Goal → List Hit → BestFault → Type 0
 FailsOnOne o goal hits fault = (hit : Hit) × Contains hits hit × FailsOn o goal hit fault
 
--- no seed's walk shows the goal, and the seeds and the words of the goal are told; or the walk of one of the first seeds is not made
--- smaller. Of other faults nothing is said
+-- no seed's walk shows the goal, and the seeds and the words of the goal are told; the walk of one of the first seeds is not made smaller;
+-- or memory or the board was short, or a write failed
 abbrev pub FindsNoBest : FindCall → BestOptions → BestFault → Type 0
-FindsNoBest call best (Walk fault) = ⊤
+FindsNoBest call best (Walk fault) = IsOfRun fault
 FindsNoBest call best (Shrink fault) = FailsOnOne call.options call.goal (first_hits call best.count) (Shrink fault)
 FindsNoBest call best (NotFound none) = FindsNothing call (find.NotFound none)

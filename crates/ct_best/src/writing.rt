@@ -39,7 +39,8 @@ pub fn write_best<R: Threads + Sync, W: Sink, P: Progress, T: TrialProgress>(
     // That one was written.
     ensures ok { IfOk result (λ told. WritesRun call best.now told.smallest (W.written writer.old) (W.written writer.new)) }
     ensures again { IfOk result (λ told. Repeats call told.smallest.seed told.again) }
-    // Nothing is found where no seed's walk shows the goal; the fault names the seeds and the goal.
+    // Nothing is found where no seed's walk shows the goal; the fault names the seeds and the goal. Other faults are those of memory, of
+    // the board, of the writer and of a walk that isn't made smaller.
     ensures none { IfErr result (FindsNoBest call best.now) }
     // Only a fault of the writer has written anything: some first bytes of such a run.
     ensures quiet { IfErr result (λ fault. fault ≢ BestFault.Walk walk.Write → writer.new ≡ writer.old) }
