@@ -1,2 +1,8 @@
 pub mod Asking
+pub mod Files
+pub mod Runs
+pub mod Slots
+pub mod Taking
+pub mod Telling
+pub mod Grouping
 pub mod Merged

@@ -1,4 +1,10 @@
 pub mod Line
 pub mod Faults
 pub mod Writing
+pub mod Files
+pub mod Owners
+pub mod Groups
+pub mod Sets
+pub mod Silence
+pub mod Judging
 pub mod Merged

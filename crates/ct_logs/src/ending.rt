@@ -1,14 +1,17 @@
 //! What logs came to.
 
-ghost use Rattle.std.specs.Prelude.{IfOk};
-ghost use Rattle.ct_merge.specs.Verdicts.{IfAccepted};
-ghost use Rattle.ct_logs.specs.Merged.{IsSomeMerge, IsSomeRun};
+ghost use Rattle.std.specs.Prelude.{◌≡◌, IfErr, IfOk, IfSome, None, Ok, OnOk};
+ghost use Rattle.ct_model.specs.Lawful.{IsLawful};
+ghost use Rattle.ct_logs.specs.Judging.{EndsAs, EndsWith, IsHaltFault, IsMetBy, IsTextOfVerdict, IsUnmetBy, IsUnmetFault};
+ghost use Rattle.ct_logs.specs.Silence.{IsSilent};
+ghost use Rattle.ct_logs.specs.Writing.{IsTextOf};
 
 use crate::culprit::told_of;
 use crate::form::Form;
 use crate::judged::Judged;
 use crate::log_set::LogSet;
 use crate::merge_fault::MergeFault;
+use crate::setup::lawful;
 use crate::showing::accepted;
 use crate::sources::Sources;
 use crate::told::Told;
@@ -35,8 +38,8 @@ pub(crate) fn end_of(
     judged: Judged,
     form: Form,
 ) -> Result<AcceptedRun, MergeFault>
-    requires { IfAccepted judged.verdict IsSomeMerge }
-    ensures { IfOk result (λ run. IsSomeRun form run.text.items) }
+    ensures ok { IfOk result (λ run. EndsWith form judged.verdict set.expected run.text.items) }
+    ensures fault { IfErr result (EndsAs judged set.expected) }
 {
     let sources = Sources {
         names,
@@ -57,8 +60,8 @@ pub(crate) fn end_of(
 
 // What is written and told of a run behind which this is told of torn last lines; or this, why none is written.
 fn ended(alloc: Global, judged: Judged, form: Form, told: String) -> Result<AcceptedRun, MergeFault>
-    requires { IfAccepted judged.verdict IsSomeMerge }
-    ensures { IfOk result (λ run. IsSomeRun form run.text.items) }
+    ensures ok { IfOk result (λ run. IsTextOfVerdict form judged.verdict run.text.items) }
+    ensures fault { IfErr result (IsHaltFault judged.verdict) }
 {
     let Judged {
         verdict,
@@ -88,7 +91,10 @@ fn ended(alloc: Global, judged: Judged, form: Form, told: String) -> Result<Acce
 
 // What is told of logs that came to this: of torn last lines where they are accepted, else of the line at which a log stands. Where an
 // expectation does not hold in the run, as far as the logs go, they are refused.
-fn told_in(alloc: Global, sources: Sources<'_>, judged: &Judged) -> Result<String, MergeFault> {
+fn told_in(alloc: Global, sources: Sources<'_>, judged: &Judged) -> Result<String, MergeFault>
+    ensures ok { OnOk result (IsMetBy judged.now.verdict sources.entry.set.now.expected) }
+    ensures fault { IfErr result (IsUnmetFault judged.now sources.entry.set.now.expected) }
+{
     match unmet_in(alloc, sources, judged)? {
         Some(text) => Err(MergeFault::Refused(text)),
         None => Ok(verdict_in(alloc, sources, judged)?),
@@ -100,7 +106,12 @@ fn unmet_in(
     alloc: Global,
     sources: Sources<'_>,
     judged: &Judged,
-) -> Result<Option<String>, MergeFault> {
+) -> Result<Option<String>, MergeFault>
+    ensures some { IfOk result (λ told. IfSome told (λ text.
+        IsUnmetBy judged.now.verdict judged.now.stopped sources.entry.set.now.expected)) }
+    ensures none { result ≡ Ok None → IsMetBy judged.now.verdict sources.entry.set.now.expected }
+    ensures fault { IfErr result IsSilent }
+{
     match (&judged.verdict, &judged.stopped) {
         (Verdict::Accepted(world), _) => unmet_text(alloc, sources, world),
         (_, Some(stopped)) => unmet_text(alloc, sources, &stopped.run),
@@ -133,9 +144,11 @@ fn accept(
     torn: String,
     presumed: String,
 ) -> Result<AcceptedRun, MergeFault>
-    requires { IsSomeMerge world.rehearsal }
-    ensures { IfOk result (λ run. IsSomeRun form run.text.items) }
+    ensures lawful { IsLawful world.rehearsal }
+    ensures ok { IfOk result (λ run. IsTextOf form world.rehearsal run.text.items) }
+    ensures fault { IfErr result IsSilent }
 {
+    lawful(&world);
     let told = told_of_run(alloc, &world, torn.as_str(), presumed.as_str());
     drop(torn);
     drop(presumed);
@@ -149,11 +162,12 @@ fn accept(
 }
 
 // What is written of the run, of which this is told.
-#[tactic(auto, using(crate::proofs::Merged::some_run))]
 fn write_of(alloc: Global, world: World, form: Form, told: Told) -> Result<AcceptedRun, MergeFault>
-    requires { IsSomeMerge world.rehearsal }
-    ensures { IfOk result (λ run. IsSomeRun form run.text.items) }
+    ensures lawful { IsLawful world.rehearsal }
+    ensures ok { IfOk result (λ run. IsTextOf form world.rehearsal run.text.items) }
+    ensures fault { IfErr result IsSilent }
 {
+    lawful(&world);
     match written(alloc, world, form) {
         Ok(text) => Ok(AcceptedRun { text, told }),
         Err(_) => {

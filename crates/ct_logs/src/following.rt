@@ -2,7 +2,7 @@
 
 ghost use Rattle.std.specs.Prelude.{IfOk};
 ghost use Rattle.ct_merge.specs.Verdicts.{IfAccepted};
-ghost use Rattle.ct_logs.specs.Merged.{IsSomeMerge, IsSomeRun};
+ghost use Rattle.ct_logs.specs.Merged.{IsSomeMerge, IsSomeRun, IsTextOfOne};
 
 use crate::culprit::told_alone;
 use crate::ending::{AcceptedRun, end_of};
@@ -59,7 +59,7 @@ pub(crate) fn followed<F: Files, P: Pace + Drop>(
     form: Form,
     pace: P,
 ) -> Result<AcceptedRun, MergeFault>
-    ensures { IfOk result (λ run. IsSomeRun form run.text.items) }
+    ensures { IfOk result (λ run. IsTextOfOne IsSomeRun form run.text.items) }
 {
     let mut pace = pace;
     let mut following = opened(alloc, files, names)?;
@@ -359,7 +359,7 @@ impl<R: Source + Drop> Following<R> {
         form: Form,
     ) -> Result<AcceptedRun, MergeFault>
         requires { IfAccepted ended.judged.verdict IsSomeMerge }
-        ensures { IfOk result (λ run. IsSomeRun form run.text.items) }
+        ensures { IfOk result (λ run. IsTextOfOne IsSomeRun form run.text.items) }
     {
         let Ended { judged, texts } = ended;
         let Following {

@@ -1,9 +1,15 @@
 //! The numbers of a group, as its logs give them.
 
+ghost use Rattle.std.specs.Prelude.{◌≡◌, ◌≤◌, Some, None, IfErr, IfOk, IfSome, unwrap_or};
+ghost use Rattle.ct_names.specs.declared.limit.TheConstants.{MAX_BOUND, MAX_CELLS, MAX_MEMBERS};
+ghost use Rattle.ct_judging.specs.declared.heading.TheConstants.{USUAL_CELLS};
+ghost use Rattle.ct_logs.specs.Silence.{IsNoLogs};
+ghost use Rattle.ct_logs.specs.Sets.{AreJoined, joined};
+
 use crate::merge_fault::MergeFault;
 use ct_judge::USUAL_CELLS;
 use ct_merge::Numbers;
-use ct_names::{Group, MAX_BOUND, MAX_CELLS, MAX_MEMBERS, Member};
+use ct_names::{Group, MAX_BOUND, Member};
 use ct_world::Setup;
 use std::alloc::{AllocError, Global};
 
@@ -15,35 +21,11 @@ pub(crate) struct GroupNumbers {
     batch: Option<u32>,
 }
 
-// A number of a group: the word before it, and its range.
-#[derive(Clone, Copy)]
-struct Kind {
-    word: &'static str,
-    low: u32,
-    high: u32,
-}
-
-const MEMBERS: Kind = Kind {
-    word: "members",
-    low: 1,
-    high: MAX_MEMBERS as u32,
-};
-
-const CELLS: Kind = Kind {
-    word: "cells",
-    low: 0,
-    high: MAX_CELLS as u32,
-};
-
-const BATCH: Kind = Kind {
-    word: "batch",
-    low: 1,
-    high: MAX_BOUND,
-};
-
 impl GroupNumbers {
     // None is given.
-    pub(crate) fn new() -> GroupNumbers {
+    pub(crate) fn new() -> GroupNumbers
+        ensures { result ≡ record { members = None; cells = None; batch = None } }
+    {
         GroupNumbers {
             members: None,
             cells: None,
@@ -60,24 +42,35 @@ impl GroupNumbers {
         }
     }
 
-    // With those of the log in the file of this name, unless one is out of its range or another than was given.
+    // With those of the log in the file of this name, unless one is another than was given.
     pub(crate) fn with(
         self,
         alloc: Global,
         name: &str,
         numbers: Numbers,
-    ) -> Result<GroupNumbers, MergeFault> {
-        let members = numbers.members.map(|n| u32::from(n));
-        let cells = numbers.cells.map(|n| u32::from(n));
+    ) -> Result<GroupNumbers, MergeFault>
+        ensures ok { IfOk result (AreJoined self numbers) }
+        ensures fault { IfErr result (IsNoLogs ((new : GroupNumbers) → AreJoined self numbers new → ⊥)) }
+    {
+        let (members, cells) = (members_of(numbers), cells_of(numbers));
         Ok(GroupNumbers {
-            members: joined(alloc, name, MEMBERS, self.members, members)?,
-            cells: joined(alloc, name, CELLS, self.cells, cells)?,
-            batch: joined(alloc, name, BATCH, self.batch, numbers.batch)?,
+            members: joined(alloc, name, "members", self.members, members)?,
+            cells: joined(alloc, name, "cells", self.cells, cells)?,
+            batch: joined(alloc, name, "batch", self.batch, numbers.batch)?,
         })
     }
 
-    // What a world of the group is made with; up to this member where their number is not given.
-    pub(crate) fn setup(self, last: Member) -> Option<Setup> {
+    // What a world of the group is made with; up to this member where their number is not given. None: no group has these numbers.
+    pub(crate) fn setup(self, last: Member) -> Option<Setup>
+        ensures group { IfSome result (λ setup. setup.group ≡ unwrap_or self.members last) }
+        ensures cells { IfSome result (λ setup. setup.cells ≡ unwrap_or self.cells USUAL_CELLS) }
+        ensures bound { IfSome result (λ setup. setup.bound ≡ unwrap_or self.batch MAX_BOUND) }
+        ensures some { IfSome result (λ setup. 1 ≤ setup.group) }
+        ensures most { IfSome result (λ setup. setup.group ≤ MAX_MEMBERS) }
+        ensures none { result ≡ None → 1 ≤ unwrap_or self.members last → unwrap_or self.members last ≤ MAX_MEMBERS →
+            unwrap_or self.cells USUAL_CELLS ≤ MAX_CELLS → 1 ≤ unwrap_or self.batch MAX_BOUND →
+            unwrap_or self.batch MAX_BOUND ≤ MAX_BOUND → ⊥ }
+    {
         let members = u8::try_from(self.members.unwrap_or(u32::from(last))).ok()?;
         let cells = u16::try_from(self.cells.unwrap_or(u32::from(USUAL_CELLS))).ok()?;
         let group = Group::new(members)?;
@@ -85,40 +78,52 @@ impl GroupNumbers {
     }
 }
 
-// The number that was given, with the one that a log gives.
+fn members_of(numbers: Numbers) -> Option<u32>
+    ensures { result ≡ numbers.members }
+{
+    match numbers.members {
+        Some(n) => Some(u32::from(n)),
+        None => None,
+    }
+}
+
+fn cells_of(numbers: Numbers) -> Option<u32>
+    ensures { result ≡ numbers.cells }
+{
+    match numbers.cells {
+        Some(n) => Some(u32::from(n)),
+        None => None,
+    }
+}
+
+// The number that was given, with the one that a log gives behind this word.
 fn joined(
     alloc: Global,
     name: &str,
-    kind: Kind,
+    word: &str,
     old: Option<u32>,
     new: Option<u32>,
-) -> Result<Option<u32>, MergeFault> {
+) -> Result<Option<u32>, MergeFault>
+    ensures ok { IfOk result (λ number. joined old new ≡ Some number) }
+    ensures fault { IfErr result (IsNoLogs (joined old new ≡ None)) }
+{
     let Some(number) = new else {
         return Ok(old);
     };
-    if number < kind.low || kind.high < number {
-        return Err(MergeFault::NoLogs(out_of_range(alloc, name, kind, number)?));
-    }
     match old {
         Some(given) if given != number => {
-            Err(MergeFault::NoLogs(disagreeing(alloc, name, kind, given, number)?))
+            Err(MergeFault::NoLogs(disagreeing(alloc, name, word, given, number)?))
         }
         _ => Ok(Some(number)),
     }
 }
 
-fn out_of_range(alloc: Global, name: &str, kind: Kind, number: u32) -> Result<String, AllocError> {
-    let Kind { word, low, high } = kind;
-    format!(in alloc; "{name}: {word} {number}: {low} to {high}")
-}
-
 fn disagreeing(
     alloc: Global,
     name: &str,
-    kind: Kind,
+    word: &str,
     given: u32,
     number: u32,
 ) -> Result<String, AllocError> {
-    let word = kind.word;
     format!(in alloc; "{name}: {word} {number}, and a log before it has {word} {given}")
 }

@@ -41,6 +41,7 @@ pub(crate) fn end(alloc: Global, merger: Merger, set: &mut LogSet) -> Result<Jud
 {
     let setup = setup_of(merger.progress().stage().world());
     let (verdict, logs) = merger.end()?;
+    let judged = with_stopped(alloc, setup, verdict, &logs, String::new(alloc));
     set.put_logs(logs);
-    with_stopped(alloc, setup, verdict, set, String::new(alloc))
+    judged
 }

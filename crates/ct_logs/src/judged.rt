@@ -1,10 +1,10 @@
 //! What logs come to, and where they stand.
 
-ghost use Rattle.std.specs.Prelude.{IfOk};
-ghost use Rattle.ct_merge.specs.Verdicts.{IfAccepted};
-ghost use Rattle.ct_logs.specs.Merged.{IsSomeMerge};
+ghost use Rattle.std.specs.Prelude.{◌≡◌, IfErr, IfOk, IfSome};
+ghost use Rattle.ct_world.specs.Setup.{setting_of};
+ghost use Rattle.ct_merge.specs.Standstills.{AreStopped};
+ghost use Rattle.ct_logs.specs.Silence.{IsSilent};
 
-use crate::log_set::LogSet;
 use crate::merge_fault::MergeFault;
 use ct_merge::{LogLine, StoppedLines, Verdict, stopped};
 use ct_play::LineFault;
@@ -21,19 +21,19 @@ pub(crate) struct Judged {
     pub presumed: String,
 }
 
-// What the logs in the set come to that come to this verdict, with the lines at which they stand, and this told of lines that are
-// presumed.
+// What logs come to that come to this verdict, with the lines at which they stand, and this told of lines that are presumed.
 pub(crate) fn with_stopped(
     alloc: Global,
     setup: Setup,
     verdict: Verdict,
-    set: &LogSet,
+    logs: &[Vec<LogLine>],
     presumed: String,
 ) -> Result<Judged, MergeFault>
-    requires { IfAccepted verdict IsSomeMerge }
-    ensures { IfOk result (λ judged. IfAccepted judged.verdict IsSomeMerge) }
+    ensures verdict { IfOk result (λ judged. judged.verdict ≡ verdict) }
+    ensures stopped { IfOk result (λ judged. IfSome judged.stopped (AreStopped (setting_of setup) setup.cells logs.now)) }
+    ensures fault { IfErr result IsSilent }
 {
-    match stopped_of(alloc, setup, &verdict, set.logs(setup.group.n())) {
+    match stopped_of(alloc, setup, &verdict, logs) {
         Ok(stopped) => Ok(Judged {
             verdict,
             stopped,
@@ -53,7 +53,9 @@ fn stopped_of(
     setup: Setup,
     verdict: &Verdict,
     logs: &[Vec<LogLine>],
-) -> Result<Option<StoppedLines>, LineFault> {
+) -> Result<Option<StoppedLines>, LineFault>
+    ensures { IfOk result (λ stopped. IfSome stopped (AreStopped (setting_of setup) setup.cells logs.now)) }
+{
     match verdict {
         Verdict::Accepted(_) => Ok(None),
         _ => Ok(Some(stopped(alloc, setup, logs)?)),

@@ -1,15 +1,25 @@
 //! The logs of a group.
 
-ghost use Rattle.std.specs.Prelude.{◌≡◌, ◌≤◌, IfOk, length};
+ghost use Rattle.std.specs.Prelude.{◌≡◌, ◌≢◌, ◌≤◌, ℕ, IfErr, IfOk, IfSome, OnOk, Some, None, length, map, take, true, false, ◌+◌, ◌<◌};
+ghost use Rattle.ct_names.specs.declared.limit.TheConstants.{MAX_MEMBERS};
+ghost use Rattle.ct_merge.specs.Expected.{expected_of};
+ghost use Rattle.ct_merge.specs.Logs.{log_of};
+ghost use Rattle.ct_merge.specs.Proposers.{line_in};
+ghost use Rattle.ct_logs.specs.Files.{texts_of};
+ghost use Rattle.ct_logs.specs.Groups.{AreNoLogs};
+ghost use Rattle.ct_logs.specs.Silence.{IsNoLogs};
+ghost use Rattle.ct_logs.specs.Owners.{Said, said_in, said_of};
+ghost use Rattle.ct_logs.specs.Sets.{AreJoined, CanTake, Claims, HasTaken, IsBare, IsFiled, IsOpen, IsSetupOf, Takes, file_in, slot};
 
 use crate::group_numbers::GroupNumbers;
+use crate::log_reading::read_log;
 use crate::merge_fault::MergeFault;
-use crate::naming::{line_at, push_line};
-use crate::no_entry::push_no_entry;
-use ct_merge::{Expectations, LogFault, LogLine, LogText, NoEntry, Numbers};
+use crate::places::{name_all, no_expectations, no_files, no_lines, no_places, put_all, put_at};
+use ct_merge::{Expectations, LogLine, LogText, Numbers};
 use ct_names::{Group, MAX_MEMBERS, Member};
 use ct_world::Setup;
 use std::alloc::{AllocError, Global};
+use std::marker::Model;
 use std::mem;
 
 // The logs of members, each in its member's place.
@@ -27,13 +37,36 @@ pub(crate) struct LogSet {
     expected: Vec<Expectations>,
 }
 
+// Contracts see all but the numbers of lines.
+impl Model for LogSet {
+    ghost use Rattle.std.specs.Prelude.{◌≡◌, length};
+    ghost use Rattle.ct_names.specs.declared.limit.TheConstants.{MAX_MEMBERS};
+    ghost use Rattle.ct_logs.specs.Sets.{LogsSoFar};
+
+    ghost Value = { LogsSoFar };
+
+    ghost view = { λ s. record {
+      numbers = s.numbers;
+      last = s.last;
+      files = s.files.items;
+      logs = s.logs.items;
+      expected = s.expected.items;
+    } };
+
+    ghost invariant = { λ s. (length s.files.items ≡ MAX_MEMBERS) × (length s.logs.items ≡ MAX_MEMBERS)
+        × (length s.expected.items ≡ MAX_MEMBERS) };
+}
+
 impl LogSet {
     // The logs that the files of these names and texts have.
     pub(crate) fn read(
         alloc: Global,
         names: &[&str],
         texts: &[Vec<u8>],
-    ) -> Result<LogSet, MergeFault> {
+    ) -> Result<LogSet, MergeFault>
+        ensures ok { IfOk result (HasTaken (texts_of texts.now) (length texts.now)) }
+        ensures fault { IfErr result (IsNoLogs (AreNoLogs (texts_of texts.now))) }
+    {
         let mut set = LogSet::new(alloc)?;
         match set.take_all(alloc, names, texts) {
             Ok(()) => Ok(set),
@@ -50,67 +83,58 @@ impl LogSet {
         alloc: Global,
         names: &[&str],
         texts: &[Vec<u8>],
-    ) -> Result<(), MergeFault> {
+    ) -> Result<(), MergeFault>
+        requires { HasTaken (texts_of texts.now) 0 self.old }
+        ensures ok { OnOk result (HasTaken (texts_of texts.now) (length texts.now) self.new) }
+        ensures fault { IfErr result (IsNoLogs (AreNoLogs (texts_of texts.now))) }
+    {
         for (i, text) in texts.iter().enumerate() {
-            self.take(alloc, name_at(names, i), i, text)?;
+            match self.take(alloc, name_at(names, i), i, text) {
+                Ok(()) => {}
+                Err(fault) => return Err(fault),
+            }
         }
         Ok(())
     }
 
     // No log.
-    pub(crate) fn new(alloc: Global) -> Result<LogSet, AllocError> {
-        let mut set = LogSet {
+    pub(crate) fn new(alloc: Global) -> Result<LogSet, AllocError>
+        ensures numbers { IfOk result (λ s. s.numbers ≡ record { members = None; cells = None; batch = None }) }
+        ensures last { IfOk result (λ s. s.last ≡ 1) }
+        ensures files { IfOk result (λ s. (p i : ℕ) → IsFiled s p i → ⊥) }
+        ensures bare { IfOk result (λ s. (p : ℕ) → IsBare s p) }
+    {
+        let files = no_files(alloc)?;
+        let logs = no_lines(alloc)?;
+        let places = no_places(alloc)?;
+        let expected = no_expectations(alloc)?;
+        Ok(LogSet {
             numbers: GroupNumbers::new(),
             last: 1,
-            files: Vec::new(alloc),
-            logs: Vec::new(alloc),
-            places: Vec::new(alloc),
-            expected: Vec::new(alloc),
-        };
-        match set.add_all(alloc) {
-            Ok(()) => Ok(set),
-            Err(_) => {
-                drop(set);
-                Err(AllocError)
-            }
-        }
-    }
-
-    // As many members without a log as a group can have.
-    fn add_all(&mut self, alloc: Global) -> Result<(), AllocError> {
-        for _ in 0..MAX_MEMBERS {
-            self.add(alloc)?;
-        }
-        Ok(())
-    }
-
-    // One more member without a log.
-    fn add(&mut self, alloc: Global) -> Result<(), AllocError> {
-        if self.files.push(None).is_err()
-            || self.logs.push(Vec::new(alloc)).is_err()
-            || self.places.push(Vec::new(alloc)).is_err()
-            || self.expected.push(Expectations::new(alloc)).is_err()
-        {
-            return Err(AllocError);
-        }
-        Ok(())
+            files,
+            logs,
+            places,
+            expected,
+        })
     }
 
     // The logs of the first n members.
     pub(crate) fn logs(&self, n: u8) -> &[Vec<LogLine>]
-        ensures { length result.now ≤ n }
+        ensures { result.now ≡ take n self.now.logs }
     {
         match self.logs.get(..usize::from(n)) {
             Some(logs) => logs,
-            None => &[],
+            None => &self.logs,
         }
     }
 
     // What the logs of the first n members expect of them.
-    pub(crate) fn expected(&self, n: u8) -> &[Expectations] {
+    pub(crate) fn expected(&self, n: u8) -> &[Expectations]
+        ensures { result.now ≡ take n self.now.expected }
+    {
         match self.expected.get(..usize::from(n)) {
             Some(expected) => expected,
-            None => &[],
+            None => &self.expected,
         }
     }
 
@@ -121,7 +145,9 @@ impl LogSet {
     }
 
     // The place of the file of the member's log.
-    pub(crate) fn file(&self, member: Member) -> Option<usize> {
+    pub(crate) fn file(&self, member: Member) -> Option<usize>
+        ensures { 1 ≤ member → result ≡ file_in (slot self.now.files member) }
+    {
         let place = usize::from(member).checked_sub(1)?;
         self.files.get(place).copied()?
     }
@@ -147,9 +173,15 @@ impl LogSet {
         name: &str,
         file: usize,
         text: &[u8],
-    ) -> Result<(), MergeFault> {
+    ) -> Result<(), MergeFault>
+        ensures ok { OnOk result ((said : Said) × (said_in file text.now ≡ Some said) × Takes self.old file said self.new) }
+        ensures fault { IfErr result (IsNoLogs ((said : Said) → said_in file text.now ≡ Some said → CanTake self.old file said → ⊥)) }
+    {
         let position = position_of(alloc, name, file)?;
-        let mut log = read_log(alloc, name, position, text)?;
+        let mut log = match read_log(alloc, name, position, text) {
+            Ok(log) => log,
+            Err(fault) => return Err(fault),
+        };
         let taken = self.take_log(alloc, name, file, position, &mut log);
         drop(log);
         taken
@@ -163,7 +195,11 @@ impl LogSet {
         file: usize,
         position: Member,
         log: &mut LogText,
-    ) -> Result<(), MergeFault> {
+    ) -> Result<(), MergeFault>
+        requires { file < MAX_MEMBERS }
+        ensures ok { OnOk result (Takes self.old file (said_of position log.old) self.new) }
+        ensures fault { IfErr result (IsNoLogs (CanTake self.old file (said_of position log.old) → ⊥)) }
+    {
         let (member, numbers, lines, places) = log.take_parts(alloc);
         let member = member.unwrap_or(position);
         match self.claim_numbered(alloc, name, file, member, numbers) {
@@ -188,7 +224,13 @@ impl LogSet {
         file: usize,
         member: Member,
         numbers: Numbers,
-    ) -> Result<(), MergeFault> {
+    ) -> Result<(), MergeFault>
+        ensures ok { OnOk result (Claims self.old file member self.new) }
+        ensures numbers { OnOk result (AreJoined self.old.numbers numbers self.new.numbers) }
+        ensures rest { self.new ≡ record self.old { numbers = self.new.numbers; last = self.new.last; files = self.new.files } }
+        ensures fault { IfErr result (IsNoLogs ((new : GroupNumbers) → AreJoined self.old.numbers numbers new →
+            IsOpen self.old.files file member → ⊥)) }
+    {
         self.number_group(alloc, name, numbers)?;
         self.claim(alloc, name, file, member)
     }
@@ -199,7 +241,11 @@ impl LogSet {
         alloc: Global,
         name: &str,
         numbers: Numbers,
-    ) -> Result<(), MergeFault> {
+    ) -> Result<(), MergeFault>
+        ensures ok { OnOk result (AreJoined self.old.numbers numbers self.new.numbers) }
+        ensures rest { self.new ≡ record self.old { numbers = self.new.numbers } }
+        ensures fault { IfErr result (IsNoLogs ((new : GroupNumbers) → AreJoined self.old.numbers numbers new → ⊥)) }
+    {
         self.numbers = self.numbers.with(alloc, name, numbers)?;
         Ok(())
     }
@@ -211,48 +257,64 @@ impl LogSet {
         name: &str,
         file: usize,
         member: Member,
-    ) -> Result<(), MergeFault> {
-        if self.file(member).is_some_and(|other| other != file) {
+    ) -> Result<(), MergeFault>
+        ensures ok { OnOk result (Claims self.old file member self.new) }
+        ensures rest { self.new ≡ record self.old { last = self.new.last; files = self.new.files } }
+        ensures fault { IfErr result (IsNoLogs (IsOpen self.old.files file member → ⊥)) }
+    {
+        if member < 1 || MAX_MEMBERS < member {
+            let told = format!(in alloc;
+                "{name}: member {member}'s log, and members are 1 to {MAX_MEMBERS}"
+            )?;
+            return Err(MergeFault::NoLogs(told));
+        }
+        if self.is_elsewhere(file, member) {
             let told = format!(in alloc;
                 "{name}: member {member}'s log, as a file before it; one that names no member is read as that of its place"
             )?;
             return Err(MergeFault::NoLogs(told));
         }
         self.last = self.last.max(member);
-        if let Some(kept) = self.files.get_mut(usize::from(member).saturating_sub(1)) {
-            *kept = Some(file);
-        }
+        put_at(&mut self.files, member, Some(file));
         Ok(())
     }
 
+    // Whether the member's log is in another file than the one at this place.
+    fn is_elsewhere(&self, file: usize, member: Member) -> bool
+        requires { 1 ≤ member }
+        ensures yes { result ≡ true → ((other : ℕ) → slot self.now.files member ≡ Some (Some other) → other ≡ file) → ⊥ }
+        ensures no { result ≡ false → (other : ℕ) → slot self.now.files member ≡ Some (Some other) → other ≡ file }
+    {
+        match self.file(member) {
+            Some(other) => other != file,
+            None => false,
+        }
+    }
+
     // Puts the member's log in its place.
-    fn put(&mut self, member: Member, lines: Vec<LogLine>, places: Vec<usize>) {
-        let at = usize::from(member).saturating_sub(1);
-        if let Some(kept) = self.logs.get_mut(at) {
-            *kept = lines;
-        }
-        if let Some(kept) = self.places.get_mut(at) {
-            *kept = places;
-        }
+    fn put(&mut self, member: Member, lines: Vec<LogLine>, places: Vec<usize>)
+        ensures here { 1 ≤ member → member ≤ MAX_MEMBERS → log_of self.new.logs member ≡ lines.items }
+        ensures others { 1 ≤ member → (q : ℕ) → 1 ≤ q → q ≢ member → log_of self.new.logs q ≡ log_of self.old.logs q }
+        ensures rest { self.new ≡ record self.old { logs = self.new.logs } }
+    {
+        put_at(&mut self.logs, member, lines);
+        put_at(&mut self.places, member, places);
     }
 
     // Puts the logs in their places, member 1's first.
-    pub(crate) fn put_logs(&mut self, logs: Vec<Vec<LogLine>>) {
-        let mut at: usize = 0;
-        for log in logs {
-            if let Some(kept) = self.logs.get_mut(at) {
-                *kept = log;
-            }
-            at = at.saturating_add(1);
-        }
+    pub(crate) fn put_logs(&mut self, logs: Vec<Vec<LogLine>>)
+        ensures { self.new ≡ record self.old { logs = self.new.logs } }
+    {
+        put_all(&mut self.logs, logs);
     }
 
     // Puts what the member's log expects in its place.
-    pub(crate) fn put_expected(&mut self, member: Member, expected: Expectations) {
-        let at = usize::from(member).saturating_sub(1);
-        if let Some(kept) = self.expected.get_mut(at) {
-            *kept = expected;
-        }
+    pub(crate) fn put_expected(&mut self, member: Member, expected: Expectations)
+        ensures here { 1 ≤ member → member ≤ MAX_MEMBERS → expected_of self.new.expected member ≡ expected.list }
+        ensures others { 1 ≤ member → (q : ℕ) → 1 ≤ q → q ≢ member → expected_of self.new.expected q ≡ expected_of self.old.expected q }
+        ensures rest { self.new ≡ record self.old { expected = self.new.expected } }
+    {
+        put_at(&mut self.expected, member, expected);
     }
 
     // The member's log goes on with lines that have these numbers in its file.
@@ -292,30 +354,23 @@ impl LogSet {
         alloc: Global,
         n: u8,
     ) -> Result<Vec<Vec<LogLine>>, AllocError>
-        ensures { IfOk result (λ logs. length logs.items ≡ n) }
+        requires { n ≤ MAX_MEMBERS }
+        ensures logs { IfOk result (λ logs. logs.items ≡ take n self.old.logs) }
+        ensures count { IfOk result (λ logs. length logs.items ≡ n) }
+        ensures rest { self.new ≡ record self.old { logs = self.new.logs } }
     {
-        let mut logs = Vec::new(alloc);
-        for i in 0..n {
-            logs.push(self.take_lines(alloc, i + 1))?;
-        }
+        let bare = no_lines(alloc)?;
+        let mut logs = mem::replace(&mut self.logs, bare);
+        logs.truncate(usize::from(n));
         Ok(logs)
     }
 
-    // The lines of the member's log, which has none from here on.
-    fn take_lines(&mut self, alloc: Global, member: Member) -> Vec<LogLine> {
-        match self.logs.get_mut(usize::from(member).saturating_sub(1)) {
-            Some(kept) => mem::replace(kept, Vec::new(alloc)),
-            None => Vec::new(alloc),
-        }
-    }
-
     // Names the senders of proposals that are named without, as it is in this group.
-    pub(crate) fn name_senders(&mut self, group: Group) {
-        for log in &mut self.logs {
-            for line in log {
-                line.name_sender(group);
-            }
-        }
+    pub(crate) fn name_senders(&mut self, group: Group)
+        ensures lines { (p : ℕ) → log_of self.new.logs p ≡ map (line_in group) (log_of self.old.logs p) }
+        ensures rest { self.new ≡ record self.old { logs = self.new.logs } }
+    {
+        name_all(&mut self.logs, group);
     }
 
     // The numbers of the group are settled: those that no log gives are the usual ones.
@@ -324,7 +379,10 @@ impl LogSet {
     }
 
     // What a world of the group is made with, where the logs are of its members.
-    pub(crate) fn setup(&self, alloc: Global, names: &[&str]) -> Result<Setup, MergeFault> {
+    pub(crate) fn setup(&self, alloc: Global, names: &[&str]) -> Result<Setup, MergeFault>
+        ensures ok { IfOk result (IsSetupOf self.now) }
+        ensures fault { IfErr result (IsNoLogs ((setup : Setup) → IsSetupOf self.now setup → ⊥)) }
+    {
         let Some(setup) = self.numbers.setup(self.last) else {
             return Err(MergeFault::NoLogs(String::from_str(alloc, "no logs")?));
         };
@@ -338,8 +396,12 @@ impl LogSet {
     }
 }
 
-// The member whose log the file at this place is, where its acts don't say whose it is.
-pub(crate) fn position_of(alloc: Global, name: &str, file: usize) -> Result<Member, MergeFault> {
+// The member whose log the file at this place is, where its lines don't say whose it is.
+pub(crate) fn position_of(alloc: Global, name: &str, file: usize) -> Result<Member, MergeFault>
+    ensures ok { IfOk result (λ member. member ≡ file + 1) }
+    ensures few { OnOk result (file < MAX_MEMBERS) }
+    ensures fault { IfErr result (IsNoLogs (MAX_MEMBERS ≤ file)) }
+{
     match member_at(file) {
         Some(member) => Ok(member),
         None => {
@@ -350,7 +412,11 @@ pub(crate) fn position_of(alloc: Global, name: &str, file: usize) -> Result<Memb
 }
 
 // The member of this place, where there is one.
-fn member_at(place: usize) -> Option<Member> {
+fn member_at(place: usize) -> Option<Member>
+    ensures some { IfSome result (λ member. member ≡ place + 1) }
+    ensures few { IfSome result (λ member. place < MAX_MEMBERS) }
+    ensures none { result ≡ None → MAX_MEMBERS ≤ place }
+{
     if place < usize::from(MAX_MEMBERS) {
         Some((place as u8).saturating_add(1))
     } else {
@@ -364,49 +430,4 @@ pub(crate) fn name_at<'a>(names: &[&'a str], place: usize) -> &'a str {
         Some(name) => name,
         None => "",
     }
-}
-
-// The log of the text; the member's where its acts don't say whose it is.
-fn read_log(alloc: Global, name: &str, member: Member, text: &[u8]) -> Result<LogText, MergeFault> {
-    refuse_record(alloc, name, text)?;
-    match LogText::read(alloc, member, text) {
-        Ok(log) => Ok(log),
-        Err(fault) => Err(fault_of(alloc, name, text, fault)),
-    }
-}
-
-// A record is no log.
-pub(crate) fn refuse_record(alloc: Global, name: &str, text: &[u8]) -> Result<(), MergeFault> {
-    match text {
-        [b'{', ..] => {
-            let told = format!(in alloc; "{name}: this is a record, not the log of a member")?;
-            Err(MergeFault::NoLogs(told))
-        }
-        _ => Ok(()),
-    }
-}
-
-// What is told of a text that is no log.
-pub(crate) fn fault_of(alloc: Global, name: &str, text: &[u8], fault: LogFault) -> MergeFault {
-    match fault {
-        LogFault::Line(at, why) => match unread(alloc, name, at, line_at(text, at), &why) {
-            Ok(told) => MergeFault::NoLogs(told),
-            Err(_) => MergeFault::Memory,
-        },
-        LogFault::Memory => MergeFault::Memory,
-    }
-}
-
-// What is told of a line that does not stand in a log.
-fn unread(
-    alloc: Global,
-    name: &str,
-    at: usize,
-    line: &[u8],
-    why: &NoEntry,
-) -> Result<String, AllocError> {
-    let mut text = String::new(alloc);
-    push_line(&mut text, name, at, line)?;
-    push_no_entry(&mut text, why)?;
-    Ok(text)
 }

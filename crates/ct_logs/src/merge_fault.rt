@@ -81,6 +81,10 @@ impl From<AllocError> for MergeFault {
 
 // Memory or the board was refused.
 impl From<LineFault> for MergeFault {
+    ghost use Rattle.ct_logs.specs.Silence.{IsSilent};
+
+    ghost from_gives = { λ _ fault. IsSilent fault };
+
     fn from(fault: LineFault) -> MergeFault {
         match fault {
             LineFault::Board => MergeFault::Board,

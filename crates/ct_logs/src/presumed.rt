@@ -1,8 +1,13 @@
 //! Logs whose ends are presumed.
 
-ghost use Rattle.std.specs.Prelude.{IfOk};
-ghost use Rattle.ct_merge.specs.Verdicts.{IfAccepted};
-ghost use Rattle.ct_logs.specs.Merged.{IsSomeMerge};
+ghost use Rattle.std.specs.Prelude.{◌≡◌, true, IfErr, IfOk, IfSome, List};
+ghost use Rattle.std.specs.Global.{Vec};
+ghost use Rattle.ct_world.specs.Setup.{setting_of};
+ghost use Rattle.ct_merge.specs.Standstills.{AreStopped};
+ghost use Rattle.ct_merge.specs.declared.log_line.LogLine.{LogLine};
+ghost use Rattle.ct_logs.specs.Judging.{IsJudged, logs_in};
+ghost use Rattle.ct_logs.specs.Sets.{AreFirstLines};
+ghost use Rattle.ct_logs.specs.Silence.{IsSilent};
 
 use crate::judged::{Judged, with_stopped};
 use crate::log_set::LogSet;
@@ -18,7 +23,9 @@ pub(crate) fn presumed_of(
     setup: Setup,
     set: &mut LogSet,
 ) -> Result<Judged, MergeFault>
-    ensures { IfOk result (λ judged. IfAccepted judged.verdict IsSomeMerge) }
+    ensures ok { IfOk result (IsJudged true (logs_in setup set.old)) }
+    ensures expected { set.new.expected ≡ set.old.expected }
+    ensures fault { IfErr result IsSilent }
 {
     let logs = set.take_logs(alloc, setup.group.n())?;
     let same = setup;
@@ -34,15 +41,34 @@ fn with_lines(
     verdict: Verdict,
     logs: Vec<Vec<LogLine>>,
 ) -> Result<Judged, MergeFault>
-    requires { IfAccepted verdict IsSomeMerge }
-    ensures { IfOk result (λ judged. IfAccepted judged.verdict IsSomeMerge) }
+    ensures verdict { IfOk result (λ judged. judged.verdict ≡ verdict) }
+    ensures stopped { IfOk result (λ judged. IfSome judged.stopped (λ lines.
+        (first : List (Vec LogLine)) × AreFirstLines first logs.items × AreStopped (setting_of setup) setup.cells first lines)) }
+    ensures expected { set.new.expected ≡ set.old.expected }
+    ensures fault { IfErr result IsSilent }
 {
     let mut logs = logs;
     let lines = lines_beside(alloc, set, &logs);
-    cut_as_read(set, &mut logs);
+    cut_all(set, &mut logs);
+    let judged = with_told(alloc, setup, verdict, &logs, lines);
     set.put_logs(logs);
+    judged
+}
+
+// The same, with this told of the lines that were not read.
+fn with_told(
+    alloc: Global,
+    setup: Setup,
+    verdict: Verdict,
+    logs: &[Vec<LogLine>],
+    lines: Result<String, AllocError>,
+) -> Result<Judged, MergeFault>
+    ensures verdict { IfOk result (λ judged. judged.verdict ≡ verdict) }
+    ensures stopped { IfOk result (λ judged. IfSome judged.stopped (AreStopped (setting_of setup) setup.cells logs.now)) }
+    ensures fault { IfErr result IsSilent }
+{
     match lines {
-        Ok(lines) => with_stopped(alloc, setup, verdict, set, lines),
+        Ok(lines) => with_stopped(alloc, setup, verdict, logs, lines),
         Err(_) => {
             drop(verdict);
             Err(MergeFault::Memory)
@@ -51,11 +77,17 @@ fn with_lines(
 }
 
 // The logs have the lines that were read alone.
-fn cut_as_read(set: &LogSet, logs: &mut [Vec<LogLine>]) {
+fn cut_all(set: &LogSet, logs: &mut Vec<Vec<LogLine>>)
+    ensures { AreFirstLines logs.new.items logs.old.items }
+{
+    cut_as_read(set, logs);
+}
+
+fn cut_as_read(set: &LogSet, logs: &mut [Vec<LogLine>])
+    ensures { AreFirstLines logs.new logs.old }
+{
     for place in 0..logs.len() {
-        if let Some(log) = logs.get_mut(place) {
-            log.truncate(set.count(place));
-        }
+        logs[place].truncate(set.count(place));
     }
 }
 

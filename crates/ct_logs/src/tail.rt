@@ -4,10 +4,11 @@ ghost use Rattle.std.specs.Prelude.{◌≡◌, IfOk, IfSome};
 ghost use Rattle.std.proofs.Props.{props};
 ghost use Rattle.std.specs.Io.{ReadsAtMost};
 
-use crate::log_set::{fault_of, refuse_record};
+use crate::log_reading::{fault_of, refuse_record};
 use crate::merge_fault::MergeFault;
+use crate::naming::{line_at, push_line};
 use ct_judge::MAX_LEN;
-use ct_merge::{Expectations, LogAct, LogFault, LogLine, LogText, Numbers};
+use ct_merge::{Expectations, LogAct, LogFault, LogLine, LogText, NoEntry, Numbers};
 use ct_names::Member;
 use ct_streams::{Failed, Source};
 use std::alloc::{AllocError, Global};
@@ -82,7 +83,7 @@ impl<R: Source + Drop> Tail<R> {
         refuse_record(alloc, name, &self.text)?;
         match read_lines(alloc, &mut self.log, self.position, &self.text, self.over) {
             Ok(over) => self.over = over,
-            Err(fault) => return Err(fault_of(alloc, name, &self.text, fault)),
+            Err(fault) => return Err(grown_fault(alloc, name, &self.text, fault)),
         }
         let (member, numbers, lines, places) = self.log.take_parts(alloc);
         self.member = member;
@@ -123,6 +124,36 @@ fn read_lines(
     }
     log.read_on(alloc, member, lines)?;
     Ok(over.saturating_add(lines.len()))
+}
+
+// What is told of a text that is no log, and grows.
+fn grown_fault(alloc: Global, name: &str, text: &[u8], fault: LogFault) -> MergeFault {
+    match fault {
+        LogFault::Line(at, NoEntry::Other(member)) => {
+            match other(alloc, name, at, line_at(text, at), member) {
+                Ok(told) => MergeFault::NoLogs(told),
+                Err(_) => MergeFault::Memory,
+            }
+        }
+        fault => fault_of(alloc, name, text, fault),
+    }
+}
+
+// What is told of a line of this member's, in the log of another.
+fn other(
+    alloc: Global,
+    name: &str,
+    at: usize,
+    line: &[u8],
+    member: Member,
+) -> Result<String, AllocError> {
+    let mut text = String::new(alloc);
+    push_line(&mut text, name, at, line)?;
+    write!(
+        text,
+        "member {member}'s, in the log of another: the first act of a log that is followed says whose it is"
+    )?;
+    Ok(text)
 }
 
 // The text up to its last line feed.

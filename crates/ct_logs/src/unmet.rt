@@ -1,10 +1,12 @@
 //! Expectations that do not hold.
 
-ghost use Rattle.std.specs.Prelude.{IsTrue};
+ghost use Rattle.std.specs.Prelude.{◌≡◌, [], All, IfErr, IfOk, IfSome, IsTrue, None, Ok, false, take};
 ghost use Rattle.ct_names.specs.Group.{is_member};
+ghost use Rattle.ct_logs.specs.Judging.{AreMet, IsUnmetRun};
+ghost use Rattle.ct_logs.specs.Silence.{IsSilent};
 
 use crate::merge_fault::MergeFault;
-use crate::setup::setup_of;
+use crate::setup::{lawful, setup_of};
 use crate::sources::Sources;
 use crate::torn::push_torn;
 use ct_grammar::{Claim, Goal, Whom};
@@ -20,11 +22,17 @@ pub(crate) fn unmet_text(
     alloc: Global,
     sources: Sources<'_>,
     world: &World,
-) -> Result<Option<String>, MergeFault> {
+) -> Result<Option<String>, MergeFault>
+    ensures some { IfOk result (λ told. IfSome told (λ text. IsUnmetRun world.now.rehearsal sources.entry.set.now.expected)) }
+    ensures none { result ≡ Ok None →
+        AreMet world.now.rehearsal (take world.now.rehearsal.setting.members sources.entry.set.now.expected) }
+    ensures fault { IfErr result IsSilent }
+{
     let expected = sources.set.expected(world.group().n());
     if !expects_some(expected) {
         return Ok(None);
     }
+    lawful(world);
     let Some(unmet) = first_unmet(alloc, setup_of(world), world.record(), expected)? else {
         return Ok(None);
     };
@@ -34,10 +42,15 @@ pub(crate) fn unmet_text(
 }
 
 // Whether one of the logs expects something.
-fn expects_some(expected: &[Expectations]) -> bool {
-    expected
-        .iter()
-        .any(|expectations| !expectations.list().is_empty())
+fn expects_some(expected: &[Expectations]) -> bool
+    ensures { result ≡ false → All (λ e. e.list ≡ []) expected.now }
+{
+    for expectations in expected {
+        if !expectations.list().is_empty() {
+            return true;
+        }
+    }
+    false
 }
 
 // The line of the expectation, and why it does not hold.
