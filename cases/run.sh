@@ -426,7 +426,14 @@ check_long_texts() {
 # has_lines FILE WORDS..: whether the diagram of the input has the lines of FILE, in their order.
 has_lines() { "$tool" diagram "${@:2}" <"$folder/input" | grep -Fxf "$1" | cmp -s - "$1"; }
 
-# check_drawn: diagrams have these lines, and of members or kinds of steps that are not asked for nothing.
+# notes_outside: the notes of a diagram that pass its edges, where a letter is 4.3 units wide; or that there are none.
+notes_outside() {
+    awk -F "'" '/^<svg / { wide = $4 }
+        /^<text class=.note/ { notes++; reach = 4.3 * (length($NF) - length("></text>")); if ($2 == "note" ? $4 + reach > wide : $4 < reach) print $NF }
+        END { if (!notes) print "none is there" }'
+}
+
+# check_drawn: diagrams have these lines, and of members or kinds of steps that are not asked for nothing; notes stay inside.
 check_drawn() {
     local wrong='' drawn
     record 1 1 0 '["receive",1,1]' >"$folder/input"
@@ -438,6 +445,12 @@ check_drawn() {
     [[ $drawn != *'step 4, member 2'* && $drawn != *'sent by 2 to 2'* ]] || wrong+=" another member's steps are there;"
     drawn=$("$tool" diagram --only consensus <"$folder/input")
     [[ $drawn == *'member 2'* && $drawn != *'<title>'* ]] || wrong+=" steps of messages are there;"
+    record 2 1 0 '["receive",1,1],["receive",2,2],["receive",2,4],["receive",1,3]' >"$folder/input"
+    "$tool" diagram --member 2 <"$folder/input" | grep -q "^<path class='data late' .*<title>#3 Data 1.1, sent by 2 to 1 in step 3;" ||
+        wrong+=" an arrow to a member that is left out is not pale, though its receipt changes nothing;"
+    "$tool" walk --members 5 --seed 2 --turns 400 --rate 32 --crash 2 >"$folder/input"
+    drawn=$("$tool" diagram --to 300 <"$folder/input" | notes_outside)
+    [[ $drawn == '' ]] || wrong+=" notes are cut off: $drawn;"
     tally 'drawn lines' "$wrong"
 }
 

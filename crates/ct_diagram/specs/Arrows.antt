@@ -1,5 +1,5 @@
 -- An arrow for each envelope that is received or lost, and the beginning of one for each other.
-use Rattle.std.specs.Prelude.{ℕ, zero, suc, ◌+◌, ◌-◌, if◌then◌else◌, List, [], ◌∷◌, ◌++◌, length}
+use Rattle.std.specs.Prelude.{ℕ, zero, suc, ◌+◌, ◌-◌, Bool, if◌then◌else◌, List, [], ◌∷◌, ◌++◌, length}
 use Rattle.std.specs.Prelude.{codes, decimal, Option, Some, None, unwrap_or}
 use Rattle.std.specs.List.{concat}
 use Rattle.ct_model.specs.Actor.{actor}
@@ -13,8 +13,6 @@ use Rattle.ct_model.specs.State.{at_serial}
 use Rattle.ct_show.specs.Wires.{letter_at, serial_text}
 use Rattle.ct_diagram.specs.declared.drawn.Drawn.{Drawn}
 use Rattle.ct_diagram.specs.declared.grid.Grid.{Grid}
-use Rattle.ct_diagram.specs.declared.sight.Sight.{Sight}
-use Rattle.ct_diagram.specs.declared.sight.Sight.TheVariants.{Small}
 use Rattle.ct_diagram.specs.declared.window.Window.{Window}
 use Rattle.ct_diagram.specs.Grid.{spot_of}
 use Rattle.ct_diagram.specs.Routes.{route_text, stub_text}
@@ -73,10 +71,9 @@ begun_text first (Some d) = begun_in d
 -- ---- where it ends: at the step that takes it out of its line
 
 -- how the arrow looks besides: it ends at what is lost, or at a receipt that changes nothing
-abbrev pub end_class : Step → Sight → List ℕ
-end_class (Lose p k) sight = codes " lost"
-end_class step Small = codes " late"
-end_class step sight = []
+abbrev pub end_class : Step → Bool → List ℕ
+end_class (Lose p k) quiet = codes " lost"
+end_class step quiet = if quiet then codes " late" else []
 
 abbrev pub end_word : Step → List ℕ
 end_word (Lose p k) = codes "lost"
@@ -97,7 +94,7 @@ way_text w window sender begun to place = route_text (grid_of w window) (begun_a
 -- of the envelope of serial k
 unfoldable pub arrow_text : Rehearsal → Window → ℕ → Option Drawn → Drawn → ℕ → Envelope (Unit {0}) → List ℕ
 arrow_text w window sender begun drawn k e =
-    concat (opening_text (kind_of e.wire) (end_class drawn.step drawn.sight) ∷ way_text w window sender begun e.to drawn.place
+    concat (opening_text (kind_of e.wire) (end_class drawn.step drawn.is_quiet) ∷ way_text w window sender begun e.to drawn.place
     ∷ who_text w k sender e.to ∷ begun_text window.from begun ∷ end_text drawn ∷ [])
 
 -- the envelope of serial k, where it is asked for, with the member whose step sent it

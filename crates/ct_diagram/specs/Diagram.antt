@@ -22,7 +22,7 @@ use Rattle.ct_diagram.specs.Frame.{head_text, rows_text, foot_text}
 use Rattle.ct_diagram.specs.Grid.{row_of}
 use Rattle.ct_diagram.specs.Marks.{marks}
 use Rattle.ct_diagram.specs.Shades.{shades}
-use Rattle.ct_diagram.specs.Sight.{glance_of, sight_of}
+use Rattle.ct_diagram.specs.Sight.{glance_of, is_quiet, sight_of}
 use Rattle.ct_diagram.specs.Trail.{place_after}
 use Rattle.ct_diagram.specs.Window.{is_drawn, part_of, steps_in}
 
@@ -35,8 +35,9 @@ drawn_after window w trail before number step seen = record {
   before = before;
   sent = length (state_of w).sent;
   step = step;
-  sight = sight_of window w seen before step;
-  place = place_after trail (sight_of window w seen before step);
+  is_quiet = is_quiet w seen before step;
+  sight = sight_of window w (is_quiet w seen before step) step;
+  place = place_after trail (sight_of window w (is_quiet w seen before step) step);
 }
 
 -- the same, where the window has it

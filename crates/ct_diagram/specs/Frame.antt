@@ -1,10 +1,10 @@
 -- What stands around the steps: how things look, the members' lines, and what the signs mean. The columns end at a place.
-use Rattle.std.specs.Prelude.{ℕ, zero, suc, ◌+◌, ◌*◌, ◌/◌, nat_lt, if◌then◌else◌, List, [], ◌∷◌, ◌++◌, codes, decimal}
+use Rattle.std.specs.Prelude.{ℕ, zero, suc, ◌+◌, ◌*◌, ◌/◌, max, nat_lt, if◌then◌else◌, List, [], ◌∷◌, ◌++◌, codes, decimal}
 use Rattle.std.specs.List.{concat}
 use Rattle.ct_show.specs.declared.details.TheConstants.{LETTERS, OTHER_LETTERS}
 use Rattle.ct_diagram.specs.declared.frame.TheConstants.{STYLE, LINES, SHADES}
 use Rattle.ct_diagram.specs.declared.grid.Grid.{Grid}
-use Rattle.ct_diagram.specs.declared.grid.TheConstants.{COLUMN, LEFT}
+use Rattle.ct_diagram.specs.declared.grid.TheConstants.{COLUMN, LEAST_WIDTH, LEFT}
 use Rattle.ct_diagram.specs.Grid.{height, lane, right_of, row_of, top_of, within}
 
 -- where the lines of a row end
@@ -13,7 +13,7 @@ row_end g end row = if nat_lt row (row_of g end) then right_of g else LEFT + COL
 
 -- room for the columns, and for what the signs mean
 abbrev pub width : Grid → ℕ → ℕ
-width g end = let wide = row_end g end 0 + 30 in if nat_lt wide 660 then 660 else wide
+width g end = max (row_end g end 0 + 30) LEAST_WIDTH
 
 -- how low what the signs mean begins, below all rows
 abbrev pub low : Grid → ℕ → ℕ

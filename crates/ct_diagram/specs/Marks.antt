@@ -1,5 +1,5 @@
 -- A mark for each step.
-use Rattle.std.specs.Prelude.{ℕ, ◌+◌, ◌-◌, ◌==◌, if◌then◌else◌, List, [], ◌∷◌, ◌++◌, length, codes, decimal}
+use Rattle.std.specs.Prelude.{ℕ, ◌+◌, ◌-◌, ◌==◌, nat_lt, if◌then◌else◌, List, [], ◌∷◌, ◌++◌, length, codes, decimal}
 use Rattle.std.specs.Prelude.{Option, Some, None}
 use Rattle.std.specs.List.{concat}
 use Rattle.ct_model.specs.Actor.{actor}
@@ -15,6 +15,7 @@ use Rattle.ct_diagram.specs.Arrows.{kind_of}
 use Rattle.ct_diagram.specs.declared.drawn.Drawn.{Drawn}
 use Rattle.ct_diagram.specs.declared.grid.Grid.{Grid}
 use Rattle.ct_diagram.specs.declared.grid.Spot.{Spot}
+use Rattle.ct_diagram.specs.declared.grid.TheConstants.{MIDDLE}
 use Rattle.ct_diagram.specs.declared.sight.Sight.{Sight}
 use Rattle.ct_diagram.specs.declared.sight.Sight.TheVariants.{Wide, Small, Hidden}
 use Rattle.ct_diagram.specs.Grid.{spot_of}
@@ -76,10 +77,12 @@ entered_text w p spot =
     concat (codes "<text class='round' x='" ∷ decimal spot.x ∷ codes "' y='" ∷ decimal (spot.y - 20) ∷ codes "'>"
     ∷ round_text (instance_of w p) (round_of w p) ∷ codes "</text>\n" ∷ [])
 
--- a text begins here, which falls to the right
+-- a text begins here, which falls to the right; right of the middle it ends here, and falls to the left
 unfoldable pub falling_text : ℕ → ℕ → List ℕ
 falling_text x y =
-    concat (codes "<text class='note' x='" ∷ decimal x ∷ codes "' y='" ∷ decimal y ∷ codes "' transform='rotate(18 " ∷ decimal x
+    if nat_lt MIDDLE x then concat (codes "<text class='note left' x='" ∷ decimal x ∷ codes "' y='" ∷ decimal y
+    ∷ codes "' transform='rotate(-18 " ∷ decimal x ∷ codes " " ∷ decimal y ∷ codes ")'>" ∷ [])
+    else concat (codes "<text class='note' x='" ∷ decimal x ∷ codes "' y='" ∷ decimal y ∷ codes "' transform='rotate(18 " ∷ decimal x
     ∷ codes " " ∷ decimal y ∷ codes ")'>" ∷ [])
 
 unfoldable pub changed_text : Rehearsal → ℕ → Spot → List ℕ

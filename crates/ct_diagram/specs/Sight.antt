@@ -91,9 +91,8 @@ abbrev pub is_asked : Window → Rehearsal → Step → Bool
 is_asked window w step = has_named window.members (actor step) && (not window.consensus || is_consensus w step)
 
 -- in a column of its own; as a small mark, where it changes nothing; not at all, where it isn't asked for
-abbrev pub sight_of : Window → Rehearsal → Glance → ℕ → Step → Sight
-sight_of window w glance before step =
-    if not (is_asked window w step) then Hidden else (if is_quiet w glance before step then Small else Wide)
+abbrev pub sight_of : Window → Rehearsal → Bool → Step → Sight
+sight_of window w quiet step = if not (is_asked window w step) then Hidden else (if quiet then Small else Wide)
 
 -- it has a column of its own
 abbrev pub is_wide : Sight → Bool

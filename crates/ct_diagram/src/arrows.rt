@@ -11,7 +11,6 @@ ghost use Rattle.ct_diagram.specs.Trail.{returned, taken};
 use crate::drawn::Drawn;
 use crate::grid::Grid;
 use crate::routes::{push_route, push_stub};
-use crate::sight::Sight;
 use crate::trail::{is_taken, origin, returned, taken};
 use crate::window::Window;
 use ct_model::Step;
@@ -225,11 +224,11 @@ fn end_word(step: Step) -> &'static str
 
 // How an arrow that ends at the step looks besides.
 fn end_class(drawn: Drawn) -> &'static str
-    ensures { result.now ≡ end_class drawn.step drawn.sight }
+    ensures { result.now ≡ end_class drawn.step drawn.is_quiet }
 {
-    match (drawn.step, drawn.sight) {
-        (Step::Lose(_, _), _) => " lost",
-        (_, Sight::Small) => " late",
+    match drawn.step {
+        Step::Lose(_, _) => " lost",
+        _ if drawn.is_quiet => " late",
         _ => "",
     }
 }

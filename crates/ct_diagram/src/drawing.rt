@@ -14,7 +14,7 @@ use crate::canvas::Canvas;
 use crate::drawn::Drawn;
 use crate::frame::{push_foot, push_head, push_rows};
 use crate::grid::Grid;
-use crate::sight::{Glance, Sight, glance_of, sight_of};
+use crate::sight::{Glance, Sight, glance_of, is_quiet, sight_of};
 use crate::trail::place_after;
 use crate::window::{MOST_STEPS, Window};
 use ct_model::Step;
@@ -146,12 +146,14 @@ fn drawn_after(
     ensures before { result.before ≡ done.before }
     ensures number { result.number ≡ done.number }
 {
-    let sight = sight_of(window, world, seen, done.before, done.step);
+    let is_quiet = is_quiet(world, seen, done.before, done.step);
+    let sight = sight_of(window, world, is_quiet, done.step);
     Drawn {
         number: done.number,
         before: done.before,
         sent: world.sent(),
         step: done.step,
+        is_quiet,
         sight,
         place: place_after(trail, sight),
     }

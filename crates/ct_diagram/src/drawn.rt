@@ -14,6 +14,8 @@ pub(crate) struct Drawn {
     pub sent: u32,
     // The step.
     pub step: Step,
+    // Whether it is a receipt that changes nothing.
+    pub is_quiet: bool,
     // How it is drawn.
     pub sight: Sight,
     // Where: half columns from the left edge on.

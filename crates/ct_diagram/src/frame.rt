@@ -6,7 +6,7 @@ ghost use Rattle.ct_diagram.specs.Grid.{row_of};
 ghost use Rattle.ct_diagram.specs.Frame.{row_end, low, width, sizes_text, head_text, name_text, line_text, lane_text};
 ghost use Rattle.ct_diagram.specs.Frame.{row_text, rows_text, below_text, legend_text, foot_text};
 
-use crate::grid::{COLUMN, Grid, LEFT};
+use crate::grid::{COLUMN, Grid, LEAST_WIDTH, LEFT};
 use ct_show::{LETTERS, OTHER_LETTERS};
 use std::alloc::AllocError;
 
@@ -17,6 +17,7 @@ text{font:10px sans-serif;text-anchor:middle}
 .round,.note,.number{paint-order:stroke;stroke:#fff;stroke-width:3px;stroke-linejoin:round}
 .round{fill:#555;font-size:9px}
 .note{fill:#256;font-size:8px;text-anchor:start}
+.left{text-anchor:end}
 .number{fill:#888;font-size:9px}
 rect{width:26px;height:32px}
 .rest{fill:#f2f2f2}
@@ -107,7 +108,7 @@ fn width(grid: Grid, end: u16) -> u32
     ensures { result ≡ width grid end }
 {
     let wide = row_end(grid, end, 0) + 30;
-    if wide < 660 { 660 } else { wide }
+    wide.max(LEAST_WIDTH)
 }
 
 // Where the lines of a row end.

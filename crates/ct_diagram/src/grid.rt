@@ -11,6 +11,11 @@ pub(crate) const COLUMN: u32 = 26;
 // The left edge of a row.
 pub(crate) const LEFT: u32 = 70;
 
+// The least width of a diagram, and the middle of that: what is written on its right half falls to the left, and so stays inside.
+pub(crate) const LEAST_WIDTH: u32 = 660;
+
+pub(crate) const MIDDLE: u32 = 330;
+
 // From a member to the next one, and the same in a group of more members than `FEW`.
 pub(crate) const LANE: u32 = 76;
 

@@ -13,7 +13,7 @@ ghost use Rattle.ct_diagram.specs.Marks.{small_text, marks};
 
 use crate::arrows::kind_of;
 use crate::drawn::Drawn;
-use crate::grid::{Grid, Spot};
+use crate::grid::{Grid, MIDDLE, Spot};
 use crate::sight::Sight;
 use ct_model::Step;
 use ct_names::{MAX_ENVELOPES, Member};
@@ -226,13 +226,20 @@ fn push_changed(
     text.push_str("</text>\n")
 }
 
-// A text begins here, which falls to the right.
+// A text begins here, which falls to the right; right of the middle it ends here, and falls to the left.
 #[tactic(auto, unfolding(crate::specs::Marks::falling_text))]
 fn push_falling(text: &mut String, x: u32, y: u64) -> Result<(), AllocError>
     ensures { OnOk result (Adds text.old text.new (falling_text x y)) }
 {
-    write!(
-        text,
-        "<text class='note' x='{x}' y='{y}' transform='rotate(18 {x} {y})'>"
-    )
+    if x > MIDDLE {
+        write!(
+            text,
+            "<text class='note left' x='{x}' y='{y}' transform='rotate(-18 {x} {y})'>"
+        )
+    } else {
+        write!(
+            text,
+            "<text class='note' x='{x}' y='{y}' transform='rotate(18 {x} {y})'>"
+        )
+    }
 }

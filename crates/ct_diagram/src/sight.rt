@@ -135,19 +135,13 @@ fn is_later(
     }
 }
 
-// How the world's last step is drawn, before which so many envelopes had been sent.
-pub(crate) fn sight_of(
-    window: &Window,
-    world: &World,
-    glance: Glance,
-    before: u32,
-    step: Step,
-) -> Sight
-    ensures { result ≡ sight_of window.now world.now.rehearsal glance before step }
+// How the world's last step is drawn, by whether it is a receipt that changes nothing.
+pub(crate) fn sight_of(window: &Window, world: &World, is_quiet: bool, step: Step) -> Sight
+    ensures { result ≡ sight_of window.now world.now.rehearsal is_quiet step }
 {
     if !is_asked(window, world, step) {
         Sight::Hidden
-    } else if is_quiet(world, glance, before, step) {
+    } else if is_quiet {
         Sight::Small
     } else {
         Sight::Wide
@@ -184,8 +178,9 @@ fn is_data_at(world: &World, serial: Serial) -> bool
     }
 }
 
-// Whether it is a receipt that changes nothing for its member, and sends nothing.
-fn is_quiet(world: &World, glance: Glance, before: u32, step: Step) -> bool
+// Whether the world's last step, before which so many envelopes had been sent, is a receipt that changes nothing for its member, and sends
+// nothing.
+pub(crate) fn is_quiet(world: &World, glance: Glance, before: u32, step: Step) -> bool
     ensures { result ≡ is_quiet world.now.rehearsal glance before step }
 {
     match step {

@@ -94,7 +94,7 @@ arrow_same : (w : Rehearsal) (steps : List Step) (window : Window) (sender : ℕ
     arrow_text (record w { steps = steps }) window sender begun d k e ≡ arrow_text w window sender begun d k e
 unfolding arrow_text
 arrow_same w steps window sender begun d k e h =
-    ap (λ x. concat (opening_text (kind_of e.wire) (end_class d.step d.sight) ∷ way_text w window sender begun e.to d.place ∷ x
+    ap (λ x. concat (opening_text (kind_of e.wire) (end_class d.step d.is_quiet) ∷ way_text w window sender begun e.to d.place ∷ x
     ∷ begun_text window.from begun ∷ end_text d ∷ [])) (who_of (record w { steps = steps }) w k sender e.to h)
 
 stub_same : (w : Rehearsal) (steps : List Step) (window : Window) (sender : ℕ) (d : Drawn) (last k : ℕ)
@@ -267,12 +267,12 @@ pub has_line : (w : Rehearsal) (window : Window) (k : ℕ) (sent : ℕ × Envelo
     HasPart (line_text w window sent from to) (drawn_text w window k sent from to)
 unfolding arrow_text stub_arrow
 has_line w window k sent (Some d) (Some e) = record {
-  before = opening_text (kind_of sent.1.wire) (end_class e.step e.sight);
+  before = opening_text (kind_of sent.1.wire) (end_class e.step e.is_quiet);
   behind = concat (who_text w k sent.0 sent.1.to ∷ begun_text window.from (Some d) ∷ end_text e ∷ []);
   is = refl;
 }
 has_line w window k sent None (Some e) = record {
-  before = opening_text (kind_of sent.1.wire) (end_class e.step e.sight);
+  before = opening_text (kind_of sent.1.wire) (end_class e.step e.is_quiet);
   behind = concat (who_text w k sent.0 sent.1.to ∷ begun_text window.from None ∷ end_text e ∷ []);
   is = refl;
 }

@@ -109,7 +109,7 @@ arrows_layer_reads : (window : Window) (w : Rehearsal) → Reads arrows_layer wi
 arrows_layer_reads window w n step =
     let d = drawn_at window w n step in
     arrows_read (extended (part w n) step) window (senders w.setting (take (n + 1) w.steps)) (trail_at window w n) d (drop (n + 1) w.steps)
-    (end_mild d.step d.sight)
+    (end_mild d.step d.is_quiet)
 
 marks_layer_reads : (window : Window) (w : Rehearsal) → Reads marks_layer window w
 marks_layer_reads window w n step =

@@ -3,7 +3,7 @@ use Rattle.std.proofs.Common.{ℕ, zero, suc, ◌+◌, ◌-◌, ◌/◌, ◌%◌
 use Rattle.std.proofs.Common.{codes, decimal, Option, Some, None, option_map}
 use Rattle.std.proofs.lemmas.Bool.{cond_both}
 use Rattle.std.specs.List.{concat}
-use Rattle.std.specs.Prelude.{◌==◌, ◌&&◌, if◌then◌else◌}
+use Rattle.std.specs.Prelude.{◌==◌, ◌&&◌, map, nat_lt, if◌then◌else◌}
 use Rattle.ct_names.specs.Group.{is_member}
 use Rattle.ct_model.specs.Actor.{actor}
 use Rattle.ct_model.specs.State.{is_crashed}
@@ -31,7 +31,7 @@ use Rattle.ct_laws.specs.Diagrams.{Drawn}
 use Rattle.ct_laws.proofs.Reader.{Reading}
 use Rattle.ct_laws.proofs.Reader.Reading.{Within, Value}
 use Rattle.ct_laws.proofs.MildTexts.{detail_mild, estimate_of_mild, if_mild, letter_of_mild, round_mild, serial_mild}
-use Rattle.ct_laws.proofs.Reading.{IsMild, Leads, leads, mild, reads}
+use Rattle.ct_laws.proofs.Reading.{IsMild, Leads, Piece, leads, mild, piece_text, reads}
 use Rattle.ct_laws.proofs.Reading.Piece.{Fixed, Number, Mild, Known}
 
 -- the types of a grid and of a point, which are of no use elsewhere
@@ -172,13 +172,13 @@ last_reads last =
     reads in_title (Fixed (codes "; not received up to step ") ∷ Number last ∷ Fixed (codes "</title></path>\n") ∷ []) (tt, (tt, (tt, tt)))
 
 arrow_reads : (w : Rehearsal) (window : Window) (sender : ℕ) (begun : Option Drawn) (d : Drawn) (k : ℕ) (e : Envelope (Unit {0})) →
-    IsMild (Arrows.end_class d.step d.sight) → IsInSvg (Arrows.arrow_text w window sender begun d k e)
+    IsMild (Arrows.end_class d.step d.is_quiet) → IsInSvg (Arrows.arrow_text w window sender begun d k e)
 unfolding Arrows.arrow_text
 arrow_reads w window sender begun d k e h =
-    reads in_svg (Known (Arrows.opening_text (Arrows.kind_of e.wire) (Arrows.end_class d.step d.sight)) in_path
+    reads in_svg (Known (Arrows.opening_text (Arrows.kind_of e.wire) (Arrows.end_class d.step d.is_quiet)) in_path
     ∷ Mild (Arrows.way_text w window sender begun e.to d.place) ∷ Known (Arrows.who_text w k sender e.to) in_title
     ∷ Mild (Arrows.begun_text window.from begun) ∷ Known (Arrows.end_text d) in_svg ∷ []) (
-      opening_reads (Arrows.kind_of e.wire) (Arrows.end_class d.step d.sight) (kind_mild e.wire) h,
+      opening_reads (Arrows.kind_of e.wire) (Arrows.end_class d.step d.is_quiet) (kind_mild e.wire) h,
       (
         route_mild (Arrows.grid_of w window) (Arrows.begun_at begun) (Arrows.begun_by begun sender) e.to d.place,
         (who_reads w k sender e.to, (begun_mild window.from begun, (end_reads d, tt))),
@@ -199,12 +199,12 @@ stub_reads w window sender d last k e =
     )
 
 arrow_of_reads : (w : Rehearsal) (window : Window) (trail : List Drawn) (d : Drawn) (k : ℕ) (o : Option (ℕ × Envelope (Unit {0}))) →
-    IsMild (Arrows.end_class d.step d.sight) → IsInSvg (Arrows.arrow_of w window trail d k o)
+    IsMild (Arrows.end_class d.step d.is_quiet) → IsInSvg (Arrows.arrow_of w window trail d k o)
 arrow_of_reads w window trail d k None h = refl
 arrow_of_reads w window trail d k (Some sent) h = arrow_reads w window sent.0 (origin trail k) d k sent.1 h
 
 taken_reads : (w : Rehearsal) (window : Window) (senders : List ℕ) (trail : List Drawn) (d : Drawn) (o : Option ℕ) →
-    IsMild (Arrows.end_class d.step d.sight) → IsInSvg (Arrows.taken_text w window senders trail d o)
+    IsMild (Arrows.end_class d.step d.is_quiet) → IsInSvg (Arrows.taken_text w window senders trail d o)
 taken_reads w window senders trail d None h = refl
 taken_reads w window senders trail d (Some k) h =
     arrow_of_reads w window trail d k (Arrows.asked window senders k (letter_at w k)) h
@@ -232,7 +232,7 @@ first_stubs_read w window senders d later (suc j) =
     (stub_at_reads w window senders d later (d.before + suc j) (letter_at w (d.before + suc j)))
 
 pub arrows_read : (w : Rehearsal) (window : Window) (senders : List ℕ) (trail : List Drawn) (d : Drawn) (later : List Step) →
-    IsMild (Arrows.end_class d.step d.sight) → IsInSvg (Arrows.arrows w window senders trail d later)
+    IsMild (Arrows.end_class d.step d.is_quiet) → IsInSvg (Arrows.arrows w window senders trail d later)
 arrows_read w window senders trail d later h =
     both_in (Arrows.taken_text w window senders trail d (taken d.step)) _ (taken_reads w window senders trail d (taken d.step) h)
     (both_in (Arrows.returned_text w window senders d later (returned d.step)) _
@@ -373,12 +373,26 @@ entered_reads w p spot =
 abbrev in_text : Reading
 in_text = Within (codes "text") (codes "svg" ∷ [])
 
+if_leads : (b : Bool) (from to : Reading) (x y : List ℕ) → Leads from x to → Leads from y to → Leads from (if b then x else y) to
+if_leads true from to x y h k = h
+if_leads false from to x y h k = k
+
+abbrev left_note : ℕ → ℕ → List Piece
+left_note x y =
+    Fixed (codes "<text class='note left' x='") ∷ Number x ∷ Fixed (codes "' y='") ∷ Number y
+    ∷ Fixed (codes "' transform='rotate(-18 ") ∷ Number x ∷ Fixed (codes " ") ∷ Number y ∷ Fixed (codes ")'>") ∷ []
+
+abbrev right_note : ℕ → ℕ → List Piece
+right_note x y =
+    Fixed (codes "<text class='note' x='") ∷ Number x ∷ Fixed (codes "' y='") ∷ Number y
+    ∷ Fixed (codes "' transform='rotate(18 ") ∷ Number x ∷ Fixed (codes " ") ∷ Number y ∷ Fixed (codes ")'>") ∷ []
+
 falling_reads : (x y : ℕ) → Leads in_svg (Marks.falling_text x y) in_text
 unfolding Marks.falling_text
 falling_reads x y =
-    reads in_svg (Fixed (codes "<text class='note' x='") ∷ Number x ∷ Fixed (codes "' y='") ∷ Number y
-    ∷ Fixed (codes "' transform='rotate(18 ") ∷ Number x ∷ Fixed (codes " ") ∷ Number y ∷ Fixed (codes ")'>") ∷ [])
-    (tt, (tt, (tt, (tt, (tt, (tt, (tt, (tt, (tt, tt)))))))))
+    if_leads (nat_lt 330 x) in_svg in_text (concat (map piece_text (left_note x y))) (concat (map piece_text (right_note x y)))
+    (reads in_svg (left_note x y) (tt, (tt, (tt, (tt, (tt, (tt, (tt, (tt, (tt, tt))))))))))
+    (reads in_svg (right_note x y) (tt, (tt, (tt, (tt, (tt, (tt, (tt, (tt, (tt, tt))))))))))
 
 changed_reads : (w : Rehearsal) (p : ℕ) (spot : Spot) → IsInSvg (Marks.changed_text w p spot)
 unfolding Marks.changed_text
@@ -415,9 +429,9 @@ OfOne {A} {B} f = A
 abbrev pub Sight : Type 0
 Sight = OfOne is_wide
 
-pub end_mild : (step : Step) (sight : Sight) → IsMild (Arrows.end_class step sight)
-end_mild (Lose p k) sight = refl
-end_mild step sight = grind arith
+pub end_mild : (step : Step) (quiet : Bool) → IsMild (Arrows.end_class step quiet)
+end_mild (Lose p k) quiet = refl
+end_mild step quiet = if_mild quiet (codes " late") [] refl refl
 
 pub sighted_reads : (w : Rehearsal) (d : Drawn) (spot : Spot) (sight : Sight) → IsInSvg (Marks.sighted_text w d spot sight)
 sighted_reads w d spot sight = go sight (mark_reads w d spot) (small_reads w d spot)
