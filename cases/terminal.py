@@ -16,13 +16,11 @@ import sys
 import tempfile
 import termios
 import time
-from typing import Callable, List, NamedTuple, Set
+from typing import Callable, Dict, List, NamedTuple, Optional
 
 SECONDS = 60         # that a program may take
 QUIET_SECONDS = 2.5  # after which it would have told something
 JOBS = 2
-SEEDS_FIRST = 16     # that a thread tries at first
-SEEDS_MOST = 1 << 20  # and at most, before the others are waited for
 FIRST, LAST = 101, 4_000_000_000
 
 SEARCH = ["find", "--members", "1", "--turns", "0", "--submit", "1", "--goal", "any crashed", "--seeds", f"{FIRST}..{LAST}",
@@ -30,17 +28,13 @@ SEARCH = ["find", "--members", "1", "--turns", "0", "--submit", "1", "--goal", "
 FOUND = ["find", "--members", "3", "--goal", "any round >= 3", "--seeds", "1..9"]
 LONG_WALK = ["walk", "--members", "5", "--turns", "20000", "--rate", "16", "--submit", "1000", "--lose", "100", "--repeat", "100"]
 LONG_SHRINK = ["shrink", "--goal", "any delivered count >= 300"]
-TRIED = re.compile(r"\r(\d+) of (\d+) seeds up to (\d+), \d+ a second, \d+ s left\x1b\[K")
+PACED = ["find", "--members", "3", "--goal", "any round >= 90", "--seeds", "1..1000000"]
+PACED_JOBS = ["1", "64"]
+PACED_LINES = 6      # that are waited for
+PAUSE = 2.5          # seconds between two lines, at most
+COLUMNS = 40
+TRIED = re.compile(r"\r(\d+) of (\d+) seeds up to (\d+), \d+/s, (?:(?:\d\d?|1[01]\d) (?:s|min|h)|\d+ days) left\x1b\[K")
 LEFT = re.compile(r"\r(\d+) trials, (\d+) steps left\x1b\[K")
-
-
-def whole_blocks(most: int) -> Set[int]:
-    """How many seeds were tried after each block, up to so many."""
-    tried, found = 0, set()
-    while tried < most:
-        tried += JOBS * min(SEEDS_MOST, SEEDS_FIRST + tried // 2 // JOBS)
-        found.add(tried)
-    return found
 
 
 class Late(Exception):
@@ -64,8 +58,10 @@ def read_some(terminal: int) -> bytes:
         return b""
 
 
-def told(words: List[str], is_enough: Callable[[str, float], bool]) -> Told:
+def told(words: List[str], is_enough: Callable[[str, float], bool], columns: Optional[int] = None) -> Told:
     """Runs the program with standard error on a terminal, where ^C is pressed once that is enough."""
+    environment: Dict[str, str] = {name: value for name, value in os.environ.items() if name != "COLUMNS"}
+    environment.update({} if columns is None else {"COLUMNS": str(columns)})
     terminal, its_side = pty.openpty()
 
     def take_terminal() -> None:
@@ -75,7 +71,8 @@ def told(words: List[str], is_enough: Callable[[str, float], bool]) -> Told:
 
     with tempfile.TemporaryFile() as output:
         # pylint: disable-next=subprocess-popen-preexec-fn
-        run = subprocess.Popen(words, stdin=subprocess.DEVNULL, stdout=output, stderr=its_side, preexec_fn=take_terminal)
+        run = subprocess.Popen(words, stdin=subprocess.DEVNULL, stdout=output, stderr=its_side, preexec_fn=take_terminal,
+                               env=environment)
         began, text, is_pressed = time.monotonic(), b"", False
         while run.poll() is None:
             text += read_some(terminal)
@@ -109,11 +106,34 @@ def rest(line: "re.Pattern[str]", text: str) -> str:
 def faults_of_search(tool: str) -> List[str]:
     """Each line of a search that is interrupted names the last seed of a block."""
     made = told([tool, *SEARCH], lambda text, _: len(TRIED.findall(text)) >= 2)
-    wrong, whole = faults_of_end(made), whole_blocks(LAST - FIRST)
+    wrong = faults_of_end(made)
     for tried, of, last in TRIED.findall(made.text):
-        if int(tried) not in whole or int(last) != FIRST - 1 + int(tried) or int(of) != LAST - FIRST + 1:
+        if int(tried) % JOBS or int(last) != FIRST - 1 + int(tried) or int(of) != LAST - FIRST + 1:
             wrong.append(f"it tells {tried} of {of} seeds up to {last}")
     return wrong + ([f"it tells {made.text!r}"] if rest(TRIED, made.text) else [])
+
+
+def faults_of_pace(tool: str) -> List[str]:
+    """With any number of jobs a line comes each second, whatever a walk takes."""
+    wrong = []
+    for jobs in PACED_JOBS:
+        moments: List[float] = []
+
+        def is_enough(text: str, seconds: float, moments: List[float] = moments) -> bool:
+            moments += [seconds] * (len(TRIED.findall(text)) - len(moments))
+            return len(moments) >= PACED_LINES
+
+        told([tool, *PACED, "--jobs", jobs], is_enough)
+        pauses = [after - before for before, after in zip(moments, moments[1:])]
+        wrong += [f"with {jobs} jobs lines come {moments} s after the beginning"] if max(pauses) > PAUSE else []
+    return wrong
+
+
+def faults_of_width(tool: str) -> List[str]:
+    """A line ends before the terminal does."""
+    made = told([tool, *SEARCH], lambda text, _: text.count("\x1b[K") >= 2, COLUMNS)
+    lines = re.findall(r"\r([^\r]*)\x1b\[K", made.text)
+    return [] if {len(line) for line in lines} == {COLUMNS - 1} else [f"with {COLUMNS} columns it tells {made.text!r}"]
 
 
 def faults_of_shrink(tool: str) -> List[str]:
@@ -141,7 +161,8 @@ def faults_of_found(tool: str) -> List[str]:
     return wrong + ([] if made.status == 0 and made.output.endswith(b'"version":3}\n') else [f"status {made.status}"])
 
 
-CHECKS = [("a search that is interrupted", faults_of_search), ("trials that are interrupted", faults_of_shrink),
+CHECKS = [("a search that is interrupted", faults_of_search), ("the pace of a search", faults_of_pace),
+          ("a search on a narrow terminal", faults_of_width), ("trials that are interrupted", faults_of_shrink),
           ("a quiet search that is interrupted", faults_of_quiet), ("a search that finds", faults_of_found)]
 
 

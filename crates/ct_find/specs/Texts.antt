@@ -1,5 +1,5 @@
 -- The lines of a search.
-use Rattle.std.specs.Prelude.{ℕ, ◌==◌, List, [], ◌∷◌, codes, decimal, flat_map, if◌then◌else◌}
+use Rattle.std.specs.Prelude.{ℕ, ◌/◌, ◌==◌, nat_lt, List, [], ◌∷◌, ◌++◌, codes, decimal, flat_map, if◌then◌else◌}
 use Rattle.std.specs.List.{concat}
 use Rattle.ct_names.specs.declared.limit.TheConstants.{MAX_BOUND}
 use Rattle.ct_streams.specs.declared.status.Status.TheVariants as status
@@ -14,10 +14,17 @@ use Rattle.ct_find.specs.declared.tried.Tried.{Tried}
 
 -- ---- while it runs
 
+-- so many seconds, in the largest unit of which they are two at least
+abbrev pub time_text : ℕ → List ℕ
+time_text seconds =
+    if nat_lt seconds 120 then decimal seconds ++ codes " s" else (
+    if nat_lt seconds 7200 then decimal (seconds / 60) ++ codes " min" else (
+    if nat_lt seconds 172800 then decimal (seconds / 3600) ++ codes " h" else decimal (seconds / 86400) ++ codes " days"))
+
 abbrev pub tried_text : Tried → List ℕ
 tried_text t =
     concat (decimal t.tried ∷ codes " of " ∷ decimal t.all ∷ codes " seeds up to " ∷ decimal t.last ∷ codes ", " ∷ decimal t.rate
-    ∷ codes " a second, " ∷ decimal t.left ∷ codes " s left" ∷ [])
+    ∷ codes "/s, " ∷ time_text t.left ∷ codes " left" ∷ [])
 
 -- ---- what is found
 

@@ -24,6 +24,9 @@ const SEEDS_FIRST: u64 = 16;
 // How many turns a thread makes at a time at most, in walks of several seeds; one walk may have more.
 const TURNS_EACH: u64 = 1_048_576;
 
+// How many milliseconds a block is to take at most, where somebody waits for the next one: so a line can be told each second.
+const BLOCK_MILLIS: u64 = 500;
+
 // How many threads there are at most.
 pub(crate) const MAX_JOBS: u8 = 64;
 
@@ -83,9 +86,10 @@ pub(crate) fn hits_in_threads<R: Threads + Sync, P: Progress>(
     let end = u64::from(seeds.last) + 1;
     let mut hits = Vec::new(alloc);
     let mut next = u64::from(seeds.first);
+    let mut timely = TURNS_EACH;
     while next < end {
         let tried = next.saturating_sub(u64::from(seeds.first));
-        let each = seeds_each(search.options, tried, end - next, jobs);
+        let each = seeds_each(search.options, tried, end - next, jobs, timely);
         let block = seeds_in_block(jobs, each);
         let stop = end.min(next + block);
         let more = hits_in_block(rt, alloc, search, next, stop, each, usize::from(jobs))?;
@@ -93,16 +97,16 @@ pub(crate) fn hits_in_threads<R: Threads + Sync, P: Progress>(
         if search.which.is_enough(&hits) {
             return Ok(search.which.cut(hits));
         }
-        progress.tell((stop - 1) as u32, hits.len());
+        timely = seeds_in_time(each, progress.tell((stop - 1) as u32, hits.len()));
         next += block;
     }
     Ok(search.which.cut(hits))
 }
 
 // How many seeds each thread tries next, where so many were tried and so many are left: half as many as it tried before, and
-// some more; no more than have `TURNS_EACH` turns together, or than its share of what is left, and one at least. So little is
-// tried in vain beside a seed that is found soon, and threads seldom wait for one another.
-fn seeds_each(options: &WalkOptions, tried: u64, left: u64, jobs: u8) -> u64
+// some more; no more than have `TURNS_EACH` turns together, than are timely, or than its share of what is left, and one at least. So
+// little is tried in vain beside a seed that is found soon, and threads seldom wait for one another.
+fn seeds_each(options: &WalkOptions, tried: u64, left: u64, jobs: u8, timely: u64) -> u64
     requires jobs { 0 < jobs }
     ensures some { 0 < result }
     ensures few { result ≤ TURNS_EACH }
@@ -111,7 +115,17 @@ fn seeds_each(options: &WalkOptions, tried: u64, left: u64, jobs: u8) -> u64
     let most = TURNS_EACH / turns.max(1);
     let soon = SEEDS_FIRST.saturating_add(tried / 2 / u64::from(jobs));
     let share = left.div_ceil(u64::from(jobs));
-    most.min(soon).min(share).max(1)
+    most.min(soon).min(timely).min(share).max(1)
+}
+
+// How many seeds each thread tries in `BLOCK_MILLIS`, where so many took it so long; nothing bounds them where nobody waits.
+fn seeds_in_time(each: u64, millis: Option<u64>) -> u64
+    requires few { each ≤ TURNS_EACH }
+{
+    match millis {
+        Some(millis) => each * BLOCK_MILLIS / millis.max(1),
+        None => TURNS_EACH,
+    }
 }
 
 // How many seeds all threads try together.

@@ -2,10 +2,16 @@
 
 ghost use Rattle.std.specs.Prelude.{◌≡◌, Some};
 ghost use Rattle.ct_walk.specs.Finding.{seeds_to};
-ghost use Rattle.ct_find.specs.Texts.{tried_text};
+ghost use Rattle.ct_find.specs.Texts.{time_text, tried_text};
 
 use ct_walk::Seeds;
 use std::fmt;
+
+const MINUTE: u64 = 60;
+
+const HOUR: u64 = 3600;
+
+const DAY: u64 = 86400;
 
 /// How far a search came. Its text is a line for a terminal.
 #[derive(Clone, Copy, Debug, Drop)]
@@ -46,9 +52,34 @@ impl fmt::Display for Tried {
     fn fmt<W: fmt::Write>(&self, f: &mut fmt::Formatter<W>) -> fmt::Result {
         write!(
             f,
-            "{} of {} seeds up to {}, {} a second, {} s left",
-            self.tried, self.all, self.last, self.rate, self.left
+            "{} of {} seeds up to {}, {}/s, {} left",
+            self.tried,
+            self.all,
+            self.last,
+            self.rate,
+            Seconds(self.left)
         )
+    }
+}
+
+// A time, in the largest unit of which it has two at least.
+#[derive(Clone, Copy, Drop)]
+struct Seconds(u64);
+
+impl fmt::Display for Seconds {
+    ghost output = { λ seconds. Some (time_text seconds.0) };
+
+    fn fmt<W: fmt::Write>(&self, f: &mut fmt::Formatter<W>) -> fmt::Result {
+        let seconds = self.0;
+        if seconds < 2 * MINUTE {
+            write!(f, "{seconds} s")
+        } else if seconds < 2 * HOUR {
+            write!(f, "{} min", seconds / MINUTE)
+        } else if seconds < 2 * DAY {
+            write!(f, "{} h", seconds / HOUR)
+        } else {
+            write!(f, "{} days", seconds / DAY)
+        }
     }
 }
 

@@ -10,6 +10,8 @@ use std::fmt;
 pub(crate) struct Meter<'a> {
     terminal: Terminal<'a>,
     seeds: Seeds,
+    // How many milliseconds went by before the last block ended.
+    millis: u64,
 }
 
 impl<'a> Meter<'a> {
@@ -17,6 +19,7 @@ impl<'a> Meter<'a> {
         Meter {
             terminal: Terminal::new(rt, quiet),
             seeds,
+            millis: 0,
         }
     }
 
@@ -27,11 +30,15 @@ impl<'a> Meter<'a> {
 }
 
 impl Progress for Meter<'_> {
-    fn tell(&mut self, last: u32, shown: usize) {
+    fn tell(&mut self, last: u32, shown: usize) -> Option<u64> {
+        let millis = self.terminal.millis()?;
         if let Some(seconds) = self.terminal.due() {
             let tried = Tried::new(self.seeds, last, seconds);
             self.terminal.write(seconds, Told { tried, shown });
         }
+        let took = millis.saturating_sub(self.millis);
+        self.millis = millis;
+        Some(took)
     }
 }
 
