@@ -34,7 +34,7 @@ PACED_LINES = 6      # that are waited for
 PAUSE = 2.5          # seconds between two lines, at most
 COLUMNS = 40
 TRIED = re.compile(r"\r(\d+) of (\d+) seeds up to (\d+), \d+/s, (?:(?:\d\d?|1[01]\d) (?:s|min|h)|\d+ days) left\x1b\[K")
-LEFT = re.compile(r"\r(\d+) trials, (\d+) steps left\x1b\[K")
+LEFT = re.compile(r"\r(\d+) trials, (\d+) steps left; --tries \1 writes these\x1b\[K")
 
 
 class Late(Exception):
@@ -137,11 +137,16 @@ def faults_of_width(tool: str) -> List[str]:
 
 
 def faults_of_shrink(tool: str) -> List[str]:
-    """So do those of trials that are interrupted: more trials each time, and no more steps."""
+    """So do those of trials that are interrupted: more trials each time, and no more steps; what was reached can be written."""
     with tempfile.NamedTemporaryFile() as record:
         subprocess.run([tool, *LONG_WALK], stdout=record, check=True, timeout=SECONDS)
         made = told([tool, *LONG_SHRINK, record.name], lambda text, _: len(LEFT.findall(text)) >= 2)
+        trials, steps = LEFT.findall(made.text)[-1]
+        again = subprocess.run([tool, *LONG_SHRINK, "--tries", trials, record.name], stdout=subprocess.DEVNULL, stderr=subprocess.PIPE,
+                               check=True, timeout=SECONDS)
     wrong = faults_of_end(made)
+    reached = f" steps {steps} are left; stopped after {trials} trials\n"
+    wrong += [] if again.stderr.decode().endswith(reached) else [f"--tries {trials} tells {again.stderr.decode()!r}, not {reached!r}"]
     lines = [(int(trials), -int(steps)) for trials, steps in LEFT.findall(made.text)]
     wrong += [] if all(a[0] < b[0] and a[1] <= b[1] for a, b in zip(lines, lines[1:])) else [f"it tells {lines}"]
     return wrong + ([f"it tells {made.text!r}"] if rest(LEFT, made.text) else [])

@@ -25,7 +25,8 @@ goes by what it carries and its sender. A step that is refused is left out, or
 another one is taken in its place: the same from another sender, suspect for
 adopt and the other way, the choice of an estimate with the largest ts. Where
 the goal is shown after fewer steps, these are the run from then on. In the end
-no step can be left out, unless the trials came to their number.
+no step can be left out, unless the trials came to their number. On a terminal a
+line tells how many trials were made; --tries with that number stops there.
 
 Goals are those that `ct_tool find --help` tells.
 

@@ -83,7 +83,7 @@ fn find_best<R: Threads + Sync>(
     requires range { IsFindInRange call }
     requires some { 0 < best.now.count }
 {
-    let mut trials = Trials::new(rt, quiet);
+    let mut trials = Trials::new(rt, quiet, false);
     let mut writer = Counted::new(io::writer(rt));
     let alloc = rt.alloc();
     let ended = write_best(threads, alloc, call, best, &mut writer, meter, &mut trials);

@@ -68,7 +68,7 @@ pub(crate) fn shrink(rt: &HostRuntime, found: &ArgMatches<'_>) -> Result<(), Exi
     let goal = done(rt, given_goal(alloc, "goal", text))?;
     let mut file = NamedFile::open(rt, found)?;
     let mut writer = Counted::new(io::writer(rt));
-    let mut trials = Trials::new(rt, quiet);
+    let mut trials = Trials::new(rt, quiet, true);
     let reader = &mut file.reader;
     let ended = write_smaller(alloc, reader, &mut writer, &goal, &options, &mut trials);
     trials.clear();
