@@ -1,6 +1,6 @@
 //! How commands end.
 
-use ct_streams::{Fault, unless_broken};
+use ct_streams::{Fault, Status, unless_broken};
 use std::fmt::Display;
 use std::process::ExitCode;
 
@@ -35,4 +35,31 @@ pub(crate) fn written<T, F: Fault + Display + Drop>(
     is_broken: bool,
 ) -> Result<Option<T>, ExitCode> {
     done(rt, unless_broken(ended, is_broken))
+}
+
+// The same of a search; `starts` is whether the run without steps shows what it was for.
+pub(crate) fn searched<T, F: Fault + Display + Drop>(
+    rt: &HostRuntime,
+    ended: Result<T, F>,
+    is_broken: bool,
+    starts: bool,
+) -> Result<Option<T>, ExitCode> {
+    match unless_broken(ended, is_broken) {
+        Ok(found) => Ok(found),
+        Err(fault) => Err(miss(rt, fault, starts)),
+    }
+}
+
+// Ends with the fault's line and status. Where nothing was found, though the run without steps shows it, that is told behind it.
+pub(crate) fn miss<F: Fault + Display + Drop>(
+    rt: &HostRuntime,
+    fault: F,
+    starts: bool,
+) -> ExitCode {
+    let is_missed = fault.status() == Status::Refused.code();
+    let code = refuse(rt, fault);
+    if is_missed && starts {
+        let _ = eprintln!(rt; "the run without steps shows it");
+    }
+    code
 }

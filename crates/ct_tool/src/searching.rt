@@ -3,14 +3,14 @@
 ghost use Rattle.std.specs.Prelude.{◌<◌};
 ghost use Rattle.ct_find.specs.Line.{IsFindInRange};
 
-use crate::ending::{refuse, written};
+use crate::ending::{done, miss, refuse, searched, written};
 use crate::meter::Meter;
 use crate::trials::Trials;
 use clap::ArgMatches;
 use ct_best::{BestOptions, best_options, write_best};
 use ct_find::{CountForm, FindCall, FindFault, count_form, find_call, write_count, write_found};
 use ct_streams::Counted;
-use ct_walk::{walk_call, write_call};
+use ct_walk::{Call, start_shows, walk_call, write_call};
 use std::io;
 use std::process::ExitCode;
 use std::thread::Threads;
@@ -21,9 +21,15 @@ pub(crate) fn walk(rt: &HostRuntime, found: &ArgMatches<'_>) -> Result<(), ExitC
         Ok(call) => call,
         Err(fault) => return Err(refuse(rt, fault)),
     };
+    let alloc = rt.alloc();
+    let starts = match &call {
+        Call::Walk(options, until) => start_shows(alloc, options, until.as_ref()),
+        Call::Find(options, goal, _) => start_shows(alloc, options, Some(goal)),
+    };
+    let starts = done(rt, starts)?;
     let mut writer = Counted::new(io::writer(rt));
-    let ended = write_call(rt.alloc(), &call, &mut writer);
-    if let Some(Some(seed)) = written(rt, ended, writer.is_broken())? {
+    let ended = write_call(alloc, &call, &mut writer);
+    if let Some(Some(seed)) = searched(rt, ended, writer.is_broken(), starts)? {
         let _ = eprintln!(rt; "{seed}");
     }
     Ok(())
@@ -45,11 +51,12 @@ pub(crate) fn find<R: Threads + Sync>(
         Err(fault) => return Err(refuse(rt, fault)),
     };
     let quiet = found.get_flag("quiet");
+    let starts = done(rt, start_shows(rt.alloc(), &call.options, Some(&call.goal)))?;
     let mut meter = Meter::new(rt, call.seeds, quiet);
     match (count_form(found), best) {
-        (Some(form), _) => count_found(rt, threads, call, form, &mut meter),
-        (None, Some(best)) => find_best(rt, threads, call, &best, &mut meter, quiet),
-        (None, None) => find_first(rt, threads, call, &mut meter),
+        (Some(form), _) => count_found(rt, threads, call, form, &mut meter, starts),
+        (None, Some(best)) => find_best(rt, threads, call, &best, &mut meter, quiet, starts),
+        (None, None) => find_first(rt, threads, call, &mut meter, starts),
     }
 }
 
@@ -59,13 +66,14 @@ fn find_first<R: Threads + Sync>(
     threads: &R,
     call: FindCall,
     meter: &mut Meter<'_>,
+    starts: bool,
 ) -> Result<(), ExitCode>
     requires range { IsFindInRange call }
 {
     let mut writer = Counted::new(io::writer(rt));
     let ended = write_found(threads, rt.alloc(), call, &mut writer, meter);
     meter.clear();
-    if let Some(found) = written(rt, ended, writer.is_broken())? {
+    if let Some(found) = searched(rt, ended, writer.is_broken(), starts)? {
         let _ = eprintln!(rt; "{}\n{}", found.seed, found.again);
     }
     Ok(())
@@ -79,6 +87,7 @@ fn find_best<R: Threads + Sync>(
     best: &BestOptions,
     meter: &mut Meter<'_>,
     quiet: bool,
+    starts: bool,
 ) -> Result<(), ExitCode>
     requires range { IsFindInRange call }
     requires some { 0 < best.now.count }
@@ -89,7 +98,7 @@ fn find_best<R: Threads + Sync>(
     let ended = write_best(threads, alloc, call, best, &mut writer, meter, &mut trials);
     meter.clear();
     trials.clear();
-    if let Some(told) = written(rt, ended, writer.is_broken())? {
+    if let Some(told) = searched(rt, ended, writer.is_broken(), starts)? {
         for walk in &told.walks {
             let _ = eprintln!(rt; "{walk}");
         }
@@ -105,6 +114,7 @@ fn count_found<R: Threads + Sync>(
     call: FindCall,
     form: CountForm,
     meter: &mut Meter<'_>,
+    starts: bool,
 ) -> Result<(), ExitCode>
     requires range { IsFindInRange call }
 {
@@ -112,7 +122,7 @@ fn count_found<R: Threads + Sync>(
     let ended = write_count(threads, rt.alloc(), call, form, &mut writer, meter);
     meter.clear();
     match written(rt, ended, writer.is_broken())? {
-        Some(Some(none)) => Err(refuse(rt, FindFault::NotFound(none))),
+        Some(Some(none)) => Err(miss(rt, FindFault::NotFound(none), starts)),
         _ => Ok(()),
     }
 }

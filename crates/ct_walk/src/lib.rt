@@ -42,4 +42,5 @@ pub use strangers::stranger;
 pub use walk_size::WalkSize;
 pub use walking::walk;
 pub use words::{search_options, seeds_in, walk_call, walk_command, with_search_options};
+pub use worlds::start_shows;
 pub use writing::write_call;
