@@ -257,11 +257,11 @@ def logs(page: Page) -> None:
         schedule, told, _ = page.of_tool("merge", *sorted(paths, key=len))
         assert page.lines() == schedule[:schedule.index("\n\nexpect ")].split("\n"), page.lines()
         assert page.alert() == "" and page.text("#status").startswith(", ".join(names)), page.text("#status")
-        assert page.text("#status").endswith(re.sub(r"\S*/", "", told.strip())) and "accepted: " in told, page.text("#status")
+        assert page.text("#status").endswith(re.sub(r"[^\s(]*/", "", told.strip())) and "accepted: " in told, page.text("#status")
     paths = written(page, wrong)
     page.driver.find_element("id", "open").send_keys("\n".join(paths))
     page.until(lambda: page.alert() != "")
-    told = re.sub(r"\S*/", "", page.of_tool("merge", *paths)[1].strip())
+    told = re.sub(r"[^\s(]*/", "", page.of_tool("merge", *paths)[1].strip())
     assert page.alert() == f"9.log, 10.log: {told}" and told.startswith("refused: "), (page.alert(), told)
     assert page.steps() == 4
 
