@@ -8,15 +8,15 @@
 #
 # Prints a line for each failing case and ends with `N passed, M failed`, and with
 # status 0 only where none failed. A run of more than 20 seconds fails, and so does a
-# case that has the name of another. Needs bash 4.4, cc, Python 3.8, its packages jsonschema and distributed (Debian's
-# python3-jsonschema and python3-distributed) and, for a program in a document, rt.
+# case that has the name of another. Needs bash 4.4, cc, Python 3.8, its packages jsonschema, distributed and psutil
+# (Debian's python3-jsonschema, python3-distributed and python3-psutil) and, for a program in a document, rt.
 set -u
 export LC_ALL=C
 
 here=$(cd "$(dirname "$0")" && pwd)
 ct=${1:-$here/../crates/ct/out/ct}
 tool=${2:-$here/../crates/ct_tool/out/ct_tool}
-for package in jsonschema distributed; do
+for package in jsonschema distributed psutil; do
     if ! python3 -c "import $package" 2>/dev/null; then
         echo "cases/run.sh: no package $package for python3 (Debian's python3-$package)" >&2
         exit 2
