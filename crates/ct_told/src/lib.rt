@@ -3,13 +3,16 @@
 
 mod fault_line;
 mod given_name;
+mod json_front;
 mod key;
 mod no_record;
+mod number_part;
 mod odd_record;
 mod odd_step;
 mod place;
 mod reading;
 mod show_fault;
+mod text_part;
 
 pub use fault_line::FaultLine;
 pub use no_record::NoRecord;
