@@ -15,7 +15,7 @@ _ct_words() {
     replay)
         options='-h --help'
         values=''
-        operands=''
+        operands='file'
         ;;
     free)
         options='--members --turns --seed --rate --cells --submit --crash --postpone --lose --repeat --batch -h --help'

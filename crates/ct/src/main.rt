@@ -1,16 +1,24 @@
-//! The program `ct`: it replays a record from standard input and reports where it leads on standard output, or runs a group
-//! freely and writes the record of the run.
+//! The program `ct`: it replays a record and reports where it leads on standard output, or runs a group freely and writes the
+//! record of the run.
 #![tactic(auto)]
+
+mod front;
+mod opening;
 
 ghost use Rattle.std.specs.Prelude.{◌≡◌, ◌<◌, ◌^◌, Err, OnOk, IfOk, IfErr};
 ghost use Rattle.ct_program.specs.FreeOptions.{FreeInRange, InRange};
 ghost use Rattle.ct_program.specs.FreeRun.{IsFreeFault, WritesRun, WritesRunPart};
 
 use ct_detect::Detector;
-use ct_program::{Call, CommandFault, FreeOptions, LineFault, answer_status, free, line, seeded};
-use ct_records::{ProgramFault, run_replay};
-use ct_streams::{Counted, Sink};
-use std::alloc::Global;
+use ct_program::{
+    Asked, Call, CommandFault, FreeOptions, LineFault, answer_status, free, line, seeded,
+};
+use ct_records::{ProgramFault, ReadFault, run_replay};
+use ct_streams::{Counted, Fault, FileFault, NamedFault, Sink};
+use ct_told::{NoRecord, begins_schedule};
+use front::Front;
+use opening::open;
+use std::alloc::{AllocError, Global};
 use std::fmt::Display;
 use std::io;
 use std::process::ExitCode;
@@ -18,28 +26,38 @@ use std::sync::Wait;
 use std::thread::Threads;
 
 fn main(rt: HostRuntime) -> ExitCode {
-    match asked(&rt) {
-        Ok(Call::Replay) => replay(&rt),
+    let words = match words(&rt) {
+        Ok(words) => words,
+        Err(fault) => return fail(&rt, fault, fault.status()),
+    };
+    let texts = match texts(rt.alloc(), &words) {
+        Ok(texts) => texts,
+        Err(fault) => return fail(&rt, fault, fault.status()),
+    };
+    match asked(&rt, texts.as_slice()) {
+        Ok(
+            Asked {
+                call: Call::Replay,
+                file,
+            },
+        ) => replay(&rt, file),
         // Only `main` may hand the runtime on as one that starts threads.
-        Ok(Call::Free(options)) => run_freely(&rt, &rt, &options),
+        Ok(
+            Asked {
+                call: Call::Free(options),
+                ..
+            },
+        ) => run_freely(&rt, &rt, &options),
         Err(status) => status,
     }
 }
 
 // What the command line asks for, or the status where that was answered.
-fn asked(rt: &HostRuntime) -> Result<Call, ExitCode>
-    ensures { IfOk result FreeInRange }
+fn asked<'a>(rt: &HostRuntime, words: &'a [&'a str]) -> Result<Asked<'a>, ExitCode>
+    ensures { IfOk result (λ asked. FreeInRange asked.call) }
 {
-    let words = match words(rt) {
-        Ok(words) => words,
-        Err(fault) => return Err(fail(rt, fault, fault.status())),
-    };
-    let texts = match texts(rt.alloc(), &words) {
-        Ok(texts) => texts,
-        Err(fault) => return Err(fail(rt, fault, fault.status())),
-    };
-    match line(rt.alloc(), texts.as_slice()) {
-        Ok(call) => Ok(call),
+    match line(rt.alloc(), words) {
+        Ok(asked) => Ok(asked),
         Err(fault) => Err(refuse(rt, &fault)),
     }
 }
@@ -58,13 +76,45 @@ fn texts<'a>(alloc: Global, words: &'a [String]) -> Result<Vec<&'a str>, Command
     Ok(texts)
 }
 
-fn replay(rt: &HostRuntime) -> ExitCode {
-    let mut reader = Counted::new(rt.reader());
+fn replay(rt: &HostRuntime, name: &str) -> ExitCode {
+    let mut reader = match open(rt, name) {
+        Ok(reader) => Front::new(rt.alloc(), reader),
+        Err(fault) => return unread(rt, name, fault),
+    };
     let mut writer = Counted::new(io::writer(rt));
     match run_replay(rt.alloc(), &mut reader, &mut writer) {
         Ok(()) => ExitCode::SUCCESS,
-        Err(fault) => fail(rt, fault, fault.status()),
+        Err(ProgramFault::Reader) => unread(rt, name, FileFault::Read),
+        Err(fault) => match told(rt.alloc(), &reader, fault) {
+            Ok(Some(told)) => fail(rt, told, fault.status()),
+            Ok(None) => fail(rt, fault, fault.status()),
+            Err(_) => fail(rt, ProgramFault::Memory, ProgramFault::Memory.status()),
+        },
     }
+}
+
+// Tells why the file is not read.
+fn unread(rt: &HostRuntime, name: &str, fault: FileFault) -> ExitCode {
+    let fault = NamedFault { name, fault };
+    fail(rt, fault, fault.status())
+}
+
+// What `ct_tool` tells of an input that is no record, where all of it is there, or it begins as a schedule does.
+fn told<R>(
+    alloc: Global,
+    input: &Front<R>,
+    fault: ProgramFault,
+) -> Result<Option<NoRecord>, AllocError> {
+    match fault {
+        ProgramFault::Read(fault) if !input.is_cut() || is_schedule(input.bytes(), fault) => {
+            Ok(Some(NoRecord::of(alloc, fault, input.bytes())?))
+        }
+        _ => Ok(None),
+    }
+}
+
+fn is_schedule(bytes: &[u8], fault: ReadFault) -> bool {
+    fault == ReadFault::NotJson && begins_schedule(bytes)
 }
 
 fn run_freely<T: Threads + Wait + Sync>(

@@ -1,11 +1,14 @@
 -- What clap makes of the program's words.
-use Rattle.std.proofs.Common.{arith, ◌≡◌, true, false, List, [], ◌∷◌, Option, Some, None, option_map, option_and_then, Box, box_value}
+use Rattle.std.proofs.Common.{arith, ◌≡◌, Bool, true, false, List, [], ◌∷◌, Option, Some, None, option_map, option_and_then, Box, box_value}
 use Rattle.std.proofs.Common.{codes, refl, ap, ◌∙◌, sym, subst, inl, inr, IsSomeAnd, ◌⊎◌}
 use Rattle.std.proofs.lemmas.Bool.Decides.{nat_tests}
+use Rattle.std.specs.Prelude.{if◌then◌else◌, unwrap_or}
 use Rattle.std.specs.Result.{result_ok}
+use Rattle.std.specs.Str.{bytes_eq}
+use Rattle.std.proofs.lemmas.Slice.Eq.{bytes_eq-Decides}
 use Rattle.std.specs.declared.alloc.Global.{Global}
 use Rattle.clap.specs.Words.{AddsSubcommand, App, HasKind, HasMatchesOf, Row, Text, app_of, fault_of, is_simple}
-use Rattle.clap.specs.Words.{is_simple_and_free, kind_of, subcommand_name_of, subcommand_of, subcommand_rows}
+use Rattle.clap.specs.Words.{first_of, is_simple_and_free, kind_of, subcommand_name_of, subcommand_of, subcommand_rows}
 use Rattle.clap.specs.Words.{subcommand_rows_of, with_subcommand}
 use Rattle.clap.specs.declared.builder.command.Command.{Command}
 use Rattle.clap.specs.Simple.{argument_words, built}
@@ -16,7 +19,7 @@ use Rattle.clap.specs.declared.error.Error.{Error}
 use Rattle.clap.specs.declared.error.kind.ErrorKind.TheVariants.{OutOfMemory}
 use Rattle.clap.proofs.OnLiterals.{clap_on_literals}
 use Rattle.ct_program.specs.declared.call.Call.TheVariants.{Free, Replay}
-use Rattle.ct_program.specs.Line.{call_at, call_of, faults_of, options_of, program}
+use Rattle.ct_program.specs.Line.{call_at, call_of, faults_of, file_in, file_of, options_of, program}
 use Rattle.ct_program.proofs.Subcommands.{accepted}
 
 is_free : is_simple_and_free program ≡ true
@@ -117,6 +120,39 @@ replay_only app words m name e h are named =
     sym (replay_named name) ∙ (ap (λ ws. option_map (λ p. p.0) (subcommand_of program ws)) (sym are)
     ∙ (sym (ap (option_map (λ p. p.0)) found) ∙ (named_found m ∙ named))) in
     cc
+
+-- ---- the file
+
+pub file_named : (found : Option (Text × List Row)) (rows : List Row) → option_map (λ p. p.0) found ≡ Some (codes "replay") →
+    option_map (λ p. p.1) found ≡ Some rows → file_in found ≡ unwrap_or (first_of (codes "file") rows) (codes "-")
+file_named None rows named has = absurd (cc)
+file_named (Some p) rows named has = grind (arith, nat_tests)
+
+file_by : (name : Text) (rows : List Row) (b : Bool) → bytes_eq name (codes "replay") ≡ b → (name ≡ codes "replay" → ⊥) →
+    (if b then unwrap_or (first_of (codes "file") rows) (codes "-") else codes "-") ≡ codes "-"
+file_by name rows true is other = absurd (other (grind (arith, nat_tests, bytes_eq-Decides name (codes "replay"))))
+file_by name rows false is other = refl
+
+pub file_other : (found : Option (Text × List Row)) → (option_map (λ p. p.0) found ≡ Some (codes "replay") → ⊥) →
+    file_in found ≡ codes "-"
+file_other None other = refl
+file_other (Some p) other = file_by p.0 p.1 (bytes_eq p.0 (codes "replay")) refl (λ same. other (ap Some same))
+
+pub file_found : (app : App) (words : List Text) (m : ArgMatches) → app ≡ program → HasMatchesOf app words m →
+    file_in (subcommand_rows_of m) ≡ file_of words
+unfolding file_of
+file_found app words m e h = ap file_in (found_is app words m e h)
+
+-- the name of what clap found
+pub same_name : (m : ArgMatches) → option_map (λ p. p.0) (subcommand_rows_of m) ≡ subcommand_name_of m
+same_name m = named_found m
+
+-- a free run is about no file
+pub free_file : (app : App) (words : List Text) (m : ArgMatches) → app ≡ program → HasMatchesOf app words m →
+    subcommand_name_of m ≡ Some (codes "free") → codes "-" ≡ file_of words
+free_file app words m e h named =
+    sym (file_other (subcommand_rows_of m) (λ same. let both : Some (codes "replay") ≡ Some (codes "free") =
+    sym same ∙ (named_found m ∙ named) in cc both)) ∙ file_found app words m e h
 
 -- ---- commands as they are built
 

@@ -1,13 +1,15 @@
 -- How the program's command line is read. `clap` gives what its commands make of words.
 use Rattle.std.specs.Prelude.{◌≡◌, ℕ, true, List, [], ◌∷◌, ◌++◌, codes, Option, Some, None, option_map, option_and_then, Result, Ok}
-use Rattle.std.specs.Prelude.{if◌then◌else◌, ⊤}
+use Rattle.std.specs.Prelude.{if◌then◌else◌, unwrap_or, ⊤}
+use Rattle.std.specs.Option.{option_map_or}
 use Rattle.std.specs.Result.{result_ok}
 use Rattle.std.specs.Str.{bytes_eq}
 use Rattle.ct_names.specs.declared.limit.TheConstants.{MAX_BOUND, MAX_CELLS, MAX_MEMBERS}
-use Rattle.clap.specs.Words.{App, Kinds, HasKind, Row, Rule, Text, fault_of, kind_of, new_app, subcommand_of, with_subcommand}
-use Rattle.clap.specs.Simple.{new_shape, on_top}
+use Rattle.clap.specs.Words.{App, Kinds, HasKind, Row, Rule, Text, fault_of, first_of, kind_of, new_app, subcommand_of, with_rule}
+use Rattle.clap.specs.Words.{with_subcommand}
+use Rattle.clap.specs.Simple.{on_top}
 use Rattle.clap.specs.declared.error.kind.ErrorKind.TheVariants.{OutOfMemory}
-use Rattle.ct_streams.specs.Arguments.{option_rule, required_rule}
+use Rattle.ct_streams.specs.Arguments.{file_rule, option_rule, required_rule}
 use Rattle.ct_streams.specs.Values.{◌>>=◌, option_in}
 use Rattle.ct_program.specs.declared.call.Call.{Call}
 use Rattle.ct_program.specs.declared.call.Call.TheVariants.{Replay, Free}
@@ -40,11 +42,15 @@ seedless_rules = group_rules ++ other_rules
 abbrev pub free_app : App
 free_app = on_top (λ s. record s { rules = free_rules }) (new_app (codes "free"))
 
+-- the subcommand `replay`
+abbrev pub replay_app : App
+replay_app = with_rule (new_app (codes "replay")) file_rule
+
 -- the program has a version and two subcommands, `replay` and `free`, of which one has to be given
 abbrev pub program : App
 program =
     with_subcommand (with_subcommand (on_top (λ s. record s { has_version = true; subcommand_required = true }) (new_app (codes "ct")))
-    (new_shape (codes "replay"))) free_app.top
+    replay_app.top) free_app.top
 
 -- the kinds of fault that the words may have, the program's name first; none where clap accepts them
 unfoldable pub faults_of : List Text → Kinds
@@ -98,6 +104,18 @@ call_at name rows =
 -- what the words ask for, where clap accepts them; None where a value isn't of its option's range
 unfoldable pub call_of : List Text → Option Call
 call_of words = option_and_then (λ found. call_at found.0 found.1) (subcommand_of program words)
+
+-- the file that a subcommand is about, by its name and what clap found for its arguments
+abbrev pub file_at : Text → List Row → Text
+file_at name rows = if bytes_eq name (codes "replay") then unwrap_or (first_of (codes "file") rows) (codes "-") else codes "-"
+
+-- the same of the subcommand that clap found
+abbrev pub file_in : Option (Text × List Row) → Text
+file_in found = option_map_or (λ found. file_at found.0 found.1) found (codes "-")
+
+-- the file that the words name, where clap accepts them
+unfoldable pub file_of : List Text → Text
+file_of words = file_in (subcommand_of program words)
 
 -- ---- faults
 

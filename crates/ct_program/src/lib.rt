@@ -12,7 +12,7 @@ mod planning;
 mod seeding;
 mod words;
 
-pub use call::Call;
+pub use call::{Asked, Call};
 pub use command_fault::{CommandFault, answer_status};
 pub use ct_records::{
     ProgramFault, ReadFault, Script, read_record, report, run_replay, write_record,

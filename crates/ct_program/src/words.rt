@@ -1,26 +1,29 @@
 //! The words of a command line.
 
-ghost use Rattle.std.specs.Prelude.{◌≡◌, ℕ, List, [], ◌∷◌, fold, map, codes, Some, None, Ok, Err, OnOk, IfOk, IfErr};
-ghost use Rattle.clap.specs.Words.{app_of, found_of, rows_of, with_rule};
+ghost use Rattle.std.specs.Prelude.{◌≡◌, ℕ, List, [], ◌∷◌, fold, map, codes, unwrap_or, Some, None, Ok, Err, OnOk, IfOk, IfErr};
+ghost use Rattle.clap.specs.Words.{app_of, first_of, found_of, rows_of, subcommand_rows_of, with_rule};
 ghost use Rattle.ct_streams.specs.Arguments.{option_rule};
 ghost use Rattle.ct_program.specs.FreeOptions.{FreeInRange, InRange};
-ghost use Rattle.ct_program.specs.Line.{program, free_app, free_rules, group_rules, seedless_rules, faults_of, call_of};
-ghost use Rattle.ct_program.specs.Line.{options_of, options_with, seedless_of, IsOfKind, IsMemory};
+ghost use Rattle.ct_program.specs.Line.{program, free_app, free_rules, group_rules, replay_app, seedless_rules, faults_of, call_of};
+ghost use Rattle.ct_program.specs.Line.{file_in, file_of, options_of, options_with, seedless_of, IsOfKind, IsMemory};
 
-use crate::call::Call;
+use crate::call::{Asked, Call};
 use crate::free_options::{FreeOptions, MAX_EACH, MAX_RATE, MAX_TURNS};
 use crate::line_fault::LineFault;
 use clap::{ArgMatches, Command};
 use ct_names::{MAX_BOUND, MAX_CELLS, MAX_MEMBERS};
-use ct_streams::{WordFault, default_option, option_in, required_option, subcommand};
+use ct_streams::{
+    WordFault, default_option, file_argument, option_in, required_option, subcommand,
+};
 use std::alloc::{AllocError, Global};
 
-/// What the words ask for, the program's name first: the subcommand `replay`, or `free` with its options. A call for help
-/// or for the version is a fault whose text is the answer.
-pub fn line<'a>(alloc: Global, words: &'a [&'a str]) -> Result<Call, LineFault>
+/// What the words ask for, the program's name first: the subcommand `replay` with a file, or `free` with its options. A call for
+/// help or for the version is a fault whose text is the answer.
+pub fn line<'a>(alloc: Global, words: &'a [&'a str]) -> Result<Asked<'a>, LineFault>
     ensures ok { OnOk result (faults_of (map (λ word. word.now) words.now) ≡ []) }
-    ensures call { IfOk result (λ call. call_of (map (λ word. word.now) words.now) ≡ Some call) }
-    ensures in_range { IfOk result FreeInRange }
+    ensures call { IfOk result (λ asked. call_of (map (λ word. word.now) words.now) ≡ Some asked.call) }
+    ensures file { IfOk result (λ asked. asked.file.now ≡ file_of (map (λ word. word.now) words.now)) }
+    ensures in_range { IfOk result (λ asked. FreeInRange asked.call) }
     ensures err { IfErr result (IsOfKind (faults_of (map (λ word. word.now) words.now))) }
     ensures range { result ≡ Err LineFault.Range → call_of (map (λ word. word.now) words.now) ≡ None }
     // After the name the one word `replay` is refused for want of memory alone.
@@ -31,11 +34,36 @@ pub fn line<'a>(alloc: Global, words: &'a [&'a str]) -> Result<Call, LineFault>
         Err(error) => return Err(LineFault::Clap(error)),
     };
     match matches.subcommand_matches("free") {
-        None => Ok(Call::Replay),
+        None => Ok(Asked {
+            call: Call::Replay,
+            file: file_in(&matches),
+        }),
         Some(found) => match found_options(found) {
-            Ok(options) => Ok(Call::Free(options)),
+            Ok(options) => Ok(Asked {
+                call: Call::Free(options),
+                file: "-",
+            }),
             Err(_) => Err(LineFault::Range),
         },
+    }
+}
+
+// The file that is replayed; standard input where none is named.
+fn file_in<'a>(found: &ArgMatches<'a>) -> &'a str
+    ensures { result.now ≡ file_in (subcommand_rows_of found.now) }
+{
+    match found.subcommand_matches("replay") {
+        None => "-",
+        Some(found) => named_file(found),
+    }
+}
+
+fn named_file<'a>(found: &ArgMatches<'a>) -> &'a str
+    ensures { result.now ≡ unwrap_or (first_of (codes "file") (rows_of (found_of found.now))) (codes "-") }
+{
+    match found.get_str("file") {
+        None => "-",
+        Some(name) => name,
     }
 }
 
@@ -86,24 +114,33 @@ const STATUSES: &str = "Status:
   1  a step of the record is refused
   2  the input is no record
   3  the words of the command line are refused
-  4  a read of standard input or a write of standard output failed
+  4  a read or a write failed
   5  memory was refused";
 
 fn command<'a>(alloc: Global) -> Result<Command<'a>, AllocError>
     ensures { IfOk result (λ command. app_of command ≡ program) }
 {
-    let replay = subcommand(
-        alloc,
-        "replay",
-        "Reads a record from standard input, replays it and writes the report\nto standard output",
-        STATUSES,
-    );
     Command::new(alloc, "ct")
         .version("0.1.0")
         .about("Rehearses a group of members that broadcast commands to one another")
         .subcommand_required(true)
-        .subcommand(replay)?
+        .subcommand(replay(alloc)?)?
         .subcommand(free(alloc)?)
+}
+
+fn replay<'a>(alloc: Global) -> Result<Command<'a>, AllocError>
+    ensures { IfOk result (λ command. app_of command ≡ replay_app) }
+{
+    subcommand(
+        alloc,
+        "replay",
+        "Replays a record and writes the report to standard output",
+        STATUSES,
+    )
+    .arg(file_argument(
+        alloc,
+        "The file that the record stands in; - for standard input",
+    ))
 }
 
 fn free<'a>(alloc: Global) -> Result<Command<'a>, AllocError>

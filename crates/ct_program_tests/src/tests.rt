@@ -1,6 +1,6 @@
 use ct_model::Step;
 use ct_names::{Command, Refusal};
-use ct_program::{Call, FreeOptions, LineFault, free, line, seeded};
+use ct_program::{Asked, Call, FreeOptions, LineFault, free, line, seeded};
 use ct_records::{ProgramFault, ReadFault, Script, read_record, report, run_replay, write_record};
 use ct_streams::{Counted, Failed, Sink, Source};
 use ct_world::{ReplayFault, World};

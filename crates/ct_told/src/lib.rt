@@ -15,6 +15,6 @@ mod show_fault;
 mod text_part;
 
 pub use fault_line::FaultLine;
-pub use no_record::NoRecord;
+pub use no_record::{NoRecord, begins_schedule};
 pub use reading::read_told;
 pub use show_fault::ShowFault;

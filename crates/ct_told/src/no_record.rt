@@ -33,7 +33,7 @@ impl Model for NoRecord {
 
 impl NoRecord {
     /// What is told of the input with this first fault.
-    pub(crate) fn of(alloc: Global, fault: ReadFault, bytes: &[u8]) -> Result<NoRecord, AllocError>
+    pub fn of(alloc: Global, fault: ReadFault, bytes: &[u8]) -> Result<NoRecord, AllocError>
         ensures { IfOk result (λ told. IsToldAs told fault bytes.now) }
     {
         let place = place_of(alloc, fault, bytes)?;
@@ -129,9 +129,9 @@ fn push_shape(line: &mut String, at: usize, value: Option<Value>) -> Result<(), 
     }
 }
 
-// Whether the input begins as a schedule does: with one of these words or signs, or with a digit.
+/// Whether the input begins as a schedule does: with one of these words or signs, or with a digit.
 #[tactic(auto, unfolding(crate::specs::NoRecords::begins_schedule))]
-fn begins_schedule(bytes: &[u8]) -> bool
+pub fn begins_schedule(bytes: &[u8]) -> bool
     ensures { result ≡ begins_schedule bytes.now }
 {
     bytes.starts_with(b"members ")

@@ -1,4 +1,4 @@
-ghost use Rattle.std.specs.Prelude.{◌≡◌, ◌<◌, ◌+◌, Ok, OnOk, IfOk, IfSome, vec_len};
+ghost use Rattle.std.specs.Prelude.{◌≡◌, ◌<◌, ◌+◌, OnOk, IfOk, IfSome, IsOkAnd, vec_len};
 ghost use Rattle.ct_program.specs.declared.call.Call.TheVariants.{Free};
 ghost use Rattle.ct_program.specs.FreeOptions.{InRange};
 
@@ -12,12 +12,21 @@ const LINE: &str =
     "{\"batch\":1048560,\"cells\":64,\"n\":2,\"steps\":[[\"submit\",1,[\"add\",0,1]],[\"submit\",2,[\"add\",1,2]],[\"submit\",1,[\"add\",2,3]],[\"crash\",2]],\"version\":3}\n";
 
 // The options of a call of a free run.
-fn options_of(call: &Result<Call, LineFault>) -> Option<FreeOptions>
-    ensures { IfSome result (λ options. call.now ≡ Ok (Free options)) }
+fn options_of(asked: &Result<Asked<'_>, LineFault>) -> Option<FreeOptions>
+    ensures { IfSome result (λ options. IsOkAnd asked.now (λ asked. asked.call ≡ Free options)) }
+{
+    match asked {
+        Ok(asked) => options_in(asked.call),
+        Err(_) => None,
+    }
+}
+
+fn options_in(call: Call) -> Option<FreeOptions>
+    ensures { IfSome result (λ options. call ≡ Free options) }
 {
     match call {
-        Ok(Call::Free(options)) => Some(*options),
-        _ => None,
+        Call::Free(options) => Some(options),
+        Call::Replay => None,
     }
 }
 
@@ -25,9 +34,9 @@ fn options_of(call: &Result<Call, LineFault>) -> Option<FreeOptions>
 fn options(alloc: Global, words: &'static [&'static str]) -> Option<FreeOptions>
     ensures { IfSome result InRange }
 {
-    let call = line(alloc, words);
-    let options = options_of(&call);
-    drop(call);
+    let asked = line(alloc, words);
+    let options = options_of(&asked);
+    drop(asked);
     options
 }
 

@@ -25,9 +25,9 @@ enum Came {
     Memory,
 }
 
-fn came_to(found: &Result<Call, LineFault>) -> Came {
+fn came_to(found: &Result<Asked<'_>, LineFault>) -> Came {
     match found {
-        Ok(call) => Came::Call(*call),
+        Ok(asked) => Came::Call(asked.call),
         Err(LineFault::Range) => Came::OutOfRange,
         Err(LineFault::Clap(error)) => Came::Refused(error.kind()),
         Err(_) => Came::Memory,

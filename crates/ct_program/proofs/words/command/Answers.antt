@@ -15,5 +15,5 @@ returns c =
     let top_is : app_of c.subcommand_required.result ≡ on_top (λ (s : Shape). record s { has_version = true; subcommand_required = true })
     (new_app (codes "ct")) =
     required_is ∙ ap (on_top (λ (s : Shape). record s { subcommand_required = true })) (about_is ∙ version_is) in
-    let first_is = with_command _ _ _ _ _ c.in_ok-subcommand.ensures refl top_is c.subcommand-replay.ensures in
+    let first_is = with_command _ _ _ _ _ c.in_ok-subcommand.ensures refl top_is c.in_ok-replay.ensures in
     IfOk-weaker c.subcommand-2.result _ _ (λ r adds. with_command _ _ _ _ _ adds refl first_is c.in_ok-free.ensures) c.subcommand-2.ensures

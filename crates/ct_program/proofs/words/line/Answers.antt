@@ -1,7 +1,8 @@
 use Rattle.std.proofs.Common.{ap, is_some, option_map, sym, true≢false, false, ◌∙◌, ◌≡◌}
 use Rattle.std.specs.Result.{result_ok}
 use Rattle.ct_program.specs.declared.call.Call.TheVariants.{Free}
-use Rattle.ct_program.proofs.Lines.{exact_app, free_called, has_kind, no_faults, replay_called, replay_only, replay_passes}
+use Rattle.ct_program.proofs.Lines.{exact_app, file_found, free_called, free_file, has_kind, no_faults, replay_called, replay_only}
+use Rattle.ct_program.proofs.Lines.{replay_passes}
 use Rattle.ct_program.proofs.words.line.Goals as goal
 
 pub returns-in-Err-clause-err : goal.returns-in-Err-clause-err
@@ -22,6 +23,9 @@ returns-in-None-clause-call c =
     replay_called _ _ _ c.in_ok-command.ensures c.in-Ok.ensures.matches (c.in-Ok.ensures.kinds (exact_app _ c.in_ok-command.ensures))
     (λ named. true≢false (sym (c.subcommand_matches.ensures.found.1 named) ∙ none))
 
+pub returns-in-None-clause-file : goal.returns-in-None-clause-file
+returns-in-None-clause-file c = c.file_in.ensures ∙ file_found _ _ _ c.in_ok-command.ensures c.in-Ok.ensures.matches
+
 pub returns-in-Ok-found_options-clause-ok : goal.returns-in-Ok-found_options-clause-ok
 returns-in-Ok-found_options-clause-ok c = no_faults _ _ c.in_ok-command.ensures
     (c.in-Ok.ensures.kinds (exact_app _ c.in_ok-command.ensures))
@@ -31,6 +35,10 @@ returns-in-Ok-found_options-clause-call c =
     free_called _ _ _ _ c.in_ok-command.ensures c.in-Ok.ensures.matches (c.subcommand_matches.ensures.found.0 (ap is_some c.in-Some.is))
     c.in-Some.ensures.rows
     ∙ ap (option_map Free) (sym (ap result_ok c.found_options.ensures.exact) ∙ ap result_ok c.in-Ok-found_options.is)
+
+pub returns-in-Ok-found_options-clause-file : goal.returns-in-Ok-found_options-clause-file
+returns-in-Ok-found_options-clause-file c =
+    free_file _ _ _ c.in_ok-command.ensures c.in-Ok.ensures.matches (c.subcommand_matches.ensures.found.0 (ap is_some c.in-Some.is))
 
 pub returns-in-Ok-found_options-clause-in_range : goal.returns-in-Ok-found_options-clause-in_range
 returns-in-Ok-found_options-clause-in_range c = c.in-Ok-found_options.ensures.range
