@@ -19,6 +19,7 @@ mod record_fault;
 mod recorder;
 mod recording;
 mod refusing;
+mod righting;
 mod session;
 mod session_fault;
 mod stop;

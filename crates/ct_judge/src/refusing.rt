@@ -5,6 +5,7 @@ ghost use Rattle.ct_text.specs.Adds.{Adds};
 ghost use Rattle.ct_judging.specs.Refusing.{crash_of, crash_text, is_crash_of, limit_of, limit_text, members_text, reason_text};
 ghost use Rattle.ct_judging.specs.Refusing.{refused_text};
 
+use crate::righting::{push_right, right_of};
 use ct_model::Step;
 use ct_names::{
     Limit, MAX_ENVELOPES, MAX_INSTANCES, MAX_ROUNDS, MAX_STEPS, MAX_SUBMISSIONS, Member, Refusal,
@@ -13,7 +14,7 @@ use ct_show::push_facts;
 use ct_world::World;
 use std::alloc::AllocError;
 
-// The step that is refused: whose it is, the refusal, and what is told of it.
+// The step that is refused: whose it is, the refusal, what is told of it, and what would be right.
 #[tactic(auto, unfolding(ct_judging::specs::Refusing::refused_text))]
 pub(crate) fn push_refused(
     text: &mut String,
@@ -25,7 +26,8 @@ pub(crate) fn push_refused(
 {
     let member = step.member();
     write!(text, "refused {member} {refusal}: ")?;
-    push_reason(text, world, step, refusal)
+    push_reason(text, world, step, refusal)?;
+    push_right(text, right_of(world, step, refusal))
 }
 
 // What is right, or when the member crashed, where an instance has nothing to do with the refusal; else the facts behind it.

@@ -3,6 +3,7 @@ pub mod Missing
 pub mod Naming
 pub mod Reading
 pub mod Refusing
+pub mod Rights
 pub mod Schedule
 pub mod Standing
 pub mod Telling

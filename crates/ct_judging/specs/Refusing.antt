@@ -12,6 +12,7 @@ use Rattle.ct_model.specs.Rehearsal.{Rehearsal}
 use Rattle.ct_model.specs.declared.step.Step.{Step}
 use Rattle.ct_model.specs.declared.step.Step.TheVariants.{Crash}
 use Rattle.ct_show.specs.Facts.{facts_text}
+use Rattle.ct_judging.specs.Rights.{right_of, right_text}
 
 -- how much a limit allows
 abbrev pub limit_of : Rehearsal → Limit → ℕ
@@ -49,7 +50,8 @@ reason_text w step BadCommand = codes "a register is 0 to 15"
 reason_text w step (Full limit) = limit_text (limit_of w limit)
 reason_text w step refusal = facts_text w step refusal
 
--- a step that is refused: whose it is, the refusal, and that
+-- a step that is refused: whose it is, the refusal, that, and what would be right
 unfoldable pub refused_text : Rehearsal → Step → Refusal → List ℕ
 refused_text w step refusal =
-    concat (codes "refused " ∷ decimal (actor step) ∷ codes " " ∷ refusal_text refusal ∷ codes ": " ∷ reason_text w step refusal ∷ [])
+    concat (codes "refused " ∷ decimal (actor step) ∷ codes " " ∷ refusal_text refusal ∷ codes ": " ∷ reason_text w step refusal
+    ∷ right_text (right_of w step refusal) ∷ [])

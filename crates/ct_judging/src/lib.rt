@@ -4,7 +4,9 @@
 mod bounds;
 mod heading;
 mod misread;
+mod right;
 
 pub use bounds::{LONGEST_SHOWN, MOST_NAMED};
 pub use heading::{Heading, USUAL_CELLS};
 pub use misread::Misread;
+pub use right::Right;

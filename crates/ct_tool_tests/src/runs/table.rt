@@ -115,7 +115,7 @@ expect 3 received -",
 2 receive #12
 2 repeat #12
 2 receive #12
-2 conclude => refused 2 TooFew: instance 1 round 1 Tally, coordinator 2, estimate {1.1} ts 1, heard 1 {1.1} ts 0, heard 2 {2.1} ts 0, acks 1 of 1
+2 conclude => refused 2 TooFew: instance 1 round 1 Tally, coordinator 2, estimate {1.1} ts 1, heard 1 {1.1} ts 0, heard 2 {2.1} ts 0, acks 1 of 1; 1 replied, 2 needed
 2 receive #13
 2 conclude => ok 14-16",
         ],
@@ -329,7 +329,7 @@ cells 4
 3 enter => ok 15
 2 receive #13
 2 receive #14
-2 choose 1 => refused 2 TooFew: instance 1 round 1 Gather, coordinator 2, estimate {1.1} ts 0, heard 1 {1.1} ts 0, heard 2 {1.1} ts 0, acks 0 of 0
+2 choose 1 => refused 2 TooFew: instance 1 round 1 Gather, coordinator 2, estimate {1.1} ts 0, heard 1 {1.1} ts 0, heard 2 {1.1} ts 0, acks 0 of 0; 2 heard, 3 needed
 2 receive #15
 2 choose 1 => ok 16-19",
         ],
@@ -340,7 +340,7 @@ cells 4
         parts: &[
             TWO_PROPOSALS,
             "enabled 2 => enabled [\"choose\",2,1] [\"choose\",2,2]
-2 choose 3 => refused 2 NotLargest: instance 1 round 1 Gather, coordinator 2, estimate {2.1} ts 0, heard 1 {1.1} ts 0, heard 2 {2.1} ts 0, acks 0 of 0
+2 choose 3 => refused 2 NotLargest: instance 1 round 1 Gather, coordinator 2, estimate {2.1} ts 0, heard 1 {1.1} ts 0, heard 2 {2.1} ts 0, acks 0 of 0; the largest ts heard is 0, from 1
 next 1 => next [\"suspect\",1] or [\"receive\",1,4]
 next 2 => next [\"choose\",2,1]
 next 3 => next [\"receive\",3,3]
@@ -378,7 +378,7 @@ next 3 => next [\"receive\",3,3]
 3 enter => ok 19
 3 receive #13
 3 receive #19
-3 choose 3 => refused 3 NotLargest: instance 1 round 2 Gather, coordinator 3, estimate {2.1} ts 0, heard 1 {1.1} ts 1, heard 3 {2.1} ts 0, acks 0 of 0
+3 choose 3 => refused 3 NotLargest: instance 1 round 2 Gather, coordinator 3, estimate {2.1} ts 0, heard 1 {1.1} ts 1, heard 3 {2.1} ts 0, acks 0 of 0; the largest ts heard is 1, from 1
 3 choose 1 => ok 20-22
 1 repeat #21 => refused 1 NotSent: #21 Prop 1/2 {1.1} went to member 2",
         ],
@@ -417,7 +417,7 @@ next 3 => next [\"receive\",3,3]
 3 enter => ok 20
 3 receive #14
 3 receive #20
-3 choose 3 => refused 3 NotLargest: instance 1 round 2 Gather, coordinator 3, estimate {2.1} ts 0, heard 1 {1.1} ts 1, heard 3 {2.1} ts 0, acks 0 of 0
+3 choose 3 => refused 3 NotLargest: instance 1 round 2 Gather, coordinator 3, estimate {2.1} ts 0, heard 1 {1.1} ts 1, heard 3 {2.1} ts 0, acks 0 of 0; the largest ts heard is 1, from 1
 3 choose 1 => ok 21-23
 2 repeat #21 => refused 2 NotSent: #21 Prop 1/2 {1.1} went to member 1",
         ],
@@ -491,7 +491,7 @@ expect 1 table 0=5 1=5",
             "members 1
 cells 1",
             SECOND_FIRST,
-            "1 deliver => refused 1 Full(Cells): 1 at most",
+            "1 deliver => refused 1 Full(Cells): 1 at most; cells 1024 at the top gives room for more",
         ],
     },
     Run {
