@@ -1,19 +1,21 @@
 //! The texts of faults, in the world before the line.
 
-ghost use Rattle.std.specs.Prelude.{◌≡◌, OnOk, IsTrue};
+ghost use Rattle.std.specs.Prelude.{◌≡◌, ◌-◌, OnOk, IsTrue};
 ghost use Rattle.ct_text.specs.Adds.{Adds};
 ghost use Rattle.ct_names.specs.Group.{is_member};
 ghost use Rattle.ct_play.specs.Expecting.{unmet};
 ghost use Rattle.ct_play.specs.Facts.{there, wanted};
 ghost use Rattle.ct_play.specs.Stating.{came_to};
 ghost use Rattle.ct_judging.specs.Missing.{missing_text, none_from_text};
-ghost use Rattle.ct_judging.specs.Telling.{claim_unmet, fault_in, goal_unmet, if_member_text, not_met_text, not_reached_text};
-ghost use Rattle.ct_judging.specs.Telling.{not_so_text, other_text, seen_text, term_unmet, untrue_text};
+ghost use Rattle.ct_judging.specs.Telling.{claim_unmet, done_by_first, fault_in, goal_unmet, if_member_text, not_met_text};
+ghost use Rattle.ct_judging.specs.Telling.{not_reached_text, not_so_text, or_before, other_text, seen_text, step_fault, term_unmet};
+ghost use Rattle.ct_judging.specs.Telling.{tried, tried_of, untrue_text};
 ghost use Rattle.ct_judging.specs.Telling.{plain_text, stranger_text, unmet_text};
 ghost use Rattle.ct_judging.specs.Wording.{behind};
 
 use crate::missing::{push_across, push_missing, push_none_from};
 use crate::refusing::push_refused;
+use crate::trying::behind_first;
 use crate::wording::push_number;
 use ct_grammar::{Act, Claim, Fact, Goal, Line, Pick, Play, Term, Text, When, Who};
 use ct_names::Member;
@@ -32,12 +34,83 @@ pub(crate) fn push_fault_in(
     ensures { OnOk result (Adds text.old text.new (fault_in stage.now line.now fault)) }
 {
     match fault {
+        LineFault::NotThere(member, _) => push_tried(alloc, text, stage, line, member, fault),
+        LineFault::NoneFrom(member, _) => push_tried(alloc, text, stage, line, member, fault),
+        LineFault::Across(member, _) => push_tried(alloc, text, stage, line, member, fault),
+        LineFault::Refused(step, _) => push_tried(alloc, text, stage, line, step.member(), fault),
+        LineFault::NotMet(member) => push_not_met(alloc, text, stage, member, line),
+        LineFault::NotSo(member) => push_not_so(alloc, text, stage, member, line),
+        fault => push_plain(text, fault),
+    }
+}
+
+// The fault of the member's step, which the line tries.
+fn push_tried(
+    alloc: Global,
+    text: &mut String,
+    stage: &Stage,
+    line: &Line,
+    member: Member,
+    fault: LineFault,
+) -> Result<(), AllocError>
+    ensures { OnOk result (Adds text.old text.new (step_fault (tried stage.now member line.now) fault)) }
+{
+    match line {
+        Line::Play(Play::Act(who, act)) => {
+            push_tried_of(alloc, text, stage, who, act, member, fault)
+        }
+        Line::Play(Play::Stated(who, act, _)) => {
+            push_tried_of(alloc, text, stage, who, act, member, fault)
+        }
+        _ => push_step_fault(text, stage, fault),
+    }
+}
+
+// The same of an act of these members.
+fn push_tried_of(
+    alloc: Global,
+    text: &mut String,
+    stage: &Stage,
+    who: &Who,
+    act: &Act,
+    member: Member,
+    fault: LineFault,
+) -> Result<(), AllocError>
+    ensures { OnOk result (Adds text.old text.new (step_fault (tried_of stage.now member who.now act.now) fault)) }
+{
+    match who {
+        Who::One(_) => push_step_fault(text, stage, fault),
+        Who::Some(_) => push_behind_first(alloc, text, stage, who, act, member, fault),
+        Who::All => push_behind_first(alloc, text, stage, who, act, member, fault),
+    }
+}
+
+// The same where several are named.
+fn push_behind_first(
+    alloc: Global,
+    text: &mut String,
+    stage: &Stage,
+    who: &Who,
+    act: &Act,
+    member: Member,
+    fault: LineFault,
+) -> Result<(), AllocError>
+    ensures { OnOk result (Adds text.old text.new
+        (step_fault (or_before stage.now (done_by_first who.now act.now stage.now (member - 1))) fault)) }
+{
+    let tried = behind_first(alloc, stage, who, act, member)?;
+    push_step_fault(text, &tried, fault)
+}
+
+// The fault of a step that is tried on the stage.
+fn push_step_fault(text: &mut String, stage: &Stage, fault: LineFault) -> Result<(), AllocError>
+    ensures { OnOk result (Adds text.old text.new (step_fault stage.now fault)) }
+{
+    match fault {
         LineFault::NotThere(member, pick) => push_not_there(text, stage, member, pick),
         LineFault::NoneFrom(member, _) => push_none(text, stage, member),
         LineFault::Across(_, serial) => push_across(text, stage, serial),
         LineFault::Refused(step, refusal) => push_refused(text, stage.world(), step, refusal),
-        LineFault::NotMet(member) => push_not_met(alloc, text, stage, member, line),
-        LineFault::NotSo(member) => push_not_so(alloc, text, stage, member, line),
         fault => push_plain(text, fault),
     }
 }

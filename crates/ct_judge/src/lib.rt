@@ -24,6 +24,7 @@ mod session;
 mod session_fault;
 mod stop;
 mod telling;
+mod trying;
 mod wording;
 mod words;
 

@@ -1,8 +1,10 @@
 -- The texts of faults.
-use Rattle.std.specs.Prelude.{ℕ, List, [], ◌∷◌, ◌++◌, codes, decimal, Option, Some, None, Result, Ok, Err}
+use Rattle.std.specs.Prelude.{ℕ, zero, suc, ◌-◌, List, [], ◌∷◌, ◌++◌, codes, decimal, Option, Some, None, Result, Ok, Err}
 use Rattle.std.specs.Prelude.{if◌then◌else◌}
 use Rattle.std.specs.List.{concat}
 use Rattle.ct_names.specs.Group.{is_member}
+use Rattle.ct_names.specs.MemberSet.{has_member}
+use Rattle.ct_model.specs.Actor.{actor}
 use Rattle.ct_grammar.specs.declared.act.Act.{Act}
 use Rattle.ct_grammar.specs.declared.claim.Claim.{Claim}
 use Rattle.ct_grammar.specs.declared.claim.Claim.TheVariants as claim
@@ -10,12 +12,14 @@ use Rattle.ct_grammar.specs.declared.fact.Fact.{Fact}
 use Rattle.ct_grammar.specs.declared.line.Line.{Line}
 use Rattle.ct_grammar.specs.declared.line.Line.TheVariants.{Play as Plays}
 use Rattle.ct_grammar.specs.declared.play.Play.{Play}
-use Rattle.ct_grammar.specs.declared.play.Play.TheVariants.{Expect, Stated, Until}
+use Rattle.ct_grammar.specs.declared.play.Play.TheVariants.{Act as Acts, Expect, Stated, Until}
 use Rattle.ct_grammar.specs.declared.term.Term.{Term}
 use Rattle.ct_grammar.specs.declared.term.When.{When}
 use Rattle.ct_grammar.specs.declared.term.When.TheVariants.{Now, Ever, Never}
 use Rattle.ct_grammar.specs.declared.who.Who.{Who}
+use Rattle.ct_grammar.specs.declared.who.Who.TheVariants as who
 use Rattle.ct_print.specs.Goals.{claim_text, term_text}
+use Rattle.ct_play.specs.Acting.{done, done_by, go_on}
 use Rattle.ct_play.specs.Claims.{amount_of}
 use Rattle.ct_play.specs.Expecting.{unmet}
 use Rattle.ct_play.specs.Facts.{there, wanted}
@@ -103,12 +107,49 @@ plain_text OutOfMemory = codes "out of memory"
 plain_text Board = codes "board refused"
 plain_text fault = codes "refused"
 
+-- ---- faults of steps
+
+-- a fault of a step that is tried in this world
+abbrev pub step_fault : Played → LineFault → List ℕ
+step_fault w (NotThere p pick) = if_member_text w p (missing_text w.rehearsal p pick)
+step_fault w (NoneFrom p set) = if_member_text w p (none_from_text w.rehearsal p)
+step_fault w (Across p k) = across_text w.rehearsal k
+step_fault w (Refused step refusal) = refused_text w.rehearsal step refusal
+step_fault w fault = plain_text fault
+
+-- after a member of a line that names several did its act, if the line names it
+abbrev pub done_if_named : Who → Act → Played → ℕ → Result Played LineFault
+done_if_named (who.One q) act s p = Ok s
+done_if_named (who.Some set) act s p = if has_member set p then done s p act else Ok s
+done_if_named who.All act s p = done_by who.All act s p
+
+-- the same of each of the first members
+abbrev pub done_by_first : Who → Act → Played → ℕ → Result Played LineFault
+done_by_first who act s zero = Ok s
+done_by_first who act s (suc k) = go_on (done_by_first who act s k) (λ t. done_if_named who act t (suc k))
+
+abbrev pub or_before : Played → Result Played LineFault → Played
+or_before s (Ok t) = t
+or_before s (Err fault) = s
+
+-- the world in which p tries the act of a line: after those that the line names before it did it
+abbrev pub tried_of : Played → ℕ → Who → Act → Played
+tried_of w p (who.One q) act = w
+tried_of w p who act = or_before w (done_by_first who act w (p - 1))
+
+abbrev pub tried : Played → ℕ → Line → Played
+tried w p (Plays (Acts who act)) = tried_of w p who act
+tried w p (Plays (Stated who act text)) = tried_of w p who act
+tried w p line = w
+
+-- ---- faults of lines
+
 -- a fault of a line, where this is the world before it
 abbrev pub fault_in : Played → Line → LineFault → List ℕ
-fault_in w line (NotThere p pick) = if_member_text w p (missing_text w.rehearsal p pick)
-fault_in w line (NoneFrom p set) = if_member_text w p (none_from_text w.rehearsal p)
-fault_in w line (Across p k) = across_text w.rehearsal k
-fault_in w line (Refused step refusal) = refused_text w.rehearsal step refusal
+fault_in w line (NotThere p pick) = step_fault (tried w p line) (NotThere p pick)
+fault_in w line (NoneFrom p set) = step_fault (tried w p line) (NoneFrom p set)
+fault_in w line (Across p k) = step_fault (tried w p line) (Across p k)
+fault_in w line (Refused step refusal) = step_fault (tried w (actor step) line) (Refused step refusal)
 fault_in w line (NotMet who) = not_met_text w who line
 fault_in w line (NotSo p) = not_so_text w p line
 fault_in w line fault = plain_text fault
