@@ -22,6 +22,7 @@ use Rattle.ct_play.specs.Picking.{waiting_at}
 use Rattle.ct_play.specs.Played.{Played}
 use Rattle.ct_judging.specs.Judging.{taken}
 use Rattle.ct_judging.specs.Naming.{letter_name, listed}
+use Rattle.ct_judging.specs.Printing.{printed}
 use Rattle.ct_judging.specs.Reading.{misread_text}
 use Rattle.ct_judging.specs.Standing.{Standing}
 use Rattle.ct_judging.specs.Telling.{Explained, explained}
@@ -129,7 +130,7 @@ or_before s (Err e) = s
 
 abbrev pub answer : Standing → Result Line Misread → List ℕ
 answer s (Ok line) = line_answer s line (explained s line (taken s line))
-answer s (Err misread) = misread_text misread ++ codes "\n"
+answer s (Err misread) = printed (misread_text misread) ++ codes "\n"
 
 abbrev pub standing_after : Standing → Result Line Misread → Standing
 standing_after s (Ok line) = or_before s (explained s line (taken s line))

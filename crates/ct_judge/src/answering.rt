@@ -8,6 +8,7 @@ ghost use Rattle.ct_judge.specs.Answers.{ok_text, receipt_of};
 ghost use Rattle.ct_judge.specs.Answers.{record_answer, report_answer, state_answer, used_text, waiting_answer};
 
 use crate::naming::push_letters;
+use crate::printing::push_bytes;
 use crate::wording::push_number;
 use ct_grammar::Question;
 use ct_json::report_json;
@@ -140,16 +141,6 @@ fn push_record(alloc: Global, text: &mut String, world: &World) -> Result<(), Al
     text.push_str("record ")?;
     push_bytes(text, &record)?;
     text.push_str("\n")
-}
-
-// The bytes, which are text.
-fn push_bytes(text: &mut String, bytes: &[u8]) -> Result<(), AllocError>
-    ensures { OnOk result (Adds text.old text.new bytes.now) }
-{
-    match std::str::from_utf8(bytes) {
-        Ok(bytes) => text.push_str(bytes),
-        Err(_) => Err(AllocError),
-    }
 }
 
 // The limits of a member, those of the group, and how much of these is used.

@@ -14,6 +14,7 @@ mod misread;
 mod missing;
 mod naming;
 mod partial;
+mod printing;
 mod reading;
 mod record_fault;
 mod recorder;

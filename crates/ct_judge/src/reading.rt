@@ -5,6 +5,7 @@ ghost use Rattle.ct_text.specs.Adds.{Adds};
 ghost use Rattle.ct_grammar.specs.Lines.{line_of};
 ghost use Rattle.ct_judging.specs.Reading.{begins_record, line_in, line_in_text, line_or, shown, shown_text, trimmed};
 
+use crate::printing::push_printed;
 use ct_grammar::{Line, line_of, text_in};
 use ct_judging::{LONGEST_SHOWN, Misread};
 use std::alloc::{AllocError, Global};
@@ -47,8 +48,8 @@ fn line_of_text(alloc: Global, text: &str) -> Result<Result<Line, Misread>, Allo
     }
 }
 
-/// Puts the line before its fault: without blanks at its ends, a colon and a space behind it; nothing of one that is longer than
-/// [`LONGEST_SHOWN`] or no UTF-8.
+/// Puts the line before its fault: without blanks at its ends and without control bytes, a colon and a space behind it; nothing of
+/// one that is longer than [`LONGEST_SHOWN`] or no UTF-8.
 #[tactic(auto, unfolding(ct_judging::specs::Reading::shown))]
 pub fn push_shown(text: &mut String, line: &[u8]) -> Result<(), AllocError>
     ensures { OnOk result (Adds text.old text.new (shown line.now)) }
@@ -60,7 +61,10 @@ fn push_shown_text(text: &mut String, line: Option<&str>) -> Result<(), AllocErr
     ensures { OnOk result (Adds text.old text.new (shown_text (option_map (λ line. line.now) line.entry))) }
 {
     match line {
-        Some(line) if line.len() <= LONGEST_SHOWN => write!(text, "{line}: "),
+        Some(line) if line.len() <= LONGEST_SHOWN => {
+            push_printed(text, line)?;
+            text.push_str(": ")
+        }
         _ => Ok(()),
     }
 }

@@ -9,11 +9,10 @@ ghost use Rattle.ct_judge.specs.Sessions.{after_byte, answer_at, heard_in, kept,
 use crate::answering::{push_answer, push_ok};
 use crate::heard::Heard;
 use crate::judge::Judge;
-use crate::misread::push_misread;
 use crate::reading::line_in;
 use crate::session_fault::SessionFault;
 use crate::stop::Stop;
-use crate::telling::tell_line;
+use crate::telling::{tell_line, text_of_misread};
 use ct_grammar::{Line, Play, Question};
 use ct_judging::Misread;
 use ct_world::World;
@@ -151,8 +150,8 @@ fn tell(
     match line {
         Ok(line) => tell_and_answer(alloc, text, judge, &line),
         Err(misread) => {
-            push_misread(text, &misread)?;
-            text.push_str("\n")?;
+            let words = text_of_misread(alloc, &misread)?;
+            push_line(text, &words)?;
             Ok(true)
         }
     }

@@ -2,6 +2,7 @@
 
 ghost use Rattle.std.specs.Prelude.{◌≡◌, Result, Ok, Err, OnOk, IfOk, IfErr, string_bytes};
 ghost use Rattle.ct_judging.specs.Judging.{taken};
+ghost use Rattle.ct_judging.specs.Printing.{printed};
 ghost use Rattle.ct_judging.specs.Reading.{misread_text};
 ghost use Rattle.ct_judging.specs.Standing.{Standing, played_of};
 ghost use Rattle.ct_judge.specs.Stops.{IsStopKept, IsStopOf};
@@ -9,6 +10,7 @@ ghost use Rattle.ct_judging.specs.Telling.{Explained, explained, fault_text, tol
 
 use crate::judge::Judge;
 use crate::misread::push_misread;
+use crate::printing::printed;
 use crate::reading::line_in;
 use crate::stop::Stop;
 use ct_grammar::Line;
@@ -31,7 +33,7 @@ pub(crate) fn tell(alloc: Global, judge: &mut Judge, bytes: &[u8]) -> Result<(),
 
 // Bytes that are no line.
 fn no_line(alloc: Global, misread: &Misread) -> Stop
-    ensures stop { IsStopOf (Err (record { fault = LineFault.NotUnderstood; text = misread_text misread.now })) result }
+    ensures stop { IsStopOf (Err (record { fault = LineFault.NotUnderstood; text = printed (misread_text misread.now) })) result }
     ensures same { (s : Standing) → IsStopKept s s result }
 {
     match text_of_misread(alloc, misread) {
@@ -40,12 +42,13 @@ fn no_line(alloc: Global, misread: &Misread) -> Stop
     }
 }
 
-fn text_of_misread(alloc: Global, misread: &Misread) -> Result<String, AllocError>
-    ensures { IfOk result (λ text. string_bytes text ≡ misread_text misread.now) }
+// What is told of bytes that are no line.
+pub(crate) fn text_of_misread(alloc: Global, misread: &Misread) -> Result<String, AllocError>
+    ensures { IfOk result (λ text. string_bytes text ≡ printed (misread_text misread.now)) }
 {
     let mut text = String::new(alloc);
     push_misread(&mut text, misread)?;
-    Ok(text)
+    printed(alloc, &text)
 }
 
 // Tells the judge the line.
@@ -83,9 +86,9 @@ fn text_of(
     line: &Line,
     fault: LineFault,
 ) -> Result<String, AllocError>
-    ensures { IfOk result (λ text. string_bytes text ≡ fault_text (played_of judge.now) line.now fault) }
+    ensures { IfOk result (λ text. string_bytes text ≡ printed (fault_text (played_of judge.now) line.now fault)) }
 {
     let mut text = String::new(alloc);
     judge.push_fault(&mut text, line, fault)?;
-    Ok(text)
+    printed(alloc, &text)
 }

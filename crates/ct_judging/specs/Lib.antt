@@ -1,6 +1,7 @@
 pub mod Judging
 pub mod Missing
 pub mod Naming
+pub mod Printing
 pub mod Reading
 pub mod Refusing
 pub mod Rights

@@ -8,6 +8,7 @@ use Rattle.ct_grammar.specs.declared.misfit.Misfit.{Misfit}
 use Rattle.ct_grammar.specs.Lines.{line_of}
 use Rattle.ct_grammar.specs.Misfits.{misfit_text}
 use Rattle.ct_grammar.specs.Texts.{text_in}
+use Rattle.ct_judging.specs.Printing.{printed}
 use Rattle.ct_judging.specs.Wording.{behind}
 use Rattle.ct_judging.specs.declared.misread.Misread.{Misread}
 use Rattle.ct_judging.specs.declared.misread.Misread.TheVariants.{NoText, Record, TooLong, NoLine}
@@ -51,10 +52,10 @@ trimmed_end line = take (length line - suffix_len is_ascii_whitespace line) line
 unfoldable pub trimmed : List ℕ → List ℕ
 trimmed line = trimmed_end (trimmed_start line)
 
--- a text that is too long is not shown
+-- a text that is too long is not shown, nor are control bytes
 abbrev pub shown_text : Option (List ℕ) → List ℕ
 shown_text None = []
-shown_text (Some text) = if nat_le (length text) LONGEST_SHOWN then text ++ codes ": " else []
+shown_text (Some text) = if nat_le (length text) LONGEST_SHOWN then printed text ++ codes ": " else []
 
 -- the line, if it is text
 unfoldable pub shown : List ℕ → List ℕ

@@ -31,6 +31,7 @@ use Rattle.ct_play.specs.declared.line_fault.LineFault.TheVariants.{NotUnderstoo
 use Rattle.ct_play.specs.declared.line_fault.LineFault.TheVariants.{Across, Refused, NotMet, Restless, NotSo, OutOfMemory, Board}
 use Rattle.ct_judging.specs.Judging.{taken}
 use Rattle.ct_judging.specs.Missing.{across_text, missing_text, none_from_text}
+use Rattle.ct_judging.specs.Printing.{printed}
 use Rattle.ct_judging.specs.Reading.{line_in, misread_text}
 use Rattle.ct_judging.specs.Refusing.{refused_text}
 use Rattle.ct_judging.specs.Standing.{Standing, played_of}
@@ -159,7 +160,7 @@ abbrev pub fault_text : Result Played LineFault → Line → LineFault → List 
 fault_text (Ok w) line fault = fault_in w line fault
 fault_text (Err other) line fault = plain_text fault
 
--- a fault and its text
+-- a fault and its text, which may have words of the line, but no control bytes
 pub record Explained : Type 0 where
   pub fault : LineFault
   pub text : List ℕ
@@ -167,11 +168,11 @@ pub record Explained : Type 0 where
 -- what a line comes to, its fault explained
 abbrev pub explained : Standing → Line → Result Standing LineFault → Result Standing Explained
 explained s line (Ok t) = Ok t
-explained s line (Err fault) = Err (record { fault = fault; text = fault_text (played_of s) line fault })
+explained s line (Err fault) = Err (record { fault = fault; text = printed (fault_text (played_of s) line fault) })
 
 abbrev pub told_if : Standing → Result Line Misread → Result Standing Explained
 told_if s (Ok line) = explained s line (taken s line)
-told_if s (Err misread) = Err (record { fault = NotUnderstood; text = misread_text misread })
+told_if s (Err misread) = Err (record { fault = NotUnderstood; text = printed (misread_text misread) })
 
 -- what a line of these bytes comes to, its fault explained
 unfoldable pub told : Standing → List ℕ → Result Standing Explained
