@@ -150,7 +150,7 @@ func TestSession(t *testing.T) {
 	if err != nil {
 		t.Fatal(err)
 	}
-	for _, it := range [][2]string{{"", ""}, {"members 3\n1 sub", "ok\n"}, {"mit set 0 7\nnext 2\n", "ok 1-3\nnext [\"receive\",2,2]\n"}} {
+	for _, it := range [][2]string{{"", ""}, {"members 3\n1 sub", "ok\n"}, {"mit set 0 7\nnext 2\n", "ok 1-3\nnext 2 receive data 1.1 from 1\n"}} {
 		if answers, err := session.TellBytes([]byte(it[0])); string(answers) != it[1] || err != nil {
 			t.Fatal(string(answers), err)
 		}

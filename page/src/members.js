@@ -1,6 +1,6 @@
 // The members as they stand, and what each may do: a button for each line that one may tell.
 
-import { stepsIn, withLongNumbers } from "./record.js";
+import { linesIn, withLongNumbers } from "./record.js";
 import { envelopeText } from "./wording.js";
 import { goneTo, waitingIn } from "./envelopes.js";
 import { safe } from "./safe.js";
@@ -49,16 +49,16 @@ export class Members {
     const p = facts.member;
     const told = `<p class="facts">${safe(state.replace(/^state /, ""))}${outcome(facts)}</p>`;
     const head = `<h3 id="member-${p}">member ${p}</h3>${facts.up ? "" : " crashed"}`;
-    const found = [stepsIn(enabled), stepsIn(next), waitingIn(waiting)];
+    const found = [linesIn(enabled), linesIn(next), waitingIn(waiting)];
     const body = !facts.up ? waits(found[2].length) : isEnd ? this.acts(p, ...found) : standing(...found);
     const look = facts.up ? "member" : "member down";
     return `<article class="${look}" data-member="${p}" aria-labelledby="member-${p}">${head}${told}${body}</article>`;
   }
 
   acts(p, enabled, next, waiting) {
-    const own = enabled.map((step) => act(`${p} ${words(step)}`, words(step), isIn(step, next) ? "next" : "may"));
+    const own = enabled.map((line) => act(line, words(line), next.includes(line) ? "next" : "may"));
     const always = [act(`${p} turns 1`, "a turn", "turn"), act(`crash ${p}`, "crash", "stop")];
-    const received = new Set(next.filter((step) => step[0] === "receive").map((step) => step[2]));
+    const received = receivedNext(next, waiting);
     return `<div class="acts" role="group" aria-label="Steps of member ${p}">${own.join("")}${always.join("")}</div>`
       + this.envelopes(p, waiting, received) + submission(p) + this.others(p, enabled) + gone(p);
   }
@@ -67,7 +67,7 @@ export class Members {
     if (waiting.length === 0) return `<span class="label">nothing waits</span>`;
     const isWhole = this.isWhole.has(p) || waiting.length <= MOST_WAITING;
     const shown = isWhole ? waiting : waiting.slice(0, MOST_WAITING);
-    const all = shown.map((it) => envelope(p, it, received.has(it.serial)));
+    const all = shown.map((it) => envelope(p, it, it === received));
     const left = waiting.length - shown.length;
     const more = left === 0 ? "" : `<button type="button" data-whole="${p}" data-key="whole">and ${left} more</button>`;
     return `<span class="label">waiting: receive, postpone ⤓, lose ✕</span><div class="acts">${all.join("")}${more}</div>`;
@@ -108,19 +108,23 @@ export class Members {
   }
 }
 
-const isIn = (step, list) => list.some((it) => JSON.stringify(it) === JSON.stringify(step));
+// The envelope that the driver receives next: the first that is so named.
+function receivedNext(next, waiting) {
+  const names = next.map(words).filter((it) => it.startsWith("receive ")).map((it) => it.replace("receive ", ""));
+  return waiting.find((it) => names.includes(it.carried));
+}
 
 // A member as it was: what it might have done, and what waited.
 function standing(enabled, next, waiting) {
-  const may = enabled.map((step) => `${isIn(step, next) ? "★ " : ""}${words(step)}`);
-  const received = new Set(next.filter((step) => step[0] === "receive").map((step) => step[2]));
-  const item = (it) => `<li class="is-${it.kind}">${received.has(it.serial) ? "★ " : ""}${safe(it.text)}</li>`;
+  const may = enabled.map((line) => `${next.includes(line) ? "★ " : ""}${words(line)}`);
+  const received = receivedNext(next, waiting);
+  const item = (it) => `<li class="is-${it.kind}">${it === received ? "★ " : ""}${safe(it.text)}</li>`;
   const shown = waiting.slice(0, MOST_WAITING).map(item);
   const more = waiting.length > shown.length ? `<li>and ${waiting.length - shown.length} more</li>` : "";
   return `<p class="facts">may ${safe(may.join(", ") || "take no step of its own")}</p><ul class="waiting">${shown.join("")}${more}</ul>`;
 }
 
-const words = (step) => [step[0], ...step.slice(2)].join(" ");
+const words = (line) => line.replace(/^\d+ /, "");
 
 // A button that tells a line.
 function button(line, { key, text, look = "", said = "" }) {

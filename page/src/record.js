@@ -16,5 +16,5 @@ export function linesOfRecord(text) {
   return [`members ${n}`, `cells ${cells}`, ...(batch === undefined ? [] : [`batch ${batch}`]), ...steps.map(lineOf)];
 }
 
-// The steps in an answer such as: enabled ["enter",1] ["choose",2,1]
-export const stepsIn = (answer) => [...answer.matchAll(/\[[^\]]*\]/g)].map((found) => JSON.parse(found[0]));
+// The lines in an answer such as: enabled 1 deliver, 1 choose 3; or: next 1 suspect or 1 receive est 1/1 from 3
+export const linesIn = (answer) => answer.replace(/^\w+ /, "").split(/, | or /).filter((line) => line !== "-");

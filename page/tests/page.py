@@ -97,16 +97,12 @@ class Page:
         return self.run(f"return [...document.querySelectorAll('{selector}')].map((it) => it.dataset.line)")
 
     def next_steps(self) -> List[str]:
-        """The same, by the library's answers: a receipt by the name of the envelope that waits."""
+        """The same, by the library's answers."""
         return self.run("""const found = [];
           for (const article of document.querySelectorAll('article')) {
             const p = article.dataset.member;
-            const [next, waiting] = ct.app.run.live.tell([`next ${p}`, `waiting ${p}`]);
-            for (const [, text] of next.matchAll(/(\\[[^\\]]*\\])/g)) {
-              const [name, , what] = JSON.parse(text);
-              const words = new RegExp(`#${what} (\\\\S+ \\\\S+ from \\\\d+)`).exec(waiting);
-              found.push([p, name, name === 'receive' ? words[1] : what].filter((it) => it !== undefined).join(' '));
-            }
+            const [next] = ct.app.run.live.tell([`next ${p}`]);
+            found.push(...next.replace('next ', '').split(' or ').filter((line) => line !== '-'));
           }
           return found""")
 

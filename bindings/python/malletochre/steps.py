@@ -240,6 +240,13 @@ def step_of_entry(entry: List[Any]) -> Step:
     return step
 
 
+def step_of_words(words: List[str]) -> Step:
+    """The step of a line of a schedule: its member, its act, and the member whose estimate is chosen."""
+    member, name, *rest = words
+    step: Step = STEPS_BY_NAME[name](int(member), *map(int, rest))
+    return step
+
+
 def step_of_record(entry: Any) -> Step:
     """The step of what a record has in a step's place; ValueError where it is none."""
     try:

@@ -8,7 +8,7 @@ from typing import Any, Dict, List, Optional, Tuple
 from . import tool
 from .envelopes import Ack, Content, Data, Decision, Envelope, Estimate, Message, Nack, Proposal
 from .refusal import BY_NAME, Refusal, StepRefused
-from .steps import WORD, Command, Crash, Receive, Repeat, Postpone, Lose, Step, Submit, step_of_entry, within
+from .steps import WORD, Command, Crash, Receive, Repeat, Postpone, Lose, Step, Submit, step_of_words, within
 
 
 def act(step: Step) -> str:
@@ -84,8 +84,8 @@ class ToolWorld:
         return self.refusal(Crash(member)) is Refusal.CRASHED
 
     def next(self, member: int) -> Optional[Step]:
-        entry = self._pipe.ask(f"next {member}").split(" ")[1]
-        return None if entry == "-" or entry.startswith('["receive"') else step_of_entry(json.loads(entry))
+        line = self._pipe.ask(f"next {member}").partition(" ")[2].partition(" or ")[0]
+        return None if line == "-" or " receive " in line else step_of_words(line.split(" "))
 
     def steps(self) -> List[Step]:
         self._pipe.look()

@@ -172,7 +172,7 @@ class Sessions(unittest.TestCase):
             self.assertEqual(str(caught.exception), "line 3: 2 receive data 1.1: sent 0, the algorithm sends 3")
             self.assertRaises(ValueError, session.tell, "next 1")
             self.assertRaises(ValueError, session.ask, "next 1\nnext 2")
-            self.assertEqual(session.ask("next 1"), 'next ["receive",1,1]')
+            self.assertEqual(session.ask("next 1"), "next 1 receive data 1.1 from 1")
 
     def test_the_record_of_a_session(self) -> None:
         with tempfile.TemporaryDirectory() as folder:

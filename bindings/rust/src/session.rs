@@ -18,7 +18,7 @@ const TAKEN: [&str; 8] = ["ok", "enabled", "next", "state", "waiting", "report",
 /// let mut session = Session::open()?;
 /// session.tell("members 3")?;
 /// assert_eq!(session.tell("1 submit set 0 7")?, 1..4);
-/// assert_eq!(session.ask("next 2")?, r#"next ["receive",2,2]"#);
+/// assert_eq!(session.ask("next 2")?, "next 2 receive data 1.1 from 1");
 /// let refused = session.tell("2 begin").unwrap_err();
 /// assert_eq!(refused.to_string(), "line 4: 2 begin: refused 2 Nothing: instance 0 idle");
 /// # Ok(())

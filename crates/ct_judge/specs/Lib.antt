@@ -6,4 +6,5 @@ pub mod Recording
 pub mod Schedule
 pub mod SessionFaults
 pub mod Sessions
+pub mod Steps
 pub mod Stops

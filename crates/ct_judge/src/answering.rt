@@ -9,6 +9,7 @@ ghost use Rattle.ct_judge.specs.Answers.{record_answer, report_answer, state_ans
 
 use crate::naming::push_letters;
 use crate::printing::push_bytes;
+use crate::steps::{push_enabled_lines, push_next_lines};
 use crate::wording::push_number;
 use ct_grammar::Question;
 use ct_json::report_json;
@@ -18,7 +19,7 @@ use ct_names::{
 };
 use ct_play::{Stage, first_near, waiting_at};
 use ct_records::write_record;
-use ct_show::{first_receipt, push_member_facts, push_next_of, push_own_enabled};
+use ct_show::{first_receipt, push_member_facts};
 use ct_world::World;
 use std::alloc::{AllocError, Global};
 
@@ -48,7 +49,7 @@ pub(crate) fn push_answer(
     ensures { OnOk result (Adds text.old text.new (asked_text stage.now question)) }
 {
     match question {
-        Question::Enabled(member) => push_enabled(text, stage.world(), member),
+        Question::Enabled(member) => push_enabled(text, stage, member),
         Question::Next(member) => push_next_known(text, stage, member),
         Question::State(member) => push_state(text, stage.world(), member),
         Question::Waiting(member) => push_waiting(text, stage, member),
@@ -60,11 +61,11 @@ pub(crate) fn push_answer(
 
 // The steps that the member may take by itself.
 #[tactic(auto, unfolding(crate::specs::Answers::enabled_text))]
-fn push_enabled(text: &mut String, world: &World, member: Member) -> Result<(), AllocError>
-    ensures { OnOk result (Adds text.old text.new (enabled_text world.now.rehearsal member)) }
+fn push_enabled(text: &mut String, stage: &Stage, member: Member) -> Result<(), AllocError>
+    ensures { OnOk result (Adds text.old text.new (enabled_text stage.now.rehearsal member)) }
 {
-    text.push_str("enabled")?;
-    push_own_enabled(text, " ", "", world, member)?;
+    text.push_str("enabled ")?;
+    push_enabled_lines(text, stage, member)?;
     text.push_str("\n")
 }
 
@@ -87,8 +88,9 @@ fn push_next(text: &mut String, stage: &Stage, member: Member) -> Result<(), All
 {
     let world = stage.world();
     text.push_str("next ")?;
-    push_next_of(
+    push_next_lines(
         text,
+        stage,
         world.next_local(member),
         receipt_of(world, member, first_near(stage, member)),
     )?;

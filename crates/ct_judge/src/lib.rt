@@ -23,6 +23,7 @@ mod refusing;
 mod righting;
 mod session;
 mod session_fault;
+mod steps;
 mod stop;
 mod telling;
 mod trying;

@@ -75,8 +75,8 @@ letter_name w k = envelope_name w k ++ value_in (letter_at w k) (unwrap_or (valu
 
 -- ---- several
 
--- these serials, by such names, a comma between each two; a dash where there is none
-abbrev pub listed : (ℕ → List ℕ) → List ℕ → List ℕ
+-- these, by such names, a comma between each two; a dash where there is none
+abbrev pub listed : {A : Type 0} → (A → List ℕ) → List A → List ℕ
 listed name [] = codes "-"
 listed name (k ∷ ks) = name k ++ flat_map (λ j. codes ", " ++ name j) ks
 

@@ -135,7 +135,7 @@ cells 4
 1 repeat #1 => refused 1 StillWaiting: #1 Data 1.1 is in its line
 next 2 => next -
 2 repeat #2
-next 2 => next [\"receive\",2,2]
+next 2 => next 2 receive data 1.1 from 1
 2 receive #2 => ok 4-6",
         ],
     },
@@ -151,28 +151,28 @@ pub(super) static LED: [Run; 2] = [
 cells 4
 next 1 => next -
 1 submit add 3 4 => ok 1
-next 1 => next [\"receive\",1,1]
+next 1 => next 1 receive data 1.1 from 1
 1 receive #1
-next 1 => next [\"begin\",1]
+next 1 => next 1 begin
 1 begin
-next 1 => next [\"enter\",1]
+next 1 => next 1 enter
 1 enter => ok 2
 state 1 => state instance 1 round 1 Gather, coordinator 1, estimate {1.1} ts 0, acks 0 of 0
-next 1 => next [\"receive\",1,2]
+next 1 => next 1 receive est 1/1 from 1
 1 receive #2
-next 1 => next [\"choose\",1,1]
+next 1 => next 1 choose 1
 1 choose 1 => ok 3
-next 1 => next [\"suspect\",1] or [\"receive\",1,3]
+next 1 => next 1 suspect or 1 receive prop 1/1 from 1
 1 receive #3
-next 1 => next [\"adopt\",1]
+next 1 => next 1 adopt
 1 adopt => ok 4
-next 1 => next [\"receive\",1,4]
+next 1 => next 1 receive ack 1/1 from 1
 1 receive #4
-next 1 => next [\"conclude\",1]
+next 1 => next 1 conclude
 1 conclude => ok 5
-next 1 => next [\"enter\",1]
+next 1 => next 1 enter
 1 receive #5
-next 1 => next [\"deliver\",1]
+next 1 => next 1 deliver
 1 deliver
 next 1 => next -
 expect 1 delivered 1.1
@@ -185,10 +185,10 @@ expect 1 table 3=4",
         parts: &[
             TWO_PROPOSALS,
             "2 choose 1 => ok 9-11
-next 1 => next [\"suspect\",1] or [\"receive\",1,4]
+next 1 => next 1 suspect or 1 receive data 2.1 from 2
 1 receive #9
 1 suspect => refused 1 HasProposal: instance 1 round 1 Wait, coordinator 2, estimate {1.1} ts 0, acks 0 of 0
-next 1 => next [\"adopt\",1]
+next 1 => next 1 adopt
 1 adopt => ok 12",
         ],
     },
@@ -339,11 +339,11 @@ cells 4
         counts: (11, 11, 0),
         parts: &[
             TWO_PROPOSALS,
-            "enabled 2 => enabled [\"choose\",2,1] [\"choose\",2,2]
+            "enabled 2 => enabled 2 choose 1, 2 choose 2
 2 choose 3 => refused 2 NotLargest: instance 1 round 1 Gather, coordinator 2, estimate {2.1} ts 0, heard 1 {1.1} ts 0, heard 2 {2.1} ts 0, acks 0 of 0; the largest ts heard is 0, from 1
-next 1 => next [\"suspect\",1] or [\"receive\",1,4]
-next 2 => next [\"choose\",2,1]
-next 3 => next [\"receive\",3,3]
+next 1 => next 1 suspect or 1 receive data 2.1 from 2
+next 2 => next 2 choose 1
+next 3 => next 3 receive data 1.1 from 1
 2 choose 1 => ok 9-11
 2 repeat #9 => refused 2 NotSent: #9 Prop 1/1 {1.1} went to member 1
 1 repeat #10 => refused 1 NotSent: #10 Prop 1/1 {1.1} went to member 2
