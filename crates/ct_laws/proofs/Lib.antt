@@ -22,6 +22,7 @@ pub mod Reading
 pub mod Reasons
 pub mod Records
 pub mod Refusing
+pub mod Righting
 pub mod Seeds
 pub mod Silent
 pub mod Stopping

@@ -10,6 +10,7 @@ pub mod JsonSteps
 pub mod JsonValues
 pub mod Places
 pub mod Refusals
+pub mod Rights
 pub mod Schedules
 pub mod Sessions
 pub mod Showing
