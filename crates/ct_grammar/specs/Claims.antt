@@ -17,7 +17,7 @@ use Rattle.ct_grammar.specs.declared.wanted.Wanted.TheVariants as wanted
 use Rattle.ct_grammar.specs.Words.{Word}
 use Rattle.ct_grammar.specs.Unfits.{◌>>=◌, map_ok}
 use Rattle.ct_grammar.specs.Numbers.{number_of, two_numbers, max_u8, max_u32}
-use Rattle.ct_grammar.specs.Leading.{over}
+use Rattle.ct_grammar.specs.Leading.{behind_term, over}
 use Rattle.ct_grammar.specs.Reasons.{reason_of}
 use Rattle.ct_grammar.specs.Facts.{lone_whole, named_fact}
 
@@ -82,7 +82,7 @@ delivered None words = before words
 
 -- the reason, alone, where the word is one; None where it is a member
 unfoldable pub chosen : Option Reason → Word → List Word → Option (Result Claim Unfit)
-chosen (Some reason) word words = Some (map_ok (λ _. claims.RefusesChoice reason) (over wanted.Nothing words))
+chosen (Some reason) word words = Some (map_ok (λ _. claims.RefusesChoice reason) (over (behind_term wanted.Nothing words) words))
 chosen None word words = if is_some (number_of max_u8 word) then None else Some (Err (Other (length words) wanted.Chosen))
 
 -- what stands behind `refuses choose`, where it is no member
@@ -101,7 +101,7 @@ refused (word ∷ words) = if bytes_eq word (codes "choose") then refused_choice
 unfoldable pub word_alone : Word → Wanted → Claim → List Word → Result Claim Unfit
 word_alone name what claim [] = Err (End what)
 word_alone name what claim (word ∷ words) =
-    if bytes_eq word name then map_ok (λ _. claim) (over wanted.Nothing words) else Err (Other (length words) what)
+    if bytes_eq word name then map_ok (λ _. claim) (over (behind_term wanted.Nothing words) words) else Err (Other (length words) what)
 
 -- the follow of an instance, alone
 unfoldable pub followed : List Word → Result Claim Unfit

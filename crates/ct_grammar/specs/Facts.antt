@@ -18,7 +18,7 @@ use Rattle.ct_grammar.specs.declared.wanted.Wanted.TheVariants as wanted
 use Rattle.ct_grammar.specs.Words.{Word, text_of}
 use Rattle.ct_grammar.specs.Unfits.{◌>>=◌, map_ok}
 use Rattle.ct_grammar.specs.Numbers.{members_of}
-use Rattle.ct_grammar.specs.Leading.{whole_first, over}
+use Rattle.ct_grammar.specs.Leading.{behind_term, whole_first, over}
 use Rattle.ct_grammar.specs.Picks.{pick_first, behind_pick}
 use Rattle.ct_grammar.specs.Acts.{act_first, behind_act}
 use Rattle.ct_grammar.specs.Reasons.{reason_of}
@@ -40,7 +40,7 @@ short_fact name =
 
 -- the act, where no words stand behind it
 unfoldable pub ended : Act → List Word → Result Act Unfit
-ended act words = map_ok (λ _. act) (over (behind_act act) words)
+ended act words = map_ok (λ _. act) (over (behind_term (behind_act act) words) words)
 
 -- an act, alone
 unfoldable pub lone_act : List Word → Result Act Unfit
@@ -50,14 +50,14 @@ lone_act words = act_first wanted.Act words >>= (λ r. ended r.0 r.1)
 unfoldable pub lone_pick : List Word → Result Pick Unfit
 lone_pick words = do
   r ← pick_first wanted.Envelope words
-  _ ← over (behind_pick r.0) r.1
+  _ ← over (behind_term (behind_pick r.0) r.1) r.1
   Ok r.0
 
 -- an instance, a round or an amount, alone
 unfoldable pub lone_whole : Wanted → List Word → Result ℕ Unfit
 lone_whole what words = do
   r ← whole_first what words
-  _ ← over wanted.Nothing r.1
+  _ ← over (behind_term wanted.Nothing r.1) r.1
   Ok r.0
 
 -- a phase, alone
@@ -65,7 +65,7 @@ unfoldable pub phase_first : List Word → Result Phase Unfit
 phase_first [] = Err (End wanted.Phase)
 phase_first (word ∷ words) = do
   phase ← ok_or (phase_of word) (Other (length words) wanted.Phase)
-  _ ← over wanted.Nothing words
+  _ ← over (behind_term wanted.Nothing words) words
   Ok phase
 
 -- the name of a reason, alone
@@ -73,7 +73,7 @@ unfoldable pub reason_first : List Word → Result Reason Unfit
 reason_first [] = Err (End wanted.Reason)
 reason_first (word ∷ words) = do
   reason ← ok_or (reason_of word) (Other (length words) wanted.Reason)
-  _ ← over wanted.Nothing words
+  _ ← over (behind_term wanted.Nothing words) words
   Ok reason
 
 -- an act, and behind it the name of the reason for which it is refused
@@ -87,7 +87,7 @@ refusal_of words = do
 abbrev pub plain_fact : Word → List Word → Result Fact Unfit
 plain_fact name words = do
   fact ← ok_or (short_fact name) (Other (length words) wanted.Fact)
-  _ ← over wanted.Nothing words
+  _ ← over (behind_term wanted.Nothing words) words
   Ok fact
 
 -- the facts of an act and of an envelope; otherwise those of one word
@@ -112,7 +112,7 @@ says_set word = bytes_eq word (codes "-") || is_some (members_of word)
 -- a set of members or `-`, alone
 unfoldable pub lone_set : List Word → Result (Unit {0}) Unfit
 lone_set [] = Err (End wanted.Members)
-lone_set (word ∷ words) = if says_set word then over wanted.Nothing words else Err (Other (length words) wanted.Members)
+lone_set (word ∷ words) = if says_set word then over (behind_term wanted.Nothing words) words else Err (Other (length words) wanted.Members)
 
 -- a word at least
 unfoldable pub some_words : List Word → Result (Unit {0}) Unfit

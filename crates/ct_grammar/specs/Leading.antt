@@ -1,10 +1,11 @@
 -- Words that stand first, and what stands behind them.
-use Rattle.std.specs.Prelude.{ℕ, List, [], ◌∷◌, length, Result, Ok, Err}
+use Rattle.std.specs.Prelude.{ℕ, List, [], ◌∷◌, length, Result, Ok, Err, codes, if◌then◌else◌}
 use Rattle.std.specs.Option.{ok_or}
+use Rattle.std.specs.Str.{bytes_eq}
 use Rattle.ct_grammar.specs.declared.unfit.Unfit.{Unfit}
 use Rattle.ct_grammar.specs.declared.unfit.Unfit.TheVariants.{End, Word as Other}
 use Rattle.ct_grammar.specs.declared.wanted.Wanted.{Wanted}
-use Rattle.ct_grammar.specs.declared.wanted.Wanted.TheVariants.{Set}
+use Rattle.ct_grammar.specs.declared.wanted.Wanted.TheVariants.{Set, Sender, And, SenderOrAnd, Or}
 use Rattle.ct_grammar.specs.Words.{Word}
 use Rattle.ct_grammar.specs.Unfits.{map_ok}
 use Rattle.ct_grammar.specs.Numbers.{number_in, members_of, max_u8, max_u32}
@@ -31,3 +32,13 @@ set_first (word ∷ words) = map_ok (λ set. (set, words)) (ok_or (members_of wo
 unfoldable pub over : Wanted → List Word → Result (Unit {0}) Unfit
 over wanted [] = Ok tt
 over wanted (word ∷ words) = Err (Other (length words) wanted)
+
+-- what could stand behind a term where this could stand elsewhere: also `and`
+abbrev pub or_and : Wanted → Wanted
+or_and Sender = SenderOrAnd
+or_and wanted = And
+
+-- the same in place of the first of these words; there is no `or`
+unfoldable pub behind_term : Wanted → List Word → Wanted
+behind_term wanted [] = wanted
+behind_term wanted (word ∷ words) = if bytes_eq word (codes "or") then Or else or_and wanted

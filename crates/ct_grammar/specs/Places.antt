@@ -6,6 +6,7 @@ use Rattle.ct_grammar.specs.declared.wanted.Wanted.TheVariants.{Doing, Act, Comm
 use Rattle.ct_grammar.specs.declared.wanted.Wanted.TheVariants.{Place, Rounds, Until, Fact, Phase, Reason, Instance, Round, Waiting}
 use Rattle.ct_grammar.specs.declared.wanted.Wanted.TheVariants.{Members, Quoted, Nothing, Suspecting, Sender, Statement}
 use Rattle.ct_grammar.specs.declared.wanted.Wanted.TheVariants.{SenderOrStatement, Term, Extent, Count, Chosen, Up, Unseen, Again}
+use Rattle.ct_grammar.specs.declared.wanted.Wanted.TheVariants.{And, SenderOrAnd, Or}
 use Rattle.ct_grammar.specs.Words.{Word}
 
 -- the words that begin lines
@@ -103,7 +104,7 @@ told_at Waiting = named (codes ">=" ∷ []) (codes "is no number of envelopes") 
 told_at Members = unnamed (codes "is neither a list of members nor -") (codes "a list of members or -")
 told_at Quoted = unnamed (codes "is no text") (codes "a text")
 told_at Term =
-    named (codes "ever" ∷ codes "never" ∷ codes "all" ∷ codes "any" ∷ codes "up" ∷ [])
+    named (codes "never" ∷ codes "ever" ∷ codes "all" ∷ codes "any" ∷ codes "up" ∷ [])
     (codes "is neither ever, never, a member, a list of members, all, any nor up")
     (codes "ever, never, a member, a list of members, all, any or up")
 told_at Whom =
@@ -120,3 +121,6 @@ told_at Suspecting = optional (codes "suspecting" ∷ [])
 told_at Sender = optional (codes "from" ∷ [])
 told_at Statement = optional (codes "set" ∷ codes "add" ∷ codes "copy" ∷ [])
 told_at SenderOrStatement = optional (codes "from" ∷ codes "set" ∷ codes "add" ∷ codes "copy" ∷ [])
+told_at And = optional (codes "and" ∷ [])
+told_at SenderOrAnd = optional (codes "from" ∷ codes "and" ∷ [])
+told_at Or = unnamed (codes "is left over: a goal has no or, only and") (codes "nothing")

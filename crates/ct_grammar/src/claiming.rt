@@ -9,7 +9,7 @@ ghost use Rattle.ct_grammar.specs.declared.claim.Claim.{Claim};
 
 use crate::claim::{Amount, Claim, Extent, Name};
 use crate::expecting::{lone_whole, named_fact};
-use crate::leading::over;
+use crate::leading::{behind_term, over};
 use crate::naming::reason;
 use crate::numbers::{byte, name_of_message, whole};
 use crate::reason::Reason;
@@ -145,7 +145,7 @@ fn chosen(reason: Option<Reason>, word: &str, words: &[&str]) -> Option<Result<C
     ensures { result ≡ chosen reason word.now (map (λ word. word.now) words.now) }
 {
     match reason {
-        Some(reason) => match over(words, Wanted::Nothing) {
+        Some(reason) => match over(words, behind_term(words, Wanted::Nothing)) {
             Ok(()) => Some(Ok(Claim::RefusesChoice(reason))),
             Err(unfit) => Some(Err(unfit)),
         },
@@ -196,7 +196,7 @@ fn only(name: &str, wanted: Wanted, words: &[&str]) -> Result<(), Unfit>
         return Err(Unfit::End(wanted));
     };
     if *word == name {
-        over(rest, Wanted::Nothing)
+        over(rest, behind_term(rest, Wanted::Nothing))
     } else {
         Err(Unfit::before(rest, wanted))
     }

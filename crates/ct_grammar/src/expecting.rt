@@ -10,7 +10,7 @@ use crate::act::Act;
 use crate::acting::{act_first, behind_act};
 use crate::fact::Fact;
 use crate::joining::joined;
-use crate::leading::{over, whole_first};
+use crate::leading::{behind_term, over, whole_first};
 use crate::naming::reason;
 use crate::numbers::members;
 use crate::pick::Pick;
@@ -54,7 +54,7 @@ fn short_fact(name: &str) -> Option<Fact>
 fn ended(act: Act, words: &[&str]) -> Result<Act, Unfit>
     ensures { result ≡ ended act (map (λ word. word.now) words.now) }
 {
-    over(words, behind_act(&act))?;
+    over(words, behind_term(words, behind_act(&act)))?;
     Ok(act)
 }
 
@@ -75,7 +75,7 @@ fn lone_pick(words: &[&str]) -> Result<Pick, Unfit>
     ensures { result ≡ lone_pick (map (λ word. word.now) words.now) }
 {
     let (pick, rest) = pick_first(words, Wanted::Envelope)?;
-    over(rest, behind_pick(pick))?;
+    over(rest, behind_term(rest, behind_pick(pick)))?;
     Ok(pick)
 }
 
@@ -85,7 +85,7 @@ pub(crate) fn lone_whole(words: &[&str], wanted: Wanted) -> Result<u32, Unfit>
     ensures { result ≡ lone_whole wanted (map (λ word. word.now) words.now) }
 {
     let (n, rest) = whole_first(words, wanted)?;
-    over(rest, Wanted::Nothing)?;
+    over(rest, behind_term(rest, Wanted::Nothing))?;
     Ok(n)
 }
 
@@ -100,7 +100,7 @@ fn phase_first(words: &[&str]) -> Result<Phase, Unfit>
     let Some(phase) = phase(word) else {
         return Err(Unfit::before(rest, Wanted::Phase));
     };
-    over(rest, Wanted::Nothing)?;
+    over(rest, behind_term(rest, Wanted::Nothing))?;
     Ok(phase)
 }
 
@@ -115,7 +115,7 @@ fn reason_first(words: &[&str]) -> Result<Reason, Unfit>
     let Some(reason) = reason(word) else {
         return Err(Unfit::before(rest, Wanted::Reason));
     };
-    over(rest, Wanted::Nothing)?;
+    over(rest, behind_term(rest, Wanted::Nothing))?;
     Ok(reason)
 }
 
@@ -148,7 +148,7 @@ fn plain_fact(name: &str, words: &[&str]) -> Result<Fact, Unfit>
     ensures { result ≡ plain_fact name.now (map (λ word. word.now) words.now) }
 {
     match short_fact(name) {
-        Some(fact) => match over(words, Wanted::Nothing) {
+        Some(fact) => match over(words, behind_term(words, Wanted::Nothing)) {
             Ok(()) => Ok(fact),
             Err(unfit) => {
                 drop(fact);
@@ -190,7 +190,7 @@ fn lone_set(words: &[&str]) -> Result<(), Unfit>
         [] => Err(Unfit::End(Wanted::Members)),
         [word, rest @ ..] => {
             if says_set(word) {
-                over(rest, Wanted::Nothing)
+                over(rest, behind_term(rest, Wanted::Nothing))
             } else {
                 Err(Unfit::before(rest, Wanted::Members))
             }

@@ -1,7 +1,7 @@
 //! Words that stand first, and what stands behind them.
 
 ghost use Rattle.std.specs.Prelude.{◌≡◌, ◌≤◌, IfOk, map};
-ghost use Rattle.ct_grammar.specs.Leading.{number_first, member_first, whole_first, set_first, over};
+ghost use Rattle.ct_grammar.specs.Leading.{number_first, member_first, whole_first, set_first, over, behind_term, or_and};
 ghost use Rattle.ct_grammar.specs.Unfits.{map_ok};
 
 use crate::numbers::{members, number_in};
@@ -76,5 +76,26 @@ pub(crate) fn over(words: &[&str], wanted: Wanted) -> Result<(), Unfit>
     match words {
         [] => Ok(()),
         [_, rest @ ..] => Err(Unfit::before(rest, wanted)),
+    }
+}
+
+/// What could stand in a goal in place of these words, where this could elsewhere: behind a term also `and`; there is no `or`.
+#[tactic(auto, unfolding(crate::specs::Leading::behind_term))]
+pub(crate) fn behind_term(words: &[&str], wanted: Wanted) -> Wanted
+    ensures { result ≡ behind_term wanted (map (λ word. word.now) words.now) }
+{
+    match words {
+        [] => wanted,
+        [word, ..] if *word == "or" => Wanted::Or,
+        _ => or_and(wanted),
+    }
+}
+
+fn or_and(wanted: Wanted) -> Wanted
+    ensures { result ≡ or_and wanted }
+{
+    match wanted {
+        Wanted::Sender => Wanted::SenderOrAnd,
+        _ => Wanted::And,
     }
 }

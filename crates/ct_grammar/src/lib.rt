@@ -49,8 +49,8 @@
 //!
 //! Of a line or a goal that is not understood a [`Misfit`] says which word does not fit, or that it ends too early, and what could
 //! stand there. In a term that ends too early before an `and`, it is this word that does not fit. A name that could stand there is
-//! near to the word where they are the same but for the case of ASCII letters, or where, behind what both begin with, one letter is
-//! more, less or another, or two are swapped.
+//! near to the word where they are the same but for the case of ASCII letters; else where, behind what both begin with, one letter is
+//! more or less, or two are swapped; else where one is another. In a name of two letters none is less or another.
 #![tactic(auto)]
 
 mod act;

@@ -1,27 +1,59 @@
 //! Names that are near to a word.
 
 ghost use Rattle.std.specs.Prelude.{◌≡◌, map, drop, option_map};
-ghost use Rattle.ct_grammar.specs.Near.{tail, behind_common, is_swapped, is_one_apart, is_near, near_name};
+ghost use Rattle.ct_grammar.specs.Near.{tail, behind_common, is_swapped, is_count_apart, is_near, near_by, near_name};
 
-/// The first of the names that is near to the word.
+// How many letters a name has at least in which one may be missing or another: `<=` is no slip for `>=`.
+const LETTERS: usize = 3;
+
+// How a word and a name differ, the nearest first.
+#[derive(Clone, Copy)]
+pub(crate) enum Slip {
+    // In the case of letters.
+    Case,
+    // A letter is more or less, or two are swapped.
+    Count,
+    // A letter is another.
+    Letter,
+}
+
+/// The first of the names that is nearest to the word.
 pub(crate) fn near_name(word: &str, names: &'static [&'static str]) -> Option<&'static str>
     ensures { option_map (λ name. name.now) result ≡ near_name word.now (map (λ name. name.now) names.now) }
 {
+    if let Some(name) = near_by(word, names, Slip::Case) {
+        return Some(name);
+    }
+    if let Some(name) = near_by(word, names, Slip::Count) {
+        return Some(name);
+    }
+    near_by(word, names, Slip::Letter)
+}
+
+// The first of them that differs so.
+fn near_by(word: &str, names: &'static [&'static str], slip: Slip) -> Option<&'static str>
+    ensures { option_map (λ name. name.now) result ≡ near_by slip word.now (map (λ name. name.now) names.now) }
+{
     for name in names {
-        if is_near(word, name) {
+        if is_near(word, name, slip) {
             return Some(*name);
         }
     }
     None
 }
 
-// Whether they are the same but for the case of letters, or one letter apart.
+// Whether they differ so.
 #[tactic(auto, unfolding(crate::specs::Near::is_near))]
-fn is_near(word: &str, name: &str) -> bool
-    ensures { result ≡ is_near word.now name.now }
+fn is_near(word: &str, name: &str, slip: Slip) -> bool
+    ensures { result ≡ is_near slip word.now name.now }
 {
+    let is_long = name.len() >= LETTERS;
     let (rest, other) = behind_common(word.as_bytes(), name.as_bytes());
-    word.eq_ignore_ascii_case(name) || is_one_apart(rest, other)
+    match slip {
+        Slip::Case => word.eq_ignore_ascii_case(name),
+        Slip::Count => is_count_apart(is_long, rest, other),
+        Slip::Letter => is_long && tail(rest) == tail(other),
+    }
 }
 
 // What is left of the two behind their longest common beginning.
@@ -35,12 +67,12 @@ fn behind_common<'a, 'b>(word: &'a [u8], name: &'b [u8]) -> (&'a [u8], &'b [u8])
     (&word[i..], &name[i..])
 }
 
-// Whether one letter is more, less or another, or two are swapped.
-#[tactic(auto, unfolding(crate::specs::Near::is_one_apart))]
-fn is_one_apart(word: &[u8], name: &[u8]) -> bool
-    ensures { result ≡ is_one_apart word.now name.now }
+// Whether the word has the first letter more, or less, where it may, or the first two are swapped.
+#[tactic(auto, unfolding(crate::specs::Near::is_count_apart))]
+fn is_count_apart(may_lack: bool, word: &[u8], name: &[u8]) -> bool
+    ensures { result ≡ is_count_apart may_lack word.now name.now }
 {
-    tail(word) == name || word == tail(name) || tail(word) == tail(name) || is_swapped(word, name)
+    tail(word) == name || (may_lack && word == tail(name)) || is_swapped(word, name)
 }
 
 // What stands behind the first letter.

@@ -120,11 +120,13 @@ pub(crate) fn names(wanted: Wanted) -> &'static [&'static str]
         Wanted::Phase => &["Rest", "Gather", "Wait", "Tally"],
         Wanted::Reason | Wanted::Chosen => reasons(),
         Wanted::Instance | Wanted::Round | Wanted::Waiting | Wanted::Extent => &[">="],
-        Wanted::Term => &["ever", "never", "all", "any", "up"],
+        Wanted::Term => &["never", "ever", "all", "any", "up"],
         Wanted::Whom => &["all", "any", "up"],
         Wanted::Suspecting => &["suspecting"],
         Wanted::Sender => &["from"],
         Wanted::SenderOrStatement => &["from", "set", "add", "copy"],
+        Wanted::And => &["and"],
+        Wanted::SenderOrAnd => &["from", "and"],
         Wanted::GroupSize
         | Wanted::CellCount
         | Wanted::Bound
@@ -144,7 +146,8 @@ pub(crate) fn names(wanted: Wanted) -> &'static [&'static str]
         | Wanted::Up
         | Wanted::Unseen
         | Wanted::Again
-        | Wanted::Nothing => &[],
+        | Wanted::Nothing
+        | Wanted::Or => &[],
     }
 }
 
@@ -213,7 +216,10 @@ pub(crate) fn denied(wanted: Wanted) -> &'static str
         | Wanted::Suspecting
         | Wanted::Sender
         | Wanted::Statement
-        | Wanted::SenderOrStatement => "is left over",
+        | Wanted::SenderOrStatement
+        | Wanted::And
+        | Wanted::SenderOrAnd => "is left over",
+        Wanted::Or => "is left over: a goal has no or, only and",
     }
 }
 
@@ -260,6 +266,9 @@ pub(crate) fn due(wanted: Wanted) -> &'static str
         | Wanted::Suspecting
         | Wanted::Sender
         | Wanted::Statement
-        | Wanted::SenderOrStatement => "nothing",
+        | Wanted::SenderOrStatement
+        | Wanted::And
+        | Wanted::SenderOrAnd
+        | Wanted::Or => "nothing",
     }
 }

@@ -85,4 +85,10 @@ pub(crate) enum Wanted {
     Statement,
     /// Nothing, `from` or a command.
     SenderOrStatement,
+    /// Nothing, or `and`.
+    And,
+    /// Nothing, `from` or `and`.
+    SenderOrAnd,
+    /// Nothing, or `and`, where an `or` stands.
+    Or,
 }
