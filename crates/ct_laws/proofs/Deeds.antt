@@ -2,8 +2,6 @@
 use Rattle.std.proofs.Common.{◌≡◌, ℕ, Bool, true, false, List, [], ◌∷◌, ◌++◌, map, refl, ap, sym, ◌∙◌, subst}
 use Rattle.std.proofs.Common.{append_assoc, append-nil}
 use Rattle.std.specs.Prelude.{if◌then◌else◌, Option, Some, None, Result, Ok, Err, fold}
-use Rattle.std.specs.Str.{bytes_eq}
-use Rattle.std.proofs.lemmas.Slice.Eq.{bytes_eq-Decides}
 use Rattle.ct_names.specs.declared.refusal.Refusal.{Refusal}
 use Rattle.ct_model.specs.Cause.{cause}
 use Rattle.ct_model.specs.Rehearsal.{Rehearsal, extended}
@@ -20,7 +18,7 @@ use Rattle.ct_play.specs.Acting.{go_on, step_of, stepped, unless_barred, unless_
 use Rattle.ct_play.specs.Cuts.{barred}
 use Rattle.ct_play.specs.Picking.{waiting_from}
 use Rattle.ct_play.specs.Played.{Played, with_step}
-use Rattle.ct_play.specs.Stating.{done_so, done_so_by, done_so_by_each, outcome_text, unless_other}
+use Rattle.ct_play.specs.Stating.{done_so, done_so_by, done_so_by_each, is_stated, stated_text, unless_other}
 use Rattle.ct_play.specs.declared.line_fault.LineFault.{LineFault}
 use Rattle.ct_play.specs.declared.line_fault.LineFault.TheVariants.{NotSo}
 use Rattle.ct_laws.specs.Places.{AreAllowed, AreDeeds, IsBy, IsDeed, IsSaid, IsUnless, behind}
@@ -150,20 +148,20 @@ if_so true p t u h = (refl, cc h)
 if_so false p t u h = absurd (cc h)
 
 said_of : (s t : Played) (p : ℕ) (act : Act) (text : List ℕ) (step : Step) → step_of s.rehearsal p act ≡ Ok step →
-    outcome_text t.rehearsal step ≡ text → t.rehearsal ≡ behind s.rehearsal (step ∷ []) → (steps : List Step) → steps ≡ step ∷ [] →
+    is_stated (stated_text t.rehearsal step) text ≡ true → t.rehearsal ≡ behind s.rehearsal (step ∷ []) → (steps : List Step) → steps ≡ step ∷ [] →
     IsSaid act text s.rehearsal p steps
-said_of s t p act text step is came at steps so = (step, is, ap (λ w. outcome_text w step) (sym at) ∙ came, so)
+said_of s t p act text step is came at steps so = (step, is, ap (λ w. is_stated (stated_text w step) text) (sym at) ∙ came, so)
 
 said_grows : (s t : Played) (p : ℕ) (act : Act) (text : List ℕ) → done_so act text s p ≡ Ok t → Grows (IsSaid act text s.rehearsal p) s t
 unfolding done_so
 said_grows s t p act text h =
     let on = going_on (step_of s.rehearsal p act) (λ step. go_on (after_step s step) (unless_other p step text)) t h in
     let more = going_on (after_step s on.0) (unless_other p on.0 text) t on.2 in
-    let so = if_so (bytes_eq (outcome_text (more.0).rehearsal on.0) text) p more.0 t more.2 in
+    let so = if_so (is_stated (stated_text (more.0).rehearsal on.0) text) p more.0 t more.2 in
     let grown : Grows (λ steps. steps ≡ on.0 ∷ []) s t =
     subst (λ u. Grows (λ steps. steps ≡ on.0 ∷ []) s u) so.1 (after_grows s more.0 on.0 more.1) in
-    let came : outcome_text t.rehearsal on.0 ≡ text =
-    ap (λ (u : Played). outcome_text u.rehearsal on.0) (sym so.1) ∙ (bytes_eq-Decides (outcome_text (more.0).rehearsal on.0) text).0 so.0 in
+    let came : is_stated (stated_text t.rehearsal on.0) text ≡ true =
+    ap (λ (u : Played). is_stated (stated_text u.rehearsal on.0) text) (sym so.1) ∙ so.0 in
     let at : t.rehearsal ≡ behind s.rehearsal (on.0 ∷ []) = grown.is ∙ ap (behind s.rehearsal) grown.so in
     grows_more (λ steps. steps ≡ on.0 ∷ []) (IsSaid act text s.rehearsal p) s t (said_of s t p act text on.0 on.1 came at) grown
 

@@ -18,7 +18,7 @@ use Rattle.ct_grammar.specs.declared.who.Who.{Who}
 use Rattle.ct_grammar.specs.declared.who.Who.TheVariants.{All}
 use Rattle.ct_play.specs.Acting.{step_of}
 use Rattle.ct_play.specs.Picking.{waiting_from}
-use Rattle.ct_play.specs.Stating.{outcome_text}
+use Rattle.ct_play.specs.Stating.{is_stated, stated_text}
 use Rattle.ct_play.specs.Who.{named}
 use Rattle.ct_judging.specs.Reading.{line_in}
 use Rattle.ct_laws.specs.Showing.{AreMet}
@@ -44,10 +44,10 @@ abbrev pub IsDeed : Act → Rehearsal → ℕ → List Step → Type 0
 IsDeed (LoseFrom set) w p steps = steps ≡ map (Lose p) (waiting_from w p set)
 IsDeed act w p steps = (step : Step) × (step_of w p act ≡ Ok step) × (steps ≡ step ∷ [])
 
--- p takes one step of this, which comes to this
+-- p takes one step of this, of which this is stated
 abbrev pub IsSaid : Act → List ℕ → Rehearsal → ℕ → List Step → Type 0
 IsSaid act text w p steps =
-    (step : Step) × (step_of w p act ≡ Ok step) × (outcome_text (extended w step) step ≡ text) × (steps ≡ step ∷ [])
+    (step : Step) × (step_of w p act ≡ Ok step) × (is_stated (stated_text (extended w step) step) text ≡ true) × (steps ≡ step ∷ [])
 
 -- the same; where all are named, one that has crashed does nothing
 abbrev pub IsUnless : Bool → Type 0 → List Step → Type 0

@@ -10,7 +10,7 @@ use Rattle.ct_model.specs.Rehearsal.{Rehearsal, empty, extended, state_of}
 use Rattle.ct_model.specs.Setting.{Setting}
 use Rattle.ct_model.specs.State.{Member, State, is_crashed}
 use Rattle.ct_model.specs.declared.step.Step.{Step}
-use Rattle.ct_merge.specs.Stating.{is_stated, log_outcome}
+use Rattle.ct_play.specs.Stating.{is_stated, stated_text}
 use Rattle.ct_merge.specs.Barred.{AreBarred, IsBarred, IsThere}
 use Rattle.ct_merge.specs.Barred.IsBarred.{down, never, refused, waits}
 use Rattle.ct_merge.specs.Deeds.{IsSame}
@@ -66,7 +66,7 @@ module _ (logs : List (Vec LogLine)) (t : Rehearsal) (u : IsRun t) (lines_t : Is
         let step_t : Step = step_of p f.0 line.act in
         let go = enabled_of t.setting (state_of t) step_t s.outcome (sym f.2 ∙ outcome_is w.setting (state_of w) step h s) in
         let same : IsSame p (at w step) (at t step_t) = record { like = alike; outcome = f.2 } in
-        let text : log_outcome (extended w step) step ≡ log_outcome (extended t step_t) step_t =
+        let text : stated_text (extended w step) step ≡ stated_text (extended t step_t) step_t =
         text_same (extended w step) (extended t step_t) p (length (own w p)) (length (own t p)) (at w step) (at t step_t) line.act
         (run_next w step h r e) (run_next t step_t (after t.setting (state_of t) (actor step_t) s.outcome) u go) group isp
         (own_last w step p mine) (own_last t step_t p (own_told t p f.0 line.act)) told.act f.1 same in

@@ -22,7 +22,7 @@ use Rattle.ct_model.proofs.Record.Allowed.{cause-allowed}
 use Rattle.ct_model.proofs.Record.Causes.{cause-present, own_tests}
 use Rattle.ct_model.proofs.Record.Limits.{own_tests-is}
 use Rattle.ct_model.proofs.Relay.Messages.{next-is}
-use Rattle.ct_merge.specs.Stating.{is_stated, log_outcome}
+use Rattle.ct_play.specs.Stating.{is_stated, stated_text}
 use Rattle.ct_play.specs.declared.line_fault.LineFault.TheVariants as fault
 use Rattle.ct_merge.specs.Barred.{IsBarred, IsThere}
 use Rattle.ct_merge.specs.Barred.IsBarred.{down, refused}
@@ -146,12 +146,12 @@ module _ (w : Rehearsal) (law : IsLawful w) (p : ℕ) (line : LogLine) (stays : 
             let y = told_step w p (step_of p k line.act) line.act told.act (acts_of p k line.act) in
             let same : step_of p k line.act ≡ d.step =
             one_step w law.runs p (step_of p k line.act) d.step line.act h ok.after y x e ok.enabled in
-            let says : is_stated (log_outcome (extended w (step_of p k line.act)) (step_of p k line.act)) (d.other).text ≡ true =
-            subst (λ o. IfSome o (λ text. is_stated (log_outcome (extended w (step_of p k line.act)) (step_of p k line.act)) text ≡ true))
+            let says : is_stated (stated_text (extended w (step_of p k line.act)) (step_of p k line.act)) (d.other).text ≡ true =
+            subst (λ o. IfSome o (λ text. is_stated (stated_text (extended w (step_of p k line.act)) (step_of p k line.act)) text ≡ true))
             (d.other).stated told.said in
             let same_text : is_stated came (d.other).text ≡ true =
             subst (λ z. is_stated z (d.other).text ≡ true) (d.other).is
-            (subst (λ z. is_stated (log_outcome (extended w z) z) (d.other).text ≡ true) same says) in
+            (subst (λ z. is_stated (stated_text (extended w z) z) (d.other).text ≡ true) same says) in
             let other : is_stated came (d.other).text ≡ false = (d.other).other in
             absurd (cc)),
         subst (λ q. is_member w.setting.members q ≡ true) (d.tells).actor t.in_group,

@@ -28,7 +28,7 @@ use Rattle.ct_play.specs.Stating.{carried_text, envelope_text}
 use Rattle.ct_merge.specs.Deeds.{IsSame, deed_of, letter}
 use Rattle.ct_merge.specs.Local.{outcome_of}
 use Rattle.ct_merge.specs.Logs.{Moment, act_of, own}
-use Rattle.ct_merge.specs.Stating.{log_outcome}
+use Rattle.ct_play.specs.Stating.{stated_text}
 use Rattle.ct_merge.specs.Merging.{step_of}
 use Rattle.ct_merge.specs.Runs.{IsRun}
 use Rattle.ct_merge.specs.declared.full_name.FullName.{FullName}
@@ -214,7 +214,7 @@ module _ (w : Rehearsal) (p i : ℕ) (m : Moment) (f : IsPlaced w p i m) (act : 
 by_act : (w v : Rehearsal) (p k l : ℕ) → w.setting ≡ v.setting → member (state_of w) p ≡ member (state_of v) p → (act : LogAct) →
     ((name : FullName) → act ≡ Receive name → carried_text w k ≡ carried_text v l) →
     (closing act → batch_text w (instance_of w p) ≡ batch_text v (instance_of v p)) →
-    log_outcome w (step_of p k act) ≡ log_outcome v (step_of p l act)
+    stated_text w (step_of p k act) ≡ stated_text v (step_of p l act)
 by_act w v p k l group same (Receive name) carried batch = carried name refl
 by_act w v p k l group same Begin carried batch = alone_same w v p group same
 by_act w v p k l group same Enter carried batch = estimate_same w v p group same
@@ -234,7 +234,7 @@ member_test n p h = grind (arith, nat_tests)
 pub text_same : (w v : Rehearsal) (p i j : ℕ) (m n : Moment) (act : LogAct) → IsRun w → IsRun v → v.setting ≡ w.setting →
     IsMember w.setting.members p → slice_get (own w p) i ≡ Some m → slice_get (own v p) j ≡ Some n →
     act_of m.before m.step ≡ Some act → act_of n.before n.step ≡ Some act → IsSame p m n →
-    log_outcome (extended m.before m.step) m.step ≡ log_outcome (extended n.before n.step) n.step
+    stated_text (extended m.before m.step) m.step ≡ stated_text (extended n.before n.step) n.step
 unfolding IsLastBatch
 text_same w v p i j m n act r u group isp there also told told_too same =
     let a = placed w r p i m there in
@@ -245,7 +245,7 @@ text_same w v p i j m n act r u group isp there also told told_too same =
     let alike = (like_behind w v p i j m n a b same).member in
     let x = telling w p i m a act told in
     let y = telling v p j n b act told_too in
-    ap (λ z. log_outcome (extended m.before m.step) z) x.is
+    ap (λ z. stated_text (extended m.before m.step) z) x.is
     ∙ (by_act (extended m.before m.step) (extended n.before n.step) p x.serial y.serial setting alike act
     (λ name is. text_received w p i m a act told name is
     ∙ (ap (λ z. envelope_text (Some (without_value (letter p z))) (unwrap_or (value_of z) []))
@@ -262,4 +262,4 @@ text_same w v p i j m n act r u group isp there also told told_too same =
     ∙ sym (last_text (extended n.before n.step) (run_behind v p j n b act told_too) p z.0 isp_n
     (member_test n.before.setting.members p isp_n)
     (subst (λ (x : Member). at_serial x.batches x.last ≡ Some z.0) alike z.1)))
-    ∙ sym (ap (λ z. log_outcome (extended n.before n.step) z) y.is))
+    ∙ sym (ap (λ z. stated_text (extended n.before n.step) z) y.is))

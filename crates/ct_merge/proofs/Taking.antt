@@ -10,7 +10,7 @@ use Rattle.ct_model.specs.Rehearsal.{Rehearsal, extended}
 use Rattle.ct_model.specs.declared.step.Step.{Step}
 use Rattle.ct_model.specs.declared.step.Step.TheVariants.{Repeat}
 use Rattle.ct_model.proofs.Basics.Options.{some-none, some-same}
-use Rattle.ct_merge.specs.Stating.{is_stated, log_outcome}
+use Rattle.ct_play.specs.Stating.{is_stated, stated_text}
 use Rattle.ct_merge.specs.Logs.{IsTold, act_of, is_own, own}
 use Rattle.ct_merge.specs.Merging.{IsLater, IsReady, IsSerialOf, IsTakenTo, LeavesAll, LeavesOthers, Takes, step_of}
 use Rattle.ct_merge.specs.declared.log_act.LogAct.{LogAct}
@@ -132,14 +132,14 @@ ready_there w p log count k r none = some-none r.line (sym none ∙ r.there)
 -- the line is taken by its step, which came to what it states
 pub takes : (old mid new : Rehearsal) (p k : ℕ) (line : LogLine) → LeavesAll old mid → IsSerialOf mid p line.act k →
     new ≡ extended mid (step_of p k line.act) →
-    IfSome line.said (λ text. is_stated (log_outcome new (step_of p k line.act)) text ≡ true) → Takes old p line new
+    IfSome line.said (λ text. is_stated (stated_text new (step_of p k line.act)) text ≡ true) → Takes old p line new
 takes old mid new p k line same serial e said =
     let step : Step = step_of p k line.act in
     record {
       moment = at mid step;
       told = record {
         act = act_is mid p k line.act serial;
-        said = subst (λ (w : Rehearsal). IfSome line.said (λ text. is_stated (log_outcome w step) text ≡ true)) e said;
+        said = subst (λ (w : Rehearsal). IfSome line.said (λ text. is_stated (stated_text w step) text ≡ true)) e said;
       };
       own =
           ap (λ (w : Rehearsal). own w p) e

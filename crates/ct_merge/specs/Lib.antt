@@ -15,7 +15,6 @@ pub mod Runs
 pub mod Senders
 pub mod Sending
 pub mod Standstills
-pub mod Stating
 pub mod Stops
 pub mod Testing
 pub mod Texts

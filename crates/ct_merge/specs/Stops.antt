@@ -17,7 +17,7 @@ use Rattle.ct_merge.specs.Logs.{act_of, log_of}
 use Rattle.ct_merge.specs.Merging.{IsLater, IsTakenFrom, IsTakenTo, LeavesAll, LeavesOthers, Taken, count_of}
 use Rattle.ct_merge.specs.Names.{IsSentAs}
 use Rattle.ct_merge.specs.Sending.{may_come}
-use Rattle.ct_merge.specs.Stating.{is_stated, log_outcome}
+use Rattle.ct_play.specs.Stating.{is_stated, stated_text}
 use Rattle.ct_merge.specs.Waits.{IsUnsent}
 use Rattle.ct_merge.specs.declared.full_name.FullName.{FullName}
 use Rattle.ct_merge.specs.declared.log_act.LogAct.TheVariants.{Receive}
@@ -60,7 +60,7 @@ pub record IsOfAbsent (w : Rehearsal) (p : ℕ) (step : Step) : Type 0 where
 pub record IsOther (w : Rehearsal) (step : Step) (said : Option (List ℕ)) (came : List ℕ) : Type 0 where
   pub text : List ℕ
   pub stated : said ≡ Some text
-  pub is : log_outcome w step ≡ came
+  pub is : stated_text w step ≡ came
   pub other : is_stated came text ≡ false
 
 -- the step of which the line tells is allowed, and comes to this and not to what it states

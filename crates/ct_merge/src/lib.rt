@@ -30,7 +30,6 @@ mod sending;
 mod sending_line;
 mod stand;
 mod standstill;
-mod stating;
 mod stopped_line;
 mod stopped_lines;
 mod taker;

@@ -8,7 +8,7 @@ ghost use Rattle.ct_world.specs.Setup.{record_of};
 ghost use Rattle.ct_play.specs.Faults.{IsShort, UnlessShort, is_short};
 ghost use Rattle.ct_merge.specs.Merging.{step_of, IsLater, IsReady, IsSerialOf, IsTakenTo, IsThereFor, LeavesAll, LeavesOthers, Takes};
 ghost use Rattle.ct_merge.specs.Names.{IsSentAs};
-ghost use Rattle.ct_merge.specs.Stating.{is_stated, log_outcome};
+ghost use Rattle.ct_play.specs.Stating.{is_stated, stated_text};
 ghost use Rattle.ct_merge.specs.Stops.{IsFaultAt, IsOutcome, IsRefusedBy, IsStuck, IsStuckIn, line_fault_of};
 
 use crate::address::{Address, address_of};
@@ -17,11 +17,10 @@ use crate::log_act::LogAct;
 use crate::log_line::LogLine;
 use crate::naming::{full_name, is_it};
 use crate::own_fault::OwnFault;
-use crate::stating::{is_stated, push_log_outcome};
 use ct_grammar::Text;
 use ct_model::Step;
 use ct_names::{Member, Refusal, Serial};
-use ct_play::{LineFault, Stage};
+use ct_play::{LineFault, Stage, is_stated, push_stated};
 use ct_world::{Setup, World};
 use indexmap::IndexMap;
 use std::alloc::Global;
@@ -210,7 +209,7 @@ impl Taker {
 
     // What the step came to is what is stated of it, if something is.
     fn compare(&self, step: Step, said: &Option<Text>) -> Result<(), OwnFault>
-        ensures so { OnOk result (IfSome said.now (λ text. is_stated (log_outcome self.now step) text ≡ true)) }
+        ensures so { OnOk result (IfSome said.now (λ text. is_stated (stated_text self.now step) text ≡ true)) }
         ensures other { IfErr result (λ fault. UnlessShort (is_short (line_fault_of fault))
             (IsOutcome self.now step said.now fault)) }
     {
@@ -218,7 +217,7 @@ impl Taker {
             return Ok(());
         };
         let mut text = String::new(self.alloc);
-        push_log_outcome(&mut text, self.stage.world(), step)?;
+        push_stated(&mut text, self.stage.world(), step)?;
         if is_stated(text.as_str(), said.as_str()) {
             Ok(())
         } else {

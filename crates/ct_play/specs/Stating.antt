@@ -1,7 +1,7 @@
 -- What acts do, as lines state it behind them.
-use Rattle.std.specs.Prelude.{ℕ, List, [], ◌∷◌, codes, decimal, Option, Some, None, option_map, option_and_then, filter}
-use Rattle.std.specs.Prelude.{nat_lt, unwrap_or, Result, Ok, Err, fold, if◌then◌else◌}
-use Rattle.std.specs.List.{concat}
+use Rattle.std.specs.Prelude.{ℕ, Bool, ◌&&◌, ◌||◌, List, [], ◌∷◌, codes, decimal, Option, Some, None, option_map, option_and_then}
+use Rattle.std.specs.Prelude.{filter, drop, length, nat_eq, nat_lt, unwrap_or, Result, Ok, Err, fold, if◌then◌else◌}
+use Rattle.std.specs.List.{concat, starts_with}
 use Rattle.std.specs.Str.{bytes_eq}
 use Rattle.ct_names.specs.Message.{Message}
 use Rattle.ct_model.specs.Mapped.{without_value}
@@ -10,7 +10,7 @@ use Rattle.ct_model.specs.State.{at_serial}
 use Rattle.ct_model.specs.Wire.{value_of}
 use Rattle.ct_model.specs.declared.envelope.Envelope.{Envelope}
 use Rattle.ct_model.specs.declared.step.Step.{Step}
-use Rattle.ct_model.specs.declared.step.Step.TheVariants.{Receive, Begin, Enter, Choose, Adopt, Deliver, Follow}
+use Rattle.ct_model.specs.declared.step.Step.TheVariants.{Receive, Begin, Enter, Choose, Adopt, Conclude, Deliver, Follow}
 use Rattle.ct_model.specs.declared.wire.Wire.{Wire}
 use Rattle.ct_model.specs.declared.wire.Wire.TheVariants as wire
 use Rattle.ct_choices.specs.Choices.{has_crashed}
@@ -62,11 +62,26 @@ outcome_text w (Deliver p) = batch_text w (instance_of w p)
 outcome_text w (Follow p) = batch_text w (instance_of w p)
 outcome_text w _ = []
 
+-- ---- what lines state of it
+
+-- the same as a line states it: of a conclusion, too, the estimate with which the round is concluded
+abbrev pub stated_text : Rehearsal → Step → List ℕ
+stated_text w (Conclude p) = estimate_alone w p
+stated_text w step = outcome_text w step
+
+-- the text is an estimate, of which the ts stands behind it in what came out
+unfoldable pub is_estimate_in : List ℕ → List ℕ → Bool
+is_estimate_in came text = starts_with nat_eq came text && starts_with nat_eq (drop (length text) came) (codes " ts ")
+
+-- the text states what came out: the whole of it, or of an estimate and its ts the estimate alone
+unfoldable pub is_stated : List ℕ → List ℕ → Bool
+is_stated came text = bytes_eq came text || is_estimate_in came text
+
 -- ---- lines
 
 -- the step came to this, or the line is refused
 abbrev pub unless_other : ℕ → Step → List ℕ → Played → Result Played LineFault
-unless_other p step text t = if bytes_eq (outcome_text t.rehearsal step) text then Ok t else Err (NotSo p)
+unless_other p step text t = if is_stated (stated_text t.rehearsal step) text then Ok t else Err (NotSo p)
 
 -- after p took the step of an act, which has to come to this
 unfoldable pub done_so : Act → List ℕ → Played → ℕ → Result Played LineFault
@@ -90,7 +105,7 @@ stated s who act text = done_so_by_each who act text s (named s.rehearsal.settin
 -- what p's step of an act came to, where p may take it
 unfoldable pub outcome_at : Act → Played → ℕ → Result (List ℕ) LineFault
 outcome_at act s p =
-    go_on (step_of s.rehearsal p act) (λ step. go_on (after_step s step) (λ t. Ok (outcome_text t.rehearsal step)))
+    go_on (step_of s.rehearsal p act) (λ step. go_on (after_step s step) (λ t. Ok (stated_text t.rehearsal step)))
 
 -- of these, rising, those before p
 abbrev pub before : ℕ → List ℕ → List ℕ

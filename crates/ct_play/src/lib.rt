@@ -26,6 +26,6 @@ pub use line_fault::LineFault;
 pub use picking::{carried_of, picked, repeated, waiting_at};
 pub use playing::play;
 pub use stage::Stage;
-pub use stating::{push_came_to, push_outcome};
+pub use stating::{is_stated, push_came_to, push_outcome, push_stated};
 pub use turning::ended;
 pub use watch::Watch;

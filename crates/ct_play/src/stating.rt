@@ -7,7 +7,8 @@ ghost use Rattle.ct_play.specs.Faults.{IsFaultOf};
 ghost use Rattle.ct_play.specs.Parts.{IsSaidByFirst, IsTaken};
 ghost use Rattle.ct_play.specs.Played.{IsLater};
 ghost use Rattle.ct_play.specs.Stating.{before, came_to, carried_text, done_so, done_so_by, done_so_by_each};
-ghost use Rattle.ct_play.specs.Stating.{envelope_text, load_text, or_dash, outcome_at, outcome_in_turn, outcome_text, stated, unless_other};
+ghost use Rattle.ct_play.specs.Stating.{envelope_text, is_estimate_in, is_stated, load_text, or_dash, outcome_at, outcome_in_turn};
+ghost use Rattle.ct_play.specs.Stating.{outcome_text, stated, stated_text, unless_other};
 ghost use Rattle.ct_play.specs.Who.{named};
 
 use crate::acting::{act_each, step_of, take};
@@ -116,8 +117,8 @@ fn compare(
     ensures err { IfErr result (IsFaultOf (unless_other member step said.now stage.now)) }
 {
     let mut text = String::new(alloc);
-    push_outcome(&mut text, stage.world(), step)?;
-    if text.as_str() == said.as_str() {
+    push_stated(&mut text, stage.world(), step)?;
+    if is_stated(text.as_str(), said.as_str()) {
         Ok(())
     } else {
         Err(LineFault::NotSo(member))
@@ -217,8 +218,37 @@ fn outcome_at(
     let step = step_of(stage, member, *act)?;
     take(stage, step)?;
     let mut text = String::new(alloc);
-    push_outcome(&mut text, stage.world(), step)?;
+    push_stated(&mut text, stage.world(), step)?;
     Ok(text)
+}
+
+// ---- what lines state of it
+
+/// Appends what the step came to, after which the world is this, as a line states it: of a conclusion the estimate with which the
+/// round is concluded.
+pub fn push_stated(text: &mut String, world: &World, step: Step) -> Result<(), AllocError>
+    ensures { OnOk result (Adds text.old text.new (stated_text world.now.rehearsal step)) }
+{
+    match step {
+        Step::Conclude(member) => push_estimate_alone(text, world, member),
+        _ => push_outcome(text, world, step),
+    }
+}
+
+/// Whether the text states what came out: the whole of it, or of an estimate and its ts the estimate alone.
+#[tactic(auto, unfolding(crate::specs::Stating::is_stated))]
+pub fn is_stated(came: &str, text: &str) -> bool
+    ensures { result ≡ is_stated came.now text.now }
+{
+    came == text || is_estimate_in(came.as_bytes(), text.as_bytes())
+}
+
+// Whether the text is an estimate, of which the ts stands behind it in what came out.
+#[tactic(auto, unfolding(crate::specs::Stating::is_estimate_in))]
+fn is_estimate_in(came: &[u8], text: &[u8]) -> bool
+    ensures { result ≡ is_estimate_in came.now text.now }
+{
+    came.starts_with(text) && came[text.len()..].starts_with(b" ts ")
 }
 
 // ---- what a step does
