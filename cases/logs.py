@@ -386,6 +386,8 @@ GROWING = [
             "accepted: 2 members, 3 lines; instances 0, largest round 0, suspicions 0, choices between different ts 0, repetitions 0"),
     Growing("another number of the group", GOSSIP, [("2.log", "members 3\n")], (), 2,
             "2.log: members 3, and a log before it has members 2"),
+    Growing("a log without lines, of a member that the group hasn't", {**GOSSIP, "3.log": ""}, [], ("--idle", "1"), 2,
+            "3.log: member 3's log, and members are 1 to 2"),
     Growing("a proposal without its sender", {"1.log": ONE + "receive prop 1/1\n", "2.log": TWO[:TWO.index("choose")]},
             [("2.log", "choose 1\n")], ("--idle", "1"), 0,
             "accepted: 2 members, 11 lines; instances 1, largest round 1, suspicions 0, choices between different ts 0, repetitions 0"),

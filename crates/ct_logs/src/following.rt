@@ -389,14 +389,13 @@ impl<R: Source + Drop> Following<R> {
         }
     }
 
-    // The group; by the numbers that logs give, where they were not settled.
+    // The group, of which each log is a member's; by the numbers that logs give, where they were not settled.
     fn last_merger(&mut self, alloc: Global, names: &[&str]) -> Result<Merger, MergeFault> {
+        self.claim_rest(alloc, names)?;
+        self.set.setup(alloc, names)?;
         match self.merger.take() {
             Some(merger) => Ok(merger),
-            None => {
-                self.claim_rest(alloc, names)?;
-                self.settle(alloc, names)
-            }
+            None => self.settle(alloc, names),
         }
     }
 
