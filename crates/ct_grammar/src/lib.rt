@@ -30,8 +30,8 @@
 //! ```
 //!
 //! What an act does is stated behind it by a command, alone, where it receives `data O.N`, and by words of which the first begins
-//! with `{`, where it receives `est`, `prop` or `dec`, and where it is begin, enter, choose, adopt, deliver or follow; by either
-//! where it receives `#SERIAL`. Of other acts, and of what carries `ack` or `nack`, nothing is stated.
+//! with `{`, where it receives `est`, `prop` or `dec`, and where it is begin, enter, choose, adopt, conclude, deliver or follow; by
+//! either where it receives `#SERIAL`. Of other acts, and of what carries `ack` or `nack`, nothing is stated.
 //!
 //! A member or a register that no group or table has is understood, as member 0; the step is refused.
 //!

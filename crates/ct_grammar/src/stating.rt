@@ -99,11 +99,15 @@ fn statement(act: Act, words: &[&str]) -> Result<(), Unfit>
 {
     match act {
         Act::Receive(pick) => pick_statement(pick, words),
-        Act::Begin | Act::Enter | Act::Choose(_) | Act::Adopt | Act::Deliver | Act::Follow =>
-            lone_value(words, Wanted::Nothing),
+        Act::Begin
+        | Act::Enter
+        | Act::Choose(_)
+        | Act::Adopt
+        | Act::Conclude
+        | Act::Deliver
+        | Act::Follow => lone_value(words, Wanted::Nothing),
         Act::Submit(_)
         | Act::Suspect
-        | Act::Conclude
         | Act::Crash
         | Act::Postpone(_)
         | Act::Lose(_)

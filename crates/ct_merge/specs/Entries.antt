@@ -108,10 +108,10 @@ abbrev pub or_numbered : ℕ → List ℕ → Result Line Misfit → Result Entr
 or_numbered p text (Ok l) = entry_of (Ok l)
 or_numbered p text (Err misfit) = numbered_entry p text
 
--- what a line says in the log of p as a line of a schedule, which need not have p's number where it tells of an act, or of what is
+-- what a line says in the log of p: what it does in a schedule, and need not have p's number where it tells of an act, or of what is
 -- expected
-unfoldable pub plain_entry : ℕ → List ℕ → Result Entry NoEntry
-plain_entry p text =
+unfoldable pub entry_in : ℕ → List ℕ → Result Entry NoEntry
+entry_in p text =
     if is_numbered text || (gives_number text || names_whom text)
     then entry_of (line_of text)
     else or_numbered p text (line_of text)

@@ -1,5 +1,4 @@
 pub mod Barred
-pub mod Conclusions
 pub mod Culprits
 pub mod Deeds
 pub mod Entries

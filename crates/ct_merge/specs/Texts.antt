@@ -4,7 +4,7 @@ use Rattle.std.specs.Prelude.{unwrap_or, if◌then◌else◌}
 use Rattle.ct_grammar.specs.Texts.{lines_of, text_in}
 use Rattle.ct_grammar.specs.declared.goal.Goal.{Goal}
 use Rattle.ct_play.specs.Acting.{go_on}
-use Rattle.ct_merge.specs.Conclusions.{entry_in}
+use Rattle.ct_merge.specs.Entries.{entry_in}
 use Rattle.ct_merge.specs.Expected.{Expecting, behind_act, nothing_expected, with_expectation}
 use Rattle.ct_merge.specs.Numbers.{no_numbers, with_given}
 use Rattle.ct_merge.specs.declared.entry.Entry.{Entry}

@@ -3,7 +3,7 @@
 ghost use Rattle.std.specs.Prelude.{◌≡◌, IfOk, option_map, string_bytes};
 ghost use Rattle.ct_grammar.specs.Lines.{line_of};
 ghost use Rattle.ct_merge.specs.Entries.{act_in_log, entry_of, fact_behind, gives_number, is_numbered, names_whom, numbered};
-ghost use Rattle.ct_merge.specs.Entries.{numbered_entry, plain_entry, received, told};
+ghost use Rattle.ct_merge.specs.Entries.{numbered_entry, entry_in, received, told};
 ghost use Rattle.ct_merge.specs.Proposers.{is_proposal, pick_lacks_sender, act_lacks_sender, without_sender};
 
 use crate::entry::{Entry, NoEntry};
@@ -19,13 +19,13 @@ use std::alloc::{AllocError, Global};
 const EXPECT: &[u8] = b"expect ";
 
 /// What the line says as one of a schedule, in the log of this member where it names none.
-#[tactic(auto, unfolding(crate::specs::Entries::plain_entry))]
-pub(crate) fn plain_entry(
+#[tactic(auto, unfolding(crate::specs::Entries::entry_in))]
+pub(crate) fn entry_in(
     alloc: Global,
     member: Member,
     text: &str,
 ) -> Result<Result<Entry, NoEntry>, AllocError>
-    ensures { IfOk result (λ entry. entry ≡ plain_entry member text.now) }
+    ensures { IfOk result (λ entry. entry ≡ entry_in member text.now) }
 {
     let line = line_of(alloc, text)?;
     if is_numbered(text.as_bytes()) || (gives_number(text.as_bytes()) || names_whom(text)) {

@@ -6,7 +6,6 @@
 #![tactic(auto)]
 
 mod address;
-mod concluding;
 mod culprit_text;
 mod entering;
 mod entry;

@@ -5,7 +5,7 @@ ghost use Rattle.ct_merge.specs.Texts.{IsFaultIn, after_entry, after_expected, a
 ghost use Rattle.ct_merge.specs.Texts.{entry_in_text, is_other, log_in, whole_lines};
 ghost use Rattle.ct_grammar.specs.Texts.{text_in};
 
-use crate::concluding::entry_in;
+use crate::entering::entry_in;
 use crate::entry::{Entry, NoEntry};
 use crate::expectation::Expectations;
 use crate::log_fault::LogFault;
