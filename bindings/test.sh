@@ -166,15 +166,22 @@ has mypy 'types in Python' && check 'types in Python' mypy --strict --cache-dir 
 check 'tests in Python' "${python[@]}"
 check 'tests in Python over ct_tool' env CT_LIB= "${python[@]}"
 
-# The package, installed without a network, works from elsewhere and has the library.
+# installed SITE PLACE WORD..: the package, installed there without a network by these words, lies in this place, works from elsewhere, has
+# the library, and says what it is.
 installed() {
-    python3 -m pip install --quiet --no-index --no-compile --target "$folder/site" ./python &&
-        (cd "$folder" && env -u CT_TOOL PYTHONPATH="$folder/site" python3 -c 'import malletochre as it
-assert it.IN_PROCESS and "site" in it.__file__
+    local site=$1 place=$2
+    shift 2
+    python3 -m pip install --quiet --no-index --no-compile --target "$site" "$@" ./python &&
+        (cd "$folder" && env -u CT_TOOL -u PYTHONPATH python3 -c 'import site, sys
+site.addsitedir(sys.argv[1])
+import malletochre as it
+assert it.IN_PROCESS and it.__file__.startswith(f"{sys.argv[2]}/malletochre/"), it.__file__
 with it.World(1) as world:
-    assert world.apply(it.Submit(1, it.Set(0, 7))) == range(1, 2)')
+    assert world.apply(it.Submit(1, it.Set(0, 7))) == range(1, 2)' "$site" "$place") &&
+        PYTHONPATH=$site python3 -m pip show malletochre >"$folder/shown" && grep -q '^Summary: A proved ' "$folder/shown"
 }
-imports pip 'the package, installed' && check 'the package, installed' installed
+imports pip 'the package, installed' && check 'the package, installed' installed "$folder/site" "$folder/site" &&
+    check 'the package, in place' installed "$folder/editable" "$here/python" -e
 
 if has go 'Go'; then
     check 'tests in Go' env -C go CT_STEPS="$folder/steps_taken" GOFLAGS=-count=1 go test ./...

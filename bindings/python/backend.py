@@ -1,22 +1,28 @@
-"""Builds the wheel of the package for pip (PEP 517), with nothing but Python: its files, and libct.so of bindings/out where
+"""Builds the wheel of the package for pip (PEP 517, PEP 660), with nothing but Python: its files, and libct.so of bindings/out where
 bindings/build.sh has made it. Without it the package uses `ct_tool`."""
 from __future__ import annotations
 
 import base64
 import hashlib
 import os
+import re
 import sysconfig
 import zipfile
 from typing import Any, Dict, List, Optional
 
 HERE = os.path.dirname(os.path.abspath(__file__))
 LIBRARY = os.path.join(HERE, "..", "out", "libct.so")
-NAME, VERSION = "malletochre", "0.1.0"
+with open(os.path.join(HERE, "pyproject.toml"), encoding="utf-8") as _file:
+    PROJECT = dict(re.findall(r'^([a-z-]+) = "(.*)"$', _file.read(), re.M))
+NAME, VERSION = PROJECT["name"], PROJECT["version"]
 INFO = f"{NAME}-{VERSION}.dist-info"
+METADATA = (f"Metadata-Version: 2.1\nName: {NAME}\nVersion: {VERSION}\nSummary: {PROJECT['description']}\n"
+            f"Requires-Python: {PROJECT['requires-python']}\n")
+ANY = "py3-none-any"
 
 
 def _files() -> Dict[str, bytes]:
-    """The files of the wheel by their names in it, without its record."""
+    """The package's files by their names in the wheel."""
     paths = {f"{NAME}/{it}": os.path.join(HERE, NAME, it) for it in sorted(os.listdir(os.path.join(HERE, NAME)))}
     found = {name: path for name, path in paths.items() if name.endswith((".py", ".typed"))}
     if os.path.exists(LIBRARY):
@@ -25,15 +31,13 @@ def _files() -> Dict[str, bytes]:
     for name, path in found.items():
         with open(path, "rb") as file:
             files[name] = file.read()
-    files[f"{INFO}/METADATA"] = f"Metadata-Version: 2.1\nName: {NAME}\nVersion: {VERSION}\nRequires-Python: >=3.8\n".encode()
-    files[f"{INFO}/WHEEL"] = f"Wheel-Version: 1.0\nGenerator: backend\nRoot-Is-Purelib: false\nTag: {_tag()}\n".encode()
     return files
 
 
 def _tag() -> str:
     """For which Python and machine the wheel is."""
     if not os.path.exists(LIBRARY):
-        return "py3-none-any"
+        return ANY
     return "py3-none-" + sysconfig.get_platform().replace("-", "_").replace(".", "_")
 
 
@@ -43,16 +47,27 @@ def _entry(name: str, data: bytes) -> str:
     return f"{name},sha256={digest},{len(data)}\n"
 
 
-def build_wheel(wheel_directory: str, config_settings: Any = None, metadata_directory: Optional[str] = None) -> str:
-    """Writes the wheel, and gives its name."""
-    files = _files()
+def _written(directory: str, tag: str, files: Dict[str, bytes]) -> str:
+    """Writes the wheel of these files, and gives its name."""
+    files[f"{INFO}/METADATA"] = METADATA.encode()
+    files[f"{INFO}/WHEEL"] = f"Wheel-Version: 1.0\nGenerator: backend\nRoot-Is-Purelib: {str(tag == ANY).lower()}\nTag: {tag}\n".encode()
     entries: List[str] = [_entry(name, data) for name, data in files.items()]
     files[f"{INFO}/RECORD"] = "".join(entries + [f"{INFO}/RECORD,,\n"]).encode()
-    wheel = f"{NAME}-{VERSION}-{_tag()}.whl"
-    with zipfile.ZipFile(os.path.join(wheel_directory, wheel), "w", zipfile.ZIP_DEFLATED) as archive:
+    wheel = f"{NAME}-{VERSION}-{tag}.whl"
+    with zipfile.ZipFile(os.path.join(directory, wheel), "w", zipfile.ZIP_DEFLATED) as archive:
         for name, data in files.items():
             archive.writestr(name, data)
     return wheel
+
+
+def build_wheel(wheel_directory: str, config_settings: Any = None, metadata_directory: Optional[str] = None) -> str:
+    """Writes the wheel, and gives its name."""
+    return _written(wheel_directory, _tag(), _files())
+
+
+def build_editable(wheel_directory: str, config_settings: Any = None, metadata_directory: Optional[str] = None) -> str:
+    """Writes a wheel that has Python look for the package here, with libct.so of bindings/out, and gives its name."""
+    return _written(wheel_directory, ANY, {f"{NAME}.pth": f"{HERE}\n".encode()})
 
 
 def build_sdist(sdist_directory: str, config_settings: Any = None) -> str:

@@ -72,7 +72,7 @@ def of_python() -> Dict[int, str]:
 def versions() -> Dict[str, str]:
     """Those of the header and of the packages."""
     sources = {"ct.h": r'#define CT_VERSION "(.*)"', "python/pyproject.toml": r'\nversion = "(.*)"',
-               "python/backend.py": r'VERSION = .*, "(.*)"', "rust/Cargo.toml": r'\nversion = "(.*)"'}
+               "rust/Cargo.toml": r'\nversion = "(.*)"'}
     found = {path: "".join(re.findall(pattern, text(f"../{path}"))) for path, pattern in sources.items()}
     return {"malletochre.__version__": malletochre.__version__, **found}
 
