@@ -101,6 +101,7 @@ def page(module: str, tool: str, made: List[str]) -> str:
     parts = {
         "/*STYLE*/": read(SOURCES, "style.css"),
         "/*SEARCH-STYLE*/": read(SOURCES, "search.css"),
+        "/*PRINT-STYLE*/": read(SOURCES, "print.css"),
         "/*DIAGRAM*/": read(SOURCES, "diagram.css"),
         "<!--TRUST-->": read(SOURCES, "trust.html"),
         "<!--SEARCH-->": read(SOURCES, "search.html"),

@@ -12,6 +12,7 @@ import { Waiting } from "./waiting.js";
 import { begin, refresh, theme, wire } from "./controls.js";
 import { asked, bytesOf, through } from "./link.js";
 import { legend } from "./legend.js";
+import { printout } from "./printing.js";
 
 const FIRST = ["members 3"];
 const HINT = "A group of three that has taken no step: have a member submit a message, open a run, or choose an example.";
@@ -69,6 +70,8 @@ async function start() {
   addEventListener("unhandledrejection", (event) => failed(event.reason));
   await follow(app, scenarios);
   addEventListener("hashchange", () => follow(app, scenarios));
+  addEventListener("beforeprint", () => { at("print").innerHTML = printout(app); });
+  addEventListener("afterprint", () => { at("print").innerHTML = ""; });
   window.ct = { app, search, loaded: performance.now() - began };
 }
 

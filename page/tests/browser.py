@@ -406,6 +406,29 @@ def dark_and_narrow(page: Page) -> None:
     page.size()
 
 
+def printed(page: Page) -> None:
+    """On paper are the diagram and the schedule, whole and light, and no controls; behind it the page is as it was."""
+    seen = "[...document.querySelectorAll('{0}')].filter((it) => it.getClientRects().length > 0)"
+    for name, refused in (("coordinator_crashes", []), ("broken", ["3 choose 1"])):
+        page.open(f"#example={name}")
+        page.run("document.documentElement.classList.add('dark')")
+        page.run("addEventListener('beforeprint', () => { window.printout = document.getElementById('print').innerHTML })")
+        page.driver.print_page()
+        assert page.run("return document.getElementById('print').innerHTML") == ""
+        page.driver.execute_cdp_cmd("Emulation.setEmulatedMedia", {"media": "print"})
+        page.run("document.getElementById('print').innerHTML = printout")
+        steps = page.run(f"return {seen.format('#print [data-step]')}.map((it) => Number(it.dataset.step))")
+        assert sorted(steps) == list(range(page.steps())), (name, steps)
+        widths = page.run(f"return {seen.format('#print > svg')}.map((it) => it.getBoundingClientRect().width / innerWidth)")
+        assert widths and all(0.9 < it <= 1 for it in widths), widths
+        assert page.run(f"return {seen.format('#print li')}.map((it) => it.textContent)") == page.lines()
+        assert page.run(f"return {seen.format('#print .refused')}.map((it) => it.textContent)") == refused
+        assert page.run(f"return {seen.format('button, input, select, textarea, summary, #diagram')}") == []
+        assert page.run("return getComputedStyle(document.body).backgroundColor") == "rgb(255, 255, 255)"
+        page.shot(f"printed_{name}")
+        page.driver.execute_cdp_cmd("Emulation.setEmulatedMedia", {"media": ""})
+
+
 def scenarios(page: Page) -> None:
     """The links of the documents open, and their runs are taken whole."""
     names = page.links(["README.md", "docs", "page"])
@@ -523,8 +546,8 @@ def without_sender(text: str) -> str:
 
 
 TESTS = [worked_example, refused_step, undo_and_redo, network, edited, arrows, looked_at, filtered, saved_and_opened,
-         named_by_content, no_record, long_numbers, by_keys, named, smooth, steady, big, blocks, dark_and_narrow, scenarios, at_random,
-         served, same_answers, same_steps, same_envelopes, *OPENED, *TABLE, *SEEKING]
+         named_by_content, no_record, long_numbers, by_keys, named, smooth, steady, big, blocks, dark_and_narrow, printed, scenarios,
+         at_random, served, same_answers, same_steps, same_envelopes, *OPENED, *TABLE, *SEEKING]
 
 
 def main() -> int:
