@@ -34,10 +34,14 @@
 
 /* The version of this header and of the packages beside it. */
 #define CT_VERSION "0.1.0"
+#define CT_VERSION_NUMBER 100 /* 10,000 times its first number, 100 times its second, and its third */
 
 #ifdef __cplusplus
 extern "C" {
 #endif
+
+/* The version of the library that is linked, as a number: CT_VERSION_NUMBER where it is this header's. */
+uint32_t ct_version(void);
 
 /* What calls answer. 1 to 24 are why a step is refused: 1 to 22 its cause, the first that applies, in the order of testing, where
    CT_NOT_SENT and CT_STILL_WAITING are tested just before the limits. */

@@ -222,6 +222,7 @@ static void threads(void) {
 }
 
 int main(void) {
+    check("the version", ct_version() == CT_VERSION_NUMBER);
     setups();
     order();
     lengths();

@@ -69,6 +69,14 @@ def of_python() -> Dict[int, str]:
     return {number: name(constant) for constant, number in vars(library).items() if constant in STATUSES}
 
 
+def version_numbers() -> Dict[str, str]:
+    """The numbers of the version: of the header, of the crate, and what that of the header's text is."""
+    first, second, third = map(int, versions()["ct.h"].split("."))
+    sources = {"../ct.h": r"#define CT_VERSION_NUMBER (\d+)", f"{CRATE}/src/version.rt": r"\{ result ≡ (\d+) \}"}
+    found = {path: "".join(re.findall(pattern, text(path))) for path, pattern in sources.items()}
+    return {"of the text": str(10_000 * first + 100 * second + third), **found}
+
+
 def versions() -> Dict[str, str]:
     """Those of the header and of the packages."""
     sources = {"ct.h": r'#define CT_VERSION "(.*)"', "python/pyproject.toml": r'\nversion = "(.*)"',
@@ -90,8 +98,7 @@ def main() -> int:
         faults.append("ct.h and the crate name different numbers")
     if not same_kinds():
         faults.append("ct.h and the definitions of the crate have different kinds")
-    if len(set(versions().values())) != 1:
-        faults.append(f"versions differ: {versions()}")
+    faults += [f"versions differ: {told}" for told in (versions(), version_numbers()) if len(set(told.values())) != 1]
     print("\n".join(faults) or "the same names everywhere")
     return int(bool(faults))
 

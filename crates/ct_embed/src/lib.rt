@@ -18,6 +18,7 @@ mod sent;
 mod session_calls;
 mod session_handle;
 mod step_code;
+mod version;
 mod world_calls;
 mod world_handle;
 
