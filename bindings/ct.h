@@ -76,7 +76,8 @@ enum {
     CT_BAD_STEP = 27,         /* no step has these numbers: see ct_step */
     CT_BAD_SETUP = 28,        /* not 1 to 16 members, more than 1,024 cells, or a bound that is not 1 to 1,048,560 */
     CT_NO_WORLD = 29,         /* the session was told no step yet, so there is no group to speak of */
-    CT_TOO_LONG = 30          /* the run has more steps than a diagram shows */
+    CT_TOO_LONG = 30,         /* the run has more steps than a diagram shows */
+    CT_NO_RECORD = 31         /* the text is no record */
 };
 
 /* The name of what a call answers, as records and schedules have it: "TooFew", "Full(Cells)"; "?" of another number. */
@@ -86,7 +87,7 @@ ct_refusal_name(uint32_t refusal) {
         "Done", "NoSuchMember", "Crashed", "NotWaiting", "Busy", "Nothing", "Idle", "WrongPhase", "Decided", "TooFew", "NotLargest",
         "NoProposal", "HasProposal", "Undecided", "BadCommand", "NotSent", "StillWaiting", "Full(Submissions)", "Full(Instances)",
         "Full(Rounds)", "Full(Envelopes)", "Full(Cells)", "Full(Steps)", "OutOfMemory", "Board", "NotOpen", "AlreadyOpen", "BadStep",
-        "BadSetup", "NoWorld", "TooLong",
+        "BadSetup", "NoWorld", "TooLong", "NoRecord",
     };
     return refusal < sizeof names / sizeof *names ? names[refusal] : "?";
 }
@@ -176,10 +177,24 @@ typedef struct {
     uint8_t from;
 } ct_letter;
 
+/* What opening a world from a record came to. */
+typedef struct {
+    size_t at;        /* the step, counted from 1, that is none or is refused; 0 where it is no step's fault */
+    uint32_t refusal; /* CT_DONE, or why no world was opened */
+    uint32_t bound;   /* the bound, the cells and the members of the world, as in ct_world_open; zeros where none was opened */
+    uint16_t cells;
+    uint8_t members;
+} ct_opened;
+
 /* Opens a world without steps, for the members 1 to `members` (at most 16), with `cells` cells for posted batches (at most 1,024), in
    which a member proposes at most `bound` messages for an instance (1 to 1,048,560). CT_DONE, CT_BAD_SETUP, CT_ALREADY_OPEN or
    CT_OUT_OF_MEMORY. */
 uint32_t ct_world_open(ct_world *world, uint8_t members, uint16_t cells, uint32_t bound) CT_NONNULL(1);
+
+/* Opens a world with the setup and the steps of a record: JSON, as `ct replay` and `ct_tool` read it and ct_record writes it, of at most
+   67,108,864 bytes. CT_DONE, CT_ALREADY_OPEN, CT_NO_RECORD, CT_OUT_OF_MEMORY, or 1 to 24, why a step is refused. Takes as long as
+   replaying the record. */
+ct_opened ct_open_record(ct_world *world, const uint8_t *text, size_t length) CT_NONNULL(1);
 
 /* Closes it, if it is open. */
 void ct_world_close(ct_world *world) CT_NONNULL(1);

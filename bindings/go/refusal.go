@@ -41,6 +41,7 @@ const (
 	BadSetup        Refusal = C.CT_BAD_SETUP
 	NoWorld         Refusal = C.CT_NO_WORLD
 	TooLong         Refusal = C.CT_TOO_LONG
+	NoRecord        Refusal = C.CT_NO_RECORD
 )
 
 var names = [...]string{
@@ -74,6 +75,7 @@ var names = [...]string{
 	BadSetup:        "BadSetup",
 	NoWorld:         "NoWorld",
 	TooLong:         "TooLong",
+	NoRecord:        "NoRecord",
 }
 
 // Error gives the refusal's name, as records and schedules have it: "TooFew", "Full(Cells)".

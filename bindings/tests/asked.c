@@ -20,18 +20,18 @@ static struct {
     uint32_t bound, last;
 } now;
 
-static void print_step(const ct_step *step) {
+static void print_step(FILE *out, const ct_step *step) {
     if (step->kind == 0) {
-        printf("-");
+        fputs("-", out);
         return;
     }
-    printf("[\"%s\",%u", names[step->kind], (unsigned)step->member);
+    fprintf(out, "[\"%s\",%u", names[step->kind], (unsigned)step->member);
     if (step->kind == CT_SUBMIT) {
-        printf(",[\"%s\",%u,%" PRIu64 "]", commands[step->a], (unsigned)step->b, step->c);
+        fprintf(out, ",[\"%s\",%u,%" PRIu64 "]", commands[step->a], (unsigned)step->b, step->c);
     } else if (step->kind == CT_RECEIVE || step->kind == CT_CHOOSE || step->kind >= CT_POSTPONE) {
-        printf(",%" PRIu32, step->a);
+        fprintf(out, ",%" PRIu32, step->a);
     }
-    printf("]");
+    fputs("]", out);
 }
 
 static void print_message(const ct_message *it) {
@@ -75,7 +75,7 @@ static void ask_member(uint8_t member) {
     bool has_crashed = ct_enabled(&now.world, CT_CRASH, member, 0, 0, 0) == CT_CRASHED;
     printf("member %u %s\nnext ", (unsigned)member, has_crashed ? "crashed" : "up");
     ct_step next = ct_next(&now.world, member);
-    print_step(&next);
+    print_step(stdout, &next);
     printf("\nmay");
     for (size_t i = 0; i < sizeof own_steps / sizeof *own_steps; i++) {
         print_refusal(ct_enabled(&now.world, own_steps[i], member, own_steps[i] == CT_CHOOSE, 0, 0));
@@ -171,32 +171,40 @@ static void turns(uint32_t times, uint8_t member, bool receives_first) {
     printf("%" PRIu32 "\n", done);
 }
 
-static void print_record(const ct_world *world) {
+static void print_record(FILE *out, const ct_world *world) {
     size_t count = ct_steps(world, 0, NULL, 0);
     ct_step *room = calloc(count + 1, sizeof *room);
     ct_steps(world, 0, room, count);
-    printf("{\"batch\":%" PRIu32 ",\"cells\":%u,\"n\":%u,\"steps\":[", now.bound, now.cells, now.members);
+    fprintf(out, "{\"batch\":%" PRIu32 ",\"cells\":%u,\"n\":%u,\"steps\":[", now.bound, now.cells, now.members);
     for (size_t i = 0; i < count; i++) {
-        fputs(i == 0 ? "" : ",", stdout);
-        print_step(&room[i]);
+        fputs(i == 0 ? "" : ",", out);
+        print_step(out, &room[i]);
     }
-    puts("],\"version\":3}");
+    fputs("],\"version\":3}\n", out);
     free(room);
 }
 
-/* The record of the world, and of a copy, which is asked from here on. */
+/* The record of the world, and of a copy's record opened again, which is asked from here on. */
 static void record(void) {
     ct_world copy = {0};
-    print_record(&now.world);
+    char *text = NULL;
+    size_t length = 0;
+    FILE *memory = open_memstream(&text, &length);
+    print_record(stdout, &now.world);
     if (ct_copy(&now.world, &copy) != CT_DONE) {
         puts("no copy");
     }
     ct_world_close(&now.world);
-    print_record(&copy);
-    if (ct_copy(&copy, &now.world) != CT_DONE) {
-        puts("no copy");
-    }
+    print_record(memory, &copy);
+    fclose(memory);
     ct_world_close(&copy);
+    ct_opened opened = ct_open_record(&now.world, (const uint8_t *)text, length);
+    if (opened.refusal != CT_DONE || opened.at != 0) {
+        puts("not opened");
+    }
+    now.members = opened.members, now.cells = opened.cells, now.bound = opened.bound;
+    print_record(stdout, &now.world);
+    free(text);
 }
 
 static void open(const uint64_t *n) {
@@ -230,10 +238,10 @@ static void worlds(FILE *file) {
 
 int main(int argc, char **argv) {
     if (argc == 2) {
-        for (uint32_t number = CT_DONE; number <= CT_TOO_LONG; number++) {
+        for (uint32_t number = CT_DONE; number <= CT_NO_RECORD; number++) {
             printf("%" PRIu32 " %s\n", number, ct_refusal_name(number));
         }
-        return strcmp(ct_refusal_name(CT_TOO_LONG + 1), "?") != 0;
+        return strcmp(ct_refusal_name(CT_NO_RECORD + 1), "?") != 0;
     }
     FILE *file = argc == 3 ? fopen(argv[2], "r") : NULL;
     if (file == NULL) {

@@ -157,6 +157,43 @@ static void nothing(void) {
 
 static const uint8_t *bytes(const char *text) { return (const uint8_t *)text; }
 
+/* The record of this version and these steps. */
+static ct_opened open_record(ct_world *world, const char *steps, int version) {
+    char text[160];
+    const char *batch = version == 3 ? "\"batch\":9," : "";
+    int length = snprintf(text, sizeof text, "{%s\"cells\":4,\"n\":2,\"steps\":[%s],\"version\":%d}", batch, steps, version);
+    return ct_open_record(world, bytes(text), (size_t)length);
+}
+
+static void records(void) {
+    static const struct {
+        const char *steps;
+        int version;
+        uint32_t refusal;
+        size_t at;
+    } bad[] = {
+        {"[\"crash\",1],[\"settle\",1]", 3, CT_NO_RECORD, 2},    {"[\"crash\",1],[\"begin\",1]", 3, CT_CRASHED, 2},
+        {"[\"crash\",3]", 3, CT_NO_SUCH_MEMBER, 1},            {"[\"crash\",1],[\"lose\",2,1]", 1, CT_NO_RECORD, 2},
+        {"[\"crash\",1]]", 3, CT_NO_RECORD, 0},                {"", 4, CT_NO_RECORD, 0},
+        {"[\"submit\",1,[\"set\",16,7]]", 3, CT_BAD_COMMAND, 1}, {"[\"crash\",256]", 3, CT_NO_RECORD, 1},
+    };
+    ct_world world = {0};
+    for (size_t i = 0; i < sizeof bad / sizeof *bad; i++) {
+        ct_opened none = open_record(&world, bad[i].steps, bad[i].version);
+        check("a bad record", none.refusal == bad[i].refusal && none.at == bad[i].at && !world.is_open);
+        check("no setup", none.bound == 0 && none.cells == 0 && none.members == 0);
+    }
+    check("no text", ct_open_record(&world, NULL, 0).refusal == CT_NO_RECORD && !world.is_open);
+    ct_opened opened = open_record(&world, "[\"submit\",1,[\"set\",0,7]],[\"receive\",2,2]", 3);
+    check("a record", opened.refusal == CT_DONE && opened.at == 0 && steps_of(&world) == 2);
+    check("its setup", opened.bound == 9 && opened.cells == 4 && opened.members == 2);
+    check("its state", ct_received(&world, 2, NULL, 0) == 1 && ct_apply(&world, CT_RECEIVE, 1, 1, 0, 0).refusal == CT_DONE);
+    check("a record into an open one", open_record(&world, "", 3).refusal == CT_ALREADY_OPEN && steps_of(&world) == 3);
+    ct_world_close(&world);
+    check("an older record", open_record(&world, "", 1).bound == BOUND && steps_of(&world) == 0);
+    ct_world_close(&world);
+}
+
 static void sessions(void) {
     ct_session session = {0}, other = {0};
     uint8_t room[16];
@@ -227,6 +264,7 @@ int main(void) {
     order();
     lengths();
     nothing();
+    records();
     sessions();
     threads();
     printf("%d passed, %d failed\n", passed, failed);

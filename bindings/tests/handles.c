@@ -42,14 +42,17 @@ static bool with_world(int number) {
 static bool with_session(int number) {
     static const char text[] = "members 3\n1 submit set 0 7\n1 receive data 1.1\nall turns 30\nreport\nnonsense\n1 enter";
     ct_session session = {0};
-    uint8_t room[8];
+    uint8_t room[8], record[4096];
     if (ct_session_open(&session) != CT_DONE) {
         return false;
     }
     ct_tell(&session, (const uint8_t *)text, sizeof text - 1);
     ct_answers(&session, room, sizeof room);
     if (number % 3 == 0) {
+        ct_world world = {0};
         ct_record(&session);
+        ct_open_record(&world, record, ct_answers(&session, record, sizeof record) - (size_t)(number % 4 / 2));
+        ct_world_close(&world);
     }
     if (number % 5 == 0) {
         ct_diagram(&session);

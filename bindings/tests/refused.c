@@ -42,7 +42,7 @@ static size_t ample_steps;
 
 /* How many calls were done though an allocation was refused in them: room ahead for the first receipts of messages and of
    decisions by three members, some times. */
-enum { MOST_WITHOUT_ROOM = 24 };
+enum { MOST_WITHOUT_ROOM = 32 };
 static int without_room;
 
 /* Whether what happened here is what should: the call is refused only where an allocation was. */
@@ -105,6 +105,19 @@ static bool worlds(void) {
     return good;
 }
 
+/* A world from the record that waits to be copied. */
+static bool reopened(const ct_session *session) {
+    static uint8_t room[4096];
+    ct_world world = {0};
+    size_t length = ct_answers(session, room, sizeof room);
+    bool before = has_refused;
+    ct_opened opened = ct_open_record(&world, room, length);
+    bool good = length <= sizeof room && is_told(opened.refusal, before) && (opened.refusal == CT_DONE) == world.is_open;
+    good = good && (opened.refusal == CT_DONE || opened.refusal == CT_OUT_OF_MEMORY);
+    ct_world_close(&world);
+    return good;
+}
+
 static bool sessions(void) {
     static const char text[] = "members 3\n1 submit set 0 7\nall turns 12\n2 begin\nreport\nstate 1\nexpect all delivered 1.1\nwaiting 2\n";
     ct_session session = {0};
@@ -120,6 +133,7 @@ static bool sessions(void) {
         before = has_refused;
         status = i == 0 ? ct_record(&session) : ct_diagram(&session);
         good = good && is_told(status, before) && session.is_open && (status == CT_DONE || ct_answers_length(&session) == 0);
+        good = good && (i > 0 || status != CT_DONE || reopened(&session));
     }
     ct_session_close(&session);
     return good;

@@ -12,6 +12,7 @@ pub const NOT_OPEN: u32 = 25;
 pub const BAD_SETUP: u32 = 28;
 pub const NO_WORLD: u32 = 29;
 pub const TOO_LONG: u32 = 30;
+pub const NO_RECORD: u32 = 31;
 
 /// A world or a session, as C holds it: zeros at first.
 #[repr(C)]
@@ -39,6 +40,16 @@ pub struct Effect {
 }
 
 #[repr(C)]
+#[derive(Clone, Copy)]
+pub struct Opened {
+    pub at: usize,
+    pub refusal: u32,
+    pub bound: u32,
+    pub cells: u16,
+    pub members: u8,
+}
+
+#[repr(C)]
 #[derive(Clone, Copy, Default)]
 pub struct Message {
     pub value: u64,
@@ -62,6 +73,7 @@ pub struct Letter {
 
 extern "C" {
     pub fn ct_world_open(world: *mut Handle, members: u8, cells: u16, bound: u32) -> u32;
+    pub fn ct_open_record(world: *mut Handle, text: *const u8, length: usize) -> Opened;
     pub fn ct_world_close(world: *mut Handle);
     pub fn ct_copy(from: *mut Handle, into: *mut Handle) -> u32;
     pub fn ct_apply(world: *mut Handle, kind: u8, member: u8, a: u32, b: u8, c: u64) -> Effect;

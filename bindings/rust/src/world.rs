@@ -1,7 +1,7 @@
 //! Worlds.
 
 use crate::handle::{list, Handle};
-use crate::{raw, record, Envelope, Member, MemberNumber, Message, OpenError, RecordError, Refusal, Serial, Setup, Step, Steps};
+use crate::{raw, Envelope, Member, MemberNumber, Message, OpenError, RecordError, Refusal, Serial, Setup, Step, Steps};
 use std::fmt;
 use std::ops::Range;
 
@@ -104,24 +104,22 @@ impl World {
         format!("{{\"batch\":{bound},\"cells\":{cells},\"n\":{members},\"steps\":[{}],\"version\":3}}", steps.join(","))
     }
 
-    /// A world with the setup and the steps of a record of version 3, as [`World::record`] gives it.
+    /// A world with the setup and the steps of a record, as `ct replay` and `ct_tool` read it. It takes as long as replaying it.
     ///
     /// ```
     /// # use malletochre::{RecordError, Refusal, World};
     /// let text = r#"{"batch":9,"cells":4,"n":2,"steps":[["submit",1,["set",0,7]],["receive",2,2]],"version":3}"#;
     /// assert_eq!(World::of_record(text).unwrap().record(), text);
     /// assert_eq!(World::of_record(&text.replace("2,2", "2,1")).unwrap_err(), RecordError::Refused(2, Refusal::NotWaiting));
-    /// for (old, new) in [("2,2", "2"), ("2,2", "2,2.0"), ("\"n\"", "\"m\""), ("3}", "2}"), ("3}", "3}}"), ("0,7", "0,07"), ("receive", "begin")] {
-    ///     assert_eq!(World::of_record(&text.replace(old, new)).unwrap_err(), RecordError::NoRecord);
+    /// for (old, new, at) in [("2,2", "2,2.0", 2), ("receive", "begin", 2), ("\"n\"", "\"m\"", 0), ("3}", "2}", 0), ("3}", "3}}", 0)] {
+    ///     assert_eq!(World::of_record(&text.replace(old, new)).unwrap_err(), RecordError::NoRecord(at));
     /// }
     /// ```
     pub fn of_record(record: &str) -> Result<World, RecordError> {
-        let (setup, steps) = record::read(record).ok_or(RecordError::NoRecord)?;
-        let mut world = World::open(setup).map_err(RecordError::Open)?;
-        for (place, step) in steps.into_iter().enumerate() {
-            world.apply(step).map_err(|refusal| RecordError::Refused(place + 1, refusal))?;
-        }
-        Ok(world)
+        let handle = Handle::closed();
+        let told = unsafe { raw::ct_open_record(handle.at(), record.as_ptr(), record.len()) };
+        RecordError::of(told)?;
+        Ok(World { handle, setup: Setup { members: told.members, cells: told.cells, bound: told.bound } })
     }
 
     /// What is asked of a member; None where it is none of the group's.

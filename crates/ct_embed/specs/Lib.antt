@@ -6,6 +6,7 @@ pub mod Opening
 pub mod OwnedSession
 pub mod OwnedWorld
 pub mod Owning
+pub mod Records
 pub mod RefusalNumbers
 pub mod Rooms
 pub mod Seen

@@ -23,3 +23,6 @@ pub(crate) const NO_WORLD: u32 = 29;
 
 /// The run has more steps than a diagram shows.
 pub(crate) const TOO_LONG: u32 = 30;
+
+/// The text is no record.
+pub(crate) const NO_RECORD: u32 = 31;

@@ -5,7 +5,9 @@ ghost use Rattle.ct_model.specs.Cause.{cause};
 ghost use Rattle.ct_model.specs.Rehearsal.{state_of};
 ghost use Rattle.ct_model.specs.Run.{run};
 ghost use Rattle.ct_model.specs.Safe.{IsSafe};
+ghost use Rattle.ct_records.specs.View.{rehearsal_of};
 ghost use Rattle.ct_world.specs.Posting.{IsRefusal};
+ghost use Rattle.ct_world.specs.Replay.{IsFaultOf};
 ghost use Rattle.ct_world.specs.Setup.{record_of};
 ghost use Rattle.ct_world.specs.World.{IsDone};
 ghost use Rattle.ct_embed.specs.Applying.{IsFirst};
@@ -14,7 +16,8 @@ use crate::sent::Sent;
 use ct_board::Board;
 use ct_model::Step;
 use ct_names::Refusal;
-use ct_world::{Setup, World};
+use ct_records::Script;
+use ct_world::{ReplayFault, Setup, World};
 use std::alloc::Global;
 use std::marker::Model;
 
@@ -80,6 +83,23 @@ impl OwnWorld {
             Ok((world, board)) => Ok(OwnWorld { world, board }),
             Err(fault) => Err(fault.refusal),
         }
+    }
+
+    // The world of the record, or the first of its steps that is refused.
+    #[tactic(auto, using(crate::proofs::Unopened::same_fault))]
+    pub(crate) fn of_script(alloc: Global, script: &Script) -> Result<OwnWorld, ReplayFault>
+        ensures ok { IfOk result (λ own. own ≡ rehearsal_of script.now) }
+        ensures err { IfErr result (λ fault. let w = rehearsal_of script.now in
+            IsFaultOf w.setting w.cells w.steps fault.at fault.refusal) }
+    {
+        let (world, board) = World::replay(
+            alloc,
+            script.group,
+            script.cells,
+            script.batch,
+            &script.steps,
+        )?;
+        Ok(OwnWorld { world, board })
     }
 
     // The world.
