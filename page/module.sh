@@ -12,7 +12,7 @@ bitcode=$(realpath "$1")
 out=$(realpath -m "$2")
 parts=(heap module wide)
 level=-O3
-mapfile -t calls < <(sed -n 's/^[a-z].*[ *]\(ct_[a-z_]*\)(.*/--export=\1/p' "$here/../bindings/ct.h")
+mapfile -t calls < <(grep -hoE '\bct_[a-z_]+\(' "$here"/src/*.js | sort -u | sed 's/\(.*\)(/--export=\1/') # those that the page makes
 if [[ ${3:-} == program ]]; then
     parts+=(system)
     calls=(--export=main)
