@@ -98,12 +98,12 @@ class World:
 
     def envelope(self, serial: int) -> Optional[Envelope]:
         """The envelope of a serial, wherever it is now; None where it was not sent."""
-        return self._engine.envelope(serial)
+        return self._engine.envelope(index(serial))
 
     def value(self, serial: int) -> Optional[Tuple[Message, ...]]:
         """The value that the envelope carries, in the order of messages: of an estimate, a proposal or a decision. None where that serial
         was not sent, or its envelope carries none."""
-        return self._engine.value(serial)
+        return self._engine.value(index(serial))
 
     def received(self, member: int) -> List[Message]:
         """The messages that the member received, in order of first receipt."""
@@ -111,7 +111,7 @@ class World:
 
     def decided(self, member: int, instance: int) -> Optional[Tuple[Message, ...]]:
         """The decision that the member got for an instance, in the order of messages; None where it got none."""
-        return self._engine.decided(self._own(member), instance)
+        return self._engine.decided(self._own(member), index(instance))
 
     def delivered(self, member: int) -> List[Message]:
         """The messages that the member delivered, in order."""
@@ -139,6 +139,7 @@ class World:
         self._engine.close()
 
     def _own(self, member: int) -> int:
+        member = index(member)
         if not 1 <= member <= self.members:
             raise ValueError(f"no member {member}: 1 to {self.members}")
         return member

@@ -59,6 +59,10 @@ class Worlds(unittest.TestCase):
             for step in wrong:
                 self.assertRaises(TypeError, world.apply, step)
                 self.assertRaises(TypeError, world.refusal, step)
+            asked: List[Callable[..., Any]] = [world.next, world.table, world.has_crashed, world.envelope, world.value]
+            for call in asked:
+                self.assertRaises(TypeError, call, 1.0)
+            self.assertRaises(TypeError, world.decided, 1, 1.0)
             self.assertEqual(world.steps(), [])
 
     def test_closed(self) -> None:
