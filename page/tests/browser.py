@@ -30,6 +30,7 @@ BIG_SECONDS = 5.0
 TRIES = 3
 SMOOTH_SECONDS = 0.05
 LINK_LETTERS = 4000
+READABLE = 4.5
 RANDOM_ACTS = 700
 
 
@@ -429,6 +430,30 @@ def printed(page: Page) -> None:
         page.driver.execute_cdp_cmd("Emulation.setEmulatedMedia", {"media": ""})
 
 
+def readable(page: Page) -> None:
+    """What is told of a member that crashed stands out from its ground, by the ratio that WCAG asks for."""
+    page.open("#example=coordinator_crashes")
+    for _ in range(2):
+        page.click("#theme")
+        for selector in (".down .facts", ".down .label"):
+            ink, paper = page.run(COLOURS, selector)
+            assert ratio(ink, paper) >= READABLE, (selector, ratio(ink, paper))
+
+
+COLOURS = """const it = document.querySelector(arguments[0]);
+  return [getComputedStyle(it).color, getComputedStyle(it.closest('.down')).backgroundColor];"""
+
+
+def ratio(one: str, other: str) -> float:
+    """How far two colours stand apart, as WCAG has it."""
+    lights = []
+    for colour in (one, other):
+        parts = [int(it) / 255 for it in re.findall(r"\d+", colour)]
+        red, green, blue = (it / 12.92 if it <= 0.04045 else ((it + 0.055) / 1.055) ** 2.4 for it in parts)
+        lights.append(0.2126 * red + 0.7152 * green + 0.0722 * blue)
+    return (max(lights) + 0.05) / (min(lights) + 0.05)
+
+
 def scenarios(page: Page) -> None:
     """The links of the documents open, and their runs are taken whole."""
     names = page.links(["README.md", "docs", "page"])
@@ -545,9 +570,9 @@ def without_sender(text: str) -> str:
     return re.sub(r" from \d+", "", text)
 
 
-TESTS = [worked_example, refused_step, undo_and_redo, network, edited, arrows, looked_at, filtered, saved_and_opened,
-         named_by_content, no_record, long_numbers, by_keys, named, smooth, steady, big, blocks, dark_and_narrow, printed, scenarios,
-         at_random, served, same_answers, same_steps, same_envelopes, *OPENED, *TABLE, *SEEKING]
+TESTS = [worked_example, refused_step, undo_and_redo, network, edited, arrows, looked_at, filtered, saved_and_opened, named_by_content,
+         no_record, long_numbers, by_keys, named, smooth, steady, big, blocks, dark_and_narrow, printed, readable, scenarios, at_random, served,
+         same_answers, same_steps, same_envelopes, *OPENED, *TABLE, *SEEKING]
 
 
 def main() -> int:
