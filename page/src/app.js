@@ -5,7 +5,7 @@ import { Fault, Left } from "./fault.js";
 import { Past } from "./past.js";
 import { Run, isAnswer, isFault } from "./run.js";
 import { detail, heading } from "./detail.js";
-import { count, faultText, headingOf } from "./wording.js";
+import { count, faultText, headingOf, linked } from "./wording.js";
 
 const NO_FILTER = { members: null, kinds: null, instance: null };
 
@@ -238,7 +238,7 @@ export class App {
   }
 
   alert(text) {
-    this.parts.alert.textContent = text;
+    this.parts.alert.innerHTML = linked(text);
   }
 
   status(text) {

@@ -1,6 +1,6 @@
 // The schedule beside the run: lines that can be changed, with the refused one and the one that one looks at marked.
 
-import { faultText } from "./wording.js";
+import { faultText, linked } from "./wording.js";
 
 const LINE = 18;
 const MOST_LINES = 5000;
@@ -41,7 +41,7 @@ export class Editor {
     const told = this.fault ? faultText(this.fault) : "";
     this.note.classList.toggle("hint", !told);
     const part = `Lines ${this.offset + 1} to ${this.offset + shown} of ${this.count.toLocaleString("en")}.`;
-    this.note.textContent = told || (isLong ? `${part} So long a schedule is changed by saving and opening it.` : "");
+    this.note.innerHTML = linked(told) || (isLong ? `${part} So long a schedule is changed by saving and opening it.` : "");
   }
 
   reveal() {

@@ -1,5 +1,7 @@
 // What steps and envelopes are called, in the words of schedules.
 
+import { safe } from "./safe.js";
+
 const MOST_NAMES = 8;
 const MOST_LETTERS = 200;
 
@@ -41,6 +43,10 @@ export function faultText({ line, text, answer }) {
   const words = text.trim();
   return `line ${line + 1}: ${words.length > MOST_LETTERS ? "" : `${words}: `}${answer}`;
 }
+
+// A fault as a part of the page, in which the name of a refusal leads to what it means.
+export const linked = (text) =>
+  safe(text).replace(/( refused \d+ )([A-Z]\w+)/g, '$1<a href="../docs/ALGORITHM.md#refusals" target="_blank">$2</a>');
 
 // The comment with which a schedule begins.
 export const headingOf = ([first = ""]) => (/^\s*#(?![0-9])(.*)/.exec(first)?.[1] ?? "").trim().slice(0, MOST_LETTERS);

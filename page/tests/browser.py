@@ -72,11 +72,22 @@ def refused_step(page: Page) -> None:
     assert page.lines() == before
     page.say("1 begin")
     assert page.alert() == "1 begin: refused 1 Nothing: instance 2 idle", page.alert()
+    assert means(page, "#alert") == "Nothing"
     assert page.run("const it = document.getElementById('alert').getBoundingClientRect(); return it.top >= 0 && it.bottom < innerHeight")
     page.shot("refused")
     page.say("limits")
     assert page.alert() == "" and page.text("#status").startswith("limits submissions 65535, "), page.text("#status")
     assert page.lines() == before
+
+
+def means(page: Page, selector: str) -> str:
+    """The name of the refusal that is told there, which leads to what it means."""
+    link = f"document.querySelector('{selector} a')"
+    address, name = page.run(f"return [{link}.getAttribute('href'), {link}.textContent]")
+    path, heading = address.split("#")
+    told = read("page", path)
+    assert f"\n## {heading.capitalize()}\n" in told and f"\n| `{name}` | " in told, address
+    return name
 
 
 def undo_and_redo(page: Page) -> None:
@@ -124,7 +135,7 @@ def edited(page: Page) -> None:
     page.write("members 3\n1 submit set 0 7\n1 enter\n1 receive data 1.1\n")
     page.until(lambda: page.fault() == "line 3: 1 enter: refused 1 Idle: instance 0 idle")
     assert json.loads(page.record())["steps"] == [["submit", 1, ["set", 0, 7]]], page.record()
-    assert page.text("#gutter .refused") == "✕ 3", page.text("#gutter .refused")
+    assert page.text("#gutter .refused") == "✕ 3" and means(page, "#fault") == "Idle", page.text("#gutter .refused")
     page.shot("edited")
     page.press("1 receive data 1.1 from 1")
     page.until(lambda: page.fault() == "line 4: 1 enter: refused 1 Idle: instance 0 idle")
