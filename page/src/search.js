@@ -6,8 +6,8 @@ const SHOWN_ALONE = ["--count", "--help", "-h"];
 const STATUS = { 1: "it is not shown", 4: "a read or a write failed", 5: "out of memory" };
 const at = (id) => document.getElementById(id);
 
-// A text of standard error without the lines that were written over.
-const lasting = (text) => text.replace(/\r[^\r\n]*\x1b\[K/g, "").trim();
+// A text of standard error without the lines that were written over, and without the usage: the page itself gives most words.
+const lasting = (text) => text.replace(/\r[^\r\n]*\x1b\[K|\n\nUsage: [^]*/g, "").trim();
 
 // The last line of a text that is written over and over.
 const line = (text) => text.split("\r").at(-1).replace("\x1b[K", "").trim();

@@ -96,12 +96,12 @@ def makes_smaller(page: Page) -> None:
 
 
 def no_goal(page: Page) -> None:
-    """A goal that is none, words that are none, and a goal that no walk shows: what the program tells."""
+    """A goal that is none, words that are none, and a goal that no walk shows: what the program tells, without the usage."""
     page.open()
     before = page.lines()
     for words in (("any rounds >= 4", OPTIONS), ("4 crashed", OPTIONS), ("any round >= 5", "--loose 4")):
         look(page, words[0], options=words[1])
-        told = page.of_tool(*find_words(words[0], 1000, words[1]))[1]
+        told = page.of_tool(*find_words(words[0], 1000, words[1]))[1].split("\n\nUsage: ")[0]
         assert page.alert() == told.strip(), (page.alert(), told)
     assert "not understood" in page.of_tool(*find_words("any rounds >= 4", 9))[1]
     page.shot("no_goal")
