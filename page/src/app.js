@@ -114,6 +114,7 @@ export class App {
   // What is shown can be had again, as it is now: from a file, a link or by an example's name.
   kept(example = this.isKept ? this.held.example : "") {
     this.held = { lines: this.lines, length: this.lines.length, example };
+    if (!this.run.fault) this.alert("");
     this.parts.controls(this);
   }
 

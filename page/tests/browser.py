@@ -75,6 +75,9 @@ def refused_step(page: Page) -> None:
     assert means(page, "#alert") == "Nothing"
     assert page.run("const it = document.getElementById('alert').getBoundingClientRect(); return it.top >= 0 && it.bottom < innerHeight")
     page.shot("refused")
+    page.saved("#save-schedule", "run.schedule")
+    assert page.alert() == "", page.alert()
+    page.say("1 begin")
     page.say("limits")
     assert page.alert() == "" and page.text("#status").startswith("limits submissions 65535, "), page.text("#status")
     assert page.lines() == before
