@@ -6,7 +6,7 @@
 #
 # CT, CT_TOOL: the built programs; those of crates/ if left out. Needs cc with ASan, python3, and Debian's chromium, chromium-driver and
 # python3-selenium. SHOTS names a folder for screenshots, LINES_TOLD another number of lines than 200,000, ONLY tests of tests/browser.py
-# that alone are run. Ends with a line
+# that alone are run. Where firefox-esr is installed some of the tests run in it, too; else that is told. Ends with a line
 # `N passed, M failed`, and status 1 where something failed.
 set -u
 
@@ -20,11 +20,13 @@ folder=$(mktemp -d)
 trap 'rm -rf "$folder"' EXIT
 export PYTHONDONTWRITEBYTECODE=1
 failed=0
+checks=0
 
 # check NAME COMMAND..: the command ends with status 0.
 check() {
     local name=$1
     shift
+    checks=$((checks + 1))
     if "$@" >"$folder/output" 2>&1; then
         echo "ok $name"
     else
@@ -51,9 +53,15 @@ check 'lines' python3 "$here/../bindings/tests/inputs.py" "$tool" "$folder" --st
 # Debian's packages are of Debian's Python.
 python=python3
 python3 -c 'import selenium' 2>/dev/null || python=/usr/bin/python3
-"$python" "$here/tests/browser.py" "$here/out/ct.html" "$here/ct.html" "$ct" "$tool" "$folder" ${SHOTS:+"$SHOTS"} | tee "$folder/browser"
+tests=("$python" "$here/tests/browser.py" "$here/out/ct.html" "$here/ct.html" "$ct" "$tool" "$folder")
+"${tests[@]}" ${SHOTS:+"$SHOTS"} | tee "$folder/browser"
+if ! command -v firefox-esr >/dev/null; then
+    echo 'left out, as there is no firefox-esr: the page in Firefox'
+elif [[ -z ${ONLY-} ]]; then
+    check 'the page in Firefox' env BROWSER=firefox "${tests[@]}"
+fi
 passed=$(sed -n 's/^\([0-9]*\) passed.*/\1/p' "$folder/browser")
 missed=$(sed -n 's/.* \([0-9]*\) failed$/\1/p' "$folder/browser")
 failed=$((failed + ${missed:-1}))
-echo "$((${passed:-0} + 4 - failed + ${missed:-1})) passed, $failed failed"
+echo "$((${passed:-0} + checks - failed + ${missed:-1})) passed, $failed failed"
 [[ $failed == 0 ]]

@@ -1,11 +1,11 @@
 #!/usr/bin/env python3
-"""Tests the page in Chromium, from the disk, as one uses it: by clicks and by keys.
+"""Tests the page in Chromium, or some of it in Firefox, from the disk, as one uses it: by clicks and by keys.
 
     browser.py PAGE KEPT CT CT_TOOL FOLDER [SHOTS]
 
 PAGE: the page; KEPT: the one that is kept in the repository; CT, CT_TOOL: the programs, which say what is right; FOLDER: what
-bindings/tests/inputs.py wrote; SHOTS: a folder for screenshots. ONLY names tests, parted by spaces, that alone are run. Ends with a line
-`N passed, M failed`.
+bindings/tests/inputs.py wrote; SHOTS: a folder for screenshots. ONLY names tests, parted by spaces, that alone are run; BROWSER is firefox
+for that one. Ends with a line `N passed, M failed`.
 """
 import http.server
 import json
@@ -18,9 +18,9 @@ import threading
 import time
 import traceback
 
-from opened import OPENED
+from opened import OPENED, logs
 from page import Page
-from seeking import SEEKING
+from seeking import SEEKING, finds
 from table import TABLE
 
 HERE = os.path.dirname(os.path.abspath(__file__))
@@ -588,11 +588,14 @@ TESTS = [worked_example, refused_step, undo_and_redo, network, edited, arrows, l
          no_record, long_numbers, by_keys, named, smooth, steady, big, blocks, dark_and_narrow, printed, readable, scenarios, at_random, served,
          same_answers, same_steps, same_envelopes, *OPENED, *TABLE, *SEEKING]
 
+IN_FIREFOX = [undo_and_redo, edited, arrows, filtered, blocks, dark_and_narrow, logs, finds]
+
 
 def main() -> int:
     failed = 0
     only = os.environ.get("ONLY", "").split()
-    tests = [it for it in TESTS if not only or it.__name__ in only]
+    usual = IN_FIREFOX if os.environ.get("BROWSER") == "firefox" else TESTS
+    tests = [it for it in TESTS if it.__name__ in only] if only else usual
     with tempfile.TemporaryDirectory() as folder:
         page = Page([os.path.abspath(it) for it in sys.argv[1:6]], ROOT, folder, sys.argv[6] if len(sys.argv) > 6 else None)
         for test in tests:

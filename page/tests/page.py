@@ -1,8 +1,9 @@
-"""The page in Chromium, and what tests do with it."""
+"""The page in Chromium or Firefox, and what tests do with it."""
 import os
 import re
 import subprocess
 import sys
+import tempfile
 import time
 from typing import Callable, List, Optional, Tuple
 
@@ -12,6 +13,8 @@ from selenium.webdriver.chrome.service import Service
 from selenium.webdriver.common.action_chains import ActionChains
 from selenium.webdriver.common.by import By
 from selenium.webdriver.common.keys import Keys
+
+from firefox import Firefox
 
 WIDE = (1400, 1000)
 WAIT_SECONDS = 20
@@ -26,14 +29,19 @@ class Page:
     def __init__(self, paths: List[str], root: str, folder: str, shots: Optional[str]) -> None:
         self.path, self.kept, self.ct, self.tool, self.inputs = paths
         self.root, self.folder, self.shots = root, folder, shots
+        is_firefox = os.environ.get("BROWSER") == "firefox"
+        self.driver = Firefox(tempfile.mkdtemp(dir=folder)) if is_firefox else self.chromium()
+        self.driver.set_script_timeout(SCRIPT_SECONDS)
+        self.size()
+
+    def chromium(self) -> webdriver.Chrome:
         options = Options()
         for word in ("--headless=new", "--no-sandbox", "--disable-gpu", "--disable-dev-shm-usage", "--force-color-profile=srgb"):
             options.add_argument(word)
         options.set_capability("goog:loggingPrefs", {"browser": "ALL"})
-        self.driver = webdriver.Chrome(service=Service("/usr/bin/chromedriver"), options=options)
-        self.driver.execute_cdp_cmd("Browser.setDownloadBehavior", {"behavior": "allow", "downloadPath": folder})
-        self.driver.set_script_timeout(SCRIPT_SECONDS)
-        self.size()
+        driver = webdriver.Chrome(service=Service("/usr/bin/chromedriver"), options=options)
+        driver.execute_cdp_cmd("Browser.setDownloadBehavior", {"behavior": "allow", "downloadPath": self.folder})
+        return driver
 
     def close(self) -> None:
         self.driver.quit()
@@ -141,13 +149,14 @@ class Page:
     def act(self, line: str) -> None:
         """Does what a line says by the page's buttons: for several members by that of each; a line that has none is written."""
         who, _, act = line.partition(" ")
-        if who == "expect" or not who.isdigit():
-            return self.say(line)
-        if act.startswith("submit"):
-            return self.submit(who, act.split()[1:])
         envelope = re.fullmatch(r"receive (\w+ \S+)", act)
-        selector = f'[data-line^="{who} {act} from "]' if envelope else f'[data-line="{line}"]'
-        return self.click(f"#members-now {selector}")
+        if who == "expect" or not who.isdigit():
+            self.say(line)
+        elif act.startswith("submit"):
+            self.submit(who, act.split()[1:])
+        else:
+            self.click(f"#members-now [data-line^=\"{who} {act} from \"]" if envelope else f"#members-now [data-line=\"{line}\"]")
+        self.run_async("ct.app.last.then(() => arguments[0]())")
 
     def submit(self, who: str, words: List[str]) -> None:
         form = f"form.submit[data-member='{who}']"
