@@ -585,8 +585,8 @@ def without_sender(text: str) -> str:
 
 
 TESTS = [worked_example, refused_step, undo_and_redo, network, edited, arrows, looked_at, filtered, saved_and_opened, named_by_content,
-         no_record, long_numbers, by_keys, named, smooth, steady, big, blocks, dark_and_narrow, printed, readable, scenarios, at_random, served,
-         same_answers, same_steps, same_envelopes, *OPENED, *TABLE, *SEEKING]
+         no_record, long_numbers, by_keys, named, smooth, steady, big, blocks, dark_and_narrow, printed, readable, scenarios, at_random,
+         served, same_answers, same_steps, same_envelopes, *OPENED, *TABLE, *SEEKING]
 
 IN_FIREFOX = [undo_and_redo, edited, arrows, filtered, blocks, dark_and_narrow, logs, finds]
 
