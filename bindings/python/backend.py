@@ -1,5 +1,5 @@
-"""Builds the wheel of the package for pip (PEP 517, PEP 660), with nothing but Python: its files, and libct.so of bindings/out where
-bindings/build.sh has made it. Without it the package uses `ct_tool`."""
+"""Builds the wheel of the package for pip (PEP 517, PEP 660), with nothing but Python: its files, the records of examples/, which its
+driver tries first, and libct.so of bindings/out where bindings/build.sh has made it. Without it the package uses `ct_tool`."""
 from __future__ import annotations
 
 import base64
@@ -12,19 +12,22 @@ from typing import Any, Dict, List, Optional
 
 HERE = os.path.dirname(os.path.abspath(__file__))
 LIBRARY = os.path.join(HERE, "..", "out", "libct.so")
+EXAMPLES = os.path.join(HERE, "..", "..", "examples")
 with open(os.path.join(HERE, "pyproject.toml"), encoding="utf-8") as _file:
     PROJECT = dict(re.findall(r'^([a-z-]+) = "(.*)"$', _file.read(), re.M))
 NAME, VERSION = PROJECT["name"], PROJECT["version"]
 INFO = f"{NAME}-{VERSION}.dist-info"
 METADATA = (f"Metadata-Version: 2.1\nName: {NAME}\nVersion: {VERSION}\nSummary: {PROJECT['description']}\n"
             f"Requires-Python: {PROJECT['requires-python']}\n")
+PLUGIN = f"[pytest11]\n{NAME}.drive.plugin = {NAME}.drive.plugin\n"
 ANY = "py3-none-any"
 
 
 def _files() -> Dict[str, bytes]:
     """The package's files by their names in the wheel."""
-    paths = {f"{NAME}/{it}": os.path.join(HERE, NAME, it) for it in sorted(os.listdir(os.path.join(HERE, NAME)))}
-    found = {name: path for name, path in paths.items() if name.endswith((".py", ".typed"))}
+    folders = {NAME: os.path.join(HERE, NAME), f"{NAME}/drive": os.path.join(HERE, NAME, "drive"), f"{NAME}/drive/examples": EXAMPLES}
+    paths = {f"{name}/{it}": os.path.join(folder, it) for name, folder in folders.items() for it in sorted(os.listdir(folder))}
+    found = {name: path for name, path in paths.items() if name.endswith((".py", ".typed", ".json"))}
     if os.path.exists(LIBRARY):
         found[f"{NAME}/libct.so"] = LIBRARY
     files = {}
@@ -50,6 +53,7 @@ def _entry(name: str, data: bytes) -> str:
 def _written(directory: str, tag: str, files: Dict[str, bytes]) -> str:
     """Writes the wheel of these files, and gives its name."""
     files[f"{INFO}/METADATA"] = METADATA.encode()
+    files[f"{INFO}/entry_points.txt"] = PLUGIN.encode()
     files[f"{INFO}/WHEEL"] = f"Wheel-Version: 1.0\nGenerator: backend\nRoot-Is-Purelib: {str(tag == ANY).lower()}\nTag: {tag}\n".encode()
     entries: List[str] = [_entry(name, data) for name, data in files.items()]
     files[f"{INFO}/RECORD"] = "".join(entries + [f"{INFO}/RECORD,,\n"]).encode()

@@ -1,0 +1,138 @@
+"""The members under test, as the driver holds them: an event in, what the member sent and delivered out. Three styles are held:
+
+- handlers that return what is to be sent and delivered, any iterable of Send and Deliver: a class made of (number, members);
+- handlers that send and deliver by an Outbox, and return nothing: a class made of (number, members, outbox);
+- a task, `async def run(self, inbox)`, in either class: it takes (name, content) out of an asyncio.Queue, as ("receive", packet), and calls
+  `task_done` once it has dealt with that.
+
+The handlers are on_submit(command), on_receive(packet), on_suspect(member), on_trust(member). `table`, a method or an attribute, is the
+16 registers, where there is one."""
+from __future__ import annotations
+
+import asyncio
+import inspect
+import os
+from typing import Any, Callable, Dict, Iterable, List, NamedTuple, Optional, Tuple, Union
+
+from .letters import Name
+
+EVENTS = ("submit", "receive", "suspect", "trust")
+
+
+class Send(NamedTuple):
+    """A packet leaves, to a member or, with ALL, to each of the group."""
+
+    to: int
+    packet: Any
+
+
+class Deliver(NamedTuple):
+    """A message, (origin, number), is delivered to the state machine."""
+
+    message: Name
+
+
+Effect = Union[Send, Deliver]
+Make = Callable[..., Any]   # a class of members, or a function of a number and how many there are
+
+
+class Outbox:
+    """What a member sends and delivers by."""
+
+    def __init__(self) -> None:
+        self._effects: List[Effect] = []
+
+    def send(self, to: int, packet: Any) -> None:
+        self._effects.append(Send(to, packet))
+
+    def deliver(self, message: Name) -> None:
+        self._effects.append(Deliver(message))
+
+    def taken(self) -> List[Effect]:
+        effects, self._effects = self._effects, []
+        return effects
+
+
+class Member:
+    """A member, whatever its style."""
+
+    def __init__(self, made: Any, outbox: Outbox) -> None:
+        self._made, self._outbox = made, outbox
+
+    def tell(self, name: str, content: Any) -> Iterable[Any]:
+        """The event happens: what the member does about it."""
+        raise NotImplementedError
+
+    def table(self) -> Optional[List[int]]:
+        table = getattr(self._made, "table", None)
+        table = table() if callable(table) else table
+        return None if table is None else list(table)
+
+    def close(self) -> None:
+        pass
+
+
+class _Handlers(Member):
+    def __init__(self, made: Any, outbox: Outbox) -> None:
+        super().__init__(made, outbox)
+        self._handlers: Dict[str, Callable[[Any], Optional[Iterable[Effect]]]] = {}
+        for name in EVENTS:
+            handler = getattr(made, f"on_{name}", None)
+            if handler is None and name in ("submit", "receive"):
+                raise TypeError(f"{type(made).__name__} has neither a handler on_{name} nor a task `async def run(self, inbox)`")
+            self._handlers[name] = handler or (lambda _: None)
+
+    def tell(self, name: str, content: Any) -> Iterable[Any]:
+        returned = self._handlers[name](content)
+        effects = [returned] if isinstance(returned, (Send, Deliver)) else returned or ()
+        return [*effects, *self._outbox.taken()]
+
+
+class _Task(Member):
+    """The loop runs until the inbox is dealt with, so what the member does about an event is known before the next one comes."""
+
+    _loop: Optional[asyncio.AbstractEventLoop] = None
+
+    def __init__(self, made: Any, outbox: Outbox) -> None:
+        super().__init__(made, outbox)
+        if _Task._loop is None:
+            _Task._loop = asyncio.new_event_loop()
+        self._on = _Task._loop
+        self._inbox: "asyncio.Queue[Tuple[str, Any]]" = asyncio.Queue()
+        self._task = self._on.create_task(made.run(self._inbox))
+
+    def tell(self, name: str, content: Any) -> Iterable[Any]:
+        self._inbox.put_nowait((name, content))
+        done = self._on.create_task(self._inbox.join())
+        self._on.run_until_complete(asyncio.wait([done, self._task], return_when=asyncio.FIRST_COMPLETED))
+        if self._task.done():
+            done.cancel()
+            self._task.result()   # raises what the task raised
+            raise RuntimeError("the member's task ended")
+        return self._outbox.taken()
+
+    def close(self) -> None:
+        self._task.cancel()
+        self._on.run_until_complete(asyncio.gather(self._task, return_exceptions=True))
+
+
+if hasattr(os, "register_at_fork"):   # a process of its own has a loop of its own
+    os.register_at_fork(after_in_child=lambda: setattr(_Task, "_loop", None))
+
+
+def member(make: Make, number: int, members: int) -> Member:
+    """The member of this number."""
+    outbox = Outbox()
+    given = (number, members, outbox)[:_places(make)]
+    made = make(*given)
+    return (_Task if inspect.iscoroutinefunction(getattr(made, "run", None)) else _Handlers)(made, outbox)
+
+
+def _places(make: Make) -> int:
+    """3 where it is made with an outbox, else 2."""
+    kinds = (inspect.Parameter.POSITIONAL_ONLY, inspect.Parameter.POSITIONAL_OR_KEYWORD)
+    try:
+        places = [it for it in inspect.signature(make).parameters.values() if it.kind in kinds]
+    except (TypeError, ValueError):
+        return 2
+    return 3 if len(places) > 2 and (places[2].default is places[2].empty or places[2].name == "outbox") else 2

@@ -1,0 +1,94 @@
+"""Members of which only what they deliver is judged; their packets are opaque.
+
+At each event: a member delivers what was submitted, nothing twice; of any two sequences one begins the other; a table is what its sequence
+gives. In the end, where nothing was lost: who is up has delivered all that was delivered anywhere, and all that was submitted at it."""
+from __future__ import annotations
+
+from collections import Counter
+from typing import Dict, List, Optional, Tuple
+
+from .account import Account, Difference
+from .letters import Command, Name, value_text
+from .network import Event, Network, Packet, event_text
+
+REGISTERS, LARGEST = 16, (1 << 64) - 1
+
+
+class Observed:
+    def __init__(self, network: Network) -> None:
+        self.network = network
+        self.commands: Dict[Name, Command] = {}
+        self.submitted = {p: 0 for p in network.all}
+        self.delivered: Dict[int, List[Name]] = {p: [] for p in network.all}
+        self.order: List[Name] = []     # the longest sequence
+        self.is_lossy = False
+        self.events: List[Event] = []
+        self.met: "Counter[str]" = Counter()
+
+    def awaited(self, _p: int) -> Optional[int]:
+        return None
+
+    def close(self) -> None:
+        pass
+
+    def disturb(self, event: Event, _packet: Optional[Packet]) -> None:
+        self.events.append(event)
+        self.is_lossy = self.is_lossy or event.name == "lose"
+
+    def happens(self, event: Event, _packet: Optional[Packet], _account: Account) -> Optional[Difference]:
+        self.events.append(event)
+        if event.name == "submit":
+            self.submitted[event.member] += 1
+            self.commands[event.member, self.submitted[event.member]] = event.what
+        return None
+
+    def explain(self, event: Event, packet: Optional[Packet], account: Account) -> Optional[Difference]:
+        self.happens(event, packet, account)
+        p, mine = account.p, self.delivered[account.p]
+        for message in account.delivered:
+            says = f"delivers {value_text([message])}"
+            if message not in self.commands:
+                return Difference("validity", p, says, "delivers what was submitted")
+            if message in mine:
+                return Difference("integrity", p, f"{says} again", "delivers each message once")
+            mine.append(message)
+            if len(mine) > len(self.order):
+                self.order.append(message)
+            there = self.order[len(mine) - 1]
+            if there != message:
+                ought = f"delivers {value_text([there])} there, as another member did"
+                return Difference("order", p, f"{says} at place {len(mine)}", ought)
+        return None
+
+    def table(self, p: int, table: List[int]) -> Optional[Difference]:
+        ought = [0] * REGISTERS
+        for message in self.delivered[p]:
+            _execute(ought, self.commands[message])
+        return None if table == ought else Difference("table", p, f"has the table {table}", f"has {ought}, as its sequence gives")
+
+    def stuck(self) -> Optional[Difference]:
+        if self.is_lossy or 2 * len(self.network.up) <= self.network.n:
+            return None
+        ought = {(p, number) for p in self.network.up for number in range(1, self.submitted[p] + 1)} | set(self.order)
+        for p in sorted(self.network.up):
+            missing = sorted(ought - set(self.delivered[p]))
+            if missing:
+                says = f"never delivers {value_text(missing)}, though nothing more is on its way"
+                return Difference("liveness", p, says, "delivers it in the end")
+        return None
+
+    def counts(self) -> Tuple[int, int, int]:
+        return len(self.events), 0, 0
+
+    def lines(self) -> List[Tuple[str, str]]:
+        return [("", event_text(it)) for it in self.events]
+
+
+def _execute(table: List[int], command: Command) -> None:
+    name, first, second = command
+    if name == "set":
+        table[first] = second
+    elif name == "add":
+        table[first] = min(table[first] + second, LARGEST)
+    else:
+        table[second] = table[first]

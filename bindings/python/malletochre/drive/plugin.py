@@ -1,0 +1,43 @@
+"""A plugin of pytest: an installed package has it, a clone asks for it, `-p malletochre.drive.plugin`.
+
+`--rehearse-seeds N` has each `check` draw from N seeds, `--rehearse FILE.schedule` try that schedule alone. The fixture `rehearse_seeds` is
+what `check` is to be given as `seeds` where pytest-xdist is to run one test on all its workers: each gets its share."""
+from __future__ import annotations
+
+import os
+from typing import Any, Optional
+
+from . import progress
+from .search import USUAL_SEEDS, Share
+
+COUNT = "PYTEST_XDIST_WORKER_COUNT"
+
+
+def pytest_addoption(parser: Any) -> None:
+    group = parser.getgroup("malletochre.drive")
+    group.addoption("--rehearse-seeds", type=int, metavar="N", help="seeds that each check draws from")
+    group.addoption("--rehearse", metavar="FILE", help="a schedule or a record, which each check tries alone")
+
+
+def pytest_configure(config: Any) -> None:
+    for option, variable in (("rehearse_seeds", "CT_SEEDS"), ("rehearse", "CT_REHEARSE")):
+        if config.getoption(option) is not None:
+            os.environ[variable] = str(config.getoption(option))
+    reporter, capture = (config.pluginmanager.getplugin(name) for name in ("terminalreporter", "capturemanager"))
+    if reporter and reporter.isatty:
+        progress.write = lambda text: _shown(reporter, capture, text)
+
+
+def _shown(reporter: Any, capture: Optional[Any], text: str) -> None:
+    if capture is None:
+        reporter.write(text, flush=True)
+        return
+    with capture.global_and_fixture_disabled():
+        reporter.write(text, flush=True)
+
+
+def pytest_generate_tests(metafunc: Any) -> None:
+    if "rehearse_seeds" in metafunc.fixturenames:
+        parts, seeds = int(os.environ.get(COUNT, "1")), int(os.environ.get("CT_SEEDS", USUAL_SEEDS))
+        shares = [Share(range(part, seeds, parts)) for part in range(parts)]
+        metafunc.parametrize("rehearse_seeds", shares, ids=[f"{part + 1}of{parts}" for part in range(parts)])

@@ -1,0 +1,342 @@
+"""Searches: over schedules and seeds, until the members differ from the algorithm; then made small, told and kept."""
+from __future__ import annotations
+
+import difflib
+import itertools
+import multiprocessing
+import os
+import sys
+import time
+from collections import Counter
+from dataclasses import dataclass, field
+from multiprocessing.connection import Connection, wait
+from typing import Any, Callable, Dict, Iterable, List, Optional, Sequence, Tuple, Union
+
+from ..world import MAX_BOUND, MAX_CELLS, World
+from .account import LEVELS, Difference, Lockstep, Rules
+from .draw import Draw, Trouble
+from .members import Make
+from .network import Event, Network
+from .observed import Observed
+from .progress import Progress
+from .report import Failure, keep
+from .run import Run, Watchdog, Wire
+from .schedules import Schedule, examples, read
+from .shrink import Tried, shrink
+from .standing import SITUATIONS
+
+TWICE = "the members don't do the same twice"
+USUAL_SEEDS = 1000
+SHRINKING = 30.0     # seconds at most
+OPTIONS = "members", "seeds", "level", "rules", "batch", "jobs", "timeout", "keep_in", "require"
+Source = Union[int, Schedule]
+Found = Tuple[Source, Run, Optional[Difference]]
+
+
+@dataclass
+class Setup:
+    """What is searched."""
+
+    make: Make
+    wire: Optional[Wire]
+    members: int = 3
+    level: str = "lockstep"
+    rules: Rules = Rules()
+    trouble: Trouble = Trouble()
+    batch: int = MAX_BOUND
+    timeout: float = 10.0
+    world: Callable[..., Any] = World
+
+    def __post_init__(self) -> None:
+        if self.level not in LEVELS:
+            raise ValueError(f"level={self.level!r}: {', '.join(LEVELS)}")
+        if self.wire is None and self.level != "observable":
+            raise ValueError("wire is missing, which tells what a packet says; level='observable' does without")
+
+    def run(self, watchdog: Watchdog) -> Run:
+        network = Network(self.members)
+        if self.level == "observable":
+            return Run(self.make, None, network, Observed(network), watchdog, False)
+        world = self.world(self.members, MAX_CELLS, self.batch)
+        judge = Lockstep(world, network, self.rules, self.level == "exact")
+        return Run(self.make, self.wire, network, judge, watchdog, self.rules.is_local)
+
+    def played(self, source: Source, watchdog: Watchdog) -> Tuple[Run, Optional[Difference]]:
+        """The members under the schedule of a seed, or one that is given, up to the first difference."""
+        run = self.run(watchdog)
+        try:
+            difference = self._drawn(run, source) if isinstance(source, int) else replayed(run, source.events)
+            if difference is None and self.level != "exact":
+                difference = run.calm()
+            return run, difference
+        finally:
+            run.close()
+
+    def _drawn(self, run: Run, seed: int) -> Optional[Difference]:
+        draw = Draw(self.trouble, seed, self.members)
+        while True:
+            drawn = draw.next(run)
+            if drawn is None:
+                return None
+            difference = run.do(*drawn)
+            if difference:
+                return difference
+
+    def given(self, events: List[Event]) -> Schedule:
+        return Schedule("", self.members, self.batch, events)
+
+
+def replayed(run: Run, events: Iterable[Event]) -> Optional[Difference]:
+    """These events, those that are not possible left out."""
+    for event in events:
+        if run.network.is_possible(event):
+            difference = run.do(event)
+            if difference:
+                return difference
+    return None
+
+
+@dataclass
+class Searched:
+    """What a search came to."""
+
+    runs: int = 0
+    events: int = 0
+    steps: int = 0
+    seconds: float = 0.0                                        # of wall time
+    rounds: int = 0                                             # the most
+    instances: int = 0
+    met: "Counter[str]" = field(default_factory=Counter)        # steps and situations: how often
+    runs_with: "Counter[str]" = field(default_factory=Counter)  # in how many runs
+    failure: Optional[Failure] = None
+
+    def count(self, run: Run) -> None:
+        steps, rounds, instances = run.judge.counts()
+        self.add(Searched(1, len(run.events), steps, 0.0, rounds, instances, run.judge.met, Counter(run.judge.met.keys())))
+
+    def add(self, other: Searched) -> None:
+        self.runs, self.events, self.steps = self.runs + other.runs, self.events + other.events, self.steps + other.steps
+        self.rounds, self.instances = max(self.rounds, other.rounds), max(self.instances, other.instances)
+        self.met.update(other.met)
+        self.runs_with.update(other.runs_with)
+
+    def never_met(self) -> List[str]:
+        """Situations that no run had."""
+        return [it for it in SITUATIONS if not self.met[it]]
+
+    def coverage(self) -> str:
+        lines = [f"{self.runs} runs, {self.events} events, {self.steps} steps; {self.runs / max(self.seconds, 1e-9):.0f} runs a second",
+                 f"rounds up to {self.rounds}, instances up to {self.instances}"]
+        lines += [f"{self.runs_with[it]:8d} runs {self.met[it]:9d} times  {it}" for it in sorted(self.met, key=lambda it: -self.met[it])]
+        return "\n".join(lines + [f"       no run: {it}" for it in self.never_met()])
+
+
+class Differs(AssertionError):
+    """The members differ from the algorithm; the text tells where."""
+
+    def __init__(self, failure: Failure) -> None:
+        super().__init__(str(failure))
+        self.failure = failure
+
+
+Differs.__module__ = "malletochre.drive"
+
+
+class Share(List[int]):
+    """Seeds that the variable CT_SEEDS leaves as they are."""
+
+
+class NotCovered(AssertionError):
+    """No run of a search had a situation that was required."""
+
+
+def search(setup: Setup, seeds: Sequence[int], schedules: Iterable[Schedule] = (), jobs: int = 1, make_small: bool = True) -> Searched:
+    """The schedules, then those of the seeds, until one shows a difference."""
+    done, begun = Searched(), time.monotonic()
+    with Watchdog(setup.timeout) as watchdog:
+        found = _through(setup, schedules, watchdog, done)
+        if found is None and jobs == 1:
+            found = _through(setup, seeds, watchdog, done)
+        elif found is None:
+            seed = _in_parallel(setup, seeds, jobs, done)
+            found = None if seed is None else (seed, *setup.played(seed, watchdog))
+        done.seconds = time.monotonic() - begun
+        if found:
+            done.failure = _failure(setup, *found, watchdog, make_small)
+    return done
+
+
+def _through(setup: Setup, sources: Iterable[Source], watchdog: Watchdog, done: Searched) -> Optional[Found]:
+    """The first one that shows a difference."""
+    progress = Progress(len(sources) if isinstance(sources, Sequence) else 0)
+    try:
+        for source in sources:
+            run, difference = setup.played(source, watchdog)
+            done.count(run)
+            progress.tell(done.runs)
+            if difference:
+                return source, run, difference
+        return None
+    finally:
+        progress.end()
+
+
+def _in_parallel(setup: Setup, seeds: Sequence[int], jobs: int, done: Searched) -> Optional[int]:
+    """The same, in so many processes; with 0 in one for each processor. The first seed is told all the same."""
+    context = multiprocessing.get_context("fork")
+    jobs = min(jobs or os.cpu_count() or 1, len(seeds)) or 1
+    least: Any = context.Value("q", len(seeds))
+    counts: Any = context.Array("q", jobs)
+    ends: List[Connection] = []
+    for part in range(jobs):
+        mine, its = context.Pipe(duplex=False)
+        context.Process(target=_work, args=(setup, seeds, range(part, len(seeds), jobs), least, counts, its), daemon=True).start()
+        its.close()
+        ends.append(mine)
+    progress = Progress(len(seeds))
+    while ends:
+        for end in wait(ends, timeout=0.5):
+            assert isinstance(end, Connection)
+            ends.remove(end)
+            try:
+                told = end.recv()
+            except EOFError:
+                told = RuntimeError("a process of the search ended before its time")
+            if isinstance(told, BaseException):
+                raise told
+            done.add(told)
+        progress.tell(sum(counts))
+    progress.end()
+    return seeds[least.value] if least.value < len(seeds) else None
+
+
+def _work(setup: Setup, seeds: Sequence[int], places: range, least: Any, counts: Any, end: Connection) -> None:
+    done = Searched()
+    try:
+        with Watchdog(setup.timeout) as watchdog:
+            for place in places:
+                if place > least.value:
+                    break
+                run, difference = setup.played(seeds[place], watchdog)
+                done.count(run)
+                counts[places.start] += 1
+                if difference:
+                    with least.get_lock():
+                        least.value = min(least.value, place)
+                    break
+        end.send(done)
+    except Exception as error:   # told where it can be read
+        end.send(RuntimeError(f"{type(error).__name__}: {error}"))
+
+
+def _failure(setup: Setup, source: Source, run: Run, difference: Optional[Difference], watchdog: Watchdog, make_small: bool) -> Failure:
+    name = f"seed {source}" if isinstance(source, int) else source.name
+    if difference is None:
+        raise RuntimeError(f"{name}: {TWICE}: they differed from the algorithm, and under the same schedule not again")
+    found = Failure(name, len(run.events), difference, setup.members, setup.batch, difference, list(run.events), run.judge.lines())
+    if difference.kind == "endless":
+        found.note = f"not made small; more than {setup.timeout:g} s for an event"
+        return found
+    again, other = setup.played(setup.given(_explicit(run, difference)), watchdog)
+    lines = again.judge.lines()
+    if other is None or (other.member, other.says, lines) != (difference.member, difference.says, found.lines):
+        found.note = f"{TWICE}: {_parted(found.lines, lines)}"
+    elif make_small:
+        _make_small(setup, found, Tried(len(run.events), _explicit(run, difference)), watchdog)
+    return found
+
+
+def _explicit(run: Run, difference: Difference) -> List[Event]:
+    """The events that have to be given: what is told in the end needs none of the calm end."""
+    return run.events[:run.calm_from] if difference.event is None else list(run.events)
+
+
+def _make_small(setup: Setup, found: Failure, first: Tried, watchdog: Watchdog) -> None:
+    def trial(events: List[Event]) -> Optional[Tried]:
+        run, difference = setup.played(setup.given(events), watchdog)
+        return Tried(len(run.events), _explicit(run, difference)) if difference and difference.kind != "endless" else None
+
+    small, found.trials = shrink(trial, first, setup.members, SHRINKING)
+    plain = [it._replace(what=("set", 0, 7)) if it.name == "submit" else it for it in small.events]
+    tried = trial(plain)
+    events = tried.events if tried and tried.size <= small.size else small.events
+    run, difference = setup.played(setup.given(events), watchdog)
+    if difference:
+        found.difference, found.events, found.lines = difference, events, run.judge.lines()
+
+
+def _parted(first: List[Tuple[str, str]], second: List[Tuple[str, str]]) -> str:
+    for number, (one, other) in enumerate(zip(first, second), 1):
+        if one != other:
+            return f"line {number} was first `{' # '.join(one)}`, then `{' # '.join(other)}`"
+    return f"there were first {len(first)} lines, then {len(second)}"
+
+
+def check(make: Make, wire: Optional[Wire] = None, *, members: int = 3, seeds: Optional[Iterable[int]] = None, level: str = "lockstep",
+          rules: Rules = Rules(), batch: int = MAX_BOUND, jobs: int = 1, timeout: float = 10.0, keep_in: Optional[str] = "rehearsals",
+          require: Iterable[str] = (), world: Callable[..., Any] = World, **trouble: Any) -> Searched:
+    """Members made by `make(number, members)` or `make(number, members, outbox)` under hostile schedules, beside the algorithm: Differs is
+    raised where they do what it doesn't. `wire(packet)` gives the letters of a packet: one, a list, or None.
+
+    seeds: what schedules are drawn from, range(1000) if left out. level, rules: docs/DRIVE.md. batch: the bound on a proposal. jobs: how
+    many processes; 0 is one for each processor. timeout: seconds that a member may take for an event. keep_in: the folder beside the
+    caller's file where schedules of differences are kept, which are tried first; None keeps nothing. require: situations, of SITUATIONS,
+    that a run has to have; else NotCovered. What schedules have: `crash`, `lose`, .. of Trouble.
+
+    The variable CT_SEEDS gives another number of seeds, CT_REHEARSE the file of a schedule that is tried alone."""
+    __tracebackhide__ = True
+    _look(trouble, require)
+    setup = Setup(make, wire, members, level, rules, Trouble(**trouble), batch, timeout, world)
+    stem = _stem(keep_in)
+    only = os.environ.get("CT_REHEARSE")
+    if only:
+        done = search(setup, [], [_of_setup(read(only), setup)])
+    else:
+        many = None if isinstance(seeds, Share) else os.environ.get("CT_SEEDS")
+        drawn = range(int(many)) if many else range(USUAL_SEEDS) if seeds is None else list(seeds)
+        kept = [it for it in _kept(stem) if (it.members, it.bound) == (members, batch)]
+        named = examples(members, batch) if level != "observable" else iter(())   # their packets have no names there
+        done = search(setup, drawn, itertools.chain(kept, named), jobs)
+    if done.failure:
+        if stem and not only:
+            name = done.failure.source.replace("seed ", "").replace(f"{os.path.basename(stem)}-", "")
+            keep(done.failure, f"{stem}-{name}")
+        raise Differs(done.failure)
+    missing = [it for it in require if not done.met[it]]
+    if missing and not only:
+        raise NotCovered(f"no run had: {', '.join(missing)}\n{done.coverage()}")
+    return done
+
+
+def _look(trouble: Dict[str, Any], require: Iterable[str]) -> None:
+    """These are options, and situations."""
+    wrong = [it for it in trouble if it not in Trouble.__dataclass_fields__]
+    if wrong:
+        near = difflib.get_close_matches(wrong[0], [*Trouble.__dataclass_fields__, *OPTIONS], 1)
+        raise TypeError(f"check has no option {wrong[0]}" + (f"; {near[0]}?" if near else ""))
+    unknown = [it for it in require if it not in SITUATIONS]
+    if unknown:
+        raise ValueError(f"require: {unknown[0]!r} is none of SITUATIONS")
+
+
+def _of_setup(schedule: Schedule, setup: Setup) -> Schedule:
+    if (schedule.members, schedule.bound) != (setup.members, setup.batch):
+        raise ValueError(f"{schedule.name} is of members={schedule.members}, batch={schedule.bound}, not of {setup.members}, {setup.batch}")
+    return schedule
+
+
+def _stem(keep_in: Optional[str]) -> str:
+    """The beginning of the names of files that are kept: of the test that calls `check`. Empty where nothing is kept."""
+    caller = sys._getframe(2).f_code
+    if keep_in is None or not os.path.exists(caller.co_filename):
+        return ""
+    name = os.path.basename(caller.co_filename).rpartition(".")[0]
+    own = f"-{caller.co_name}" if caller.co_name.isidentifier() else ""
+    return os.path.join(os.path.dirname(os.path.abspath(caller.co_filename)), keep_in, name + own)
+
+
+def _kept(stem: str) -> List[Schedule]:
+    folder, name = os.path.split(stem)
+    if not stem or not os.path.isdir(folder):
+        return []
+    return [read(os.path.join(folder, it)) for it in sorted(os.listdir(folder)) if it.startswith(f"{name}-") and it.endswith(".schedule")]
