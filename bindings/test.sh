@@ -7,8 +7,8 @@
 #
 # CT_TOOL: the built program; crates/ct_tool/out/ct_tool if left out. bindings/build.sh has made the libraries before. Needs cc, cargo and
 # python3, and installs nothing: what needs go, pip, C++, mypy or pytest is left out, and told, where they aren't there; with the variable
-# NOTHING_LEFT_OUT it counts as failed. The variable LINES_TOLD gives another number of lines than 200,000. Ends with a line `N passed, M
-# failed`, and status 1 where something failed.
+# NOTHING_LEFT_OUT it counts as failed. The variable LINES_TOLD gives another number of lines than 200,000, DRIVE_SEEDS another number of
+# schedules of each right member than 25. Ends with a line `N passed, M failed`, and status 1 where something failed.
 set -u
 
 here=$(cd "$(dirname "$0")" && pwd)
@@ -177,7 +177,9 @@ site.addsitedir(sys.argv[1])
 import malletochre as it
 assert it.IN_PROCESS and it.__file__.startswith(f"{sys.argv[2]}/malletochre/"), it.__file__
 with it.World(1) as world:
-    assert world.apply(it.Submit(1, it.Set(0, 7))) == range(1, 2)' "$site" "$place") &&
+    assert world.apply(it.Submit(1, it.Set(0, 7))) == range(1, 2)
+from malletochre.drive.schedules import examples
+assert len(list(examples(3, it.MAX_BOUND))) == 7' "$site" "$place") &&
         PYTHONPATH=$site python3 -m pip show malletochre >"$folder/shown" && grep -q '^Summary: A proved ' "$folder/shown"
 }
 imports pip 'the package, installed' && check 'the package, installed' installed "$folder/site" "$folder/site" &&
