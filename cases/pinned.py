@@ -3,19 +3,31 @@
 leaves with a definition, or an edit of its crate's must-fail/ turns it. Names each that is neither, and ends with 1 where there is one.
 
 An equation counts where one side is what the function answers or leaves (`result`, `x.new`, or what `IfOk`, `OnOk`, `IfSome` take
-out of it), a field of it or one word of it, and no premise stands before it; but not what says only which fault it is, that
-something stays as it was, or that it is None. `IsTrue result ↔ ..` counts, and a word of specs/ that EQUATIONS has. An edit turns
-the function that its `old:` text stands in, and the one that cases/turned.txt names beside it. What C calls is exported, too."""
+out of it), a field of it or one word of it, and no premise stands before it but C's `result ≡ 0`; but not what says only which fault
+it is, that something stays as it was, or that it is None. `IsTrue result ↔ ..` counts, and a word of specs/ that EQUATIONS has. An
+edit turns the function that its `old:` text stands in, and the one that cases/turned.txt names beside it. What C calls is exported,
+too."""
 
 import glob
 import os
 import re
 import sys
 
-# Words of specs/ that equate, each with the equation that it stands for.
+# Words of specs/ that equate, each with the equation that it stands for; one that a crate has alone behind the crate's name.
 EQUATIONS = {
     "Adds": "the text is the one before with the definition's at its end",
     "Gives": "the result, seen as a value, is the definition's",
+    "Appends": "what was written is what was written before, and the text",
+    "ct_records/WritesReport": "what was written, with the report of the record's world",
+    "ct_views/IsAnswer": "the text, and the first refused step, are what the view shows of the record",
+    "ct_views/Shows": "what was written, with that text",
+    "ct_diagram/IsDiagram": "the text is the record's diagram",
+    "ct_diagram/Draws": "what was written, with the record's diagram",
+    "ct_judge/IsRecordOf": "the line is the record of the schedule's world",
+    "ct_judge/Writes": "what was written, with that line",
+    "ct_judge/Keeps": "the files made are those before, and one of this name with that line",
+    "ct_judge/Says": "what was written, with the session's answers",
+    "ct_find/IsTallyOf": "each number is that of the seeds' hits",
 }
 
 # Exported functions that need neither, each with the reason.
@@ -140,14 +152,19 @@ def says_nothing(left, right):
     return right == re.sub(r"\.new\b", ".old", left) or (".new" in left and ".new" in right) or (is_field and right == "None")
 
 
-def equates(clause):
-    """Whether the clause equates what the function answers or leaves with a definition."""
-    if any(re.search(rf"\b{word}\b", clause) for word in EQUATIONS):
-        return True
-    if clause.startswith("IsTrue result ↔"):
-        return True
+def has_word(clause, crate):
+    """Whether the clause, which has no premise, has a word that equates."""
+    words = [it.split("/")[-1] for it in EQUATIONS if it.split("/")[0] in (it, crate)]
+    return "→" not in clause and any(re.search(rf"\b{word}\b", clause) for word in words)
+
+
+def equates(clause, crate):
+    """Whether the clause of a function of the crate equates what it answers or leaves with a definition."""
     if re.match(r"(IfErr|OnErr|IfNone) ", clause):
         return False
+    clause = clause.removeprefix("result ≡ 0 → ")
+    if has_word(clause, crate) or clause.startswith("IsTrue result ↔"):
+        return True
     taken = {"result"} | {name for names in TAKEN.findall(clause) for name in names.split()}
     for part in re.split(r" × ", clause):
         if "→" in part or part.count(" ≡ ") != 1:
@@ -191,7 +208,7 @@ def pinned(root):
         places = [it for found in edits.values() for it in found]
         functions = [it for it in functions_of(crate, root) if is_exported(it, names)]
         for it in functions:
-            if any(equates(clause) for clause in it.ensures):
+            if any(equates(clause, crate) for clause in it.ensures):
                 counts[0] += 1
             elif it.called in named or any(file == it.file and it.start <= at < it.end for file, at in places):
                 counts[1] += 1
