@@ -77,10 +77,9 @@ class Right(unittest.TestCase):
             with self.subTest(style=style, seed=seed), Watchdog(5) as watchdog:
                 run, difference = Setup(*member(style)).played(seed, watchdog)
                 self.assertIsNone(difference)
-                at = run.judge.at   # type: ignore[attr-defined]
-                assert isinstance(at, Standing)
+                assert isinstance(run.judge, Standing)
                 with Session() as session:
-                    for line, _ in [("members 3", ""), ("cells 1024", ""), *at.lines(stated=True)]:
+                    for line, _ in [("members 3", ""), ("cells 1024", ""), *run.judge.lines(stated=True)]:
                         session.tell(line)
 
     def test_coverage(self) -> None:
@@ -108,9 +107,9 @@ class Wrong(unittest.TestCase):
         setup = Setup(*member("actor", MUTANTS["proposes_before_quorum"].edits["actor"]))
         events = found((setup.make, setup.wire)).events
         with Watchdog(5) as watchdog:
-            self.assertIsNotNone(setup.played(setup.given(events), watchdog)[1])
+            self.assertIsNotNone(setup.played(events, watchdog)[1])
             for place in range(len(events)):
-                run, difference = setup.played(setup.given(events[:place] + events[place + 1:]), watchdog)
+                run, difference = setup.played(events[:place] + events[place + 1:], watchdog)
                 self.assertTrue(difference is None or len(run.events) >= len(events))
 
     def test_what_is_told(self) -> None:

@@ -3,7 +3,7 @@ something that the member doesn't, there is a difference."""
 from __future__ import annotations
 
 from dataclasses import dataclass
-from typing import AbstractSet, List, NamedTuple, Optional, Set, Tuple, Union
+from typing import AbstractSet, List, Optional, Set, Tuple, Union
 
 from ..steps import (Adopt, Begin, Choose, Conclude, Crash, Deliver as DeliverStep, Enter, Follow, Lose, Receive, Repeat, Step,
                      Suspect)
@@ -43,16 +43,7 @@ class Difference:
     cause: str = ""          # the refusal of the step
     act: str = ""            # the step, as the act of a line
     line: str = ""           # what it did, as a line that the judge refuses
-    is_last: bool = False    # that stands in the place of the run's last line
     event: Optional[Event] = None
-
-
-class Entry(NamedTuple):
-    """Something that a member sent and no step has explained yet."""
-
-    to: int
-    letter: Letter
-    packet: Packet
 
 
 Explained = Union[Difference, Step, None]
@@ -63,39 +54,34 @@ class Account:
 
     def __init__(self, p: int, packets: List[Packet], delivered: List[Name]) -> None:
         self.p, self.delivered = p, delivered
-        self.left = [Entry(packet.to, letter, packet) for packet in packets for letter in packet.letters]
+        self.left = [(packet.to, letter, packet) for packet in packets for letter in packet.letters]
 
     def kinds(self) -> Set[Tuple[str, int, int]]:
         return {(it.kind, it.instance, it.round) for _, it, _ in self.left if not isinstance(it, Data)}
 
 
-class Lockstep:
+class Lockstep(Standing):
     """The judge of a run. exact: each step as soon as it may be taken; else at the member's own time."""
 
     def __init__(self, world: World, network: Network, rules: Rules, exact: bool) -> None:
-        self.at, self.network, self.rules, self.exact = Standing(world, network.n), network, rules, exact
+        super().__init__(world, network.n)
+        self.network, self.rules, self.exact = network, rules, exact
+        self.is_eager = exact or rules.is_local   # there may be a step that tells nobody of it
         self.owed: Set[int] = set()     # serials that the world sent and the member, which may withhold them, didn't yet
-        self.met, self.lines, self.awaited = self.at.met, self.at.lines, self.at.awaited
-
-    def counts(self) -> Tuple[int, int, int]:
-        return len(self.at.taken), self.at.rounds, self.at.instances
-
-    def close(self) -> None:
-        self.at.world.close()
 
     # Events.
 
     def disturb(self, event: Event, packet: Optional[Packet]) -> None:
         """A crash; or a packet was lost or repeated. What was repeated is Repeat once it comes again."""
         if event.name == "crash":
-            self.at.take(Crash(event.member))
+            self.take(Crash(event.member))
         elif event.name == "lose" and packet:
             others = {serial for it in self.network.waiting[event.member] for serial in it.serials}
             for serial in packet.serials:
-                if serial in self.at.waits and serial not in others:
-                    self.at.take(Lose(event.member, serial))
+                if serial in self.waits and serial not in others:
+                    self.take(Lose(event.member, serial))
         if len(event.what or ()) != 1 and event.name in ("lose", "repeat"):
-            self.at.taken.append(event)
+            self.taken.append(event)
 
     def happens(self, event: Event, packet: Optional[Packet], account: Account) -> Optional[Difference]:
         """The event's own steps."""
@@ -103,10 +89,10 @@ class Lockstep:
         if event.name == "submit":
             return self._take(submission(p, event.what), account)
         if packet is None or len(packet.letters) != 1:
-            self.at.taken.append(event)
+            self.taken.append(event)
         for serial in packet.serials if packet else ():
-            if serial not in self.at.waits:
-                self.at.take(Repeat(p, serial))
+            if serial not in self.waits:
+                self.take(Repeat(p, serial))
             difference = self._take(Receive(p, serial), account)
             if difference:
                 return difference
@@ -114,7 +100,7 @@ class Lockstep:
 
     def explain(self, event: Event, packet: Optional[Packet], account: Account) -> Optional[Difference]:
         difference = self.happens(event, packet, account)
-        while difference is None:
+        while difference is None and (self.is_eager or account.left or account.delivered):
             step = self._step_for(account)
             if step is None:
                 return self._leftover(account)
@@ -123,7 +109,7 @@ class Lockstep:
 
     def table(self, p: int, table: List[int]) -> Optional[Difference]:
         """The member has this table."""
-        ought = self.at.world.table(p)
+        ought = self.world.table(p)
         if table == ought:
             return None
         has = f"table {registers(table)}"
@@ -131,15 +117,15 @@ class Lockstep:
 
     def stuck(self) -> Optional[Difference]:
         """Nothing is on its way: does a member have something to do?"""
-        for p in sorted(self.network.up):
-            step, place = self.at.world.next(p), self.at.places[p]
+        for p in self.network.up:
+            step, place = self.world.next(p), self.places[p]
             if step is None or isinstance(step, DeliverStep) and not place.batch(place.instance):
                 continue
             if isinstance(step, Suspect) and (self.rules.own_detector or self.awaited(p) not in self.network.suspects[p]):
                 continue
-            if isinstance(step, Follow) and (self.at.cause(Begin(p)) or not place.batch(place.instance + 1)):
+            if isinstance(step, Follow) and (self.cause(Begin(p)) or not place.batch(place.instance + 1)):
                 continue
-            act = self.at.act(step)
+            act = self.act(step)
             return Difference("stuck", p, "does nothing more, and nothing is on its way", f"takes the step `{act}`", act=act)
         return None
 
@@ -148,48 +134,48 @@ class Lockstep:
     def _step_for(self, account: Account) -> Explained:
         """The step that the member took next, going by what is left to be explained; None where it took none."""
         p = account.p
-        step = self.at.world.next(p) if self.exact or self.rules.is_local or account.left or account.delivered else None
+        step = self.world.next(p)
         if step is None:
             return None
-        place, kinds, exact = self.at.places[p], account.kinds(), self.exact or self.rules.is_local and self._is_inside(p, step)
+        place, kinds, exact = self.places[p], account.kinds(), self.exact or self.rules.is_local and self._is_inside(p, step)
         at = k, r = place.instance, place.round
-        later = any(it[0] == "est" and it[1] > k for it in kinds)
-        if isinstance(step, DeliverStep):
-            return self._finishes(account, kinds) or (step if exact or account.delivered or later else None)
-        if isinstance(step, Follow):
-            owes = exact and bool(place.batch(k + 1)) and not self.at.cause(Begin(p))
-            return step if account.delivered or owes or any(it[0] == "est" and it[1] > k + 1 for it in kinds) else None
-        if isinstance(step, Begin):
-            return step if exact or later or account.delivered else None
+        if isinstance(step, (Enter, Adopt)):
+            return step if exact or (("ack", k, r) if isinstance(step, Adopt) else ("est", k, r + 1)) in kinds else None
         if isinstance(step, Choose):
             return self._choice(account, step) if ("prop", k, r) in kinds else step if exact else None
         if isinstance(step, Suspect):
             return self._suspicion(p, step, ("nack", k, r) in kinds)
-        if isinstance(step, Conclude):
-            is_silent = 2 * len(place.acked.get(at, ())) <= self.at.n
-            return step if exact or later or (("est", k, r + 1) if is_silent else ("dec", k, r)) in kinds else None
-        return step if exact or (("ack", k, r) if isinstance(step, Adopt) else ("est", k, r + 1)) in kinds else None
+        later = any(it[0] == "est" and it[1] > k for it in kinds)
+        if isinstance(step, DeliverStep):
+            return self._finishes(account, kinds) or (step if exact or account.delivered or later else None)
+        if isinstance(step, Follow):
+            owes = exact and bool(place.batch(k + 1)) and not self.cause(Begin(p))
+            return step if account.delivered or owes or any(it[0] == "est" and it[1] > k + 1 for it in kinds) else None
+        if isinstance(step, Begin):
+            return step if exact or later or account.delivered else None
+        is_silent = 2 * len(place.acked.get(at, ())) <= self.n   # where it concludes
+        return step if exact or later or (("est", k, r + 1) if is_silent else ("dec", k, r)) in kinds else None
 
     def _is_inside(self, p: int, step: Step) -> bool:
         """Nobody else gets a letter of it, so it tells nothing of its time."""
-        r = {Begin: 1, Enter: self.at.places[p].round + 1, Adopt: self.at.places[p].round}.get(type(step))
-        return self.at.n == 1 or r is not None and self.at.coordinator(r) == p
+        r = {Begin: 1, Enter: self.places[p].round + 1, Adopt: self.places[p].round}.get(type(step))
+        return self.n == 1 or r is not None and self.coordinator(r) == p
 
     def _finishes(self, account: Account, kinds: Set[Tuple[str, int, int]]) -> Explained:
         """A member that has the decision may do first what it can in its round."""
-        p, place = account.p, self.at.places[account.p]
+        p, place = account.p, self.places[account.p]
         at = place.instance, place.round
         if ("prop", *at) in kinds and place.heard.get(at):
             return self._choice(account, Choose(p, min(place.heard[at])))
         others: Tuple[Tuple[str, Step], ...] = (("ack", Adopt(p)), ("nack", Suspect(p)), ("dec", Conclude(p)))
         for kind, step in others:
-            if (kind, *at) in kinds and not self.at.cause(step):
+            if (kind, *at) in kinds and not self.cause(step):
                 return step
         return None
 
     def _suspicion(self, p: int, step: Suspect, is_sent: bool) -> Explained:
-        place = self.at.places[p]
-        coordinator = self.at.coordinator(place.round)
+        place = self.places[p]
+        coordinator = self.coordinator(place.round)
         if self.rules.own_detector:
             return step if is_sent else None
         is_asked = coordinator in self.network.suspects[p]
@@ -200,69 +186,61 @@ class Lockstep:
 
     def _choice(self, account: Account, usual: Choose) -> Explained:
         """Whose estimate the member proposed: any with the largest ts will do."""
-        p, place = account.p, self.at.places[account.p]
+        p, place = account.p, self.places[account.p]
         at = place.instance, place.round
         heard = place.heard[at]
         to, letter = next((to, it) for to, it, _ in account.left if isinstance(it, Proposal) and (it.instance, it.round) == at)
         same = [q for q in sorted(heard) if heard[q].value == letter.value]
-        allowed = [Choose(p, q) for q in same if not self.at.cause(Choose(p, q))]
+        allowed = [Choose(p, q) for q in same if not self.cause(Choose(p, q))]
         if allowed:
             return allowed[0]
-        return self._accused(account, to, letter) if same or self.at.cause(usual) else usual
+        return self._accused(account, to, letter) if same or self.cause(usual) else usual
 
     def _take(self, step: Step, account: Account) -> Optional[Difference]:
         """The step is taken in the world, and what it sends and delivers is taken out of what is left."""
         p = step.member
-        serials = self.at.take(step)
+        serials = self.take(step)
         for serial in serials:
             difference = self._match(step, serial, len(serials), account)
+            if difference is None and self.rules.is_local and self.sent[serial][1] == p:
+                difference = self._take(Receive(p, serial), account)
             if difference:
                 return difference
-            if self.rules.is_local and self.at.sent[serial].to == p:
-                difference = self._take(Receive(p, serial), account)
-                if difference:
-                    return difference
-        return self._delivers(step, account) if isinstance(step, (DeliverStep, Follow)) else None
-
-    def _delivers(self, step: Step, account: Account) -> Optional[Difference]:
-        batch = self.at.batch
-        there = tuple(account.delivered[:len(batch)])
-        del account.delivered[:len(batch)]
+        batch = self.batch
+        there = tuple(account.delivered[:len(batch)]) if batch else ()
         if there == batch:
+            del account.delivered[:len(batch)]
             return None
         did, ought = value_text(there) if there else "nothing", f"delivers {value_text(batch)}, in this order"
-        line = f"{step.member} {step.name} {did}" if there else ""
-        return Difference("delivered", step.member, f"delivers {did}", ought, act=step.name, line=line, is_last=True)
+        return Difference("delivered", p, f"delivers {did}", ought, act=step.name, line=f"{p} {step.name} {did}" if there else "")
 
     def _match(self, step: Step, serial: int, count: int, account: Account) -> Optional[Difference]:
         """The envelope, one of so many of the step, is among what is left."""
-        p, to, letter = self.at.sent[serial]
-        near: Optional[Entry] = None
-        for entry in account.left:
-            if entry.to == to and same(entry.letter, letter):
-                entry.packet.serials.append(serial)
-                account.left.remove(entry)
+        p, to, letter = self.sent[serial]
+        for place, (whom, told, packet) in enumerate(account.left):
+            if whom == to and same(told, letter):
+                packet.serials.append(serial)
+                del account.left[place]
                 return None
-            if near is None and short(entry.letter) == short(letter):
-                near = entry
         if to == p and self.rules.is_local:
             return None
         if letter.kind in self.rules.withholds:
             self.owed.add(serial)
             return None
-        if near:
-            line = f"{p} {self.at.act(step)}{carried(near.letter)}" if isinstance(step, (Enter, Choose)) and near.letter != letter else ""
-            return Difference("unlike", p, f"sends {full(near.letter)} to {near.to}", f"sends {full(letter)} to {to}",
-                              act=self.at.act(step), line=line, is_last=True)
-        whom = "all" if count == self.at.n > 1 and not any(same(it.letter, letter) for it in account.left) else to
-        return Difference("missing", p, f"doesn't send {short(letter)} to {whom}", f"{doing(step)}: sends {full(letter)} to {whom}",
-                          act=self.at.act(step))
+        act = self.act(step)
+        for whom, told, _ in account.left:
+            if short(told) == short(letter):
+                line = f"{p} {act}{carried(told)}" if isinstance(step, (Enter, Choose)) and told != letter else ""
+                return Difference("unlike", p, f"sends {full(told)} to {whom}", f"sends {full(letter)} to {to}", act=act, line=line)
+        receiver = "all" if count == self.n > 1 and not any(same(it, letter) for _, it, _ in account.left) else to
+        ought = f"{doing(step)}: sends {full(letter)} to {receiver}"
+        return Difference("missing", p, f"doesn't send {short(letter)} to {receiver}", ought, act=act)
 
     # What no step explains.
 
     def _leftover(self, account: Account) -> Optional[Difference]:
         for to, letter, packet in account.left:
-            serial = self.at.serial_of(account.p, to, letter)
+            serial = self.serial_of(account.p, to, letter)
             if serial is None or not (serial in self.owed or self.rules.resends):
                 return self._accused(account, to, letter)
             self.owed.discard(serial)
@@ -270,7 +248,7 @@ class Lockstep:
         if not account.delivered:
             return None
         p = account.p
-        cause = self.at.cause(DeliverStep(p)) or self.at.cause(Follow(p))
+        cause = self.cause(DeliverStep(p)) or self.cause(Follow(p))
         return Difference("delivered", p, f"delivers {value_text(account.delivered)}", "delivers nothing more here", cause, "deliver")
 
     def _accused(self, account: Account, to: int, letter: Letter) -> Difference:
@@ -279,24 +257,24 @@ class Lockstep:
         to = self._receiver(account, to, letter)
         says = f"sends {full(letter)} to {to or 'all'}"
         if isinstance(letter, Data):
-            has_come = letter.message in self.at.places[p].seen
+            has_come = letter.message in self.places[p].seen
             why = "it is the origin" if letter.message[0] == p else "it had received this before" if has_come else "it hasn't received this"
             return Difference("extra", p, says, f"sends nothing on: {why}")
-        if self.at.serial_of(p, to or p, letter):
+        if self.serial_of(p, to or p, letter):
             return Difference("extra", p, says, "sends nothing: it has sent this before")
         step = self._step_of(p, letter)
-        cause, act = (self.at.cause(step), self.at.act(step)) if step else ("", "")
+        cause, act = (self.cause(step), self.act(step)) if step else ("", "")
         if cause:
-            return Difference("refused", p, says, self.at.stands(p), cause, act, line=f"{p} {act}")
-        acked = len(self.at.places[p].acked.get((letter.instance, letter.round), ()))
-        if isinstance(letter, Decision) and 2 * acked <= self.at.n:
-            return Difference("extra", p, says, f"decides nothing: {acked} of {self.at.n} acked", act=act)
+            return Difference("refused", p, says, self.stands(p), cause, act, line=f"{p} {act}")
+        acked = len(self.places[p].acked.get((letter.instance, letter.round), ()))
+        if isinstance(letter, Decision) and 2 * acked <= self.n:
+            return Difference("extra", p, says, f"decides nothing: {acked} of {self.n} acked", act=act)
         ought = f"takes the step `{act}` first" if isinstance(letter, Estimate) and step else "sends nothing such"
-        return Difference("extra", p, says, f"{ought}: {self.at.stands(p)}", act=act)
+        return Difference("extra", p, says, f"{ought}: {self.stands(p)}", act=act)
 
     def _step_of(self, p: int, letter: OfRound) -> Optional[Step]:
         """The step that sends such a letter; None where it is of another round than the member's."""
-        place = self.at.places[p]
+        place = self.places[p]
         at, here = (letter.instance, letter.round), (place.instance, place.round)
         if isinstance(letter, Estimate):
             if at not in ((here[0], here[1] + 1), (here[0] + 1, 1)):
@@ -314,11 +292,11 @@ class Lockstep:
         if self.awaited(p) == p:
             steps: Tuple[Step, ...] = (Choose(p, p), Conclude(p))
             for step in steps:
-                if self.at.cause(step) in ("TooFew", "NotLargest"):
+                if self.cause(step) in ("TooFew", "NotLargest"):
                     return step
-        if self.awaited(p) in self.network.suspects[p] and not self.at.cause(Suspect(p)):
+        if self.awaited(p) in self.network.suspects[p] and not self.cause(Suspect(p)):
             return Suspect(p)
-        return Adopt(p) if self.at.cause(Adopt(p)) == "NoProposal" else Enter(p)
+        return Adopt(p) if self.cause(Adopt(p)) == "NoProposal" else Enter(p)
 
     def _receiver(self, account: Account, to: int, letter: Letter) -> int:
         """The receiver, or ALL, where what is left has the letter for each member."""

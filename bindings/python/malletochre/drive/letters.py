@@ -4,7 +4,7 @@ from __future__ import annotations
 from typing import Any, Iterable, NamedTuple, Tuple, Union
 
 from ..envelopes import Ack as AckContent, Data as DataContent, Decision as DecisionContent, Estimate as EstimateContent
-from ..envelopes import Message, Proposal as ProposalContent
+from ..envelopes import Message, Nack as NackContent, Proposal as ProposalContent
 from ..world import World
 
 Name = Tuple[int, int]        # a message: its origin, and its number there, from 1
@@ -102,17 +102,22 @@ def ordered(letter: Letter) -> Letter:
     """The letter with its value, which is a set, in the order of messages; TypeError or ValueError where it is none."""
     if isinstance(letter, Data):
         return Data(message_name(letter.message), tuple(letter.command))
-    numbers = letter[:2] if isinstance(letter, (Proposal, Decision)) else letter[:3]
-    if not all(isinstance(it, int) for it in numbers):
-        raise TypeError(f"{letter}: instance, round and source are whole numbers")
-    return letter if isinstance(letter, (Ack, Nack)) else letter._replace(value=tuple(sorted(map(message_name, letter.value))))
+    for number in letter[:2] if isinstance(letter, (Proposal, Decision)) else letter[:3]:
+        if not isinstance(number, int):
+            raise TypeError(f"{letter}: instance, round and source are whole numbers")
+    if isinstance(letter, (Ack, Nack)):
+        return letter
+    value = tuple(sorted(map(message_name, letter.value)))
+    if isinstance(letter, Estimate):
+        return Estimate(letter.instance, letter.round, letter.source, value, letter.ts)
+    if isinstance(letter, Proposal):
+        return Proposal(letter.instance, letter.round, value)
+    return Decision(letter.instance, letter.round, value)
 
 
 def same(told: Letter, letter: Letter) -> bool:
     """Whether it was told of this letter; the command of a message need not be told."""
-    if told == letter:
-        return True
-    return isinstance(told, Data) and isinstance(letter, Data) and not told.command and told.message == letter.message
+    return told == letter or isinstance(letter, Data) and told == Data(letter.message)
 
 
 def message_name(message: Any) -> Name:
@@ -131,13 +136,13 @@ def letter_of(world: World, serial: int) -> Tuple[int, Letter]:
     it = envelope.content
     if isinstance(it, DataContent):
         return envelope.to, Data((it.message.origin, it.message.number), tuple(it.message.command.entry()))
+    if isinstance(it, AckContent):
+        return envelope.to, Ack(it.instance, it.round, it.source)
+    if isinstance(it, NackContent):
+        return envelope.to, Nack(it.instance, it.round, it.source)
     value = names(world.value(serial) or ())
     if isinstance(it, EstimateContent):
         return envelope.to, Estimate(it.instance, it.round, it.source, value, it.ts)
     if isinstance(it, ProposalContent):
         return envelope.to, Proposal(it.instance, it.round, value)
-    if isinstance(it, DecisionContent):
-        return envelope.to, Decision(it.instance, it.round, value)
-    if isinstance(it, AckContent):
-        return envelope.to, Ack(it.instance, it.round, it.source)
-    return envelope.to, Nack(it.instance, it.round, it.source)
+    return envelope.to, Decision(it.instance, it.round, value)

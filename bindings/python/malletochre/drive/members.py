@@ -12,7 +12,7 @@ from __future__ import annotations
 import asyncio
 import inspect
 import os
-from typing import Any, Callable, Dict, Iterable, List, NamedTuple, Optional, Tuple, Union
+from typing import Any, Callable, Dict, List, NamedTuple, Optional, Tuple, Union
 
 from .letters import Name
 
@@ -32,7 +32,6 @@ class Deliver(NamedTuple):
     message: Name
 
 
-Effect = Union[Send, Deliver]
 Make = Callable[..., Any]   # a class of members, or a function of a number and how many there are
 
 
@@ -40,7 +39,7 @@ class Outbox:
     """What a member sends and delivers by."""
 
     def __init__(self) -> None:
-        self._effects: List[Effect] = []
+        self._effects: List[Union[Send, Deliver]] = []
 
     def send(self, to: int, packet: Any) -> None:
         self._effects.append(Send(to, packet))
@@ -48,7 +47,7 @@ class Outbox:
     def deliver(self, message: Name) -> None:
         self._effects.append(Deliver(message))
 
-    def taken(self) -> List[Effect]:
+    def taken(self) -> List[Union[Send, Deliver]]:
         effects, self._effects = self._effects, []
         return effects
 
@@ -59,7 +58,7 @@ class Member:
     def __init__(self, made: Any, outbox: Outbox) -> None:
         self._made, self._outbox = made, outbox
 
-    def tell(self, name: str, content: Any) -> Iterable[Any]:
+    def tell(self, name: str, content: Any) -> List[Any]:
         """The event happens: what the member does about it."""
         raise NotImplementedError
 
@@ -75,14 +74,14 @@ class Member:
 class _Handlers(Member):
     def __init__(self, made: Any, outbox: Outbox) -> None:
         super().__init__(made, outbox)
-        self._handlers: Dict[str, Callable[[Any], Optional[Iterable[Effect]]]] = {}
+        self._handlers: Dict[str, Callable[[Any], Any]] = {}
         for name in EVENTS:
             handler = getattr(made, f"on_{name}", None)
             if handler is None and name in ("submit", "receive"):
                 raise TypeError(f"{type(made).__name__} has neither a handler on_{name} nor a task `async def run(self, inbox)`")
             self._handlers[name] = handler or (lambda _: None)
 
-    def tell(self, name: str, content: Any) -> Iterable[Any]:
+    def tell(self, name: str, content: Any) -> List[Any]:
         returned = self._handlers[name](content)
         effects = [returned] if isinstance(returned, (Send, Deliver)) else returned or ()
         return [*effects, *self._outbox.taken()]
@@ -101,7 +100,7 @@ class _Task(Member):
         self._inbox: "asyncio.Queue[Tuple[str, Any]]" = asyncio.Queue()
         self._task = self._on.create_task(made.run(self._inbox))
 
-    def tell(self, name: str, content: Any) -> Iterable[Any]:
+    def tell(self, name: str, content: Any) -> List[Any]:
         self._inbox.put_nowait((name, content))
         done = self._on.create_task(self._inbox.join())
         self._on.run_until_complete(asyncio.wait([done, self._task], return_when=asyncio.FIRST_COMPLETED))
@@ -120,19 +119,18 @@ if hasattr(os, "register_at_fork"):   # a process of its own has a loop of its o
     os.register_at_fork(after_in_child=lambda: setattr(_Task, "_loop", None))
 
 
-def member(make: Make, number: int, members: int) -> Member:
-    """The member of this number."""
-    outbox = Outbox()
-    given = (number, members, outbox)[:_places(make)]
-    made = make(*given)
-    return (_Task if inspect.iscoroutinefunction(getattr(made, "run", None)) else _Handlers)(made, outbox)
-
-
-def _places(make: Make) -> int:
-    """3 where it is made with an outbox, else 2."""
+def held(make: Make) -> Callable[[int, int], Member]:
+    """What makes the member of a number in a group of so many."""
     kinds = (inspect.Parameter.POSITIONAL_ONLY, inspect.Parameter.POSITIONAL_OR_KEYWORD)
     try:
-        places = [it for it in inspect.signature(make).parameters.values() if it.kind in kinds]
+        third = [it for it in inspect.signature(make).parameters.values() if it.kind in kinds][2:3]
     except (TypeError, ValueError):
-        return 2
-    return 3 if len(places) > 2 and (places[2].default is places[2].empty or places[2].name == "outbox") else 2
+        third = []
+    wants_outbox = any(it.default is it.empty or it.name == "outbox" for it in third)
+
+    def member(number: int, members: int) -> Member:
+        outbox = Outbox()
+        made = make(number, members, outbox) if wants_outbox else make(number, members)
+        return (_Task if inspect.iscoroutinefunction(getattr(made, "run", None)) else _Handlers)(made, outbox)
+
+    return member

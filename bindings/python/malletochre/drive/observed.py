@@ -22,21 +22,19 @@ class Observed:
         self.delivered: Dict[int, List[Name]] = {p: [] for p in network.all}
         self.order: List[Name] = []     # the longest sequence
         self.is_lossy = False
-        self.events: List[Event] = []
+        self.taken: List[Event] = []
         self.met: "Counter[str]" = Counter()
+        self.rounds = self.instances = 0
 
     def awaited(self, _p: int) -> Optional[int]:
         return None
 
-    def close(self) -> None:
-        pass
-
     def disturb(self, event: Event, _packet: Optional[Packet]) -> None:
-        self.events.append(event)
+        self.taken.append(event)
         self.is_lossy = self.is_lossy or event.name == "lose"
 
     def happens(self, event: Event, _packet: Optional[Packet], _account: Account) -> Optional[Difference]:
-        self.events.append(event)
+        self.taken.append(event)
         if event.name == "submit":
             self.submitted[event.member] += 1
             self.commands[event.member, self.submitted[event.member]] = event.what
@@ -70,18 +68,15 @@ class Observed:
         if self.is_lossy or 2 * len(self.network.up) <= self.network.n:
             return None
         ought = {(p, number) for p in self.network.up for number in range(1, self.submitted[p] + 1)} | set(self.order)
-        for p in sorted(self.network.up):
+        for p in self.network.up:
             missing = sorted(ought - set(self.delivered[p]))
             if missing:
                 says = f"never delivers {value_text(missing)}, though nothing more is on its way"
                 return Difference("liveness", p, says, "delivers it in the end")
         return None
 
-    def counts(self) -> Tuple[int, int, int]:
-        return len(self.events), 0, 0
-
     def lines(self) -> List[Tuple[str, str]]:
-        return [("", event_text(it)) for it in self.events]
+        return [("", event_text(it)) for it in self.taken]
 
 
 def _execute(table: List[int], command: Command) -> None:

@@ -5,7 +5,8 @@ what `check` is to be given as `seeds` where pytest-xdist is to run one test on 
 from __future__ import annotations
 
 import os
-from typing import Any, Optional
+from contextlib import nullcontext
+from typing import Any
 
 from . import progress
 from .search import USUAL_SEEDS, Share
@@ -28,11 +29,8 @@ def pytest_configure(config: Any) -> None:
         progress.write = lambda text: _shown(reporter, capture, text)
 
 
-def _shown(reporter: Any, capture: Optional[Any], text: str) -> None:
-    if capture is None:
-        reporter.write(text, flush=True)
-        return
-    with capture.global_and_fixture_disabled():
+def _shown(reporter: Any, capture: Any, text: str) -> None:
+    with capture.global_and_fixture_disabled() if capture else nullcontext():
         reporter.write(text, flush=True)
 
 

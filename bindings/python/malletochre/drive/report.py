@@ -26,8 +26,6 @@ REASONS = {
     ("enter", "WrongPhase"): "a member enters the next round once it has replied in this one, its coordinator once it has concluded",
     ("enter", "Decided"): "a member that has the decision enters no further round",
     ("begin", "Nothing"): "an instance begins where something was received that is not delivered",
-    ("deliver", "Undecided"): "no decision of the open instance came",
-    ("deliver", "Idle"): "no instance is open",
 }
 MOST_SHOWN = 300   # of what a member did, in a schedule
 
@@ -38,7 +36,6 @@ class Failure:
 
     source: str                    # "seed 7", or the name of a schedule
     found: int                     # events up to the difference, as it was found
-    first: Difference              # as it was found
     members: int
     bound: int
     difference: Difference         # in the small schedule
@@ -63,7 +60,7 @@ def _marked(failure: Failure) -> List[Tuple[str, str, str]]:
     it = failure.difference
     lines = [("", text, f"# {comment}" if comment else "") for text, comment in failure.lines]
     if it.line:
-        del lines[len(lines) - it.is_last:]
+        del lines[len(lines) - (it.kind in ("unlike", "delivered")):]   # that stands in the place of the last line
         return [*lines, (">", it.line, f"# refused: {it.cause}" if it.cause else f"# yours; the algorithm {it.ought}")]
     return [*lines[:-1], (">", *lines[-1][1:])] if lines else []
 
@@ -102,8 +99,7 @@ def schedule_of(failure: Failure) -> str:
 
 def keep(failure: Failure, path: str) -> None:
     """Writes PATH.schedule, and where a line can state the run PATH.json and PATH.svg; and has a session judge the schedule."""
-    folder = os.path.dirname(path)
-    os.makedirs(folder or ".", exist_ok=True)
+    os.makedirs(os.path.dirname(path), exist_ok=True)
     text = schedule_of(failure)
     files = {"schedule": text}
     if any(line for line, _ in failure.lines):

@@ -4,30 +4,18 @@ from __future__ import annotations
 import signal
 import threading
 import traceback
-from collections import Counter
-from typing import Any, Callable, Iterable, List, Optional, Protocol, Tuple
+from itertools import islice
+from typing import Any, Callable, Iterable, List, Optional, Tuple, Union
 
-from .account import Account, Difference
+from .account import Account, Difference, Lockstep
 from .letters import ALL, LETTERS, Letter, Name, message_name, ordered, short
-from .members import Deliver, Make, Send, member
-from .network import NETWORK, Event, Network, Packet
+from .members import Deliver, Member, Send
+from .network import Event, Happening, Network, Packet
+from .observed import Observed
 
+Judge = Union[Lockstep, Observed]
 Wire = Callable[[Any], Any]
 CALM = 3000   # events of a calm end at most
-
-
-class Judge(Protocol):
-    met: "Counter[str]"    # steps and situations
-
-    def counts(self) -> Tuple[int, int, int]: ...   # steps; the most rounds, and instances
-    def lines(self) -> List[Tuple[str, str]]: ...
-    def awaited(self, p: int) -> Optional[int]: ...
-    def disturb(self, event: Event, packet: Optional[Packet]) -> None: ...
-    def happens(self, event: Event, packet: Optional[Packet], account: Account) -> Optional[Difference]: ...
-    def explain(self, event: Event, packet: Optional[Packet], account: Account) -> Optional[Difference]: ...
-    def table(self, p: int, table: List[int]) -> Optional[Difference]: ...
-    def stuck(self) -> Optional[Difference]: ...
-    def close(self) -> None: ...
 
 
 class Endless(BaseException):
@@ -59,11 +47,11 @@ class Watchdog:
             raise Endless
         self._seen = self._told
 
-    def call(self, function: Callable[[], Any]) -> Any:
+    def call(self, function: Callable[..., Any], *given: Any) -> Any:
         self._told += 1
         self._is_inside = True
         try:
-            return function()
+            return function(*given)
         finally:
             self._is_inside = False
 
@@ -73,9 +61,11 @@ class Misused(Exception):
 
 
 class Run:
-    def __init__(self, make: Make, wire: Optional[Wire], network: Network, judge: Judge, watchdog: Watchdog, is_local: bool) -> None:
-        self.network, self.judge, self._wire, self._watchdog, self._is_local = network, judge, wire, watchdog, is_local
-        self._members = {p: member(make, p, network.n) for p in network.all}
+    def __init__(self, make: Callable[[int, int], Member], wire: Optional[Wire], network: Network, judge: Judge, watchdog: Watchdog,
+                 is_local: bool) -> None:
+        self.network, self.judge, self._wire, self._watchdog = network, judge, wire, watchdog
+        self._members = {p: make(p, network.n) for p in network.all}
+        self._everyone = {p: [q for q in network.all if q != p or not is_local] for p in network.all}
         self._count = 0                   # packets, where they are opaque
         self.events: List[Event] = []
         self.calm_from: Optional[int] = None   # the place of the first event of the calm end
@@ -83,36 +73,34 @@ class Run:
     def close(self) -> None:
         for it in self._members.values():
             it.close()
-        self.judge.close()
+        if isinstance(self.judge, Lockstep):
+            self.judge.world.close()
 
-    def do(self, event: Event, packet: Optional[Packet] = None) -> Optional[Difference]:
-        """The event happens; what the member does about it is explained, or there is a difference."""
-        name, p, network = event.name, event.member, self.network
-        if name in NETWORK:
-            packet = packet or network.find(event)
-            assert packet is not None
-            if event.sender != packet.sender:
-                event = event._replace(sender=packet.sender)
-            network.moved(event, packet)
-        self.events.append(event)
-        if name in ("lose", "repeat", "crash"):
-            if name == "crash":
-                network.up.discard(p)
-            self.judge.disturb(event, packet)
-            return None
-        if name in ("suspect", "trust"):
-            network.detector(event)
-        difference = self._tell(event, packet)
-        if difference:
-            difference.event = event
-        return difference
+    def through(self, happenings: Iterable[Happening]) -> Optional[Difference]:
+        """These happen; what the members do about them is explained, up to a difference."""
+        for event, packet in happenings:
+            self.events.append(event)
+            self.network.happens(event, packet)
+            if event.name in ("lose", "repeat", "crash"):
+                self.judge.disturb(event, packet)
+                continue
+            difference = self._tell(event, packet)
+            if difference:
+                difference.event = event
+                return difference
+        return None
+
+    def calm(self) -> Optional[Difference]:
+        """From now on all goes well: those that crashed are suspected, nobody else, and all that waits comes. Then a member that has
+        something to do never does it."""
+        self.calm_from = len(self.events)
+        difference = self.through(islice(self.network.calming(), CALM))
+        return difference or (None if self.network.first() else self.judge.stuck())
 
     def _tell(self, event: Event, packet: Optional[Packet]) -> Optional[Difference]:
-        p, it = event.member, self._members[event.member]
-        content = packet.content if packet else event.what
+        p = event.member
         try:
-            effects = self._watchdog.call(lambda: list(it.tell(event.name, content)))
-            packets, delivered = self._did(p, effects)
+            packets, delivered = self._watchdog.call(self._does, event, packet)
         except Endless:
             difference = Difference("endless", p, "doesn't return", "goes on")
         except Misused as error:
@@ -121,45 +109,41 @@ class Run:
             at = traceback.extract_tb(error.__traceback__)[-1]
             difference = Difference("raised", p, f"raises {type(error).__name__}: {error} ({at.filename}:{at.lineno})", "goes on")
         else:
-            return self._explained(event, packet, Account(p, packets, delivered), packets)
+            has_delivered = bool(delivered)   # before what is explained is taken out
+            explained = self.judge.explain(event, packet, Account(p, packets, delivered))
+            for it in packets:
+                self.network.waiting[it.to].append(it)
+            table = self._members[p].table() if has_delivered and explained is None else None
+            return explained if table is None else self.judge.table(p, table)
         self.judge.happens(event, packet, Account(p, [], []))   # so that the schedule has it
         return difference
 
-    def _explained(self, event: Event, packet: Optional[Packet], account: Account, packets: List[Packet]) -> Optional[Difference]:
-        has_delivered = bool(account.delivered)
-        difference = self.judge.explain(event, packet, account)
-        if difference:
-            return difference
-        self.network.sent(packets)
-        table = self._members[account.p].table() if has_delivered else None
-        return None if table is None else self.judge.table(account.p, table)
-
-    def _did(self, p: int, effects: Iterable[Any]) -> Tuple[List[Packet], List[Name]]:
-        """What the member sent, and delivered."""
-        packets: List[Packet] = []
-        delivered: List[Name] = []
-        for effect in effects:
-            if isinstance(effect, Deliver):
+    def _does(self, event: Event, packet: Optional[Packet]) -> Tuple[List[Packet], List[Name]]:
+        """The member is told: what it sends, and delivers."""
+        p, packets, delivered = event.member, [], []
+        for effect in self._members[p].tell(event.name, packet.content if packet else event.what):
+            if isinstance(effect, Send):
+                packets += self._sent(p, *effect)
+            elif isinstance(effect, Deliver):
                 try:
                     delivered.append(message_name(effect.message))
                 except (TypeError, ValueError):
                     raise Misused(f"delivers {effect.message!r}, which is no message: (origin, number) is due") from None
-            elif isinstance(effect, Send):
-                packets += self._sent(p, effect)
             else:
                 raise Misused(f"gives {effect!r}, which is neither Send(to, packet) nor Deliver((origin, number))")
         return packets, delivered
 
-    def _sent(self, p: int, effect: Send) -> List[Packet]:
-        if effect.to != ALL and effect.to not in self.network.all:
-            raise Misused(f"sends to {effect.to!r}: 1 to {self.network.n}, or ALL, is due")
-        receivers = [effect.to] if effect.to != ALL else [q for q in self.network.all if q != p or not self._is_local]
+    def _sent(self, p: int, to: Any, packet: Any) -> List[Packet]:
+        if to != ALL and to not in self.network.all:
+            raise Misused(f"sends to {to!r}: 1 to {self.network.n}, or ALL, is due")
+        letters: List[Letter] = []
         if self._wire is None:
             self._count += 1
-            return [Packet(p, to, effect.packet, [], (f"packet {self._count}",)) for to in receivers]
-        letters = self._letters(self._wire, effect.packet)
-        names = tuple(map(short, letters))
-        return [Packet(p, to, effect.packet, letters, names) for to in receivers]
+            names: Tuple[str, ...] = (f"packet {self._count}",)
+        else:
+            letters = self._letters(self._wire, packet)
+            names = tuple(map(short, letters))
+        return [Packet(p, q, packet, letters, names) for q in (self._everyone[p] if to == ALL else (to,))]
 
     @staticmethod
     def _letters(wire: Wire, packet: Any) -> List[Letter]:
@@ -172,16 +156,3 @@ class Run:
         if len(letters) < len(several):
             raise Misused(f"sends {packet!r}, of which `wire` gives {told!r}: a letter, a list of letters, or None is due")
         return letters
-
-    def calm(self) -> Optional[Difference]:
-        """From now on all goes well: those that crashed are suspected, nobody else, and all that waits comes. Then a member that has
-        something to do never does it."""
-        self.calm_from = len(self.events)
-        for _ in range(CALM):
-            event = self.network.calming()
-            if event is None:
-                return self.judge.stuck()
-            difference = self.do(event)
-            if difference:
-                return difference
-        return None

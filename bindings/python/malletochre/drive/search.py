@@ -15,7 +15,7 @@ from typing import Any, Callable, Dict, Iterable, List, Optional, Sequence, Tupl
 from ..world import MAX_BOUND, MAX_CELLS, World
 from .account import LEVELS, Difference, Lockstep, Rules
 from .draw import Draw, Trouble
-from .members import Make
+from .members import Make, held
 from .network import Event, Network
 from .observed import Observed
 from .progress import Progress
@@ -48,6 +48,7 @@ class Setup:
     world: Callable[..., Any] = World
 
     def __post_init__(self) -> None:
+        self._held = held(self.make)
         if self.level not in LEVELS:
             raise ValueError(f"level={self.level!r}: {', '.join(LEVELS)}")
         if self.wire is None and self.level != "observable":
@@ -56,44 +57,19 @@ class Setup:
     def run(self, watchdog: Watchdog) -> Run:
         network = Network(self.members)
         if self.level == "observable":
-            return Run(self.make, None, network, Observed(network), watchdog, False)
+            return Run(self._held, None, network, Observed(network), watchdog, False)
         world = self.world(self.members, MAX_CELLS, self.batch)
         judge = Lockstep(world, network, self.rules, self.level == "exact")
-        return Run(self.make, self.wire, network, judge, watchdog, self.rules.is_local)
+        return Run(self._held, self.wire, network, judge, watchdog, self.rules.is_local)
 
-    def played(self, source: Source, watchdog: Watchdog) -> Tuple[Run, Optional[Difference]]:
-        """The members under the schedule of a seed, or one that is given, up to the first difference."""
+    def played(self, source: Union[int, List[Event]], watchdog: Watchdog) -> Tuple[Run, Optional[Difference]]:
+        """The members under the schedule of a seed, or those of these events that are possible, up to the first difference."""
         run = self.run(watchdog)
         try:
-            difference = self._drawn(run, source) if isinstance(source, int) else replayed(run, source.events)
-            if difference is None and self.level != "exact":
-                difference = run.calm()
-            return run, difference
+            difference = run.through(iter(Draw(self.trouble, source, run)) if isinstance(source, int) else run.network.possible(source))
+            return run, difference or (None if self.level == "exact" else run.calm())
         finally:
             run.close()
-
-    def _drawn(self, run: Run, seed: int) -> Optional[Difference]:
-        draw = Draw(self.trouble, seed, self.members)
-        while True:
-            drawn = draw.next(run)
-            if drawn is None:
-                return None
-            difference = run.do(*drawn)
-            if difference:
-                return difference
-
-    def given(self, events: List[Event]) -> Schedule:
-        return Schedule("", self.members, self.batch, events)
-
-
-def replayed(run: Run, events: Iterable[Event]) -> Optional[Difference]:
-    """These events, those that are not possible left out."""
-    for event in events:
-        if run.network.is_possible(event):
-            difference = run.do(event)
-            if difference:
-                return difference
-    return None
 
 
 @dataclass
@@ -111,8 +87,8 @@ class Searched:
     failure: Optional[Failure] = None
 
     def count(self, run: Run) -> None:
-        steps, rounds, instances = run.judge.counts()
-        self.add(Searched(1, len(run.events), steps, 0.0, rounds, instances, run.judge.met, Counter(run.judge.met.keys())))
+        it = run.judge
+        self.add(Searched(1, len(run.events), len(it.taken), 0.0, it.rounds, it.instances, it.met, Counter(it.met.keys())))
 
     def add(self, other: Searched) -> None:
         self.runs, self.events, self.steps = self.runs + other.runs, self.events + other.events, self.steps + other.steps
@@ -171,7 +147,7 @@ def _through(setup: Setup, sources: Iterable[Source], watchdog: Watchdog, done: 
     progress = Progress(len(sources) if isinstance(sources, Sequence) else 0)
     try:
         for source in sources:
-            run, difference = setup.played(source, watchdog)
+            run, difference = setup.played(source if isinstance(source, int) else source.events, watchdog)
             done.count(run)
             progress.tell(done.runs)
             if difference:
@@ -233,11 +209,11 @@ def _failure(setup: Setup, source: Source, run: Run, difference: Optional[Differ
     name = f"seed {source}" if isinstance(source, int) else source.name
     if difference is None:
         raise RuntimeError(f"{name}: {TWICE}: they differed from the algorithm, and under the same schedule not again")
-    found = Failure(name, len(run.events), difference, setup.members, setup.batch, difference, list(run.events), run.judge.lines())
+    found = Failure(name, len(run.events), setup.members, setup.batch, difference, list(run.events), run.judge.lines())
     if difference.kind == "endless":
         found.note = f"not made small; more than {setup.timeout:g} s for an event"
         return found
-    again, other = setup.played(setup.given(_explicit(run, difference)), watchdog)
+    again, other = setup.played(_explicit(run, difference), watchdog)
     lines = again.judge.lines()
     if other is None or (other.member, other.says, lines) != (difference.member, difference.says, found.lines):
         found.note = f"{TWICE}: {_parted(found.lines, lines)}"
@@ -253,14 +229,14 @@ def _explicit(run: Run, difference: Difference) -> List[Event]:
 
 def _make_small(setup: Setup, found: Failure, first: Tried, watchdog: Watchdog) -> None:
     def trial(events: List[Event]) -> Optional[Tried]:
-        run, difference = setup.played(setup.given(events), watchdog)
+        run, difference = setup.played(events, watchdog)
         return Tried(len(run.events), _explicit(run, difference)) if difference and difference.kind != "endless" else None
 
     small, found.trials = shrink(trial, first, setup.members, SHRINKING)
     plain = [it._replace(what=("set", 0, 7)) if it.name == "submit" else it for it in small.events]
     tried = trial(plain)
     events = tried.events if tried and tried.size <= small.size else small.events
-    run, difference = setup.played(setup.given(events), watchdog)
+    run, difference = setup.played(events, watchdog)
     if difference:
         found.difference, found.events, found.lines = difference, events, run.judge.lines()
 

@@ -64,17 +64,10 @@ def moves(events: List[Event], n: int) -> Iterator[List[Event]]:
         for place, event in enumerate(events):
             if event.name == "submit":
                 submitted.append(event.member)
-                gone = event.member, submitted.count(event.member)
-                yield _renamed(events[:place] + events[place + 1:], n, ".", lambda it: _closed(it, gone))
+                gone = _without(event.member, submitted.count(event.member), 1)
+                yield _renamed(events[:place] + events[place + 1:], n, ".", gone)
     for p in range(1, n + 1):
         yield [event for event in events if event.member != p]
-
-
-def _closed(message: Pair, gone: Pair) -> Optional[Pair]:
-    """The message's name without the one that is gone."""
-    if message == gone:
-        return None
-    return message[0], message[1] - (message[0] == gone[0] and message[1] > gone[1])
 
 
 def _without_rounds(events: List[Event], n: int, places: Set[Pair]) -> Iterator[List[Event]]:
@@ -86,15 +79,15 @@ def _without_rounds(events: List[Event], n: int, places: Set[Pair]) -> Iterator[
         yield _renamed(events, n, "/", lambda at: None if at[1] <= count else (at[0], at[1] - count), count)
     for k in instances:
         for first in range(1, max(r for j, r in places if j == k) - n + 2):
-            yield _renamed(events, n, "/", _shorter(k, first, n))
+            yield _renamed(events, n, "/", _without(k, first, n))
 
 
-def _shorter(k: int, first: int, n: int) -> Place:
-    """Without n rounds of the instance."""
+def _without(which: int, first: int, count: int) -> Place:
+    """Without so many rounds of the instance, or messages of the member, whose later ones get their numbers."""
     def place(at: Pair) -> Optional[Pair]:
-        if at[0] != k or at[1] < first:
+        if at[0] != which or at[1] < first:
             return at
-        return None if at[1] < first + n else (at[0], at[1] - n)
+        return None if at[1] < first + count else (which, at[1] - count)
     return place
 
 

@@ -30,14 +30,6 @@ def submission(p: int, command: Command) -> Submit:
     return Submit(p, COMMANDS_BY_NAME[command[0]](*command[1:]))
 
 
-class Sent(NamedTuple):
-    """What an envelope carries, and between whom."""
-
-    sender: int
-    to: int
-    letter: Letter
-
-
 class Place:
     """Where a member stands, and what it got, by its steps."""
 
@@ -61,7 +53,7 @@ class Standing:
     def __init__(self, world: World, members: int) -> None:
         self.world, self.n = world, members
         self.places = {p: Place() for p in range(1, members + 1)}
-        self.sent: Dict[int, Sent] = {}         # by serial
+        self.sent: Dict[int, Tuple[int, int, Letter]] = {}   # by serial: who sent it, to whom it goes, what it carries
         self.waits: Set[int] = set()            # serials that wait at their receivers
         self.taken: List[Union[Event, Tuple[Step, range, Value]]] = []   # steps, what they sent and delivered; and what detectors say
         self.met: "Counter[str]" = Counter()    # steps and situations
@@ -78,28 +70,29 @@ class Standing:
 
     def serial_of(self, p: int, to: int, letter: Letter) -> Optional[int]:
         """The envelope with this letter that the member has sent."""
-        return next((serial for serial, it in self.sent.items() if it[:2] == (p, to) and same(letter, it.letter)), None)
+        return next((serial for serial, it in self.sent.items() if it[:2] == (p, to) and same(letter, it[2])), None)
 
     def cause(self, step: Step) -> str:
         """The name of the refusal of a step, empty where it is allowed."""
-        refusal = self.world.refusal(step)
-        return "" if refusal is None else str(refusal)
+        return str(self.world.refusal(step) or "")
 
     def take(self, step: Step) -> range:
         """The step is taken in the world: the serials of what it sent."""
         name, p = step.name, step.member
         place = self.places[p]
+        came: Optional[Letter] = None
         if isinstance(step, Receive):
-            self._received(place, self.sent[step.serial].letter)
+            came = self.sent[step.serial][2]
+            self._received(place, came)
         elif name in ROUND:
             self._note(place, name)
         elif name == "crash" and self.awaited(p) == p:
             self.met[COORDINATOR_CRASHES] += 1
         serials = self.world.apply(step)
         if serials:
-            to, letter = letter_of(self.world, serials[0])
-            for serial in serials:
-                self.sent[serial] = Sent(p, to + serial - serials[0], letter)   # to each of 1 to n, or to one
+            first, letter = (1, came) if came else letter_of(self.world, serials[0])   # what came is sent on to all as it is
+            for to, serial in enumerate(serials, first):
+                self.sent[serial] = p, to, letter
             self.waits.update(serials)
         self.batch = ()
         if isinstance(step, (Receive, Lose)):
@@ -184,7 +177,8 @@ class Standing:
         if isinstance(step, Submit):
             return "submit " + " ".join(map(str, step.command.entry()))
         if isinstance(step, (Receive, Lose, Repeat)):
-            return f"{step.name} {short(self.sent[step.serial].letter)} from {self.sent[step.serial].sender}"
+            sender, _, letter = self.sent[step.serial]
+            return f"{step.name} {short(letter)} from {sender}"
         return f"choose {step.source}" if isinstance(step, Choose) else step.name
 
     def lines(self, stated: bool = False) -> List[Tuple[str, str]]:
@@ -208,9 +202,9 @@ class Standing:
 
     def _stated(self, step: Step, serials: range, batch: Value) -> str:
         if isinstance(step, Receive):
-            return carried(self.sent[step.serial].letter)
+            return carried(self.sent[step.serial][2])
         if step.name in ("enter", "choose"):
-            return carried(self.sent[serials[0]].letter)
+            return carried(self.sent[serials[0]][2])
         return f" {value_text(batch)}" if step.name in ("deliver", "follow") and len(batch) <= 8 else ""
 
     def stands(self, p: int) -> str:
