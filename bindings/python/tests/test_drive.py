@@ -217,7 +217,7 @@ class Used(unittest.TestCase):
         told: List[str] = []
         with mock.patch.object(progress, "write", told.append), mock.patch.object(progress, "EACH", 0):
             search(Setup(*member("handlers")), range(3))
-        self.assertRegex(told[0], r"^\r1 of 3 seeds, \d+ a second, \d+ s to go$")
+        self.assertRegex(told[0], r"^\r1 of 3 seeds, \d+ s to go$")
         self.assertEqual(told[-1].strip(), "")
 
     def test_the_plugin(self) -> None:

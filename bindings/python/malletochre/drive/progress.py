@@ -9,26 +9,30 @@ EACH = 0.5   # seconds
 write: Optional[Callable[[str], None]] = None   # in place of standard error, where a test runner has that
 
 
+def _error(text: str) -> None:
+    sys.stderr.write(text)
+    sys.stderr.flush()
+
+
 class Progress:
-    def __init__(self, total: int) -> None:
-        self._total, self._begun, self._next = total, time.monotonic(), time.monotonic() + EACH
-        self._write = write or (self._error if sys.stderr.isatty() else None)
+    """A line, of 39 columns at most, that is written anew, and wiped out in the end."""
+
+    def __init__(self) -> None:
+        self._begun = self._last = time.monotonic()
+        self._write = write or (_error if sys.stderr.isatty() else None)
         self._length = 0
 
-    @staticmethod
-    def _error(text: str) -> None:
-        sys.stderr.write(text)
-        sys.stderr.flush()
+    def __enter__(self) -> Progress:
+        return self
 
-    def tell(self, done: int) -> None:
+    def tell(self, text: Callable[[float], str]) -> None:
+        """What there is to tell, of the seconds since the beginning."""
         now = time.monotonic()
-        if self._write and now >= self._next:
-            self._next = now + EACH
-            rate = done / (now - self._begun)
-            text = f"{done} of {self._total} seeds, {rate:.0f} a second, {(self._total - done) / max(rate, 0.1):.0f} s to go"
-            self._write("\r" + text.ljust(self._length))
-            self._length = len(text)
+        if self._write and now >= self._last + EACH:
+            told, before = text(now - self._begun), self._length
+            self._last, self._length = now, len(told)   # before it is written: a ^C may come in the midst of that
+            self._write("\r" + told.ljust(before))
 
-    def end(self) -> None:
+    def __exit__(self, *_: object) -> None:
         if self._write and self._length:
-            self._write("\r" + " " * self._length + "\r")
+            self._write("\r" + " " * (self._length + len("^C")) + "\r")

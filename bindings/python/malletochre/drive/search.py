@@ -31,6 +31,7 @@ SHRINKING = 30.0     # seconds at most
 OPTIONS = "members", "seeds", "level", "rules", "batch", "jobs", "timeout", "keep_in", "require"
 Source = Union[int, Schedule]
 Found = Tuple[Source, Run, Optional[Difference]]
+Tell = Callable[[int], None]   # how many were tried
 
 
 @dataclass
@@ -129,35 +130,34 @@ class NotCovered(AssertionError):
 def search(setup: Setup, seeds: Sequence[int], schedules: Iterable[Schedule] = (), jobs: int = 1, make_small: bool = True) -> Searched:
     """The schedules, then those of the seeds, until one shows a difference."""
     done, begun = Searched(), time.monotonic()
-    with Watchdog(setup.timeout) as watchdog:
+    with Watchdog(setup.timeout) as watchdog, Progress() as progress:
+        def tell(count: int) -> None:
+            progress.tell(lambda seconds: f"{count} of {len(seeds)} seeds, {seconds / count * (len(seeds) - count):.0f} s to go")
+
         found = _through(setup, schedules, watchdog, done)
         if found is None and jobs == 1:
-            found = _through(setup, seeds, watchdog, done)
+            found = _through(setup, seeds, watchdog, done, tell)
         elif found is None:
-            seed = _in_parallel(setup, seeds, jobs, done)
+            seed = _in_parallel(setup, seeds, jobs, done, tell)
             found = None if seed is None else (seed, *setup.played(seed, watchdog))
         done.seconds = time.monotonic() - begun
         if found:
-            done.failure = _failure(setup, *found, watchdog, make_small)
+            done.failure = _failure(setup, *found, watchdog, make_small, progress)
     return done
 
 
-def _through(setup: Setup, sources: Iterable[Source], watchdog: Watchdog, done: Searched) -> Optional[Found]:
+def _through(setup: Setup, sources: Iterable[Source], watchdog: Watchdog, done: Searched, tell: Tell = lambda _: None) -> Optional[Found]:
     """The first one that shows a difference."""
-    progress = Progress(len(sources) if isinstance(sources, Sequence) else 0)
-    try:
-        for source in sources:
-            run, difference = setup.played(source if isinstance(source, int) else source.events, watchdog)
-            done.count(run)
-            progress.tell(done.runs)
-            if difference:
-                return source, run, difference
-        return None
-    finally:
-        progress.end()
+    for count, source in enumerate(sources, 1):
+        run, difference = setup.played(source if isinstance(source, int) else source.events, watchdog)
+        done.count(run)
+        tell(count)
+        if difference:
+            return source, run, difference
+    return None
 
 
-def _in_parallel(setup: Setup, seeds: Sequence[int], jobs: int, done: Searched) -> Optional[int]:
+def _in_parallel(setup: Setup, seeds: Sequence[int], jobs: int, done: Searched, tell: Tell) -> Optional[int]:
     """The same, in so many processes; with 0 in one for each processor. The first seed is told all the same."""
     context = multiprocessing.get_context("fork")
     jobs = min(jobs or os.cpu_count() or 1, len(seeds)) or 1
@@ -169,7 +169,6 @@ def _in_parallel(setup: Setup, seeds: Sequence[int], jobs: int, done: Searched) 
         context.Process(target=_work, args=(setup, seeds, range(part, len(seeds), jobs), least, counts, its), daemon=True).start()
         its.close()
         ends.append(mine)
-    progress = Progress(len(seeds))
     while ends:
         for end in wait(ends, timeout=0.5):
             assert isinstance(end, Connection)
@@ -181,8 +180,7 @@ def _in_parallel(setup: Setup, seeds: Sequence[int], jobs: int, done: Searched) 
             if isinstance(told, BaseException):
                 raise told
             done.add(told)
-        progress.tell(sum(counts))
-    progress.end()
+        tell(max(sum(counts), 1))
     return seeds[least.value] if least.value < len(seeds) else None
 
 
@@ -205,7 +203,8 @@ def _work(setup: Setup, seeds: Sequence[int], places: range, least: Any, counts:
         end.send(RuntimeError(f"{type(error).__name__}: {error}"))
 
 
-def _failure(setup: Setup, source: Source, run: Run, difference: Optional[Difference], watchdog: Watchdog, make_small: bool) -> Failure:
+def _failure(setup: Setup, source: Source, run: Run, difference: Optional[Difference], watchdog: Watchdog, make_small: bool,
+             progress: Progress) -> Failure:
     name = f"seed {source}" if isinstance(source, int) else source.name
     if difference is None:
         raise RuntimeError(f"{name}: {TWICE}: they differed from the algorithm, and under the same schedule not again")
@@ -218,7 +217,7 @@ def _failure(setup: Setup, source: Source, run: Run, difference: Optional[Differ
     if other is None or (other.member, other.says, lines) != (difference.member, difference.says, found.lines):
         found.note = f"{TWICE}: {_parted(found.lines, lines)}"
     elif make_small:
-        _make_small(setup, found, Tried(len(run.events), _explicit(run, difference)), watchdog)
+        _make_small(setup, found, Tried(len(run.events), _explicit(run, difference)), watchdog, progress)
     return found
 
 
@@ -227,8 +226,9 @@ def _explicit(run: Run, difference: Difference) -> List[Event]:
     return run.events[:run.calm_from] if difference.event is None else list(run.events)
 
 
-def _make_small(setup: Setup, found: Failure, first: Tried, watchdog: Watchdog) -> None:
+def _make_small(setup: Setup, found: Failure, first: Tried, watchdog: Watchdog, progress: Progress) -> None:
     def trial(events: List[Event]) -> Optional[Tried]:
+        progress.tell(lambda _: f"made small: {len(events)} events")
         run, difference = setup.played(events, watchdog)
         return Tried(len(run.events), _explicit(run, difference)) if difference and difference.kind != "endless" else None
 
