@@ -5,11 +5,12 @@ import difflib
 import itertools
 import multiprocessing
 import os
+import signal
 import sys
 import time
 from collections import Counter
+from concurrent.futures import ProcessPoolExecutor
 from dataclasses import dataclass, field
-from multiprocessing.connection import Connection, wait
 from typing import Any, Callable, Dict, Iterable, List, Optional, Sequence, Tuple, Union
 
 from ..world import MAX_BOUND, MAX_CELLS, World
@@ -32,6 +33,7 @@ OPTIONS = "members", "seeds", "level", "rules", "batch", "jobs", "timeout", "kee
 Source = Union[int, Schedule]
 Found = Tuple[Source, Run, Optional[Difference]]
 Tell = Callable[[int], None]   # how many were tried
+_searched: List[Any] = []      # in a process of a search: the setup, and an event once it is over
 
 
 @dataclass
@@ -135,11 +137,8 @@ def search(setup: Setup, seeds: Sequence[int], schedules: Iterable[Schedule] = (
             progress.tell(lambda seconds: f"{count} of {len(seeds)} seeds, {seconds / count * (len(seeds) - count):.0f} s to go")
 
         found = _through(setup, schedules, watchdog, done)
-        if found is None and jobs == 1:
-            found = _through(setup, seeds, watchdog, done, tell)
-        elif found is None:
-            seed = _in_parallel(setup, seeds, jobs, done, tell)
-            found = None if seed is None else (seed, *setup.played(seed, watchdog))
+        if found is None:
+            found = _through(setup, seeds, watchdog, done, tell) if jobs == 1 else _in_parallel(setup, seeds, jobs, watchdog, done, tell)
         done.seconds = time.monotonic() - begun
         if found:
             done.failure = _failure(setup, *found, watchdog, make_small, progress)
@@ -157,50 +156,39 @@ def _through(setup: Setup, sources: Iterable[Source], watchdog: Watchdog, done: 
     return None
 
 
-def _in_parallel(setup: Setup, seeds: Sequence[int], jobs: int, done: Searched, tell: Tell) -> Optional[int]:
-    """The same, in so many processes; with 0 in one for each processor. The first seed is told all the same."""
+def _in_parallel(setup: Setup, seeds: Sequence[int], jobs: int, watchdog: Watchdog, done: Searched, tell: Tell) -> Optional[Found]:
+    """The same, in so many processes; with 0 in one for each processor. It is the first seed all the same."""
+    jobs = jobs or os.cpu_count() or 1
+    size = max(1, min(25, len(seeds) // (8 * jobs)))
+    parts = [seeds[place:place + size] for place in range(0, len(seeds), size)]
     context = multiprocessing.get_context("fork")
-    jobs = min(jobs or os.cpu_count() or 1, len(seeds)) or 1
-    least: Any = context.Value("q", len(seeds))
-    counts: Any = context.Array("q", jobs)
-    ends: List[Connection] = []
-    for part in range(jobs):
-        mine, its = context.Pipe(duplex=False)
-        context.Process(target=_work, args=(setup, seeds, range(part, len(seeds), jobs), least, counts, its), daemon=True).start()
-        its.close()
-        ends.append(mine)
-    while ends:
-        for end in wait(ends, timeout=0.5):
-            assert isinstance(end, Connection)
-            ends.remove(end)
-            try:
-                told = end.recv()
-            except EOFError:
-                told = RuntimeError("a process of the search ended before its time")
-            if isinstance(told, BaseException):
-                raise told
-            done.add(told)
-        tell(max(sum(counts), 1))
-    return seeds[least.value] if least.value < len(seeds) else None
-
-
-def _work(setup: Setup, seeds: Sequence[int], places: range, least: Any, counts: Any, end: Connection) -> None:
-    done = Searched()
+    is_over = context.Event()
+    pool = ProcessPoolExecutor(min(jobs, len(parts)) or 1, context, _begin, (setup, is_over))
     try:
-        with Watchdog(setup.timeout) as watchdog:
-            for place in places:
-                if place > least.value:
-                    break
-                run, difference = setup.played(seeds[place], watchdog)
-                done.count(run)
-                counts[places.start] += 1
-                if difference:
-                    with least.get_lock():
-                        least.value = min(least.value, place)
-                    break
-        end.send(done)
-    except Exception as error:   # told where it can be read
-        end.send(RuntimeError(f"{type(error).__name__}: {error}"))
+        for count, (part, seed) in enumerate(pool.map(_part, parts), 1):
+            done.add(part)
+            tell(min(count * size, len(seeds)))
+            if seed is not None:
+                return (seed, *setup.played(seed, watchdog))
+        return None
+    finally:
+        is_over.set()
+        pool.shutdown(cancel_futures=True)
+
+
+def _begin(setup: Setup, is_over: Any) -> None:
+    """In a process of a search. A ^C is for the one that began it."""
+    signal.signal(signal.SIGINT, signal.SIG_IGN)
+    _searched[:] = setup, is_over
+
+
+def _part(seeds: Sequence[int]) -> Tuple[Searched, Optional[int]]:
+    """What these seeds come to, and the one that shows a difference."""
+    setup, is_over = _searched
+    done = Searched()
+    with Watchdog(setup.timeout) as watchdog:
+        found = _through(setup, itertools.takewhile(lambda _: not is_over.is_set(), seeds), watchdog, done)
+    return done, seeds[done.runs - 1] if found else None
 
 
 def _failure(setup: Setup, source: Source, run: Run, difference: Optional[Difference], watchdog: Watchdog, make_small: bool,
