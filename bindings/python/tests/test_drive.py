@@ -25,6 +25,7 @@ from rehearsed.edits import MUTANTS, STYLES, VARIANTS, WAITS_FOR_ITS_ROUND, memb
 SEEDS = int(os.environ.get("DRIVE_SEEDS", "25"))
 LEVELS = ("lockstep", "exact", "observable")
 EXAMPLES = os.path.join(os.path.dirname(os.path.abspath(__file__)), "..", "..", "..", "examples")
+DATA = '        if m.type == "data":\n'
 PROP = '        elif m.type == "prop":\n'
 OF_PROCESS = unittest.skipUnless(IN_PROCESS, "takes too long over ct_tool")
 
@@ -143,8 +144,15 @@ class Misbehaved(unittest.TestCase):
         self.assertIn("raises AssertionError: no (", told)
 
     def test_a_member_that_does_not_return(self) -> None:
-        told = self.told(member("handlers", [(PROP, PROP + "            while m: pass\n")]), timeout=0.3)
-        self.assertIn("doesn't return", told)
+        late = DATA + "            while self.k == 1: pass\n"   # once it has begun an instance
+        caught = DATA + "            try:\n                while self.k: pass\n            except BaseException: pass\n"
+        for text in (late, caught):
+            it = found(member("handlers", [(DATA, text)]), timeout=0.3)
+            self.assertIn("doesn't return", it.difference.says)
+            self.assertEqual((it.difference.kind, len(it.events)), ("endless", 4))
+            self.assertIn("  note   more than 0.3 s for an event", str(it))
+        forgets = member("task", [("                self.inbox.task_done()\n", "                pass\n")])
+        self.assertIn("doesn't call task_done", self.told(forgets, timeout=0.3))
 
     def test_a_member_that_does_not_do_the_same_twice(self) -> None:
         chance = random.Random(1)

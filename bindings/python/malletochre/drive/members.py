@@ -55,6 +55,8 @@ class Outbox:
 class Member:
     """A member, whatever its style."""
 
+    ends = "return"   # what it does once an event is dealt with
+
     def __init__(self, made: Any, outbox: Outbox) -> None:
         self._made, self._outbox = made, outbox
 
@@ -90,6 +92,7 @@ class _Handlers(Member):
 class _Task(Member):
     """The loop runs until the inbox is dealt with, so what the member does about an event is known before the next one comes."""
 
+    ends = "call task_done"
     _loop: Optional[asyncio.AbstractEventLoop] = None
 
     def __init__(self, made: Any, outbox: Outbox) -> None:
@@ -111,8 +114,12 @@ class _Task(Member):
         return self._outbox.taken()
 
     def close(self) -> None:
-        self._task.cancel()
-        self._on.run_until_complete(asyncio.gather(self._task, return_exceptions=True))
+        """Ends its task, and those that it began; of the whole group at once, whose loop it is."""
+        tasks = asyncio.all_tasks(self._on)
+        for it in tasks:
+            it.cancel()
+        if tasks:
+            self._on.run_until_complete(asyncio.wait(tasks, timeout=1))
 
 
 if hasattr(os, "register_at_fork"):   # a process of its own has a loop of its own

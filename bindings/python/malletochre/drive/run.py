@@ -16,6 +16,7 @@ from .observed import Observed
 Judge = Union[Lockstep, Observed]
 Wire = Callable[[Any], Any]
 CALM = 3000   # events of a calm end at most
+TICKS = 4     # parts of the time for an event
 
 
 class Endless(BaseException):
@@ -26,14 +27,14 @@ class Watchdog:
     """Looks after what members are told, where this is the main thread: `seconds` for an event."""
 
     def __init__(self, seconds: float) -> None:
-        self._seconds, self._is_on = seconds, threading.current_thread() is threading.main_thread() and hasattr(signal, "setitimer")
-        self._told = self._seen = 0
+        self._tick, self._is_on = seconds / TICKS, threading.current_thread() is threading.main_thread() and hasattr(signal, "setitimer")
+        self._ticks = 0   # that an event has lasted
         self._is_inside = False
 
     def __enter__(self) -> Watchdog:
         if self._is_on:
-            self._handler = signal.signal(signal.SIGALRM, self._tick)
-            self._timer = signal.setitimer(signal.ITIMER_REAL, self._seconds, self._seconds)
+            self._handler = signal.signal(signal.SIGALRM, self._ticked)
+            self._timer = signal.setitimer(signal.ITIMER_REAL, self._tick, self._tick)
         return self
 
     def __exit__(self, *_: object) -> None:
@@ -41,19 +42,19 @@ class Watchdog:
             signal.setitimer(signal.ITIMER_REAL, *self._timer)
             signal.signal(signal.SIGALRM, self._handler)
 
-    def _tick(self, *_: object) -> None:
-        if self._is_inside and self._seen == self._told:
-            self._is_inside = False
+    def _ticked(self, *_: object) -> None:
+        self._ticks += 1
+        if self._is_inside and self._ticks > TICKS:
             raise Endless
-        self._seen = self._told
 
     def call(self, function: Callable[..., Any], *given: Any) -> Any:
-        self._told += 1
-        self._is_inside = True
+        self._ticks, self._is_inside = 0, True
         try:
             return function(*given)
         finally:
             self._is_inside = False
+            if self._ticks > TICKS:   # whatever the member makes of it
+                raise Endless
 
 
 class Misused(Exception):
@@ -102,7 +103,7 @@ class Run:
         try:
             packets, delivered = self._watchdog.call(self._does, event, packet)
         except Endless:
-            difference = Difference("endless", p, "doesn't return", "goes on")
+            difference = Difference("endless", p, f"doesn't {self._members[p].ends}", "goes on")
         except Misused as error:
             difference = Difference("misused", p, str(error), "sends packets that `wire` reads, and delivers messages")
         except Exception as error:   # of the user's code

@@ -30,6 +30,7 @@ TWICE = "the members don't do the same twice"
 USUAL_SEEDS = 1000
 SHRINKING = 30.0     # seconds at most
 OPTIONS = "members", "seeds", "level", "rules", "batch", "jobs", "timeout", "keep_in", "require"
+HURRY = 50           # where a member doesn't return, trials take this part of the time
 Source = Union[int, Schedule]
 Found = Tuple[Source, Run, Optional[Difference]]
 Tell = Callable[[int], None]   # how many were tried
@@ -197,15 +198,20 @@ def _failure(setup: Setup, source: Source, run: Run, difference: Optional[Differ
     if difference is None:
         raise RuntimeError(f"{name}: {TWICE}: they differed from the algorithm, and under the same schedule not again")
     found = Failure(name, len(run.events), setup.members, setup.batch, difference, list(run.events), run.judge.lines())
-    if difference.kind == "endless":
-        found.note = f"not made small; more than {setup.timeout:g} s for an event"
-        return found
-    again, other = setup.played(_explicit(run, difference), watchdog)
-    lines = again.judge.lines()
-    if other is None or (other.member, other.says, lines) != (difference.member, difference.says, found.lines):
-        found.note = f"{TWICE}: {_parted(found.lines, lines)}"
-    elif make_small:
-        _make_small(setup, found, Tried(len(run.events), _explicit(run, difference)), watchdog, progress)
+    first, is_endless = Tried(len(run.events), _explicit(run, difference)), difference.kind == "endless"
+    if is_endless:
+        found.note = f"more than {setup.timeout:g} s for an event"
+    else:
+        again, other = setup.played(first.events, watchdog)
+        lines = again.judge.lines()
+        if other is None or (other.member, other.says, lines) != (difference.member, difference.says, found.lines):
+            found.note, make_small = f"{TWICE}: {_parted(found.lines, lines)}", False
+    if make_small:
+        with Watchdog(setup.timeout / (HURRY if is_endless else 1)) as trying:
+            small, trials = _small(setup, first, is_endless, trying, progress)
+        run, other = setup.played(small, watchdog)
+        if other and (other.kind == "endless") == is_endless:
+            found.difference, found.events, found.lines, found.trials = other, small, run.judge.lines(), trials
     return found
 
 
@@ -214,19 +220,17 @@ def _explicit(run: Run, difference: Difference) -> List[Event]:
     return run.events[:run.calm_from] if difference.event is None else list(run.events)
 
 
-def _make_small(setup: Setup, found: Failure, first: Tried, watchdog: Watchdog, progress: Progress) -> None:
+def _small(setup: Setup, first: Tried, is_endless: bool, watchdog: Watchdog, progress: Progress) -> Tuple[List[Event], int]:
+    """The events made small, in so many trials. That a member doesn't return is another matter than all else that it may do."""
     def trial(events: List[Event]) -> Optional[Tried]:
         progress.tell(lambda _: f"made small: {len(events)} events")
         run, difference = setup.played(events, watchdog)
-        return Tried(len(run.events), _explicit(run, difference)) if difference and difference.kind != "endless" else None
+        is_one = difference is not None and (difference.kind == "endless") == is_endless
+        return Tried(len(run.events), _explicit(run, difference)) if difference and is_one else None
 
-    small, found.trials = shrink(trial, first, setup.members, SHRINKING)
-    plain = [it._replace(what=("set", 0, 7)) if it.name == "submit" else it for it in small.events]
-    tried = trial(plain)
-    events = tried.events if tried and tried.size <= small.size else small.events
-    run, difference = setup.played(events, watchdog)
-    if difference:
-        found.difference, found.events, found.lines = difference, events, run.judge.lines()
+    small, trials = shrink(trial, first, setup.members, SHRINKING)
+    tried = trial([it._replace(what=("set", 0, 7)) if it.name == "submit" else it for it in small.events])
+    return tried.events if tried and tried.size <= small.size else small.events, trials
 
 
 def _parted(first: List[Tuple[str, str]], second: List[Tuple[str, str]]) -> str:
