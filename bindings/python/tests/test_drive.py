@@ -164,13 +164,19 @@ class Misbehaved(unittest.TestCase):
         sends, reads = "self.out.append(Send(to, m))", "return Data(message[:2], message[2])"
         for old, new, part in ((sends, "self.out.append(m)", "neither Send(to, packet) nor Deliver"),
                                (sends, "self.out.append(Send(7, m))", "sends to 7: 1 to 3, or ALL, is due"),
+                               ("        return out\n", "        return 5\n", "gives 5, which is neither Send(to, packet) nor Deliver"),
                                (reads, "return 5", "`wire` gives 5"), (reads, "return m.name", "`wire` raises AttributeError"),
+                               (reads, "return Data(\"1.1\")", "raises ValueError: '1.1' is no message: (origin, number) is due"),
                                ("return Estimate(m.k,", "return Estimate(str(m.k),", "instance, round and source are whole numbers"),
                                ("Deliver(message[:2])", "Deliver(message)", "(origin, number) is due")):
             self.assertIn(part, self.told(member("handlers", [(old, new)])))
+        told = self.told(member("handlers", [("(frozen=True)", "(frozen=True, repr=False)"), (reads, "return m.name")]))
+        self.assertIn("Msg object>, of which `wire` raises AttributeError", told)   # without its address, which is another one each time
+        self.assertNotIn("twice", told)
         with self.assertRaises(TypeError) as raised:
             check(lambda number, members: object(), lambda it: None, seeds=[1], keep_in=None)
         self.assertIn("neither a handler on_submit nor a task", str(raised.exception))
+        self.assertRaises(TypeError, check, *member("handlers", [("def on_trust", "async def on_trust")]))
         self.assertRaises(TypeError, check, *member("handlers"), loose=0.1)
         self.assertRaises(ValueError, check, *member("handlers"), lose=1.5)
         self.assertRaises(ValueError, check, *member("handlers"), level="strict")

@@ -121,8 +121,11 @@ def same(told: Letter, letter: Letter) -> bool:
 
 
 def message_name(message: Any) -> Name:
-    origin, number = message
-    return int(origin), int(number)
+    try:
+        origin, number = message
+        return int(origin), int(number)
+    except (TypeError, ValueError):
+        raise ValueError(f"{message!r} is no message: (origin, number) is due") from None
 
 
 def names(messages: Iterable[Message]) -> Value:

@@ -81,12 +81,15 @@ class _Handlers(Member):
             handler = getattr(made, f"on_{name}", None)
             if handler is None and name in ("submit", "receive"):
                 raise TypeError(f"{type(made).__name__} has neither a handler on_{name} nor a task `async def run(self, inbox)`")
+            if inspect.iscoroutinefunction(handler):
+                raise TypeError(f"{type(made).__name__}.on_{name} is async, which is for a task, `async def run(self, inbox)`, to await")
             self._handlers[name] = handler or (lambda _: None)
 
     def tell(self, name: str, content: Any) -> List[Any]:
         returned = self._handlers[name](content)
-        effects = [returned] if isinstance(returned, (Send, Deliver)) else returned or ()
-        return [*effects, *self._outbox.taken()]
+        if isinstance(returned, (Send, Deliver)) or returned is not None and not hasattr(returned, "__iter__"):
+            returned = [returned]
+        return [*(returned or ()), *self._outbox.taken()]
 
 
 class _Task(Member):

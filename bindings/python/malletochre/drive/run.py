@@ -1,6 +1,7 @@
 """A run: the members under test, the network between them, and the judge, event by event."""
 from __future__ import annotations
 
+import re
 import signal
 import threading
 import traceback
@@ -17,6 +18,7 @@ Judge = Union[Lockstep, Observed]
 Wire = Callable[[Any], Any]
 CALM = 3000   # events of a calm end at most
 TICKS = 4     # parts of the time for an event
+ADDRESS = re.compile(r" at 0x[0-9a-fA-F]+")   # another one each time that the same is done
 
 
 class Endless(BaseException):
@@ -105,10 +107,11 @@ class Run:
         except Endless:
             difference = Difference("endless", p, f"doesn't {self._members[p].ends}", "goes on")
         except Misused as error:
-            difference = Difference("misused", p, str(error), "sends packets that `wire` reads, and delivers messages")
+            difference = Difference("misused", p, ADDRESS.sub("", str(error)), "sends packets that `wire` reads, and delivers messages")
         except Exception as error:   # of the user's code
             at = traceback.extract_tb(error.__traceback__)[-1]
-            difference = Difference("raised", p, f"raises {type(error).__name__}: {error} ({at.filename}:{at.lineno})", "goes on")
+            says = f"raises {type(error).__name__}: {ADDRESS.sub('', str(error))} ({at.filename}:{at.lineno})"
+            difference = Difference("raised", p, says, "goes on")
         else:
             has_delivered = bool(delivered)   # before what is explained is taken out
             explained = self.judge.explain(event, packet, Account(p, packets, delivered))
@@ -128,8 +131,8 @@ class Run:
             elif isinstance(effect, Deliver):
                 try:
                     delivered.append(message_name(effect.message))
-                except (TypeError, ValueError):
-                    raise Misused(f"delivers {effect.message!r}, which is no message: (origin, number) is due") from None
+                except ValueError as error:
+                    raise Misused(f"delivers {error}") from None
             else:
                 raise Misused(f"gives {effect!r}, which is neither Send(to, packet) nor Deliver((origin, number))")
         return packets, delivered
