@@ -168,7 +168,8 @@ class Misbehaved(unittest.TestCase):
                                (reads, "return 5", "`wire` gives 5"), (reads, "return m.name", "`wire` raises AttributeError"),
                                (reads, "return Data(\"1.1\")", "raises ValueError: '1.1' is no message: (origin, number) is due"),
                                ("return Estimate(m.k,", "return Estimate(str(m.k),", "instance, round and source are whole numbers"),
-                               ("Deliver(message[:2])", "Deliver(message)", "(origin, number) is due")):
+                               ("Deliver(message[:2])", "Deliver(message)", "(origin, number) is due"),
+                               ("self.table = [0] * 16", "self.table = [0] * 4", "has a table of 4 registers")):
             self.assertIn(part, self.told(member("handlers", [(old, new)])))
         told = self.told(member("handlers", [("(frozen=True)", "(frozen=True, repr=False)"), (reads, "return m.name")]))
         self.assertIn("Msg object>, of which `wire` raises AttributeError", told)   # without its address, which is another one each time

@@ -110,6 +110,8 @@ class Lockstep(Standing):
     def table(self, p: int, table: List[int]) -> Optional[Difference]:
         """The member has this table."""
         ought = self.world.table(p)
+        if len(table) != len(ought):
+            return Difference("table", p, f"has a table of {len(table)} registers", f"has {len(ought)}")
         if table == ought:
             return None
         has = f"table {registers(table)}"
@@ -126,7 +128,8 @@ class Lockstep(Standing):
             if isinstance(step, Follow) and (self.cause(Begin(p)) or not place.batch(place.instance + 1)):
                 continue
             act = self.act(step)
-            return Difference("stuck", p, "does nothing more, and nothing is on its way", f"takes the step `{act}`", act=act)
+            ought = f"takes the step `{act}`: {self.stands(p)}"
+            return Difference("stuck", p, "does nothing more, and nothing is on its way", ought, act=act)
         return None
 
     # Steps.
@@ -211,7 +214,7 @@ class Lockstep(Standing):
         if there == batch:
             del account.delivered[:len(batch)]
             return None
-        did, ought = value_text(there) if there else "nothing", f"delivers {value_text(batch)}, in this order"
+        did, ought = value_text(there) if there else "nothing", f"delivers {value_text(batch)}" + ", in this order" * (len(batch) > 1)
         return Difference("delivered", p, f"delivers {did}", ought, act=step.name, line=f"{p} {step.name} {did}" if there else "")
 
     def _match(self, step: Step, serial: int, count: int, account: Account) -> Optional[Difference]:
