@@ -5,6 +5,7 @@
 The variable DRIVE_SEEDS gives another number of seeds than 25 for right members, 2000 say. Over ct_tool fewer tests are made."""
 import itertools
 import os
+import pty
 import random
 import subprocess
 import sys
@@ -242,7 +243,8 @@ class Used(unittest.TestCase):
             self.skipTest("there is no pytest")
         with tempfile.TemporaryDirectory() as folder:
             with open(os.path.join(folder, "test_mine.py"), "w", encoding="utf-8") as file:
-                file.write("from malletochre.drive import check\nfrom rehearsed.edits import MUTANTS, member\n"
+                file.write("import os\nfrom malletochre.drive import check, progress\nfrom rehearsed.edits import MUTANTS, member\n"
+                           "progress.EACH = float(os.environ.get('EACH', 1))\n"
                            "def test_right(rehearse_seeds): assert check(*member('handlers'), seeds=rehearse_seeds).runs in (1, 8, 9, 14)\n"
                            "def test_wrong(): check(*member('handlers', MUTANTS['relays_its_own'].edits['handlers']))\n")
             told = self.pytest(folder, "--rehearse-seeds", "7")
@@ -252,13 +254,18 @@ class Used(unittest.TestCase):
                 self.assertIn("3 passed", self.pytest(folder, "-k", "right", "--rehearse-seeds", "4"))
             name = next(it for it in os.listdir(os.path.join(folder, "rehearsals")) if it.endswith(".schedule"))
             self.assertIn("1 failed, 1 passed", self.pytest(folder, "--rehearse", os.path.join("rehearsals", name)))
+            mine, its = pty.openpty()
+            for end in (mine, its):
+                self.addCleanup(os.close, end)
+            with mock.patch.dict(os.environ, EACH="0"):
+                self.pytest(folder, "-k", "right", "--rehearse-seeds", "7", stdout=its)
+            self.assertRegex(os.read(mine, 1 << 16), rb"^\r1 of 7 seeds, \d+ s to go *\r2 of 7 seeds, .*\r +\r")
 
     @staticmethod
-    def pytest(folder: str, *words: str) -> str:
+    def pytest(folder: str, *words: str, stdout: int = subprocess.PIPE) -> str:
         path = os.pathsep.join([os.path.dirname(os.path.abspath(__file__)), os.environ.get("PYTHONPATH", "")])
         all_words = [sys.executable, "-m", "pytest", "-q", "-p", "no:cacheprovider", "-p", "malletochre.drive.plugin", *words]
-        done = subprocess.run(all_words, cwd=folder, env={**os.environ, "PYTHONPATH": path}, stdout=subprocess.PIPE, encoding="utf-8")
-        return done.stdout
+        return subprocess.run(all_words, cwd=folder, env={**os.environ, "PYTHONPATH": path}, stdout=stdout, encoding="utf-8").stdout
 
 
 if __name__ == "__main__":

@@ -24,14 +24,21 @@ def pytest_configure(config: Any) -> None:
     for option, variable in (("rehearse_seeds", "CT_SEEDS"), ("rehearse", "CT_REHEARSE")):
         if config.getoption(option) is not None:
             os.environ[variable] = str(config.getoption(option))
-    reporter, capture = (config.pluginmanager.getplugin(name) for name in ("terminalreporter", "capturemanager"))
+
+
+def pytest_sessionstart(session: Any) -> None:   # there is no reporter before
+    reporter, capture = map(session.config.pluginmanager.getplugin, ("terminalreporter", "capturemanager"))
     if reporter and reporter.isatty:
-        progress.write = lambda text: _shown(reporter, capture, text)
+        writer = session.config.get_terminal_writer()
+        progress.write = lambda text: _shown(writer, capture, text)
 
 
-def _shown(reporter: Any, capture: Any, text: str) -> None:
+def _shown(writer: Any, capture: Any, text: str) -> None:
+    """On a line of its own."""
     with capture.global_and_fixture_disabled() if capture else nullcontext():
-        reporter.write(text, flush=True)
+        if writer.width_of_current_line:
+            writer.line()
+        print(text, end="", flush=True)
 
 
 def pytest_generate_tests(metafunc: Any) -> None:
