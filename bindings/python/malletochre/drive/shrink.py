@@ -1,18 +1,17 @@
 """Schedules made small: fewer events, in which the members still differ. Whole instances and rounds go first, whose later ones get their
-numbers, then messages, then what comes to a member, then parts of the list, at last single events; an event that is not possible any
-more is left out. What counts are all events up to the difference, those of the calm end too."""
+numbers, then what comes to a member, then parts of the list, at last single events; an event that is not possible any more is left out.
+What counts are all events up to the difference, those of the calm end too."""
 from __future__ import annotations
 
 import re
 import time
 from typing import Callable, Iterator, List, NamedTuple, Optional, Set, Tuple
 
-from .network import NETWORK, Event
+from .network import DETECTOR, NETWORK, Event
 
 PLACED = re.compile(r"(\w+) (\d+)([/.])(\d+)")
 MOST = 4000       # trials
-Pair = Tuple[int, int]   # an instance and a round; or a message
-Place = Callable[[Pair], Optional[Pair]]
+At = Tuple[int, int]   # an instance and a round
 
 
 class Tried(NamedTuple):
@@ -56,59 +55,46 @@ def shrink(trial: Trial, first: Tried, n: int, seconds: float) -> Tuple[Tried, i
 
 
 def moves(events: List[Event], n: int) -> Iterator[List[Event]]:
-    """The events without an instance, without rounds, without a message, without what comes to a member."""
+    """The events without an instance, without rounds, without what comes to a member."""
     named = [PLACED.fullmatch(name) for event in events if event.name in NETWORK for name in event.what]
     if all(named):   # else their names say nothing
         yield from _without_rounds(events, n, {(int(it[2]), int(it[4])) for it in named if it and it[3] == "/"})
-        submitted: List[int] = []
-        for place, event in enumerate(events):
-            if event.name == "submit":
-                submitted.append(event.member)
-                gone = _without(event.member, submitted.count(event.member), 1)
-                yield _renamed(events[:place] + events[place + 1:], n, ".", gone)
     for p in range(1, n + 1):
         yield [event for event in events if event.member != p]
 
 
-def _without_rounds(events: List[Event], n: int, places: Set[Pair]) -> Iterator[List[Event]]:
+def _without_rounds(events: List[Event], n: int, places: Set[At]) -> Iterator[List[Event]]:
     instances = sorted({k for k, _ in places})
     for k in instances:
-        yield _renamed(events, n, "/", lambda at: None if at[0] == k else (at[0] - (at[0] > k), at[1]))
+        yield _renamed(events, n, lambda at: None if at[0] == k else (at[0] - (at[0] > k), at[1]))
     for count in range(1, min(n, max((r for _, r in places), default=0))):
         # Members are renamed, so that each round keeps its coordinator.
-        yield _renamed(events, n, "/", lambda at: None if at[1] <= count else (at[0], at[1] - count), count)
+        yield _renamed(events, n, lambda at: None if at[1] <= count else (at[0], at[1] - count), count)
     for k in instances:
-        for first in range(1, max(r for j, r in places if j == k) - n + 2):
-            yield _renamed(events, n, "/", _without(k, first, n))
+        for first in range(1, max(r for j, r in places if j == k) - n + 2):   # n rounds of the instance
+            yield _renamed(events, n, lambda at: at if at[0] != k or at[1] < first else None if at[1] < first + n else (k, at[1] - n))
 
 
-def _without(which: int, first: int, count: int) -> Place:
-    """Without so many rounds of the instance, or messages of the member, whose later ones get their numbers."""
-    def place(at: Pair) -> Optional[Pair]:
-        if at[0] != which or at[1] < first:
-            return at
-        return None if at[1] < first + count else (which, at[1] - count)
-    return place
-
-
-def _renamed(events: List[Event], n: int, mark: str, place: Place, turn: int = 0) -> List[Event]:
-    """The events with other instances and rounds (mark "/") or messages (mark "."), and with members renamed by so many."""
+def _renamed(events: List[Event], n: int, place: Callable[[At], Optional[At]], turn: int = 0) -> List[Event]:
+    """The events in other instances and rounds, and with members renamed by so many."""
     def member(p: int) -> int:
         return (p - 1 - turn) % n + 1
 
     def name(text: str) -> Optional[str]:
         found = PLACED.fullmatch(text)
         assert found
-        pair: Optional[Pair] = (int(found[2]), int(found[4]))
-        pair = place(pair) if pair and found[3] == mark else pair
-        return f"{found[1]} {member(pair[0]) if found[3] == '.' else pair[0]}{found[3]}{pair[1]}" if pair else None
+        first, second = int(found[2]), int(found[4])
+        if found[3] == ".":
+            return f"{found[1]} {member(first)}.{second}"
+        at = place((first, second))
+        return f"{found[1]} {at[0]}/{at[1]}" if at else None
 
     made = []
     for event in events:
         event = event._replace(member=member(event.member))
         if event.name in NETWORK:
             event = event._replace(what=tuple(map(name, event.what)), sender=member(event.sender))
-        elif event.name in ("suspect", "trust"):
+        elif event.name in DETECTOR:
             event = event._replace(what=member(event.what))
         if event.name not in NETWORK or None not in event.what:
             made.append(event)
