@@ -307,14 +307,16 @@ check_written() {
     tally "the schedule of $1" "$wrong"
 }
 
-# check_written_walks: the same of 25 walks that lose and repeat, in which a member crashes and a proposal has two messages at most;
-# the lines and comments that walks give are there.
+# check_written_walks: the same of 25 walks that lose and repeat, in which members crash and a proposal has two messages at most; of
+# each second one receipts are scattered, suspicions last and the group is cut. The lines and comments that walks give are there.
 check_written_walks() {
-    local seed wrong='' pattern
+    local seed hostile wrong='' pattern
     : >"$folder/schedules"
     for seed in {1..25}; do
+        hostile=()
+        ((seed % 2)) || hostile=(--scatter 64 --lasting 128 --crashes $((seed % 5 / 2)) --cut 2)
         "$tool" walk --members $((seed % 5 + 1)) --seed "$seed" --lose 20 --repeat 30 --postpone 10 --crash 1 --batch 2 --rate 32 \
-            >"$folder/record" 2>"$folder/error" || wrong+=" walk $seed fails;"
+            "${hostile[@]}" >"$folder/record" 2>"$folder/error" || wrong+=" walk $seed fails;"
         check_written "walk $seed" "$folder/record"
         cat "$folder/schedule" >>"$folder/schedules"
     done

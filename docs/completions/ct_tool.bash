@@ -23,10 +23,11 @@ _ct_tool_words() {
         operands='file'
         ;;
     find)
-        options='--members --turns --rate --cells --submit --crash --postpone --lose --repeat --batch --every --goal --seeds'
-        options+=' --jobs --quiet --count --json --best --tries --record -h --help'
+        options='--members --turns --rate --cells --submit --crash --postpone --lose --repeat --batch --every --scatter'
+        options+=' --lasting --crashes --cut --goal --seeds --jobs --quiet --count --json --best --tries --record -h --help'
         values='--members=any --turns=any --rate=any --cells=any --submit=any --crash=any --postpone=any --lose=any'
-        values+=' --repeat=any --batch=any --every=any --goal=any+ --seeds=any --jobs=any --best=any --tries=any'
+        values+=' --repeat=any --batch=any --every=any --scatter=any --lasting=any --crashes=any --cut=any --goal=any+'
+        values+=' --seeds=any --jobs=any --best=any --tries=any'
         operands=''
         ;;
     interact)
@@ -70,10 +71,11 @@ _ct_tool_words() {
         operands='file'
         ;;
     walk)
-        options='--members --turns --seed --rate --cells --submit --crash --postpone --lose --repeat --batch --every --until'
-        options+=' --find --seeds -h --help'
+        options='--members --turns --seed --rate --cells --submit --crash --postpone --lose --repeat --batch --every --scatter'
+        options+=' --lasting --crashes --cut --until --find --seeds -h --help'
         values='--members=any --turns=any --seed=any --rate=any --cells=any --submit=any --crash=any --postpone=any --lose=any'
-        values+=' --repeat=any --batch=any --every=any --until=any+ --find=any+ --seeds=any'
+        values+=' --repeat=any --batch=any --every=any --scatter=any --lasting=any --crashes=any --cut=any --until=any+'
+        values+=' --find=any+ --seeds=any'
         operands=''
         ;;
     help)

@@ -41,7 +41,9 @@ options_text o =
     ∷ option_text (codes "cells") run.cells 64 ∷ option_text (codes "submit") run.submit 8
     ∷ option_text (codes "crash") run.crash 0 ∷ option_text (codes "postpone") run.postpone 0
     ∷ option_text (codes "lose") run.lose 0 ∷ option_text (codes "repeat") run.repeat 0
-    ∷ option_text (codes "batch") run.batch MAX_BOUND ∷ option_text (codes "every") o.every 0 ∷ codes " " ∷ [])
+    ∷ option_text (codes "batch") run.batch MAX_BOUND ∷ option_text (codes "every") o.every 0
+    ∷ option_text (codes "scatter") o.scatter 0 ∷ option_text (codes "lasting") o.lasting 0
+    ∷ option_text (codes "crashes") o.crashes 0 ∷ option_text (codes "cut") o.cuts 0 ∷ codes " " ∷ [])
 
 -- a byte as it stands in single quotes for a shell: for such a quote the end of them, one by itself, and their beginning anew
 abbrev pub quoted_byte : ℕ → List ℕ

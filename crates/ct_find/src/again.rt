@@ -48,7 +48,7 @@ impl fmt::Display for Options<'_> {
         let run = &options.run;
         write!(
             f,
-            "{}{}{}{}{}{}{}{}{}{} ",
+            "{}{}{}{}{}{}{}{}{}{}{}{}{}{} ",
             Unusual("turns", run.turns, 1000),
             Unusual("rate", run.rate as u32, 64),
             Unusual("cells", run.cells as u32, 64),
@@ -58,7 +58,11 @@ impl fmt::Display for Options<'_> {
             Unusual("lose", run.lose as u32, 0),
             Unusual("repeat", run.repeat as u32, 0),
             Unusual("batch", run.batch, MAX_BOUND),
-            Unusual("every", options.every, 0)
+            Unusual("every", options.every, 0),
+            Unusual("scatter", options.scatter as u32, 0),
+            Unusual("lasting", options.lasting as u32, 0),
+            Unusual("crashes", options.crashes as u32, 0),
+            Unusual("cut", options.cuts as u32, 0)
         )
     }
 }

@@ -36,7 +36,7 @@ answers_if false own more = refl
 
 pub answers_first : (p : ℕ) (turn : WalkTurn) (turns : List WalkTurn) →
     answers_to p (turn ∷ turns) ≡ answers_to p (turn ∷ []) ++ answers_to p turns
-answers_first p (OfMember q said) turns = answers_if (p == q) (option_to_list said) (answers_to p turns)
+answers_first p (OfMember q said suspects serial) turns = answers_if (p == q) (option_to_list said) (answers_to p turns)
 answers_first p (OfScript i entry) turns = refl
 
 -- ---- detectors after a turn

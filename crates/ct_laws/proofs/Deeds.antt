@@ -148,8 +148,8 @@ if_so true p t u h = (refl, cc h)
 if_so false p t u h = absurd (cc h)
 
 said_of : (s t : Played) (p : ℕ) (act : Act) (text : List ℕ) (step : Step) → step_of s.rehearsal p act ≡ Ok step →
-    is_stated (stated_text t.rehearsal step) text ≡ true → t.rehearsal ≡ behind s.rehearsal (step ∷ []) → (steps : List Step) → steps ≡ step ∷ [] →
-    IsSaid act text s.rehearsal p steps
+    is_stated (stated_text t.rehearsal step) text ≡ true → t.rehearsal ≡ behind s.rehearsal (step ∷ []) →
+    (steps : List Step) → steps ≡ step ∷ [] → IsSaid act text s.rehearsal p steps
 said_of s t p act text step is came at steps so = (step, is, ap (λ w. is_stated (stated_text w step) text) (sym at) ∙ came, so)
 
 said_grows : (s t : Played) (p : ℕ) (act : Act) (text : List ℕ) → done_so act text s p ≡ Ok t → Grows (IsSaid act text s.rehearsal p) s t

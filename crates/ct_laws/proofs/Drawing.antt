@@ -1,7 +1,8 @@
 -- Walks, turn by turn.
-use Rattle.std.proofs.Common.{◌≡◌, ◌+◌, ◌-◌, ℕ, zero, suc, Bool, true, false, List, [], ◌∷◌, ◌++◌, refl, ap, sym, ◌∙◌, subst}
+use Rattle.std.proofs.Common.{◌≡◌, ◌+◌, ◌-◌, ℕ, zero, suc, Bool, true, false, List, [], ◌∷◌, ◌++◌, refl, ap, sym, ◌∙◌, subst, arith}
 use Rattle.std.proofs.lemmas.List.{append_cancel_left}
-use Rattle.std.specs.Prelude.{◌%◌, if◌then◌else◌, nat_lt, Option, Some, None, is_none, option_map, slice_get, ⊤}
+use Rattle.std.specs.Prelude.{◌%◌, ◌==◌, ◌&&◌, not, get_or, if◌then◌else◌, nat_lt, Option, Some, None, is_none, option_map, slice_get, ⊤}
+use Rattle.rand_pcg.specs.Lcg.{Lcg}
 use Rattle.ct_names.specs.Prefix.{IsPrefix}
 use Rattle.ct_names.specs.declared.refusal.Refusal.{Refusal}
 use Rattle.ct_model.specs.Cause.{cause}
@@ -11,22 +12,24 @@ use Rattle.ct_model.specs.declared.step.Step.TheVariants as step
 use Rattle.ct_world.specs.Driving.{next_local}
 use Rattle.ct_detect.specs.Seeded.{SeededState, after_word, next_word}
 use Rattle.ct_detect.specs.declared.ask.Ask.{Ask}
-use Rattle.ct_choices.specs.Choices.{after_try, ask_of, chosen, first_waiting, has_crashed, question, receives, tried}
+use Rattle.ct_choices.specs.Choices.{after_try, chosen, first_waiting, has_crashed, question, receives}
 use Rattle.ct_rehearse.specs.Entries.{entry_step}
 use Rattle.ct_rehearse.specs.declared.disturbance.Disturbance.{Disturbance}
 use Rattle.ct_rehearse.specs.declared.disturbance.Disturbance.TheVariants as entry
 use Rattle.ct_grammar.specs.declared.goal.Goal.{Goal}
 use Rattle.ct_program.specs.FreeOptions.{setting_of}
 use Rattle.ct_program.specs.Seeding.{first_detectors}
-use Rattle.ct_program.specs.declared.free_options.FreeOptions.{FreeOptions}
 use Rattle.ct_play.specs.Played.{Played}
 use Rattle.ct_walk.specs.Shown.{is_shown_by}
-use Rattle.ct_walk.specs.Walking.{Walk, after_answer, after_entry, after_script, answer, drawn, drawn_scripts, driven, entered}
-use Rattle.ct_walk.specs.Walking.{is_due, left_of, made_by, most_turns, start, turned, walked, walked_for, workers}
+use Rattle.ct_walk.specs.Adversary.{after_place, after_suspicion, at_ask, is_rare, may_last, suspects_by, tries}
+use Rattle.ct_walk.specs.Walking.{Walk, after_chance, after_entry, after_script, answer, changed, changed_now, drawn, drawn_scripts}
+use Rattle.ct_walk.specs.Walking.{driven, entered, has_left, is_due, is_struck, lasts, left_of, made_by, may_change, most_turns}
+use Rattle.ct_walk.specs.Walking.{receives_at, start, suspects, turned, walked, walked_for, workers}
 use Rattle.ct_walk.specs.declared.options.WalkOptions.{WalkOptions}
 use Rattle.ct_laws.specs.Places.{AreAllowed, behind}
 use Rattle.ct_laws.specs.Walks.{HaveNoSuspicion, is_suspicion}
 use Rattle.ct_laws.proofs.Deeds.{Grows, grows_not, grows_on}
+use Rattle.ct_laws.proofs.Lasting.{AreFalse, all_false, false_set, false_there, suspects_yes}
 use Rattle.ct_laws.proofs.Rates.{AllRated, never_yes, rated_first, rated_there, still_rated}
 
 -- ---- what is tried without a yes
@@ -60,10 +63,10 @@ if_calm : (c : Bool) (o : Option Step) → IsCalm o → IsCalm (if c then None e
 if_calm true o h = tt
 if_calm false o h = h
 
-tried_calm : (w : Rehearsal) (p : ℕ) (ask : Ask) → IsCalm (tried w p (Some (ask, false)))
-unfolding tried
-tried_calm w p ask =
-    if_calm (has_crashed w p) (chosen p (first_waiting w p) false (next_local w p)) (chosen_calm p (first_waiting w p) (next_local w p))
+tries_calm : (w : Rehearsal) (p : ℕ) (serial : Option ℕ) → IsCalm (tries w p serial false)
+unfolding tries
+tries_calm w p serial =
+    if_calm (has_crashed w p) (chosen p serial false (next_local w p)) (chosen_calm p serial (next_local w p))
 
 postpone_calm : (p : ℕ) (o : Option ℕ) → IsCalm (option_map (step.Postpone p) o)
 postpone_calm p None = tt
@@ -137,14 +140,14 @@ try_goes quiet w (Some step) h = free_goes quiet w step (cause w step) refl h
 
 -- ---- detectors of rate 0
 
-abbrev AreSilent : Bool → List SeededState → Type 0
-AreSilent true ds = AllRated 0 ds
-AreSilent false ds = ⊤
+-- and nobody was suspected
+record IsSilent (w : Walk) : Type 0 where
+  pub rated : AllRated 0 w.detectors
+  pub none : AreFalse w.suspected
 
-answered_silent : (quiet : Bool) (ds : List SeededState) (p : ℕ) (ask : Option Ask) → AreSilent quiet ds →
-    AreSilent quiet (after_answer ds p ask (slice_get ds (p - 1)))
-answered_silent true ds p ask h = still_rated 0 ds p ask h
-answered_silent false ds p ask h = tt
+abbrev AreSilent : Bool → Walk → Type 0
+AreSilent true w = IsSilent w
+AreSilent false w = ⊤
 
 never_answers : (ds : List SeededState) (p : ℕ) (ask : Option Ask) (o : Option SeededState) → slice_get ds (p - 1) ≡ o → AllRated 0 ds →
     answer ask o ≡ false
@@ -152,34 +155,74 @@ never_answers ds p None o is h = refl
 never_answers ds p (Some ask) None is h = refl
 never_answers ds p (Some ask) (Some d) is h = never_yes d (rated_there 0 ds (p - 1) d h is)
 
-tried_no : (w : Rehearsal) (p : ℕ) (ask : Ask) (yes : Bool) → yes ≡ false → IsCalm (tried w p (Some (ask, yes)))
-tried_no w p ask true nay = absurd (cc)
-tried_no w p ask false nay = tried_calm w p ask
+tries_no : (w : Rehearsal) (p : ℕ) (serial : Option ℕ) (yes : Bool) → yes ≡ false → IsCalm (tries w p serial yes)
+tries_no w p serial true nay = absurd (cc)
+tries_no w p serial false nay = tries_calm w p serial
 
-tried_quiet : (quiet : Bool) (w : Rehearsal) (p : ℕ) (ask : Ask) (asks : Option Ask) (ds : List SeededState) → AreSilent quiet ds →
-    IsQuiet quiet (tried w p (Some (ask, answer asks (slice_get ds (p - 1)))))
-tried_quiet true w p ask asks ds h =
-    tried_no w p ask (answer asks (slice_get ds (p - 1))) (never_answers ds p asks (slice_get ds (p - 1)) refl h)
-tried_quiet false w p ask asks ds h = tt
+third : (a b c : Bool) → c ≡ false → (a && (b && c)) ≡ false
+third a b c h = grind arith
+
+none_lasts : (o : WalkOptions) (s : List Bool) (asks : Option Ask) (said : Bool) → AreFalse s → may_last o s asks said ≡ false
+none_lasts o s None said h = refl
+none_lasts o s (Some ask) said h = third (not (o.lasting == 0)) (not said) (get_or s (at_ask ask) false) (false_there s (at_ask ask) h)
+
+nay_by : (o : WalkOptions) (draws : Lcg) (lasts said : Bool) → lasts ≡ false → said ≡ false → suspects_by o draws lasts said ≡ false
+nay_by o draws true said h k = absurd (cc)
+nay_by o draws false said h k = k
+
+never_suspects : (o : WalkOptions) (w : Walk) (p : ℕ) → IsSilent w → suspects o w p ≡ false
+never_suspects o w p h =
+    let asks = question w.rehearsal p in
+    let said = answer asks (slice_get w.detectors (p - 1)) in
+    nay_by o (after_place o w.draws) (lasts o w p) said (none_lasts o w.suspected asks said h.none)
+    (never_answers w.detectors p asks (slice_get w.detectors (p - 1)) refl h.rated)
+
+tries_quiet : (quiet : Bool) (o : WalkOptions) (w : Walk) (p : ℕ) (serial : Option ℕ) → AreSilent quiet w →
+    IsQuiet quiet (tries w.rehearsal p serial (suspects o w p))
+tries_quiet true o w p serial h = tries_no w.rehearsal p serial (suspects o w p) (never_suspects o w p h)
+tries_quiet false o w p serial h = tt
+
+still_false : (s : List Bool) (asks : Option Ask) (b : Bool) → AreFalse s → b ≡ false → AreFalse (after_suspicion s asks b)
+still_false s None b h nay = h
+still_false s (Some ask) b h nay = false_set s (at_ask ask) b h nay
+
+driven_silent : (quiet : Bool) (o : WalkOptions) (w : Walk) (p : ℕ) → AreSilent quiet w → AreSilent quiet (driven o w p)
+unfolding driven
+driven_silent true o w p h = record {
+  rated = still_rated 0 w.detectors p (question w.rehearsal p) h.rated;
+  none = still_false w.suspected (question w.rehearsal p) (suspects o w p) h.none (never_suspects o w p h);
+}
+driven_silent false o w p h = tt
+
+-- of one with the same detectors and suspicions
+same_silent : (quiet : Bool) (w v : Walk) → v.detectors ≡ w.detectors → v.suspected ≡ w.suspected → AreSilent quiet w → AreSilent quiet v
+same_silent true w v detectors suspected h = record {
+  rated = subst (λ (ds : List SeededState). AllRated 0 ds) (sym detectors) h.rated;
+  none = subst (λ (s : List Bool). AreFalse s) (sym suspected) h.none;
+}
+same_silent false w v detectors suspected h = tt
 
 -- ---- turns
 
 -- after a walk went on
 record HasGone (quiet : Bool) (w v : Walk) : Type 0 where
   pub goes : Goes quiet w.rehearsal v.rehearsal
-  pub silent : AreSilent quiet v.detectors
+  pub silent : AreSilent quiet v
 
-stays : (quiet : Bool) (w : Walk) → AreSilent quiet w.detectors → HasGone quiet w w
-stays quiet w h = record { goes = goes_not quiet w.rehearsal; silent = h }
+stays : (quiet : Bool) (w v : Walk) → v.rehearsal ≡ w.rehearsal → v.detectors ≡ w.detectors → v.suspected ≡ w.suspected →
+    AreSilent quiet w → HasGone quiet w v
+stays quiet w v same detectors suspected h = record {
+  goes = subst (λ (r : Rehearsal). Goes quiet w.rehearsal r) (sym same) (goes_not quiet w.rehearsal);
+  silent = same_silent quiet w v detectors suspected h;
+}
 
-driven_on : (quiet : Bool) (w : Walk) (p : ℕ) → AreSilent quiet w.detectors → HasGone quiet w (driven w p)
+driven_on : (quiet : Bool) (o : WalkOptions) (w : Walk) (p : ℕ) → AreSilent quiet w → HasGone quiet w (driven o w p)
 unfolding driven
-driven_on quiet w p h =
-    let asks = question w.rehearsal p in
-    let step = tried w.rehearsal p (Some (ask_of w.rehearsal p, answer asks (slice_get w.detectors (p - 1)))) in
+driven_on quiet o w p h =
+    let step = tries w.rehearsal p (receives_at o w p) (suspects o w p) in
     record {
-      goes = try_goes quiet w.rehearsal step (tried_quiet quiet w.rehearsal p (ask_of w.rehearsal p) asks w.detectors h);
-      silent = answered_silent quiet w.detectors p asks h;
+      goes = try_goes quiet w.rehearsal step (tries_quiet quiet o w p (receives_at o w p) h);
+      silent = driven_silent quiet o w p h;
     }
 
 quiet_of : (quiet : Bool) (o : Option Step) → IsCalm o → IsQuiet quiet o
@@ -190,41 +233,78 @@ entry_goes : (quiet : Bool) (w : Rehearsal) (o : Option Disturbance) → Goes qu
 entry_goes quiet w None = goes_not quiet w
 entry_goes quiet w (Some e) = try_goes quiet w (entry_step w e) (quiet_of quiet (entry_step w e) (entry_calm w e))
 
-entered_on : (quiet : Bool) (w : Walk) (i : ℕ) → AreSilent quiet w.detectors → HasGone quiet w (entered w i)
+entered_on : (quiet : Bool) (w : Walk) (i : ℕ) → AreSilent quiet w → HasGone quiet w (entered w i)
 unfolding entered
-entered_on quiet w i h = record { goes = entry_goes quiet w.rehearsal (slice_get (left_of w i) 0); silent = h }
+entered_on quiet w i h = record {
+  goes = entry_goes quiet w.rehearsal (slice_get (left_of w i) 0);
+  silent = same_silent quiet w (entered w i) refl refl h;
+}
 
-script_on : (quiet : Bool) (w : Walk) (o : Option ℕ) → AreSilent quiet w.detectors → HasGone quiet w (after_script w o)
-script_on quiet w None h = stays quiet w h
+script_on : (quiet : Bool) (w : Walk) (o : Option ℕ) → AreSilent quiet w → HasGone quiet w (after_script w o)
+script_on quiet w None h = stays quiet w w refl refl refl h
 script_on quiet w (Some i) h = entered_on quiet w i h
 
 if_on : (quiet c : Bool) (w u v : Walk) → HasGone quiet w u → HasGone quiet w v → HasGone quiet w (if c then u else v)
 if_on quiet true w u v h k = h
 if_on quiet false w u v h k = k
 
-made_on : (quiet : Bool) (every : ℕ) (w : Walk) (k : ℕ) → AreSilent quiet w.detectors → HasGone quiet w (made_by every w k)
+made_on : (quiet : Bool) (o : WalkOptions) (w : Walk) (k : ℕ) → AreSilent quiet w → HasGone quiet w (made_by o w k)
 unfolding made_by
-made_on quiet every w k h =
+made_on quiet o w k h =
     let n = w.rehearsal.setting.members in
-    let i = slice_get (drawn_scripts every w) (k - n) in
-    if_on quiet (nat_lt k n) w (driven w (k + 1)) (after_script w i) (driven_on quiet w (k + 1) h) (script_on quiet w i h)
+    let i = slice_get (drawn_scripts o w) (k - n) in
+    if_on quiet (nat_lt k n) w (driven o w (k + 1)) (after_script w i) (driven_on quiet o w (k + 1) h) (script_on quiet w i h)
 
-drawn_on : (quiet : Bool) (every : ℕ) (w : Walk) → AreSilent quiet w.detectors → HasGone quiet w (drawn every w)
+drawn_on : (quiet : Bool) (o : WalkOptions) (w : Walk) → AreSilent quiet w → HasGone quiet w (drawn o w)
 unfolding drawn
-drawn_on quiet every w h =
-    let gone = made_on quiet every (record w { draws = after_word w.draws }) (next_word w.draws % workers every w) h in
+drawn_on quiet o w h =
+    let v = record w { draws = after_word w.draws } in
+    let gone = made_on quiet o v (next_word w.draws % workers o w) (same_silent quiet w v refl refl h) in
     record { goes = gone.goes; silent = gone.silent }
 
-turned_on : (quiet : Bool) (every number : ℕ) (w : Walk) → AreSilent quiet w.detectors → HasGone quiet w (turned every number w)
+gone_on : (quiet : Bool) (u v w : Walk) → HasGone quiet u v → HasGone quiet v w → HasGone quiet u w
+gone_on quiet u v w g h = record { goes = goes_on quiet u.rehearsal v.rehearsal w.rehearsal g.goes h.goes; silent = h.silent }
+
+changed_on : (quiet : Bool) (w : Walk) → AreSilent quiet w → HasGone quiet w (changed_now w)
+unfolding changed_now
+changed_on quiet w h =
+    let v = record w { draws = after_word w.draws } in
+    let cuts = record v { cut = next_word v.draws % 65536; cuts = v.cuts - 1; draws = after_word v.draws } in
+    if_on quiet (may_change w) w (if is_rare (next_word w.draws) then changed v else v) w
+    (if_on quiet (is_rare (next_word w.draws)) w (changed v) v
+    (if_on quiet (v.cut == 0) w cuts (record v { cut = 0 }) (stays quiet w cuts refl refl refl h)
+    (stays quiet w (record v { cut = 0 }) refl refl refl h))
+    (stays quiet w v refl refl refl h))
+    (stays quiet w w refl refl refl h)
+
+chance_on : (quiet : Bool) (w : Walk) → AreSilent quiet w → HasGone quiet w (after_chance w)
+unfolding after_chance
+chance_on quiet w h =
+    if_on quiet (has_left w 4) w (record w { draws = after_word w.draws }) w
+    (stays quiet w (record w { draws = after_word w.draws }) refl refl refl h) (stays quiet w w refl refl refl h)
+
+-- before the turn itself
+before_on : (quiet : Bool) (w : Walk) → AreSilent quiet w → HasGone quiet w (after_chance (changed_now w))
+before_on quiet w h =
+    let changed = changed_on quiet w h in
+    gone_on quiet w (changed_now w) (after_chance (changed_now w)) changed (chance_on quiet (changed_now w) changed.silent)
+
+turned_on : (quiet : Bool) (o : WalkOptions) (number : ℕ) (w : Walk) → AreSilent quiet w → HasGone quiet w (turned o number w)
 unfolding turned
-turned_on quiet every number w h =
-    if_on quiet (is_due every number w) w (entered w 0) (drawn every w) (entered_on quiet w 0 h) (drawn_on quiet every w h)
+turned_on quiet o number w h =
+    let u = after_chance (changed_now w) in
+    let before = before_on quiet w h in
+    let rest = if is_due o number u then entered u 0 else drawn o u in
+    let struck = is_struck (changed_now w) in
+    gone_on quiet w u (if struck then entered u 4 else rest) before
+    (if_on quiet struck u (entered u 4) rest (entered_on quiet u 4 before.silent)
+    (if_on quiet (is_due o number u) u (entered u 0) (drawn o u) (entered_on quiet u 0 before.silent) (drawn_on quiet o u before.silent)))
 
 -- the steps of a record begin those after a turn
-pub turn_begins : (every number : ℕ) (w : Walk) → IsPrefix w.rehearsal.steps (turned every number w).rehearsal.steps
+pub turn_begins : (o : WalkOptions) (number : ℕ) (w : Walk) → IsPrefix w.rehearsal.steps (turned o number w).rehearsal.steps
 unfolding Goes
-turn_begins every number w =
-    let g = (turned_on false every number w tt).goes in
+turn_begins o number w =
+    let g = (turned_on false o number w tt).goes in
     (g.steps, sym (ap (λ (v : Rehearsal). v.steps) g.is))
 
 -- ---- the walk
@@ -234,24 +314,28 @@ if_goes : (quiet c : Bool) (w : Rehearsal) (u v : Walk) → Goes quiet w u.rehea
 if_goes quiet true w u v h k = h
 if_goes quiet false w u v h k = k
 
-walk_goes : (quiet : Bool) (every made more : ℕ) (w : Walk) → AreSilent quiet w.detectors →
-    Goes quiet w.rehearsal (walked_for every made more w).rehearsal
+walk_goes : (quiet : Bool) (o : WalkOptions) (made more : ℕ) (w : Walk) → AreSilent quiet w →
+    Goes quiet w.rehearsal (walked_for o made more w).rehearsal
 unfolding walked_for
-walk_goes quiet every made zero w h = goes_not quiet w.rehearsal
-walk_goes quiet every made (suc more) w h =
-    let v = turned every (made + 1) w in
-    let gone = turned_on quiet every (made + 1) w h in
-    let rest = walked_for every (made + 1) more v in
+walk_goes quiet o made zero w h = goes_not quiet w.rehearsal
+walk_goes quiet o made (suc more) w h =
+    let v = turned o (made + 1) w in
+    let gone = turned_on quiet o (made + 1) w h in
+    let rest = walked_for o (made + 1) more v in
     if_goes quiet (is_shown_by v.until v.rehearsal) w.rehearsal v rest gone.goes
-    (goes_on quiet w.rehearsal v.rehearsal rest.rehearsal gone.goes (walk_goes quiet every (made + 1) more v gone.silent))
+    (goes_on quiet w.rehearsal v.rehearsal rest.rehearsal gone.goes (walk_goes quiet o (made + 1) more v gone.silent))
 
-never_first : (o : FreeOptions) → o.rate ≡ 0 → AllRated 0 (first_detectors o o.members)
-never_first o h = subst (λ rate. AllRated rate (first_detectors o o.members)) h (rated_first o o.members)
+first_silent : (o : WalkOptions) (until : Option Goal) → o.run.rate ≡ 0 → IsSilent (start o until)
+unfolding start
+first_silent o until h = record {
+  rated = subst (λ rate. AllRated rate (first_detectors o.run o.run.members)) h (rated_first o.run o.run.members);
+  none = all_false 256;
+}
 
-walked_goes : (quiet : Bool) (o : WalkOptions) (until : Option Goal) → AreSilent quiet (first_detectors o.run o.run.members) →
+walked_goes : (quiet : Bool) (o : WalkOptions) (until : Option Goal) → AreSilent quiet (start o until) →
     Goes quiet (empty (setting_of o.run) o.run.cells) (walked o until)
 unfolding walked start
-walked_goes quiet o until h = walk_goes quiet o.every 0 (most_turns o.run) (start o.run until) h
+walked_goes quiet o until h = walk_goes quiet o 0 (most_turns o) (start o until) h
 
 steps_of : (quiet : Bool) (o : WalkOptions) (until : Option Goal) (g : Goes quiet (empty (setting_of o.run) o.run.cells) (walked o until)) →
     AreAllowed (empty (setting_of o.run) o.run.cells) (walked o until).steps × AreQuiet quiet (walked o until).steps
@@ -264,16 +348,21 @@ pub walk_allowed : (o : WalkOptions) (until : Option Goal) → AreAllowed (empty
 walk_allowed o until = (steps_of false o until (walked_goes false o until tt)).0
 
 pub walk_quiet : (o : WalkOptions) (until : Option Goal) → o.run.rate ≡ 0 → HaveNoSuspicion (walked o until).steps
-walk_quiet o until h = (steps_of true o until (walked_goes true o until (never_first o.run h))).1
+walk_quiet o until h = (steps_of true o until (walked_goes true o until (first_silent o until h))).1
 
--- ---- a member whose detector says no
+-- ---- a member that doesn't suspect, and one whose detector says yes
 
-pub only_asked : (w : Walk) (p : ℕ) (steps : List Step) → answer (question w.rehearsal p) (slice_get w.detectors (p - 1)) ≡ false →
-    (driven w p).rehearsal ≡ behind w.rehearsal steps → HaveNoSuspicion steps
+pub only_asked : (o : WalkOptions) (w : Walk) (p : ℕ) (steps : List Step) → suspects o w p ≡ false →
+    (driven o w p).rehearsal ≡ behind w.rehearsal steps → HaveNoSuspicion steps
 unfolding driven Goes
-only_asked w p steps nay is =
-    let step = tried w.rehearsal p (Some (ask_of w.rehearsal p, answer (question w.rehearsal p) (slice_get w.detectors (p - 1)))) in
-    let g = try_goes true w.rehearsal step
-    (tried_no w.rehearsal p (ask_of w.rehearsal p) (answer (question w.rehearsal p) (slice_get w.detectors (p - 1))) nay) in
+only_asked o w p steps nay is =
+    let step = tries w.rehearsal p (receives_at o w p) (suspects o w p) in
+    let g = try_goes true w.rehearsal step (tries_no w.rehearsal p (receives_at o w p) (suspects o w p) nay) in
     let same : w.rehearsal.steps ++ g.steps ≡ w.rehearsal.steps ++ steps = ap (λ (v : Rehearsal). v.steps) (sym g.is ∙ is) in
     subst (λ l. HaveNoSuspicion l) (append_cancel_left w.rehearsal.steps g.steps steps same) g.so
+
+pub says_so : (o : WalkOptions) (w : Walk) (p : ℕ) → answer (question w.rehearsal p) (slice_get w.detectors (p - 1)) ≡ true →
+    suspects o w p ≡ true
+says_so o w p h =
+    suspects_yes o (after_place o w.draws) w.suspected (question w.rehearsal p)
+    (answer (question w.rehearsal p) (slice_get w.detectors (p - 1))) h

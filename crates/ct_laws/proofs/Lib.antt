@@ -3,12 +3,13 @@ pub mod ArrowLists
 pub mod ArrowTexts
 pub mod ArrowWays
 pub mod Deeds
-pub mod Expecting
 pub mod Documents
 pub mod Drawing
 pub mod DrawnArrows
 pub mod DrawnTexts
+pub mod Expecting
 pub mod Hearing
+pub mod Lasting
 pub mod LetterFacts
 pub mod MemberFacts
 pub mod MildTexts
@@ -20,6 +21,7 @@ pub mod Rates
 pub mod Reader
 pub mod Reading
 pub mod Reasons
+pub mod Receiving
 pub mod Records
 pub mod Refusing
 pub mod Righting

@@ -2,17 +2,17 @@
 use Rattle.std.proofs.Common.{◌≡◌, ◌⊎◌, inl, inr, ◌<◌, ◌≤◌, ◌+◌, ◌-◌, ℕ, zero, suc, Bool, true, false, List, ◌++◌, refl, ap, sym, ◌∙◌}
 use Rattle.std.proofs.Common.{subst, append-nil, append_assoc, arith}
 use Rattle.std.proofs.Math.Nat.{eq-or-lt_of_le}
-use Rattle.std.specs.Prelude.{◌%◌, if◌then◌else◌, Option, Some, None}
+use Rattle.std.specs.Prelude.{◌%◌, ◌==◌, if◌then◌else◌, Option, Some, None}
 use Rattle.ct_names.specs.Prefix.{IsPrefix}
 use Rattle.ct_model.specs.Rehearsal.{Rehearsal}
 use Rattle.ct_model.specs.declared.step.Step.{Step}
 use Rattle.ct_detect.specs.Seeded.{after_word, next_word}
 use Rattle.ct_grammar.specs.declared.goal.Goal.{Goal}
-use Rattle.ct_program.specs.declared.free_options.FreeOptions.{FreeOptions}
 use Rattle.ct_play.specs.Goals.{is_shown}
 use Rattle.ct_walk.specs.Shown.{is_shown_by}
-use Rattle.ct_walk.specs.Walking.{Walk, after_script, drawn, driven, entered, is_due, made_by, most_turns, start, turned, walked}
-use Rattle.ct_walk.specs.Walking.{walked_for, workers}
+use Rattle.ct_walk.specs.Adversary.{is_rare}
+use Rattle.ct_walk.specs.Walking.{Walk, after_chance, after_script, after_turn, changed_now, drawn, driven, entered, has_left, is_due}
+use Rattle.ct_walk.specs.Walking.{is_struck, made_by, may_change, most_turns, start, turned, walked, walked_for, workers}
 use Rattle.ct_walk.specs.declared.options.WalkOptions.{WalkOptions}
 use Rattle.ct_laws.specs.Untils.{IsFirstTurn, IsUntil, ShowsNowhere, after_turns, record_at}
 use Rattle.ct_laws.proofs.Drawing.{turn_begins}
@@ -27,9 +27,9 @@ either_until : (b : Bool) (g : Option Goal) (x y v w : Walk) → v ≡ until g x
 either_until true g x y v w h k = h
 either_until false g x y v w h k = k
 
-driven_until : (g : Option Goal) (w : Walk) (p : ℕ) → driven (until g w) p ≡ until g (driven w p)
+driven_until : (g : Option Goal) (o : WalkOptions) (w : Walk) (p : ℕ) → driven o (until g w) p ≡ until g (driven o w p)
 unfolding driven
-driven_until g w p = refl
+driven_until g o w p = refl
 
 entered_until : (g : Option Goal) (w : Walk) (i : ℕ) → entered (until g w) i ≡ until g (entered w i)
 unfolding entered
@@ -39,29 +39,48 @@ script_until : (g : Option Goal) (w : Walk) (o : Option ℕ) → after_script (u
 script_until g w None = refl
 script_until g w (Some i) = entered_until g w i
 
-made_until : (g : Option Goal) (every : ℕ) (w : Walk) (k : ℕ) → made_by every (until g w) k ≡ until g (made_by every w k)
+made_until : (g : Option Goal) (o : WalkOptions) (w : Walk) (k : ℕ) → made_by o (until g w) k ≡ until g (made_by o w k)
 unfolding made_by
-made_until g every w k = either_until _ g _ _ _ _ (driven_until g w (k + 1)) (script_until g w _)
+made_until g o w k = either_until _ g _ _ _ _ (driven_until g o w (k + 1)) (script_until g w _)
 
-drawn_until : (g : Option Goal) (every : ℕ) (w : Walk) → drawn every (until g w) ≡ until g (drawn every w)
+drawn_until : (g : Option Goal) (o : WalkOptions) (w : Walk) → drawn o (until g w) ≡ until g (drawn o w)
 unfolding drawn workers
-drawn_until g every w = made_until g every (record w { draws = after_word w.draws }) (next_word w.draws % workers every w)
+drawn_until g o w = made_until g o (record w { draws = after_word w.draws }) (next_word w.draws % workers o w)
 
-turned_until : (g : Option Goal) (every number : ℕ) (w : Walk) → turned every number (until g w) ≡ until g (turned every number w)
-unfolding turned is_due
-turned_until g every number w = either_until _ g _ _ _ _ (entered_until g w 0) (drawn_until g every w)
+changed_until : (g : Option Goal) (w : Walk) → changed_now (until g w) ≡ until g (changed_now w)
+unfolding changed_now
+changed_until g w =
+    either_until (may_change w) g _ _ _ _
+    (either_until (is_rare (next_word w.draws)) g _ _ _ _ (either_until (w.cut == 0) g _ _ _ _ refl refl) refl) refl
 
-start_until : (o : FreeOptions) (g : Option Goal) → start o g ≡ until g (start o None)
+chance_until : (g : Option Goal) (w : Walk) → after_chance (until g w) ≡ until g (after_chance w)
+unfolding after_chance
+chance_until g w = either_until (has_left w 4) g _ _ _ _ refl refl
+
+after_until : (g : Option Goal) (o : WalkOptions) (number : ℕ) (struck : Bool) (w : Walk) →
+    after_turn o number struck (until g w) ≡ until g (after_turn o number struck w)
+unfolding is_due
+after_until g o number struck w =
+    either_until struck g _ _ _ _ (entered_until g w 4) (either_until _ g _ _ _ _ (entered_until g w 0) (drawn_until g o w))
+
+turned_until : (g : Option Goal) (o : WalkOptions) (number : ℕ) (w : Walk) → turned o number (until g w) ≡ until g (turned o number w)
+unfolding turned
+turned_until g o number w =
+    let v = changed_now w in
+    ap (λ x. after_turn o number (is_struck x) (after_chance x)) (changed_until g w)
+    ∙ (ap (after_turn o number (is_struck v)) (chance_until g v) ∙ after_until g o number (is_struck v) (after_chance v))
+
+start_until : (o : WalkOptions) (g : Option Goal) → start o g ≡ until g (start o None)
 unfolding start
 start_until o g = refl
 
 -- ---- where it ends
 
-next_turn : (o : WalkOptions) (k : ℕ) → after_turns o (k + 1) ≡ turned o.every (k + 1) (after_turns o k)
+next_turn : (o : WalkOptions) (k : ℕ) → after_turns o (k + 1) ≡ turned o (k + 1) (after_turns o k)
 unfolding after_turns
 next_turn o k =
     let same : suc k ≡ k + 1 = omega arith in
-    subst (λ n. after_turns o n ≡ turned o.every (k + 1) (after_turns o k)) same refl
+    subst (λ n. after_turns o n ≡ turned o (k + 1) (after_turns o k)) same refl
 
 abbrev shown_at : WalkOptions → Option Goal → ℕ → Bool
 shown_at o g turn = is_shown_by g (record_at o turn)
@@ -136,30 +155,30 @@ ends_later o g made more end here (inr e) =
     })
 
 ends_by : (o : WalkOptions) (g : Option Goal) (made more : ℕ) (v : Walk) (b : Bool) → v ≡ until g (after_turns o (made + 1)) →
-    is_shown_by v.until v.rehearsal ≡ b → Ends o g (made + 1) more (walked_for o.every (made + 1) more v) →
-    Ends o g made (suc more) (if b then v else walked_for o.every (made + 1) more v)
+    is_shown_by v.until v.rehearsal ≡ b → Ends o g (made + 1) more (walked_for o (made + 1) more v) →
+    Ends o g made (suc more) (if b then v else walked_for o (made + 1) more v)
 ends_by o g made more v true is shown later =
     inl (ends_now o g made more v is (subst (λ (x : Walk). is_shown_by x.until x.rehearsal ≡ true) is shown))
 ends_by o g made more v false is shown later =
-    ends_later o g made more (walked_for o.every (made + 1) more v)
+    ends_later o g made more (walked_for o (made + 1) more v)
     (subst (λ (x : Walk). is_shown_by x.until x.rehearsal ≡ false) is shown) later
 
 ends : (o : WalkOptions) (g : Option Goal) (more made : ℕ) (w : Walk) → w ≡ until g (after_turns o made) →
-    Ends o g made more (walked_for o.every made more w)
+    Ends o g made more (walked_for o made more w)
 unfolding walked_for
 ends o g zero made w is = subst (λ x. Ends o g made zero x) (sym is) (inr (ends_here o g made))
 ends o g (suc more) made w is =
-    let v = turned o.every (made + 1) w in
+    let v = turned o (made + 1) w in
     let next : v ≡ until g (after_turns o (made + 1)) =
-    ap (turned o.every (made + 1)) is ∙ turned_until g o.every (made + 1) (after_turns o made) ∙ ap (until g) (sym (next_turn o made)) in
+    ap (turned o (made + 1)) is ∙ turned_until g o (made + 1) (after_turns o made) ∙ ap (until g) (sym (next_turn o made)) in
     ends_by o g made more v (is_shown_by v.until v.rehearsal) next refl (ends o g more (made + 1) v next)
 
-first_walk : (o : WalkOptions) (g : Option Goal) → start o.run g ≡ until g (after_turns o 0)
+first_walk : (o : WalkOptions) (g : Option Goal) → start o g ≡ until g (after_turns o 0)
 unfolding after_turns
-first_walk o g = start_until o.run g
+first_walk o g = start_until o g
 
-walk_ends : (o : WalkOptions) (g : Option Goal) → Ends o g 0 (most_turns o.run) (walked_for o.every 0 (most_turns o.run) (start o.run g))
-walk_ends o g = ends o g (most_turns o.run) 0 (start o.run g) (first_walk o g)
+walk_ends : (o : WalkOptions) (g : Option Goal) → Ends o g 0 (most_turns o) (walked_for o 0 (most_turns o) (start o g))
+walk_ends o g = ends o g (most_turns o) 0 (start o g) (first_walk o g)
 
 -- ---- the walk without a goal
 
@@ -167,23 +186,23 @@ none_shown : (w : Rehearsal) → is_shown_by None w ≡ false
 unfolding is_shown
 none_shown w = refl
 
-whole_by : (o : WalkOptions) (end : Walk) → Ends o None 0 (most_turns o.run) end → end.rehearsal ≡ record_at o (most_turns o.run)
+whole_by : (o : WalkOptions) (end : Walk) → Ends o None 0 (most_turns o) end → end.rehearsal ≡ record_at o (most_turns o)
 whole_by o end (inl e) = absurd (cc (sym e.shows ∙ none_shown (record_at o e.turn)))
 whole_by o end (inr e) =
-    let same : 0 + most_turns o.run ≡ most_turns o.run = omega arith in
+    let same : 0 + most_turns o ≡ most_turns o = omega arith in
     ap (λ (w : Walk). w.rehearsal) e.is ∙ ap (record_at o) same
 
-pub whole : (o : WalkOptions) → walked o None ≡ record_at o (most_turns o.run)
+pub whole : (o : WalkOptions) → walked o None ≡ record_at o (most_turns o)
 unfolding walked
-whole o = whole_by o (walked_for o.every 0 (most_turns o.run) (start o.run None)) (walk_ends o None)
+whole o = whole_by o (walked_for o 0 (most_turns o) (start o None)) (walk_ends o None)
 
 -- ---- a walk until a goal
 
-first_turn : (o : WalkOptions) (goal : Goal) (end : Walk) (e : EndsAt o (Some goal) 0 (most_turns o.run) end) → IsFirstTurn o goal e.turn
+first_turn : (o : WalkOptions) (goal : Goal) (end : Walk) (e : EndsAt o (Some goal) 0 (most_turns o) end) → IsFirstTurn o goal e.turn
 unfolding is_shown
 first_turn o goal end e =
     let from : 0 < e.turn = e.from in
-    let to : e.turn ≤ 0 + most_turns o.run = e.to in
+    let to : e.turn ≤ 0 + most_turns o = e.to in
     record {
       from = omega (arith, from);
       to = omega (arith, to);
@@ -191,23 +210,23 @@ first_turn o goal end e =
       none = λ before low high. e.none before (omega (arith, low)) high;
     }
 
-nowhere : (o : WalkOptions) (goal : Goal) (end : Walk) → EndsLast o (Some goal) 0 (most_turns o.run) end → ShowsNowhere o goal
+nowhere : (o : WalkOptions) (goal : Goal) (end : Walk) → EndsLast o (Some goal) 0 (most_turns o) end → ShowsNowhere o goal
 unfolding is_shown
 nowhere o goal end e turn low high = e.none turn (omega (arith, low)) (omega (arith, high))
 
-last_turn : (o : WalkOptions) (g : Option Goal) (end : Walk) → EndsLast o g 0 (most_turns o.run) end →
-    end.rehearsal ≡ record_at o (most_turns o.run)
+last_turn : (o : WalkOptions) (g : Option Goal) (end : Walk) → EndsLast o g 0 (most_turns o) end →
+    end.rehearsal ≡ record_at o (most_turns o)
 last_turn o g end e =
-    let same : 0 + most_turns o.run ≡ most_turns o.run = omega arith in
+    let same : 0 + most_turns o ≡ most_turns o = omega arith in
     ap (λ (w : Walk). w.rehearsal) e.is ∙ ap (record_at o) same
 
-until_by : (o : WalkOptions) (goal : Goal) (end : Walk) → Ends o (Some goal) 0 (most_turns o.run) end → IsUntil o goal end.rehearsal
+until_by : (o : WalkOptions) (goal : Goal) (end : Walk) → Ends o (Some goal) 0 (most_turns o) end → IsUntil o goal end.rehearsal
 until_by o goal end (inl e) = inl (e.turn, first_turn o goal end e, ap (λ (w : Walk). w.rehearsal) e.is)
 until_by o goal end (inr e) = inr (nowhere o goal end e, last_turn o (Some goal) end e ∙ sym (whole o))
 
 pub is_until : (o : WalkOptions) (goal : Goal) → IsUntil o goal (walked o (Some goal))
 unfolding walked
-is_until o goal = until_by o goal (walked_for o.every 0 (most_turns o.run) (start o.run (Some goal))) (walk_ends o (Some goal))
+is_until o goal = until_by o goal (walked_for o 0 (most_turns o) (start o (Some goal))) (walk_ends o (Some goal))
 
 -- ---- its steps begin those of all the turns
 
@@ -220,7 +239,7 @@ begins_same a = (_, append-nil a)
 begins_turn : (o : WalkOptions) (k : ℕ) → IsPrefix (record_at o k).steps (record_at o (k + 1)).steps
 begins_turn o k =
     subst (λ (w : Walk). IsPrefix (record_at o k).steps w.rehearsal.steps) (sym (next_turn o k))
-    (turn_begins o.every (k + 1) (after_turns o k))
+    (turn_begins o (k + 1) (after_turns o k))
 
 begins_more : (o : WalkOptions) (more k : ℕ) → IsPrefix (record_at o k).steps (record_at o (k + more)).steps
 begins_more o zero k =
@@ -234,12 +253,12 @@ begins_more o (suc more) k =
 
 begins_by : (o : WalkOptions) (goal : Goal) (w : Rehearsal) → IsUntil o goal w → IsPrefix w.steps (walked o None).steps
 begins_by o goal w (inl e) =
-    let to : e.0 ≤ most_turns o.run = e.1.to in
-    let same : e.0 + (most_turns o.run - e.0) ≡ most_turns o.run = omega (arith, to) in
-    let all : IsPrefix (record_at o e.0).steps (record_at o (most_turns o.run)).steps =
-    subst (λ n. IsPrefix (record_at o e.0).steps (record_at o n).steps) same (begins_more o (most_turns o.run - e.0) e.0) in
+    let to : e.0 ≤ most_turns o = e.1.to in
+    let same : e.0 + (most_turns o - e.0) ≡ most_turns o = omega (arith, to) in
+    let all : IsPrefix (record_at o e.0).steps (record_at o (most_turns o)).steps =
+    subst (λ n. IsPrefix (record_at o e.0).steps (record_at o n).steps) same (begins_more o (most_turns o - e.0) e.0) in
     subst (λ (v : Rehearsal). IsPrefix w.steps v.steps) (sym (whole o))
-    (subst (λ (v : Rehearsal). IsPrefix v.steps (record_at o (most_turns o.run)).steps) (sym e.2) all)
+    (subst (λ (v : Rehearsal). IsPrefix v.steps (record_at o (most_turns o)).steps) (sym e.2) all)
 begins_by o goal w (inr e) = subst (λ (v : Rehearsal). IsPrefix w.steps v.steps) e.1 (begins_same w.steps)
 
 pub begins : (o : WalkOptions) (goal : Goal) → IsPrefix (walked o (Some goal)).steps (walked o None).steps

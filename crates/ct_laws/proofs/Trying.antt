@@ -1,9 +1,9 @@
 -- Walks as lists of turns.
 use Rattle.std.proofs.Common.{◌≡◌, ◌≢◌, ◌⊎◌, inl, inr, ◌<◌, ◌≤◌, ◌+◌, ◌-◌, ℕ, zero, suc, Bool, true, false, true≢false, List, [], ◌∷◌, ◌++◌}
-use Rattle.std.proofs.Common.{refl, ap, sym, ◌∙◌, subst, append_assoc, arith, drop, get_or, length, set}
+use Rattle.std.proofs.Common.{refl, ap, ap₂, sym, ◌∙◌, subst, append_assoc, arith, drop, get_or, length, set}
 use Rattle.std.proofs.Common.{get_or-set_other, get_or-set_same}
 use Rattle.std.proofs.lemmas.Bool.Decides.{nat_tests}
-use Rattle.std.specs.Prelude.{◌==◌, ◌%◌, ◌&&◌, not, if◌then◌else◌, nat_lt, Option, Some, None, is_none, option_map, slice_get}
+use Rattle.std.specs.Prelude.{◌==◌, ◌%◌, ◌&&◌, not, if◌then◌else◌, nat_lt, Option, Some, None, is_none, slice_get, unwrap_or}
 use Rattle.ct_names.specs.Group.{IsMember, is_member}
 use Rattle.ct_names.specs.declared.refusal.Refusal.{Refusal}
 use Rattle.ct_names.specs.declared.refusal.Refusal.TheVariants.{Crashed, NoSuchMember}
@@ -19,37 +19,40 @@ use Rattle.ct_world.specs.Driving.{candidates, next_local}
 use Rattle.ct_world.specs.World.{member_of}
 use Rattle.ct_detect.specs.Seeded.{SeededState, after_word, next_word}
 use Rattle.ct_detect.specs.declared.ask.Ask.{Ask}
-use Rattle.ct_choices.specs.Choices.{after_try, ask_of, asked_for, chosen, first_waiting, has_crashed, question, tried}
+use Rattle.ct_choices.specs.Choices.{after_try, ask_of, asked_for, chosen, has_crashed, question}
 use Rattle.ct_rehearse.specs.declared.disturbance.Disturbance.{Disturbance}
 use Rattle.ct_grammar.specs.declared.goal.Goal.{Goal}
 use Rattle.ct_program.specs.Seeding.{detector_of}
-use Rattle.ct_program.specs.declared.free_options.FreeOptions.{FreeOptions}
 use Rattle.ct_walk.specs.Shown.{is_shown_by}
-use Rattle.ct_walk.specs.Walking.{Walk, after_answer, after_entry, after_script, answer, drawn, drawn_scripts, driven, entered, is_due}
-use Rattle.ct_walk.specs.Walking.{left_of, made_by, most_turns, start, turned, walked, walked_for, workers}
+use Rattle.ct_walk.specs.Adversary.{after_place, is_rare, tries}
+use Rattle.ct_walk.specs.Walking.{Walk, after_answer, after_chance, after_entry, after_script, answer, changed, changed_now, drawn}
+use Rattle.ct_walk.specs.Walking.{drawn_scripts, driven, entered, has_left, is_due, is_struck, lasts, left_of, made_by, may_change}
+use Rattle.ct_walk.specs.Walking.{most_turns, receives_at, start, suspects, turned, walked, walked_for, workers}
 use Rattle.ct_walk.specs.declared.options.WalkOptions.{WalkOptions}
-use Rattle.ct_laws.specs.Tries.{AreTurns, HasTurns, IsAnswer, IsTurn, WalkTurn, after_turn, answers_to, entries_in, first_answers}
-use Rattle.ct_laws.specs.Tries.{tried_in, tries}
+use Rattle.ct_laws.specs.Tries.{AreTurns, HasTurns, IsAnswer, IsSuspicion, IsTurn, WalkTurn, after_turn, all_tries, answers_to}
+use Rattle.ct_laws.specs.Tries.{entries_in, first_answers, tried_in}
 use Rattle.ct_laws.specs.Tries.WalkTurn.{OfMember, OfScript}
 use Rattle.ct_laws.proofs.Answering.{Follows, answered, answers_first, asks_so, detector_at, follows_by, follows_not, joined_answers}
+use Rattle.ct_laws.proofs.Lasting.{never_lasts, suspects_said, suspects_yes}
 use Rattle.ct_laws.proofs.Passing.{first_passes, none_pass}
 use Rattle.ct_laws.proofs.Rates.{AllRated, always_yes, first_many, never_yes, rated_first, rated_there, still_many, still_rated}
+use Rattle.ct_laws.proofs.Receiving.{receives_first, receives_waiting}
 use Rattle.ct_laws.proofs.Turns.{IsTry, next_by}
 
 -- ---- the turns of a walk that goes on
 
 -- some turns, so many at most
-record IsMade (o : FreeOptions) (w v : Walk) (most : ℕ) : Type 0 where
+record IsMade (o : WalkOptions) (w v : Walk) (most : ℕ) : Type 0 where
   pub turns : List WalkTurn
   pub are : AreTurns o w.rehearsal turns
   pub few : length turns ≤ most
   pub left : (i : ℕ) → entries_in i turns ++ left_of v i ≡ left_of w i
   pub answers : (p : ℕ) (d : SeededState) → 1 ≤ p → slice_get w.detectors (p - 1) ≡ Some d →
       answers_to p turns ≡ first_answers d (length (answers_to p turns))
-  pub is : v.rehearsal ≡ extended_by w.rehearsal (passed w.rehearsal (tries w.rehearsal turns))
+  pub is : v.rehearsal ≡ extended_by w.rehearsal (passed w.rehearsal (all_tries w.rehearsal turns))
 
 -- one turn
-record IsOne (o : FreeOptions) (w v : Walk) : Type 0 where
+record IsOne (o : WalkOptions) (w v : Walk) : Type 0 where
   pub turn : WalkTurn
   pub fits : IsTurn o w.rehearsal turn
   pub left : (i : ℕ) → entries_in i (turn ∷ []) ++ left_of v i ≡ left_of w i
@@ -63,10 +66,10 @@ record IsNone (w v : Walk) : Type 0 where
   pub same : v.detectors ≡ w.detectors
   pub is : v.rehearsal ≡ w.rehearsal
 
-abbrev IsNext : FreeOptions → Walk → Walk → Type 0
+abbrev IsNext : WalkOptions → Walk → Walk → Type 0
 IsNext o w v = IsOne o w v ⊎ IsNone w v
 
-none_made : (o : FreeOptions) (w : Walk) (most : ℕ) → IsMade o w w most
+none_made : (o : WalkOptions) (w : Walk) (most : ℕ) → IsMade o w w most
 none_made o w most = record {
   turns = [];
   are = tt;
@@ -82,10 +85,10 @@ entries_if false e more = refl
 
 entries_first : (i : ℕ) (turn : WalkTurn) (turns : List WalkTurn) →
     entries_in i (turn ∷ turns) ≡ entries_in i (turn ∷ []) ++ entries_in i turns
-entries_first i (OfMember p answer) turns = refl
+entries_first i (OfMember p answer suspects serial) turns = refl
 entries_first i (OfScript j e) turns = entries_if (i == j) e (entries_in i turns)
 
-one_more : (o : FreeOptions) (w u v : Walk) (most : ℕ) → IsOne o w u → IsMade o u v most → IsMade o w v (suc most)
+one_more : (o : WalkOptions) (w u v : Walk) (most : ℕ) → IsOne o w u → IsMade o u v most → IsMade o w v (suc most)
 one_more o w u v most one m =
     let few : length m.turns ≤ most = m.few in
     record {
@@ -100,11 +103,11 @@ one_more o w u v most one m =
           answers_first p one.turn m.turns
           ∙ joined_answers p d (answers_to p (one.turn ∷ [])) (answers_to p m.turns) u.detectors (one.said p d low is)
           (λ e there. m.answers p e low there) ∙ ap (λ l. first_answers d (length l)) (sym (answers_first p one.turn m.turns));
-      is = subst (λ r. v.rehearsal ≡ extended_by r (passed r (tries r m.turns))) one.is m.is
-          ∙ sym (first_passes w.rehearsal (tried_in w.rehearsal one.turn) (tries (after_turn w.rehearsal one.turn) m.turns));
+      is = subst (λ r. v.rehearsal ≡ extended_by r (passed r (all_tries r m.turns))) one.is m.is
+          ∙ sym (first_passes w.rehearsal (tried_in w.rehearsal one.turn) (all_tries (after_turn w.rehearsal one.turn) m.turns));
     }
 
-none_more : (o : FreeOptions) (w u v : Walk) (most : ℕ) → IsNone w u → IsMade o u v most → IsMade o w v (suc most)
+none_more : (o : WalkOptions) (w u v : Walk) (most : ℕ) → IsNone w u → IsMade o u v most → IsMade o w v (suc most)
 none_more o w u v most none m =
     let few : length m.turns ≤ most = m.few in
     record {
@@ -113,28 +116,44 @@ none_more o w u v most none m =
       few = omega (arith, few);
       left = λ i. m.left i ∙ none.left i;
       answers = λ p d low is. m.answers p d low (ap (λ ds. slice_get ds (p - 1)) none.same ∙ is);
-      is = subst (λ r. v.rehearsal ≡ extended_by r (passed r (tries r m.turns))) none.is m.is;
+      is = subst (λ r. v.rehearsal ≡ extended_by r (passed r (all_tries r m.turns))) none.is m.is;
     }
 
-next_more : (o : FreeOptions) (w u v : Walk) (most : ℕ) → IsNext o w u → IsMade o u v most → IsMade o w v (suc most)
+next_more : (o : WalkOptions) (w u v : Walk) (most : ℕ) → IsNext o w u → IsMade o u v most → IsMade o w v (suc most)
 next_more o w u v most (inl one) m = one_more o w u v most one m
 next_more o w u v most (inr none) m = none_more o w u v most none m
 
 -- ---- the detectors
 
+-- where no cut is asked for, there is none
+abbrev IsUncut : Walk → Type 0
+IsUncut w = (w.cuts ≡ 0) × (w.cut ≡ 0)
+
+abbrev IsWhole : WalkOptions → Walk → Type 0
+IsWhole o w = o.cuts ≡ 0 → IsUncut w
+
 -- those of a walk that can go on
-record IsReady (o : FreeOptions) (w : Walk) : Type 0 where
-  pub size : w.rehearsal.setting.members ≡ o.members
-  pub many : length w.detectors ≡ o.members
-  pub rated : AllRated o.rate w.detectors
+record IsReady (o : WalkOptions) (w : Walk) : Type 0 where
+  pub size : w.rehearsal.setting.members ≡ o.run.members
+  pub many : length w.detectors ≡ o.run.members
+  pub rated : AllRated o.run.rate w.detectors
+  pub whole : IsWhole o w
 
 -- ---- a turn of a member
 
-same_try : (w : Rehearsal) (p : ℕ) (asks : Option Ask) (d : Option SeededState) →
-    tried w p (Some (ask_of w p, answer asks d)) ≡ tried w p (option_map (λ said. (ask_of w p, said)) (answered asks (answer asks d)))
-unfolding tried
-same_try w p None d = refl
-same_try w p (Some ask) d = refl
+said_is : (asks : Option Ask) (d : Option SeededState) → unwrap_or (answered asks (answer asks d)) false ≡ answer asks d
+said_is None d = refl
+said_is (Some ask) d = refl
+
+suspects_so : (o : WalkOptions) (w : Walk) (p : ℕ) →
+    IsSuspicion o (answered (question w.rehearsal p) (answer (question w.rehearsal p) (slice_get w.detectors (p - 1)))) (suspects o w p)
+suspects_so o w p =
+    let asks = question w.rehearsal p in
+    let said = answer asks (slice_get w.detectors (p - 1)) in
+    let is = said_is asks (slice_get w.detectors (p - 1)) in (
+      λ yes. suspects_yes o (after_place o w.draws) w.suspected asks said (sym is ∙ yes),
+      λ zero. suspects_said o (after_place o w.draws) (lasts o w p) said (never_lasts o w.suspected asks said zero) ∙ sym is,
+    )
 
 no_detector : (ds : List SeededState) (i : ℕ) → i < length ds → slice_get ds i ≡ None → ⊥
 no_detector [] i low h = absurd (omega (arith, low))
@@ -149,30 +168,36 @@ is_answer rate ds i (Some ask) (Some d) is low h =
     let same : d.rate ≡ rate = rated_there rate ds i d h is in
     ((λ zero. never_yes d (same ∙ zero)), (λ most. always_yes d (same ∙ most)))
 
-driven_one : (o : FreeOptions) (w : Walk) (p : ℕ) → IsMember o.members p → IsReady o w → IsOne o w (driven w p)
+driven_one : (o : WalkOptions) (w : Walk) (p : ℕ) → IsMember o.run.members p → IsReady o w → IsOne o w (driven o w p)
 unfolding driven
 driven_one o w p there ready =
     let asks = question w.rehearsal p in
     let d = slice_get w.detectors (p - 1) in
-    let many : length w.detectors ≡ o.members = ready.many in
+    let many : length w.detectors ≡ o.run.members = ready.many in
     let low : 1 ≤ p = there.0 in
-    let high : p ≤ o.members = there.1 in
+    let high : p ≤ o.run.members = there.1 in
     record {
-      turn = OfMember p (answered asks (answer asks d));
-      fits = (
-        there,
-        asks_so asks (answer asks d),
-        is_answer o.rate w.detectors (p - 1) asks d refl (omega (arith, many, low, high)) ready.rated,
-      );
+      turn = OfMember p (answered asks (answer asks d)) (suspects o w p) (receives_at o w p);
+      fits = record {
+        there = there;
+        asks = asks_so asks (answer asks d);
+        answers = is_answer o.run.rate w.detectors (p - 1) asks d refl (omega (arith, many, low, high)) ready.rated;
+        suspicion = suspects_so o w p;
+        receipt = (receives_waiting o w p, λ scatter cuts. receives_first o w p scatter (ready.whole cuts).1);
+      };
       left = λ i. refl;
       said = λ q e from is. follows_by w.detectors q p e asks (q == p) refl from low is;
-      is = ap (after_try w.rehearsal) (same_try w.rehearsal p asks d);
+      is = refl;
     }
 
-driven_size : (w : Walk) (p : ℕ) →
-    (driven w p).detectors ≡ after_answer w.detectors p (question w.rehearsal p) (slice_get w.detectors (p - 1))
+driven_size : (o : WalkOptions) (w : Walk) (p : ℕ) →
+    (driven o w p).detectors ≡ after_answer w.detectors p (question w.rehearsal p) (slice_get w.detectors (p - 1))
 unfolding driven
-driven_size w p = refl
+driven_size o w p = refl
+
+driven_whole : (o : WalkOptions) (w : Walk) (p : ℕ) → IsWhole o w → IsWhole o (driven o w p)
+unfolding driven
+driven_whole o w p h = h
 
 -- ---- a turn of a script
 
@@ -202,7 +227,7 @@ set_rest scripts i j e more false other h =
     let not : j ≢ i = λ is. absurd (true≢false (sym (grind (arith, nat_tests)) ∙ other)) in
     get_or-set_other scripts i j more [] not
 
-entered_by : (o : FreeOptions) (w : Walk) (i : ℕ) (entries : List Disturbance) → left_of w i ≡ entries → IsNext o w (entered w i)
+entered_by : (o : WalkOptions) (w : Walk) (i : ℕ) (entries : List Disturbance) → left_of w i ≡ entries → IsNext o w (entered w i)
 unfolding entered
 entered_by o w i [] is =
     let same : drop 1 (left_of w i) ≡ [] = ap (drop 1) is in
@@ -232,121 +257,220 @@ try_setting : (w : Rehearsal) (tries : Option Step) → (after_try w tries).sett
 try_setting w None = refl
 try_setting w (Some step) = if_setting (is_none (cause w step)) w step
 
-next_setting : (o : FreeOptions) (w v : Walk) → IsNext o w v → v.rehearsal.setting ≡ w.rehearsal.setting
+next_setting : (o : WalkOptions) (w v : Walk) → IsNext o w v → v.rehearsal.setting ≡ w.rehearsal.setting
 next_setting o w v (inl one) = ap (λ (r : Rehearsal). r.setting) one.is ∙ try_setting w.rehearsal (tried_in w.rehearsal one.turn)
 next_setting o w v (inr none) = ap (λ (r : Rehearsal). r.setting) none.is
 
 -- a turn that leaves a walk which can go on
-record HasTurned (o : FreeOptions) (w v : Walk) : Type 0 where
+record HasTurned (o : WalkOptions) (w v : Walk) : Type 0 where
   pub next : IsNext o w v
   pub ready : IsReady o v
 
-ready_by : (o : FreeOptions) (w v : Walk) → IsReady o w → IsNext o w v → length v.detectors ≡ length w.detectors →
-    AllRated o.rate v.detectors → HasTurned o w v
-ready_by o w v ready next many rated = record {
+ready_by : (o : WalkOptions) (w v : Walk) → IsReady o w → IsNext o w v → length v.detectors ≡ length w.detectors →
+    AllRated o.run.rate v.detectors → IsWhole o v → HasTurned o w v
+ready_by o w v ready next many rated whole = record {
   next = next;
   ready = record {
     size = ap (λ s. s.members) (next_setting o w v next) ∙ ready.size;
     many = many ∙ ready.many;
     rated = rated;
+    whole = whole;
   };
 }
 
-driven_on : (o : FreeOptions) (w : Walk) (p : ℕ) → IsMember o.members p → IsReady o w → HasTurned o w (driven w p)
+driven_on : (o : WalkOptions) (w : Walk) (p : ℕ) → IsMember o.run.members p → IsReady o w → HasTurned o w (driven o w p)
 driven_on o w p there ready =
     let asks = question w.rehearsal p in
     let d = slice_get w.detectors (p - 1) in
-    let are = driven_size w p in
-    ready_by o w (driven w p) ready (inl (driven_one o w p there ready))
+    let are = driven_size o w p in
+    ready_by o w (driven o w p) ready (inl (driven_one o w p there ready))
     (ap (λ (ds : List SeededState). length ds) are ∙ still_many w.detectors p asks d)
-    (subst (λ ds. AllRated o.rate ds) (sym are) (still_rated o.rate w.detectors p asks ready.rated))
+    (subst (λ ds. AllRated o.run.rate ds) (sym are) (still_rated o.run.rate w.detectors p asks ready.rated))
+    (driven_whole o w p ready.whole)
 
 same_detectors : (w : Walk) (i : ℕ) → (entered w i).detectors ≡ w.detectors
 unfolding entered
 same_detectors w i = refl
 
-entered_on : (o : FreeOptions) (w : Walk) (i : ℕ) → IsReady o w → HasTurned o w (entered w i)
+entered_whole : (o : WalkOptions) (w : Walk) (i : ℕ) → IsWhole o w → IsWhole o (entered w i)
+unfolding entered
+entered_whole o w i h = h
+
+entered_on : (o : WalkOptions) (w : Walk) (i : ℕ) → IsReady o w → HasTurned o w (entered w i)
 entered_on o w i ready =
     let are = same_detectors w i in
     ready_by o w (entered w i) ready (entered_by o w i (left_of w i) refl) (ap (λ (ds : List SeededState). length ds) are)
-    (subst (λ ds. AllRated o.rate ds) (sym are) ready.rated)
+    (subst (λ ds. AllRated o.run.rate ds) (sym are) ready.rated) (entered_whole o w i ready.whole)
 
-script_on : (o : FreeOptions) (w : Walk) (i : Option ℕ) → IsReady o w → HasTurned o w (after_script w i)
+script_on : (o : WalkOptions) (w : Walk) (i : Option ℕ) → IsReady o w → HasTurned o w (after_script w i)
 script_on o w None ready = record { next = inr (record { left = λ i. refl; same = refl; is = refl }); ready = ready }
 script_on o w (Some i) ready = entered_on o w i ready
 
-made_if : (o : FreeOptions) (every : ℕ) (w : Walk) (k : ℕ) (b : Bool) → nat_lt k w.rehearsal.setting.members ≡ b → IsReady o w →
-    HasTurned o w (if b then driven w (k + 1) else after_script w (slice_get (drawn_scripts every w) (k - w.rehearsal.setting.members)))
-made_if o every w k true below ready =
-    let size : w.rehearsal.setting.members ≡ o.members = ready.size in
+made_if : (o : WalkOptions) (w : Walk) (k : ℕ) (b : Bool) → nat_lt k w.rehearsal.setting.members ≡ b → IsReady o w →
+    HasTurned o w (if b then driven o w (k + 1) else after_script w (slice_get (drawn_scripts o w) (k - w.rehearsal.setting.members)))
+made_if o w k true below ready =
+    let size : w.rehearsal.setting.members ≡ o.run.members = ready.size in
     let low : k < w.rehearsal.setting.members = grind (arith, nat_tests) in
     driven_on o w (k + 1) (omega arith, omega (arith, low, size)) ready
-made_if o every w k false above ready = script_on o w (slice_get (drawn_scripts every w) (k - w.rehearsal.setting.members)) ready
+made_if o w k false above ready = script_on o w (slice_get (drawn_scripts o w) (k - w.rehearsal.setting.members)) ready
 
-made_on : (o : FreeOptions) (every : ℕ) (w : Walk) (k : ℕ) → IsReady o w → HasTurned o w (made_by every w k)
+made_on : (o : WalkOptions) (w : Walk) (k : ℕ) → IsReady o w → HasTurned o w (made_by o w k)
 unfolding made_by
-made_on o every w k ready = made_if o every w k (nat_lt k w.rehearsal.setting.members) refl ready
+made_on o w k ready = made_if o w k (nat_lt k w.rehearsal.setting.members) refl ready
 
--- the words that turns are drawn by are no part of it
-undrawn : (o : FreeOptions) (w u v : Walk) → IsNext o (record w { draws = u.draws }) v → IsNext o w v
-undrawn o w u v (inl one) = inl (record { turn = one.turn; fits = one.fits; left = one.left; said = one.said; is = one.is })
-undrawn o w u v (inr none) = inr (record { left = none.left; same = none.same; is = none.is })
+-- one with the same record, detectors and scripts
+record IsAside (w u : Walk) : Type 0 where
+  pub rehearsal : u.rehearsal ≡ w.rehearsal
+  pub detectors : u.detectors ≡ w.detectors
+  pub scripts : u.scripts ≡ w.scripts
 
-drawn_on : (o : FreeOptions) (every : ℕ) (w : Walk) → IsReady o w → HasTurned o w (drawn every w)
+same_next : (o : WalkOptions) (w u v : Walk) → IsAside w u → IsNext o u v → IsNext o w v
+same_next o w u v a (inl one) = inl (record {
+  turn = one.turn;
+  fits = subst (λ (r : Rehearsal). IsTurn o r one.turn) a.rehearsal one.fits;
+  left = λ i. one.left i ∙ ap (λ l. get_or l i []) a.scripts;
+  said = λ p d low there. one.said p d low (ap (λ ds. slice_get ds (p - 1)) a.detectors ∙ there);
+  is = subst (λ (r : Rehearsal). v.rehearsal ≡ after_turn r one.turn) a.rehearsal one.is;
+})
+same_next o w u v a (inr none) = inr (record {
+  left = λ i. none.left i ∙ ap (λ l. get_or l i []) a.scripts;
+  same = none.same ∙ a.detectors;
+  is = none.is ∙ a.rehearsal;
+})
+
+same_ready : (o : WalkOptions) (w u : Walk) → IsAside w u → IsWhole o u → IsReady o w → IsReady o u
+same_ready o w u a whole ready = record {
+  size = ap (λ (r : Rehearsal). r.setting.members) a.rehearsal ∙ ready.size;
+  many = ap (λ (ds : List SeededState). length ds) a.detectors ∙ ready.many;
+  rated = subst (λ (ds : List SeededState). AllRated o.run.rate ds) (sym a.detectors) ready.rated;
+  whole = whole;
+}
+
+drawn_on : (o : WalkOptions) (w : Walk) → IsReady o w → HasTurned o w (drawn o w)
 unfolding drawn
-drawn_on o every w ready =
+drawn_on o w ready =
     let v = record w { draws = after_word w.draws } in
-    let made = made_on o every v (next_word w.draws % workers every w)
-    (record { size = ready.size; many = ready.many; rated = ready.rated }) in
-    record { next = undrawn o w v (made_by every v (next_word w.draws % workers every w)) made.next; ready = made.ready }
+    let aside : IsAside w v = record { rehearsal = refl; detectors = refl; scripts = refl } in
+    let made = made_on o v (next_word w.draws % workers o w) (same_ready o w v aside ready.whole ready) in
+    record { next = same_next o w v (made_by o v (next_word w.draws % workers o w)) aside made.next; ready = made.ready }
 
-if_on : (o : FreeOptions) (b : Bool) (w u v : Walk) → HasTurned o w u → HasTurned o w v → HasTurned o w (if b then u else v)
+if_on : (o : WalkOptions) (b : Bool) (w u v : Walk) → HasTurned o w u → HasTurned o w v → HasTurned o w (if b then u else v)
 if_on o true w u v h k = h
 if_on o false w u v h k = k
 
-turned_on : (o : FreeOptions) (every number : ℕ) (w : Walk) → IsReady o w → HasTurned o w (turned every number w)
+-- ---- what comes before a turn
+
+aside_if : (b : Bool) (w u v : Walk) → IsAside w u → IsAside w v → IsAside w (if b then u else v)
+aside_if true w u v h k = h
+aside_if false w u v h k = k
+
+changed_aside : (w : Walk) → IsAside w (changed_now w)
+unfolding changed_now
+changed_aside w =
+    let v = record w { draws = after_word w.draws } in
+    let cuts = record v { cut = next_word v.draws % 65536; cuts = v.cuts - 1; draws = after_word v.draws } in
+    let same : IsAside w w = record { rehearsal = refl; detectors = refl; scripts = refl } in
+    aside_if (may_change w) w (if is_rare (next_word w.draws) then changed v else v) w
+    (aside_if (is_rare (next_word w.draws)) w (changed v) v
+    (aside_if (v.cut == 0) w cuts (record v { cut = 0 }) (record { rehearsal = refl; detectors = refl; scripts = refl })
+    (record { rehearsal = refl; detectors = refl; scripts = refl }))
+    (record { rehearsal = refl; detectors = refl; scripts = refl }))
+    same
+
+chance_aside : (w : Walk) → IsAside w (after_chance w)
+unfolding after_chance
+chance_aside w =
+    aside_if (has_left w 4) w (record w { draws = after_word w.draws }) w
+    (record { rehearsal = refl; detectors = refl; scripts = refl }) (record { rehearsal = refl; detectors = refl; scripts = refl })
+
+aside_on : (u v w : Walk) → IsAside u v → IsAside v w → IsAside u w
+aside_on u v w h k = record {
+  rehearsal = k.rehearsal ∙ h.rehearsal;
+  detectors = k.detectors ∙ h.detectors;
+  scripts = k.scripts ∙ h.scripts;
+}
+
+before_aside : (w : Walk) → IsAside w (after_chance (changed_now w))
+before_aside w = aside_on w (changed_now w) (after_chance (changed_now w)) (changed_aside w) (chance_aside (changed_now w))
+
+-- a group that is not to be cut stays whole
+if_not : {A : Type 0} (b : Bool) (x y : A) → b ≡ false → (if b then x else y) ≡ y
+if_not true x y h = absurd (cc)
+if_not false x y h = refl
+
+not_changed : (w : Walk) → IsUncut w → changed_now w ≡ w
+unfolding changed_now
+not_changed w h =
+    let v = record w { draws = after_word w.draws } in
+    if_not (may_change w) (if is_rare (next_word w.draws) then changed v else v) w
+    (ap₂ (λ cut cuts. not (cut == 0 && cuts == 0)) h.1 h.0)
+
+uncut_if : (b : Bool) (w v : Walk) → IsUncut w → IsUncut v → IsUncut (if b then w else v)
+uncut_if true w v h k = h
+uncut_if false w v h k = k
+
+chance_uncut : (w : Walk) → IsUncut w → IsUncut (after_chance w)
+unfolding after_chance
+chance_uncut w h = uncut_if (has_left w 4) (record w { draws = after_word w.draws }) w h h
+
+before_whole : (o : WalkOptions) (w : Walk) → IsWhole o w → IsWhole o (after_chance (changed_now w))
+before_whole o w h none =
+    subst (λ v. IsUncut (after_chance v)) (sym (not_changed w (h none))) (chance_uncut w (h none))
+
+turned_on : (o : WalkOptions) (number : ℕ) (w : Walk) → IsReady o w → HasTurned o w (turned o number w)
 unfolding turned
-turned_on o every number w ready =
-    if_on o (is_due every number w) w (entered w 0) (drawn every w) (entered_on o w 0 ready) (drawn_on o every w ready)
+turned_on o number w ready =
+    let u = after_chance (changed_now w) in
+    let struck = is_struck (changed_now w) in
+    let rest = if is_due o number u then entered u 0 else drawn o u in
+    let there = same_ready o w u (before_aside w) (before_whole o w ready.whole) ready in
+    let t = if_on o struck u (entered u 4) rest (entered_on o u 4 there)
+    (if_on o (is_due o number u) u (entered u 0) (drawn o u) (entered_on o u 0 there) (drawn_on o u there)) in
+    record { next = same_next o w u (if struck then entered u 4 else rest) (before_aside w) t.next; ready = t.ready }
 
 -- ---- the walk
 
-if_made : (o : FreeOptions) (b : Bool) (w u v : Walk) (most : ℕ) → IsMade o w u most → IsMade o w v most →
+if_made : (o : WalkOptions) (b : Bool) (w u v : Walk) (most : ℕ) → IsMade o w u most → IsMade o w v most →
     IsMade o w (if b then u else v) most
 if_made o true w u v most h k = h
 if_made o false w u v most h k = k
 
-walk_made : (o : FreeOptions) (every made more : ℕ) (w : Walk) → IsReady o w → IsMade o w (walked_for every made more w) more
+walk_made : (o : WalkOptions) (made more : ℕ) (w : Walk) → IsReady o w → IsMade o w (walked_for o made more w) more
 unfolding walked_for
-walk_made o every made zero w ready = none_made o w zero
-walk_made o every made (suc more) w ready =
-    let v = turned every (made + 1) w in
-    let on = turned_on o every (made + 1) w ready in
-    let rest = walked_for every (made + 1) more v in
+walk_made o made zero w ready = none_made o w zero
+walk_made o made (suc more) w ready =
+    let v = turned o (made + 1) w in
+    let on = turned_on o (made + 1) w ready in
+    let rest = walked_for o (made + 1) more v in
     if_made o (is_shown_by v.until v.rehearsal) w v rest (suc more)
     (next_more o w v v more on.next (none_made o v more))
-    (next_more o w v rest more on.next (walk_made o every (made + 1) more v on.ready))
+    (next_more o w v rest more on.next (walk_made o (made + 1) more v on.ready))
 
-start_ready : (o : FreeOptions) (until : Option Goal) → IsReady o (start o until)
+start_ready : (o : WalkOptions) (until : Option Goal) → IsReady o (start o until)
 unfolding start
-start_ready o until = record { size = refl; many = first_many o o.members; rated = rated_first o o.members }
+start_ready o until = record {
+  size = refl;
+  many = first_many o.run o.run.members;
+  rated = rated_first o.run o.run.members;
+  whole = λ zero. (zero, refl);
+}
 
-started : (o : FreeOptions) (until : Option Goal) (v : Walk) → IsMade o (start o until) v (most_turns o) → HasTurns o v.rehearsal
+started : (o : WalkOptions) (until : Option Goal) (v : Walk) → IsMade o (start o until) v (most_turns o) → HasTurns o v.rehearsal
 unfolding start
 started o until v m = record {
   turns = m.turns;
   are = m.are;
   few = m.few;
   scripts = λ i. (left_of v i, m.left i);
-  answers = λ p there. m.answers p (detector_of o p) there.0 (detector_at o o.members p there.0 there.1);
+  answers = λ p there. m.answers p (detector_of o.run p) there.0 (detector_at o.run o.run.members p there.0 there.1);
   steps = ap (λ (w : Rehearsal). w.steps) m.is;
 }
 
-pub has_turns : (o : WalkOptions) (until : Option Goal) → HasTurns o.run (walked o until)
+pub has_turns : (o : WalkOptions) (until : Option Goal) → HasTurns o (walked o until)
 unfolding walked
 has_turns o until =
-    let end = walked_for o.every 0 (most_turns o.run) (start o.run until) in
-    started o.run until end (walk_made o.run o.every 0 (most_turns o.run) (start o.run until) (start_ready o.run until))
+    let end = walked_for o 0 (most_turns o) (start o until) in
+    started o until end (walk_made o 0 (most_turns o) (start o until) (start_ready o until))
 
 -- ---- a member that asks
 
@@ -364,32 +488,32 @@ up : (w : Rehearsal) (s : Step) → is_none (cause w s) ≡ true → has_crashed
 unfolding cause
 up w s h = up_by (is_member w.setting.members (actor s)) (is_crashed (state_of w) (actor s)) _ h
 
-chosen_so : (w : Rehearsal) (p : ℕ) (o : Option Step) (crashed : Bool) → o ≡ Some (step.Suspect p) → crashed ≡ false →
-    (if crashed then None else chosen p (first_waiting w p) true o) ≡ Some (step.Suspect p)
-chosen_so w p o true is up = absurd (cc up)
-chosen_so w p o false is up = ap (chosen p (first_waiting w p) true) is
+chosen_so : (p : ℕ) (serial : Option ℕ) (o : Option Step) (crashed : Bool) → o ≡ Some (step.Suspect p) → crashed ≡ false →
+    (if crashed then None else chosen p serial true o) ≡ Some (step.Suspect p)
+chosen_so p serial o true is up = absurd (cc up)
+chosen_so p serial o false is up = ap (chosen p serial true) is
 
-tries_it : (w : Rehearsal) (p : ℕ) (ask : Ask) → next_local w p ≡ Some (step.Suspect p) → is_none (cause w (step.Suspect p)) ≡ true →
-    tried w p (Some (ask, true)) ≡ Some (step.Suspect p)
-unfolding tried
-tries_it w p ask is free = chosen_so w p (next_local w p) (has_crashed w p) is (up w (step.Suspect p) free)
+tries_it : (w : Rehearsal) (p : ℕ) (serial : Option ℕ) → next_local w p ≡ Some (step.Suspect p) →
+    is_none (cause w (step.Suspect p)) ≡ true → tries w p serial true ≡ Some (step.Suspect p)
+unfolding tries
+tries_it w p serial is free = chosen_so p serial (next_local w p) (has_crashed w p) is (up w (step.Suspect p) free)
 
 extends_if : (b : Bool) (w : Rehearsal) (s : Step) → b ≡ true → (if b then extended w s else w) ≡ extended w s
 extends_if true w s h = refl
 extends_if false w s h = absurd (cc h)
 
-next_is : (w : Rehearsal) (p : ℕ) (ask : Ask) (q : ℕ) → next_local w p ≡ Some (step.Suspect q) →
-    after_try w (tried w p (Some (ask, true))) ≡ extended w (step.Suspect p)
-next_is w p ask q is =
+next_is : (w : Rehearsal) (p : ℕ) (serial : Option ℕ) (q : ℕ) → next_local w p ≡ Some (step.Suspect q) →
+    after_try w (tries w p serial true) ≡ extended w (step.Suspect p)
+next_is w p serial q is =
     let own : q ≡ p = subst (λ o. IsTry p o) is (next_by w p) in
     let same : next_local w p ≡ Some (step.Suspect p) = is ∙ ap (λ n. Some (step.Suspect n)) own in
     let free : is_none (cause w (step.Suspect p)) ≡ true =
     (found-find (λ s. is_none (cause w s)) (step.Suspect p) (candidates p (member_of w p)) same).1 in
-    ap (after_try w) (tries_it w p ask same free) ∙ extends_if (is_none (cause w (step.Suspect p))) w (step.Suspect p) free
+    ap (after_try w) (tries_it w p serial same free) ∙ extends_if (is_none (cause w (step.Suspect p))) w (step.Suspect p) free
 
-pub each_asks : (w : Rehearsal) (p : ℕ) (ask : Ask) → question w p ≡ Some ask →
-    after_try w (tried w p (Some (ask_of w p, true))) ≡ extended w (step.Suspect p)
+pub each_asks : (w : Rehearsal) (p : ℕ) (serial : Option ℕ) (ask : Ask) → question w p ≡ Some ask →
+    after_try w (tries w p serial true) ≡ extended w (step.Suspect p)
 unfolding question
-each_asks w p ask h =
+each_asks w p serial ask h =
     let next = asked_next (next_local w p) (ask_of w p) ask h in
-    next_is w p (ask_of w p) next.0 next.1
+    next_is w p serial next.0 next.1

@@ -12,6 +12,6 @@ ghost use Rattle.ct_laws.specs.Untils.{IsUntil, record_at};
 /// it, the walk is the one without a goal, which makes all its turns. Either way its steps begin those of the walk without a goal.
 pub fn law_until()
     ensures first { (o : WalkOptions) (goal : Goal) → IsUntil o goal (walked o (Some goal)) }
-    ensures whole { (o : WalkOptions) → walked o None ≡ record_at o (most_turns o.run) }
+    ensures whole { (o : WalkOptions) → walked o None ≡ record_at o (most_turns o) }
     ensures begins { (o : WalkOptions) (goal : Goal) → IsPrefix (walked o (Some goal)).steps (walked o None).steps }
 {}

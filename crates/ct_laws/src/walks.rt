@@ -6,11 +6,12 @@ ghost use Rattle.ct_model.specs.declared.step.Step.{Step};
 ghost use Rattle.ct_model.specs.declared.step.Step.TheVariants.{Suspect};
 ghost use Rattle.ct_detect.specs.Seeded.{SeededState};
 ghost use Rattle.ct_detect.specs.declared.ask.Ask.{Ask};
-ghost use Rattle.ct_choices.specs.Choices.{after_try, ask_of, question, tried};
+ghost use Rattle.ct_choices.specs.Choices.{after_try, question};
 ghost use Rattle.ct_grammar.specs.declared.goal.Goal.{Goal};
 ghost use Rattle.ct_program.specs.FreeOptions.{setting_of};
 ghost use Rattle.ct_walk.specs.Finding.{first_of};
-ghost use Rattle.ct_walk.specs.Walking.{Walk, answer, driven, says_yes, walked};
+ghost use Rattle.ct_walk.specs.Adversary.{tries};
+ghost use Rattle.ct_walk.specs.Walking.{Walk, answer, driven, says_yes, suspects, walked};
 ghost use Rattle.ct_walk.specs.declared.call.Seeds.{Seeds};
 ghost use Rattle.ct_walk.specs.declared.options.WalkOptions.{WalkOptions};
 ghost use Rattle.ct_laws.specs.Places.{AreAllowed, behind};
@@ -18,17 +19,20 @@ ghost use Rattle.ct_laws.specs.Tries.{HasTurns};
 ghost use Rattle.ct_laws.specs.Walks.{HaveNoSuspicion, IsLeast, NoneBelow};
 
 /// Each step of a walk is allowed behind those before it. The steps are the allowed ones of a list of tries, each what a driver does at
-/// a member, by the next answer of the member's own detector where it asks one, or the next entry of a script. A member suspects a
-/// coordinator only where its detector says yes, which a detector of rate 256 always does and one of rate 0 never; so at rate 0 nobody is
-/// suspected. Where one that is asked says yes, the coordinator is suspected. The seed that a search names is the least one of its seeds
-/// whose walk shows the goal; where it names none, none does.
+/// a member, by the next answer of the member's own detector where it asks one, or the next entry of a script; crashes at drawn turns are
+/// a script, too. A member receives what waits in its line, the first of it unless receipts are scattered or the group is cut. It suspects
+/// where its detector says yes or a suspicion lasts, and nowhere else: a detector of rate 256 always does and one of rate 0 never, so at
+/// rate 0 nobody is suspected. Where one that asks suspects, the coordinator is suspected. The seed that a search names is the least one
+/// of its seeds whose walk shows the goal; where it names none, none does.
 pub fn law_walk()
     ensures allowed { (o : WalkOptions) (until : Option Goal) → AreAllowed (empty (setting_of o.run) o.run.cells) (walked o until).steps }
-    ensures tries { (o : WalkOptions) (until : Option Goal) → HasTurns o.run (walked o until) }
-    ensures asked { (w : Walk) (p : ℕ) (steps : List Step) → answer (question w.rehearsal p) (slice_get w.detectors (p - 1)) ≡ false →
-        (driven w p).rehearsal ≡ behind w.rehearsal steps → HaveNoSuspicion steps }
-    ensures each { (w : Rehearsal) (p : ℕ) (ask : Ask) → question w p ≡ Some ask →
-        after_try w (tried w p (Some (ask_of w p, true))) ≡ extended w (Suspect p) }
+    ensures tries { (o : WalkOptions) (until : Option Goal) → HasTurns o (walked o until) }
+    ensures asked { (o : WalkOptions) (w : Walk) (p : ℕ) (steps : List Step) → suspects o w p ≡ false →
+        (driven o w p).rehearsal ≡ behind w.rehearsal steps → HaveNoSuspicion steps }
+    ensures says { (o : WalkOptions) (w : Walk) (p : ℕ) → answer (question w.rehearsal p) (slice_get w.detectors (p - 1)) ≡ true →
+        suspects o w p ≡ true }
+    ensures each { (w : Rehearsal) (p : ℕ) (serial : Option ℕ) (ask : Ask) → question w p ≡ Some ask →
+        after_try w (tries w p serial true) ≡ extended w (Suspect p) }
     ensures always { (d : SeededState) → d.rate ≡ 256 → says_yes d ≡ true }
     ensures never { (d : SeededState) → d.rate ≡ 0 → says_yes d ≡ false }
     ensures quiet { (o : WalkOptions) (until : Option Goal) → o.run.rate ≡ 0 → HaveNoSuspicion (walked o until).steps }

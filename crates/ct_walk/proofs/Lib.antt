@@ -1,4 +1,5 @@
 pub mod Bound
+pub mod Crashes
 pub mod Cuts
 mod Entries
 pub mod Found

@@ -15,46 +15,46 @@ max_grouped a b c = omega arith
 max_none : (a : ℕ) → max a 0 ≡ a
 max_none a = omega arith
 
-module _ (every made left next rounds new : ℕ) (w v : Walk) (some : left ≡ next + 1)
-    (turns : v ≡ turned every (made + 1) w) (counts : new ≡ max rounds (largest_round v.rehearsal)) where
+module _ (o : WalkOptions) (made left next rounds new : ℕ) (w v : Walk) (some : left ≡ next + 1)
+    (turns : v ≡ turned o (made + 1) w) (counts : new ≡ max rounds (largest_round v.rehearsal)) where
   passes : is_shown_by v.until v.rehearsal ≡ false →
-      rounds_for every made left w ≡ max (largest_round v.rehearsal) (rounds_for every (made + 1) next v)
+      rounds_for o made left w ≡ max (largest_round v.rehearsal) (rounds_for o (made + 1) next v)
   unfolding rounds_for
   passes shown = rw (some, add-one) (rw (← turns, shown) refl)
 
   -- after another turn the walk goes on
   pub rounds_go : is_shown_by v.until v.rehearsal ≡ false →
-      max new (rounds_for every (made + 1) next v) ≡ max rounds (rounds_for every made left w)
+      max new (rounds_for o (made + 1) next v) ≡ max rounds (rounds_for o made left w)
   rounds_go shown =
-      ap (λ n. max n (rounds_for every (made + 1) next v)) counts
-      ∙ (sym (max_grouped rounds (largest_round v.rehearsal) (rounds_for every (made + 1) next v))
+      ap (λ n. max n (rounds_for o (made + 1) next v)) counts
+      ∙ (sym (max_grouped rounds (largest_round v.rehearsal) (rounds_for o (made + 1) next v))
       ∙ ap (max rounds) (sym (passes shown)))
 
   -- it is the last one
-  pub rounds_stop : is_shown_by v.until v.rehearsal ≡ true → new ≡ max rounds (rounds_for every made left w)
+  pub rounds_stop : is_shown_by v.until v.rehearsal ≡ true → new ≡ max rounds (rounds_for o made left w)
   unfolding rounds_for
   rounds_stop shown = rw (some, add-one) (rw (← turns, shown) (counts ∙ ap (max rounds) (sym (max_none (largest_round v.rehearsal)))))
 
-pub rounds_end : (every made left rounds : ℕ) (w : Walk) → left ≡ 0
-    → max rounds (rounds_for every made left w) ≡ rounds
+pub rounds_end : (o : WalkOptions) (made left rounds : ℕ) (w : Walk) → left ≡ 0
+    → max rounds (rounds_for o made left w) ≡ rounds
 unfolding rounds_for
-rounds_end every made left rounds w none = rw none (max_none rounds)
+rounds_end o made left rounds w none = rw none (max_none rounds)
 
 -- the largest round of the walk from the start
-pub rounds_are : (o : WalkOptions) (until : Option Goal) (w : Walk) (most rounds : ℕ) → w ≡ start o.run until
+pub rounds_are : (o : WalkOptions) (until : Option Goal) (w : Walk) (most rounds : ℕ) → w ≡ start o until
     → most ≡ w.rehearsal.setting.members * o.run.turns + entries_left w.scripts
-    → rounds ≡ rounds_for o.every 0 most w → rounds ≡ rounds_of o until
+    → rounds ≡ rounds_for o 0 most w → rounds ≡ rounds_of o until
 unfolding start
 rounds_are o until w most rounds starts most_is counts =
-    let all : most ≡ most_turns o.run =
+    let all : most ≡ most_turns o =
     most_is ∙ ap (λ (x : Walk). x.rehearsal.setting.members * o.run.turns + entries_left x.scripts) starts in
-    counts ∙ ap₂ (λ (n : ℕ) (x : Walk). rounds_for o.every 0 n x) all starts
+    counts ∙ ap₂ (λ (n : ℕ) (x : Walk). rounds_for o 0 n x) all starts
 
 -- what the walk from the start came to
 pub came_is : (o : WalkOptions) (until : Option Goal) (w v : Walk) (most rounds came-to : ℕ) (record-is : Rehearsal)
-    → w ≡ start o.run until
+    → w ≡ start o until
     → most ≡ w.rehearsal.setting.members * o.run.turns + entries_left w.scripts
-    → v ≡ walked_for o.every 0 most w → rounds ≡ rounds_for o.every 0 most w
+    → v ≡ walked_for o 0 most w → rounds ≡ rounds_for o 0 most w
     → record-is ≡ v.rehearsal → came-to ≡ came (sight_in until) rounds record-is → came-to ≡ came_to o until
 unfolding came_to
 came_is o until w v most rounds came-to r starts most_is goes counts same is =

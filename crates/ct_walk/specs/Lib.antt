@@ -1,4 +1,5 @@
 pub mod Options
+pub mod Adversary
 pub mod Walking
 pub mod Shown
 pub mod Sights

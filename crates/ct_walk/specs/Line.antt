@@ -1,6 +1,6 @@
 -- What a command line may ask of walks. `clap` gives what its commands make of words.
-use Rattle.std.specs.Prelude.{◌≡◌, ◌≤◌, ⊤, ℕ, false, Option, Some, None, ok_or, Result, Ok, Err, List, [], ◌∷◌, fold, codes, decimal}
-use Rattle.std.specs.Prelude.{string_bytes}
+use Rattle.std.specs.Prelude.{◌≡◌, ◌≤◌, ◌-◌, ◌/◌, ⊤, ℕ, false, Option, Some, None, ok_or, Result, Ok, Err, List, [], ◌∷◌}
+use Rattle.std.specs.Prelude.{codes, decimal, fold, string_bytes}
 use Rattle.std.specs.List.{concat, join_by}
 use Rattle.clap.specs.Lexer.{usize_max}
 use Rattle.clap.specs.Words.{App, Row, Rule, Text, all_of, first_of, new_app, with_rule}
@@ -9,7 +9,7 @@ use Rattle.ct_grammar.specs.declared.misfit.Misfit.{Misfit}
 use Rattle.ct_grammar.specs.Goals.{goal_of}
 use Rattle.ct_grammar.specs.Misfits.{misfit_text}
 use Rattle.ct_program.specs.declared.free_options.FreeOptions.{FreeOptions}
-use Rattle.ct_program.specs.declared.free_options.TheConstants.{MAX_TURNS}
+use Rattle.ct_program.specs.declared.free_options.TheConstants.{MAX_EACH, MAX_RATE, MAX_TURNS}
 use Rattle.ct_program.specs.Line.{free_rules, options_of, seedless_of, seedless_rules}
 use Rattle.ct_streams.specs.Arguments.{option_rule, value_rule}
 use Rattle.ct_streams.specs.declared.status.Status.TheVariants as status
@@ -34,8 +34,14 @@ abbrev pub goal_rule : Text → Rule
 goal_rule name =
     record (value_rule name) { range = Some (record { start_inclusive = 1; end_inclusive = usize_max }); value_names = 1 }
 
-abbrev pub every_rule : Rule
-every_rule = record (option_rule (codes "every") (codes "0")) { value_names = 1 }
+-- an option of a walk alone, whose value is a number, 0 where none is given
+abbrev pub own_rule : Text → Rule
+own_rule name = record (option_rule name (codes "0")) { value_names = 1 }
+
+abbrev pub own_rules : List Rule
+own_rules =
+    own_rule (codes "every") ∷ own_rule (codes "scatter") ∷ own_rule (codes "lasting") ∷ own_rule (codes "crashes")
+    ∷ own_rule (codes "cut") ∷ []
 
 -- it asks for another option, and may not stand beside a third
 abbrev pub find_rule : Rule
@@ -45,15 +51,15 @@ find_rule = record (goal_rule (codes "find")) { is_free = false }
 abbrev pub seeds_rule : Rule
 seeds_rule = record (value_rule (codes "seeds")) { value_names = 1; is_free = false }
 
--- the subcommand `walk`: the options of a free run, and four of its own
+-- the subcommand `walk`: the options of a free run, those of a walk, and what is looked for
 abbrev pub walk_app : App
 walk_app =
-    fold with_rule (fold with_rule (new_app (codes "walk")) free_rules)
-    (every_rule ∷ goal_rule (codes "until") ∷ find_rule ∷ seeds_rule ∷ [])
+    fold with_rule (fold with_rule (fold with_rule (new_app (codes "walk")) free_rules) own_rules)
+    (goal_rule (codes "until") ∷ find_rule ∷ seeds_rule ∷ [])
 
 -- the command, and after its arguments the options of a walk but for `seed`
 abbrev pub with_search_rules : App → App
-with_search_rules app = with_rule (fold with_rule app seedless_rules) every_rule
+with_search_rules app = fold with_rule (fold with_rule app seedless_rules) own_rules
 
 -- ---- what the options ask for, or the line of the first one that asks for nothing
 
@@ -114,7 +120,11 @@ unfoldable pub options_with : List Row → FreeOptions → Result WalkOptions Te
 options_with rows run = do
   crash ← option_in rows (codes "crash") 0 run.members
   every ← option_in rows (codes "every") 0 MAX_TURNS
-  Ok (record { run = run; every = every })
+  scatter ← option_in rows (codes "scatter") 0 MAX_RATE
+  lasting ← option_in rows (codes "lasting") 0 MAX_RATE
+  crashes ← option_in rows (codes "crashes") 0 ((run.members - 1) / 2)
+  cuts ← option_in rows (codes "cut") 0 MAX_EACH
+  Ok (record { run = run; every = every; scatter = scatter; lasting = lasting; crashes = crashes; cuts = cuts })
 
 -- the options of a walk
 abbrev pub walk_options : List Row → Result WalkOptions Text

@@ -33,11 +33,11 @@ unfoldable pub largest_decided : Rehearsal → ℕ
 largest_decided w = largest_of (last_of w) w.setting.members
 
 -- the largest round that a member is in after one of so many turns more at most, where some were made
-unfoldable pub rounds_for : ℕ → ℕ → ℕ → Walk → ℕ
-rounds_for every made zero w = 0
-rounds_for every made (suc more) w =
-    let v = turned every (made + 1) w in
-    max (largest_round v.rehearsal) (if is_shown_by v.until v.rehearsal then 0 else rounds_for every (made + 1) more v)
+unfoldable pub rounds_for : WalkOptions → ℕ → ℕ → Walk → ℕ
+rounds_for o made zero w = 0
+rounds_for o made (suc more) w =
+    let v = turned o (made + 1) w in
+    max (largest_round v.rehearsal) (if is_shown_by v.until v.rehearsal then 0 else rounds_for o (made + 1) more v)
 
 -- what a walk came to whose largest round this is, and whose record this
 abbrev pub came : Option Sight → ℕ → Rehearsal → ℕ
@@ -47,7 +47,7 @@ came (Some (Round round)) rounds w = rounds
 
 -- the largest round that a member is in after a turn of the walk
 abbrev pub rounds_of : WalkOptions → Option Goal → ℕ
-rounds_of o until = rounds_for o.every 0 (most_turns o.run) (start o.run until)
+rounds_of o until = rounds_for o 0 (most_turns o) (start o until)
 
 -- what the walk came to: where the goal is `any round >= N`, the largest round that a member is in after a turn; where it is
 -- `any decided N`, the largest instance whose decision a member got; of others 0

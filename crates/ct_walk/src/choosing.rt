@@ -1,37 +1,44 @@
-//! What turns of members try: what comes next at the member is looked for once.
+//! What turns of members ask and try: what comes next at the member is looked for once.
 
-ghost use Rattle.std.specs.Prelude.{◌≡◌, ◌-◌, ◌<◌, slice_get, Some};
-ghost use Rattle.ct_choices.specs.Choices.{ask_of, asked_for, chosen, first_waiting, instance_of, question, receives, tried};
-ghost use Rattle.ct_walk.specs.Walking.{after_answer, answer};
+ghost use Rattle.std.specs.Prelude.{◌≡◌};
+ghost use Rattle.ct_choices.specs.Choices.{ask_of, asked_for, instance_of, receives};
+ghost use Rattle.ct_walk.specs.Adversary.{received, tries};
+ghost use Rattle.ct_world.specs.Driving.{next_local};
 
-use crate::answering::answer;
+use crate::adversary::received;
 use crate::sight::round_of;
-use ct_detect::{Ask, Seeded};
+use ct_detect::Ask;
 use ct_model::Step;
-use ct_names::{Instance, Member, Serial};
+use ct_names::{Instance, Member};
+use ct_play::Stage;
 use ct_world::World;
 
-// What a turn of the member tries. Its detector is asked where a suspicion comes next.
-#[tactic(auto, unfolding(ct_choices::specs::Choices::question, ct_choices::specs::Choices::tried))]
-pub(crate) fn tried(world: &World, detectors: &mut Vec<Seeded>, member: Member) -> Option<Step>
-    requires { 0 < member }
-    ensures tried { result ≡ tried world.now.rehearsal member (Some (
-      ask_of world.now.rehearsal member,
-      answer (question world.now.rehearsal member) (slice_get detectors.old.items (member - 1)),
-    )) }
-    ensures after { detectors.new.items ≡ after_answer detectors.old.items member (question world.now.rehearsal member)
-        (slice_get detectors.old.items (member - 1)) }
+// What a turn of the member tries that suspects or not, and receives what is looked for from this place of its line on; this comes
+// next at it.
+#[tactic(auto, unfolding(crate::specs::Adversary::tries))]
+pub(crate) fn tried(
+    stage: &Stage,
+    member: Member,
+    next: Option<Step>,
+    suspects: bool,
+    cut: u32,
+    place: usize,
+) -> Option<Step>
+    requires { next ≡ next_local stage.now.rehearsal member }
+    ensures { result ≡ tries stage.now.rehearsal member (received cut stage.now.rehearsal member place) suspects }
 {
-    let next = world.next_local(member);
-    let suspects = answer(asked_for(world, member, next), detectors, member);
-    if world.crashed(member) {
+    if stage.world().crashed(member) {
         return None;
     }
-    chosen(world, member, next, suspects)
+    match next {
+        Some(Step::Suspect(_)) if !suspects => receipt(stage, member, cut, place),
+        Some(step) => Some(step),
+        None => receipt(stage, member, cut, place),
+    }
 }
 
 // What the member asks its detector where this step comes next.
-fn asked_for(world: &World, member: Member, next: Option<Step>) -> Option<Ask>
+pub(crate) fn asked_for(world: &World, member: Member, next: Option<Step>) -> Option<Ask>
     ensures { result ≡ asked_for next (ask_of world.now.rehearsal member) }
 {
     match next {
@@ -63,27 +70,9 @@ fn instance_of(world: &World, member: Member) -> Instance
     }
 }
 
-// What is tried where this step comes next, and this is the detector's answer.
-fn chosen(world: &World, member: Member, next: Option<Step>, suspects: bool) -> Option<Step>
-    ensures { result ≡ chosen member (first_waiting world.now.rehearsal member) suspects next }
+fn receipt(stage: &Stage, member: Member, cut: u32, place: usize) -> Option<Step>
+    ensures { result ≡ receives member (received cut stage.now.rehearsal member place) }
 {
-    match next {
-        Some(Step::Suspect(_)) if !suspects => receipt(world, member),
-        Some(step) => Some(step),
-        None => receipt(world, member),
-    }
-}
-
-fn receipt(world: &World, member: Member) -> Option<Step>
-    ensures { result ≡ receives member (first_waiting world.now.rehearsal member) }
-{
-    let serial = first_waiting(world, member)?;
+    let serial = received(stage, cut, member, place)?;
     Some(Step::Receive(member, serial))
-}
-
-#[tactic(auto, unfolding(ct_choices::specs::Choices::first_waiting))]
-fn first_waiting(world: &World, member: Member) -> Option<Serial>
-    ensures { result ≡ first_waiting world.now.rehearsal member }
-{
-    world.waiting(member)?.first().copied()
 }

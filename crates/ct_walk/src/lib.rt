@@ -2,6 +2,7 @@
 //! record.
 #![tactic(auto)]
 
+mod adversary;
 mod answering;
 mod call;
 mod call_fault;

@@ -15,6 +15,16 @@ pub struct WalkOptions {
     /// The first script makes an entry at turn number `every`, at twice that, and so on, up to 100,000; 0 for a script
     /// whose turns are drawn like all others.
     pub every: u32,
+    /// How many of 256 words have a member receive from a place of its line that is drawn, up to 256; else it receives what waits
+    /// first.
+    pub scatter: u16,
+    /// How many of 256 words have a member suspect on, up to 256: one that its detector says no to about a coordinator that it
+    /// suspected when it last asked about it.
+    pub lasting: u16,
+    /// How many members crash, besides that of `run`, at turns that are drawn: short of half of the group. One may be named twice.
+    pub crashes: u8,
+    /// How many times the group is cut in two, up to 1000. When each cut begins and ends, and who is on which side, is drawn.
+    pub cuts: u16,
 }
 
 impl WalkOptions {
@@ -24,7 +34,7 @@ impl WalkOptions {
     {
         WalkOptions {
             run: FreeOptions { seed, ..self.run },
-            every: self.every,
+            ..*self
         }
     }
 }

@@ -54,9 +54,9 @@ pub(crate) fn walk_near(
     ensures none { IfOk result (λ walk. walk.world.prepared ≡ None) }
     ensures err { IfErr result IsShort }
 {
-    let mut walker = Walker::new(alloc, &options.run, until)?;
+    let mut walker = Walker::new(alloc, options, until)?;
     let most = walker.most_turns(options.run.turns);
-    let rounds = walker.walk(options.every, most)?;
+    let rounds = walker.walk(options, most)?;
     let shows = walker.shows();
     let world = walker.into_world();
     let came_to = came(sight_in(until), rounds, &world);

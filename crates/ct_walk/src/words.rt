@@ -1,8 +1,8 @@
 //! The words after `walk` on a command line.
 
-ghost use Rattle.std.specs.Prelude.{◌≡◌, false, option_map, Ok, IfOk, IfErr, IfSome};
-ghost use Rattle.clap.specs.Words.{app_of, found_of, rows_of, rule_of};
-ghost use Rattle.ct_walk.specs.Line.{every_rule, find_rule, goal_rule, seeds_rule, walk_app, with_search_rules};
+ghost use Rattle.std.specs.Prelude.{◌≡◌, false, fold, option_map, Ok, IfOk, IfErr, IfSome};
+ghost use Rattle.clap.specs.Words.{app_of, found_of, rows_of, rule_of, with_rule};
+ghost use Rattle.ct_walk.specs.Line.{find_rule, goal_rule, own_rule, own_rules, seeds_rule, walk_app, with_search_rules};
 ghost use Rattle.ct_walk.specs.Line.{given_seeds, options_with, search_options, seeds_in, seeds_or_line, walk_call, walk_options};
 ghost use Rattle.ct_walk.specs.Line.{IsCallFault, IsCallInRange, IsSeedsInRange};
 ghost use Rattle.ct_program.specs.FreeOptions.{InRange};
@@ -15,7 +15,7 @@ use crate::goals::goal_in;
 use crate::options::WalkOptions;
 use clap::{Arg, ArgMatches, Command};
 use ct_program::{
-    FreeOptions, MAX_TURNS, found_options, seedless_options, with_free_options,
+    FreeOptions, MAX_EACH, MAX_RATE, MAX_TURNS, found_options, seedless_options, with_free_options,
     with_seedless_options,
 };
 use ct_streams::{
@@ -30,6 +30,34 @@ const TURNS: &str = concat!(
     "for each entry of the scripts; whose each is, is\n",
     "drawn, so a member takes more than N of them\n",
     "or fewer",
+);
+
+// The help of the options that a walk has and a free run hasn't.
+const EVERY: &str = concat!(
+    "Makes the submissions and the crash at the turns N,\n",
+    "2N, 3N and so on, 0 to 100000; at 0 their turns are\n",
+    "drawn like all others",
+);
+
+const SCATTER: &str = concat!(
+    "How many of 256 receipts are of an envelope from a\n",
+    "place of the line that is drawn, 0 to 256; the\n",
+    "others are of the first",
+);
+
+const LASTING: &str = concat!(
+    "How many of 256 suspicions last, 0 to 256, when the\n",
+    "same coordinator is asked about again",
+);
+
+const CRASHES: &str = concat!(
+    "How many members crash at drawn turns, fewer than\n",
+    "half of them; one may be drawn twice",
+);
+
+const CUT: &str = concat!(
+    "How many times the group is cut in two, 0 to 1000;\n",
+    "sides, beginning and end are drawn",
 );
 
 // What stands after the options.
@@ -93,8 +121,15 @@ fn options_with<'a>(
     ensures range { IfOk result IsInRange }
 {
     let _ = option_in(found, "crash", 0, u32::from(run.members))?;
-    let every = option_in(found, "every", 0, MAX_TURNS)?;
-    Ok(WalkOptions { run, every })
+    let half = u32::from((run.members - 1) / 2);
+    Ok(WalkOptions {
+        run,
+        every: option_in(found, "every", 0, MAX_TURNS)?,
+        scatter: option_in(found, "scatter", 0, MAX_RATE as u32)? as u16,
+        lasting: option_in(found, "lasting", 0, MAX_RATE as u32)? as u16,
+        crashes: option_in(found, "crashes", 0, half)? as u8,
+        cuts: option_in(found, "cut", 0, MAX_EACH as u32)? as u16,
+    })
 }
 
 /// The seeds that are given.
@@ -152,8 +187,8 @@ pub fn walk_command<'a>(alloc: Global) -> Result<Command<'a>, AllocError>
         ),
         AFTER,
     );
-    with_free_options(alloc, command, TURNS)?
-        .arg(every(alloc))?
+    let command = with_free_options(alloc, command, TURNS)?;
+    with_own_options(alloc, command)?
         .arg(goal_arg(
             alloc,
             "until",
@@ -170,24 +205,27 @@ pub fn with_search_options<'a>(
 ) -> Result<Command<'a>, AllocError>
     ensures { IfOk result (λ longer. app_of longer ≡ with_search_rules (app_of command.entry)) }
 {
-    with_seedless_options(alloc, command, TURNS)?.arg(every(alloc))
+    let command = with_seedless_options(alloc, command, TURNS)?;
+    with_own_options(alloc, command)
 }
 
-fn every<'a>(alloc: Global) -> Arg<'a>
-    ensures rule { rule_of result ≡ every_rule }
+// The command, and after its arguments the options that a walk has and a free run hasn't.
+fn with_own_options<'a>(alloc: Global, command: Command<'a>) -> Result<Command<'a>, AllocError>
+    ensures { IfOk result (λ longer. app_of longer ≡ fold with_rule (app_of command.entry) own_rules) }
+{
+    command
+        .arg(own(alloc, "every", EVERY))?
+        .arg(own(alloc, "scatter", SCATTER))?
+        .arg(own(alloc, "lasting", LASTING))?
+        .arg(own(alloc, "crashes", CRASHES))?
+        .arg(own(alloc, "cut", CUT))
+}
+
+fn own<'a>(alloc: Global, name: &'a str, help: &'a str) -> Arg<'a>
+    ensures rule { rule_of result ≡ own_rule name.entry.now }
     ensures local { result.global ≡ false }
 {
-    default_option(
-        alloc,
-        "every",
-        "0",
-        concat!(
-            "Makes the submissions and the crash at the turns N,\n",
-            "2N, 3N and so on, 0 to 100000; at 0 their turns are\n",
-            "drawn like all others",
-        ),
-    )
-    .value_name("N")
+    default_option(alloc, name, "0", help).value_name("N")
 }
 
 // An option that is given a goal, that need not be given.

@@ -1,5 +1,5 @@
 use Rattle.ct_laws.proofs.Seeds.{least, nowhere}
-use Rattle.ct_laws.proofs.Drawing.{only_asked, walk_allowed, walk_quiet}
+use Rattle.ct_laws.proofs.Drawing.{only_asked, says_so, walk_allowed, walk_quiet}
 use Rattle.ct_laws.proofs.Rates.{always_yes, never_yes}
 use Rattle.ct_laws.proofs.Trying.{each_asks, has_turns}
 use Rattle.ct_laws.proofs.walks.law_walk.Goals as goal
@@ -15,6 +15,9 @@ returns-clause-each c = each_asks
 
 pub returns-clause-asked : goal.returns-clause-asked
 returns-clause-asked c = only_asked
+
+pub returns-clause-says : goal.returns-clause-says
+returns-clause-says c = says_so
 
 pub returns-clause-always : goal.returns-clause-always
 returns-clause-always c = always_yes

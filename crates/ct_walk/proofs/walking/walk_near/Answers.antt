@@ -18,7 +18,7 @@ returns-clause-shows c =
     let until = option_map (λ goal. goal.now) c.args.until in
     c.shows-shows.ensures
     ∙ ap₂ is_shown_by
-    (until_is o.run until o.every _ c.in_ok-walker.walker c.walk.new.self c.in_ok-walker.ensures.ok c.in_ok-rounds.ensures.ok)
+    (until_is o until _ c.in_ok-walker.walker c.walk.new.self c.in_ok-walker.ensures.ok c.in_ok-rounds.ensures.ok)
     (walked_is o until c.in_ok-walker.walker c.walk.new.self _ c.in_ok-walker.ensures.ok c.most_turns-most.ensures
     c.in_ok-rounds.ensures.ok)
 

@@ -1,8 +1,11 @@
+use Rattle.std.specs.Prelude.{fold}
+use Rattle.std.proofs.Common.{ap, ◌∙◌}
 use Rattle.std.proofs.lemmas.Result.{IfOk-weaker}
-use Rattle.ct_streams.proofs.Options.{with_option}
+use Rattle.clap.specs.Words.{with_rule}
+use Rattle.ct_walk.specs.Line.{own_rules}
 use Rattle.ct_walk.proofs.words.with_search_options.Goals as goal
 
 pub returns : goal.returns
 returns c =
-    IfOk-weaker c.arg.result _ _
-    (λ r adds. with_option _ _ _ _ _ adds c.every.ensures.local c.in_ok-with_seedless_options.ensures c.every.ensures.rule) c.arg.ensures
+    IfOk-weaker c.with_own_options.result _ _
+    (λ r own. own ∙ ap (λ app. fold with_rule app own_rules) c.in_ok-command.ensures) c.with_own_options.ensures

@@ -5,5 +5,5 @@ use Rattle.ct_walk.proofs.walker.Walker.walk.Given as goal
 
 abbrev pub invariant-loop-made : goal.invariant-loop-made
 invariant-loop-made l =
-    (walked_for l.every l.made (l.most - l.made) l.self ≡ walked_for l.every 0 l.most l.fn.self)
-    × (max l.rounds (rounds_for l.every l.made (l.most - l.made) l.self) ≡ rounds_for l.every 0 l.most l.fn.self)
+    (walked_for l.options l.made (l.most - l.made) l.self ≡ walked_for l.options 0 l.most l.fn.self)
+    × (max l.rounds (rounds_for l.options l.made (l.most - l.made) l.self) ≡ rounds_for l.options 0 l.most l.fn.self)

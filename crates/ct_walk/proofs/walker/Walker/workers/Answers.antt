@@ -8,9 +8,9 @@ use Rattle.ct_walk.proofs.walker.Walker.workers.Goals as goal
 pub returns-clause-value : goal.returns-clause-value
 unfolding workers
 returns-clause-value c =
-    let scripts : c.count-scripts.result ≡ length (drawn_scripts c.args.every c.args.self.now) =
+    let scripts : c.count-scripts.result ≡ length (drawn_scripts c.args.options.now c.args.self.now) =
     count_from_yields_List c.filter.result c.count-scripts.result c.count-scripts.ensures.ran
-    (YieldsList-from_filter _ (is_drawn c.args.every c.args.self.now) (YieldsList-from_range 0 4 4 c.filter.ensures.source refl)
+    (YieldsList-from_filter _ (is_drawn c.args.options.now c.args.self.now) (YieldsList-from_range 0 4 4 c.filter.ensures.source refl)
     c.filter.ensures.closure (λ x b q k. search (rules, tests))) in
     let members : c.from.result ≡ c.args.self.now.rehearsal.setting.members =
     c.from.ensures ∙ (c.n.ensures.value ∙ (c.group.ensures ∙ ap (λ (r : Rehearsal). r.setting.members) c.world.ensures)) in

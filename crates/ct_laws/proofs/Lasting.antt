@@ -1,0 +1,46 @@
+-- Suspicions that last.
+use Rattle.std.proofs.Common.{◌≡◌, ℕ, zero, suc, Bool, true, false, List, [], ◌∷◌, refl, arith, set, get_or}
+use Rattle.std.specs.Prelude.{replicate, Option, Some, None, ⊤}
+use Rattle.rand_pcg.specs.Lcg.{Lcg}
+use Rattle.ct_detect.specs.declared.ask.Ask.{Ask}
+use Rattle.ct_walk.specs.Adversary.{may_last, suspects_by}
+use Rattle.ct_walk.specs.declared.options.WalkOptions.{WalkOptions}
+
+abbrev pub AreFalse : List Bool → Type 0
+AreFalse [] = ⊤
+AreFalse (b ∷ bs) = (b ≡ false) × AreFalse bs
+
+pub false_there : (bs : List Bool) (i : ℕ) → AreFalse bs → get_or bs i false ≡ false
+false_there [] i h = refl
+false_there (b ∷ bs) zero h = h.0
+false_there (b ∷ bs) (suc i) h = false_there bs i h.1
+
+pub false_set : (bs : List Bool) (i : ℕ) (b : Bool) → AreFalse bs → b ≡ false → AreFalse (set bs i b)
+false_set [] i b h k = tt
+false_set (a ∷ bs) zero b h k = (k, h.1)
+false_set (a ∷ bs) (suc i) b h k = (h.0, false_set bs i b h.1 k)
+
+pub all_false : (n : ℕ) → AreFalse (replicate n false)
+all_false zero = tt
+all_false (suc n) = (refl, all_false n)
+
+-- ---- whether a suspicion lasts
+
+-- where the detector says yes no word is drawn
+yes_lasts : (o : WalkOptions) (s : List Bool) (asks : Option Ask) → may_last o s asks true ≡ false
+yes_lasts o s None = refl
+yes_lasts o s (Some ask) = grind arith
+
+-- nor where no suspicion lasts
+pub never_lasts : (o : WalkOptions) (s : List Bool) (asks : Option Ask) (said : Bool) → o.lasting ≡ 0 → may_last o s asks said ≡ false
+never_lasts o s None said h = refl
+never_lasts o s (Some ask) said h = rw h refl
+
+pub suspects_said : (o : WalkOptions) (draws : Lcg) (lasts said : Bool) → lasts ≡ false → suspects_by o draws lasts said ≡ said
+suspects_said o draws true said h = absurd (cc h)
+suspects_said o draws false said h = refl
+
+pub suspects_yes : (o : WalkOptions) (draws : Lcg) (s : List Bool) (asks : Option Ask) (said : Bool) → said ≡ true →
+    suspects_by o draws (may_last o s asks said) said ≡ true
+suspects_yes o draws s asks true h = suspects_said o draws (may_last o s asks true) true (yes_lasts o s asks)
+suspects_yes o draws s asks false h = absurd (cc h)
