@@ -1,0 +1,234 @@
+-- After every run each member has sent what it has to for its open instance, and received something that it didn't deliver; and each
+-- message was sent by its origin to everyone.
+use Rattle.std.proofs.Common.{◌≡◌, ℕ, ◌+◌, ◌-◌, false, List, [], ◌∷◌, ◌++◌, Some, refl, sym, ap, subst, inl, inr, ◌⊎◌, arith}
+use Rattle.std.proofs.Common.{append_assoc, append-nil, length, length-append, replicate, take, drop}
+use Rattle.std.proofs.lemmas.List.{take-append-drop, length-replicate}
+use Rattle.ct_names.specs.Batch.{Batch}
+use Rattle.ct_names.specs.Group.{IsMember}
+use Rattle.ct_names.specs.Membership.{IsIn}
+use Rattle.ct_names.specs.Message.{Message}
+use Rattle.ct_names.specs.Value.{minus, ordered}
+use Rattle.ct_names.proofs.Lists
+use Rattle.ct_names.proofs.Values
+use Rattle.ct_model.specs.declared.step.Step.{Step}
+use Rattle.ct_model.specs.Actor.{actor}
+use Rattle.ct_model.specs.AtValue.{Wire, Envelope, Standing}
+use Rattle.ct_model.specs.Setting.{Setting}
+use Rattle.ct_model.specs.Wire.{envelopes}
+use Rattle.ct_model.specs.declared.wire.Wire.TheVariants.{Data}
+use Rattle.ct_model.specs.declared.mail.Mail.TheVariants.{Nobody, All}
+use Rattle.ct_model.specs.State.{State, Member, member, delivered, joined, first_state}
+use Rattle.ct_model.specs.Received.{received}
+use Rattle.ct_model.specs.Next.{Outcome, plain, row, submit, receive, undelivered, proposed, is_empty, after, next}
+use Rattle.ct_model.specs.Run.{run, run_from}
+use Rattle.ct_model.specs.Senders.{senders, senders_from}
+use Rattle.ct_model.proofs.Basics.Options.{some-same, some-none, made-then}
+use Rattle.ct_model.proofs.Consensus.Facts.{Holds, member_is}
+use Rattle.ct_model.proofs.Consensus.Readings
+use Rattle.ct_model.proofs.Consensus.Runs.{Holds-first, Holds-next}
+use Rattle.ct_model.proofs.Record.Frame.{length-after-sent}
+use Rattle.ct_model.proofs.Record.Members.{member-same, member-other, p_or_other}
+use Rattle.ct_model.proofs.Record.Senders.{IsPosted, letter, posted-old, posted-new, in-all}
+use Rattle.ct_model.proofs.Record.Start.{member-first}
+use Rattle.ct_model.proofs.Relay.Messages.{next-is}
+use Rattle.ct_model.proofs.Steps.Shapes.{by_shape}
+use Rattle.ct_rest.proofs.Duties.{DoesDuty, duty-more, first-duty, turn-duty}
+
+-- a message was received, and not delivered
+pub record HasMore (got : List Wire) (batches : List Batch) : Type 0 where
+  pub message : Message
+  pub is_received : IsIn message (received got)
+  pub fresh : IsIn message (joined batches) → ⊥
+
+got-more : (got : List Wire) (batches : List Batch) (w : Wire) → HasMore got batches → HasMore (got ++ w ∷ []) batches
+got-more got batches w f = record {
+  message = f.message;
+  is_received = Readings.got-received (got ++ w ∷ []) f.message
+      (Lists.IsIn-append_left (Data f.message) got (w ∷ []) (Readings.received-got got f.message f.is_received));
+  fresh = f.fresh;
+}
+
+first-of : (list : List Message) → is_empty list ≡ false → (x : Message) × IsIn x list
+first-of [] e = absurd (cc)
+first-of (x ∷ list) e = (x, inl refl)
+
+proposed-more : (s : Setting) (m : Member) → is_empty (proposed s m) ≡ false → HasMore m.got m.batches
+unfolding proposed undelivered
+proposed-more s m some =
+    let new : List Message = minus (received m.got) (delivered m) in
+    let x = first-of (take s.bound (ordered new)) some in
+    let all = subst (λ list. IsIn x.0 list) (take-append-drop s.bound (ordered new))
+    (Lists.IsIn-append_left x.0 (take s.bound (ordered new)) (drop s.bound (ordered new)) x.1) in
+    let inside = Values.ordered-from new x.0 all in
+    record {
+      message = x.0;
+      is_received = Values.minus-from (received m.got) (delivered m) x.0 inside;
+      fresh = Values.minus-out (received m.got) (delivered m) x.0 inside;
+    }
+
+-- where p has an instance open, it has sent what it has to, and has something to deliver
+abbrev pub IsAtWork : (Envelope → Type 0) → ℕ → ℕ → Member → Type 0
+IsAtWork posted n p m = (c : Standing) → m.current ≡ Some c → DoesDuty posted n p m.last c × HasMore m.got m.batches
+
+module _ (s : Setting) (g : State) (p : ℕ) (old : Envelope → Type 0) (work : IsAtWork old s.members p (member g p)) where
+  abbrev m : Member
+  m = member g p
+
+  abbrev Now : Outcome → Envelope → Type 0
+  Now o e = old e ⊎ IsIn e (envelopes s.members o.mail)
+
+  -- what a step of p leaves
+  record IsDutiful (o : Outcome) : Type 0 where
+    busy : IsAtWork (Now o) s.members p o.member
+    submits : (x : Message) → IsIn x o.submitted → (x.origin ≡ p) × (o.mail ≡ All (Data x))
+
+  still : (o : Outcome) (c : Standing) → m.current ≡ Some c → DoesDuty (Now o) s.members p m.last c × HasMore m.got m.batches
+  still o c at = let w = work c at in (duty-more old (Now o) (λ e h. inl h) s.members p m.last c w.0, w.1)
+
+  dutiful-step : (step : Step) (o : Outcome) → row s g p m step ≡ Some o → IsDutiful o
+  dutiful-step step o = by_shape s g p m IsDutiful step o (record {
+    submits = λ c good. record {
+      busy = λ d at. still (submit g p m c) d at;
+      submits = λ x h. elim h [ inl e ↦ rw e (refl, refl) | inr never ↦ absurd never ];
+    };
+    gets = λ k w came. record {
+      busy = λ d at. let f = still (receive s p m w) d at in (f.0, got-more m.got m.batches w f.1);
+      submits = λ x h. absurd h;
+    };
+    opens = λ idle some. record {
+      busy = λ d at. (
+        first-duty _ s.members p (m.last + 1) d (ap (λ (x : Standing). x.round) (sym (some-same _ d at))),
+        proposed-more s m some,
+      );
+      submits = λ x h. absurd h;
+    };
+    turns = λ a c t at taken. record {
+      busy = λ d same.
+          let f = work c at in
+          rw (← some-same t.after d same) (turn-duty old s.members p m c f.0 a t taken, f.1);
+      submits = λ x h. absurd h;
+    };
+    closes = λ c v at has delivers. record { busy = λ d none. some-none d none; submits = λ x h. absurd h };
+    follows = λ v idle has delivers. record { busy = λ d none. some-none d none; submits = λ x h. absurd h };
+    marks = λ crashed. record {
+      busy = λ d at. still (plain (record m { crashed = crashed }) Nobody) d at;
+      submits = λ x h. absurd h;
+    };
+  })
+
+-- by names of senders: each member's work, and that messages went from their origins to everyone
+pub record HasPosted (s : Setting) (from : List ℕ) (g : State) : Type 0 where
+  pub work : (p : ℕ) → IsMember s.members p → IsAtWork (IsPosted from g.sent p) s.members p (member g p)
+  pub submitted : (x : Message) → IsIn x g.submitted → (q : ℕ) → IsMember s.members q →
+      IsPosted from g.sent x.origin (letter q (Data x))
+
+module _ (s : Setting) (from : List ℕ) (g : State) (step : Step) (o : Outcome) (holds : Holds s g)
+    (count : length from ≡ length g.sent) (is : IsMember s.members (actor step))
+    (rowed : row s g (actor step) (member g (actor step)) step ≡ Some o) (was : HasPosted s from g) where
+  abbrev p : ℕ
+  p = actor step
+
+  abbrev h : State
+  h = after s g p o
+
+  abbrev names : List ℕ
+  names = from ++ replicate (length (envelopes s.members o.mail)) p
+
+  count_kept : length names ≡ length h.sent
+  unfolding after
+  count_kept = rw (
+    length-append from (replicate (length (envelopes s.members o.mail)) p),
+    length-append g.sent (envelopes s.members o.mail),
+    length-replicate (length (envelopes s.members o.mail)) p,
+    count,
+  ) refl
+
+  posted_kept : (x : ℕ) (e : Envelope) → IsPosted from g.sent x e → IsPosted names h.sent x e
+  unfolding after
+  posted_kept x e f =
+      posted-old from (replicate (length (envelopes s.members o.mail)) p) g.sent (envelopes s.members o.mail) x e f
+
+  posted_now : (e : Envelope) → IsIn e (envelopes s.members o.mail) → IsPosted names h.sent p e
+  unfolding after
+  posted_now e f = posted-new from g.sent (envelopes s.members o.mail) p e count f
+
+  does : IsDutiful s g p (IsPosted from g.sent p) (was.work p is) o
+  does = dutiful-step s g p (IsPosted from g.sent p) (was.work p is) step o rowed
+
+  actor_work : IsAtWork (IsPosted names h.sent p) s.members p o.member
+  actor_work d at =
+      let f = does.busy d at in (
+        duty-more (λ e. IsPosted from g.sent p e ⊎ IsIn e (envelopes s.members o.mail)) (IsPosted names h.sent p)
+            (λ e x. elim x [ inl old ↦ posted_kept p e old | inr new ↦ posted_now e new ]) s.members p o.member.last d f.0,
+        f.1,
+      )
+
+  other_work : (x : ℕ) → IsMember s.members x → IsAtWork (IsPosted names h.sent x) s.members x (member g x)
+  other_work x isx d at =
+      let f = was.work x isx d at in
+      (duty-more (IsPosted from g.sent x) (IsPosted names h.sent x) (posted_kept x) s.members x (member g x).last d f.0, f.1)
+
+  submitted_kept : (x : Message) → IsIn x h.submitted → (q : ℕ) → IsMember s.members q →
+      IsPosted names h.sent x.origin (letter q (Data x))
+  unfolding after
+  submitted_kept x inside q isq = elim (Lists.IsIn-append_cases x g.submitted o.submitted inside) [
+    | inl old ↦ posted_kept x.origin (letter q (Data x)) (was.submitted x old q isq)
+    | inr new ↦
+        let f = does.submits x new in
+        subst (λ z. IsPosted names h.sent z (letter q (Data x))) (sym f.0)
+        (posted_now (letter q (Data x)) (rw f.1 (in-all s.members q (Data x) isq)))
+  ]
+
+  posts_kept : HasPosted s names h
+  posts_kept = record {
+    work = λ x isx. elim (p_or_other x p) [
+      | inl e ↦ rw (e, member-same s g p o holds is) actor_work
+      | inr ne ↦ rw (member-other s g p x o is isx ne) (other_work x isx)
+    ];
+    submitted = submitted_kept;
+  }
+
+-- over a run
+
+record IsPostal (s : Setting) (from : List ℕ) (g : State) : Type 0 where
+  holds : Holds s g
+  count : length from ≡ length g.sent
+  posted : HasPosted s from g
+
+postal-first : (s : Setting) → IsPostal s [] (first_state s)
+unfolding first_state
+postal-first s = record {
+  holds = Holds-first s;
+  count = refl;
+  posted = record { work = λ p is c at. some-none c (rw (member-first s p) at at); submitted = λ x inside. absurd inside };
+}
+
+sent-length : (s : Setting) (g : State) (p : ℕ) (o : Outcome) →
+    length (after s g p o).sent - length g.sent ≡ length (envelopes s.members o.mail)
+sent-length s g p o = omega (arith, length-after-sent s g p o)
+
+postal-next : (s : Setting) (from : List ℕ) (g : State) (step : Step) (mid : State) → next s g step ≡ Some mid → IsPostal s from g →
+    IsPostal s (from ++ replicate (length mid.sent - length g.sent) (actor step)) mid
+postal-next s from g step mid e f =
+    let t = next-is s g step mid e in
+    let is : IsMember s.members (actor step) = member_is s.members (actor step) t.in_group in
+    rw (← t.gives, sent-length s g (actor step) t.outcome) (record {
+      holds = rw (← t.gives) at (Holds-next s g step mid e f.holds);
+      count = count_kept s from g step t.outcome f.holds f.count is t.row f.posted;
+      posted = posts_kept s from g step t.outcome f.holds f.count is t.row f.posted;
+    })
+
+postal-run_from : (s : Setting) (from : List ℕ) (g h : State) (steps : List Step) → run_from s g steps ≡ Some h → IsPostal s from g →
+    IsPostal s (from ++ senders_from s g steps) h
+unfolding run_from senders_from
+postal-run_from s from g h [] e f = rw (append-nil from, ← some-same g h e) f
+postal-run_from s from g h (step ∷ steps) e f =
+    let made = made-then (λ mid. run_from s mid steps) (next s g step) h e in
+    let mid : State = made.from in
+    let now : List ℕ = replicate (length mid.sent - length g.sent) (actor step) in
+    let rest = postal-run_from s (from ++ now) mid h steps made.gives (postal-next s from g step mid made.is f) in
+    rw made.is (rw (append_assoc from now (senders_from s mid steps)) at rest)
+
+pub posts-run : (s : Setting) (steps : List Step) (g : State) → run s steps ≡ Some g → HasPosted s (senders s steps) g
+unfolding run senders
+posts-run s steps g e = (postal-run_from s [] (first_state s) g steps e (postal-first s)).posted
