@@ -1,23 +1,21 @@
 -- Envelopes that the network brings once more.
-use Rattle.std.proofs.Common.{◌≡◌, ◌≢◌, ℕ, Bool, true, false, not, ◌&&◌, ◌||◌, ◌==◌, List, [], ◌∷◌, ◌++◌, Option, Some, None, Ok, Err}
-use Rattle.std.proofs.Common.{inl, inr, ap, sym, ◌∙◌, refl, subst, length}
-use Rattle.std.specs.Prelude.{IfSome, is_some}
+use Rattle.std.proofs.Common.{◌≡◌, ◌≢◌, ℕ, Bool, true, false, not, ◌==◌, List, [], ◌∷◌, ◌++◌, Option, Some, None, Ok, Err}
+use Rattle.std.proofs.Common.{inr, ap, sym, ◌∙◌, refl, subst, length}
+use Rattle.std.specs.Prelude.{IfSome}
 use Rattle.ct_names.specs.Group.{is_member}
 use Rattle.ct_names.specs.declared.refusal.Refusal.{Refusal}
 use Rattle.ct_names.specs.declared.refusal.Refusal.TheVariants.{Crashed, NoSuchMember, NotWaiting}
 use Rattle.ct_model.specs.Cause.{at, cause, first_fault, limit, presence}
 use Rattle.ct_model.specs.Lawful.{IsLawful, IsPresent, is_waiting}
-use Rattle.ct_model.specs.Next.{wire_to}
 use Rattle.ct_model.specs.Rehearsal.{Rehearsal, extended, line_of, state_of}
 use Rattle.ct_model.specs.State.{is_crashed}
-use Rattle.ct_model.specs.Waiting.{LineChange, changed, has_serial, serials_to}
+use Rattle.ct_model.specs.Waiting.{changed, has_serial, serials_to}
 use Rattle.ct_model.specs.Waiting.LineChange.{Restores}
 use Rattle.ct_model.specs.Wire.{envelopes}
 use Rattle.ct_model.specs.declared.step.Step.TheVariants.{Receive, Repeat}
 use Rattle.ct_model.proofs.Basics.Options.{some-none, some-same}
 use Rattle.ct_model.proofs.Basics.Serials.{has_serial-append}
 use Rattle.ct_model.proofs.Basics.Tests.{or_left, or_right, self_number}
-use Rattle.ct_model.proofs.Record.Allowed.{cause-allowed}
 use Rattle.ct_model.proofs.Record.Causes.{cause-absent, none-present}
 use Rattle.ct_model.proofs.Record.Limits.{cause-passed}
 use Rattle.ct_model.proofs.Record.Taken.{line-step}
@@ -26,7 +24,7 @@ use Rattle.ct_model.proofs.Steps.Receive.{cause-receive-away, receive_waits}
 use Rattle.ct_play.specs.Faults.{UnlessShort, is_short}
 use Rattle.ct_play.specs.declared.line_fault.LineFault.{LineFault}
 use Rattle.ct_world.specs.World.{verdict}
-use Rattle.ct_merge.specs.Merging.{IsSerialOf, IsThereFor, received, step_of}
+use Rattle.ct_merge.specs.Merging.{IsSerialOf, IsThereFor, received}
 use Rattle.ct_merge.specs.Names.{IsSentAs}
 use Rattle.ct_merge.specs.Stops.{IsAsked, IsFaultAt, IsRefusedBy}
 use Rattle.ct_merge.specs.Waits.{is_full}
@@ -35,10 +33,8 @@ use Rattle.ct_merge.specs.declared.log_act.LogAct.{LogAct}
 use Rattle.ct_merge.specs.declared.log_act.LogAct.TheVariants as told
 use Rattle.ct_merge.specs.declared.log_line.LogLine.{LogLine}
 use Rattle.ct_merge.specs.declared.own_fault.OwnFault.TheVariants.{Line}
-use Rattle.ct_merge.proofs.Barring.{there_named, there_wire}
-use Rattle.ct_merge.proofs.Begun.{receipt_of}
+use Rattle.ct_merge.proofs.Addresses.{sent_kept}
 use Rattle.ct_merge.proofs.Failing.{limit_full}
-use Rattle.ct_merge.proofs.Posting.{from_kept}
 use Rattle.ct_merge.proofs.Stopping.{refused, unless_more}
 
 -- ---- whether it waits
@@ -99,16 +95,6 @@ pub ruleset tested = (tested_away, tested_other, tested_free)
 -- ---- once more
 
 module _ (w : Rehearsal) (p k : ℕ) (law : IsLawful w) (free : cause w (Repeat p k) ≡ None) where
-  sent_kept : (name : FullName) → IsSentAs w p name k → IsSentAs (extended w (Repeat p k)) p name k
-  sent_kept name s =
-      let ok = cause-allowed w (Repeat p k) law free in
-      let f = receipt_of w p k name s.sent s.named in
-      let g = from_kept w (Repeat p k) ok.after law.runs ok.enabled name.from p f.wire k f.from in
-      record {
-        sent = ap is_some (there_wire (extended w (Repeat p k)) p name.from k f.wire g);
-        named = there_named (extended w (Repeat p k)) p name.from k f.wire name g f.carried refl;
-      }
-
   restored : (line : List ℕ) → has_serial k (changed p (Restores p k) line) ≡ true
   restored line =
       let self : changed p (Restores p k) line ≡ line ++ k ∷ [] = rw (self_number p) refl in
@@ -132,7 +118,7 @@ brought_named old new p k act law serial free e =
     by_name : (o : Option FullName) → IfSome o (λ name. IsSentAs old p name k) →
         IfSome o (λ name. IsSentAs (extended old (Repeat p k)) p name k)
     by_name None s = tt
-    by_name (Some name) s = sent_kept old p k law free name s
+    by_name (Some name) s = sent_kept old (Repeat p k) law free p k name s
 
 act_there : (w : Rehearsal) (p k : ℕ) (act : LogAct) → is_waiting w p k ≡ true → IsThereFor w p act k
 act_there w p k (told.Receive name) waits present = waits

@@ -1,3 +1,4 @@
+pub mod Addresses
 pub mod Advancing
 pub mod Barring
 pub mod Begun
@@ -29,7 +30,6 @@ pub mod Stopping
 pub mod Taking
 pub mod Telling
 pub mod Unable
-pub mod Unnamed
 pub mod Verdicts
 pub mod Waiting
 pub mod Walking

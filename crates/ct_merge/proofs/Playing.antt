@@ -1,5 +1,5 @@
 -- A step that is taken.
-use Rattle.std.proofs.Common.{◌≡◌, Option, Some, None, Ok, Err, ap, subst, refl}
+use Rattle.std.proofs.Common.{◌≡◌, Option, Some, None, Ok, Err, subst, refl}
 use Rattle.ct_names.specs.declared.refusal.Refusal.{Refusal}
 use Rattle.ct_model.specs.Cause.{cause}
 use Rattle.ct_model.specs.declared.step.Step.{Step}

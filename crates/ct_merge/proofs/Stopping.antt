@@ -2,7 +2,6 @@
 use Rattle.std.proofs.Common.{◌≡◌, ℕ, Bool, true, false, List, Some, None, inl, inr, ap, sym, subst, ◌∙◌, refl}
 use Rattle.std.specs.Prelude.{◌⊎◌, slice_get}
 use Rattle.ct_names.specs.Group.{is_member}
-use Rattle.ct_model.specs.Actor.{actor}
 use Rattle.ct_model.specs.Cause.{cause}
 use Rattle.ct_model.specs.Lawful.{IsLawful, IsPresent}
 use Rattle.ct_model.specs.Rehearsal.{Rehearsal, extended, state_of}

@@ -12,7 +12,9 @@ use Rattle.ct_model.specs.declared.step.Step.TheVariants.{Repeat}
 use Rattle.ct_model.proofs.Basics.Options.{some-none, some-same}
 use Rattle.ct_play.specs.Stating.{is_stated, stated_text}
 use Rattle.ct_merge.specs.Logs.{IsTold, act_of, is_own, own}
-use Rattle.ct_merge.specs.Merging.{IsLater, IsReady, IsSerialOf, IsTakenTo, LeavesAll, LeavesOthers, Takes, step_of}
+use Rattle.ct_merge.specs.Merging.{IsLater, IsReady, IsSerialOf, IsTakenTo, LeavesAll, LeavesOthers, Takes, received, step_of}
+use Rattle.ct_merge.specs.Waits.{IsUnsent, IsWaiting, WaitsIn}
+use Rattle.ct_merge.specs.declared.full_name.FullName.{FullName}
 use Rattle.ct_merge.specs.declared.log_act.LogAct.{LogAct}
 use Rattle.ct_merge.specs.declared.log_act.LogAct.TheVariants as told
 use Rattle.ct_merge.specs.declared.log_line.LogLine.{LogLine}
@@ -120,6 +122,23 @@ act_is w p k told.Crash serial = refl
 pub ready : (w : Rehearsal) (p : ℕ) (log : List LogLine) (count k : ℕ) (line : LogLine) → slice_get log count ≡ Some line →
     IsSerialOf w p line.act k → IsReady w p log count k
 ready w p log count k line there serial = record { line = line; there = there; serial = serial }
+
+-- one that receives what was not sent waits, and so does a log that is over
+waits_on : (w : Rehearsal) (p : ℕ) (line : LogLine) (act : LogAct) (name : FullName) → line.act ≡ act → received act ≡ Some name →
+    IsUnsent w p name → IsWaiting w p line
+waits_on w p line (told.Receive other) name is e unsent =
+    record { name = name; act = is ∙ ap told.Receive (some-same other name e); unsent = unsent }
+waits_on w p line _ name is e unsent = some-none name e
+
+pub waits_there : (w : Rehearsal) (p : ℕ) (log : List LogLine) (count : ℕ) (line : LogLine) (name : FullName) →
+    slice_get log count ≡ Some line → received line.act ≡ Some name → IsUnsent w p name → WaitsIn w p log count
+waits_there w p log count line name there e unsent other at =
+    subst (λ l. IsWaiting w p l) (some-same line other (sym there ∙ at)) (waits_on w p line line.act name refl e unsent)
+
+pub waits_over : (w : Rehearsal) (p : ℕ) (log : List LogLine) (count : ℕ) → slice_get log count ≡ None → WaitsIn w p log count
+waits_over w p log count none line at = some-none line (sym none ∙ at)
+
+pub ruleset found = (ready, waits_there, waits_over)
 
 pub ready_serial : (w : Rehearsal) (p : ℕ) (log : List LogLine) (count k : ℕ) (line : LogLine) → IsReady w p log count k →
     slice_get log count ≡ Some line → IsSerialOf w p line.act k

@@ -1,3 +1,4 @@
+pub mod Addresses
 pub mod Barred
 pub mod Culprits
 pub mod Deeds

@@ -1,5 +1,5 @@
 -- Logs of which none goes on.
-use Rattle.std.specs.Prelude.{◌≡◌, ℕ, ◌≤◌, ◌<◌, Bool, true, false, List, Some, length, slice_get}
+use Rattle.std.specs.Prelude.{◌≡◌, ℕ, ◌<◌, Bool, true, false, List, Some, length, slice_get}
 use Rattle.std.specs.Global.{Vec}
 use Rattle.ct_names.specs.Group.{is_member}
 use Rattle.ct_names.specs.Prefix.{IsPrefix}
@@ -20,17 +20,9 @@ use Rattle.ct_merge.specs.declared.own_fault.OwnFault.TheVariants.{Line}
 use Rattle.ct_merge.specs.declared.verdict.Why.{Why}
 use Rattle.ct_merge.specs.declared.verdict.Why.TheVariants.{Ended, Fault}
 
--- the serial is that of no envelope to p of this name
-abbrev pub UnlessNamed : Rehearsal → ℕ → FullName → ℕ → Type 0
-UnlessNamed w p name k = is_sent w p k ≡ true → full_name w k ≡ Some name → ⊥
-
 -- no envelope of this name was sent to p
 abbrev pub IsUnsent : Rehearsal → ℕ → FullName → Type 0
-IsUnsent w p name = (k : ℕ) → UnlessNamed w p name k
-
--- none of the first n serials is that of one
-abbrev pub IsUnsentTo : Rehearsal → ℕ → FullName → ℕ → Type 0
-IsUnsentTo w p name n = (k : ℕ) → k ≤ n → UnlessNamed w p name k
+IsUnsent w p name = (k : ℕ) → is_sent w p k ≡ true → full_name w k ≡ Some name → ⊥
 
 -- the line receives an envelope that was not sent
 pub record IsWaiting (w : Rehearsal) (p : ℕ) (line : LogLine) : Type 0 where
@@ -38,9 +30,13 @@ pub record IsWaiting (w : Rehearsal) (p : ℕ) (line : LogLine) : Type 0 where
   pub act : line.act ≡ Receive name
   pub unsent : IsUnsent w p name
 
--- p's log is over, or its next line waits
+-- p's log is over behind so many lines, or the next one waits
+abbrev pub WaitsIn : Rehearsal → ℕ → List LogLine → ℕ → Type 0
+WaitsIn w p log count = (line : LogLine) → slice_get log count ≡ Some line → IsWaiting w p line
+
+-- so it is behind the lines that were taken
 abbrev pub WaitsAt : List (Vec LogLine) → Taken → ℕ → Type 0
-WaitsAt logs t p = (line : LogLine) → slice_get (log_of logs p) (count_of t.counts p) ≡ Some line → IsWaiting t.rehearsal p line
+WaitsAt logs t p = WaitsIn t.rehearsal p (log_of logs p) (count_of t.counts p)
 
 -- so it is with each log
 abbrev pub AllWait : List (Vec LogLine) → Taken → Type 0

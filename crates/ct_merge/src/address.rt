@@ -1,6 +1,7 @@
 //! Where an envelope is looked for.
 
 ghost use Rattle.std.specs.Prelude.{◌≡◌};
+ghost use Rattle.ct_merge.specs.Addresses.{name_at};
 
 use crate::full_name::FullName;
 use ct_grammar::Carried;
@@ -31,7 +32,7 @@ pub struct Address {
 /// The address of the envelope of this name that goes to the member.
 pub fn address_of(to: Member, name: FullName) -> Address
     ensures to { result.to ≡ to }
-    ensures from { result.from ≡ name.from }
+    ensures name { name_at result ≡ name }
 {
     let (kind, first, second) = match name.carried {
         Carried::Data(origin, number) => (Kind::Data, u32::from(origin), number),

@@ -1,11 +1,12 @@
 //! How far logs were taken.
 
-ghost use Rattle.std.specs.Prelude.{◌≡◌, ◌≢◌, ◌<◌, ◌≤◌, ℕ, [], true, IfErr, IfOk, IfSome, OnOk, length, slice_index};
+ghost use Rattle.std.specs.Prelude.{◌≡◌, ◌≢◌, ◌<◌, ◌≤◌, ℕ, [], None, true, IfErr, IfOk, IfSome, OnOk, length, slice_index};
 ghost use Rattle.ct_names.specs.Group.{is_member};
 ghost use Rattle.ct_merge.specs.Logs.{log_of};
 ghost use Rattle.ct_merge.specs.Merging.{count_of, IsLater, IsReady, IsTakenFrom};
 ghost use Rattle.ct_merge.specs.Names.{IsSentAs};
 ghost use Rattle.ct_merge.specs.Stops.{halted_at, IsHalt};
+ghost use Rattle.ct_merge.specs.Waits.{IsUnsent, WaitsAt};
 ghost use Rattle.ct_world.specs.Setup.{record_of};
 
 use crate::full_name::FullName;
@@ -62,11 +63,23 @@ impl Progress {
         self.taker.stage()
     }
 
-    /// The serial of an envelope of this name that was sent to the member.
+    /// The serial of the envelope of this name that was sent to the member.
     pub fn serial(&self, member: Member, name: FullName) -> Option<Serial>
-        ensures { IfSome result (IsSentAs self.now.rehearsal member name) }
+        ensures sent { IfSome result (IsSentAs self.now.rehearsal member name) }
+        ensures none { result ≡ None → IsUnsent self.now.rehearsal member name }
     {
         self.taker.serial(member, name)
+    }
+
+    /// The serial of what the next line of the member's log receives; of another line any number. None: the log is over, or that was not
+    /// sent.
+    pub(crate) fn ready(&self, logs: &[Vec<LogLine>], member: Member) -> Option<Serial>
+        ensures ready { IfSome result
+            (IsReady self.now.rehearsal member (log_of logs.now member) (count_of self.now.counts member)) }
+        ensures waits { result ≡ None → WaitsAt logs.now self.now member }
+    {
+        self.taker
+            .find(member, log_of(logs, member), self.count(member))
     }
 
     // The world alone.

@@ -1,21 +1,25 @@
 //! Lines of logs, taken one by one.
 
-ghost use Rattle.std.specs.Prelude.{◌≡◌, ◌≤◌, ◌<◌, [], length, false, true, None, Some, IfErr, IfOk, IfSome, OnOk};
+ghost use Rattle.std.specs.Prelude.{◌≡◌, ◌+◌, ◌≤◌, ◌<◌, [], length, false, true, None, Some, IfErr, IfOk, IfSome, OnOk};
 ghost use Rattle.ct_model.specs.Cause.{cause};
 ghost use Rattle.ct_model.specs.Lawful.{IsLawful, IsPresent, is_waiting};
-ghost use Rattle.ct_model.specs.Rehearsal.{extended};
+ghost use Rattle.ct_model.specs.Rehearsal.{extended, state_of};
+ghost use Rattle.indexmap.specs.IndexMap.{get, spare};
 ghost use Rattle.ct_world.specs.Setup.{record_of};
-ghost use Rattle.ct_play.specs.Faults.{IsShort, UnlessShort, is_short};
+ghost use Rattle.ct_play.specs.Faults.{UnlessShort, is_short};
+ghost use Rattle.ct_merge.specs.Addresses.{IsIndex, IsIndexTo};
 ghost use Rattle.ct_merge.specs.Merging.{step_of, IsLater, IsReady, IsSerialOf, IsTakenTo, IsThereFor, LeavesAll, LeavesOthers, Takes};
 ghost use Rattle.ct_merge.specs.Names.{IsSentAs};
 ghost use Rattle.ct_play.specs.Stating.{is_stated, stated_text};
 ghost use Rattle.ct_merge.specs.Stops.{IsFaultAt, IsOutcome, IsRefusedBy, IsStuck, IsStuckIn, line_fault_of};
+ghost use Rattle.ct_merge.specs.Waits.{IsUnsent, WaitsIn};
+ghost use Rattle.ct_merge.specs.contracts.address.AddressPartialEq.TheImpl.{ghosts as equal};
 
 use crate::address::{Address, address_of};
 use crate::full_name::FullName;
 use crate::log_act::LogAct;
 use crate::log_line::LogLine;
-use crate::naming::{full_name, is_it};
+use crate::naming::address;
 use crate::own_fault::OwnFault;
 use ct_grammar::Text;
 use ct_model::Step;
@@ -37,13 +41,18 @@ pub(crate) struct Taker {
     serials: IndexMap<Address, Serial>,
 }
 
-// Contracts see the record. What is found by a name is looked at before it is taken.
+// Contracts see the record.
 impl Model for Taker {
+    ghost use Rattle.indexmap.specs.IndexMap.{get};
     ghost use Rattle.ct_model.specs.Rehearsal.{Rehearsal};
+    ghost use Rattle.ct_merge.specs.Addresses.{IsIndex};
+    ghost use Rattle.ct_merge.specs.contracts.address.AddressPartialEq.TheImpl.{ghosts as equal};
 
     ghost Value = { Rehearsal };
 
     ghost view = { λ m. m.stage.rehearsal };
+
+    ghost invariant = { λ m. IsIndex m.stage.rehearsal (get equal.eq m.serials) };
 }
 
 impl Taker {
@@ -66,16 +75,13 @@ impl Taker {
         &self.stage
     }
 
-    /// The serial of an envelope of this name that was sent to the member, where the index has it.
+    /// The serial of the envelope of this name that was sent to the member.
+    #[tactic(auto, using(crate::proofs::Addresses::looked_up))]
     pub(crate) fn serial(&self, member: Member, name: FullName) -> Option<Serial>
-        ensures { IfSome result (IsSentAs self.now member name) }
+        ensures sent { IfSome result (IsSentAs self.now member name) }
+        ensures none { result ≡ None → IsUnsent self.now member name }
     {
-        let serial = self.serials.get(&address_of(member, name)).copied()?;
-        if is_it(&self.stage, member, name, serial) {
-            Some(serial)
-        } else {
-            None
-        }
+        self.serials.get(&address_of(member, name)).copied()
     }
 
     /// The world alone.
@@ -91,7 +97,7 @@ impl Taker {
     }
 
     /// Takes some next lines of the member's log, of which so many were taken, up to this end: none only where the first of the others
-    /// waits for an envelope that the index doesn't have, or is refused, or there is none.
+    /// waits for an envelope that was not sent, or is refused, or there is none.
     #[tactic(auto, using(crate::proofs::Stopping::stuck_on, crate::proofs::Taking::on))]
     pub(crate) fn take_on(
         &mut self,
@@ -146,10 +152,11 @@ impl Taker {
         }
     }
 
-    // The serial of what the line at this place receives, where the index has it; of another line any number.
-    #[tactic(auto, using(crate::proofs::Taking::ready))]
-    fn find(&self, member: Member, log: &[LogLine], place: usize) -> Option<Serial>
-        ensures { IfSome result (IsReady self.now member log.now place) }
+    /// The serial of what the line at this place receives; of another line any number. None: there is no line, or that was not sent.
+    #[tactic(auto, using(crate::proofs::Taking::found))]
+    pub(crate) fn find(&self, member: Member, log: &[LogLine], place: usize) -> Option<Serial>
+        ensures ready { IfSome result (IsReady self.now member log.now place) }
+        ensures waits { result ≡ None → WaitsIn self.now member log.now place }
     {
         let line = log.get(place)?;
         match line.act.received() {
@@ -226,39 +233,34 @@ impl Taker {
     }
 
     // Takes the step.
-    #[tactic(auto, using(crate::proofs::Playing::allowed, crate::proofs::Playing::refused))]
+    #[tactic(auto, using(crate::proofs::Playing::allowed, crate::proofs::Playing::refused, crate::proofs::Addresses::index_same))]
     fn step(&mut self, step: Step) -> Result<(), LineFault>
         ensures joined { OnOk result (self.new ≡ extended self.old step) }
         ensures allowed { OnOk result (cause self.old step ≡ None) }
         ensures refused { IfErr result (λ fault. UnlessShort (is_short fault) (IsRefusedBy self.old step fault)) }
     {
-        let sent = self.stage.world().sent();
+        lawful(self.stage.world());
+        let before = self.stage.world().sent();
+        // A step sends each member one envelope at most.
+        self.serials
+            .reserve(usize::from(self.stage.world().group().n()))?;
         self.stage.step(step)?;
-        self.note(sent)
-    }
-
-    // Notes the envelopes that were sent since there were so many.
-    fn note(&mut self, before: u32) -> Result<(), LineFault>
-        ensures same { self.new ≡ self.old }
-        ensures err { IfErr result IsShort }
-    {
-        for place in before..self.stage.world().sent() {
-            let serial = place + 1;
-            let Some(letter) = self.stage.world().letter(serial) else {
-                return Ok(());
-            };
-            let Some(name) = full_name(&self.stage, serial) else {
-                return Ok(());
-            };
-            if self
-                .serials
-                .insert(address_of(letter.to, name), serial)
-                .is_err()
-            {
-                return Err(LineFault::OutOfMemory);
-            }
-        }
+        note(&self.stage, before, &mut self.serials);
         Ok(())
+    }
+}
+
+// Notes the envelopes behind so many.
+#[tactic(auto, using(crate::proofs::Addresses::noted))]
+fn note(stage: &Stage, before: u32, serials: &mut IndexMap<Address, Serial>)
+    requires room { length (state_of stage.now.rehearsal).sent ≤ before + spare serials.old }
+    requires before { IsIndexTo stage.now.rehearsal before (get equal.eq serials.old) }
+    ensures { IsIndex stage.now.rehearsal (get equal.eq serials.new) }
+{
+    for place in before..stage.world().sent() {
+        serials
+            .insert(address(stage, place + 1), place + 1)
+            .unwrap();
     }
 }
 

@@ -26,7 +26,7 @@ pub(crate) fn take_all(
     ensures halt { IfErr result (IsHalt progress.old.rehearsal logs.now progress.new) }
 {
     progress.run(logs, refused)?;
-    // The index of envelopes is trusted for nothing: what it misses is found here.
+    // No clause of a run says that none is left: here it is asked.
     while let Some((member, serial)) = ready(progress, logs, refused) {
         progress.take_next(logs, member, serial)?;
         progress.run(logs, refused)?;

@@ -1,4 +1,4 @@
-use Rattle.std.proofs.Common.{◌≡◌, ◌∙◌, Some, subst, sym}
+use Rattle.std.proofs.Common.{◌∙◌, subst, sym}
 use Rattle.ct_model.specs.Lawful.{IsLawful}
 use Rattle.ct_merge.specs.Stops.{IsCulprit}
 use Rattle.ct_merge.proofs.Standing.{culprit_behind}

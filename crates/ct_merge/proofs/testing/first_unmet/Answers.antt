@@ -1,10 +1,9 @@
-use Rattle.std.proofs.Common.{rules, ◌≡◌, ℕ, ◌+◌, ◌∙◌, Ok, Some, true, false, ap, arith, sym, subst, take}
+use Rattle.std.proofs.Common.{rules, ◌≡◌, ◌∙◌, Ok, Some, true, false, ap, arith, sym, subst, take}
 use Rattle.std.proofs.lemmas.List.{take_all}
 use Rattle.std.specs.Prelude.{slice_get}
 use Rattle.ct_names.specs.Group.{is_member}
 use Rattle.ct_model.specs.Actor.{actor}
 use Rattle.ct_world.specs.Setup.{record_of}
-use Rattle.ct_grammar.specs.Sides.{whole}
 use Rattle.ct_play.specs.Played.{Played}
 use Rattle.ct_merge.specs.Merging.{count_of}
 use Rattle.ct_merge.specs.Testing.{AreTested}

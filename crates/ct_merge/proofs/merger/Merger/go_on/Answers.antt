@@ -1,4 +1,4 @@
-use Rattle.std.proofs.Common.{rules, ◌≡◌, ap, false, ◌∙◌}
+use Rattle.std.proofs.Common.{rules, ◌≡◌, ap, false}
 use Rattle.ct_merge.specs.Stops.{IsCulprit}
 use Rattle.ct_merge.specs.Waits.{is_wait}
 use Rattle.ct_merge.specs.declared.verdict.Culprit.{Culprit}

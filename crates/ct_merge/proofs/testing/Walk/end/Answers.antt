@@ -1,7 +1,6 @@
-use Rattle.std.proofs.Common.{rules, ◌≡◌, ◌≢◌, ℕ, ◌+◌, ◌<◌, ◌∙◌, Ok, true, false, ap, subst, arith}
+use Rattle.std.proofs.Common.{rules, ◌≡◌, ◌≢◌, ◌+◌, ◌<◌, ◌∙◌, Ok, true, false, ap, subst, arith}
 use Rattle.ct_names.specs.Group.{is_member}
 use Rattle.ct_play.specs.Played.{Played}
-use Rattle.ct_grammar.specs.Sides.{whole}
 use Rattle.ct_merge.specs.Expected.{AllHold, expected_of}
 use Rattle.ct_merge.specs.Merging.{count_of}
 use Rattle.ct_merge.specs.Testing.{AreFrom, AreMet, IsFailing}
