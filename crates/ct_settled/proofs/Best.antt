@@ -1,0 +1,52 @@
+-- Of those heard with the largest ts the first may be chosen.
+use Rattle.std.proofs.Common.{◌≡◌, ℕ, Bool, true, false, cond, ◌==◌, List, [], ◌∷◌, find, map, Some, refl, sym}
+use Rattle.std.proofs.Common.{inl, inr, eqb-true, arith}
+use Rattle.std.proofs.lemmas.Bool.Decides.{nat_tests}
+use Rattle.ct_names.specs.Membership.{IsIn, IsWithoutRepeats}
+use Rattle.ct_names.specs.Value.{Value}
+use Rattle.ct_names.proofs.Lists
+use Rattle.ct_model.specs.Received.{Heard, Ballots, heard, estimate_from, is_largest}
+use Rattle.ct_rounds.specs.Best.{best, best_estimate}
+
+-- where an element passes the test the first one that does is found
+pub found : {A : Type 0} (test : A → Bool) (x : A) (xs : List A) → IsIn x xs → test x ≡ true → (y : A) × (find test xs ≡ Some y)
+found test x [] h pass = absurd h
+found test x (y ∷ xs) (inl e) pass = (y, rw (rw e at pass) refl)
+found test x (y ∷ xs) (inr h) pass = go (test y) (found test x xs h pass)
+  where
+    go : (b : Bool) → ((z : _) × (find test xs ≡ Some z)) → (z : _) × (cond b (Some y) (find test xs) ≡ Some z)
+    go true rest = (y, refl)
+    go false rest = rest
+
+-- of a member that was heard the one estimate is found
+found_own : (es : List (Heard Value)) → IsWithoutRepeats (map (λ e. e.member) es) → (b : Heard Value) → IsIn b es →
+    find (λ e. e.member == b.member) es ≡ Some b
+found_own [] once b h = absurd h
+found_own (e ∷ es) once b (inl is) = rw is (grind (arith, nat_tests))
+found_own (e ∷ es) once b (inr h) = go (e.member == b.member) refl (found_own es once.1 b h)
+  where
+    go : (c : Bool) → (e.member == b.member) ≡ c → find (λ x. x.member == b.member) es ≡ Some b →
+        cond c (Some e) (find (λ x. x.member == b.member) es) ≡ Some b
+    go true is rest =
+        absurd (once.0 (rw (sym (eqb-true e.member b.member is)) at (Lists.IsIn-map (λ (x : Heard Value). x.member) b es h)))
+    go false is rest = rest
+
+-- the member that is best may be chosen
+pub record IsBest (t : Ballots Value) : Type 0 where
+  pub from : ℕ
+  pub is : best t ≡ Some from
+  pub estimate : Heard Value
+  pub own : estimate_from t from ≡ Some estimate
+  pub largest : is_largest t estimate.ts ≡ true
+
+pub best_of : (t : Ballots Value) (e : Heard Value) → IsWithoutRepeats (heard t) → IsIn e t.estimates → is_largest t e.ts ≡ true → IsBest t
+best_of t e once h largest =
+    let top : (y : Heard Value) × (best_estimate t ≡ Some y) = found (λ x. is_largest t x.ts) e t.estimates h largest in
+    let there = Lists.found-find (λ (x : Heard Value). is_largest t x.ts) top.0 t.estimates top.1 in
+    record {
+      from = top.0.member;
+      is = rw top.1 refl;
+      estimate = top.0;
+      own = found_own t.estimates once top.0 there.0;
+      largest = there.1;
+    }

@@ -1,0 +1,6 @@
+mod Still
+mod Free
+mod Best
+mod Gone
+mod Quiet
+mod Rested

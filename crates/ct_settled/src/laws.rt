@@ -1,0 +1,23 @@
+//! What is done once a group settled.
+
+ghost use Rattle.std.specs.Prelude.{ℕ, List};
+ghost use Rattle.ct_model.specs.Rehearsal.{state_of};
+ghost use Rattle.ct_rest.specs.Rest.{IsAtRest, IsDone};
+ghost use Rattle.ct_grammar.specs.declared.who.Who.{Who};
+ghost use Rattle.ct_play.specs.Played.{Played};
+ghost use Rattle.ct_settled.specs.Settled.{IsSettled, IsUpIn};
+
+use ct_rest::law_rest;
+
+/// Where a schedule's line `WHO settle suspecting SET` was played, as `all settle suspecting 2`, nothing moves any more, as `law_rest`
+/// asks for, and so all is done: all that are up have delivered the same sequence, and in it is each message that one of them received
+/// or submitted; if each that is up is one of WHO, each that crashed one of SET, a majority is up, no cut is between two that are up,
+/// nothing that one of them sent another was lost for good, and no limit stands in the way of a step but a submission.
+pub fn law_settles()
+    ensures rest { (s t : Played) (who : Who) (set : List ℕ) → IsSettled s who set t →
+        IsAtRest t.rehearsal.setting t.rehearsal.steps (state_of t.rehearsal) }
+    ensures done { (s t : Played) (who : Who) (set : List ℕ) → IsSettled s who set t → (p q : ℕ) → IsUpIn t p → IsUpIn t q →
+        IsDone (state_of t.rehearsal) p q }
+{
+    law_rest();
+}
