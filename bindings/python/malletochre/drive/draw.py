@@ -121,7 +121,7 @@ class Draw:
         p = self._chance.choice(self._network.up)
         awaited = self._awaited(p)
         q = awaited if awaited and self._chance.random() < 0.8 else self._chance.randint(1, self._network.n)
-        return (Event("suspect", p, q), None) if q not in self._network.suspects[p] and q != p else None
+        return (Event("suspect", p, q), None) if q not in self._network.suspects[p] else None
 
     def _trust(self, _waiting: List[Packet]) -> Optional[Happening]:
         wrong = [(p, q) for p in self._network.up for q in sorted(self._network.suspects[p])]

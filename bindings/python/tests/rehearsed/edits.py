@@ -55,6 +55,13 @@ MUTANTS: Dict[str, Mutant] = {
         "handlers": [("self.estimate = max(heard.values(), key=lambda m: m.ts).value", "pass")],
         "task": [("value = max(heard.values(), key=lambda m: m[\"ts\"])[\"v\"]", "pass")],
         "actor": [("        self.estimate = next(estimate for q, (t, estimate) in sorted(estimates.items()) if t == ts)\n", "")]}),
+    "estimate_kept_at_choice": Mutant("the coordinator takes what it proposes over once that comes back, no earlier", {
+        "handlers": [("self.estimate = max(heard.values()", "proposed = max(heard.values()"),
+                     ('"prop", self.k, self.r, self.me, self.estimate', '"prop", self.k, self.r, self.me, proposed')],
+        "task": [("value = max(heard.values()", "proposed = max(heard.values()"),
+                 ('type="prop", k=k, r=r, v=value', 'type="prop", k=k, r=r, v=proposed')],
+        "actor": [("self.estimate = next(", "proposed = next("),
+                  ('("prop", self.k, self.r, self.estimate)', '("prop", self.k, self.r, proposed)')]}),
     "nack_not_sent": Mutant("a suspicion sends no nack", {
         "handlers": [('self.send(c, Msg("nack", self.k, self.r, self.me))', "pass")],
         "task": [('self.send(c, type="nack", k=k, r=r, p=self.me)', "pass")],
