@@ -86,17 +86,20 @@ class Searched:
     seconds: float = 0.0                                        # of wall time
     rounds: int = 0                                             # the most
     instances: int = 0
+    messages: int = 0                                           # the largest number of one
     met: "Counter[str]" = field(default_factory=Counter)        # steps and situations: how often
     runs_with: "Counter[str]" = field(default_factory=Counter)  # in how many runs
     failure: Optional[Failure] = None
 
     def count(self, run: Run) -> None:
-        it = run.judge
-        self.add(Searched(1, len(run.events), len(it.taken), 0.0, it.rounds, it.instances, it.met, Counter(it.met.keys())))
+        it, submitted = run.judge, Counter(event.member for event in run.events if event.name == "submit")
+        self.add(Searched(1, len(run.events), len(it.taken), 0.0, it.rounds, it.instances, max(submitted.values(), default=0), it.met,
+                          Counter(it.met.keys())))
 
     def add(self, other: Searched) -> None:
         self.runs, self.events, self.steps = self.runs + other.runs, self.events + other.events, self.steps + other.steps
         self.rounds, self.instances = max(self.rounds, other.rounds), max(self.instances, other.instances)
+        self.messages = max(self.messages, other.messages)
         self.met.update(other.met)
         self.runs_with.update(other.runs_with)
 
@@ -106,7 +109,7 @@ class Searched:
 
     def coverage(self) -> str:
         lines = [f"{self.runs} runs, {self.events} events, {self.steps} steps; {self.runs / max(self.seconds, 1e-9):.0f} runs a second",
-                 f"rounds up to {self.rounds}, instances up to {self.instances}"]
+                 f"rounds up to {self.rounds}, instances up to {self.instances}, message numbers up to {self.messages}"]
         lines += [f"{self.runs_with[it]:8d} runs {self.met[it]:9d} times  {it}" for it in sorted(self.met, key=lambda it: -self.met[it])]
         return "\n".join(lines + [f"       no run: {it}" for it in self.never_met()])
 
