@@ -179,7 +179,7 @@ assert it.IN_PROCESS and it.__file__.startswith(f"{sys.argv[2]}/malletochre/"), 
 with it.World(1) as world:
     assert world.apply(it.Submit(1, it.Set(0, 7))) == range(1, 2)
 from malletochre.drive.schedules import examples
-assert len(list(examples(3, it.MAX_BOUND))) == 7' "$site" "$place") &&
+assert len(list(examples(3, it.MAX_BOUND))) == 9' "$site" "$place") &&
         PYTHONPATH=$site python3 -m pip show malletochre >"$folder/shown" && grep -q '^Summary: A proved ' "$folder/shown"
 }
 imports pip 'the package, installed' && check 'the package, installed' installed "$folder/site" "$folder/site" &&

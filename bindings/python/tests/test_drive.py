@@ -21,7 +21,7 @@ from malletochre.drive.report import judged
 from malletochre.drive.run import Watchdog
 from malletochre.drive.schedules import examples, read
 from malletochre.drive.standing import Standing
-from rehearsed.edits import MUTANTS, STYLES, VARIANTS, WAITS_FOR_ITS_ROUND, member
+from rehearsed.edits import MUTANTS, OF_TWO_DIGITS, STYLES, VARIANTS, WAITS_FOR_ITS_ROUND, member
 
 SEEDS = int(os.environ.get("DRIVE_SEEDS", "25"))
 LEVELS = ("lockstep", "exact", "observable")
@@ -104,6 +104,14 @@ class Wrong(unittest.TestCase):
                 with self.subTest(name, style=style):
                     it = found(member(style, edits), make_small=False, members=mutant.members)
                     self.assertNotIn("doesn't agree", judged(schedule_of(it), it.difference)[0])
+
+    def test_numbers_of_two_digits_are_in_the_examples(self) -> None:
+        for name, mutant in OF_TWO_DIGITS.items():
+            for style, edits in mutant.edits.items():
+                with self.subTest(name, style=style):
+                    it = search(Setup(*member(style, edits)), [], examples(3, MAX_BOUND), make_small=False)
+                    self.assertEqual(it.failure and it.failure.source, name)
+                    self.assertIn(f"message numbers up to {10 if name == 'ten_messages' else 1}\n", it.coverage())
 
     def test_what_is_made_small_differs_and_nothing_can_be_left_out(self) -> None:
         setup = Setup(*member("actor", MUTANTS["proposes_before_quorum"].edits["actor"]))
@@ -245,7 +253,8 @@ class Used(unittest.TestCase):
             with open(os.path.join(folder, "test_mine.py"), "w", encoding="utf-8") as file:
                 file.write("import os\nfrom malletochre.drive import check, progress\nfrom rehearsed.edits import MUTANTS, member\n"
                            "progress.EACH = float(os.environ.get('EACH', 1))\n"
-                           "def test_right(rehearse_seeds): assert check(*member('handlers'), seeds=rehearse_seeds).runs in (1, 8, 9, 14)\n"
+                           "def test_right(rehearse_seeds):\n"
+                           "    assert check(*member('handlers'), seeds=rehearse_seeds).runs in (1, 10, 11, 16)\n"
                            "def test_wrong(): check(*member('handlers', MUTANTS['relays_its_own'].edits['handlers']))\n")
             told = self.pytest(folder, "--rehearse-seeds", "7")
             self.assertIn("1 failed, 1 passed", told)

@@ -169,6 +169,17 @@ MUTANTS: Dict[str, Mutant] = {
     "least_ts": Mutant("the coordinator proposes an estimate with the least ts", {
         "handlers": [("max(heard.values()", "min(heard.values()")]}),
 }
+# Found among the records of examples/: by default no seed comes as far.
+OF_TWO_DIGITS: Dict[str, Mutant] = {
+    "ten_messages": Mutant("a batch is delivered in the order of texts, 1.10 before 1.9", {
+        "handlers": [("for message in sorted(value):", "for message in sorted(value, key=lambda m: f\"{m[0]}.{m[1]}\"):")],
+        "task": [("sorted(self.decisions[self.k].items(), key=order)", "sorted(self.decisions[self.k].items())")],
+        "actor": [("for ident, command in value:", "for ident, command in sorted(value, key=lambda m: \"%d.%d\" % m[0]):")]}),
+    "eleven_rounds": Mutant("ts are compared as texts, 9 is more than 10", {
+        "handlers": [("key=lambda m: m.ts", "key=lambda m: str(m.ts)")],
+        "task": [("key=lambda m: m[\"ts\"]", "key=lambda m: str(m[\"ts\"])")],
+        "actor": [("ts = max(ts for ts, _ in estimates.values())", "ts = max((ts for ts, _ in estimates.values()), key=str)")]}),
+}
 SPLIT: List[Edit] = [("    def on_receive(self, m: Msg) -> List[Effect]:\n",
                       "    def on_receive(self, packet):\n        for m in packet if isinstance(packet, tuple) else [packet]:\n"
                       "            self.take(m)\n        return self.effects()\n\n    def take(self, m):\n"),
