@@ -19,7 +19,7 @@ from malletochre.drive import (SITUATIONS, Differs, Failure, NotCovered, Rules, 
 from malletochre.drive import progress
 from malletochre.drive.report import judged
 from malletochre.drive.run import Watchdog
-from malletochre.drive.schedules import examples, read
+from malletochre.drive.schedules import HEAD, examples, read
 from malletochre.drive.standing import Standing
 from rehearsed.edits import MUTANTS, OF_TWO_DIGITS, STYLES, VARIANTS, WAITS_FOR_ITS_ROUND, member
 
@@ -202,6 +202,22 @@ class Kept(unittest.TestCase):
         self.assertEqual(names["locked_value"].members, 5)
         other = read(os.path.join(EXAMPLES, "coordinator_crashes.schedule"))
         self.assertEqual(other.events, names["coordinator_crashes"].events)
+
+    def test_faults_name_the_file_and_the_line(self) -> None:
+        with tempfile.TemporaryDirectory() as folder, mock.patch.dict(os.environ, CT_REHEARSE=os.path.join(folder, "mine.schedule")):
+            line = "2 recieve data 1.1 from 1"
+            for text, fault in ((f"members 3\n1 submit set 0 7\n{line}\n", f"line 3: {line}: not understood: recieve is no act"),
+                                ("", "no step was told yet"), ("members", "line 1: members: not understood"),
+                                ('{"n": 3}', "'cells' is missing"), ("{", "Expecting property name"),
+                                (f"{HEAD}\nmembers 3\n1 submit set 0 7\n{line}\n", f"line 4: {line}: not understood"),
+                                (f"{HEAD}\nmembers 3\n# 1 suspect 2\n", "line 3: # 1 suspect 2: not understood")):
+                with open(os.environ["CT_REHEARSE"], "w", encoding="utf-8") as file:
+                    file.write(text)
+                with self.subTest(fault), self.assertRaises(ValueError) as raised:
+                    check(*member("handlers"))
+                self.assertTrue(str(raised.exception).startswith(f"{file.name}: {fault}"), raised.exception)
+            os.remove(file.name)
+            self.assertRaisesRegex(OSError, "mine.schedule", check, *member("handlers"))
 
     @OF_PROCESS
     def test_what_is_kept_is_tried_first(self) -> None:

@@ -7,7 +7,7 @@ import os
 import re
 from typing import Iterator, List, NamedTuple, Optional, Tuple
 
-from ..refusal import LineRefused, Refused
+from ..refusal import LineRefused, NoWorld, Refused
 from ..session import Session
 from ..steps import Crash, Lose, Receive, Repeat, Step, Submit, Suspect, step_of_record
 from ..world import MAX_BOUND, World
@@ -16,7 +16,10 @@ from .network import Event
 from .standing import Standing
 
 HEAD = "# kept by malletochre.drive: lines are the algorithm's steps, comments that begin with a member are what comes to it besides"
-WORD = re.compile(r"#? ?(\d+) (submit|receive|lose|repeat|suspects|trusts|crash)(?: (.*))?")
+WORD = re.compile(r"#? ?(\d+) (submit(?= \w+ \d+ \d+$)|(?:receive|lose|repeat)(?= .* from \d+$)|(?:suspects|trusts)(?= \d+$)|crash)"
+                  r"(?: (.*))?")
+OTHERS = re.compile(r"(#(?! ?\d).*|(members|cells|batch|expect) .*|\d+ (begin|enter|choose|adopt|suspect|conclude|deliver|follow)\b.*)?")
+ENDS = "refused", "not there", "not met", "not so", "not at rest"   # faults of a line that a schedule may end at
 FOLDERS = ("examples", os.path.join("..", "..", "..", "..", "examples"))
 
 
@@ -46,27 +49,31 @@ def _group(path: str) -> Tuple[int, int]:
 
 
 def read(path: str) -> Schedule:
-    """The schedule of a record or of a schedule; ValueError where it is neither."""
+    """The schedule of a record or of a schedule; ValueError, which names the file, where it is neither."""
+    __tracebackhide__ = True
+    name = os.path.basename(path).rpartition(".")[0]
     with open(path, encoding="utf-8") as file:
         text = file.read()
-    name = os.path.basename(path).rpartition(".")[0]
-    if text.startswith(HEAD):
-        return _kept(name, text)
     try:
-        return of_record(name, text if text.lstrip().startswith("{") else _record(path, text))
+        if text.startswith(HEAD):
+            return _kept(name, text)
+        return of_record(name, text if text.lstrip().startswith("{") else _record(text))
     except KeyError as missing:
-        raise ValueError(f"{path}: {missing} is missing, which a record has") from None
+        fault = f"{missing} is missing, which a record has"
+    except (TypeError, ValueError, NoWorld, LineRefused) as error:
+        fault = str(error)
+    raise ValueError(f"{path}: {fault}")
 
 
-def _record(path: str, text: str) -> str:
+def _record(text: str) -> str:
     """The record of a schedule, up to a line that is refused."""
     with Session() as session:
         for line in text.splitlines():
             try:
                 session.ask(line)
             except LineRefused as fault:
-                if fault.refusal is None and not fault.fault.startswith("not"):
-                    raise ValueError(f"{path}: {fault}") from None
+                if not fault.fault.startswith(ENDS):
+                    raise
                 break
         return session.record()
 
@@ -102,8 +109,11 @@ def _events(at: Standing, step: Step) -> List[Event]:
 
 def _kept(name: str, text: str) -> Schedule:
     numbers = {word: int(number) for word, number in re.findall(r"^(members|batch) (\d+)", text, re.MULTILINE)}
-    events = [event for event in map(event_of, text.splitlines()) if event]
-    return Schedule(name, numbers["members"], numbers.get("batch", MAX_BOUND), events)
+    lines = text.splitlines()
+    for number, line in enumerate(lines, 1):
+        if not event_of(line) and not OTHERS.fullmatch(line):
+            raise ValueError(f"line {number}: {line}: not understood")
+    return Schedule(name, numbers["members"], numbers.get("batch", MAX_BOUND), [event for event in map(event_of, lines) if event])
 
 
 def event_of(line: str) -> Optional[Event]:
