@@ -36,7 +36,8 @@ class Pipe:
                                              bufsize=1)
         except OSError as error:
             what = "`bindings/build.sh` makes libct.so, and `(cd crates/ct_tool && rt run -- --help)` builds ct_tool"
-            raise OSError(f"{tool}: {error.strerror}; {what}") from None
+            where = "ct_tool is what the variable CT_TOOL names, else that of the clone, else that on PATH"
+            raise OSError(f"{tool}: {error.strerror}; {where}; {what}") from None
 
     def ask(self, line: str) -> str:
         """The answer to the line, without its line feed; EOFError where the program has ended, ValueError where it was closed."""

@@ -208,6 +208,7 @@ class Found(unittest.TestCase):
     def test_the_program(self) -> None:
         with mock.patch.dict(os.environ, CT_TOOL="there"):
             self.assertEqual((tool.found("here"), tool.found()), ("here", "there"))
+        self.assertRaisesRegex(OSError, "^/none: No such file .* CT_TOOL .* PATH; ", tool.Pipe, "/none")
 
     def test_a_library_that_is_none(self) -> None:
         with tempfile.TemporaryDirectory() as folder:
