@@ -15,7 +15,7 @@ from typing import Any, List, Optional, Tuple
 from unittest import mock
 
 from malletochre import IN_PROCESS, MAX_BOUND, Session
-from malletochre.drive import (SITUATIONS, Differs, Failure, NotCovered, Rules, Searched, Setup, check, schedule_of, search)
+from malletochre.drive import (SITUATIONS, Difference, Differs, Failure, NotCovered, Rules, Searched, Setup, check, schedule_of, search)
 from malletochre.drive import progress
 from malletochre.drive.report import judged
 from malletochre.drive.run import Watchdog
@@ -123,10 +123,22 @@ class Wrong(unittest.TestCase):
                 self.assertTrue(difference is None or len(run.events) >= len(events))
 
     def test_what_is_told(self) -> None:
-        told = str(found(member("task", MUTANTS["proposes_before_quorum"].edits["task"])))
-        for part in ("differs from the algorithm: seed ", "  > 2 choose ", "refused: TooFew", "estimates of its round came from a majority",
-                     "where  instance 1 round 1, coordinator 2, heard "):
+        it = found(member("task", MUTANTS["proposes_before_quorum"].edits["task"]))
+        it.kept = ["rehearsals/test_mine-test_it-8.schedule"]
+        with mock.patch.dict(os.environ, PYTEST_CURRENT_TEST="test_mine.py"):
+            told = str(it)
+        for part in ("differs from the algorithm: seed ", "  > 2 choose ", "refused: TooFew", "estimates of\n         its round came from",
+                     "where  instance 1 round 1, coordinator 2, heard ", "again  pytest --rehearse rehearsals/test_mine-test_it"):
             self.assertIn(part, told)
+        self.assertEqual([line for line in told.splitlines() if len(line) > 80], [])
+
+    def test_a_program_is_run_again_as_it_was(self) -> None:
+        it = Failure("seed 8", 3, 3, MAX_BOUND, Difference("table", 1, "has", "has not"), [], [], kept=["rehearsals/test_mine-8.schedule"])
+        with mock.patch.dict(os.environ), mock.patch.object(sys, "orig_argv", ["python3", "-m", "unittest", "mine"]):
+            os.environ.pop("PYTEST_CURRENT_TEST", None)
+            self.assertIn("\n  again  CT_REHEARSE=rehearsals/test_mine-8.schedule python3 -m unittest mine", str(it))
+            sys.orig_argv[3:] = ["a test of mine"]
+            self.assertIn("-8.schedule \\\n         python3 -m unittest 'a test of mine'", str(it))
 
     def test_the_same_seed_gives_the_same(self) -> None:
         made = member("handlers", MUTANTS["nack_not_sent"].edits["handlers"])
@@ -146,7 +158,7 @@ class Misbehaved(unittest.TestCase):
     """Members that can't be judged."""
 
     def told(self, made: Tuple[Any, Any], **options: Any) -> str:
-        return str(found(made, seeds=3, **options))
+        return " ".join(str(found(made, seeds=3, **options)).split())
 
     def test_a_member_that_raises(self) -> None:
         told = self.told(member("handlers", [(PROP, PROP + '            assert m.r < 1, "no"\n')]))

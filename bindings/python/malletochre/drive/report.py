@@ -2,6 +2,9 @@
 from __future__ import annotations
 
 import os
+import shlex
+import sys
+import textwrap
 from dataclasses import dataclass, field
 from typing import List, Optional, Tuple
 
@@ -28,6 +31,7 @@ REASONS = {
     ("begin", "Nothing"): "an instance begins where something was received that is not delivered",
 }
 MOST_SHOWN = 300   # of what a member did, in a schedule
+WIDTH = 80
 
 
 @dataclass
@@ -67,23 +71,39 @@ def _marked(failure: Failure) -> List[Tuple[str, str, str]]:
 
 def text_of(failure: Failure) -> str:
     it = failure.difference
-    small = f" (made small: {len(failure.events)} events, {failure.steps} steps; {failure.trials} trials)" if failure.trials else ""
-    lines = [f"member {it.member} differs from the algorithm: {failure.source}, event {failure.found}{small}", ""]
+    lines = [f"member {it.member} differs from the algorithm: {failure.source}, event {failure.found}"]
+    if failure.trials:
+        lines += [f"(made small: {len(failure.events)} events, {failure.steps} steps; {failure.trials} trials)"]
+    lines += [""]
     marked = [("", f"members {failure.members}", ""), *_marked(failure)]
     width = max([len(text) for _, text, _ in marked] + [24]) + 2
     lines += [(f"  {mark:1} " + (f"{text:{width}}{comment}" if text else comment)).rstrip() for mark, text, comment in marked]
     event = event_text(it.event) if it.event else "all that waited, in the end"
-    lines += ["", f"  told   {event}", f"  yours  member {it.member} {it.says}"]
+    lines += ["", *_said("told", event), *_said("yours", f"member {it.member} {it.says}")]
     if it.kind == "refused":
         reason = REASONS.get((it.act.split(" ")[0], it.cause), "")
-        lines += [f"  rule   {it.act} is refused, {it.cause}" + (f": {reason}" if reason else ""), f"  where  {it.ought}"]
+        lines += [*_said("rule", f"{it.act} is refused, {it.cause}" + (f": {reason}" if reason else "")), *_said("where", it.ought)]
     else:
-        lines += [f"  rule   member {it.member} {it.ought}" + (f" ({it.cause})" if it.cause else "")]
-    lines += [f"  note   {failure.note}"] if failure.note else []
+        lines += _said("rule", f"member {it.member} {it.ought}" + (f" ({it.cause})" if it.cause else ""))
+    lines += _said("note", failure.note)
     if failure.kept:
-        lines += ["", f"  again  pytest --rehearse {failure.kept[0]}, or in its place the variable CT_REHEARSE"]
-        lines += [f"  look   {failure.kept[-1]}; {failure.judged}"] if failure.judged else []
+        lines += ["", *_again(shlex.quote(failure.kept[0]))]
+        lines += _said("look", f"{failure.kept[-1]}; {failure.judged}") if failure.judged else []
     return "\n".join(lines)
+
+
+def _said(label: str, text: str) -> List[str]:
+    """Its lines, which are no longer than WIDTH where words allow."""
+    return textwrap.wrap(text, WIDTH, initial_indent=f"  {label:7}", subsequent_indent=" " * 9, break_long_words=False,
+                         break_on_hyphens=False)
+
+
+def _again(path: str) -> List[str]:
+    """How the schedule is tried alone: in pytest, else by the words that this program was called by."""
+    if "PYTEST_CURRENT_TEST" in os.environ:
+        return _said("again", f"pytest --rehearse {path}, or in its place the variable CT_REHEARSE={path}")
+    variable, words = f"  again  CT_REHEARSE={path}", shlex.join(sys.orig_argv)
+    return [f"{variable} {words}"] if len(variable) + len(words) < WIDTH else [f"{variable} \\", f"         {words}"]
 
 
 def schedule_of(failure: Failure) -> str:
