@@ -78,3 +78,6 @@ if __name__ == "__main__":
         print(check(Driven, wire, seeds=range(int(sys.argv[1]) if len(sys.argv) > 1 else 200), keep_in=None).coverage())
     except Differs as told:
         sys.exit(str(told))
+    except KeyboardInterrupt as told:
+        print(told, file=sys.stderr)
+        sys.exit(130)

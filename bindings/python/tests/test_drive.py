@@ -3,6 +3,7 @@
     PYTHONPATH=bindings/python python3 -m unittest bindings/python/tests/test_drive.py
 
 The variable DRIVE_SEEDS gives another number of seeds than 25 for right members, 2000 say. Over ct_tool fewer tests are made."""
+import gc
 import itertools
 import os
 import pty
@@ -37,6 +38,19 @@ def passes(made: Tuple[Any, Any], seeds: int, **options: Any) -> Searched:
 
 def failure(made: Tuple[Any, Any], seeds: int = 300, make_small: bool = True, **options: Any) -> Optional[Failure]:
     return search(Setup(*made, **options), range(seeds), make_small=make_small).failure
+
+
+def interrupted(made: Tuple[Any, Any], at: int) -> Tuple[Any, Any]:
+    """A ^C comes in the run of this number, from 0."""
+    make, wire = made
+    count = itertools.count()
+
+    def one(number: int, members: int) -> Any:
+        if next(count) == at * members:
+            raise KeyboardInterrupt
+        return make(number, members)
+
+    return one, wire
 
 
 def found(made: Tuple[Any, Any], **options: Any) -> Failure:
@@ -139,6 +153,18 @@ class Wrong(unittest.TestCase):
             self.assertIn("\n  again  CT_REHEARSE=rehearsals/test_mine-8.schedule python3 -m unittest mine", str(it))
             sys.orig_argv[3:] = ["a test of mine"]
             self.assertIn("-8.schedule \\\n         python3 -m unittest 'a test of mine'", str(it))
+
+    def test_a_search_is_stopped(self) -> None:
+        with self.assertRaises(KeyboardInterrupt) as raised:
+            search(Setup(*interrupted(member("handlers"), 2)), range(5))
+        self.assertEqual(str(raised.exception), "stopped after 2 of 5 seeds, none differs")
+        self.assertTrue(raised.exception.__suppress_context__)
+        comes = "    def on_receive(self, packet: str) -> None:\n"
+        made = member("task", [(comes, comes + "        raise KeyboardInterrupt\n")])
+        with self.assertNoLogs("asyncio"):
+            self.assertRaises(KeyboardInterrupt, search, Setup(*made), range(5))
+            gc.collect()
+
 
     def test_the_same_seed_gives_the_same(self) -> None:
         made = member("handlers", MUTANTS["nack_not_sent"].edits["handlers"])

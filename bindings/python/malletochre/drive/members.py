@@ -118,6 +118,8 @@ class _Task(Member):
 
     def close(self) -> None:
         """Ends its task, and those that it began; of the whole group at once, whose loop it is."""
+        if self._task.done() and not self._task.cancelled():
+            self._task.exception()   # as where a ^C came in it; else the loop tells of it, too
         tasks = asyncio.all_tasks(self._on)
         for it in tasks:
             it.cancel()

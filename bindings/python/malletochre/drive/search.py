@@ -135,17 +135,25 @@ class NotCovered(AssertionError):
 
 def search(setup: Setup, seeds: Sequence[int], schedules: Iterable[Schedule] = (), jobs: int = 1, make_small: bool = True) -> Searched:
     """The schedules, then those of the seeds, until one shows a difference."""
-    done, begun = Searched(), time.monotonic()
+    done, begun, tried, found = Searched(), time.monotonic(), 0, None
     with Watchdog(setup.timeout) as watchdog, Progress() as progress:
         def tell(count: int) -> None:
+            nonlocal tried
+            tried = count
             progress.tell(lambda seconds: f"{count} of {len(seeds)} seeds, {seconds / count * (len(seeds) - count):.0f} s to go")
 
-        found = _through(setup, schedules, watchdog, done)
-        if found is None:
-            found = _through(setup, seeds, watchdog, done, tell) if jobs == 1 else _in_parallel(setup, seeds, jobs, watchdog, done, tell)
-        done.seconds = time.monotonic() - begun
-        if found:
-            done.failure = _failure(setup, *found, watchdog, make_small, progress)
+        try:
+            found = _through(setup, schedules, watchdog, done)
+            if found is None and jobs != 1:
+                found = _in_parallel(setup, seeds, jobs, watchdog, done, tell)
+            elif found is None:
+                found = _through(setup, seeds, watchdog, done, tell)
+            done.seconds = time.monotonic() - begun
+            if found:
+                done.failure = _failure(setup, *found, watchdog, make_small, progress)
+        except KeyboardInterrupt:
+            differs = f"{_name(found[0])} differs" if found else "none differs"
+            raise KeyboardInterrupt(f"stopped after {tried} of {len(seeds)} seeds, {differs}") from None
     return done
 
 
@@ -195,9 +203,13 @@ def _part(seeds: Sequence[int]) -> Tuple[Searched, Optional[int]]:
     return done, seeds[done.runs - 1] if found else None
 
 
+def _name(source: Source) -> str:
+    return f"seed {source}" if isinstance(source, int) else source.name
+
+
 def _failure(setup: Setup, source: Source, run: Run, difference: Optional[Difference], watchdog: Watchdog, make_small: bool,
              progress: Progress) -> Failure:
-    name = f"seed {source}" if isinstance(source, int) else source.name
+    name = _name(source)
     if difference is None:
         raise RuntimeError(f"{name}: {TWICE}: they differed from the algorithm, and under the same schedule not again")
     found = Failure(name, len(run.events), setup.members, setup.batch, difference, list(run.events), run.judge.lines())
