@@ -154,6 +154,17 @@ class Wrong(unittest.TestCase):
             sys.orig_argv[3:] = ["a test of mine"]
             self.assertIn("-8.schedule \\\n         python3 -m unittest 'a test of mine'", str(it))
 
+    def test_making_small_is_stopped(self) -> None:
+        made = member("handlers", MUTANTS["proposes_before_quorum"].edits["handlers"])
+        runs = search(Setup(*made), range(9), make_small=False).runs
+        self.assertIn("; 2 trials, stopped by ^C)\n", str(found(interrupted(made, runs + 2))))
+        self.assertNotIn("stopped", str(found(made)))
+        with mock.patch.object(sys.modules[check.__module__], "SHRINKING", 0):
+            it = found(made)
+        it.kept = ["mine.schedule"]
+        self.assertIn("; 0 trials, stopped after 0 s)\n", str(it))
+        self.assertIn("\n  small  it may get smaller yet", str(it))
+
     def test_a_search_is_stopped(self) -> None:
         with self.assertRaises(KeyboardInterrupt) as raised:
             search(Setup(*interrupted(member("handlers"), 2)), range(5))

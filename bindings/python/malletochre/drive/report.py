@@ -46,6 +46,7 @@ class Failure:
     events: List[Event]            # of that
     lines: List[Tuple[str, str]]   # of that run: lines of a schedule, with comments
     trials: int = 0
+    stopped: str = ""              # what stopped them; empty where no event can be left out
     note: str = ""                 # what is to be said besides
     path: str = ""                 # what was kept, without the ending; empty where nothing was
     judged: str = ""               # what the judge says of the schedule
@@ -72,8 +73,9 @@ def _marked(failure: Failure) -> List[Tuple[str, str, str]]:
 def text_of(failure: Failure) -> str:
     it = failure.difference
     lines = [f"member {it.member} differs from the algorithm: {failure.source}, event {failure.found}"]
-    if failure.trials:
-        lines += [f"(made small: {len(failure.events)} events, {failure.steps} steps; {failure.trials} trials)"]
+    if failure.trials or failure.stopped:
+        stopped = f", {failure.stopped}" if failure.stopped else ""
+        lines += [f"(made small: {len(failure.events)} events, {failure.steps} steps; {failure.trials} trials{stopped})"]
     lines += [""]
     marked = [("", f"members {failure.members}", ""), *_marked(failure)]
     width = max([len(text) for _, text, _ in marked] + [24]) + 2
@@ -88,6 +90,7 @@ def text_of(failure: Failure) -> str:
     lines += _said("note", failure.note)
     if failure.kept:
         lines += ["", *_again(shlex.quote(failure.kept[0]))]
+        lines += _said("small", "it may get smaller yet: the same test, run again, goes on from there") if failure.stopped else []
         lines += _said("look", f"{failure.kept[-1]}; {failure.judged}") if failure.judged else []
     return "\n".join(lines)
 

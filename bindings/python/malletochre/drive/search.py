@@ -223,10 +223,10 @@ def _failure(setup: Setup, source: Source, run: Run, difference: Optional[Differ
             found.note, make_small = f"{TWICE}: {_parted(found.lines, lines)}", False
     if make_small:
         with Watchdog(setup.timeout / (HURRY if is_endless else 1)) as trying:
-            small, trials = _small(setup, first, is_endless, trying, progress)
+            small, trials, stopped = _small(setup, first, is_endless, trying, progress)
         run, other = setup.played(small, watchdog)
         if other and (other.kind == "endless") == is_endless:
-            found.difference, found.events, found.lines, found.trials = other, small, run.judge.lines(), trials
+            found.difference, found.events, found.lines, found.trials, found.stopped = other, small, run.judge.lines(), trials, stopped
     return found
 
 
@@ -235,17 +235,18 @@ def _explicit(run: Run, difference: Difference) -> List[Event]:
     return run.events[:run.calm_from] if difference.event is None else list(run.events)
 
 
-def _small(setup: Setup, first: Tried, is_endless: bool, watchdog: Watchdog, progress: Progress) -> Tuple[List[Event], int]:
-    """The events made small, in so many trials. That a member doesn't return is another matter than all else that it may do."""
+def _small(setup: Setup, first: Tried, is_endless: bool, watchdog: Watchdog, progress: Progress) -> Tuple[List[Event], int, str]:
+    """The events made small, in so many trials, and what stopped them. That a member doesn't return is another matter than all else
+    that it may do."""
     def trial(events: List[Event]) -> Optional[Tried]:
         progress.tell(lambda _: f"made small: {len(events)} events")
         run, difference = setup.played(events, watchdog)
         is_one = difference is not None and (difference.kind == "endless") == is_endless
         return Tried(len(run.events), _explicit(run, difference)) if difference and is_one else None
 
-    small, trials = shrink(trial, first, setup.members, SHRINKING)
+    small, trials, stopped = shrink(trial, first, setup.members, SHRINKING)
     tried = trial([it._replace(what=("set", 0, 7)) if it.name == "submit" else it for it in small.events])
-    return tried.events if tried and tried.size <= small.size else small.events, trials
+    return tried.events if tried and tried.size <= small.size else small.events, trials, stopped
 
 
 def _parted(first: List[Tuple[str, str]], second: List[Tuple[str, str]]) -> str:

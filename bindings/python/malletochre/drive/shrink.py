@@ -24,16 +24,22 @@ class Tried(NamedTuple):
 Trial = Callable[[List[Event]], Optional[Tried]]
 
 
-def shrink(trial: Trial, first: Tried, n: int, seconds: float) -> Tuple[Tried, int]:
-    """What is left, and how many trials were made."""
-    best, trials, until = first, 0, time.monotonic() + seconds
+def shrink(trial: Trial, first: Tried, n: int, seconds: float) -> Tuple[Tried, int, str]:
+    """What is left, how many trials were made, and what stopped them: nothing, where no event can be left out."""
+    best, trials, until, stopped = first, 0, time.monotonic() + seconds, ""
 
     def smaller(candidate: List[Event]) -> bool:
-        nonlocal best, trials
-        if len(candidate) >= len(best.events) or trials >= MOST or time.monotonic() > until:
+        nonlocal best, trials, stopped
+        if stopped or len(candidate) >= len(best.events):
+            return False
+        if trials >= MOST or time.monotonic() > until:
+            stopped = "stopped there" if trials >= MOST else f"stopped after {seconds:g} s"
             return False
         trials += 1
-        tried = trial(candidate)
+        try:
+            tried = trial(candidate)
+        except KeyboardInterrupt:
+            tried, stopped = None, "stopped by ^C"
         if tried is None or (tried.size, len(tried.events)) >= (best.size, len(best.events)):
             return False
         best = tried
@@ -51,7 +57,7 @@ def shrink(trial: Trial, first: Tried, n: int, seconds: float) -> Tuple[Tried, i
                     place += size
             size //= 2
         if best is before:
-            return best, trials
+            return best, trials, stopped
 
 
 def moves(events: List[Event], n: int) -> Iterator[List[Event]]:
