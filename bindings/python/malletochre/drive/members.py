@@ -2,8 +2,8 @@
 
 - handlers that return what is to be sent and delivered, any iterable of Send and Deliver: a class made of (number, members);
 - handlers that send and deliver by an Outbox, and return nothing: a class made of (number, members, outbox);
-- a task, `async def run(self, inbox)`, in either class: it takes (name, content) out of an asyncio.Queue, as ("receive", packet), and calls
-  `task_done` once it has dealt with that.
+- a task, `async def run(self, inbox)`, in the latter's place: it takes (name, content) out of an asyncio.Queue, as ("receive", packet), and
+  calls `task_done` once it has dealt with that.
 
 The handlers are on_submit(command), on_receive(packet), on_suspect(member), on_trust(member). `table`, a method or an attribute, is the
 16 registers, where there is one."""
