@@ -138,6 +138,7 @@ class Wrong(unittest.TestCase):
 
     def test_what_is_told(self) -> None:
         it = found(member("task", MUTANTS["proposes_before_quorum"].edits["task"]))
+        it.source += " of a test with a long name that was kept"
         it.kept = ["rehearsals/test_mine-test_it-8.schedule"]
         with mock.patch.dict(os.environ, PYTEST_CURRENT_TEST="test_mine.py"):
             told = str(it)

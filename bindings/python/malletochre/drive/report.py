@@ -72,7 +72,7 @@ def _marked(failure: Failure) -> List[Tuple[str, str, str]]:
 
 def text_of(failure: Failure) -> str:
     it = failure.difference
-    lines = [f"member {it.member} differs from the algorithm: {failure.source}, event {failure.found}"]
+    lines = _said("", f"member {it.member} differs from the algorithm: {failure.source}, event {failure.found}")
     if failure.trials or failure.stopped:
         stopped = f", {failure.stopped}" if failure.stopped else ""
         lines += [f"(made small: {len(failure.events)} events, {failure.steps} steps; {failure.trials} trials{stopped})"]
@@ -97,7 +97,8 @@ def text_of(failure: Failure) -> str:
 
 def _said(label: str, text: str) -> List[str]:
     """Its lines, which are no longer than WIDTH where words allow."""
-    return textwrap.wrap(text, WIDTH, initial_indent=f"  {label:7}", subsequent_indent=" " * 9, break_long_words=False,
+    begin = f"  {label:7}" if label else ""
+    return textwrap.wrap(text, WIDTH, initial_indent=begin, subsequent_indent=" " * len(begin), break_long_words=False,
                          break_on_hyphens=False)
 
 
