@@ -1,1 +1,4 @@
-mod Listed
+mod Fields
+mod Left
+mod Texts
+pub mod Unescaped

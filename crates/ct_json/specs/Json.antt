@@ -1,9 +1,9 @@
--- The report of a record as JSON: one object, and a line feed.
-use Rattle.std.specs.Prelude.{ℕ, zero, suc, Bool, List, [], ◌∷◌, ◌++◌, length}
-use Rattle.std.specs.Prelude.{codes, decimal, map, not, is_some, Option, Some, None, unwrap_or}
-use Rattle.std.specs.Prelude.{slice_index, if◌then◌else◌}
-use Rattle.std.specs.List.{join_with_byte, concat}
-use Rattle.ct_names.specs.Group.{majority}
+-- The value that the report of a record is, as JSON: an object, and a line feed behind it.
+use Rattle.std.specs.Prelude.{ℕ, List, [], ◌∷◌, ◌++◌, length, codes, not, is_some, flat_map, unwrap_or, slice_index}
+use Rattle.std.specs.Option.{option_map_or}
+use Rattle.serde_json.specs.Data.{Data, boolean, string}
+use Rattle.ct_names.specs.declared.limit.TheConstants.{REGISTERS}
+use Rattle.ct_names.specs.Group.{counting, majority, members}
 use Rattle.ct_names.specs.Message.{Message}
 use Rattle.ct_names.specs.MessageText.{message_text}
 use Rattle.ct_names.specs.Value.{Value}
@@ -11,99 +11,73 @@ use Rattle.ct_model.specs.AtValue.{Wire}
 use Rattle.ct_model.specs.Cause.{order}
 use Rattle.ct_model.specs.Received.{decided, received_by}
 use Rattle.ct_model.specs.Rehearsal.{Rehearsal, state_of}
+use Rattle.ct_model.specs.Safe.{delivered_by}
 use Rattle.ct_model.specs.State.{is_crashed, member}
+use Rattle.ct_records.specs.Values.{num}
+use Rattle.ct_table.specs.Table.{table}
 use Rattle.ct_world.specs.Decided.{last_decided}
-use Rattle.ct_records.specs.Report.{shown}
+use Rattle.ct_json.specs.Fields.{Field, array_by, array_of, line_text, object_of}
 
--- an array of what these texts are
-abbrev pub array_json : List (List ℕ) → List ℕ
-array_json texts = concat (codes "[" ∷ join_with_byte 44 texts ∷ codes "]" ∷ [])
+-- a message, by its name
+abbrev pub message_value : Message → Data
+message_value m = string (message_text m)
 
-abbrev pub truth_json : Bool → List ℕ
-truth_json b = if b then codes "true" else codes "false"
-
--- a message's name, as a string
-abbrev pub message_json : Message → List ℕ
-message_json m = concat (codes "\"" ∷ message_text m ∷ codes "\"" ∷ [])
-
-unfoldable pub messages_json : List Message → List ℕ
-messages_json messages = array_json (map message_json messages)
+unfoldable pub messages_value : List Message → Data
+messages_value messages = array_by message_value messages
 
 -- an instance and what was decided for it
-unfoldable pub decision_json : ℕ → Value → List ℕ
-decision_json k value =
-    concat (codes "{\"instance\":" ∷ decimal k ∷ codes ",\"messages\":" ∷ messages_json value ∷ codes "}" ∷ [])
+unfoldable pub decision_value : ℕ → Value → Data
+decision_value k value = object_of ((codes "instance", num k) ∷ (codes "messages", messages_value value) ∷ [])
 
--- the same where something was decided
-abbrev pub decision_jsons : ℕ → Option Value → List (List ℕ)
-decision_jsons k None = []
-decision_jsons k (Some value) = decision_json k value ∷ []
+-- the decision for an instance, where there is one
+abbrev pub decision_values : List Wire → ℕ → List Data
+decision_values got k = option_map_or (λ value. decision_value k value ∷ []) (decided got k) []
 
--- the decisions for the first instances, from 1 on
-abbrev pub first_decisions : List Wire → ℕ → List (List ℕ)
-first_decisions got zero = []
-first_decisions got (suc k) = first_decisions got k ++ decision_jsons (suc k) (decided got (suc k))
+-- each decision among these wires, by instance
+unfoldable pub decisions_value : List Wire → Data
+decisions_value got = array_of (flat_map (decision_values got) (counting 1 (unwrap_or (last_decided got) 0)))
 
--- all decisions that were got, for instances begun or not
-unfoldable pub decisions_json : List Wire → List ℕ
-decisions_json got = array_json (first_decisions got (unwrap_or (last_decided got) 0))
+-- what the record begins with
+unfoldable pub group_fields : Rehearsal → List Field
+group_fields w =
+    (codes "group", num w.setting.members) ∷ (codes "majority", num (majority w.setting.members)) ∷ (codes "cells", num w.cells)
+    ∷ (codes "batch", num w.setting.bound) ∷ []
 
--- the values of the first registers
-abbrev pub first_registers : List ℕ → ℕ → List (List ℕ)
-first_registers values zero = []
-first_registers values (suc k) = first_registers values k ++ decimal (slice_index values k) ∷ []
+-- how many steps it has, how many envelopes these sent and how many batches they posted
+unfoldable pub counts_fields : Rehearsal → List Field
+counts_fields w =
+    (codes "steps", num (length w.steps)) ∷ (codes "sent", num (length (state_of w).sent))
+    ∷ (codes "posted", num (length (order (state_of w)))) ∷ []
 
--- those of all 16
-unfoldable pub table_json : List ℕ → List ℕ
-table_json values = array_json (first_registers values 16)
+-- the value of a register
+abbrev pub register_value : List ℕ → ℕ → Data
+register_value values register = num (slice_index values register)
 
--- the first keys of a member: whether it is up, the last instance that it began, and whether that is open
-unfoldable pub standing_json : Rehearsal → ℕ → List ℕ
-standing_json w p =
-    concat (codes "{\"member\":" ∷ decimal p ∷ codes ",\"up\":" ∷ truth_json (not (is_crashed (state_of w) p))
-    ∷ codes ",\"instance\":" ∷ decimal (member (state_of w) p).last
-    ∷ codes ",\"open\":" ∷ truth_json (is_some (member (state_of w) p).current) ∷ [])
+-- those of all registers of a table
+unfoldable pub table_value : List ℕ → Data
+table_value values = array_by (register_value values) (counting 0 REGISTERS)
 
--- one more key, and what stands for it
-unfoldable pub key_json : List ℕ → List ℕ → List ℕ
-key_json key value = concat (codes ",\"" ∷ key ∷ codes "\":" ∷ value ∷ [])
+-- whether a member is up, the last instance that it began, and whether that is open
+unfoldable pub standing_fields : Rehearsal → ℕ → List Field
+standing_fields w p =
+    (codes "member", num p) ∷ (codes "up", boolean (not (is_crashed (state_of w) p)))
+    ∷ (codes "instance", num (member (state_of w) p).last) ∷ (codes "open", boolean (is_some (member (state_of w) p).current)) ∷ []
 
--- what a member received, decided and delivered, and its table
-unfoldable pub history_json : Rehearsal → ℕ → List ℕ
-history_json w p =
-    concat (key_json (codes "received") (messages_json (received_by (state_of w) p))
-    ∷ key_json (codes "decided") (decisions_json (member (state_of w) p).got)
-    ∷ key_json (codes "delivered") (messages_json (shown w p).delivered)
-    ∷ key_json (codes "table") (table_json (shown w p).table)
-    ∷ [])
+-- what it received, which decisions it got, what it delivered, and the registers of the table that this makes
+unfoldable pub history_fields : Rehearsal → ℕ → List Field
+history_fields w p =
+    (codes "received", messages_value (received_by (state_of w) p)) ∷ (codes "decided", decisions_value (member (state_of w) p).got)
+    ∷ (codes "delivered", messages_value (delivered_by (state_of w) p))
+    ∷ (codes "table", table_value (table (delivered_by (state_of w) p))) ∷ []
 
--- an array of what these texts are, at a key
-unfoldable pub array_at : List ℕ → List (List ℕ) → List ℕ
-array_at key texts = concat (codes ",\"" ∷ key ∷ codes "\":[" ∷ join_with_byte 44 texts ∷ codes "]" ∷ [])
+unfoldable pub member_value : Rehearsal → ℕ → Data
+member_value w p = object_of (standing_fields w p ++ history_fields w p)
 
--- a member: its standing and its history
-unfoldable pub member_json : Rehearsal → ℕ → List ℕ
-member_json w p = concat (standing_json w p ∷ history_json w p ∷ codes "}" ∷ [])
+unfoldable pub members_value : Rehearsal → Data
+members_value w = array_by (member_value w) (members w.setting.members)
 
--- the first members
-abbrev pub first_members : Rehearsal → ℕ → List (List ℕ)
-first_members w zero = []
-first_members w (suc k) = first_members w k ++ member_json w (suc k) ∷ []
-
--- the members, in an array
-unfoldable pub members_json : Rehearsal → List ℕ
-members_json w = concat (codes ",\"members\":[" ∷ join_with_byte 44 (first_members w w.setting.members) ∷ codes "]}\n" ∷ [])
-
--- the first keys: what the record begins with, and what it comes to
-unfoldable pub group_json : Rehearsal → List ℕ
-group_json w =
-    concat (codes "{\"group\":" ∷ decimal w.setting.members ∷ codes ",\"majority\":" ∷ decimal (majority w.setting.members)
-    ∷ codes ",\"cells\":" ∷ decimal w.cells ∷ codes ",\"batch\":" ∷ decimal w.setting.bound ∷ [])
-
-unfoldable pub counts_json : Rehearsal → List ℕ
-counts_json w =
-    concat (codes ",\"steps\":" ∷ decimal (length w.steps) ∷ codes ",\"sent\":" ∷ decimal (length (state_of w).sent)
-    ∷ codes ",\"posted\":" ∷ decimal (length (order (state_of w))) ∷ [])
+unfoldable pub report_value : Rehearsal → Data
+report_value w = object_of (group_fields w ++ (counts_fields w ++ (codes "members", members_value w) ∷ []))
 
 unfoldable pub report_json : Rehearsal → List ℕ
-report_json w = group_json w ++ (counts_json w ++ members_json w)
+report_json w = line_text (report_value w)

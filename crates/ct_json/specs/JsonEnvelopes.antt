@@ -1,71 +1,60 @@
--- Estimates, envelopes and what a step sent, as JSON.
-use Rattle.std.specs.Prelude.{ℕ, zero, suc, ◌+◌, ◌-◌, List, [], ◌∷◌, ◌++◌, length, codes, decimal, Option, Some, None, unwrap_or}
-use Rattle.std.specs.List.{concat}
-use Rattle.ct_names.specs.MessageText.{message_text}
+-- The values that estimates, envelopes and what a step sent are, as JSON.
+use Rattle.std.specs.Prelude.{ℕ, ◌+◌, ◌-◌, List, [], ◌∷◌, ◌++◌, length, codes, Option, Some, None, unwrap_or}
+use Rattle.serde_json.specs.Data.{Data as Json, string}
+use Rattle.ct_names.specs.Group.{counting}
 use Rattle.ct_names.specs.Value.{Value}
 use Rattle.ct_model.specs.Rehearsal.{Rehearsal, state_of}
 use Rattle.ct_model.specs.declared.envelope.Envelope.{Envelope}
 use Rattle.ct_model.specs.declared.wire.Wire.{Wire}
 use Rattle.ct_model.specs.declared.wire.Wire.TheVariants.{Data, Est, Prop, Ack, Nack, Dec}
-use Rattle.ct_json.specs.Json.{array_at, key_json, messages_json}
+use Rattle.ct_records.specs.Values.{num}
+use Rattle.ct_json.specs.Fields.{Field, array_by, object_of}
+use Rattle.ct_json.specs.Json.{message_value, messages_value}
 use Rattle.ct_show.specs.Wires.{letter_at, value_at}
 
--- ---- estimates
+-- a value and its ts
+unfoldable pub estimate_fields : Value → ℕ → List Field
+estimate_fields v ts = (codes "value", messages_value v) ∷ (codes "timestamp", num ts) ∷ []
 
--- a value and its ts, as keys of an object
-unfoldable pub estimate_keys : Value × ℕ → List ℕ
-estimate_keys e = concat (codes "\"value\":" ∷ messages_json e.0 ∷ codes ",\"timestamp\":" ∷ decimal e.1 ∷ [])
+-- an estimate, where there is one
+unfoldable pub estimate_field : Option (Value × ℕ) → List Field
+estimate_field None = []
+estimate_field (Some e) = (codes "estimate", object_of (estimate_fields e.0 e.1)) ∷ []
 
--- an estimate at its key; nothing where there is none
-unfoldable pub estimate_at : Option (Value × ℕ) → List ℕ
-estimate_at None = []
-estimate_at (Some e) = concat (codes ",\"estimate\":{" ∷ estimate_keys e ∷ codes "}" ∷ [])
+-- the kind of a wire of consensus, its instance and its round
+unfoldable pub vote_fields : List ℕ → ℕ → ℕ → List Field
+vote_fields kind k r = (codes "kind", string kind) ∷ (codes "instance", num k) ∷ (codes "round", num r) ∷ []
 
--- ---- envelopes
-
--- a wire's kind, instance and round
-unfoldable pub kind_keys : List ℕ → ℕ → ℕ → List ℕ
-kind_keys kind k r =
-    concat (codes ",\"kind\":\"" ∷ kind ∷ codes "\",\"instance\":" ∷ decimal k ∷ codes ",\"round\":" ∷ decimal r ∷ [])
-
--- the keys of a wire with this value
-unfoldable pub wire_keys : Wire (Unit {0}) → Value → List ℕ
-wire_keys (Data m) v = concat (codes ",\"kind\":\"Data\",\"message\":\"" ∷ message_text m ∷ codes "\"" ∷ [])
-wire_keys (Est k r p _ t) v =
-    concat (kind_keys (codes "Est") k r ∷ codes ",\"from\":" ∷ decimal p ∷ codes "," ∷ estimate_keys (v, t) ∷ [])
-wire_keys (Prop k r _) v = concat (kind_keys (codes "Prop") k r ∷ key_json (codes "value") (messages_json v) ∷ [])
-wire_keys (Ack k r p) v = concat (kind_keys (codes "Ack") k r ∷ codes ",\"from\":" ∷ decimal p ∷ [])
-wire_keys (Nack k r p) v = concat (kind_keys (codes "Nack") k r ∷ codes ",\"from\":" ∷ decimal p ∷ [])
-wire_keys (Dec k r _) v = concat (kind_keys (codes "Dec") k r ∷ key_json (codes "value") (messages_json v) ∷ [])
+-- what a wire with this value says
+unfoldable pub wire_fields : Wire (Unit {0}) → Value → List Field
+wire_fields (Data m) v = (codes "kind", string (codes "Data")) ∷ (codes "message", message_value m) ∷ []
+wire_fields (Est k r p _ ts) v = vote_fields (codes "Est") k r ++ (codes "from", num p) ∷ estimate_fields v ts
+wire_fields (Prop k r _) v = vote_fields (codes "Prop") k r ++ (codes "value", messages_value v) ∷ []
+wire_fields (Ack k r p) v = vote_fields (codes "Ack") k r ++ (codes "from", num p) ∷ []
+wire_fields (Nack k r p) v = vote_fields (codes "Nack") k r ++ (codes "from", num p) ∷ []
+wire_fields (Dec k r _) v = vote_fields (codes "Dec") k r ++ (codes "value", messages_value v) ∷ []
 
 -- whom an envelope goes to, and what it carries; nothing where it was not sent
-abbrev pub letter_keys : Option (Envelope (Unit {0})) → Value → List ℕ
-letter_keys None v = []
-letter_keys (Some e) v = concat (codes ",\"to\":" ∷ decimal e.to ∷ wire_keys e.wire v ∷ [])
+abbrev pub letter_fields : Option (Envelope (Unit {0})) → Value → List Field
+letter_fields None v = []
+letter_fields (Some e) v = (codes "to", num e.to) ∷ wire_fields e.wire v
 
--- what the envelope of a serial carries
-unfoldable pub carried_keys : Rehearsal → ℕ → List ℕ
-carried_keys w k = letter_keys (letter_at w k) (unwrap_or (value_at w k) [])
+-- the same of the envelope of a serial
+unfoldable pub sent_fields : Rehearsal → ℕ → List Field
+sent_fields w k = letter_fields (letter_at w k) (unwrap_or (value_at w k) [])
 
--- the member whose step sent an envelope, where it is told
-abbrev pub sender_at : Option ℕ → List ℕ
-sender_at None = []
-sender_at (Some p) = concat (codes ",\"sender\":" ∷ decimal p ∷ [])
+-- the member whose step sent it, where it is told
+abbrev pub sender_fields : Option ℕ → List Field
+sender_fields None = []
+sender_fields (Some p) = (codes "sender", num p) ∷ []
 
--- an envelope, and whose step sent it
-unfoldable pub envelope_by : Option ℕ → Rehearsal → ℕ → List ℕ
-envelope_by sender w k = concat (codes "{\"serial\":" ∷ decimal k ∷ carried_keys w k ∷ sender_at sender ∷ codes "}" ∷ [])
+-- a serial, its envelope, and whose step sent it
+unfoldable pub envelope_by : Option ℕ → Rehearsal → ℕ → Json
+envelope_by sender w k = object_of ((codes "serial", num k) ∷ (sent_fields w k ++ sender_fields sender))
 
-abbrev pub envelope_json : Rehearsal → ℕ → List ℕ
-envelope_json w k = envelope_by None w k
+abbrev pub envelope_value : Rehearsal → ℕ → Json
+envelope_value w k = envelope_by None w k
 
--- ---- what a step sent
-
--- so many envelopes after the first ones
-abbrev pub next_envelopes : Rehearsal → (first count : ℕ) → List (List ℕ)
-next_envelopes w first zero = []
-next_envelopes w first (suc i) = next_envelopes w first i ++ envelope_json w (first + suc i) ∷ []
-
--- those that were sent since this many envelopes were
-abbrev pub sent_at : Rehearsal → ℕ → List ℕ
-sent_at w before = array_at (codes "sent") (next_envelopes w before (length (state_of w).sent - before))
+-- the envelopes that were sent since so many were
+unfoldable pub sent_field : Rehearsal → ℕ → Field
+sent_field w before = (codes "sent", array_by (envelope_value w) (counting (before + 1) (length (state_of w).sent - before)))

@@ -1,70 +1,82 @@
--- The state that a record leads to, as JSON: an object of the whole, and one of each member, each with a line feed.
-use Rattle.std.specs.Prelude.{ℕ, zero, suc, List, [], ◌∷◌, ◌++◌, codes, map, flat_map, is_none}
-use Rattle.std.specs.Prelude.{if◌then◌else◌}
-use Rattle.std.specs.Option.{option_map_or}
-use Rattle.std.specs.List.{concat}
+-- The values that the state of a record is, as JSON: of the whole, and of each member, each with a line feed behind it.
+use Rattle.std.specs.Prelude.{ℕ, List, [], ◌∷◌, ◌++◌, codes, flat_map, is_none, map, if◌then◌else◌, Option, Some, None}
+use Rattle.std.specs.Option.{option_map_or, option_to_list}
+use Rattle.serde_json.specs.Data.{Data, string}
 use Rattle.ct_names.specs.declared.refusal.Refusal.{Refusal}
+use Rattle.ct_names.specs.Group.{members}
 use Rattle.ct_names.specs.RefusalText.{refusal_text}
 use Rattle.ct_model.specs.Cause.{cause}
 use Rattle.ct_model.specs.declared.step.Step.{Step}
-use Rattle.ct_model.specs.declared.step.Step.TheVariants.{Choose}
+use Rattle.ct_model.specs.declared.step.Step.TheVariants.{Choose, Suspect}
 use Rattle.ct_model.specs.Rehearsal.{Rehearsal, line_of}
 use Rattle.ct_model.specs.State.{at_serial}
-use Rattle.ct_model.specs.StepText.{step_text}
+use Rattle.ct_records.specs.Values.{step_data}
 use Rattle.ct_world.specs.Driving.{next_local}
-use Rattle.ct_json.specs.Json.{array_at, counts_json, group_json, history_json, standing_json}
+use Rattle.ct_json.specs.Fields.{Field, array_by, array_of, lines_text, object_of}
+use Rattle.ct_json.specs.Json.{counts_fields, group_fields, history_fields, standing_fields}
 use Rattle.ct_json.specs.JsonEnvelopes.{envelope_by}
-use Rattle.ct_json.specs.JsonParts.{part_json}
-use Rattle.ct_show.specs.State.{first_choices, first_receipt, next_between, own_steps, told_refusal}
+use Rattle.ct_json.specs.JsonParts.{part_fields}
+use Rattle.ct_show.specs.State.{first_choices, first_receipt, own_steps, told_refusal}
 
 -- an envelope that waits, and whose step sent it, of the senders by serial
-abbrev pub waiting_json : Rehearsal → List ℕ → ℕ → List ℕ
-waiting_json w from k = envelope_by (at_serial from k) w k
+abbrev pub waiting_value : Rehearsal → List ℕ → ℕ → Data
+waiting_value w from k = envelope_by (at_serial from k) w k
+
+-- those of a waiting line
+unfoldable pub waiting_field : Rehearsal → List ℕ → List ℕ → Field
+waiting_field w from line = (codes "waiting", array_by (waiting_value w from) line)
 
 -- ---- what it may do
 
 -- a step that is allowed
-abbrev pub enabled_jsons : Rehearsal → Step → List (List ℕ)
-enabled_jsons w step = if is_none (cause w step) then step_text step ∷ [] else []
+abbrev pub enabled_values : Rehearsal → Step → List Data
+enabled_values w step = if is_none (cause w step) then step_data step ∷ [] else []
 
--- one that is refused, and why
-unfoldable pub refusal_json : Step → Refusal → List ℕ
-refusal_json step refusal =
-    concat (codes "{\"entry\":" ∷ step_text step ∷ codes ",\"refusal\":\"" ∷ refusal_text refusal ∷ codes "\"}" ∷ [])
+unfoldable pub enabled_field : Rehearsal → List Step → Field
+enabled_field w steps = (codes "enabled", array_of (flat_map (enabled_values w) steps))
 
-abbrev pub refused_jsons : Rehearsal → Step → List (List ℕ)
-refused_jsons w step = option_map_or (λ refusal. refusal_json step refusal ∷ []) (told_refusal w step) []
+-- a step that is refused, and why
+unfoldable pub refusal_value : Step → Refusal → Data
+refusal_value step refusal = object_of ((codes "entry", step_data step) ∷ (codes "refusal", string (refusal_text refusal)) ∷ [])
+
+-- the same, where the member could take the step next
+abbrev pub refusal_values : Rehearsal → Step → List Data
+refusal_values w step = option_map_or (λ refusal. refusal_value step refusal ∷ []) (told_refusal w step) []
+
+unfoldable pub refused_field : Rehearsal → List Step → Field
+refused_field w steps = (codes "refused", array_of (flat_map (refusal_values w) steps))
 
 -- its own steps that are allowed, and those that are refused, of the choices its own estimate alone
-unfoldable pub steps_json : Rehearsal → ℕ → List ℕ
-steps_json w p =
-    concat (array_at (codes "enabled") (flat_map (enabled_jsons w) (own_steps p (first_choices p w.setting.members)))
-    ∷ array_at (codes "refused") (flat_map (refused_jsons w) (own_steps p (Choose p p ∷ []))) ∷ [])
+unfoldable pub steps_fields : Rehearsal → ℕ → List Field
+steps_fields w p =
+    enabled_field w (own_steps p (first_choices p w.setting.members)) ∷ refused_field w (own_steps p (Choose p p ∷ [])) ∷ []
 
--- what a driver does next: a step of the member's own, else the receipt; a suspicion with the receipt that it may come to
-unfoldable pub next_json : Rehearsal → ℕ → List ℕ
-next_json w p =
-    concat (codes ",\"next\":[" ∷ next_between [] (codes ",") (next_local w p) (first_receipt w p (line_of w p)) ∷ codes "]" ∷ [])
+-- what a driver does next: a step of the member's own, else the receipt; where that is a suspicion the receipt comes in its
+-- place if the detector doesn't suspect
+abbrev pub next_steps : Option Step → Option Step → List Step
+next_steps None receipt = option_to_list receipt
+next_steps (Some (Suspect p)) receipt = Suspect p ∷ option_to_list receipt
+next_steps (Some step) receipt = step ∷ []
+
+unfoldable pub next_field : Rehearsal → ℕ → Field
+next_field w p = (codes "next", array_by step_data (next_steps (next_local w p) (first_receipt w p (line_of w p))))
+
+-- what waits for it, and what it may do
+unfoldable pub chances_fields : Rehearsal → List ℕ → ℕ → List Field
+chances_fields w from p = waiting_field w from (line_of w p) ∷ (steps_fields w p ++ next_field w p ∷ [])
 
 -- ---- all of it
 
--- what waits for a member, and what it may do
-unfoldable pub chances_json : Rehearsal → List ℕ → ℕ → List ℕ
-chances_json w from p =
-    concat (array_at (codes "waiting") (map (waiting_json w from) (line_of w p)) ∷ steps_json w p ∷ next_json w p ∷ codes "}\n" ∷ [])
-
-unfoldable pub member_json : Rehearsal → List ℕ → ℕ → List ℕ
-member_json w from p = concat (standing_json w p ∷ part_json w p ∷ history_json w p ∷ chances_json w from p ∷ [])
-
--- those of the first members
-abbrev pub first_members : Rehearsal → List ℕ → ℕ → List ℕ
-first_members w from zero = []
-first_members w from (suc k) = first_members w from k ++ member_json w from (suc k)
+unfoldable pub member_value : Rehearsal → List ℕ → ℕ → Data
+member_value w from p = object_of (standing_fields w p ++ (part_fields w p ++ (history_fields w p ++ chances_fields w from p)))
 
 -- what the record begins with, and what it comes to
-unfoldable pub whole_json : Rehearsal → List ℕ
-whole_json w = concat (group_json w ∷ counts_json w ∷ codes "}\n" ∷ [])
+unfoldable pub whole_value : Rehearsal → Data
+whole_value w = object_of (group_fields w ++ counts_fields w)
 
--- with these senders of the envelopes
+-- one value of the whole, and one of each member, with these senders of the envelopes
+unfoldable pub state_values : Rehearsal → List ℕ → List Data
+state_values w from = whole_value w ∷ map (member_value w from) (members w.setting.members)
+
 unfoldable pub state_json : Rehearsal → List ℕ → List ℕ
-state_json w from = whole_json w ++ first_members w from w.setting.members
+state_json w from = lines_text (state_values w from)

@@ -1,10 +1,8 @@
--- The line of a step as JSON: an object, and a line feed. The record has the step as its last one, but where it is refused.
-use Rattle.std.specs.Prelude.{ℕ, ◌+◌, ◌==◌, List, [], ◌∷◌, length, codes, decimal, Option, Some, None, option_map, unwrap_or, if◌then◌else◌}
-use Rattle.std.specs.List.{concat}
-use Rattle.ct_names.specs.declared.command.Command.{Command}
+-- The value that a step is, as JSON, with a line feed behind it. The record has the step as its last one, but where it is refused.
+use Rattle.std.specs.Prelude.{ℕ, ◌+◌, ◌==◌, List, [], ◌∷◌, ◌++◌, length, codes, Option, Some, None, option_map, unwrap_or, if◌then◌else◌}
+use Rattle.serde_json.specs.Data.{Data as Json, string}
 use Rattle.ct_names.specs.declared.refusal.Refusal.{Refusal}
 use Rattle.ct_names.specs.declared.refusal.Refusal.TheVariants.{NotWaiting}
-use Rattle.ct_names.specs.MessageText.{message_text}
 use Rattle.ct_names.specs.RefusalText.{refusal_text}
 use Rattle.ct_names.specs.Value.{Value}
 use Rattle.ct_model.specs.Actor.{actor}
@@ -17,138 +15,142 @@ use Rattle.ct_model.specs.declared.wire.Wire.{Wire}
 use Rattle.ct_model.specs.declared.wire.Wire.TheVariants.{Data}
 use Rattle.ct_model.specs.Rehearsal.{Rehearsal, state_of}
 use Rattle.ct_model.specs.State.{at_serial}
-use Rattle.ct_model.specs.StepText.{amount, command_entry, step_entry, step_text}
+use Rattle.ct_model.specs.StepText.{step_entry}
+use Rattle.ct_records.specs.Values.{command_data, num, step_data}
 use Rattle.ct_world.specs.Standing.{estimate_by, heard_by}
 use Rattle.ct_world.specs.World.{member_of, if_member}
 use Rattle.ct_text.specs.Standing.{coordinator_of, instance_of, round_of}
 use Rattle.ct_show.specs.Facts.{last_taking}
-use Rattle.ct_json.specs.Json.{key_json, messages_json}
-use Rattle.ct_json.specs.JsonEnvelopes.{envelope_json, estimate_at, sent_at}
-use Rattle.ct_json.specs.JsonParts.{part_json, replies_json}
+use Rattle.ct_json.specs.Fields.{Field, line_text, object_of}
+use Rattle.ct_json.specs.Json.{message_value, messages_value}
+use Rattle.ct_json.specs.JsonEnvelopes.{envelope_value, estimate_field, sent_field}
+use Rattle.ct_json.specs.JsonParts.{part_fields, replies_fields}
 use Rattle.ct_show.specs.Wires.{letter_at}
 
 -- the number of a step, counted from 1, its member and its name
-unfoldable pub head_json : ℕ → Step → List ℕ
-head_json number step =
-    concat (codes "{\"number\":" ∷ decimal number ∷ codes ",\"member\":" ∷ decimal (actor step) ∷ codes ",\"step\":\""
-    ∷ (step_entry step).name ∷ codes "\"" ∷ [])
+unfoldable pub head_fields : ℕ → Step → List Field
+head_fields number step =
+    (codes "number", num number) ∷ (codes "member", num (actor step)) ∷ (codes "step", string (step_entry step).name) ∷ []
 
--- ---- its arguments: a command, a member, or the envelope of a serial
-
--- a command as a record has it
-unfoldable pub command_json : Command → List ℕ
-command_json c =
-    concat (codes "[\"" ∷ (command_entry c).name ∷ codes "\"," ∷ decimal (command_entry c).first ∷ codes ","
-    ∷ decimal (amount (command_entry c).rest) ∷ codes "]" ∷ [])
-
-abbrev pub arguments_json : Rehearsal → Step → List ℕ
-arguments_json w (Submit p c) = key_json (codes "command") (command_json c)
-arguments_json w (Choose p from) = key_json (codes "from") (decimal from)
-arguments_json w (Receive p k) = key_json (codes "envelope") (envelope_json w k)
-arguments_json w (Postpone p k) = key_json (codes "envelope") (envelope_json w k)
-arguments_json w (Lose p k) = key_json (codes "envelope") (envelope_json w k)
-arguments_json w (Repeat p k) = key_json (codes "envelope") (envelope_json w k)
-arguments_json w _ = []
+-- what it names: a command, a member, or the envelope of a serial
+unfoldable pub argument_fields : Rehearsal → Step → List Field
+argument_fields w (Submit p c) = (codes "command", command_data c) ∷ []
+argument_fields w (Choose p from) = (codes "from", num from) ∷ []
+argument_fields w (Receive p k) = (codes "envelope", envelope_value w k) ∷ []
+argument_fields w (Postpone p k) = (codes "envelope", envelope_value w k) ∷ []
+argument_fields w (Lose p k) = (codes "envelope", envelope_value w k) ∷ []
+argument_fields w (Repeat p k) = (codes "envelope", envelope_value w k) ∷ []
+argument_fields w _ = []
 
 -- ---- what it came to
 
--- the message that the wire is, at its key
-abbrev pub message_of : Wire (Unit {0}) → List ℕ
-message_of (Data m) = concat (codes ",\"message\":\"" ∷ message_text m ∷ codes "\"" ∷ [])
-message_of _ = []
+-- the message that a wire is
+abbrev pub message_fields : Wire (Unit {0}) → List Field
+message_fields (Data m) = (codes "message", message_value m) ∷ []
+message_fields _ = []
 
-abbrev pub message_in : Option (Envelope (Unit {0})) → List ℕ
+abbrev pub message_in : Option (Envelope (Unit {0})) → List Field
 message_in None = []
-message_in (Some e) = message_of e.wire
+message_in (Some e) = message_fields e.wire
 
 -- the value that a member holds; no message where it holds none
 unfoldable pub held : Rehearsal → ℕ → Value
 held w p = unwrap_or (option_map (λ (e : Value × ℕ). e.0) (if_member w p (estimate_by (member_of w p)))) []
 
+-- the messages of the batch of an instance
+unfoldable pub batch : Rehearsal → ℕ → Value
+batch w k = unwrap_or (option_map (λ b. b.messages) (at_serial (order (state_of w)) k)) []
+
 -- an instance, and messages at a key
-unfoldable pub valued_json : List ℕ → ℕ → Value → List ℕ
-valued_json key k v = concat (codes ",\"instance\":" ∷ decimal k ∷ codes ",\"" ∷ key ∷ codes "\":" ∷ messages_json v ∷ [])
+abbrev pub valued_fields : List ℕ → ℕ → Value → List Field
+valued_fields key k v = (codes "instance", num k) ∷ (key, messages_value v) ∷ []
+
+-- the instance, and the value that a member proposes for it
+unfoldable pub proposal_fields : Rehearsal → ℕ → List Field
+proposal_fields w p = valued_fields (codes "value") (instance_of w p) (held w p)
 
 -- the batch of the instance that a member delivered
-unfoldable pub delivered_json : Rehearsal → ℕ → List ℕ
-delivered_json w p =
-    valued_json (codes "delivered") (instance_of w p)
-    (unwrap_or (option_map (λ b. b.messages) (at_serial (order (state_of w)) (instance_of w p))) [])
+unfoldable pub delivered_fields : Rehearsal → ℕ → List Field
+delivered_fields w p = valued_fields (codes "delivered") (instance_of w p) (batch w (instance_of w p))
 
 -- the instance and the round that a member is in, and the coordinator
-unfoldable pub round_json : Rehearsal → ℕ → List ℕ
-round_json w p =
-    concat (codes ",\"instance\":" ∷ decimal (instance_of w p) ∷ codes ",\"round\":" ∷ decimal (round_of w p)
-    ∷ codes ",\"coordinator\":" ∷ decimal (coordinator_of w p) ∷ [])
+unfoldable pub round_fields : Rehearsal → ℕ → List Field
+round_fields w p =
+    (codes "instance", num (instance_of w p)) ∷ (codes "round", num (round_of w p)) ∷ (codes "coordinator", num (coordinator_of w p)) ∷ []
 
--- the same, and an estimate
-unfoldable pub estimated_json : Rehearsal → ℕ → Option (Value × ℕ) → List ℕ
-estimated_json w p e = concat (round_json w p ∷ estimate_at e ∷ [])
+-- the same, and an estimate, where there is one
+unfoldable pub estimated_fields : Rehearsal → ℕ → Option (Value × ℕ) → List Field
+estimated_fields w p e = round_fields w p ++ estimate_field e
 
--- where something was sent since this many envelopes were, the value that a member holds is decided
-unfoldable pub decision_at : Rehearsal → ℕ → ℕ → List ℕ
-decision_at w before p =
-    if length (state_of w).sent == before then [] else key_json (codes "decided") (messages_json (held w p))
+-- what a member holds is decided, where something was sent since so many envelopes were
+unfoldable pub decided_fields : Rehearsal → ℕ → ℕ → List Field
+decided_fields w before p = if length (state_of w).sent == before then [] else (codes "decided", messages_value (held w p)) ∷ []
 
-unfoldable pub concluded_json : Rehearsal → ℕ → ℕ → List ℕ
-concluded_json w before p = concat (round_json w p ∷ replies_json w p ∷ decision_at w before p ∷ [])
+unfoldable pub concluded_fields : Rehearsal → ℕ → ℕ → List Field
+concluded_fields w before p = round_fields w p ++ (replies_fields w p ++ decided_fields w before p)
 
--- what the step came to, where so many envelopes had been sent before it
-abbrev pub outcome_json : Rehearsal → ℕ → Step → List ℕ
-outcome_json w before (Submit p c) = message_in (letter_at w (before + 1))
-outcome_json w before (Begin p) = valued_json (codes "value") (instance_of w p) (held w p)
-outcome_json w before (Enter p) = round_json w p
-outcome_json w before (Choose p from) = estimated_json w p (if_member w p (heard_by (member_of w p) from))
-outcome_json w before (Adopt p) = estimated_json w p (if_member w p (estimate_by (member_of w p)))
-outcome_json w before (Suspect p) = estimated_json w p (if_member w p (estimate_by (member_of w p)))
-outcome_json w before (Conclude p) = concluded_json w before p
-outcome_json w before (Deliver p) = delivered_json w p
-outcome_json w before (Follow p) = delivered_json w p
-outcome_json w before _ = []
+-- what the last step of a record came to, before which so many envelopes had been sent
+unfoldable pub outcome_fields : Rehearsal → ℕ → Step → List Field
+outcome_fields w before (Submit p c) = message_in (letter_at w (before + 1))
+outcome_fields w before (Begin p) = proposal_fields w p
+outcome_fields w before (Enter p) = round_fields w p
+outcome_fields w before (Choose p from) = estimated_fields w p (if_member w p (heard_by (member_of w p) from))
+outcome_fields w before (Adopt p) = estimated_fields w p (if_member w p (estimate_by (member_of w p)))
+outcome_fields w before (Suspect p) = estimated_fields w p (if_member w p (estimate_by (member_of w p)))
+outcome_fields w before (Conclude p) = concluded_fields w before p
+outcome_fields w before (Deliver p) = delivered_fields w p
+outcome_fields w before (Follow p) = delivered_fields w p
+outcome_fields w before _ = []
 
--- the line of the last step of the record, before which so many envelopes had been sent
+-- the last step of a record, before which so many envelopes had been sent
+unfoldable pub value_in : Rehearsal → ℕ → ℕ → Step → Json
+value_in w before number step =
+    object_of (head_fields number step ++ (argument_fields w step ++ (outcome_fields w before step ++ sent_field w before ∷ [])))
+
 unfoldable pub step_json : Rehearsal → ℕ → ℕ → Step → List ℕ
-step_json w before number step =
-    concat (head_json number step ∷ arguments_json w step ∷ outcome_json w before step ∷ sent_at w before ∷ codes "}\n" ∷ [])
+step_json w before number step = line_text (value_in w before number step)
 
 -- ---- a refused step
 
--- the step of a number, as a record has it
-abbrev pub left_json : Option (ℕ × Step) → List ℕ
-left_json None = []
-left_json (Some t) = concat (codes ",\"left\":{\"number\":" ∷ decimal t.0 ∷ codes ",\"entry\":" ∷ step_text t.1 ∷ codes "}" ∷ [])
+-- a step, after its number
+abbrev pub left_fields : Option (ℕ × Step) → List Field
+left_fields None = []
+left_fields (Some t) = (codes "left", object_of ((codes "number", num t.0) ∷ (codes "entry", step_data t.1) ∷ [])) ∷ []
 
 -- when the envelope left its line, where the refusal is that it doesn't wait
-abbrev pub leaving_json : Rehearsal → ℕ → Refusal → List ℕ
-leaving_json w k NotWaiting = left_json (last_taking w.steps k (length w.steps))
-leaving_json w k _ = []
+abbrev pub leaving_fields : Rehearsal → ℕ → Refusal → List Field
+leaving_fields w k NotWaiting = left_fields (last_taking w.steps k (length w.steps))
+leaving_fields w k _ = []
 
 -- how many envelopes were sent
-unfoldable pub missing_json : Rehearsal → List ℕ
-missing_json w = concat (codes ",\"envelopes\":" ∷ decimal (length (state_of w).sent) ∷ [])
+unfoldable pub missing_fields : Rehearsal → List Field
+missing_fields w = (codes "envelopes", num (length (state_of w).sent)) ∷ []
 
--- when the envelope left, or how many were sent where there is none of the serial
-abbrev pub letter_facts : Rehearsal → ℕ → Option (Envelope (Unit {0})) → Refusal → List ℕ
-letter_facts w k None refusal = missing_json w
-letter_facts w k (Some e) refusal = leaving_json w k refusal
+-- of an envelope when it left; how many were sent, where there is none of the serial
+abbrev pub letter_facts : Rehearsal → ℕ → Option (Envelope (Unit {0})) → Refusal → List Field
+letter_facts w k None refusal = missing_fields w
+letter_facts w k (Some e) refusal = leaving_fields w k refusal
 
-abbrev pub serial_facts : Rehearsal → ℕ → Refusal → List ℕ
+abbrev pub serial_facts : Rehearsal → ℕ → Refusal → List Field
 serial_facts w k refusal = letter_facts w k (letter_at w k) refusal
 
 -- where a member stands
-unfoldable pub member_facts : Rehearsal → ℕ → List ℕ
-member_facts w p = concat (codes ",\"instance\":" ∷ decimal (instance_of w p) ∷ part_json w p ∷ [])
+unfoldable pub member_facts : Rehearsal → ℕ → List Field
+member_facts w p = (codes "instance", num (instance_of w p)) ∷ part_fields w p
 
--- the facts behind a refusal: the envelope that the step names; of another step its member
-abbrev pub facts_json : Rehearsal → Step → Refusal → List ℕ
-facts_json w (Receive p k) refusal = serial_facts w k refusal
-facts_json w (Postpone p k) refusal = serial_facts w k refusal
-facts_json w (Lose p k) refusal = serial_facts w k refusal
-facts_json w (Repeat p k) refusal = serial_facts w k refusal
-facts_json w step refusal = member_facts w (actor step)
+-- the facts behind a refusal: of the envelope that the step names; of another step its member
+unfoldable pub facts_fields : Rehearsal → Step → Refusal → List Field
+facts_fields w (Receive p k) refusal = serial_facts w k refusal
+facts_fields w (Postpone p k) refusal = serial_facts w k refusal
+facts_fields w (Lose p k) refusal = serial_facts w k refusal
+facts_fields w (Repeat p k) refusal = serial_facts w k refusal
+facts_fields w step refusal = member_facts w (actor step)
 
--- the line of a step that is refused after the record
+-- a step that is refused after the record
+unfoldable pub refused_value : Rehearsal → ℕ → Step → Refusal → Json
+refused_value w number step refusal =
+    object_of (head_fields number step
+    ++ (argument_fields w step ++ (codes "refusal", string (refusal_text refusal)) ∷ facts_fields w step refusal))
+
 unfoldable pub refused_json : Rehearsal → ℕ → Step → Refusal → List ℕ
-refused_json w number step refusal =
-    concat (head_json number step ∷ arguments_json w step ∷ codes ",\"refusal\":\"" ∷ refusal_text refusal ∷ codes "\""
-    ∷ facts_json w step refusal ∷ codes "}\n" ∷ [])
+refused_json w number step refusal = line_text (refused_value w number step refusal)

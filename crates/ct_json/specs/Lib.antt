@@ -1,5 +1,6 @@
+pub mod Fields
 pub mod Json
 pub mod JsonEnvelopes
 pub mod JsonParts
-pub mod JsonSteps
 pub mod JsonState
+pub mod JsonSteps

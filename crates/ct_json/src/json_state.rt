@@ -1,19 +1,19 @@
 //! The state that a record leads to, as JSON: an object of the whole, and one of each member, each with a line feed.
 
-ghost use Rattle.std.specs.Prelude.{◌≡◌, ◌++◌, codes, map, flat_map, is_none, IfOk, OnOk, IsTrue};
-ghost use Rattle.std.specs.List.{join_with_byte};
-ghost use Rattle.ct_names.specs.Group.{is_member};
+ghost use Rattle.std.specs.Prelude.{◌≡◌, [], ◌∷◌, map, is_none, IfOk, OnOk, IsTrue};
+ghost use Rattle.serde_json.specs.Written.{compact_text};
+ghost use Rattle.ct_names.specs.Group.{is_member, members};
 ghost use Rattle.ct_model.specs.Cause.{cause};
 ghost use Rattle.ct_model.specs.Rehearsal.{line_of};
 ghost use Rattle.ct_text.specs.Adds.{Adds};
-ghost use Rattle.ct_json.specs.Json.{array_at};
-ghost use Rattle.ct_json.specs.JsonState.{waiting_json, enabled_jsons, refusal_json, refused_jsons, steps_json, next_json};
-ghost use Rattle.ct_json.specs.JsonState.{chances_json, member_json, first_members, whole_json, state_json};
+ghost use Rattle.ct_json.specs.Fields.{fields_text, line_text, lines_text};
+ghost use Rattle.ct_json.specs.JsonState.{chances_fields, enabled_field, member_value, next_field, refusal_value, refused_field};
+ghost use Rattle.ct_json.specs.JsonState.{state_json, steps_fields, waiting_field, whole_value};
 ghost use Rattle.ct_show.specs.State.{first_choices};
 
-use crate::json::{push_counts, push_group, push_history, push_standing};
 use crate::json_envelopes::push_envelope;
 use crate::json_parts::push_part;
+use crate::report::{push_counts, push_group, push_history, push_standing};
 use ct_model::Step;
 use ct_names::{Member, Refusal, Serial};
 use ct_show::{Traced, first_receipt, own_steps, push_next_between, sender_at, told_refusal};
@@ -22,7 +22,7 @@ use ct_world::World;
 use std::alloc::{AllocError, Global};
 
 /// The state of the world as JSON: an object of the whole and one of each member, each with a line feed.
-#[tactic(auto, unfolding(crate::specs::JsonState::state_json))]
+#[tactic(auto, unfolding(crate::specs::JsonState::state_json, crate::specs::JsonState::state_values))]
 pub fn state_json(alloc: Global, traced: &Traced) -> Result<Vec<u8>, AllocError>
     ensures { IfOk result (λ bytes. bytes.items ≡ state_json traced.now.world.rehearsal traced.now.senders.items) }
 {
@@ -33,9 +33,8 @@ pub fn state_json(alloc: Global, traced: &Traced) -> Result<Vec<u8>, AllocError>
 }
 
 // What the record begins with, and what it comes to.
-#[tactic(auto, unfolding(crate::specs::JsonState::whole_json))]
 fn push_whole(text: &mut String, world: &World) -> Result<(), AllocError>
-    ensures { OnOk result (Adds text.old text.new (whole_json world.now.rehearsal)) }
+    ensures { OnOk result (Adds text.old text.new (line_text (whole_value world.now.rehearsal))) }
 {
     push_group(text, world)?;
     push_counts(text, world)?;
@@ -48,7 +47,8 @@ fn push_members(
     world: &World,
     senders: &[Member],
 ) -> Result<(), AllocError>
-    ensures { OnOk result (Adds text.old text.new (first_members world.now.rehearsal senders.now world.now.rehearsal.setting.members)) }
+    ensures { OnOk result (Adds text.old text.new
+        (lines_text (map (member_value world.now.rehearsal senders.now) (members world.now.rehearsal.setting.members)))) }
 {
     let n = world.group().n();
     for i in 0..n {
@@ -57,7 +57,6 @@ fn push_members(
     Ok(())
 }
 
-#[tactic(auto, unfolding(crate::specs::JsonState::member_json))]
 fn push_member(
     alloc: Global,
     text: &mut String,
@@ -66,17 +65,17 @@ fn push_member(
     member: Member,
 ) -> Result<(), AllocError>
     requires { IsTrue (is_member world.now.rehearsal.setting.members member) }
-    ensures { OnOk result (Adds text.old text.new (member_json world.now.rehearsal senders.now member)) }
+    ensures { OnOk result (Adds text.old text.new (line_text (member_value world.now.rehearsal senders.now member))) }
 {
     push_standing(text, world, member)?;
     push_part(text, world, member)?;
     push_history(text, world, member)?;
     let line = world.waiting(member).unwrap_or(&[]);
-    push_chances(alloc, text, world, senders, member, line)
+    push_chances(alloc, text, world, senders, member, line)?;
+    text.push_str("}\n")
 }
 
 // What waits for the member, which has this waiting line, and what it may do.
-#[tactic(auto, unfolding(crate::specs::JsonState::chances_json))]
 fn push_chances(
     alloc: Global,
     text: &mut String,
@@ -86,59 +85,42 @@ fn push_chances(
     line: &[Serial],
 ) -> Result<(), AllocError>
     requires { line.now ≡ line_of world.now.rehearsal member }
-    ensures { OnOk result (Adds text.old text.new (chances_json world.now.rehearsal senders.now member)) }
+    ensures { OnOk result (Adds text.old text.new (fields_text (chances_fields world.now.rehearsal senders.now member))) }
 {
-    push_waiting_at(text, world, senders, line)?;
+    push_waiting(text, world, senders, line)?;
     push_steps(alloc, text, world, member)?;
-    push_next(text, world, member, line)?;
-    text.push_str("}\n")
+    push_next(text, world, member, line)
 }
 
 // The envelopes of these serials.
-#[tactic(auto, unfolding(crate::specs::Json::array_at))]
-fn push_waiting_at(
-    text: &mut String,
-    world: &World,
-    senders: &[Member],
-    line: &[Serial],
-) -> Result<(), AllocError>
-    ensures { OnOk result (Adds text.old text.new
-        (array_at (codes "waiting") (map (waiting_json world.now.rehearsal senders.now) line.now))) }
-{
-    text.push_str(",\"waiting\":[")?;
-    push_waiting(text, world, senders, line)?;
-    text.push_str("]")
-}
-
 fn push_waiting(
     text: &mut String,
     world: &World,
     senders: &[Member],
     line: &[Serial],
 ) -> Result<(), AllocError>
-    ensures { OnOk result (Adds text.old text.new
-        (join_with_byte 44 (map (waiting_json world.now.rehearsal senders.now) line.now))) }
+    ensures { OnOk result (Adds text.old text.new (fields_text (waiting_field world.now.rehearsal senders.now line.now ∷ []))) }
 {
+    text.push_str(",\"waiting\":[")?;
     for (i, serial) in line.iter().enumerate() {
         push_separator(text, ',', i > 0)?;
         push_envelope(text, sender_at(senders, *serial), world, *serial)?;
     }
-    Ok(())
+    text.push_str("]")
 }
 
 // The steps of its own that the member may take, and those that it may not.
-#[tactic(auto, unfolding(crate::specs::JsonState::steps_json))]
 fn push_steps(
     alloc: Global,
     text: &mut String,
     world: &World,
     member: Member,
 ) -> Result<(), AllocError>
-    ensures { OnOk result (Adds text.old text.new (steps_json world.now.rehearsal member)) }
+    ensures { OnOk result (Adds text.old text.new (fields_text (steps_fields world.now.rehearsal member))) }
 {
     let choices = choices(alloc, member, world.group().n())?;
-    push_enabled_at(text, world, &own_steps(alloc, member, &choices)?)?;
-    push_refused_at(
+    push_enabled(text, world, &own_steps(alloc, member, &choices)?)?;
+    push_refused(
         text,
         world,
         &own_steps(alloc, member, &[Step::Choose(member, member)])?,
@@ -156,20 +138,11 @@ fn choices(alloc: Global, member: Member, members: u8) -> Result<Vec<Step>, Allo
     Ok(steps)
 }
 
-#[tactic(auto, unfolding(crate::specs::Json::array_at))]
-fn push_enabled_at(text: &mut String, world: &World, steps: &[Step]) -> Result<(), AllocError>
-    ensures { OnOk result (Adds text.old text.new
-        (array_at (codes "enabled") (flat_map (enabled_jsons world.now.rehearsal) steps.now))) }
-{
-    text.push_str(",\"enabled\":[")?;
-    push_enabled(text, world, steps)?;
-    text.push_str("]")
-}
-
 // Those of the steps that are allowed.
 fn push_enabled(text: &mut String, world: &World, steps: &[Step]) -> Result<(), AllocError>
-    ensures { OnOk result (Adds text.old text.new (join_with_byte 44 (flat_map (enabled_jsons world.now.rehearsal) steps.now))) }
+    ensures { OnOk result (Adds text.old text.new (fields_text (enabled_field world.now.rehearsal steps.now ∷ []))) }
 {
+    text.push_str(",\"enabled\":[")?;
     let mut later = false;
     for step in steps {
         if is_enabled(world, *step) {
@@ -178,7 +151,7 @@ fn push_enabled(text: &mut String, world: &World, steps: &[Step]) -> Result<(), 
             later = true;
         }
     }
-    Ok(())
+    text.push_str("]")
 }
 
 fn is_enabled(world: &World, step: Step) -> bool
@@ -190,20 +163,11 @@ fn is_enabled(world: &World, step: Step) -> bool
     }
 }
 
-#[tactic(auto, unfolding(crate::specs::Json::array_at))]
-fn push_refused_at(text: &mut String, world: &World, steps: &[Step]) -> Result<(), AllocError>
-    ensures { OnOk result (Adds text.old text.new
-        (array_at (codes "refused") (flat_map (refused_jsons world.now.rehearsal) steps.now))) }
-{
-    text.push_str(",\"refused\":[")?;
-    push_refused(text, world, steps)?;
-    text.push_str("]")
-}
-
 // Those that are refused, and why.
 fn push_refused(text: &mut String, world: &World, steps: &[Step]) -> Result<(), AllocError>
-    ensures { OnOk result (Adds text.old text.new (join_with_byte 44 (flat_map (refused_jsons world.now.rehearsal) steps.now))) }
+    ensures { OnOk result (Adds text.old text.new (fields_text (refused_field world.now.rehearsal steps.now ∷ []))) }
 {
+    text.push_str(",\"refused\":[")?;
     let mut later = false;
     for step in steps {
         if let Some(refusal) = told_refusal(world, *step) {
@@ -212,18 +176,16 @@ fn push_refused(text: &mut String, world: &World, steps: &[Step]) -> Result<(), 
             later = true;
         }
     }
-    Ok(())
+    text.push_str("]")
 }
 
-#[tactic(auto, unfolding(crate::specs::JsonState::refusal_json))]
 fn push_refusal(text: &mut String, step: Step, refusal: Refusal) -> Result<(), AllocError>
-    ensures { OnOk result (Adds text.old text.new (refusal_json step refusal)) }
+    ensures { OnOk result (Adds text.old text.new (compact_text (refusal_value step refusal))) }
 {
     write!(text, "{{\"entry\":{step},\"refusal\":\"{refusal}\"}}")
 }
 
 // What a driver does next at the member, which has this waiting line.
-#[tactic(auto, unfolding(crate::specs::JsonState::next_json))]
 fn push_next(
     text: &mut String,
     world: &World,
@@ -231,7 +193,7 @@ fn push_next(
     line: &[Serial],
 ) -> Result<(), AllocError>
     requires { line.now ≡ line_of world.now.rehearsal member }
-    ensures { OnOk result (Adds text.old text.new (next_json world.now.rehearsal member)) }
+    ensures { OnOk result (Adds text.old text.new (fields_text (next_field world.now.rehearsal member ∷ []))) }
 {
     text.push_str(",\"next\":[")?;
     push_next_between(

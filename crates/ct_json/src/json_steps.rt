@@ -1,19 +1,20 @@
 //! The line of a step as JSON: an object, and a line feed. The world is the one after the step, or before it where it is refused.
 
-ghost use Rattle.std.specs.Prelude.{◌≡◌, ◌≤◌, codes, decimal, OnOk, option_map};
-ghost use Rattle.ct_text.specs.Adds.{Adds};
+ghost use Rattle.std.specs.Prelude.{◌≡◌, ◌≤◌, [], ◌∷◌, codes, OnOk, option_map};
+ghost use Rattle.serde_json.specs.Written.{compact_text};
 ghost use Rattle.ct_model.specs.StepText.{step_entry};
-ghost use Rattle.ct_text.specs.Standing.{instance_of};
-ghost use Rattle.ct_json.specs.Json.{key_json};
-ghost use Rattle.ct_json.specs.JsonEnvelopes.{envelope_json};
-ghost use Rattle.ct_json.specs.JsonSteps.{head_json, command_json, arguments_json, message_of, message_in, held, valued_json};
-ghost use Rattle.ct_json.specs.JsonSteps.{delivered_json, round_json, estimated_json, decision_at, concluded_json, outcome_json, step_json};
-ghost use Rattle.ct_json.specs.JsonSteps.{left_json, leaving_json, missing_json, letter_facts, serial_facts, member_facts, facts_json};
-ghost use Rattle.ct_json.specs.JsonSteps.{refused_json};
+ghost use Rattle.ct_records.specs.Values.{command_data, num};
+ghost use Rattle.ct_text.specs.Adds.{Adds};
+ghost use Rattle.ct_json.specs.Fields.{IsPlain, fields_text, opened};
+ghost use Rattle.ct_json.specs.JsonEnvelopes.{envelope_value};
+ghost use Rattle.ct_json.specs.JsonSteps.{argument_fields, concluded_fields, decided_fields, delivered_fields, estimated_fields};
+ghost use Rattle.ct_json.specs.JsonSteps.{facts_fields, head_fields, held, leaving_fields, left_fields, letter_facts, member_facts};
+ghost use Rattle.ct_json.specs.JsonSteps.{message_fields, message_in, outcome_fields, proposal_fields, refused_json, round_fields};
+ghost use Rattle.ct_json.specs.JsonSteps.{missing_fields, serial_facts, step_json, valued_fields};
 
-use crate::json::{push_messages, push_messages_at};
 use crate::json_envelopes::{push_envelope, push_estimate_at, push_sent_at};
 use crate::json_parts::{push_part, push_replies};
+use crate::report::{push_message, push_messages_at};
 use ct_model::Step;
 use ct_names::{Command, Instance, MAX_ENVELOPES, Member, Message, Refusal, Round, Serial};
 use ct_show::last_taking;
@@ -22,7 +23,6 @@ use ct_world::{Letter, Wire, World};
 use std::alloc::AllocError;
 
 /// Appends the line of the world's last step, which has this number, counted from 1; so many envelopes had been sent before it.
-#[tactic(auto, unfolding(crate::specs::JsonSteps::step_json))]
 pub fn push_step_json(
     text: &mut String,
     world: &World,
@@ -41,7 +41,6 @@ pub fn push_step_json(
 }
 
 /// Appends the line of the step of this number, counted from 1, which is refused so in the world.
-#[tactic(auto, unfolding(crate::specs::JsonSteps::refused_json))]
 pub fn push_refused_json(
     text: &mut String,
     world: &World,
@@ -59,9 +58,8 @@ pub fn push_refused_json(
 }
 
 // The number of the step, its member and its name.
-#[tactic(auto, unfolding(crate::specs::JsonSteps::head_json))]
 fn push_head(text: &mut String, number: usize, step: Step) -> Result<(), AllocError>
-    ensures { OnOk result (Adds text.old text.new (head_json number step)) }
+    ensures { OnOk result (Adds text.old text.new (opened (head_fields number step))) }
 {
     let member = step.member();
     let name = name_of(step);
@@ -94,11 +92,12 @@ fn name_of(step: Step) -> &'static str
 }
 
 // The command of the step, the member that it names, or the envelope of the serial that it names.
+#[tactic(auto, unfolding(crate::specs::JsonSteps::argument_fields))]
 fn push_arguments(text: &mut String, world: &World, step: Step) -> Result<(), AllocError>
-    ensures { OnOk result (Adds text.old text.new (arguments_json world.now.rehearsal step)) }
+    ensures { OnOk result (Adds text.old text.new (fields_text (argument_fields world.now.rehearsal step))) }
 {
     match step {
-        Step::Submit(_, command) => push_command_at(text, command),
+        Step::Submit(_, command) => push_command(text, command),
         Step::Choose(_, from) => push_from(text, from),
         Step::Receive(_, serial) => push_envelope_at(text, world, serial),
         Step::Postpone(_, serial) => push_envelope_at(text, world, serial),
@@ -108,48 +107,45 @@ fn push_arguments(text: &mut String, world: &World, step: Step) -> Result<(), Al
     }
 }
 
-#[tactic(auto, unfolding(crate::specs::Json::key_json))]
-fn push_command_at(text: &mut String, command: Command) -> Result<(), AllocError>
-    ensures { OnOk result (Adds text.old text.new (key_json (codes "command") (command_json command))) }
-{
-    text.push_str(",\"command\":")?;
-    push_command(text, command)
-}
-
 // The command as a record has it.
-#[tactic(auto, unfolding(crate::specs::JsonSteps::command_json))]
+#[tactic(auto, unfolding(json::proofs::OnLiterals::json_on_literals))]
 fn push_command(text: &mut String, command: Command) -> Result<(), AllocError>
-    ensures { OnOk result (Adds text.old text.new (command_json command)) }
+    ensures { OnOk result (Adds text.old text.new (fields_text ((codes "command", command_data command) ∷ []))) }
 {
     match command {
-        Command::Set(register, value) => write!(text, "[\"set\",{register},{value}]"),
-        Command::Add(register, amount) => write!(text, "[\"add\",{register},{amount}]"),
-        Command::Copy(from, to) => write!(text, "[\"copy\",{from},{to}]"),
+        Command::Set(register, value) => {
+            write!(text, ",\"command\":[\"set\",{register},{value}]")
+        }
+        Command::Add(register, amount) => {
+            write!(text, ",\"command\":[\"add\",{register},{amount}]")
+        }
+        Command::Copy(from, to) => write!(text, ",\"command\":[\"copy\",{from},{to}]"),
     }
 }
 
-#[tactic(auto, unfolding(crate::specs::Json::key_json))]
+#[tactic(auto, unfolding(json::proofs::OnLiterals::json_on_literals))]
 fn push_from(text: &mut String, from: Member) -> Result<(), AllocError>
-    ensures { OnOk result (Adds text.old text.new (key_json (codes "from") (decimal from))) }
+    ensures { OnOk result (Adds text.old text.new (fields_text ((codes "from", num from) ∷ []))) }
 {
     write!(text, ",\"from\":{from}")
 }
 
-#[tactic(auto, unfolding(crate::specs::Json::key_json))]
 fn push_envelope_at(text: &mut String, world: &World, serial: Serial) -> Result<(), AllocError>
-    ensures { OnOk result (Adds text.old text.new (key_json (codes "envelope") (envelope_json world.now.rehearsal serial))) }
+    ensures { OnOk result (Adds text.old text.new
+        (fields_text ((codes "envelope", envelope_value world.now.rehearsal serial) ∷ []))) }
 {
     text.push_str(",\"envelope\":")?;
     push_envelope(text, None, world, serial)
 }
 
 // What the step came to, where so many envelopes had been sent before it.
+#[tactic(auto, unfolding(crate::specs::JsonSteps::outcome_fields))]
 fn push_outcome(text: &mut String, world: &World, before: u32, step: Step) -> Result<(), AllocError>
     requires { before ≤ MAX_ENVELOPES }
-    ensures { OnOk result (Adds text.old text.new (outcome_json world.now.rehearsal before step)) }
+    ensures { OnOk result (Adds text.old text.new (fields_text (outcome_fields world.now.rehearsal before step))) }
 {
     match step {
-        Step::Submit(_, _) => push_message(text, world.letter(before + 1)),
+        Step::Submit(_, _) => push_carried(text, world.letter(before + 1)),
         Step::Begin(member) => push_proposal(text, world, member),
         Step::Enter(member) => push_round(text, world, member),
         Step::Choose(member, from) => {
@@ -165,8 +161,8 @@ fn push_outcome(text: &mut String, world: &World, before: u32, step: Step) -> Re
 }
 
 // The message that the envelope carries, where it carries one.
-fn push_message(text: &mut String, letter: Option<Letter>) -> Result<(), AllocError>
-    ensures { OnOk result (Adds text.old text.new (message_in letter)) }
+fn push_carried(text: &mut String, letter: Option<Letter>) -> Result<(), AllocError>
+    ensures { OnOk result (Adds text.old text.new (fields_text (message_in letter))) }
 {
     match letter {
         None => Ok(()),
@@ -175,10 +171,10 @@ fn push_message(text: &mut String, letter: Option<Letter>) -> Result<(), AllocEr
 }
 
 fn push_message_of(text: &mut String, wire: &Wire) -> Result<(), AllocError>
-    ensures { OnOk result (Adds text.old text.new (message_of wire.now)) }
+    ensures { OnOk result (Adds text.old text.new (fields_text (message_fields wire.now))) }
 {
     match *wire {
-        Wire::Data(message) => write!(text, ",\"message\":\"{message}\""),
+        Wire::Data(message) => push_message(text, message),
         _ => Ok(()),
     }
 }
@@ -195,22 +191,22 @@ fn held(world: &World, member: Member) -> &[Message]
 }
 
 // The instance, and messages at a key.
-#[tactic(auto, unfolding(crate::specs::JsonSteps::valued_json))]
 fn push_valued(
     text: &mut String,
     key: &str,
     instance: Instance,
     messages: &[Message],
 ) -> Result<(), AllocError>
-    ensures { OnOk result (Adds text.old text.new (valued_json key.now instance messages.now)) }
+    requires { IsPlain key.now }
+    ensures { OnOk result (Adds text.old text.new (fields_text (valued_fields key.now instance messages.now))) }
 {
-    write!(text, ",\"instance\":{instance},\"{key}\":")?;
-    push_messages(text, messages)
+    write!(text, ",\"instance\":{instance}")?;
+    push_messages_at(text, key, messages)
 }
 
+#[tactic(auto, unfolding(crate::specs::JsonSteps::proposal_fields, json::proofs::OnLiterals::json_on_literals))]
 fn push_proposal(text: &mut String, world: &World, member: Member) -> Result<(), AllocError>
-    ensures { OnOk result (Adds text.old text.new
-        (valued_json (codes "value") (instance_of world.now.rehearsal member) (held world.now.rehearsal member))) }
+    ensures { OnOk result (Adds text.old text.new (fields_text (proposal_fields world.now.rehearsal member))) }
 {
     push_valued(
         text,
@@ -221,9 +217,9 @@ fn push_proposal(text: &mut String, world: &World, member: Member) -> Result<(),
 }
 
 // The batch of the instance, which the member delivered.
-#[tactic(auto, unfolding(crate::specs::JsonSteps::delivered_json))]
+#[tactic(auto, unfolding(crate::specs::JsonSteps::delivered_fields, crate::specs::JsonSteps::batch, json::proofs::OnLiterals::json_on_literals))]
 fn push_delivered(text: &mut String, world: &World, member: Member) -> Result<(), AllocError>
-    ensures { OnOk result (Adds text.old text.new (delivered_json world.now.rehearsal member)) }
+    ensures { OnOk result (Adds text.old text.new (fields_text (delivered_fields world.now.rehearsal member))) }
 {
     let instance = instance_of(world, member);
     let batch = world.batch(instance).unwrap_or(&[]);
@@ -231,9 +227,9 @@ fn push_delivered(text: &mut String, world: &World, member: Member) -> Result<()
 }
 
 // The instance and the round that the member is in, and the coordinator.
-#[tactic(auto, unfolding(crate::specs::JsonSteps::round_json))]
+#[tactic(auto, unfolding(crate::specs::JsonSteps::round_fields, json::proofs::OnLiterals::json_on_literals))]
 fn push_round(text: &mut String, world: &World, member: Member) -> Result<(), AllocError>
-    ensures { OnOk result (Adds text.old text.new (round_json world.now.rehearsal member)) }
+    ensures { OnOk result (Adds text.old text.new (fields_text (round_fields world.now.rehearsal member))) }
 {
     let instance = instance_of(world, member);
     let round = round_of(world, member);
@@ -245,7 +241,6 @@ fn push_round(text: &mut String, world: &World, member: Member) -> Result<(), Al
 }
 
 // The same, and the estimate.
-#[tactic(auto, unfolding(crate::specs::JsonSteps::estimated_json))]
 fn push_estimated(
     text: &mut String,
     world: &World,
@@ -253,35 +248,34 @@ fn push_estimated(
     estimate: Option<(&[Message], Round)>,
 ) -> Result<(), AllocError>
     ensures { OnOk result (Adds text.old text.new
-        (estimated_json world.now.rehearsal member (option_map (λ e. (e.0.now, e.1)) estimate.entry))) }
+        (fields_text (estimated_fields world.now.rehearsal member (option_map (λ e. (e.0.now, e.1)) estimate.entry)))) }
 {
     push_round(text, world, member)?;
     push_estimate_at(text, estimate)
 }
 
-#[tactic(auto, unfolding(crate::specs::JsonSteps::concluded_json))]
 fn push_concluded(
     text: &mut String,
     world: &World,
     before: u32,
     member: Member,
 ) -> Result<(), AllocError>
-    ensures { OnOk result (Adds text.old text.new (concluded_json world.now.rehearsal before member)) }
+    ensures { OnOk result (Adds text.old text.new (fields_text (concluded_fields world.now.rehearsal before member))) }
 {
     push_round(text, world, member)?;
     push_replies(text, world, member)?;
-    push_decision(text, world, before, member)
+    push_decided(text, world, before, member)
 }
 
 // Where something was sent since so many envelopes were, the value that the member holds is decided.
-#[tactic(auto, unfolding(crate::specs::JsonSteps::decision_at))]
-fn push_decision(
+#[tactic(auto, unfolding(crate::specs::JsonSteps::decided_fields, json::proofs::OnLiterals::json_on_literals))]
+fn push_decided(
     text: &mut String,
     world: &World,
     before: u32,
     member: Member,
 ) -> Result<(), AllocError>
-    ensures { OnOk result (Adds text.old text.new (decision_at world.now.rehearsal before member)) }
+    ensures { OnOk result (Adds text.old text.new (fields_text (decided_fields world.now.rehearsal before member))) }
 {
     if world.sent() == before {
         return Ok(());
@@ -290,13 +284,14 @@ fn push_decision(
 }
 
 // The facts behind the refusal: the envelope that the step names, or where its member stands.
+#[tactic(auto, unfolding(crate::specs::JsonSteps::facts_fields))]
 fn push_facts(
     text: &mut String,
     world: &World,
     step: Step,
     refusal: Refusal,
 ) -> Result<(), AllocError>
-    ensures { OnOk result (Adds text.old text.new (facts_json world.now.rehearsal step refusal)) }
+    ensures { OnOk result (Adds text.old text.new (fields_text (facts_fields world.now.rehearsal step refusal))) }
 {
     match step {
         Step::Receive(_, serial) => push_serial_facts(text, world, serial, refusal),
@@ -313,7 +308,7 @@ fn push_serial_facts(
     serial: Serial,
     refusal: Refusal,
 ) -> Result<(), AllocError>
-    ensures { OnOk result (Adds text.old text.new (serial_facts world.now.rehearsal serial refusal)) }
+    ensures { OnOk result (Adds text.old text.new (fields_text (serial_facts world.now.rehearsal serial refusal))) }
 {
     push_letter_facts(text, world, serial, world.letter(serial), refusal)
 }
@@ -326,7 +321,7 @@ fn push_letter_facts(
     letter: Option<Letter>,
     refusal: Refusal,
 ) -> Result<(), AllocError>
-    ensures { OnOk result (Adds text.old text.new (letter_facts world.now.rehearsal serial letter refusal)) }
+    ensures { OnOk result (Adds text.old text.new (fields_text (letter_facts world.now.rehearsal serial letter refusal))) }
 {
     match letter {
         None => push_missing(text, world),
@@ -335,9 +330,9 @@ fn push_letter_facts(
 }
 
 // How many envelopes were sent.
-#[tactic(auto, unfolding(crate::specs::JsonSteps::missing_json))]
+#[tactic(auto, unfolding(crate::specs::JsonSteps::missing_fields, json::proofs::OnLiterals::json_on_literals))]
 fn push_missing(text: &mut String, world: &World) -> Result<(), AllocError>
-    ensures { OnOk result (Adds text.old text.new (missing_json world.now.rehearsal)) }
+    ensures { OnOk result (Adds text.old text.new (fields_text (missing_fields world.now.rehearsal))) }
 {
     let sent = world.sent();
     write!(text, ",\"envelopes\":{sent}")
@@ -350,7 +345,7 @@ fn push_leaving(
     serial: Serial,
     refusal: Refusal,
 ) -> Result<(), AllocError>
-    ensures { OnOk result (Adds text.old text.new (leaving_json world.now.rehearsal serial refusal)) }
+    ensures { OnOk result (Adds text.old text.new (fields_text (leaving_fields world.now.rehearsal serial refusal))) }
 {
     match refusal {
         Refusal::NotWaiting => push_left(text, last_taking(world.record(), serial)),
@@ -359,7 +354,7 @@ fn push_leaving(
 }
 
 fn push_left(text: &mut String, taking: Option<(usize, Step)>) -> Result<(), AllocError>
-    ensures { OnOk result (Adds text.old text.new (left_json taking)) }
+    ensures { OnOk result (Adds text.old text.new (fields_text (left_fields taking))) }
 {
     match taking {
         None => Ok(()),
@@ -370,9 +365,8 @@ fn push_left(text: &mut String, taking: Option<(usize, Step)>) -> Result<(), All
 }
 
 // Where the member stands.
-#[tactic(auto, unfolding(crate::specs::JsonSteps::member_facts))]
 fn push_member_facts(text: &mut String, world: &World, member: Member) -> Result<(), AllocError>
-    ensures { OnOk result (Adds text.old text.new (member_facts world.now.rehearsal member)) }
+    ensures { OnOk result (Adds text.old text.new (fields_text (member_facts world.now.rehearsal member))) }
 {
     let instance = instance_of(world, member);
     write!(text, ",\"instance\":{instance}")?;

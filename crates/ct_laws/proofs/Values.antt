@@ -1,20 +1,10 @@
 -- The values that JSON is read as.
 pub mod Bounded
 pub mod Compact
-pub mod Depths
-pub mod EnvelopesRead
 pub mod Feedless
-pub mod Fields
-pub mod PartRead
+pub mod Mild
 pub mod ReadFitting
-pub mod ReportDepth
-pub mod ReportRead
-pub mod ReportWhole
-pub mod StateDepth
-pub mod StateRead
-pub mod StateWhole
-pub mod StepsDepth
+pub mod ReportMild
+pub mod StateMild
+pub mod StepsMild
 pub mod StepsRead
-pub mod StepsWhole
-pub mod Unescaped
-pub mod WholeNumbers

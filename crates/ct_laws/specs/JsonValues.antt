@@ -1,33 +1,9 @@
--- Values of JSON: how they are put together, and when a text is read as one.
-use Rattle.std.specs.Prelude.{◌≡◌, ℕ, List, [], ◌∷◌, map, Some, ⊤}
+-- When a text of JSON is read as a value.
+use Rattle.std.specs.Prelude.{◌≡◌, ℕ, List, [], ◌∷◌, Some, ⊤}
 use Rattle.serde_json.specs.Data.{Data, null, boolean, number, string, array, object}
 use Rattle.serde_json.specs.Data.{Items, no_items, item, Members, no_members, member, put}
 use Rattle.serde_json.specs.Read.{read}
 use Rattle.serde_json.specs.Written.{IsInOrder}
-
--- a key and its value
-abbrev pub Field : Type 0
-Field = List ℕ × Data
-
-abbrev pub members_of : List Field → Members
-members_of [] = no_members
-members_of (field ∷ fields) = member field.0 field.1 (members_of fields)
-
--- the object with these keys
-abbrev pub object_of : List Field → Data
-object_of fields = object (members_of fields)
-
-abbrev pub items_of : List Data → Items
-items_of [] = no_items
-items_of (value ∷ values) = item value (items_of values)
-
--- the array of these values
-abbrev pub array_of : List Data → Data
-array_of values = array (items_of values)
-
--- the array of what stands for each of these
-abbrev pub array_by : {A : Type 0} → (A → Data) → List A → Data
-array_by value xs = array_of (map value xs)
 
 -- the value with the keys of each of its objects in rising order, as `serde_json` keeps them
 abbrev mutual

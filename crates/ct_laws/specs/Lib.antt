@@ -3,9 +3,6 @@ pub mod Expectations
 pub mod Behind
 pub mod Facts
 pub mod Fitting
-pub mod JsonEnvelopes
-pub mod JsonReport
-pub mod JsonState
 pub mod JsonSteps
 pub mod JsonValues
 pub mod Places

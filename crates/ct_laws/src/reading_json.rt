@@ -3,16 +3,16 @@
 ghost use Rattle.std.specs.Prelude.{◌≡◌, ℕ, List, Ok, length};
 ghost use Rattle.ct_names.specs.declared.refusal.Refusal.{Refusal};
 ghost use Rattle.ct_model.specs.Rehearsal.{Rehearsal};
+ghost use Rattle.ct_model.specs.Senders.{senders};
 ghost use Rattle.ct_records.specs.Replay.{IsAllowed, IsRefused};
 ghost use Rattle.ct_records.specs.Script.{script};
-ghost use Rattle.ct_json.specs.Json.{report_json};
+ghost use Rattle.ct_json.specs.Json.{report_json, report_value};
+ghost use Rattle.ct_json.specs.JsonState.{state_values};
 ghost use Rattle.ct_views.specs.Answer.{part_of, refused_shown, shown_text};
 ghost use Rattle.ct_views.specs.declared.form.Form.TheVariants.{Json};
 ghost use Rattle.ct_views.specs.declared.selection.Selection.{Selection};
 ghost use Rattle.ct_views.specs.declared.view.View.TheVariants.{State, Steps};
 ghost use Rattle.ct_laws.specs.Fitting.{IsFitting};
-ghost use Rattle.ct_laws.specs.JsonReport.{report_value};
-ghost use Rattle.ct_laws.specs.JsonState.{state_values};
 ghost use Rattle.ct_laws.specs.JsonSteps.{shown_values, steps_values};
 ghost use Rattle.ct_laws.specs.JsonValues.{AreRead, IsRead};
 ghost use Rattle.ct_laws.specs.Sessions.{lines_heard};
@@ -31,8 +31,8 @@ pub fn law_report_json()
 /// whole, and the others, in order, as those of the members.
 pub fn law_state_json()
     ensures read { (count : ℕ) (w : Rehearsal) → IsFitting w → IsAllowed (part_of (State count Json) w) →
-        AreRead (lines_heard (shown_text (State count Json) (part_of (State count Json) w)))
-        (state_values (part_of (State count Json) w)) }
+        let part = part_of (State count Json) w in
+        AreRead (lines_heard (shown_text (State count Json) part)) (state_values part (senders part.setting part.steps)) }
 {}
 
 /// Each line of what is shown of a record's steps as JSON is read by `serde_json` as one value: in order as those of the steps that

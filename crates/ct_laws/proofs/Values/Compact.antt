@@ -24,7 +24,8 @@ use Rattle.serde_json.specs.Written.{blank, blank_items, blank_members, compact_
 use Rattle.serde_json.proofs.Numbers.{number_of-decimal}
 use Rattle.serde_json.proofs.Texts.{print-outline, unless_float-number_of}
 use Rattle.ct_laws.specs.JsonValues.{IsRead, in_order, items_in_order, members_in_order}
-use Rattle.ct_laws.proofs.Values.WholeNumbers.{IsWhole, HasWholeNumbers, ItemsHaveWholeNumbers, MembersHaveWholeNumbers}
+use Rattle.ct_laws.proofs.Values.Mild.{HasWholeNumbers, IsMild, IsWhole, ItemsHaveWholeNumbers, MembersHaveWholeNumbers, mild}
+use Rattle.ct_json.specs.Fields.{line_text}
 
 -- ---- the value again
 
@@ -224,8 +225,10 @@ feed_skipped c (x ∷ ts) h =
     ∙ sym (lex-token x rest h.0 (λ e. ap (λ b. ends_word (print_from b ts)) e ∙ value_ends ts)))
     ∙ sym (lex-comma first _)
 
-pub ended_read : (d : Data) → HasWholeNumbers d → depth d ≤ 127 → IsRead (compact_text d ++ 10 ∷ []) d
-ended_read d h shallow =
+pub ended_read : (d : Data) → IsMild 127 d → IsRead (line_text d) d
+ended_read d mildly =
+    let h = (mild 127 d mildly).0 in
+    let shallow = (mild 127 d mildly).1 in
     let ts = tree.json_tokens (outline d) in
     let same : tokens (compact_text d ++ 10 ∷ []) ≡ tokens (compact_text d) =
     ap (λ b. tokens (b ++ 10 ∷ [])) (sym (print-outline d))

@@ -1,21 +1,21 @@
 -- Compact texts have no line feed, so each is a line of its own.
 use Rattle.std.proofs.Common.{◌≡◌, ◌⊎◌, inl, inr, ℕ, zero, suc, ◌<◌, ◌≤◌, Bool, true, false, not, ◌&&◌, List, [], ◌∷◌, ◌++◌, map}
-use Rattle.std.proofs.Common.{refl, ap, sym, ◌∙◌, subst, arith, decimal}
+use Rattle.std.proofs.Common.{refl, ap, sym, ◌∙◌, subst, append_assoc, arith, decimal}
 use Rattle.std.proofs.lemmas.Bool.{cases_eq, cases_lt, ne_eqb, and_parts}
 use Rattle.std.specs.List.{list_all}
 use Rattle.json.specs.Print.{escape, escape_byte, quoted}
 use Rattle.json.proofs.Printed.Strings.{escape_byte_plain}
 use Rattle.serde_json.specs.Data.{Num, unsigned, negative, float, Data, null, boolean, number, string, array, object, Items, no_items}
-use Rattle.serde_json.specs.Data.{item, Members, no_members, member, depth}
+use Rattle.serde_json.specs.Data.{item, Members, no_members, member}
 use Rattle.serde_json.specs.Written.{comma_if, compact_text, items_text, members_text}
 use Rattle.ct_grammar.specs.Texts.{is_feed}
 use Rattle.ct_laws.specs.JsonValues.{AreRead}
 use Rattle.ct_laws.specs.Sessions.{but_nothing, lines_heard, text_of}
 use Rattle.ct_laws.proofs.Values.Compact.{compact_read}
-use Rattle.ct_laws.proofs.Values.Depths.{Each}
 use Rattle.ct_laws.proofs.Plain.{ArePlain, IsPlain, ended, lines_ended}
-use Rattle.ct_laws.proofs.Values.Unescaped.{AreSelf, decimal_self}
-use Rattle.ct_laws.proofs.Values.WholeNumbers.{HasWholeNumbers, HaveWholeNumbers, IsWhole, ItemsHaveWholeNumbers, MembersHaveWholeNumbers}
+use Rattle.ct_json.specs.Fields.{lines_text}
+use Rattle.ct_json.proofs.Unescaped.{AreSelf, decimal_self}
+use Rattle.ct_laws.proofs.Values.Mild.{Each, HasWholeNumbers, IsMild, IsWhole, ItemsHaveWholeNumbers, MembersHaveWholeNumbers, mild}
 
 both_plain : (xs ys : List ℕ) → IsPlain xs → IsPlain ys → IsPlain (xs ++ ys)
 both_plain [] ys h k = k
@@ -108,19 +108,24 @@ nothing_behind [] = refl
 nothing_behind (line ∷ []) = refl
 nothing_behind (line ∷ (next ∷ lines)) = ap (λ l. line ∷ l) (nothing_behind (next ∷ lines))
 
-texts_plain : (values : List Data) → HaveWholeNumbers values → ArePlain (map compact_text values)
+texts_plain : (values : List Data) → Each (IsMild 127) values → ArePlain (map compact_text values)
 texts_plain [] h = tt
-texts_plain (d ∷ values) h = (text_plain d h.0, texts_plain values h.1)
+texts_plain (d ∷ values) h = (text_plain d (mild 127 d h.0).0, texts_plain values h.1)
 
-each_read : (values : List Data) → HaveWholeNumbers values → Each (λ d. depth d ≤ 127) values → AreRead (map compact_text values) values
-each_read [] h k = tt
-each_read (d ∷ values) h k = (compact_read d h.0 k.0, each_read values h.1 k.1)
+each_read : (values : List Data) → Each (IsMild 127) values → AreRead (map compact_text values) values
+each_read [] h = tt
+each_read (d ∷ values) h = let m = mild 127 d h.0 in (compact_read d m.0 m.1, each_read values h.1)
+
+lines_same : (values : List Data) → lines_text values ≡ text_of (map compact_text values)
+lines_same [] = refl
+lines_same (d ∷ values) =
+    append_assoc (compact_text d) (10 ∷ []) (lines_text values) ∙ ap (λ t. compact_text d ++ 10 ∷ t) (lines_same values)
 
 -- the lines of these values are read as they
-pub lines_read : (values : List Data) → HaveWholeNumbers values → Each (λ d. depth d ≤ 127) values →
-    AreRead (lines_heard (text_of (map compact_text values))) values
+pub lines_read : (values : List Data) → Each (IsMild 127) values → AreRead (lines_heard (lines_text values)) values
 unfolding lines_heard
-lines_read values h k =
+lines_read values h =
     let texts = map compact_text values in
-    subst (λ lines. AreRead lines values) (sym (ap but_nothing (lines_ended texts (texts_plain values h)) ∙ nothing_behind texts))
-    (each_read values h k)
+    subst (λ lines. AreRead lines values)
+    (sym (ap lines_heard (lines_same values) ∙ ap but_nothing (lines_ended texts (texts_plain values h)) ∙ nothing_behind texts))
+    (each_read values h)

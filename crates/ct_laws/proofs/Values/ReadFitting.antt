@@ -24,7 +24,7 @@ use Rattle.ct_records.specs.Script.{script, short_step, since, step_in, step_of,
 use Rattle.ct_records.specs.Script.{with_number}
 use Rattle.ct_records.proofs.Names.{command_is}
 use Rattle.ct_laws.specs.Fitting.{IsFitting}
-use Rattle.ct_laws.proofs.Values.Depths.{Each, each_one}
+use Rattle.ct_laws.proofs.Values.Mild.{Each, each_one}
 
 -- ---- what is there where a reader takes it
 

@@ -1,15 +1,15 @@
-use Rattle.std.specs.Prelude.{[], ◌∷◌, codes, string_bytes}
-use Rattle.ct_json.specs.Json.{array_at}
-use Rattle.ct_json.specs.JsonParts.{first_heard, votes_json}
-use Rattle.ct_text.proofs.Pushed.{pushed_first, pushed_last, pushed_more}
+use Rattle.std.specs.Prelude.{List, [], ◌∷◌, string_bytes}
+use Rattle.ct_json.specs.Fields.{Field}
+use Rattle.ct_json.specs.JsonParts.{heard_field, replies_fields, votes_fields}
+use Rattle.ct_json.proofs.Fields.{then_last}
 use Rattle.ct_json.proofs.json_parts.push_votes.Goals as goal
 
 pub returns : goal.returns
-unfolding votes_json
+unfolding votes_fields
 returns c =
     let w = c.args.world.now.rehearsal in
-    let old = string_bytes c.args.text.now in
-    let heard = array_at (codes "heard") (first_heard w c.args.member w.setting.members) in
-    rw (← c.estimate.ensures) (pushed_last c.push_replies.result (_ ∷ heard ∷ []) _ old _ _
-    (pushed_more (_ ∷ []) heard old _ _ (pushed_first _ old _ c.in_ok-push_estimate_at.ensures) c.in_ok-push_heard_at.ensures)
-    c.push_replies.ensures)
+    let heard : List Field = heard_field w c.args.member ∷ [] in
+    let replies = replies_fields w c.args.member in
+    rw (← c.estimate.ensures) (then_last c.push_replies.result _ (heard_field w c.args.member ∷ replies) (string_bytes c.args.text.now) _ _
+    c.in_ok-push_estimate_at.ensures
+    (then_last c.push_replies.result heard replies _ _ _ c.in_ok-push_all_heard.ensures c.push_replies.ensures))

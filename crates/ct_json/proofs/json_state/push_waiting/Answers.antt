@@ -1,20 +1,32 @@
-use Rattle.std.proofs.Common.{◌++◌, ap, get_or, ◌∙◌}
-use Rattle.std.specs.Prelude.{map, string_bytes}
-use Rattle.ct_text.proofs.Joins.{join_goes, join_starts}
+use Rattle.std.proofs.Common.{◌+◌, ◌++◌, ap, arith, get_or, lt-ltb, map, refl, ◌∙◌}
+use Rattle.std.specs.Prelude.{codes, string_bytes}
+use Rattle.json.proofs.OnLiterals.{json_on_literals}
+use Rattle.serde_json.specs.Written.{compact_text}
 use Rattle.ct_json.specs.JsonEnvelopes.{envelope_by}
-use Rattle.ct_json.specs.JsonState.{waiting_json}
+use Rattle.ct_json.specs.JsonState.{waiting_field, waiting_value}
+use Rattle.ct_json.proofs.Left.{drop_none, drop_or, field_left, left_none, map_one}
 use Rattle.ct_json.proofs.json_state.push_waiting.Goals as goal
 
 pub loop-i-init : goal.loop-i-init
+unfolding waiting_field json_on_literals
 loop-i-init c =
-    join_starts 44 (string_bytes c.args.text.now) (map (waiting_json c.args.world.now.rehearsal c.args.senders.now) c.args.line.now)
+    field_left (codes "waiting") (codes ",\"waiting\":[") _
+    (map (waiting_value c.args.world.now.rehearsal c.args.senders.now) c.args.line.now) (string_bytes c.args.text.now) _ refl
+    c.in_ok-push_str.ensures.bytes refl
 
 pub loop-i-preserved : goal.loop-i-preserved
 loop-i-preserved c =
     let w = c.args.world.now.rehearsal in
     let senders = c.args.senders.now in
-    let serial = get_or c.args.line.now c.loop-i.i 0 in
+    let i = c.loop-i.i in
+    let k = get_or c.args.line.now i 0 in
     let before = string_bytes c.push_separator.new.text in
-    join_goes (waiting_json w senders) 44 c.loop-i.i c.args.line.now 0 (string_bytes c.loop-i.text) before _ _
-    c.loop-i-test.true c.in_ok-push_separator.ensures
-    (c.in_ok-push_envelope.ensures ∙ ap (λ s. before ++ envelope_by s w serial) c.sender_at.ensures) c.loop-i.invariant
+    rw (lt-ltb 0 (i + 1) (omega arith)) (map_one _ _ k (drop_or c.args.line.now i 0 c.loop-i-test.true) _ _ _ (waiting_value w senders)
+    before _ c.loop-i.invariant c.in_ok-push_separator.ensures
+    (c.in_ok-push_envelope.ensures ∙ ap (λ s. before ++ compact_text (envelope_by s w k)) c.sender_at.ensures))
+
+pub returns : goal.returns
+returns c =
+    left_none c.push_str-2.result _ _ _ _ _ c.loop-i.invariant
+    (ap (map (waiting_value c.args.world.now.rehearsal c.args.senders.now)) (drop_none c.args.line.now c.loop-i.i c.loop-i-test.false))
+    c.push_str-2.ensures.bytes

@@ -1,11 +1,11 @@
-use Rattle.std.proofs.Common.{◌≡◌, ◌++◌}
-use Rattle.std.specs.Prelude.{drop, map, nat_lt, string_bytes}
-use Rattle.std.specs.List.{join_with_byte}
-use Rattle.ct_text.proofs.Joins.{rest_of}
-use Rattle.ct_json.specs.JsonState.{waiting_json}
+use Rattle.std.proofs.Common.{◌++◌, ◌∷◌, [], drop, map}
+use Rattle.std.specs.Prelude.{nat_lt, string_bytes}
+use Rattle.ct_json.specs.Fields.{fields_text}
+use Rattle.ct_json.specs.JsonState.{waiting_field, waiting_value}
+use Rattle.ct_json.proofs.Left.{IsLeft}
 use Rattle.ct_json.proofs.json_state.push_waiting.Given as goal
 
 abbrev pub invariant-loop-i : goal.invariant-loop-i
 invariant-loop-i l =
-    string_bytes l.text ++ rest_of 44 (nat_lt 0 l.i) (drop l.i (map (waiting_json l.world.rehearsal l.senders) l.line))
-    ≡ string_bytes l.fn.text ++ join_with_byte 44 (map (waiting_json l.world.rehearsal l.senders) l.line)
+    IsLeft (map (waiting_value l.world.rehearsal l.senders) (drop l.i l.line)) (nat_lt 0 l.i) (string_bytes l.text)
+    (string_bytes l.fn.text ++ fields_text (waiting_field l.world.rehearsal l.senders l.line ∷ []))

@@ -1,12 +1,12 @@
 use Rattle.std.specs.Prelude.{[], ◌∷◌, codes, string_bytes}
-use Rattle.ct_json.specs.Json.{key_json}
-use Rattle.ct_json.specs.JsonEnvelopes.{envelope_json}
+use Rattle.json.proofs.OnLiterals.{json_on_literals}
+use Rattle.serde_json.specs.Written.{compact_text}
 use Rattle.ct_text.proofs.Pushed.{pushed_last}
+use Rattle.ct_json.specs.JsonEnvelopes.{envelope_value}
 use Rattle.ct_json.proofs.json_steps.push_envelope_at.Goals as goal
 
 pub returns : goal.returns
-unfolding key_json
+unfolding json_on_literals
 returns c =
-    pushed_last c.push_envelope.result (codes ",\"" ∷ codes "envelope" ∷ codes "\":" ∷ [])
-    (envelope_json c.args.world.now.rehearsal c.args.serial) (string_bytes c.args.text.now) _ _ c.in_ok-push_str.ensures.bytes
-    c.push_envelope.ensures
+    pushed_last c.push_envelope.result (codes ",\"envelope\":" ∷ []) (compact_text (envelope_value c.args.world.now.rehearsal c.args.serial))
+    (string_bytes c.args.text.now) _ _ c.in_ok-push_str.ensures.bytes c.push_envelope.ensures

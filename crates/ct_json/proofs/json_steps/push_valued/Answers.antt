@@ -1,12 +1,16 @@
-use Rattle.std.specs.Prelude.{[], ◌∷◌, codes, decimal, string_bytes}
-use Rattle.ct_json.specs.Json.{messages_json}
-use Rattle.ct_json.specs.JsonSteps.{valued_json}
-use Rattle.ct_text.proofs.Pushed.{pushed_last}
+use Rattle.std.specs.Prelude.{List, [], ◌∷◌, codes, decimal, string_bytes}
+use Rattle.json.proofs.OnLiterals.{json_on_literals}
+use Rattle.ct_records.specs.Values.{num}
+use Rattle.ct_text.proofs.Pushed.{pushed_value}
+use Rattle.ct_json.specs.Fields.{Field}
+use Rattle.ct_json.specs.Json.{messages_value}
+use Rattle.ct_json.proofs.Fields.{then_last}
 use Rattle.ct_json.proofs.json_steps.push_valued.Goals as goal
 
 pub returns : goal.returns
-unfolding valued_json
+unfolding json_on_literals
 returns c =
-    pushed_last c.push_messages.result
-    (codes ",\"instance\":" ∷ decimal c.args.instance ∷ codes ",\"" ∷ c.args.key.now ∷ codes "\":" ∷ [])
-    (messages_json c.args.messages.now) (string_bytes c.args.text.now) _ _ c.in_ok-write.ensures.bytes c.push_messages.ensures
+    let old = string_bytes c.args.text.now in
+    let instance : List Field = (codes "instance", num c.args.instance) ∷ [] in
+    then_last c.push_messages_at.result instance ((c.args.key.now, messages_value c.args.messages.now) ∷ []) old _ _
+    (pushed_value (codes ",\"instance\":") (decimal c.args.instance) old _ c.in_ok-write.ensures.bytes) c.push_messages_at.ensures

@@ -1,0 +1,99 @@
+-- Names, messages, refusals and steps are written as the values that they are.
+use Rattle.std.proofs.Common.{◌≡◌, ℕ, List, [], ◌∷◌, ◌++◌, codes, decimal, Option, Some, None, refl, ap, ap₂}
+use Rattle.std.proofs.Common.{◌∙◌, append_assoc, append-nil, arith}
+use Rattle.json.proofs.OnLiterals.{json_on_literals}
+use Rattle.serde_json.specs.Written.{compact_text}
+use Rattle.ct_names.specs.declared.command.Command.{Command}
+use Rattle.ct_names.specs.declared.command.Command.TheVariants.{Set, Add, Copy}
+use Rattle.ct_names.specs.declared.limit.Limit.{Limit}
+use Rattle.ct_names.specs.declared.limit.Limit.TheVariants.{Submissions, Instances, Rounds, Envelopes, Cells, Steps}
+use Rattle.ct_names.specs.declared.refusal.Refusal.{Refusal}
+use Rattle.ct_names.specs.declared.refusal.Refusal.TheVariants.{Full}
+use Rattle.ct_names.specs.Message.{Message}
+use Rattle.ct_names.specs.MessageText.{message_text}
+use Rattle.ct_names.specs.RefusalText.{refusal_text}
+use Rattle.ct_model.specs.declared.phase.Phase.{Phase}
+use Rattle.ct_model.specs.declared.phase.Phase.TheVariants.{Rest, Gather, Wait, Tally}
+use Rattle.ct_model.specs.declared.step.Step.{Step}
+use Rattle.ct_model.specs.declared.step.Step.TheVariants.{Submit, Receive, Begin, Enter, Choose, Adopt, Suspect, Conclude, Deliver}
+use Rattle.ct_model.specs.declared.step.Step.TheVariants.{Follow, Crash, Postpone, Lose, Repeat}
+use Rattle.ct_model.specs.StepText.{command_text, step_entry, step_text}
+use Rattle.ct_records.specs.Values.{command_data, step_data}
+use Rattle.ct_show.specs.State.{next_between}
+use Rattle.ct_text.specs.Shapes.{phase_text}
+use Rattle.ct_json.specs.Fields.{IsPlain, array_by}
+use Rattle.ct_json.specs.JsonState.{next_steps}
+use Rattle.ct_json.proofs.Unescaped.{both_self, decimal_self, quoted_self}
+
+pub message_plain : (m : Message) → IsPlain (message_text m)
+message_plain m = quoted_self (message_text m) (both_self (decimal m.origin) _ (decimal_self m.origin) (
+  record { no_quote = λ e. omega arith; no_backslash = λ e. omega arith; no_control = omega arith },
+  both_self (decimal m.number) [] (decimal_self m.number) tt,
+))
+
+pub name_plain : (s : Step) → IsPlain (step_entry s).name
+unfolding json_on_literals
+name_plain (Submit p c) = refl
+name_plain _ = refl
+
+pub phase_plain : (phase : Phase) → IsPlain (phase_text phase)
+unfolding json_on_literals
+phase_plain Rest = refl
+phase_plain Gather = refl
+phase_plain Wait = refl
+phase_plain Tally = refl
+
+limit_plain : (limit : Limit) → IsPlain (refusal_text (Full limit))
+unfolding json_on_literals
+limit_plain Submissions = refl
+limit_plain Instances = refl
+limit_plain Rounds = refl
+limit_plain Envelopes = refl
+limit_plain Cells = refl
+limit_plain Steps = refl
+
+pub refusal_plain : (refusal : Refusal) → IsPlain (refusal_text refusal)
+unfolding json_on_literals
+refusal_plain (Full limit) = limit_plain limit
+refusal_plain _ = refl
+
+-- ---- steps, as a record has them
+
+command_same : (c : Command) → command_text c ≡ compact_text (command_data c)
+unfolding command_text json_on_literals
+command_same (Set register n) = refl
+command_same (Add register n) = refl
+command_same (Copy from to) = refl
+
+pub step_same : (s : Step) → step_text s ≡ compact_text (step_data s)
+unfolding step_text json_on_literals
+step_same (Submit p c) = ap (λ t. codes "[\"submit\"," ++ (decimal p ++ (codes "," ++ (t ++ codes "]")))) (command_same c)
+step_same (Receive p k) = refl
+step_same (Begin p) = refl
+step_same (Enter p) = refl
+step_same (Choose p from) = refl
+step_same (Adopt p) = refl
+step_same (Suspect p) = refl
+step_same (Conclude p) = refl
+step_same (Deliver p) = refl
+step_same (Follow p) = refl
+step_same (Crash p) = refl
+step_same (Postpone p k) = refl
+step_same (Lose p k) = refl
+step_same (Repeat p k) = refl
+
+one_next : (step : Step) → codes "[" ++ (step_text step ++ ([] ++ codes "]")) ≡ compact_text (array_by step_data (step ∷ []))
+one_next step = rw (step_same step) refl
+
+two_texts : (a b : List ℕ) → codes "[" ++ ((a ++ (codes "," ++ (b ++ []))) ++ codes "]") ≡ 91 ∷ (a ++ 44 ∷ (b ++ codes "]"))
+two_texts a b = simp (append_assoc, append-nil)
+
+pub next_same : (own receipt : Option Step) →
+    codes "[" ++ (next_between [] (codes ",") own receipt ++ codes "]") ≡ compact_text (array_by step_data (next_steps own receipt))
+next_same None None = refl
+next_same None (Some step) = one_next step
+next_same (Some (Suspect p)) None = ap (λ t. codes "[" ++ (t ++ codes "]")) (append-nil (step_text (Suspect p))) ∙ one_next (Suspect p)
+next_same (Some (Suspect p)) (Some step) =
+    two_texts (step_text (Suspect p)) (step_text step)
+    ∙ ap₂ (λ t u. 91 ∷ (t ++ 44 ∷ (u ++ codes "]"))) (step_same (Suspect p)) (step_same step)
+next_same (Some step) receipt = ap (λ t. codes "[" ++ (t ++ codes "]")) (append-nil (step_text step)) ∙ one_next step

@@ -1,0 +1,40 @@
+use Rattle.std.proofs.Common.{◌≡◌, ◌+◌, ◌-◌, ◌<◌, ◌≤◌, ap, ap₂, arith, length, map, refl}
+use Rattle.std.specs.Prelude.{codes, string_bytes}
+use Rattle.json.proofs.OnLiterals.{json_on_literals}
+use Rattle.ct_names.specs.Group.{counting}
+use Rattle.ct_model.specs.Rehearsal.{state_of}
+use Rattle.ct_json.specs.JsonEnvelopes.{envelope_value, sent_field}
+use Rattle.ct_json.proofs.Left.{counting_next, counting_none, field_left, left_none, map_one}
+use Rattle.ct_json.proofs.json_envelopes.push_sent_at.Goals as goal
+
+pub loop-i-init : goal.loop-i-init
+unfolding sent_field json_on_literals
+loop-i-init c =
+    let w = c.args.world.now.rehearsal in
+    let before = c.args.before in
+    let count = length (state_of w).sent - before in
+    let first : before + 0 + 1 ≡ before + 1 = omega arith in
+    let all : count - 0 ≡ count = omega arith in
+    field_left (codes "sent") (codes ",\"sent\":[") _ (map (envelope_value w) (counting (before + 1) count))
+    (string_bytes c.args.text.now) _ refl c.in_ok-push_str.ensures.bytes (ap₂ (λ k n. map (envelope_value w) (counting k n)) first all)
+
+pub loop-i-preserved : goal.loop-i-preserved
+loop-i-preserved c =
+    let w = c.args.world.now.rehearsal in
+    let before = c.args.before in
+    let i = c.loop-i.i in
+    let count = length (state_of w).sent - before in
+    let within : i < count = omega arith in
+    let next : before + i + 1 + 1 ≡ before + (i + 1) + 1 = omega arith in
+    rw (← next) (map_one _ _ (before + i + 1) (counting_next (before + i + 1) count i within) _ _ _ (envelope_value w) _ _ c.loop-i.invariant
+    c.in_ok-push_separator.ensures c.in_ok-push_envelope.ensures)
+
+pub returns : goal.returns
+returns c =
+    let w = c.args.world.now.rehearsal in
+    let before = c.args.before in
+    let i = c.loop-i.i in
+    let count = length (state_of w).sent - before in
+    let all : count ≤ i = omega arith in
+    left_none c.push_str-2.result _ _ _ _ _ c.loop-i.invariant
+    (ap (map (envelope_value w)) (counting_none (before + i + 1) count i all)) c.push_str-2.ensures.bytes

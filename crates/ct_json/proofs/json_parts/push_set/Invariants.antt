@@ -1,0 +1,12 @@
+use Rattle.std.proofs.Common.{◌+◌, ◌-◌, ◌++◌}
+use Rattle.std.specs.Prelude.{flat_map, string_bytes}
+use Rattle.serde_json.specs.Written.{compact_text}
+use Rattle.ct_names.specs.Group.{counting}
+use Rattle.ct_json.specs.JsonParts.{set_value, set_values}
+use Rattle.ct_json.proofs.Left.{IsLeft}
+use Rattle.ct_json.proofs.json_parts.push_set.Given as goal
+
+abbrev pub invariant-loop-i : goal.invariant-loop-i
+invariant-loop-i l =
+    IsLeft (flat_map (set_values l.set) (counting (l.i + 1) (16 - l.i))) l.later (string_bytes l.text)
+    (string_bytes l.fn.text ++ compact_text (set_value l.set))

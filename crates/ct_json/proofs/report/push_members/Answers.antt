@@ -1,0 +1,30 @@
+use Rattle.std.proofs.Common.{◌+◌, ◌<◌, ◌≤◌, ap, arith, map, refl}
+use Rattle.std.specs.Prelude.{codes, string_bytes}
+use Rattle.json.proofs.OnLiterals.{json_on_literals}
+use Rattle.ct_names.specs.Group.{counting, members}
+use Rattle.ct_json.specs.Json.{member_value, members_value}
+use Rattle.ct_json.proofs.Left.{counting_all, counting_next, counting_none, field_left, left_none, map_one}
+use Rattle.ct_json.proofs.report.push_members.Goals as goal
+
+pub loop-i-init : goal.loop-i-init
+unfolding members_value members json_on_literals
+loop-i-init c =
+    let w = c.args.world.now.rehearsal in
+    field_left (codes "members") (codes ",\"members\":[") _ (map (member_value w) (counting 1 w.setting.members))
+    (string_bytes c.args.text.now) _ refl c.in_ok-push_str.ensures.bytes (ap (map (member_value w)) (counting_all 1 w.setting.members))
+
+pub loop-i-preserved : goal.loop-i-preserved
+loop-i-preserved c =
+    let w = c.args.world.now.rehearsal in
+    let i = c.loop-i.i in
+    let within : i < w.setting.members = omega arith in
+    map_one _ _ (i + 1) (counting_next (i + 1) w.setting.members i within) _ _ _ (member_value w) _ _ c.loop-i.invariant
+    c.in_ok-push_separator.ensures c.in_ok-push_member.ensures
+
+pub returns : goal.returns
+returns c =
+    let w = c.args.world.now.rehearsal in
+    let i = c.loop-i.i in
+    let all : w.setting.members ≤ i = omega arith in
+    left_none c.push_str-2.result _ _ _ _ _ c.loop-i.invariant
+    (ap (map (member_value w)) (counting_none (i + 1) w.setting.members i all)) c.push_str-2.ensures.bytes

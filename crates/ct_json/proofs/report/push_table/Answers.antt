@@ -1,0 +1,26 @@
+use Rattle.std.proofs.Common.{◌≤◌, ap, arith, map, refl}
+use Rattle.std.specs.Prelude.{codes, string_bytes}
+use Rattle.json.proofs.OnLiterals.{json_on_literals}
+use Rattle.ct_names.specs.Group.{counting}
+use Rattle.ct_json.specs.Json.{register_value, table_value}
+use Rattle.ct_json.proofs.Left.{counting_next, counting_none, field_left, left_none, map_one}
+use Rattle.ct_json.proofs.report.push_table.Goals as goal
+
+pub loop-register-init : goal.loop-register-init
+unfolding table_value json_on_literals
+loop-register-init c =
+    field_left (codes "table") (codes ",\"table\":[") _ (map (register_value c.args.table.now) (counting 0 16)) (string_bytes c.args.text.now)
+    _ refl c.in_ok-push_str.ensures.bytes refl
+
+pub loop-register-preserved : goal.loop-register-preserved
+loop-register-preserved c =
+    let k = c.loop-register.register in
+    map_one _ _ k (counting_next k 16 k c.loop-register-test.true) _ _ _ (register_value c.args.table.now) _ _ c.loop-register.invariant
+    c.in_ok-push_separator.ensures c.in_ok-push_register.ensures
+
+pub returns : goal.returns
+returns c =
+    let k = c.loop-register.register in
+    let all : 16 ≤ k = omega arith in
+    left_none c.push_str-2.result _ _ _ _ _ c.loop-register.invariant
+    (ap (map (register_value c.args.table.now)) (counting_none k 16 k all)) c.push_str-2.ensures.bytes

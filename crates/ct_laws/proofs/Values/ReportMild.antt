@@ -1,0 +1,209 @@
+-- The value of a report is mild.
+use Rattle.std.proofs.Common.{◌≡◌, ℕ, zero, suc, ◌≤◌, ◌<◌, ◌^◌, List, [], ◌∷◌, ◌++◌, codes, Option, Some, None, length, take, replicate}
+use Rattle.std.proofs.Common.{refl, subst, inl, inr, arith}
+use Rattle.std.proofs.lemmas.List.{take_all}
+use Rattle.std.specs.Option.{option_map_or}
+use Rattle.std.specs.Prelude.{⊤, slice_index, slice_set, unwrap_or}
+use Rattle.ct_names.specs.declared.command.Command.{Command}
+use Rattle.ct_names.specs.declared.command.Command.TheVariants.{Set, Add, Copy}
+use Rattle.ct_names.specs.declared.limit.TheConstants.{MAX_BOUND, MAX_CELLS, MAX_INSTANCES, MAX_MEMBERS, REGISTERS}
+use Rattle.ct_names.specs.Group.{IsMember, counting, members}
+use Rattle.ct_names.specs.Membership.{IsIn}
+use Rattle.ct_names.specs.Message.{Message}
+use Rattle.ct_names.specs.Value.{Value}
+use Rattle.ct_model.specs.AtValue.{Wire}
+use Rattle.ct_model.specs.declared.step.Step.{Step}
+use Rattle.ct_model.specs.declared.wire.Wire.TheVariants.{Dec}
+use Rattle.ct_model.specs.Lawful.{IsLawful}
+use Rattle.ct_model.specs.Received.{decided, received_by}
+use Rattle.ct_model.specs.Rehearsal.{Rehearsal, state_of}
+use Rattle.ct_model.specs.Safe.{delivered_by}
+use Rattle.ct_model.specs.State.{member}
+use Rattle.ct_model.proofs.Consensus.Facts.{Holds}
+use Rattle.ct_model.proofs.Consensus.Readings.{decided-got}
+use Rattle.ct_model.proofs.Consensus.Runs.{Holds-run}
+use Rattle.ct_model.proofs.Delivery.Safety.{safe-run}
+use Rattle.ct_records.specs.Fits.{AllFit, CommandFits}
+use Rattle.ct_records.specs.Replay.{IsAllowed}
+use Rattle.ct_table.specs.Table.{applied, applied_all, table, zeros}
+use Rattle.ct_world.specs.Decided.{last_decided}
+use Rattle.ct_world.specs.Replay.{AllowsFirst, first_steps}
+use Rattle.ct_json.specs.Fields.{Field, items_of}
+use Rattle.ct_json.specs.Json.{counts_fields, decision_value, decision_values, decisions_value, group_fields, history_fields}
+use Rattle.ct_json.specs.Json.{member_value, members_value, message_value, messages_value, register_value, report_value}
+use Rattle.ct_json.specs.Json.{standing_fields, table_value}
+use Rattle.ct_laws.specs.Fitting.{IsFitting}
+use Rattle.ct_laws.proofs.Values.Bounded.{IsSmall, SmallWire, bounded_first}
+use Rattle.ct_laws.proofs.Values.Mild.{AreMild, Each, IsMild, ItemsAreMild, both_mild, each_any, each_counted, mild_by, mild_flat}
+
+-- ---- records whose numbers are within the limits
+
+pub record IsSized (w : Rehearsal) : Type 0 where
+  pub law : IsLawful w
+  pub small : IsSmall w
+  pub fit : AllFit w.steps
+  pub some_members : 1 ≤ w.setting.members
+  pub few_members : w.setting.members ≤ MAX_MEMBERS
+  pub few_cells : w.cells ≤ MAX_CELLS
+  pub few_bound : w.setting.bound ≤ MAX_BOUND
+
+fit_first : (steps : List Step) (k : ℕ) → AllFit steps → AllFit (take k steps)
+fit_first steps zero h = tt
+fit_first [] (suc k) h = tt
+fit_first (step ∷ steps) (suc k) h = (h.0, fit_first steps k h.1)
+
+pub fitting_first : (w : Rehearsal) (k : ℕ) → IsFitting w → IsFitting (first_steps w.setting w.cells w.steps k)
+fitting_first w k h = record {
+  some_members = h.some_members;
+  few_members = h.few_members;
+  few_bound = h.few_bound;
+  few_cells = h.few_cells;
+  fit = fit_first w.steps k h.fit;
+}
+
+-- the first steps of a record, as many as are allowed
+pub sized_first : (w : Rehearsal) (count k : ℕ) → IsFitting w → AllowsFirst w.setting w.cells w.steps count → k ≤ count →
+    count ≤ length w.steps
+    → IsSized (first_steps w.setting w.cells w.steps k)
+sized_first w count k h allows low high =
+    let b = bounded_first w.setting w.cells w.steps count k h.some_members h.fit allows low high in
+    record {
+      law = b.law;
+      small = b.small;
+      fit = fit_first w.steps k h.fit;
+      some_members = h.some_members;
+      few_members = h.few_members;
+      few_cells = h.few_cells;
+      few_bound = h.few_bound;
+    }
+
+-- and all of them
+pub sized : (w : Rehearsal) → IsFitting w → IsAllowed w → IsSized w
+sized w h allows =
+    subst (λ l. IsSized (record w { steps = l })) (take_all (length w.steps) w.steps (omega arith))
+    (sized_first w (length w.steps) (length w.steps) h allows (omega arith) (omega arith))
+
+-- ---- messages, decisions and tables
+
+pub messages_mild : (k : ℕ) (messages : List Message) → IsMild (suc k) (messages_value messages)
+unfolding messages_value
+messages_mild k messages = mild_by k (λ m. ⊤) message_value messages (each_any messages) (λ m h. tt)
+
+decided_mild : (k at : ℕ) (o : Option Value) → ((v : Value) → o ≡ Some v → at ≤ MAX_INSTANCES) →
+    ItemsAreMild (suc (suc k)) (items_of (option_map_or (λ v. decision_value at v ∷ []) o []))
+unfolding decision_value
+decided_mild k at None h = tt
+decided_mild k at (Some v) h = let low = h v refl in ((omega arith, (messages_mild k v, tt)), tt)
+
+decisions_mild : (k : ℕ) (got : List Wire) → ((at r : ℕ) (v : Value) → IsIn (Dec at r v) got → at ≤ MAX_INSTANCES) →
+    IsMild (suc (suc (suc k))) (decisions_value got)
+unfolding decisions_value
+decisions_mild k got h =
+    let ks = counting 1 (unwrap_or (last_decided got) 0) in
+    mild_flat (suc (suc k)) (λ at. ⊤) (decision_values got) ks (each_any ks)
+    (λ at t. decided_mild k at (decided got at) (λ v e. let d = decided-got got at v e in h at d.round v d.is_in))
+
+-- each register holds a word
+abbrev AreWords : List ℕ → Type 0
+AreWords values = Each (λ n. n < 2 ^ 64) values
+
+zeros_words : (k : ℕ) → AreWords (replicate k 0)
+zeros_words zero = tt
+zeros_words (suc k) = (omega arith, zeros_words k)
+
+set_words : (values : List ℕ) (i n : ℕ) → AreWords values → n < 2 ^ 64 → AreWords (slice_set values i n)
+set_words [] i n h small = tt
+set_words (x ∷ values) zero n h small = (small, h.1)
+set_words (x ∷ values) (suc i) n h small = (h.0, set_words values i n h.1 small)
+
+index_word : (values : List ℕ) (i : ℕ) → AreWords values → slice_index values i < 2 ^ 64
+index_word [] i h = omega arith
+index_word (x ∷ values) zero h = h.0
+index_word (x ∷ values) (suc i) h = index_word values i h.1
+
+applied_words : (values : List ℕ) (c : Command) → AreWords values → CommandFits c → AreWords (applied values c)
+applied_words values (Set register n) h fits = let few = fits.1 in set_words values register n h (omega arith)
+applied_words values (Add register n) h fits = set_words values register _ h (omega arith)
+applied_words values (Copy from to) h fits = set_words values to _ h (index_word values from h)
+
+all_applied_words : (values : List ℕ) (messages : List Message) → AreWords values →
+    ((m : Message) → IsIn m messages → CommandFits m.command)
+    → AreWords (applied_all values messages)
+all_applied_words values [] h fits = h
+all_applied_words values (m ∷ messages) h fits =
+    all_applied_words (applied values m.command) messages (applied_words values m.command h (fits m (inl refl))) (λ x i. fits x (inr i))
+
+table_mild : (k : ℕ) (messages : List Message) → ((m : Message) → IsIn m messages → CommandFits m.command) →
+    IsMild (suc k) (table_value (table messages))
+unfolding table_value
+table_mild k messages fits =
+    mild_by k (λ r. ⊤) (register_value (table messages)) (counting 0 REGISTERS) (each_any (counting 0 REGISTERS))
+    (λ r t. index_word (table messages) r (all_applied_words zeros messages (zeros_words 16) fits))
+
+-- ---- a member, and the whole
+
+module _ (w : Rehearsal) (h : IsSized w) where
+  pub facts : Holds w.setting (state_of w)
+  facts = Holds-run w.setting w.steps (state_of w) h.law.runs
+
+  -- what a member got
+  pub got_small : (p : ℕ) → IsMember w.setting.members p → (x : Wire) → IsIn x (member (state_of w) p).got → SmallWire w.setting.members x
+  got_small p is x i = h.small.wires x (facts.got p is x i)
+
+  pub history_mild : (k p : ℕ) → IsMember w.setting.members p → AreMild (suc (suc (suc k))) (history_fields w p)
+  unfolding history_fields
+  history_mild k p is =
+      let safe = safe-run w.setting w.steps (state_of w) h.law.runs in
+      let fits : (m : Message) → IsIn m (delivered_by (state_of w) p) → CommandFits m.command =
+      λ m i. h.small.submitted m (safe.submitted p m is i) in (
+        messages_mild (suc (suc k)) (received_by (state_of w) p),
+        (
+          decisions_mild k (member (state_of w) p).got (λ at r v i. (got_small p is (Dec at r v) i).0),
+          (
+            messages_mild (suc (suc k)) (delivered_by (state_of w) p),
+            (table_mild (suc (suc k)) (delivered_by (state_of w) p) fits, tt),
+          ),
+        ),
+      )
+
+  pub standing_mild : (k p : ℕ) → IsMember w.setting.members p → AreMild k (standing_fields w p)
+  unfolding standing_fields
+  standing_mild k p is =
+      let low : p ≤ w.setting.members = is.1 in
+      let few = h.few_members in
+      let last = h.law.within.few_instances p in
+      (omega arith, (tt, (omega arith, (tt, tt))))
+
+  pub group_mild : (k : ℕ) → AreMild k (group_fields w)
+  unfolding group_fields
+  group_mild k =
+      let few = h.few_members in
+      let cells = h.few_cells in
+      let bound = h.few_bound in
+      (omega arith, (omega arith, (omega arith, (omega arith, tt))))
+
+  pub counts_mild : (k : ℕ) → AreMild k (counts_fields w)
+  unfolding counts_fields
+  counts_mild k =
+      let steps = h.law.within.few_steps in
+      let sent = h.law.within.few_envelopes in
+      let posted = h.law.within.few_batches in
+      let cells = h.few_cells in
+      (omega arith, (omega arith, (omega arith, tt)))
+
+  member_mild : (k p : ℕ) → IsMember w.setting.members p → IsMild (suc (suc (suc (suc k)))) (member_value w p)
+  unfolding member_value
+  member_mild k p is =
+      both_mild (suc (suc (suc k))) (standing_fields w p) (history_fields w p) (standing_mild (suc (suc (suc k))) p is) (history_mild k p is)
+
+  pub each_member : Each (IsMember w.setting.members) (members w.setting.members)
+  unfolding members
+  each_member = each_counted 1 w.setting.members w.setting.members (omega arith)
+
+  pub report_mild : IsMild 127 (report_value w)
+  unfolding report_value members_value
+  report_mild =
+      let last : List Field = (codes "members", members_value w) ∷ [] in
+      both_mild 126 (group_fields w) (counts_fields w ++ last) (group_mild 126)
+      (both_mild 126 (counts_fields w) last (counts_mild 126)
+      (mild_by 125 (IsMember w.setting.members) (member_value w) (members w.setting.members) each_member (member_mild 121), tt))

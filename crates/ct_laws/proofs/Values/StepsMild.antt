@@ -1,0 +1,291 @@
+-- The values of steps are mild.
+use Rattle.std.proofs.Common.{◌≡◌, ℕ, zero, suc, ◌+◌, ◌-◌, ◌≤◌, ◌<◌, ◌^◌, Bool, true, false, List, [], ◌∷◌, ◌++◌, codes, Option, Some}
+use Rattle.std.proofs.Common.{None, length, refl, sym, subst, arith}
+use Rattle.std.proofs.lemmas.List.{length-take-le}
+use Rattle.std.specs.Option.{option_map_or}
+use Rattle.std.specs.Prelude.{◌==◌, if◌then◌else◌, option_map, slice_get}
+use Rattle.serde_json.specs.Data.{Data, string}
+use Rattle.ct_names.specs.declared.limit.TheConstants.{MAX_ENVELOPES, MAX_INSTANCES, MAX_ROUNDS}
+use Rattle.ct_names.specs.declared.refusal.Refusal.{Refusal}
+use Rattle.ct_names.specs.declared.refusal.Refusal.TheVariants.{NotWaiting}
+use Rattle.ct_names.specs.Group.{counting, is_member}
+use Rattle.ct_names.specs.Membership.{IsIn}
+use Rattle.ct_names.specs.RefusalText.{refusal_text}
+use Rattle.ct_names.specs.Value.{Value}
+use Rattle.ct_names.proofs.Groups.{counting-range}
+use Rattle.ct_model.specs.Actor.{actor}
+use Rattle.ct_model.specs.AtValue.{Envelope, Wire}
+use Rattle.ct_model.specs.declared.step.Step.{Step}
+use Rattle.ct_model.specs.declared.step.Step.TheVariants.{Submit, Receive, Begin, Enter, Choose, Adopt, Suspect, Conclude, Deliver}
+use Rattle.ct_model.specs.declared.step.Step.TheVariants.{Follow, Postpone, Lose, Repeat}
+use Rattle.ct_model.specs.declared.wire.Wire.TheVariants.{Data as Message}
+use Rattle.ct_model.specs.Mapped.{without_value, wire_map}
+use Rattle.ct_model.specs.Rehearsal.{Rehearsal, extended, state_of}
+use Rattle.ct_model.specs.State.{at_serial}
+use Rattle.ct_model.proofs.Basics.Options.{some-none, some-same}
+use Rattle.ct_records.specs.Fits.{AllFit, StepFits}
+use Rattle.ct_records.specs.Replay.{IsAllowed, IsRefused}
+use Rattle.ct_world.specs.Replay.{AllowsFirst, first_steps}
+use Rattle.ct_world.specs.Standing.{estimate_by, heard_by}
+use Rattle.ct_world.specs.World.{if_member, member_of}
+use Rattle.ct_text.specs.Standing.{instance_of}
+use Rattle.ct_show.specs.Facts.{last_taking, returns, taking_or, takes}
+use Rattle.ct_views.specs.declared.selection.Selection.{Selection}
+use Rattle.ct_views.specs.Selected.{is_selected}
+use Rattle.ct_json.specs.Fields.{Field}
+use Rattle.ct_json.specs.Json.{messages_value}
+use Rattle.ct_json.specs.JsonEnvelopes.{envelope_value, estimate_field, sent_field}
+use Rattle.ct_json.specs.JsonParts.{replies_fields}
+use Rattle.ct_json.specs.JsonSteps.{argument_fields, batch, concluded_fields, decided_fields, delivered_fields, estimated_fields}
+use Rattle.ct_json.specs.JsonSteps.{facts_fields, head_fields, held, leaving_fields, left_fields, letter_facts, member_facts, message_fields}
+use Rattle.ct_json.specs.JsonSteps.{message_in, missing_fields, outcome_fields, proposal_fields, refused_value, round_fields, valued_fields}
+use Rattle.ct_json.specs.JsonSteps.{value_in}
+use Rattle.ct_laws.specs.Fitting.{IsFitting}
+use Rattle.ct_laws.specs.JsonSteps.{asked_values, refused_values, shown_values, step_value, steps_values}
+use Rattle.ct_laws.proofs.Values.Bounded.{HasNext, has_next}
+use Rattle.ct_laws.proofs.Values.Mild.{AreMild, Each, IsMild, both_mild, each_both, each_from, mild_by}
+use Rattle.ct_laws.proofs.Values.ReportMild.{IsSized, messages_mild, sized_first}
+use Rattle.ct_laws.proofs.Values.StateMild.{command_mild, coordinator_low, envelope_mild, estimate_field_mild, heard_low, own_low}
+use Rattle.ct_laws.proofs.Values.StateMild.{part_mild, replies_mild, round_low, step_mild}
+use Rattle.ct_laws.proofs.Values.StepsRead.{counted_places, values_at}
+
+-- ---- steps
+
+actor_low : (s : Step) → StepFits s → actor s ≤ 255
+actor_low (Submit p c) h = h.0
+actor_low _ h = h.0
+
+fit_at : (steps : List Step) (i : ℕ) (s : Step) → AllFit steps → slice_get steps i ≡ Some s → StepFits s
+fit_at [] i s fit e = absurd (cc)
+fit_at (x ∷ steps) zero s fit e = subst StepFits (some-same x s e) fit.0
+fit_at (x ∷ steps) (suc i) s fit e = fit_at steps i s fit.1 e
+
+head_mild : (k number : ℕ) (step : Step) → number < 2 ^ 64 → StepFits step → AreMild k (head_fields number step)
+unfolding head_fields
+head_mild k number step low fits = let p = actor_low step fits in (low, (omega arith, (tt, tt)))
+
+valued_mild : (k : ℕ) (key : List ℕ) (at : ℕ) (v : Value) → at ≤ MAX_INSTANCES → AreMild (suc k) (valued_fields key at v)
+valued_mild k key at v low = (omega arith, (messages_mild k v, tt))
+
+wire_mild : (k : ℕ) (x : Wire) → AreMild k (message_fields (wire_map (λ _. tt) x))
+wire_mild k (Message m) = (tt, tt)
+wire_mild k _ = tt
+
+message_mild : (k : ℕ) (o : Option Envelope) → AreMild k (message_in (option_map without_value o))
+message_mild k None = tt
+message_mild k (Some e) = wire_mild k e.wire
+
+-- the step that took an envelope is one of the first ones
+record IsTaking (steps : List Step) (i : ℕ) (t : ℕ × Step) : Type 0 where
+  low : t.0 ≤ i
+  fits : StepFits t.1
+
+taking_later : (steps : List Step) (i : ℕ) (t : ℕ × Step) → IsTaking steps i t → IsTaking steps (suc i) t
+taking_later steps i t h = record { low = (let low = h.low in omega arith); fits = h.fits }
+
+taking_if : (steps : List Step) (i : ℕ) (s : Step) (taken put : Bool) (before : Option (ℕ × Step)) (t : ℕ × Step) → StepFits s →
+    (before ≡ Some t → IsTaking steps i t) → (if taken then Some (suc i, s) else (if put then None else before)) ≡ Some t →
+    IsTaking steps (suc i) t
+taking_if steps i s true put before t fits old e =
+    subst (IsTaking steps (suc i)) (some-same (suc i, s) t e) (record { low = omega arith; fits = fits })
+taking_if steps i s false true before t fits old e = absurd (cc)
+taking_if steps i s false false before t fits old e = taking_later steps i t (old e)
+
+taking_is : (steps : List Step) (k i : ℕ) (t : ℕ × Step) → AllFit steps → last_taking steps k i ≡ Some t → IsTaking steps i t
+taking_is steps k zero t fit e = absurd (cc)
+taking_is steps k (suc i) t fit e = go (slice_get steps i) refl (taking_is steps k i t fit) e
+  where
+    go : (o : Option Step) → slice_get steps i ≡ o → (last_taking steps k i ≡ Some t → IsTaking steps i t) →
+        taking_or (last_taking steps k i) k (suc i) o ≡ Some t → IsTaking steps (suc i) t
+    go None at old e = taking_later steps i t (old e)
+    go (Some s) at old e = taking_if steps i s (takes s k) (returns s k) (last_taking steps k i) t (fit_at steps i s fit at) old e
+
+-- ---- what is told of a record
+
+module _ (w : Rehearsal) (h : IsSized w) where
+  instance_low : (p : ℕ) → instance_of w p ≤ MAX_INSTANCES
+  unfolding instance_of
+  instance_low p = go (is_member w.setting.members p) refl
+    where
+      go : (b : Bool) → is_member w.setting.members p ≡ b → instance_of w p ≤ MAX_INSTANCES
+      go true group = rw (group, instance_of) (h.law.within.few_instances p)
+      go false group = rw (group, instance_of) (omega arith)
+
+  round_mild : (k p : ℕ) → AreMild k (round_fields w p)
+  unfolding round_fields
+  round_mild k p =
+      let at = instance_low p in
+      let r = round_low w h p in
+      let c = coordinator_low w h p in
+      (omega arith, (omega arith, (omega arith, tt)))
+
+  estimated_mild : (k p : ℕ) (o : Option (Value × ℕ)) → ((x : Value × ℕ) → o ≡ Some x → x.1 ≤ MAX_ROUNDS) →
+      AreMild (suc (suc k)) (estimated_fields w p o)
+  unfolding estimated_fields
+  estimated_mild k p o low =
+      both_mild (suc (suc k)) (round_fields w p) (estimate_field o) (round_mild (suc (suc k)) p) (estimate_field_mild k o low)
+
+  decided_in : (k p : ℕ) (b : Bool) → AreMild (suc k) (if b then [] else ((codes "decided", messages_value (held w p)) ∷ []))
+  decided_in k p true = tt
+  decided_in k p false = (messages_mild k (held w p), tt)
+
+  concluded_mild : (k before p : ℕ) → AreMild (suc k) (concluded_fields w before p)
+  unfolding concluded_fields decided_fields
+  concluded_mild k before p =
+      both_mild (suc k) (round_fields w p) (replies_fields w p ++ decided_fields w before p) (round_mild (suc k) p)
+      (both_mild (suc k) (replies_fields w p) (decided_fields w before p) (replies_mild k w p)
+      (decided_in k p (length (state_of w).sent == before)))
+
+  proposal_mild : (k p : ℕ) → AreMild (suc k) (proposal_fields w p)
+  unfolding proposal_fields
+  proposal_mild k p = valued_mild k (codes "value") (instance_of w p) (held w p) (instance_low p)
+
+  delivered_mild : (k p : ℕ) → AreMild (suc k) (delivered_fields w p)
+  unfolding delivered_fields
+  delivered_mild k p = valued_mild k (codes "delivered") (instance_of w p) (batch w (instance_of w p)) (instance_low p)
+
+  outcome_mild : (k before : ℕ) (step : Step) → AreMild (suc (suc k)) (outcome_fields w before step)
+  unfolding outcome_fields
+  outcome_mild k before (Submit p c) = message_mild (suc (suc k)) (at_serial (state_of w).sent (before + 1))
+  outcome_mild k before (Begin p) = proposal_mild (suc k) p
+  outcome_mild k before (Enter p) = round_mild (suc (suc k)) p
+  outcome_mild k before (Choose p from) = estimated_mild k p (if_member w p (heard_by (member_of w p) from)) (heard_low w h p from)
+  outcome_mild k before (Adopt p) = estimated_mild k p (if_member w p (estimate_by (member_of w p))) (own_low w h p)
+  outcome_mild k before (Suspect p) = estimated_mild k p (if_member w p (estimate_by (member_of w p))) (own_low w h p)
+  outcome_mild k before (Conclude p) = concluded_mild (suc k) before p
+  outcome_mild k before (Deliver p) = delivered_mild (suc k) p
+  outcome_mild k before (Follow p) = delivered_mild (suc k) p
+  outcome_mild k before _ = tt
+
+  letter_mild : (k s : ℕ) → s ≤ 4294967295 → IsMild (suc (suc k)) (envelope_value w s)
+  letter_mild k s low = envelope_mild w h k None s (omega arith) (λ p never. some-none p never)
+
+  argument_mild : (k : ℕ) (step : Step) → StepFits step → AreMild (suc (suc k)) (argument_fields w step)
+  unfolding argument_fields
+  argument_mild k (Submit p c) fits = (command_mild (suc k) c fits.1, tt)
+  argument_mild k (Choose p from) fits = let low = fits.1 in (omega arith, tt)
+  argument_mild k (Receive p s) fits = (letter_mild k s fits.1, tt)
+  argument_mild k (Postpone p s) fits = (letter_mild k s fits.1, tt)
+  argument_mild k (Lose p s) fits = (letter_mild k s fits.1, tt)
+  argument_mild k (Repeat p s) fits = (letter_mild k s fits.1, tt)
+  argument_mild k _ fits = tt
+
+  sent_mild : (k before : ℕ) → IsMild (suc (suc (suc k))) (sent_field w before).1
+  unfolding sent_field
+  sent_mild k before =
+      let ks = counting (before + 1) (length (state_of w).sent - before) in
+      mild_by (suc (suc k)) (λ s. s ≤ MAX_ENVELOPES) (envelope_value w) ks (each_from (λ s. s ≤ MAX_ENVELOPES) ks serial_low)
+      (λ s low. letter_mild k s (omega arith))
+    where
+      serial_low : (s : ℕ) → IsIn s (counting (before + 1) (length (state_of w).sent - before)) → s ≤ MAX_ENVELOPES
+      serial_low s i =
+          let range = counting-range (before + 1) (length (state_of w).sent - before) s i in
+          let from = range.0 in
+          let to = range.1 in
+          let few = h.law.within.few_envelopes in
+          omega arith
+
+  line_mild : (before number : ℕ) (step : Step) → number < 2 ^ 64 → StepFits step → IsMild 127 (value_in w before number step)
+  unfolding value_in
+  line_mild before number step low fits =
+      let sent : List Field = sent_field w before ∷ [] in
+      let later = outcome_fields w before step ++ sent in
+      both_mild 126 (head_fields number step) (argument_fields w step ++ later) (head_mild 126 number step low fits)
+      (both_mild 126 (argument_fields w step) later (argument_mild 124 step fits)
+      (both_mild 126 (outcome_fields w before step) sent (outcome_mild 124 before step) (sent_mild 123 before, tt)))
+
+  -- ---- a refused step
+
+  left_mild : (k : ℕ) (o : Option (ℕ × Step)) → ((t : ℕ × Step) → o ≡ Some t → IsTaking w.steps (length w.steps) t) →
+      AreMild (suc (suc (suc k))) (left_fields o)
+  left_mild k None taking = tt
+  left_mild k (Some t) taking =
+      let is = taking t refl in
+      let low = is.low in
+      let few = h.law.within.few_steps in
+      ((omega arith, (step_mild k t.1 is.fits, tt)), tt)
+
+  leaving_mild : (k s : ℕ) (refusal : Refusal) → AreMild (suc (suc (suc k))) (leaving_fields w s refusal)
+  leaving_mild k s NotWaiting = left_mild k (last_taking w.steps s (length w.steps)) (λ t e. taking_is w.steps s (length w.steps) t h.fit e)
+  leaving_mild k s _ = tt
+
+  letter_facts_mild : (k s : ℕ) (o : Option Envelope) (refusal : Refusal) →
+      AreMild (suc (suc (suc k))) (letter_facts w s (option_map without_value o) refusal)
+  unfolding missing_fields
+  letter_facts_mild k s None refusal = let few = h.law.within.few_envelopes in (omega arith, tt)
+  letter_facts_mild k s (Some e) refusal = leaving_mild k s refusal
+
+  member_facts_mild : (k p : ℕ) → AreMild (suc (suc (suc k))) (member_facts w p)
+  unfolding member_facts
+  member_facts_mild k p = let at = instance_low p in (omega arith, part_mild w h k p)
+
+  facts_mild : (k : ℕ) (step : Step) (refusal : Refusal) → AreMild (suc (suc (suc k))) (facts_fields w step refusal)
+  unfolding facts_fields
+  facts_mild k (Receive p s) refusal = letter_facts_mild k s (at_serial (state_of w).sent s) refusal
+  facts_mild k (Postpone p s) refusal = letter_facts_mild k s (at_serial (state_of w).sent s) refusal
+  facts_mild k (Lose p s) refusal = letter_facts_mild k s (at_serial (state_of w).sent s) refusal
+  facts_mild k (Repeat p s) refusal = letter_facts_mild k s (at_serial (state_of w).sent s) refusal
+  facts_mild k step refusal = member_facts_mild k (actor step)
+
+  refused_mild : (number : ℕ) (step : Step) (refusal : Refusal) → number < 2 ^ 64 → StepFits step →
+      IsMild 127 (refused_value w number step refusal)
+  unfolding refused_value
+  refused_mild number step refusal low fits =
+      let facts : List Field = (codes "refusal", string (refusal_text refusal)) ∷ facts_fields w step refusal in
+      both_mild 126 (head_fields number step) (argument_fields w step ++ facts) (head_mild 126 number step low fits)
+      (both_mild 126 (argument_fields w step) facts (argument_mild 124 step fits) (tt, facts_mild 123 step refusal))
+
+-- ---- the steps of a record
+
+asked_if : (b : Bool) (d : Data) → IsMild 127 d → Each (IsMild 127) (if b then d ∷ [] else [])
+asked_if true d h = (h, tt)
+asked_if false d h = tt
+
+module _ (selection : Selection) (w : Rehearsal) (h : IsFitting w) (count : ℕ) (allows : AllowsFirst w.setting w.cells w.steps count)
+    (within : count ≤ length w.steps) where
+  place_mild : (place : ℕ) → place < count → Each (IsMild 127) (values_at selection w place)
+  place_mild place low =
+      let here : HasNext w.steps place = has_next w.steps place h.fit (omega arith) in
+      let next : IsSized (first_steps w.setting w.cells w.steps (suc place)) =
+      sized_first w count (suc place) h allows (omega arith) within in
+      let v = first_steps w.setting w.cells w.steps place in
+      let taken : IsSized (extended v here.step) =
+      subst (λ l. IsSized (record { setting = w.setting; cells = w.cells; steps = l })) here.next next in
+      let few = next.law.within.few_steps in
+      let long = length-take-le (suc place) w.steps (omega arith) in
+      subst (λ o. Each (IsMild 127) (asked_values selection v place o)) (sym here.at)
+      (asked_if (is_selected selection (place + 1) (actor here.step)) (step_value v (place + 1) here.step)
+      (line_mild (extended v here.step) taken (length (state_of v).sent) (place + 1) here.step (omega arith) here.fits))
+
+  first_mild : (k : ℕ) → k ≤ count → Each (IsMild 127) (steps_values selection w k)
+  unfolding steps_values
+  first_mild zero low = tt
+  first_mild (suc k) low =
+      subst (λ l. Each (IsMild 127) l) (sym (counted_places (values_at selection w) k))
+      (each_both (IsMild 127) (steps_values selection w k) (values_at selection w k) (first_mild k (omega arith)) (place_mild k (omega arith)))
+
+pub steps_mild : (selection : Selection) (w : Rehearsal) → IsFitting w → IsAllowed w →
+    Each (IsMild 127) (steps_values selection w (length w.steps))
+steps_mild selection w h allows = first_mild selection w h (length w.steps) allows (omega arith) (length w.steps) (omega arith)
+
+refused_at : (w : Rehearsal) (number : ℕ) (o : Option Step) (refusal : Refusal) → IsSized w → number < 2 ^ 64 →
+    ((s : Step) → o ≡ Some s → StepFits s) →
+    Each (IsMild 127) (option_map_or (λ step. refused_value w number step refusal ∷ []) o [])
+refused_at w number None refusal h low fits = tt
+refused_at w number (Some step) refusal h low fits = (refused_mild w h number step refusal low (fits step refl), tt)
+
+pub shown_mild : (selection : Selection) (w : Rehearsal) (number : ℕ) (refusal : Refusal) → IsFitting w → IsRefused w number refusal →
+    Each (IsMild 127) (shown_values selection w number refusal)
+unfolding refused_values
+shown_mild selection w number refusal h refused =
+    let place = number - 1 in
+    let inside = refused.refused.within in
+    let allows = refused.refused.before in
+    let before : IsSized (first_steps w.setting w.cells w.steps place) = sized_first w place place h allows (omega arith) (omega arith) in
+    let few = before.law.within.few_steps in
+    let long = length-take-le place w.steps (omega arith) in
+    let low : number < 2 ^ 64 = omega arith in
+    each_both (IsMild 127) (steps_values selection w place) (refused_values w number refusal)
+    (first_mild selection w h place allows (omega arith) place (omega arith))
+    (refused_at (first_steps w.setting w.cells w.steps place) number (slice_get w.steps place) refusal before low
+    (λ s at. fit_at w.steps place s h.fit at))
