@@ -1,10 +1,14 @@
 -- Objects that are written in parts.
-use Rattle.std.proofs.Common.{◌≡◌, ℕ, true, List, [], ◌∷◌, ◌++◌, Result, Ok, Err, refl, ap, sym, ◌∙◌, append_assoc, append-nil, subst}
+use Rattle.std.proofs.Common.{◌≡◌, ℕ, true, List, [], ◌∷◌, ◌++◌, Result, Ok, Err, refl, ap, sym, ◌∙◌, append_assoc, append-nil, subst, arith}
 use Rattle.std.specs.Prelude.{OnOk, codes, is_ok, if◌then◌else◌}
 use Rattle.json.specs.Print.{quoted}
 use Rattle.serde_json.specs.Data.{Data}
 use Rattle.serde_json.specs.Written.{compact_text, members_text}
+use Rattle.ct_model.specs.declared.step.Step.{Step}
+use Rattle.ct_model.specs.Rehearsal.{Rehearsal}
 use Rattle.ct_text.proofs.Pieces.{is_any}
+use Rattle.ct_json.specs.Json.{group_fields, standing_fields}
+use Rattle.ct_json.specs.JsonSteps.{head_fields}
 use Rattle.ct_json.specs.Fields.{Field, IsPlain, fields_text, line_text, members_of, object_of, opened}
 
 assoc_field : (k a b c : List ℕ) → k ++ 58 ∷ (a ++ (b ++ c)) ≡ (k ++ 58 ∷ (a ++ b)) ++ c
@@ -15,6 +19,11 @@ fields_both [] more = refl
 fields_both (field ∷ some) more =
     ap (λ t. 44 ∷ (quoted field.0 ++ 58 ∷ (compact_text field.1 ++ t))) (fields_both some more)
     ∙ ap (λ t. 44 ∷ t) (assoc_field (quoted field.0) (compact_text field.1) (fields_text some) (fields_text more))
+
+-- the same behind a text
+pub fields_after : (old : List ℕ) (some more : List Field) →
+    old ++ fields_text (some ++ more) ≡ (old ++ fields_text some) ++ fields_text more
+fields_after old some more = rw (fields_both some more, append_assoc) refl
 
 -- more keys behind the first ones
 pub then_fields : (some more : List Field) (old mid end : List ℕ) → mid ≡ old ++ fields_text some → end ≡ mid ++ fields_text more →
@@ -85,3 +94,31 @@ then_ended (Ok x) fields old mid end h e =
     e ∙ ap (λ t. t ++ codes "}\n") h ∙ append_assoc old (opened fields) (codes "}\n")
     ∙ ap (λ t. old ++ t) (sym (ap (λ t. t ++ codes "\n") (object_closed fields) ∙ append_assoc (opened fields) (codes "}") (codes "\n")))
 then_ended (Err x) fields old mid end h e = tt
+
+-- ---- pieces that a search puts together
+
+pub opened_after : (old : List ℕ) (some more : List Field) → is_any some ≡ true →
+    old ++ opened (some ++ more) ≡ (old ++ opened some) ++ fields_text more
+opened_after old some more h = rw (opened_both some more h, append_assoc) refl
+
+pub closed_after : (old : List ℕ) (fields : List Field) → old ++ compact_text (object_of fields) ≡ (old ++ opened fields) ++ codes "}"
+closed_after old fields = rw (object_closed fields, append_assoc) refl
+
+pub ended_after : (old : List ℕ) (fields : List Field) → old ++ line_text (object_of fields) ≡ (old ++ opened fields) ++ codes "}\n"
+ended_after old fields =
+    sym (append_assoc old (opened fields) (codes "}\n")
+    ∙ ap (λ t. old ++ t) (sym (ap (λ t. t ++ codes "\n") (object_closed fields) ∙ append_assoc (opened fields) (codes "}") (codes "\n"))))
+
+pub group_any : (w : Rehearsal) → is_any (group_fields w) ≡ true
+unfolding group_fields
+group_any w = refl
+
+pub standing_any : (w : Rehearsal) (p : ℕ) → is_any (standing_fields w p) ≡ true
+unfolding standing_fields
+standing_any w p = refl
+
+pub head_any : (number : ℕ) (step : Step) → is_any (head_fields number step) ≡ true
+unfolding head_fields
+head_any number step = refl
+
+pub ruleset pieces = (arith, fields_after, opened_after, closed_after, ended_after, group_any, standing_any, head_any)

@@ -25,6 +25,10 @@ message_value m = string (message_text m)
 unfoldable pub messages_value : List Message → Data
 messages_value messages = array_by message_value messages
 
+-- the same at a key
+unfoldable pub messages_at : List ℕ → List Message → List Field
+messages_at key messages = (key, messages_value messages) ∷ []
+
 -- an instance and what was decided for it
 unfoldable pub decision_value : ℕ → Value → Data
 decision_value k value = object_of ((codes "instance", num k) ∷ (codes "messages", messages_value value) ∷ [])
@@ -34,8 +38,9 @@ abbrev pub decision_values : List Wire → ℕ → List Data
 decision_values got k = option_map_or (λ value. decision_value k value ∷ []) (decided got k) []
 
 -- each decision among these wires, by instance
-unfoldable pub decisions_value : List Wire → Data
-decisions_value got = array_of (flat_map (decision_values got) (counting 1 (unwrap_or (last_decided got) 0)))
+unfoldable pub decisions_fields : List Wire → List Field
+decisions_fields got =
+    (codes "decided", array_of (flat_map (decision_values got) (counting 1 (unwrap_or (last_decided got) 0)))) ∷ []
 
 -- what the record begins with
 unfoldable pub group_fields : Rehearsal → List Field
@@ -54,8 +59,8 @@ abbrev pub register_value : List ℕ → ℕ → Data
 register_value values register = num (slice_index values register)
 
 -- those of all registers of a table
-unfoldable pub table_value : List ℕ → Data
-table_value values = array_by (register_value values) (counting 0 REGISTERS)
+unfoldable pub table_fields : List ℕ → List Field
+table_fields values = (codes "table", array_by (register_value values) (counting 0 REGISTERS)) ∷ []
 
 -- whether a member is up, the last instance that it began, and whether that is open
 unfoldable pub standing_fields : Rehearsal → ℕ → List Field
@@ -66,18 +71,18 @@ standing_fields w p =
 -- what it received, which decisions it got, what it delivered, and the registers of the table that this makes
 unfoldable pub history_fields : Rehearsal → ℕ → List Field
 history_fields w p =
-    (codes "received", messages_value (received_by (state_of w) p)) ∷ (codes "decided", decisions_value (member (state_of w) p).got)
-    ∷ (codes "delivered", messages_value (delivered_by (state_of w) p))
-    ∷ (codes "table", table_value (table (delivered_by (state_of w) p))) ∷ []
+    messages_at (codes "received") (received_by (state_of w) p)
+    ++ (decisions_fields (member (state_of w) p).got
+    ++ (messages_at (codes "delivered") (delivered_by (state_of w) p) ++ table_fields (table (delivered_by (state_of w) p))))
 
 unfoldable pub member_value : Rehearsal → ℕ → Data
 member_value w p = object_of (standing_fields w p ++ history_fields w p)
 
-unfoldable pub members_value : Rehearsal → Data
-members_value w = array_by (member_value w) (members w.setting.members)
+unfoldable pub members_fields : Rehearsal → List Field
+members_fields w = (codes "members", array_by (member_value w) (members w.setting.members)) ∷ []
 
 unfoldable pub report_value : Rehearsal → Data
-report_value w = object_of (group_fields w ++ (counts_fields w ++ (codes "members", members_value w) ∷ []))
+report_value w = object_of (group_fields w ++ (counts_fields w ++ members_fields w))
 
 unfoldable pub report_json : Rehearsal → List ℕ
 report_json w = line_text (report_value w)

@@ -44,12 +44,12 @@ heard_if from (Some e) = heard_value from e ∷ []
 abbrev pub heard_values : Rehearsal → ℕ → ℕ → List Data
 heard_values w p from = heard_if from (if_member w p (heard_by (member_of w p) from))
 
-unfoldable pub heard_field : Rehearsal → ℕ → Field
-heard_field w p = (codes "heard", array_of (flat_map (heard_values w p) (members w.setting.members)))
+unfoldable pub heard_fields : Rehearsal → ℕ → List Field
+heard_fields w p = (codes "heard", array_of (flat_map (heard_values w p) (members w.setting.members))) ∷ []
 
 -- its estimate, and what it got for its round
 unfoldable pub votes_fields : Rehearsal → ℕ → List Field
-votes_fields w p = estimate_field (if_member w p (estimate_by (member_of w p))) ++ heard_field w p ∷ replies_fields w p
+votes_fields w p = estimate_field (if_member w p (estimate_by (member_of w p))) ++ (heard_fields w p ++ replies_fields w p)
 
 -- a round and its phase
 unfoldable pub phase_fields : ℕ → Phase → List Field

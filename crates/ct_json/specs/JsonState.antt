@@ -23,8 +23,8 @@ abbrev pub waiting_value : Rehearsal → List ℕ → ℕ → Data
 waiting_value w from k = envelope_by (at_serial from k) w k
 
 -- those of a waiting line
-unfoldable pub waiting_field : Rehearsal → List ℕ → List ℕ → Field
-waiting_field w from line = (codes "waiting", array_by (waiting_value w from) line)
+unfoldable pub waiting_fields : Rehearsal → List ℕ → List ℕ → List Field
+waiting_fields w from line = (codes "waiting", array_by (waiting_value w from) line) ∷ []
 
 -- ---- what it may do
 
@@ -32,8 +32,8 @@ waiting_field w from line = (codes "waiting", array_by (waiting_value w from) li
 abbrev pub enabled_values : Rehearsal → Step → List Data
 enabled_values w step = if is_none (cause w step) then step_data step ∷ [] else []
 
-unfoldable pub enabled_field : Rehearsal → List Step → Field
-enabled_field w steps = (codes "enabled", array_of (flat_map (enabled_values w) steps))
+unfoldable pub enabled_fields : Rehearsal → List Step → List Field
+enabled_fields w steps = (codes "enabled", array_of (flat_map (enabled_values w) steps)) ∷ []
 
 -- a step that is refused, and why
 unfoldable pub refusal_value : Step → Refusal → Data
@@ -43,13 +43,13 @@ refusal_value step refusal = object_of ((codes "entry", step_data step) ∷ (cod
 abbrev pub refusal_values : Rehearsal → Step → List Data
 refusal_values w step = option_map_or (λ refusal. refusal_value step refusal ∷ []) (told_refusal w step) []
 
-unfoldable pub refused_field : Rehearsal → List Step → Field
-refused_field w steps = (codes "refused", array_of (flat_map (refusal_values w) steps))
+unfoldable pub refused_fields : Rehearsal → List Step → List Field
+refused_fields w steps = (codes "refused", array_of (flat_map (refusal_values w) steps)) ∷ []
 
 -- its own steps that are allowed, and those that are refused, of the choices its own estimate alone
 unfoldable pub steps_fields : Rehearsal → ℕ → List Field
 steps_fields w p =
-    enabled_field w (own_steps p (first_choices p w.setting.members)) ∷ refused_field w (own_steps p (Choose p p ∷ [])) ∷ []
+    enabled_fields w (own_steps p (first_choices p w.setting.members)) ++ refused_fields w (own_steps p (Choose p p ∷ []))
 
 -- what a driver does next: a step of the member's own, else the receipt; where that is a suspicion the receipt comes in its
 -- place if the detector doesn't suspect
@@ -58,12 +58,12 @@ next_steps None receipt = option_to_list receipt
 next_steps (Some (Suspect p)) receipt = Suspect p ∷ option_to_list receipt
 next_steps (Some step) receipt = step ∷ []
 
-unfoldable pub next_field : Rehearsal → ℕ → Field
-next_field w p = (codes "next", array_by step_data (next_steps (next_local w p) (first_receipt w p (line_of w p))))
+unfoldable pub next_fields : Rehearsal → ℕ → List Field
+next_fields w p = (codes "next", array_by step_data (next_steps (next_local w p) (first_receipt w p (line_of w p)))) ∷ []
 
 -- what waits for it, and what it may do
 unfoldable pub chances_fields : Rehearsal → List ℕ → ℕ → List Field
-chances_fields w from p = waiting_field w from (line_of w p) ∷ (steps_fields w p ++ next_field w p ∷ [])
+chances_fields w from p = waiting_fields w from (line_of w p) ++ (steps_fields w p ++ next_fields w p)
 
 -- ---- all of it
 

@@ -22,8 +22,8 @@ use Rattle.ct_world.specs.World.{member_of, if_member}
 use Rattle.ct_text.specs.Standing.{coordinator_of, instance_of, round_of}
 use Rattle.ct_show.specs.Facts.{last_taking}
 use Rattle.ct_json.specs.Fields.{Field, line_text, object_of}
-use Rattle.ct_json.specs.Json.{message_value, messages_value}
-use Rattle.ct_json.specs.JsonEnvelopes.{envelope_value, estimate_field, sent_field}
+use Rattle.ct_json.specs.Json.{message_value, messages_at}
+use Rattle.ct_json.specs.JsonEnvelopes.{envelope_value, estimate_field, sent_fields}
 use Rattle.ct_json.specs.JsonParts.{part_fields, replies_fields}
 use Rattle.ct_show.specs.Wires.{letter_at}
 
@@ -61,9 +61,12 @@ held w p = unwrap_or (option_map (λ (e : Value × ℕ). e.0) (if_member w p (es
 unfoldable pub batch : Rehearsal → ℕ → Value
 batch w k = unwrap_or (option_map (λ b. b.messages) (at_serial (order (state_of w)) k)) []
 
+unfoldable pub instance_fields : ℕ → List Field
+instance_fields k = (codes "instance", num k) ∷ []
+
 -- an instance, and messages at a key
 abbrev pub valued_fields : List ℕ → ℕ → Value → List Field
-valued_fields key k v = (codes "instance", num k) ∷ (key, messages_value v) ∷ []
+valued_fields key k v = instance_fields k ++ messages_at key v
 
 -- the instance, and the value that a member proposes for it
 unfoldable pub proposal_fields : Rehearsal → ℕ → List Field
@@ -84,7 +87,7 @@ estimated_fields w p e = round_fields w p ++ estimate_field e
 
 -- what a member holds is decided, where something was sent since so many envelopes were
 unfoldable pub decided_fields : Rehearsal → ℕ → ℕ → List Field
-decided_fields w before p = if length (state_of w).sent == before then [] else (codes "decided", messages_value (held w p)) ∷ []
+decided_fields w before p = if length (state_of w).sent == before then [] else messages_at (codes "decided") (held w p)
 
 unfoldable pub concluded_fields : Rehearsal → ℕ → ℕ → List Field
 concluded_fields w before p = round_fields w p ++ (replies_fields w p ++ decided_fields w before p)
@@ -105,7 +108,7 @@ outcome_fields w before _ = []
 -- the last step of a record, before which so many envelopes had been sent
 unfoldable pub value_in : Rehearsal → ℕ → ℕ → Step → Json
 value_in w before number step =
-    object_of (head_fields number step ++ (argument_fields w step ++ (outcome_fields w before step ++ sent_field w before ∷ [])))
+    object_of (head_fields number step ++ (argument_fields w step ++ (outcome_fields w before step ++ sent_fields w before)))
 
 unfoldable pub step_json : Rehearsal → ℕ → ℕ → Step → List ℕ
 step_json w before number step = line_text (value_in w before number step)
@@ -136,7 +139,7 @@ serial_facts w k refusal = letter_facts w k (letter_at w k) refusal
 
 -- where a member stands
 unfoldable pub member_facts : Rehearsal → ℕ → List Field
-member_facts w p = (codes "instance", num (instance_of w p)) ∷ part_fields w p
+member_facts w p = instance_fields (instance_of w p) ++ part_fields w p
 
 -- the facts behind a refusal: of the envelope that the step names; of another step its member
 unfoldable pub facts_fields : Rehearsal → Step → Refusal → List Field
@@ -146,11 +149,13 @@ facts_fields w (Lose p k) refusal = serial_facts w k refusal
 facts_fields w (Repeat p k) refusal = serial_facts w k refusal
 facts_fields w step refusal = member_facts w (actor step)
 
+unfoldable pub refusal_fields : Refusal → List Field
+refusal_fields refusal = (codes "refusal", string (refusal_text refusal)) ∷ []
+
 -- a step that is refused after the record
 unfoldable pub refused_value : Rehearsal → ℕ → Step → Refusal → Json
 refused_value w number step refusal =
-    object_of (head_fields number step
-    ++ (argument_fields w step ++ (codes "refusal", string (refusal_text refusal)) ∷ facts_fields w step refusal))
+    object_of (head_fields number step ++ (argument_fields w step ++ (refusal_fields refusal ++ facts_fields w step refusal)))
 
 unfoldable pub refused_json : Rehearsal → ℕ → Step → Refusal → List ℕ
 refused_json w number step refusal = line_text (refused_value w number step refusal)

@@ -4,7 +4,7 @@ ghost use Rattle.std.specs.Prelude.{◌≡◌, ◌≤◌, [], ◌∷◌, OnOk, o
 ghost use Rattle.serde_json.specs.Written.{compact_text};
 ghost use Rattle.ct_text.specs.Adds.{Adds};
 ghost use Rattle.ct_json.specs.Fields.{fields_text};
-ghost use Rattle.ct_json.specs.JsonEnvelopes.{envelope_by, estimate_field, estimate_fields, letter_fields, sender_fields, sent_field};
+ghost use Rattle.ct_json.specs.JsonEnvelopes.{carried_fields, envelope_by, estimate_field, estimate_fields, letter_fields, sender_fields};
 ghost use Rattle.ct_json.specs.JsonEnvelopes.{sent_fields, wire_fields};
 
 use crate::report::{push_message, push_messages, push_messages_at};
@@ -128,9 +128,9 @@ fn push_letter(
 }
 
 // The same of the envelope of the serial.
-#[tactic(auto, unfolding(crate::specs::JsonEnvelopes::sent_fields))]
-fn push_sent(text: &mut String, world: &World, serial: Serial) -> Result<(), AllocError>
-    ensures { OnOk result (Adds text.old text.new (fields_text (sent_fields world.now.rehearsal serial))) }
+#[tactic(auto, unfolding(crate::specs::JsonEnvelopes::carried_fields))]
+fn push_carried(text: &mut String, world: &World, serial: Serial) -> Result<(), AllocError>
+    ensures { OnOk result (Adds text.old text.new (fields_text (carried_fields world.now.rehearsal serial))) }
 {
     let value = world.value(serial).unwrap_or(&[]);
     push_letter(text, world.letter(serial), value)
@@ -146,7 +146,7 @@ pub(crate) fn push_envelope(
     ensures { OnOk result (Adds text.old text.new (compact_text (envelope_by sender world.now.rehearsal serial))) }
 {
     write!(text, "{{\"serial\":{serial}")?;
-    push_sent(text, world, serial)?;
+    push_carried(text, world, serial)?;
     push_sender(text, sender)?;
     text.push_str("}")
 }
@@ -164,7 +164,7 @@ fn push_sender(text: &mut String, sender: Option<Member>) -> Result<(), AllocErr
 // What was sent since this many envelopes were.
 pub(crate) fn push_sent_at(text: &mut String, world: &World, before: u32) -> Result<(), AllocError>
     requires { before ≤ MAX_ENVELOPES }
-    ensures { OnOk result (Adds text.old text.new (fields_text (sent_field world.now.rehearsal before ∷ []))) }
+    ensures { OnOk result (Adds text.old text.new (fields_text (sent_fields world.now.rehearsal before))) }
 {
     text.push_str(",\"sent\":[")?;
     let count = world.sent().saturating_sub(before);

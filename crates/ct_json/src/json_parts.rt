@@ -5,7 +5,7 @@ ghost use Rattle.serde_json.specs.Written.{compact_text};
 ghost use Rattle.ct_records.specs.Values.{num};
 ghost use Rattle.ct_text.specs.Adds.{Adds};
 ghost use Rattle.ct_json.specs.Fields.{IsPlain, fields_text};
-ghost use Rattle.ct_json.specs.JsonParts.{heard_field, heard_value, led_fields, part_fields, phase_fields, place_fields, replies_fields};
+ghost use Rattle.ct_json.specs.JsonParts.{heard_fields, heard_value, led_fields, part_fields, phase_fields, place_fields, replies_fields};
 ghost use Rattle.ct_json.specs.JsonParts.{set_field, set_value, votes_fields};
 
 use crate::json_envelopes::{push_estimate, push_estimate_at};
@@ -23,6 +23,7 @@ pub(crate) fn push_part(text: &mut String, world: &World, member: Member) -> Res
     push_place(text, world, member, world.round(member))
 }
 
+#[tactic(auto, using(crate::proofs::Fields::pieces))]
 fn push_place(
     text: &mut String,
     world: &World,
@@ -67,6 +68,7 @@ fn push_coordinator(text: &mut String, coordinator: Member) -> Result<(), AllocE
 }
 
 // The member's estimate, and what it got for its round.
+#[tactic(auto, using(crate::proofs::Fields::pieces), unfolding(crate::specs::JsonParts::votes_fields))]
 fn push_votes(text: &mut String, world: &World, member: Member) -> Result<(), AllocError>
     ensures { OnOk result (Adds text.old text.new (fields_text (votes_fields world.now.rehearsal member))) }
 {
@@ -77,7 +79,7 @@ fn push_votes(text: &mut String, world: &World, member: Member) -> Result<(), Al
 
 // The estimates that the member heard for its round.
 fn push_all_heard(text: &mut String, world: &World, member: Member) -> Result<(), AllocError>
-    ensures { OnOk result (Adds text.old text.new (fields_text (heard_field world.now.rehearsal member ∷ []))) }
+    ensures { OnOk result (Adds text.old text.new (fields_text (heard_fields world.now.rehearsal member))) }
 {
     text.push_str(",\"heard\":[")?;
     let n = world.group().n();
@@ -106,7 +108,7 @@ fn push_heard(
 }
 
 // The members that acked the member's round, and those that replied.
-#[tactic(auto, unfolding(json::proofs::OnLiterals::json_on_literals))]
+#[tactic(auto, using(crate::proofs::Fields::pieces), unfolding(crate::specs::JsonParts::replies_fields, json::proofs::OnLiterals::json_on_literals))]
 pub(crate) fn push_replies(
     text: &mut String,
     world: &World,

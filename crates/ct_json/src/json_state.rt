@@ -7,8 +7,8 @@ ghost use Rattle.ct_model.specs.Cause.{cause};
 ghost use Rattle.ct_model.specs.Rehearsal.{line_of};
 ghost use Rattle.ct_text.specs.Adds.{Adds};
 ghost use Rattle.ct_json.specs.Fields.{fields_text, line_text, lines_text};
-ghost use Rattle.ct_json.specs.JsonState.{chances_fields, enabled_field, member_value, next_field, refusal_value, refused_field};
-ghost use Rattle.ct_json.specs.JsonState.{state_json, steps_fields, waiting_field, whole_value};
+ghost use Rattle.ct_json.specs.JsonState.{chances_fields, enabled_fields, member_value, next_fields, refusal_value, refused_fields};
+ghost use Rattle.ct_json.specs.JsonState.{state_json, steps_fields, waiting_fields, whole_value};
 ghost use Rattle.ct_show.specs.State.{first_choices};
 
 use crate::json_envelopes::push_envelope;
@@ -33,6 +33,7 @@ pub fn state_json(alloc: Global, traced: &Traced) -> Result<Vec<u8>, AllocError>
 }
 
 // What the record begins with, and what it comes to.
+#[tactic(auto, using(crate::proofs::Fields::pieces), unfolding(crate::specs::JsonState::whole_value))]
 fn push_whole(text: &mut String, world: &World) -> Result<(), AllocError>
     ensures { OnOk result (Adds text.old text.new (line_text (whole_value world.now.rehearsal))) }
 {
@@ -57,6 +58,7 @@ fn push_members(
     Ok(())
 }
 
+#[tactic(auto, using(crate::proofs::Fields::pieces), unfolding(crate::specs::JsonState::member_value))]
 fn push_member(
     alloc: Global,
     text: &mut String,
@@ -76,6 +78,7 @@ fn push_member(
 }
 
 // What waits for the member, which has this waiting line, and what it may do.
+#[tactic(auto, using(crate::proofs::Fields::pieces), unfolding(crate::specs::JsonState::chances_fields))]
 fn push_chances(
     alloc: Global,
     text: &mut String,
@@ -99,7 +102,7 @@ fn push_waiting(
     senders: &[Member],
     line: &[Serial],
 ) -> Result<(), AllocError>
-    ensures { OnOk result (Adds text.old text.new (fields_text (waiting_field world.now.rehearsal senders.now line.now ∷ []))) }
+    ensures { OnOk result (Adds text.old text.new (fields_text (waiting_fields world.now.rehearsal senders.now line.now))) }
 {
     text.push_str(",\"waiting\":[")?;
     for (i, serial) in line.iter().enumerate() {
@@ -110,6 +113,7 @@ fn push_waiting(
 }
 
 // The steps of its own that the member may take, and those that it may not.
+#[tactic(auto, using(crate::proofs::Fields::pieces), unfolding(crate::specs::JsonState::steps_fields))]
 fn push_steps(
     alloc: Global,
     text: &mut String,
@@ -140,7 +144,7 @@ fn choices(alloc: Global, member: Member, members: u8) -> Result<Vec<Step>, Allo
 
 // Those of the steps that are allowed.
 fn push_enabled(text: &mut String, world: &World, steps: &[Step]) -> Result<(), AllocError>
-    ensures { OnOk result (Adds text.old text.new (fields_text (enabled_field world.now.rehearsal steps.now ∷ []))) }
+    ensures { OnOk result (Adds text.old text.new (fields_text (enabled_fields world.now.rehearsal steps.now))) }
 {
     text.push_str(",\"enabled\":[")?;
     let mut later = false;
@@ -165,7 +169,7 @@ fn is_enabled(world: &World, step: Step) -> bool
 
 // Those that are refused, and why.
 fn push_refused(text: &mut String, world: &World, steps: &[Step]) -> Result<(), AllocError>
-    ensures { OnOk result (Adds text.old text.new (fields_text (refused_field world.now.rehearsal steps.now ∷ []))) }
+    ensures { OnOk result (Adds text.old text.new (fields_text (refused_fields world.now.rehearsal steps.now))) }
 {
     text.push_str(",\"refused\":[")?;
     let mut later = false;
@@ -193,7 +197,7 @@ fn push_next(
     line: &[Serial],
 ) -> Result<(), AllocError>
     requires { line.now ≡ line_of world.now.rehearsal member }
-    ensures { OnOk result (Adds text.old text.new (fields_text (next_field world.now.rehearsal member ∷ []))) }
+    ensures { OnOk result (Adds text.old text.new (fields_text (next_fields world.now.rehearsal member))) }
 {
     text.push_str(",\"next\":[")?;
     push_next_between(

@@ -10,7 +10,7 @@ ghost use Rattle.ct_json.specs.JsonEnvelopes.{envelope_value};
 ghost use Rattle.ct_json.specs.JsonSteps.{argument_fields, concluded_fields, decided_fields, delivered_fields, estimated_fields};
 ghost use Rattle.ct_json.specs.JsonSteps.{facts_fields, head_fields, held, leaving_fields, left_fields, letter_facts, member_facts};
 ghost use Rattle.ct_json.specs.JsonSteps.{message_fields, message_in, outcome_fields, proposal_fields, refused_json, round_fields};
-ghost use Rattle.ct_json.specs.JsonSteps.{missing_fields, serial_facts, step_json, valued_fields};
+ghost use Rattle.ct_json.specs.JsonSteps.{instance_fields, missing_fields, refusal_fields, serial_facts, step_json, valued_fields};
 
 use crate::json_envelopes::{push_envelope, push_estimate_at, push_sent_at};
 use crate::json_parts::{push_part, push_replies};
@@ -23,6 +23,7 @@ use ct_world::{Letter, Wire, World};
 use std::alloc::AllocError;
 
 /// Appends the line of the world's last step, which has this number, counted from 1; so many envelopes had been sent before it.
+#[tactic(auto, using(crate::proofs::Fields::pieces), unfolding(crate::specs::JsonSteps::step_json, crate::specs::JsonSteps::value_in))]
 pub fn push_step_json(
     text: &mut String,
     world: &World,
@@ -41,6 +42,7 @@ pub fn push_step_json(
 }
 
 /// Appends the line of the step of this number, counted from 1, which is refused so in the world.
+#[tactic(auto, using(crate::proofs::Fields::pieces), unfolding(crate::specs::JsonSteps::refused_json, crate::specs::JsonSteps::refused_value))]
 pub fn push_refused_json(
     text: &mut String,
     world: &World,
@@ -52,9 +54,15 @@ pub fn push_refused_json(
 {
     push_head(text, number, step)?;
     push_arguments(text, world, step)?;
-    write!(text, ",\"refusal\":\"{refusal}\"")?;
+    push_refusal(text, refusal)?;
     push_facts(text, world, step, refusal)?;
     text.push_str("}\n")
+}
+
+fn push_refusal(text: &mut String, refusal: Refusal) -> Result<(), AllocError>
+    ensures { OnOk result (Adds text.old text.new (fields_text (refusal_fields refusal))) }
+{
+    write!(text, ",\"refusal\":\"{refusal}\"")
 }
 
 // The number of the step, its member and its name.
@@ -191,6 +199,7 @@ fn held(world: &World, member: Member) -> &[Message]
 }
 
 // The instance, and messages at a key.
+#[tactic(auto, using(crate::proofs::Fields::pieces))]
 fn push_valued(
     text: &mut String,
     key: &str,
@@ -200,8 +209,15 @@ fn push_valued(
     requires { IsPlain key.now }
     ensures { OnOk result (Adds text.old text.new (fields_text (valued_fields key.now instance messages.now))) }
 {
-    write!(text, ",\"instance\":{instance}")?;
+    push_instance(text, instance)?;
     push_messages_at(text, key, messages)
+}
+
+#[tactic(auto, unfolding(crate::specs::JsonSteps::instance_fields, json::proofs::OnLiterals::json_on_literals))]
+fn push_instance(text: &mut String, instance: Instance) -> Result<(), AllocError>
+    ensures { OnOk result (Adds text.old text.new (fields_text (instance_fields instance))) }
+{
+    write!(text, ",\"instance\":{instance}")
 }
 
 #[tactic(auto, unfolding(crate::specs::JsonSteps::proposal_fields, json::proofs::OnLiterals::json_on_literals))]
@@ -241,6 +257,7 @@ fn push_round(text: &mut String, world: &World, member: Member) -> Result<(), Al
 }
 
 // The same, and the estimate.
+#[tactic(auto, using(crate::proofs::Fields::pieces), unfolding(crate::specs::JsonSteps::estimated_fields))]
 fn push_estimated(
     text: &mut String,
     world: &World,
@@ -254,6 +271,7 @@ fn push_estimated(
     push_estimate_at(text, estimate)
 }
 
+#[tactic(auto, using(crate::proofs::Fields::pieces), unfolding(crate::specs::JsonSteps::concluded_fields))]
 fn push_concluded(
     text: &mut String,
     world: &World,
@@ -365,10 +383,10 @@ fn push_left(text: &mut String, taking: Option<(usize, Step)>) -> Result<(), All
 }
 
 // Where the member stands.
+#[tactic(auto, using(crate::proofs::Fields::pieces), unfolding(crate::specs::JsonSteps::member_facts))]
 fn push_member_facts(text: &mut String, world: &World, member: Member) -> Result<(), AllocError>
     ensures { OnOk result (Adds text.old text.new (fields_text (member_facts world.now.rehearsal member))) }
 {
-    let instance = instance_of(world, member);
-    write!(text, ",\"instance\":{instance}")?;
+    push_instance(text, instance_of(world, member))?;
     push_part(text, world, member)
 }

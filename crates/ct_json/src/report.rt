@@ -7,9 +7,9 @@ ghost use Rattle.ct_text.specs.Adds.{Adds};
 ghost use Rattle.ct_names.specs.Group.{is_member};
 ghost use Rattle.ct_records.specs.Outcome.{IsOutcome};
 ghost use Rattle.ct_json.specs.Fields.{IsPlain, fields_text, opened};
-ghost use Rattle.ct_json.specs.Json.{counts_fields, decision_value, decisions_value, group_fields, history_fields, member_value};
-ghost use Rattle.ct_json.specs.Json.{members_value, message_value, messages_value, register_value, report_json};
-ghost use Rattle.ct_json.specs.Json.{standing_fields, table_value};
+ghost use Rattle.ct_json.specs.Json.{counts_fields, decision_value, decisions_fields, group_fields, history_fields, member_value};
+ghost use Rattle.ct_json.specs.Json.{members_fields, message_value, messages_at, messages_value, register_value, report_json};
+ghost use Rattle.ct_json.specs.Json.{standing_fields, table_fields};
 ghost use Rattle.ct_world.specs.World.{member_of};
 
 use ct_names::{Instance, Member, Message, REGISTERS};
@@ -32,6 +32,7 @@ pub fn report_json(alloc: Global, world: &World) -> Result<Vec<u8>, AllocError>
     Ok(text.into_bytes())
 }
 
+#[tactic(auto, using(crate::proofs::Fields::pieces), unfolding(crate::specs::Json::report_json, crate::specs::Json::report_value))]
 fn push_report(text: &mut String, world: &World) -> Result<(), AllocError>
     ensures { OnOk result (Adds text.old text.new (report_json world.now.rehearsal)) }
 {
@@ -70,7 +71,7 @@ pub(crate) fn push_counts(text: &mut String, world: &World) -> Result<(), AllocE
 }
 
 fn push_members(text: &mut String, world: &World) -> Result<(), AllocError>
-    ensures { OnOk result (Adds text.old text.new (fields_text ((codes "members", members_value world.now.rehearsal) ∷ []))) }
+    ensures { OnOk result (Adds text.old text.new (fields_text (members_fields world.now.rehearsal))) }
 {
     text.push_str(",\"members\":[")?;
     let n = world.group().n();
@@ -83,6 +84,7 @@ fn push_members(text: &mut String, world: &World) -> Result<(), AllocError>
     text.push_str("]")
 }
 
+#[tactic(auto, using(crate::proofs::Fields::pieces), unfolding(crate::specs::Json::member_value))]
 fn push_member(text: &mut String, world: &World, member: Member) -> Result<(), AllocError>
     requires { IsTrue (is_member world.now.rehearsal.setting.members member) }
     ensures { OnOk result (Adds text.old text.new (compact_text (member_value world.now.rehearsal member))) }
@@ -93,7 +95,7 @@ fn push_member(text: &mut String, world: &World, member: Member) -> Result<(), A
 }
 
 // What the member received, decided and delivered, and its table.
-#[tactic(auto, unfolding(json::proofs::OnLiterals::json_on_literals))]
+#[tactic(auto, using(crate::proofs::Fields::pieces), unfolding(crate::specs::Json::history_fields, json::proofs::OnLiterals::json_on_literals))]
 pub(crate) fn push_history(
     text: &mut String,
     world: &World,
@@ -142,7 +144,7 @@ pub(crate) fn push_messages_at(
     messages: &[Message],
 ) -> Result<(), AllocError>
     requires { IsPlain key.now }
-    ensures { OnOk result (Adds text.old text.new (fields_text ((key.now, messages_value messages.now) ∷ []))) }
+    ensures { OnOk result (Adds text.old text.new (fields_text (messages_at key.now messages.now))) }
 {
     write!(text, ",\"{key}\":")?;
     push_messages(text, messages)
@@ -167,8 +169,7 @@ pub(crate) fn push_messages(text: &mut String, messages: &[Message]) -> Result<(
 
 fn push_decisions(text: &mut String, world: &World, member: Member) -> Result<(), AllocError>
     requires { IsTrue (is_member world.now.rehearsal.setting.members member) }
-    ensures { OnOk result (Adds text.old text.new
-        (fields_text ((codes "decided", decisions_value (member_of world.now.rehearsal member).got) ∷ []))) }
+    ensures { OnOk result (Adds text.old text.new (fields_text (decisions_fields (member_of world.now.rehearsal member).got))) }
 {
     text.push_str(",\"decided\":[")?;
     let last = world.last_decided(member).unwrap_or(0);
@@ -196,7 +197,7 @@ fn push_decision(
 }
 
 fn push_table(text: &mut String, table: &Table) -> Result<(), AllocError>
-    ensures { OnOk result (Adds text.old text.new (fields_text ((codes "table", table_value table.now) ∷ []))) }
+    ensures { OnOk result (Adds text.old text.new (fields_text (table_fields table.now))) }
 {
     text.push_str(",\"table\":[")?;
     let mut later = false;

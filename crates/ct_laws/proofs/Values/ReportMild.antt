@@ -28,10 +28,10 @@ use Rattle.ct_records.specs.Replay.{IsAllowed}
 use Rattle.ct_table.specs.Table.{applied, applied_all, table, zeros}
 use Rattle.ct_world.specs.Decided.{last_decided}
 use Rattle.ct_world.specs.Replay.{AllowsFirst, first_steps}
-use Rattle.ct_json.specs.Fields.{Field, items_of}
-use Rattle.ct_json.specs.Json.{counts_fields, decision_value, decision_values, decisions_value, group_fields, history_fields}
-use Rattle.ct_json.specs.Json.{member_value, members_value, message_value, messages_value, register_value, report_value}
-use Rattle.ct_json.specs.Json.{standing_fields, table_value}
+use Rattle.ct_json.specs.Fields.{items_of}
+use Rattle.ct_json.specs.Json.{counts_fields, decision_value, decision_values, decisions_fields, group_fields, history_fields}
+use Rattle.ct_json.specs.Json.{member_value, members_fields, message_value, messages_at, messages_value, register_value, report_value}
+use Rattle.ct_json.specs.Json.{standing_fields, table_fields}
 use Rattle.ct_laws.specs.Fitting.{IsFitting}
 use Rattle.ct_laws.proofs.Values.Bounded.{IsSmall, SmallWire, bounded_first}
 use Rattle.ct_laws.proofs.Values.Mild.{AreMild, Each, IsMild, ItemsAreMild, both_mild, each_any, each_counted, mild_by, mild_flat}
@@ -96,12 +96,13 @@ decided_mild k at None h = tt
 decided_mild k at (Some v) h = let low = h v refl in ((omega arith, (messages_mild k v, tt)), tt)
 
 decisions_mild : (k : ℕ) (got : List Wire) → ((at r : ℕ) (v : Value) → IsIn (Dec at r v) got → at ≤ MAX_INSTANCES) →
-    IsMild (suc (suc (suc k))) (decisions_value got)
-unfolding decisions_value
+    AreMild (suc (suc (suc k))) (decisions_fields got)
+unfolding decisions_fields
 decisions_mild k got h =
     let ks = counting 1 (unwrap_or (last_decided got) 0) in
-    mild_flat (suc (suc k)) (λ at. ⊤) (decision_values got) ks (each_any ks)
-    (λ at t. decided_mild k at (decided got at) (λ v e. let d = decided-got got at v e in h at d.round v d.is_in))
+    let each = mild_flat (suc (suc k)) (λ at. ⊤) (decision_values got) ks (each_any ks)
+    (λ at t. decided_mild k at (decided got at) (λ v e. let d = decided-got got at v e in h at d.round v d.is_in)) in
+    (each, tt)
 
 -- each register holds a word
 abbrev AreWords : List ℕ → Type 0
@@ -134,11 +135,12 @@ all_applied_words values (m ∷ messages) h fits =
     all_applied_words (applied values m.command) messages (applied_words values m.command h (fits m (inl refl))) (λ x i. fits x (inr i))
 
 table_mild : (k : ℕ) (messages : List Message) → ((m : Message) → IsIn m messages → CommandFits m.command) →
-    IsMild (suc k) (table_value (table messages))
-unfolding table_value
+    AreMild (suc k) (table_fields (table messages))
+unfolding table_fields
 table_mild k messages fits =
-    mild_by k (λ r. ⊤) (register_value (table messages)) (counting 0 REGISTERS) (each_any (counting 0 REGISTERS))
-    (λ r t. index_word (table messages) r (all_applied_words zeros messages (zeros_words 16) fits))
+    let each = mild_by k (λ r. ⊤) (register_value (table messages)) (counting 0 REGISTERS) (each_any (counting 0 REGISTERS))
+    (λ r t. index_word (table messages) r (all_applied_words zeros messages (zeros_words 16) fits)) in
+    (each, tt)
 
 -- ---- a member, and the whole
 
@@ -151,19 +153,18 @@ module _ (w : Rehearsal) (h : IsSized w) where
   got_small p is x i = h.small.wires x (facts.got p is x i)
 
   pub history_mild : (k p : ℕ) → IsMember w.setting.members p → AreMild (suc (suc (suc k))) (history_fields w p)
-  unfolding history_fields
+  unfolding history_fields messages_at
   history_mild k p is =
       let safe = safe-run w.setting w.steps (state_of w) h.law.runs in
       let fits : (m : Message) → IsIn m (delivered_by (state_of w) p) → CommandFits m.command =
-      λ m i. h.small.submitted m (safe.submitted p m is i) in (
+      λ m i. h.small.submitted m (safe.submitted p m is i) in
+      let got = (member (state_of w) p).got in
+      let delivered = delivered_by (state_of w) p in
+      let last = messages_at (codes "delivered") delivered ++ table_fields (table delivered) in (
         messages_mild (suc (suc k)) (received_by (state_of w) p),
-        (
-          decisions_mild k (member (state_of w) p).got (λ at r v i. (got_small p is (Dec at r v) i).0),
-          (
-            messages_mild (suc (suc k)) (delivered_by (state_of w) p),
-            (table_mild (suc (suc k)) (delivered_by (state_of w) p) fits, tt),
-          ),
-        ),
+        both_mild (suc (suc (suc k))) (decisions_fields got) last
+            (decisions_mild k got (λ at r v i. (got_small p is (Dec at r v) i).0))
+            (messages_mild (suc (suc k)) delivered, table_mild (suc (suc k)) delivered fits),
       )
 
   pub standing_mild : (k p : ℕ) → IsMember w.setting.members p → AreMild k (standing_fields w p)
@@ -201,9 +202,8 @@ module _ (w : Rehearsal) (h : IsSized w) where
   each_member = each_counted 1 w.setting.members w.setting.members (omega arith)
 
   pub report_mild : IsMild 127 (report_value w)
-  unfolding report_value members_value
+  unfolding report_value members_fields
   report_mild =
-      let last : List Field = (codes "members", members_value w) ∷ [] in
-      both_mild 126 (group_fields w) (counts_fields w ++ last) (group_mild 126)
-      (both_mild 126 (counts_fields w) last (counts_mild 126)
+      both_mild 126 (group_fields w) (counts_fields w ++ members_fields w) (group_mild 126)
+      (both_mild 126 (counts_fields w) (members_fields w) (counts_mild 126)
       (mild_by 125 (IsMember w.setting.members) (member_value w) (members w.setting.members) each_member (member_mild 121), tt))

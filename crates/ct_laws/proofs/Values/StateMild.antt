@@ -42,13 +42,13 @@ use Rattle.ct_world.specs.World.{if_member, member_of}
 use Rattle.ct_text.specs.Standing.{coordinator_of, round_of}
 use Rattle.ct_show.specs.State.{first_choices, first_receipt, own_steps, told_refusal}
 use Rattle.ct_json.specs.Fields.{Field, items_of}
-use Rattle.ct_json.specs.Json.{counts_fields, group_fields, history_fields, standing_fields}
-use Rattle.ct_json.specs.JsonEnvelopes.{envelope_by, estimate_field, estimate_fields, letter_fields, sender_fields, sent_fields}
+use Rattle.ct_json.specs.Json.{counts_fields, group_fields, history_fields, messages_at, standing_fields}
+use Rattle.ct_json.specs.JsonEnvelopes.{carried_fields, envelope_by, estimate_field, estimate_fields, letter_fields, sender_fields}
 use Rattle.ct_json.specs.JsonEnvelopes.{vote_fields, wire_fields}
-use Rattle.ct_json.specs.JsonParts.{heard_field, heard_if, heard_value, heard_values, led_fields, part_fields, phase_fields, place_fields}
+use Rattle.ct_json.specs.JsonParts.{heard_fields, heard_if, heard_value, heard_values, led_fields, part_fields, phase_fields, place_fields}
 use Rattle.ct_json.specs.JsonParts.{replies_fields, set_field, set_value, set_values, votes_fields}
-use Rattle.ct_json.specs.JsonState.{chances_fields, enabled_field, enabled_values, member_value, next_field, next_steps, refusal_value}
-use Rattle.ct_json.specs.JsonState.{refusal_values, refused_field, state_values, steps_fields, waiting_field, waiting_value, whole_value}
+use Rattle.ct_json.specs.JsonState.{chances_fields, enabled_fields, enabled_values, member_value, next_fields, next_steps, refusal_value}
+use Rattle.ct_json.specs.JsonState.{refusal_values, refused_fields, state_values, steps_fields, waiting_fields, waiting_value, whole_value}
 use Rattle.ct_laws.proofs.Values.Bounded.{SmallWire}
 use Rattle.ct_laws.proofs.Values.Mild.{AreMild, Each, IsMild, ItemsAreMild, both_mild, each_both, each_counted, each_from, each_map}
 use Rattle.ct_laws.proofs.Values.Mild.{each_one, mild_by, mild_flat}
@@ -58,7 +58,7 @@ use Rattle.ct_laws.proofs.Values.ReportMild.{standing_mild}
 -- ---- envelopes
 
 estimate_mild : (k : ℕ) (v : Value) (ts : ℕ) → ts ≤ MAX_ROUNDS → AreMild (suc k) (estimate_fields v ts)
-unfolding estimate_fields
+unfolding estimate_fields messages_at
 estimate_mild k v ts low = (messages_mild k v, (omega arith, tt))
 
 pub estimate_field_mild : (k : ℕ) (o : Option (Value × ℕ)) → ((x : Value × ℕ) → o ≡ Some x → x.1 ≤ MAX_ROUNDS) →
@@ -68,7 +68,7 @@ estimate_field_mild k None h = tt
 estimate_field_mild k (Some x) h = (estimate_mild k x.0 x.1 (h x refl), tt)
 
 wire_mild : (k n : ℕ) (x : Wire) (v : Value) → n ≤ 16 → SmallWire n x → AreMild (suc k) (wire_fields (wire_map (λ _. tt) x) v)
-unfolding wire_fields vote_fields
+unfolding wire_fields vote_fields messages_at
 wire_mild k n (Message m) v few h = (tt, (tt, tt))
 wire_mild k n (Est at r p u ts) v few h =
     let instance : at ≤ MAX_INSTANCES = h.0 in
@@ -282,12 +282,12 @@ module _ (w : Rehearsal) (h : IsSized w) where
       omega (arith, few)
 
   votes_mild : (k p : ℕ) → AreMild (suc (suc (suc k))) (votes_fields w p)
-  unfolding votes_fields heard_field
+  unfolding votes_fields heard_fields
   votes_mild k p =
       let deep = suc (suc (suc k)) in
       let heard = mild_flat (suc (suc k)) (IsMember n) (heard_values w p) (members n) (each_member w h)
       (λ q is. let low : q ≤ n = is.1 in heard_mild k q (if_member w p (heard_by (member_of w p) q)) (omega (arith, few)) (heard_low p q)) in
-      both_mild deep (estimate_field (if_member w p (estimate_by (member_of w p)))) (heard_field w p ∷ replies_fields w p)
+      both_mild deep (estimate_field (if_member w p (estimate_by (member_of w p)))) (heard_fields w p ++ replies_fields w p)
       (estimate_field_mild (suc k) (if_member w p (estimate_by (member_of w p))) (own_low p)) (heard, replies_mild (suc (suc k)) w p)
 
   place_mild : (k p : ℕ) (o : Option (ℕ × Phase)) → ((r : ℕ × Phase) → o ≡ Some r → r.0 ≤ MAX_ROUNDS) →
@@ -316,10 +316,10 @@ module _ (w : Rehearsal) (h : IsSized w) where
 
   pub envelope_mild : (k : ℕ) (sender : Option ℕ) (s : ℕ) → s < 2 ^ 64 → ((p : ℕ) → sender ≡ Some p → p ≤ 16) →
       IsMild (suc (suc k)) (envelope_by sender w s)
-  unfolding envelope_by sent_fields
+  unfolding envelope_by carried_fields
   envelope_mild k sender s low from = (
     low,
-    both_mild (suc k) (sent_fields w s) (sender_fields sender)
+    both_mild (suc k) (carried_fields w s) (sender_fields sender)
         (letter_mild k n (at_serial (state_of w).sent s) _ few (sent_small s)) (sender_mild (suc k) sender from),
   )
 
@@ -338,20 +338,21 @@ module _ (w : Rehearsal) (h : IsSized w) where
       let low : p ≤ n = is.1 in
       omega (arith, few)
 
-  waiting_mild : (k p : ℕ) → IsMild (suc (suc (suc k))) (waiting_field w (senders w.setting w.steps) (line_of w p)).1
-  unfolding waiting_field
+  waiting_mild : (k p : ℕ) → AreMild (suc (suc (suc k))) (waiting_fields w (senders w.setting w.steps) (line_of w p))
+  unfolding waiting_fields
   waiting_mild k p =
       let from = senders w.setting w.steps in
-      mild_by (suc (suc k)) (λ s. s ≤ MAX_ENVELOPES) (waiting_value w from) (line_of w p)
+      let each = mild_by (suc (suc k)) (λ s. s ≤ MAX_ENVELOPES) (waiting_value w from) (line_of w p)
       (each_from (λ s. s ≤ MAX_ENVELOPES) (line_of w p) (line_low p))
-      (λ s low. envelope_mild k (at_serial from s) s (omega arith) (sender_low s))
+      (λ s low. envelope_mild k (at_serial from s) s (omega arith) (sender_low s)) in
+      (each, tt)
 
   module _ (p : ℕ) (is : IsMember w.setting.members p) where
     low : p ≤ 255
     low = let up : p ≤ n = is.1 in omega (arith, few)
 
     steps_mild : (k : ℕ) → AreMild (suc (suc (suc (suc k)))) (steps_fields w p)
-    unfolding steps_fields enabled_field refused_field
+    unfolding steps_fields enabled_fields refused_fields
     steps_mild k =
         let all = own_steps p (first_choices p n) in
         let one = own_steps p (Choose p p ∷ []) in
@@ -407,18 +408,19 @@ module _ (w : Rehearsal) (h : IsSized w) where
     receipt_fit [] small s e = absurd (cc)
     receipt_fit (k ∷ line) small s e = receipt_if k (is_none (cause w (Receive p k))) s (small k (inl refl)) e
 
-    next_mild : (k : ℕ) → IsMild (suc (suc (suc k))) (next_field w p).1
-    unfolding next_field
+    next_mild : (k : ℕ) → AreMild (suc (suc (suc k))) (next_fields w p)
+    unfolding next_fields
     next_mild k =
-        mild_by (suc (suc k)) StepFits step_data (next_steps (next_local w p) (first_receipt w p (line_of w p)))
-        (next_fit (next_local w p) (first_receipt w p (line_of w p)) local_fit (receipt_fit (line_of w p) (line_low p))) (step_mild k)
+        let each = mild_by (suc (suc k)) StepFits step_data (next_steps (next_local w p) (first_receipt w p (line_of w p)))
+        (next_fit (next_local w p) (first_receipt w p (line_of w p)) local_fit (receipt_fit (line_of w p) (line_low p))) (step_mild k) in
+        (each, tt)
 
     chances_mild : (k : ℕ) → AreMild (suc (suc (suc (suc k)))) (chances_fields w (senders w.setting w.steps) p)
     unfolding chances_fields
-    chances_mild k = (
-      waiting_mild (suc k) p,
-      both_mild (suc (suc (suc (suc k)))) (steps_fields w p) (next_field w p ∷ []) (steps_mild k) (next_mild (suc k), tt),
-    )
+    chances_mild k =
+        let deep = suc (suc (suc (suc k))) in
+        both_mild deep (waiting_fields w (senders w.setting w.steps) (line_of w p)) (steps_fields w p ++ next_fields w p)
+        (waiting_mild (suc k) p) (both_mild deep (steps_fields w p) (next_fields w p) (steps_mild k) (next_mild (suc k)))
 
     member_mild : IsMild 127 (member_value w (senders w.setting w.steps) p)
     unfolding member_value

@@ -4,13 +4,12 @@ use Rattle.std.proofs.Common.{None, length, refl, sym, subst, arith}
 use Rattle.std.proofs.lemmas.List.{length-take-le}
 use Rattle.std.specs.Option.{option_map_or}
 use Rattle.std.specs.Prelude.{◌==◌, if◌then◌else◌, option_map, slice_get}
-use Rattle.serde_json.specs.Data.{Data, string}
+use Rattle.serde_json.specs.Data.{Data}
 use Rattle.ct_names.specs.declared.limit.TheConstants.{MAX_ENVELOPES, MAX_INSTANCES, MAX_ROUNDS}
 use Rattle.ct_names.specs.declared.refusal.Refusal.{Refusal}
 use Rattle.ct_names.specs.declared.refusal.Refusal.TheVariants.{NotWaiting}
 use Rattle.ct_names.specs.Group.{counting, is_member}
 use Rattle.ct_names.specs.Membership.{IsIn}
-use Rattle.ct_names.specs.RefusalText.{refusal_text}
 use Rattle.ct_names.specs.Value.{Value}
 use Rattle.ct_names.proofs.Groups.{counting-range}
 use Rattle.ct_model.specs.Actor.{actor}
@@ -32,13 +31,12 @@ use Rattle.ct_text.specs.Standing.{instance_of}
 use Rattle.ct_show.specs.Facts.{last_taking, returns, taking_or, takes}
 use Rattle.ct_views.specs.declared.selection.Selection.{Selection}
 use Rattle.ct_views.specs.Selected.{is_selected}
-use Rattle.ct_json.specs.Fields.{Field}
-use Rattle.ct_json.specs.Json.{messages_value}
-use Rattle.ct_json.specs.JsonEnvelopes.{envelope_value, estimate_field, sent_field}
+use Rattle.ct_json.specs.Json.{messages_at}
+use Rattle.ct_json.specs.JsonEnvelopes.{envelope_value, estimate_field, sent_fields}
 use Rattle.ct_json.specs.JsonParts.{replies_fields}
 use Rattle.ct_json.specs.JsonSteps.{argument_fields, batch, concluded_fields, decided_fields, delivered_fields, estimated_fields}
-use Rattle.ct_json.specs.JsonSteps.{facts_fields, head_fields, held, leaving_fields, left_fields, letter_facts, member_facts, message_fields}
-use Rattle.ct_json.specs.JsonSteps.{message_in, missing_fields, outcome_fields, proposal_fields, refused_value, round_fields, valued_fields}
+use Rattle.ct_json.specs.JsonSteps.{facts_fields, head_fields, held, instance_fields, leaving_fields, left_fields, letter_facts, member_facts, message_fields}
+use Rattle.ct_json.specs.JsonSteps.{message_in, missing_fields, outcome_fields, proposal_fields, refusal_fields, refused_value, round_fields, valued_fields}
 use Rattle.ct_json.specs.JsonSteps.{value_in}
 use Rattle.ct_laws.specs.Fitting.{IsFitting}
 use Rattle.ct_laws.specs.JsonSteps.{asked_values, refused_values, shown_values, step_value, steps_values}
@@ -65,6 +63,7 @@ unfolding head_fields
 head_mild k number step low fits = let p = actor_low step fits in (low, (omega arith, (tt, tt)))
 
 valued_mild : (k : ℕ) (key : List ℕ) (at : ℕ) (v : Value) → at ≤ MAX_INSTANCES → AreMild (suc k) (valued_fields key at v)
+unfolding instance_fields messages_at
 valued_mild k key at v low = (omega arith, (messages_mild k v, tt))
 
 wire_mild : (k : ℕ) (x : Wire) → AreMild k (message_fields (wire_map (λ _. tt) x))
@@ -125,7 +124,8 @@ module _ (w : Rehearsal) (h : IsSized w) where
   estimated_mild k p o low =
       both_mild (suc (suc k)) (round_fields w p) (estimate_field o) (round_mild (suc (suc k)) p) (estimate_field_mild k o low)
 
-  decided_in : (k p : ℕ) (b : Bool) → AreMild (suc k) (if b then [] else ((codes "decided", messages_value (held w p)) ∷ []))
+  decided_in : (k p : ℕ) (b : Bool) → AreMild (suc k) (if b then [] else messages_at (codes "decided") (held w p))
+  unfolding messages_at
   decided_in k p true = tt
   decided_in k p false = (messages_mild k (held w p), tt)
 
@@ -170,12 +170,13 @@ module _ (w : Rehearsal) (h : IsSized w) where
   argument_mild k (Repeat p s) fits = (letter_mild k s fits.1, tt)
   argument_mild k _ fits = tt
 
-  sent_mild : (k before : ℕ) → IsMild (suc (suc (suc k))) (sent_field w before).1
-  unfolding sent_field
+  sent_mild : (k before : ℕ) → AreMild (suc (suc (suc k))) (sent_fields w before)
+  unfolding sent_fields
   sent_mild k before =
       let ks = counting (before + 1) (length (state_of w).sent - before) in
-      mild_by (suc (suc k)) (λ s. s ≤ MAX_ENVELOPES) (envelope_value w) ks (each_from (λ s. s ≤ MAX_ENVELOPES) ks serial_low)
-      (λ s low. letter_mild k s (omega arith))
+      let each = mild_by (suc (suc k)) (λ s. s ≤ MAX_ENVELOPES) (envelope_value w) ks (each_from (λ s. s ≤ MAX_ENVELOPES) ks serial_low)
+      (λ s low. letter_mild k s (omega arith)) in
+      (each, tt)
     where
       serial_low : (s : ℕ) → IsIn s (counting (before + 1) (length (state_of w).sent - before)) → s ≤ MAX_ENVELOPES
       serial_low s i =
@@ -188,11 +189,10 @@ module _ (w : Rehearsal) (h : IsSized w) where
   line_mild : (before number : ℕ) (step : Step) → number < 2 ^ 64 → StepFits step → IsMild 127 (value_in w before number step)
   unfolding value_in
   line_mild before number step low fits =
-      let sent : List Field = sent_field w before ∷ [] in
-      let later = outcome_fields w before step ++ sent in
+      let later = outcome_fields w before step ++ sent_fields w before in
       both_mild 126 (head_fields number step) (argument_fields w step ++ later) (head_mild 126 number step low fits)
       (both_mild 126 (argument_fields w step) later (argument_mild 124 step fits)
-      (both_mild 126 (outcome_fields w before step) sent (outcome_mild 124 before step) (sent_mild 123 before, tt)))
+      (both_mild 126 (outcome_fields w before step) (sent_fields w before) (outcome_mild 124 before step) (sent_mild 123 before)))
 
   -- ---- a refused step
 
@@ -216,7 +216,7 @@ module _ (w : Rehearsal) (h : IsSized w) where
   letter_facts_mild k s (Some e) refusal = leaving_mild k s refusal
 
   member_facts_mild : (k p : ℕ) → AreMild (suc (suc (suc k))) (member_facts w p)
-  unfolding member_facts
+  unfolding member_facts instance_fields
   member_facts_mild k p = let at = instance_low p in (omega arith, part_mild w h k p)
 
   facts_mild : (k : ℕ) (step : Step) (refusal : Refusal) → AreMild (suc (suc (suc k))) (facts_fields w step refusal)
@@ -229,9 +229,9 @@ module _ (w : Rehearsal) (h : IsSized w) where
 
   refused_mild : (number : ℕ) (step : Step) (refusal : Refusal) → number < 2 ^ 64 → StepFits step →
       IsMild 127 (refused_value w number step refusal)
-  unfolding refused_value
+  unfolding refused_value refusal_fields
   refused_mild number step refusal low fits =
-      let facts : List Field = (codes "refusal", string (refusal_text refusal)) ∷ facts_fields w step refusal in
+      let facts = refusal_fields refusal ++ facts_fields w step refusal in
       both_mild 126 (head_fields number step) (argument_fields w step ++ facts) (head_mild 126 number step low fits)
       (both_mild 126 (argument_fields w step) facts (argument_mild 124 step fits) (tt, facts_mild 123 step refusal))
 

@@ -4,7 +4,7 @@ use Rattle.json.proofs.OnLiterals.{json_on_literals}
 use Rattle.ct_records.specs.Values.{num}
 use Rattle.ct_text.proofs.Pushed.{pushed_value}
 use Rattle.ct_json.specs.Fields.{Field}
-use Rattle.ct_json.specs.JsonEnvelopes.{envelope_by, sender_fields, sent_fields}
+use Rattle.ct_json.specs.JsonEnvelopes.{envelope_by, sender_fields, carried_fields}
 use Rattle.ct_json.proofs.Fields.{then_closed, then_fields, then_opened}
 use Rattle.ct_json.proofs.json_envelopes.push_envelope.Goals as goal
 
@@ -14,9 +14,9 @@ returns c =
     let k = c.args.serial in
     let old = string_bytes c.args.text.now in
     let serial : List Field = (codes "serial", num k) ∷ [] in
-    let sent = sent_fields c.args.world.now.rehearsal k in
+    let carried = carried_fields c.args.world.now.rehearsal k in
     let sender = sender_fields c.args.sender in
-    then_closed c.push_str.result (serial ++ (sent ++ sender)) old _ _
-    (then_opened serial (sent ++ sender) old _ _ refl
+    then_closed c.push_str.result (serial ++ (carried ++ sender)) old _ _
+    (then_opened serial (carried ++ sender) old _ _ refl
     (pushed_value (codes "{\"serial\":") (decimal k) old _ c.in_ok-write.ensures.bytes)
-    (then_fields sent sender _ _ _ c.in_ok-push_sent.ensures c.in_ok-push_sender.ensures)) c.push_str.ensures.bytes
+    (then_fields carried sender _ _ _ c.in_ok-push_carried.ensures c.in_ok-push_sender.ensures)) c.push_str.ensures.bytes

@@ -3,13 +3,13 @@ use Rattle.std.specs.Prelude.{[], ◌∷◌, ◌++◌, codes, decimal, string_by
 use Rattle.json.proofs.OnLiterals.{json_on_literals}
 use Rattle.serde_json.specs.Written.{compact_text}
 use Rattle.ct_text.proofs.Pushed.{pushed_last, pushed_more}
-use Rattle.ct_json.specs.Json.{messages_value}
+use Rattle.ct_json.specs.Json.{messages_at, messages_value}
 use Rattle.ct_json.specs.JsonEnvelopes.{estimate_field, estimate_fields}
 use Rattle.ct_json.proofs.Fields.{then_same}
 use Rattle.ct_json.proofs.json_envelopes.push_estimate_at.Goals as goal
 
 pub returns-in_ok-push_messages-in-Some : goal.returns-in_ok-push_messages-in-Some
-unfolding estimate_field estimate_fields json_on_literals
+unfolding estimate_field estimate_fields messages_at json_on_literals
 returns-in_ok-push_messages-in-Some c =
     let old = string_bytes c.args.text.now in
     let head = codes ",\"estimate\":{\"value\":" in

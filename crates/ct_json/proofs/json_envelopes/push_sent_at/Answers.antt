@@ -3,12 +3,12 @@ use Rattle.std.specs.Prelude.{codes, string_bytes}
 use Rattle.json.proofs.OnLiterals.{json_on_literals}
 use Rattle.ct_names.specs.Group.{counting}
 use Rattle.ct_model.specs.Rehearsal.{state_of}
-use Rattle.ct_json.specs.JsonEnvelopes.{envelope_value, sent_field}
+use Rattle.ct_json.specs.JsonEnvelopes.{envelope_value, sent_fields}
 use Rattle.ct_json.proofs.Left.{counting_next, counting_none, field_left, left_none, map_one}
 use Rattle.ct_json.proofs.json_envelopes.push_sent_at.Goals as goal
 
 pub loop-i-init : goal.loop-i-init
-unfolding sent_field json_on_literals
+unfolding sent_fields json_on_literals
 loop-i-init c =
     let w = c.args.world.now.rehearsal in
     let before = c.args.before in

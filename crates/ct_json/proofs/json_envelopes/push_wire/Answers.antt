@@ -3,7 +3,7 @@ use Rattle.std.specs.Prelude.{List, [], ◌∷◌, ◌++◌, codes, string_bytes
 use Rattle.json.proofs.OnLiterals.{json_on_literals}
 use Rattle.ct_records.specs.Values.{num}
 use Rattle.ct_json.specs.Fields.{Field}
-use Rattle.ct_json.specs.Json.{messages_value}
+use Rattle.ct_json.specs.Json.{messages_at}
 use Rattle.ct_json.specs.JsonEnvelopes.{estimate_fields, vote_fields, wire_fields}
 use Rattle.ct_json.proofs.Fields.{then_last}
 use Rattle.ct_json.proofs.json_envelopes.push_wire.Goals as goal
@@ -20,9 +20,17 @@ pub returns-in_ok-write-in-Prop : goal.returns-in_ok-write-in-Prop
 unfolding wire_fields vote_fields json_on_literals
 returns-in_ok-write-in-Prop c =
     let e = c.in-Prop in
-    let value : List Field = (codes "value", messages_value c.args.value.now) ∷ [] in
+    let value = messages_at (codes "value") c.args.value.now in
     rw e.is (then_last c.push_messages_at.result (vote_fields (codes "Prop") e.instance e.round) value (string_bytes c.args.text.now) _ _
     (rw append-nil c.in_ok-write-in-Prop.ensures.bytes) c.push_messages_at.ensures)
+
+pub returns-in_ok-write-in-Dec : goal.returns-in_ok-write-in-Dec
+unfolding wire_fields vote_fields json_on_literals
+returns-in_ok-write-in-Dec c =
+    let e = c.in-Dec in
+    let value = messages_at (codes "value") c.args.value.now in
+    rw e.is (then_last c.push_messages_at-in-Dec.result (vote_fields (codes "Dec") e.instance e.round) value (string_bytes c.args.text.now) _ _
+    (rw append-nil c.in_ok-write-in-Dec.ensures.bytes) c.push_messages_at-in-Dec.ensures)
 
 pub returns-in-Ack : goal.returns-in-Ack
 unfolding wire_fields vote_fields json_on_literals

@@ -5,7 +5,7 @@ use Rattle.ct_names.specs.declared.command.Command.TheVariants.{Set}
 use Rattle.ct_model.specs.declared.step.Step.{Step}
 use Rattle.ct_model.specs.declared.step.Step.TheVariants.{Submit}
 use Rattle.ct_records.specs.Values.{step_data}
-use Rattle.ct_json.specs.JsonState.{enabled_field, enabled_values}
+use Rattle.ct_json.specs.JsonState.{enabled_fields, enabled_values}
 use Rattle.ct_json.proofs.Left.{drop_none, drop_or, field_left, flat_none, flat_one, left_none}
 use Rattle.ct_json.proofs.Texts.{step_same}
 use Rattle.ct_json.proofs.json_state.push_enabled.Goals as goal
@@ -16,7 +16,7 @@ abbrev no_step : Step
 no_step = Submit 0 (Set 0 0)
 
 pub loop-step-init : goal.loop-step-init
-unfolding enabled_field json_on_literals
+unfolding enabled_fields json_on_literals
 loop-step-init c =
     field_left (codes "enabled") (codes ",\"enabled\":[") _ (flat_map (enabled_values c.args.world.now.rehearsal) c.args.steps.now)
     (string_bytes c.args.text.now) _ refl c.in_ok-push_str.ensures.bytes refl

@@ -6,13 +6,13 @@ use Rattle.ct_records.specs.Values.{step_data}
 use Rattle.ct_show.specs.State.{next_between}
 use Rattle.ct_text.proofs.Pushed.{pushed_more, pushed_str}
 use Rattle.ct_json.specs.Fields.{array_by}
-use Rattle.ct_json.specs.JsonState.{next_field, next_steps}
+use Rattle.ct_json.specs.JsonState.{next_fields, next_steps}
 use Rattle.ct_json.proofs.Fields.{then_same}
 use Rattle.ct_json.proofs.Texts.{next_same}
 use Rattle.ct_json.proofs.json_state.push_next.Goals as goal
 
 pub returns : goal.returns
-unfolding next_field json_on_literals
+unfolding next_fields json_on_literals
 returns c =
     let own = c.next_local.result in
     let receipt = c.first_receipt.result in

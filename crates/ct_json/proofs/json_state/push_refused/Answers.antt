@@ -4,7 +4,7 @@ use Rattle.json.proofs.OnLiterals.{json_on_literals}
 use Rattle.ct_names.specs.declared.command.Command.TheVariants.{Set}
 use Rattle.ct_model.specs.declared.step.Step.{Step}
 use Rattle.ct_model.specs.declared.step.Step.TheVariants.{Submit}
-use Rattle.ct_json.specs.JsonState.{refusal_value, refusal_values, refused_field}
+use Rattle.ct_json.specs.JsonState.{refusal_value, refusal_values, refused_fields}
 use Rattle.ct_json.proofs.Left.{drop_none, drop_or, field_left, flat_none, flat_one, left_none}
 use Rattle.ct_json.proofs.json_state.push_refused.Goals as goal
 use Rattle.ct_json.proofs.json_state.push_refused.Goals.{in-Some+in_ok-push_separator+in_ok-push_refusal, in_default}
@@ -14,7 +14,7 @@ abbrev no_step : Step
 no_step = Submit 0 (Set 0 0)
 
 pub loop-step-init : goal.loop-step-init
-unfolding refused_field json_on_literals
+unfolding refused_fields json_on_literals
 loop-step-init c =
     field_left (codes "refused") (codes ",\"refused\":[") _ (flat_map (refusal_values c.args.world.now.rehearsal) c.args.steps.now)
     (string_bytes c.args.text.now) _ refl c.in_ok-push_str.ensures.bytes refl

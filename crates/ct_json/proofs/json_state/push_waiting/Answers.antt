@@ -3,12 +3,12 @@ use Rattle.std.specs.Prelude.{codes, string_bytes}
 use Rattle.json.proofs.OnLiterals.{json_on_literals}
 use Rattle.serde_json.specs.Written.{compact_text}
 use Rattle.ct_json.specs.JsonEnvelopes.{envelope_by}
-use Rattle.ct_json.specs.JsonState.{waiting_field, waiting_value}
+use Rattle.ct_json.specs.JsonState.{waiting_fields, waiting_value}
 use Rattle.ct_json.proofs.Left.{drop_none, drop_or, field_left, left_none, map_one}
 use Rattle.ct_json.proofs.json_state.push_waiting.Goals as goal
 
 pub loop-i-init : goal.loop-i-init
-unfolding waiting_field json_on_literals
+unfolding waiting_fields json_on_literals
 loop-i-init c =
     field_left (codes "waiting") (codes ",\"waiting\":[") _
     (map (waiting_value c.args.world.now.rehearsal c.args.senders.now) c.args.line.now) (string_bytes c.args.text.now) _ refl

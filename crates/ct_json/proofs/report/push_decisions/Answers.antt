@@ -6,13 +6,13 @@ use Rattle.ct_names.specs.Group.{counting}
 use Rattle.ct_world.specs.Decided.{last_decided}
 use Rattle.ct_world.specs.World.{member_of}
 use Rattle.ct_text.proofs.Found.{told_of}
-use Rattle.ct_json.specs.Json.{decision_values, decisions_value}
+use Rattle.ct_json.specs.Json.{decision_values, decisions_fields}
 use Rattle.ct_json.proofs.Left.{counting_all, counting_next, counting_none, field_left, flat_none, flat_one, left_none}
 use Rattle.ct_json.proofs.report.push_decisions.Goals as goal
 use Rattle.ct_json.proofs.report.push_decisions.Goals.{in-Some+in_ok-push_separator+in_ok-push_decision, in_default}
 
 pub loop-i-init : goal.loop-i-init
-unfolding decisions_value json_on_literals
+unfolding decisions_fields json_on_literals
 loop-i-init c =
     let w = c.args.world.now.rehearsal in
     let got = (member_of w c.args.member).got in

@@ -2,12 +2,12 @@ use Rattle.std.proofs.Common.{◌+◌, ◌<◌, ◌≤◌, ap, arith, map, refl}
 use Rattle.std.specs.Prelude.{codes, string_bytes}
 use Rattle.json.proofs.OnLiterals.{json_on_literals}
 use Rattle.ct_names.specs.Group.{counting, members}
-use Rattle.ct_json.specs.Json.{member_value, members_value}
+use Rattle.ct_json.specs.Json.{member_value, members_fields}
 use Rattle.ct_json.proofs.Left.{counting_all, counting_next, counting_none, field_left, left_none, map_one}
 use Rattle.ct_json.proofs.report.push_members.Goals as goal
 
 pub loop-i-init : goal.loop-i-init
-unfolding members_value members json_on_literals
+unfolding members_fields members json_on_literals
 loop-i-init c =
     let w = c.args.world.now.rehearsal in
     field_left (codes "members") (codes ",\"members\":[") _ (map (member_value w) (counting 1 w.setting.members))

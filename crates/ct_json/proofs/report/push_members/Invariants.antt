@@ -2,7 +2,7 @@ use Rattle.std.proofs.Common.{◌+◌, ◌-◌, ◌++◌, ◌∷◌, [], map}
 use Rattle.std.specs.Prelude.{codes, string_bytes}
 use Rattle.ct_names.specs.Group.{counting}
 use Rattle.ct_json.specs.Fields.{fields_text}
-use Rattle.ct_json.specs.Json.{member_value, members_value}
+use Rattle.ct_json.specs.Json.{member_value, members_fields}
 use Rattle.ct_json.proofs.Left.{IsLeft}
 use Rattle.ct_json.proofs.report.push_members.Given as goal
 
@@ -10,4 +10,4 @@ abbrev pub invariant-loop-i : goal.invariant-loop-i
 invariant-loop-i l =
     let w = l.world.rehearsal in
     IsLeft (map (member_value w) (counting (l.i + 1) (w.setting.members - l.i))) l.later (string_bytes l.text)
-    (string_bytes l.fn.text ++ fields_text ((codes "members", members_value w) ∷ []))
+    (string_bytes l.fn.text ++ fields_text (members_fields w))

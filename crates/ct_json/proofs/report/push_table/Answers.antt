@@ -2,12 +2,12 @@ use Rattle.std.proofs.Common.{◌≤◌, ap, arith, map, refl}
 use Rattle.std.specs.Prelude.{codes, string_bytes}
 use Rattle.json.proofs.OnLiterals.{json_on_literals}
 use Rattle.ct_names.specs.Group.{counting}
-use Rattle.ct_json.specs.Json.{register_value, table_value}
+use Rattle.ct_json.specs.Json.{register_value, table_fields}
 use Rattle.ct_json.proofs.Left.{counting_next, counting_none, field_left, left_none, map_one}
 use Rattle.ct_json.proofs.report.push_table.Goals as goal
 
 pub loop-register-init : goal.loop-register-init
-unfolding table_value json_on_literals
+unfolding table_fields json_on_literals
 loop-register-init c =
     field_left (codes "table") (codes ",\"table\":[") _ (map (register_value c.args.table.now) (counting 0 16)) (string_bytes c.args.text.now)
     _ refl c.in_ok-push_str.ensures.bytes refl

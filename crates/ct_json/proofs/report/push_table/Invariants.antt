@@ -2,11 +2,11 @@ use Rattle.std.proofs.Common.{◌-◌, ◌++◌, ◌∷◌, [], map}
 use Rattle.std.specs.Prelude.{codes, string_bytes}
 use Rattle.ct_names.specs.Group.{counting}
 use Rattle.ct_json.specs.Fields.{fields_text}
-use Rattle.ct_json.specs.Json.{register_value, table_value}
+use Rattle.ct_json.specs.Json.{register_value, table_fields}
 use Rattle.ct_json.proofs.Left.{IsLeft}
 use Rattle.ct_json.proofs.report.push_table.Given as goal
 
 abbrev pub invariant-loop-register : goal.invariant-loop-register
 invariant-loop-register l =
     IsLeft (map (register_value l.table) (counting l.register (16 - l.register))) l.later (string_bytes l.text)
-    (string_bytes l.fn.text ++ fields_text ((codes "table", table_value l.table) ∷ []))
+    (string_bytes l.fn.text ++ fields_text (table_fields l.table))
