@@ -11,11 +11,11 @@ use Rattle.serde_json.specs.Data.{Members, no_members, object}
 use Rattle.ct_model.specs.declared.step.Step.{Step}
 use Rattle.ct_model.specs.Rehearsal.{Rehearsal}
 use Rattle.ct_records.specs.Fits.{AllFit}
-use Rattle.ct_scan.specs.Lexemes.{lexemes, number_lexeme, steps_lexemes, Begins, IsPlain}
-use Rattle.ct_scan.specs.Reading.{IsAscii, IsWhite, ReadsKey, ReadsMark, ReadsNumber}
-use Rattle.ct_scan.proofs.Lexemes.{closes, commas, object_ends, opens, opens_object}
-use Rattle.ct_scan.proofs.Reading.{lexed_then, mark_begins, split_then, white_first}
-use Rattle.ct_scan.proofs.Utf8.{ascii_valid}
+use Rattle.ct_records.specs.Lexemes.{lexemes, number_lexeme, steps_lexemes, Begins, IsPlain}
+use Rattle.ct_records.specs.Reading.{IsAscii, IsWhite, ReadsKey, ReadsMark, ReadsNumber}
+use Rattle.ct_records.proofs.Lexemes.{closes, commas, object_ends, opens, opens_object}
+use Rattle.ct_records.proofs.Fronts.{lexed_then, mark_begins, split_then, white_first}
+use Rattle.ct_records.proofs.Utf8.{ascii_valid}
 use Rattle.ct_records.specs.Script.{max_len, of_value, script}
 use Rattle.ct_records.specs.Values.{num}
 use Rattle.ct_records.proofs.Keys.{adds_steps}

@@ -1,3 +1,8 @@
+pub mod Names
+pub mod Lexemes
+pub mod Utf8
+pub mod Fronts
+pub mod Steps
 pub mod Entries
 pub mod Loops
 pub mod Whole
@@ -5,7 +10,6 @@ pub mod Refused
 pub mod Answered
 pub mod Fitting
 pub mod Lengths
-pub mod Names
 pub mod Stored
 pub mod Written
 pub mod Keys

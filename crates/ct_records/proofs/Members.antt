@@ -22,8 +22,8 @@ use Rattle.ct_model.specs.Rehearsal.{Rehearsal}
 use Rattle.ct_model.specs.StepText as steps
 use Rattle.ct_model.specs.StepText.{Rest, nothing, command, step_entry}
 use Rattle.ct_records.specs.Fits.{AllFit, IsStorable}
-use Rattle.ct_scan.specs.Lexemes.{lexemes, number_lexeme, entry_lexemes, rest_lexemes, steps_lexemes, Begins, IsPlain}
-use Rattle.ct_scan.proofs.Lexemes.{commas, opens_object}
+use Rattle.ct_records.specs.Lexemes.{lexemes, number_lexeme, entry_lexemes, rest_lexemes, steps_lexemes, Begins, IsPlain}
+use Rattle.ct_records.proofs.Lexemes.{commas, opens_object}
 use Rattle.ct_records.specs.Members.{Adds, Takes, Closes, SoFar, IsPast, IsBound, members_from}
 use Rattle.ct_records.specs.Script.{since, of_value, max_len, script}
 use Rattle.ct_records.specs.Values.{num, entry_data, rest_data, step_data, steps_data}

@@ -1,15 +1,139 @@
 -- Commands and steps by their names.
-use Rattle.std.proofs.Common.{◌≡◌, ℕ, ◌≤◌, List, Some, refl}
+use Rattle.std.proofs.Common.{◌≡◌, ℕ, ◌≤◌, Bool, true, false, List, [], ◌∷◌, ◌++◌, length, Option, Some, None, refl, sym, ap, arith}
+use Rattle.std.specs.Prelude.{map, option_and_then, if◌then◌else◌}
+use Rattle.std.specs.Str.{bytes_eq}
 use Rattle.std.proofs.lemmas.Bool.{leb-true}
+use Rattle.std.proofs.lemmas.Slice.Eq.{bytes_eq-Decides}
+use Rattle.json.specs.Print.{quoted}
 use Rattle.json.proofs.OnLiterals.{json_on_literals}
+use Rattle.json.proofs.Printed.Utf8.{are_ascii}
 use Rattle.ct_names.specs.declared.command.Command.{Command}
 use Rattle.ct_names.specs.declared.command.Command.TheVariants.{Set}
 use Rattle.ct_model.specs.declared.step.Step.{Step}
 use Rattle.ct_model.specs.declared.step.Step.TheVariants.{Submit}
-use Rattle.ct_model.specs.StepText.{Rest, nothing, number, command, amount, command_entry, step_entry}
-use Rattle.ct_scan.specs.Names.{named, commands, named_command, alone, with_number, with_command}
-use Rattle.ct_scan.proofs.Names.{command_has}
+use Rattle.ct_model.specs.StepText.{Number, Rest, nothing, number, command, Entry, amount, command_entry, step_entry}
+use Rattle.ct_records.specs.Names.{named, fits, rest_fits, commands, named_command, alone, with_number, with_command}
+use Rattle.ct_records.specs.Names.{short_step, numbered_step, commanded_step}
 use Rattle.ct_records.specs.Fits.{CommandFits}
+
+-- a name of eight letters at most, none of which is escaped
+pub record IsName (s : List ℕ) : Type 0 where
+  pub plain : quoted s ≡ 34 ∷ (s ++ 34 ∷ [])
+  pub ascii : are_ascii s ≡ true
+  pub short : length s ≤ 8
+
+-- the name, by its three facts
+abbrev IsNamed : List ℕ → Type 0
+IsNamed name = (quoted name ≡ 34 ∷ (name ++ 34 ∷ [])) × (are_ascii name ≡ true) × (length name ≤ 8)
+
+step_named : (s : Step) → IsNamed (step_entry s).name
+unfolding json_on_literals
+step_named (Submit p c) = (refl, refl, omega arith)
+step_named _ = (refl, refl, omega arith)
+
+command_named : (c : Command) → IsNamed (command_entry c).name
+unfolding json_on_literals
+command_named (Set register n) = (refl, refl, omega arith)
+command_named _ = (refl, refl, omega arith)
+
+pub step_name : (s : Step) → IsName (step_entry s).name
+step_name s = let h = step_named s in record { plain = h.0; ascii = h.1; short = h.2 }
+
+pub command_name : (c : Command) → IsName (command_entry c).name
+command_name c = let h = command_named c in record { plain = h.0; ascii = h.1; short = h.2 }
+
+-- ---- a table of names
+
+-- what a table gives by a name has that name, and a part that all its entries share
+named_has : {A B C : Type 0} (shown : A → Entry B) (part : A → C) (y : C) (name : List ℕ) (xs : List A) (x : A) →
+    map part xs ≡ map (λ _. y) xs → named shown name xs ≡ Some x → ((shown x).name ≡ name) × (part x ≡ y)
+named_has shown part y name [] x all e = absurd cc
+named_has {A} shown part y name (z ∷ zs) x all e = go (bytes_eq name (shown z).name) refl e (named_has shown part y name zs x (cc all))
+  where
+    go : (b : Bool) → bytes_eq name (shown z).name ≡ b → (if b then Some z else named shown name zs) ≡ Some x →
+        (named shown name zs ≡ Some x → ((shown x).name ≡ name) × (part x ≡ y)) → ((shown x).name ≡ name) × (part x ≡ y)
+    go true same is later =
+        let here : z ≡ x = cc is in
+        let shared : part z ≡ y = cc all in
+        rw (← here) (sym ((bytes_eq-Decides name (shown z).name).0 same), shared)
+    go false other is later = later is
+
+-- the number that is tested is the one that passes
+if_fits : {A : Type 0} (b : Bool) (x y : A) → (if b then Some x else None) ≡ Some y → (b ≡ true) × (x ≡ y)
+if_fits true x y e = (refl, cc e)
+if_fits false x y e = absurd cc
+
+-- ---- what the name gives
+
+-- a register and a number
+abbrev register_and_number : Command → ℕ × ℕ
+register_and_number c = ((command_entry c).first, amount (command_entry c).rest)
+
+pub command_has : (name : List ℕ) (register n : ℕ) (c : Command) → named_command name register n ≡ Some c →
+    ((command_entry c).name ≡ name) × ((command_entry c).first ≡ register) × (amount (command_entry c).rest ≡ n)
+    × (fits (command_entry c).rest ≡ true)
+unfolding named_command
+command_has name register n c e = go (named command_entry name (commands register n)) refl e
+  where
+    go : (o : Option Command) → named command_entry name (commands register n) ≡ o →
+        option_and_then (λ c. if fits (command_entry c).rest then Some c else None) o ≡ Some c →
+        ((command_entry c).name ≡ name) × ((command_entry c).first ≡ register) × (amount (command_entry c).rest ≡ n)
+        × (fits (command_entry c).rest ≡ true)
+    go None found is = absurd cc
+    go (Some d) found is =
+        let both = if_fits (fits (command_entry d).rest) d c is in
+        let has = named_has command_entry register_and_number (register, n) name (commands register n) d refl found in
+        rw (← both.1) (has.0, ap (λ t. t.0) has.1, ap (λ t. t.1) has.1, both.0)
+
+-- a member and what stands behind it
+abbrev member_and_rest : Step → ℕ × Rest
+member_and_rest s = ((step_entry s).first, (step_entry s).rest)
+
+-- the step of a name, a member and nothing more
+pub short_has : (name : List ℕ) (p : ℕ) (s : Step) → short_step name p ≡ Some s →
+    ((step_entry s).name ≡ name) × ((step_entry s).first ≡ p) × ((step_entry s).rest ≡ nothing)
+unfolding short_step
+short_has name p s e =
+    let has = named_has step_entry member_and_rest (p, nothing) name (alone p) s refl e in
+    (has.0, ap (λ t. t.0) has.1, ap (λ t. t.1) has.1)
+
+pub commanded_has : (name : List ℕ) (p : ℕ) (c : Command) (s : Step) → commanded_step name p c ≡ Some s →
+    ((step_entry s).name ≡ name) × ((step_entry s).first ≡ p) × ((step_entry s).rest ≡ command c)
+unfolding commanded_step
+commanded_has name p c s e =
+    let has = named_has step_entry member_and_rest (p, command c) name (with_command p c) s refl e in
+    (has.0, ap (λ t. t.0) has.1, ap (λ t. t.1) has.1)
+
+-- the number that the rest is
+abbrev number_of : Rest → Option ℕ
+number_of nothing = None
+number_of (number x) = Some (amount x)
+number_of (command c) = None
+
+-- a member and that number
+abbrev member_and_number : Step → ℕ × Option ℕ
+member_and_number s = ((step_entry s).first, number_of (step_entry s).rest)
+
+is_numbered : (n : ℕ) (r : Rest) → number_of r ≡ Some n → (x : Number) × (r ≡ number x) × (amount x ≡ n)
+is_numbered n nothing e = absurd cc
+is_numbered n (number x) e = (x, refl, cc e)
+is_numbered n (command c) e = absurd cc
+
+pub numbered_has : (name : List ℕ) (p n : ℕ) (s : Step) → numbered_step name p n ≡ Some s →
+    ((step_entry s).name ≡ name) × ((step_entry s).first ≡ p) × ((x : Number) × ((step_entry s).rest ≡ number x) × (amount x ≡ n))
+unfolding numbered_step
+numbered_has name p n s e = go (named step_entry name (with_number p n)) refl e
+  where
+    go : (o : Option Step) → named step_entry name (with_number p n) ≡ o →
+        option_and_then (λ s. if rest_fits (step_entry s).rest then Some s else None) o ≡ Some s →
+        ((step_entry s).name ≡ name) × ((step_entry s).first ≡ p) × ((x : Number) × ((step_entry s).rest ≡ number x) × (amount x ≡ n))
+    go None found is = absurd cc
+    go (Some d) found is =
+        let both = if_fits (rest_fits (step_entry d).rest) d s is in
+        let has = named_has step_entry member_and_number (p, Some n) name (with_number p n) d refl found in
+        rw (← both.1) (has.0, ap (λ t. t.0) has.1, is_numbered n (step_entry d).rest (ap (λ t. t.1) has.1))
+
+-- ---- what has the name
 
 -- the steps that have the same rest
 abbrev pub alike : ℕ → Rest → List Step

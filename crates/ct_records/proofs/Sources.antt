@@ -10,7 +10,7 @@ use Rattle.json.specs.Json as tree
 use Rattle.serde_json.specs.Data.{Data}
 use Rattle.serde_json.specs.Read.{max_depth, of_json, read}
 use Rattle.ct_model.specs.declared.step.Step.{Step}
-use Rattle.ct_scan.specs.Lexemes.{lexemes}
+use Rattle.ct_records.specs.Lexemes.{lexemes}
 use Rattle.ct_records.specs.declared.read_fault.ReadFault.TheVariants.{TooLong}
 use Rattle.ct_records.specs.Script.{script, max_len}
 use Rattle.ct_records.specs.declared.input.Input.{Input}

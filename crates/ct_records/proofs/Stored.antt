@@ -29,7 +29,7 @@ use Rattle.ct_records.specs.Values.{num, entry_data, command_data, rest_data, st
 use Rattle.ct_text.proofs.Joins.{rest_of, rest_of-join}
 use Rattle.ct_records.proofs.Lengths as lengths
 use Rattle.ct_records.proofs.Lengths.{Text}
-use Rattle.ct_scan.proofs.Names.{IsName, command_name, step_name}
+use Rattle.ct_records.proofs.Names.{IsName, command_name, step_name}
 
 -- ---- values that are read as they are written
 

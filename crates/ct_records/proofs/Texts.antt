@@ -10,12 +10,12 @@ use Rattle.json.specs.Token.{begin_array}
 use Rattle.ct_names.specs.declared.command.Command.{Command}
 use Rattle.ct_model.specs.declared.step.Step.{Step}
 use Rattle.ct_model.specs.StepText.{Rest, nothing, number, command, amount, command_entry, command_text, rest_texts, step_entry, step_text}
-use Rattle.ct_scan.specs.Lexemes.{lexemes, command_lexemes, step_lexemes, steps_lexemes, comma_if}
-use Rattle.ct_scan.specs.Reading.{IsValid, Says, Reads, ReadsNumber, ReadsEntry, ReadsTail, ReadsStep, next_text}
-use Rattle.ct_scan.proofs.Lexemes.{opens, steps_joined}
-use Rattle.ct_scan.proofs.Reading.{says_none, says_then, mark_begins, mark_comma, mark_first, left_is, number_plain, name_behind, entry_reads}
-use Rattle.ct_scan.proofs.Steps.{command_reads, tail_short, tail_numbered, tail_commanded, step_reads}
-use Rattle.ct_scan.proofs.Utf8.{valid_then}
+use Rattle.ct_records.specs.Lexemes.{lexemes, command_lexemes, step_lexemes, steps_lexemes, comma_if}
+use Rattle.ct_records.specs.Reading.{IsValid, Says, Reads, ReadsNumber, ReadsEntry, ReadsTail, ReadsStep, next_text}
+use Rattle.ct_records.proofs.Lexemes.{opens, steps_joined}
+use Rattle.ct_records.proofs.Fronts.{says_none, says_then, mark_begins, mark_comma, mark_first, left_is, number_plain, name_behind, entry_reads}
+use Rattle.ct_records.proofs.Steps.{command_reads, tail_short, tail_numbered, tail_commanded, step_reads}
+use Rattle.ct_records.proofs.Utf8.{valid_then}
 use Rattle.ct_records.specs.Fits.{AllFit, CommandFits, RestFits, StepFits}
 use Rattle.ct_records.specs.Front.{AreTaken, IsAfter, IsTextOf, SaysSame}
 use Rattle.ct_records.specs.Text.{steps_text}

@@ -5,8 +5,8 @@ use Rattle.std.specs.Io.KnownBytes.{Consumes, IsAtEnd}
 use Rattle.serde_json.specs.Data.{object}
 use Rattle.ct_model.specs.declared.step.Step.{Step}
 use Rattle.ct_model.specs.Rehearsal.{Rehearsal}
-use Rattle.ct_scan.specs.Lexemes.{lexemes, steps_lexemes}
-use Rattle.ct_scan.specs.Reading.{Says, IsValid}
+use Rattle.ct_records.specs.Lexemes.{lexemes, steps_lexemes}
+use Rattle.ct_records.specs.Reading.{Says, IsValid}
 use Rattle.ct_records.specs.Fits.{AllFit}
 use Rattle.ct_records.specs.Members.{members_with, AreAll, IsHead}
 use Rattle.ct_records.specs.Replay.{IsAllowed}

@@ -1,3 +1,7 @@
+pub mod Names
+pub mod Lexemes
+pub mod Reading
+pub mod Quick
 pub mod Script
 pub mod Gives
 pub mod View

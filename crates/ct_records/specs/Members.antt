@@ -11,7 +11,7 @@ use Rattle.serde_json.specs.Read.{of_json, of_members}
 use Rattle.serde_json.specs.Written.{outline}
 use Rattle.ct_names.specs.declared.limit.TheConstants.{MAX_BOUND}
 use Rattle.ct_model.specs.declared.step.Step.{Step}
-use Rattle.ct_scan.specs.Lexemes.{lexemes, Begins, IsPlain}
+use Rattle.ct_records.specs.Lexemes.{lexemes, Begins, IsPlain}
 use Rattle.ct_records.specs.Values.{num, steps_data}
 use Rattle.ct_records.specs.declared.numbers.Numbers.{Numbers}
 

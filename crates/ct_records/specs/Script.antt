@@ -12,8 +12,8 @@ use Rattle.ct_model.specs.declared.step.Step.{Step}
 use Rattle.ct_model.specs.declared.step.Step.TheVariants.{Follow, Lose, Repeat}
 use Rattle.ct_model.specs.Rehearsal.{Rehearsal}
 use Rattle.ct_model.specs.When.{when}
-pub use Rattle.ct_scan.specs.Names.{named, fits, commands, alone, with_number, with_command, rest_fits}
-unfoldable pub use Rattle.ct_scan.specs.Names.{named_command, short_step, numbered_step, commanded_step}
+pub use Rattle.ct_records.specs.Names.{named, fits, commands, alone, with_number, with_command, rest_fits}
+unfoldable pub use Rattle.ct_records.specs.Names.{named_command, short_step, numbered_step, commanded_step}
 use Rattle.ct_records.specs.declared.read_fault.ReadFault.{ReadFault}
 use Rattle.ct_records.specs.declared.read_fault.ReadFault.TheVariants.{TooLong, NotJson, Shape, Version}
 

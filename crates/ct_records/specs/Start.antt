@@ -5,7 +5,7 @@ use Rattle.ct_records.specs.declared.input.Input.{Input}
 use Rattle.ct_records.specs.declared.start.Start.{Start}
 use Rattle.ct_records.specs.Front.{IsReadAs, IsReadOf, IsSeen}
 use Rattle.ct_records.specs.Members.{IsHead}
-use Rattle.ct_scan.specs.Reading.{IsValid}
+use Rattle.ct_records.specs.Reading.{IsValid}
 
 pub record IsStart (start : Start) : Type 0 where
   pub head : IsHead start.text.items start.numbers

@@ -5,13 +5,13 @@ ghost use Rattle.json.specs.Lex.{token};
 ghost use Rattle.json.specs.Token.{end_object};
 ghost use Rattle.json.specs.Word.{ends_word};
 ghost use Rattle.ct_records.specs.Fits.{AllFit};
-ghost use Rattle.ct_scan.specs.Lexemes.{lexemes};
-ghost use Rattle.ct_scan.specs.Reading.{IsAscii, ReadsKey};
+ghost use Rattle.ct_records.specs.Lexemes.{lexemes};
+ghost use Rattle.ct_records.specs.Reading.{IsAscii, ReadsKey};
 ghost use Rattle.ct_records.specs.Front.{IsEnd};
 ghost use Rattle.ct_records.specs.Members.{AreAll, IsRest, IsUpToList, IsUpToSteps};
 
 use crate::numbers::{Numbers, is};
-use ct_scan::{is_white, mark, name, number};
+use crate::scan::{is_white, mark, name, number};
 use ct_world::World;
 
 /// How many bytes are read before the first step, and may be left where no step stands in front: more than one takes, with

@@ -12,6 +12,7 @@ mod reading;
 mod replaying;
 mod reporting;
 mod running;
+mod scan;
 mod scanning;
 mod script;
 mod setting_up;

@@ -9,12 +9,12 @@ ghost use Rattle.ct_records.specs.Script.{list_in, count_of, whole_of, byte_of, 
 ghost use Rattle.ct_records.specs.Script.{keys, bound_in, steps_of, rehearsal_in, of_value, max_len, script};
 
 use crate::read_fault::ReadFault;
+use crate::scan::{commanded_step, named_command, numbered_step, short_step};
 use crate::scanning::scanned;
 use crate::script::Script;
 use crate::version::{BOUNDED, FIRST, LATEST, since};
 use ct_model::Step;
 use ct_names::{Command, Group, MAX_BOUND, MAX_CELLS, MAX_MEMBERS, Member};
-use ct_scan::{commanded_step, named_command, numbered_step, short_step};
 use serde_json::{Map, Value};
 use std::alloc::Global;
 

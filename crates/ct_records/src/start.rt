@@ -1,7 +1,7 @@
 //! What stands before the steps of a record, taken out of the bytes.
 
 ghost use Rattle.std.specs.Prelude.{◌≡◌, ◌≤◌, ◌++◌, Ok, None, length, take, drop, vec_len, IfOk, OnOk, IfSome};
-ghost use Rattle.ct_scan.specs.Reading.{IsAscii};
+ghost use Rattle.ct_records.specs.Reading.{IsAscii};
 ghost use Rattle.ct_records.specs.Members.{IsHead};
 ghost use Rattle.ct_records.specs.Start.{IsStart};
 

@@ -10,8 +10,8 @@ use crate::head::MOST;
 use crate::input::Input;
 use crate::keeper::Keeper;
 use crate::reading::MAX_LEN;
+use crate::scan::next_step;
 use ct_model::Step;
-use ct_scan::next_step;
 use ct_streams::{InputFault, Source};
 use std::alloc::AllocError;
 

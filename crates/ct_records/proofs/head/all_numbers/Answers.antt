@@ -1,5 +1,5 @@
-use Rattle.ct_scan.proofs.Lexemes.{if_some}
-use Rattle.ct_scan.proofs.Reading.{mark_begins}
+use Rattle.ct_records.proofs.Lexemes.{if_some}
+use Rattle.ct_records.proofs.Fronts.{mark_begins}
 use Rattle.ct_records.proofs.head.all_numbers.Goals as goal
 
 pub returns : goal.returns

@@ -1,4 +1,4 @@
-use Rattle.ct_scan.proofs.Lexemes.{if_some}
+use Rattle.ct_records.proofs.Lexemes.{if_some}
 use Rattle.ct_records.proofs.Ended.{up_to_steps}
 use Rattle.ct_records.proofs.head.head.Goals as goal
 

@@ -1,4 +1,4 @@
-use Rattle.ct_scan.proofs.Reading.{key_behind}
+use Rattle.ct_records.proofs.Fronts.{key_behind}
 use Rattle.ct_records.proofs.head.key.Goals as goal
 
 pub returns : goal.returns

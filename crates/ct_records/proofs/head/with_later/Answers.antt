@@ -1,7 +1,7 @@
 use Rattle.std.proofs.Common.{Some, arith}
 use Rattle.ct_records.proofs.Members.{past_more, past_end}
 use Rattle.ct_records.proofs.Ended.{taken}
-use Rattle.ct_scan.proofs.Reading.{mark_begins}
+use Rattle.ct_records.proofs.Fronts.{mark_begins}
 use Rattle.ct_records.proofs.head.with_later.Goals as goal
 
 pub loop-preserved : goal.loop-preserved

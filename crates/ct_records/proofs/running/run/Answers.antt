@@ -1,4 +1,4 @@
-use Rattle.ct_scan.proofs.Lexemes.{if_some}
+use Rattle.ct_records.proofs.Lexemes.{if_some}
 use Rattle.ct_records.proofs.Answered.{if_ok}
 use Rattle.ct_records.proofs.Started.{seen_first}
 use Rattle.ct_records.proofs.running.run.Goals as goal

@@ -1,6 +1,6 @@
 use Rattle.std.proofs.Common.{◌-◌, ◌++◌, ◌∙◌, [], length, drop, ap, arith, subst, sym}
 use Rattle.std.proofs.lemmas.List.{length-drop, take_all}
-use Rattle.ct_scan.proofs.Lexemes.{if_some}
+use Rattle.ct_records.proofs.Lexemes.{if_some}
 use Rattle.ct_records.specs.Fits.{AllFit}
 use Rattle.ct_records.specs.Front.{AreKept, IsTextOf, Taken}
 use Rattle.ct_records.specs.Members.{AreAll}

@@ -1,6 +1,6 @@
 use Rattle.std.proofs.Common.{sym, subst}
 use Rattle.ct_records.specs.Members.{IsHead}
-use Rattle.ct_scan.proofs.Reading.{first_is}
+use Rattle.ct_records.proofs.Fronts.{first_is}
 use Rattle.ct_records.proofs.start.measured.Goals as goal
 
 pub returns-then-is_ascii-clause-head : goal.returns-then-is_ascii-clause-head

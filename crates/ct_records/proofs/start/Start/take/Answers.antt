@@ -1,7 +1,7 @@
 use Rattle.std.proofs.Common.{◌≡◌, ◌∙◌, ap, subst, sym, take}
 use Rattle.ct_records.specs.Members.{IsHead}
-use Rattle.ct_scan.specs.Reading.{IsAscii}
-use Rattle.ct_scan.proofs.Utf8.{ascii_valid}
+use Rattle.ct_records.specs.Reading.{IsAscii}
+use Rattle.ct_records.proofs.Utf8.{ascii_valid}
 use Rattle.ct_records.proofs.start.Start.take.Goals as goal
 
 pub returns-clause-start : goal.returns-clause-start

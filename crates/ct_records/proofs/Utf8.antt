@@ -1,0 +1,81 @@
+-- ASCII in front of a text changes nothing of whether it is UTF-8.
+use Rattle.std.proofs.Common.{◌≡◌, ℕ, ◌^◌, ◌<◌, Bool, true, false, List, [], ◌∷◌, ◌++◌, decimal, refl, sym, ap, ◌∙◌, arith}
+use Rattle.std.proofs.Common.{append_assoc, inl, inr}
+use Rattle.std.specs.Prelude.{◌⊎◌, ◌==◌, ◌||◌}
+use Rattle.std.specs.Str.{is_utf8}
+use Rattle.std.specs.Str.Parse.{AllDigits}
+use Rattle.std.proofs.lemmas.Bool.{and_parts, eqb-true, lt-ltb, ltb-true, or_cases}
+use Rattle.std.proofs.lemmas.Fmt.{decimal_is_IsNumeral}
+use Rattle.std.proofs.lemmas.List.Elements.{All-cons, All-head, All-nil, All-tail}
+use Rattle.std.proofs.lemmas.Str.{IsUtf8-append, IsUtf8-past_char, IsUtf8-from_is_utf8, is_utf8-from_IsUtf8, encode_ascii}
+use Rattle.std.proofs.lemmas.Str.Parse.{digit_from_value}
+use Rattle.json.proofs.Printed.Utf8.{are_ascii, IsUtf8-are_ascii}
+use Rattle.json.specs.Word.{is_space}
+use Rattle.ct_records.specs.Reading.{IsAscii, IsValid, IsWhite}
+
+-- ---- bytes
+
+-- two tests that hold together are the same
+same_test : (a b : Bool) → (a ≡ true → b ≡ true) → (b ≡ true → a ≡ true) → a ≡ b
+same_test true b f g = sym (f refl)
+same_test false true f g = g refl
+same_test false false f g = refl
+
+ascii_one : (x : ℕ) → x < 128 → are_ascii (x ∷ []) ≡ true
+ascii_one x small = rw (lt-ltb x 128 small) refl
+
+byte_front : (x : ℕ) (next : List ℕ) → x < 128 → is_utf8 (x ∷ next) ≡ is_utf8 next
+byte_front x next small =
+    same_test (is_utf8 (x ∷ next)) (is_utf8 next)
+    (λ h.
+    is_utf8-from_IsUtf8 next (IsUtf8-past_char (x ∷ next) next x (IsUtf8-from_is_utf8 (x ∷ next) h)
+    (ap (λ t. t ++ next) (sym (encode_ascii x small)))))
+    (λ h.
+    is_utf8-from_IsUtf8 (x ∷ next) (IsUtf8-append (x ∷ []) next (IsUtf8-are_ascii (x ∷ []) (ascii_one x small))
+    (IsUtf8-from_is_utf8 next h)))
+
+pub ascii_valid : (xs : List ℕ) → IsAscii xs → IsValid xs
+ascii_valid [] h next = refl
+ascii_valid (x ∷ xs) h next =
+    byte_front x (xs ++ next) (All-head (λ b. b < 128) x xs h) ∙ ascii_valid xs (All-tail (λ b. b < 128) x xs h) next
+
+pub ascii_are : (xs : List ℕ) → are_ascii xs ≡ true → IsAscii xs
+ascii_are [] e = All-nil (λ b. b < 128)
+ascii_are (x ∷ xs) e =
+    let p = and_parts _ _ e in
+    All-cons (λ b. b < 128) x xs (ltb-true _ _ p.0) (ascii_are xs p.1)
+
+digits_ascii : (ds : List ℕ) → AllDigits 10 ds → IsAscii ds
+digits_ascii [] h = All-nil (λ b. b < 128)
+digits_ascii (d ∷ ds) h = All-cons (λ b. b < 128) d ds (omega (arith, digit_from_value d h.0)) (digits_ascii ds h.1)
+
+pub decimal_valid : (n : ℕ) → n < 2 ^ 64 → IsValid (decimal n)
+decimal_valid n h = ascii_valid (decimal n) (digits_ascii (decimal n) (decimal_is_IsNumeral n h).0.1)
+
+space_small : (x : ℕ) → is_space x ≡ true → x < 128
+space_small x h = go (or_cases _ _ h)
+  where
+    first : ((x == 32) ≡ true) ⊎ ((x == 9) ≡ true) → x < 128
+    first (inl e) = omega (arith, eqb-true x 32 e)
+    first (inr e) = omega (arith, eqb-true x 9 e)
+
+    more : (((x == 32) || (x == 9)) ≡ true) ⊎ ((x == 10) ≡ true) → x < 128
+    more (inl e) = first (or_cases _ _ e)
+    more (inr e) = omega (arith, eqb-true x 10 e)
+
+    go : ((((x == 32) || (x == 9)) || (x == 10)) ≡ true) ⊎ ((x == 13) ≡ true) → x < 128
+    go (inl e) = more (or_cases _ _ e)
+    go (inr e) = omega (arith, eqb-true x 13 e)
+
+white_ascii : (xs : List ℕ) → IsWhite xs → IsAscii xs
+white_ascii [] h = All-nil (λ b. b < 128)
+white_ascii (x ∷ xs) h =
+    All-cons (λ b. b < 128) x xs (space_small x (All-head (λ b. is_space b ≡ true) x xs h))
+    (white_ascii xs (All-tail (λ b. is_space b ≡ true) x xs h))
+
+pub white_valid : (xs : List ℕ) → IsWhite xs → IsValid xs
+white_valid xs h = ascii_valid xs (white_ascii xs h)
+
+-- one text behind another
+pub valid_then : (s t : List ℕ) → IsValid s → IsValid t → IsValid (s ++ t)
+valid_then s t h k next = ap is_utf8 (append_assoc s t next) ∙ h (t ++ next) ∙ k next

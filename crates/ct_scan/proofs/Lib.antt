@@ -1,5 +1,0 @@
-pub mod Names
-pub mod Lexemes
-pub mod Utf8
-pub mod Reading
-pub mod Steps

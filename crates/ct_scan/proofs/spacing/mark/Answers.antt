@@ -1,6 +1,0 @@
-use Rattle.ct_scan.proofs.Reading.{mark_behind}
-use Rattle.ct_scan.proofs.spacing.mark.Goals as goal
-
-pub returns : goal.returns
-returns c =
-    mark_behind c.args.bytes.now c.after_white.result.now c.in_ok-rest.rest.now c.args.byte c.after_white.ensures c.in_ok-rest.ensures

@@ -1,6 +1,0 @@
-use Rattle.std.proofs.Common.{take}
-use Rattle.ct_scan.specs.Reading.{IsWhite}
-use Rattle.ct_scan.proofs.spacing.skip_white.Given as goal
-
-abbrev pub invariant-loop-i : goal.invariant-loop-i
-invariant-loop-i l = IsWhite (take l.i l.bytes)

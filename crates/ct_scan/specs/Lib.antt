@@ -1,4 +1,0 @@
-pub mod Names
-pub mod Lexemes
-pub mod Reading
-pub mod Quick
