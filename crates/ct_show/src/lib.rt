@@ -12,9 +12,6 @@ mod wires;
 pub use details::{LETTERS, OTHER_LETTERS, letter_of, push_detail};
 pub use facts::{last_taking, push_facts, push_member_facts, push_refused};
 pub use lines::push_line;
-pub use state::{
-    first_receipt, own_steps, push_next_between, push_next_of, push_own_enabled, sender_at,
-    state_text, told_refusal,
-};
+pub use state::{first_receipt, own_steps, push_next_between, sender_at, state_text, told_refusal};
 pub use traced::{Traced, trace};
 pub use wires::{push_round, push_serial};

@@ -1,6 +1,6 @@
 //! The state that a record leads to, shown: two lines of the whole, and lines of each member.
 
-ghost use Rattle.std.specs.Prelude.{◌≡◌, ◌<◌, [], ◌∷◌, IfOk, OnOk, IsTrue, flat_map, option_map};
+ghost use Rattle.std.specs.Prelude.{◌≡◌, ◌<◌, [], ◌∷◌, IfOk, OnOk, IsTrue, codes, flat_map, option_map};
 ghost use Rattle.ct_text.specs.Adds.{Adds};
 ghost use Rattle.ct_names.specs.Group.{is_member};
 ghost use Rattle.ct_model.specs.Rehearsal.{line_of};
@@ -9,7 +9,7 @@ ghost use Rattle.ct_show.specs.State.{progress_text, standing_line, estimate_lin
 ghost use Rattle.ct_show.specs.State.{sender_text, waiting_line, is_apart, told_refusal, enabled_text, own_enabled, refusal_line};
 ghost use Rattle.ct_show.specs.State.{refused_line};
 ghost use Rattle.ct_show.specs.State.{first_choices, own_steps, steps_lines, first_receipt, step_or, behind, receipt_behind};
-ghost use Rattle.ct_show.specs.State.{next_between, next_text, next_line};
+ghost use Rattle.ct_show.specs.State.{next_between, next_line};
 ghost use Rattle.ct_show.specs.State.{member_lines, first_members, group_line, counts_line, state_lines};
 
 use crate::facts::{push_all_heard, push_place_in};
@@ -211,26 +211,21 @@ fn push_sender(text: &mut String, sender: Option<Member>) -> Result<(), AllocErr
 fn push_steps(text: &mut String, world: &World, member: Member) -> Result<(), AllocError>
     ensures { OnOk result (Adds text.old text.new (steps_lines world.now.rehearsal member)) }
 {
-    push_own_enabled(text, "  enabled  ", "\n", world, member)?;
+    push_own_enabled(text, world, member)?;
     push_refused(text, world, &first_steps(member))?;
     push_refused(text, world, &[Step::Choose(member, member)])?;
     push_refused(text, world, &last_steps(member))
 }
 
-/// Appends the steps of its own that the member may take, each between these texts, in the order in which a driver tries them.
+// The steps of its own that the member may take, in the order in which a driver tries them.
 #[tactic(auto, unfolding(crate::specs::State::own_enabled))]
-pub fn push_own_enabled(
-    text: &mut String,
-    before: &str,
-    after: &str,
-    world: &World,
-    member: Member,
-) -> Result<(), AllocError>
-    ensures { OnOk result (Adds text.old text.new (own_enabled before.now after.now world.now.rehearsal member)) }
+fn push_own_enabled(text: &mut String, world: &World, member: Member) -> Result<(), AllocError>
+    ensures { OnOk result (Adds text.old text.new
+        (own_enabled (codes "  enabled  ") (codes "\n") world.now.rehearsal member)) }
 {
-    push_enabled(text, before, after, world, &first_steps(member))?;
-    push_choices(text, before, after, world, member)?;
-    push_enabled(text, before, after, world, &last_steps(member))
+    push_enabled(text, world, &first_steps(member))?;
+    push_choices(text, world, member)?;
+    push_enabled(text, world, &last_steps(member))
 }
 
 // The steps that a driver tries before a choice.
@@ -267,51 +262,34 @@ pub fn own_steps(alloc: Global, member: Member, choices: &[Step]) -> Result<Vec<
     Ok(steps)
 }
 
-fn push_choices(
-    text: &mut String,
-    before: &str,
-    after: &str,
-    world: &World,
-    member: Member,
-) -> Result<(), AllocError>
-    ensures { OnOk result (Adds text.old text.new
-        (flat_map (enabled_text before.now after.now world.now.rehearsal) (first_choices member world.now.rehearsal.setting.members))) }
+fn push_choices(text: &mut String, world: &World, member: Member) -> Result<(), AllocError>
+    ensures { OnOk result (Adds text.old text.new (flat_map (enabled_text (codes "  enabled  ") (codes "\n") world.now.rehearsal)
+        (first_choices member world.now.rehearsal.setting.members))) }
 {
     let n = world.group().n();
     for i in 0..n {
-        push_if_enabled(text, before, after, world, Step::Choose(member, i + 1))?;
+        push_if_enabled(text, world, Step::Choose(member, i + 1))?;
     }
     Ok(())
 }
 
 // Those of the steps that are allowed.
-fn push_enabled(
-    text: &mut String,
-    before: &str,
-    after: &str,
-    world: &World,
-    steps: &[Step],
-) -> Result<(), AllocError>
-    ensures { OnOk result (Adds text.old text.new (flat_map (enabled_text before.now after.now world.now.rehearsal) steps.now)) }
+fn push_enabled(text: &mut String, world: &World, steps: &[Step]) -> Result<(), AllocError>
+    ensures { OnOk result (Adds text.old text.new
+        (flat_map (enabled_text (codes "  enabled  ") (codes "\n") world.now.rehearsal) steps.now)) }
 {
     for step in steps {
-        push_if_enabled(text, before, after, world, *step)?;
+        push_if_enabled(text, world, *step)?;
     }
     Ok(())
 }
 
 #[tactic(auto, unfolding(crate::specs::State::enabled_text))]
-fn push_if_enabled(
-    text: &mut String,
-    before: &str,
-    after: &str,
-    world: &World,
-    step: Step,
-) -> Result<(), AllocError>
-    ensures { OnOk result (Adds text.old text.new (enabled_text before.now after.now world.now.rehearsal step)) }
+fn push_if_enabled(text: &mut String, world: &World, step: Step) -> Result<(), AllocError>
+    ensures { OnOk result (Adds text.old text.new (enabled_text (codes "  enabled  ") (codes "\n") world.now.rehearsal step)) }
 {
     match world.enabled(&step) {
-        Ok(()) => write!(text, "{before}{step}{after}"),
+        Ok(()) => write!(text, "  enabled  {step}\n"),
         Err(_) => Ok(()),
     }
 }
@@ -384,8 +362,10 @@ fn push_next(
     ensures { OnOk result (Adds text.old text.new (next_line world.now.rehearsal member)) }
 {
     text.push_str("  next     ")?;
-    push_next_of(
+    push_next_between(
         text,
+        "-",
+        " or ",
         world.next_local(member),
         first_receipt(world, member, line),
     )?;
@@ -404,18 +384,7 @@ pub fn first_receipt(world: &World, member: Member, line: &[Serial]) -> Option<S
 }
 
 /// Appends what a driver does next: a step of the member's own, else the receipt; a suspicion with the receipt that it may
-/// come to.
-pub fn push_next_of(
-    text: &mut String,
-    own: Option<Step>,
-    receipt: Option<Step>,
-) -> Result<(), AllocError>
-    ensures { OnOk result (Adds text.old text.new (next_text own receipt)) }
-{
-    push_next_between(text, "-", " or ", own, receipt)
-}
-
-/// The same with a text that stands for none, and one between two steps.
+/// come to. A text stands for none, and one between two steps.
 pub fn push_next_between(
     text: &mut String,
     none: &str,
