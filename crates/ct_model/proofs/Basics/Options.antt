@@ -1,6 +1,6 @@
 -- What follows where an optional value is there.
 use Rattle.std.proofs.Common.{arith, ◌≡◌, Bool, true, false, Option, Some, None, option_map, option_and_then, refl}
-use Rattle.std.specs.Prelude.{◌&&◌, is_none, is_some}
+use Rattle.std.specs.Prelude.{is_none, is_some}
 use Rattle.ct_model.specs.When.{when}
 
 pub some-same : {A : Type 0} (x y : A) → Some x ≡ Some y → x ≡ y
@@ -12,6 +12,10 @@ some-none x e = cc
 pub none-is : {A : Type 0} (o : Option A) → is_none o ≡ true → o ≡ None
 none-is o e = grind arith
 
+pub none-from : {A : Type 0} (o : Option A) → ((x : A) → o ≡ Some x → ⊥) → o ≡ None
+none-from None h = refl
+none-from (Some x) h = absurd (h x refl)
+
 pub some-of : {A : Type 0} (o : Option A) → is_none o ≡ false → (x : A) × (o ≡ Some x)
 some-of None e = absurd (cc)
 some-of (Some x) e = (x, refl)
@@ -21,9 +25,6 @@ when-some b x e = grind arith
 
 pub when-is : {A : Type 0} (b : Bool) (x y : A) → when b x ≡ Some y → (b ≡ true) × (x ≡ y)
 when-is b x y e = grind arith
-
-pub when-both : {A : Type 0} (a b : Bool) (x y : A) → when (a && b) x ≡ Some y → (a ≡ true) × (b ≡ true) × (x ≡ y)
-when-both a b x y e = grind arith
 
 pub record Made {A B : Type 0} (f : A → B) (o : Option A) (y : B) : Type 0 where
   pub from : A

@@ -1,8 +1,8 @@
 -- Lists of serials: membership, repeats, and those of the envelopes to a member.
 use Rattle.std.proofs.Common.{◌≡◌, ℕ, suc, zero, ◌+◌, ◌-◌, ◌<◌, ◌≤◌, Bool, true, false, List, [], ◌∷◌, ◌++◌, length, map, refl, ap}
-use Rattle.std.proofs.Common.{◌∙◌, ◌⊎◌, inl, inr, arith, append_assoc}
+use Rattle.std.proofs.Common.{◌∙◌, ◌⊎◌, inl, inr, arith}
 use Rattle.std.proofs.lemmas.Bool.{cases_lt}
-use Rattle.std.specs.Prelude.{◌&&◌, ◌||◌, ◌==◌, filter, if◌then◌else◌}
+use Rattle.std.specs.Prelude.{◌&&◌, ◌||◌, ◌==◌, filter}
 use Rattle.std.proofs.lemmas.List.Folds.{list_any-append}
 use Rattle.std.proofs.lemmas.List.{length-map}
 use Rattle.std.proofs.lemmas.Bool.Decides.{nat_tests}
@@ -14,7 +14,7 @@ use Rattle.ct_model.specs.declared.wire.Wire.{Wire as AnyWire}
 use Rattle.ct_model.specs.declared.envelope.Envelope.{Envelope as AnyEnvelope}
 use Rattle.ct_model.specs.Wire.{envelopes}
 use Rattle.ct_model.specs.declared.mail.Mail.{Mail as AnyMail}
-use Rattle.ct_model.specs.declared.mail.Mail.TheVariants.{Nobody, One, All}
+use Rattle.ct_model.specs.declared.mail.Mail.TheVariants.{All}
 use Rattle.ct_model.specs.Waiting.{has_serial, serials_to}
 use Rattle.ct_model.specs.Lawful.{is_distinct}
 
@@ -33,9 +33,7 @@ pub is_distinct-append : (xs ys : List ℕ) → is_distinct xs ≡ true → is_d
     ((k : ℕ) → has_serial k xs ≡ true → has_serial k ys ≡ false) → is_distinct (xs ++ ys) ≡ true
 is_distinct-append [] ys dx dy h = dy
 is_distinct-append (x ∷ xs) ys dx dy h =
-    let rest : is_distinct (xs ++ ys) ≡ true = is_distinct-append xs ys (grind arith) dy (λ k m. h k (grind arith)) in
-    let here : has_serial x ys ≡ false = h x (grind (arith, nat_tests)) in
-    grind (arith, has_serial-append x xs ys)
+    grind (arith, nat_tests, has_serial-append, is_distinct-append xs ys (grind arith) dy (λ k m. h k (grind arith)))
 
 -- a list of distinct serials has no repeats
 
@@ -52,12 +50,7 @@ distinct-once (k ∷ ks) h = (λ again. let m = in-has k ks again in absurd (gri
 pub serials_to-append : (p before : ℕ) (xs ys : List Envelope) →
     serials_to p before (xs ++ ys) ≡ serials_to p before xs ++ serials_to p (before + length xs) ys
 serials_to-append p before [] ys = grind arith
-serials_to-append p before (e ∷ xs) ys =
-    grind (
-      arith,
-      append_assoc (if e.to == p then (before + 1) ∷ [] else []) (serials_to p (before + 1) xs),
-      serials_to-append p (before + 1) xs ys,
-    )
+serials_to-append p before (e ∷ xs) ys = grind (arith, serials_to-append p (before + 1) xs ys)
 
 -- they follow what was sent before, one by one
 pub serials_to-within : (p before k : ℕ) (es : List Envelope) → has_serial k (serials_to p before es) ≡ true →
@@ -67,8 +60,7 @@ serials_to-within p before k (e ∷ es) h = grind (arith, nat_tests, serials_to-
 
 pub serials_to-distinct : (p before : ℕ) (es : List Envelope) → is_distinct (serials_to p before es) ≡ true
 serials_to-distinct p before [] = refl
-serials_to-distinct p before (e ∷ es) =
-    grind (arith, serials_to-within p (before + 1) (before + 1) es, serials_to-distinct p (before + 1) es)
+serials_to-distinct p before (e ∷ es) = grind (arith, serials_to-within, serials_to-distinct p (before + 1) es)
 
 -- the list is empty, or has one serial
 abbrev pub HasOne : List ℕ → Type 0
@@ -100,13 +92,7 @@ module _ {V : Type 0} (w : AnyWire V) where
   -- and who is none gets none
   all_at_most : (n p before : ℕ) → HasOne (serials_to p before (envelopes n (All w)))
   unfolding members
-  all_at_most n p before = elim (cases_lt p 1) [
-    | inl low ↦ inl (none_below p before 1 n low)
-    | inr some ↦ elim (cases_lt n p) [
-      | inl high ↦ inl (none_above p before 1 n (omega arith))
-      | inr within ↦ inr (before + p, serials_to-all n p before some within)
-    ]
-  ]
+  all_at_most n p before = grind (arith, cases_lt, none_below, none_above, serials_to-all)
 
   pub length-all : (n : ℕ) → length (envelopes n (All w)) ≡ n
   unfolding members
@@ -114,10 +100,4 @@ module _ {V : Type 0} (w : AnyWire V) where
 
 -- a step sends at most one envelope to a member
 pub mail_at_most : {V : Type 0} (n p before : ℕ) (mail : AnyMail V) → HasOne (serials_to p before (envelopes n mail))
-mail_at_most n p before Nobody = inl refl
-mail_at_most n p before (One to w) = go (to == p)
-  where
-    go : (b : Bool) → HasOne ((if b then (before + 1) ∷ [] else []) ++ [])
-    go true = inr (before + 1, refl)
-    go false = inl refl
-mail_at_most n p before (All w) = all_at_most w n p before
+mail_at_most n p before mail = grind (arith, all_at_most)

@@ -16,16 +16,19 @@ use Rattle.ct_model.proofs.Consensus.Growth.{Advance, Grows, IsFounded-grows, Is
 use Rattle.ct_model.proofs.Consensus.Growth.Advance.{stays}
 use Rattle.ct_model.proofs.Record.Members.{member-same, member-other, p_or_other}
 
+-- what holds of a wire that is sent now, where others were sent before: a round has one proposal, and who acked it sends its later
+-- estimates with its ts or a larger one
+abbrev pub IsTimely : State → Wire → Type 0
+IsTimely g (Prop k r v) = (w : Value) → Sent g (Prop k r w) → v ≡ w
+IsTimely g (Est k later q v ts) = (r : ℕ) → Sent g (Ack k r q) → r < later → r ≤ ts
+IsTimely g (Ack k r q) = (later : ℕ) (v : Value) (ts : ℕ) → Sent g (Est k later q v ts) → r < later → r ≤ ts
+IsTimely g _ = Unit {0}
+
 pub record IsAllowed (s : Setting) (g : State) (p : ℕ) (o : Outcome) : Type 0 where
   pub advance : Advance (member g p) o.member
   pub got : (w : Wire) → IsIn w o.member.got → Sent g w
   pub sound : (c : Standing) → o.member.current ≡ Some c → IsSound s (after s g p o) p o.member.last c
-  pub founded : (w : Wire) → Carries o.mail w → IsFounded s (after s g p o) w
-  pub first_proposal : (k r : ℕ) (v w : Value) → Carries o.mail (Prop k r v) → Sent g (Prop k r w) → v ≡ w
-  pub estimate_after_ack : (k r later q : ℕ) (v : Value) (ts : ℕ) → Carries o.mail (Est k later q v ts) → Sent g (Ack k r q) → r < later →
-      r ≤ ts
-  pub ack_after_estimate : (k r later q : ℕ) (v : Value) (ts : ℕ) → Carries o.mail (Ack k r q) → Sent g (Est k later q v ts) → r < later →
-      r ≤ ts
+  pub sent : (w : Wire) → Carries o.mail w → IsFounded s (after s g p o) w × IsTimely g w
 
 -- a step that moves its member on leaves a later state
 pub grows : (s : Setting) (g : State) (p : ℕ) (o : Outcome) → Holds s g → IsMember s.members p → Advance (member g p) o.member →
@@ -50,54 +53,40 @@ module _ (s : Setting) (g : State) (p : ℕ) (o : Outcome) (holds : Holds s g) (
   later_state : Grows s g h
   later_state = grows s g p o holds is ok.advance
 
-  got_kept : (q : ℕ) → IsMember s.members q → (w : Wire) → IsIn w (member h q).got → Sent h w
-  got_kept q isq w x = Sent-old s g p o w (elim (p_or_other q p) [
-    | inl e ↦ ok.got w (rw (e, member-same s g p o holds is) at x)
-    | inr ne ↦ holds.got q isq w (rw (member-other s g p q o is isq ne) at x)
-  ])
-
-  sound_kept : (q : ℕ) → IsMember s.members q → (c : Standing) → (member h q).current ≡ Some c → IsSound s h q (member h q).last c
-  sound_kept q isq = elim (p_or_other q p) [
-    | inl e ↦ rw (e, member-same s g p o holds is) ok.sound
-    | inr ne ↦ rw (member-other s g p q o is isq ne) (λ c x. IsSound-grows s g h later_state q (member g q).last c (holds.sound q isq c x))
-  ]
-
-  founded_kept : (w : Wire) → Sent h w → IsFounded s h w
-  founded_kept w x = elim (Sent-cases s g p o w x) [
-    | inl old ↦ IsFounded-grows s g h later_state w (holds.founded w old)
-    | inr new ↦ ok.founded w new
-  ]
-
-  one_proposal_kept : (k r : ℕ) (v w : Value) → Sent h (Prop k r v) → Sent h (Prop k r w) → v ≡ w
-  one_proposal_kept k r v w a b = elim (Sent-cases s g p o (Prop k r v) a) [
-    | inl x ↦ elim (Sent-cases s g p o (Prop k r w) b) [
-      | inl y ↦ holds.one_proposal k r v w x y
-      | inr y ↦ sym (ok.first_proposal k r w v y x)
-    ]
-    | inr x ↦ elim (Sent-cases s g p o (Prop k r w) b) [
-      | inl y ↦ ok.first_proposal k r v w x y
-      | inr y ↦ (let same = one_wire o.mail (Prop k r v) (Prop k r w) x y in cc)
-    ]
-  ]
-
-  ts_after_ack_kept : (k r later q : ℕ) (v : Value) (ts : ℕ) → Sent h (Ack k r q) → Sent h (Est k later q v ts) → r < later → r ≤ ts
-  ts_after_ack_kept k r later q v ts a b lt = elim (Sent-cases s g p o (Ack k r q) a) [
-    | inl x ↦ elim (Sent-cases s g p o (Est k later q v ts) b) [
-      | inl y ↦ holds.ts_after_ack k r later q v ts x y lt
-      | inr y ↦ ok.estimate_after_ack k r later q v ts y x lt
-    ]
-    | inr x ↦ elim (Sent-cases s g p o (Est k later q v ts) b) [
-      | inl y ↦ ok.ack_after_estimate k r later q v ts x y lt
-      | inr y ↦ (let same = one_wire o.mail (Ack k r q) (Est k later q v ts) x y in cc)
-    ]
-  ]
-
   pub kept : Holds s h
   kept = record {
     size = after-size s g p o ∙ holds.size;
-    got = got_kept;
-    sound = sound_kept;
-    founded = founded_kept;
-    one_proposal = one_proposal_kept;
-    ts_after_ack = ts_after_ack_kept;
+    got = λ q isq w x. Sent-old s g p o w (elim (p_or_other q p) [
+      | inl e ↦ ok.got w (rw (e, member-same s g p o holds is) at x)
+      | inr ne ↦ holds.got q isq w (rw (member-other s g p q o is isq ne) at x)
+    ]);
+    sound = λ q isq. elim (p_or_other q p) [
+      | inl e ↦ rw (e, member-same s g p o holds is) ok.sound
+      | inr ne ↦ rw (member-other s g p q o is isq ne)
+          (λ c x. IsSound-grows s g h later_state q (member g q).last c (holds.sound q isq c x))
+    ];
+    founded = λ w x. elim (Sent-cases s g p o w x) [
+      | inl old ↦ IsFounded-grows s g h later_state w (holds.founded w old)
+      | inr new ↦ (ok.sent w new).0
+    ];
+    one_proposal = λ k r v w a b. elim (Sent-cases s g p o (Prop k r v) a) [
+      | inl x ↦ elim (Sent-cases s g p o (Prop k r w) b) [
+        | inl y ↦ holds.one_proposal k r v w x y
+        | inr y ↦ sym ((ok.sent (Prop k r w) y).1 v x)
+      ]
+      | inr x ↦ elim (Sent-cases s g p o (Prop k r w) b) [
+        | inl y ↦ (ok.sent (Prop k r v) x).1 w y
+        | inr y ↦ (let same = one_wire o.mail (Prop k r v) (Prop k r w) x y in cc)
+      ]
+    ];
+    ts_after_ack = λ k r later q v ts a b lt. elim (Sent-cases s g p o (Ack k r q) a) [
+      | inl x ↦ elim (Sent-cases s g p o (Est k later q v ts) b) [
+        | inl y ↦ holds.ts_after_ack k r later q v ts x y lt
+        | inr y ↦ (ok.sent (Est k later q v ts) y).1 r x lt
+      ]
+      | inr x ↦ elim (Sent-cases s g p o (Est k later q v ts) b) [
+        | inl y ↦ (ok.sent (Ack k r q) x).1 later v ts y lt
+        | inr y ↦ (let same = one_wire o.mail (Ack k r q) (Est k later q v ts) x y in cc)
+      ]
+    ];
   }

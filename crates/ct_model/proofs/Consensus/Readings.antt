@@ -1,5 +1,5 @@
 -- What is read off the wires that were got was among them.
-use Rattle.std.proofs.Common.{◌≡◌, ℕ, ◌≤◌, true, ◌==◌, nat_le, List, [], ◌∷◌, filter_map, map, Option, Some, None}
+use Rattle.std.proofs.Common.{◌≡◌, ℕ, ◌≤◌, Bool, true, ◌==◌, nat_le, List, [], ◌∷◌, filter_map, find, map, Option, Some, None}
 use Rattle.std.proofs.Common.{refl, sym, inl, inr, eqb-true, leb-true, arith}
 use Rattle.std.specs.List.{cons_option}
 use Rattle.std.proofs.lemmas.Bool.Decides.{nat_tests}
@@ -14,20 +14,15 @@ use Rattle.ct_model.specs.AtValue.{Wire}
 use Rattle.ct_model.specs.declared.wire.Wire.TheVariants.{Data, Est, Prop, Ack, Dec}
 use Rattle.ct_model.specs.Received.{head, message_of, received, decision_of, is_decision, decided, Heard, Ballots, ballots, heard}
 use Rattle.ct_model.specs.Received.{estimate_of, heard_from, estimate_from, is_largest, proposal_of, proposal, is_ack, has_ack, ackers}
-use Rattle.ct_model.proofs.Basics.Options.{some-same, some-none}
+use Rattle.ct_model.proofs.Basics.Options.{some-same, some-none, some-of}
 
 in-head : {A : Type 0} (xs : List A) (x : A) → head xs ≡ Some x → IsIn x xs
 in-head [] x e = some-none x e
 in-head (y ∷ xs) x e = inl (sym (some-same y x e))
 
-message-wire : (w : Wire) (m : Message) → message_of w ≡ Some m → w ≡ Data m
-message-wire w m e = grind arith
-
 pub received-got : (got : List Wire) (m : Message) → IsIn m (received got) → IsIn (Data m) got
 unfolding received
-received-got got m h =
-    let t = Lists.from_filter_map message_of m got (Values.first_occurrences-from (filter_map message_of got) m h) in
-    rw (message-wire t.source m t.gives) at t.is_in
+received-got got m h = grind (arith, Lists.from_filter_map, Values.first_occurrences-from)
 
 pub got-received : (got : List Wire) (m : Message) → IsIn (Data m) got → IsIn m (received got)
 unfolding received
@@ -53,9 +48,15 @@ decided-got got k v e =
     let d = decision-wire k t.source v t.gives in
     record { round = d.round; is_in = rw d.wire at t.is_in }
 
-head-is : {A : Type 0} (xs : List A) (x : A) → IsIn x xs → (y : A) × (head xs ≡ Some y)
+pub head-is : {A : Type 0} (xs : List A) (x : A) → IsIn x xs → (y : A) × (head xs ≡ Some y)
 head-is [] x h = absurd h
 head-is (y ∷ xs) x h = (y, refl)
+
+-- where an element passes the test the first one that does is found
+pub find-some : {A : Type 0} (test : A → Bool) (x : A) (xs : List A) → IsIn x xs → test x ≡ true → (y : A) × (find test xs ≡ Some y)
+find-some test x [] h pass = absurd h
+find-some test x (y ∷ xs) (inl e) pass = (y, rw (rw e at pass) refl)
+find-some test x (y ∷ xs) (inr h) pass = some-of (find test (y ∷ xs)) (let rest = find-some test x xs h pass in grind (arith, rest.1))
 
 -- a Dec that was got makes a decision
 pub got-decided : (got : List Wire) (k r : ℕ) (v : Value) → IsIn (Dec k r v) got → (w : Value) × (decided got k ≡ Some w)

@@ -1,4 +1,5 @@
 -- The facts hold after every run.
+use Rattle.std.proofs.Common.{arith}
 use Rattle.std.proofs.Common.{◌≡◌, List, Some}
 use Rattle.ct_names.specs.Group.{IsMember}
 use Rattle.ct_model.specs.declared.step.Step.{Step}
@@ -29,14 +30,7 @@ unfolding first_state
 nothing_sent s w x = x
 
 pub Holds-first : (s : Setting) → Holds s (first_state s)
-Holds-first s = record {
-  size = size-first s;
-  got = λ p is w x. absurd (rw (member-first s p) at x);
-  sound = λ p is c x. some-none c (rw (member-first s p) at x);
-  founded = λ w x. absurd (nothing_sent s w x);
-  one_proposal = λ k r v w x y. absurd (nothing_sent s _ x);
-  ts_after_ack = λ k r later q v ts x y lt. absurd (nothing_sent s _ x);
-}
+Holds-first s = grind (arith, size-first, member-first, some-none, nothing_sent)
 
 pub Holds-run : (s : Setting) (steps : List Step) (g : State) → run s steps ≡ Some g → Holds s g
 Holds-run s = kept-run (Holds s) s (Holds-first s) (Holds-next s)

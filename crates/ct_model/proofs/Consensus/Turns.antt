@@ -1,5 +1,5 @@
 -- The five steps of a round keep the facts.
-use Rattle.std.proofs.Common.{◌≡◌, ℕ, ◌+◌, ◌≤◌, ◌<◌, true, Some, refl, sym, ap, ◌∙◌, inl, inr, arith}
+use Rattle.std.proofs.Common.{◌≡◌, ℕ, ◌+◌, ◌≤◌, ◌<◌, true, Some, refl, inl, inr, arith}
 use Rattle.std.proofs.lemmas.Bool.Decides.{nat_tests}
 use Rattle.ct_names.specs.Group.{coordinator, IsMember, is_majority}
 use Rattle.ct_names.specs.Membership.{IsIn}
@@ -22,7 +22,7 @@ use Rattle.ct_model.proofs.Consensus.Facts.Reached.{earlier, now}
 use Rattle.ct_model.proofs.Consensus.Growth.{IsOnward, Grows, IsProposed-grows, IsCarried-grows, IsLocked-grows, IsMajority-more}
 use Rattle.ct_model.proofs.Consensus.Growth.{acked-more}
 use Rattle.ct_model.proofs.Consensus.Growth.Advance.{turns}
-use Rattle.ct_model.proofs.Consensus.Obligations.{IsAllowed, grows}
+use Rattle.ct_model.proofs.Consensus.Obligations.{IsAllowed, IsTimely, grows}
 use Rattle.ct_model.proofs.Consensus.Readings
 use Rattle.ct_model.proofs.Basics.Options.{some-same}
 use Rattle.ct_model.proofs.Record.Members.{member-same}
@@ -30,9 +30,9 @@ use Rattle.ct_model.proofs.Steps.Mail.{carried-if}
 use Rattle.ct_model.proofs.Steps.Rows.{enter-is, choose-is, adopt-is, suspect-is, conclude-is}
 
 -- who has its last instance open stands where it has reached
-standing-reached : (m : Member) (k : ℕ) (P : Standing → Type 0) (c : Standing) → k ≡ m.last → m.current ≡ Some c → Reached m k P → P c
-standing-reached m k P c e is (earlier x) = absurd (omega arith)
-standing-reached m k P c e is (now x at) = at c is
+standing-reached : (m : Member) (P : Standing → Type 0) (c : Standing) → m.current ≡ Some c → Reached m m.last P → P c
+standing-reached m P c is (earlier x) = absurd (omega arith)
+standing-reached m P c is (now x at) = at c is
 
 module _ (s : Setting) (g : State) (p : ℕ) (holds : Holds s g) (is : IsMember s.members p) (c : Standing)
     (open_at : (member g p).current ≡ Some c) where
@@ -64,24 +64,16 @@ module _ (s : Setting) (g : State) (p : ℕ) (holds : Holds s g) (is : IsMember 
     still_carried some = IsCarried-grows s g h up k c.ts (c.round + 1) c.estimate (old.carried some)
 
     reaches : (P : Standing → Type 0) → P t.after → Reached (member h p) k P
-    reaches P x =
-        let e = member-same s g p (turned (member g p) t) holds is in
-        now (sym (ap (λ (m : Member). m.last) e)) (λ d at. rw (← some-same t.after d (sym (ap (λ (m : Member). m.current) e) ∙ at)) x)
+    reaches P x = grind (arith, member-same, now)
 
     -- what is left to show of a turn
-    turn-allowed : IsSound s h p k t.after → ((w : Wire) → Carries t.mail w → IsFounded s h w) →
-        ((k r : ℕ) (v w : Value) → Carries t.mail (Prop k r v) → Sent g (Prop k r w) → v ≡ w) →
-        ((k r later q : ℕ) (v : Value) (ts : ℕ) → Carries t.mail (Est k later q v ts) → Sent g (Ack k r q) → r < later → r ≤ ts) →
-        ((k r later q : ℕ) (v : Value) (ts : ℕ) → Carries t.mail (Ack k r q) → Sent g (Est k later q v ts) → r < later → r ≤ ts) →
+    turn-allowed : IsSound s h p k t.after → ((w : Wire) → Carries t.mail w → IsFounded s h w × IsTimely g w) →
         IsAllowed s g p (turned (member g p) t)
-    turn-allowed sound founded first estimate ack = record {
+    turn-allowed sound sent = record {
       advance = turns refl c t.after open_at refl onward;
-      got = λ w x. holds.got p is w x;
+      got = holds.got p is;
       sound = λ d x. rw (← some-same t.after d x) sound;
-      founded = founded;
-      first_proposal = first;
-      estimate_after_ack = estimate;
-      ack_after_estimate = ack;
+      sent = sent;
     }
 
   -- Enter
@@ -92,40 +84,23 @@ module _ (s : Setting) (g : State) (p : ℕ) (holds : Holds s g) (is : IsMember 
   enter_onward : IsOnward c entering.after
   enter_onward = record { round = omega arith; ts = omega arith; chosen = λ r x. inl (grind arith) }
 
-  enter_sound : IsSound s (later_state entering) p k entering.after
-  enter_sound = record {
-    ts_low = omega (arith, old.ts_low);
-    started = λ x. omega arith;
-    gathers = λ x. grind (arith, nat_tests);
-    tallies = λ x. grind arith;
-    proposed = still_proposed entering enter_onward c.estimate old.proposed;
-    carried = λ some.
-        let f = still_carried entering enter_onward some in
-        record { round = f.round; from_ts = f.from_ts; below = omega (arith, f.below); sent = f.sent };
-    waits_own = λ x own. absurd (grind (arith, nat_tests));
-    tallies_own = λ x. absurd (grind arith);
-  }
-
   estimate : IsFoundedEst s (later_state entering) k (c.round + 1) p c.estimate c.ts
-  estimate = record {
-    sender = is;
-    reached = reaches entering enter_onward (HasRound (c.round + 1)) (omega arith);
-    proposed = still_proposed entering enter_onward c.estimate old.proposed;
-    carried = still_carried entering enter_onward;
-  }
+  estimate = grind (
+    arith,
+    is,
+    reaches entering enter_onward (HasRound (c.round + 1)),
+    still_proposed entering enter_onward c.estimate old.proposed,
+    still_carried entering enter_onward,
+  )
 
-  after_ack : (j r later q : ℕ) (v : Value) (ts : ℕ) → Est j later q v ts ≡ Est k (c.round + 1) p c.estimate c.ts → Sent g (Ack j r q) →
-      r < later → r ≤ ts
-  after_ack j r later q v ts same sent lt =
-      let here : q ≡ p = cc in
-      let its : ts ≡ c.ts = cc in
-      let f = holds.founded (Ack j r q) sent in
-      let low : r ≤ c.ts = standing-reached (member g p) j (HasTs r) c (cc) open_at (rw here at f.reached) in
-      omega arith
+  after_ack : (r : ℕ) → Sent g (Ack k r p) → r < c.round + 1 → r ≤ c.ts
+  after_ack r sent lt =
+      let f : IsFoundedAck s g k r p = holds.founded (Ack k r p) sent in standing-reached (member g p) (HasTs r) c open_at f.reached
 
   enter_allowed : IsAllowed s g p (turned (member g p) entering)
-  enter_allowed = turn-allowed entering enter_onward enter_sound (λ w same. rw same estimate) (λ j r v w same sent. cc) after_ack
-      (λ j r later q v ts same sent lt. cc)
+  enter_allowed = turn-allowed entering enter_onward
+      (grind (arith, nat_tests, old, still_proposed entering enter_onward c.estimate old.proposed, still_carried entering enter_onward))
+      (λ w same. rw same (estimate, after_ack))
 
   -- Choose
 
@@ -149,18 +124,6 @@ module _ (s : Setting) (g : State) (p : ℕ) (holds : Holds s g) (is : IsMember 
     proposed =
         let f = holds.founded (Est k c.round e.member e.value e.ts) (estimate_sent e inside) in
         still_proposed choosing choose_onward e.value f.proposed
-
-    choose_sound : IsSound s then p k choosing.after
-    choose_sound = record {
-      ts_low = omega (arith, old.ts_low);
-      started = λ x. old.started (grind arith);
-      gathers = λ x. absurd (cc);
-      tallies = λ x. absurd (cc);
-      proposed = proposed;
-      carried = λ some. record { round = c.round; from_ts = omega (arith, old.ts_low); below = omega arith; sent = proposal_sent };
-      waits_own = λ x own. proposal_sent;
-      tallies_own = λ x. absurd (cc);
-    }
 
     still_heard : (x : Heard Value) → IsIn x got.estimates → Sent then (Est k c.round x.member x.value x.ts)
     still_heard x i = (up choosing choose_onward).sent (Est k c.round x.member x.value x.ts) (estimate_sent x i)
@@ -196,16 +159,14 @@ module _ (s : Setting) (g : State) (p : ℕ) (holds : Holds s g) (is : IsMember 
     }
 
     -- no proposal of the round was sent before
-    first : (j r : ℕ) (v w : Value) → Prop j r v ≡ Prop k c.round e.value → Sent g (Prop j r w) → v ≡ w
-    first j r v w same sent =
-        let f = holds.founded (Prop j r w) sent in
-        let here : coordinator s.members r ≡ p = ap (λ z. coordinator s.members z) (cc) ∙ own in
-        let past : HasChosen r c = standing-reached (member g p) j (HasChosen r) c (cc) open_at (rw here at f.reached) in
-        absurd (grind (arith, past))
+    first : (w : Value) → Sent g (Prop k c.round w) → e.value ≡ w
+    first w sent =
+        let f : IsFoundedProp s g k c.round w = holds.founded (Prop k c.round w) sent in
+        absurd (grind (arith, standing-reached (member g p) (HasChosen c.round) c open_at (rw own at f.reached)))
 
     choose_allowed : is_majority s.members (heard got) ≡ true → is_largest got e.ts ≡ true → IsAllowed s g p (turned (member g p) choosing)
-    choose_allowed majority largest = turn-allowed choosing choose_onward choose_sound (λ w same. rw same (proposal majority largest))
-        first (λ j r later q v ts same sent lt. cc) (λ j r later q v ts same sent lt. cc)
+    choose_allowed majority largest = turn-allowed choosing choose_onward (grind (arith, nat_tests, old, proposed, proposal_sent))
+        (λ w same. rw same (proposal majority largest, first))
 
   -- Adopt and Suspect
 
@@ -226,34 +187,26 @@ module _ (s : Setting) (g : State) (p : ℕ) (holds : Holds s g) (is : IsMember 
       still_sent : Sent (later_state adopting) (Prop k c.round v)
       still_sent = (up adopting adopt_onward).sent (Prop k c.round v) came_sent
 
-      adopt_sound : IsSound s (later_state adopting) p k adopting.after
-      adopt_sound = record {
-        ts_low = omega (arith, old.ts_low);
-        started = λ x. started;
-        gathers = λ x. absurd (grind arith);
-        tallies = λ x. grind (arith, nat_tests);
-        proposed = let f = holds.founded (Prop k c.round v) came_sent in still_proposed adopting adopt_onward v f.proposed;
-        carried = λ some. record { round = c.round; from_ts = omega (arith, old.ts_low); below = omega arith; sent = still_sent };
-        waits_own = λ x own. absurd (grind arith);
-        tallies_own = λ x. still_sent;
-      }
-
       ack : IsFoundedAck s (later_state adopting) k c.round p
       ack = record { first = started; sender = is; reached = reaches adopting adopt_onward (HasTs c.round) (omega arith) }
 
       -- no estimate of a later round was sent before
-      after_estimate : (j r later q : ℕ) (w : Value) (ts : ℕ) → Carries adopting.mail (Ack j r q) → Sent g (Est j later q w ts) →
-          r < later → r ≤ ts
-      after_estimate j r later q w ts same sent lt =
-          let here : q ≡ p = cc in
-          let round : r ≡ c.round = cc in
-          let f = holds.founded (Est j later q w ts) sent in
-          let low : later ≤ c.round = standing-reached (member g p) j (HasRound later) c (cc) open_at (rw here at f.reached) in
+      after_estimate : (later : ℕ) (w : Value) (ts : ℕ) → Sent g (Est k later p w ts) → c.round < later → c.round ≤ ts
+      after_estimate later w ts sent lt =
+          let f : IsFoundedEst s g k later p w ts = holds.founded (Est k later p w ts) sent in
+          let low = standing-reached (member g p) (HasRound later) c open_at f.reached in
           absurd (omega arith)
 
       adopt_allowed : IsAllowed s g p (turned (member g p) adopting)
-      adopt_allowed = turn-allowed adopting adopt_onward adopt_sound (λ w same. rw same ack) (λ j r x w same sent. cc)
-          (λ j r later q w ts same sent lt. cc) after_estimate
+      adopt_allowed = turn-allowed adopting adopt_onward (grind (
+        arith,
+        nat_tests,
+        old,
+        started,
+        still_sent,
+        holds.founded (Prop k c.round v) came_sent,
+        still_proposed adopting adopt_onward v,
+      )) (λ w same. rw same (ack, after_estimate))
 
     abbrev suspecting : Turn
     suspecting = suspected s.members p k c
@@ -261,22 +214,16 @@ module _ (s : Setting) (g : State) (p : ℕ) (holds : Holds s g) (is : IsMember 
     suspect_onward : IsOnward c suspecting.after
     suspect_onward = record { round = omega arith; ts = omega arith; chosen = λ r x. grind arith }
 
-    suspect_sound : IsSound s (later_state suspecting) p k suspecting.after
-    suspect_sound = record {
-      ts_low = old.ts_low;
-      started = λ x. started;
-      gathers = λ x. absurd (grind arith);
-      tallies = λ x. grind (arith, nat_tests);
-      proposed = still_proposed suspecting suspect_onward c.estimate old.proposed;
-      carried = still_carried suspecting suspect_onward;
-      waits_own = λ x own. absurd (grind arith);
-      tallies_own = λ x. (up suspecting suspect_onward).sent (Prop k c.round c.estimate)
-          (old.waits_own waits (grind (arith, nat_tests)));
-    }
-
     suspect_allowed : IsAllowed s g p (turned (member g p) suspecting)
-    suspect_allowed = turn-allowed suspecting suspect_onward suspect_sound (λ w same. rw same tt) (λ j r x w same sent. cc)
-        (λ j r later q w ts same sent lt. cc) (λ j r later q w ts same sent lt. cc)
+    suspect_allowed = turn-allowed suspecting suspect_onward (grind (
+      arith,
+      nat_tests,
+      old,
+      started,
+      still_proposed suspecting suspect_onward c.estimate old.proposed,
+      still_carried suspecting suspect_onward,
+      (up suspecting suspect_onward).sent (Prop k c.round c.estimate),
+    )) (λ w same. rw same (tt, tt))
 
   -- Conclude
 
@@ -290,18 +237,6 @@ module _ (s : Setting) (g : State) (p : ℕ) (holds : Holds s g) (is : IsMember 
     conclude_onward : IsOnward c concluding.after
     conclude_onward = record { round = omega arith; ts = omega arith; chosen = λ r x. grind arith }
 
-    conclude_sound : IsSound s (later_state concluding) p k concluding.after
-    conclude_sound = record {
-      ts_low = old.ts_low;
-      started = λ x. absurd (cc);
-      gathers = λ x. absurd (cc);
-      tallies = λ x. absurd (cc);
-      proposed = still_proposed concluding conclude_onward c.estimate old.proposed;
-      carried = still_carried concluding conclude_onward;
-      waits_own = λ x own. absurd (cc);
-      tallies_own = λ x. absurd (cc);
-    }
-
     locked : is_majority s.members got.acked ≡ true → IsLocked s g k c.round c.estimate
     locked majority = record {
       proposed = old.tallies_own tallies;
@@ -310,17 +245,16 @@ module _ (s : Setting) (g : State) (p : ℕ) (holds : Holds s g) (is : IsMember 
           (rw (Readings.acked-of (member g p).got k c.round) at (majority_of s.members got.acked majority));
     }
 
-    -- what is sent is the decision, and is locked
-    carried : (w : Wire) → Carries concluding.mail w → IsLocked s g k c.round c.estimate × (w ≡ decision)
-    carried w x = let r = carried-if (is_majority s.members got.acked) decision w x in (locked r.0, r.1)
-
     conclude_allowed : IsAllowed s g p (turned (member g p) concluding)
-    conclude_allowed = turn-allowed concluding conclude_onward conclude_sound
-        (λ w x. let r = carried w x in
-        rw r.1 (IsLocked-grows s g (later_state concluding) (up concluding conclude_onward) k c.round c.estimate r.0))
-        (λ j r v w x sent. let e : Prop j r v ≡ decision = (carried (Prop j r v) x).1 in cc)
-        (λ j r later q v ts x sent lt. let e : Est j later q v ts ≡ decision = (carried (Est j later q v ts) x).1 in cc)
-        (λ j r later q v ts x sent lt. let e : Ack j r q ≡ decision = (carried (Ack j r q) x).1 in cc)
+    conclude_allowed = turn-allowed concluding conclude_onward (grind (
+      arith,
+      nat_tests,
+      old,
+      still_proposed concluding conclude_onward c.estimate old.proposed,
+      still_carried concluding conclude_onward,
+    )) (λ w x.
+        let r = carried-if (is_majority s.members got.acked) decision w x in
+        rw r.1 (IsLocked-grows s g (later_state concluding) (up concluding conclude_onward) k c.round c.estimate (locked r.0), tt))
 
   pub allowed-turn : (a : Move) (t : Turn) → turn_at s.members p (member g p) a c ≡ Some t → IsAllowed s g p (turned (member g p) t)
   allowed-turn Enter t x = rw (← (enter-is s.members p k (decided (member g p).got k) c t x).gives) enter_allowed

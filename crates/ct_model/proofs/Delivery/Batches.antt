@@ -1,6 +1,6 @@
 -- A member's batches are what its decisions give: one for each instance that it closed, in order.
 use Rattle.std.proofs.Common.{◌≡◌, ℕ, suc, zero, ◌+◌, ◌-◌, ◌≤◌, List, [], ◌∷◌, ◌++◌, Some, None, refl, sym, ap, ◌∙◌}
-use Rattle.std.proofs.Common.{inl, inr, arith, filter_map, unwrap_or, length}
+use Rattle.std.proofs.Common.{inl, inr, arith, unwrap_or, length}
 use Rattle.std.proofs.lemmas.Bool.{cases_eq}
 use Rattle.std.proofs.lemmas.List.Elements.{filter_map-append}
 use Rattle.ct_names.specs.Value.{Value, ordered, minus}
@@ -10,7 +10,7 @@ use Rattle.ct_model.specs.AtValue.{Wire, Standing}
 use Rattle.ct_model.specs.Setting.{Setting}
 use Rattle.ct_model.specs.State.{State, Member, joined, member, new_member}
 use Rattle.ct_names.specs.Batch.{Batch}
-use Rattle.ct_model.specs.Received.{head, decision_of, decided}
+use Rattle.ct_model.specs.Received.{decided}
 use Rattle.ct_model.specs.Next.{Outcome, row, close, batch_of, after, next}
 use Rattle.ct_model.specs.Run.{run}
 use Rattle.ct_model.proofs.Record.Start.{member-first}
@@ -55,16 +55,9 @@ pub record HasClosed (m : Member) : Type 0 where
   pub decided : (k : ℕ) → 1 ≤ k → k ≤ closed → HasDecision m.got k
 
 -- a decision stays as more is got
-
-head-append : {A : Type 0} (xs ys : List A) (x : A) → head xs ≡ Some x → head (xs ++ ys) ≡ Some x
-head-append [] ys x e = some-none x e
-head-append (y ∷ xs) ys x e = e
-
 pub decided-more : (got more : List Wire) (k : ℕ) (v : Value) → decided got k ≡ Some v → decided (got ++ more) k ≡ Some v
 unfolding decided
-decided-more got more k v e =
-    ap head (filter_map-append (decision_of k) got more) ∙ head-append (filter_map (decision_of k) got) (filter_map (decision_of k) more) v
-    e
+decided-more got more k v e = grind (arith, filter_map-append)
 
 -- what each step keeps of it
 

@@ -2,7 +2,7 @@
 use Rattle.std.proofs.Common.{◌≡◌, ℕ, zero, suc, ◌-◌, ◌≤◌, ◌<◌, List, [], ◌∷◌, length, map, refl, ap, ◌∙◌, arith, ◌⊎◌, inl, inr, sym}
 use Rattle.std.proofs.Common.{append-nil, length-append}
 use Rattle.std.specs.Prelude.{nat_lt, if◌then◌else◌, slice_index_or}
-use Rattle.std.proofs.lemmas.Bool.{cases_eq, cond_both}
+use Rattle.std.proofs.lemmas.Bool.{cases_eq}
 use Rattle.std.proofs.lemmas.Bool.Decides.{nat_tests}
 use Rattle.std.proofs.lemmas.List.{nil_from_length}
 use Rattle.ct_names.specs.Membership.{IsIn}
@@ -27,9 +27,7 @@ InOneOrder lists = (xs ys : List Batch) → IsIn xs lists → IsIn ys lists → 
 -- the longest is one of the lists
 pub longest-in : (best : List Batch) (lists : List (List Batch)) → IsIn (longest best lists) (best ∷ lists)
 longest-in best [] = inl refl
-longest-in best (l ∷ rest) =
-    cond_both (nat_lt (length best) (length l)) (longest l rest) (longest best rest) (λ z. IsIn z (best ∷ l ∷ rest))
-    (λ e. inr (longest-in l rest)) (λ e. elim (longest-in best rest) [ inl a ↦ inl a | inr a ↦ inr (inr a) ])
+longest-in best (l ∷ rest) = grind (arith, longest-in l rest, longest-in best rest)
 
 -- and none is longer
 pub longest-most : (best : List Batch) (lists : List (List Batch)) (xs : List Batch) → IsIn xs (best ∷ lists) →

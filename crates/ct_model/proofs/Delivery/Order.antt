@@ -1,6 +1,6 @@
 -- What a step does to the order of batches: a Deliver or Follow of who delivered as many as anyone adds its batch, and any
 -- other step leaves it.
-use Rattle.std.proofs.Common.{◌≡◌, ℕ, ◌-◌, ◌≤◌, ◌<◌, List, [], ◌∷◌, ◌++◌, Some, length, refl, ap, sym, ◌∙◌, subst, arith, append-nil}
+use Rattle.std.proofs.Common.{◌≡◌, ℕ, ◌-◌, ◌≤◌, ◌<◌, List, [], ◌∷◌, ◌++◌, Some, length, ap, sym, ◌∙◌, subst, arith, append-nil}
 use Rattle.std.proofs.lemmas.List.{length-append}
 use Rattle.ct_names.specs.Group.{IsMember}
 use Rattle.ct_names.specs.Prefix.{IsPrefix}
@@ -15,7 +15,6 @@ use Rattle.ct_model.specs.Cause.{order}
 use Rattle.ct_model.specs.Lawful.{IsLawful}
 use Rattle.ct_model.specs.Order.{DeliversNothing}
 use Rattle.ct_model.proofs.Basics.Groups.{member_is}
-use Rattle.ct_model.proofs.Steps.Shapes.{by_shape}
 use Rattle.ct_model.proofs.Relay.Messages.{in_members, next-is}
 use Rattle.ct_model.proofs.Record.Frame.{order-kept, at_place, member-other}
 use Rattle.ct_model.proofs.Record.Taken.{IsTaken, state-step, lawful-step}
@@ -26,15 +25,7 @@ use Rattle.ct_model.proofs.Steps.Close.{length-close}
 
 batches-row : (s : Setting) (g : State) (p : ℕ) (m : Member) (step : Step) (o : Outcome) → DeliversNothing step
     → row s g p m step ≡ Some o → o.member.batches ≡ m.batches
-batches-row s g p m step o none = by_shape s g p m (λ x. x.member.batches ≡ m.batches) step o (record {
-  submits = λ c good. refl;
-  gets = λ k w at. refl;
-  opens = λ idle some. refl;
-  turns = λ a c t open_at taken. refl;
-  closes = λ c v open_at has delivers. absurd (delivers none);
-  follows = λ v idle has delivers. absurd (delivers none);
-  marks = λ crashed. refl;
-})
+batches-row s g p m step o none = grind arith
 
 -- a step that delivers nothing leaves the order
 pub order-still : (s : Setting) (g h : State) (step : Step) → DeliversNothing step → next s g step ≡ Some h → order h ≡ order g

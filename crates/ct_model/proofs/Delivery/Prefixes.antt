@@ -1,5 +1,6 @@
 -- Of two members' batches one begins the other, and each begins the order of the group; what was delivered was submitted, and delivered
 -- once.
+use Rattle.std.proofs.lemmas.Bool.Decides.{nat_tests}
 use Rattle.std.proofs.Common.{◌≡◌, ℕ, suc, zero, ◌+◌, ◌≤◌, List, [], ◌∷◌, ◌++◌, Some, refl, sym, ap, ◌∙◌, inl, inr, ◌⊎◌}
 use Rattle.std.proofs.Common.{arith, append_assoc, append-nil, length, length-append}
 use Rattle.std.specs.Prelude.{slice_get}
@@ -12,7 +13,6 @@ use Rattle.ct_names.specs.Value.{Value, ordered, minus}
 use Rattle.ct_names.proofs.Lists
 use Rattle.ct_names.proofs.Values
 use Rattle.ct_model.specs.declared.step.Step.{Step}
-use Rattle.ct_model.specs.AtValue.{Wire}
 use Rattle.ct_model.specs.Setting.{Setting}
 use Rattle.ct_model.specs.State.{State, joined, member}
 use Rattle.ct_names.specs.Batch.{Batch}
@@ -44,18 +44,12 @@ deliveries-prefix f c (suc d) le = elim (cases_lt d c) [
 joined-deliveries : (f : ℕ → Value) (c : ℕ) → joined (deliveries f (suc c)) ≡ joined (deliveries f c)
     ++ ordered (minus (f (suc c)) (joined (deliveries f c)))
 unfolding deliveries
-joined-deliveries f c =
-    let b : List Message = ordered (minus (f (suc c)) (joined (deliveries f c))) in
-    flat_map-append (λ (x : Batch). x.messages) (deliveries f c) (record { instance = suc c; messages = b } ∷ [])
-    ∙ ap (λ z. joined (deliveries f c) ++ z) (append-nil b)
+joined-deliveries f c = grind (arith, flat_map-append, append-nil)
 
 once-deliveries : (f : ℕ → Value) (c : ℕ) → IsWithoutRepeats (joined (deliveries f c))
 once-deliveries f zero = unfold deliveries in tt
 once-deliveries f (suc c) =
-    let d : List Message = joined (deliveries f c) in
-    let new : List Message = minus (f (suc c)) d in
-    rw (joined-deliveries f c) (Lists.IsWithoutRepeats-append d (ordered new) (once-deliveries f c) (Values.IsWithoutRepeats-ordered new)
-    (λ x h k. Values.minus-out (f (suc c)) d x (Values.ordered-from new x k) h))
+    grind (arith, nat_tests, deliveries, joined-deliveries, Lists.IsWithoutRepeats-append, Values.IsWithoutRepeats-ordered, Values.minus-out, Values.ordered-from, once-deliveries f c)
 
 -- the instance whose decision a delivered message comes from
 record IsOfInstance (f : ℕ → Value) (c : ℕ) (m : Message) : Type 0 where
@@ -84,25 +78,29 @@ from-deliveries f (suc c) m h =
 
 -- two members
 
+-- the instances that both closed gave them the same batches
+pub agreed-deliveries : (s : Setting) (g : State) → IsAgreed s g → (p q : ℕ) → IsMember s.members p → IsMember s.members q →
+    (a : HasClosed (member g p)) (b : HasClosed (member g q)) → a.closed ≤ b.closed →
+    deliveries (decision (member g p).got) a.closed ≡ deliveries (decision (member g q).got) a.closed
+agreed-deliveries s g agree p q isp isq a b le =
+    deliveries-same (decision (member g p).got) (decision (member g q).got) a.closed (λ k lo hi.
+    let x = a.decided k lo hi in
+    let y = b.decided k lo (omega arith) in
+    decision-is (member g p).got k x.value x.is ∙ agree.agreed p q k x.value y.value isp isq x.is y.is
+    ∙ sym (decision-is (member g q).got k y.value y.is))
+
 module _ (s : Setting) (g : State) (agree : IsAgreed s g) (all : HaveClosed g) where
   -- the batches of the member that closed fewer instances begin the other's
-  fewer : (p q : ℕ) → IsMember s.members p → IsMember s.members q → (a : HasClosed (member g p)) (b : HasClosed (member g q)) →
-      a.closed ≤ b.closed → IsPrefix (member g p).batches (member g q).batches
-  fewer p q isp isq a b le =
-      let mine : List Wire = (member g p).got in
-      let its : List Wire = (member g q).got in
-      let same : deliveries (decision mine) a.closed ≡ deliveries (decision its) a.closed =
-      deliveries-same (decision mine) (decision its) a.closed (λ k lo hi.
-      let x : HasDecision mine k = a.decided k lo hi in
-      let y : HasDecision its k = b.decided k lo (omega arith) in
-      decision-is mine k x.value x.is ∙ agree.agreed p q k x.value y.value isp isq x.is y.is ∙ sym (decision-is its k y.value y.is)) in
-      rw (a.batches, same, b.batches) (deliveries-prefix (decision its) a.closed b.closed le)
+  fewer : (p q : ℕ) → IsMember s.members p → IsMember s.members q → (all p).closed ≤ (all q).closed →
+      IsPrefix (member g p).batches (member g q).batches
+  fewer p q isp isq le = rw ((all p).batches, agreed-deliveries s g agree p q isp isq (all p) (all q) le, (all q).batches)
+      (deliveries-prefix (decision (member g q).got) (all p).closed (all q).closed le)
 
   one_order : (p q : ℕ) → IsMember s.members p → IsMember s.members q →
       IsPrefix (member g p).batches (member g q).batches ⊎ IsPrefix (member g q).batches (member g p).batches
   one_order p q isp isq = elim (cases_lt (all p).closed (all q).closed) [
-    | inl lt ↦ inl (fewer p q isp isq (all p) (all q) (omega arith))
-    | inr le ↦ inr (fewer q p isq isp (all q) (all p) le)
+    | inl lt ↦ inl (fewer p q isp isq (omega arith))
+    | inr le ↦ inr (fewer q p isq isp le)
   ]
 
   -- so are the batches of the whole group
@@ -119,9 +117,7 @@ module _ (s : Setting) (g : State) (agree : IsAgreed s g) (all : HaveClosed g) w
 length-deliveries : (f : ℕ → Value) (c : ℕ) → length (deliveries f c) ≡ c
 unfolding deliveries
 length-deliveries f zero = refl
-length-deliveries f (suc c) =
-    let b : Batch = record { instance = suc c; messages = ordered (minus (f (suc c)) (joined (deliveries f c))) } in
-    omega (arith, length-append (deliveries f c) (b ∷ []), length-deliveries f c)
+length-deliveries f (suc c) = grind (arith, length-append, length-deliveries f c)
 
 at_end : (xs : List Batch) (x b : Batch) (i : ℕ) → slice_get (xs ++ x ∷ []) i ≡ Some b →
     (slice_get xs i ≡ Some b) ⊎ ((i ≡ length xs) × (x ≡ b))

@@ -1,5 +1,5 @@
 -- The messages that are proposed were submitted; no value that is proposed or decided has more messages than the bound, and no batch has.
-use Rattle.std.proofs.Common.{◌≡◌, ℕ, List, Some, sym, ap, subst, inl, inr, ◌⊎◌, take, drop, zero, suc, ◌≤◌, [], ◌∷◌, length, arith}
+use Rattle.std.proofs.Common.{◌≡◌, ℕ, List, Some, subst, inl, inr, ◌⊎◌, take, drop, zero, suc, ◌≤◌, [], ◌∷◌, length, arith}
 use Rattle.std.proofs.lemmas.List.{take-append-drop, length-take}
 use Rattle.ct_names.specs.Membership.{IsIn}
 use Rattle.ct_names.specs.Message.{Message}
@@ -11,13 +11,12 @@ use Rattle.ct_model.specs.Actor.{actor}
 use Rattle.ct_model.specs.Knowledge.{KnowsMessages}
 use Rattle.ct_model.specs.Setting.{Setting}
 use Rattle.ct_model.specs.State.{State, Member, Proposal, member, delivered, first_state, joined}
-use Rattle.ct_model.specs.Received.{HasDecided, received}
+use Rattle.ct_model.specs.Received.{HasDecided, received, received_by}
 use Rattle.ct_model.specs.Next.{Outcome, row, undelivered, proposed, after, next}
 use Rattle.ct_model.specs.Run.{run}
 use Rattle.ct_model.proofs.Record.Start.{knows-first}
 use Rattle.ct_model.proofs.Record.Frame.{after-submitted}
-use Rattle.ct_model.proofs.Relay.Messages.{next-is, received-by, knows-next}
-use Rattle.ct_model.proofs.Steps.Shapes.{by_shape}
+use Rattle.ct_model.proofs.Relay.Messages.{next-is, knows-next}
 use Rattle.ct_model.proofs.Record.Runs.{kept-sized, kept-run}
 use Rattle.std.proofs.Math.Nat.{min-le_left}
 use Rattle.ct_names.specs.Batch.{Batch}
@@ -30,17 +29,20 @@ use Rattle.ct_model.proofs.Delivery.Batches.{deliveries, decision, decision-is, 
 abbrev pub ProposesSubmitted : State → Type 0
 ProposesSubmitted g = (x : Proposal) → IsIn x g.proposals → (m : Message) → IsIn m x.value → IsIn m g.submitted
 
--- what a member proposes was submitted
+-- what a member proposes is among what it received and didn't deliver, and so it was submitted
+
+pub proposed-from : (s : Setting) (m : Member) (x : Message) → IsIn x (proposed s m) → IsIn x (minus (received m.got) (delivered m))
+unfolding proposed undelivered
+proposed-from s m x h =
+    let rest : List Message = minus (received m.got) (delivered m) in
+    Values.ordered-from rest x (rw take-append-drop at
+    (Lists.IsIn-append_left x (take s.bound (ordered rest)) (drop s.bound (ordered rest)) h))
+
 proposed-submitted : (s : Setting) (g : State) (p : ℕ) (m : Message) → KnowsMessages s g → IsIn m (proposed s (member g p)) →
     IsIn m g.submitted
-unfolding proposed undelivered
-proposed-submitted s g p m k h =
-    let rest : List Message = minus (received (member g p).got) (delivered (member g p)) in
-    let first = subst (λ list. IsIn m list) (take-append-drop s.bound (ordered rest))
-    (Lists.IsIn-append_left m (take s.bound (ordered rest)) (drop s.bound (ordered rest)) h) in
-    let inside : IsIn m (received (member g p).got) = Values.minus-from (received (member g p).got) (delivered (member g p)) m
-    (Values.ordered-from rest m first) in
-    Values.in-has g.submitted m (k.received p m (Values.has-in _ m (subst (λ list. IsIn m list) (sym (received-by g p)) inside)))
+unfolding received_by
+proposed-submitted s g p m k h = Values.in-has g.submitted m (k.received p m (Values.has-in _ m
+    (Values.minus-from (received (member g p).got) (delivered (member g p)) m (proposed-from s (member g p) m h))))
 
 -- what a step proposes is what its member may propose
 abbrev pub IsProposing : Setting → Member → Outcome → Type 0
@@ -48,34 +50,23 @@ IsProposing s m o = (x : Proposal) → IsIn x o.proposals → x.value ≡ propos
 
 pub proposes-row : (s : Setting) (g : State) (p : ℕ) (m : Member) (step : Step) (o : Outcome) → row s g p m step ≡ Some o
     → IsProposing s m o
-proposes-row s g p m step o = by_shape s g p m (IsProposing s m) step o (record {
-  submits = λ c good x h. absurd h;
-  gets = λ k w at x h. absurd h;
-  opens = λ idle some x h. elim h [ inl same ↦ ap (λ y. y.value) same | inr never ↦ absurd never ];
-  turns = λ a c t open_at taken x h. absurd h;
-  closes = λ c v open_at has delivers x h. absurd h;
-  follows = λ v idle has delivers x h. absurd h;
-  marks = λ crashed x h. absurd h;
-})
+proposes-row s g p m step o = grind arith
 
 pub proposals-cases : (s : Setting) (g : State) (p : ℕ) (o : Outcome) (x : Proposal) → IsIn x (after s g p o).proposals →
     IsIn x g.proposals ⊎ IsIn x o.proposals
 unfolding after
 proposals-cases s g p o x h = Lists.IsIn-append_cases x g.proposals o.proposals h
 
-submitted-old : (s : Setting) (g : State) (p : ℕ) (o : Outcome) (m : Message) → IsIn m g.submitted → IsIn m (after s g p o).submitted
-submitted-old s g p o m h = subst (λ list. IsIn m list) (sym (after-submitted s g p o)) (Lists.IsIn-append_left m g.submitted o.submitted h)
-
 proposes-next : (s : Setting) (g : State) (step : Step) (h : State) → next s g step ≡ Some h → KnowsMessages s g → ProposesSubmitted g →
     ProposesSubmitted h
 proposes-next s g step h e k old =
     let t = next-is s g step h e in
     let p : ℕ = actor step in
-    subst (λ x. ProposesSubmitted x) t.gives
-    (λ x is m inside. submitted-old s g p t.outcome m (elim (proposals-cases s g p t.outcome x is) [
+    rw (← t.gives) (λ x is m inside. rw after-submitted (Lists.IsIn-append_left m g.submitted t.outcome.submitted
+    (elim (proposals-cases s g p t.outcome x is) [
       | inl a ↦ old x a m inside
       | inr b ↦ proposed-submitted s g p m k (rw (proposes-row s g p (member g p) step t.outcome t.row x b) at inside)
-    ]))
+    ])))
 
 pub proposes-run : (s : Setting) (steps : List Step) (g : State) → run s steps ≡ Some g → ProposesSubmitted g
 unfolding first_state
@@ -85,9 +76,7 @@ proposes-run s steps g e = (kept-sized (λ g. KnowsMessages s g × ProposesSubmi
 -- what is left of a set is no longer than the set
 
 length-minus : (v other : List Message) → length (ordered (minus v other)) ≤ length v
-length-minus v other =
-    let kept : length (minus v other) ≤ length v = Lists.filter-shorter _ v in
-    omega (arith, length-ordered (minus v other))
+length-minus v other = grind (arith, Lists.filter-shorter, length-ordered)
 
 -- proposals
 

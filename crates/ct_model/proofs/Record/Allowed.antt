@@ -2,7 +2,6 @@
 use Rattle.std.specs.Prelude.{is_none}
 use Rattle.std.proofs.Common.{arith, ◌≡◌, ℕ, ◌+◌, false, length, ap, sym, ◌∙◌, subst, Some, None}
 use Rattle.ct_model.specs.declared.step.Step.{Step}
-use Rattle.ct_model.specs.declared.step.Step.TheVariants.{Receive, Postpone, Lose, Repeat}
 use Rattle.ct_model.specs.Actor.{actor}
 use Rattle.ct_model.specs.State.{State, member}
 use Rattle.ct_model.specs.Next.{Outcome, row, after, next}
@@ -21,11 +20,7 @@ use Rattle.ct_model.proofs.Steps.LineSteps.{waiting_sent, postpone_waits, lose_w
 
 -- what a step without a cause takes or moves waits, what it puts back doesn't
 pub names-free : (w : Rehearsal) (step : Step) → cause w step ≡ None → NamesWaiting w step
-names-free w (Receive p k) none = receive_waits w p k none
-names-free w (Postpone p k) none = postpone_waits w p k none
-names-free w (Lose p k) none = lose_waits w p k none
-names-free w (Repeat p k) none = repeat_away w p k none
-names-free w _ none = tt
+names-free w step none = grind (arith, receive_waits, postpone_waits, lose_waits, repeat_away)
 
 -- what has no cause is allowed
 
@@ -50,7 +45,7 @@ cause-allowed w step law none =
 
 -- where a row gives an outcome and what the step names waits or not, as the step asks, no test of its own fires
 
-row-free : (w : Rehearsal) (step : Step) (o : Outcome) → row w.setting (state_of w) (actor step) (member (state_of w) (actor step)) step
+pub row-free : (w : Rehearsal) (step : Step) (o : Outcome) → row w.setting (state_of w) (actor step) (member (state_of w) (actor step)) step
     ≡ Some o → NamesWaiting w step → first_fault (own_tests w step) ≡ None
 unfolding enter choose adopt suspect conclude
 row-free w step o is names = ap first_fault (own_tests-is w step) ∙ grind arith

@@ -1,19 +1,17 @@
 -- The first test that fires, and the limits of a step that only sends.
-use Rattle.std.proofs.Common.{◌≡◌, ℕ, ◌+◌, ◌≤◌, ◌<◌, true, false, not, List, [], ◌∷◌, length, refl, ap, sym, ◌∙◌, arith, Option, Some, None}
+use Rattle.std.proofs.Common.{◌≡◌, ℕ, ◌+◌, ◌≤◌, ◌<◌, true, false, List, [], ◌∷◌, length, refl, ap, ◌∙◌, arith, Option, Some, None}
 use Rattle.std.specs.Prelude.{nat_lt}
 use Rattle.std.proofs.lemmas.Bool.Decides.{nat_tests}
 use Rattle.ct_names.specs.declared.limit.TheConstants.{MAX_ENVELOPES, MAX_STEPS}
-use Rattle.ct_names.specs.Group.{is_member}
 use Rattle.ct_names.specs.declared.limit.Limit.TheVariants.{Envelopes, Steps}
 use Rattle.ct_names.specs.declared.refusal.Refusal.{Refusal}
-use Rattle.ct_names.specs.declared.refusal.Refusal.TheVariants.{NoSuchMember, Crashed, Full}
+use Rattle.ct_names.specs.declared.refusal.Refusal.TheVariants.{Full}
 use Rattle.ct_model.specs.declared.step.Step.{Step}
 use Rattle.ct_model.specs.Actor.{actor}
-use Rattle.ct_model.specs.State.{Member, member, is_crashed}
+use Rattle.ct_model.specs.State.{Member, member}
 use Rattle.ct_model.specs.Rehearsal.{Rehearsal, state_of, line_of}
 use Rattle.ct_model.specs.Cause.{Test, at, first_fault, presence, tests, limit, or_else, cause, overflow}
 use Rattle.ct_model.specs.Lawful.{IsPresent}
-use Rattle.ct_model.proofs.Basics.Tests.{false_not}
 
 pub or_else-none : (o rest : Option Refusal) → or_else o rest ≡ None → (o ≡ None) × (rest ≡ None)
 or_else-none o rest h = grind arith
@@ -27,10 +25,7 @@ pub present-none : (w : Rehearsal) (p : ℕ) → IsPresent w p → first_fault (
 present-none w p h = rw (h.in_group, h.up) refl
 
 pub none-present : (w : Rehearsal) (p : ℕ) → first_fault (presence w.setting (state_of w) p) ≡ None → IsPresent w p
-none-present w p h =
-    let a = first_fault-none (at NoSuchMember (not (is_member w.setting.members p))) (at Crashed (is_crashed (state_of w) p) ∷ []) h in
-    let b = first_fault-none (at Crashed (is_crashed (state_of w) p)) [] a.1 in
-    record { in_group = false_not (is_member w.setting.members p) a.0; up = b.0 }
+none-present w p h = grind arith
 
 -- the tests of its own that a step has
 unfoldable pub own_tests : Rehearsal → Step → List Test
@@ -51,11 +46,7 @@ pub record IsFree (w : Rehearsal) (step : Step) : Type 0 where
   pub limited : limit w step ≡ None
 
 pub cause-none : (w : Rehearsal) (step : Step) → cause w step ≡ None → IsFree w step
-cause-none w step h =
-    let a = or_else-none (first_fault (presence w.setting (state_of w) (actor step)))
-    (or_else (first_fault (own_tests w step)) (limit w step)) (sym (cause-is w step) ∙ h) in
-    let b = or_else-none (first_fault (own_tests w step)) (limit w step) a.1 in
-    record { present = none-present w (actor step) a.0; tested = b.0; limited = b.1 }
+cause-none w step h = grind (arith, or_else-none, cause-is)
 
 -- the member has the instances and batches that it had
 pub record IsKept (old new : Member) : Type 0 where
@@ -82,17 +73,11 @@ overflow-sent w more many = overflow-is w more ∙ rw (high MAX_ENVELOPES (lengt
 
 pub overflow-steps : (w : Rehearsal) (more : ℕ) → length (state_of w).sent + more ≤ MAX_ENVELOPES → MAX_STEPS < length w.steps + 1 →
     overflow w more ≡ Some (Full Steps)
-overflow-steps w more few many = overflow-is w more ∙ rw (
-  low MAX_ENVELOPES (length (state_of w).sent + more) few,
-  high MAX_STEPS (length w.steps + 1) many,
-) refl
+overflow-steps w more few many = grind (arith, overflow-is, low)
 
 pub overflow-no : (w : Rehearsal) (more : ℕ) → length (state_of w).sent + more ≤ MAX_ENVELOPES → length w.steps + 1 ≤ MAX_STEPS →
     overflow w more ≡ None
-overflow-no w more few less = overflow-is w more ∙ rw (
-  low MAX_ENVELOPES (length (state_of w).sent + more) few,
-  low MAX_STEPS (length w.steps + 1) less,
-) refl
+overflow-no w more few less = grind (arith, overflow-is)
 
 -- what keeps a member from any step is the cause
 pub cause-absent : (w : Rehearsal) (step : Step) (refusal : Refusal) →

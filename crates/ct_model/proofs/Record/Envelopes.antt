@@ -12,7 +12,7 @@ use Rattle.ct_model.specs.Rehearsal.{Rehearsal, state_of}
 use Rattle.ct_model.specs.Stamps.{is_gone}
 use Rattle.ct_model.specs.Lawful.{IsLawful, IsLetter, is_waiting}
 use Rattle.ct_model.proofs.Basics.Tests.{and_left, or_left, or_right, or_cases, number_same, same_number}
-use Rattle.ct_model.proofs.Basics.Options.{some-same, some-none, made-then, when-some, when-is}
+use Rattle.ct_model.proofs.Basics.Options.{some-same, some-none, when-some}
 use Rattle.ct_model.proofs.Basics.Serials.{has_serial-append}
 
 -- the i-th envelope goes to p
@@ -46,15 +46,9 @@ serial_to : (p before i : ℕ) (es : List Envelope) (e : Envelope) → slice_get
     has_serial (before + 1 + i) (serials_to p before es) ≡ true
 serial_to p before i [] e there to = some-none e there
 serial_to p before zero (x ∷ es) e there to =
-    let same : (x.to == p) ≡ true = number_same x.to p (ap (λ y. y.to) (some-same x e there) ∙ to) in
-    rw same (or_left (before + 1 == before + 1 + 0) (has_serial (before + 1 + 0) (serials_to p (before + 1) es))
-    (number_same (before + 1) (before + 1 + 0) (omega arith)))
+    grind (arith, nat_tests, some-none, number_same, some-same, or_left, has_serial-append, or_right)
 serial_to p before (suc i) (x ∷ es) e there to =
-    let here : List ℕ = if x.to == p then (before + 1) ∷ [] else [] in
-    let place : before + 1 + 1 + i ≡ before + 1 + suc i = omega arith in
-    has_serial-append (before + 1 + suc i) here (serials_to p (before + 1) es)
-    ∙ or_right (has_serial (before + 1 + suc i) here) (has_serial (before + 1 + suc i) (serials_to p (before + 1) es))
-    (subst (λ k. has_serial k (serials_to p (before + 1) es) ≡ true) place (serial_to p (before + 1) i es e there to))
+    grind (arith, nat_tests, some-none, number_same, some-same, or_left, has_serial-append, or_right, serial_to p (before + 1) i es e there to)
 
 -- so has what p gets from a serial
 pub sent_serial : (g : State) (p k : ℕ) → is_some (wire_to g p k) ≡ true → has_serial k (serials_to p 0 g.sent) ≡ true
@@ -76,12 +70,7 @@ was_sent w p k law h = and_left (has_serial k (serials_to p 0 (state_of w).sent)
 
 -- what was sent to p is an envelope to p
 sent_letter : (g : State) (p k : ℕ) → has_serial k (serials_to p 0 g.sent) ≡ true → (e : Envelope) × IsLetter g p k e
-sent_letter g p k h =
-    let r = serial_at p 0 k g.sent h in
-    let at : k - 1 ≡ r.0 = omega (arith, r.2.place) in (
-      r.1,
-      record { there = rw at r.2.there; to = r.2.to; positive = omega (arith, r.2.place) },
-    )
+sent_letter g p k h = grind (arith, serial_at)
 
 -- and so is what waits
 pub waiting_letter : (w : Rehearsal) (p k : ℕ) → IsLawful w → is_waiting w p k ≡ true → (e : Envelope) × IsLetter (state_of w) p k e
@@ -115,7 +104,4 @@ at_place es (suc i) e h = (i, h)
 
 pub wire_to-sent : (g : State) (p k : ℕ) (w : Wire) → wire_to g p k ≡ Some w → IsSent g w
 unfolding wire_to
-wire_to-sent g p k w h =
-    let made = made-then (addressed p) (at_serial g.sent k) w h in
-    let at = at_place g.sent k made.from made.is in
-    record { place = at.0; envelope = made.from; there = at.1; wire = (when-is (made.from.to == p) made.from.wire w made.gives).1 }
+wire_to-sent g p k w h = grind arith

@@ -1,8 +1,7 @@
 -- The tests and limits of a step, whichever it is.
 use Rattle.std.proofs.Common.{◌≡◌, ◌≢◌, ℕ, ◌+◌, ◌-◌, ◌≤◌, Bool, true, false, not, List, [], ◌∷◌, length, refl, ap, sym, ◌∙◌, arith, Some}
 use Rattle.std.proofs.Common.{None, inl, inr}
-use Rattle.std.specs.Option.{option_map_or}
-use Rattle.std.specs.Prelude.{nat_lt, ◌==◌, ◌++◌, if◌then◌else◌}
+use Rattle.std.specs.Prelude.{nat_lt, ◌++◌, if◌then◌else◌}
 use Rattle.std.proofs.lemmas.Bool.{cases_eq}
 use Rattle.std.proofs.lemmas.List.{append-nil}
 use Rattle.ct_names.specs.declared.limit.TheConstants.{MAX_ENVELOPES, MAX_INSTANCES, MAX_ROUNDS, MAX_STEPS, MAX_SUBMISSIONS}
@@ -11,7 +10,6 @@ use Rattle.ct_names.specs.declared.refusal.Refusal.{Refusal}
 use Rattle.ct_names.specs.declared.refusal.Refusal.TheVariants.{Full}
 use Rattle.ct_model.specs.declared.step.Step.{Step}
 use Rattle.ct_model.specs.Actor.{actor}
-use Rattle.ct_model.specs.AtValue.{Standing}
 use Rattle.ct_model.specs.Setting.{Setting}
 use Rattle.ct_model.specs.State.{State, Member, member, submissions}
 use Rattle.ct_model.specs.Next.{Outcome, row, after}
@@ -19,10 +17,9 @@ use Rattle.ct_model.specs.Rehearsal.{Rehearsal, state_of, line_of}
 use Rattle.ct_model.specs.Wire.{envelopes}
 use Rattle.ct_model.specs.Cause.{Test, at, first_fault, tests, limits, limit, or_else, cause, overflow, order, round_of}
 use Rattle.ct_model.specs.Lawful.{IsWithin, IsLawful, IsPresent, NamesWaiting}
-use Rattle.ct_model.proofs.Basics.Tests.{false_not, number_other}
+use Rattle.ct_model.proofs.Basics.Tests.{false_not}
 use Rattle.ct_model.proofs.Record.Frame.{after-submitted, length-after-sent, order-kept, member-same, member-other, at_place}
 use Rattle.ct_model.proofs.Record.Frame.{submissions-append, submissions-next, submissions-none}
-use Rattle.ct_model.proofs.Steps.Shapes.{by_shape}
 use Rattle.ct_model.proofs.Record.Causes.{own_tests, cause-present, cause-none, IsKept, first_fault-none, low, overflow-is}
 use Rattle.ct_model.proofs.Record.Taken.{IsTaken, next-row}
 use Rattle.ct_model.proofs.Relay.Messages.{in_members}
@@ -67,17 +64,7 @@ limit-of w step o present e = grind (arith, next-row w.setting (state_of w) step
 
 pub row-submits : (s : Setting) (g : State) (p : ℕ) (m : Member) (step : Step) (o : Outcome) → row s g p m step ≡ Some o → (q : ℕ) → q ≢ p
     → submissions o.submitted q ≡ 0
-row-submits s g p m step o e q other = by_shape s g p m (λ x. submissions x.submitted q ≡ 0) step o (record {
-  submits = λ c good.
-      let differs : (p == q) ≡ false = number_other p q (λ same. other (sym same)) in
-      submissions-next g.submitted p q c ∙ ap (λ b. if b then 1 else 0) differs;
-  gets = λ k w at. submissions-none q;
-  opens = λ idle some. submissions-none q;
-  turns = λ a c t open_at taken. submissions-none q;
-  closes = λ c v open_at has delivers. submissions-none q;
-  follows = λ v idle has delivers. submissions-none q;
-  marks = λ crashed. submissions-none q;
-}) e
+row-submits s g p m step o e q other = grind (arith, submissions-next, submissions-none)
 
 -- what the limits say of a state and a member where none is passed
 pub record IsUnder (cells steps : ℕ) (g : State) (p : ℕ) : Type 0 where
@@ -89,14 +76,7 @@ pub record IsUnder (cells steps : ℕ) (g : State) (p : ℕ) : Type 0 where
   pub few_steps : steps ≤ MAX_STEPS
 
 pub limits-none : (cells steps : ℕ) (g : State) (p : ℕ) → first_fault (limits cells steps g p) ≡ None → IsUnder cells steps g p
-limits-none cells steps g p h = record {
-  few_submissions = grind arith;
-  few_instances = grind arith;
-  few_rounds = grind arith;
-  few_envelopes = grind arith;
-  few_batches = grind arith;
-  few_steps = grind arith;
-}
+limits-none cells steps g p h = grind arith
 
 module _ (w : Rehearsal) (step : Step) (o : Outcome) (law : IsLawful w)
     (is : row w.setting (state_of w) (actor step) (member (state_of w) (actor step)) step ≡ Some o)
@@ -112,16 +92,7 @@ module _ (w : Rehearsal) (step : Step) (o : Outcome) (law : IsLawful w)
       ]
 
   few_each : (q : ℕ) → submissions (after w.setting (state_of w) (actor step) o).submitted q ≤ MAX_SUBMISSIONS
-  few_each q =
-      elim (cases_eq q (actor step)) [
-        | inl same ↦ rw same under.few_submissions
-        | inr other ↦ rw (
-          after-submitted w.setting (state_of w) (actor step) o,
-          submissions-append (state_of w).submitted o.submitted q,
-          row-submits w.setting (state_of w) (actor step) (member (state_of w) (actor step)) step o is q other,
-        )
-            (let few = law.within.few_submissions q in omega arith)
-      ]
+  few_each q = grind (arith, cases_eq, after-submitted, submissions-append, row-submits)
 
   within_all : IsWithin w.cells (after w.setting (state_of w) (actor step) o) (length w.steps + 1)
   within_all = record {
@@ -167,10 +138,7 @@ module _ (w : Rehearsal) (step : Step) (o : Outcome) (law : IsLawful w) (present
   member_is = member-same w.setting g p o (in_members w.setting g p law.size present.in_group)
 
   few_silent : o.submitted ≡ [] → nat_lt MAX_SUBMISSIONS (submissions h.submitted p) ≡ false
-  few_silent none =
-      let same : h.submitted ≡ g.submitted = after-submitted w.setting g p o ∙ ap (λ ms. g.submitted ++ ms) none ∙ append-nil g.submitted in
-      ap (λ ms. nat_lt MAX_SUBMISSIONS (submissions ms p)) same
-      ∙ low MAX_SUBMISSIONS (submissions g.submitted p) (law.within.few_submissions p)
+  few_silent none = grind (arith, after-submitted, append-nil)
 
   -- where it submits nothing
   pub limit-silent : o.submitted ≡ [] → limit w step ≡ first_fault (at (Full Instances) (nat_lt MAX_INSTANCES o.member.last)
@@ -185,9 +153,7 @@ module _ (w : Rehearsal) (step : Step) (o : Outcome) (law : IsLawful w) (present
   instances_kept same = ap (nat_lt MAX_INSTANCES) same ∙ low MAX_INSTANCES (member g p).last (law.within.few_instances p)
 
   rounds_kept : o.member.current ≡ (member g p).current → nat_lt MAX_ROUNDS (round_of o.member) ≡ false
-  rounds_kept same =
-      ap (λ c. nat_lt MAX_ROUNDS (option_map_or (λ (x : Standing). x.round) c 0)) same
-      ∙ low MAX_ROUNDS (round_of (member g p)) (law.within.few_rounds p)
+  rounds_kept same = grind arith
 
   cells_kept : o.member.batches ≡ (member g p).batches → nat_lt w.cells (length (order h)) ≡ false
   cells_kept same =
@@ -198,14 +164,7 @@ module _ (w : Rehearsal) (step : Step) (o : Outcome) (law : IsLawful w) (present
       ≡ or_else (first_fault (at (Full Instances) (nat_lt MAX_INSTANCES o.member.last)
       ∷ at (Full Rounds) (nat_lt MAX_ROUNDS (round_of o.member)) ∷ []))
       (overflow w (length (envelopes w.setting.members o.mail)))
-  limit-idle none kept =
-      let own : List Test = at (Full Instances) (nat_lt MAX_INSTANCES o.member.last)
-      ∷ at (Full Rounds) (nat_lt MAX_ROUNDS (round_of o.member)) ∷ [] in
-      let more : ℕ = length (envelopes w.setting.members o.mail) in
-      limit-silent none
-      ∙ rw (cells_kept kept) (first_fault-append own (at (Full Envelopes) (nat_lt MAX_ENVELOPES (length g.sent + more))
-      ∷ at (Full Steps) (nat_lt MAX_STEPS (length w.steps + 1)) ∷ []))
-      ∙ ap (or_else (first_fault own)) (sym (overflow-is w more))
+  limit-idle none kept = grind (arith, limit-silent, cells_kept, first_fault-append, overflow-is)
 
   -- where its member keeps its instances and batches
   pub limit-kept : IsKept (member (state_of w) (actor step)) o.member → limit w step

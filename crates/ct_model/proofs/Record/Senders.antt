@@ -53,11 +53,7 @@ pub record IsPosted (from : List ℕ) (sent : List Envelope) (x : ℕ) (e : Enve
 
 pub posted-old : (from more : List ℕ) (sent new : List Envelope) (x : ℕ) (e : Envelope) → IsPosted from sent x e →
     IsPosted (from ++ more) (sent ++ new) x e
-posted-old from more sent new x e f = record {
-  serial = f.serial;
-  sender = at-front from more f.serial x f.sender;
-  envelope = at-front sent new f.serial e f.envelope;
-}
+posted-old from more sent new x e f = grind (arith, at-front)
 
 pub posted-new : (from : List ℕ) (sent new : List Envelope) (x : ℕ) (e : Envelope) → length from ≡ length sent → IsIn e new →
     IsPosted (from ++ replicate (length new) x) (sent ++ new) x e

@@ -1,8 +1,7 @@
 -- Stamps, and what is gone, after one more step.
-use Rattle.std.proofs.Common.{◌≡◌, ℕ, suc, zero, ◌-◌, ◌<◌, ◌≤◌, Bool, true, false, not, List, [], ◌∷◌, ◌++◌, length, refl, ap, sym}
-use Rattle.std.proofs.Common.{◌∙◌, arith, Some, inl, inr, subst}
+use Rattle.std.proofs.Common.{◌≡◌, ℕ, suc, zero, ◌-◌, ◌<◌, ◌≤◌, Bool, true, false, not, List, [], ◌∷◌, ◌++◌, length, refl, ap}
+use Rattle.std.proofs.Common.{◌∙◌, arith, Some}
 use Rattle.std.specs.Prelude.{◌==◌, ◌&&◌, ◌||◌, nat_lt, filter, slice_get, if◌then◌else◌}
-use Rattle.std.proofs.lemmas.Bool.{cond_both}
 use Rattle.std.proofs.lemmas.Bool.Decides.{nat_tests}
 use Rattle.std.proofs.lemmas.List.{take-append-le, length-append}
 use Rattle.std.proofs.Math.Seq.{take-length}
@@ -13,7 +12,7 @@ use Rattle.ct_model.specs.Rehearsal.{Rehearsal, extended}
 use Rattle.ct_model.specs.Stamps.{last_passing, is_step, removes, postpones, repeats, is_gone, beginning, is_sent, sends, stamp}
 use Rattle.ct_model.specs.Stamps.{IsRising}
 use Rattle.ct_model.proofs.Basics.Options.{some-none, some-same}
-use Rattle.ct_model.proofs.Basics.Tests.{or_left, or_right, or_cases, number_same, self_number, same_number, and_left}
+use Rattle.ct_model.proofs.Basics.Tests.{or_left, or_right, or_cases, number_same, same_number}
 use Rattle.ct_model.proofs.Basics.Serials.{has_serial-append, has_serial-filter}
 
 -- the last number that passes
@@ -24,9 +23,7 @@ last_passing-within test (suc n) = grind (arith, last_passing-within test n)
 
 last_passing-same : (one other : ℕ → Bool) (n : ℕ) → ((i : ℕ) → i ≤ n → one i ≡ other i) → last_passing one n ≡ last_passing other n
 last_passing-same one other zero h = refl
-last_passing-same one other (suc n) h =
-    let here : one (suc n) ≡ other (suc n) = h (suc n) (omega arith) in
-    grind (arith, last_passing-same one other n (λ i le. h i (omega arith)))
+last_passing-same one other (suc n) h = grind (arith, last_passing-same one other n (λ i le. h i (omega arith)))
 
 -- a step by its number, after one more step
 
@@ -93,17 +90,7 @@ pub is_gone-push : (w : Rehearsal) (step : Step) (p k : ℕ)
     → is_gone (extended w step) p k ≡ ((is_gone w p k || takes p k (line_change step)) && not (restores p k (line_change step)))
 unfolding is_gone
 is_gone-push w step p k =
-    rw (
-      last_step-push (repeats p k) w.steps step,
-      last_step-push (removes p k) w.steps step,
-      removes-takes p k step,
-      repeats-restores p k step,
-    )
-    (gone_test (restores p k (line_change step)) (takes p k (line_change step))
-    (last_passing (is_step (repeats p k) w.steps) (length w.steps))
-    (last_passing (is_step (removes p k) w.steps) (length w.steps)) (length w.steps) (one_change p k (line_change step))
-    (last_passing-within (is_step (repeats p k) w.steps) (length w.steps))
-    (last_passing-within (is_step (removes p k) w.steps) (length w.steps)))
+    grind (arith, nat_tests, last_step-push, removes-takes, repeats-restores, gone_test, one_change, last_passing-within)
 
 -- stamps
 
@@ -118,9 +105,7 @@ beginning-all : (w : Rehearsal) → beginning w (length w.steps) ≡ w
 beginning-all w = ap (λ (steps : List Step). record w { steps = steps }) (take-length w.steps)
 
 sends-old : (w : Rehearsal) (step : Step) (p k n : ℕ) → n ≤ length w.steps → sends (extended w step) p k n ≡ sends w p k n
-sends-old w step p k n h =
-    let before : n - 1 ≤ length w.steps = omega arith in
-    rw (beginning-old w step n h, beginning-old w step (n - 1) before) refl
+sends-old w step p k n h = grind (arith, beginning-old)
 
 sends-new : (w : Rehearsal) (step : Step) (p k : ℕ) → sends (extended w step) p k (suc (length w.steps)) ≡ is_new w step p k
 sends-new w step p k =
@@ -143,12 +128,7 @@ stamps-old w step p k n h =
 
 stamps-new : (w : Rehearsal) (step : Step) (p k : ℕ)
     → stamps (extended w step) p k (suc (length w.steps)) ≡ (is_new w step p k || moves p k (line_change step))
-stamps-new w step p k =
-    rw (sends-new w step p k, is_step-new (postpones p k) w.steps step, is_step-new (repeats p k) w.steps step)
-    (or_assoc (is_new w step p k) (postpones p k step) (repeats p k step) ∙ ap (λ b. is_new w step p k || b) (moved-moves p k step))
-  where
-    or_assoc : (a b c : Bool) → ((a || b) || c) ≡ (a || (b || c))
-    or_assoc a b c = grind arith
+stamps-new w step p k = grind (arith, nat_tests, sends-new, is_step-new, moved-moves)
 
 -- the stamp is the step's number, where the step sends the serial or moves it, and else stays
 pub stamp-push : (w : Rehearsal) (step : Step) (p k : ℕ)
@@ -170,34 +150,17 @@ stamp-within w p k = last_passing-within (stamps w p k) (length w.steps)
 pub rising-same : (one other : ℕ → ℕ) (line : List ℕ) → ((k : ℕ) → has_serial k line ≡ true → other k ≡ one k) → IsRising one line →
     IsRising other line
 rising-same one other [] h r = tt
-rising-same one other (k ∷ line) h r = (
-  λ i m.
-      let first : other k ≡ one k = h k (or_left (k == k) (has_serial k line) (self_number k)) in
-      let later : other i ≡ one i = h i (or_right (k == i) (has_serial i line) m) in
-      let less : one k < one i = r.0 i m in
-      omega arith,
-  rising-same one other line (λ i m. h i (or_right (k == i) (has_serial i line) m)) r.1,
-)
+rising-same one other (k ∷ line) h r = grind (arith, rising-same one other line (λ i m. h i (or_right (k == i) (has_serial i line) m)) r.1)
 
 pub rising-filter : (number : ℕ → ℕ) (f : ℕ → Bool) (line : List ℕ) → IsRising number line → IsRising number (filter f line)
 rising-filter number f [] r = tt
-rising-filter number f (k ∷ line) r =
-    let rest : IsRising number (filter f line) = rising-filter number f line r.1 in
-    cond_both (f k) (k ∷ filter f line) (filter f line) (IsRising number)
-    (λ here. (λ i m. r.0 i (and_left (has_serial i line) (f i) (sym (has_serial-filter f i line) ∙ m)), rest)) (λ out. rest)
+rising-filter number f (k ∷ line) r = grind (arith, has_serial-filter, rising-filter number f line r.1)
 
 pub rising-push : (number : ℕ → ℕ) (line : List ℕ) (k : ℕ) → IsRising number line →
     ((i : ℕ) → has_serial i line ≡ true → number i < number k) → IsRising number (line ++ k ∷ [])
 rising-push number [] k r h = (λ i m. absurd (cc), tt)
-rising-push number (j ∷ line) k r h = (
-  λ i m. elim (or_cases (has_serial i line) (has_serial i (k ∷ [])) (sym (has_serial-append i line (k ∷ [])) ∙ m)) [
-    | inl a ↦ r.0 i a
-    | inr b ↦
-        let last : k ≡ i = same_number k i (grind arith) in
-        subst (λ x. number j < number x) last (h j (or_left (j == j) (has_serial j line) (self_number j)))
-  ],
-  rising-push number line k r.1 (λ i m. h i (or_right (j == i) (has_serial i line) m)),
-)
+rising-push number (j ∷ line) k r h =
+    grind (arith, or_cases, has_serial-append, same_number, rising-push number line k r.1 (λ i m. h i (or_right (j == i) (has_serial i line) m)))
 
 -- by places in the list
 
@@ -210,6 +173,5 @@ pub rising-places : (number : ℕ → ℕ) (line : List ℕ) (i j k l : ℕ) →
     slice_get line j ≡ Some l → i < j → number k < number l
 rising-places number [] i j k l r e f lt = some-none k e
 rising-places number (x ∷ line) i zero k l r e f lt = absurd (omega arith)
-rising-places number (x ∷ line) zero (suc j) k l r e f lt =
-    subst (λ z. number z < number l) (some-same x k e) (r.0 l (get-has line j l f))
+rising-places number (x ∷ line) zero (suc j) k l r e f lt = grind (arith, get-has)
 rising-places number (x ∷ line) (suc i) (suc j) k l r e f lt = rising-places number line i j k l r.1 e f (omega arith)

@@ -1,7 +1,6 @@
 -- The record without steps.
-use Rattle.std.proofs.Common.{◌≡◌, ℕ, ◌-◌, zero, suc, true, [], length, map, refl, ap, sym, ◌∙◌, arith, Some, replicate, get_or}
+use Rattle.std.proofs.Common.{◌≡◌, ℕ, ◌-◌, zero, suc, [], length, map, refl, ap, sym, ◌∙◌, arith, Some, replicate, get_or}
 use Rattle.std.proofs.lemmas.List.{length-replicate}
-use Rattle.ct_names.specs.Value.{has}
 use Rattle.ct_model.specs.Setting.{Setting}
 use Rattle.ct_model.specs.State.{State, Member, first_state, new_member, member, submissions}
 use Rattle.ct_model.specs.Received.{received, received_by}
@@ -9,7 +8,7 @@ use Rattle.ct_model.specs.Run.{run, run_from}
 use Rattle.ct_model.specs.Waiting.{waiting}
 use Rattle.ct_model.specs.Rehearsal.{empty, state_of, line_of}
 use Rattle.ct_model.specs.Stamps.{is_gone}
-use Rattle.ct_model.specs.Cause.{order, longest, round_of}
+use Rattle.ct_model.specs.Cause.{order, longest}
 use Rattle.ct_model.specs.Lawful.{IsWithin, IsLawful}
 use Rattle.ct_model.specs.Knowledge.{KnowsMessages}
 
@@ -52,14 +51,7 @@ pub line-first : (s : Setting) (cells p : ℕ) → line_of (empty s cells) p ≡
 line-first s cells p = unfold line_of waiting in refl
 
 within-first : (s : Setting) (cells : ℕ) → IsWithin cells (first_state s) 0
-within-first s cells = record {
-  few_submissions = λ p. let e = submissions-first s p in omega arith;
-  few_instances = λ p. let e = ap (λ (m : Member). m.last) (member-first s p) in omega arith;
-  few_rounds = λ p. let e = ap round_of (member-first s p) in omega arith;
-  few_envelopes = let e = ap length (sent-first s) in omega arith;
-  few_batches = let e = ap length (order-first s) in omega arith;
-  few_steps = omega arith;
-}
+within-first s cells = grind (arith, submissions-first, member-first, sent-first, order-first)
 
 runs-first : (s : Setting) (cells : ℕ) → run s [] ≡ Some (state_of (empty s cells))
 unfolding run run_from
@@ -79,11 +71,4 @@ lawful-first s cells = record {
 
 pub knows-first : (s : Setting) → KnowsMessages s (first_state s)
 unfolding first_state
-knows-first s = record {
-  origin = λ m h. absurd (cc);
-  positive = λ m h. absurd (cc);
-  numbered = λ m h. absurd (cc);
-  unique = λ m other h k same number. absurd (cc);
-  sent = λ i e h. absurd (cc);
-  received = λ p m h. absurd (let e : has [] m ≡ true = rw (received-first s p) at h in cc);
-}
+knows-first s = grind (arith, received-first)

@@ -1,27 +1,26 @@
 -- A step that is taken: what it does to the record, whichever step it is.
-use Rattle.std.proofs.Common.{◌≡◌, ℕ, suc, ◌+◌, ◌<◌, ◌≤◌, Bool, true, false, List, [], ◌∷◌, ◌++◌, length, drop, refl, ap, sym, ◌∙◌, arith}
+use Rattle.std.proofs.lemmas.Bool.Decides.{nat_tests}
+use Rattle.std.proofs.Common.{◌≡◌, ℕ, suc, ◌+◌, ◌<◌, ◌≤◌, Bool, true, false, List, [], ◌∷◌, ◌++◌, length, refl, ap, ◌∙◌, arith}
 use Rattle.std.proofs.Common.{Some, ◌⊎◌, inl, inr, append-nil}
 use Rattle.std.specs.Prelude.{not, ◌==◌, ◌&&◌, ◌||◌, if◌then◌else◌, option_and_then}
 use Rattle.std.proofs.lemmas.List.{drop_at, length_push}
 use Rattle.ct_names.specs.Group.{is_member}
 use Rattle.ct_model.specs.declared.step.Step.{Step}
-use Rattle.ct_model.specs.declared.step.Step.TheVariants.{Postpone, Repeat}
 use Rattle.ct_model.specs.declared.mail.Mail.TheVariants.{Nobody}
 use Rattle.ct_model.specs.Actor.{actor}
-use Rattle.ct_model.specs.AtValue.{Wire, Envelope}
+use Rattle.ct_model.specs.AtValue.{Envelope}
 use Rattle.ct_model.specs.Setting.{Setting}
 use Rattle.ct_model.specs.Wire.{envelopes}
 use Rattle.ct_model.specs.State.{State, Member, member, is_crashed}
-use Rattle.ct_model.specs.Next.{Outcome, plain, line_row, wire_to, row, after, next, stepped}
+use Rattle.ct_model.specs.Next.{Outcome, row, after, next}
 use Rattle.ct_model.specs.Run.{run}
 use Rattle.ct_model.specs.Waiting.{LineChange, has_serial, serials_to, line_change, changed, line_after}
-use Rattle.ct_model.specs.Waiting.LineChange.{Takes, Restores}
+use Rattle.ct_model.specs.Waiting.LineChange.{Takes}
 use Rattle.ct_model.specs.Rehearsal.{Rehearsal, state_of, line_of, extended}
-use Rattle.ct_model.specs.Stamps.{is_gone, is_sent, stamp, IsRising}
+use Rattle.ct_model.specs.Stamps.{is_gone, stamp, IsRising}
 use Rattle.ct_model.specs.Lawful.{is_distinct, Waits, IsAway, IsWithin, IsLawful, IsPresent, NamesWaiting}
-use Rattle.ct_model.proofs.Basics.Options.{made-map}
-use Rattle.ct_model.proofs.Basics.Tests.{and_left, and_right, and_both, and_false, or_left, or_right, or_cases, not_true}
-use Rattle.ct_model.proofs.Basics.Tests.{same_number, self_number}
+use Rattle.ct_model.proofs.Basics.Tests.{and_left, and_both, and_false, or_left, or_right, or_cases, not_true}
+use Rattle.ct_model.proofs.Basics.Tests.{self_number}
 use Rattle.ct_model.proofs.Record.Runs.{state_of-push, run-push, stepped-next}
 use Rattle.ct_model.proofs.Record.Envelopes.{was_sent, sent_serial, serial_sent}
 use Rattle.ct_model.proofs.Record.Lines.{waiting-push, changed-distinct, changed-has, changed-rising}
@@ -58,11 +57,7 @@ not_early w law _ waits p k m = refl
 
 -- a serial that is put back was sent to the member, and doesn't wait there
 restored : (w : Rehearsal) (change : LineChange) → Waits w change → (p k : ℕ) → restores p k change ≡ true → IsAway w p k
-restored w (Restores q i) away p k e =
-    let member : q ≡ p = same_number q p (and_left (q == p) (i == k) e) in
-    let serial : i ≡ k = same_number i k (and_right (q == p) (i == k) e) in
-    rw (← member, ← serial) away
-restored w _ waits p k e = absurd (cc)
+restored w change away p k e = grind arith
 
 -- of a serial: it was sent before, it was gone before, the step takes it, puts it back, sends it
 or_back : (old was now back new : Bool) → (new ≡ true → (was ≡ false) × (now ≡ false)) → (back ≡ true → old ≡ true)
@@ -78,15 +73,9 @@ number_new : (fresh moved : Bool) (new old : ℕ) → (fresh ≡ true) ⊎ (move
 number_new fresh moved new old h = grind arith
 
 -- a step that moves a serial sends nothing
-
-row_silent : (g : State) (p : ℕ) (m : Member) (k : ℕ) (o : Outcome) → line_row g p m k ≡ Some o → o.mail ≡ Nobody
-row_silent g p m k o e = ap (λ (z : Outcome). z.mail) (sym (made-map (λ (w : Wire). plain m Nobody) (wire_to g p k) o e).gives)
-
 moved-silent : (s : Setting) (g : State) (p : ℕ) (m : Member) (q k : ℕ) (step : Step) (o : Outcome) → row s g p m step ≡ Some o →
     moves q k (line_change step) ≡ true → o.mail ≡ Nobody
-moved-silent s g p m q k (Postpone x i) o e moved = row_silent g p m i o e
-moved-silent s g p m q k (Repeat x i) o e moved = row_silent g p m i o e
-moved-silent s g p m q k _ o e moved = absurd (cc)
+moved-silent s g p m q k step o e moved = grind arith
 
 -- what waits after a change that doesn't move it waited before
 unmoved : (p k : ℕ) (change : LineChange) (line : List ℕ) → has_serial k (changed p change line) ≡ true → moves p k change ≡ false →
@@ -117,20 +106,11 @@ module _ (w : Rehearsal) (step : Step) (o : Outcome) (law : IsLawful w) (taken :
   pub line-step : (p : ℕ) → line_of (extended w step) p
       ≡ changed p (line_change step) (line_of w p) ++ serials_to p (length (state_of w).sent) (envelopes w.setting.members o.mail)
   unfolding line_of state_of line_after
-  line-step p =
-      let old = (state_of w).sent in
-      let new : drop (length old) (stepped w.setting (state_of w) step).sent ≡ envelopes w.setting.members o.mail =
-      ap (λ (g : State). drop (length old) g.sent)
-      (stepped-next w.setting (state_of w) (after w.setting (state_of w) (actor step) o) step next-step)
-      ∙ ap (drop (length old)) (after-sent w.setting (state_of w) (actor step) o)
-      ∙ drop_at old (envelopes w.setting.members o.mail) (length old) refl in
-      waiting-push w.setting p w.steps step ∙ ap (λ es. changed p (line_change step) (line_of w p) ++ serials_to p (length old) es) new
+  line-step p = grind (arith, stepped-next, next-step, after-sent, drop_at, waiting-push)
 
   sent_parts : (p : ℕ) → serials_to p 0 h.sent ≡ serials_to p 0 (state_of w).sent ++ serials_to p (length (state_of w).sent) sends
   unfolding h sends
-  sent_parts p = ap (serials_to p 0) (after-sent w.setting (state_of w) (actor step) o)
-      ∙ serials_to-append p 0 (state_of w).sent (envelopes w.setting.members o.mail)
-      ∙ ap (λ b. serials_to p 0 (state_of w).sent ++ serials_to p b (envelopes w.setting.members o.mail)) (omega arith)
+  sent_parts p = grind (arith, after-sent, serials_to-append)
 
   -- what it sends wasn't gone, and isn't taken
   untaken : (p k : ℕ) → length (state_of w).sent < k → (is_gone w p k ≡ false) × (takes p k (line_change step) ≡ false)
@@ -138,10 +118,7 @@ module _ (w : Rehearsal) (step : Step) (o : Outcome) (law : IsLawful w) (taken :
 
   unsent-step : (p k : ℕ) → length h.sent < k → is_gone (extended w step) p k ≡ false
   unfolding h
-  unsent-step p k m =
-      let grown = length-after-sent w.setting (state_of w) (actor step) o in
-      let f = untaken p k (omega arith) in
-      is_gone-push w step p k ∙ rw (f.0, f.1) refl
+  unsent-step p k m = grind (arith, length-after-sent, untaken, is_gone-push)
 
   waits-step : (p k : ℕ)
       → has_serial k (line_of (extended w step) p) ≡ (has_serial k (serials_to p 0 h.sent) && not (is_gone (extended w step) p k))
@@ -165,31 +142,17 @@ module _ (w : Rehearsal) (step : Step) (o : Outcome) (law : IsLawful w) (taken :
   -- what waits after the change of the line was sent before
   old_within : (p k : ℕ) → has_serial k (changed p (line_change step) (line_of w p)) ≡ true → k ≤ length (state_of w).sent
   old_within p k m =
-      let change : LineChange = line_change step in
-      let waited : Bool = has_serial k (line_of w p) && not (takes p k change) in
-      elim (or_cases waited (restores p k change) (sym (changed-has p k change (line_of w p)) ∙ m)) [
-        | inl a ↦ waiting_within w law p k (and_left (has_serial k (line_of w p)) (not (takes p k change)) a)
-        | inr b ↦ sent_within (state_of w) p k (sent_serial (state_of w) p k (restored w change taken.names p k b).sent)
-      ]
+      grind (arith, nat_tests, takes, or_cases, restores, changed-has, waiting_within, and_left, sent_within, sent_serial, restored)
 
   distinct-step : (p : ℕ) → is_distinct (line_of (extended w step) p) ≡ true
   unfolding coming sends
-  distinct-step p = rw (line-step p)
-      (is_distinct-append (changed p (line_change step) (line_of w p)) (coming p)
-      (changed-distinct p (line_change step) (line_of w p) (law.distinct p)
-      (λ k m. (restored w (line_change step) taken.names p k m).away)) (serials_to-distinct p (length (state_of w).sent) sends)
-      (λ k a. not_true (has_serial k (coming p)) (λ b.
-      let last = old_within p k a in
-      let first = serials_to-within p (length (state_of w).sent) k sends b in
-      omega arith)))
+  distinct-step p =
+      grind (arith, line-step, is_distinct-append, coming, changed-distinct, restored, serials_to-distinct, sends, not_true, old_within, serials_to-within)
 
   -- what waits was sent, so its stamp stays, unless it moves
   stamp_kept : (p k : ℕ) → has_serial k (line_of w p) ≡ true → moves p k (line_change step) ≡ false
       → stamp (extended w step) p k ≡ stamp w p k
-  stamp_kept p k m still =
-      stamp-push w step p k
-      ∙ number_kept (is_sent (extended w step) p k) (is_sent w p k) (moves p k (line_change step)) (suc (length w.steps)) (stamp w p k)
-      (serial_sent (state_of w) p k (was_sent w p k law m)) still
+  stamp_kept p k m still = grind (arith, stamp-push, number_kept, moves, serial_sent, was_sent)
 
   stamp_moved : (p k : ℕ) → moves p k (line_change step) ≡ true → stamp (extended w step) p k ≡ suc (length w.steps)
   stamp_moved p k m =
@@ -198,31 +161,13 @@ module _ (w : Rehearsal) (step : Step) (o : Outcome) (law : IsLawful w) (taken :
   stamp_sent : (p k : ℕ) → has_serial k (coming p) ≡ true → stamp (extended w step) p k ≡ suc (length w.steps)
   unfolding coming sends h
   stamp_sent p k m =
-      let first = serials_to-within p (length (state_of w).sent) k sends m in
-      let now : is_sent (extended w step) p k ≡ true =
-      serial_sent (state_of (extended w step)) p k
-      (rw (state-step, sent_parts p, has_serial-append k (serials_to p 0 (state_of w).sent) (coming p))
-      (or_right (has_serial k (serials_to p 0 (state_of w).sent)) (has_serial k (coming p)) m)) in
-      let before : is_sent w p k ≡ false = not_true (is_sent w p k) (λ sent.
-      let last = sent_within (state_of w) p k (sent_serial (state_of w) p k sent) in
-      omega arith) in
-      stamp-push w step p k
-      ∙ number_new (is_new w step p k) (moves p k (line_change step)) (suc (length w.steps)) (stamp w p k)
-      (inl (and_both (is_sent (extended w step) p k) (not (is_sent w p k)) now (ap not before)))
+      grind (arith, nat_tests, serials_to-within, sends, serial_sent, state-step, sent_parts, has_serial-append, coming, or_right, not_true, sent_within, sent_serial, stamp-push, number_new, is_new, moves, and_both)
 
   changed_small : (p k : ℕ) → coming p ≡ k ∷ [] → (i : ℕ) → has_serial i (changed p (line_change step) (line_of w p)) ≡ true →
       stamp (extended w step) p i < stamp (extended w step) p k
   unfolding coming sends
   changed_small p k one i m =
-      let still : moves p i (line_change step) ≡ false = not_true (moves p i (line_change step)) (λ moved.
-      let silent = moved-silent w.setting (state_of w) (actor step) (member (state_of w) (actor step)) p i step o taken.row moved in
-      let none : coming p ≡ [] = ap (λ mail. serials_to p (length (state_of w).sent) (envelopes w.setting.members mail)) silent in
-      cc) in
-      let waited : has_serial i (line_of w p) ≡ true = unmoved p i (line_change step) (line_of w p) m still in
-      let new = stamp_sent p k (rw one (or_left (k == k) false (self_number k))) in
-      let old = stamp_kept p i waited still in
-      let few = stamp-within w p i in
-      omega arith
+      grind (arith, nat_tests, moves, not_true, moved-silent, coming, unmoved, stamp_sent, or_left, self_number, stamp_kept, stamp-within)
 
   rising-step : (p : ℕ) → IsRising (stamp (extended w step) p) (line_of (extended w step) p)
   unfolding coming sends
@@ -239,12 +184,4 @@ module _ (w : Rehearsal) (step : Step) (o : Outcome) (law : IsLawful w) (taken :
 
   pub lawful-step : IsLawful (extended w step)
   unfolding h
-  lawful-step = record {
-    runs = run-step ∙ ap (λ g. Some g) (sym state-step);
-    size = ap (λ (g : State). length g.members) state-step ∙ after-size w.setting (state_of w) (actor step) o ∙ law.size;
-    within = rw (state-step, length_push) taken.within;
-    unsent = λ p k m. unsent-step p k (rw state-step at m);
-    waits = λ p k. rw state-step (waits-step p k);
-    distinct = distinct-step;
-    rising = rising-step;
-  }
+  lawful-step = grind (arith, run-step, state-step, after-size, length_push, unsent-step, waits-step, distinct-step, rising-step)

@@ -18,10 +18,10 @@ use Rattle.ct_model.specs.declared.wire.Wire.TheVariants.{Data, Dec}
 use Rattle.ct_model.specs.declared.mail.Mail.TheVariants.{Nobody, All}
 use Rattle.ct_model.specs.State.{State, member, at_serial}
 use Rattle.ct_model.specs.Received.{received, is_decision, has_decision}
-use Rattle.ct_model.specs.Next.{Outcome, row, receive, is_relayed, wire_to, addressed, after}
+use Rattle.ct_model.specs.Next.{Outcome, row, is_relayed, wire_to, after}
 use Rattle.ct_model.proofs.Consensus.Facts.{Holds}
 use Rattle.ct_model.proofs.Relay.Additions.{IsMade, IsShared, owner}
-use Rattle.ct_model.proofs.Basics.Options.{when-is, made-map, made-then}
+use Rattle.ct_model.proofs.Basics.Options.{when-is}
 use Rattle.ct_model.proofs.Record.Senders.{IsPosted, letter, at-front, posted-old, posted-new, in-all}
 use Rattle.ct_model.proofs.Consensus.Readings
 use Rattle.ct_model.proofs.Record.Members.{Sent, Sent-cases, member-same, member-other, p_or_other}
@@ -39,9 +39,7 @@ IsLike (Dec k r v) w = (u : Value) × (w ≡ Dec k r u)
 IsLike _ w = ⊥
 
 like-same : (w : Wire) → IsShared w → IsLike w w
-like-same (Data m) shared = refl
-like-same (Dec k r v) shared = (v, refl)
-like-same _ shared = shared
+like-same w shared = grind arith
 
 like-shared : (w x : Wire) → IsLike w x → IsShared x
 like-shared w x same = grind arith
@@ -85,13 +83,7 @@ kept_back s p got _ shared h = absurd shared
 come-receive : (s : Setting) (g : State) (q j : ℕ) (o : Outcome) → row s g q (member g q) (Receive q j) ≡ Some o →
     (e : Envelope) × (at_serial g.sent j ≡ Some e) × IsIn e.wire o.member.got
 unfolding wire_to
-come-receive s g q j o e =
-    let made = made-map (receive s q (member g q)) (wire_to g q j) o e in
-    let f = made-then (addressed q) (at_serial g.sent j) made.from made.is in
-    let wire : f.from.wire ≡ made.from = (when-is (f.from.to == q) f.from.wire made.from f.gives).1 in
-    let got : IsIn made.from (receive s q (member g q) made.from).member.got =
-    Lists.IsIn-append_right made.from (member g q).got (made.from ∷ []) (inl refl) in
-    (f.from, f.is, rw wire (subst (λ z. IsIn made.from z.member.got) made.gives got))
+come-receive s g q j o e = grind (arith, when-is, Lists.IsIn-append_right)
 
 module _ (s : Setting) (done : List Step) (from : List ℕ) (g : State) (step : Step) (o : Outcome) (hist : IsHistory s done from g)
     (holds : Holds s g) (is : IsMember s.members (actor step)) (made : IsMade s g (actor step) o)
@@ -112,11 +104,7 @@ module _ (s : Setting) (done : List Step) (from : List ℕ) (g : State) (step : 
 
   spread-kept : (x q : ℕ) (w : Wire) → IsSpread from g.sent x q w → Spread x q w
   unfolding after
-  spread-kept x q w f = record {
-    wire = f.wire;
-    like = f.like;
-    posted = posted-old from new g.sent (envelopes s.members o.mail) x (letter q f.wire) f.posted;
-  }
+  spread-kept x q w f = grind (arith, posted-old)
 
   spread-all : (q : ℕ) (w : Wire) → IsShared w → IsMember s.members q → o.mail ≡ All w → Spread p q w
   unfolding after
@@ -131,23 +119,10 @@ module _ (s : Setting) (done : List Step) (from : List ℕ) (g : State) (step : 
 
   count_kept : length (from ++ new) ≡ length h.sent
   unfolding after
-  count_kept = rw (
-    length-append from new,
-    length-append g.sent (envelopes s.members o.mail),
-    length-replicate (length (envelopes s.members o.mail)) p,
-    hist.count,
-  ) refl
+  count_kept = grind (arith, length-append, length-replicate)
 
   own_kept : (w : Wire) → IsShared w → Sent h w → (q : ℕ) → IsMember s.members q → Spread (owner s w) q w
-  own_kept w shared sent q isq = elim (Sent-cases s g p o w sent) [
-    | inl old ↦ spread-kept (owner s w) q w (hist.own w shared old q isq)
-    | inr c ↦
-        let owned = made.owned w shared c in
-        elim owned.0 [
-          | inl old ↦ spread-kept (owner s w) q w (hist.own w shared old q isq)
-          | inr mine ↦ rw mine (spread-all q w shared isq owned.1)
-        ]
-  ]
+  own_kept w shared sent q isq = grind (arith, Sent-cases, spread-kept, owner, spread-all)
 
   on_now : (w : Wire) → IsShared w → IsIn w o.member.got → (q : ℕ) → IsMember s.members q → Spread p q w
   on_now w shared inside q isq = elim (made.gets.got_now w inside) [

@@ -1,6 +1,6 @@
 -- What is known of messages holds after every step.
-use Rattle.std.proofs.Common.{◌≡◌, ℕ, zero, suc, ◌+◌, ◌-◌, ◌<◌, Bool, true, false, not, List, [], ◌∷◌, ◌++◌, length, refl, ap}
-use Rattle.std.proofs.Common.{◌∙◌, arith, Some, Option, ◌⊎◌, inl, inr}
+use Rattle.std.proofs.Common.{◌≡◌, ℕ, zero, suc, ◌+◌, ◌-◌, ◌<◌, Bool, true, false, List, [], ◌∷◌, ◌++◌, length, refl, ap}
+use Rattle.std.proofs.Common.{◌∙◌, arith, Some, ◌⊎◌, inl, inr}
 use Rattle.std.specs.Prelude.{slice_get, if◌then◌else◌, ◌==◌}
 use Rattle.std.proofs.lemmas.Bool.{cases_eq}
 use Rattle.std.proofs.lemmas.Bool.Decides.{nat_tests}
@@ -23,9 +23,7 @@ use Rattle.ct_model.specs.declared.mail.Mail.TheVariants.{Nobody, One, All}
 use Rattle.ct_model.specs.State.{State, Member, member, is_crashed, submissions}
 use Rattle.ct_model.specs.Received.{received, received_by}
 use Rattle.ct_model.specs.Next.{Outcome, plain, row, submit, receive, begin, turned, turn_at, deliver, follow}
-use Rattle.ct_model.specs.Next.{next_message, is_relayed, after, next, can_act}
-use Rattle.ct_model.proofs.Basics.Tests.{and_left, and_right, true_not}
-use Rattle.ct_model.proofs.Basics.Options.{made-map}
+use Rattle.ct_model.specs.Next.{next_message, is_relayed, after, next}
 use Rattle.ct_model.proofs.Record.Frame.{after-sent, after-submitted, after-size, member-same, member-other, at_place}
 use Rattle.ct_model.proofs.Record.Frame.{submissions-append, submissions-next}
 use Rattle.ct_model.specs.Phases.{enter, choose, adopt, suspect, conclude}
@@ -80,19 +78,7 @@ module _ (s : Setting) (g : State) (p : ℕ) (o : Outcome) (k : KnowsMessages s 
   -- a step that submits nothing
   knows-silent : o.submitted ≡ [] → MailCarries g.submitted o.mail →
       ((m : Message) → has (received o.member.got) m ≡ true → has g.submitted m ≡ true) → KnowsMessages s (after s g p o)
-  knows-silent none mail here =
-      let same : (after s g p o).submitted ≡ g.submitted = after-submitted s g p o ∙ rw none (append-nil g.submitted) in
-      record {
-        origin = λ m h. k.origin m (rw same at h);
-        positive = λ m h. k.positive m (rw same at h);
-        numbered = λ m h. rw same (k.numbered m (rw same at h));
-        unique = λ m other hm ho. k.unique m other (rw same at hm) (rw same at ho);
-        sent = λ i e h. rw same (elim (in_either g.sent (envelopes s.members o.mail) i e (rw (after-sent s g p o) at h)) [
-          | inl a ↦ k.sent a.0 e a.1
-          | inr a ↦ mail_carries s.members g.submitted o.mail a.0 e mail a.1
-        ]);
-        received = λ q m h. rw same (received_cases here q m h);
-      }
+  knows-silent none mail here = grind (arith, after-submitted, append-nil, in_either, after-sent, mail_carries, received_cases)
 
   -- a step that submits the next message of its actor
   knows-submitting : (c : Command) → is_member s.members p ≡ true → o.submitted ≡ next_message g.submitted p c ∷ [] →
@@ -133,18 +119,7 @@ pub record IsStep (s : Setting) (g : State) (step : Step) (h : State) : Type 0 w
 
 pub next-is : (s : Setting) (g : State) (step : Step) (h : State) → next s g step ≡ Some h → IsStep s g step h
 unfolding next
-next-is s g step h e =
-    let p : ℕ = actor step in
-    let r : Option Outcome = row s g p (member g p) step in
-    let acts : can_act s g p ≡ true = grind arith in
-    let made = made-map (after s g p) r h (rw acts at e) in
-    record {
-      outcome = made.from;
-      in_group = and_left (is_member s.members p) (not (is_crashed g p)) acts;
-      up = true_not (is_crashed g p) (and_right (is_member s.members p) (not (is_crashed g p)) acts);
-      row = made.is;
-      gives = made.gives;
-    }
+next-is s g step h e = grind arith
 
 pub in_members : (s : Setting) (g : State) (p : ℕ) → length g.members ≡ s.members → is_member s.members p ≡ true → p - 1 < length g.members
 in_members s g p size group = grind (arith, nat_tests)

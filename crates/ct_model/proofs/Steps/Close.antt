@@ -37,10 +37,7 @@ module _ (w : Rehearsal) (step : Step) (k : ℕ) (v : Value) (law : IsLawful w) 
   -- the order after the step is as long as before, or as the member's batches then
   order-close : length (order (after w.setting (state_of w) p (close m k v)))
       ≡ (if nat_lt (length (order (state_of w))) (length m.batches + 1) then length m.batches + 1 else length (order (state_of w)))
-  order-close =
-      let more = length-close m k v in
-      order-grown w.setting (state_of w) p (close m k v) there (omega arith)
-      ∙ ap (λ j. if nat_lt (length (order (state_of w))) j then j else length (order (state_of w))) more
+  order-close = grind (arith, length-close, order-grown)
 
   larger : (b : Bool) (cells old new : ℕ) → b ≡ nat_lt old new → old ≤ cells → nat_lt cells (if b then new else old) ≡ nat_lt cells new
   larger b cells old new e few = grind arith

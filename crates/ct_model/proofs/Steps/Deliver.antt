@@ -1,5 +1,5 @@
 -- Deliver.
-use Rattle.std.proofs.Common.{arith, ◌≡◌, ℕ, ◌+◌, [], ◌∷◌, length, ap, sym, ◌∙◌, Some, None}
+use Rattle.std.proofs.Common.{arith, ◌≡◌, ℕ, ◌+◌, [], ◌∷◌, length, ap, ◌∙◌, Some, None}
 use Rattle.std.specs.Prelude.{nat_lt, is_none}
 use Rattle.ct_names.specs.declared.limit.TheConstants.{MAX_INSTANCES}
 use Rattle.ct_names.specs.declared.limit.Limit.TheVariants.{Instances, Cells}
@@ -13,28 +13,21 @@ use Rattle.ct_model.specs.Next.{deliver, deliver_row, row}
 use Rattle.ct_model.specs.Rehearsal.{Rehearsal, state_of}
 use Rattle.ct_model.specs.Cause.{at, first_fault, or_else, cause, overflow}
 use Rattle.ct_model.specs.Lawful.{IsLawful, IsPresent}
-use Rattle.ct_model.proofs.Record.Causes.{low, own_tests, cause-none, first_fault-none}
+use Rattle.ct_model.proofs.Record.Causes.{low, own_tests, cause-none}
 use Rattle.ct_model.proofs.Record.Taken.{IsTaken}
 use Rattle.ct_model.proofs.Record.Limits.{own_tests-is, cause-limited, taken_of}
-use Rattle.ct_model.proofs.Basics.Options.{some-of}
 use Rattle.ct_model.proofs.Steps.Close.{limit-close}
 use Rattle.ct_model.proofs.Steps.Rows.{IsDue}
-use Rattle.ct_model.proofs.Steps.Rounds.{open-at, open-standing}
+use Rattle.ct_model.proofs.Steps.Rounds.{open-standing}
 
 pub tests-deliver : (w : Rehearsal) (p : ℕ) (c : Standing) → (member (state_of w) p).current ≡ Some c →
     first_fault (own_tests w (Deliver p)) ≡ first_fault (at Undecided
     (is_none (decided (member (state_of w) p).got (member (state_of w) p).last)) ∷ [])
-tests-deliver w p c e = ap first_fault (own_tests-is w (Deliver p))
-    ∙ open-at (member (state_of w) p) (λ x. at Undecided (is_none (decided (member (state_of w) p).got (member (state_of w) p).last)) ∷ [])
-    c e
+tests-deliver w p c e = grind (arith, own_tests-is)
 
 -- what the tests of a Deliver say where none fires
 deliver-due : (w : Rehearsal) (p : ℕ) → first_fault (own_tests w (Deliver p)) ≡ None → IsDue (member (state_of w) p)
-deliver-due w p h =
-    let undecided = at Undecided (is_none (decided (member (state_of w) p).got (member (state_of w) p).last)) in
-    let a = open-standing (member (state_of w) p) (λ x. undecided ∷ []) (sym (ap first_fault (own_tests-is w (Deliver p))) ∙ h) in
-    let b = some-of (decided (member (state_of w) p).got (member (state_of w) p).last) (first_fault-none undecided [] a.2).0 in
-    record { standing = a.0; is_open = a.1; value = b.0; decision = b.1 }
+deliver-due w p h = grind (arith, open-standing, own_tests-is)
 
 deliver_row-some : (m : Member) (d : IsDue m) → deliver_row m ≡ Some (deliver m d.value)
 deliver_row-some m d = grind arith

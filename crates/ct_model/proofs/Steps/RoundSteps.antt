@@ -1,5 +1,5 @@
 -- What holds of each step of a round alike.
-use Rattle.std.proofs.Common.{◌≡◌, ℕ, ◌+◌, ◌≤◌, Bool, not, length, subst, arith, List, [], ◌∷◌, ◌++◌, refl, ap, sym, ◌∙◌}
+use Rattle.std.proofs.Common.{◌≡◌, ℕ, ◌+◌, ◌≤◌, Bool, not, length, arith, List, [], ◌∷◌, ◌++◌, refl, ap, ◌∙◌}
 use Rattle.std.proofs.Common.{Option, Some, None}
 use Rattle.std.specs.Prelude.{nat_lt, ◌&&◌, is_some, option_map, if◌then◌else◌}
 use Rattle.ct_names.specs.declared.limit.Limit.TheVariants.{Rounds}
@@ -26,7 +26,7 @@ use Rattle.ct_model.specs.Received.{Heard, Ballots, estimate_from, decided}
 use Rattle.ct_model.specs.Mapped.{ballots_map, standing_map, turn_map}
 use Rattle.ct_model.specs.Moves.{step_of, turn_of, sent_by, is_enter}
 use Rattle.ct_model.specs.Next.{row, round_row, own_ballots, turn_at}
-use Rattle.ct_model.specs.Rehearsal.{Rehearsal, state_of, line_of}
+use Rattle.ct_model.specs.Rehearsal.{Rehearsal, state_of}
 use Rattle.ct_model.specs.Cause.{at, first_fault, open_tests, faults_at, round_of, tests, or_else, cause, overflow}
 use Rattle.ct_model.specs.Lawful.{IsLawful, IsPresent}
 use Rattle.ct_model.proofs.Record.Causes.{own_tests}
@@ -154,11 +154,4 @@ module _ (w : Rehearsal) (p : ℕ) (a : Move) where
       ≡ or_else (first_fault (at (Full Rounds) (is_enter a && nat_lt MAX_ROUNDS (c.round + 1)) ∷ []))
       (overflow w (sent_by w.setting.members (own_ballots (member (state_of w) p) c).acked a))
   cause-move c e law present h =
-      let is_open : m.current ≡ Some c = ap (λ x. (member (state_of w) x).current) (actor-move p a) ∙ e in
-      let tested : first_fault (own_tests w (step_of p a)) ≡ first_fault (faults_at w.setting.members m a c) =
-      ap first_fault (own_tests-is w (step_of p a) ∙ tests-move w.setting (state_of w) m (line_of w q) p a)
-      ∙ open-at m (faults_at w.setting.members m a) c is_open in
-      cause-free c is_open
-      (turn-free w.setting.members q m.last (decided m.got m.last) (own_ballots m c) c a (sym tested ∙ h))
-      law (subst (λ x. IsPresent w x) (sym (actor-move p a)) present) h
-      ∙ limit-same _ _ _ _ refl (ap (λ x. sent_by w.setting.members (own_ballots (member (state_of w) x) c).acked a) (actor-move p a))
+      grind (arith, nat_tests, actor-move, own_tests, own_tests-is, tests-move, open-at, cause-free, turn-free, limit-same)

@@ -1,5 +1,6 @@
 -- The five steps of a round.
-use Rattle.std.proofs.Common.{◌≡◌, List, [], ◌∷◌, length, refl, ap, sym, ◌∙◌, Option, Some, None}
+use Rattle.std.proofs.Common.{arith}
+use Rattle.std.proofs.Common.{◌≡◌, List, [], ◌∷◌, length, refl, ap, ◌∙◌, Option, Some, None}
 use Rattle.std.specs.Prelude.{nat_lt, is_none, option_and_then, option_map}
 use Rattle.std.specs.Option.{option_map_or}
 use Rattle.ct_names.specs.declared.limit.TheConstants.{MAX_INSTANCES, MAX_ROUNDS}
@@ -14,8 +15,7 @@ use Rattle.ct_model.specs.Next.{turned, round_row, row}
 use Rattle.ct_model.specs.Rehearsal.{Rehearsal, state_of}
 use Rattle.ct_model.specs.Cause.{Test, at, first_fault, open_tests, or_else, cause, overflow}
 use Rattle.ct_model.specs.Lawful.{IsLawful, IsPresent}
-use Rattle.ct_model.proofs.Basics.Options.{some-of}
-use Rattle.ct_model.proofs.Record.Causes.{own_tests, low, first_fault-none}
+use Rattle.ct_model.proofs.Record.Causes.{own_tests, low}
 use Rattle.ct_model.proofs.Record.Limits.{cause-limited, limit-idle}
 
 -- the tests at the member's standing
@@ -27,10 +27,7 @@ open-at m tests c e = ap (λ o. first_fault (at Idle (is_none o) ∷ option_map_
 -- where none fires, the member has an instance open, and none fires at its standing there
 pub open-standing : (m : Member) (tests : Standing → List Test) → first_fault (open_tests m tests) ≡ None →
     (c : Standing) × (m.current ≡ Some c) × (first_fault (tests c) ≡ None)
-open-standing m tests h =
-    let e = first_fault-none (at Idle (is_none m.current)) (option_map_or tests m.current []) h in
-    let c = some-of m.current e.0 in
-    (c.0, c.1, ap (λ o. first_fault (option_map_or tests o [])) (sym c.1) ∙ e.1)
+open-standing m tests h = grind arith
 
 -- the row of a turn
 pub round_row-some : (m : Member) (step : Standing → Option Turn) (c : Standing) (t : Turn) → m.current ≡ Some c → step c ≡ Some t →

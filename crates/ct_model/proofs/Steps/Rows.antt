@@ -1,7 +1,7 @@
 -- What a step of consensus leaves, where its row is there.
-use Rattle.std.proofs.Common.{◌≡◌, ℕ, ◌+◌, true, false, not, Option, Some, None}
-use Rattle.std.specs.Prelude.{◌&&◌, is_some, is_none, option_and_then, option_map}
-use Rattle.std.proofs.lemmas.Bool.{and_parts}
+use Rattle.std.proofs.Common.{arith}
+use Rattle.std.proofs.Common.{◌≡◌, ℕ, ◌+◌, true, false, Option, Some, None}
+use Rattle.std.specs.Prelude.{is_some, is_none}
 use Rattle.ct_names.specs.Group.{is_majority}
 use Rattle.ct_names.specs.Value.{Value}
 use Rattle.ct_model.specs.When.{when}
@@ -12,8 +12,7 @@ use Rattle.ct_model.specs.Received.{Heard, Ballots, heard, estimate_from, is_lar
 use Rattle.ct_model.specs.Phases.{is_rest, is_gather, is_wait, is_tally, entered, enter, chosen, choose, adopted, adopt, suspected, suspect}
 use Rattle.ct_model.specs.Phases.{concluded, conclude}
 use Rattle.ct_model.specs.Next.{Outcome, turned, round_row, begin, begin_row, deliver, deliver_row, follow, follow_row, proposed, is_empty}
-use Rattle.ct_model.proofs.Basics.Tests.{true_not}
-use Rattle.ct_model.proofs.Basics.Options.{none-is, when-is, when-both, made-map, made-then}
+use Rattle.ct_model.proofs.Basics.Options.{none-is, when-is, made-then, some-of}
 
 -- a step of a round was taken at this standing, with this turn
 pub record IsTurned (m : Member) (step : Standing → Option Turn) (o : Outcome) : Type 0 where
@@ -24,10 +23,7 @@ pub record IsTurned (m : Member) (step : Standing → Option Turn) (o : Outcome)
   pub gives : turned m turn ≡ o
 
 pub round_row-is : (m : Member) (step : Standing → Option Turn) (o : Outcome) → round_row m step ≡ Some o → IsTurned m step o
-round_row-is m step o e =
-    let a = made-map (turned m) (option_and_then step m.current) o e in
-    let b = made-then step m.current a.from a.is in
-    record { standing = b.from; is_open = b.is; turn = a.from; taken = b.gives; gives = a.gives }
+round_row-is m step o e = grind arith
 
 -- why Begin, Deliver and Follow are enabled
 pub record IsReady (s : Setting) (m : Member) : Type 0 where
@@ -46,15 +42,13 @@ pub record IsBehind (m : Member) : Type 0 where
   pub decision : decided m.got (m.last + 1) ≡ Some value
 
 pub begin_row-is : (s : Setting) (p : ℕ) (m : Member) (o : Outcome) → begin_row s p m ≡ Some o → IsReady s m × (begin s p m ≡ o)
-begin_row-is s p m o e =
-    let a = when-both (is_none m.current) (not (is_empty (proposed s m))) (begin s p m) o e in
-    (record { idle = none-is m.current a.0; something = true_not (is_empty (proposed s m)) a.1 }, a.2)
+begin_row-is s p m o e = grind arith
 
 pub deliver_row-is : (m : Member) (o : Outcome) → deliver_row m ≡ Some o → (d : IsDue m) × (deliver m d.value ≡ o)
 deliver_row-is m o e =
-    let a = made-then (λ (c : Standing). option_map (deliver m) (decided m.got m.last)) m.current o e in
-    let b = made-map (deliver m) (decided m.got m.last) o a.gives in
-    (record { standing = a.from; is_open = a.is; value = b.from; decision = b.is }, b.gives)
+    let c = some-of m.current (grind arith) in
+    let v = some-of (decided m.got m.last) (grind arith) in
+    (record { standing = c.0; is_open = c.1; value = v.0; decision = v.1 }, grind arith)
 
 pub follow_row-is : (m : Member) (o : Outcome) → follow_row m ≡ Some o → (b : IsBehind m) × (follow m b.value ≡ o)
 follow_row-is m o e =
@@ -72,9 +66,7 @@ pub record IsEntered (n me k : ℕ) (decision : Option Value) (c : Standing) (t 
 pub enter-is : (n me k : ℕ) (decision : Option Value) (c : Standing) (t : Turn) → enter n me k decision c ≡ Some t →
     IsEntered n me k decision c t
 unfolding enter
-enter-is n me k decision c t e =
-    let a = when-both (is_rest c.phase) (not (is_some decision)) (entered n me k c) t e in
-    record { rests = a.0; undecided = true_not (is_some decision) a.1; gives = a.2 }
+enter-is n me k decision c t e = grind arith
 
 pub record IsChosen (n k : ℕ) (t : Ballots Value) (c : Standing) (from : ℕ) (turn : Turn) : Type 0 where
   pub best : Heard Value
@@ -87,12 +79,7 @@ pub record IsChosen (n k : ℕ) (t : Ballots Value) (c : Standing) (from : ℕ) 
 pub choose-is : (n k : ℕ) (t : Ballots Value) (c : Standing) (from : ℕ) (turn : Turn) → choose n k t c from ≡ Some turn →
     IsChosen n k t c from turn
 unfolding choose
-choose-is n k t c from turn e =
-    let a = made-then (λ (h : Heard Value). when (is_gather c.phase && is_majority n (heard t) && is_largest t h.ts) (chosen k c h))
-    (estimate_from t from) turn e in
-    let b = when-both (is_gather c.phase && is_majority n (heard t)) (is_largest t a.from.ts) (chosen k c a.from) turn a.gives in
-    let two = and_parts (is_gather c.phase) (is_majority n (heard t)) b.0 in
-    record { best = a.from; from_is = a.is; gathers = two.0; majority = two.1; largest = b.1; gives = b.2 }
+choose-is n k t c from turn e = grind arith
 
 pub record IsAdopted (n me k : ℕ) (t : Ballots Value) (c : Standing) (turn : Turn) : Type 0 where
   pub value : Value
@@ -102,10 +89,7 @@ pub record IsAdopted (n me k : ℕ) (t : Ballots Value) (c : Standing) (turn : T
 
 pub adopt-is : (n me k : ℕ) (t : Ballots Value) (c : Standing) (turn : Turn) → adopt n me k t c ≡ Some turn → IsAdopted n me k t c turn
 unfolding adopt
-adopt-is n me k t c turn e =
-    let a = made-then (λ (v : Value). when (is_wait c.phase) (adopted n me k c v)) t.proposal turn e in
-    let b = when-is (is_wait c.phase) (adopted n me k c a.from) turn a.gives in
-    record { value = a.from; proposal_is = a.is; waits = b.0; gives = b.1 }
+adopt-is n me k t c turn e = grind arith
 
 pub record IsSuspected (n me k : ℕ) (t : Ballots Value) (c : Standing) (turn : Turn) : Type 0 where
   pub waits : is_wait c.phase ≡ true
@@ -115,9 +99,7 @@ pub record IsSuspected (n me k : ℕ) (t : Ballots Value) (c : Standing) (turn :
 pub suspect-is : (n me k : ℕ) (t : Ballots Value) (c : Standing) (turn : Turn) → suspect n me k t c ≡ Some turn →
     IsSuspected n me k t c turn
 unfolding suspect
-suspect-is n me k t c turn e =
-    let a = when-both (is_wait c.phase) (not (is_some t.proposal)) (suspected n me k c) turn e in
-    record { waits = a.0; no_proposal = true_not (is_some t.proposal) a.1; gives = a.2 }
+suspect-is n me k t c turn e = grind arith
 
 pub record IsConcluded (n k : ℕ) (t : Ballots Value) (c : Standing) (turn : Turn) : Type 0 where
   pub tallies : is_tally c.phase ≡ true
@@ -126,6 +108,4 @@ pub record IsConcluded (n k : ℕ) (t : Ballots Value) (c : Standing) (turn : Tu
 
 pub conclude-is : (n k : ℕ) (t : Ballots Value) (c : Standing) (turn : Turn) → conclude n k t c ≡ Some turn → IsConcluded n k t c turn
 unfolding conclude
-conclude-is n k t c turn e =
-    let a = when-both (is_tally c.phase) (is_majority n t.replied) (concluded n k t c) turn e in
-    record { tallies = a.0; majority = a.1; gives = a.2 }
+conclude-is n k t c turn e = grind arith

@@ -1,6 +1,6 @@
 -- Submit.
-use Rattle.std.proofs.Common.{◌≡◌, ℕ, ◌+◌, ◌≤◌, ◌<◌, true, false, [], ◌∷◌, length, refl, ap, sym, ◌∙◌, arith, Some, None}
-use Rattle.std.specs.Prelude.{nat_lt, if◌then◌else◌}
+use Rattle.std.proofs.Common.{◌≡◌, ℕ, ◌+◌, ◌≤◌, ◌<◌, true, false, [], ◌∷◌, length, refl, ◌∙◌, arith, Some, None}
+use Rattle.std.specs.Prelude.{nat_lt}
 use Rattle.std.proofs.lemmas.Bool.Decides.{nat_tests}
 use Rattle.ct_names.specs.declared.limit.TheConstants.{MAX_ENVELOPES, MAX_STEPS, MAX_SUBMISSIONS}
 use Rattle.ct_names.specs.declared.command.Command.{Command}
@@ -36,11 +36,7 @@ row-submit w p c good = rw good refl
 own_count : (w : Rehearsal) (p : ℕ) (c : Command)
     → submissions (after w.setting (state_of w) p (submit_outcome w p c)).submitted p ≡ submissions (state_of w).submitted p + 1
 unfolding submit_outcome
-own_count w p c =
-    ap (λ list. submissions list p) (after-submitted w.setting (state_of w) p (submit (state_of w) p (member (state_of w) p) c))
-    ∙ submissions-append (state_of w).submitted (next_message (state_of w).submitted p c ∷ []) p
-    ∙ ap (λ n. submissions (state_of w).submitted p + n)
-    (submissions-next (state_of w).submitted p p c ∙ ap (λ b. if b then 1 else 0) (self_number p))
+own_count w p c = grind (arith, after-submitted, submissions-append, submissions-next, self_number)
 
 module _ (w : Rehearsal) (p : ℕ) (c : Command) (law : IsLawful w) (present : IsPresent w p) where
   keeps : IsKept (member (state_of w) p) (submit_outcome w p c).member
@@ -69,9 +65,7 @@ module _ (w : Rehearsal) (p : ℕ) (c : Command) (law : IsLawful w) (present : I
 
   pub cause-submit-sends : is_good c ≡ true → submissions (state_of w).submitted p < MAX_SUBMISSIONS →
       cause w (Submit p c) ≡ overflow w w.setting.members
-  cause-submit-sends good few =
-      let t : nat_lt MAX_SUBMISSIONS (submissions (state_of w).submitted p + 1) ≡ false = grind (arith, nat_tests) in
-      cause-good good ∙ rw t (sym (overflow-is w w.setting.members))
+  cause-submit-sends good few = grind (arith, nat_tests, cause-good, overflow-is)
 
 -- a Submit that is allowed
 pub record IsSubmitted (w : Rehearsal) (p : ℕ) (c : Command) : Type 0 where
