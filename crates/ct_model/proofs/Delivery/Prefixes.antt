@@ -145,10 +145,7 @@ module _ (s : Setting) (steps : List Step) (g : State) (runs : run s steps ≡ S
 
   pub delivered-prefix : IsAgreed s g → (p q : ℕ) → IsMember s.members p → IsMember s.members q →
       IsPrefix (delivered_by g p) (delivered_by g q) ⊎ IsPrefix (delivered_by g q) (delivered_by g p)
-  delivered-prefix agree p q isp isq = elim (batches-prefix agree p q isp isq) [
-    | inl f ↦ inl (joined-prefix (member g p).batches (member g q).batches f)
-    | inr f ↦ inr (joined-prefix (member g q).batches (member g p).batches f)
-  ]
+  delivered-prefix agree p q isp isq = grind (arith, batches-prefix agree p q isp isq, joined-prefix)
 
   pub delivered-once : (p : ℕ) → IsWithoutRepeats (delivered_by g p)
   delivered-once p =

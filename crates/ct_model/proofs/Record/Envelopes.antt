@@ -5,7 +5,7 @@ use Rattle.std.specs.Prelude.{Option, None, is_some, ◌==◌, slice_get, if◌t
 use Rattle.std.specs.Cmp.{both_ways}
 use Rattle.std.proofs.lemmas.Bool.Decides.{nat_tests}
 use Rattle.ct_model.specs.AtValue.{Envelope, Wire}
-use Rattle.ct_model.specs.State.{State, at_serial}
+use Rattle.ct_model.specs.State.{State}
 use Rattle.ct_model.specs.Next.{wire_to, addressed}
 use Rattle.ct_model.specs.Waiting.{serials_to, has_serial}
 use Rattle.ct_model.specs.Rehearsal.{Rehearsal, state_of}
@@ -97,10 +97,6 @@ pub record IsSent (g : State) (w : Wire) : Type 0 where
   pub envelope : Envelope
   pub there : slice_get g.sent place ≡ Some envelope
   pub wire : envelope.wire ≡ w
-
-at_place : (es : List Envelope) (k : ℕ) (e : Envelope) → at_serial es k ≡ Some e → (i : ℕ) × (slice_get es i ≡ Some e)
-at_place es zero e h = absurd (cc)
-at_place es (suc i) e h = (i, h)
 
 pub wire_to-sent : (g : State) (p k : ℕ) (w : Wire) → wire_to g p k ≡ Some w → IsSent g w
 unfolding wire_to

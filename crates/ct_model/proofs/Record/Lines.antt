@@ -29,9 +29,6 @@ waiting-push s p steps step = line_from-push s p (first_state s) [] steps step
 parted : (k j : ℕ) (line : List ℕ) → has_serial j (without k line) ≡ true → has_serial j (alone k line) ≡ false
 parted k j line m = grind (arith, has_serial-filter (λ i. not (i == k)) j line, has_serial-filter (λ i. i == k) j line)
 
-apart : (k j : ℕ) (line : List ℕ) → has_serial k line ≡ false → has_serial j line ≡ true → has_serial j (k ∷ []) ≡ false
-apart k j line away m = grind arith
-
 pub changed-distinct : (p : ℕ) (change : LineChange) (line : List ℕ) → is_distinct line ≡ true →
     ((k : ℕ) → restores p k change ≡ true → has_serial k line ≡ false) → is_distinct (changed p change line) ≡ true
 changed-distinct p change line d away = grind (arith, is_distinct-filter, is_distinct-append, parted)

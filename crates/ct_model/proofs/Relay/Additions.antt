@@ -1,5 +1,5 @@
 -- What a step sends of messages and decisions, and what it adds to what its member got.
-use Rattle.std.proofs.Common.{arith, ◌≡◌, ℕ, cond, List, [], ◌∷◌, refl, inl, inr, ◌⊎◌, Some}
+use Rattle.std.proofs.Common.{arith, ◌≡◌, ℕ, cond, [], ◌∷◌, refl, inl, ◌⊎◌, Some}
 use Rattle.ct_names.specs.Group.{coordinator, IsMember}
 use Rattle.ct_names.specs.Membership.{IsIn}
 use Rattle.ct_names.proofs.Lists
@@ -58,18 +58,10 @@ gets-nothing : (s : Setting) (g : State) (p : ℕ) (o : Outcome) → o.member.go
 gets-nothing s g p o same = record { more = λ w h. rw same h; got_now = λ w h. inl (rw same at h) }
 
 gets-one : (s : Setting) (g : State) (p : ℕ) (w : Wire) → Sent g w → IsGetting s g p (receive s p (member g p) w)
-gets-one s g p w sent =
-    let got : List Wire = (member g p).got in
-    record {
-      more = λ x h. Lists.IsIn-append_left x got (w ∷ []) h;
-      got_now = λ x h. elim (Lists.IsIn-append_cases x got (w ∷ []) h) [
-        | inl a ↦ inl a
-        | inr c ↦ elim c [
-          | inl e ↦ inr (record { sent = rw e sent; mail = rw e refl })
-          | inr never ↦ absurd never
-        ]
-      ];
-    }
+gets-one s g p w sent = record {
+  more = λ x h. Lists.IsIn-append_left x (member g p).got (w ∷ []) h;
+  got_now = λ x h. grind (arith, Lists.IsIn-append_cases x (member g p).got (w ∷ []) h);
+}
 
 step-gets : (s : Setting) (g : State) (p : ℕ) (step : Step) (o : Outcome) → row s g p (member g p) step ≡ Some o → IsGetting s g p o
 step-gets s g p step o = by_shape s g p (member g p) (IsGetting s g p) step o (record {

@@ -138,10 +138,8 @@ module _ (s : Setting) (done : List Step) (from : List ℕ) (g : State) (step : 
 
   on_kept : (x : ℕ) → IsMember s.members x → (w : Wire) → IsShared w → IsIn w (member h x).got → (q : ℕ) → IsMember s.members q →
       Spread x q w
-  on_kept x isx w shared inside q isq = elim (p_or_other x p) [
-    | inl e ↦ rw e (on_now w shared (rw (e, member-same s g p o holds is) at inside) q isq)
-    | inr ne ↦ spread-kept x q w (hist.on x isx w shared (rw (member-other s g p x o is isx ne) at inside) q isq)
-  ]
+  on_kept x isx w shared inside q isq =
+      grind (arith, p_or_other x p, member-same, member-other, on_now, spread-kept, hist.on)
 
   still_at : (j : ℕ) (e : Envelope) → at_serial g.sent j ≡ Some e → at_serial h.sent j ≡ Some e
   unfolding after

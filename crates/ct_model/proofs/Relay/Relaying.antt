@@ -1,5 +1,5 @@
 -- What a member got has gone from it to everyone, so who gets all of it catches up.
-use Rattle.std.proofs.Common.{◌≡◌, ℕ, ◌-◌, List, [], ◌∷◌, ◌++◌, Some, refl, sym, ◌∙◌, arith, append_assoc, append-nil, length}
+use Rattle.std.proofs.Common.{◌≡◌, ℕ, ◌-◌, List, [], ◌∷◌, ◌++◌, Some, arith, append_assoc, append-nil, length}
 use Rattle.std.proofs.Common.{length-append, replicate}
 use Rattle.ct_names.specs.Group.{IsMember}
 use Rattle.ct_names.specs.Membership.{IsIn}
@@ -75,9 +75,7 @@ history-run s steps g e = (posted-run s (λ from g. Unit {0}) (λ from g step o 
 -- what p posted to q has come to q
 pub posted-come : (s : Setting) (steps : List Step) (g : State) (p q : ℕ) (w : Wire) → IsHistory s steps (senders s steps) g →
     IsMember s.members q → IsArrived s steps g p q → IsPosted (senders s steps) g.sent p (letter q w) → IsIn w (member g q).got
-posted-come s steps g p q w hist isq arrived f =
-    let c = hist.come q f.serial isq (arrived f.serial (letter q w) f.sender f.envelope refl) in
-    rw (some-same c.envelope (letter q w) (sym c.at ∙ f.envelope)) at c.got
+posted-come s steps g p q w hist isq arrived f = grind (arith, hist.come)
 
 pub caught_up : (s : Setting) (steps : List Step) (g : State) → run s steps ≡ Some g → (p q : ℕ) → IsMember s.members p →
     IsMember s.members q → IsArrived s steps g p q → HasCaughtUp g p q

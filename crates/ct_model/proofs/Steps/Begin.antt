@@ -1,8 +1,8 @@
 -- Begin.
-use Rattle.std.proofs.Common.{◌≡◌, ℕ, ◌+◌, ◌<◌, false, [], ◌∷◌, refl, ap, sym, ◌∙◌, arith, Some, None}
-use Rattle.std.specs.Prelude.{nat_lt, is_some}
+use Rattle.std.proofs.Common.{◌≡◌, ℕ, ◌+◌, ◌<◌, false, [], ◌∷◌, refl, ap, ◌∙◌, arith, Some, None}
+use Rattle.std.specs.Prelude.{nat_lt}
 use Rattle.ct_names.specs.declared.limit.TheConstants.{MAX_INSTANCES}
-use Rattle.ct_names.specs.declared.refusal.Refusal.TheVariants.{Busy, Nothing, Full}
+use Rattle.ct_names.specs.declared.refusal.Refusal.TheVariants.{Full}
 use Rattle.ct_names.specs.declared.limit.Limit.TheVariants.{Instances}
 use Rattle.ct_model.specs.declared.step.Step.TheVariants.{Begin}
 use Rattle.ct_model.specs.Setting.{Setting}
@@ -18,17 +18,13 @@ use Rattle.ct_model.proofs.Relay.Messages.{in_members}
 use Rattle.ct_model.proofs.Steps.Rows.{IsReady}
 use Rattle.ct_model.proofs.Record.Limits.{own_tests-is, cause-limited, limit-idle, taken_of}
 
--- what the tests of a Begin say where none fires
-ready : (s : Setting) (m : Member) → first_fault (at Busy (is_some m.current) ∷ at Nothing (is_empty (proposed s m)) ∷ []) ≡ None
-    → IsReady s m
-ready s m h = record { idle = grind arith; something = grind arith }
-
 begin_row-some : (s : Setting) (p : ℕ) (m : Member) → IsReady s m → begin_row s p m ≡ Some (begin s p m)
 begin_row-some s p m r = grind arith
 
 module _ (w : Rehearsal) (p : ℕ) (h : first_fault (own_tests w (Begin p)) ≡ None) where
+  -- what the tests of a Begin say where none fires
   begin-ready : IsReady w.setting (member (state_of w) p)
-  begin-ready = ready w.setting (member (state_of w) p) (sym (ap first_fault (own_tests-is w (Begin p))) ∙ h)
+  begin-ready = grind (arith, own_tests-is)
 
   row-begin : row w.setting (state_of w) p (member (state_of w) p) (Begin p) ≡ Some (begin w.setting p (member (state_of w) p))
   row-begin = begin_row-some w.setting p (member (state_of w) p) begin-ready

@@ -1,5 +1,5 @@
 -- A step that closes an instance: how many batches there are after it, and which limit it passes.
-use Rattle.std.proofs.Common.{◌≡◌, ℕ, ◌+◌, ◌-◌, ◌≤◌, ◌<◌, Bool, false, List, [], ◌∷◌, length, refl, ap, sym, ◌∙◌, arith, Some}
+use Rattle.std.proofs.Common.{◌≡◌, ℕ, ◌+◌, ◌≤◌, Bool, false, List, [], ◌∷◌, length, refl, ap, sym, ◌∙◌, arith, Some}
 use Rattle.std.specs.Prelude.{nat_lt, if◌then◌else◌}
 use Rattle.std.proofs.lemmas.List.{length_push}
 use Rattle.std.proofs.lemmas.Bool.Decides.{nat_tests}
@@ -15,7 +15,6 @@ use Rattle.ct_model.specs.Rehearsal.{Rehearsal, state_of}
 use Rattle.ct_model.specs.Cause.{Test, at, first_fault, or_else, limit, overflow, order}
 use Rattle.ct_model.specs.Lawful.{IsLawful, IsPresent}
 use Rattle.ct_model.proofs.Record.Causes.{overflow-is}
-use Rattle.ct_model.proofs.Relay.Messages.{in_members}
 use Rattle.ct_model.proofs.Delivery.Longest.{order-grown}
 use Rattle.ct_model.proofs.Record.Limits.{limit-silent, first_fault-append}
 
@@ -30,9 +29,6 @@ module _ (w : Rehearsal) (step : Step) (k : ℕ) (v : Value) (law : IsLawful w) 
 
   abbrev m : Member
   m = member (state_of w) (actor step)
-
-  there : p - 1 < length (state_of w).members
-  there = in_members w.setting (state_of w) p law.size present.in_group
 
   -- the order after the step is as long as before, or as the member's batches then
   order-close : length (order (after w.setting (state_of w) p (close m k v)))

@@ -1,9 +1,9 @@
 -- Follow.
-use Rattle.std.proofs.Common.{◌≡◌, ℕ, ◌+◌, ◌<◌, [], ◌∷◌, length, ap, sym, ◌∙◌, arith, Some, None}
-use Rattle.std.specs.Prelude.{nat_lt, is_some, is_none}
+use Rattle.std.proofs.Common.{◌≡◌, ℕ, ◌+◌, ◌<◌, [], ◌∷◌, length, ap, ◌∙◌, arith, Some, None}
+use Rattle.std.specs.Prelude.{nat_lt}
 use Rattle.ct_names.specs.declared.limit.TheConstants.{MAX_INSTANCES}
 use Rattle.ct_names.specs.declared.limit.Limit.TheVariants.{Instances, Cells}
-use Rattle.ct_names.specs.declared.refusal.Refusal.TheVariants.{Busy, Undecided, Full}
+use Rattle.ct_names.specs.declared.refusal.Refusal.TheVariants.{Full}
 use Rattle.ct_names.specs.Value.{Value}
 use Rattle.ct_model.specs.declared.step.Step.TheVariants.{Follow}
 use Rattle.ct_model.specs.State.{Member, member}
@@ -22,12 +22,8 @@ use Rattle.ct_model.proofs.Steps.Close.{limit-close}
 use Rattle.ct_model.proofs.Steps.Rows.{IsBehind}
 
 -- what the tests of a Follow say where none fires
-behind : (m : Member) → first_fault (at Busy (is_some m.current) ∷ at Undecided (is_none (decided m.got (m.last + 1))) ∷ []) ≡ None
-    → IsBehind m
-behind m h = let v = some-of (decided m.got (m.last + 1)) (grind arith) in record { idle = grind arith; value = v.0; decision = v.1 }
-
 follow-behind : (w : Rehearsal) (p : ℕ) → first_fault (own_tests w (Follow p)) ≡ None → IsBehind (member (state_of w) p)
-follow-behind w p h = behind (member (state_of w) p) (sym (ap first_fault (own_tests-is w (Follow p))) ∙ h)
+follow-behind w p h = grind (arith, own_tests-is, some-of)
 
 follow_row-some : (m : Member) (b : IsBehind m) → follow_row m ≡ Some (follow m b.value)
 follow_row-some m b = grind arith

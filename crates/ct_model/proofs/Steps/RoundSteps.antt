@@ -1,10 +1,9 @@
 -- What holds of each step of a round alike.
-use Rattle.std.proofs.Common.{◌≡◌, ℕ, ◌+◌, ◌≤◌, Bool, not, length, arith, List, [], ◌∷◌, ◌++◌, refl, ap, ◌∙◌}
+use Rattle.std.proofs.Common.{◌≡◌, ℕ, ◌+◌, ◌≤◌, Bool, length, arith, List, [], ◌∷◌, ◌++◌, refl, ap, ◌∙◌}
 use Rattle.std.proofs.Common.{Option, Some, None}
 use Rattle.std.specs.Prelude.{nat_lt, ◌&&◌, is_some, option_map, if◌then◌else◌}
 use Rattle.ct_names.specs.declared.limit.Limit.TheVariants.{Rounds}
-use Rattle.ct_names.specs.declared.refusal.Refusal.{Refusal}
-use Rattle.ct_names.specs.declared.refusal.Refusal.TheVariants.{Full, Decided, WrongPhase, TooFew}
+use Rattle.ct_names.specs.declared.refusal.Refusal.TheVariants.{Full, Decided}
 use Rattle.ct_model.specs.declared.moves.Move.{Move}
 use Rattle.ct_model.specs.declared.moves.Move.TheVariants.{Enter, Choose, Adopt, Suspect, Conclude}
 use Rattle.ct_model.specs.Actor.{actor}
@@ -13,9 +12,8 @@ use Rattle.ct_names.specs.Value.{Value}
 use Rattle.ct_model.specs.AtValue.{Standing as AtSets, Turn}
 use Rattle.ct_model.specs.Wire.{envelopes}
 use Rattle.ct_model.specs.declared.wire.Wire.TheVariants.{Prop, Dec}
-use Rattle.ct_model.specs.Phases.{is_tally, entered, enter, chosen, choose, adopted, adopt, suspected, suspect, concluded, conclude}
+use Rattle.ct_model.specs.Phases.{entered, enter, chosen, choose, adopted, adopt, suspected, suspect, concluded, conclude}
 use Rattle.ct_model.specs.Faults.{enter_faults, choose_faults, adopt_faults, suspect_faults, conclude_faults, faults_of}
-use Rattle.ct_model.specs.When.{when}
 use Rattle.ct_model.proofs.Basics.Options.{some-of}
 use Rattle.std.specs.Option.{option_map_or}
 use Rattle.std.proofs.lemmas.Bool.Decides.{nat_tests}
@@ -67,10 +65,6 @@ faults-map f n d t c a = grind (arith, estimate_from-map f t, is_largest-map f t
 
 -- where none of its tests fires
 
-taken-two : {A : Type 0} (a b : Bool) (x : A) (r s : Refusal) → first_fault (at r (not a) ∷ at s (not b) ∷ []) ≡ None →
-    when (a && b) x ≡ Some x
-taken-two a b x r s h = grind arith
-
 module _ (n me k : ℕ) (d : Option Value) (t : Ballots Value) (c : AtSets) where
   enter-free : first_fault (enter_faults c ++ at Decided (is_some d) ∷ []) ≡ None → enter n me k d c ≡ Some (entered n me k c)
   unfolding enter
@@ -91,7 +85,7 @@ module _ (n me k : ℕ) (d : Option Value) (t : Ballots Value) (c : AtSets) wher
 
   conclude-free : first_fault (conclude_faults n t c) ≡ None → conclude n k t c ≡ Some (concluded n k t c)
   unfolding conclude
-  conclude-free h = taken-two (is_tally c.phase) (is_majority n t.replied) (concluded n k t c) WrongPhase TooFew h
+  conclude-free h = grind arith
 
 -- it is taken: its turn, the round then, and how many envelopes it sends
 pub record IsFree (n p k : ℕ) (d : Option Value) (t : Ballots Value) (c : AtSets) (a : Move) : Type 0 where

@@ -1,10 +1,9 @@
 -- What a step of consensus leaves, where its row is there.
 use Rattle.std.proofs.Common.{arith}
 use Rattle.std.proofs.Common.{◌≡◌, ℕ, ◌+◌, true, false, Option, Some, None}
-use Rattle.std.specs.Prelude.{is_some, is_none}
+use Rattle.std.specs.Prelude.{is_some}
 use Rattle.ct_names.specs.Group.{is_majority}
 use Rattle.ct_names.specs.Value.{Value}
-use Rattle.ct_model.specs.When.{when}
 use Rattle.ct_model.specs.AtValue.{Standing, Turn}
 use Rattle.ct_model.specs.Setting.{Setting}
 use Rattle.ct_model.specs.State.{Member}
@@ -12,7 +11,7 @@ use Rattle.ct_model.specs.Received.{Heard, Ballots, heard, estimate_from, is_lar
 use Rattle.ct_model.specs.Phases.{is_rest, is_gather, is_wait, is_tally, entered, enter, chosen, choose, adopted, adopt, suspected, suspect}
 use Rattle.ct_model.specs.Phases.{concluded, conclude}
 use Rattle.ct_model.specs.Next.{Outcome, turned, round_row, begin, begin_row, deliver, deliver_row, follow, follow_row, proposed, is_empty}
-use Rattle.ct_model.proofs.Basics.Options.{none-is, when-is, made-then, some-of}
+use Rattle.ct_model.proofs.Basics.Options.{some-of}
 
 -- a step of a round was taken at this standing, with this turn
 pub record IsTurned (m : Member) (step : Standing → Option Turn) (o : Outcome) : Type 0 where
@@ -52,9 +51,8 @@ deliver_row-is m o e =
 
 pub follow_row-is : (m : Member) (o : Outcome) → follow_row m ≡ Some o → (b : IsBehind m) × (follow m b.value ≡ o)
 follow_row-is m o e =
-    let a = made-then (λ (v : Value). when (is_none m.current) (follow m v)) (decided m.got (m.last + 1)) o e in
-    let b = when-is (is_none m.current) (follow m a.from) o a.gives in
-    (record { idle = none-is m.current b.0; value = a.from; decision = a.is }, b.1)
+    let v = some-of (decided m.got (m.last + 1)) (grind arith) in
+    (record { idle = grind arith; value = v.0; decision = v.1 }, grind arith)
 
 -- the five turns
 
