@@ -1,6 +1,6 @@
 -- What a member reads off the wires that it got, where they came: who was heard, who replied, the proposal; a majority's
 -- estimates have a largest ts.
-use Rattle.std.proofs.Common.{◌≡◌, ℕ, ◌≤◌, Bool, true, false, cond, ◌==◌, nat_le, List, [], ◌∷◌, filter_map, find, map, Some, refl, ap}
+use Rattle.std.proofs.Common.{◌≡◌, ℕ, ◌≤◌, Bool, true, ◌==◌, nat_le, List, [], ◌∷◌, filter_map, map, Some, refl, ap}
 use Rattle.std.proofs.Common.{inl, inr, ◌⊎◌, eqb-true, arith}
 use Rattle.std.specs.List.{list_all}
 use Rattle.std.proofs.lemmas.Bool.{cases_lt}
@@ -13,49 +13,31 @@ use Rattle.ct_names.proofs.Groups.{no_longer, in-counting}
 use Rattle.ct_names.proofs.Lists
 use Rattle.ct_model.specs.AtValue.{Wire}
 use Rattle.ct_model.specs.declared.wire.Wire.TheVariants.{Est, Prop, Ack, Nack}
-use Rattle.ct_model.specs.Received.{head, Heard, Ballots, ballots, heard, estimate_of, heard_from, estimate_from, is_largest}
-use Rattle.ct_model.specs.Received.{proposal_of, proposal, is_reply, has_reply}
+use Rattle.ct_model.specs.Received.{Heard, Ballots, ballots, heard, estimate_of, heard_from, estimate_from, is_largest}
+use Rattle.ct_model.specs.Received.{proposal_of, proposal}
+use Rattle.ct_model.proofs.Consensus.Readings
 
 -- a set that has all of a majority is one
 pub majority_of_more : (n : ℕ) (xs ys : List ℕ) → IsWithoutRepeats xs → IsMajority n xs → ((p : ℕ) → IsIn p xs → IsIn p ys) →
     is_majority n ys ≡ true
-majority_of_more n xs ys once some sub =
-    let le = no_longer xs ys once sub in
-    grind (arith, nat_tests)
+majority_of_more n xs ys once some sub = grind (arith, nat_tests, no_longer)
 
 -- a member may be counted
 pub countable : (n p : ℕ) → n ≤ MAX_MEMBERS → IsMember n p → IsIn p everyone
 unfolding members
 countable n p few is = let low : 1 ≤ p = is.0 in let high : p ≤ n = is.1 in in-counting 1 MAX_MEMBERS p low (omega arith)
 
--- where an element passes the test one is found
-find-some : {A : Type 0} (test : A → Bool) (x : A) (xs : List A) → IsIn x xs → test x ≡ true → (y : A) × (find test xs ≡ Some y)
-find-some test x [] h pass = absurd h
-find-some test x (y ∷ xs) (inl e) pass = (y, rw (rw e at pass) refl)
-find-some test x (y ∷ xs) (inr h) pass = go (test y) (find-some test x xs h pass)
-  where
-    go : (b : Bool) → ((z : _) × (find test xs ≡ Some z)) → (z : _) × (cond b (Some y) (find test xs) ≡ Some z)
-    go true rest = (y, refl)
-    go false rest = rest
-
-head-some : {A : Type 0} (x : A) (xs : List A) → IsIn x xs → (y : A) × (head xs ≡ Some y)
-head-some x [] h = absurd h
-head-some x (y ∷ xs) h = (y, refl)
-
 module _ (got : List Wire) (k r : ℕ) where
   -- a Prop that was got makes a proposal
   pub proposal-came : (v : Value) → IsIn (Prop k r v) got → (w : Value) × ((ballots got k r).proposal ≡ Some w)
   unfolding ballots proposal
-  proposal-came v h = head-some v (filter_map (proposal_of k r) got)
+  proposal-came v h = Readings.head-is (filter_map (proposal_of k r) got) v
       (Lists.IsIn-filter_map (proposal_of k r) (Prop k r v) v got (grind (arith, nat_tests)) h)
 
   -- who replied is counted
   pub reply-came : (q : ℕ) → IsIn q everyone → IsIn (Ack k r q) got ⊎ IsIn (Nack k r q) got → IsIn q (ballots got k r).replied
   unfolding ballots
-  reply-came q counted h = Lists.IsIn-filter (has_reply got k r) q everyone (elim h [
-    | inl ack ↦ Lists.list_any-found (is_reply k r q) (Ack k r q) got ack (grind (arith, nat_tests))
-    | inr nack ↦ Lists.list_any-found (is_reply k r q) (Nack k r q) got nack (grind (arith, nat_tests))
-  ]) counted
+  reply-came q counted h = grind (arith, nat_tests, Lists.IsIn-filter, Lists.list_any-found)
 
   -- whose estimate came is heard
   pub estimate-came : (q ts : ℕ) (v : Value) → IsIn q everyone → IsIn (Est k r q v ts) got → IsIn q (heard (ballots got k r))
@@ -65,7 +47,7 @@ module _ (got : List Wire) (k r : ℕ) where
       let of : ℕ → Heard Value → Bool = λ p e. e.member == p in
       let listed : IsIn x (filter_map (estimate_of k r) got) =
       Lists.IsIn-filter_map (estimate_of k r) (Est k r q v ts) x got (grind (arith, nat_tests)) h in
-      let f = find-some (of q) x (filter_map (estimate_of k r) got) listed (grind (arith, nat_tests)) in
+      let f = Readings.find-some (of q) x (filter_map (estimate_of k r) got) listed (grind (arith, nat_tests)) in
       let its = eqb-true f.0.member q (Lists.found-find (of q) f.0 (filter_map (estimate_of k r) got) f.1).1 in
       let inside = Lists.IsIn-filter_map (heard_from got k r) q f.0 everyone f.1 counted in
       rw its at (Lists.IsIn-map (λ (e : Heard Value). e.member) f.0 (filter_map (heard_from got k r) everyone) inside)
@@ -98,12 +80,7 @@ largest-of e (f ∷ es) =
 one_each : (es : List (Heard Value)) → IsWithoutRepeats (map (λ e. e.member) es) → (a b : Heard Value) → IsIn a es → IsIn b es →
     a.member ≡ b.member → a ≡ b
 one_each [] once a b ha hb e = absurd ha
-one_each (x ∷ es) once a b (inl ea) (inl eb) e = cc
-one_each (x ∷ es) once a b (inl ea) (inr hb) e =
-    absurd (once.0 (rw (← e, ea) at (Lists.IsIn-map (λ (y : Heard Value). y.member) b es hb)))
-one_each (x ∷ es) once a b (inr ha) (inl eb) e =
-    absurd (once.0 (rw (e, eb) at (Lists.IsIn-map (λ (y : Heard Value). y.member) a es ha)))
-one_each (x ∷ es) once a b (inr ha) (inr hb) e = one_each es once.1 a b ha hb e
+one_each (x ∷ es) once a b ha hb e = grind (arith, Lists.IsIn-map (λ (y : Heard Value). y.member), one_each es once.1 a b)
 
 -- of those heard one may be chosen
 pub record IsChoice (t : Ballots Value) : Type 0 where
@@ -120,7 +97,7 @@ pub choice : (t : Ballots Value) (q : ℕ) → IsWithoutRepeats (heard t) → Is
 choice t q once h =
     let top = some-largest q t.estimates h in
     let of : Heard Value → Bool = λ x. x.member == top.best.member in
-    let f = find-some of top.best t.estimates top.is_in (grind (arith, nat_tests)) in
+    let f = Readings.find-some of top.best t.estimates top.is_in (grind (arith, nat_tests)) in
     let found = Lists.found-find of f.0 t.estimates f.1 in
     let same = one_each t.estimates once f.0 top.best found.0 top.is_in (eqb-true f.0.member top.best.member found.1) in
     record { from = top.best.member; estimate = f.0; is = f.1; largest = rw (ap (λ (x : Heard Value). x.ts) same) top.largest }

@@ -1,6 +1,5 @@
 -- Why the steps of a member that is up aren't enabled.
-use Rattle.std.proofs.Common.{◌≡◌, ℕ, ◌+◌, true, false, Option, Some, None, refl, arith}
-use Rattle.std.specs.Prelude.{option_map}
+use Rattle.std.proofs.Common.{◌≡◌, ℕ, ◌+◌, true, false, Some, None, arith}
 use Rattle.ct_names.specs.Group.{is_majority}
 use Rattle.ct_names.specs.Value.{Value}
 use Rattle.std.proofs.lemmas.Bool.Decides.{nat_tests}
@@ -12,20 +11,15 @@ use Rattle.ct_model.specs.Setting.{Setting}
 use Rattle.ct_model.specs.State.{State, Member, member}
 use Rattle.ct_model.specs.Received.{Heard, heard, estimate_from, is_largest, decided}
 use Rattle.ct_model.specs.Phases.{is_rest, is_gather, is_wait, is_tally, enter, choose, adopt, conclude}
-use Rattle.ct_model.specs.Next.{row, next, can_act, proposed, is_empty, own_ballots, after}
+use Rattle.ct_model.specs.Next.{row, next, proposed, is_empty, own_ballots}
+use Rattle.ct_model.proofs.Basics.Options.{none-from}
 use Rattle.ct_rest.specs.Rest.{IsUp, IsBlocked}
 
 -- a step of one that is up isn't enabled as its row isn't there
 no_row : (s : Setting) (g : State) (step : Step) → IsUp s g (actor step) → next s g step ≡ None →
     row s g (actor step) (member g (actor step)) step ≡ None
 unfolding next
-no_row s g step is e =
-    let acts : can_act s g (actor step) ≡ true = grind (arith, nat_tests, is.member, is.up) in
-    none-map (after s g (actor step)) (row s g (actor step) (member g (actor step)) step) (rw acts at e)
-  where
-    none-map : {A B : Type 0} (f : A → B) (o : Option A) → option_map f o ≡ None → o ≡ None
-    none-map f None e = refl
-    none-map f (Some x) e = absurd (cc)
+no_row s g step is e = grind (arith, nat_tests, none-from)
 
 module _ (s : Setting) (g : State) (p : ℕ) (is : IsUp s g p) (blocked : IsBlocked s g p) where
   abbrev m : Member

@@ -1,15 +1,15 @@
 -- At rest all is done.
-use Rattle.std.proofs.Common.{◌≡◌, ℕ, List, Option, Some, None, refl, subst}
+use Rattle.std.proofs.Common.{◌≡◌, ℕ, List, None, subst}
 use Rattle.ct_names.specs.Membership.{IsIn}
 use Rattle.ct_names.specs.Message.{Message}
 use Rattle.ct_model.specs.declared.step.Step.{Step}
 use Rattle.ct_model.specs.declared.wire.Wire.TheVariants.{Data}
-use Rattle.ct_model.specs.AtValue.{Standing}
 use Rattle.ct_model.specs.Setting.{Setting}
 use Rattle.ct_model.specs.State.{State, member}
 use Rattle.ct_model.specs.Received.{received_by}
 use Rattle.ct_model.specs.Safe.{delivered_by}
 use Rattle.ct_model.specs.Senders.{senders}
+use Rattle.ct_model.proofs.Basics.Options.{none-from}
 use Rattle.ct_model.proofs.Consensus.Readings
 use Rattle.ct_model.proofs.Record.Senders.{IsPosted, letter}
 use Rattle.ct_model.proofs.Relay.Messages.{received-by}
@@ -20,11 +20,8 @@ use Rattle.ct_rest.proofs.Rounds.{open_not}
 
 module _ (s : Setting) (steps : List Step) (g : State) (rest : IsAtRest s steps g) where
   none_open : (p : ℕ) → IsUp s g p → (member g p).current ≡ None
-  none_open p isp = go (member g p).current refl
-    where
-      go : (o : Option Standing) → (member g p).current ≡ o → o ≡ None
-      go None is = refl
-      go (Some c) is = absurd (open_not s steps g rest (member g p).last (λ q isq. all_open s steps g rest p q isp isq c is) p isp)
+  none_open p isp = none-from (member g p).current
+      (λ c is. open_not s steps g rest (member g p).last (λ q isq. all_open s steps g rest p q isp isq c is) p isp)
 
   delivers : (p q : ℕ) → IsUp s g p → IsUp s g q → (m : Message) → IsIn m (received_by g q) → IsIn m (delivered_by g p)
   delivers p q isp isq m h =

@@ -53,11 +53,7 @@ duty-more old new more n p k c duty = record {
 
 -- before the first round nothing has to be sent
 pub first-duty : (posted : Envelope → Type 0) (n p k : ℕ) (c : Standing) → c.round ≡ 0 → DoesDuty posted n p k c
-first-duty posted n p k c first = record {
-  estimates = λ r some le. absurd (omega arith);
-  replies = λ r some over. absurd (grind (arith, over));
-  proposals = λ r some own past. absurd (grind (arith, past));
-}
+first-duty posted n p k c first = grind arith
 
 -- in a turn
 
@@ -96,23 +92,10 @@ module _ (old : Envelope → Type 0) (n p k : ℕ) (c : Standing) (duty : DoesDu
   reply-duty : is_wait c.phase ≡ true → (t : Turn) → t.after.round ≡ c.round →
       (t.mail ≡ One (coordinator n c.round) (Ack k c.round p)) ⊎ (t.mail ≡ One (coordinator n c.round) (Nack k c.round p)) →
       DoesDuty (Now t) n p k t.after
-  reply-duty waits t round mail = record {
-    estimates = λ r some le. (kept t).estimates r some (omega arith);
-    replies = λ r some over. elim (cases_lt r c.round) [
-      | inl lt ↦ (kept t).replies r some (inl lt)
-      | inr le ↦
-          let now : r ≡ c.round = grind (arith, over) in
-          rw now (elim mail [ inl e ↦ inl (inr (rw e (inl refl))) | inr e ↦ inr (inr (rw e (inl refl))) ])
-    ];
-    proposals = λ r some own past. (kept t).proposals r some own (grind (arith, past));
-  }
+  reply-duty waits t round mail = grind (arith, kept t)
 
   conclude-duty : is_tally c.phase ≡ true → (t : Turn) → t.after.round ≡ c.round → DoesDuty (Now t) n p k t.after
-  conclude-duty tallies t round = record {
-    estimates = λ r some le. (kept t).estimates r some (omega arith);
-    replies = λ r some over. (kept t).replies r some (grind (arith, over));
-    proposals = λ r some own past. (kept t).proposals r some own (grind (arith, past));
-  }
+  conclude-duty tallies t round = grind (arith, kept t)
 
 pub turn-duty : (old : Envelope → Type 0) (n p : ℕ) (m : Member) (c : Standing) → DoesDuty old n p m.last c → (a : Move) (t : Turn) →
     turn_at n p m a c ≡ Some t → DoesDuty (λ e. old e ⊎ IsIn e (envelopes n t.mail)) n p m.last t.after

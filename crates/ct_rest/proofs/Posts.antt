@@ -1,13 +1,12 @@
 -- After every run each member has sent what it has to for its open instance, and received something that it didn't deliver; and each
 -- message was sent by its origin to everyone.
-use Rattle.std.proofs.Common.{◌≡◌, ℕ, ◌+◌, ◌-◌, false, List, [], ◌∷◌, ◌++◌, Some, refl, sym, ap, subst, inl, inr, ◌⊎◌, arith}
-use Rattle.std.proofs.Common.{append_assoc, append-nil, length, length-append, replicate, take, drop}
-use Rattle.std.proofs.lemmas.List.{take-append-drop, length-replicate}
+use Rattle.std.proofs.lemmas.Bool.Decides.{nat_tests}
+use Rattle.std.proofs.Common.{arith}
+use Rattle.std.proofs.Common.{◌≡◌, ℕ, ◌+◌, false, List, [], ◌∷◌, ◌++◌, Some, refl, sym, ap, subst, inl, inr, ◌⊎◌, length, replicate}
 use Rattle.ct_names.specs.Batch.{Batch}
 use Rattle.ct_names.specs.Group.{IsMember}
 use Rattle.ct_names.specs.Membership.{IsIn}
 use Rattle.ct_names.specs.Message.{Message}
-use Rattle.ct_names.specs.Value.{minus, ordered}
 use Rattle.ct_names.proofs.Lists
 use Rattle.ct_names.proofs.Values
 use Rattle.ct_model.specs.declared.step.Step.{Step}
@@ -17,20 +16,20 @@ use Rattle.ct_model.specs.Setting.{Setting}
 use Rattle.ct_model.specs.Wire.{envelopes}
 use Rattle.ct_model.specs.declared.wire.Wire.TheVariants.{Data}
 use Rattle.ct_model.specs.declared.mail.Mail.TheVariants.{Nobody, All}
-use Rattle.ct_model.specs.State.{State, Member, member, delivered, joined, first_state}
+use Rattle.ct_model.specs.State.{State, Member, member, joined, first_state}
 use Rattle.ct_model.specs.Received.{received}
-use Rattle.ct_model.specs.Next.{Outcome, plain, row, submit, receive, undelivered, proposed, is_empty, after, next}
-use Rattle.ct_model.specs.Run.{run, run_from}
-use Rattle.ct_model.specs.Senders.{senders, senders_from}
-use Rattle.ct_model.proofs.Basics.Options.{some-same, some-none, made-then}
-use Rattle.ct_model.proofs.Consensus.Facts.{Holds, member_is}
+use Rattle.ct_model.specs.Next.{Outcome, plain, row, submit, receive, proposed, is_empty, after}
+use Rattle.ct_model.specs.Run.{run}
+use Rattle.ct_model.specs.Senders.{senders}
+use Rattle.ct_model.proofs.Basics.Options.{some-same, some-none}
+use Rattle.ct_model.proofs.Consensus.Facts.{Holds}
 use Rattle.ct_model.proofs.Consensus.Readings
-use Rattle.ct_model.proofs.Consensus.Runs.{Holds-first, Holds-next}
-use Rattle.ct_model.proofs.Record.Frame.{length-after-sent}
+use Rattle.ct_model.proofs.Delivery.Proposals.{proposed-from}
+use Rattle.ct_model.proofs.Record.Frame.{after-submitted}
 use Rattle.ct_model.proofs.Record.Members.{member-same, member-other, p_or_other}
 use Rattle.ct_model.proofs.Record.Senders.{IsPosted, letter, posted-old, posted-new, in-all}
 use Rattle.ct_model.proofs.Record.Start.{member-first}
-use Rattle.ct_model.proofs.Relay.Messages.{next-is}
+use Rattle.ct_model.proofs.Relay.Relaying.{posted-run}
 use Rattle.ct_model.proofs.Steps.Shapes.{by_shape}
 use Rattle.ct_rest.proofs.Duties.{DoesDuty, duty-more, first-duty, turn-duty}
 
@@ -41,30 +40,14 @@ pub record HasMore (got : List Wire) (batches : List Batch) : Type 0 where
   pub fresh : IsIn message (joined batches) → ⊥
 
 got-more : (got : List Wire) (batches : List Batch) (w : Wire) → HasMore got batches → HasMore (got ++ w ∷ []) batches
-got-more got batches w f = record {
-  message = f.message;
-  is_received = Readings.got-received (got ++ w ∷ []) f.message
-      (Lists.IsIn-append_left (Data f.message) got (w ∷ []) (Readings.received-got got f.message f.is_received));
-  fresh = f.fresh;
-}
+got-more got batches w f = grind (arith, nat_tests, Readings.got-received, Lists.IsIn-append_left, Readings.received-got)
 
 first-of : (list : List Message) → is_empty list ≡ false → (x : Message) × IsIn x list
 first-of [] e = absurd (cc)
 first-of (x ∷ list) e = (x, inl refl)
 
 proposed-more : (s : Setting) (m : Member) → is_empty (proposed s m) ≡ false → HasMore m.got m.batches
-unfolding proposed undelivered
-proposed-more s m some =
-    let new : List Message = minus (received m.got) (delivered m) in
-    let x = first-of (take s.bound (ordered new)) some in
-    let all = subst (λ list. IsIn x.0 list) (take-append-drop s.bound (ordered new))
-    (Lists.IsIn-append_left x.0 (take s.bound (ordered new)) (drop s.bound (ordered new)) x.1) in
-    let inside = Values.ordered-from new x.0 all in
-    record {
-      message = x.0;
-      is_received = Values.minus-from (received m.got) (delivered m) x.0 inside;
-      fresh = Values.minus-out (received m.got) (delivered m) x.0 inside;
-    }
+proposed-more s m some = grind (arith, nat_tests, first-of, proposed-from, Values.minus-from, Values.minus-out)
 
 -- where p has an instance open, it has sent what it has to, and has something to deliver
 abbrev pub IsAtWork : (Envelope → Type 0) → ℕ → ℕ → Member → Type 0
@@ -134,15 +117,6 @@ module _ (s : Setting) (from : List ℕ) (g : State) (step : Step) (o : Outcome)
   abbrev names : List ℕ
   names = from ++ replicate (length (envelopes s.members o.mail)) p
 
-  count_kept : length names ≡ length h.sent
-  unfolding after
-  count_kept = rw (
-    length-append from (replicate (length (envelopes s.members o.mail)) p),
-    length-append g.sent (envelopes s.members o.mail),
-    length-replicate (length (envelopes s.members o.mail)) p,
-    count,
-  ) refl
-
   posted_kept : (x : ℕ) (e : Envelope) → IsPosted from g.sent x e → IsPosted names h.sent x e
   unfolding after
   posted_kept x e f =
@@ -155,80 +129,30 @@ module _ (s : Setting) (from : List ℕ) (g : State) (step : Step) (o : Outcome)
   does : IsDutiful s g p (IsPosted from g.sent p) (was.work p is) o
   does = dutiful-step s g p (IsPosted from g.sent p) (was.work p is) step o rowed
 
-  actor_work : IsAtWork (IsPosted names h.sent p) s.members p o.member
-  actor_work d at =
-      let f = does.busy d at in (
-        duty-more (λ e. IsPosted from g.sent p e ⊎ IsIn e (envelopes s.members o.mail)) (IsPosted names h.sent p)
-            (λ e x. elim x [ inl old ↦ posted_kept p e old | inr new ↦ posted_now e new ]) s.members p o.member.last d f.0,
-        f.1,
-      )
-
-  other_work : (x : ℕ) → IsMember s.members x → IsAtWork (IsPosted names h.sent x) s.members x (member g x)
-  other_work x isx d at =
-      let f = was.work x isx d at in
-      (duty-more (IsPosted from g.sent x) (IsPosted names h.sent x) (posted_kept x) s.members x (member g x).last d f.0, f.1)
-
-  submitted_kept : (x : Message) → IsIn x h.submitted → (q : ℕ) → IsMember s.members q →
-      IsPosted names h.sent x.origin (letter q (Data x))
-  unfolding after
-  submitted_kept x inside q isq = elim (Lists.IsIn-append_cases x g.submitted o.submitted inside) [
-    | inl old ↦ posted_kept x.origin (letter q (Data x)) (was.submitted x old q isq)
-    | inr new ↦
-        let f = does.submits x new in
-        subst (λ z. IsPosted names h.sent z (letter q (Data x))) (sym f.0)
-        (posted_now (letter q (Data x)) (rw f.1 (in-all s.members q (Data x) isq)))
-  ]
-
   posts_kept : HasPosted s names h
   posts_kept = record {
     work = λ x isx. elim (p_or_other x p) [
-      | inl e ↦ rw (e, member-same s g p o holds is) actor_work
-      | inr ne ↦ rw (member-other s g p x o is isx ne) (other_work x isx)
+      | inl e ↦ rw (e, member-same s g p o holds is) (λ d at.
+          let f = does.busy d at in (
+            duty-more _ (IsPosted names h.sent p) (λ e x. elim x [ inl old ↦ posted_kept p e old | inr new ↦ posted_now e new ])
+                s.members p o.member.last d f.0,
+            f.1,
+          ))
+      | inr ne ↦ rw (member-other s g p x o is isx ne) (λ d at.
+          let f = was.work x isx d at in
+          (duty-more (IsPosted from g.sent x) (IsPosted names h.sent x) (posted_kept x) s.members x (member g x).last d f.0, f.1))
     ];
-    submitted = submitted_kept;
+    submitted = λ x inside q isq. elim (Lists.IsIn-append_cases x g.submitted o.submitted (rw after-submitted at inside)) [
+      | inl old ↦ posted_kept x.origin (letter q (Data x)) (was.submitted x old q isq)
+      | inr new ↦
+          let f = does.submits x new in
+          subst (λ z. IsPosted names h.sent z (letter q (Data x))) (sym f.0)
+          (posted_now (letter q (Data x)) (rw f.1 (in-all s.members q (Data x) isq)))
+    ];
   }
 
--- over a run
-
-record IsPostal (s : Setting) (from : List ℕ) (g : State) : Type 0 where
-  holds : Holds s g
-  count : length from ≡ length g.sent
-  posted : HasPosted s from g
-
-postal-first : (s : Setting) → IsPostal s [] (first_state s)
-unfolding first_state
-postal-first s = record {
-  holds = Holds-first s;
-  count = refl;
-  posted = record { work = λ p is c at. some-none c (rw (member-first s p) at at); submitted = λ x inside. absurd inside };
-}
-
-sent-length : (s : Setting) (g : State) (p : ℕ) (o : Outcome) →
-    length (after s g p o).sent - length g.sent ≡ length (envelopes s.members o.mail)
-sent-length s g p o = omega (arith, length-after-sent s g p o)
-
-postal-next : (s : Setting) (from : List ℕ) (g : State) (step : Step) (mid : State) → next s g step ≡ Some mid → IsPostal s from g →
-    IsPostal s (from ++ replicate (length mid.sent - length g.sent) (actor step)) mid
-postal-next s from g step mid e f =
-    let t = next-is s g step mid e in
-    let is : IsMember s.members (actor step) = member_is s.members (actor step) t.in_group in
-    rw (← t.gives, sent-length s g (actor step) t.outcome) (record {
-      holds = rw (← t.gives) at (Holds-next s g step mid e f.holds);
-      count = count_kept s from g step t.outcome f.holds f.count is t.row f.posted;
-      posted = posts_kept s from g step t.outcome f.holds f.count is t.row f.posted;
-    })
-
-postal-run_from : (s : Setting) (from : List ℕ) (g h : State) (steps : List Step) → run_from s g steps ≡ Some h → IsPostal s from g →
-    IsPostal s (from ++ senders_from s g steps) h
-unfolding run_from senders_from
-postal-run_from s from g h [] e f = rw (append-nil from, ← some-same g h e) f
-postal-run_from s from g h (step ∷ steps) e f =
-    let made = made-then (λ mid. run_from s mid steps) (next s g step) h e in
-    let mid : State = made.from in
-    let now : List ℕ = replicate (length mid.sent - length g.sent) (actor step) in
-    let rest = postal-run_from s (from ++ now) mid h steps made.gives (postal-next s from g step mid made.is f) in
-    rw made.is (rw (append_assoc from now (senders_from s mid steps)) at rest)
-
 pub posts-run : (s : Setting) (steps : List Step) (g : State) → run s steps ≡ Some g → HasPosted s (senders s steps) g
-unfolding run senders
-posts-run s steps g e = (postal-run_from s [] (first_state s) g steps e (postal-first s)).posted
+posts-run s steps g e = (posted-run s (HasPosted s) (posts_kept s) (record {
+  work = λ p is c at. some-none c (rw (member-first s p) at at);
+  submitted = λ x inside. absurd (unfold first_state in inside);
+}) steps g e).1

@@ -1,30 +1,30 @@
 -- At rest no member that is up has an instance open.
-use Rattle.std.proofs.Common.{◌≡◌, ℕ, zero, suc, ◌≤◌, ◌<◌, true, false, not, List, Some, refl, sym, ap, ◌∙◌, subst, inl, inr, ◌⊎◌, arith}
+use Rattle.std.proofs.lemmas.Bool.Decides.{nat_tests}
+use Rattle.std.proofs.Common.{◌≡◌, ℕ, zero, suc, ◌≤◌, ◌<◌, true, false, List, Some, refl, sym, ap, ◌∙◌, subst, inl, inr, ◌⊎◌, arith}
 use Rattle.std.proofs.lemmas.Bool.{cases_lt}
 use Rattle.ct_names.specs.Group.{coordinator, everyone, members, is_majority, IsMember}
 use Rattle.ct_names.specs.Membership.{IsIn}
 use Rattle.ct_names.specs.Value.{Value}
 use Rattle.ct_names.proofs.Groups.{once-members, counting-range}
-use Rattle.ct_names.proofs.Lists
-use Rattle.ct_model.specs.declared.phase.Phase.{Phase}
-use Rattle.ct_model.specs.declared.phase.Phase.TheVariants.{Rest, Gather, Wait, Tally}
+use Rattle.ct_names.proofs.Lists.{IsIn-filter_from, IsIn-filter_passes, IsWithoutRepeats-filter, not-true}
 use Rattle.ct_model.specs.declared.step.Step.{Step}
 use Rattle.ct_model.specs.AtValue.{Standing}
 use Rattle.ct_model.specs.Setting.{Setting}
 use Rattle.ct_model.specs.declared.wire.Wire.TheVariants.{Est, Prop, Ack, Nack}
-use Rattle.ct_model.specs.State.{State, member, is_crashed}
+use Rattle.ct_model.specs.State.{State, member}
 use Rattle.ct_model.specs.Received.{Ballots, ballots, heard}
 use Rattle.ct_model.specs.Phases.{is_rest, is_gather, is_wait, is_tally}
 use Rattle.ct_model.specs.Senders.{senders}
 use Rattle.ct_model.proofs.Basics.Groups.{coordinator_is}
-use Rattle.ct_model.proofs.Basics.Options.{some-same, some-none}
+use Rattle.ct_model.proofs.Basics.Options.{some-same}
 use Rattle.ct_model.proofs.Basics.Tests
 use Rattle.ct_model.proofs.Consensus.Facts.{Holds, HasChosen}
 use Rattle.ct_model.proofs.Consensus.Readings
 use Rattle.ct_model.proofs.Consensus.Runs.{Holds-run}
 use Rattle.ct_model.proofs.Record.Senders.{IsPosted}
-use Rattle.ct_rest.specs.Rest.{IsUp, IsAtRest, members_up}
+use Rattle.ct_rest.specs.Rest.{IsUp, IsAtRest}
 use Rattle.ct_rest.proofs.Ballots
+use Rattle.ct_rest.proofs.Ballots.{majority_of_more}
 use Rattle.ct_rest.proofs.Blocked
 use Rattle.ct_rest.proofs.Duties.{DoesDuty, HasReplied}
 use Rattle.ct_rest.proofs.Levels.{came}
@@ -38,18 +38,8 @@ in-group n q h = let r = counting-range 1 n q h in (r.0, omega (arith, r.1))
 manned : (s : Setting) (steps : List Step) (g : State) → IsAtRest s steps g → (set : List ℕ) → ((q : ℕ) → IsUp s g q → IsIn q set) →
     is_majority s.members set ≡ true
 manned s steps g rest set all =
-    let up : ℕ → _ = λ q. not (is_crashed g q) in
-    Ballots.majority_of_more s.members (members_up s g) set
-    (Lists.IsWithoutRepeats-filter up (members s.members) (once-members s.members)) rest.majority (λ q h. all q (record {
-      member = in-group s.members q (Lists.IsIn-filter_from up q (members s.members) h);
-      up = Lists.not-true (is_crashed g q) (Lists.IsIn-filter_passes up q (members s.members) h);
-    }))
-
-awake_phase : (x : Phase) → is_rest x ≡ false → (is_gather x ≡ true) ⊎ ((is_wait x ≡ true) ⊎ (is_tally x ≡ true))
-awake_phase Rest e = absurd (cc)
-awake_phase Gather e = inl refl
-awake_phase Wait e = inr (inl refl)
-awake_phase Tally e = inr (inr refl)
+    let most = rest.majority in
+    grind (arith, majority_of_more, IsWithoutRepeats-filter, once-members, in-group, IsIn-filter_from, IsIn-filter_passes, not-true)
 
 -- each that is up has the instance open
 abbrev pub AreOpen : Setting → State → ℕ → Type 0
@@ -74,11 +64,7 @@ module _ (s : Setting) (steps : List Step) (g : State) (rest : IsAtRest s steps 
   -- who waits got no proposal
   unproposed : (q : ℕ) (isq : IsUp s g q) (v : Value) → is_wait (at q isq).phase ≡ true →
       IsIn (Prop k (at q isq).round v) (member g q).got → ⊥
-  unproposed q isq v waits came =
-      let f = open_all q isq in
-      let none = Blocked.no_proposal s g q isq (rest.blocked q isq) f.0 f.1 waits in
-      let some = Ballots.proposal-came (member g q).got k f.0.round v came in
-      some-none some.0 (sym (rw f.2 at none) ∙ some.1)
+  unproposed q isq v waits came = grind (arith, open_all q isq, Blocked.no_proposal, rest.blocked, Ballots.proposal-came)
 
   awake : (q : ℕ) (isq : IsUp s g q) → is_rest (at q isq).phase ≡ false
   awake q isq = let f = open_all q isq in Blocked.no_rest s g q isq (rest.blocked q isq) f.0 f.1
@@ -118,9 +104,7 @@ module _ (s : Setting) (steps : List Step) (g : State) (rest : IsAtRest s steps 
         (rw f.2 at no_choice) (manned s steps g rest (heard got) hears) best.from best.estimate best.is best.largest
 
     waits_not : is_wait (at co isc).phase ≡ true → ⊥
-    waits_not waits =
-        let e = proposal_at co isc r (started co isc) leads (inr (refl, grind arith)) co isc in
-        unproposed co isc e.0 waits e.1
+    waits_not waits = grind (arith, nat_tests, proposal_at, started, unproposed)
 
     module _ (tallies : is_tally (at co isc).phase ≡ true) where
       -- who is in the round replied, as the proposal came
@@ -154,10 +138,7 @@ module _ (s : Setting) (steps : List Step) (g : State) (rest : IsAtRest s steps 
           (rw f.2 at few) (manned s steps g rest got.replied hears)
 
     leads_not : ⊥
-    leads_not = elim (awake_phase (at co isc).phase (awake co isc)) [
-      | inl gathers ↦ gathers_not gathers
-      | inr other ↦ elim other [ inl waits ↦ waits_not waits | inr tallies ↦ tallies_not tallies ]
-    ]
+    leads_not = grind (arith, gathers_not, waits_not, tallies_not, awake co isc)
 
   -- nobody is in the least round
   module _ (p : ℕ) (isp : IsUp s g p) (least : (q : ℕ) (isq : IsUp s g q) → (at p isp).round ≤ (at q isq).round) where
@@ -166,22 +147,10 @@ module _ (s : Setting) (steps : List Step) (g : State) (rest : IsAtRest s steps 
 
     -- p waits for the coordinator, or is it
     waits_or_leads : (is_wait (at p isp).phase ≡ true) ⊎ (co ≡ p)
-    waits_or_leads =
-        let f = open_all p isp in
-        let sound = holds.sound p isp.member f.0 f.1 in
-        elim (awake_phase (at p isp).phase (awake p isp)) [
-          | inl gathers ↦ inr (sound.gathers gathers)
-          | inr other ↦ elim other [ inl waits ↦ inl waits | inr tallies ↦ inr (sound.tallies tallies) ]
-        ]
+    waits_or_leads = grind (arith, awake p isp, holds.sound p isp.member (open_all p isp).0 (open_all p isp).1)
 
     co_up : IsUp s g co
-    co_up = record {
-      member = coordinator_is s.members (at p isp).round (let first = isp.member.0 in let last = isp.member.1 in omega arith);
-      up = elim waits_or_leads [
-        | inl waits ↦ (let f = open_all p isp in rest.led p isp f.0 f.1 waits)
-        | inr own ↦ rw own isp.up
-      ];
-    }
+    co_up = grind (arith, nat_tests, coordinator_is, waits_or_leads)
 
     least_not : ⊥
     least_not = elim (cases_lt (at p isp).round (at co co_up).round) [

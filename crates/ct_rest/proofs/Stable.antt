@@ -12,7 +12,7 @@ use Rattle.ct_model.specs.declared.step.Step.TheVariants.{Conclude}
 use Rattle.ct_model.specs.AtValue.{Wire, Standing, Turn}
 use Rattle.ct_model.specs.Setting.{Setting}
 use Rattle.ct_model.specs.Wire.{envelopes}
-use Rattle.ct_model.specs.declared.wire.Wire.TheVariants.{Ack, Nack, Dec}
+use Rattle.ct_model.specs.declared.wire.Wire.TheVariants.{Nack, Dec}
 use Rattle.ct_model.specs.declared.mail.Mail.TheVariants.{Nobody, All}
 use Rattle.ct_model.specs.State.{State, Member, member, wires}
 use Rattle.ct_model.specs.Received.{Ballots, ballots, is_ack, is_reply, has_ack, has_reply}
@@ -27,9 +27,7 @@ use Rattle.ct_model.proofs.Steps.Rows.{round_row-is, conclude-is}
 use Rattle.ct_rest.proofs.Ballots.{majority_of_more}
 
 reply_acks : (k r q : ℕ) (w : Wire) → is_reply k r q w ≡ true → (is_ack k r q w ≡ true) ⊎ (w ≡ Nack k r q)
-reply_acks k r q (Ack j i p) h = inl h
-reply_acks k r q (Nack j i p) h = inr (grind (arith, nat_tests))
-reply_acks k r q w h = absurd (cc)
+reply_acks k r q w h = grind (arith, nat_tests)
 
 -- who replied acked
 all_acked : (got : List Wire) (k r : ℕ) → ((q : ℕ) → IsIn (Nack k r q) got → ⊥) → (q : ℕ) → IsIn q (ballots got k r).replied →
