@@ -1,6 +1,6 @@
 -- Of those heard with the largest ts the first may be chosen.
-use Rattle.std.proofs.Common.{◌≡◌, ℕ, Bool, true, false, cond, ◌==◌, List, [], ◌∷◌, find, map, Some, refl, sym}
-use Rattle.std.proofs.Common.{inl, inr, eqb-true, arith}
+use Rattle.std.proofs.Common.{◌≡◌, ℕ, Bool, true, false, cond, ◌==◌, List, [], ◌∷◌, find, map, Some, refl}
+use Rattle.std.proofs.Common.{inl, inr, arith}
 use Rattle.std.proofs.lemmas.Bool.Decides.{nat_tests}
 use Rattle.ct_names.specs.Membership.{IsIn, IsWithoutRepeats}
 use Rattle.ct_names.specs.Value.{Value}
@@ -22,14 +22,7 @@ found test x (y ∷ xs) (inr h) pass = go (test y) (found test x xs h pass)
 found_own : (es : List (Heard Value)) → IsWithoutRepeats (map (λ e. e.member) es) → (b : Heard Value) → IsIn b es →
     find (λ e. e.member == b.member) es ≡ Some b
 found_own [] once b h = absurd h
-found_own (e ∷ es) once b (inl is) = rw is (grind (arith, nat_tests))
-found_own (e ∷ es) once b (inr h) = go (e.member == b.member) refl (found_own es once.1 b h)
-  where
-    go : (c : Bool) → (e.member == b.member) ≡ c → find (λ x. x.member == b.member) es ≡ Some b →
-        cond c (Some e) (find (λ x. x.member == b.member) es) ≡ Some b
-    go true is rest =
-        absurd (once.0 (rw (sym (eqb-true e.member b.member is)) at (Lists.IsIn-map (λ (x : Heard Value). x.member) b es h)))
-    go false is rest = rest
+found_own (e ∷ es) once b h = grind (arith, nat_tests, Lists.IsIn-map (λ (x : Heard Value). x.member), found_own es once.1 b)
 
 -- the member that is best may be chosen
 pub record IsBest (t : Ballots Value) : Type 0 where

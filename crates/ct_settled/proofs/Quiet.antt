@@ -1,6 +1,8 @@
 -- A member that is up, and whose turn is refused: no step of its own is allowed but a suspicion that its detector doesn't say, and
 -- nothing waits at it that is near.
-use Rattle.std.proofs.Common.{◌≡◌, ℕ, Bool, true, false, cond, List, [], ◌∷◌, ◌++◌, find, Option, Some, None, refl, sym, ap, ◌∙◌, subst}
+use Rattle.std.proofs.lemmas.Bool.Decides.{nat_tests}
+use Rattle.std.proofs.lemmas.Bool.{cases_Bool}
+use Rattle.std.proofs.Common.{◌≡◌, ℕ, Bool, true, false, List, [], ◌∷◌, ◌++◌, find, Option, Some, None, refl, ap, ◌∙◌, subst}
 use Rattle.std.proofs.Common.{inl, inr, option_map, arith}
 use Rattle.std.specs.Prelude.{is_none, ⊤, ◌==◌}
 use Rattle.std.specs.Option.{option_to_list}
@@ -9,7 +11,6 @@ use Rattle.ct_names.specs.declared.refusal.Refusal.TheVariants.{Full}
 use Rattle.ct_names.specs.Group.{coordinator}
 use Rattle.ct_names.specs.Membership.{IsIn}
 use Rattle.ct_names.specs.MemberSet.{has_member}
-use Rattle.ct_names.specs.Value.{Value}
 use Rattle.ct_names.proofs.Lists.{found-find, found-list_any, list_any-found}
 use Rattle.ct_model.specs.AtValue.{Standing}
 use Rattle.ct_model.specs.Cause.{cause, first_fault}
@@ -20,7 +21,7 @@ use Rattle.ct_model.specs.Rehearsal.{Rehearsal, line_of}
 use Rattle.ct_model.specs.declared.step.Step.{Step}
 use Rattle.ct_model.specs.declared.step.Step.TheVariants.{Receive, Begin, Enter, Choose, Adopt, Suspect, Conclude, Deliver, Follow}
 use Rattle.ct_model.proofs.Basics.Options.{none-is}
-use Rattle.ct_model.proofs.Basics.Tests.{same_number, self_number}
+use Rattle.ct_model.proofs.Basics.Tests.{not_true, same_number, self_number}
 use Rattle.ct_model.proofs.Record.Causes.{own_tests}
 use Rattle.ct_model.proofs.Record.Limits.{own_tests-is}
 use Rattle.ct_world.specs.Driving.{best_heard, next_local}
@@ -32,7 +33,7 @@ use Rattle.ct_play.specs.Played.{Played}
 use Rattle.ct_play.specs.Turning.{suspects, tried_at}
 use Rattle.ct_settled.specs.Settled.{IsSubmission}
 use Rattle.ct_settled.proofs.Best.{found}
-use Rattle.ct_settled.proofs.Free.{receipt_free, tested_free}
+use Rattle.ct_settled.proofs.Free.{none-from, receipt_free, tested_free}
 use Rattle.ct_settled.proofs.Still.{IsRefused}
 
 -- the steps of its own that a turn of p tries, in order, where this is the best one heard; a suspicion comes last
@@ -42,14 +43,12 @@ own_steps p best = (Deliver p ∷ Follow p ∷ Begin p ∷ []) ++ option_to_list
 
 -- those that come last
 pub late_in : (p : ℕ) (best : Option ℕ) (step : Step) → IsIn step (Adopt p ∷ Conclude p ∷ Enter p ∷ []) → IsIn step (own_steps p best)
-late_in p None step h = inr (inr (inr h))
-late_in p (Some from) step h = inr (inr (inr (inr h)))
+late_in p best step h = grind arith
 
 candidates_are : (p : ℕ) (best : Option ℕ) →
     (Deliver p ∷ Follow p ∷ Begin p ∷ []) ++ option_to_list (option_map (Choose p) best)
     ++ (Adopt p ∷ Conclude p ∷ Enter p ∷ Suspect p ∷ []) ≡ own_steps p best ++ Suspect p ∷ []
-candidates_are p None = refl
-candidates_are p (Some from) = refl
+candidates_are p best = grind arith
 
 module _ (t : Played) (set : List ℕ) (p : ℕ) (present : IsPresent t.rehearsal p) (refused : IsRefused t (tried_at t p set)) where
   abbrev w : Rehearsal
@@ -75,8 +74,7 @@ module _ (t : Played) (set : List ℕ) (p : ℕ) (present : IsPresent t.rehearsa
   AllTried (step ∷ steps) = (tries (Some step) ≡ Some step) × AllTried steps
 
   own_tried : (best : Option ℕ) → AllTried (own_steps p best)
-  own_tried None = (refl, (refl, (refl, (refl, (refl, (refl, tt))))))
-  own_tried (Some from) = (refl, (refl, (refl, (refl, (refl, (refl, (refl, tt)))))))
+  own_tried best = grind arith
 
   -- none of the first steps is allowed
   record IsPassedOver (first rest : List Step) : Type 0 where
@@ -85,14 +83,7 @@ module _ (t : Played) (set : List ℕ) (p : ℕ) (present : IsPresent t.rehearsa
 
   passed_over : (first rest : List Step) → AllTried first → IsRefused t (tries (find free (first ++ rest))) → IsPassedOver first rest
   passed_over [] rest own none = record { each = λ step h. absurd h; all = refl }
-  passed_over (x ∷ xs) rest own none = go (free x) refl (passed_over xs rest own.1) none
-    where
-      go : (b : Bool) → free x ≡ b → (IsRefused t (tries (find free (xs ++ rest))) → IsPassedOver xs rest) →
-          IsRefused t (tries (cond b (Some x) (find free (xs ++ rest)))) → IsPassedOver (x ∷ xs) rest
-      go true is more none = absurd (none x own.0 (none-is (cause w x) is))
-      go false is more none =
-          let over = more none in
-          record { each = λ step h. elim h [ inl e ↦ rw e is | inr h ↦ over.each step h ]; all = rw is over.all }
+  passed_over (x ∷ xs) rest own none = grind (arith, none-is, passed_over xs rest own.1)
 
   next_is : next_local w p ≡ find free (own_steps p (best_heard (member_of w p)) ++ Suspect p ∷ [])
   next_is = ap (find free) (candidates_are p (best_heard (member_of w p)))
@@ -110,19 +101,15 @@ module _ (t : Played) (set : List ℕ) (p : ℕ) (present : IsPresent t.rehearsa
   suspect_next e = next_is ∙ over.all ∙ rw e refl
 
   unsaid : free (Suspect p) ≡ true → says ≡ false
-  unsaid e = go says refl
-    where
-      go : (b : Bool) → says ≡ b → b ≡ false
-      go true is = absurd (refused (Suspect p) (tried_is ∙ ap tries (suspect_next e) ∙ rw is refl) (none-is (cause w (Suspect p)) e))
-      go false is = refl
+  unsaid e = not_true says
+      (λ is. refused (Suspect p) (tried_is ∙ ap tries (suspect_next e) ∙ rw is refl) (none-is (cause w (Suspect p)) e))
 
   -- so the first one that waits is tried
   receives_first : tried_at t p set ≡ near t (receives p (first_waiting w p))
-  receives_first = tried_is ∙ ap tries (next_is ∙ over.all) ∙ go (free (Suspect p)) refl
-    where
-      go : (b : Bool) → free (Suspect p) ≡ b → tries (cond b (Some (Suspect p)) None) ≡ near t (receives p (first_waiting w p))
-      go true is = rw (unsaid is) refl
-      go false is = refl
+  receives_first = tried_is ∙ ap tries (next_is ∙ over.all) ∙ elim (cases_Bool (free (Suspect p))) [
+    | inl is ↦ rw (is, unsaid is) refl
+    | inr is ↦ rw is refl
+  ]
 
   module _ (roomy : (step : Step) (l : Limit) → cause t.rehearsal step ≡ Some (Full l) → IsSubmission step) where
     waiting_is : waiting_at w p ≡ line_of w p
@@ -151,19 +138,15 @@ module _ (t : Played) (set : List ℕ) (p : ℕ) (present : IsPresent t.rehearsa
 
     module _ (c : Standing) (at : (member_of t.rehearsal p).current ≡ Some c) (waits : is_wait c.phase ≡ true) where
       -- who waits has no proposal, as it could adopt one
-      no_proposal : (o : Option Value) → (own_ballots (member_of w p) c).proposal ≡ o → o ≡ None
-      no_proposal None is = refl
-      no_proposal (Some v) is =
+      no_proposal : (own_ballots (member_of w p) c).proposal ≡ None
+      no_proposal = none-from (own_ballots (member_of w p) c).proposal (λ v is.
           let tested : first_fault (own_tests w (Adopt p)) ≡ None = ap first_fault (own_tests-is w (Adopt p)) ∙ grind arith in
           let allowed = tested_free w roomy (Adopt p) (λ h. h) present tested in
           let not_allowed = not_free (Adopt p) (late_in p (best_heard (member_of w p)) (Adopt p) (inl refl)) in
-          absurd (cc)
+          cc)
 
       suspect_free : free (Suspect p) ≡ true
-      suspect_free =
-          let none = no_proposal (own_ballots (member_of w p) c).proposal refl in
-          let tested : first_fault (own_tests w (Suspect p)) ≡ None = ap first_fault (own_tests-is w (Suspect p)) ∙ grind arith in
-          ap is_none (tested_free w roomy (Suspect p) (λ h. h) present tested)
+      suspect_free = grind (arith, nat_tests, no_proposal, own_tests, own_tests-is, tested_free)
 
       asks : question w p ≡ Some (ask_of w p)
       unfolding question
@@ -176,6 +159,4 @@ module _ (t : Played) (set : List ℕ) (p : ℕ) (present : IsPresent t.rehearsa
       -- so it waits for one that isn't suspected
       pub not_suspected : has_member set (coordinator t.rehearsal.setting.members c.round) ≡ false
       unfolding ask_of
-      not_suspected =
-          ap (λ r. has_member set (coordinator w.setting.members r)) (sym in_round)
-          ∙ sym (ap (suspects set) asks) ∙ unsaid suspect_free
+      not_suspected = grind (arith, nat_tests, in_round, asks, unsaid, suspect_free)
