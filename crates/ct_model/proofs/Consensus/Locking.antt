@@ -1,6 +1,5 @@
 -- What is locked stays so, decisions agree, and a decision was proposed.
-use Rattle.std.proofs.Common.{◌≡◌, ℕ, suc, zero, ◌≤◌, ◌<◌, List, Some, sym, inl, inr, arith}
-use Rattle.std.proofs.lemmas.Bool.{cases_lt}
+use Rattle.std.proofs.Common.{◌≡◌, ℕ, suc, zero, ◌≤◌, ◌<◌, List, Some, inl, inr, arith}
 use Rattle.ct_names.specs.Group.{everyone, IsMember, IsSetOf, IsShared}
 use Rattle.ct_names.specs.Membership.{IsIn}
 use Rattle.ct_names.specs.Value.{Value}
@@ -78,10 +77,9 @@ pub agreed : (s : Setting) (g : State) → Holds s g → (p q k : ℕ) (v w : Va
 agreed s g holds p q k v w isp isq a b =
     let x = settled s g holds p k v isp a in
     let y = settled s g holds q k w isq b in
-    elim (cases_lt x.round y.round) [
-      | inl lt ↦ sym (locked_for_good s g holds k x.round v x.lock y.round w (omega arith) y.lock.proposed)
-      | inr le ↦ locked_for_good s g holds k y.round w y.lock x.round v le x.lock.proposed
-    ]
+    let forth = locked_for_good s g holds k x.round v x.lock y.round w in
+    let back = locked_for_good s g holds k y.round w y.lock x.round v in
+    grind (arith, forth, back, x.lock.proposed, y.lock.proposed)
 
 pub decided_proposed : (s : Setting) (g : State) → Holds s g → (p k : ℕ) (v : Value) → IsMember s.members p → HasDecided g p k v →
     IsProposed s g k v
@@ -96,14 +94,7 @@ pub locked : (s : Setting) (steps : List Step) (g : State) → run s steps ≡ S
     IsLocked s g instance round v → round ≤ later → IsIn (Prop instance later w) (wires g) → w ≡ v
 locked s steps g e instance round later v w lock = locked_for_good s g (Holds-run s steps g e) instance round v lock later w
 
-pub agreement : (s : Setting) (steps : List Step) (g : State) → run s steps ≡ Some g → (p q instance : ℕ) (v w : Value) →
-    IsMember s.members p → IsMember s.members q → HasDecided g p instance v → HasDecided g q instance w → v ≡ w
-agreement s steps g e = agreed s g (Holds-run s steps g e)
-
-pub validity : (s : Setting) (steps : List Step) (g : State) → run s steps ≡ Some g → (p instance : ℕ) (v : Value) → IsMember s.members p →
-    HasDecided g p instance v → IsProposed s g instance v
-validity s steps g e = decided_proposed s g (Holds-run s steps g e)
-
 -- decisions are agreed on, and were proposed
 pub agreed-run : (s : Setting) (steps : List Step) (g : State) → run s steps ≡ Some g → IsAgreed s g
-agreed-run s steps g e = record { agreed = agreement s steps g e; proposed = validity s steps g e }
+agreed-run s steps g e =
+    let holds = Holds-run s steps g e in record { agreed = agreed s g holds; proposed = decided_proposed s g holds }

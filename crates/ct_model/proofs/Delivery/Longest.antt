@@ -32,12 +32,8 @@ longest-in best (l ∷ rest) = grind (arith, longest-in l rest, longest-in best 
 -- and none is longer
 pub longest-most : (best : List Batch) (lists : List (List Batch)) (xs : List Batch) → IsIn xs (best ∷ lists) →
     length xs ≤ length (longest best lists)
-longest-most best [] xs (inl e) = grind arith
-longest-most best [] xs (inr never) = absurd never
-longest-most best (l ∷ rest) xs (inl e) = grind (arith, nat_tests, longest-most l rest l (inl refl), longest-most best rest xs (inl e))
-longest-most best (l ∷ rest) xs (inr (inl e)) =
-    grind (arith, nat_tests, longest-most l rest xs (inl e), longest-most best rest best (inl refl))
-longest-most best (l ∷ rest) xs (inr (inr i)) = grind (arith, longest-most l rest xs (inr i), longest-most best rest xs (inr i))
+longest-most best [] xs h = grind arith
+longest-most best (l ∷ rest) xs h = grind (arith, nat_tests, longest-most l rest, longest-most best rest)
 
 pub longest-prefix : (best : List Batch) (lists : List (List Batch)) → InOneOrder (best ∷ lists) → (xs : List Batch) →
     IsIn xs (best ∷ lists) → IsPrefix xs (longest best lists)

@@ -1,6 +1,5 @@
 -- Of two members' batches one begins the other, and each begins the order of the group; what was delivered was submitted, and delivered
 -- once.
-use Rattle.std.proofs.lemmas.Bool.Decides.{nat_tests}
 use Rattle.std.proofs.Common.{◌≡◌, ℕ, suc, zero, ◌+◌, ◌≤◌, List, [], ◌∷◌, ◌++◌, Some, refl, sym, ap, ◌∙◌, inl, inr, ◌⊎◌}
 use Rattle.std.proofs.Common.{arith, append_assoc, append-nil, length, length-append}
 use Rattle.std.specs.Prelude.{slice_get}
@@ -49,7 +48,8 @@ joined-deliveries f c = grind (arith, flat_map-append, append-nil)
 once-deliveries : (f : ℕ → Value) (c : ℕ) → IsWithoutRepeats (joined (deliveries f c))
 once-deliveries f zero = unfold deliveries in tt
 once-deliveries f (suc c) =
-    grind (arith, nat_tests, deliveries, joined-deliveries, Lists.IsWithoutRepeats-append, Values.IsWithoutRepeats-ordered, Values.minus-out, Values.ordered-from, once-deliveries f c)
+    let once = once-deliveries f c in
+    grind (arith, joined-deliveries, Lists.IsWithoutRepeats-append, Values.IsWithoutRepeats-ordered, Values.minus-out, Values.ordered-from)
 
 -- the instance whose decision a delivered message comes from
 record IsOfInstance (f : ℕ → Value) (c : ℕ) (m : Message) : Type 0 where
@@ -98,10 +98,7 @@ module _ (s : Setting) (g : State) (agree : IsAgreed s g) (all : HaveClosed g) w
 
   one_order : (p q : ℕ) → IsMember s.members p → IsMember s.members q →
       IsPrefix (member g p).batches (member g q).batches ⊎ IsPrefix (member g q).batches (member g p).batches
-  one_order p q isp isq = elim (cases_lt (all p).closed (all q).closed) [
-    | inl lt ↦ inl (fewer p q isp isq (omega arith))
-    | inr le ↦ inr (fewer q p isq isp le)
-  ]
+  one_order p q isp isq = grind (arith, fewer p q isp isq, fewer q p isq isp)
 
   -- so are the batches of the whole group
   in_one_order : length g.members ≡ s.members → InOneOrder ([] ∷ lists_of g)
@@ -129,12 +126,7 @@ at_end (y ∷ xs) x b (suc i) e = elim (at_end xs x b i e) [ inl a ↦ inl a | i
 deliveries-place : (f : ℕ → Value) (c i : ℕ) (b : Batch) → slice_get (deliveries f c) i ≡ Some b → b.instance ≡ i + 1
 unfolding deliveries
 deliveries-place f zero i b e = some-none b e
-deliveries-place f (suc c) i b e =
-    let last : Batch = record { instance = suc c; messages = ordered (minus (f (suc c)) (joined (deliveries f c))) } in
-    elim (at_end (deliveries f c) last b i e) [
-      | inl a ↦ deliveries-place f c i b a
-      | inr a ↦ grind (arith, a.0, a.1, length-deliveries f c)
-    ]
+deliveries-place f (suc c) i b e = grind (arith, at_end, deliveries-place f c i b, length-deliveries)
 
 -- what holds after every run
 

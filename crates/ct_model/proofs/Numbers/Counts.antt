@@ -14,7 +14,7 @@ use Rattle.ct_names.specs.MemberSet.{with_member}
 use Rattle.ct_names.proofs.Lists
 use Rattle.ct_names.proofs.MemberSets.{with_member-filter}
 use Rattle.ct_model.specs.Wire.{Wire}
-use Rattle.ct_model.specs.declared.wire.Wire.TheVariants.{Est, Ack, Nack}
+use Rattle.ct_model.specs.declared.wire.Wire.TheVariants.{Ack, Nack}
 use Rattle.ct_model.specs.Received.{Heard, Ballots, ballots, estimate_of, heard_from, proposal_of, proposal, is_ack, is_reply}
 use Rattle.ct_model.specs.Counted.{no_ballots, with_estimate, count_in, NamesSomebody}
 use Rattle.ct_model.specs.Mapped.{wire_map, heard_map, ballots_map}
@@ -139,8 +139,7 @@ voter (Nack j s p) = p
 voter _ = 1
 
 from_everyone : {V : Type 0} (k r : ℕ) (w : Wire V) → NamesSomebody w → IsFromEveryone (estimate_of k r w)
-from_everyone k r (Est j s p v ts) h e is = grind arith
-from_everyone k r _ h e is = absurd (cc)
+from_everyone k r w h e is = grind arith
 
 -- the ballots with the wire, part by part
 abbrev counted : {V : Type 0} → Ballots V → ℕ → ℕ → Wire V → Ballots V

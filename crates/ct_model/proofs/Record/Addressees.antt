@@ -1,16 +1,15 @@
 -- Who is named is a member: the sender that a wire names, and the one to whom a step sends one envelope.
-use Rattle.std.proofs.Common.{◌≡◌, ℕ, ◌≤◌, ◌<◌, List, Some, inl, inr, arith}
+use Rattle.std.proofs.Common.{◌≡◌, ℕ, ◌≤◌, ◌<◌, List, Some, arith}
 use Rattle.ct_names.specs.declared.limit.TheConstants.{MAX_MEMBERS}
 use Rattle.ct_names.specs.Group.{IsMember}
 use Rattle.ct_names.specs.Membership.{IsIn}
 use Rattle.ct_model.specs.declared.step.Step.{Step}
-use Rattle.ct_model.specs.Actor.{actor}
 use Rattle.ct_model.specs.AtValue.{Wire, Mail}
 use Rattle.ct_model.specs.Counted.{NamesSomebody}
 use Rattle.ct_model.specs.Setting.{Setting}
 use Rattle.ct_model.specs.declared.wire.Wire.TheVariants.{Est, Ack, Nack}
 use Rattle.ct_model.specs.declared.mail.Mail.TheVariants.{One}
-use Rattle.ct_model.specs.State.{State, Member, member, first_state, wires}
+use Rattle.ct_model.specs.State.{State, Member, first_state, wires}
 use Rattle.ct_model.specs.Next.{Outcome, row, next}
 use Rattle.ct_model.specs.Run.{run}
 use Rattle.ct_model.proofs.Consensus.Sent.{Sent, Carries, Sent-cases}
@@ -51,13 +50,7 @@ names-sending s g p m mail is old h w c = grind (arith, old)
 
 named-next : (s : Setting) (g : State) (step : Step) (h : State) → next s g step ≡ Some h → Names s g → Names s h
 named-next s g step h e old w sent =
-    let t = next-is s g step h e in
-    let p : ℕ = actor step in
-    elim (Sent-cases s g p t.outcome w (rw (← t.gives) at sent)) [
-      | inl a ↦ old w a
-      | inr c ↦ names-sending s g p (member g p) t.outcome.mail (member_is s.members p t.in_group) old
-          (row-sends s g p (member g p) step t.outcome t.row) w c
-    ]
+    grind (arith, next-is s g step h e, Sent-cases, names-sending, member_is, row-sends)
 
 names_somebody : (n : ℕ) (w : Wire) → n ≤ MAX_MEMBERS → NamesMember n w → NamesSomebody w
 names_somebody n w few h = grind arith

@@ -6,8 +6,8 @@ use Rattle.ct_model.specs.Actor.{actor}
 use Rattle.ct_model.specs.State.{State, member}
 use Rattle.ct_model.specs.Next.{Outcome, row, after, next}
 use Rattle.ct_model.specs.Rehearsal.{Rehearsal, state_of, line_of, extended}
-use Rattle.ct_model.specs.Cause.{first_fault, tests, limits, limit, or_else, cause}
-use Rattle.ct_model.specs.Lawful.{IsLawful, IsWithin, IsPresent, NamesWaiting}
+use Rattle.ct_model.specs.Cause.{first_fault, tests, limits, limit, cause}
+use Rattle.ct_model.specs.Lawful.{IsLawful, IsWithin, NamesWaiting}
 use Rattle.ct_model.specs.Allowed.{IsAllowed}
 use Rattle.ct_model.specs.Phases.{enter, choose, adopt, suspect, conclude}
 use Rattle.ct_model.proofs.Basics.Options.{some-of}
@@ -62,11 +62,7 @@ limit-free w step h e within = grind (arith, within-free w.cells (length w.steps
 -- what is allowed has no cause
 pub allowed-free : (w : Rehearsal) (step : Step) → IsAllowed w step → cause w step ≡ None
 allowed-free w step allowed =
-    let s = next-is w.setting (state_of w) step allowed.after allowed.enabled in
-    let present : IsPresent w (actor step) = record { in_group = s.in_group; up = s.up } in
-    cause-present w step present
-    ∙ ap (λ o. or_else o (limit w step)) (row-free w step s.outcome s.row allowed.waits)
-    ∙ limit-free w step allowed.after allowed.enabled allowed.within
+    grind (arith, next-is w.setting (state_of w) step allowed.after allowed.enabled, cause-present, row-free, limit-free)
 
 -- and a lawful record with it is lawful
 pub allowed-lawful : (w : Rehearsal) (step : Step) → IsLawful w → IsAllowed w step → IsLawful (extended w step)

@@ -1,5 +1,5 @@
 -- What waits is an envelope to the member.
-use Rattle.std.proofs.Common.{◌≡◌, ℕ, zero, suc, ◌+◌, ◌-◌, Bool, true, false, not, List, [], ◌∷◌, ◌++◌, refl, ap, sym, ◌∙◌, subst, arith}
+use Rattle.std.proofs.Common.{◌≡◌, ℕ, zero, suc, ◌+◌, Bool, true, false, not, List, [], ◌∷◌, ◌++◌, refl, ap, sym, ◌∙◌, subst, arith}
 use Rattle.std.proofs.Common.{Some, inl, inr}
 use Rattle.std.specs.Prelude.{Option, None, is_some, ◌==◌, slice_get, if◌then◌else◌, option_and_then}
 use Rattle.std.specs.Cmp.{both_ways}
@@ -48,7 +48,8 @@ serial_to p before i [] e there to = some-none e there
 serial_to p before zero (x ∷ es) e there to =
     grind (arith, nat_tests, some-none, number_same, some-same, or_left, has_serial-append, or_right)
 serial_to p before (suc i) (x ∷ es) e there to =
-    grind (arith, nat_tests, some-none, number_same, some-same, or_left, has_serial-append, or_right, serial_to p (before + 1) i es e there to)
+    let rest = serial_to p (before + 1) i es e there to in
+    grind (arith, nat_tests, some-none, number_same, some-same, or_left, has_serial-append, or_right, rest)
 
 -- so has what p gets from a serial
 pub sent_serial : (g : State) (p k : ℕ) → is_some (wire_to g p k) ≡ true → has_serial k (serials_to p 0 g.sent) ≡ true
@@ -76,13 +77,10 @@ sent_letter g p k h = grind (arith, serial_at)
 pub waiting_letter : (w : Rehearsal) (p k : ℕ) → IsLawful w → is_waiting w p k ≡ true → (e : Envelope) × IsLetter (state_of w) p k e
 waiting_letter w p k law h = sent_letter (state_of w) p k (was_sent w p k law h)
 
-wire_is : (g : State) (p k : ℕ) (e : Envelope) (i : ℕ) → k ≡ suc i → slice_get g.sent i ≡ Some e → e.to ≡ p → wire_to g p k ≡ Some e.wire
-unfolding wire_to
-wire_is g p k e i at there to = grind (arith, number_same e.to p to)
-
 -- its wire is what p gets
 pub letter_wire : (g : State) (p k : ℕ) (e : Envelope) → IsLetter g p k e → wire_to g p k ≡ Some e.wire
-letter_wire g p k e l = let positive = l.positive in wire_is g p k e (k - 1) (omega arith) l.there l.to
+unfolding wire_to
+letter_wire g p k e l = grind arith
 
 -- p gets a wire from each serial that was sent to it, and from no other
 pub serial_sent : (g : State) (p k : ℕ) → has_serial k (serials_to p 0 g.sent) ≡ true → is_some (wire_to g p k) ≡ true

@@ -11,7 +11,7 @@ use Rattle.ct_model.specs.Waiting.{waiting}
 use Rattle.ct_model.specs.Lawful.{is_distinct}
 use Rattle.ct_model.specs.Stamps.{IsRising}
 use Rattle.ct_model.proofs.Record.Stamps.{takes, moves, restores, rising-same, rising-filter, rising-push}
-use Rattle.ct_model.proofs.Basics.Tests.{and_both, and_left, and_right, self_number}
+use Rattle.ct_model.proofs.Basics.Tests.{and_left, and_right}
 use Rattle.ct_model.proofs.Basics.Serials.{has_serial-append, has_serial-filter, is_distinct-append, is_distinct-filter}
 
 line_from-push : (s : Setting) (p : ℕ) (g : State) (line : List ℕ) (steps : List Step) (step : Step)
@@ -67,4 +67,4 @@ module _ (p : ℕ) (line : List ℕ) (one other : ℕ → ℕ) (n : ℕ) (distin
       ((k : ℕ) → has_serial k line ≡ true → moves p k change ≡ false → other k ≡ one k) →
       ((k : ℕ) → moves p k change ≡ true → other k ≡ n) → IsRising other (changed p change line)
   changed-rising change away stay last =
-      grind (arith, cond_both, kept-rising, rising-same, cases_Bool, alone-is, moved-rising, and_both, self_number, alone-none, append-nil, rising-push)
+      grind (arith, cond_both, kept-rising, rising-same, cases_Bool, alone-is, moved-rising, alone-none, append-nil, rising-push)

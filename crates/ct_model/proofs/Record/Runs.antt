@@ -1,5 +1,5 @@
 -- A run and one more step.
-use Rattle.std.proofs.Common.{arith, ◌≡◌, List, [], ◌∷◌, ◌++◌, Option, Some, None, refl, ap, subst, length}
+use Rattle.std.proofs.Common.{◌≡◌, List, [], ◌∷◌, ◌++◌, Some, None, refl, ap, subst, length}
 use Rattle.std.specs.Prelude.{option_and_then, unwrap_or}
 use Rattle.std.proofs.lemmas.List.Sums.{fold-append}
 use Rattle.ct_model.specs.declared.step.Step.{Step}
@@ -19,18 +19,13 @@ state_of-push w step = fold-append (stepped w.setting) (first_state w.setting) w
 run_from-push : (s : Setting) (g : State) (steps : List Step) (step : Step) →
     run_from s g (steps ++ step ∷ []) ≡ option_and_then (λ h. next s h step) (run_from s g steps)
 unfolding run_from
-run_from-push s g [] step = at_end (next s g step)
-  where
-    at_end : (o : Option State) → option_and_then (λ h. Some h) o ≡ o
-    at_end o = grind arith
-run_from-push s g (x ∷ steps) step = onwards (next s g x) (λ h. run_from-push s h steps step)
-  where
-    onwards : (o : Option State) → ((h : State) → run_from s h (steps ++ step ∷ [])
-        ≡ option_and_then (λ k. next s k step) (run_from s h steps)) →
-        option_and_then (λ h. run_from s h (steps ++ step ∷ [])) o
-        ≡ option_and_then (λ k. next s k step) (option_and_then (λ h. run_from s h steps) o)
-    onwards None ih = refl
-    onwards (Some h) ih = ih h
+run_from-push s g [] step = elim (next s g step) as (λ o. option_and_then (λ h. Some h) o ≡ o) [ None ↦ refl | Some h ↦ refl ]
+run_from-push s g (x ∷ steps) step =
+    elim (next s g x) as (λ o. option_and_then (λ h. run_from s h (steps ++ step ∷ [])) o
+    ≡ option_and_then (λ k. next s k step) (option_and_then (λ h. run_from s h steps) o)) [
+      | None ↦ refl
+      | Some h ↦ run_from-push s h steps step
+    ]
 
 -- a run goes on by one step
 pub run-push : (s : Setting) (steps : List Step) (step : Step) →

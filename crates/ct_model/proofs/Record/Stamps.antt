@@ -123,8 +123,7 @@ abbrev stamps : Rehearsal → ℕ → ℕ → ℕ → Bool
 stamps w p k n = sends w p k n || is_step (postpones p k) w.steps n || is_step (repeats p k) w.steps n
 
 stamps-old : (w : Rehearsal) (step : Step) (p k n : ℕ) → n ≤ length w.steps → stamps (extended w step) p k n ≡ stamps w p k n
-stamps-old w step p k n h =
-    rw (sends-old w step p k n h, is_step-old (postpones p k) w.steps step n h, is_step-old (repeats p k) w.steps step n h) refl
+stamps-old w step p k n h = grind (arith, sends-old, is_step-old)
 
 stamps-new : (w : Rehearsal) (step : Step) (p k : ℕ)
     → stamps (extended w step) p k (suc (length w.steps)) ≡ (is_new w step p k || moves p k (line_change step))
@@ -160,7 +159,8 @@ pub rising-push : (number : ℕ → ℕ) (line : List ℕ) (k : ℕ) → IsRisin
     ((i : ℕ) → has_serial i line ≡ true → number i < number k) → IsRising number (line ++ k ∷ [])
 rising-push number [] k r h = (λ i m. absurd (cc), tt)
 rising-push number (j ∷ line) k r h =
-    grind (arith, or_cases, has_serial-append, same_number, rising-push number line k r.1 (λ i m. h i (or_right (j == i) (has_serial i line) m)))
+    let rest = rising-push number line k r.1 (λ i m. h i (or_right (j == i) (has_serial i line) m)) in
+    grind (arith, or_cases, has_serial-append, same_number, rest)
 
 -- by places in the list
 

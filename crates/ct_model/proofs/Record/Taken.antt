@@ -1,8 +1,8 @@
 -- A step that is taken: what it does to the record, whichever step it is.
 use Rattle.std.proofs.lemmas.Bool.Decides.{nat_tests}
 use Rattle.std.proofs.Common.{◌≡◌, ℕ, suc, ◌+◌, ◌<◌, ◌≤◌, Bool, true, false, List, [], ◌∷◌, ◌++◌, length, refl, ap, ◌∙◌, arith}
-use Rattle.std.proofs.Common.{Some, ◌⊎◌, inl, inr, append-nil}
-use Rattle.std.specs.Prelude.{not, ◌==◌, ◌&&◌, ◌||◌, if◌then◌else◌, option_and_then}
+use Rattle.std.proofs.Common.{Some, inl, inr, append-nil}
+use Rattle.std.specs.Prelude.{not, ◌==◌, ◌&&◌, ◌||◌, option_and_then}
 use Rattle.std.proofs.lemmas.List.{drop_at, length_push}
 use Rattle.ct_names.specs.Group.{is_member}
 use Rattle.ct_model.specs.declared.step.Step.{Step}
@@ -19,12 +19,12 @@ use Rattle.ct_model.specs.Waiting.LineChange.{Takes}
 use Rattle.ct_model.specs.Rehearsal.{Rehearsal, state_of, line_of, extended}
 use Rattle.ct_model.specs.Stamps.{is_gone, stamp, IsRising}
 use Rattle.ct_model.specs.Lawful.{is_distinct, Waits, IsAway, IsWithin, IsLawful, IsPresent, NamesWaiting}
-use Rattle.ct_model.proofs.Basics.Tests.{and_left, and_both, and_false, or_left, or_right, or_cases, not_true}
+use Rattle.ct_model.proofs.Basics.Tests.{and_left, and_both, and_false, or_left, or_cases, not_true}
 use Rattle.ct_model.proofs.Basics.Tests.{self_number}
 use Rattle.ct_model.proofs.Record.Runs.{state_of-push, run-push, stepped-next}
 use Rattle.ct_model.proofs.Record.Envelopes.{was_sent, sent_serial, serial_sent}
 use Rattle.ct_model.proofs.Record.Lines.{waiting-push, changed-distinct, changed-has, changed-rising}
-use Rattle.ct_model.proofs.Record.Stamps.{takes, moves, restores, is_gone-push, is_new, stamp-push, stamp-within, rising-push}
+use Rattle.ct_model.proofs.Record.Stamps.{takes, moves, restores, is_gone-push, stamp-push, stamp-within, rising-push}
 use Rattle.ct_model.proofs.Basics.Serials.{has_serial-append, is_distinct-append, serials_to-append, serials_to-within, serials_to-distinct}
 use Rattle.ct_model.proofs.Basics.Serials.{mail_at_most}
 use Rattle.ct_model.proofs.Record.Frame.{after-sent, length-after-sent, after-size}
@@ -63,14 +63,6 @@ restored w change away p k e = grind arith
 or_back : (old was now back new : Bool) → (new ≡ true → (was ≡ false) × (now ≡ false)) → (back ≡ true → old ≡ true)
     → ((((old && not was) && not now) || back) || new) ≡ ((old || new) && not ((was || now) && not back))
 or_back old was now back new fresh sent = grind arith
-
--- a number that stays, and one that is new
-number_kept : (after before moved : Bool) (new old : ℕ) → before ≡ true → moved ≡ false
-    → (if (after && not before) || moved then new else old) ≡ old
-number_kept after before moved new old b m = grind arith
-
-number_new : (fresh moved : Bool) (new old : ℕ) → (fresh ≡ true) ⊎ (moved ≡ true) → (if fresh || moved then new else old) ≡ new
-number_new fresh moved new old h = grind arith
 
 -- a step that moves a serial sends nothing
 moved-silent : (s : Setting) (g : State) (p : ℕ) (m : Member) (q k : ℕ) (step : Step) (o : Outcome) → row s g p m step ≡ Some o →
@@ -147,21 +139,20 @@ module _ (w : Rehearsal) (step : Step) (o : Outcome) (law : IsLawful w) (taken :
   distinct-step : (p : ℕ) → is_distinct (line_of (extended w step) p) ≡ true
   unfolding coming sends
   distinct-step p =
-      grind (arith, line-step, is_distinct-append, coming, changed-distinct, restored, serials_to-distinct, sends, not_true, old_within, serials_to-within)
+      grind (arith, line-step, is_distinct-append, changed-distinct, restored, serials_to-distinct, old_within, serials_to-within)
 
   -- what waits was sent, so its stamp stays, unless it moves
   stamp_kept : (p k : ℕ) → has_serial k (line_of w p) ≡ true → moves p k (line_change step) ≡ false
       → stamp (extended w step) p k ≡ stamp w p k
-  stamp_kept p k m still = grind (arith, stamp-push, number_kept, moves, serial_sent, was_sent)
+  stamp_kept p k m still = grind (arith, stamp-push, serial_sent, was_sent)
 
   stamp_moved : (p k : ℕ) → moves p k (line_change step) ≡ true → stamp (extended w step) p k ≡ suc (length w.steps)
-  stamp_moved p k m =
-      stamp-push w step p k ∙ number_new (is_new w step p k) (moves p k (line_change step)) (suc (length w.steps)) (stamp w p k) (inr m)
+  stamp_moved p k m = grind (arith, stamp-push)
 
   stamp_sent : (p k : ℕ) → has_serial k (coming p) ≡ true → stamp (extended w step) p k ≡ suc (length w.steps)
   unfolding coming sends h
   stamp_sent p k m =
-      grind (arith, nat_tests, serials_to-within, sends, serial_sent, state-step, sent_parts, has_serial-append, coming, or_right, not_true, sent_within, sent_serial, stamp-push, number_new, is_new, moves, and_both)
+      grind (arith, serials_to-within, serial_sent, state-step, sent_parts, has_serial-append, sent_within, sent_serial, stamp-push)
 
   changed_small : (p k : ℕ) → coming p ≡ k ∷ [] → (i : ℕ) → has_serial i (changed p (line_change step) (line_of w p)) ≡ true →
       stamp (extended w step) p i < stamp (extended w step) p k

@@ -42,8 +42,7 @@ known_last : (list : List Message) (x : Message) → has (list ++ x ∷ []) x �
 known_last list x = grind (arith, has-push list x x, is_message-refl x)
 
 carries_more : (list : List Message) (x : Message) (w : Wire) → CarriesOne list w → CarriesOne (list ++ x ∷ []) w
-carries_more list x (Data m) h = known_more list m x h
-carries_more list x _ h = tt
+carries_more list x w h = grind (arith, known_more)
 
 in_either : (xs ys : List Envelope) (i : ℕ) (e : Envelope) → slice_get (xs ++ ys) i ≡ Some e →
     ((j : ℕ) × (slice_get xs j ≡ Some e)) ⊎ ((j : ℕ) × (slice_get ys j ≡ Some e))

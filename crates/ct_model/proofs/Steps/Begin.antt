@@ -5,9 +5,8 @@ use Rattle.ct_names.specs.declared.limit.TheConstants.{MAX_INSTANCES}
 use Rattle.ct_names.specs.declared.refusal.Refusal.TheVariants.{Full}
 use Rattle.ct_names.specs.declared.limit.Limit.TheVariants.{Instances}
 use Rattle.ct_model.specs.declared.step.Step.TheVariants.{Begin}
-use Rattle.ct_model.specs.Setting.{Setting}
 use Rattle.ct_model.specs.State.{Member, member}
-use Rattle.ct_model.specs.Next.{begin, begin_row, proposed, is_empty, row, after}
+use Rattle.ct_model.specs.Next.{begin, proposed, is_empty, row, after}
 use Rattle.ct_model.specs.Rehearsal.{Rehearsal, state_of}
 use Rattle.ct_model.specs.Cause.{at, first_fault, or_else, cause, overflow}
 use Rattle.ct_model.specs.Lawful.{IsLawful, IsPresent}
@@ -18,16 +17,13 @@ use Rattle.ct_model.proofs.Relay.Messages.{in_members}
 use Rattle.ct_model.proofs.Steps.Rows.{IsReady}
 use Rattle.ct_model.proofs.Record.Limits.{own_tests-is, cause-limited, limit-idle, taken_of}
 
-begin_row-some : (s : Setting) (p : ℕ) (m : Member) → IsReady s m → begin_row s p m ≡ Some (begin s p m)
-begin_row-some s p m r = grind arith
-
 module _ (w : Rehearsal) (p : ℕ) (h : first_fault (own_tests w (Begin p)) ≡ None) where
   -- what the tests of a Begin say where none fires
   begin-ready : IsReady w.setting (member (state_of w) p)
   begin-ready = grind (arith, own_tests-is)
 
   row-begin : row w.setting (state_of w) p (member (state_of w) p) (Begin p) ≡ Some (begin w.setting p (member (state_of w) p))
-  row-begin = begin_row-some w.setting p (member (state_of w) p) begin-ready
+  row-begin = grind (arith, begin-ready)
 
 pub cause-begin : (w : Rehearsal) (p : ℕ) → IsLawful w → IsPresent w p → first_fault (own_tests w (Begin p)) ≡ None
     → cause w (Begin p) ≡ or_else (first_fault (at (Full Instances) (nat_lt MAX_INSTANCES ((member (state_of w) p).last + 1)) ∷ []))

@@ -7,9 +7,9 @@ use Rattle.ct_names.specs.declared.refusal.Refusal.TheVariants.{Undecided, Full}
 use Rattle.ct_names.specs.Value.{Value}
 use Rattle.ct_model.specs.declared.step.Step.TheVariants.{Deliver}
 use Rattle.ct_model.specs.AtValue.{Standing}
-use Rattle.ct_model.specs.State.{Member, member}
+use Rattle.ct_model.specs.State.{member}
 use Rattle.ct_model.specs.Received.{decided}
-use Rattle.ct_model.specs.Next.{deliver, deliver_row, row}
+use Rattle.ct_model.specs.Next.{deliver, row}
 use Rattle.ct_model.specs.Rehearsal.{Rehearsal, state_of}
 use Rattle.ct_model.specs.Cause.{at, first_fault, or_else, cause, overflow}
 use Rattle.ct_model.specs.Lawful.{IsLawful, IsPresent}
@@ -29,12 +29,9 @@ tests-deliver w p c e = grind (arith, own_tests-is)
 deliver-due : (w : Rehearsal) (p : ℕ) → first_fault (own_tests w (Deliver p)) ≡ None → IsDue (member (state_of w) p)
 deliver-due w p h = grind (arith, open-standing, own_tests-is)
 
-deliver_row-some : (m : Member) (d : IsDue m) → deliver_row m ≡ Some (deliver m d.value)
-deliver_row-some m d = grind arith
-
 row-deliver : (w : Rehearsal) (p : ℕ) (d : IsDue (member (state_of w) p)) →
     row w.setting (state_of w) p (member (state_of w) p) (Deliver p) ≡ Some (deliver (member (state_of w) p) d.value)
-row-deliver w p d = deliver_row-some (member (state_of w) p) d
+row-deliver w p d = grind arith
 
 pub cause-deliver : (w : Rehearsal) (p : ℕ) → IsLawful w → IsPresent w p → first_fault (own_tests w (Deliver p)) ≡ None →
     cause w (Deliver p) ≡ or_else (first_fault (at (Full Cells) (nat_lt w.cells (length (member (state_of w) p).batches + 1)) ∷ []))

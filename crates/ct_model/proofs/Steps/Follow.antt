@@ -8,7 +8,7 @@ use Rattle.ct_names.specs.Value.{Value}
 use Rattle.ct_model.specs.declared.step.Step.TheVariants.{Follow}
 use Rattle.ct_model.specs.State.{Member, member}
 use Rattle.ct_model.specs.Received.{decided}
-use Rattle.ct_model.specs.Next.{follow, follow_row, row, after}
+use Rattle.ct_model.specs.Next.{follow, row, after}
 use Rattle.ct_model.specs.Rehearsal.{Rehearsal, state_of}
 use Rattle.ct_model.specs.Cause.{at, first_fault, or_else, cause, overflow}
 use Rattle.ct_model.specs.Lawful.{IsLawful, IsPresent}
@@ -25,12 +25,9 @@ use Rattle.ct_model.proofs.Steps.Rows.{IsBehind}
 follow-behind : (w : Rehearsal) (p : ℕ) → first_fault (own_tests w (Follow p)) ≡ None → IsBehind (member (state_of w) p)
 follow-behind w p h = grind (arith, own_tests-is, some-of)
 
-follow_row-some : (m : Member) (b : IsBehind m) → follow_row m ≡ Some (follow m b.value)
-follow_row-some m b = grind arith
-
 row-follow : (w : Rehearsal) (p : ℕ) (b : IsBehind (member (state_of w) p)) →
     row w.setting (state_of w) p (member (state_of w) p) (Follow p) ≡ Some (follow (member (state_of w) p) b.value)
-row-follow w p b = follow_row-some (member (state_of w) p) b
+row-follow w p b = grind arith
 
 pub cause-follow : (w : Rehearsal) (p : ℕ) → IsLawful w → IsPresent w p → first_fault (own_tests w (Follow p)) ≡ None →
     cause w (Follow p) ≡ or_else (first_fault (at (Full Instances) (nat_lt MAX_INSTANCES ((member (state_of w) p).last + 1))

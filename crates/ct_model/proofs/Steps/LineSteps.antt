@@ -1,12 +1,11 @@
 -- Postpone, Lose and Repeat: they change nothing but a waiting line.
-use Rattle.std.proofs.Common.{◌≡◌, ℕ, Bool, true, false, [], ◌∷◌, refl, sym, ap, ◌∙◌, Option, Some, None, arith}
-use Rattle.std.specs.Prelude.{is_some, is_none, option_map}
+use Rattle.std.proofs.Common.{◌≡◌, ℕ, Bool, true, false, [], ◌∷◌, refl, sym, ap, ◌∙◌, Some, None, arith}
+use Rattle.std.specs.Prelude.{is_some, is_none}
 use Rattle.ct_names.specs.declared.refusal.Refusal.TheVariants.{NotWaiting, NotSent, StillWaiting}
 use Rattle.ct_model.specs.declared.step.Step.{Step}
 use Rattle.ct_model.specs.declared.step.Step.TheVariants.{Postpone, Lose, Repeat}
 use Rattle.ct_model.specs.Actor.{actor}
-use Rattle.ct_model.specs.AtValue.{Wire}
-use Rattle.ct_model.specs.State.{Member, member}
+use Rattle.ct_model.specs.State.{member}
 use Rattle.ct_model.specs.declared.mail.Mail.TheVariants.{Nobody}
 use Rattle.ct_model.specs.Next.{Outcome, plain, line_row, row, wire_to}
 use Rattle.ct_model.specs.Rehearsal.{Rehearsal, state_of}
@@ -22,16 +21,13 @@ use Rattle.ct_model.proofs.Record.Limits.{limit-overflow, taken_of}
 unfoldable pub line_outcome : Rehearsal → ℕ → Outcome
 line_outcome w p = plain (member (state_of w) p) Nobody
 
-row-there : (m : Member) (o : Option Wire) → is_some o ≡ true → option_map (λ w. plain m Nobody) o ≡ Some (plain m Nobody)
-row-there m o there = grind arith
-
 module _ (w : Rehearsal) (step : Step) (k : ℕ)
     (is : row w.setting (state_of w) (actor step) (member (state_of w) (actor step)) step
     ≡ line_row (state_of w) (actor step) (member (state_of w) (actor step)) k)
     (law : IsLawful w) (sent : is_some (wire_to (state_of w) (actor step) k) ≡ true) where
   rowed : row w.setting (state_of w) (actor step) (member (state_of w) (actor step)) step
       ≡ Some (plain (member (state_of w) (actor step)) Nobody)
-  rowed = is ∙ row-there (member (state_of w) (actor step)) (wire_to (state_of w) (actor step) k) sent
+  rowed = is ∙ grind arith
 
   limit-line : IsPresent w (actor step) → limit w step ≡ overflow w 0
   limit-line present = limit-overflow w step (plain (member (state_of w) (actor step)) Nobody) law present rowed refl
