@@ -1,26 +1,20 @@
 -- What was taken stands in the list once, and is found there.
-use Rattle.std.proofs.Common.{arith, ◌≡◌, true, false, ◌==◌, List, [], ◌∷◌, ◌++◌}
-use Rattle.std.proofs.Common.{refl, subst, ap₂, inl, inr, eq-eqb, eqb-true}
+use Rattle.std.proofs.Common.{arith, ◌≡◌, true, false, List, [], ◌∷◌, ◌++◌}
+use Rattle.std.proofs.Common.{subst, inl, inr}
 use Rattle.std.specs.List.{list_any}
+use Rattle.std.proofs.lemmas.Bool.Decides.{nat_tests}
 use Rattle.ct_names.specs.Membership.{IsIn, IsWithoutRepeats}
 use Rattle.ct_names.proofs.Lists
 use Rattle.indexmap.specs.IndexSet.{insert_key}
 use Rattle.ct_relay.specs.contracts.relay_id.RelayIdPartialEq.TheImpl.{ghosts as equal}
 use Rattle.ct_relay.specs.declared.relay_id.RelayId.{RelayId}
-use Rattle.ct_relay.specs.declared.relay_id.RelayId.TheVariants.{Data, Dec}
 use Rattle.ct_relay.specs.Taken.{is_id, with_id}
 
 is_id-refl : (id : RelayId) → is_id id id ≡ true
-is_id-refl (Data origin number) = Lists.both _ _ (eq-eqb origin origin refl) (eq-eqb number number refl)
-is_id-refl (Dec instance round) = Lists.both _ _ (eq-eqb instance instance refl) (eq-eqb round round refl)
+is_id-refl id = grind (arith, nat_tests)
 
 pub same-is_id : (x y : RelayId) → is_id x y ≡ true → x ≡ y
-same-is_id (Data origin number) (Data other n) e =
-    ap₂ (λ o k. Data o k) (eqb-true _ _ (Lists.both-left (origin == other) _ e)) (eqb-true _ _ (Lists.both-right (origin == other) _ e))
-same-is_id (Data origin number) (Dec k r) e = absurd (cc)
-same-is_id (Dec instance round) (Data other n) e = absurd (cc)
-same-is_id (Dec instance round) (Dec k r) e =
-    ap₂ (λ i s. Dec i s) (eqb-true _ _ (Lists.both-left (instance == k) _ e)) (eqb-true _ _ (Lists.both-right (instance == k) _ e))
+same-is_id x y e = grind (arith, nat_tests)
 
 -- what stands in the list is found
 pub in-found : (ids : List RelayId) (id : RelayId) → IsIn id ids → list_any (is_id id) ids ≡ true

@@ -1,4 +1,4 @@
-use Rattle.std.proofs.Common.{◌≡◌, ◌||◌, Bool, Option, Some, None, false, true, take, refl, sym, ap, ◌∙◌}
+use Rattle.std.proofs.Common.{◌≡◌, ◌||◌, Bool, Option, take, sym, ap, ◌∙◌, arith}
 use Rattle.std.specs.Prelude.{option_map}
 use Rattle.std.specs.List.{list_any}
 use Rattle.std.proofs.lemmas.List.{take_all}
@@ -9,9 +9,7 @@ use Rattle.ct_relay.proofs.Marked.{told-with_mark, no-more}
 use Rattle.ct_relay.proofs.known.Known.add_all.Goals as goal
 
 twice : (told : Option Bool) (a b : Bool) → option_map (λ t. t || b) (option_map (λ t. t || a) told) ≡ option_map (λ t. t || (a || b)) told
-twice None a b = refl
-twice (Some true) a b = refl
-twice (Some false) a b = refl
+twice told a b = grind arith
 
 pub loop-id-init : goal.loop-id-init
 loop-id-init c = λ id. no-more (told_of c.args.self.now id)
