@@ -1,10 +1,10 @@
 -- Sets of members as filters of all members, and the bits that stand for them.
-use Rattle.std.proofs.Common.{◌≡◌, ◌≢◌, ℕ, zero, suc, ◌+◌, ◌*◌, ◌-◌, ◌/◌, ◌%◌, ◌^◌, ◌≤◌, ◌<◌, Bool, true, false, cond, ◌||◌, ◌==◌, List, []}
+use Rattle.std.proofs.Common.{◌≡◌, ℕ, zero, suc, ◌+◌, ◌*◌, ◌-◌, ◌/◌, ◌%◌, ◌^◌, ◌≤◌, ◌<◌, Bool, true, false, cond, ◌||◌, ◌==◌, List, []}
 use Rattle.std.proofs.Common.{◌∷◌, length, filter, map, refl, sym, ap, ◌∙◌, subst, inl, inr, arith, eqb-true, eq-eqb}
-use Rattle.std.specs.Int.{w16, bit_at}
+use Rattle.std.specs.Int.{w16}
 use Rattle.std.specs.Int.RustNames.{bit_and, bit_or, count_ones}
 use Rattle.std.proofs.Math.Nat.{pow-succ', div-div-eq-div-mul, mul_comm, zero-div}
-use Rattle.std.proofs.lemmas.Bool.{eqb-false, false_from_ne_true}
+use Rattle.std.proofs.lemmas.Bool.{false_from_ne_true}
 use Rattle.std.proofs.lemmas.Bool.Decides.{nat_tests}
 use Rattle.std.proofs.lemmas.List.Sums.{length-filter}
 use Rattle.std.proofs.lemmas.Nat.{or_lt}
@@ -121,21 +121,9 @@ length-members_of bits back =
 -- a member's bit is set
 has_bit-set : (bits one p : ℕ) → IsMember MAX_MEMBERS one → 1 ≤ p →
     has_bit (bit_or bits (1 * 2 ^ (one - 1) % 65536)) p ≡ ((p == one) || has_bit bits p)
-has_bit-set bits one p h from_one = elim (Lists.true_or_false (p == one)) [
-  | inl is ↦
-      let e : p ≡ one = eqb-true p one is in
-      let place : p - 1 ≡ one - 1 = ap (λ z. z - 1) e in
-      let set : bit_at (bit_or bits (1 * 2 ^ (one - 1) % 65536)) (one - 1) ≡ 1 =
-      bit_at_set_same w16 bits (one - 1) (omega (arith, h.0, h.1)) in
-      ap (λ k. bit_at (bit_or bits (1 * 2 ^ (one - 1) % 65536)) k == 1) place
-      ∙ (ap (λ z. z == 1) set ∙ sym (ap (λ b. b || has_bit bits p) is))
-  | inr is ↦
-      let e : p ≢ one = eqb-false p one is in
-      let apart : p - 1 ≢ one - 1 = λ same. e (omega (arith, h.0)) in
-      let kept : bit_at (bit_or bits (1 * 2 ^ (one - 1) % 65536)) (p - 1) ≡ bit_at bits (p - 1) =
-      bit_at_set_other w16 bits (one - 1) (omega (arith, h.0, h.1)) (p - 1) apart in
-      ap (λ z. z == 1) kept ∙ sym (ap (λ b. b || has_bit bits p) is)
-]
+has_bit-set bits one p h from_one =
+    let low : one - 1 < 16 = omega (arith, h.0, h.1) in
+    grind (arith, nat_tests, bit_at_set_same w16 bits (one - 1) low, bit_at_set_other w16 bits (one - 1) low (p - 1), h.0)
 
 pub members_of-insert : (bits one : ℕ) → IsMember MAX_MEMBERS one →
     members_of (bit_or bits (1 * 2 ^ (one - 1) % 65536)) ≡ with_member (members_of bits) one

@@ -1,14 +1,12 @@
 -- The order of messages is total: it compares their keys.
-use Rattle.std.proofs.Common.{◌≡◌, ℕ, true, false, ◌==◌, List, [], ◌∷◌, length, Ordering, Less, Equal, Greater, refl, sym}
+use Rattle.std.proofs.Common.{◌≡◌, ℕ, true, false, List, [], ◌∷◌, length, Ordering, Less, Equal, Greater, refl, sym}
 use Rattle.std.proofs.Common.{ap, ◌∙◌, inl, inr, ◌⊎◌, arith}
 use Rattle.std.specs.Cmp.{IsTotalOrder}
 use Rattle.std.specs.Cmp.Lexicographic.{slice_cmp}
 use Rattle.std.specs.Ordering.{nat_cmp, is_lt, is_eq, ordering_reverse, ordering_then}
-use Rattle.std.proofs.Math.Bool.{and-true}
 use Rattle.std.proofs.lemmas.Bool.Decides.{nat_tests}
 use Rattle.std.proofs.lemmas.Cmp.{nat_list_cmp_total, on_total}
 use Rattle.ct_names.specs.declared.command.Command.{Command}
-use Rattle.ct_names.specs.declared.command.Command.TheVariants.{Set, Add, Copy}
 use Rattle.ct_names.specs.contracts.message.MessageOrd.TheImpl.{ghosts}
 use Rattle.ct_names.specs.contracts.message.MessagePartialEq.TheImpl.{ghosts as equal}
 use Rattle.ct_names.specs.Message.{Message}
@@ -23,9 +21,8 @@ order_total = on_total key nat_list_cmp_total
 
 less-cmp : (xs ys : List ℕ) → length xs ≡ length ys → is_less xs ys ≡ is_lt (slice_cmp nat_cmp xs ys)
 less-cmp [] [] e = refl
-less-cmp [] (y ∷ ys) e = absurd (omega arith)
-less-cmp (x ∷ xs) [] e = absurd (omega arith)
 less-cmp (x ∷ xs) (y ∷ ys) e = grind (arith, nat_tests, less-cmp xs ys (omega arith))
+less-cmp _ _ e = absurd (omega arith)
 
 same-cmp : (xs ys : List ℕ) → is_same xs ys ≡ is_eq (slice_cmp nat_cmp xs ys)
 same-cmp [] [] = refl
@@ -33,9 +30,7 @@ same-cmp (x ∷ xs) (y ∷ ys) = grind (arith, nat_tests, same-cmp xs ys)
 same-cmp _ _ = refl
 
 length-command_key : (c : Command) → length (command_key c) ≡ 3
-length-command_key (Set r v) = refl
-length-command_key (Add r v) = refl
-length-command_key (Copy r v) = refl
+length-command_key c = grind arith
 
 length-key : (m : Message) → length (key m) ≡ 5
 length-key m = let e = length-command_key m.command in omega arith
@@ -86,26 +81,13 @@ module _ (origin number other_origin other_number : ℕ) where
   other_with command = record { origin = other_origin; number = other_number; command = command }
 
   same_cmp-command : (c d : Command) → ghosts.cmp (with_command c) (other_with d) ≡ order (with_command c) (other_with d)
-  same_cmp-command (Set r v) (Set s w) = rw (then-equal (nat_cmp v w)) refl
-  same_cmp-command (Add r v) (Add s w) = rw (then-equal (nat_cmp v w)) refl
-  same_cmp-command (Copy r v) (Copy s w) = rw (then-equal (nat_cmp v w)) refl
-  same_cmp-command _ _ = refl
+  same_cmp-command c d = grind arith
 
 -- the derived `cmp` of messages is that order
 pub same_cmp : (m other : Message) → ghosts.cmp m other ≡ order m other
 same_cmp m other = same_cmp-command m.origin m.number other.origin other.number m.command other.command
 
-module _ (origin number other_origin other_number : ℕ) where
-  same_eq-command : (c d : Command) → equal.eq (record { origin = origin; number = number; command = c })
-      (record { origin = other_origin; number = other_number; command = d })
-      ≡ is_message (record { origin = origin; number = number; command = c })
-      (record { origin = other_origin; number = other_number; command = d })
-  unfolding is_message
-  same_eq-command (Set r v) (Set s w) = rw (and-true (v == w)) refl
-  same_eq-command (Add r v) (Add s w) = rw (and-true (v == w)) refl
-  same_eq-command (Copy r v) (Copy s w) = rw (and-true (v == w)) refl
-  same_eq-command _ _ = refl
-
 -- the derived `==` of messages
 pub same_eq : (m other : Message) → equal.eq m other ≡ is_message m other
-same_eq m other = same_eq-command m.origin m.number other.origin other.number m.command other.command
+unfolding is_message
+same_eq m other = grind (arith, nat_tests)

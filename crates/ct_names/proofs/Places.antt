@@ -1,6 +1,6 @@
 -- Where a binary search finds a message in a set, and the place that it names for another.
 use Rattle.std.proofs.Common.{◌≡◌, ℕ, zero, suc, ◌+◌, ◌≤◌, ◌<◌, Bool, true, false, cond, not, ◌||◌, List, [], ◌∷◌, ◌++◌, length, get_or}
-use Rattle.std.proofs.Common.{take, Ordering, Less, Equal, Greater, Result, Ok, Err, refl, sym, ap, ◌∙◌, subst, inl, inr, ◌⊎◌, arith}
+use Rattle.std.proofs.Common.{take, Ordering, Less, Equal, Greater, Result, Ok, Err, refl, sym, ap, ◌∙◌, subst, inl, inr, arith}
 use Rattle.std.specs.List.{AllWithin, HoldsAt, insert}
 use Rattle.std.specs.List.Sorted.{IsBinarySearchResult, IsSearchInRange, IsSortedBy, IsNonDecreasingBy}
 use Rattle.std.specs.Ordering.{is_lt, is_eq, ordering_index, ordering_reverse}
@@ -12,7 +12,6 @@ use Rattle.std.proofs.lemmas.List.Elements.{filter_more}
 use Rattle.ct_names.specs.Message.{Message}
 use Rattle.ct_names.specs.Order.{is_before, is_message, key}
 use Rattle.ct_names.specs.Value.{has, minus, placed, ordered, IsOrdered}
-use Rattle.ct_names.specs.Membership.{IsIn}
 use Rattle.ct_names.proofs.Lists
 use Rattle.ct_names.proofs.Orders.{order, order_total, before-order, message-order, less-before, equal-message, before-not_after}
 use Rattle.ct_names.proofs.Sets.{IsRising, rising-set, rising-placed, placed-in, set_of}
@@ -46,8 +45,7 @@ placed-insert : (m : Message) (xs : List Message) (i : ℕ) → i ≤ length xs 
     AllWithin (λ y. order y m ≡ Greater) xs i (length xs) → placed m xs ≡ insert xs i m
 placed-insert m [] zero in' below above = refl
 placed-insert m [] (suc i) in' below above = absurd (omega arith)
-placed-insert m (other ∷ xs) zero in' below above =
-    rw (greater-before m other (above 0 m (omega arith) (omega arith))) refl
+placed-insert m (other ∷ xs) zero in' below above = rw (greater-before m other (above 0 m (omega arith) (omega arith))) refl
 placed-insert m (other ∷ xs) (suc i) in' below above =
     let rest : placed m xs ≡ insert xs i m = placed-insert m xs i (omega arith)
     (λ k d low high. below (suc k) d (omega arith) (omega arith))
@@ -102,23 +100,13 @@ set-insert xs m i h place =
       | inl e ↦ Lists.IsIn-append_right x xs (m ∷ []) (inl e)
       | inr j ↦ Lists.IsIn-append_left x xs (m ∷ []) j
     ])
-    (λ x k. placed-in m xs x (either x (Lists.IsIn-append_cases x xs (m ∷ []) k)))
-  where
-    either : (x : Message) → IsIn x xs ⊎ IsIn x (m ∷ []) → (x ≡ m) ⊎ IsIn x xs
-    either x (inl j) = inr j
-    either x (inr (inl e)) = inl e
-    either x (inr (inr j)) = absurd j
+    (λ x k. placed-in m xs x (grind (arith, Lists.IsIn-append_cases x xs (m ∷ []) k)))
 
 -- with a message that it has the set stays
 pub set-present : (xs : List Message) (m : Message) → IsOrdered xs → has xs m ≡ true → xs ≡ ordered (xs ++ m ∷ [])
 set-present xs m h there =
     set_of xs (xs ++ m ∷ []) (rising-set xs h) (λ x k. Lists.IsIn-append_left x xs (m ∷ []) k)
-    (λ x k. back x (Lists.IsIn-append_cases x xs (m ∷ []) k))
-  where
-    back : (x : Message) → IsIn x xs ⊎ IsIn x (m ∷ []) → IsIn x xs
-    back x (inl j) = j
-    back x (inr (inl e)) = rw e (in-has xs m there)
-    back x (inr (inr j)) = absurd j
+    (λ x k. grind (arith, Lists.IsIn-append_cases x xs (m ∷ []) k, in-has xs m there))
 
 -- the search is Ok exactly where the message is in the set
 pub ok_has : (r : Result ℕ ℕ) (xs : List Message) (m : Message) → MatchResult r (λ i. has xs m ≡ true) (λ i. IsPlace xs m i) →

@@ -54,22 +54,12 @@ rising-filter test (m ∷ list) h =
     cond_both (test m) (m ∷ filter test list) (filter test list) IsRising (λ e. (before_all-filter test m list h.0, rest)) (λ e. rest)
 
 pub placed-in : (m : Message) (list : List Message) (x : Message) → (x ≡ m) ⊎ IsIn x list → IsIn x (placed m list)
-placed-in m [] x (inl e) = inl e
-placed-in m [] x (inr i) = absurd i
-placed-in m (other ∷ list) x h = at (is_before m other) h (placed-in m list x)
-  where
-    at : (b : Bool) → (x ≡ m) ⊎ IsIn x (other ∷ list) → ((x ≡ m) ⊎ IsIn x list → IsIn x (placed m list)) →
-        IsIn x (cond b (m ∷ other ∷ list) (other ∷ placed m list))
-    at true (inl e) rest = inl e
-    at true (inr i) rest = inr i
-    at false (inl e) rest = inr (rest (inl e))
-    at false (inr (inl e)) rest = inl e
-    at false (inr (inr i)) rest = inr (rest (inr i))
+placed-in m [] x h = h
+placed-in m (other ∷ list) x h = grind (arith, placed-in m list x)
 
 pub sorted-in : (list : List Message) (x : Message) → IsIn x list → IsIn x (sorted list)
 sorted-in [] x i = i
-sorted-in (m ∷ list) x (inl e) = placed-in m (sorted list) x (inl e)
-sorted-in (m ∷ list) x (inr i) = placed-in m (sorted list) x (inr (sorted-in list x i))
+sorted-in (m ∷ list) x i = grind (arith, placed-in m (sorted list) x, sorted-in list x)
 
 pub ordered-in : (list : List Message) (x : Message) → IsIn x list → IsIn x (ordered list)
 unfolding ordered
@@ -81,11 +71,7 @@ has-ordered list m =
     (λ h. has-in (ordered list) m (ordered-in list m (in-has list m h)))
 
 after-from : (m other : Message) → is_before m other ≡ false → (m ≡ other → ⊥) → is_before other m ≡ true
-after-from m other h apart = elim (one_way m other) [
-  | inl k ↦ Lists.contrary (is_before m other) k h
-  | inr (inl k) ↦ absurd (apart (same_message m other k))
-  | inr (inr k) ↦ k
-]
+after-from m other h apart = grind (arith, one_way m other, same_message m other)
 
 pub rising-placed : (m : Message) (list : List Message) → (IsIn m list → ⊥) → IsRising list → IsRising (placed m list)
 rising-placed m [] out h = (tt, tt)
@@ -111,16 +97,17 @@ rising-ordered list = rising-sorted (first_occurrences list) (IsWithoutRepeats-f
 
 -- the first messages of two sets are one
 same_first : (x y : Message) (xs ys : List Message) → IsRising (x ∷ xs) → IsRising (y ∷ ys) → IsIn x (y ∷ ys) → IsIn y (x ∷ xs) → x ≡ y
-same_first x y xs ys h k (inl e) j = e
-same_first x y xs ys h k (inr i) (inl e) = sym e
-same_first x y xs ys h k (inr i) (inr j) =
-    let a : is_before y x ≡ true = before_all-in y ys x k.0 i in
-    let b : is_before x y ≡ true = before_all-in x xs y h.0 j in
-    Lists.contrary (is_message x x) (is_message-refl x) (before-other x x (before-trans x y x b a))
+same_first x y xs ys h k i j = grind (
+  arith,
+  before_all-in y ys x k.0,
+  before_all-in x xs y h.0,
+  before-trans x y x,
+  before-other x x,
+  is_message-refl x,
+)
 
 in_rest : (x y m : Message) (xs ys : List Message) → IsBeforeAll x xs → x ≡ y → IsIn m xs → IsIn m (y ∷ ys) → IsIn m ys
-in_rest x y m xs ys h same i (inl e) = absurd (before_all-out x xs h (rw (e ∙ sym same) at i))
-in_rest x y m xs ys h same i (inr j) = j
+in_rest x y m xs ys h same i j = grind (arith, before_all-out x xs h)
 
 -- rising lists with the same messages are one list
 pub same_rising : (xs ys : List Message) → IsRising xs → IsRising ys → ((m : Message) → IsIn m xs → IsIn m ys) →
@@ -175,8 +162,7 @@ rising-take (suc count) (m ∷ list) h =
     in-take : (count : ℕ) (list : List Message) (x : Message) → IsIn x (take count list) → IsIn x list
     in-take zero list x i = absurd i
     in-take (suc count) [] x i = absurd i
-    in-take (suc count) (y ∷ list) x (inl e) = inl e
-    in-take (suc count) (y ∷ list) x (inr i) = inr (in-take count list x i)
+    in-take (suc count) (y ∷ list) x i = grind (arith, in-take count list x)
 
 pub set-take : (count : ℕ) (list : List Message) → IsOrdered list → IsOrdered (take count list)
 set-take count list h = set-rising (take count list) (rising-take count list (rising-set list h))
