@@ -1,7 +1,7 @@
 -- What a look and a comparison make of a list of notes, at one place.
 use Rattle.std.proofs.lemmas.Bool.Decides.{nat_tests}
 use Rattle.std.proofs.Common.{◌≡◌, ℕ, ◌+◌, ◌<◌, List, [], ◌∷◌, ◌++◌, take, Option, Some, None, length, get_or, set, replicate, sym, ◌∙◌, ap}
-use Rattle.std.proofs.Common.{arith, IfSome, IfNone, Bor, get_or-set_other, get_or-set_same, inl, inr}
+use Rattle.std.proofs.Common.{arith, IfSome, IfNone, Bor, get_or-set_other, get_or-set_same}
 use Rattle.std.specs.Option.{MatchOption}
 use Rattle.std.proofs.lemmas.List.{get_or-map, take_more, length-set, map-append, length-map, map-set, set-get_or}
 use Rattle.std.proofs.lemmas.List.{replicate-append-replicate}
@@ -69,13 +69,14 @@ pub Keeps-set : (answer : Option (Bor Batch)) (notes : List (Note Batch)) (i : �
 Keeps-set answer notes i at new below is tells k x known =
     let e = map-set (λ (n : Note Batch). n.known) notes i new in
     let len : i < length (known_of notes) = omega (arith, length-map notes (λ (n : Note Batch). n.known)) in
-    rw e (elim (cases_eq k i) [
-      | inl same ↦
-          let here : get_or (known_of notes) i None ≡ Some x = rw same at known in
-          rw same (get_or-set_same (known_of notes) i new.known None len
-          ∙ still answer at.known new.known tells x (sym (known_at notes i at below is) ∙ here))
-      | inr other ↦ get_or-set_other (known_of notes) i k new.known None other ∙ known
-    ])
+    grind (
+      arith,
+      cases_eq k i,
+      get_or-set_same (known_of notes) i new.known None len,
+      get_or-set_other (known_of notes) i k new.known None,
+      still answer at.known new.known tells x,
+      known_at notes i at below is,
+    )
 
 as_long : (mine theirs : List (Note Batch)) → cells_of mine ≡ cells_of theirs → length mine ≡ length theirs
 as_long mine theirs cells =
@@ -94,32 +95,30 @@ module _ (mine theirs : List (Note Batch)) (i : ℕ) (m n : Note Batch) (cells :
       Knows (known_of theirs) k y → x ≡ y) → (k : ℕ) (x y : Batch) → k < i + 1 → Knows (known_of mine) k x → Knows (known_of theirs) k y →
       x ≡ y
   same_more agrees before k x y less mine_x theirs_y =
-      elim (cases_eq k i) [
-        | inl same ↦
-            let len = as_long mine theirs cells in
-            let x_is : get_or (known_of mine) i None ≡ Some x = rw same at mine_x in
-            let y_is : get_or (known_of theirs) i None ≡ Some y = rw same at theirs_y in
-            agree m.known n.known agrees x y (sym (known_at mine i m below m_is) ∙ x_is)
-            (sym (known_at theirs i n (omega arith) n_is) ∙ y_is)
-        | inr other ↦ before k x y (omega arith) mine_x theirs_y
-      ]
+      let len = as_long mine theirs cells in
+      grind (
+        arith,
+        cases_eq k i,
+        agree m.known n.known agrees x y,
+        known_at mine i m below m_is,
+        known_at theirs i n (omega arith) n_is,
+        before k x y,
+      )
     where
       agree : (a b : Option Batch) → IfSome b (Agrees a) → (x y : Batch) → a ≡ Some x → b ≡ Some y → x ≡ y
-      agree a None h x y p q = cc
-      agree None (Some w) h x y p q = cc
-      agree (Some v) (Some w) h x y p q = let e : v ≡ w = h in cc
+      agree a b h x y p q = grind arith
 
 -- one note more, of the next cell
 pub cells_of-next : (notes : List (Note Batch)) (board : List ℕ) (i : ℕ) (note : Note Batch) → cells_of notes ≡ take i board →
     slice_get board i ≡ Some note.cell → cells_of (notes ++ note ∷ []) ≡ take (i + 1) board
-cells_of-next notes board i note cells at =
-    let below = slice_get_within board i note.cell at in
-    map-append (λ (n : Note Batch). n.cell) notes (note ∷ [])
-    ∙ (ap (λ names. names ++ note.cell ∷ []) cells ∙ (ap (λ name. take i board ++ name ∷ [])
-    (sym (get_or_from_slice_get board i note.cell 0 at)) ∙ sym (take_more board i 0 below)))
+cells_of-next notes board i note cells at = grind (
+  arith,
+  map-append (λ (n : Note Batch). n.cell) notes (note ∷ []),
+  get_or_from_slice_get board i note.cell 0 at,
+  take_more board i 0 (slice_get_within board i note.cell at),
+)
 
 pub known_of-next : (notes : List (Note Batch)) (i : ℕ) (note : Note Batch) → known_of notes ≡ replicate i None → note.known ≡ None →
     known_of (notes ++ note ∷ []) ≡ replicate (i + 1) None
 known_of-next notes i note known none =
-    map-append (λ (n : Note Batch). n.known) notes (note ∷ [])
-    ∙ (ap (λ ks. ks ++ note.known ∷ []) known ∙ (ap (λ k. replicate i None ++ k ∷ []) none ∙ replicate-append-replicate i 1 None))
+    grind (arith, map-append (λ (n : Note Batch). n.known) notes (note ∷ []), replicate-append-replicate {A = Option Batch} i 1 None)

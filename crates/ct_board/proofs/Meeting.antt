@@ -1,5 +1,5 @@
 -- What is learned of a watcher that looks at place after place and finds the batches of a list.
-use Rattle.std.proofs.Common.{◌≡◌, ℕ, ◌+◌, ◌<◌, ◌≤◌, List, Option, Some, All, IsSome, length, take, sym, ◌∙◌, subst, arith, inl, inr}
+use Rattle.std.proofs.Common.{◌≡◌, ℕ, ◌+◌, ◌<◌, ◌≤◌, List, Option, Some, All, IsSome, length, take, subst, arith}
 use Rattle.std.specs.Prelude.{slice_get}
 use Rattle.std.proofs.lemmas.Bool.{cases_eq}
 use Rattle.std.proofs.lemmas.Option.{slice_get_within}
@@ -16,12 +16,7 @@ KnowsBelow list notes n = (k : ℕ) (b : Batch) → k < n → slice_get list k �
 -- the watcher found the next of them
 pub knows_more : (list : List Batch) (old new : List (Option Batch)) (n : ℕ) (found : Batch) → KnowsBelow list old n → Keeps old new →
     Knows new n found → slice_get list n ≡ Some found → KnowsBelow list new (n + 1)
-knows_more list old new n found before keeps known is k b less at =
-    elim (cases_eq k n) [
-      | inl same ↦
-          rw same (known ∙ (sym is ∙ (rw same at at)))
-      | inr other ↦ keeps k b (before k b (omega arith) at)
-    ]
+knows_more list old new n found before keeps known is k b less at = grind (arith, cases_eq k n, before k b, keeps k b)
 
 -- the watcher knows the whole list, and what it read and was told of begins it
 pub record IsMet (list : List Batch) (w : Watched) : Type 0 where

@@ -1,12 +1,13 @@
 -- What a look and a read make of a watcher.
-use Rattle.std.proofs.Common.{◌≡◌, ℕ, ◌+◌, ◌<◌, ◌≤◌, zero, suc, List, [], ◌∷◌, ◌++◌, Some, None, length, get_or, refl, sym, ◌∙◌, ap, arith}
-use Rattle.std.proofs.Common.{append_assoc, append-nil}
+use Rattle.std.proofs.Common.{◌≡◌, ℕ, ◌+◌, ◌<◌, ◌≤◌, zero, suc, List, [], ◌∷◌, ◌++◌, Some, None, length, get_or, sym, ◌∙◌, ap, arith}
+use Rattle.std.proofs.Common.{append-nil}
 use Rattle.std.specs.Prelude.{slice_get}
 use Rattle.std.proofs.lemmas.List.{length-map}
+use Rattle.std.proofs.lemmas.List.Concat.{flat_map-append}
+use Rattle.std.proofs.lemmas.List.Sums.{fold-append}
 use Rattle.once_cell.specs.declared.race.note.Note.{Note}
-use Rattle.ct_names.specs.Message.{Message}
 use Rattle.ct_names.specs.Batch.{Batch}
-use Rattle.ct_table.specs.Table.{applied_all, table}
+use Rattle.ct_table.specs.Table.{zeros, applied, applied_all, table}
 use Rattle.ct_board.specs.Known.{Knows, Keeps}
 use Rattle.ct_board.specs.Notes.{cells_of, known_of}
 use Rattle.ct_board.specs.Watched.{Watched, IsWatching, batches_read, batches_told, messages_of}
@@ -34,8 +35,6 @@ looked before after r t cells keeps w =
     let len = as_long before after cells in
     let read = somes_kept r (known_of before) (known_of after) w.read_known w.read_within keeps in
     let told = somes_kept t (known_of before) (known_of after) w.told_known w.told_within keeps in
-    let read_within = w.read_within in
-    let told_within = w.told_within in
     record {
       watching = record {
         one_each = as_many after;
@@ -81,20 +80,15 @@ read_on before after r t batch cells keeps room known w =
           ∙ (slice_get-somes t r (known_of after) now.told_known told_within less ∙ known);
     }
 
-fold-append : (values : List ℕ) (first next : List Message) →
-    applied_all values (first ++ next) ≡ applied_all (applied_all values first) next
-fold-append values [] next = refl
-fold-append values (m ∷ first) next = fold-append (applied_all values (m ∷ [])) first next
-
-messages_of-next : (batches : List Batch) (batch : Batch) → messages_of (batches ++ batch ∷ []) ≡ messages_of batches ++ batch.messages
-messages_of-next [] batch = append-nil batch.messages
-messages_of-next (b ∷ batches) batch =
-    ap (λ list. b.messages ++ list) (messages_of-next batches batch) ∙ sym (append_assoc b.messages (messages_of batches) batch.messages)
-
 -- the table of one batch more
 pub table-next : (batches : List Batch) (batch : Batch) → table (messages_of (batches ++ batch ∷ []))
     ≡ applied_all (table (messages_of batches)) batch.messages
-table-next batches batch = ap table (messages_of-next batches batch) ∙ fold-append _ (messages_of batches) batch.messages
+table-next batches batch = grind (
+  arith,
+  flat_map-append (λ (b : Batch). b.messages) batches (batch ∷ []),
+  append-nil batch.messages,
+  fold-append (λ so_far m. applied so_far m.command) zeros (messages_of batches) batch.messages,
+)
 
 past_none : {A : Type 0} (xs : List A) (k : ℕ) → slice_get xs k ≡ None → length xs ≤ k
 past_none [] k none = omega arith
@@ -105,7 +99,6 @@ past_none (x ∷ xs) (suc k) none = let rest = past_none xs k none in omega arit
 pub all_read : (notes : List (Note Batch)) (r t : ℕ) → IsWatching (seen notes r t) → length notes ≤ r → r < t → ⊥
 all_read notes r t w full less =
     let len = length-map notes (λ (n : Note Batch). n.known) in
-    let told_within = w.told_within in
     absurd (omega arith)
 
 -- a note that knows nothing is of no place below those that it was told of

@@ -42,13 +42,11 @@ module _ {A : Type 0} where
   somes_kept zero xs ys known within keeps = record { known = known; same = refl }
   somes_kept (suc n) [] ys known within keeps = absurd (omega arith)
   somes_kept (suc n) (None ∷ xs) ys known within keeps = absurd (none_known (take n xs) known)
-  somes_kept (suc n) (Some x ∷ xs) [] known within keeps = let e : None ≡ Some x = keeps 0 x refl in cc
-  somes_kept (suc n) (Some x ∷ xs) (None ∷ ys) known within keeps = let e : None ≡ Some x = keeps 0 x refl in cc
   somes_kept (suc n) (Some x ∷ xs) (Some y ∷ ys) known within keeps =
       let e : Some y ≡ Some x = keeps 0 x refl in
-      let same : y ≡ x = cc in
       let more = somes_kept n xs ys (rest_known (Some x) (take n xs) known) (omega arith) (λ k z h. keeps (suc k) z h) in
-      record { known = more_known y (take n ys) more.known; same = rw (same, more.same) refl }
+      record { known = more_known y (take n ys) more.known; same = grind (arith, more.same) }
+  somes_kept (suc n) (Some x ∷ xs) _ known within keeps = let e = keeps 0 x refl in cc
 
   -- the first m are known: the first n, and then x
   pub record AreAndNext (n m : ℕ) (xs : List (Option A)) (x : A) : Type 0 where
@@ -59,10 +57,7 @@ module _ {A : Type 0} where
       AreAndNext n (n + 1) xs x
   somes_next n [] x known within knows = absurd (omega arith)
   somes_next zero (None ∷ xs) x known within knows = let e : None ≡ Some x = knows in cc
-  somes_next zero (Some y ∷ xs) x known within knows =
-      let e : Some y ≡ Some x = knows in
-      let same : y ≡ x = cc in
-      record { known = more_known y [] known; appended = rw same refl }
+  somes_next zero (Some y ∷ xs) x known within knows = record { known = more_known y [] known; appended = grind arith }
   somes_next (suc n) (None ∷ xs) x known within knows = absurd (none_known (take n xs) known)
   somes_next (suc n) (Some y ∷ xs) x known within knows =
       let more = somes_next n xs x (rest_known (Some y) (take n xs) known) (omega arith) knows in
@@ -110,14 +105,12 @@ module _ {A : Type 0} where
   -- where each place of a list is known, the first values are that list
   pub somes_are : (list : List A) (xs : List (Option A)) → ((k : ℕ) (x : A) → slice_get list k ≡ Some x → Knows xs k x) → AreFirst list xs
   somes_are [] xs each = record { within = omega arith; known = λ k d below. absurd (omega arith); same = refl }
-  somes_are (y ∷ list) [] each = let e : None ≡ Some y = each 0 y refl in cc
-  somes_are (y ∷ list) (None ∷ xs) each = let e : None ≡ Some y = each 0 y refl in cc
   somes_are (y ∷ list) (Some x ∷ xs) each =
       let e : Some x ≡ Some y = each 0 y refl in
-      let same : x ≡ y = cc in
       let more = somes_are list xs (λ k z h. each (suc k) z h) in
       record {
         within = omega (arith, more.within);
         known = more_known x (take (length list) xs) more.known;
-        same = rw (same, more.same) refl;
+        same = grind (arith, more.same);
       }
+  somes_are (y ∷ list) _ each = let e = each 0 y refl in cc
