@@ -3,7 +3,7 @@ use Rattle.std.proofs.Common.{◌≡◌, ℕ, true, false, List, [], ◌∷◌, 
 use Rattle.std.proofs.Common.{ap, ◌∙◌, inl, inr, ◌⊎◌, arith}
 use Rattle.std.specs.Cmp.{IsTotalOrder}
 use Rattle.std.specs.Cmp.Lexicographic.{slice_cmp}
-use Rattle.std.specs.Ordering.{nat_cmp, is_lt, is_eq, ordering_reverse, ordering_then}
+use Rattle.std.specs.Ordering.{nat_cmp, is_lt, is_eq, ordering_reverse}
 use Rattle.std.proofs.lemmas.Bool.Decides.{nat_tests}
 use Rattle.std.proofs.lemmas.Cmp.{nat_list_cmp_total, on_total}
 use Rattle.ct_names.specs.declared.command.Command.{Command}
@@ -69,9 +69,6 @@ one_way a b = at (order a b) refl
     at Less e = inl (less-before a b e)
     at Equal e = inr (inl (equal-message a b e))
     at Greater e = inr (inr (less-before b a (order_total.antisymm b a ∙ ap ordering_reverse e)))
-
-then-equal : (o : Ordering) → ordering_then o Equal ≡ o
-then-equal o = grind arith
 
 module _ (origin number other_origin other_number : ℕ) where
   abbrev with_command : Command → Message

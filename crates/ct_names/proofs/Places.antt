@@ -3,7 +3,7 @@ use Rattle.std.proofs.Common.{◌≡◌, ℕ, zero, suc, ◌+◌, ◌≤◌, ◌
 use Rattle.std.proofs.Common.{take, Ordering, Less, Equal, Greater, Result, Ok, Err, refl, sym, ap, ◌∙◌, subst, inl, inr, arith}
 use Rattle.std.specs.List.{AllWithin, HoldsAt, insert}
 use Rattle.std.specs.List.Sorted.{IsBinarySearchResult, IsSearchInRange, IsSortedBy, IsNonDecreasingBy}
-use Rattle.std.specs.Ordering.{is_lt, is_eq, ordering_index, ordering_reverse}
+use Rattle.std.specs.Ordering.{is_lt, ordering_index, ordering_reverse}
 use Rattle.std.specs.Result.{MatchResult, is_ok}
 use Rattle.std.proofs.lemmas.Bool.{cases_lt, or_left, or_right}
 use Rattle.std.proofs.lemmas.Cmp.{nat_list_cmp_total}
@@ -19,10 +19,9 @@ use Rattle.ct_names.proofs.Values.{in-has, has-in, placed-from}
 
 rising-step : (xs : List Message) → IsRising xs → (k : ℕ) (d : Message) → suc k < length xs →
     is_before (get_or xs k d) (get_or xs (suc k) d) ≡ true
-rising-step [] h k d low = absurd (omega arith)
-rising-step (x ∷ []) h k d low = absurd (omega arith)
 rising-step (x ∷ y ∷ xs) h zero d low = h.0.0
 rising-step (x ∷ y ∷ xs) h (suc k) d low = rising-step (y ∷ xs) h.1 k d (omega arith)
+rising-step _ h k d low = absurd (omega arith)
 
 rising-sorted_by : (xs : List Message) → IsRising xs → IsSortedBy (λ a b. is_lt (order a b)) xs
 rising-sorted_by xs h k d from low =
@@ -70,10 +69,8 @@ pub record IsPlace (xs : List Message) (m : Message) (i : ℕ) : Type 0 where
 place_of : (xs : List Message) (m : Message) (i : ℕ) → i ≤ length xs → AllWithin (λ y. order y m ≡ Less) xs 0 i →
     AllWithin (λ y. order y m ≡ Greater) xs i (length xs) → IsPlace xs m i
 place_of xs m i in' below above = record {
-  absent = has-nowhere xs m (λ k low. elim (cases_lt k i) [
-    | inl h ↦ message-order (get_or xs k m) m ∙ ap is_eq (below k m (omega arith) h)
-    | inr h ↦ message-order (get_or xs k m) m ∙ ap is_eq (above k m h low)
-  ]);
+  absent = has-nowhere xs m (λ k low.
+      grind (arith, cases_lt k i, message-order (get_or xs k m) m, below k m (omega arith), λ (h : i ≤ k). above k m h low));
   there = placed-insert m xs i in' below above;
 }
 

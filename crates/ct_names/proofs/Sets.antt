@@ -31,8 +31,7 @@ before_all-weaker a b (x ∷ list) h k = (before-trans a b x h k.0, before_all-w
 
 before_all-in : (m : Message) (list : List Message) (x : Message) → IsBeforeAll m list → IsIn x list → is_before m x ≡ true
 before_all-in m [] x h i = absurd i
-before_all-in m (y ∷ list) x h (inl e) = rw e h.0
-before_all-in m (y ∷ list) x h (inr i) = before_all-in m list x h.1 i
+before_all-in m (y ∷ list) x h i = grind (arith, before_all-in m list x)
 
 before_all-from : (m : Message) (list : List Message) → ((x : Message) → IsIn x list → is_before m x ≡ true) → IsBeforeAll m list
 before_all-from m [] h = tt
