@@ -39,13 +39,10 @@ pub has_member-out : (set : List ℕ) (p : ℕ) → (IsIn p set → ⊥) → has
 has_member-out set p out = false_from_ne_true (has_member set p) (λ h. out (in-has_member set p h))
 
 -- what a filter has is what passes the test
-has_member-kept : (test : ℕ → Bool) (xs : List ℕ) (p : ℕ) (b : Bool) → test p ≡ b → IsIn p xs → has_member (filter test xs) p ≡ b
-has_member-kept test xs p true is i = has_member-in (filter test xs) p (Lists.IsIn-filter test p xs is i)
-has_member-kept test xs p false is i =
-    has_member-out (filter test xs) p (λ k. Lists.contrary (test p) (Lists.IsIn-filter_passes test p xs k) is)
-
 pub has_member-filter : (test : ℕ → Bool) (p : ℕ) → IsIn p everyone → has_member (filter test everyone) p ≡ test p
-has_member-filter test p i = has_member-kept test everyone p (test p) refl i
+has_member-filter test p i =
+    let set = filter test everyone in
+    grind (arith, in-has_member set p, has_member-in set p, Lists.IsIn-filter test p everyone, Lists.IsIn-filter_passes test p everyone)
 
 pub in-everyone : (p : ℕ) → IsMember MAX_MEMBERS p → IsIn p everyone
 unfolding members

@@ -3,7 +3,7 @@ use Rattle.std.proofs.Common.{◌≡◌, ℕ, zero, suc, Bool, true, false, cond
 use Rattle.std.proofs.Common.{subst, inl, inr, ◌⊎◌}
 use Rattle.std.proofs.lemmas.Bool.{cond_both}
 use Rattle.ct_names.specs.Message.{Message}
-use Rattle.ct_names.specs.Order.{is_before, is_message}
+use Rattle.ct_names.specs.Order.{is_before}
 use Rattle.ct_names.specs.Value.{has, minus, first_occurrences, placed, sorted, ordered, IsOrdered}
 use Rattle.ct_names.specs.Membership.{IsIn, IsWithoutRepeats}
 use Rattle.ct_names.proofs.Lists
@@ -39,8 +39,7 @@ before_all-from m (x ∷ list) h = (h x (inl refl), before_all-from m list (λ y
 
 -- the message before all is none of them
 before_all-out : (m : Message) (list : List Message) → IsBeforeAll m list → IsIn m list → ⊥
-before_all-out m list h i =
-    Lists.contrary (is_message m m) (is_message-refl m) (before-other m m (before_all-in m list m h i))
+before_all-out m list h i = grind (arith, is_message-refl m, before-other m m (before_all-in m list m h i))
 
 before_all-filter : (test : Message → Bool) (m : Message) (list : List Message) → IsBeforeAll m list → IsBeforeAll m (filter test list)
 before_all-filter test m list h =
