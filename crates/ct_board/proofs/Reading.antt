@@ -40,8 +40,7 @@ looked before after r t cells keeps w =
         one_each = as_many after;
         read_within = omega arith;
         told_within = omega arith;
-        read_known =
-            read.known;
+        read_known = read.known;
         told_known = told.known;
       };
       read = read.same;
@@ -70,8 +69,7 @@ read_on before after r t batch cells keeps room known w =
         one_each = as_many after;
         read_within = omega arith;
         told_within = told_within;
-        read_known =
-            more.known;
+        read_known = more.known;
         told_known = now.told_known;
       };
       read = more.appended ∙ ap (λ batches. batches ++ batch ∷ []) kept.read;
