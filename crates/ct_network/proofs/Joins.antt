@@ -1,9 +1,9 @@
 -- Serials come to the ends of the lines.
-use Rattle.std.proofs.Common.{◌≡◌, ◌≢◌, ℕ, ◌+◌, ◌-◌, ◌<◌, ◌≤◌, Bool, true, false, List, [], ◌∷◌, ◌++◌, length, get_or, set, refl, ap, sym}
-use Rattle.std.proofs.Common.{◌∙◌, subst, arith, inl, inr, append-nil}
-use Rattle.std.specs.Prelude.{◌==◌, if◌then◌else◌}
+use Rattle.std.proofs.Common.{◌≡◌, ◌≢◌, ℕ, ◌+◌, ◌-◌, ◌<◌, ◌≤◌, true, List, [], ◌∷◌, ◌++◌, length, get_or, set, ap, sym}
+use Rattle.std.proofs.Common.{◌∙◌, arith, append-nil}
 use Rattle.std.proofs.lemmas.List.{get_or-set_same, get_or-set_other, get_or_default, get_or-map, length-map}
-use Rattle.std.proofs.lemmas.Bool.{cases_lt, eqb-true, eqb-false}
+use Rattle.std.proofs.lemmas.Bool.{cases_lt}
+use Rattle.std.proofs.lemmas.Bool.Decides.{nat_tests}
 use Rattle.ct_names.specs.Group.{is_member}
 use Rattle.ct_names.proofs.Groups.{member_from_one, member_to_n}
 use Rattle.ct_model.specs.Waiting.{serials_to}
@@ -22,26 +22,19 @@ pub join_one : (lines : List WaitingLine) (to base : ℕ) (w : Wire ℕ) (old ne
     → (q : ℕ) → is_member (length lines) q ≡ true → line_at (serials_of (set lines (to - 1) new)) q ≡ line_at (serials_of lines) q
     ++ serials_to q base (envelopes (length lines) (One to w))
 join_one lines to base w old new member is joins q also =
-    let low : 1 ≤ to = member_from_one (length lines) to member in
-    let high : to ≤ length lines = member_to_n (length lines) to member in
-    let low_q : 1 ≤ q = member_from_one (length lines) q also in
+    let low = member_from_one (length lines) to member in
+    let high = member_to_n (length lines) to member in
+    let low_q = member_from_one (length lines) q also in
     let within : to - 1 < length (serials_of lines) = rw (length-map lines (λ (l : WaitingLine). l.serials)) (omega arith) in
-    ap (λ ls. line_at ls q) (serials-set lines (to - 1) new) ∙ go (to == q) refl low low_q within
-  where
-    go : (b : Bool) → (to == q) ≡ b → 1 ≤ to → 1 ≤ q → to - 1 < length (serials_of lines) →
-        line_at (set (serials_of lines) (to - 1) new.serials) q ≡ line_at (serials_of lines) q
-        ++ ((if b then (base + 1) ∷ [] else []) ++ [])
-    go true e low low_q within =
-        ap (λ p. line_at (set (serials_of lines) (to - 1) new.serials) p) (sym (eqb-true to q e))
-        ∙ get_or-set_same (serials_of lines) (to - 1) new.serials [] within
-        ∙ joins
-        ∙ ap (λ s. s ++ (base + 1) ∷ []) (line_there lines (to - 1) old (rw (length-map lines (λ (l : WaitingLine). l.serials)) at within)
-        is)
-        ∙ ap (λ p. line_at (serials_of lines) p ++ (base + 1) ∷ []) (eqb-true to q e)
-    go false e low low_q within =
-        let apart : to ≢ q = eqb-false to q e in
-        get_or-set_other (serials_of lines) (to - 1) (q - 1) new.serials [] (λ s. apart (omega arith))
-        ∙ sym (append-nil (line_at (serials_of lines) q))
+    grind (
+      arith,
+      nat_tests,
+      serials-set lines (to - 1) new,
+      get_or-set_same (serials_of lines) (to - 1) new.serials [] within,
+      get_or-set_other (serials_of lines) (to - 1) (q - 1) new.serials [],
+      line_there lines (to - 1) old (omega arith) is,
+      append-nil (line_at (serials_of lines) q),
+    )
 
 -- each of the first n lines got one more serial, in turn, after this many
 abbrev pub HaveJoined : (old new : List WaitingLine) (base n : ℕ) → Type 0
@@ -53,17 +46,8 @@ module _ (old now : List WaitingLine) (i base : ℕ) (new : WaitingLine) (as_man
   pub join_more : (x : WaitingLine) (serial : ℕ) → x ≡ get_or now i x → new.serials ≡ x.serials ++ serial ∷ [] → serial ≡ base + i + 1 →
       HaveJoined old (set now i new) base (i + 1)
   join_more x serial is joins at k d h =
-      elim (cases_lt k i) [
-        | inl low ↦ (let other : k ≢ i = omega arith in ap (λ (l : WaitingLine). l.serials) (get_or-set_other now i k new d other)
-            ∙ done k d low)
-        | inr high ↦ (let e : i ≡ k = omega arith in
-            let before : x ≡ get_or old i d = is ∙ get_or_default now i x d (omega arith) ∙ rest i d (omega arith) in
-            let after : get_or (set now i new) i d ≡ new = get_or-set_same now i new d (omega arith) in
-            let here : (get_or (set now i new) i d).serials ≡ (get_or old i d).serials ++ (base + i + 1) ∷ [] =
-            ap (λ (l : WaitingLine). l.serials) after ∙ joins ∙ ap (λ (l : WaitingLine). l.serials ++ serial ∷ []) before
-            ∙ ap (λ s. (get_or old i d).serials ++ s ∷ []) at in
-            subst (λ j. (get_or (set now i new) j d).serials ≡ (get_or old j d).serials ++ (base + j + 1) ∷ []) e here)
-      ]
+      let before : x ≡ get_or old i d = is ∙ get_or_default now i x d (omega arith) ∙ rest i d (omega arith) in
+      grind (arith, cases_lt k i, get_or-set_other now i k new d, get_or-set_same now i new d (omega arith), done k d)
 
   pub join_rest : (k : ℕ) (d : WaitingLine) → i + 1 ≤ k → get_or (set now i new) k d ≡ get_or old k d
   join_rest k d h = let other : k ≢ i = omega arith in get_or-set_other now i k new d other ∙ rest k d (omega arith)

@@ -9,7 +9,6 @@ use Rattle.ct_model.specs.declared.envelope.Envelope.{Envelope}
 use Rattle.ct_model.specs.declared.mail.Mail.TheVariants.{All}
 use Rattle.ct_model.specs.Wire.{envelopes}
 use Rattle.ct_network.specs.declared.short.Short.{Short}
-use Rattle.ct_network.specs.declared.short.Short.TheVariants.{Set, Add, Copy, Est, Prop, Ack, Nack, Dec, Listed}
 use Rattle.ct_network.specs.declared.packed.Packed.{Packed}
 use Rattle.ct_network.specs.Packed.{wire_of, envelope_of, is_readable, are_readable, copies}
 
@@ -19,15 +18,7 @@ room_for n capacity had places more h some = grind (arith, nat_tests)
 
 -- what is readable with a list is so with a longer one
 longer : (n m : ℕ) (wire : Short) → n ≤ m → is_readable n wire ≡ true → is_readable m wire ≡ true
-longer n m (Set origin number register value) more h = h
-longer n m (Add origin number register amount) more h = h
-longer n m (Copy origin number from to) more h = h
-longer n m (Est from instance round ts value) more h = refl
-longer n m (Prop instance round value) more h = refl
-longer n m (Ack from instance round) more h = refl
-longer n m (Nack from instance round) more h = refl
-longer n m (Dec instance round value) more h = refl
-longer n m (Listed at) more h = grind (arith, nat_tests)
+longer n m wire more h = grind (arith, nat_tests)
 
 -- more envelopes come after those that are there
 pub readable-append : (n m : ℕ) (list more : List Packed) → n ≤ m → are_readable n list ≡ true → are_readable m more ≡ true →

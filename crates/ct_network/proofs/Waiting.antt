@@ -1,10 +1,9 @@
 -- Lists of waiting lines.
 use Rattle.std.proofs.lemmas.Bool.Decides.{nat_tests}
-use Rattle.std.proofs.Common.{◌≡◌, ℕ, ◌+◌, ◌-◌, ◌<◌, ◌≤◌, Bool, true, false, List, [], length, get_or, set, refl, ap, sym}
-use Rattle.std.proofs.Common.{◌∙◌, subst, arith, inl, inr}
-use Rattle.std.specs.Prelude.{◌==◌}
+use Rattle.std.proofs.Common.{◌≡◌, ℕ, ◌+◌, ◌-◌, ◌<◌, ◌≤◌, true, List, [], length, get_or, set, ap, sym}
+use Rattle.std.proofs.Common.{◌∙◌, arith}
 use Rattle.std.proofs.lemmas.List.{map-set, get_or-map, set-get_or, length-map, length-set, get_or-set_same, get_or-set_other}
-use Rattle.std.proofs.lemmas.Bool.{cases_lt, eqb-true, eqb-false}
+use Rattle.std.proofs.lemmas.Bool.{cases_eq, cases_lt}
 use Rattle.ct_names.specs.Group.{is_member}
 use Rattle.ct_names.proofs.Groups.{member_from_one, member_to_n}
 use Rattle.ct_network.specs.WaitingLine.{WaitingLine}
@@ -34,11 +33,8 @@ serials-same lines i old new within is e =
 -- a line with as much room is put for another
 pub room-set : (lines : List WaitingLine) (i n least : ℕ) (new : WaitingLine) → i < length lines → HaveFirstRoom n lines least →
     least ≤ new.room → HaveFirstRoom n (set lines i new) least
-room-set lines i n least new within room h k d low = go (i == k) refl
-  where
-    go : (b : Bool) → (i == k) ≡ b → least ≤ (get_or (set lines i new) k d).room
-    go true e = grind (arith, nat_tests, eqb-true i k e, get_or-set_same lines i new d within)
-    go false e = rw (get_or-set_other lines i k new d (λ s. eqb-false i k e (sym s))) (room k d low)
+room-set lines i n least new within room h k d low =
+    grind (arith, cases_eq i k, get_or-set_same lines i new d within, get_or-set_other lines i k new d, room k d low)
 
 -- a line keeps its room
 pub room-kept : (lines : List WaitingLine) (i least : ℕ) (old new : WaitingLine) → i < length lines → old ≡ get_or lines i old →
@@ -52,11 +48,7 @@ room-kept lines i least old new within is h room =
 pub room-more : (lines : List WaitingLine) (i least : ℕ) (new : WaitingLine) → i < length lines → HaveFirstRoom i lines least →
     least ≤ new.room → HaveFirstRoom (i + 1) (set lines i new) least
 room-more lines i least new within room h k d low =
-    elim (cases_lt k i) [
-      | inl before ↦ room-set lines i i least new within room h k d before
-      | inr after ↦ (let e : i ≡ k = omega arith in
-          subst (λ j. least ≤ (get_or (set lines i new) j d).room) e (rw (get_or-set_same lines i new d within) h))
-    ]
+    grind (arith, cases_lt k i, room-set lines i i least new within room h k d, get_or-set_same lines i new d within)
 
 -- the line of a member of the group
 pub place : (lines : List WaitingLine) (seen : List (List ℕ)) (p : ℕ) → serials_of lines ≡ seen → is_member (length seen) p ≡ true →
