@@ -58,7 +58,8 @@ module _ (order : List RelayId) (known : Known) (others : List RelayId) (kept : 
         once = once-last order id (out order id first) kept.once;
         taken = λ x there. added order id x
             ∙ or-kept (list_any (is_id x) others) (list_any (is_id x) order) (is_id x id) (kept.taken x) (sym (added others id x) ∙ there);
-        covered = λ x b e. grind (arith, kept.covered x b e, added order id x, covered-some known id, covered-some known x, same-is_id x id);
+        covered = λ x b e.
+            grind (arith, kept.covered x b e, added order id x, covered-some known id, covered-some known x, same-is_id x id);
         uncovered = λ x e. added others id x ∙ ap (λ l. l || is_id x id) (kept.uncovered x e) ∙ sym (added order id x);
       })
 
