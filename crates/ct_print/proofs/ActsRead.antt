@@ -8,10 +8,10 @@ use Rattle.ct_names.specs.MemberSet.{has_member}
 use Rattle.ct_names.specs.declared.command.Command.{Command}
 use Rattle.ct_names.specs.declared.command.Command.TheVariants.{Set, Add, Copy}
 use Rattle.ct_grammar.specs.declared.act.Act.{Act}
-use Rattle.ct_grammar.specs.declared.act.Act.TheVariants.{Submit, Receive, Begin, Enter, Choose, Adopt, Suspect, Conclude, Deliver}
-use Rattle.ct_grammar.specs.declared.act.Act.TheVariants.{Follow, Crash, Postpone, Lose, Repeat, LoseFrom}
+use Rattle.ct_grammar.specs.declared.act.Act.TheVariants.{Choose}
+use Rattle.ct_grammar.specs.declared.act.Act.TheVariants.{Lose}
 use Rattle.ct_grammar.specs.declared.carried.Carried.{Carried}
-use Rattle.ct_grammar.specs.declared.carried.Carried.TheVariants.{Data, Est, Prop, Ack, Nack, Dec}
+use Rattle.ct_grammar.specs.declared.carried.Carried.TheVariants.{Data}
 use Rattle.ct_grammar.specs.declared.pick.Pick.{Pick}
 use Rattle.ct_grammar.specs.declared.pick.Pick.TheVariants.{Serial, First}
 use Rattle.ct_grammar.specs.Acts.{operands, named_command, command_first, short_act, lose_first, picked_act, long_act, act_first}
@@ -66,29 +66,25 @@ operands_back register high v what words h k l =
 pub command_back : (command : Command) (what : _) (words : List Word) → CommandFits command →
     command_first what (command_words command ++ words) ≡ Ok (command, words)
 unfolding command_first named_command
+command_back (Copy a b) what words h = rw (operands_back a max_u8 b _ words h.0 (omega arith) h.1) refl
 command_back (Set r v) what words h = rw (operands_back r max_u64 v _ words h.0 (omega arith) h.1) refl
 command_back (Add r v) what words h = rw (operands_back r max_u64 v _ words h.0 (omega arith) h.1) refl
-command_back (Copy a b) what words h = rw (operands_back a max_u8 b _ words h.0 (omega arith) h.1) refl
 
 -- ---- envelopes
 
-message_back : (o n : ℕ) (words : List Word) → o ≤ max_u8 → n ≤ max_u32 → message_first (message_word o n ∷ words) ≡ Ok (Data o n, words)
+message_back : (o n : ℕ) (words : List Word) → (o ≤ max_u8) × (n ≤ max_u32) → message_first (message_word o n ∷ words) ≡ Ok (Data o n, words)
 unfolding message_first message_word
-message_back o n words h k = rw (two_back 46 max_u8 max_u32 o n refl (omega arith) (omega arith) h k) refl
+message_back o n words h = rw (two_back 46 max_u8 max_u32 o n refl (omega arith) (omega arith) h.0 h.1) refl
 
-place_back : (i r : ℕ) (words : List Word) → i ≤ max_u32 → r ≤ max_u32 → place_first (place_word i r ∷ words) ≡ Ok ((i, r), words)
+place_back : (i r : ℕ) (words : List Word) → (i ≤ max_u32) × (r ≤ max_u32) → place_first (place_word i r ∷ words) ≡ Ok ((i, r), words)
 unfolding place_first place_word
-place_back i r words h k = rw (two_back 47 max_u32 max_u32 i r refl (omega arith) (omega arith) h k) refl
+place_back i r words h = rw (two_back 47 max_u32 max_u32 i r refl (omega arith) (omega arith) h.0 h.1) refl
 
 pub carried_back : (carried : Carried) (what : _) (words : List Word) → CarriedFits carried →
     pick_first what (carried_words carried ++ words) ≡ sent_pick carried words
 unfolding pick_first carried_first
-carried_back (Data o n) what words h = rw (message_back o n words h.0 h.1) refl
-carried_back (Est i r) what words h = rw (place_back i r words h.0 h.1) refl
-carried_back (Prop i r) what words h = rw (place_back i r words h.0 h.1) refl
-carried_back (Ack i r) what words h = rw (place_back i r words h.0 h.1) refl
-carried_back (Nack i r) what words h = rw (place_back i r words h.0 h.1) refl
-carried_back (Dec i r) what words h = rw (place_back i r words h.0 h.1) refl
+carried_back (Data o n) what words h = simp message_back
+carried_back _ what words h = simp place_back
 
 -- `from` stands first
 abbrev pub from_first : List Word → Bool
@@ -108,11 +104,7 @@ somebody_sent carried p words h = rw (member_is_first p _ words h) refl
 more_words : (carried : Carried) (from : Option ℕ) (words : List Word) →
     pick_words (First carried from) ++ words ≡ carried_words carried ++ (sender_words from ++ words)
 more_words (Data o n) from words = refl
-more_words (Est i r) from words = refl
-more_words (Prop i r) from words = refl
-more_words (Ack i r) from words = refl
-more_words (Nack i r) from words = refl
-more_words (Dec i r) from words = refl
+more_words _ from words = refl
 
 pub pick_back : (pick : Pick) (what : _) (words : List Word) → PickFits pick → from_first words ≡ false →
     pick_first what (pick_words pick ++ words) ≡ Ok (pick, words)
@@ -129,29 +121,11 @@ pick_back (First carried (Some p)) what words h e =
 lost_back : (pick : Pick) (words : List Word) → PickFits pick → from_first words ≡ false →
     lose_first (pick_words pick ++ words) ≡ Ok (Lose pick, words)
 unfolding lose_first
-lost_back (Serial n) words h e = rw (pick_back (Serial n) _ words h e) refl
 lost_back (First (Data o n) from) words h e = rw (pick_back (First (Data o n) from) _ words h e) refl
-lost_back (First (Est i r) from) words h e = rw (pick_back (First (Est i r) from) _ words h e) refl
-lost_back (First (Prop i r) from) words h e = rw (pick_back (First (Prop i r) from) _ words h e) refl
-lost_back (First (Ack i r) from) words h e = rw (pick_back (First (Ack i r) from) _ words h e) refl
-lost_back (First (Nack i r) from) words h e = rw (pick_back (First (Nack i r) from) _ words h e) refl
-lost_back (First (Dec i r) from) words h e = rw (pick_back (First (Dec i r) from) _ words h e) refl
+lost_back pick words h e = rw (pick_back pick _ words h e) refl
 
 pub act_back : (act : Act) (what : _) (words : List Word) → ActFits act → from_first words ≡ false →
     act_first what (act_words act ++ words) ≡ Ok (act, words)
 unfolding act_first long_act picked_act short_act lose_first
-act_back (Submit command) what words h e = rw (command_back command _ words h) refl
-act_back (Receive pick) what words h e = rw (pick_back pick _ words h e) refl
-act_back Begin what words h e = refl
-act_back Enter what words h e = refl
-act_back (Choose p) what words h e = rw (member_is_first p _ words h) refl
-act_back Adopt what words h e = refl
-act_back Suspect what words h e = refl
-act_back Conclude what words h e = refl
-act_back Deliver what words h e = refl
-act_back Follow what words h e = refl
-act_back Crash what words h e = refl
-act_back (Postpone pick) what words h e = rw (pick_back pick _ words h e) refl
-act_back (Lose pick) what words h e = lost_back pick words h e
-act_back (Repeat pick) what words h e = rw (pick_back pick _ words h e) refl
-act_back (LoseFrom set) what words h e = rw (set_is_first set words h) refl
+act_back (Choose p) what words h e = simp member_is_first
+act_back _ what words h e = first_of (search, simp (command_back, pick_back, lost_back, set_is_first))

@@ -1,5 +1,5 @@
 -- Cuts that are read can be written.
-use Rattle.std.proofs.Common.{◌≡◌, ◌≢◌, ℕ, ◌+◌, ◌-◌, ◌≤◌, ◌==◌, Bool, true, false, cond, ltb, List, [], ◌∷◌, length, take, drop}
+use Rattle.std.proofs.Common.{◌≡◌, ◌≢◌, ℕ, ◌+◌, ◌-◌, ◌==◌, Bool, true, false, cond, ltb, List, [], ◌∷◌, length, take, drop}
 use Rattle.std.proofs.Common.{refl, sym, ap, ◌∙◌, arith, subst, inl, inr, eqb-true, length-set, ltb-true, ltb-false}
 use Rattle.std.specs.Prelude.{codes, Option, Some, None, IfOk, IfSome, slice_set, option_and_then}
 use Rattle.std.specs.List.{slice_split, position_or_len}
@@ -17,7 +17,7 @@ use Rattle.ct_grammar.specs.Sides.{whole, side_of, with_member_on, with_parts, p
 use Rattle.ct_grammar.specs.Words.{Word}
 use Rattle.ct_print.specs.Writable.{IsCut}
 use Rattle.ct_print.proofs.CutsRead.{outside, moved_here, not_moved, none_whole}
-use Rattle.ct_print.proofs.Readable.{either, some_bound, some_weaker, then_fits, found, ok_weaker, number_between}
+use Rattle.ct_print.proofs.Readable.{either, some_if, some_bound, bound, found, ok_weaker, May, Gives, number_between}
 
 -- each side has the number of a member on it, or 0
 pub record IsNamed (sides : List ℕ) : Type 0 where
@@ -69,24 +69,20 @@ one_moved now p side h k free own = record {
         ap (side_of next) same ∙ (stays (side_of now q) (h.named q l) ∙ sym same)
 
 member_on : (now : List ℕ) (p side : ℕ) → IsNamed now → IsMember MAX_MEMBERS p →
-    (side_of now p ≡ 0 → side_of (slice_set now (p - 1) side) side ≡ side) → IfSome (with_member_on side now p) (IsOn side)
-member_on now p side h k own = go (side_of now p == 0) refl
-  where
-    go : (b : Bool) → (side_of now p == 0) ≡ b → IfSome (cond b (Some (slice_set now (p - 1) side)) None) (IsOn side)
-    go true e = one_moved now p side h k (eqb-true (side_of now p) 0 e) (own (eqb-true (side_of now p) 0 e))
-    go false e = tt
+    (side_of now p ≡ 0 → side_of (slice_set now (p - 1) side) side ≡ side) → May (with_member_on side now p) (IsOn side)
+member_on now p side h k own Q f =
+    some_if Q (side_of now p == 0) _ (λ e.
+    let free : side_of now p ≡ 0 = eqb-true (side_of now p) 0 e in
+    f _ (one_moved now p side h k free (own free)))
 
-more_parts : (side : ℕ) (parts : List Word) (now : List ℕ) → 1 ≤ side → IsMember MAX_MEMBERS side → IsOn side now →
-    IfSome (with_parts side now parts) (IsOn side)
-more_parts side [] now some m h = h
-more_parts side (part ∷ parts) now some m h =
-    some_bound (IsOn side) _ (number_in 1 MAX_MEMBERS part)
-    (some_weaker (λ p. (1 ≤ p) × (p ≤ MAX_MEMBERS)) _ (number_in 1 MAX_MEMBERS part)
-    (λ p k. some_bound (IsOn side) _ (with_member_on side now p)
-    (some_weaker (IsOn side) _ (with_member_on side now p) (λ next l. more_parts side parts next some m l)
-    (member_on now p side h.named k
-    (λ free. not_moved now p side side k m (λ same. absurd (apart p free same)) ∙ h.own))))
-    (number_between 1 MAX_MEMBERS part))
+more_parts : (side : ℕ) (parts : List Word) (now : List ℕ) → IsMember MAX_MEMBERS side → IsOn side now →
+    May (with_parts side now parts) (IsOn side)
+more_parts side [] now m h Q f = f now h
+more_parts side (part ∷ parts) now m h Q f =
+    some_bound Q _ (number_in 1 MAX_MEMBERS part) (number_between 1 MAX_MEMBERS part _
+    (λ p k. some_bound Q _ (with_member_on side now p) (member_on now p side h.named k
+    (λ free. not_moved now p side side k m (λ same. absurd (apart p free same)) ∙ h.own)
+    _ (λ next l. more_parts side parts next m l Q f))))
   where
     apart : (p : ℕ) → side_of now p ≡ 0 → side ≡ p → ⊥
     apart p free same =
@@ -121,19 +117,15 @@ first_part word = go (ltb n (length word)) refl
         (slice_split_none (λ c. c == 44) word (λ k d l. fails_before_first (λ c. c == 44) word k d
         (omega (arith, ltb-false n (length word) e))))
 
-set_on : (now : List ℕ) (set : Word) → IsNamed now → IfSome (with_set now set) IsSplit
+set_on : (now : List ℕ) (set : Word) → IsNamed now → May (with_set now set) IsSplit
 unfolding with_set
-set_on now set h =
-    some_bound IsSplit _ (number_in 1 MAX_MEMBERS first)
-    (each (number_in 1 MAX_MEMBERS first) (number_between 1 MAX_MEMBERS first)
-    (λ side k e. subst (λ (parts : List Word). IfSome (with_parts side now parts) IsSplit) (sym (first_part set).parts)
+set_on now set h Q f =
+    some_bound Q _ (number_in 1 MAX_MEMBERS first)
+    (each (number_in 1 MAX_MEMBERS first) (λ P. number_between 1 MAX_MEMBERS first P)
+    (λ side k e. subst (λ (parts : List Word). IfSome (with_parts side now parts) Q) (sym (first_part set).parts)
     (rw e
-    (some_bound IsSplit _ (with_member_on side now side)
-    (some_weaker (IsOn side) _ (with_member_on side now side)
-    (λ next l. some_weaker (IsOn side) IsSplit (with_parts side next (first_part set).rest)
-    (λ end m. (m.named, not_whole side end k m.own))
-    (more_parts side (first_part set).rest next k.0 k l))
-    (member_on now side side h k (λ free. moved_here now side side h.sixteen k)))))))
+    (some_bound Q _ (with_member_on side now side) (member_on now side side h k (λ free. moved_here now side side h.sixteen k)
+    _ (λ next l. more_parts side (first_part set).rest next k l Q (λ end m. f end (m.named, not_whole side end k m.own))))))))
   where
     first : Word
     first = part_before set (parted 44 set)
@@ -143,18 +135,17 @@ set_on now set h =
         let none : side ≡ 0 = sym own ∙ (ap (λ (s : List ℕ). side_of s side) same ∙ none_whole side k) in
         absurd (omega (arith, k.0))
 
-    each : {Q : ℕ → Type 0} (o : Option ℕ) → IfSome o (IsMember MAX_MEMBERS) →
-        ((side : ℕ) → IsMember MAX_MEMBERS side → o ≡ Some side → Q side) → IfSome o Q
+    each : {P : ℕ → Type 0} (o : Option ℕ) → May o (IsMember MAX_MEMBERS) →
+        ((side : ℕ) → IsMember MAX_MEMBERS side → o ≡ Some side → P side) → IfSome o P
     each None h f = tt
-    each (Some side) h f = f side h refl
+    each (Some side) h f = f side (h (IsMember MAX_MEMBERS) (λ p k. k)) refl
 
 sets_on : (words : List Word) (now : List ℕ) → IsNamed now → IfOk (with_sets now words) IsSplit
 sets_on [] now h = tt
-sets_on (set ∷ []) now h = found IsSplit (with_set now set) _ (set_on now set h)
+sets_on (set ∷ []) now h = found IsSplit (with_set now set) _ (set_on now set h IsSplit (λ next k. k))
 sets_on (set ∷ bar ∷ words) now h =
-    then_fits IsSplit _ (ok_or (with_set now set) _) _
-    (found IsSplit (with_set now set) _ (set_on now set h))
-    (λ next k. either _ (bytes_eq bar (codes "|")) _ _ (sets_on words next k.0) tt)
+    bound IsSplit (ok_or (with_set now set) _) _ (found _ (with_set now set) _ (set_on now set h _
+    (λ next k. either IsSplit (bytes_eq bar (codes "|")) _ _ (sets_on words next k.0) tt)))
 
 whole_named : IsNamed whole
 whole_named = record {
@@ -162,8 +153,7 @@ whole_named = record {
   named = λ p h. ap (side_of whole) (none_whole p h) ∙ sym (none_whole p h);
 }
 
-pub cut_fits : (words : List Word) → IfOk (cut_of words) IsCut
+pub cut_fits : (words : List Word) → Gives (cut_of words) IsCut
 unfolding cut_of
-cut_fits words =
-    ok_weaker _ _ (with_sets whole words) (sets_on words whole whole_named)
-    (λ sides h. record { sixteen = h.0.sixteen; named = h.0.named; some = h.1 })
+cut_fits words Q k =
+    ok_weaker _ _ (with_sets whole words) (sets_on words whole whole_named) (λ sides h. k sides (record { sixteen = h.0.sixteen; named = h.0.named; some = h.1 }))

@@ -22,8 +22,8 @@ use Rattle.ct_print.specs.Writable.{IsCut}
 use Rattle.ct_print.proofs.Numerals.{number_in_back}
 use Rattle.ct_print.proofs.Numeric.{IsNumeric, numeric_reads, decimal_digits}
 use Rattle.ct_print.proofs.Parts.{AreSmall, numbers_text, parts_of, parted_behind, alone_parted}
-use Rattle.ct_print.proofs.TextWords.{Reads, beside}
-use Rattle.ct_print.proofs.Spoken.{led, set_numeric}
+use Rattle.ct_print.proofs.TextWords.{Reads, beside, word_before}
+use Rattle.ct_print.proofs.Spoken.{set_numeric}
 
 -- ---- sides
 
@@ -275,7 +275,7 @@ barred_reads sides s (next ∷ ss) h =
     (beside (side_text sides s) (codes "|" ++ 32 ∷ barred (map (side_text sides) (next ∷ ss)))
     (side_text sides s ∷ []) (codes "|" ∷ bar_words (map (side_text sides) (next ∷ ss)))
     (numeric_reads (side_text sides s) (side_numeric sides s (h s (inl refl))))
-    (led (codes "|") _ _ refl (barred_reads sides next ss (λ q i. h q (inr i)))))
+    (word_before (codes "|") _ _ refl (barred_reads sides next ss (λ q i. h q (inr i)))))
 
 pub cut_reads : (sides : List ℕ) → IsCut sides → Reads (sides_text sides) (cut_words sides)
 unfolding sides_text cut_words numbers_of

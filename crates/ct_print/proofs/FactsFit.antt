@@ -1,20 +1,16 @@
 -- Facts that are read can be written.
 use Rattle.std.proofs.Common.{◌≡◌, ℕ, ◌≤◌, ◌||◌, Bool, true, false, cond, List, [], ◌∷◌, refl, sym, ap, ◌∙◌, true≢false, subst}
-use Rattle.std.specs.Prelude.{codes, Some, None, Ok, Err, IfOk, IfSome}
-use Rattle.std.specs.Option.{ok_or}
+use Rattle.std.specs.Prelude.{codes, Some, None, Result, Ok, Err, IfOk}
 use Rattle.std.specs.Str.{bytes_eq}
-use Rattle.ct_names.specs.declared.refusal.Refusal.{Refusal}
 use Rattle.ct_names.specs.declared.refusal.Refusal.TheVariants.{OutOfMemory, Board}
 use Rattle.ct_grammar.specs.declared.fact.Fact.TheVariants.{Received, Decided, Delivered, Table, Heard, Acked}
 use Rattle.ct_grammar.specs.declared.reason.Reason.{Reason}
-use Rattle.ct_grammar.specs.declared.reason.Reason.TheVariants.{NotThere, Across, Rules}
+use Rattle.ct_grammar.specs.declared.reason.Reason.TheVariants.{Rules}
 use Rattle.ct_grammar.specs.Facts.{short_fact, ended, lone_act, lone_pick, lone_whole, phase_first, reason_first, refusal_of}
 use Rattle.ct_grammar.specs.Facts.{act_fact, number_fact, says_set, lone_set, some_words, quotes_words, quotable, text_fact, quoted_fact}
 use Rattle.ct_grammar.specs.Facts.{named_fact}
 use Rattle.ct_grammar.specs.Claims.{step_claim, event_claim, amount_claim}
-use Rattle.ct_grammar.specs.Leading.{over, whole_first}
-use Rattle.ct_grammar.specs.Picks.{pick_first}
-use Rattle.ct_grammar.specs.Acts.{act_first}
+use Rattle.ct_grammar.specs.Leading.{over}
 use Rattle.std.proofs.lemmas.Bool.{cond_both}
 use Rattle.std.proofs.lemmas.Slice.Eq.{bytes_eq-Decides}
 use Rattle.ct_grammar.specs.Numbers.{max_u32}
@@ -22,110 +18,68 @@ use Rattle.ct_grammar.specs.Reasons.{full_of, step_reason, reason_of}
 use Rattle.ct_grammar.specs.Words.{Word, words_of, text_of}
 use Rattle.ct_print.specs.Writable.{PickFits, ActFits, FactFits, IsQuoted, IsSetText, IsRules}
 use Rattle.ct_print.proofs.NoAnd.{HasNoAnd}
-use Rattle.ct_print.proofs.Readable.{either, some_either, some_mapped, map_fits, then_fits, found, any_map, any_then}
+use Rattle.ct_print.proofs.Readable.{either, mapped, steps, May, Gives}
 use Rattle.ct_print.proofs.Readable.{AreWords}
 use Rattle.ct_print.proofs.Readable.{words_again}
 use Rattle.ct_print.proofs.Readable.{whole_first_fits, pick_fits, act_fits, text_is_quotable}
 
 -- ---- reasons
 
-not_stopped : Refusal → Bool
-not_stopped OutOfMemory = false
-not_stopped Board = false
-not_stopped _ = true
+is_rules : Reason → Bool
+is_rules (Rules OutOfMemory) = false
+is_rules (Rules Board) = false
+is_rules _ = true
 
-pub is_rules : Reason → Bool
-unfolding not_stopped
-is_rules NotThere = true
-is_rules Across = true
-is_rules (Rules refusal) = not_stopped refusal
-
-pub from_test : (reason : Reason) → is_rules reason ≡ true → IsRules reason
-unfolding is_rules not_stopped
+from_test : (reason : Reason) → is_rules reason ≡ true → IsRules reason
+unfolding is_rules
 from_test reason h = record {
   memory = λ e. true≢false (sym h ∙ ap is_rules e);
   board = λ e. true≢false (sym h ∙ ap is_rules e);
 }
 
-full_fits : (name : Word) → IfSome (full_of name) (λ r. not_stopped r ≡ true)
-unfolding full_of not_stopped
-full_fits name =
-    some_either _ (bytes_eq name (codes "Full(Submissions)")) _ _ refl
-    (some_either _ (bytes_eq name (codes "Full(Instances)")) _ _ refl
-    (some_either _ (bytes_eq name (codes "Full(Rounds)")) _ _ refl (some_either _ (bytes_eq name (codes "Full(Envelopes)")) _ _ refl
-    (some_either _ (bytes_eq name (codes "Full(Cells)")) _ _ refl (some_either _ (bytes_eq name (codes "Full(Steps)")) _ _ refl tt)))))
+full_fits : (name : Word) → May (full_of name) (λ r. IsRules (Rules r))
+unfolding full_of is_rules
+full_fits name Q k = search (steps, from_test) depth 12
 
-step_fits : (name : Word) → IfSome (step_reason name) (λ r. not_stopped r ≡ true)
-unfolding step_reason not_stopped
-step_fits name =
-    some_either _ (bytes_eq name (codes "Busy")) _ _ refl (some_either _ (bytes_eq name (codes "Nothing")) _ _ refl
-    (some_either _ (bytes_eq name (codes "Idle")) _ _ refl (some_either _ (bytes_eq name (codes "WrongPhase")) _ _ refl
-    (some_either _ (bytes_eq name (codes "Decided")) _ _ refl
-    (some_either _ (bytes_eq name (codes "TooFew")) _ _ refl
-    (some_either _ (bytes_eq name (codes "NotLargest")) _ _ refl (some_either _ (bytes_eq name (codes "NoProposal")) _ _ refl
-    (some_either _ (bytes_eq name (codes "HasProposal")) _ _ refl
-    (some_either _ (bytes_eq name (codes "Undecided")) _ _ refl (full_fits name))))))))))
+step_fits : (name : Word) → May (step_reason name) (λ r. IsRules (Rules r))
+unfolding step_reason is_rules
+step_fits name Q k = search (steps, from_test, full_fits) depth 16
 
-pub reason_tests : (name : Word) → IfSome (reason_of name) (λ r. is_rules r ≡ true)
-unfolding reason_of is_rules not_stopped
-reason_tests name =
-    some_either _ (bytes_eq name (codes "NotThere")) _ _ refl
-    (some_either _ (bytes_eq name (codes "Across")) _ _ refl
-    (some_either _ (bytes_eq name (codes "NoSuchMember")) _ _ refl (some_either _ (bytes_eq name (codes "Crashed")) _ _ refl
-    (some_either _ (bytes_eq name (codes "NotWaiting")) _ _ refl
-    (some_either _ (bytes_eq name (codes "BadCommand")) _ _ refl
-    (some_either _ (bytes_eq name (codes "NotSent")) _ _ refl (some_either _ (bytes_eq name (codes "StillWaiting")) _ _ refl
-    (some_mapped _ Rules (step_reason name) (step_fits name)))))))))
+pub reason_rules : (name : Word) → May (reason_of name) IsRules
+unfolding reason_of is_rules
+reason_rules name Q k = search (steps, from_test, step_fits) depth 14
 
-reason_fits : (words : List Word) → IfOk (reason_first words) IsRules
+reason_fits : (words : List Word) → Gives (reason_first words) IsRules
 unfolding reason_first
-reason_fits [] = tt
-reason_fits (word ∷ words) =
-    then_fits (λ r. is_rules r ≡ true) _ (ok_or (reason_of word) _) _
-    (found (λ r. is_rules r ≡ true) (reason_of word) _ (reason_tests word))
-    (λ reason h. any_then _ (over _ words) _ (λ x. from_test reason h))
+reason_fits [] Q k = tt
+reason_fits (word ∷ words) Q k = search (steps, reason_rules) depth 7
 
 -- ---- facts
 
-pub alone_fits : (what : _) (words : List Word) → AreWords words → IfOk (lone_whole what words) (λ n. n ≤ max_u32)
+pub alone_fits : (what : _) (words : List Word) → AreWords words → Gives (lone_whole what words) (λ n. n ≤ max_u32)
 unfolding lone_whole
-alone_fits what words g =
-    then_fits _ _ (whole_first what words) _ (whole_first_fits what words g) (λ r h. any_then _ (over _ r.1) _ (λ x. h.0))
+alone_fits what words g Q k = search (steps, whole_first_fits) depth 7
 
-act_alone_fits : (words : List Word) → AreWords words → IfOk (lone_act words) ActFits
+act_alone_fits : (words : List Word) → AreWords words → Gives (lone_act words) ActFits
 unfolding lone_act ended
-act_alone_fits words g =
-    then_fits _ _ (act_first _ words) _ (act_fits _ words g) (λ r h. any_map _ _ (over _ r.1) (λ x. h.0))
+act_alone_fits words g Q k = search (steps, act_fits) depth 7
 
-pick_alone_fits : (words : List Word) → AreWords words → IfOk (lone_pick words) PickFits
+pick_alone_fits : (words : List Word) → AreWords words → Gives (lone_pick words) PickFits
 unfolding lone_pick
-pick_alone_fits words g =
-    then_fits _ _ (pick_first _ words) _ (pick_fits _ words g) (λ r h. any_then _ (over _ r.1) _ (λ x. h.0))
+pick_alone_fits words g Q k = search (steps, pick_fits) depth 7
 
 refused_fits : (words : List Word) → AreWords words → IfOk (refusal_of words) FactFits
 unfolding refusal_of
-refused_fits words g =
-    then_fits _ _ (act_first _ words) _ (act_fits _ words g)
-    (λ r h. then_fits _ _ (reason_first r.1) _ (reason_fits r.1) (λ reason k. (h.0, k)))
+refused_fits words g = search (steps, act_fits, reason_fits) depth 7
 
-short_fact_fits : (name : Word) → IfSome (short_fact name) FactFits
-unfolding short_fact
-short_fact_fits name =
-    some_either _ (bytes_eq name (codes "up")) _ _ tt (some_either _ (bytes_eq name (codes "crashed")) _ _ tt
-    (some_either _ (bytes_eq name (codes "idle")) _ _ tt tt))
+any_fits : {A E : Type 0} (r : Result A E) → IfOk r (λ x. Unit {0})
+any_fits (Ok x) = tt
+any_fits (Err e) = tt
 
 plain_fits : (name : Word) (words : List Word) → AreWords words → IfOk (number_fact name words) FactFits
-unfolding number_fact act_fact
+unfolding number_fact act_fact short_fact
 plain_fits name words g =
-    either _ (bytes_eq name (codes "instance")) _ _ (map_fits _ _ _ (lone_whole _ words) (alone_fits _ words g) (λ n h. h))
-    (either _ (bytes_eq name (codes "round")) _ _ (map_fits _ _ _ (lone_whole _ words) (alone_fits _ words g) (λ n h. h))
-    (either _ (bytes_eq name (codes "phase")) _ _ (any_map _ _ (phase_first words) (λ x. tt))
-    (either _ (bytes_eq name (codes "waiting")) _ _ (map_fits _ _ _ (lone_whole _ words) (alone_fits _ words g) (λ n h. h))
-    (either _ (bytes_eq name (codes "refuses")) _ _ (refused_fits words g)
-    (either _ (bytes_eq name (codes "may")) _ _ (map_fits _ _ _ (lone_act words) (act_alone_fits words g) (λ n h. h))
-    (either _ (bytes_eq name (codes "waits")) _ _ (map_fits _ _ _ (lone_pick words) (pick_alone_fits words g) (λ n h. h))
-    (then_fits FactFits _ (ok_or (short_fact name) _) _ (found FactFits (short_fact name) _ (short_fact_fits name))
-    (λ fact h. any_then _ (over _ words) _ (λ x. h)))))))))
+    search (steps, alone_fits, any_fits (phase_first words), refused_fits, act_alone_fits, pick_alone_fits) depth 16
 
 estimates_no_amount : (words : List Word) → amount_claim (codes "estimate") words ≡ None
 unfolding amount_claim event_claim step_claim
@@ -199,7 +153,7 @@ fact_fits name words g n plain =
     go : (a : Bool) → quotes_words name ≡ a → (b : Bool) → (bytes_eq name (codes "heard") || bytes_eq name (codes "acked")) ≡ b →
         IfOk (quoted_fact (cond a (Some (some_words words)) (cond b (Some (lone_set words)) None)) name words) FactFits
     go true e b f =
-        map_fits (λ x. FactFits (text_fact name (text_of words))) _ _ (some_words words) (some_fit name words g n plain e) (λ x h. h)
+        mapped FactFits _ (some_words words) (some_fit name words g n plain e)
     go false e true f =
-        map_fits (λ x. FactFits (text_fact name (text_of words))) _ _ (lone_set words) (lone_set_fits name words g f) (λ x h. h)
+        mapped FactFits _ (lone_set words) (lone_set_fits name words g f)
     go false e false f = plain_fits name words g

@@ -12,7 +12,6 @@ pub mod NoAnd
 pub mod Numerals
 pub mod Numeric
 pub mod Parts
-pub mod PlainQuotes
 pub mod Readable
 pub mod Spoken
 pub mod TermsRead

@@ -8,15 +8,14 @@ use Rattle.std.proofs.lemmas.Slice.Eq.{bytes_eq-Decides}
 use Rattle.ct_names.specs.declared.limit.TheConstants.{MAX_BOUND, MAX_CELLS, MAX_MEMBERS}
 use Rattle.ct_names.proofs.Lists.{true_or_false}
 use Rattle.ct_grammar.specs.declared.act.Act.{Act}
-use Rattle.ct_grammar.specs.declared.act.Act.TheVariants.{Submit, Receive, Begin, Enter, Choose, Adopt, Suspect, Conclude, Deliver}
-use Rattle.ct_grammar.specs.declared.act.Act.TheVariants.{Follow, Crash, Postpone, Lose, Repeat, LoseFrom}
-use Rattle.ct_grammar.specs.declared.carried.Carried.TheVariants.{Data, Est, Prop, Ack, Nack, Dec}
+use Rattle.ct_grammar.specs.declared.act.Act.TheVariants.{Submit, Receive}
+use Rattle.ct_grammar.specs.declared.carried.Carried.TheVariants.{Data}
 use Rattle.ct_grammar.specs.declared.goal.Goal.{Goal}
 use Rattle.ct_grammar.specs.declared.given.Given.{Given}
 use Rattle.ct_grammar.specs.declared.given.Given.TheVariants.{Members, Cells, Batch}
 use Rattle.ct_grammar.specs.declared.line.Line.{Line}
 use Rattle.ct_grammar.specs.declared.line.Line.TheVariants.{Blank, Given as Gives, Play as Plays}
-use Rattle.ct_grammar.specs.declared.pick.Pick.TheVariants.{Serial, First}
+use Rattle.ct_grammar.specs.declared.pick.Pick.TheVariants.{First}
 use Rattle.ct_grammar.specs.declared.play.Play.{Play}
 use Rattle.ct_grammar.specs.declared.play.Play.TheVariants.{Act as Acts, Stated, Turns, Settle, Until, Cut, Heal, Expect, Ask}
 use Rattle.ct_grammar.specs.declared.question.Question.{Question}
@@ -43,9 +42,10 @@ use Rattle.ct_print.proofs.ActsRead.{number_is_first, member_is_first, whole_is_
 use Rattle.ct_print.proofs.CutsRead.{cut_words, cut_reads, cut_back}
 use Rattle.ct_print.proofs.FactsRead.{who_back}
 use Rattle.ct_print.proofs.Numeric.{decimal_numeric, numeric_other}
-use Rattle.ct_print.proofs.Spoken.{act_words, act_reads, led, said, number_reads, set_reads, quoted_reads, who_reads}
+use Rattle.ct_print.proofs.NoAnd.{as_read, number_says, whole_says, spoken}
+use Rattle.ct_print.proofs.Spoken.{act_words, act_says, set_says, quoted_reads, who_reads}
 use Rattle.ct_print.proofs.TermsRead.{goal_words, goal_reads, goal_back}
-use Rattle.ct_print.proofs.TextWords.{Reads, beside, words_from}
+use Rattle.ct_print.proofs.TextWords.{Reads, beside, word_before, word_reads, words_from}
 
 -- ---- words
 
@@ -85,19 +85,14 @@ line_words (Plays play) = play_words play
 
 given_reads : (given : Given) → GivenFits given → Reads (given_text given) (given_words given)
 unfolding given_text
-given_reads (Members n) h = led (codes "members") _ _ refl (number_reads MAX_MEMBERS n (omega arith) h.1)
-given_reads (Cells n) h = led (codes "cells") _ _ refl (number_reads MAX_CELLS n (omega arith) h)
-given_reads (Batch n) h = led (codes "batch") _ _ refl (number_reads MAX_BOUND n (omega arith) h.1)
+given_reads (Members n) h = word_before (codes "members") _ _ refl (number_says n (omega arith)).reads
+given_reads (Cells n) h = word_before (codes "cells") _ _ refl (number_says n (omega arith)).reads
+given_reads (Batch n) h = word_before (codes "batch") _ _ refl (number_says n (omega arith)).reads
 
 question_reads : (question : Question) → QuestionFits question → Reads (question_text question) (question_words question)
 unfolding question_text
-question_reads (Enabled p) h = led (codes "enabled") _ _ refl (number_reads max_u8 p (omega arith) h)
-question_reads (Next p) h = led (codes "next") _ _ refl (number_reads max_u8 p (omega arith) h)
-question_reads (State p) h = led (codes "state") _ _ refl (number_reads max_u8 p (omega arith) h)
-question_reads (Waiting p) h = led (codes "waiting") _ _ refl (number_reads max_u8 p (omega arith) h)
-question_reads Report h = said (codes "report") refl
-question_reads Record h = said (codes "record") refl
-question_reads Limits h = said (codes "limits") refl
+question_reads Report h = search (as_read, spoken)
+question_reads _ h = search (as_read, spoken)
 
 some_set : (p : ℕ) (ps : List ℕ) → IsSet (p ∷ ps) → IsSomeSet (p ∷ ps)
 some_set p ps h = record { rising = h; some = omega arith }
@@ -111,7 +106,7 @@ suspecting_reads text words (p ∷ ps) h k =
     let more : (length (p ∷ ps) == 0) ≡ false = grind (arith, nat_tests) in
     rw more
     (beside text (codes "suspecting" ++ 32 ∷ set_text (p ∷ ps)) words (codes "suspecting" ∷ set_text (p ∷ ps) ∷ []) k
-    (led (codes "suspecting") _ _ refl (set_reads (p ∷ ps) (some_set p ps h))))
+    (word_before (codes "suspecting") _ _ refl (set_says (p ∷ ps) (some_set p ps h)).reads))
 
 who_and : (who : Who) (text : List ℕ) (words : List Word) → WhoFits who → Reads text words →
     Reads (who_text who ++ 32 ∷ text) (who_text who ∷ words)
@@ -123,23 +118,20 @@ all_reads goal h = goal_reads goal h
 
 play_reads : (play : Play) → PlayFits play → Reads (play_text play) (play_words play)
 unfolding play_text
-play_reads (Acts who act) h = who_and who _ _ h.0 (act_reads act h.1)
+play_reads (Acts who act) h = who_and who _ _ h.0 (act_says act h.1).reads
 play_reads (Stated who act quoted) h =
-    who_and who _ _ h.0 (beside (act_text act) quoted (act_words act) (words_of quoted) (act_reads act h.1)
+    who_and who _ _ h.0 (beside (act_text act) quoted (act_words act) (words_of quoted) (act_says act h.1).reads
     (quoted_reads quoted h.2.quotable))
 play_reads (Turns who n set) h =
     suspecting_reads _ (who_text who ∷ codes "turns" ∷ decimal n ∷ []) set h.2
-    (who_and who _ _ h.0 (led (codes "turns") _ _ refl (number_reads max_u32 n (omega arith) h.1)))
+    (who_and who _ _ h.0 (word_before (codes "turns") _ _ refl (whole_says n h.1).reads))
 play_reads (Settle who set) h =
-    suspecting_reads _ (who_text who ∷ codes "settle" ∷ []) set h.1 (who_and who _ _ h.0 (said (codes "settle") refl))
+    suspecting_reads _ (who_text who ∷ codes "settle" ∷ []) set h.1 (who_and who _ _ h.0 (word_reads (codes "settle") refl))
 play_reads (Until who set goal) h =
     beside _ _ ((who_text who ∷ codes "turns" ∷ []) ++ suspecting_words set) _
-    (suspecting_reads _ (who_text who ∷ codes "turns" ∷ []) set h.1 (who_and who _ _ h.0 (said (codes "turns") refl)))
-    (led (codes "until") _ _ refl (all_reads goal h.2))
-play_reads (Cut sides) h = led (codes "cut") _ _ refl (cut_reads sides h)
-play_reads Heal h = said (codes "heal") refl
-play_reads (Expect goal) h = led (codes "expect") _ _ refl (all_reads goal h)
-play_reads (Ask question) h = question_reads question h
+    (suspecting_reads _ (who_text who ∷ codes "turns" ∷ []) set h.1 (who_and who _ _ h.0 (word_reads (codes "turns") refl)))
+    (word_before (codes "until") _ _ refl (all_reads goal h.2))
+play_reads _ h = search (word_before, word_reads, cut_reads, all_reads, question_reads)
 
 line_reads : (line : Line) → IsWritable line → Reads (line_text line) (line_words line)
 unfolding line_text all_words
@@ -158,20 +150,7 @@ act_done : (who : Who) (act : Act) (words : List Word) →
     done_by who (act_words act ++ words) ≡ told (act_words act ++ words) (acted who (act_words act ++ words))
 unfolding done_by settled_or_acted
 act_done who (Submit command) words = refl
-act_done who (Receive pick) words = refl
-act_done who Begin words = refl
-act_done who Enter words = refl
-act_done who (Choose p) words = refl
-act_done who Adopt words = refl
-act_done who Suspect words = refl
-act_done who Conclude words = refl
-act_done who Deliver words = refl
-act_done who Follow words = refl
-act_done who Crash words = refl
-act_done who (Postpone pick) words = refl
-act_done who (Lose pick) words = refl
-act_done who (Repeat pick) words = refl
-act_done who (LoseFrom set) words = refl
+act_done who _ words = refl
 
 act_taken : (who : Who) (act : Act) (words : List Word) → ActFits act → from_first words ≡ false →
     done_by who (act_words act ++ words) ≡ told (act_words act ++ words) (taken who act words)
@@ -188,27 +167,8 @@ alone_taken who act h = ap (done_by who) (sym (append-nil (act_words act))) ∙ 
 -- nothing that is stated begins with `from`
 not_stated : (act : Act) (words : List Word) → statement act (codes "from" ∷ words) ≡ Ok tt → ⊥
 unfolding statement pick_statement carried_statement lone_value lone_command says_value over command_first named_command
-not_stated (Submit command) words e = cc
-not_stated (Receive (Serial n)) words e = cc
 not_stated (Receive (First (Data o n) from)) words e = cc
-not_stated (Receive (First (Est i r) from)) words e = cc
-not_stated (Receive (First (Prop i r) from)) words e = cc
-not_stated (Receive (First (Ack i r) from)) words e = cc
-not_stated (Receive (First (Nack i r) from)) words e = cc
-not_stated (Receive (First (Dec i r) from)) words e = cc
-not_stated Begin words e = cc
-not_stated Enter words e = cc
-not_stated (Choose p) words e = cc
-not_stated Adopt words e = cc
-not_stated Suspect words e = cc
-not_stated Conclude words e = cc
-not_stated Deliver words e = cc
-not_stated Follow words e = cc
-not_stated Crash words e = cc
-not_stated (Postpone pick) words e = cc
-not_stated (Lose pick) words e = cc
-not_stated (Repeat pick) words e = cc
-not_stated (LoseFrom set) words e = cc
+not_stated _ words e = cc
 
 no_sender : (act : Act) (words : List Word) → statement act words ≡ Ok tt → from_first words ≡ false
 no_sender act [] e = refl
@@ -282,13 +242,8 @@ given_back (Batch n) h = rw (number_alone 1 MAX_BOUND n _ (omega arith) h.0 h.1)
 
 question_back : (question : Question) → QuestionFits question → of_words (question_words question) ≡ Ok (Plays (Ask question))
 unfolding of_words who_of members_of number_of begun worded named heading_of played_of question_of short_question over
-question_back (Enabled p) h = rw (member_alone p h) refl
-question_back (Next p) h = rw (member_alone p h) refl
-question_back (State p) h = rw (member_alone p h) refl
-question_back (Waiting p) h = rw (member_alone p h) refl
 question_back Report h = refl
-question_back Record h = refl
-question_back Limits h = refl
+question_back _ h = first_of (search, simp member_alone)
 
 play_back : (play : Play) → PlayFits play → of_words (play_words play) ≡ Ok (Plays play)
 unfolding of_words who_of members_of number_of begun worded named heading_of played_of over

@@ -1,11 +1,10 @@
 -- What is read can be written.
 use Rattle.std.proofs.Common.{◌≡◌, ℕ, ◌+◌, ◌-◌, ◌*◌, ◌<◌, ◌≤◌, ◌==◌, ◌||◌, Bool, true, false, cond, List, [], ◌∷◌, length}
 use Rattle.std.proofs.Common.{refl, sym, ap, arith, true≢false, leb-true, eq-eqb}
-use Rattle.std.specs.Prelude.{codes, Option, Some, None, Result, Ok, Err, IfOk, IfSome, nat_le, option_map, option_and_then}
+use Rattle.std.specs.Prelude.{Option, Some, None, Result, Ok, Err, IfOk, IfSome, nat_le, option_map, option_and_then}
 use Rattle.std.specs.Char.{is_ascii_digit}
-use Rattle.std.specs.List.{list_all, slice_split}
+use Rattle.std.specs.List.{list_all}
 use Rattle.std.specs.Option.{ok_or}
-use Rattle.std.specs.Str.{bytes_eq}
 use Rattle.std.proofs.lemmas.List.Splits.{length-slice_split}
 use Rattle.ct_names.specs.Group.{everyone, IsMember}
 use Rattle.ct_names.specs.Membership.{IsIn}
@@ -15,13 +14,14 @@ use Rattle.ct_names.proofs.Lists.{IsIn-filter, both-left, both-right}
 use Rattle.ct_names.proofs.MemberSets.{filter-has_member, in-everyone}
 use Rattle.ct_grammar.specs.declared.carried.Carried.{Carried}
 use Rattle.ct_grammar.specs.Acts.{operands, named_command, command_first, short_act, lose_first, picked_act, long_act, act_first}
-use Rattle.ct_grammar.specs.Leading.{number_first, member_first, whole_first, set_first}
-use Rattle.ct_grammar.specs.Numbers.{number_behind, number_of, number_in, parted, two_numbers, with_members, members_of, has_comma}
-use Rattle.ct_grammar.specs.Numbers.{max_u8, max_u32, max_u64}
+use Rattle.ct_grammar.specs.Misfits.{told}
+use Rattle.ct_grammar.specs.Leading.{over, number_first, member_first, whole_first, set_first}
+use Rattle.ct_grammar.specs.Numbers.{number_behind, number_of, number_in, parted, two_numbers, with_members, members_of}
+use Rattle.ct_grammar.specs.Numbers.{max_u8, max_u32}
 use Rattle.ct_grammar.specs.Picks.{serial_of, message_first, place_first, carried_first, sent_pick, pick_first}
 use Rattle.ct_grammar.specs.Unfits.{◌>>=◌, map_ok}
 use Rattle.ct_grammar.specs.Who.{who_of}
-use Rattle.ct_grammar.specs.Words.{Word, begins_with, words_of, text_of}
+use Rattle.ct_grammar.specs.Words.{Word, words_of, text_of}
 use Rattle.ct_print.specs.Writable.{IsSomeSet, WhoFits, CommandFits, CarriedFits, PickFits, ActFits, IsQuotable}
 use Rattle.ct_print.proofs.TextWords.{is_word, joined_reads, words_from}
 
@@ -35,6 +35,10 @@ pub some_either : {A : Type 0} (P : A → Type 0) (t : Bool) (a b : Option A) �
 some_either P true a b h k = h
 some_either P false a b h k = k
 
+pub some_if : {A : Type 0} (P : A → Type 0) (t : Bool) (x : A) → (t ≡ true → P x) → IfSome (cond t (Some x) None) P
+some_if P true x h = h refl
+some_if P false x h = tt
+
 pub some_mapped : {A B : Type 0} (P : B → Type 0) (f : A → B) (o : Option A) → IfSome o (λ x. P (f x)) → IfSome (option_map f o) P
 some_mapped P f None h = tt
 some_mapped P f (Some x) h = h
@@ -44,37 +48,35 @@ pub some_bound : {A B : Type 0} (P : B → Type 0) (f : A → Option B) (o : Opt
 some_bound P f None h = tt
 some_bound P f (Some x) h = h
 
-pub some_weaker : {A : Type 0} (P Q : A → Type 0) (o : Option A) → ((x : A) → P x → Q x) → IfSome o P → IfSome o Q
-some_weaker P Q None f h = tt
-some_weaker P Q (Some x) f h = f x h
+some_weaker : {A : Type 0} {P : A → Type 0} (o : Option A) (Q : A → Type 0) → ((x : A) → P x → Q x) → IfSome o P → IfSome o Q
+some_weaker None Q f h = tt
+some_weaker (Some x) Q f h = f x h
 
 pub ok_weaker : {A E : Type 0} (P Q : A → Type 0) (r : Result A E) → IfOk r P → ((x : A) → P x → Q x) → IfOk r Q
 ok_weaker P Q (Ok x) h f = f x h
 ok_weaker P Q (Err e) h f = tt
 
 -- what f makes of an answer, and what stands behind one
-pub map_fits : {A B E : Type 0} (P : A → Type 0) (Q : B → Type 0) (f : A → B) (r : Result A E) → IfOk r P → ((x : A) → P x → Q (f x)) →
-    IfOk (map_ok f r) Q
-map_fits P Q f (Ok x) h k = k x h
-map_fits P Q f (Err e) h k = tt
+pub mapped : {A B E : Type 0} (P : B → Type 0) (f : A → B) (r : Result A E) → IfOk r (λ x. P (f x)) → IfOk (map_ok f r) P
+mapped P f (Ok x) h = h
+mapped P f (Err e) h = tt
 
-pub then_fits : {A B E : Type 0} (P : A → Type 0) (Q : B → Type 0) (r : Result A E) (f : A → Result B E) → IfOk r P →
-    ((x : A) → P x → IfOk (f x) Q) → IfOk (r >>= f) Q
-then_fits P Q (Ok x) f h k = k x h
-then_fits P Q (Err e) f h k = tt
+pub bound : {A B E : Type 0} (P : B → Type 0) (r : Result A E) (f : A → Result B E) → IfOk r (λ x. IfOk (f x) P) → IfOk (r >>= f) P
+bound P (Ok x) f h = h
+bound P (Err e) f h = tt
 
 pub found : {A E : Type 0} (P : A → Type 0) (o : Option A) (e : E) → IfSome o P → IfOk (ok_or o e) P
 found P None e h = tt
 found P (Some x) e h = h
 
--- the same, whatever the answer is
-pub any_map : {A B E : Type 0} (Q : B → Type 0) (f : A → B) (r : Result A E) → ((x : A) → Q (f x)) → IfOk (map_ok f r) Q
-any_map Q f (Ok x) k = k x
-any_map Q f (Err e) k = tt
+pub told_fits : {A : Type 0} (P : A → Type 0) (words : List Word) (r : Result A _) → IfOk r P → IfOk (told words r) P
+told_fits P words (Ok x) h = h
+told_fits P words (Err unfit) h = tt
 
-pub any_then : {A B E : Type 0} (Q : B → Type 0) (r : Result A E) (f : A → Result B E) → ((x : A) → IfOk (f x) Q) → IfOk (r >>= f) Q
-any_then Q (Ok x) f k = k x
-any_then Q (Err e) f k = tt
+pub unless_over : (P : Unit {0} → Type 0) (what : _) (words : List Word) → P tt → IfOk (over what words) P
+unfolding over
+unless_over P what [] h = h
+unless_over P what (word ∷ words) h = tt
 
 -- the words of a line are words
 abbrev pub AreWords : List Word → Type 0
@@ -83,41 +85,53 @@ AreWords words = list_all is_word words ≡ true
 pub words_behind : (word : Word) (words : List Word) → AreWords (word ∷ words) → AreWords words
 words_behind word words h = both-right (is_word word) (list_all is_word words) h
 
+-- how an answer is made
+pub ruleset steps = (
+  either,
+  some_either,
+  some_mapped,
+  some_bound,
+  mapped,
+  bound,
+  found,
+  told_fits,
+  unless_over,
+  words_behind,
+)
+
+-- an answer that is so, if there is one, is all that follows from it; the last is one with the words behind it
+abbrev pub May : {A : Type 0} → Option A → (A → Type 0) → Type 1
+May {A = A} o P = (Q : A → Type 0) → ((x : A) → P x → Q x) → IfSome o Q
+
+abbrev pub Gives : {A E : Type 0} → Result A E → (A → Type 0) → Type 1
+Gives {A = A} r P = (Q : A → Type 0) → ((x : A) → P x → Q x) → IfOk r Q
+
+abbrev pub Leads : {A E : Type 0} → Result (A × List Word) E → (A → Type 0) → Type 1
+Leads {A = A} r P = (Q : A × List Word → Type 0) → ((x : A × List Word) → P x.0 → AreWords x.1 → Q x) → IfOk r Q
+
 -- ---- numbers
 
-digits_within : (high n : ℕ) (word : Word) → IfSome (number_behind high n word) (λ m. m ≤ high)
-digits_within high n [] = go (nat_le n high) refl
-  where
-    go : (b : Bool) → nat_le n high ≡ b → IfSome (cond b (Some n) None) (λ m. m ≤ high)
-    go true e = leb-true n high e
-    go false e = tt
-digits_within high n (c ∷ cs) =
-    some_either (λ m. m ≤ high) (is_ascii_digit c) _ None (digits_within high (n * 10 + (c - 48)) cs) tt
+digits_within : (high n : ℕ) (word : Word) → May (number_behind high n word) (λ m. m ≤ high)
+digits_within high n [] Q k = some_if Q (nat_le n high) n (λ e. k n (leb-true n high e))
+digits_within high n (c ∷ cs) Q k = some_either Q (is_ascii_digit c) _ None (digits_within high (n * 10 + (c - 48)) cs Q k) tt
 
-pub number_within : (high : ℕ) (word : Word) → IfSome (number_of high word) (λ m. m ≤ high)
+pub number_within : (high : ℕ) (word : Word) → May (number_of high word) (λ m. m ≤ high)
 unfolding number_of
-number_within high [] = tt
-number_within high (c ∷ cs) = digits_within high 0 (c ∷ cs)
+number_within high [] Q k = tt
+number_within high (c ∷ cs) Q k = digits_within high 0 (c ∷ cs) Q k
 
-pub number_between : (low high : ℕ) (word : Word) → IfSome (number_in low high word) (λ m. (low ≤ m) × (m ≤ high))
+pub number_between : (low high : ℕ) (word : Word) → May (number_in low high word) (λ m. (low ≤ m) × (m ≤ high))
 unfolding number_in
-number_between low high word =
-    some_bound _ _ (number_of high word)
-    (some_weaker (λ m. m ≤ high) _ (number_of high word) (λ m h. go m h (nat_le low m) refl) (number_within high word))
-  where
-    go : (m : ℕ) → m ≤ high → (b : Bool) → nat_le low m ≡ b → IfSome (cond b (Some m) None) (λ n. (low ≤ n) × (n ≤ high))
-    go m h true e = (leb-true low m e, h)
-    go m h false e = tt
+number_between low high word Q k =
+    some_bound Q _ (number_of high word)
+    (number_within high word _ (λ m h. some_if Q (nat_le low m) m (λ e. k m (leb-true low m e, h))))
 
-pub two_within : (at high higher : ℕ) (word : Word) → IfSome (two_numbers at high higher word) (λ r. (r.0 ≤ high) × (r.1 ≤ higher))
+pub two_within : (at high higher : ℕ) (word : Word) → May (two_numbers at high higher word) (λ r. (r.0 ≤ high) × (r.1 ≤ higher))
 unfolding two_numbers
-two_within at high higher word =
-    some_bound _ _ (parted at word) (each (parted at word)
-    (λ parts. some_bound _ _ (number_of high parts.0)
-    (some_weaker (λ m. m ≤ high) _ (number_of high parts.0)
-    (λ m h. some_bound _ _ (number_of higher parts.1)
-    (some_weaker (λ n. n ≤ higher) _ (number_of higher parts.1) (λ n k. (h, k)) (number_within higher parts.1)))
-    (number_within high parts.0))))
+two_within at high higher word Q k =
+    some_bound Q _ (parted at word) (each (parted at word)
+    (λ parts. some_bound Q _ (number_of high parts.0) (number_within high parts.0 _
+    (λ m h. some_bound Q _ (number_of higher parts.1) (number_within higher parts.1 _ (λ n l. k (m, n) (h, l)))))))
   where
     each : {A : Type 0} {P : A → Type 0} (o : Option A) → ((x : A) → P x) → IfSome o P
     each None f = tt
@@ -140,30 +154,20 @@ one_more set p h =
     same : (q : ℕ) → (q == q) ≡ true
     same q = eq-eqb q q refl
 
-with_set_is : (set : List ℕ) (parts : List Word) → IsSomeSet set → IfSome (with_members set parts) IsSomeSet
-with_set_is set [] h = h
+with_set_is : (set : List ℕ) (parts : List Word) → (length parts ≡ 0 → IsSomeSet set) → IfSome (with_members set parts) IsSomeSet
+with_set_is set [] h = h refl
 with_set_is set (part ∷ parts) h =
     some_bound IsSomeSet _ (number_in 1 MAX_MEMBERS part)
-    (some_weaker (λ p. (1 ≤ p) × (p ≤ MAX_MEMBERS)) _ (number_in 1 MAX_MEMBERS part)
-    (λ p k. with_set_is (with_member set p) parts (one_more set p k)) (number_between 1 MAX_MEMBERS part))
+    (number_between 1 MAX_MEMBERS part _ (λ p k. with_set_is (with_member set p) parts (λ e. one_more set p k)))
 
-some_parts : (set : List ℕ) (parts : List Word) → 0 < length parts → IfSome (with_members set parts) IsSomeSet
-some_parts set [] h = absurd (omega (arith, h))
-some_parts set (part ∷ parts) h =
-    some_bound IsSomeSet _ (number_in 1 MAX_MEMBERS part)
-    (some_weaker (λ p. (1 ≤ p) × (p ≤ MAX_MEMBERS)) _ (number_in 1 MAX_MEMBERS part)
-    (λ p k. with_set_is (with_member set p) parts (one_more set p k)) (number_between 1 MAX_MEMBERS part))
-
-pub members_are_set : (word : Word) → IfSome (members_of word) IsSomeSet
+pub members_are_set : (word : Word) → May (members_of word) IsSomeSet
 unfolding members_of
-members_are_set word = some_parts [] (slice_split (λ c. c == 44) word) (omega (arith, length-slice_split (λ (c : ℕ). c == 44) word))
+members_are_set word Q k =
+    some_weaker (members_of word) Q k (with_set_is [] _ (λ e. absurd (omega (arith, length-slice_split (λ (c : ℕ). c == 44) word))))
 
 pub who_fits : (word : Word) → IfSome (who_of word) WhoFits
 unfolding who_of
-who_fits word =
-    some_either WhoFits (bytes_eq word (codes "all")) _ _ tt
-    (some_either WhoFits (has_comma word) _ _ (some_mapped WhoFits _ (members_of word) (members_are_set word))
-    (some_mapped WhoFits _ (number_of max_u8 word) (number_within max_u8 word)))
+who_fits word = search (steps, members_are_set, number_within)
 
 -- ---- quoted texts
 
@@ -184,138 +188,85 @@ text_is_quotable word words h = record {
 -- ---- first words
 
 pub number_first_fits : (low high : ℕ) (what : _) (words : List Word) → AreWords words →
-    IfOk (number_first low high what words) (λ r. ((low ≤ r.0) × (r.0 ≤ high)) × AreWords r.1)
+    Leads (number_first low high what words) (λ n. (low ≤ n) × (n ≤ high))
 unfolding number_first
-number_first_fits low high what [] g = tt
-number_first_fits low high what (word ∷ words) g =
-    map_fits (λ m. (low ≤ m) × (m ≤ high)) _ _ (ok_or (number_in low high word) _)
-    (found (λ m. (low ≤ m) × (m ≤ high)) (number_in low high word) _ (number_between low high word))
-    (λ n h. (h, words_behind word words g))
+number_first_fits low high what [] g Q k = tt
+number_first_fits low high what (word ∷ words) g Q k = search (steps, number_between)
 
-pub member_first_fits : (what : _) (words : List Word) → AreWords words →
-    IfOk (member_first what words) (λ r. (r.0 ≤ max_u8) × AreWords r.1)
+pub member_first_fits : (what : _) (words : List Word) → AreWords words → Leads (member_first what words) (λ n. n ≤ max_u8)
 unfolding member_first
-member_first_fits what words g =
-    ok_weaker _ _ (number_first 0 max_u8 what words) (number_first_fits 0 max_u8 what words g) (λ r h. (h.0.1, h.1))
+member_first_fits what words g Q k = number_first_fits 0 max_u8 what words g Q (λ r h. k r h.1)
 
-pub whole_first_fits : (what : _) (words : List Word) → AreWords words →
-    IfOk (whole_first what words) (λ r. (r.0 ≤ max_u32) × AreWords r.1)
+pub whole_first_fits : (what : _) (words : List Word) → AreWords words → Leads (whole_first what words) (λ n. n ≤ max_u32)
 unfolding whole_first
-whole_first_fits what words g =
-    ok_weaker _ _ (number_first 0 max_u32 what words) (number_first_fits 0 max_u32 what words g) (λ r h. (h.0.1, h.1))
+whole_first_fits what words g Q k = number_first_fits 0 max_u32 what words g Q (λ r h. k r h.1)
 
-pub set_first_fits : (words : List Word) → AreWords words → IfOk (set_first words) (λ r. IsSomeSet r.0 × AreWords r.1)
+pub set_first_fits : (words : List Word) → AreWords words → Leads (set_first words) IsSomeSet
 unfolding set_first
-set_first_fits [] g = tt
-set_first_fits (word ∷ words) g =
-    map_fits IsSomeSet _ _ (ok_or (members_of word) _) (found IsSomeSet (members_of word) _ (members_are_set word))
-    (λ set h. (h, words_behind word words g))
+set_first_fits [] g Q k = tt
+set_first_fits (word ∷ words) g Q k = search (steps, members_are_set)
 
 -- ---- commands
 
 operands_fit : (high : ℕ) (what : _) (words : List Word) → AreWords words →
-    IfOk (operands high what words) (λ r. ((r.0.0 ≤ max_u8) × (r.0.1 ≤ high)) × AreWords r.1)
+    Leads (operands high what words) (λ r. (r.0 ≤ max_u8) × (r.1 ≤ high))
 unfolding operands
-operands_fit high what words g =
-    then_fits _ _ (member_first _ words) _ (member_first_fits _ words g)
-    (λ r h. then_fits _ _ (number_first 0 high what r.1) _ (number_first_fits 0 high what r.1 h.1) (λ n k. ((h.0, k.0.1), k.1)))
+operands_fit high what words g Q k =
+    bound Q (member_first _ words) _ (member_first_fits _ words g _ (λ r h l. bound Q (number_first 0 high what r.1) _
+    (number_first_fits 0 high what r.1 l _ (λ n m. k ((r.0, n.0), n.1) (h, m.1)))))
 
-pub command_fits : (what : _) (words : List Word) → AreWords words → IfOk (command_first what words) (λ r. CommandFits r.0 × AreWords r.1)
+pub command_fits : (what : _) (words : List Word) → AreWords words → Leads (command_first what words) CommandFits
 unfolding command_first named_command
-command_fits what [] g = tt
-command_fits what (name ∷ words) g =
-    let rest : AreWords words = words_behind name words g in
-    either _ (bytes_eq name (codes "set")) _ _ (map_fits _ _ _ (operands max_u64 _ words) (operands_fit max_u64 _ words rest) (λ r h. h))
-    (either _ (bytes_eq name (codes "add")) _ _ (map_fits _ _ _ (operands max_u64 _ words) (operands_fit max_u64 _ words rest) (λ r h. h))
-    (either _ (bytes_eq name (codes "copy")) _ _ (map_fits _ _ _ (operands max_u8 _ words) (operands_fit max_u8 _ words rest)
-    (λ r h. h)) tt))
+command_fits what [] g Q k = tt
+command_fits what (name ∷ words) g Q k = search (steps, operands_fit) depth 8
 
 -- ---- envelopes
 
-message_fits : (words : List Word) → AreWords words → IfOk (message_first words) (λ r. CarriedFits r.0 × AreWords r.1)
+message_fits : (words : List Word) → AreWords words → Leads (message_first words) CarriedFits
 unfolding message_first
-message_fits [] g = tt
-message_fits (word ∷ words) g =
-    map_fits (λ n. (n.0 ≤ max_u8) × (n.1 ≤ max_u32)) _ _ (ok_or (two_numbers 46 max_u8 max_u32 word) _)
-    (found (λ n. (n.0 ≤ max_u8) × (n.1 ≤ max_u32)) (two_numbers 46 max_u8 max_u32 word) _ (two_within 46 max_u8 max_u32 word))
-    (λ n h. (h, words_behind word words g))
+message_fits [] g Q k = tt
+message_fits (word ∷ words) g Q k = search (steps, two_within)
 
-place_fits : (words : List Word) → AreWords words →
-    IfOk (place_first words) (λ r. ((r.0.0 ≤ max_u32) × (r.0.1 ≤ max_u32)) × AreWords r.1)
+place_fits : (words : List Word) → AreWords words → Leads (place_first words) (λ r. (r.0 ≤ max_u32) × (r.1 ≤ max_u32))
 unfolding place_first
-place_fits [] g = tt
-place_fits (word ∷ words) g =
-    map_fits (λ n. (n.0 ≤ max_u32) × (n.1 ≤ max_u32)) _ _ (ok_or (two_numbers 47 max_u32 max_u32 word) _)
-    (found (λ n. (n.0 ≤ max_u32) × (n.1 ≤ max_u32)) (two_numbers 47 max_u32 max_u32 word) _ (two_within 47 max_u32 max_u32 word))
-    (λ n h. (h, words_behind word words g))
+place_fits [] g Q k = tt
+place_fits (word ∷ words) g Q k = search (steps, two_within)
 
-carried_fits : (what : _) (kind : Word) (words : List Word) → AreWords words →
-    IfOk (carried_first what kind words) (λ r. CarriedFits r.0 × AreWords r.1)
+carried_fits : (what : _) (kind : Word) (words : List Word) → AreWords words → Leads (carried_first what kind words) CarriedFits
 unfolding carried_first
-carried_fits what kind words g =
-    either _ (bytes_eq kind (codes "data")) _ _ (message_fits words g)
-    (either _ (bytes_eq kind (codes "est")) _ _ (map_fits _ _ _ (place_first words) (place_fits words g) (λ r h. h))
-    (either _ (bytes_eq kind (codes "prop")) _ _ (map_fits _ _ _ (place_first words) (place_fits words g) (λ r h. h))
-    (either _ (bytes_eq kind (codes "ack")) _ _ (map_fits _ _ _ (place_first words) (place_fits words g) (λ r h. h))
-    (either _ (bytes_eq kind (codes "nack")) _ _ (map_fits _ _ _ (place_first words) (place_fits words g) (λ r h. h))
-    (either _ (bytes_eq kind (codes "dec")) _ _ (map_fits _ _ _ (place_first words) (place_fits words g) (λ r h. h)) tt)))))
+carried_fits what kind words g Q k = search (steps, message_fits, place_fits) depth 12
 
-sent_fits : (carried : Carried) (words : List Word) → CarriedFits carried → AreWords words →
-    IfOk (sent_pick carried words) (λ r. PickFits r.0 × AreWords r.1)
+sent_fits : (carried : Carried) (words : List Word) → CarriedFits carried → AreWords words → Leads (sent_pick carried words) PickFits
 unfolding sent_pick
-sent_fits carried [] h g = ((h, tt), g)
-sent_fits carried (word ∷ words) h g =
-    either _ (bytes_eq word (codes "from")) _ _ (map_fits _ _ _ (member_first _ words)
-    (member_first_fits _ words (words_behind word words g)) (λ r k. ((h, k.0), k.1))) ((h, tt), g)
+sent_fits carried [] h g Q k = search
+sent_fits carried (word ∷ words) h g Q k = search (steps, member_first_fits)
 
-serial_fits : (word : Word) → IfSome (serial_of word) (λ n. n ≤ max_u32)
+serial_fits : (word : Word) → May (serial_of word) (λ n. n ≤ max_u32)
 unfolding serial_of
-serial_fits [] = tt
-serial_fits (c ∷ cs) = some_either _ (c == 35) _ _ (number_within max_u32 cs) tt
+serial_fits [] Q k = tt
+serial_fits (c ∷ cs) Q k = search (steps, number_within)
 
-pub pick_fits : (what : _) (words : List Word) → AreWords words → IfOk (pick_first what words) (λ r. PickFits r.0 × AreWords r.1)
+pub pick_fits : (what : _) (words : List Word) → AreWords words → Leads (pick_first what words) PickFits
 unfolding pick_first
-pick_fits what [] g = tt
-pick_fits what (word ∷ words) g =
-    either _ (begins_with 35 word) _ _
-    (map_fits (λ n. n ≤ max_u32) _ _ (ok_or (serial_of word) _) (found (λ n. n ≤ max_u32) (serial_of word) _ (serial_fits word))
-    (λ n h. (h, words_behind word words g)))
-    (then_fits _ _ (carried_first what word words) _ (carried_fits what word words (words_behind word words g))
-    (λ r h. sent_fits r.0 r.1 h.0 h.1))
+pick_fits what [] g Q k = tt
+pick_fits what (word ∷ words) g Q k = search (steps, serial_fits, carried_fits, sent_fits) depth 8
 
 -- ---- acts
 
-short_fits : (name : Word) → IfSome (short_act name) ActFits
+short_fits : (name : Word) → May (short_act name) ActFits
 unfolding short_act
-short_fits name =
-    some_either _ (bytes_eq name (codes "begin")) _ _ tt (some_either _ (bytes_eq name (codes "enter")) _ _ tt
-    (some_either _ (bytes_eq name (codes "adopt")) _ _ tt (some_either _ (bytes_eq name (codes "suspect")) _ _ tt
-    (some_either _ (bytes_eq name (codes "conclude")) _ _ tt
-    (some_either _ (bytes_eq name (codes "deliver")) _ _ tt (some_either _ (bytes_eq name (codes "follow")) _ _ tt
-    (some_either _ (bytes_eq name (codes "crash")) _ _ tt tt)))))))
+short_fits name Q k = search steps depth 14
 
-lost_fits : (words : List Word) → AreWords words → IfOk (lose_first words) (λ r. ActFits r.0 × AreWords r.1)
+lost_fits : (words : List Word) → AreWords words → Leads (lose_first words) ActFits
 unfolding lose_first
-lost_fits [] g = tt
-lost_fits (word ∷ words) g =
-    either _ (bytes_eq word (codes "from")) _ _ (map_fits _ _ _ (set_first words) (set_first_fits words (words_behind word words g))
-    (λ r h. h))
-    (map_fits _ _ _ (pick_first _ (word ∷ words)) (pick_fits _ (word ∷ words) g) (λ r h. h))
+lost_fits [] g Q k = tt
+lost_fits (word ∷ words) g Q k = search (steps, set_first_fits, pick_fits)
 
-picked_fits : (what : _) (name : Word) (words : List Word) → AreWords words →
-    IfOk (picked_act what name words) (λ r. ActFits r.0 × AreWords r.1)
+picked_fits : (what : _) (name : Word) (words : List Word) → AreWords words → Leads (picked_act what name words) ActFits
 unfolding picked_act
-picked_fits what name words g =
-    either _ (bytes_eq name (codes "receive")) _ _ (map_fits _ _ _ (pick_first _ words) (pick_fits _ words g) (λ r h. h))
-    (either _ (bytes_eq name (codes "postpone")) _ _ (map_fits _ _ _ (pick_first _ words) (pick_fits _ words g) (λ r h. h))
-    (either _ (bytes_eq name (codes "repeat")) _ _ (map_fits _ _ _ (pick_first _ words) (pick_fits _ words g) (λ r h. h))
-    (map_fits ActFits _ _ (ok_or (short_act name) _) (found ActFits (short_act name) _ (short_fits name)) (λ act h. (h, g)))))
+picked_fits what name words g Q k = search (steps, pick_fits, short_fits) depth 12
 
-pub act_fits : (what : _) (words : List Word) → AreWords words → IfOk (act_first what words) (λ r. ActFits r.0 × AreWords r.1)
+pub act_fits : (what : _) (words : List Word) → AreWords words → Leads (act_first what words) ActFits
 unfolding act_first long_act
-act_fits what [] g = tt
-act_fits what (name ∷ words) g =
-    let rest : AreWords words = words_behind name words g in
-    either _ (bytes_eq name (codes "submit")) _ _ (map_fits _ _ _ (command_first _ words) (command_fits _ words rest) (λ r h. h))
-    (either _ (bytes_eq name (codes "choose")) _ _ (map_fits _ _ _ (member_first _ words) (member_first_fits _ words rest) (λ r h. h))
-    (either _ (bytes_eq name (codes "lose")) _ _ (lost_fits words rest) (picked_fits what name words rest)))
+act_fits what [] g Q k = tt
+act_fits what (name ∷ words) g Q k = search (steps, command_fits, member_first_fits, lost_fits, picked_fits) depth 8

@@ -8,30 +8,27 @@ use Rattle.ct_grammar.specs.declared.term.When.{When}
 use Rattle.ct_grammar.specs.declared.term.When.TheVariants.{Now, Ever, Never}
 use Rattle.ct_grammar.specs.declared.term.Whom.{Whom}
 use Rattle.ct_grammar.specs.declared.term.Whom.TheVariants as whom
-use Rattle.ct_grammar.specs.Goals.{is_and, whom_of, claimed, term_of, parts_of, terms_of, goal_in, goal_of}
+use Rattle.ct_grammar.specs.Goals.{whom_of, claimed, term_of, parts_of, terms_of, goal_in, goal_of}
 use Rattle.ct_grammar.specs.Numbers.{max_u8}
 use Rattle.ct_grammar.specs.Words.{Word}
 use Rattle.ct_print.specs.Goals.{claim_text, whom_text, when_text, term_text, terms_text, goal_text}
 use Rattle.ct_print.specs.Members.{list_text}
 use Rattle.ct_print.specs.Writable.{WhomFits, TermFits, GoalFits}
 use Rattle.ct_print.proofs.FactsRead.{list_back}
-use Rattle.ct_print.proofs.GoalsRead.{claim_words, claim_reads, claim_back, claim_no_and}
-use Rattle.ct_print.proofs.NoAnd.{HasNoAnd, part_before, part_alone, both_no_and}
+use Rattle.ct_print.proofs.GoalsRead.{claim_words, claim_says, claim_back}
+use Rattle.ct_print.proofs.NoAnd.{Says, said, led, numeric_says, spoken, part_before, part_alone}
 use Rattle.ct_print.proofs.Numerals.{number_back}
-use Rattle.ct_print.proofs.Numeric.{IsNumeric, numeric_reads, numeric_other, decimal_numeric, decimal_digits}
+use Rattle.ct_print.proofs.Numeric.{IsNumeric, numeric_other, decimal_numeric, decimal_digits}
 use Rattle.ct_print.proofs.Parts.{alone_no_comma}
-use Rattle.ct_print.proofs.Spoken.{led, said, number_reads, list_numeric}
-use Rattle.ct_print.proofs.TextWords.{Reads, beside, words_from}
+use Rattle.ct_print.proofs.Spoken.{list_numeric}
+use Rattle.ct_print.proofs.TextWords.{Reads, beside, word_before, words_from}
 
 -- ---- of whom
 
-whom_reads : (w : Whom) → WhomFits w → Reads (whom_text w) (whom_text w ∷ [])
+whom_says : (w : Whom) → WhomFits w → Says (whom_text w) (whom_text w ∷ [])
 unfolding whom_text
-whom_reads (whom.One p) h = number_reads max_u8 p (omega arith) h
-whom_reads (whom.Some set) h = numeric_reads (list_text set) (list_numeric set h)
-whom_reads whom.All h = said (codes "all") refl
-whom_reads whom.Any h = said (codes "any") refl
-whom_reads whom.Up h = said (codes "up") refl
+whom_says (whom.Some set) h = numeric_says (list_text set) (list_numeric set h)
+whom_says _ h = search spoken
 
 whom_back : (w : Whom) → WhomFits w → whom_of (whom_text w) ≡ Some w
 unfolding whom_of whom_text
@@ -54,19 +51,15 @@ whom_back (whom.Some set) h =
       back.0,
       back.1,
     ) refl
-whom_back whom.All h = refl
-whom_back whom.Any h = refl
-whom_back whom.Up h = refl
+whom_back _ h = refl
 
--- it is neither `and`, `ever` nor `never`
+-- it is neither `ever` nor `never`
 record IsOther (word : Word) : Type 0 where
-  no_and : is_and word ≡ false
   no_ever : bytes_eq word (codes "ever") ≡ false
   no_never : bytes_eq word (codes "never") ≡ false
 
 numeric_is_other : (word : Word) → IsNumeric word → IsOther word
 numeric_is_other word h = record {
-  no_and = numeric_other word 97 _ refl h;
   no_ever = numeric_other word 101 _ refl h;
   no_never = numeric_other word 110 _ refl h;
 }
@@ -75,9 +68,7 @@ whom_other : (w : Whom) → WhomFits w → IsOther (whom_text w)
 unfolding whom_text
 whom_other (whom.One p) h = numeric_is_other (decimal p) (decimal_numeric p (omega arith))
 whom_other (whom.Some set) h = numeric_is_other (list_text set) (list_numeric set h)
-whom_other whom.All h = record { no_and = refl; no_ever = refl; no_never = refl }
-whom_other whom.Any h = record { no_and = refl; no_ever = refl; no_never = refl }
-whom_other whom.Up h = record { no_and = refl; no_ever = refl; no_never = refl }
+whom_other _ h = record { no_ever = refl; no_never = refl }
 
 -- ---- terms
 
@@ -89,18 +80,17 @@ when_words Never = codes "never" ∷ []
 abbrev pub term_words : Term → List Word
 term_words term = when_words term.when ++ (whom_text term.whom ∷ claim_words term.claim)
 
-under : (when : When) (text : List ℕ) (words : List Word) → Reads text words → Reads (when_text when ++ text) (when_words when ++ words)
+under : (when : When) (text : List ℕ) (words : List Word) → Says text words → Says (when_text when ++ text) (when_words when ++ words)
 unfolding when_text
 under Now text words h = h
-under Ever text words h = led (codes "ever") text words refl h
-under Never text words h = led (codes "never") text words refl h
+under Ever text words h = led (codes "ever") text words (said _ refl refl) h
+under Never text words h = led (codes "never") text words (said _ refl refl) h
 
-term_reads : (term : Term) → TermFits term → Reads (term_text term) (term_words term)
+term_says : (term : Term) → TermFits term → Says (term_text term) (term_words term)
 unfolding term_text
-term_reads term h =
+term_says term h =
     under term.when _ (whom_text term.whom ∷ claim_words term.claim)
-    (beside (whom_text term.whom) (claim_text term.claim) (whom_text term.whom ∷ []) (claim_words term.claim) (whom_reads term.whom h.0)
-    (claim_reads term.claim h.1))
+    (led (whom_text term.whom) (claim_text term.claim) (claim_words term.claim) (whom_says term.whom h.0) (claim_says term.claim h.1))
 
 claimed_back : (term : Term) (what : _) → TermFits term →
     claimed term.when what (whom_text term.whom ∷ claim_words term.claim) ≡ Ok term
@@ -119,16 +109,6 @@ when_back term Never h e = rw (← e) (claimed_back term _ h)
 term_back : (term : Term) → TermFits term → term_of (term_words term) ≡ Ok term
 term_back term h = when_back term term.when h refl
 
-when_no_and : (when : When) → HasNoAnd (when_words when)
-when_no_and Now = refl
-when_no_and Ever = refl
-when_no_and Never = refl
-
-term_no_and : (term : Term) → TermFits term → HasNoAnd (term_words term)
-term_no_and term h =
-    both_no_and (when_words term.when) _ (when_no_and term.when)
-    (rw ((whom_other term.whom h.0).no_and) (claim_no_and term.claim h.1))
-
 -- ---- goals
 
 -- an `and` before the words of each term
@@ -142,16 +122,16 @@ goal_words (term ∷ terms) = term_words term ++ more_words terms
 
 pub goal_reads : (terms : List Term) → GoalFits terms → Reads (terms_text terms) (goal_words terms)
 goal_reads [] h = absurd h
-goal_reads (term ∷ []) h = rw (append-nil (term_text term), append-nil (term_words term)) (term_reads term h)
+goal_reads (term ∷ []) h = rw (append-nil (term_text term), append-nil (term_words term)) (term_says term h).reads
 goal_reads (term ∷ next ∷ terms) h =
     beside (term_text term) (codes "and" ++ 32 ∷ terms_text (next ∷ terms)) (term_words term) (codes "and" ∷ goal_words (next ∷ terms))
-    (term_reads term h.0) (led (codes "and") (terms_text (next ∷ terms)) (goal_words (next ∷ terms)) refl (goal_reads (next ∷ terms) h.1))
+    (term_says term h.0).reads (word_before (codes "and") _ _ refl (goal_reads (next ∷ terms) h.1))
 
 parts_back : (terms : List Term) → GoalFits terms → parts_of (goal_words terms) ≡ map term_words terms
 parts_back [] h = absurd h
-parts_back (term ∷ []) h = rw (append-nil (term_words term)) (part_alone (term_words term) (term_no_and term h))
+parts_back (term ∷ []) h = rw (append-nil (term_words term)) (part_alone (term_words term) (term_says term h).no_and)
 parts_back (term ∷ next ∷ terms) h =
-    part_before (term_words term) (goal_words (next ∷ terms)) (term_no_and term h.0)
+    part_before (term_words term) (goal_words (next ∷ terms)) (term_says term h.0).no_and
     ∙ ap (λ (parts : List (List Word)). term_words term ∷ parts) (parts_back (next ∷ terms) h.1)
 
 terms_back : (terms : List Term) → GoalFits terms → terms_of (map term_words terms) ≡ Ok terms

@@ -77,6 +77,11 @@ word_reads (c ∷ cs) h =
       plain = rw plain refl;
     }
 
+-- a word, and a text behind it
+pub word_before : (word : Word) (text : List ℕ) (words : List Word) → is_word word ≡ true → Reads text words →
+    Reads (word ++ 32 ∷ text) (word ∷ words)
+word_before word text words h k = beside word text (word ∷ []) words (word_reads word h) k
+
 -- a word that begins with a digit begins no comment
 pub numeric_word : (word : Word) → begins_with_digit word ≡ true → list_all is_letter word ≡ true → is_word word ≡ true
 numeric_word [] first letters = absurd (true≢false (sym first))
