@@ -7,36 +7,13 @@ use Rattle.std.proofs.lemmas.List.Sums.{take_while-cons}
 use Rattle.std.proofs.lemmas.List.Splits.{slice_split_at, slice_split_none, slice_split-cons_yes, slice_split-cons_no, length-slice_split}
 use Rattle.ct_grammar.specs.Words.{Word, is_blank, is_nothing, begins_comment, all_words, words_of}
 use Rattle.ct_grammar.specs.Lines.{line_of}
-
--- ---- parts before and behind a byte that parts
-
-onto_append : (x : ℕ) (parts others : List (List ℕ)) → 0 < length parts → onto_first x (parts ++ others) ≡ onto_first x parts ++ others
-onto_append x [] others h = absurd (omega arith)
-onto_append x (part ∷ parts) others h = refl
-
-apart_one : (p : ℕ → Bool) (x y : ℕ) (xs ys : List ℕ) (b : Bool) → p x ≡ b →
-    slice_split p (xs ++ y ∷ ys) ≡ slice_split p xs ++ slice_split p ys →
-    slice_split p (x ∷ (xs ++ y ∷ ys)) ≡ slice_split p (x ∷ xs) ++ slice_split p ys
-apart_one p x y xs ys true e same =
-    slice_split-cons_yes p x (xs ++ y ∷ ys) e ∙ ap (λ (parts : List (List ℕ)). [] ∷ parts) same
-    ∙ sym (ap (λ (parts : List (List ℕ)). parts ++ slice_split p ys) (slice_split-cons_yes p x xs e))
-apart_one p x y xs ys false e same =
-    slice_split-cons_no p x (xs ++ y ∷ ys) e ∙ ap (onto_first x) same
-    ∙ onto_append x (slice_split p xs) (slice_split p ys) (omega (arith, length-slice_split p xs))
-    ∙ sym (ap (λ (parts : List (List ℕ)). parts ++ slice_split p ys) (slice_split-cons_no p x xs e))
-
-apart : (p : ℕ → Bool) (y : ℕ) (ys : List ℕ) → p y ≡ true → (xs : List ℕ) →
-    slice_split p (xs ++ y ∷ ys) ≡ slice_split p xs ++ slice_split p ys
-apart p y ys e [] =
-    slice_split-cons_yes p y ys e
-    ∙ sym (ap (λ (parts : List (List ℕ)). parts ++ slice_split p ys) (slice_split_none p [] (All-nil _)))
-apart p y ys e (x ∷ xs) = apart_one p x y xs ys (p x) refl (apart p y ys e xs)
+use Rattle.ct_print.proofs.TextWords.{split_apart}
 
 -- the words before a blank and those behind it
 pub words_apart : (line rest : List ℕ) → all_words (line ++ 32 ∷ rest) ≡ all_words line ++ all_words rest
 unfolding all_words
 words_apart line rest =
-    ap (filter (λ part. not (is_nothing part))) (apart is_blank 32 rest refl line)
+    ap (filter (λ part. not (is_nothing part))) (split_apart is_blank 32 refl line rest)
     ∙ filter-append (λ part. not (is_nothing part)) (slice_split is_blank line) (slice_split is_blank rest)
 
 -- ---- a comment

@@ -151,17 +151,7 @@ taken_on old new line w h utf8 brace taken is = by_one (one_line line) refl take
     by_line : (r : Result Line Misfit) → one_line line ≡ true → line_of line ≡ r → is_met_in w r ≡ true → Leads new w
     by_line (Ok (Plays (Expect goal))) one reads met =
         goal_on old new line w goal h utf8 brace one reads (expected_taken w goal met) is
-    by_line (Ok Blank) one reads met = absurd (cc)
-    by_line (Ok (Gives given)) one reads met = absurd (cc)
-    by_line (Ok (Plays (Acts who act))) one reads met = absurd (cc)
-    by_line (Ok (Plays (Stated who act said))) one reads met = absurd (cc)
-    by_line (Ok (Plays (Turns who n set))) one reads met = absurd (cc)
-    by_line (Ok (Plays (Settle who set))) one reads met = absurd (cc)
-    by_line (Ok (Plays (Until who set goal))) one reads met = absurd (cc)
-    by_line (Ok (Plays (Cut sides))) one reads met = absurd (cc)
-    by_line (Ok (Plays Heal)) one reads met = absurd (cc)
-    by_line (Ok (Plays (Ask question))) one reads met = absurd (cc)
-    by_line (Err misfit) one reads met = absurd (cc)
+    by_line _ one reads met = absurd (cc)
 
     by_one : (b : Bool) → one_line line ≡ b → b && is_met_in w (line_of line) ≡ true → Leads new w
     by_one true one met = by_line (line_of line) one refl met

@@ -20,12 +20,9 @@ use Rattle.ct_listing.proofs.Pieces.{decimal_piece, pair_piece, marks_line, line
 pub decimal_line : (n : ℕ) → one_line (decimal n) ≡ true
 decimal_line n = marks_line (decimal n) (decimal_piece n).marks
 
-pub two_lines : (a b : List ℕ) → one_line a ≡ true → one_line b ≡ true → one_line (text_of (a ∷ b ∷ [])) ≡ true
+-- a word, and a text behind it
+pub two_lines : (a b : List ℕ) → one_line a ≡ true → one_line b ≡ true → one_line (a ++ 32 ∷ b) ≡ true
 two_lines a b h k = line_append a (32 ∷ b) h k
-
-pub three_lines : (a b c : List ℕ) → one_line a ≡ true → one_line b ≡ true → one_line c ≡ true →
-    one_line (text_of (a ∷ b ∷ c ∷ [])) ≡ true
-three_lines a b c h k l = line_append a (32 ∷ (b ++ 32 ∷ c)) h (line_append b (32 ∷ c) k l)
 
 message_line : (o n : ℕ) → one_line (message_word o n) ≡ true
 unfolding message_word
@@ -37,17 +34,13 @@ place_line i r = marks_line (concat (decimal i ∷ (47 ∷ []) ∷ decimal r ∷
 
 carried_line : (carried : Carried) → one_line (carried_text carried) ≡ true
 unfolding carried_text
-carried_line (Data o n) = two_lines (codes "data") (message_word o n) refl (message_line o n)
-carried_line (Est i r) = two_lines (codes "est") (place_word i r) refl (place_line i r)
-carried_line (Prop i r) = two_lines (codes "prop") (place_word i r) refl (place_line i r)
-carried_line (Ack i r) = two_lines (codes "ack") (place_word i r) refl (place_line i r)
-carried_line (Nack i r) = two_lines (codes "nack") (place_word i r) refl (place_line i r)
-carried_line (Dec i r) = two_lines (codes "dec") (place_word i r) refl (place_line i r)
+carried_line (Data o n) = message_line o n
+carried_line _ = place_line _ _
 
 sent_line : (carried : Carried) (from : Option ℕ) → one_line (sent_text carried from) ≡ true
 unfolding sent_text
 sent_line carried None = carried_line carried
-sent_line carried (Some p) = three_lines (carried_text carried) (codes "from") (decimal p) (carried_line carried) refl (decimal_line p)
+sent_line carried (Some p) = two_lines (carried_text carried) (codes "from" ++ 32 ∷ decimal p) (carried_line carried) (decimal_line p)
 
 pick_line : (pick : Pick) → one_line (pick_text pick) ≡ true
 unfolding pick_text
@@ -56,24 +49,11 @@ pick_line (First carried from) = sent_line carried from
 
 command_line : (command : Command) → one_line (command_text command) ≡ true
 unfolding command_text
-command_line (Set r v) = three_lines (codes "set") (decimal r) (decimal v) refl (decimal_line r) (decimal_line v)
-command_line (Add r v) = three_lines (codes "add") (decimal r) (decimal v) refl (decimal_line r) (decimal_line v)
-command_line (Copy f t) = three_lines (codes "copy") (decimal f) (decimal t) refl (decimal_line f) (decimal_line t)
+command_line (Set r v) = two_lines (decimal r) (decimal v) (decimal_line r) (decimal_line v)
+command_line (Add r v) = two_lines (decimal r) (decimal v) (decimal_line r) (decimal_line v)
+command_line (Copy f t) = two_lines (decimal f) (decimal t) (decimal_line f) (decimal_line t)
 
 pub act_line : (act : Act) → IsLone act → one_line (act_text act) ≡ true
 unfolding act_text
-act_line (Submit command) h = two_lines (codes "submit") (command_text command) refl (command_line command)
-act_line (Receive pick) h = two_lines (codes "receive") (pick_text pick) refl (pick_line pick)
-act_line Begin h = refl
-act_line Enter h = refl
-act_line (Choose p) h = two_lines (codes "choose") (decimal p) refl (decimal_line p)
-act_line Adopt h = refl
-act_line Suspect h = refl
-act_line Conclude h = refl
-act_line Deliver h = refl
-act_line Follow h = refl
-act_line Crash h = refl
-act_line (Postpone pick) h = two_lines (codes "postpone") (pick_text pick) refl (pick_line pick)
-act_line (Lose pick) h = two_lines (codes "lose") (pick_text pick) refl (pick_line pick)
-act_line (Repeat pick) h = two_lines (codes "repeat") (pick_text pick) refl (pick_line pick)
 act_line (LoseFrom set) h = absurd h
+act_line _ h = search (command_line, pick_line, decimal_line)

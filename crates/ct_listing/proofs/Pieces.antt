@@ -12,7 +12,8 @@ use Rattle.ct_grammar.specs.Words.{Word, is_blank, is_nothing, begins_comment, a
 use Rattle.ct_judging.specs.Reading.{begins_record}
 use Rattle.ct_grammar.specs.Texts.{is_feed}
 use Rattle.ct_listing.specs.Leading.{one_line}
-use Rattle.ct_listing.proofs.Comments.{words_apart}
+use Rattle.ct_names.proofs.Lists.{both-left, both-right}
+use Rattle.ct_print.proofs.TextWords.{is_letter, is_word, joined_reads, words_from}
 
 -- a byte that is no letter, and neither parts words nor begins a comment or a record
 abbrev pub is_mark : ℕ → Bool
@@ -84,62 +85,38 @@ pair_piece m c n e =
 
 -- ---- words
 
-no_blank : (c : ℕ) → is_mark c ≡ true → is_blank c ≡ false
-no_blank c e = grind (arith, nat_tests)
+mark_letter : (c : ℕ) → is_mark c ≡ true → is_letter c ≡ true
+mark_letter c e = grind (arith, nat_tests)
 
-no_comment : (word : Word) → IsPiece word → begins_comment word ≡ false
-no_comment [] h = absurd (omega (arith, h.some))
-no_comment (c ∷ cs) h = first_mark c cs (is_mark c) refl h.marks
-  where
-    first_mark : (c : ℕ) (cs : List ℕ) (b : Bool) → is_mark c ≡ b → list_all is_mark (c ∷ cs) ≡ true → begins_comment (c ∷ cs) ≡ false
-    first_mark c cs true e h =
-        let other : eqb c 35 ≡ false = grind (arith, nat_tests) in
-        rw other refl
-    first_mark c cs false e h = absurd (cc)
+marks_letters : (word : Word) → list_all is_mark word ≡ true → list_all is_letter word ≡ true
+marks_letters [] h = refl
+marks_letters (c ∷ cs) h =
+    rw (mark_letter c (both-left (is_mark c) (list_all is_mark cs) h)) (marks_letters cs (both-right (is_mark c) (list_all is_mark cs) h))
 
-piece_words : (word : Word) → IsPiece word → all_words word ≡ word ∷ []
-unfolding all_words
-piece_words word h =
-    let none : All (λ (c : ℕ). is_blank c ≡ false) word =
-    λ k d l. no_blank (get_or word k d) (AllPass-from_list_all is_mark word h.marks k d l) in
-    rw (slice_split_none is_blank word none, some_word word h.some) refl
-  where
-    some_word : (word : Word) → 0 < length word → is_nothing word ≡ false
-    some_word [] h = absurd (omega arith)
-    some_word (c ∷ cs) h = refl
+piece_word : (word : Word) → IsPiece word → is_word word ≡ true
+piece_word [] h = absurd (omega (arith, h.some))
+piece_word (c ∷ cs) h =
+    let mark : is_mark c ≡ true = both-left (is_mark c) (list_all is_mark cs) h.marks in
+    let other : eqb c 35 ≡ false = grind (arith, nat_tests) in
+    rw (marks_letters (c ∷ cs) h.marks, other) refl
 
-pub joined_words : (word : Word) (words : List Word) → Pieces (word ∷ words) → all_words (join_with_byte 32 (word ∷ words)) ≡ word ∷ words
-joined_words word [] h = piece_words word h.0
-joined_words word (next ∷ words) h =
-    words_apart word (join_with_byte 32 (next ∷ words))
-    ∙ rw (piece_words word h.0, joined_words next words h.1) refl
-
-all_kept : (words : List Word) → Pieces words → take_while (λ word. not (begins_comment word)) words ≡ words
-all_kept [] h = refl
-all_kept (word ∷ words) h = rw (take_while-cons, no_comment word h.0, all_kept words h.1) refl
+pieces_words : (words : List Word) → Pieces words → list_all is_word words ≡ true
+pieces_words [] h = refl
+pieces_words (word ∷ words) h = rw (piece_word word h.0) (pieces_words words h.1)
 
 -- pieces with a space between each two are the words of the text
-pub words_back : (word : Word) (words : List Word) → Pieces (word ∷ words) → words_of (join_with_byte 32 (word ∷ words)) ≡ word ∷ words
-unfolding words_of
-words_back word words h = rw (joined_words word words h) (all_kept (word ∷ words) h)
+pub words_back : (words : List Word) → Pieces words → words_of (join_with_byte 32 words) ≡ words
+words_back words h = words_from (join_with_byte 32 words) words (joined_reads words (pieces_words words h))
 
 -- ---- one line
 
 mark_line : (c : ℕ) → is_mark c ≡ true → not (is_feed c) ≡ true
 mark_line c e = grind (arith, nat_tests)
 
-marked_line : (c : ℕ) (cs : List ℕ) (b : Bool) → is_mark c ≡ b → list_all is_mark (c ∷ cs) ≡ true →
-    (list_all is_mark cs ≡ true → one_line cs ≡ true) → one_line (c ∷ cs) ≡ true
-marked_line c cs true e h rest =
-    let behind : list_all is_mark cs ≡ true = rw e at h in
-    rw (mark_line c e, rest behind) refl
-marked_line c cs false e h rest =
-    let no : false ≡ true = rw e at h in
-    absurd (cc)
-
 pub marks_line : (word : Word) → list_all is_mark word ≡ true → one_line word ≡ true
 marks_line [] h = refl
-marks_line (c ∷ cs) h = marked_line c cs (is_mark c) refl h (marks_line cs)
+marks_line (c ∷ cs) h =
+    rw (mark_line c (both-left (is_mark c) (list_all is_mark cs) h)) (marks_line cs (both-right (is_mark c) (list_all is_mark cs) h))
 
 pub line_append : (xs ys : List ℕ) → one_line xs ≡ true → one_line ys ≡ true → one_line (xs ++ ys) ≡ true
 line_append xs ys h k = list_all-append (λ c. not (is_feed c)) xs ys ∙ rw (h, k) refl
@@ -154,10 +131,6 @@ joined_line (word ∷ next ∷ words) h =
 
 pub no_brace : (word rest : Word) → IsPiece word → begins_record (word ++ rest) ≡ false
 no_brace [] rest h = absurd (omega (arith, h.some))
-no_brace (c ∷ cs) rest h = first_mark (is_mark c) refl h.marks
-  where
-    first_mark : (b : Bool) → is_mark c ≡ b → list_all is_mark (c ∷ cs) ≡ true → eqb c 123 ≡ false
-    first_mark true e h = grind (arith, nat_tests)
-    first_mark false e h =
-        let no : false ≡ true = rw e at h in
-        absurd (cc)
+no_brace (c ∷ cs) rest h =
+    let mark : is_mark c ≡ true = both-left (is_mark c) (list_all is_mark cs) h.marks in
+    grind (arith, nat_tests)

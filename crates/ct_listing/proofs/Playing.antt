@@ -49,20 +49,8 @@ unfolding is_near
 near_all s p k e = rw e (beside p (sender_of s.rehearsal k))
 
 no_bar : (s : Played) (step : Step) → s.sides ≡ whole → barred s step ≡ None
-no_bar s (step.Submit p c) e = refl
 no_bar s (step.Receive p k) e = rw (near_all s p k e) refl
-no_bar s (step.Begin p) e = refl
-no_bar s (step.Enter p) e = refl
-no_bar s (step.Choose p q) e = refl
-no_bar s (step.Adopt p) e = refl
-no_bar s (step.Suspect p) e = refl
-no_bar s (step.Conclude p) e = refl
-no_bar s (step.Deliver p) e = refl
-no_bar s (step.Follow p) e = refl
-no_bar s (step.Crash p) e = refl
-no_bar s (step.Postpone p k) e = refl
-no_bar s (step.Lose p k) e = refl
-no_bar s (step.Repeat p k) e = refl
+no_bar s _ e = refl
 
 -- ---- acts
 
@@ -71,21 +59,8 @@ unfolding after_step stepped
 step_joins s step e allowed = rw (allowed, no_bar s step e) refl
 
 done_lone : (s : Played) (p : ℕ) (act : Act) → IsLone act → done s p act ≡ go_on (step_of s.rehearsal p act) (after_step s)
-done_lone s p (Submit command) h = refl
-done_lone s p (Receive pick) h = refl
-done_lone s p Begin h = refl
-done_lone s p Enter h = refl
-done_lone s p (Choose from) h = refl
-done_lone s p Adopt h = refl
-done_lone s p Suspect h = refl
-done_lone s p Conclude h = refl
-done_lone s p Deliver h = refl
-done_lone s p Follow h = refl
-done_lone s p Crash h = refl
-done_lone s p (Postpone pick) h = refl
-done_lone s p (Lose pick) h = refl
-done_lone s p (Repeat pick) h = refl
 done_lone s p (LoseFrom set) h = absurd h
+done_lone s p _ h = refl
 
 -- an act whose step is allowed
 pub lone_played : (s : Played) (p : ℕ) (act : Act) (step : Step) → IsLone act → s.sides ≡ whole → step_of s.rehearsal p act ≡ Ok step →

@@ -40,7 +40,7 @@ module _ (s : Played) (p : ℕ) where
   instance_there i member e small = record {
     same = ap decimal (sym (rw (member, instance_of) at e));
     fits = small;
-    line = two_lines (codes "instance") (decimal i) refl (decimal_line i);
+    line = decimal_line i;
   }
 
   pub idle_there : is_member s.rehearsal.setting.members p ≡ true → place_of s.rehearsal p ≡ None → IsThere s p Idle
@@ -56,15 +56,13 @@ module _ (s : Played) (p : ℕ) where
   round_there r phase e small = record {
     same = rw e refl;
     fits = small;
-    line = two_lines (codes "round") (decimal r) refl (decimal_line r);
+    line = decimal_line r;
   }
 
   pub phase_there : (r : ℕ) (phase : Phase) → place_of s.rehearsal p ≡ Some (r, phase) → IsThere s p (InPhase phase)
   unfolding fact_text
   phase_there r Rest e = record { same = rw e refl; fits = tt; line = refl }
-  phase_there r Gather e = record { same = rw e refl; fits = tt; line = refl }
-  phase_there r Wait e = record { same = rw e refl; fits = tt; line = refl }
-  phase_there r Tally e = record { same = rw e refl; fits = tt; line = refl }
+  phase_there r _ e = record { same = rw e refl; fits = tt; line = refl }
 
   -- the texts that are appended to nothing
   pub delivered_pushed : (old text kind : List ℕ) → old ≡ [] → text ≡ old ++ there s p (Delivered kind) → IsThere s p (Delivered text)

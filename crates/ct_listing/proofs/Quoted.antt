@@ -26,7 +26,6 @@ use Rattle.ct_print.specs.Facts.{fact_text}
 use Rattle.ct_listing.specs.Leading.{one_line}
 use Rattle.ct_print.specs.Writable.{IsQuoted}
 use Rattle.ct_listing.proofs.Pieces.{IsPiece, Pieces, is_mark, joined_line, pair_piece, words_back}
-use Rattle.ct_listing.proofs.OneLine.{two_lines}
 
 some_joined : (word : Word) (words : List Word) → IsPiece word → 0 < length (join_with_byte 32 (word ∷ words))
 some_joined word [] h = h.some
@@ -55,11 +54,8 @@ no_count what (word ∷ words) h = rw (unlike word (codes "count") h.0.marks ref
 
 no_before : (words : List Word) → Pieces words → before words ≡ None
 unfolding before
-no_before [] h = refl
-no_before (first ∷ []) h = refl
-no_before (first ∷ middle ∷ []) h = refl
 no_before (first ∷ middle ∷ second ∷ []) h = rw (unlike middle (codes "before") h.1.0.marks refl) refl
-no_before (first ∷ middle ∷ second ∷ next ∷ words) h = refl
+no_before _ h = refl
 
 plain_delivered : (words : List Word) → Pieces words → amount_claim (codes "delivered") words ≡ None
 unfolding amount_claim event_claim claimed
@@ -74,9 +70,9 @@ plain_table words h = refl
 joined_quoted : (name : Word) (word : Word) (words : List Word) → Pieces (word ∷ words) → amount_claim name (word ∷ words) ≡ None →
     IsQuoted name (join_with_byte 32 (word ∷ words))
 joined_quoted name word words h plain = record {
-  quotable = record { words = ap text_of (words_back word words h); some = some_joined word words h.0 };
-  no_and = ap (list_all (λ word. not (is_and word))) (words_back word words h) ∙ no_and (word ∷ words) h;
-  plain = ap (amount_claim name) (words_back word words h) ∙ plain;
+  quotable = record { words = ap text_of (words_back (word ∷ words) h); some = some_joined word words h.0 };
+  no_and = ap (list_all (λ word. not (is_and word))) (words_back (word ∷ words) h) ∙ no_and (word ∷ words) h;
+  plain = ap (amount_claim name) (words_back (word ∷ words) h) ∙ plain;
 }
 
 dash : Pieces ((45 ∷ []) ∷ [])
@@ -123,8 +119,7 @@ delivered_there s p text e =
       same = sym e;
       fits = subst (IsQuoted (codes "delivered")) (sym e)
           (list_quoted (codes "delivered") (map message_text (delivered (member_of s.rehearsal p))) pieces plain_delivered);
-      line = two_lines (codes "delivered") text refl
-          (ap one_line e ∙ list_line (map message_text (delivered (member_of s.rehearsal p))) pieces);
+      line = ap one_line e ∙ list_line (map message_text (delivered (member_of s.rehearsal p))) pieces;
     }
 
 pub table_there : (s : Played) (p : ℕ) (text : List ℕ) → text ≡ table_text (table (delivered (member_of s.rehearsal p))) →
@@ -136,5 +131,5 @@ table_there s p text e =
       same = sym e;
       fits = subst (IsQuoted (codes "table")) (sym e)
           (list_quoted (codes "table") (first_registers values 16) (table_pieces values 16) plain_table);
-      line = two_lines (codes "table") text refl (ap one_line e ∙ list_line (first_registers values 16) (table_pieces values 16));
+      line = ap one_line e ∙ list_line (first_registers values 16) (table_pieces values 16);
     }

@@ -41,16 +41,9 @@ part_seen left bytes text out old new read h same a =
     input_seen left bytes bytes (λ r. WritesScheduleInPart r old new) read refl (part (script bytes) text out old new h same a)
 
 fails : (fault : ShowFault) (bytes : List ℕ) → IsOfListing fault (read_part bytes) → FailsOn fault bytes
-fails (NoMember member members) bytes h = h
-fails (TooManySteps steps) bytes h = h
-fails (Unread told) bytes h = h
 fails (Program of.Reader) bytes h = tt
 fails (Program of.Write) bytes h = tt
-fails (Program (of.Replay at refusal)) bytes h = h
-fails (Program (of.Read fault)) bytes h = h
-fails (Program of.Memory) bytes h = h
-fails (Program of.Start) bytes h = h
-fails (Program of.Exchanged) bytes h = h
+fails _ bytes h = h
 
 fails_seen : (left : Option (List ℕ)) (bytes : List ℕ) (fault : ShowFault) → IfSome left (λ input. bytes ≡ read_part input) →
     IsOfListing fault bytes → IfSome left (FailsOn fault)

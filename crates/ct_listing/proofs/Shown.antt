@@ -18,7 +18,7 @@ use Rattle.ct_print.specs.Members.{who_text}
 use Rattle.ct_listing.specs.Expecting.{IsLone, fact_goal}
 use Rattle.ct_listing.specs.Leading.{one_line}
 use Rattle.ct_listing.proofs.Pieces.{decimal_piece, no_brace}
-use Rattle.ct_listing.proofs.OneLine.{act_line, decimal_line, three_lines, two_lines}
+use Rattle.ct_listing.proofs.OneLine.{act_line, decimal_line, two_lines}
 
 pub acts_line : (p : ℕ) (act : Act) → IsLone act → one_line (line_text (Plays (Acts (One p) act))) ≡ true
 unfolding line_text play_text who_text
@@ -39,7 +39,7 @@ pub expect_line : (p : ℕ) (fact : Fact) → one_line (fact_text fact) ≡ true
 unfolding line_text play_text
 expect_line p fact h =
     ap (λ (goal : List ℕ). one_line (text_of (codes "expect" ∷ goal ∷ []))) (fact_goal_text p fact)
-    ∙ three_lines (codes "expect") (decimal p) (fact_text fact) refl (decimal_line p) h
+    ∙ two_lines (decimal p) (fact_text fact) (decimal_line p) h
 
 pub expect_brace : (p : ℕ) (fact : Fact) (rest : List ℕ) → begins_record (line_text (Plays (Expect (fact_goal p fact))) ++ rest) ≡ false
 unfolding line_text play_text
@@ -47,12 +47,11 @@ expect_brace p fact rest = refl
 
 pub given_line : (given : Given) → one_line (line_text (Gives given)) ≡ true
 unfolding line_text given_text
-given_line (Members n) = two_lines (codes "members") (decimal n) refl (decimal_line n)
-given_line (Cells k) = two_lines (codes "cells") (decimal k) refl (decimal_line k)
-given_line (Batch b) = two_lines (codes "batch") (decimal b) refl (decimal_line b)
+given_line (Members n) = decimal_line n
+given_line (Cells k) = decimal_line k
+given_line (Batch b) = decimal_line b
 
 pub given_brace : (given : Given) (rest : List ℕ) → begins_record (line_text (Gives given) ++ rest) ≡ false
 unfolding line_text given_text
 given_brace (Members n) rest = refl
-given_brace (Cells k) rest = refl
-given_brace (Batch b) rest = refl
+given_brace _ rest = refl
