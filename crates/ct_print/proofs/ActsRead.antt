@@ -1,6 +1,5 @@
 -- Acts, read from their words.
-use Rattle.std.proofs.Common.{◌≡◌, ℕ, ◌<◌, ◌≤◌, ◌^◌, Bool, false, List, [], ◌∷◌, ◌++◌, length, filter, refl, sym, ap, ◌∙◌, arith}
-use Rattle.std.proofs.Common.{subst}
+use Rattle.std.proofs.Common.{◌≡◌, ℕ, ◌<◌, ◌≤◌, ◌^◌, Bool, false, List, [], ◌∷◌, ◌++◌, length, filter, refl, sym, ap, ◌∙◌, arith, subst}
 use Rattle.std.specs.Prelude.{codes, decimal, Option, Some, None, Ok}
 use Rattle.std.specs.Str.{bytes_eq}
 use Rattle.ct_names.specs.Group.{everyone}
@@ -8,8 +7,7 @@ use Rattle.ct_names.specs.MemberSet.{has_member}
 use Rattle.ct_names.specs.declared.command.Command.{Command}
 use Rattle.ct_names.specs.declared.command.Command.TheVariants.{Set, Add, Copy}
 use Rattle.ct_grammar.specs.declared.act.Act.{Act}
-use Rattle.ct_grammar.specs.declared.act.Act.TheVariants.{Choose}
-use Rattle.ct_grammar.specs.declared.act.Act.TheVariants.{Lose}
+use Rattle.ct_grammar.specs.declared.act.Act.TheVariants.{Choose, Lose}
 use Rattle.ct_grammar.specs.declared.carried.Carried.{Carried}
 use Rattle.ct_grammar.specs.declared.carried.Carried.TheVariants.{Data}
 use Rattle.ct_grammar.specs.declared.pick.Pick.{Pick}

@@ -1,6 +1,6 @@
 -- Cuts that are read can be written.
-use Rattle.std.proofs.Common.{◌≡◌, ◌≢◌, ℕ, ◌+◌, ◌-◌, ◌==◌, Bool, true, false, cond, ltb, List, [], ◌∷◌, length, take, drop}
-use Rattle.std.proofs.Common.{refl, sym, ap, ◌∙◌, arith, subst, inl, inr, eqb-true, length-set, ltb-true, ltb-false}
+use Rattle.std.proofs.Common.{◌≡◌, ◌≢◌, ℕ, ◌+◌, ◌-◌, ◌==◌, Bool, true, false, cond, ltb, List, [], ◌∷◌, length, take, drop, refl, sym, ap}
+use Rattle.std.proofs.Common.{◌∙◌, arith, subst, inl, inr, eqb-true, length-set, ltb-true, ltb-false}
 use Rattle.std.specs.Prelude.{codes, Option, Some, None, IfOk, IfSome, slice_set, option_and_then}
 use Rattle.std.specs.List.{slice_split, position_or_len}
 use Rattle.std.specs.Option.{ok_or}

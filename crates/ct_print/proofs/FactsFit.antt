@@ -6,9 +6,8 @@ use Rattle.ct_names.specs.declared.refusal.Refusal.TheVariants.{OutOfMemory, Boa
 use Rattle.ct_grammar.specs.declared.fact.Fact.TheVariants.{Received, Decided, Delivered, Table, Heard, Acked}
 use Rattle.ct_grammar.specs.declared.reason.Reason.{Reason}
 use Rattle.ct_grammar.specs.declared.reason.Reason.TheVariants.{Rules}
-use Rattle.ct_grammar.specs.Facts.{short_fact, ended, lone_act, lone_pick, lone_whole, phase_first, reason_first, refusal_of}
-use Rattle.ct_grammar.specs.Facts.{act_fact, number_fact, says_set, lone_set, some_words, quotes_words, quotable, text_fact, quoted_fact}
-use Rattle.ct_grammar.specs.Facts.{named_fact}
+use Rattle.ct_grammar.specs.Facts.{short_fact, ended, lone_act, lone_pick, lone_whole, phase_first, reason_first, refusal_of, act_fact}
+use Rattle.ct_grammar.specs.Facts.{number_fact, says_set, lone_set, some_words, quotes_words, quotable, text_fact, quoted_fact, named_fact}
 use Rattle.ct_grammar.specs.Claims.{step_claim, event_claim, amount_claim}
 use Rattle.ct_grammar.specs.Leading.{over}
 use Rattle.std.proofs.lemmas.Bool.{cond_both}
@@ -18,10 +17,8 @@ use Rattle.ct_grammar.specs.Reasons.{full_of, step_reason, reason_of}
 use Rattle.ct_grammar.specs.Words.{Word, words_of, text_of}
 use Rattle.ct_print.specs.Writable.{PickFits, ActFits, FactFits, IsQuoted, IsSetText, IsRules}
 use Rattle.ct_print.proofs.NoAnd.{HasNoAnd}
-use Rattle.ct_print.proofs.Readable.{either, mapped, steps, May, Gives}
-use Rattle.ct_print.proofs.Readable.{AreWords}
-use Rattle.ct_print.proofs.Readable.{words_again}
-use Rattle.ct_print.proofs.Readable.{whole_first_fits, pick_fits, act_fits, text_is_quotable}
+use Rattle.ct_print.proofs.Readable.{either, mapped, steps, May, Gives, AreWords, words_again, whole_first_fits, pick_fits, act_fits}
+use Rattle.ct_print.proofs.Readable.{text_is_quotable}
 
 -- ---- reasons
 

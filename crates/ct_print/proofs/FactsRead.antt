@@ -14,17 +14,16 @@ use Rattle.std.proofs.lemmas.Slice.Eq.{bytes_eq-Decides}
 use Rattle.ct_model.specs.declared.phase.Phase.TheVariants.{Rest}
 use Rattle.ct_grammar.specs.declared.act.Act.{Act}
 use Rattle.ct_grammar.specs.declared.fact.Fact.{Fact}
-use Rattle.ct_grammar.specs.declared.fact.Fact.TheVariants.{Up, Crashed, Idle, Instance, Round, Phase as InPhase}
-use Rattle.ct_grammar.specs.declared.fact.Fact.TheVariants.{Received, Decided, Delivered, Table, Refuses, May}
-use Rattle.ct_grammar.specs.declared.fact.Fact.TheVariants.{Waiting, Waits, Heard, Acked, Estimate}
+use Rattle.ct_grammar.specs.declared.fact.Fact.TheVariants.{Up, Crashed, Idle, Instance, Round, Phase as InPhase, Received, Decided}
+use Rattle.ct_grammar.specs.declared.fact.Fact.TheVariants.{Delivered, Table, Refuses, May, Waiting, Waits, Heard, Acked, Estimate}
 use Rattle.ct_grammar.specs.declared.pick.Pick.{Pick}
 use Rattle.ct_grammar.specs.declared.reason.Reason.{Reason}
 use Rattle.ct_grammar.specs.declared.reason.Reason.TheVariants.{Rules}
 use Rattle.ct_grammar.specs.declared.who.Who.{Who}
 use Rattle.ct_grammar.specs.declared.who.Who.TheVariants.{One, Some as Several, All}
 use Rattle.ct_grammar.specs.Facts.{phase_of, short_fact, ended, lone_act, lone_pick, lone_whole, phase_first, reason_first, refusal_of}
-use Rattle.ct_grammar.specs.Facts.{act_fact}
-use Rattle.ct_grammar.specs.Facts.{number_fact, says_set, lone_set, some_words, quotes_words, quotable, text_fact, quoted_fact, named_fact}
+use Rattle.ct_grammar.specs.Facts.{act_fact, number_fact, says_set, lone_set, some_words, quotes_words, quotable, text_fact, quoted_fact}
+use Rattle.ct_grammar.specs.Facts.{named_fact}
 use Rattle.ct_grammar.specs.Goals.{is_and}
 use Rattle.ct_grammar.specs.Leading.{over}
 use Rattle.ct_grammar.specs.Numbers.{max_u8, max_u32, number_of, number_in, members_of, has_comma}
@@ -40,8 +39,7 @@ use Rattle.ct_print.proofs.Numeric.{numeric_other, decimal_numeric, decimal_digi
 use Rattle.ct_print.proofs.Parts.{AreSmall, numbers_text, members_back, alone_no_comma, list_has_comma}
 use Rattle.ct_print.proofs.TextWords.{Reads}
 use Rattle.ct_print.proofs.NoAnd.{Says, said, says_beside, led, spoken}
-use Rattle.ct_print.proofs.Spoken.{pick_words, act_words, pick_says, act_says, quoted_reads, small_members}
-use Rattle.ct_print.proofs.Spoken.{list_numeric}
+use Rattle.ct_print.proofs.Spoken.{pick_words, act_words, pick_says, act_says, quoted_reads, small_members, list_numeric}
 
 -- ---- quoted texts
 
@@ -82,6 +80,12 @@ some_of text h = go (words_of text) refl
         let nothing : text ≡ [] = sym h.words ∙ ap text_of e in
         absurd (omega (arith, h.some, ap length nothing))
     go (w ∷ ws) e = refl
+
+text_again : (text : List ℕ) → IsQuotable text → text_of (words_of text) ≡ text
+text_again text h = h.words
+
+set_again : (text : List ℕ) → IsSetText text → says_set text ≡ true
+set_again text h = h.set
 
 -- ---- members
 
@@ -160,9 +164,6 @@ fact_name (Estimate quoted) = codes "estimate"
 
 -- the words behind the name
 abbrev pub fact_rest : Fact → List Word
-fact_rest Up = []
-fact_rest Crashed = []
-fact_rest Idle = []
 fact_rest (Instance i) = decimal i ∷ []
 fact_rest (Round r) = decimal r ∷ []
 fact_rest (InPhase phase) = phase_word phase ∷ []
@@ -177,6 +178,7 @@ fact_rest (Waits pick) = pick_words pick
 fact_rest (Heard quoted) = quoted ∷ []
 fact_rest (Acked quoted) = quoted ∷ []
 fact_rest (Estimate quoted) = words_of quoted
+fact_rest _ = []
 
 abbrev pub fact_words : Fact → List Word
 fact_words fact = fact_name fact ∷ fact_rest fact
@@ -213,12 +215,5 @@ refusal_back act reason h k =
 pub fact_back : (fact : Fact) → FactFits fact → named_fact (fact_name fact) (fact_rest fact) ≡ Ok fact
 unfolding named_fact quotable quoted_fact quotes_words text_fact number_fact act_fact short_fact phase_first phase_of lone_set over
 fact_back (InPhase Rest) h = refl
-fact_back (Received quoted) h = rw (some_of quoted h.quotable, h.quotable.words) refl
-fact_back (Decided quoted) h = rw (some_of quoted h.quotable, h.quotable.words) refl
-fact_back (Delivered quoted) h = rw (some_of quoted h.quotable, h.quotable.words) refl
-fact_back (Table quoted) h = rw (some_of quoted h.quotable, h.quotable.words) refl
 fact_back (Refuses act reason) h = refusal_back act reason h.0 h.1
-fact_back (Heard quoted) h = rw h.set refl
-fact_back (Acked quoted) h = rw h.set refl
-fact_back (Estimate quoted) h = rw (some_of quoted h.quotable, h.quotable.words) refl
-fact_back _ h = first_of (search, simp (alone_back, act_alone, pick_alone))
+fact_back _ h = search (some_of, text_again, set_again, alone_back, act_alone, pick_alone)

@@ -11,8 +11,7 @@ use Rattle.ct_grammar.specs.declared.reason.Reason.{Reason}
 use Rattle.ct_grammar.specs.declared.term.Term.{Term}
 use Rattle.ct_grammar.specs.declared.term.When.{When}
 use Rattle.ct_grammar.specs.Claims.{extent_of, counted, at_least, one_number, decided, name_of, in_order, before, delivered, chosen}
-use Rattle.ct_grammar.specs.Claims.{refused_choice, refused, word_alone, followed, step_claim, event_claim, amount_claim, or_fact}
-use Rattle.ct_grammar.specs.Claims.{claim_of}
+use Rattle.ct_grammar.specs.Claims.{refused_choice, refused, word_alone, followed, step_claim, event_claim, amount_claim, or_fact, claim_of}
 use Rattle.ct_grammar.specs.Facts.{named_fact}
 use Rattle.ct_grammar.specs.Goals.{is_and, whom_of, claimed, term_of, parts_of, told_before_and, terms_of, goal_in, goal_of}
 use Rattle.ct_grammar.specs.Numbers.{max_u32}
@@ -20,8 +19,8 @@ use Rattle.ct_grammar.specs.Words.{Word, words_of}
 use Rattle.ct_print.specs.Writable.{IsCounted, IsRules, ClaimFits, NameFits, WhomFits, TermFits, GoalFits}
 use Rattle.ct_print.proofs.FactsFit.{alone_fits, fact_fits, reason_rules}
 use Rattle.ct_print.proofs.NoAnd.{HasNoAnd}
-use Rattle.ct_print.proofs.Readable.{steps, ok_weaker, mapped, May, Gives}
-use Rattle.ct_print.proofs.Readable.{AreWords, words_behind, number_within, two_within, members_are_set}
+use Rattle.ct_print.proofs.Readable.{steps, ok_weaker, mapped, May, Gives, AreWords, words_behind, number_within, two_within}
+use Rattle.ct_print.proofs.Readable.{members_are_set}
 use Rattle.ct_print.proofs.TextWords.{is_word, words_are_words}
 
 -- the claim, where there is one, can be written

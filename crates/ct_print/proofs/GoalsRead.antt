@@ -14,8 +14,7 @@ use Rattle.ct_grammar.specs.declared.fact.Fact.{Fact}
 use Rattle.ct_grammar.specs.declared.fact.Fact.TheVariants.{Received, Decided, Delivered, Refuses}
 use Rattle.ct_grammar.specs.declared.reason.Reason.{Reason}
 use Rattle.ct_grammar.specs.Claims.{extent_of, counted, at_least, one_number, decided, name_of, in_order, before, delivered, chosen}
-use Rattle.ct_grammar.specs.Claims.{refused_choice, refused, word_alone, followed, step_claim, event_claim, amount_claim, or_fact}
-use Rattle.ct_grammar.specs.Claims.{claim_of}
+use Rattle.ct_grammar.specs.Claims.{refused_choice, refused, word_alone, followed, step_claim, event_claim, amount_claim, or_fact, claim_of}
 use Rattle.ct_grammar.specs.Facts.{named_fact}
 use Rattle.ct_grammar.specs.Leading.{over}
 use Rattle.ct_grammar.specs.Numbers.{max_u8, max_u32}
@@ -128,14 +127,9 @@ amount_back : (what : Amount) (extent : Extent) → AmountFits what extent →
     claim_of (amount_words what ++ extent_words extent) ≡ Ok (claims.Amount what extent)
 unfolding claim_of or_fact amount_claim event_claim decided delivered
 amount_back amount.Instance (Exactly n) h = absurd h.0
-amount_back amount.Instance (AtLeast n) h = rw (at_least_back _ n h) refl
 amount_back amount.Round (Exactly n) h = absurd h.0
-amount_back amount.Round (AtLeast n) h = rw (at_least_back _ n h) refl
 amount_back amount.Waiting (Exactly n) h = absurd h.0
-amount_back amount.Waiting (AtLeast n) h = rw (at_least_back _ n h) refl
-amount_back amount.Received extent h = rw (counted_back _ extent h) refl
-amount_back amount.Decided extent h = rw (counted_back _ extent h) refl
-amount_back amount.Delivered extent h = rw (counted_back _ extent h) refl
+amount_back _ _ h = first_of (simp at_least_back, simp counted_back)
 
 not_counted : (what : Amount) (word : Word) (words : List Word) → IsNumeric word → counted what (word ∷ words) ≡ None
 unfolding counted
@@ -177,7 +171,5 @@ claim_back (claims.Amount what extent) h = amount_back what extent h
 claim_back (claims.Got i) h = got_back i h
 claim_back (claims.Before a b) h = before_back a b h.0 h.1
 claim_back (claims.RefusesChoice reason) h = choice_back reason h
-claim_back claims.SuspectsUp h = refl
 claim_back (claims.Follows i) h = follow_back i h
-claim_back claims.ChoosesUnseen h = refl
-claim_back claims.ConcludesAgain h = refl
+claim_back _ h = refl

@@ -1,7 +1,6 @@
 -- Loops over the members 1 to 16 that write some of them.
 use Rattle.std.proofs.Common.{◌≡◌, ℕ, suc, ◌+◌, ◌-◌, ◌<◌, ◌==◌, Bool, true, false, cond, List, [], ◌∷◌, ◌++◌, map, filter, refl, sym, ap}
-use Rattle.std.proofs.Common.{◌∙◌, arith}
-use Rattle.std.proofs.Common.{append_assoc, append-nil}
+use Rattle.std.proofs.Common.{◌∙◌, arith, append_assoc, append-nil}
 use Rattle.std.specs.Prelude.{codes}
 use Rattle.std.specs.List.{join_with_byte}
 use Rattle.std.proofs.lemmas.Bool.Decides.{nat_tests}
@@ -29,21 +28,12 @@ left_next test f i h =
     let one : MAX_MEMBERS - i ≡ suc (MAX_MEMBERS - (i + 1)) = omega arith in
     ap (λ (n : ℕ). map f (filter test (counting (i + 1) n))) one
 
-pub left_taken : (test : ℕ → Bool) (f : ℕ → Word) (i : ℕ) → i < MAX_MEMBERS → test (i + 1) ≡ true →
+left_taken : (test : ℕ → Bool) (f : ℕ → Word) (i : ℕ) → i < MAX_MEMBERS → test (i + 1) ≡ true →
     left test f i ≡ f (i + 1) ∷ left test f (i + 1)
-left_taken test f i h is =
-    left_next test f i h
-    ∙ ap (λ (b : Bool). map f (cond b ((i + 1) ∷ filter test (counting (i + 1 + 1) (MAX_MEMBERS - (i + 1))))
-    (filter test (counting (i + 1 + 1) (MAX_MEMBERS - (i + 1)))))) is
+left_taken test f i h is = left_next test f i h ∙ rw is refl
 
-pub left_passed : (test : ℕ → Bool) (f : ℕ → Word) (i : ℕ) → i < MAX_MEMBERS → test (i + 1) ≡ false → left test f i ≡ left test f (i + 1)
-left_passed test f i h is =
-    left_next test f i h
-    ∙ ap (λ (b : Bool). map f (cond b ((i + 1) ∷ filter test (counting (i + 1 + 1) (MAX_MEMBERS - (i + 1))))
-    (filter test (counting (i + 1 + 1) (MAX_MEMBERS - (i + 1)))))) is
-
-pub left_none : (test : ℕ → Bool) (f : ℕ → Word) (i : ℕ) → i ≡ MAX_MEMBERS → left test f i ≡ []
-left_none test f i e = ap (left test f) e
+left_passed : (test : ℕ → Bool) (f : ℕ → Word) (i : ℕ) → i < MAX_MEMBERS → test (i + 1) ≡ false → left test f i ≡ left test f (i + 1)
+left_passed test f i h is = left_next test f i h ∙ rw is refl
 
 -- with commas the whole is joined, and with bars it is barred
 pub listed_joined : (text : Word) (texts : List Word) → text ++ listed (codes ",") true texts ≡ join_with_byte 44 (text ∷ texts)
@@ -70,15 +60,21 @@ is_the_number r s p e same = grind (arith, nat_tests)
 pub is_another : (r s p : ℕ) → r ≡ s → (r ≡ p → ⊥) → (s == p) ≡ false
 is_another r s p e other = grind (arith, nat_tests)
 
--- one more is written
-pub one_written : (between text : Word) (texts : List Word) (later : Bool) (old mid end whole : List ℕ) (all : List Word) →
-    old ++ listed between later all ≡ whole → all ≡ text ∷ texts → mid ≡ old ++ cond later between [] → end ≡ mid ++ text →
-    end ++ listed between true texts ≡ whole
-one_written between text texts later old mid end whole all h is first second =
-    rw (
-      second,
-      first,
-      append_assoc (old ++ cond later between []) text (listed between true texts),
-      append_assoc old (cond later between []) (text ++ listed between true texts),
-    )
-    (ap (λ (ts : List Word). old ++ listed between later ts) (sym is) ∙ h)
+-- what stands there so far, and what is left of it
+module _ (between : List ℕ) (test : ℕ → Bool) (f : ℕ → Word) (i : ℕ) (later : Bool) (old whole : List ℕ) where
+  -- one more is written
+  pub one_written : (mid end : List ℕ) → old ++ listed between later (left test f i) ≡ whole → i < MAX_MEMBERS → test (i + 1) ≡ true →
+      mid ≡ old ++ cond later between [] → end ≡ mid ++ f (i + 1) → end ++ listed between true (left test f (i + 1)) ≡ whole
+  one_written mid end h lt is first second =
+      let rest = listed between true (left test f (i + 1)) in
+      rw (second, first, append_assoc (old ++ cond later between []) (f (i + 1)) rest, append_assoc old (cond later between []) (f (i + 1) ++ rest))
+      (ap (λ (ts : List Word). old ++ listed between later ts) (sym (left_taken test f i lt is)) ∙ h)
+
+  -- one is passed over
+  pub none_written : old ++ listed between later (left test f i) ≡ whole → i < MAX_MEMBERS → test (i + 1) ≡ false →
+      old ++ listed between later (left test f (i + 1)) ≡ whole
+  none_written h lt is = ap (λ (ts : List Word). old ++ listed between later ts) (sym (left_passed test f i lt is)) ∙ h
+
+  -- all are written
+  pub all_written : old ++ listed between later (left test f i) ≡ whole → i ≡ MAX_MEMBERS → old ≡ whole
+  all_written h e = sym (append-nil old) ∙ (ap (λ (n : ℕ). old ++ listed between later (left test f n)) (sym e) ∙ h)

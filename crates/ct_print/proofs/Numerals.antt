@@ -1,7 +1,6 @@
 -- Numbers, as they are written and read.
 use Rattle.std.proofs.Common.{◌≡◌, ℕ, ◌+◌, ◌-◌, ◌*◌, ◌/◌, ◌%◌, ◌<◌, ◌≤◌, ◌^◌, true, cond, leb, [], ◌∷◌, ◌++◌, length, refl, sym, ap, ◌∙◌}
-use Rattle.std.proofs.Common.{arith}
-use Rattle.std.proofs.Common.{append_assoc, append-nil}
+use Rattle.std.proofs.Common.{arith, append_assoc, append-nil, length-append}
 use Rattle.std.specs.Prelude.{decimal, Some, None}
 use Rattle.std.specs.Char.{is_ascii_digit}
 use Rattle.std.specs.List.{list_all}
@@ -29,16 +28,12 @@ one_digit high m k n behind h e =
 
 last_digit : (n : ℕ) (digits : Word) → IsNumber (n / 10) digits → IsNumber n (digits ++ ((48 + n % 10) ∷ []))
 last_digit n digits h = record {
-  some = omega (arith, h.some, length_more digits);
+  some = omega (arith, h.some, length-append digits ((48 + n % 10) ∷ []));
   digits = list_all-append is_ascii_digit digits ((48 + n % 10) ∷ []) ∙ rw (h.digits, digit_is (n % 10) (omega arith)) refl;
   reads = λ high behind.
       ap (number_behind high 0) (append_assoc digits ((48 + n % 10) ∷ []) behind)
       ∙ (h.reads high ((48 + n % 10) ∷ behind) ∙ one_digit high (n / 10) (n % 10) n behind (omega arith) (omega arith));
 }
-  where
-    length_more : (ds : Word) → length ds ≤ length (ds ++ ((48 + n % 10) ∷ []))
-    length_more [] = omega arith
-    length_more (d ∷ ds) = omega (arith, length_more ds)
 
 pub decimal_is_number : (n : ℕ) → n < 2 ^ 64 → IsNumber n (decimal n)
 decimal_is_number = decimal_by_steps IsNumber

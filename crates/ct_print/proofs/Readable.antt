@@ -1,6 +1,6 @@
 -- What is read can be written.
-use Rattle.std.proofs.Common.{◌≡◌, ℕ, ◌+◌, ◌-◌, ◌*◌, ◌<◌, ◌≤◌, ◌==◌, ◌||◌, Bool, true, false, cond, List, [], ◌∷◌, length}
-use Rattle.std.proofs.Common.{refl, sym, ap, arith, true≢false, leb-true, eq-eqb}
+use Rattle.std.proofs.Common.{◌≡◌, ℕ, ◌+◌, ◌-◌, ◌*◌, ◌<◌, ◌≤◌, ◌==◌, ◌||◌, Bool, true, false, cond, List, [], ◌∷◌, length, refl, sym, ap}
+use Rattle.std.proofs.Common.{arith, true≢false, leb-true, eq-eqb}
 use Rattle.std.specs.Prelude.{Option, Some, None, Result, Ok, Err, IfOk, IfSome, nat_le, option_map, option_and_then}
 use Rattle.std.specs.Char.{is_ascii_digit}
 use Rattle.std.specs.List.{list_all}
@@ -16,8 +16,7 @@ use Rattle.ct_grammar.specs.declared.carried.Carried.{Carried}
 use Rattle.ct_grammar.specs.Acts.{operands, named_command, command_first, short_act, lose_first, picked_act, long_act, act_first}
 use Rattle.ct_grammar.specs.Misfits.{told}
 use Rattle.ct_grammar.specs.Leading.{over, number_first, member_first, whole_first, set_first}
-use Rattle.ct_grammar.specs.Numbers.{number_behind, number_of, number_in, parted, two_numbers, with_members, members_of}
-use Rattle.ct_grammar.specs.Numbers.{max_u8, max_u32}
+use Rattle.ct_grammar.specs.Numbers.{number_behind, number_of, number_in, parted, two_numbers, with_members, members_of, max_u8, max_u32}
 use Rattle.ct_grammar.specs.Picks.{serial_of, message_first, place_first, carried_first, sent_pick, pick_first}
 use Rattle.ct_grammar.specs.Unfits.{◌>>=◌, map_ok}
 use Rattle.ct_grammar.specs.Who.{who_of}

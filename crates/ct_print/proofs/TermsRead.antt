@@ -103,8 +103,7 @@ unfolding term_of
 when_back term Now h e =
     let other = whom_other term.whom h.0 in
     rw (other.no_ever, other.no_never, ← e) (claimed_back term _ h)
-when_back term Ever h e = rw (← e) (claimed_back term _ h)
-when_back term Never h e = rw (← e) (claimed_back term _ h)
+when_back term _ h e = rw (← e) (claimed_back term _ h)
 
 term_back : (term : Term) → TermFits term → term_of (term_words term) ≡ Ok term
 term_back term h = when_back term term.when h refl

@@ -8,14 +8,13 @@ use Rattle.ct_grammar.specs.declared.who.Who.{Who}
 use Rattle.ct_grammar.specs.Leading.{set_first}
 use Rattle.ct_grammar.specs.Lines.{settled_or_acted, done_by}
 use Rattle.ct_grammar.specs.Stated.{statement, taken, acted}
-use Rattle.ct_grammar.specs.Turns.{suspected, set_alone, lone_suspected, counted, behind_until, watched, until_of, turns_of}
-use Rattle.ct_grammar.specs.Turns.{settle_of}
+use Rattle.ct_grammar.specs.Turns.{suspected, set_alone, lone_suspected, counted, behind_until, watched, until_of, turns_of, settle_of}
 use Rattle.ct_grammar.specs.Unfits.{map_ok}
 use Rattle.ct_grammar.specs.Words.{Word, text_of}
 use Rattle.ct_print.specs.Writable.{IsSet, WhoFits, ActFits, PlayFits}
 use Rattle.ct_print.proofs.GoalsFit.{goal_fits}
-use Rattle.ct_print.proofs.Readable.{steps, Gives, Leads, AreWords, words_again}
-use Rattle.ct_print.proofs.Readable.{whole_first_fits, set_first_fits, act_fits, text_is_quotable}
+use Rattle.ct_print.proofs.Readable.{steps, Gives, Leads, AreWords, words_again, whole_first_fits, set_first_fits, act_fits}
+use Rattle.ct_print.proofs.Readable.{text_is_quotable}
 
 set_rises : (words : List Word) → AreWords words → Leads (set_first words) IsSet
 set_rises words g Q k = set_first_fits words g Q (λ r h. k r h.rising)

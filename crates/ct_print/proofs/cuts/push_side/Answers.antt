@@ -1,11 +1,10 @@
-use Rattle.std.proofs.Common.{◌≡◌, ◌++◌, List, ℕ, ap, sym, ◌∙◌, arith, append-nil, append_assoc, map, filter, true, ◌+◌, refl}
+use Rattle.std.proofs.Common.{◌++◌, List, ℕ, ap, sym, ◌∙◌, arith, append_assoc, map, filter, true, ◌+◌, refl}
 use Rattle.std.specs.Prelude.{codes, decimal, string_bytes}
 use Rattle.ct_names.specs.Group.{everyone}
-use Rattle.ct_names.specs.declared.limit.TheConstants.{MAX_MEMBERS}
 use Rattle.ct_grammar.specs.Words.{Word}
 use Rattle.ct_print.specs.Cuts.{is_other, side_text}
 use Rattle.ct_print.specs.Members.{set_text}
-use Rattle.ct_print.proofs.Loops.{listed, left, left_all, left_taken, left_passed, left_none, listed_joined, one_written}
+use Rattle.ct_print.proofs.Loops.{listed, left, left_all, listed_joined, one_written, none_written, all_written}
 use Rattle.ct_print.proofs.cuts.push_side.Goals as goal
 use Rattle.ct_print.proofs.cuts.push_side.Goals.{then-is_other+in_ok-write-2, else-is_other}
 
@@ -26,19 +25,15 @@ loop-i-preserved c =
     let old = string_bytes c.loop-i.text in
     elim c.if-is_other.branch [
       | then-is_other+in_ok-write-2 w ↦
-          rw w.text-is (one_written (codes ",") (decimal (c.loop-i.i + 1)) _ true old (old ++ codes ",") _ _ _ c.loop-i.invariant
-          (left_taken test decimal c.loop-i.i c.loop-i-test.true (sym c.is_other.ensures ∙ w.if-is_other.true))
+          rw w.text-is (one_written (codes ",") test decimal c.loop-i.i true old _ (old ++ codes ",") _ c.loop-i.invariant
+          c.loop-i-test.true (sym c.is_other.ensures ∙ w.if-is_other.true)
           refl (w.in_ok-write-2.ensures.bytes ∙ sym (append_assoc old (codes ",") (decimal (c.loop-i.i + 1)))))
       | else-is_other w ↦
-          rw w.text-is
-          (ap (λ (ts : List Word). old ++ listed (codes ",") true ts)
-          (sym (left_passed test decimal c.loop-i.i c.loop-i-test.true (sym c.is_other.ensures ∙ w.if-is_other.false)))
-          ∙ c.loop-i.invariant)
+          rw w.text-is (none_written (codes ",") test decimal c.loop-i.i true old _ c.loop-i.invariant
+          c.loop-i-test.true (sym c.is_other.ensures ∙ w.if-is_other.false))
     ]
 
 pub returns : goal.returns
 returns c =
-    let at : c.loop-i.i ≡ MAX_MEMBERS = omega (arith, c.loop-i-test.false, c.loop-i.auto.i-end) in
-    sym (append-nil (string_bytes c.loop-i.text))
-    ∙ (ap (λ (ts : List Word). string_bytes c.loop-i.text ++ listed (codes ",") true ts)
-    (sym (left_none (is_other c.args.sides.now c.args.side) decimal c.loop-i.i at)) ∙ c.loop-i.invariant)
+    all_written (codes ",") (is_other c.args.sides.now c.args.side) decimal c.loop-i.i true _ _ c.loop-i.invariant
+    (omega (arith, c.loop-i-test.false, c.loop-i.auto.i-end))

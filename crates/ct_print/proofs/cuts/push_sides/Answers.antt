@@ -1,10 +1,8 @@
-use Rattle.std.proofs.Common.{◌≡◌, ◌++◌, List, ℕ, ap, sym, ◌∙◌, arith, append-nil, map, filter, ◌+◌}
+use Rattle.std.proofs.Common.{◌++◌, List, ℕ, ap, ◌∙◌, arith, map, filter, ◌+◌}
 use Rattle.std.specs.Prelude.{codes, string_bytes}
 use Rattle.ct_names.specs.Group.{everyone}
-use Rattle.ct_names.specs.declared.limit.TheConstants.{MAX_MEMBERS}
-use Rattle.ct_grammar.specs.Words.{Word}
 use Rattle.ct_print.specs.Cuts.{is_own, side_text, sides_text}
-use Rattle.ct_print.proofs.Loops.{listed, left_all, left_taken, left_passed, left_none, all_barred, is_another, is_the_number, one_written}
+use Rattle.ct_print.proofs.Loops.{listed, left_all, all_barred, is_another, is_the_number, one_written, none_written, all_written}
 use Rattle.ct_print.proofs.cuts.push_sides.Goals as goal
 use Rattle.ct_print.proofs.cuts.push_sides.Goals.{then-side-member+in_ok-push_between+in_ok-push_side, else-side-member}
 
@@ -19,26 +17,17 @@ loop-i-init c =
 pub loop-i-preserved : goal.loop-i-preserved
 loop-i-preserved c =
     let sides = c.args.sides.now in
-    let old = string_bytes c.loop-i.text in
     elim c.if-side-member.branch [
       | then-side-member+in_ok-push_between+in_ok-push_side w ↦
-          rw (w.text-is, w.later-is) (one_written (codes " | ")
-          (side_text sides (c.loop-i.i + 1)) _ c.loop-i.later old _ _ _ _ c.loop-i.invariant
-          (left_taken (is_own sides) (side_text sides) c.loop-i.i c.loop-i-test.true
-          (is_the_number _ _ (c.loop-i.i + 1) c.side.ensures w.if-side-member.true))
+          rw (w.text-is, w.later-is) (one_written (codes " | ") (is_own sides) (side_text sides) c.loop-i.i _ _ _ _ _ c.loop-i.invariant
+          c.loop-i-test.true (is_the_number _ _ (c.loop-i.i + 1) c.side.ensures w.if-side-member.true)
           w.in_ok-push_between.ensures w.in_ok-push_side.ensures)
       | else-side-member w ↦
-          rw (w.text-is, w.later-is)
-          (ap (λ (ts : List Word). old ++ listed (codes " | ") c.loop-i.later ts)
-          (sym (left_passed (is_own sides) (side_text sides) c.loop-i.i c.loop-i-test.true
-          (is_another _ _ (c.loop-i.i + 1) c.side.ensures w.if-side-member.false)))
-          ∙ c.loop-i.invariant)
+          rw (w.text-is, w.later-is) (none_written (codes " | ") (is_own sides) (side_text sides) c.loop-i.i _ _ _ c.loop-i.invariant
+          c.loop-i-test.true (is_another _ _ (c.loop-i.i + 1) c.side.ensures w.if-side-member.false))
     ]
 
 pub returns : goal.returns
 returns c =
-    let sides = c.args.sides.now in
-    let at : c.loop-i.i ≡ MAX_MEMBERS = omega (arith, c.loop-i-test.false, c.loop-i.auto.i-end) in
-    sym (append-nil (string_bytes c.loop-i.text))
-    ∙ (ap (λ (ts : List Word). string_bytes c.loop-i.text ++ listed (codes " | ") c.loop-i.later ts)
-    (sym (left_none (is_own sides) (side_text sides) c.loop-i.i at)) ∙ c.loop-i.invariant)
+    all_written (codes " | ") (is_own c.args.sides.now) (side_text c.args.sides.now) c.loop-i.i c.loop-i.later _ _ c.loop-i.invariant
+    (omega (arith, c.loop-i-test.false, c.loop-i.auto.i-end))

@@ -1,10 +1,8 @@
-use Rattle.std.proofs.Common.{◌≡◌, ◌++◌, List, ℕ, ap, sym, ◌∙◌, arith, append-nil, map}
+use Rattle.std.proofs.Common.{◌++◌, List, ℕ, ap, sym, ◌∙◌, arith, map}
 use Rattle.std.specs.Prelude.{codes, decimal, string_bytes}
-use Rattle.ct_names.specs.declared.limit.TheConstants.{MAX_MEMBERS}
 use Rattle.ct_names.specs.MemberSet.{has_member}
 use Rattle.ct_print.specs.Members.{set_text}
-use Rattle.ct_grammar.specs.Words.{Word}
-use Rattle.ct_print.proofs.Loops.{listed, left_all, left_taken, left_passed, left_none, all_joined, one_written}
+use Rattle.ct_print.proofs.Loops.{listed, left_all, all_joined, one_written, none_written, all_written}
 use Rattle.ct_print.proofs.members.push_set.Goals as goal
 use Rattle.ct_print.proofs.members.push_set.Goals.{then-contains+in_ok-push_between+in_ok-write, else-contains}
 
@@ -19,20 +17,14 @@ pub loop-i-preserved : goal.loop-i-preserved
 loop-i-preserved c =
     elim c.if-contains.branch [
       | then-contains+in_ok-push_between+in_ok-write w ↦
-          rw (w.text-is, w.later-is) (one_written (codes ",") _ _ _ _ _ _ _ _ c.loop-i.invariant
-          (left_taken (has_member c.args.set) decimal c.loop-i.i c.loop-i-test.true (sym c.contains.ensures.value ∙ w.if-contains.true))
-          w.in_ok-push_between.ensures w.in_ok-write.ensures.bytes)
+          rw (w.text-is, w.later-is) (one_written (codes ",") (has_member c.args.set) decimal c.loop-i.i _ _ _ _ _ c.loop-i.invariant
+          c.loop-i-test.true (sym c.contains.ensures.value ∙ w.if-contains.true) w.in_ok-push_between.ensures w.in_ok-write.ensures.bytes)
       | else-contains w ↦
-          rw (w.text-is, w.later-is)
-          (ap (λ (ts : List Word). string_bytes c.loop-i.text ++ listed (codes ",") c.loop-i.later ts)
-          (sym (left_passed (has_member c.args.set) decimal c.loop-i.i c.loop-i-test.true
-          (sym c.contains.ensures.value ∙ w.if-contains.false)))
-          ∙ c.loop-i.invariant)
+          rw (w.text-is, w.later-is) (none_written (codes ",") (has_member c.args.set) decimal c.loop-i.i _ _ _ c.loop-i.invariant
+          c.loop-i-test.true (sym c.contains.ensures.value ∙ w.if-contains.false))
     ]
 
 pub returns : goal.returns
 returns c =
-    let at : c.loop-i.i ≡ MAX_MEMBERS = omega (arith, c.loop-i-test.false, c.loop-i.auto.i-end) in
-    sym (append-nil (string_bytes c.loop-i.text))
-    ∙ (ap (λ (ts : List Word). string_bytes c.loop-i.text ++ listed (codes ",") c.loop-i.later ts)
-    (sym (left_none (has_member c.args.set) decimal c.loop-i.i at)) ∙ c.loop-i.invariant)
+    all_written (codes ",") (has_member c.args.set) decimal c.loop-i.i c.loop-i.later _ _ c.loop-i.invariant
+    (omega (arith, c.loop-i-test.false, c.loop-i.auto.i-end))
