@@ -49,11 +49,7 @@ Bare = Wire (Unit {0})
 
 carries_own : (x : Bare) → carries x (carried_of x) ≡ true
 carries_own (wire.Data m) = grind (arith, nat_tests)
-carries_own (wire.Est k r p v t) = grind (arith, nat_tests)
-carries_own (wire.Prop k r v) = grind (arith, nat_tests)
-carries_own (wire.Ack k r p) = grind (arith, nat_tests)
-carries_own (wire.Nack k r p) = grind (arith, nat_tests)
-carries_own (wire.Dec k r v) = grind (arith, nat_tests)
+carries_own _ = grind (arith, nat_tests)
 
 carries_only : (x : Bare) (c : Carried) → carries x c ≡ true → carried_of x ≡ c
 carries_only (wire.Data m) (Data o n) h = grind (arith, nat_tests)

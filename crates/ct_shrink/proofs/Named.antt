@@ -46,8 +46,6 @@ act_content w p (act.Lose pick) = if_kept IsContent NamesContent act.Lose (other
 act_content w p (act.Repeat pick) =
     if_kept IsContent NamesContent act.Repeat (other_repeat w p pick) (repeat_content w p pick) (λ x is. is)
 act_content w p (act.Choose q) = if_mapped NamesContent act.Choose (best_choice w p) (λ q. tt)
-act_content w p act.Adopt = tt
-act_content w p act.Suspect = tt
 act_content w p _ = tt
 
 other_content : (w : Rehearsal) (line : Line) → IfSome (other_line w line) IsByContent

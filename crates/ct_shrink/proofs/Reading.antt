@@ -11,7 +11,7 @@ use Rattle.ct_records.specs.Replay.{IsAllowed}
 use Rattle.ct_records.specs.Script.{script}
 use Rattle.ct_streams.specs.Streams.{read_part, WritesPart}
 use Rattle.ct_told.proofs.Seen.{input_seen}
-use Rattle.ct_told.specs.declared.show_fault.ShowFault.TheVariants.{NoMember, TooManySteps, Unread, Program}
+use Rattle.ct_told.specs.declared.show_fault.ShowFault.TheVariants.{Program}
 use Rattle.ct_world.specs.Setup.{record_of}
 use Rattle.ct_world.specs.declared.setup.Setup.{Setup}
 use Rattle.ct_play.specs.Played.{Played}
@@ -41,19 +41,11 @@ text_in test goal o bytes w told text e known h =
 
 pub fault_in : (test : Played → Bool) (goal : Goal) (fault : ShrinkFault) (bytes : List ℕ) (w : Rehearsal) → script bytes ≡ Ok w →
     stranger w.setting.members goal ≡ None → IsFaultOn test w fault → IsFaultIn test goal fault bytes
-fault_in test goal (Stranger member members) bytes w e known h = absurd h
 fault_in test goal NotShown bytes w e known h = ok_and (script bytes) w (λ v. KnowsMembers goal v × IsHidden test v) e (known, h)
 fault_in test goal Board bytes w e known h = tt
-fault_in test goal (Show (NoMember member members)) bytes w e known h = absurd h
-fault_in test goal (Show (TooManySteps steps)) bytes w e known h = absurd h
-fault_in test goal (Show (Unread told)) bytes w e known h = absurd h
 fault_in test goal (Show (Program (of.Replay at refusal))) bytes w e known h = rw e h
-fault_in test goal (Show (Program (of.Read fault))) bytes w e known h = absurd h
-fault_in test goal (Show (Program of.Reader)) bytes w e known h = absurd h
-fault_in test goal (Show (Program of.Write)) bytes w e known h = absurd h
 fault_in test goal (Show (Program of.Memory)) bytes w e known h = tt
-fault_in test goal (Show (Program of.Start)) bytes w e known h = absurd h
-fault_in test goal (Show (Program of.Exchanged)) bytes w e known h = absurd h
+fault_in test goal _ bytes w e known h = absurd h
 
 pub stranger_in : (test : Played → Bool) (goal : Goal) (bytes : List ℕ) (w : Rehearsal) (member members : ℕ) → script bytes ≡ Ok w →
     members ≡ w.setting.members → stranger members goal ≡ Some member → IsFaultIn test goal (Stranger member members) bytes
@@ -82,19 +74,10 @@ is_left test tries w told left setup lines same allowed run named no_larger leas
 
 fault_on : (test : Played → Bool) (setup : Setup) (steps : List Step) (w : Rehearsal) (fault : ShrinkFault) → record_of setup w.steps ≡ w →
     steps ≡ w.steps → IsFaultOf test setup steps fault → IsFaultOn test w fault
-fault_on test setup steps w (Stranger member members) e same h = absurd h
 fault_on test setup steps w NotShown e same h = (setup, e, subst (λ (l : List Step). IsNeverShown test setup l) same h)
 fault_on test setup steps w Board e same h = tt
-fault_on test setup steps w (Show (NoMember member members)) e same h = absurd h
-fault_on test setup steps w (Show (TooManySteps count)) e same h = absurd h
-fault_on test setup steps w (Show (Unread told)) e same h = absurd h
-fault_on test setup steps w (Show (Program (of.Replay at refusal))) e same h = absurd h
-fault_on test setup steps w (Show (Program (of.Read fault))) e same h = absurd h
-fault_on test setup steps w (Show (Program of.Reader)) e same h = absurd h
-fault_on test setup steps w (Show (Program of.Write)) e same h = absurd h
 fault_on test setup steps w (Show (Program of.Memory)) e same h = tt
-fault_on test setup steps w (Show (Program of.Start)) e same h = absurd h
-fault_on test setup steps w (Show (Program of.Exchanged)) e same h = absurd h
+fault_on test setup steps w _ e same h = absurd h
 
 -- the fault of making the run smaller, as it is handed on
 pub faults_on : {T : Type 0} (test : Played → Bool) (setup : Setup) (steps : List Step) (w : Rehearsal) (r : Result T ShrinkFault)
@@ -122,19 +105,9 @@ part_seen test goal o left bytes told text out old new read h same a =
 
 fails : (test : Played → Bool) (goal : Goal) (fault : ShrinkFault) (bytes : List ℕ) → IsFaultIn test goal fault (read_part bytes) →
     FailsOn test goal fault bytes
-fails test goal (Stranger member members) bytes h = h
-fails test goal NotShown bytes h = h
-fails test goal Board bytes h = h
-fails test goal (Show (NoMember member members)) bytes h = h
-fails test goal (Show (TooManySteps steps)) bytes h = h
-fails test goal (Show (Unread told)) bytes h = h
 fails test goal (Show (Program of.Reader)) bytes h = tt
 fails test goal (Show (Program of.Write)) bytes h = tt
-fails test goal (Show (Program (of.Replay at refusal))) bytes h = h
-fails test goal (Show (Program (of.Read fault))) bytes h = h
-fails test goal (Show (Program of.Memory)) bytes h = h
-fails test goal (Show (Program of.Start)) bytes h = h
-fails test goal (Show (Program of.Exchanged)) bytes h = h
+fails test goal _ bytes h = h
 
 fails_seen : (test : Played → Bool) (goal : Goal) (left : Option (List ℕ)) (bytes : List ℕ) (fault : ShrinkFault) →
     IfSome left (λ input. bytes ≡ read_part input) → IsFaultIn test goal fault bytes → IfSome left (FailsOn test goal fault)

@@ -1,6 +1,5 @@
 -- How many lines a trial leaves.
-use Rattle.std.proofs.Common.{◌≡◌, ℕ, suc, ◌+◌, ◌<◌, ◌≤◌, Bool, true, false, List, [], ◌∷◌, length, Option, Some, None, ap, refl}
-use Rattle.std.proofs.Common.{◌∙◌, cond, arith, below_more}
+use Rattle.std.proofs.Common.{◌≡◌, ℕ, suc, ◌<◌, ◌≤◌, Bool, true, false, List, [], ◌∷◌, length, Option, Some, None, refl, cond, arith}
 use Rattle.std.specs.Prelude.{option_map, remove}
 use Rattle.std.proofs.lemmas.List.Edits.{length-remove}
 use Rattle.ct_world.specs.Setup.{record_of}
@@ -46,11 +45,3 @@ unfolding trial
 none_without test setup lines i lt h =
     fewer (trial test setup (remove lines i)) (length (remove lines i)) (length lines) (omega (arith, length-remove lines i lt))
     (tried_no_more test (uncut (record_of setup [])) (remove lines i)) h
-
--- where the trial fails without each line before this one and without this one
-pub least_more : (test : Played → Bool) (setup : Setup) (lines new : List Line) (place : ℕ) → new ≡ lines →
-    ((i : ℕ) → i < place → trial test setup (remove lines i) ≡ None) → trial test setup (remove lines place) ≡ None →
-    (i : ℕ) → i < place + 1 → trial test setup (remove new i) ≡ None
-least_more test setup lines new place e before here i lt =
-    ap (λ l. trial test setup (remove l i)) e
-    ∙ below_more (λ k. trial test setup (remove lines k) ≡ None) place before here i lt
