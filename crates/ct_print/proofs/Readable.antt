@@ -84,21 +84,10 @@ AreWords words = list_all is_word words ≡ true
 pub words_behind : (word : Word) (words : List Word) → AreWords (word ∷ words) → AreWords words
 words_behind word words h = both-right (is_word word) (list_all is_word words) h
 
--- how an answer is made
-pub ruleset steps = (
-  either,
-  some_either,
-  some_mapped,
-  some_bound,
-  mapped,
-  bound,
-  found,
-  told_fits,
-  unless_over,
-  words_behind,
-)
+-- what an answer is made of, backwards
+pub ruleset steps = (either, some_either, some_mapped, some_bound, mapped, bound, found, told_fits, unless_over, words_behind)
 
--- an answer that is so, if there is one, is all that follows from it; the last is one with the words behind it
+-- P holds of the answer, where there is one: so does all that follows from P. `Leads` is of an answer with the words behind it
 abbrev pub May : {A : Type 0} → Option A → (A → Type 0) → Type 1
 May {A = A} o P = (Q : A → Type 0) → ((x : A) → P x → Q x) → IfSome o Q
 
